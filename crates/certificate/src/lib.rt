@@ -1,0 +1,6 @@
+//! Certificates: the leases of a trace as bytes.
+#![tactic(auto)]
+
+mod fault;
+
+pub use fault::CertFault;

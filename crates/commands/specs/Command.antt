@@ -1,0 +1,61 @@
+-- What a command block says: xHCI 4.6, 6.4.3
+use Rattle.std.specs.Prelude.{ℕ, ◌*◌, ◌/◌, Bool, if◌then◌else◌, Option, Some, None}
+use Rattle.trb.specs.declared.block.Block.{Block}
+use Rattle.trb.specs.declared.kind.BlockKind.{BlockKind}
+use Rattle.trb.specs.declared.kind.BlockKind.TheVariants as kinds
+use Rattle.trb.specs.Bits.{is_set}
+use Rattle.trb.specs.Block.{word, kind, pointer, slot, endpoint}
+use Rattle.commands.specs.declared.command.Command.{Command}
+use Rattle.commands.specs.declared.command.Command.TheVariants.{NoOp, EnableSlot, DisableSlot, AddressDevice, ConfigureEndpoint, EvaluateContext, ResetEndpoint, StopEndpoint, SetTrDequeue, ResetDevice}
+
+-- bits 63:4 of a pointer
+abbrev pub aligned : ℕ → ℕ
+aligned p = p / 16 * 16
+
+-- word 3 bit 9: BSR of Address Device, DC of Configure Endpoint
+abbrev pub option_bit : Block → Bool
+option_bit b = is_set (word b 3) 9
+
+abbrev pub command_by_kind : BlockKind → Block → Option Command
+command_by_kind kinds.NoOpCommand b = Some NoOp
+command_by_kind kinds.EnableSlot b = Some EnableSlot
+command_by_kind kinds.DisableSlot b = Some (DisableSlot (slot b))
+command_by_kind kinds.AddressDevice b = Some (AddressDevice (slot b) (option_bit b) (aligned (pointer b)))
+command_by_kind kinds.ConfigureEndpoint b = Some (ConfigureEndpoint (slot b) (option_bit b) (aligned (pointer b)))
+command_by_kind kinds.EvaluateContext b = Some (EvaluateContext (slot b) (aligned (pointer b)))
+command_by_kind kinds.ResetEndpoint b = Some (ResetEndpoint (slot b) (endpoint b))
+command_by_kind kinds.StopEndpoint b = Some (StopEndpoint (slot b) (endpoint b))
+command_by_kind kinds.SetTrDequeue b = Some (SetTrDequeue (slot b) (endpoint b) (aligned (pointer b)) (is_set (word b 0) 0))
+command_by_kind kinds.ResetDevice b = Some (ResetDevice (slot b))
+command_by_kind _ b = None
+
+-- the command of a block, where its type is one of the profile
+abbrev pub command_of : Block → Option Command
+command_of b = command_by_kind (kind b) b
+
+-- the slot that a command names
+abbrev pub named_slot : Command → Option ℕ
+named_slot NoOp = None
+named_slot EnableSlot = None
+named_slot (DisableSlot s) = Some s
+named_slot (AddressDevice s bsr c) = Some s
+named_slot (ConfigureEndpoint s dc c) = Some s
+named_slot (EvaluateContext s c) = Some s
+named_slot (ResetEndpoint s i) = Some s
+named_slot (StopEndpoint s i) = Some s
+named_slot (SetTrDequeue s i p c) = Some s
+named_slot (ResetDevice s) = Some s
+
+-- the endpoint that a command names, by slot and index
+abbrev pub named_endpoint : Command → Option (ℕ × ℕ)
+named_endpoint (ResetEndpoint s i) = Some (s, i)
+named_endpoint (StopEndpoint s i) = Some (s, i)
+named_endpoint (SetTrDequeue s i p c) = Some (s, i)
+named_endpoint _ = None
+
+-- the input context that a command reads; with DC 1 Configure Endpoint reads none
+abbrev pub named_context : Command → Option ℕ
+named_context (AddressDevice s bsr c) = Some c
+named_context (ConfigureEndpoint s dc c) = if dc then None else Some c
+named_context (EvaluateContext s c) = Some c
+named_context _ = None

@@ -1,0 +1,12 @@
+//! Commands, and the states of device slots and endpoints: xHCI 4.5.3, 4.6, 4.8.3.
+#![tactic(auto)]
+
+mod command;
+mod fields;
+mod state;
+
+pub use command::Command;
+pub use state::{EndpointState, SlotState, State, after};
+
+#[cfg(test)]
+mod tests;

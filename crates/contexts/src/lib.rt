@@ -1,0 +1,6 @@
+//! Contexts in guest memory: xHCI 6.2.
+#![tactic(auto)]
+
+mod size;
+
+pub use size::ContextSize;

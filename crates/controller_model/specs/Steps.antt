@@ -1,0 +1,68 @@
+-- Steps, and the worlds that runs lead to
+use Rattle.std.specs.Prelude.{ℕ, ◌+◌, ◌*◌, ◌&&◌, if◌then◌else◌, Bool, List, [], ◌∷◌, Option, Some, None, option_and_then, option_map}
+use Rattle.std.specs.List.{list_any, range_with_len}
+use Rattle.segments.specs.Places.{is_in}
+use Rattle.contexts.specs.Contexts.{device_context, device_context_bytes}
+use Rattle.trace_reader.specs.declared.header.Header.{Header}
+use Rattle.trace_reader.specs.declared.row.Row.{Row}
+use Rattle.trace_reader.specs.declared.step.Step.{Step}
+use Rattle.trace_reader.specs.declared.step.Step.TheVariants.{NextRow, Look, Report, Finish, Other, Scribble}
+use Rattle.trace_reader.specs.declared.register.Register.TheVariants.{Dcbaap}
+use Rattle.world_state.specs.declared.harm.Harm.{Harm}
+use Rattle.world_state.specs.World.{World, opening, stored}
+use Rattle.world_state.specs.Harms.{harm_of}
+use Rattle.controller_model.specs.DriverRows as driver
+use Rattle.controller_model.specs.Looks as looks
+use Rattle.controller_model.specs.Posts as posts
+use Rattle.controller_model.specs.Finishes as finishes
+
+module _ (h : Header) where
+  -- the word belongs to the device context that DCBAA names for a slot, and the controller may write that
+  unfoldable pub is_scribbled : World → ℕ → ℕ → Bool
+  is_scribbled w a s =
+      w.scribbles s && is_in a (device_context w.memory (driver.register_or_zero h w Dcbaap) s) (device_context_bytes h.context_size)
+
+  unfoldable pub scribbled : World → ℕ → ℕ → Option World
+  scribbled w a x = if list_any (is_scribbled w a) (range_with_len 0 256) then Some (stored w a x) else None
+
+  unfoldable pub counted : World → World
+  counted w = record w { steps = w.steps + 1 }
+
+  -- after the stop only rows are possible
+  unfoldable pub while_running : World → Option World → Option World
+  while_running w v = if w.stopped then None else v
+
+  unfoldable pub made : World → Step → Option World
+  made w NextRow = driver.next_row h w w.rows
+  made w (Look r) = while_running w (looks.looked h w r)
+  made w (Report b) = while_running w (posts.reported h w b)
+  made w (Finish b) = while_running w (finishes.finished h w b)
+  made w (Other b) = while_running w (posts.other_posted h w b)
+  made w (Scribble a x) = while_running w (scribbled w a x)
+
+  -- the world after a step; None where the step isn't possible
+  unfoldable pub stepped : World → Step → Option World
+  stepped w s = option_map counted (made w s)
+
+  -- the world that steps lead to beside these rows, the newest step first; None where one of them isn't possible
+  unfoldable pub reached : List Row → List Step → Option World
+  reached rows [] = Some (opening rows)
+  reached rows (s ∷ older) = option_and_then (λ w. stepped w s) (reached rows older)
+
+  -- how the replay of a schedule ends: without harm, at a step that isn't possible, or at the first harm, told after its step
+  pub data Ending : Type 0 where
+    NoHarm : Ending
+    NotPossible : (step : ℕ) → Ending
+    Harmful : (step : ℕ) (harm : Harm) → Ending
+
+  unfoldable pub judged : ℕ → Option Harm → Ending → Ending
+  judged n None later = later
+  judged n (Some kind) later = Harmful n kind
+
+  unfoldable pub ending_from : ℕ → Option World → List Step → Ending
+  ending_from n None steps = NotPossible n
+  ending_from n (Some w) [] = judged n (harm_of h w) NoHarm
+  ending_from n (Some w) (s ∷ steps) = judged n (harm_of h w) (ending_from (n + 1) (stepped w s) steps)
+
+  unfoldable pub ending_of : List Row → List Step → Ending
+  ending_of rows steps = ending_from 0 (Some (opening rows)) steps

@@ -1,0 +1,2 @@
+pub mod DequeueLemmas
+pub mod CountLemmas

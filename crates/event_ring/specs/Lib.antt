@@ -1,0 +1,2 @@
+pub mod EventRing
+pub mod EventPlaceValue

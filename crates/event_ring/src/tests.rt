@@ -1,0 +1,89 @@
+use crate::{BadErdp, EventPlace, ImpossibleEvent, NoRoom};
+use segments::RingShape;
+use std::test::Fail;
+use trb::{Block, RingKind};
+
+/// A Transfer Event with this Cycle bit.
+fn event(cycle: u32) -> Block {
+    Block {
+        w: [0x80000, 0, 0x0100_0000, 0x0101_8000 + cycle % 2],
+    }
+}
+
+#[test]
+fn posts_up_to_one_place_before_the_read_one(rt: HostRuntime) -> Result<(), Fail> {
+    let shape = RingShape::new(rt.alloc(), RingKind::Evt, &[(0x20000, 16)]).map_err(
+        |_| "no such shape",
+    )?;
+    let mut events = EventPlace::new(shape);
+    for i in 0..15u64 {
+        assert!(rt; events.may_post());
+        assert_eq!(rt; events.post(), Ok(0x20000 + 16 * i));
+    }
+    assert!(rt; !events.may_post());
+    assert_eq!(rt; events.post(), Err(NoRoom));
+    assert_eq!(rt; events.posted(), 15);
+    assert_eq!(rt; events.shape().places(), 16);
+    Ok(())
+}
+
+#[test]
+fn reads_lap_by_lap(rt: HostRuntime) -> Result<(), Fail> {
+    let shape = RingShape::new(rt.alloc(), RingKind::Evt, &[(0x20000, 16)]).map_err(
+        |_| "no such shape",
+    )?;
+    let mut events = EventPlace::new(shape);
+    assert_eq!(rt; events.set_dequeue(0x20010), Err(BadErdp));
+    assert_eq!(rt;
+        events.set_dequeue(0x20008),
+        Ok(()),
+        "bits 3:0 name no place"
+    );
+    assert_eq!(rt; events.read(&event(0)), Err(ImpossibleEvent));
+    for i in 1..17u64 {
+        assert_eq!(rt; events.read(&event(1)), Ok(()));
+        assert_eq!(rt; events.set_dequeue(0x20000 + i % 16 * 16), Ok(()));
+        assert_eq!(rt; events.dequeue(), i);
+    }
+    assert_eq!(rt; events.read(&event(1)), Err(ImpossibleEvent));
+    assert_eq!(rt; events.read(&event(0)), Ok(()));
+    assert_eq!(rt; events.reads(), 17);
+    assert_eq!(rt; events.set_dequeue(0x20020), Err(BadErdp));
+    assert_eq!(rt; events.set_dequeue(0x2001f), Ok(()));
+    assert_eq!(rt; events.dequeue(), 17);
+    Ok(())
+}
+
+#[test]
+fn three_segments_of_different_sizes(rt: HostRuntime) -> Result<(), Fail> {
+    let segments = [(0x20000, 16), (0x50000, 20), (0x30000, 32)];
+    let shape = RingShape::new(rt.alloc(), RingKind::Evt, &segments).map_err(|_| "no such shape")?;
+    let mut events = EventPlace::new(shape);
+    let mut last = 0;
+    for _ in 0..67 {
+        last = events.post().map_err(|_| "no room")?;
+    }
+    assert_eq!(rt; last, 0x301e0);
+    assert_eq!(rt; events.post(), Err(NoRoom));
+    for _ in 0..36 {
+        assert_eq!(rt; events.read(&event(1)), Ok(()));
+    }
+    assert_eq!(rt; events.set_dequeue(0x30010), Err(BadErdp));
+    assert_eq!(rt;
+        events.set_dequeue(0x30000),
+        Ok(()),
+        "the place that is read next"
+    );
+    assert_eq!(rt; events.set_dequeue(0x20000), Err(BadErdp), "no way back");
+    assert_eq!(rt; events.set_dequeue(0x40000), Err(BadErdp), "no event place");
+    assert_eq!(rt; events.post(), Ok(0x301f0));
+    assert_eq!(rt; events.post(), Ok(0x20000));
+    Ok(())
+}
+
+#[test]
+fn the_numbers_of_faults(rt: HostRuntime) {
+    assert_eq!(rt; NoRoom.number(), 29);
+    assert_eq!(rt; ImpossibleEvent.number(), 21);
+    assert_eq!(rt; BadErdp.number(), 22);
+}

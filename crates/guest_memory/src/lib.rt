@@ -1,0 +1,10 @@
+//! Guest memory by 32-bit words.
+#![tactic(auto)]
+
+mod addr;
+mod memory;
+mod sparse;
+
+pub use addr::Addr;
+pub use memory::WordMemory;
+pub use sparse::SparseMemory;

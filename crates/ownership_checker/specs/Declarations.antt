@@ -1,0 +1,27 @@
+-- The rules of a declaration (`sub`): xHCI 4.9.2, 4.11.2
+use Rattle.std.specs.Prelude.{ℕ, ◌+◌, ◌-◌, Bool, true, false, not, List, [], ◌∷◌, length, nat_lt, Option, Some, None}
+use Rattle.trb.specs.declared.block.Block.{Block}
+use Rattle.trb.specs.Descriptor.{is_bad_descriptor, is_left_out}
+use Rattle.trace_reader.specs.declared.header.Header.{Header}
+use Rattle.trace_reader.specs.declared.ring.Ring.{Ring}
+use Rattle.trace_reader.specs.Header.{ring_with, shape_of, is_driver_kind}
+use Rattle.ring_knowledge.specs.Known.{Known}
+use Rattle.ring_knowledge.specs.Rings as rings
+use Rattle.ownership_checker.specs.Refusal.{Test}
+use Rattle.ownership_checker.specs.declared.refusal.Refusal.TheVariants.{NotDeclared, RingFull, BadDescriptor, NotInProfile}
+
+module _ (h : Header) where
+  unfoldable pub is_driver_ring : Option Ring → Bool
+  is_driver_ring None = false
+  is_driver_ring (Some r) = is_driver_kind r.shape.kind
+
+  -- more blocks than the ring has room for: one place stays empty
+  unfoldable pub has_no_room : Known → ℕ → ℕ → Bool
+  has_no_room k r count = nat_lt (rings.places h r - 1 + rings.floor_number h k r) (rings.declared h k r + count)
+
+  unfoldable pub declaration_tests : Known → ℕ → List Block → List Test
+  declaration_tests k r blocks =
+      (NotDeclared, not (is_driver_ring (ring_with h r)))
+      ∷ (RingFull, has_no_room k r (length blocks))
+      ∷ (BadDescriptor, is_bad_descriptor (shape_of h r).kind blocks)
+      ∷ (NotInProfile, is_left_out (shape_of h r).kind blocks) ∷ []

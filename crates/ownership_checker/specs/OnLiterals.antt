@@ -1,0 +1,18 @@
+-- What a fact on literals unfolds to compute: name it on an `unfolding` line
+use Rattle.std.specs.Prelude.{⊤}
+use Rattle.ownership_checker.specs.Areas as of_areas
+use Rattle.ownership_checker.specs.Commands as of_commands
+use Rattle.ownership_checker.specs.Declarations as of_declarations
+use Rattle.ownership_checker.specs.Doorbells as of_doorbells
+use Rattle.ownership_checker.specs.Events as of_events
+use Rattle.ownership_checker.specs.Givings as of_givings
+use Rattle.ownership_checker.specs.Leases as of_leases
+use Rattle.ownership_checker.specs.Moves as of_moves
+use Rattle.ownership_checker.specs.Registers as of_registers
+use Rattle.ownership_checker.specs.Rules as of_rules
+use Rattle.ownership_checker.specs.Writes as of_writes
+use Rattle.ring_knowledge.specs.OnLiterals.{knowledge_on_literals}
+
+unfoldable pub rules_on_literals : ⊤
+unfolding of_areas.slots of_areas.device_touches of_areas.touches_device of_areas.is_bad_area of_areas.is_soiled of_areas.leased_contexts of_areas.touches_table of_areas.touches_entry of_areas.is_in_range_lease of_areas.is_in_block_lease of_areas.is_in_link_lease of_areas.is_leased of_commands.adds of_commands.drops of_commands.type_in of_commands.streams_in of_commands.added of_commands.names_disabled_slot of_commands.names_disabled_endpoint of_commands.has_bad_context of_commands.has_bad_entry of_commands.is_bad_device of_commands.takes_bad_device of_commands.is_bad_added of_commands.has_bad_content of_commands.is_bad_command of_commands.same_slot of_commands.is_busy of_commands.is_left_out_endpoint of_commands.has_left_out_endpoint of_declarations.is_driver_ring of_declarations.has_no_room of_declarations.declaration_tests of_doorbells.touches_endpoint of_doorbells.is_touched of_doorbells.is_bad_bell of_doorbells.is_bad_doorbell of_doorbells.doorbell_tests of_events.is_open of_events.is_stop_of of_events.is_stopping_now of_events.is_data_below of_events.is_stop_spot of_events.is_working of_events.can_report of_events.can_report_at of_events.can_report_on of_events.is_in_profile of_events.is_impossible_transfer of_events.slot_meant of_events.endpoint_meant of_events.can_succeed of_events.is_for_slot of_events.is_slot_enabled of_events.was_stop_seen of_events.can_finish of_events.is_impossible_completion of_events.is_impossible_by_kind of_events.is_past_room of_events.is_impossible of_events.event_tests of_givings.is_declared_as of_givings.length_from of_givings.is_wrong_link of_givings.some_given of_givings.some_crossed of_givings.block_with of_givings.is_other_than_declared of_givings.is_not_declared of_givings.descriptor_length of_givings.is_not_whole of_givings.link_of of_givings.link_block of_givings.leads_wrong of_givings.interrupts of_leases.without_end of_leases.segment_leases of_leases.blocks_given of_leases.links_given of_leases.device_leases of_leases.input_lease of_leases.context_leases of_leases.begun of_leases.is_open of_leases.end_from of_leases.as_lease of_leases.comes_before of_leases.with_lease of_leases.in_order of_leases.row_leases of_leases.leases_from of_leases.leases of_moves.binds of_moves.ring_bound of_moves.is_ring of_moves.binds_ring of_moves.is_used of_moves.is_unused_ring of_moves.is_among of_moves.has_repeats of_moves.is_bad_binding of_moves.are_given of_moves.are_ways_given of_moves.is_reached of_moves.is_border of_moves.may_move_to of_moves.is_move of_moves.is_bad_dequeue of_moves.is_bad_stay of_moves.is_bad_move of_moves.moves_ring of_moves.is_being_moved of_registers.is_written of_registers.is_unwritten of_registers.is_late_reset of_registers.is_early_start of_registers.is_no_first_block of_registers.is_bad_crcr of_registers.is_bad_size of_registers.is_bad_table of_registers.is_bad_register of_registers.may_pass of_registers.is_bad_erdp of_registers.register_tests of_rules.tests of_rules.broken of_rules.first_or of_rules.verdict_from of_writes.holds_of of_writes.some_command of_writes.write_tests knowledge_on_literals
+rules_on_literals = tt

@@ -1,0 +1,34 @@
+-- A trace of one transfer ring in which nothing but declarations and writes has come: no register is written, nothing is rung or read
+use Rattle.std.specs.Prelude.{◌≡◌, ℕ, false, List, [], ◌∷◌, None, slice_index}
+use Rattle.contexts.specs.declared.size.ContextSize.{ContextSize}
+use Rattle.segments.specs.declared.spot.Spot.TheVariants.{Data}
+use Rattle.segments.specs.ShapeValue.{Shape}
+use Rattle.segments.specs.Places.{ends}
+use Rattle.trace_reader.specs.declared.header.Header.{Header}
+use Rattle.trace_reader.specs.declared.register.Register.{Register}
+use Rattle.trace_reader.specs.declared.row.Row.{Row}
+use Rattle.trace_reader.specs.declared.row.Row.TheVariants.{Sub, Write, Reg, Bell, Read}
+use Rattle.ring_knowledge.specs.Known.{Known}
+
+-- a header with this one ring
+abbrev pub header_of : ContextSize → ℕ → Shape → Header
+header_of size id shape = record { context_size = size; rings = record { id = id; shape = shape } ∷ [] }
+
+-- nothing is known but memory, what is declared and what is given
+pub record IsQuiet (k : Known) : Type 0 where
+  pub running : k.stopped ≡ false
+  pub registers : (r : Register) → k.register r ≡ None
+  pub floors : (r : ℕ) → k.floor r ≡ Data 0
+  pub devices : (s : ℕ) → k.device s ≡ None
+
+-- a declaration or a write
+abbrev pub IsQuietRow : Row → Type 0
+IsQuietRow (Sub r blocks) = Unit {0}
+IsQuietRow (Write a w) = Unit {0}
+IsQuietRow (Reg r v) = ⊥
+IsQuietRow (Bell s t) = ⊥
+IsQuietRow (Read b) = ⊥
+
+-- the crossing of the Link of segment j in the first lap
+abbrev pub crossing_of : Shape → ℕ → ℕ
+crossing_of shape j = slice_index (ends shape) j

@@ -1,0 +1,160 @@
+-- Segments by their number, and the data places of a list of segments: where each lies, and that no two overlap
+use Rattle.std.specs.Prelude.{◌≡◌, ℕ, suc, zero, ◌+◌, ◌-◌, ◌*◌, ◌<◌, ◌≤◌, Bool, true, false, not, List, [], ◌∷◌, length}
+use Rattle.std.specs.List.{flat_map, list_any}
+use Rattle.std.proofs.Common.{◌∙◌, ap, inl, inr, arith, refl, get_or, length-append, zero-add, add-one}
+use Rattle.std.proofs.lemmas.Bool.{cases_lt, and_parts, or_parts, not-true}
+use Rattle.std.proofs.lemmas.Bool.Decides.{nat_tests}
+use Rattle.std.proofs.lemmas.List.{get_or_append_left, get_or-append_right}
+use Rattle.trb.specs.declared.ring_kind.RingKind.{RingKind}
+use Rattle.segments.specs.declared.segment.Segment.{Segment}
+use Rattle.segments.specs.Places.{blocks_from, data_count, overlap}
+use Rattle.segments.specs.Shape.{segments_overlap, are_apart}
+
+-- segment j of a list
+abbrev pub segment_at : List Segment → ℕ → Segment
+segment_at ss j = get_or ss j (record { base = 0; count = 0 })
+
+-- the data places of a list of segments
+abbrev pub places_of : RingKind → List Segment → List ℕ
+places_of kind ss = flat_map (λ s. blocks_from s.base (data_count kind s)) ss
+
+-- how many data places there are before segment j
+abbrev pub before : RingKind → List Segment → ℕ → ℕ
+before kind [] j = 0
+before kind (s ∷ rest) zero = 0
+before kind (s ∷ rest) (suc j) = data_count kind s + before kind rest j
+
+pub length-blocks_from : (a n : ℕ) → length (blocks_from a n) ≡ n
+length-blocks_from a zero = refl
+length-blocks_from a (suc n) = ap suc (length-blocks_from (a + 16) n)
+
+pub get_or-blocks_from : (a n k d : ℕ) → k < n → get_or (blocks_from a n) k d ≡ a + 16 * k
+get_or-blocks_from a zero k d h = absurd (omega arith)
+get_or-blocks_from a (suc n) zero d h = omega arith
+get_or-blocks_from a (suc n) (suc k) d h = omega (arith, get_or-blocks_from (a + 16) n k d (omega arith))
+
+-- data place i is block k of segment j
+pub record LiesAt (kind : RingKind) (ss : List Segment) (i j k : ℕ) : Type 0 where
+  pub segment : j < length ss
+  pub block : k < data_count kind (segment_at ss j)
+  pub number : i ≡ before kind ss j + k
+  pub address : get_or (places_of kind ss) i 0 ≡ (segment_at ss j).base + 16 * k
+
+pub length-places_of-cons : (kind : RingKind) (s : Segment) (rest : List Segment) →
+    length (places_of kind (s ∷ rest)) ≡ data_count kind s + length (places_of kind rest)
+length-places_of-cons kind s rest =
+    length-append (blocks_from s.base (data_count kind s)) (places_of kind rest)
+    ∙ ap (λ n. n + length (places_of kind rest)) (length-blocks_from s.base (data_count kind s))
+
+in_first : (kind : RingKind) (s : Segment) (rest : List Segment) (k : ℕ) → k < data_count kind s →
+    get_or (places_of kind (s ∷ rest)) k 0 ≡ s.base + 16 * k
+in_first kind s rest k h =
+    let here : k < length (blocks_from s.base (data_count kind s)) = rw (length-blocks_from s.base (data_count kind s)) h in
+    get_or_append_left (blocks_from s.base (data_count kind s)) (places_of kind rest) 0 k here
+    ∙ get_or-blocks_from s.base (data_count kind s) k 0 h
+
+in_rest : (kind : RingKind) (s : Segment) (rest : List Segment) (i : ℕ) → data_count kind s ≤ i →
+    get_or (places_of kind (s ∷ rest)) i 0 ≡ get_or (places_of kind rest) (i - data_count kind s) 0
+in_rest kind s rest i h =
+    get_or-append_right (blocks_from s.base (data_count kind s)) (places_of kind rest) (data_count kind s) i 0
+    (length-blocks_from s.base (data_count kind s)) h
+
+-- every data place is a block of a segment
+pub place_lies : (kind : RingKind) (ss : List Segment) (i : ℕ) → i < length (places_of kind ss) →
+    (j : ℕ) × (k : ℕ) × LiesAt kind ss i j k
+place_lies kind [] i h = absurd (omega arith)
+place_lies kind (s ∷ rest) i h =
+    elim (cases_lt i (data_count kind s)) [
+      | inl here ↦ (0, i, record { segment = omega arith; block = here; number = omega arith; address = in_first kind s rest i here })
+      | inr there ↦
+          let inside : i - data_count kind s < length (places_of kind rest) = omega (arith, length-places_of-cons kind s rest) in
+          let found = place_lies kind rest (i - data_count kind s) inside in
+          let lies : LiesAt kind rest (i - data_count kind s) found.0 found.1 = found.2 in (
+            suc found.0,
+            found.1,
+            record {
+              segment = omega (arith, lies.segment);
+              block = lies.block;
+              number = omega (arith, lies.number);
+              address = in_rest kind s rest i there ∙ lies.address;
+            },
+          )
+    ]
+
+drop_first : (a b k : ℕ) → a + b + k - a ≡ b + k
+drop_first a b k = omega arith
+
+-- every block that holds data is a data place
+pub block_lies : (kind : RingKind) (ss : List Segment) (j k : ℕ) → j < length ss → k < data_count kind (segment_at ss j) →
+    (before kind ss j + k < length (places_of kind ss)) × LiesAt kind ss (before kind ss j + k) j k
+block_lies kind [] j k h l = absurd (omega arith)
+block_lies kind (s ∷ rest) zero k h l = (
+  omega (arith, length-places_of-cons kind s rest, l),
+  record { segment = h; block = l; number = refl; address = rw zero-add (in_first kind s rest k l) },
+)
+block_lies kind (s ∷ rest) (suc j) k h l =
+    let inner = block_lies kind rest j k (omega arith) l in
+    let lies : LiesAt kind rest (before kind rest j + k) j k = inner.1 in (
+      omega (arith, length-places_of-cons kind s rest, inner.0),
+      record {
+        segment = h;
+        block = l;
+        number = refl;
+        address = in_rest kind s rest (data_count kind s + before kind rest j + k) (omega arith)
+            ∙ ap (λ n. get_or (places_of kind rest) n 0) (drop_first (data_count kind s) (before kind rest j) k) ∙ lies.address;
+      },
+    )
+
+none_at : {X : Type 0} (p : X → Bool) (xs : List X) (j : ℕ) (d : X) → list_any p xs ≡ false → j < length xs → p (get_or xs j d) ≡ false
+none_at p [] j d none h = absurd (omega arith)
+none_at p (x ∷ xs) zero d none h = (or_parts (p x) (list_any p xs) none).0
+none_at p (x ∷ xs) (suc j) d none h = none_at p xs j d (or_parts (p x) (list_any p xs) none).1 (omega arith)
+
+not_both : (a m b n x : ℕ) → overlap a m b n ≡ false → a ≤ x → x < a + m → b ≤ x → x < b + n → ⊥
+not_both a m b n x apart ha hm hb hn = grind (arith, nat_tests, apart)
+
+-- an address lies in one segment at most
+pub same_segment : (ss : List Segment) → are_apart ss ≡ true → (i j x : ℕ) → i < length ss → j < length ss →
+    (segment_at ss i).base ≤ x → x < (segment_at ss i).base + 16 * (segment_at ss i).count →
+    (segment_at ss j).base ≤ x → x < (segment_at ss j).base + 16 * (segment_at ss j).count → i ≡ j
+same_segment [] apart i j x hi hj li ri lj rj = absurd (omega arith)
+same_segment (s ∷ rest) apart zero zero x hi hj li ri lj rj = refl
+same_segment (s ∷ rest) apart zero (suc j) x hi hj li ri lj rj =
+    let parts = and_parts (not (list_any (segments_overlap s) rest)) (are_apart rest) apart in
+    let none : list_any (segments_overlap s) rest ≡ false = not-true (list_any (segments_overlap s) rest) parts.0 in
+    let here : segments_overlap s (segment_at rest j) ≡ false = none_at (segments_overlap s) rest j (record { base = 0; count = 0 }) none (omega arith) in
+    absurd (not_both s.base (16 * s.count) (segment_at rest j).base (16 * (segment_at rest j).count) x here li ri lj rj)
+same_segment (s ∷ rest) apart (suc i) zero x hi hj li ri lj rj =
+    let parts = and_parts (not (list_any (segments_overlap s) rest)) (are_apart rest) apart in
+    let none : list_any (segments_overlap s) rest ≡ false = not-true (list_any (segments_overlap s) rest) parts.0 in
+    let here : segments_overlap s (segment_at rest i) ≡ false = none_at (segments_overlap s) rest i (record { base = 0; count = 0 }) none (omega arith) in
+    absurd (not_both s.base (16 * s.count) (segment_at rest i).base (16 * (segment_at rest i).count) x here lj rj li ri)
+same_segment (s ∷ rest) apart (suc i) (suc j) x hi hj li ri lj rj =
+    let parts = and_parts (not (list_any (segments_overlap s) rest)) (are_apart rest) apart in
+    ap suc (same_segment rest parts.1 i j x (omega arith) (omega arith) li ri lj rj)
+
+-- the segments' data places follow one another
+pub before-next : (kind : RingKind) (ss : List Segment) (j : ℕ) → j < length ss → before kind ss (j + 1) ≡ before kind ss j + data_count kind (segment_at ss j)
+before-next kind [] j h = absurd (omega arith)
+before-next kind (s ∷ rest) zero h = first kind s rest
+  where
+    first : (kind : RingKind) (s : Segment) (rest : List Segment) → data_count kind s + before kind rest zero ≡ 0 + data_count kind s
+    first kind s [] = omega arith
+    first kind s (t ∷ rest) = omega arith
+before-next kind (s ∷ rest) (suc j) h =
+    let inner : before kind rest (suc j) ≡ before kind rest j + data_count kind (segment_at rest j) = rw add-one at (before-next kind rest j (omega arith)) in
+    rw add-one (omega arith)
+
+pub before-all : (kind : RingKind) (ss : List Segment) → before kind ss (length ss) ≡ length (places_of kind ss)
+before-all kind [] = refl
+before-all kind (s ∷ rest) = omega (arith, length-places_of-cons kind s rest, before-all kind rest)
+
+pub before-zero : (kind : RingKind) (ss : List Segment) → before kind ss 0 ≡ 0
+before-zero kind [] = refl
+before-zero kind (s ∷ rest) = refl
+
+-- no more data places come before a segment than there are
+pub before_within : (kind : RingKind) (ss : List Segment) (j : ℕ) → before kind ss j ≤ length (places_of kind ss)
+before_within kind [] j = omega arith
+before_within kind (s ∷ rest) zero = omega arith
+before_within kind (s ∷ rest) (suc j) = omega (arith, length-places_of-cons kind s rest, before_within kind rest j)

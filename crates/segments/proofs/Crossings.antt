@@ -1,0 +1,414 @@
+-- Crossings: which Link is crossed on the way to a position, where it lies, where it leads, and how often: xHCI 4.11.5.1
+use Rattle.std.specs.Prelude.{◌≡◌, ◌≢◌, ℕ, suc, zero, ◌+◌, ◌-◌, ◌*◌, ◌%◌, ◌<◌, ◌≤◌, ◌==◌, if◌then◌else◌, true, false, List, [], ◌∷◌, length, slice_index, Option, Some, None, position, is_some, unwrap_or}
+use Rattle.std.proofs.Common.{arith, sym, ◌∙◌, ap, refl, inl, inr, get_or, add-one, add-zero}
+use Rattle.std.proofs.lemmas.Bool.{cases_lt, cases_eq, cases_order, eqb-true, eq-eqb, ne_eqb, false≢true, cond-true, cond-false}
+use Rattle.std.proofs.lemmas.List.{length-map, get_or-map}
+use Rattle.std.proofs.lemmas.List.Quantifiers.{position-Some}
+use Rattle.std.proofs.lemmas.Option.{none-some}
+use Rattle.std.proofs.Math.Nat.{add-mod_right, mod-lt, mod-eq_of_lt, mod_self}
+use Rattle.trb.specs.declared.ring_kind.RingKind.{RingKind}
+use Rattle.trb.specs.declared.ring_kind.RingKind.TheVariants.{Cmd, Evt, Xfer}
+use Rattle.segments.specs.declared.segment.Segment.{Segment}
+use Rattle.segments.specs.ShapeValue.{Shape}
+use Rattle.segments.specs.Places.{data_count, data_places, place_count, address_of, cycle_of, links_of, links, ends_from, ends_of, ends, link_crossed, is_crossing, link_address, link_target, toggles}
+use Rattle.segments.specs.Shape.{IsShape}
+use Rattle.segments.proofs.Blocks.{segment_at, places_of, before, before-next, before-all, before-zero}
+use Rattle.segments.proofs.ShapeFacts.{IsSegment, shape_facts}
+use Rattle.segments.proofs.DataPlaces.{block_is, IsPlace, link_is, same_link, length-links, place_is, segment_start}
+use Rattle.segments.proofs.Positions.{place_count_pos, place_below, next_within, next_at_end, same_in_lap, cycle_of-next, cycle_of-next_lap}
+use Rattle.segments.proofs.Search.{position_only}
+
+-- ---- after how many data places each Link is crossed
+
+ends_at_from : (kind : RingKind) (ss : List Segment) (b j : ℕ) → ((s : Segment) → data_count kind s ≡ s.count - 1) → j < length ss →
+    (length (ends_from b ss) ≡ length ss) × (get_or (ends_from b ss) j 0 ≡ b + before kind ss (suc j))
+ends_at_from kind [] b j one h = absurd (omega arith)
+ends_at_from kind (s ∷ []) b zero one h = (refl, omega (arith, one s))
+ends_at_from kind (s ∷ t ∷ rest) b zero one h =
+    (omega (arith, (ends_at_from kind (t ∷ rest) (b + (s.count - 1)) zero one (omega arith)).0), omega (arith, one s))
+ends_at_from kind (s ∷ rest) b (suc j) one h =
+    let inner = ends_at_from kind rest (b + (s.count - 1)) j one (omega arith) in
+    (omega (arith, inner.0), omega (arith, inner.1, one s))
+
+length-ends_from : (ss : List Segment) (b : ℕ) → length (ends_from b ss) ≡ length ss
+length-ends_from [] b = refl
+length-ends_from (s ∷ rest) b = ap suc (length-ends_from rest (b + (s.count - 1)))
+
+ends_at : (kind : RingKind) (ss : List Segment) (j : ℕ) → j < length (ends_of kind ss) →
+    (j < length ss) × (get_or (ends_of kind ss) j 0 ≡ before kind ss (j + 1))
+ends_at Evt ss j h = absurd (omega arith)
+ends_at Cmd ss j h =
+    let inside : j < length ss = omega (arith, length-ends_from ss 0) in
+    (inside, rw add-one (omega (arith, (ends_at_from Cmd ss 0 j (λ s. refl) inside).1)))
+ends_at Xfer ss j h =
+    let inside : j < length ss = omega (arith, length-ends_from ss 0) in
+    (inside, rw add-one (omega (arith, (ends_at_from Xfer ss 0 j (λ s. refl) inside).1)))
+
+as_many : (kind : RingKind) (ss : List Segment) → length (ends_of kind ss) ≡ length (links_of kind ss)
+as_many Evt ss = refl
+as_many Cmd ss = length-ends_from ss 0 ∙ sym (length-map ss (λ s. s.base + 16 * (s.count - 1)))
+as_many Xfer ss = length-ends_from ss 0 ∙ sym (length-map ss (λ s. s.base + 16 * (s.count - 1)))
+
+-- one end for each Link
+pub length-ends : (shape : Shape) → length (ends shape) ≡ length (links shape)
+length-ends shape = as_many shape.kind shape.segments
+
+-- the Link of segment j is crossed after the data places of the segments up to it
+pub end_is : (shape : Shape) → (j : ℕ) → j < length (links shape) → slice_index (ends shape) j ≡ before shape.kind shape.segments (j + 1)
+end_is shape j h = (ends_at shape.kind shape.segments j (omega (arith, length-ends shape))).1
+
+before_grows : (shape : Shape) → IsShape shape → (i n : ℕ) → i + n ≤ length shape.segments →
+    before shape.kind shape.segments i + n ≤ before shape.kind shape.segments (i + n)
+before_grows shape is i zero h = rw (add-zero, add-zero) (omega arith)
+before_grows shape is i (suc n) h =
+    let s : IsSegment shape.kind (segment_at shape.segments (i + n)) = (shape_facts shape is).each (i + n) (omega arith) in
+    let so_far : before shape.kind shape.segments i + n ≤ before shape.kind shape.segments (i + n) = before_grows shape is i n (omega arith) in
+    let more : before shape.kind shape.segments (i + n + 1) ≡ before shape.kind shape.segments (i + n) + data_count shape.kind (segment_at shape.segments (i + n)) =
+    before-next shape.kind shape.segments (i + n) (omega arith) in
+    let one : i + suc n ≡ i + n + 1 = omega arith in
+    rw one (omega (arith, s.some_data))
+
+-- a later segment has more data places before it
+pub before_below : (shape : Shape) → IsShape shape → (i j : ℕ) → i < j → j ≤ length shape.segments →
+    before shape.kind shape.segments i < before shape.kind shape.segments j
+before_below shape is i j l h =
+    let apart : i + (j - i) ≡ j = omega arith in
+    let grows = rw apart at (before_grows shape is i (j - i) (omega arith)) in
+    omega arith
+
+-- the ends lie in the lap, from 1 on
+pub end_in_lap : (shape : Shape) → IsShape shape → (j : ℕ) → j < length (links shape) →
+    (0 < slice_index (ends shape) j) × (slice_index (ends shape) j ≤ place_count shape)
+end_in_lap shape is j h =
+    let link = link_is shape is j h in
+    let at = end_is shape j h in
+    let first = before_below shape is j (j + 1) (omega arith) (omega (arith, link.segment)) in
+    let all = before-all shape.kind shape.segments in (
+      omega arith,
+      elim (cases_lt (j + 1) (length shape.segments)) [
+        | inl below ↦ let later = before_below shape is (j + 1) (length shape.segments) below (omega arith) in omega arith
+        | inr last ↦
+            let here : j + 1 ≡ length shape.segments = omega (arith, link.segment) in
+            let ends_there = ap (λ n. before shape.kind shape.segments n) here in
+            omega arith
+      ],
+    )
+
+-- no two Links are crossed after one number of data places
+pub same_end : (shape : Shape) → IsShape shape → (i j : ℕ) → i < length (links shape) → j < length (links shape) →
+    slice_index (ends shape) i ≡ slice_index (ends shape) j → i ≡ j
+same_end shape is i j hi hj e =
+    let a = end_is shape i hi in
+    let b = end_is shape j hj in
+    let here = link_is shape is i hi in
+    let there = link_is shape is j hj in
+    elim (cases_order i j) [
+      | inl same ↦ same
+      | inr apart ↦ elim apart [
+        | inl lower ↦ let less = before_below shape is (i + 1) (j + 1) (omega arith) (omega (arith, there.segment)) in absurd (omega arith)
+        | inr upper ↦ let less = before_below shape is (j + 1) (i + 1) (omega arith) (omega (arith, here.segment)) in absurd (omega arith)
+      ]
+    ]
+
+-- ---- which Link is crossed on the way to a position
+
+link_crossed-pos : (shape : Shape) (q : ℕ) → 0 < q → link_crossed shape q ≡ position (λ n. n == (q - 1) % place_count shape + 1) (ends shape)
+link_crossed-pos shape zero h = absurd (omega arith)
+link_crossed-pos shape (suc q) h = ap (λ n. position (λ m. m == n % place_count shape + 1) (ends shape)) (one_less q)
+  where
+    one_less : (q : ℕ) → q ≡ suc q - 1
+    one_less q = omega arith
+
+-- none is crossed on the way to the first position
+pub link_crossed-zero : (shape : Shape) → link_crossed shape 0 ≡ None
+link_crossed-zero shape = refl
+
+-- crossing q goes over Link i
+pub record Crosses (shape : Shape) (q i : ℕ) : Type 0 where
+  pub positive : 0 < q
+  pub link : i < length (links shape)
+  pub end : slice_index (ends shape) i ≡ (q - 1) % place_count shape + 1
+
+pub crosses : (shape : Shape) (q i : ℕ) → link_crossed shape q ≡ Some i → Crosses shape q i
+crosses shape zero i h = absurd (none-some i h)
+crosses shape (suc q) i h =
+    let found = position-Some (λ n. n == q % place_count shape + 1) (ends shape) i 0 h in
+    record {
+      positive = omega arith;
+      link = omega (arith, length-ends shape, found.0);
+      end = eqb-true (slice_index (ends shape) i) (q % place_count shape + 1) found.1 ∙ ap (λ n. n % place_count shape + 1) (one_less q);
+    }
+  where
+    one_less : (q : ℕ) → q ≡ suc q - 1
+    one_less q = omega arith
+
+pub crosses-from : (shape : Shape) → IsShape shape → (q i : ℕ) → Crosses shape q i → link_crossed shape q ≡ Some i
+crosses-from shape is q i c =
+    link_crossed-pos shape q c.positive
+    ∙ position_only (λ n. n == (q - 1) % place_count shape + 1) (ends shape) i 0 (omega (arith, length-ends shape, c.link))
+    (eq-eqb (slice_index (ends shape) i) ((q - 1) % place_count shape + 1) c.end)
+    (λ k l t. same_end shape is k i (omega (arith, length-ends shape)) c.link
+    (eqb-true (slice_index (ends shape) k) ((q - 1) % place_count shape + 1) t ∙ sym c.end))
+
+-- the Link that a crossing goes over
+pub crossed_link : (shape : Shape) (q : ℕ) → is_crossing shape q ≡ true → (i : ℕ) × (link_crossed shape q ≡ Some i)
+crossed_link shape q h = the_some (link_crossed shape q) h
+  where
+    the_some : (o : Option ℕ) → is_some o ≡ true → (i : ℕ) × (o ≡ Some i)
+    the_some None h = absurd (false≢true h)
+    the_some (Some i) h = (i, refl)
+
+pub is_crossing-from : (shape : Shape) (q i : ℕ) → link_crossed shape q ≡ Some i → is_crossing shape q ≡ true
+is_crossing-from shape q i h = ap (λ o. is_some o) h
+
+pub crossing_positive : (shape : Shape) (q : ℕ) → is_crossing shape q ≡ true → 0 < q
+crossing_positive shape q h = (let found = crossed_link shape q h in (crosses shape q found.0 found.1).positive)
+
+pub link_address_is : (shape : Shape) (q i : ℕ) → link_crossed shape q ≡ Some i → link_address shape q ≡ slice_index (links shape) i
+link_address_is shape q i h = ap (λ o. slice_index (links shape) (unwrap_or o 0)) h
+
+-- an event ring has no Links
+pub no_crossing : (shape : Shape) → shape.kind ≡ Evt → (q : ℕ) → is_crossing shape q ≡ false
+no_crossing shape event zero = refl
+no_crossing shape event (suc q) =
+    let none : ends shape ≡ [] = ap (λ kind. ends_of kind shape.segments) event in
+    ap (λ xs. is_some (position (λ n. n == q % place_count shape + 1) xs)) none
+
+-- ---- from lap to lap
+
+-- a lap later the same Link is crossed
+pub link_crossed-lap : (shape : Shape) (q : ℕ) → 0 < q → link_crossed shape (q + place_count shape) ≡ link_crossed shape q
+link_crossed-lap shape q h =
+    link_crossed-pos shape (q + place_count shape) (omega arith)
+    ∙ ap (λ n. position (λ m. m == n + 1) (ends shape)) (lap_later (q - 1) q (place_count shape) h)
+    ∙ sym (link_crossed-pos shape q h)
+  where
+    lap_later : (r q n : ℕ) → 0 < q → (q + n - 1) % n ≡ (q - 1) % n
+    lap_later r q n h = let e : q + n - 1 ≡ q - 1 + n = omega arith in rw e (add-mod_right (q - 1) n)
+
+-- the remainder one before, by the remainder
+before_zero : (n p : ℕ) → 0 < n → 0 < p → p % n ≡ 0 → (p - 1) % n + 1 ≡ n
+before_zero n p pos h e =
+    let one : p - 1 + 1 ≡ p = omega arith in
+    let below : (p - 1) % n < n = mod-lt (p - 1) pos in
+    elim (cases_lt ((p - 1) % n + 1) n) [
+      | inl inner ↦ let at : p % n ≡ (p - 1) % n + 1 = rw one at (next_within n (p - 1) inner).1 in absurd (omega arith)
+      | inr last ↦ omega arith
+    ]
+
+before_more : (n p : ℕ) → 0 < n → 0 < p → 0 < p % n → (p - 1) % n + 1 ≡ p % n
+before_more n p pos h more =
+    let one : p - 1 + 1 ≡ p = omega arith in
+    let below : (p - 1) % n < n = mod-lt (p - 1) pos in
+    elim (cases_lt ((p - 1) % n + 1) n) [
+      | inl inner ↦ sym (rw one at (next_within n (p - 1) inner).1)
+      | inr last ↦ let at : p % n ≡ 0 = rw one at (next_at_end n (p - 1) pos (omega arith)).1 in absurd (omega arith)
+    ]
+
+-- which Link is crossed depends on the position's place alone
+pub link_crossed-same : (shape : Shape) → IsShape shape → (p q : ℕ) → 0 < p → 0 < q → p % place_count shape ≡ q % place_count shape →
+    link_crossed shape p ≡ link_crossed shape q
+link_crossed-same shape is p q hp hq same =
+    link_crossed-pos shape p hp
+    ∙ ap (λ n. position (λ m. m == n) (ends shape)) (one_before (place_count shape) p q (place_count_pos shape is) hp hq same)
+    ∙ sym (link_crossed-pos shape q hq)
+  where
+    one_before : (n p q : ℕ) → 0 < n → 0 < p → 0 < q → p % n ≡ q % n → (p - 1) % n + 1 ≡ (q - 1) % n + 1
+    one_before n p q pos hp hq same =
+        elim (cases_eq (p % n) 0) [
+          | inl end ↦ before_zero n p pos hp end ∙ sym (before_zero n q pos hq (sym same ∙ end))
+          | inr more ↦ before_more n p pos hp (omega arith) ∙ same ∙ sym (before_more n q pos hq (omega arith))
+        ]
+
+pub is_crossing-lap : (shape : Shape) (q : ℕ) → 0 < q → is_crossing shape (q + place_count shape) ≡ is_crossing shape q
+is_crossing-lap shape q h = ap (λ o. is_some o) (link_crossed-lap shape q h)
+
+pub link_address-lap : (shape : Shape) (q : ℕ) → 0 < q → link_address shape (q + place_count shape) ≡ link_address shape q
+link_address-lap shape q h = ap (λ o. slice_index (links shape) (unwrap_or o 0)) (link_crossed-lap shape q h)
+
+-- the crossing of Link i in the first lap: after the data places of the segments up to it
+pub first_crossing : (shape : Shape) → IsShape shape → (i : ℕ) → i < length (links shape) →
+    link_crossed shape (before shape.kind shape.segments (i + 1)) ≡ Some i
+first_crossing shape is i h =
+    let at = end_is shape i h in
+    let lap = end_in_lap shape is i h in
+    crosses-from shape is (before shape.kind shape.segments (i + 1)) i (record {
+      positive = omega arith;
+      link = h;
+      end = at ∙ in_first_lap (before shape.kind shape.segments (i + 1)) (place_count shape) (omega arith) (omega arith);
+    })
+  where
+    in_first_lap : (q n : ℕ) → 0 < q → q ≤ n → q ≡ (q - 1) % n + 1
+    in_first_lap q n pos le = let low : (q - 1) % n ≡ q - 1 = mod-eq_of_lt (omega arith) in omega arith
+
+-- at a lap's end the last Link is crossed
+pub last_crossing : (shape : Shape) → IsShape shape → (shape.kind ≡ Evt → ⊥) → link_crossed shape (place_count shape) ≡ Some (length shape.segments - 1)
+last_crossing shape is other =
+    let some : 0 < length shape.segments = some_segment shape.kind shape.segments (place_count_pos shape is) in
+    let all : length shape.segments - 1 + 1 ≡ length shape.segments = omega arith in
+    let last = first_crossing shape is (length shape.segments - 1) (omega (arith, length-links shape other)) in
+    let at : before shape.kind shape.segments (length shape.segments - 1 + 1) ≡ place_count shape = ap (λ n. before shape.kind shape.segments n) all ∙ before-all shape.kind shape.segments in
+    rw at at last
+  where
+    some_segment : (kind : RingKind) (ss : List Segment) → 0 < length (places_of kind ss) → 0 < length ss
+    some_segment kind [] h = absurd (omega arith)
+    some_segment kind (s ∷ rest) h = omega arith
+
+-- at every lap's end a Link is crossed
+pub crossing_at_end : (shape : Shape) → IsShape shape → (shape.kind ≡ Evt → ⊥) → (q : ℕ) → 0 < q → q % place_count shape ≡ 0 → is_crossing shape q ≡ true
+crossing_at_end shape is other q h end =
+    is_crossing-from shape q (length shape.segments - 1)
+    (link_crossed-same shape is q (place_count shape) h (place_count_pos shape is) (end ∙ sym (mod_self (place_count shape))) ∙ last_crossing shape is other)
+
+-- two crossings over one Link, less than a lap apart, are equal
+pub same_crossing : (shape : Shape) → IsShape shape → (p q i : ℕ) → p ≤ q → q < p + place_count shape →
+    link_crossed shape p ≡ Some i → link_crossed shape q ≡ Some i → p ≡ q
+same_crossing shape is p q i le near first second =
+    let a = crosses shape p i first in
+    let b = crosses shape q i second in
+    let ends_same : (p - 1) % place_count shape + 1 ≡ (q - 1) % place_count shape + 1 = sym a.end ∙ b.end in
+    let same : p - 1 ≡ q - 1 = same_in_lap (place_count shape) (p - 1) (q - 1) (place_count_pos shape is) (omega arith) (omega (arith, a.positive)) (omega arith) in
+    omega (arith, a.positive, b.positive)
+
+-- the same by the Links' addresses
+pub same_crossing_at : (shape : Shape) → IsShape shape → (p q : ℕ) → p ≤ q → q < p + place_count shape →
+    is_crossing shape p ≡ true → is_crossing shape q ≡ true → link_address shape p ≡ link_address shape q → p ≡ q
+same_crossing_at shape is p q le near first second same =
+    let a = crossed_link shape p first in
+    let b = crossed_link shape q second in
+    let here = crosses shape p a.0 a.1 in
+    let there = crosses shape q b.0 b.1 in
+    let one : b.0 ≡ a.0 = same_link shape is b.0 a.0 there.link here.link (sym (link_address_is shape q b.0 b.1) ∙ sym same ∙ link_address_is shape p a.0 a.1) in
+    same_crossing shape is p q a.0 le near a.1 (b.1 ∙ ap (λ n. Some n) one)
+
+-- ---- where a crossed Link leads
+
+-- the Link of a crossing toggles the cycle exactly where the crossing ends a lap
+pub toggles-crossed : (shape : Shape) → IsShape shape → (q i : ℕ) → link_crossed shape q ≡ Some i → toggles shape i ≡ (q % place_count shape == 0)
+toggles-crossed shape is q i h =
+    let c = crosses shape q i h in
+    let link = link_is shape is i c.link in
+    let at = end_is shape i c.link in
+    let all = before-all shape.kind shape.segments in
+    elim (cases_eq (i + 1) (length shape.segments)) [
+      | inl last ↦
+          let whole : before shape.kind shape.segments (i + 1) ≡ place_count shape = ap (λ n. before shape.kind shape.segments n) last ∙ all in
+          let end : q % place_count shape ≡ 0 = at_end q (place_count shape) (place_count_pos shape is) c.positive (sym c.end ∙ at ∙ whole) in
+          eq-eqb (i + 1) (length shape.segments) last ∙ sym (eq-eqb (q % place_count shape) 0 end)
+      | inr inner ↦
+          let less = before_below shape is (i + 1) (length shape.segments) (omega (arith, link.segment)) (omega arith) in
+          let within : q % place_count shape ≡ (q - 1) % place_count shape + 1 = inside q (place_count shape) c.positive (omega (arith, c.end)) in
+          ne_eqb (i + 1) (length shape.segments) inner ∙ sym (ne_eqb (q % place_count shape) 0 (λ e. absurd (omega arith)))
+    ]
+  where
+    at_end : (q n : ℕ) → 0 < n → 0 < q → (q - 1) % n + 1 ≡ n → q % n ≡ 0
+    at_end q n pos h e = let one : q - 1 + 1 ≡ q = omega arith in rw one at (next_at_end n (q - 1) pos e).1
+
+    inside : (q n : ℕ) → 0 < q → (q - 1) % n + 1 < n → q % n ≡ (q - 1) % n + 1
+    inside q n h l = let one : q - 1 + 1 ≡ q = omega arith in rw one at (next_within n (q - 1) l).1
+
+-- the position behind a crossed Link is the first of a segment
+pub position_behind : (shape : Shape) → IsShape shape → (q i : ℕ) → link_crossed shape q ≡ Some i →
+    q % place_count shape ≡ before shape.kind shape.segments ((i + 1) % length shape.segments)
+position_behind shape is q i h =
+    let c = crosses shape q i h in
+    let link = link_is shape is i c.link in
+    let at = end_is shape i c.link in
+    let turn = toggles-crossed shape is q i h in
+    elim (cases_eq (i + 1) (length shape.segments)) [
+      | inl last ↦
+          let end : q % place_count shape ≡ 0 = eqb-true (q % place_count shape) 0 (sym turn ∙ eq-eqb (i + 1) (length shape.segments) last) in
+          let zero_next : (i + 1) % length shape.segments ≡ 0 = ap (λ n. n % length shape.segments) last ∙ mod_self (length shape.segments) in
+          end ∙ sym (before-zero shape.kind shape.segments) ∙ ap (λ n. before shape.kind shape.segments n) (sym zero_next)
+      | inr inner ↦
+          let more : q % place_count shape ≢ 0 = λ e. inner (eqb-true (i + 1) (length shape.segments) (turn ∙ eq-eqb (q % place_count shape) 0 e)) in
+          let low : (i + 1) % length shape.segments ≡ i + 1 = mod-eq_of_lt (omega (arith, link.segment)) in
+          within q (place_count shape) (place_count_pos shape is) c.positive more ∙ sym c.end ∙ at ∙ ap (λ n. before shape.kind shape.segments n) (sym low)
+    ]
+  where
+    within : (q n : ℕ) → 0 < n → 0 < q → q % n ≢ 0 → q % n ≡ (q - 1) % n + 1
+    within q n pos h more =
+        let one : q - 1 + 1 ≡ q = omega arith in
+        let below : (q - 1) % n < n = mod-lt (q - 1) pos in
+        elim (cases_lt ((q - 1) % n + 1) n) [
+          | inl inner ↦ rw one at (next_within n (q - 1) inner).1
+          | inr last ↦ let turned : q % n ≡ 0 = rw one at (next_at_end n (q - 1) pos (omega arith)).1 in absurd (more turned)
+        ]
+
+-- the position behind a crossed Link lies where the Link leads
+pub link_target-crossed : (shape : Shape) → IsShape shape → (q i : ℕ) → link_crossed shape q ≡ Some i → address_of shape q ≡ link_target shape i
+link_target-crossed shape is q i h =
+    let c = crosses shape q i h in
+    let link = link_is shape is i c.link in
+    let some : 0 < length shape.segments = omega (arith, link.segment) in
+    let next : (i + 1) % length shape.segments < length shape.segments = mod-lt (i + 1) some in
+    let at = position_behind shape is q i h in
+    let start = segment_start shape is ((i + 1) % length shape.segments) next in
+    ap (λ n. slice_index (data_places shape) n) at ∙ start.1
+    ∙ sym (get_or-map (λ s. s.base) shape.segments ((i + 1) % length shape.segments) (record { base = 0; count = 0 }) 0 next)
+
+-- a crossed Link lies right behind the place of the position before
+pub link_address-behind : (shape : Shape) → IsShape shape → (q : ℕ) → is_crossing shape (q + 1) ≡ true → link_address shape (q + 1) ≡ address_of shape q + 16
+link_address-behind shape is q h =
+    let found = crossed_link shape (q + 1) h in
+    let i : ℕ = found.0 in
+    let c = crosses shape (q + 1) i found.1 in
+    let link = link_is shape is i c.link in
+    let at = end_is shape i c.link in
+    let more = before-next shape.kind shape.segments i link.segment in
+    let some = link.is_segment.some_data in
+    let last = block_is shape is i (data_count shape.kind (segment_at shape.segments i) - 1) link.segment (omega arith) in
+    let one : q + 1 - 1 ≡ q = omega arith in
+    let end : slice_index (ends shape) i ≡ q % place_count shape + 1 = rw one at c.end in
+    let here : before shape.kind shape.segments i + (data_count shape.kind (segment_at shape.segments i) - 1) ≡ q % place_count shape = omega arith in
+    let place : address_of shape q ≡ (segment_at shape.segments i).base + 16 * (data_count shape.kind (segment_at shape.segments i) - 1) =
+    ap (λ n. slice_index (data_places shape) n) (sym here) ∙ last.1.address in
+    link_address_is shape (q + 1) i found.1 ∙ link.address ∙ one_on _ _ _ some place
+  where
+    one_on : (a n x : ℕ) → 1 ≤ n → x ≡ a + 16 * (n - 1) → a + 16 * n ≡ x + 16
+    one_on a n x h e = omega arith
+
+-- where no Link is crossed and the lap goes on, the next place lies right behind
+pub address_of-behind : (shape : Shape) → IsShape shape → (shape.kind ≡ Evt → ⊥) → (q : ℕ) → is_crossing shape (q + 1) ≡ false →
+    address_of shape (q + 1) ≡ address_of shape q + 16
+address_of-behind shape is other q h =
+    let found = place_is shape is (q % place_count shape) (place_below shape is q) in
+    let j : ℕ = found.0 in
+    let k : ℕ = found.1 in
+    let place : IsPlace shape (q % place_count shape) j k = found.2 in
+    elim (cases_lt (k + 1) (data_count shape.kind (segment_at shape.segments j))) [
+      | inl inner ↦
+          let next = block_is shape is j (k + 1) place.segment inner in
+          let number : q % place_count shape + 1 ≡ before shape.kind shape.segments j + (k + 1) = omega (arith, place.number) in
+          let at = (next_within (place_count shape) q (omega (arith, next.0))).1 in
+          ap (λ n. slice_index (data_places shape) n) (at ∙ number) ∙ next.1.address ∙ one_on _ k _ place.address
+      | inr last ↦
+          let link : j < length (links shape) = omega (arith, length-links shape other, place.segment) in
+          let more = before-next shape.kind shape.segments j place.segment in
+          let end = end_is shape j link in
+          let one : q + 1 - 1 ≡ q = omega arith in
+          let at : slice_index (ends shape) j ≡ (q + 1 - 1) % place_count shape + 1 = rw one (omega (arith, place.number, place.block)) in
+          let crossing = crosses-from shape is (q + 1) j (record { positive = omega arith; link = link; end = at }) in
+          absurd (false≢true (sym h ∙ is_crossing-from shape (q + 1) j crossing))
+    ]
+  where
+    one_on : (a k x : ℕ) → x ≡ a + 16 * k → a + 16 * (k + 1) ≡ x + 16
+    one_on a k x e = omega arith
+
+-- the Cycle bit behind a crossed Link: flipped where the Link toggles it
+pub cycle_of-crossed : (shape : Shape) → IsShape shape → (q i : ℕ) → link_crossed shape q ≡ Some i →
+    cycle_of shape q ≡ (if toggles shape i then 1 - cycle_of shape (q - 1) else cycle_of shape (q - 1))
+cycle_of-crossed shape is q i h =
+    let c = crosses shape q i h in
+    let turn = toggles-crossed shape is q i h in
+    let one : q - 1 + 1 ≡ q = omega (arith, c.positive) in
+    elim (cases_eq (q % place_count shape) 0) [
+      | inl end ↦
+          let flips : cycle_of shape q ≡ 1 - cycle_of shape (q - 1) =
+          rw one at (cycle_of-next_lap shape is (q - 1) (before_zero (place_count shape) q (place_count_pos shape is) c.positive end)) in
+          flips ∙ sym (cond-true (toggles shape i) _ _ (turn ∙ eq-eqb (q % place_count shape) 0 end))
+      | inr inner ↦
+          let at : (q - 1) % place_count shape + 1 ≡ q % place_count shape = before_more (place_count shape) q (place_count_pos shape is) c.positive (omega arith) in
+          let stays : cycle_of shape q ≡ cycle_of shape (q - 1) = rw one at (cycle_of-next shape (q - 1) (omega (arith, place_below shape is q))) in
+          stays ∙ sym (cond-false (toggles shape i) _ _ (turn ∙ ne_eqb (q % place_count shape) 0 inner))
+    ]

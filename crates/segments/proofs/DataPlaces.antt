@@ -1,0 +1,248 @@
+-- Where data places and Links of a ring lie: on 16 byte boundaries, inside its segments, and apart
+use Rattle.std.specs.Prelude.{◌≡◌, ℕ, suc, ◌+◌, ◌-◌, ◌*◌, ◌%◌, ◌^◌, ◌<◌, ◌≤◌, true, List, [], ◌∷◌, length, slice_index}
+use Rattle.std.specs.List.{sum_by}
+use Rattle.std.proofs.Common.{arith, sym, ◌∙◌, ap, refl, inl, inr, get_or, add-zero}
+use Rattle.std.proofs.lemmas.Bool.{cases_lt, le-leb, lt-ltb, and_from}
+use Rattle.std.proofs.lemmas.List.{length-map, get_or-map}
+use Rattle.std.proofs.lemmas.List.Folds.{list_any_at}
+use Rattle.std.proofs.lemmas.List.Sums.{sum_by-cons}
+use Rattle.trb.specs.declared.ring_kind.RingKind.{RingKind}
+use Rattle.trb.specs.declared.ring_kind.RingKind.TheVariants.{Cmd, Evt, Xfer}
+use Rattle.segments.specs.declared.segment.Segment.{Segment}
+use Rattle.segments.specs.ShapeValue.{Shape}
+use Rattle.segments.specs.Places.{data_count, data_places, place_count, links_of, links, segment_has, is_inside}
+use Rattle.segments.specs.Shape.{IsShape, are_apart}
+use Rattle.segments.proofs.Blocks.{segment_at, places_of, before, LiesAt, place_lies, block_lies, same_segment, length-places_of-cons}
+use Rattle.segments.proofs.ShapeFacts.{IsSegment, shape_facts}
+
+one_segment : (ss : List Segment) → are_apart ss ≡ true → (i j k l : ℕ) → i < length ss → j < length ss →
+    k < (segment_at ss i).count → l < (segment_at ss j).count →
+    (segment_at ss i).base + 16 * k < (segment_at ss j).base + 16 * l + 16 →
+    (segment_at ss j).base + 16 * l < (segment_at ss i).base + 16 * k + 16 → i ≡ j
+one_segment ss apart i j k l hi hj hk hl near far =
+    elim (cases_lt ((segment_at ss i).base + 16 * k) ((segment_at ss j).base + 16 * l)) [
+      | inl lower ↦ same_segment ss apart i j ((segment_at ss j).base + 16 * l) hi hj (omega arith) (omega arith) (omega arith) (omega arith)
+      | inr upper ↦ same_segment ss apart i j ((segment_at ss i).base + 16 * k) hi hj (omega arith) (omega arith) (omega arith) (omega arith)
+    ]
+
+same_offset : (a b k l : ℕ) → a ≡ b → a + 16 * k < b + 16 * l + 16 → b + 16 * l < a + 16 * k + 16 → k ≡ l
+same_offset a b k l e near far = omega arith
+
+-- two blocks with a byte in common are one
+pub same_block : (shape : Shape) → IsShape shape → (i j k l : ℕ) → i < length shape.segments → j < length shape.segments →
+    k < (segment_at shape.segments i).count → l < (segment_at shape.segments j).count →
+    (segment_at shape.segments i).base + 16 * k < (segment_at shape.segments j).base + 16 * l + 16 →
+    (segment_at shape.segments j).base + 16 * l < (segment_at shape.segments i).base + 16 * k + 16 → (i ≡ j) × (k ≡ l)
+same_block shape is i j k l hi hj hk hl near far =
+    let same : i ≡ j = one_segment shape.segments (shape_facts shape is).apart i j k l hi hj hk hl near far in
+    (same, same_offset _ _ k l (ap (λ n. (segment_at shape.segments n).base) same) near far)
+
+-- a data place: block k of segment j
+pub record IsPlace (shape : Shape) (i j k : ℕ) : Type 0 where
+  pub segment : j < length shape.segments
+  pub block : k < data_count shape.kind (segment_at shape.segments j)
+  pub number : i ≡ before shape.kind shape.segments j + k
+  pub address : slice_index (data_places shape) i ≡ (segment_at shape.segments j).base + 16 * k
+  pub inside : k < (segment_at shape.segments j).count
+  pub is_segment : IsSegment shape.kind (segment_at shape.segments j)
+
+from_lies : (shape : Shape) → IsShape shape → (i j k : ℕ) → LiesAt shape.kind shape.segments i j k → IsPlace shape i j k
+from_lies shape is i j k lies =
+    let s : IsSegment shape.kind (segment_at shape.segments j) = (shape_facts shape is).each j lies.segment in
+    record {
+      segment = lies.segment;
+      block = lies.block;
+      number = lies.number;
+      address = lies.address;
+      inside = omega (arith, lies.block, s.data_within);
+      is_segment = s;
+    }
+
+-- every data place is a block of a segment
+pub place_is : (shape : Shape) → IsShape shape → (i : ℕ) → i < place_count shape → (j : ℕ) × (k : ℕ) × IsPlace shape i j k
+place_is shape is i h =
+    let found = place_lies shape.kind shape.segments i h in
+    (found.0, found.1, from_lies shape is i found.0 found.1 found.2)
+
+-- every block that holds data is a data place
+pub block_is : (shape : Shape) → IsShape shape → (j k : ℕ) → j < length shape.segments → k < data_count shape.kind (segment_at shape.segments j) →
+    (before shape.kind shape.segments j + k < place_count shape) × IsPlace shape (before shape.kind shape.segments j + k) j k
+block_is shape is j k hj hk =
+    let found = block_lies shape.kind shape.segments j k hj hk in
+    (found.0, from_lies shape is (before shape.kind shape.segments j + k) j k found.1)
+
+-- the first data place of a segment lies at its base
+pub segment_start : (shape : Shape) → IsShape shape → (j : ℕ) → j < length shape.segments →
+    (before shape.kind shape.segments j < place_count shape)
+    × (slice_index (data_places shape) (before shape.kind shape.segments j) ≡ (segment_at shape.segments j).base)
+segment_start shape is j h =
+    let s : IsSegment shape.kind (segment_at shape.segments j) = (shape_facts shape is).each j h in
+    let first = block_is shape is j 0 h (omega (arith, s.some_data)) in
+    (rw add-zero at first.0, (rw add-zero at first.1.address) ∙ omega arith)
+
+on_boundary : (a k x : ℕ) → a % 16 ≡ 0 → x ≡ a + 16 * k → x % 16 ≡ 0
+on_boundary a k x h e = omega arith
+
+block_ends : (a n k x : ℕ) → a + 16 * n ≤ 2 ^ 64 → k < n → x ≡ a + 16 * k → x + 16 ≤ 2 ^ 64
+block_ends a n k x h l e = omega arith
+
+-- data places lie on 16 byte boundaries
+pub place_aligned : (shape : Shape) → IsShape shape → (i : ℕ) → i < place_count shape → slice_index (data_places shape) i % 16 ≡ 0
+place_aligned shape is i h =
+    let found = place_is shape is i h in
+    let place : IsPlace shape i found.0 found.1 = found.2 in
+    on_boundary _ found.1 _ place.is_segment.aligned place.address
+
+-- and end at or below 2^64
+pub place_ends : (shape : Shape) → IsShape shape → (i : ℕ) → i < place_count shape → slice_index (data_places shape) i + 16 ≤ 2 ^ 64
+place_ends shape is i h =
+    let found = place_is shape is i h in
+    let place : IsPlace shape i found.0 found.1 = found.2 in
+    block_ends _ _ found.1 _ place.is_segment.end place.inside place.address
+
+segment_has_byte : (a n k x b : ℕ) → x ≡ a + 16 * k → k < n → b < 16 → (a ≤ x + b) × (x + b < a + 16 * n)
+segment_has_byte a n k x b e l h = (omega arith, omega arith)
+
+-- an address in a segment is inside the ring
+pub byte_inside : (shape : Shape) (j x : ℕ) → j < length shape.segments → (segment_at shape.segments j).base ≤ x →
+    x < (segment_at shape.segments j).base + 16 * (segment_at shape.segments j).count → is_inside shape x ≡ true
+byte_inside shape j x h low high =
+    list_any_at (segment_has x) shape.segments j (record { base = 0; count = 0 }) h
+    (and_from _ _ (le-leb _ x low) (lt-ltb x _ high))
+
+-- each of its bytes is inside the ring's segments
+pub place_inside : (shape : Shape) → IsShape shape → (i b : ℕ) → i < place_count shape → b < 16 →
+    is_inside shape (slice_index (data_places shape) i + b) ≡ true
+place_inside shape is i b h l =
+    let found = place_is shape is i h in
+    let place : IsPlace shape i found.0 found.1 = found.2 in
+    let has = segment_has_byte _ _ found.1 _ b place.address place.inside l in
+    byte_inside shape found.0 _ place.segment has.0 has.1
+
+same_number : (a b c j k l : ℕ) (f : ℕ → ℕ) → a ≡ f j + k → b ≡ f c + l → j ≡ c → k ≡ l → a ≡ b
+same_number a b c j k l f p q e s = cc
+
+-- two data places with a byte in common are one
+pub places_apart : (shape : Shape) → IsShape shape → (i j : ℕ) → i < place_count shape → j < place_count shape →
+    slice_index (data_places shape) i < slice_index (data_places shape) j + 16 →
+    slice_index (data_places shape) j < slice_index (data_places shape) i + 16 → i ≡ j
+places_apart shape is i j hi hj near far =
+    let a = place_is shape is i hi in
+    let here : IsPlace shape i a.0 a.1 = a.2 in
+    let b = place_is shape is j hj in
+    let there : IsPlace shape j b.0 b.1 = b.2 in
+    let one = same_block shape is a.0 b.0 a.1 b.1 here.segment there.segment here.inside there.inside
+    (rw (here.address, there.address) at near) (rw (here.address, there.address) at far) in
+    same_number i j b.0 a.0 a.1 b.1 (before shape.kind shape.segments) here.number there.number one.0 one.1
+
+-- two data places at one address are one
+pub same_place : (shape : Shape) → IsShape shape → (i j : ℕ) → i < place_count shape → j < place_count shape →
+    slice_index (data_places shape) i ≡ slice_index (data_places shape) j → i ≡ j
+same_place shape is i j hi hj e = places_apart shape is i j hi hj (omega arith) (omega arith)
+
+-- a Link: the block behind the data of segment j
+pub record IsLink (shape : Shape) (j : ℕ) : Type 0 where
+  pub segment : j < length shape.segments
+  pub address : slice_index (links shape) j ≡ (segment_at shape.segments j).base + 16 * data_count shape.kind (segment_at shape.segments j)
+  pub inside : data_count shape.kind (segment_at shape.segments j) < (segment_at shape.segments j).count
+  pub is_segment : IsSegment shape.kind (segment_at shape.segments j)
+
+link_lies : (kind : RingKind) (ss : List Segment) (j : ℕ) → j < length (links_of kind ss) → ((n : ℕ) → n < length ss → 2 ≤ (segment_at ss n).count) →
+    (j < length ss) × (get_or (links_of kind ss) j 0 ≡ (segment_at ss j).base + 16 * data_count kind (segment_at ss j))
+    × (data_count kind (segment_at ss j) < (segment_at ss j).count)
+link_lies Evt ss j h counts = absurd (omega arith)
+link_lies Cmd ss j h counts =
+    let inside : j < length ss = omega (arith, length-map ss (λ s. s.base + 16 * (s.count - 1))) in
+    (inside, get_or-map (λ s. s.base + 16 * (s.count - 1)) ss j (record { base = 0; count = 0 }) 0 inside, omega (arith, counts j inside))
+link_lies Xfer ss j h counts =
+    let inside : j < length ss = omega (arith, length-map ss (λ s. s.base + 16 * (s.count - 1))) in
+    (inside, get_or-map (λ s. s.base + 16 * (s.count - 1)) ss j (record { base = 0; count = 0 }) 0 inside, omega (arith, counts j inside))
+
+pub link_is : (shape : Shape) → IsShape shape → (j : ℕ) → j < length (links shape) → IsLink shape j
+link_is shape is j h =
+    let facts = shape_facts shape is in
+    let lies = link_lies shape.kind shape.segments j h (λ n l. (facts.each n l).blocks) in
+    record { segment = lies.0; address = lies.1; inside = lies.2; is_segment = facts.each j lies.0 }
+
+-- a command or transfer ring has a Link in each segment
+pub length-links : (shape : Shape) → (shape.kind ≡ Evt → ⊥) → length (links shape) ≡ length shape.segments
+length-links shape other = links_in_each shape.kind shape.segments other
+  where
+    links_in_each : (kind : RingKind) (ss : List Segment) → (kind ≡ Evt → ⊥) → length (links_of kind ss) ≡ length ss
+    links_in_each Evt ss other = absurd (other refl)
+    links_in_each Cmd ss other = length-map ss (λ s. s.base + 16 * (s.count - 1))
+    links_in_each Xfer ss other = length-map ss (λ s. s.base + 16 * (s.count - 1))
+
+-- Links lie on 16 byte boundaries
+pub link_aligned : (shape : Shape) → IsShape shape → (j : ℕ) → j < length (links shape) → slice_index (links shape) j % 16 ≡ 0
+link_aligned shape is j h =
+    let link = link_is shape is j h in
+    on_boundary _ _ _ link.is_segment.aligned link.address
+
+-- and end at or below 2^64
+pub link_ends : (shape : Shape) → IsShape shape → (j : ℕ) → j < length (links shape) → slice_index (links shape) j + 16 ≤ 2 ^ 64
+link_ends shape is j h =
+    let link = link_is shape is j h in
+    block_ends _ _ _ _ link.is_segment.end link.inside link.address
+
+-- each of their bytes is inside the ring's segments
+pub link_inside : (shape : Shape) → IsShape shape → (j b : ℕ) → j < length (links shape) → b < 16 →
+    is_inside shape (slice_index (links shape) j + b) ≡ true
+link_inside shape is j b h l =
+    let link = link_is shape is j h in
+    let has = segment_has_byte _ _ _ _ b link.address link.inside l in
+    byte_inside shape j _ link.segment has.0 has.1
+
+-- two Links with a byte in common are one
+pub links_apart : (shape : Shape) → IsShape shape → (i j : ℕ) → i < length (links shape) → j < length (links shape) →
+    slice_index (links shape) i < slice_index (links shape) j + 16 →
+    slice_index (links shape) j < slice_index (links shape) i + 16 → i ≡ j
+links_apart shape is i j hi hj near far =
+    let here = link_is shape is i hi in
+    let there = link_is shape is j hj in
+    (same_block shape is i j _ _ here.segment there.segment here.inside there.inside
+    (rw (here.address, there.address) at near) (rw (here.address, there.address) at far)).0
+
+-- two Links at one address are one
+pub same_link : (shape : Shape) → IsShape shape → (i j : ℕ) → i < length (links shape) → j < length (links shape) →
+    slice_index (links shape) i ≡ slice_index (links shape) j → i ≡ j
+same_link shape is i j hi hj e = links_apart shape is i j hi hj (omega arith) (omega arith)
+
+-- a data place and a Link have no byte in common
+pub place_not_link : (shape : Shape) → IsShape shape → (i j : ℕ) → i < place_count shape → j < length (links shape) →
+    slice_index (data_places shape) i < slice_index (links shape) j + 16 →
+    slice_index (links shape) j < slice_index (data_places shape) i + 16 → ⊥
+place_not_link shape is i j hi hj near far =
+    let a = place_is shape is i hi in
+    let here : IsPlace shape i a.0 a.1 = a.2 in
+    let there = link_is shape is j hj in
+    let one = same_block shape is a.0 j a.1 _ here.segment there.segment here.inside there.inside
+    (rw (here.address, there.address) at near) (rw (here.address, there.address) at far) in
+    not_data shape.kind shape.segments a.0 j a.1 here.block one.0 one.1
+  where
+    not_data : (kind : RingKind) (ss : List Segment) (i j k : ℕ) → k < data_count kind (segment_at ss i) → i ≡ j → k ≡ data_count kind (segment_at ss j) → ⊥
+    not_data kind ss i j k l same all =
+        let counts = ap (λ n. data_count kind (segment_at ss n)) same in
+        omega arith
+
+-- how many data places there are: those of all segments together
+pub place_count-sum : (shape : Shape) → place_count shape ≡ sum_by (data_count shape.kind) shape.segments
+place_count-sum shape = in_all shape.kind shape.segments
+  where
+    in_all : (kind : RingKind) (ss : List Segment) → length (places_of kind ss) ≡ sum_by (data_count kind) ss
+    in_all kind [] = refl
+    in_all kind (s ∷ rest) = length-places_of-cons kind s rest ∙ ap (λ n. data_count kind s + n) (in_all kind rest) ∙ sym (sum_by-cons (data_count kind) s rest)
+
+-- there are at most 64 times 4,096 of them
+pub place_count_most : (shape : Shape) → IsShape shape → place_count shape ≤ 64 * 4096
+place_count_most shape is =
+    let facts = shape_facts shape is in
+    let each : (j : ℕ) → j < length shape.segments → data_count shape.kind (segment_at shape.segments j) ≤ 4096 =
+    λ j h. let s = facts.each j h in omega (arith, s.data_within, s.most) in
+    omega (arith, at_most shape.kind shape.segments each, facts.few)
+  where
+    at_most : (kind : RingKind) (ss : List Segment) → ((j : ℕ) → j < length ss → data_count kind (segment_at ss j) ≤ 4096) →
+        length (places_of kind ss) ≤ length ss * 4096
+    at_most kind [] each = omega arith
+    at_most kind (s ∷ rest) each =
+        omega (arith, length-places_of-cons kind s rest, each 0 (omega arith), at_most kind rest (λ j h. each (suc j) (omega arith)))

@@ -1,0 +1,119 @@
+-- Small rings, place by place
+use Rattle.std.specs.Prelude.{◌≡◌, true, false, [], ◌∷◌, Some, None, map, refl}
+use Rattle.std.specs.List.{range_with_len}
+use Rattle.trb.specs.declared.ring_kind.RingKind.TheVariants.{Cmd, Evt, Xfer}
+use Rattle.segments.specs.declared.place.Place.TheVariants.{Data as DataWord, Link as LinkWord}
+use Rattle.segments.specs.declared.spot.Spot.TheVariants.{Data, Link}
+use Rattle.segments.specs.ShapeValue.{Shape, shape_of}
+use Rattle.segments.specs.Places.{data_places, place_count, address_of, cycle_of, links, ends, link_crossed, link_address, link_target, toggles, is_inside, touches}
+use Rattle.segments.specs.PlaceAt.{place_at}
+use Rattle.segments.specs.Shape.{is_shape}
+use Rattle.segments.specs.Spots.{spot_address, spot_cycle, spots_from, named_spot}
+use Rattle.segments.specs.OneRing.{Writes, is_due, is_crossing_due, is_given}
+
+-- two segments of three blocks
+abbrev two : Shape
+two = shape_of Xfer ((0x80000, 3) ∷ (0x81000, 3) ∷ [])
+
+allowed : is_shape two ≡ true
+allowed = refl
+
+data_places_of_two : data_places two ≡ 0x80000 ∷ 0x80010 ∷ 0x81000 ∷ 0x81010 ∷ []
+data_places_of_two = refl
+
+links_of_two : links two ≡ 0x80020 ∷ 0x81020 ∷ []
+links_of_two = refl
+
+ends_of_two : ends two ≡ 2 ∷ 4 ∷ []
+ends_of_two = refl
+
+addresses : map (address_of two) (range_with_len 0 6) ≡ 0x80000 ∷ 0x80010 ∷ 0x81000 ∷ 0x81010 ∷ 0x80000 ∷ 0x80010 ∷ []
+addresses = refl
+
+cycles : map (cycle_of two) (0 ∷ 3 ∷ 4 ∷ 7 ∷ 8 ∷ []) ≡ 1 ∷ 1 ∷ 0 ∷ 0 ∷ 1 ∷ []
+cycles = refl
+
+crossings : map (link_crossed two) (range_with_len 0 9) ≡ None ∷ None ∷ Some 0 ∷ None ∷ Some 1 ∷ None ∷ Some 0 ∷ None ∷ Some 1 ∷ []
+crossings = refl
+
+link_addresses : map (link_address two) (2 ∷ 4 ∷ 6 ∷ []) ≡ 0x80020 ∷ 0x81020 ∷ 0x80020 ∷ []
+link_addresses = refl
+
+targets : map (link_target two) (0 ∷ 1 ∷ []) ≡ 0x81000 ∷ 0x80000 ∷ []
+targets = refl
+
+toggling : map (toggles two) (0 ∷ 1 ∷ []) ≡ false ∷ true ∷ []
+toggling = refl
+
+-- the spots of a lap, each with its address and the controller's cycle there
+spots : spots_from two (Data 0) 7 ≡ Data 0 ∷ Data 1 ∷ Link 2 ∷ Data 2 ∷ Data 3 ∷ Link 4 ∷ Data 4 ∷ []
+spots = refl
+
+spot_addresses : map (spot_address two) (spots_from two (Data 0) 7) ≡ 0x80000 ∷ 0x80010 ∷ 0x80020 ∷ 0x81000 ∷ 0x81010 ∷ 0x81020 ∷ 0x80000 ∷ []
+spot_addresses = refl
+
+-- the last Link shows the cycle of the lap that it ends
+spot_cycles : map (spot_cycle two) (spots_from two (Data 0) 7) ≡ 1 ∷ 1 ∷ 1 ∷ 1 ∷ 1 ∷ 1 ∷ 0 ∷ []
+spot_cycles = refl
+
+-- an event names the least spot from the floor on, with a number up to what is declared
+names_first : named_spot two (Data 0) 3 0x80000 ≡ Some (Data 0)
+names_first = refl
+
+names_a_lap_later : named_spot two (Data 1) 4 0x80000 ≡ Some (Data 4)
+names_a_lap_later = refl
+
+names_none_beyond : named_spot two (Data 1) 3 0x80000 ≡ None
+names_none_beyond = refl
+
+names_a_link : named_spot two (Data 1) 3 0x80020 ≡ Some (Link 2)
+names_a_link = refl
+
+names_no_passed_link : named_spot two (Data 2) 3 0x80020 ≡ None
+names_no_passed_link = refl
+
+names_no_word_within : named_spot two (Data 0) 3 0x80004 ≡ None
+names_no_word_within = refl
+
+-- words
+data_word : place_at two 0x8101c ≡ Some (DataWord 3 3)
+data_word = refl
+
+link_word : place_at two 0x80024 ≡ Some (LinkWord 0 1)
+link_word = refl
+
+no_words : map (place_at two) (0x7fffc ∷ 0x80002 ∷ 0x80030 ∷ 0x81030 ∷ []) ≡ None ∷ None ∷ None ∷ None ∷ []
+no_words = refl
+
+bytes_around : map (is_inside two) (0x7ffff ∷ 0x80000 ∷ 0x8002f ∷ 0x80030 ∷ []) ≡ false ∷ true ∷ true ∷ false ∷ []
+bytes_around = refl
+
+ranges_around : (touches two 0x7fff0 16 ≡ false) × (touches two 0x7fff0 17 ≡ true) × (touches two 0x8002f 1 ≡ true) × (touches two 0x80030 0x0fd0 ≡ false)
+ranges_around = (refl, refl, refl, refl)
+
+-- an event ring has data places alone
+abbrev events : Shape
+events = shape_of Evt ((0x20000, 16) ∷ [])
+
+event_ring : (is_shape events ≡ true) × (place_count events ≡ 16) × (links events ≡ []) × (link_crossed events 16 ≡ None)
+event_ring = (refl, refl, refl, refl)
+
+event_positions : map (address_of events) (0 ∷ 15 ∷ 16 ∷ []) ≡ 0x20000 ∷ 0x200f0 ∷ 0x20000 ∷ []
+event_positions = refl
+
+-- refused: 15 event blocks, a segment across 64 KB, one data place, segments that overlap, a base off its boundary
+refused : map is_shape (shape_of Evt ((0x20000, 15) ∷ []) ∷ shape_of Xfer ((0xfff0, 4) ∷ []) ∷ shape_of Xfer ((0x80000, 2) ∷ [])
+    ∷ shape_of Xfer ((0x80000, 3) ∷ (0x80020, 3) ∷ []) ∷ shape_of Cmd ((0x80010, 3) ∷ []) ∷ []) ≡ false ∷ false ∷ false ∷ false ∷ false ∷ []
+refused = refl
+
+-- one ring alone: a block is given by its control word, a write with the other Cycle bit gives nothing
+given_by_control_word : (is_given two (Writes 0x8000c 0x2021 ∷ Writes 0x80000 0x1234 ∷ []) 0 ≡ true) × (is_given two (Writes 0x8000c 0x2020 ∷ []) 0 ≡ false)
+given_by_control_word = (refl, refl)
+
+-- the Link at a lap's end is due at once at the floor 0, and later only from the lap on
+first_lap_end : (is_crossing_due two (Data 0) 4 ≡ true) × (is_crossing_due two (Data 0) 6 ≡ false) × (is_crossing_due two (Data 2) 6 ≡ false) × (is_crossing_due two (Data 3) 6 ≡ true)
+first_lap_end = (refl, refl, refl, refl)
+
+-- a place is due for one position: the least there from the floor on
+due_a_lap_later : (is_due two (Data 1) 0 ≡ false) × (is_due two (Data 1) 4 ≡ true) × (is_due two (Data 0) 4 ≡ false)
+due_a_lap_later = (refl, refl, refl)

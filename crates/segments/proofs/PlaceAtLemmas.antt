@@ -1,0 +1,242 @@
+-- Which word of a ring's blocks has an address: each word has one answer, and each answer is of such a word
+use Rattle.std.specs.Prelude.{◌≡◌, ◌≢◌, ℕ, ◌+◌, ◌-◌, ◌*◌, ◌/◌, ◌%◌, ◌<◌, ◌≤◌, ◌==◌, if◌then◌else◌, true, length, slice_index, nat_le, nat_lt, Some, None, is_some}
+use Rattle.std.specs.Option.{option_map, option_or}
+use Rattle.std.proofs.lemmas.Option.{none-some, same_Some}
+use Rattle.std.proofs.Common.{arith, sym, ◌∙◌, ap, inl, inr}
+use Rattle.std.proofs.lemmas.Bool.{cases_lt, cases_eq, eq-eqb, ne_eqb, and_parts, and_from, le-leb, lt-ltb, le-ltb, leb-true, ltb-true, cond-true, cond-false, false_from_ne_true}
+use Rattle.std.proofs.lemmas.List.{get_or_default}
+use Rattle.std.proofs.lemmas.List.Folds.{Any-from_list_any}
+use Rattle.std.proofs.lemmas.List.Quantifiers.{position-Some}
+use Rattle.segments.specs.declared.place.Place.{Place}
+use Rattle.segments.specs.declared.place.Place.TheVariants.{Data, Link}
+use Rattle.trb.specs.declared.ring_kind.RingKind.{RingKind}
+use Rattle.trb.specs.declared.ring_kind.RingKind.TheVariants.{Cmd, Evt, Xfer}
+use Rattle.segments.specs.declared.segment.Segment.{Segment}
+use Rattle.segments.specs.ShapeValue.{Shape}
+use Rattle.segments.specs.Places.{data_count, segment_has, data_places, place_count, address_of, links, link_crossed, link_address, is_in, is_inside}
+use Rattle.segments.specs.PlaceAt.{data_place_at, link_at, place_at}
+use Rattle.segments.specs.Shape.{IsShape}
+use Rattle.segments.proofs.DataPlaces.{IsPlace, place_is, block_is, link_is, length-links, byte_inside, places_apart, place_aligned, place_not_link, links_apart, link_aligned}
+use Rattle.segments.proofs.Positions.{place_below, address_of-first}
+use Rattle.segments.proofs.Crossings.{crosses, link_address_is}
+use Rattle.segments.proofs.Blocks.{segment_at, before}
+use Rattle.segments.proofs.Search.{position_only, position_nowhere, cases_option}
+
+pub is_in-true : (x a n : ℕ) → a ≤ x → x < a + n → is_in x a n ≡ true
+is_in-true x a n low high = and_from (nat_le a x) (nat_lt x (a + n)) (le-leb a x low) (lt-ltb x (a + n) high)
+
+pub is_in-parts : (x a n : ℕ) → is_in x a n ≡ true → (a ≤ x) × (x < a + n)
+is_in-parts x a n h = let parts = and_parts (nat_le a x) (nat_lt x (a + n)) h in (leb-true a x parts.0, ltb-true x (a + n) parts.1)
+
+-- the data place that has a byte
+pub data_place_at-byte : (shape : Shape) → IsShape shape → (i x : ℕ) → i < place_count shape →
+    slice_index (data_places shape) i ≤ x → x < slice_index (data_places shape) i + 16 → data_place_at shape x ≡ Some i
+data_place_at-byte shape is i x h low high =
+    position_only (λ a. is_in x a 16) (data_places shape) i 0 h (is_in-true x _ 16 low high)
+    (λ k l t. let there = is_in-parts x (slice_index (data_places shape) k) 16 t in places_apart shape is k i l h (omega arith) (omega arith))
+
+-- no data place has a byte of a Link
+data_place_at-link : (shape : Shape) → IsShape shape → (j x : ℕ) → j < length (links shape) →
+    slice_index (links shape) j ≤ x → x < slice_index (links shape) j + 16 → data_place_at shape x ≡ None
+data_place_at-link shape is j x h low high =
+    position_nowhere (λ a. is_in x a 16) (data_places shape) 0 (λ k l. false_from_ne_true _ (λ t.
+    let there = is_in-parts x (slice_index (data_places shape) k) 16 t in
+    place_not_link shape is k j l h (omega arith) (omega arith)))
+
+-- the Link that has a byte
+link_at-byte : (shape : Shape) → IsShape shape → (j x : ℕ) → j < length (links shape) →
+    slice_index (links shape) j ≤ x → x < slice_index (links shape) j + 16 → link_at shape x ≡ Some j
+link_at-byte shape is j x h low high =
+    position_only (λ a. is_in x a 16) (links shape) j 0 h (is_in-true x _ 16 low high)
+    (λ k l t. let there = is_in-parts x (slice_index (links shape) k) 16 t in links_apart shape is k j l h (omega arith) (omega arith))
+
+at_word : (shape : Shape) (x : ℕ) → x % 4 ≡ 0 →
+    place_at shape x ≡ option_or (option_map (λ i. Data i (x % 16 / 4)) (data_place_at shape x)) (option_map (λ j. Link j (x % 16 / 4)) (link_at shape x))
+at_word shape x h = cond-true (x % 4 == 0) _ None (eq-eqb (x % 4) 0 h)
+
+-- a word of a data place
+pub place_at-data : (shape : Shape) → IsShape shape → (i x : ℕ) → i < place_count shape → x % 4 ≡ 0 →
+    slice_index (data_places shape) i ≤ x → x < slice_index (data_places shape) i + 16 → place_at shape x ≡ Some (Data i (x % 16 / 4))
+place_at-data shape is i x h word low high =
+    at_word shape x word
+    ∙ ap (λ o. option_or (option_map (λ i. Data i (x % 16 / 4)) o) (option_map (λ j. Link j (x % 16 / 4)) (link_at shape x))) (data_place_at-byte shape is i x h low high)
+
+-- a word of a Link
+pub place_at-link : (shape : Shape) → IsShape shape → (j x : ℕ) → j < length (links shape) → x % 4 ≡ 0 →
+    slice_index (links shape) j ≤ x → x < slice_index (links shape) j + 16 → place_at shape x ≡ Some (Link j (x % 16 / 4))
+place_at-link shape is j x h word low high =
+    at_word shape x word
+    ∙ ap (λ o. option_or (option_map (λ i. Data i (x % 16 / 4)) o) (option_map (λ j. Link j (x % 16 / 4)) (link_at shape x))) (data_place_at-link shape is j x h low high)
+    ∙ ap (λ o. option_map (λ j. Link j (x % 16 / 4)) o) (link_at-byte shape is j x h low high)
+
+-- an address that is no multiple of 4 is none of a word
+pub place_at-odd : (shape : Shape) (x : ℕ) → x % 4 ≢ 0 → place_at shape x ≡ None
+place_at-odd shape x h = cond-false (x % 4 == 0) _ None (ne_eqb (x % 4) 0 h)
+
+word_of : (a w : ℕ) → a % 16 ≡ 0 → w < 4 → ((a + 4 * w) % 4 ≡ 0) × ((a + 4 * w) % 16 / 4 ≡ w)
+word_of a w h l = (omega arith, omega arith)
+
+-- word w of the place of position p
+pub place_at-address_of : (shape : Shape) → IsShape shape → (p w : ℕ) → w < 4 →
+    place_at shape (address_of shape p + 4 * w) ≡ Some (Data (p % place_count shape) w)
+place_at-address_of shape is p w l =
+    let inside : p % place_count shape < place_count shape = place_below shape is p in
+    let word = word_of (address_of shape p) w (place_aligned shape is (p % place_count shape) inside) l in
+    place_at-data shape is (p % place_count shape) (address_of shape p + 4 * w) inside word.0 (omega arith) (omega arith)
+    ∙ ap (λ n. Some (Data (p % place_count shape) n)) word.1
+
+-- word w of the Link of segment j
+pub place_at-link_word : (shape : Shape) → IsShape shape → (j w : ℕ) → j < length (links shape) → w < 4 →
+    place_at shape (slice_index (links shape) j + 4 * w) ≡ Some (Link j w)
+place_at-link_word shape is j w inside l =
+    let word = word_of (slice_index (links shape) j) w (link_aligned shape is j inside) l in
+    place_at-link shape is j (slice_index (links shape) j + 4 * w) inside word.0 (omega arith) (omega arith)
+    ∙ ap (λ n. Some (Link j n)) word.1
+
+-- word w of the Link that crossing q goes over
+pub place_at-link_address : (shape : Shape) → IsShape shape → (q i w : ℕ) → link_crossed shape q ≡ Some i → w < 4 →
+    place_at shape (link_address shape q + 4 * w) ≡ Some (Link i w)
+place_at-link_address shape is q i w h l =
+    let there = place_at-link_word shape is i w (crosses shape q i h).link l in
+    ap (λ a. place_at shape (a + 4 * w)) (link_address_is shape q i h) ∙ there
+
+-- what an answer says of the address
+abbrev pub IsAnswer : Shape → ℕ → Place → Type 0
+IsAnswer shape x (Data i w) = (i < place_count shape) × (w < 4) × (x ≡ slice_index (data_places shape) i + 4 * w)
+IsAnswer shape x (Link j w) = (j < length (links shape)) × (w < 4) × (x ≡ slice_index (links shape) j + 4 * w)
+
+word_back : (a x : ℕ) → a % 16 ≡ 0 → x % 4 ≡ 0 → a ≤ x → x < a + 16 → (x % 16 / 4 < 4) × (x ≡ a + 4 * (x % 16 / 4))
+word_back a x h word low high = (omega arith, omega arith)
+
+data_answer : (shape : Shape) → IsShape shape → (x i : ℕ) → x % 4 ≡ 0 → data_place_at shape x ≡ Some i → IsAnswer shape x (Data i (x % 16 / 4))
+data_answer shape is x i word h =
+    let found = position-Some (λ a. is_in x a 16) (data_places shape) i 0 h in
+    let bytes = is_in-parts x (slice_index (data_places shape) i) 16 found.1 in
+    let back = word_back (slice_index (data_places shape) i) x (place_aligned shape is i found.0) word bytes.0 bytes.1 in
+    (found.0, back.0, back.1)
+
+link_answer : (shape : Shape) → IsShape shape → (x j : ℕ) → x % 4 ≡ 0 → link_at shape x ≡ Some j → IsAnswer shape x (Link j (x % 16 / 4))
+link_answer shape is x j word h =
+    let found = position-Some (λ a. is_in x a 16) (links shape) j 0 h in
+    let bytes = is_in-parts x (slice_index (links shape) j) 16 found.1 in
+    let back = word_back (slice_index (links shape) j) x (link_aligned shape is j found.0) word bytes.0 bytes.1 in
+    (found.0, back.0, back.1)
+
+-- every answer is of a word with this address
+pub place_at-Some : (shape : Shape) → IsShape shape → (x : ℕ) (place : Place) → place_at shape x ≡ Some place → IsAnswer shape x place
+place_at-Some shape is x place h =
+    elim (cases_eq (x % 4) 0) [
+      | inr odd ↦ absurd (none-some place (sym (place_at-odd shape x odd) ∙ h))
+      | inl word ↦
+          elim (cases_option (data_place_at shape x)) [
+            | inr some ↦
+                let same : Some place ≡ Some (Data some.0 (x % 16 / 4)) = sym h ∙ at_word shape x word
+                ∙ ap (λ o. option_or (option_map (λ i. Data i (x % 16 / 4)) o) (option_map (λ j. Link j (x % 16 / 4)) (link_at shape x))) some.1 in
+                rw (same_Some place (Data some.0 (x % 16 / 4)) same) (data_answer shape is x some.0 word some.1)
+            | inl no_data ↦
+                let only : place_at shape x ≡ option_map (λ j. Link j (x % 16 / 4)) (link_at shape x) = at_word shape x word
+                ∙ ap (λ o. option_or (option_map (λ i. Data i (x % 16 / 4)) o) (option_map (λ j. Link j (x % 16 / 4)) (link_at shape x))) no_data in
+                elim (cases_option (link_at shape x)) [
+                  | inr link ↦
+                      let same : Some place ≡ Some (Link link.0 (x % 16 / 4)) = sym h ∙ only ∙ ap (λ o. option_map (λ j. Link j (x % 16 / 4)) o) link.1 in
+                      rw (same_Some place (Link link.0 (x % 16 / 4)) same) (link_answer shape is x link.0 word link.1)
+                  | inl no_link ↦ absurd (none-some place (sym (ap (λ o. option_map (λ j. Link j (x % 16 / 4)) o) no_link) ∙ sym only ∙ h))
+                ]
+          ]
+    ]
+
+pub place_at-Data : (shape : Shape) → IsShape shape → (x i w : ℕ) → place_at shape x ≡ Some (Data i w) →
+    (i < place_count shape) × (w < 4) × (x ≡ address_of shape i + 4 * w)
+place_at-Data shape is x i w h =
+    let answer : (i < place_count shape) × (w < 4) × (x ≡ slice_index (data_places shape) i + 4 * w) = place_at-Some shape is x (Data i w) h in
+    (answer.0, answer.1, answer.2 ∙ ap (λ a. a + 4 * w) (sym (address_of-first shape i answer.0)))
+
+pub place_at-Link : (shape : Shape) → IsShape shape → (x j w : ℕ) → place_at shape x ≡ Some (Link j w) →
+    (j < length (links shape)) × (w < 4) × (x ≡ slice_index (links shape) j + 4 * w)
+place_at-Link shape is x j w h = place_at-Some shape is x (Link j w) h
+
+-- with no answer the address is none of a word of a data place
+pub place_at-None : (shape : Shape) → IsShape shape → (x p w : ℕ) → place_at shape x ≡ None → w < 4 → x ≢ address_of shape p + 4 * w
+place_at-None shape is x p w h l same =
+    none-some (Data (p % place_count shape) w) (sym h ∙ ap (λ a. place_at shape a) same ∙ place_at-address_of shape is p w l)
+
+-- nor of a Link
+pub place_at-None_link : (shape : Shape) → IsShape shape → (x j w : ℕ) → place_at shape x ≡ None → j < length (links shape) → w < 4 → x ≢ slice_index (links shape) j + 4 * w
+place_at-None_link shape is x j w h inside l same =
+    none-some (Link j w) (sym h ∙ ap (λ a. place_at shape a) same ∙ place_at-link_word shape is j w inside l)
+
+-- ---- by segments
+
+has_link : (kind : RingKind) (s : Segment) → data_count kind s < s.count → kind ≡ Evt → ⊥
+has_link kind s l event = let same : data_count kind s ≡ s.count = ap (λ k. data_count k s) event in omega arith
+
+link_last : (kind : RingKind) (s : Segment) (k : ℕ) → k < s.count → data_count kind s ≤ k → k ≡ data_count kind s
+link_last Evt s k h l = absurd (omega arith)
+link_last Cmd s k h l = omega arith
+link_last Xfer s k h l = omega arith
+
+-- a word of block k of segment j
+pub place_at-block : (shape : Shape) → IsShape shape → (j k x : ℕ) → j < length shape.segments → k < (segment_at shape.segments j).count →
+    x % 4 ≡ 0 → (segment_at shape.segments j).base + 16 * k ≤ x → x < (segment_at shape.segments j).base + 16 * k + 16 →
+    place_at shape x ≡ Some (if nat_lt k (data_count shape.kind (segment_at shape.segments j))
+    then Data (before shape.kind shape.segments j + k) (x % 16 / 4) else Link j (x % 16 / 4))
+place_at-block shape is j k x hj hk word low high =
+    elim (cases_lt k (data_count shape.kind (segment_at shape.segments j))) [
+      | inl holds ↦
+          let place = block_is shape is j k hj holds in
+          place_at-data shape is (before shape.kind shape.segments j + k) x place.0 word (omega (arith, place.1.address)) (omega (arith, place.1.address))
+          ∙ ap (λ p. Some p) (sym (cond-true (nat_lt k (data_count shape.kind (segment_at shape.segments j))) _ _ (lt-ltb k _ holds)))
+      | inr last ↦
+          let links_all = length-links shape (has_link shape.kind (segment_at shape.segments j) (omega arith)) in
+          let link = link_is shape is j (omega arith) in
+          let end : k ≡ data_count shape.kind (segment_at shape.segments j) = link_last shape.kind (segment_at shape.segments j) k hk last in
+          place_at-link shape is j x (omega arith) word (omega (arith, link.address)) (omega (arith, link.address))
+          ∙ ap (λ p. Some p) (sym (cond-false (nat_lt k (data_count shape.kind (segment_at shape.segments j))) _ _ (le-ltb k _ last)))
+    ]
+
+within_segment : (a n k w x : ℕ) → k < n → w < 4 → x ≡ a + 16 * k + 4 * w → (a ≤ x) × (x < a + 16 * n)
+within_segment a n k w x h l e = (omega arith, omega arith)
+
+answer_inside : (shape : Shape) → IsShape shape → (x : ℕ) (place : Place) → IsAnswer shape x place →
+    (j : ℕ) × (j < length shape.segments) × ((segment_at shape.segments j).base ≤ x) × (x < (segment_at shape.segments j).base + 16 * (segment_at shape.segments j).count)
+answer_inside shape is x (Data i w) answer =
+    let found = place_is shape is i answer.0 in
+    let place : IsPlace shape i found.0 found.1 = found.2 in
+    let has = within_segment (segment_at shape.segments found.0).base _ found.1 w x place.inside answer.1 (omega (arith, answer.2, place.address)) in
+    (found.0, place.segment, has.0, has.1)
+answer_inside shape is x (Link j w) answer =
+    let link = link_is shape is j answer.0 in
+    let has = within_segment (segment_at shape.segments j).base _ _ w x link.inside answer.1 (omega (arith, answer.2, link.address)) in
+    (j, link.segment, has.0, has.1)
+
+-- an address outside each segment
+pub place_at-outside : (shape : Shape) → IsShape shape → (x : ℕ) →
+    ((j : ℕ) → j < length shape.segments → (segment_at shape.segments j).base ≤ x → x < (segment_at shape.segments j).base + 16 * (segment_at shape.segments j).count → ⊥) →
+    place_at shape x ≡ None
+place_at-outside shape is x outside =
+    elim (cases_option (place_at shape x)) [
+      | inl none ↦ none
+      | inr some ↦
+          let at = answer_inside shape is x some.0 (place_at-Some shape is x some.0 some.1) in
+          absurd (outside at.0 at.1 at.2 at.3)
+    ]
+
+-- every word inside the ring's segments is one of a data place or a Link
+pub place_at-inside : (shape : Shape) → IsShape shape → (x : ℕ) → x % 4 ≡ 0 → is_inside shape x ≡ true → is_some (place_at shape x) ≡ true
+place_at-inside shape is x word inside =
+    let found = Any-from_list_any (segment_has x) shape.segments inside in
+    let j : ℕ = found.0 in
+    let at : segment_at shape.segments j ≡ found.1 = get_or_default shape.segments j (record { base = 0; count = 0 }) found.1 found.2 ∙ found.3 in
+    let bytes = is_in-parts x (segment_at shape.segments j).base (16 * (segment_at shape.segments j).count) (ap (λ s. segment_has x s) at ∙ found.4) in
+    let k : ℕ = (x - (segment_at shape.segments j).base) / 16 in
+    let block = block_number (segment_at shape.segments j).base (segment_at shape.segments j).count x bytes.0 bytes.1 in
+    ap (λ o. is_some o) (place_at-block shape is j k x found.2 block.0 word block.1 block.2)
+  where
+    block_number : (a n x : ℕ) → a ≤ x → x < a + 16 * n → ((x - a) / 16 < n) × (a + 16 * ((x - a) / 16) ≤ x) × (x < a + 16 * ((x - a) / 16) + 16)
+    block_number a n x low high = (omega arith, omega arith, omega arith)
+
+-- outside its segments no word has an answer
+pub is_inside-place_at : (shape : Shape) → IsShape shape → (x : ℕ) (place : Place) → place_at shape x ≡ Some place → is_inside shape x ≡ true
+is_inside-place_at shape is x place h =
+    let at = answer_inside shape is x place (place_at-Some shape is x place h) in
+    byte_inside shape at.0 x at.1 at.2 at.3

@@ -1,0 +1,40 @@
+-- The one place of a list that passes a test
+use Rattle.std.specs.Prelude.{◌≡◌, ℕ, ◌<◌, ◌≤◌, Bool, true, false, List, length, nat_lt, Option, Some, None, position, ◌⊎◌}
+use Rattle.std.specs.List.{position_or_len}
+use Rattle.std.proofs.Common.{arith, refl, inl, inr, get_or}
+use Rattle.std.proofs.lemmas.Bool.{cases_Bool, cond-true, cond-false, lt-ltb, ltb-false, le-ltb, false_from_ne_true}
+use Rattle.std.proofs.lemmas.List.Sums.{position_or_len_is, fails_before_first}
+
+-- the first place that passes
+pub position_is : {X : Type 0} (p : X → Bool) (xs : List X) (i : ℕ) (d : X) → i < length xs → p (get_or xs i d) ≡ true →
+    ((k : ℕ) → k < i → p (get_or xs k d) ≡ false) → position p xs ≡ Some i
+position_is p xs i d inside passes first =
+    let at : position_or_len p xs ≡ i = position_or_len_is p xs i d (omega arith) first (λ _. passes) in
+    rw at (cond-true (nat_lt i (length xs)) (Some i) None (lt-ltb i (length xs) inside))
+
+-- the only place that passes
+pub position_only : {X : Type 0} (p : X → Bool) (xs : List X) (i : ℕ) (d : X) → i < length xs → p (get_or xs i d) ≡ true →
+    ((k : ℕ) → k < length xs → p (get_or xs k d) ≡ true → k ≡ i) → position p xs ≡ Some i
+position_only p xs i d inside passes only =
+    position_is p xs i d inside passes (λ k l. false_from_ne_true (p (get_or xs k d)) (λ h. let same : k ≡ i = only k (omega arith) h in absurd (omega arith)))
+
+-- no place passes
+pub position_nowhere : {X : Type 0} (p : X → Bool) (xs : List X) (d : X) → ((k : ℕ) → k < length xs → p (get_or xs k d) ≡ false) → position p xs ≡ None
+position_nowhere p xs d fails =
+    let at : position_or_len p xs ≡ length xs = position_or_len_is p xs (length xs) d (omega arith) fails (λ h. absurd (omega arith)) in
+    rw at (cond-false (nat_lt (length xs) (length xs)) (Some (length xs)) None (le-ltb (length xs) (length xs) (omega arith)))
+
+-- where the search finds nothing, no place passes
+pub position-None : {X : Type 0} (p : X → Bool) (xs : List X) (k : ℕ) (d : X) → position p xs ≡ None → k < length xs → p (get_or xs k d) ≡ false
+position-None p xs k d none h =
+    elim (cases_Bool (nat_lt (position_or_len p xs) (length xs))) [
+      | inl found ↦
+          let some = cond-true (nat_lt (position_or_len p xs) (length xs)) (Some (position_or_len p xs)) None found in
+          absurd (cc)
+      | inr past ↦ let late : length xs ≤ position_or_len p xs = ltb-false (position_or_len p xs) (length xs) past in
+          fails_before_first p xs k d (omega arith)
+    ]
+
+pub cases_option : {X : Type 0} (o : Option X) → (o ≡ None) ⊎ ((x : X) × (o ≡ Some x))
+cases_option None = inl refl
+cases_option (Some x) = inr (x, refl)

@@ -1,0 +1,92 @@
+-- What an allowed shape keeps, fact by fact
+use Rattle.std.specs.Prelude.{◌≡◌, ℕ, suc, zero, ◌+◌, ◌-◌, ◌*◌, ◌/◌, ◌%◌, ◌^◌, ◌<◌, ◌≤◌, ◌==◌, ◌&&◌, Bool, true, List, [], ◌∷◌, length, nat_lt, nat_le}
+use Rattle.std.specs.List.{list_all}
+use Rattle.std.proofs.Common.{arith, get_or}
+use Rattle.std.proofs.lemmas.Bool.{and_parts, leb-true, ltb-true, eqb-true}
+use Rattle.trb.specs.declared.ring_kind.RingKind.{RingKind}
+use Rattle.trb.specs.declared.ring_kind.RingKind.TheVariants.{Cmd, Evt, Xfer}
+use Rattle.segments.specs.declared.segment.Segment.{Segment}
+use Rattle.segments.specs.ShapeValue.{Shape}
+use Rattle.segments.specs.Places.{data_count, place_count}
+use Rattle.segments.specs.Shape.{alignment, least_count, most_blocks, most_segments, is_in_one_page, is_segment, are_apart, IsShape}
+use Rattle.segments.proofs.Blocks.{segment_at}
+
+-- a segment that a ring of this kind may have: it lies on 16 byte boundaries and ends at or below 2^64
+pub record IsSegment (kind : RingKind) (s : Segment) : Type 0 where
+  pub low : s.base < 2 ^ 64
+  pub aligned : s.base % 16 ≡ 0
+  pub boundary : s.base % alignment kind ≡ 0
+  pub least : least_count kind ≤ s.count
+  pub blocks : 2 ≤ s.count
+  pub most : s.count ≤ 4096
+  pub some_data : 1 ≤ data_count kind s
+  pub data_within : data_count kind s ≤ s.count
+  pub page : s.base / 65536 ≡ (s.base + 16 * s.count - 1) / 65536
+  pub end : s.base + 16 * s.count ≤ 2 ^ 64
+
+ends_low : (base count : ℕ) → base < 2 ^ 64 → base / 65536 ≡ (base + 16 * count - 1) / 65536 → 2 ≤ count → base + 16 * count ≤ 2 ^ 64
+ends_low base count low page least = omega arith
+
+two_least : (kind : RingKind) (n : ℕ) → least_count kind ≤ n → 2 ≤ n
+two_least Cmd n h = omega arith
+two_least Evt n h = omega arith
+two_least Xfer n h = omega arith
+
+on_sixteen : (kind : RingKind) (n : ℕ) → n % alignment kind ≡ 0 → n % 16 ≡ 0
+on_sixteen Cmd n h = omega arith
+on_sixteen Evt n h = omega arith
+on_sixteen Xfer n h = h
+
+data_blocks : (kind : RingKind) (s : Segment) → 2 ≤ s.count → (1 ≤ data_count kind s) × (data_count kind s ≤ s.count)
+data_blocks Cmd s h = (omega arith, omega arith)
+data_blocks Evt s h = (omega arith, omega arith)
+data_blocks Xfer s h = (omega arith, omega arith)
+
+pub segment_facts : (kind : RingKind) (s : Segment) → is_segment kind s ≡ true → IsSegment kind s
+segment_facts kind s h =
+    let a = and_parts (nat_lt s.base (2 ^ 64) && s.base % alignment kind == 0 && nat_le (least_count kind) s.count && nat_le s.count most_blocks) (is_in_one_page s) h in
+    let b = and_parts (nat_lt s.base (2 ^ 64) && s.base % alignment kind == 0 && nat_le (least_count kind) s.count) (nat_le s.count most_blocks) a.0 in
+    let c = and_parts (nat_lt s.base (2 ^ 64) && s.base % alignment kind == 0) (nat_le (least_count kind) s.count) b.0 in
+    let d = and_parts (nat_lt s.base (2 ^ 64)) (s.base % alignment kind == 0) c.0 in
+    let low : s.base < 2 ^ 64 = ltb-true s.base (2 ^ 64) d.0 in
+    let boundary : s.base % alignment kind ≡ 0 = eqb-true (s.base % alignment kind) 0 d.1 in
+    let least : least_count kind ≤ s.count = leb-true (least_count kind) s.count c.1 in
+    let blocks : 2 ≤ s.count = two_least kind s.count least in
+    let page : s.base / 65536 ≡ (s.base + 16 * s.count - 1) / 65536 = eqb-true (s.base / 65536) ((s.base + 16 * s.count - 1) / 65536) a.1 in
+    record {
+      low = low;
+      aligned = on_sixteen kind s.base boundary;
+      boundary = boundary;
+      least = least;
+      blocks = blocks;
+      most = leb-true s.count 4096 b.1;
+      some_data = (data_blocks kind s blocks).0;
+      data_within = (data_blocks kind s blocks).1;
+      page = page;
+      end = ends_low s.base s.count low page blocks;
+    }
+
+all_at : {X : Type 0} (p : X → Bool) (xs : List X) (j : ℕ) (d : X) → list_all p xs ≡ true → j < length xs → p (get_or xs j d) ≡ true
+all_at p [] j d all h = absurd (omega arith)
+all_at p (x ∷ xs) zero d all h = (and_parts (p x) (list_all p xs) all).0
+all_at p (x ∷ xs) (suc j) d all h = all_at p xs j d (and_parts (p x) (list_all p xs) all).1 (omega arith)
+
+-- what IsShape says
+pub record ShapeFacts (shape : Shape) : Type 0 where
+  pub few : length shape.segments ≤ 64
+  pub each : (j : ℕ) → j < length shape.segments → IsSegment shape.kind (segment_at shape.segments j)
+  pub several : 2 ≤ place_count shape
+  pub apart : are_apart shape.segments ≡ true
+
+pub shape_facts : (shape : Shape) → IsShape shape → ShapeFacts shape
+shape_facts shape h =
+    let a = and_parts (nat_le (length shape.segments) most_segments && list_all (is_segment shape.kind) shape.segments && nat_le 2 (place_count shape)) (are_apart shape.segments) h in
+    let b = and_parts (nat_le (length shape.segments) most_segments && list_all (is_segment shape.kind) shape.segments) (nat_le 2 (place_count shape)) a.0 in
+    let c = and_parts (nat_le (length shape.segments) most_segments) (list_all (is_segment shape.kind) shape.segments) b.0 in
+    record {
+      few = leb-true (length shape.segments) 64 c.0;
+      each = λ j l. segment_facts shape.kind (segment_at shape.segments j)
+          (all_at (is_segment shape.kind) shape.segments j (record { base = 0; count = 0 }) c.1 l);
+      several = leb-true 2 (place_count shape) b.1;
+      apart = a.1;
+    }

@@ -1,0 +1,8 @@
+use Rattle.std.proofs.Common.{◌≡◌}
+use Rattle.std.specs.Prelude.{map, drop}
+use Rattle.segments.specs.Shape.{are_apart}
+use Rattle.segments.specs.ShapeValue.{segment_of}
+use Rattle.segments.proofs.rules.are_apart.Given as goal
+
+abbrev pub invariant-loop-i : goal.invariant-loop-i
+invariant-loop-i l = are_apart (map segment_of (drop l.i l.segments)) ≡ are_apart (map segment_of l.segments)

@@ -1,0 +1,6 @@
+pub mod ShapeValue
+pub mod Shape
+pub mod Places
+pub mod PlaceAt
+pub mod Spots
+pub mod OneRing

@@ -1,0 +1,23 @@
+ghost use Rattle.std.specs.Prelude.{◌≡◌, ◌*◌, ◌/◌, ◌-◌, true};
+ghost use Rattle.std.specs.Option.{SomeIff};
+ghost use Rattle.segments.specs.Places.{is_in};
+
+/// A segment of a ring: `count` blocks of 16 bytes from the address `base` on (xHCI 4.9). In a command or transfer
+/// ring the last block of a segment is its Link.
+#[derive(Clone, Copy, Debug, PartialEq, Eq)]
+pub struct Segment {
+    pub base: u64,
+    pub count: u16,
+}
+
+impl Segment {
+    /// The number of the block that has this byte, from 0, where one has.
+    pub(crate) fn block_at(self, address: u64) -> Option<u16>
+        ensures { SomeIff result (is_in address self.base (16 * self.count) ≡ true) ((address - self.base) / 16) }
+    {
+        let block = address.checked_sub(self.base)? / 16;
+        u16::try_from(block)
+            .ok()
+            .filter(|block| *block < self.count)
+    }
+}

@@ -1,0 +1,214 @@
+ghost use Rattle.std.specs.Prelude.{◌≡◌, ◌<◌, ◌≤◌, ◌*◌, ◌==◌, ◌↔◌, false, length, map, slice_index, IfOk, IfSome};
+ghost use Rattle.segments.specs.PlaceAt.{place_at, IsLinkOf};
+ghost use Rattle.segments.specs.Places.{address_of, cycle_of, link_crossed, link_target, links, place_count, toggles, touches};
+ghost use Rattle.segments.specs.Shape.{IsShape, is_shape};
+ghost use Rattle.segments.specs.ShapeValue.{segment_of, shape_of};
+
+use crate::fault::ShapeFault;
+use crate::place::Place;
+use crate::rules::{count_places, data_blocks, is_shape, overlap};
+use crate::segment::Segment;
+use std::alloc::{AllocError, Global};
+use std::marker::Model;
+use trb::RingKind;
+
+/// The shape of a ring: what it carries, and its segments in order. Contracts see a `Shape`.
+#[derive(Debug, Drop)]
+pub struct RingShape {
+    kind: RingKind,
+    segments: Vec<Segment>,
+    /// How many data places there are.
+    places: u32,
+}
+
+impl Model for RingShape {
+    ghost use Rattle.std.specs.Prelude.{◌≡◌};
+    ghost use Rattle.segments.specs.Places.{place_count};
+    ghost use Rattle.segments.specs.ShapeValue.{Shape};
+    ghost use Rattle.segments.specs.Shape.{IsShape};
+
+    ghost Value = { Shape };
+
+    ghost view = { λ s. record { kind = s.kind; segments = s.segments.items } };
+
+    ghost invariant = { λ s.
+        let shape : Shape = record { kind = s.kind; segments = s.segments.items } in
+        IsShape shape × (s.places ≡ place_count shape) };
+}
+
+fn segments_of(alloc: Global, pairs: &[(u64, u16)]) -> Result<Vec<Segment>, AllocError>
+    ensures { IfOk result (λ segments. segments.items ≡ map segment_of pairs.now) }
+{
+    pairs
+        .iter()
+        .map(|&(base, count)| Segment { base, count })
+        .collect(alloc)
+}
+
+impl RingShape {
+    /// The shape with these segments, each by its first address and its number of blocks.
+    pub fn new(
+        alloc: Global,
+        kind: RingKind,
+        segments: &[(u64, u16)],
+    ) -> Result<RingShape, ShapeFault>
+        ensures value { IfOk result (λ shape. shape ≡ shape_of kind segments.now) }
+        ensures allowed { IfOk result IsShape }
+        ensures refused { (result ≡ Err ShapeFault.Shape) ↔ (is_shape (shape_of kind segments.now) ≡ false) }
+    {
+        if !is_shape(kind, segments) {
+            return Err(ShapeFault::Shape);
+        }
+        let places = count_places(kind, segments);
+        let segments = segments_of(alloc, segments)?;
+        Ok(RingShape {
+            kind,
+            segments,
+            places,
+        })
+    }
+
+    /// What the ring carries.
+    pub fn kind(&self) -> RingKind
+        ensures { result ≡ self.now.kind }
+    {
+        self.kind
+    }
+
+    /// The segments, in order.
+    pub fn segments(&self) -> &[Segment]
+        ensures { result.now ≡ self.now.segments }
+    {
+        self.segments.as_slice()
+    }
+
+    /// How many data places there are.
+    pub fn places(&self) -> u32
+        ensures count { result ≡ place_count self.now }
+        ensures least { 2 ≤ result }
+        ensures most { result ≤ 64 * 4096 }
+        ensures allowed { IsShape self.now }
+    {
+        self.places
+    }
+
+    /// The address at which a position lies.
+    pub fn address(&self, position: u64) -> u64
+        ensures { result ≡ address_of self.now position }
+    {
+        let mut block = position % u64::from(self.places);
+        for segment in &self.segments {
+            let data = u64::from(data_blocks(self.kind, *segment));
+            if block < data {
+                return segment.base + 16 * block;
+            }
+            block -= data;
+        }
+        unreachable!()
+    }
+
+    /// The Cycle bit of a position (xHCI 4.9.2).
+    pub fn cycle(&self, position: u64) -> bool
+        ensures { result ≡ (cycle_of self.now position == 1) }
+    {
+        position / u64::from(self.places) % 2 == 0
+    }
+
+    /// The word with this address, where it is one of the ring's blocks.
+    pub fn place_at(&self, address: u64) -> Option<Place>
+        ensures value { result ≡ place_at self.now address }
+        ensures link { IfSome result (IsLinkOf self.now) }
+    {
+        if address % 4 != 0 {
+            return None;
+        }
+        let word = (address % 16 / 4) as u8;
+        let mut before = 0;
+        for (number, segment) in self.segments.iter().enumerate() {
+            let data = data_blocks(self.kind, *segment);
+            if let Some(block) = segment.block_at(address) {
+                return Some(if block < data {
+                    Place::Data {
+                        place: before + u32::from(block),
+                        word,
+                    }
+                } else {
+                    Place::Link {
+                        segment: number as u32,
+                        word,
+                    }
+                });
+            }
+            before += u32::from(data);
+        }
+        None
+    }
+
+    /// Whether a segment has one of `len` bytes from `at` on. Nothing wraps.
+    pub fn overlaps(&self, at: u64, len: u64) -> bool
+        ensures { result ≡ touches self.now at len }
+    {
+        self.segments.iter().any(|segment| overlap(
+            at,
+            len,
+            segment.base,
+            16 * u64::from(segment.count),
+        ))
+    }
+
+    /// The Link that is crossed on the way to position `q`, by the number of its segment (xHCI 4.11.5.1).
+    pub fn crossing(&self, q: u64) -> Option<u32>
+        ensures value { result ≡ link_crossed self.now q }
+        ensures link { IfSome result (λ segment. segment < length (links self.now)) }
+    {
+        if q == 0 || self.kind == RingKind::Evt {
+            return None;
+        }
+        let passed = (q - 1) % u64::from(self.places) + 1;
+        let mut end = 0;
+        for (number, segment) in self.segments.iter().enumerate() {
+            end += u64::from(data_blocks(self.kind, *segment));
+            if end == passed {
+                return Some(number as u32);
+            }
+        }
+        None
+    }
+
+    /// The address of the Link of a segment.
+    pub fn link(&self, segment: u32) -> u64
+        requires { segment < length (links self.now) }
+        ensures { result ≡ slice_index (links self.now) segment }
+    {
+        let segment = self.segments[segment as usize];
+        segment.base + 16 * u64::from(data_blocks(self.kind, segment))
+    }
+
+    /// Where the Link of a segment leads: the base of the next segment, behind the last one of the first.
+    pub fn target(&self, segment: u32) -> u64
+        requires { segment < length (links self.now) }
+        ensures { result ≡ link_target self.now segment }
+    {
+        let next = (segment as usize + 1) % self.segments.len();
+        self.segments[next].base
+    }
+
+    /// Whether the Link of a segment toggles the cycle: that of the last one does.
+    pub fn toggles(&self, segment: u32) -> bool
+        requires { segment < length (links self.now) }
+        ensures { result ≡ toggles self.now segment }
+    {
+        segment as usize + 1 == self.segments.len()
+    }
+
+    /// An equal shape in memory of its own.
+    pub fn copy(&self) -> Result<RingShape, AllocError>
+        ensures { IfOk result (λ shape. shape ≡ self.now) }
+    {
+        Ok(RingShape {
+            kind: self.kind,
+            segments: self.segments.clone()?,
+            places: self.places,
+        })
+    }
+}

@@ -1,0 +1,5 @@
+pub mod Limits
+pub mod Register
+pub mod Header
+pub mod Rows
+pub mod OnLiterals

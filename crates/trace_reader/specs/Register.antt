@@ -1,0 +1,50 @@
+-- The registers of a trace: xHCI 5.4, 5.5.2
+use Rattle.std.specs.Prelude.{ℕ, ◌*◌, ◌/◌, ◌%◌, ◌==◌, Bool, true, false}
+use Rattle.trace_reader.specs.declared.register.Register.{Register}
+use Rattle.trace_reader.specs.declared.register.Register.TheVariants.{Usbcmd, Usbsts, Dnctrl, Crcr, Dcbaap, Config, Iman, Imod, Erstsz, Erstba, Erdp}
+
+-- 64 bits; the others have 32
+abbrev pub is_wide : Register → Bool
+is_wide Crcr = true
+is_wide Dcbaap = true
+is_wide Erstba = true
+is_wide Erdp = true
+is_wide _ = false
+
+-- a number of its own for each
+abbrev pub ordinal : Register → ℕ
+ordinal Usbcmd = 0
+ordinal Usbsts = 1
+ordinal Dnctrl = 2
+ordinal Crcr = 3
+ordinal Dcbaap = 4
+ordinal Config = 5
+ordinal Iman = 6
+ordinal Imod = 7
+ordinal Erstsz = 8
+ordinal Erstba = 9
+ordinal Erdp = 10
+
+abbrev pub same_register : Register → Register → Bool
+same_register a b = ordinal a == ordinal b
+
+-- USBCMD: Run/Stop (R/S) and Host Controller Reset (HCRST)
+abbrev pub run_bit : ℕ → Bool
+run_bit value = value % 2 == 1
+
+abbrev pub reset_bit : ℕ → Bool
+reset_bit value = value / 2 % 2 == 1
+
+-- the Command Ring Pointer of CRCR, and the base addresses of DCBAAP and ERSTBA: bits 63:6
+abbrev pub base_address : ℕ → ℕ
+base_address value = value / 64 * 64
+
+-- CRCR: Ring Cycle State (RCS), Command Stop (CS), Command Abort (CA)
+abbrev pub ring_cycle_state : ℕ → ℕ
+ring_cycle_state value = value % 2
+
+abbrev pub command_stop : ℕ → Bool
+command_stop value = value / 2 % 2 == 1
+
+abbrev pub command_abort : ℕ → Bool
+command_abort value = value / 4 % 2 == 1

@@ -1,0 +1,16 @@
+//! What a trace and a schedule say: rings, rows and steps.
+#![tactic(auto)]
+
+mod header;
+mod register;
+mod ring;
+mod row;
+mod step;
+mod trace;
+
+pub use header::{Header, Rings};
+pub use register::Register;
+pub use ring::Ring;
+pub use row::Row;
+pub use step::Step;
+pub use trace::{Rows, Trace};

@@ -1,0 +1,19 @@
+use guest_memory::Addr;
+use trb::Block;
+
+/// One step of a run: the trace's next row, or a step of the controller.
+#[derive(Clone, Copy, Debug)]
+pub enum Step {
+    /// The next row of the trace.
+    NextRow,
+    /// The controller looks at a ring: one fetch of 16 bytes.
+    Look { ring: u8 },
+    /// The controller posts a Transfer Event.
+    Report { event: Block },
+    /// The controller posts a Command Completion Event, with the command's effect.
+    Finish { event: Block },
+    /// The controller posts an event of another type.
+    Other { event: Block },
+    /// The controller writes a word of a device context.
+    Scribble { at: Addr, word: u32 },
+}

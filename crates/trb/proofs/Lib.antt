@@ -1,0 +1,6 @@
+pub mod BitLemmas
+pub mod BlockLemmas
+pub mod ChainLemmas
+pub mod Examples
+pub mod FlagLemmas
+pub mod KindLemmas

@@ -1,0 +1,6 @@
+use Rattle.std.proofs.Math.Facts.{Fits-lt-pow}
+use Rattle.trb.proofs.BitLemmas.{lowest_bit-by_mask}
+use Rattle.trb.proofs.bits.with_lowest_bit.Goals as goal
+
+pub returns : goal.returns
+returns c = rw c.from.ensures (lowest_bit-by_mask c.args.word c.args.bit (Fits-lt-pow c.ranges.word))

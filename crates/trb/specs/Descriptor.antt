@@ -1,0 +1,100 @@
+-- The forms of descriptors (TDs) on a command and on a transfer ring: xHCI 3.2.8 to 3.2.11, 4.11.2, 6.4.1, 6.4.3
+use Rattle.std.specs.Prelude.{ℕ, ◌==◌, ◌&&◌, ◌||◌, if◌then◌else◌, Bool, true, false, not, List, [], ◌∷◌, length, nat_lt, codes, Option, Some, None}
+use Rattle.std.specs.List.{list_all, list_any}
+use Rattle.trb.specs.declared.block.Block.{Block}
+use Rattle.trb.specs.declared.kind.BlockKind.{BlockKind}
+use Rattle.trb.specs.declared.kind.BlockKind.TheVariants.{Normal, SetupStage, DataStage, StatusStage, NoOp, SetTrDequeue, ResetEndpoint}
+use Rattle.trb.specs.declared.fault.Fault.{Fault}
+use Rattle.trb.specs.declared.fault.Fault.TheVariants.{BadDescriptor, NotInProfile}
+use Rattle.trb.specs.declared.ring_kind.RingKind.{RingKind}
+use Rattle.trb.specs.declared.ring_kind.RingKind.TheVariants.{Cmd, Evt, Xfer}
+use Rattle.trb.specs.Bits.{bits, is_set}
+use Rattle.trb.specs.Block.{word, cycle, kind, is_chained}
+use Rattle.trb.specs.Kind.{is_normal, is_left_out_transfer, is_command, is_left_out_command}
+
+abbrev pub fault_number : Fault → ℕ
+fault_number BadDescriptor = 16
+fault_number NotInProfile = 23
+
+-- the name that is printed
+abbrev pub fault_name : Fault → List ℕ
+fault_name BadDescriptor = codes "BadDescriptor"
+fault_name NotInProfile = codes "NotInProfile"
+
+-- the Chain bit is 1 in all blocks but the last, and 0 there
+abbrev pub is_chain : List Block → Bool
+is_chain [] = false
+is_chain (b ∷ []) = not (is_chained b)
+is_chain (b ∷ c ∷ rest) = is_chained b && is_chain (c ∷ rest)
+
+-- an empty list, one of more than 256 blocks, a Cycle bit of 1, a wrong Chain bit
+abbrev pub is_badly_formed : List Block → Bool
+is_badly_formed blocks = nat_lt 256 (length blocks) || list_any (λ b. cycle b == 1) blocks || not (is_chain blocks)
+
+-- eight bytes of setup data in the block itself (IDT), and no reserved transfer type (TRT)
+abbrev pub has_setup_data : Block → Bool
+has_setup_data b = bits (word b 2) 0 17 == 8 && is_set (word b 3) 6 && not (bits (word b 3) 16 2 == 1)
+
+abbrev pub are_normal : List Block → Bool
+are_normal blocks = list_all (λ b. is_normal (kind b)) blocks
+
+-- which blocks may follow a first one of this type
+abbrev pub may_begin : BlockKind → Block → List Block → Bool
+may_begin Normal b rest = are_normal rest
+may_begin SetupStage b rest = has_setup_data b && length rest == 0
+may_begin DataStage b rest = are_normal rest
+may_begin StatusStage b rest = length rest == 0
+may_begin NoOp b rest = length rest == 0
+may_begin _ b rest = false
+
+-- Normal blocks; a Setup Stage; a Data Stage and Normal blocks; a Status Stage; a No Op
+abbrev pub is_transfer_arrangement : List Block → Bool
+is_transfer_arrangement [] = false
+is_transfer_arrangement (b ∷ rest) = may_begin (kind b) b rest
+
+abbrev pub has_left_out_type : List Block → Bool
+has_left_out_type blocks = list_any (λ b. is_left_out_transfer (kind b)) blocks
+
+-- an interrupter target, word 2 bits 31:22, other than 0
+abbrev pub has_other_target : Block → Bool
+has_other_target b = not (bits (word b 2) 22 10 == 0)
+
+abbrev pub is_bad_transfer : List Block → Bool
+is_bad_transfer blocks = is_badly_formed blocks || (not (is_transfer_arrangement blocks) && not (has_left_out_type blocks))
+
+abbrev pub is_transfer_left_out : List Block → Bool
+is_transfer_left_out blocks = has_left_out_type blocks || list_any has_other_target blocks
+
+-- Set TR Dequeue of a stream (SCT above 0); Reset Endpoint that keeps the transfer state (TSP)
+abbrev pub has_left_out_field : BlockKind → Block → Bool
+has_left_out_field SetTrDequeue b = not (bits (word b 0) 1 3 == 0)
+has_left_out_field ResetEndpoint b = is_set (word b 3) 9
+has_left_out_field _ b = false
+
+abbrev pub is_command_left_out : Block → Bool
+is_command_left_out b = is_left_out_command (kind b) || has_left_out_field (kind b) b
+
+abbrev pub is_no_command : Block → Bool
+is_no_command b = not (is_command (kind b)) && not (is_left_out_command (kind b))
+
+-- a command is one block
+abbrev pub is_bad_command : List Block → Bool
+is_bad_command blocks = is_badly_formed blocks || not (length blocks == 1) || list_any is_no_command blocks
+
+-- no form of a descriptor of such a ring
+abbrev pub is_bad_descriptor : RingKind → List Block → Bool
+is_bad_descriptor Cmd blocks = is_bad_command blocks
+is_bad_descriptor Xfer blocks = is_bad_transfer blocks
+is_bad_descriptor Evt blocks = true
+
+-- outside the profile
+abbrev pub is_left_out : RingKind → List Block → Bool
+is_left_out Cmd blocks = list_any is_command_left_out blocks
+is_left_out Xfer blocks = is_transfer_left_out blocks
+is_left_out Evt blocks = false
+
+-- what is wrong with these blocks as a descriptor of such a ring; where both hold, no form comes first
+abbrev pub fault_of : RingKind → List Block → Option Fault
+fault_of r blocks =
+    if is_bad_descriptor r blocks then Some BadDescriptor else
+    if is_left_out r blocks then Some NotInProfile else None

@@ -1,0 +1,7 @@
+pub mod Bits
+pub mod Kind
+pub mod Block
+pub mod CompletionCode
+pub mod Descriptor
+pub mod Flags
+pub mod RingKind

@@ -1,0 +1,48 @@
+-- The takes of a ring, and which positions they should have had
+use Rattle.std.specs.Prelude.{ℕ, ◌+◌, ◌==◌, ◌&&◌, ◌||◌, Bool, true, false, not, List, [], ◌∷◌, ◌++◌, length, nat_le, drop, find, unwrap_or, Option, Some, None, slice_get}
+use Rattle.std.specs.List.{range_with_len}
+use Rattle.trb.specs.declared.block.Block.{Block}
+use Rattle.trb.specs.Block.{with_cycle, same_words}
+use Rattle.segments.specs.ShapeValue.{Shape}
+use Rattle.segments.specs.Places.{place_count, address_of, cycle_of, is_crossing, link_address}
+use Rattle.world_state.specs.World.{World, RingEvent, Took, Placed}
+
+-- the addresses of the takes, the oldest first
+unfoldable pub takes_of : List RingEvent → List ℕ
+takes_of [] = []
+takes_of (Took a b n ∷ older) = takes_of older ++ a ∷ []
+takes_of (Placed a ∷ older) = takes_of older
+
+-- the addresses of a ring's takes that weren't reported, the oldest first
+unfoldable pub unreported : World → ℕ → List ℕ
+unreported w r = drop (w.reported r) (takes_of (w.events r))
+
+-- the address names the place of position p, by its block or by the Link before it
+unfoldable pub is_place : Shape → ℕ → ℕ → Bool
+is_place shape a p = address_of shape p == a || (is_crossing shape p && link_address shape p == a)
+
+-- the least position from n on at the place that an address names
+unfoldable pub first_at : Shape → ℕ → ℕ → ℕ
+first_at shape a n = unwrap_or (find (is_place shape a) (range_with_len n (place_count shape))) n
+
+-- the position of a ring's next take: after a binding or move the least one there, not before what was taken or placed; else the next one
+unfoldable pub next_take : Shape → List RingEvent → ℕ
+next_take shape [] = 0
+next_take shape (Took a b n ∷ older) = next_take shape older + 1
+next_take shape (Placed a ∷ older) = first_at shape a (next_take shape older)
+
+-- a sum of whole descriptors, of these lengths from start on
+unfoldable pub is_border : List ℕ → ℕ → ℕ → Bool
+is_border [] start q = start == q
+is_border (n ∷ rest) start q = start == q || is_border rest (start + n) q
+
+unfoldable pub was_placed : List RingEvent → Bool
+was_placed (Placed a ∷ older) = true
+was_placed _ = false
+
+-- a take has the words that were declared at position p, with the cycle of p
+unfoldable pub is_as_declared : Shape → List Block → ℕ → Block → Bool
+is_as_declared shape queue p b = holds (slice_get queue p) where
+  holds : Option Block → Bool
+  holds None = false
+  holds (Some d) = same_words b (with_cycle d (cycle_of shape p))

@@ -1,0 +1,113 @@
+-- The world: memory, registers, states, rings and events, as the driver's rows and the controller's steps have left them
+use Rattle.std.specs.Prelude.{ℕ, ◌+◌, ◌%◌, ◌==◌, if◌then◌else◌, Bool, false, List, [], ◌∷◌, length, Option, None}
+use Rattle.guest_memory.specs.Memory.{put}
+use Rattle.trb.specs.declared.block.Block.{Block}
+use Rattle.trb.specs.Block.{word}
+use Rattle.commands.specs.declared.state.SlotState.{SlotState}
+use Rattle.commands.specs.declared.state.SlotState.TheVariants.{Disabled}
+use Rattle.commands.specs.declared.state.EndpointState.{EndpointState}
+use Rattle.commands.specs.declared.state.EndpointState.TheVariants.{Disabled as Off}
+use Rattle.segments.specs.Places.{address_of}
+use Rattle.trace_reader.specs.declared.header.Header.{Header}
+use Rattle.trace_reader.specs.declared.register.Register.{Register}
+use Rattle.trace_reader.specs.declared.row.Row.{Row}
+use Rattle.trace_reader.specs.Header.{event_shape}
+
+-- what happened on a ring: a block was taken, when so many were declared; or the dequeue pointer was set to an address
+pub data RingEvent : Type 0 where
+  Took : (address : ℕ) (block : Block) (declared : ℕ) → RingEvent
+  Placed : (address : ℕ) → RingEvent
+
+-- a command that was taken and isn't finished
+pub record UnderWay : Type 0 where
+  -- where its block lies, and its words when it was taken
+  pub address : ℕ
+  pub block : Block
+  -- it is a Stop Endpoint whose Stopped event was posted
+  pub has_stopped : Bool
+  -- at which step its control word was last written
+  pub written : ℕ
+
+pub record World : Type 0 where
+  -- the rows still to come, and how many steps were made
+  pub rows : List Row
+  pub steps : ℕ
+  -- the controller was started, and after that stopped or reset
+  pub started : Bool
+  pub stopped : Bool
+  pub register : Register → Option ℕ
+  pub memory : ℕ → ℕ
+  -- by address: at which step the word was last changed, and last written
+  pub changed : ℕ → ℕ
+  pub written : ℕ → ℕ
+  -- by ring ID: the declared blocks, and how many blocks each declared descriptor has
+  pub queue : ℕ → List Block
+  pub descriptors : ℕ → List ℕ
+  -- by slot, and by slot and endpoint index (DCI)
+  pub slot_state : ℕ → SlotState
+  pub endpoint_state : ℕ → ℕ → EndpointState
+  pub ring_of : ℕ → ℕ → Option ℕ
+  -- by slot: the controller may write its device context
+  pub scribbles : ℕ → Bool
+  -- by ring ID: the dequeue pointer, the Consumer Cycle State, whether the controller may look at the ring
+  pub pointer_of : ℕ → ℕ
+  pub cycle_state : ℕ → ℕ
+  pub is_active : ℕ → Bool
+  -- by ring ID: what happened, the newest first, and how many of the takes were reported
+  pub events : ℕ → List RingEvent
+  pub reported : ℕ → ℕ
+  -- how many events were posted and read, and the event position that ERDP names
+  pub posted : ℕ
+  pub reads : ℕ
+  pub dequeue : ℕ
+  pub under_way : Option UnderWay
+  -- a look was outside a ring's segments
+  pub looked_outside : Bool
+
+-- before the first row: memory is 0, all slots and endpoints are Disabled, nothing is posted
+unfoldable pub opening : List Row → World
+opening rows = record {
+  rows = rows;
+  steps = 0;
+  started = false;
+  stopped = false;
+  register = λ r. None;
+  memory = λ a. 0;
+  changed = λ a. 0;
+  written = λ a. 0;
+  queue = λ r. [];
+  descriptors = λ r. [];
+  slot_state = λ s. Disabled;
+  endpoint_state = λ s i. Off;
+  ring_of = λ s i. None;
+  scribbles = λ s. false;
+  pointer_of = λ r. 0;
+  cycle_state = λ r. 0;
+  is_active = λ r. false;
+  events = λ r. [];
+  reported = λ r. 0;
+  posted = 0;
+  reads = 0;
+  dequeue = 0;
+  under_way = None;
+  looked_outside = false;
+}
+
+-- the block at an address
+unfoldable pub block_at : World → ℕ → Block
+block_at w a = record { w = w.memory a ∷ w.memory (a + 4) ∷ w.memory (a + 8) ∷ w.memory (a + 12) ∷ [] }
+
+-- a word of memory is written, in the step that is being made; only another value changes it
+unfoldable pub stored : World → ℕ → ℕ → World
+stored w a x = record w {
+  memory = put w.memory a x;
+  changed = if w.memory a == x then w.changed else put w.changed a (w.steps + 1);
+  written = put w.written a (w.steps + 1);
+}
+
+unfoldable pub stored_block : World → ℕ → Block → World
+stored_block w a b = stored (stored (stored (stored w a (word b 0)) (a + 4) (word b 1)) (a + 8) (word b 2)) (a + 12) (word b 3)
+
+-- the block at event position p
+unfoldable pub event_at : Header → World → ℕ → Block
+event_at h w p = block_at w (address_of (event_shape h) p)

@@ -1,0 +1,93 @@
+-- What the checker's record holds, in terms of what is known after the rows so far
+use Rattle.std.specs.Prelude.{None, ◌≡◌, ℕ, ◌+◌, ◌<◌, ◌≤◌, false, List, [], ◌∷◌, length, slice_index, slice_index_or, sum, reverse, take, drop}
+use Rattle.trb.specs.declared.ring_kind.RingKind.TheVariants.{Xfer}
+use Rattle.contexts.specs.declared.size.ContextSize.{ContextSize}
+use Rattle.segments.specs.ShapeValue.{Shape}
+use Rattle.segments.specs.Shape.{IsShape}
+use Rattle.segments.specs.Places.{place_count, links}
+use Rattle.trace_reader.specs.declared.ring.Ring.{Ring}
+use Rattle.trace_reader.specs.declared.header.Header.{Header}
+use Rattle.ring_knowledge.specs.Known.{Known}
+use Rattle.ownership_checker.specs.Quiet.{header_of, IsQuiet, crossing_of}
+use Rattle.ownership_checker.specs.Givings.{length_from}
+use Rattle.trace_reader.specs.declared.row.Row.{Row}
+use Rattle.ring_knowledge.specs.Known.{nothing}
+use Rattle.ring_knowledge.specs.Learned.{learned, known}
+use Rattle.ownership_checker.specs.declared.refusal.Refusal.{Refusal}
+use Rattle.ownership_checker.specs.Rules.{broken, verdict_from}
+use Rattle.ownership_checker.specs.Clean.{IsClean}
+use Rattle.ownership_checker.specs.Leases.{begun, leases as leases_of}
+use Rattle.ownership_checker.specs.LeaseCount.{begun_count}
+use Rattle.xhci_cli.specs.declared.checker.record.Record.{Record}
+use Rattle.xhci_cli.specs.declared.checker.fault.StepFault.{StepFault}
+use Rattle.xhci_cli.specs.declared.checker.fault.StepFault.TheVariants.{Refused, Memory}
+use Rattle.xhci_cli.specs.declared.checker.fault.CheckFault.{CheckFault}
+use Rattle.xhci_cli.specs.declared.checker.fault.CheckFault.TheVariants.{Refused as RowRefused, Memory as NoMemory}
+
+-- each number is above 0
+abbrev pub ArePositive : List ℕ → Type 0
+ArePositive [] = Unit {0}
+ArePositive (n ∷ ns) = (0 < n) × ArePositive ns
+
+-- the header of a trace with this one ring
+abbrev pub header : ContextSize → Ring → Header
+header size ring = header_of size ring.id ring.shape
+
+-- a transfer ring of an allowed shape
+pub record IsTransferRing (ring : Ring) : Type 0 where
+  pub below : ring.id < 256
+  pub kind : ring.shape.kind ≡ Xfer
+  pub allowed : IsShape ring.shape
+
+-- the record and the memory hold what is known
+pub record Tracks (ring : Ring) (k : Known) (r : Record) (memory : ℕ → ℕ) : Type 0 where
+  pub quiet : IsQuiet k
+  pub words : (a : ℕ) → k.memory a ≡ memory a
+  pub queue : k.queue ring.id ≡ r.blocks.items
+  -- how long the descriptor is that begins at a position
+  pub begins : (p : ℕ) → length_from (k.descriptors ring.id) 0 p ≡ slice_index r.lengths.items p
+  pub as_many : length r.lengths.items ≡ length r.blocks.items
+  pub whole : sum (k.descriptors ring.id) ≡ length r.blocks.items
+  pub positive : ArePositive (k.descriptors ring.id)
+  pub room : length r.blocks.items + 1 ≤ place_count ring.shape
+  -- each descriptor ends within what is declared
+  pub within : (p : ℕ) → p < length r.lengths.items → p + slice_index r.lengths.items p ≤ length r.lengths.items
+  pub places : length r.given.items ≡ place_count ring.shape
+  pub given : (p : ℕ) → p < place_count ring.shape → k.given ring.id p ≡ slice_index_or r.given.items p false
+  pub segments : length r.crossed.items ≡ length (links ring.shape)
+  pub crossed : (j : ℕ) → j < length (links ring.shape) → k.crossed ring.id (crossing_of ring.shape j) ≡ slice_index_or r.crossed.items j false
+
+-- a row was checked: it breaks no rule, the record and the memory hold what is known after it, and so many leases began
+pub record IsStep (size : ContextSize) (ring : Ring) (k : Known) (row : Row) (after : Record) (memory : ℕ → ℕ) (leases : ℕ) : Type 0 where
+  pub clean : broken (header size ring) k row ≡ []
+  pub tracked : Tracks ring (learned (header size ring) k row) after memory
+  pub counted : length (begun (header size ring) k row) ≡ leases
+
+-- what a refusal says; want of memory says nothing
+abbrev pub IfRefused : StepFault → (Refusal → Type 0) → Type 0
+IfRefused (Refused c) P = P c
+IfRefused Memory P = Unit {0}
+
+-- a refused row of a trace, by its number
+abbrev pub IfRefusedAt : CheckFault → (ℕ → Refusal → Type 0) → Type 0
+IfRefusedAt (RowRefused row c) P = P row c
+IfRefusedAt NoMemory P = Unit {0}
+
+-- some of the rows were checked
+pub record IsChecked (size : ContextSize) (ring : Ring) (rows : List Row) (first : ℕ) (done : ℕ) (r : Record) (memory : ℕ → ℕ) (leases : ℕ) : Type 0 where
+  pub tracked : Tracks ring (known (header size ring) (reverse (take done rows))) r memory
+  pub clean : IsClean (header size ring) (reverse (take done rows))
+  pub verdict : verdict_from (header size ring) nothing first rows ≡ verdict_from (header size ring) (known (header size ring) (reverse (take done rows))) (first + done) (drop done rows)
+  pub counted : begun_count (header size ring) nothing rows ≡ leases + begun_count (header size ring) (known (header size ring) (reverse (take done rows))) (drop done rows)
+
+-- a whole trace was accepted, with so many leases
+pub record IsAccepted (h : Header) (rows : List Row) (first : ℕ) (leases : ℕ) : Type 0 where
+  pub clean : IsClean h (reverse rows)
+  pub verdict : verdict_from h nothing first rows ≡ None
+  pub counted : length (leases_of h first rows) ≡ leases
+
+-- how far the check of a trace has come
+pub record IsProgress (ring : Ring) (rows : List Row) (first done number begun : ℕ) (r : Record) (memory : ℕ → ℕ) : Type 0 where
+  pub numbered : number ≡ first + done
+  pub few : begun ≤ done
+  pub checked : (size : ContextSize) → IsChecked size ring rows first done r memory begun
