@@ -93,15 +93,21 @@ module _ (size : ContextSize) (id : ℕ) (below : id < 256) (shape : Shape) (kin
   unfolding write_tests
   data_answer k a w j v quiet at =
       written_answer k a w quiet
-      ∙ rw (leased_data size id below shape kind allowed k quiet a j v at,
+      ∙ rw (
+        leased_data size id below shape kind allowed k quiet a j v at,
         given_data size id below shape kind allowed k quiet a w j v (givings.is_other_than_declared (header_of size id shape) k a w) at,
         given_data size id below shape kind allowed k quiet a w j v (givings.is_not_declared (header_of size id shape) k) at,
         given_data size id below shape kind allowed k quiet a w j v (givings.is_not_whole (header_of size id shape) k) at,
         given_data size id below shape kind allowed k quiet a w j v (moves.is_being_moved (header_of size id shape) k) at,
         crossed_data size id below shape kind allowed k quiet a w j v (givings.leads_wrong (header_of size id shape) k a w) at,
         crossed_data size id below shape kind allowed k quiet a w j v (givings.interrupts (header_of size id shape) k a w) at,
-        no_command k a w _, no_command k a w _, no_command k a w _, no_command k a w _, not_moved k id j)
-        (data_first (k.given id j) ((v == 3) && (w % 2 == 1)) _ _ _)
+        no_command k a w _,
+        no_command k a w _,
+        no_command k a w _,
+        no_command k a w _,
+        not_moved k id j,
+      )
+      (data_first (k.given id j) ((v == 3) && (w % 2 == 1)) _ _ _)
 
   -- a write to a Link
   pub link_answer : (k : Known) (a w j v : ℕ) → IsQuiet k → place_at shape a ≡ Some (AtLink j v) →
@@ -110,15 +116,20 @@ module _ (size : ContextSize) (id : ℕ) (below : id < 256) (shape : Shape) (kin
   unfolding write_tests
   link_answer k a w j v quiet at =
       written_answer k a w quiet
-      ∙ rw (leased_link size id below shape kind allowed k quiet a j v at,
+      ∙ rw (
+        leased_link size id below shape kind allowed k quiet a j v at,
         given_link size id below shape kind allowed k quiet a w j v (givings.is_other_than_declared (header_of size id shape) k a w) at,
         given_link size id below shape kind allowed k quiet a w j v (givings.is_not_declared (header_of size id shape) k) at,
         given_link size id below shape kind allowed k quiet a w j v (givings.is_not_whole (header_of size id shape) k) at,
         given_link size id below shape kind allowed k quiet a w j v (moves.is_being_moved (header_of size id shape) k) at,
         crossed_link_at size id below shape kind allowed k quiet a w j v (givings.leads_wrong (header_of size id shape) k a w) at,
         crossed_link_at size id below shape kind allowed k quiet a w j v (givings.interrupts (header_of size id shape) k a w) at,
-        no_command k a w _, no_command k a w _, no_command k a w _, no_command k a w _)
-        (link_first (k.crossed id (crossing_of shape j)) ((v == 3) && (w % 2 == 1)) _ _)
+        no_command k a w _,
+        no_command k a w _,
+        no_command k a w _,
+        no_command k a w _,
+      )
+      (link_first (k.crossed id (crossing_of shape j)) ((v == 3) && (w % 2 == 1)) _ _)
 
   -- a write elsewhere breaks nothing
   pub elsewhere_answer : (k : Known) (a w : ℕ) → IsQuiet k → a % 4 ≡ 0 → place_at shape a ≡ None →
@@ -126,15 +137,20 @@ module _ (size : ContextSize) (id : ℕ) (below : id < 256) (shape : Shape) (kin
   unfolding write_tests
   elsewhere_answer k a w quiet aligned at =
       written_answer k a w quiet
-      ∙ rw (leased_nowhere size id below shape kind allowed k quiet a aligned at,
+      ∙ rw (
+        leased_nowhere size id below shape kind allowed k quiet a aligned at,
         given_nowhere size id below shape kind allowed k quiet a w (givings.is_other_than_declared (header_of size id shape) k a w) at,
         given_nowhere size id below shape kind allowed k quiet a w (givings.is_not_declared (header_of size id shape) k) at,
         given_nowhere size id below shape kind allowed k quiet a w (givings.is_not_whole (header_of size id shape) k) at,
         given_nowhere size id below shape kind allowed k quiet a w (moves.is_being_moved (header_of size id shape) k) at,
         crossed_nowhere size id below shape kind allowed k quiet a w (givings.leads_wrong (header_of size id shape) k a w) at,
         crossed_nowhere size id below shape kind allowed k quiet a w (givings.interrupts (header_of size id shape) k a w) at,
-        no_command k a w _, no_command k a w _, no_command k a w _, no_command k a w _)
-        refl
+        no_command k a w _,
+        no_command k a w _,
+        no_command k a w _,
+        no_command k a w _,
+      )
+      refl
 
 fault_first : (bad left_out : Bool) → first_broken ((BadDescriptor, bad) ∷ (NotInProfile, left_out) ∷ []) ≡ refusal_of (cond bad (Some BadForm) (cond left_out (Some LeftOut) None))
 fault_first true left_out = refl

@@ -55,7 +55,7 @@ length-leases_from h k n [] = refl
 length-leases_from h k n (row ∷ rows) =
     length-append (leases.in_order h (map (λ l. leases.as_lease h n (leases.end_from h (learned h k row) (n + 1) rows l) l) (leases.begun h k row))) (leases.leases_from h (learned h k row) (n + 1) rows)
     ∙ ap (λ x. x + length (leases.leases_from h (learned h k row) (n + 1) rows))
-      (length-in_order h (map (λ l. leases.as_lease h n (leases.end_from h (learned h k row) (n + 1) rows l) l) (leases.begun h k row)) ∙ length-map (leases.begun h k row) _)
+    (length-in_order h (map (λ l. leases.as_lease h n (leases.end_from h (learned h k row) (n + 1) rows l) l) (leases.begun h k row)) ∙ length-map (leases.begun h k row) _)
     ∙ ap (λ x. length (leases.begun h k row) + x) (length-leases_from h (learned h k row) (n + 1) rows)
 
 one_or_none : (b : Bool) (x : ℕ) → length (cond b (x ∷ []) []) ≡ cond b 1 0
@@ -65,13 +65,13 @@ one_or_none false x = refl
 module _ (size : ContextSize) (id : ℕ) (below : id < 256) (shape : Shape) (kind : shape.kind ≡ Xfer) (allowed : IsShape shape) where
   nothing_else : (k : Known) (a w : ℕ) → length (leases.begun (header_of size id shape) k (Write a w))
       ≡ length (filter (λ p. not (k.given id p) && gives (shape_of (header_of size id shape) id) (k.floor id) p a w) (rings.due_positions (header_of size id shape) k id))
-        + length (filter (λ q. not (k.crossed id q) && gives_crossing (shape_of (header_of size id shape) id) (k.floor id) q a w) (rings.due_crossings (header_of size id shape) k id))
+      + length (filter (λ q. not (k.crossed id q) && gives_crossing (shape_of (header_of size id shape) id) (k.floor id) q a w) (rings.due_crossings (header_of size id shape) k id))
   unfolding leases.begun leases.blocks_given leases.links_given leases.device_leases leases.context_leases leases.input_lease rings.gives_now rings.crosses_now
   nothing_else k a w =
       rw (drivers_are size id below shape kind, no_device_taken size id below shape kind k a w, no_command_given size id below shape kind k a w)
       (counted (writes.command_position (header_of size id shape) k a w)
-        (filter (λ p. not (k.given id p) && gives (shape_of (header_of size id shape) id) (k.floor id) p a w) (rings.due_positions (header_of size id shape) k id))
-        (filter (λ q. not (k.crossed id q) && gives_crossing (shape_of (header_of size id shape) id) (k.floor id) q a w) (rings.due_crossings (header_of size id shape) k id)))
+      (filter (λ p. not (k.given id p) && gives (shape_of (header_of size id shape) id) (k.floor id) p a w) (rings.due_positions (header_of size id shape) k id))
+      (filter (λ q. not (k.crossed id q) && gives_crossing (shape_of (header_of size id shape) id) (k.floor id) q a w) (rings.due_crossings (header_of size id shape) k id)))
     where
       counted : (o : Option ℕ) (ps qs : List ℕ) →
           length ((((map (Block id) ps ++ []) ++ (map (λ q. Link id (q - 1)) qs ++ [])) ++ []) ++ leases.context_leases (header_of size id shape) o None) ≡ length ps + length qs
@@ -80,7 +80,7 @@ module _ (size : ContextSize) (id : ℕ) (below : id < 256) (shape : Shape) (kin
 
   begun_is : (k : Known) → IsQuiet k → (a w : ℕ) → length (leases.begun (header_of size id shape) k (Write a w))
       ≡ length (filter (λ p. not (k.given id p) && gives shape (Data 0) p a w) (range_with_len 0 (place_count shape)))
-        + length (filter (λ q. not (k.crossed id q) && gives_crossing shape (Data 0) q a w) (range_with_len 0 (place_count shape + 1)))
+      + length (filter (λ q. not (k.crossed id q) && gives_crossing shape (Data 0) q a w) (range_with_len 0 (place_count shape + 1)))
   unfolding rings.due_positions rings.due_crossings rings.places rings.floor_number
   begun_is k quiet a w = nothing_else k a w ∙ rw (shape_here size id shape, quiet.floors id) refl
 
@@ -88,8 +88,8 @@ module _ (size : ContextSize) (id : ℕ) (below : id < 256) (shape : Shape) (kin
       length (filter (λ p. not (given p) && gives shape (Data 0) p a w) (range_with_len 0 (place_count shape))) ≡ 0
   no_positions given a w never =
       ap length (filter_none (λ p. not (given p) && gives shape (Data 0) p a w) 0 (place_count shape)
-        (λ p l u. false_unless (not (given p) && gives shape (Data 0) p a w)
-          (λ h. true_false (gives shape (Data 0) p a w) (and_right (not (given p)) (gives shape (Data 0) p a w) h) (gives-no_data shape allowed a w p never))))
+      (λ p l u. false_unless (not (given p) && gives shape (Data 0) p a w)
+      (λ h. true_false (gives shape (Data 0) p a w) (and_right (not (given p)) (gives shape (Data 0) p a w) h) (gives-no_data shape allowed a w p never))))
     where
       true_false : (b : Bool) → b ≡ true → b ≡ false → ⊥
       true_false b y n = cc
@@ -98,8 +98,8 @@ module _ (size : ContextSize) (id : ℕ) (below : id < 256) (shape : Shape) (kin
       length (filter (λ q. not (crossed q) && gives_crossing shape (Data 0) q a w) (range_with_len 0 (place_count shape + 1))) ≡ 0
   no_crossings crossed a w never =
       ap length (filter_none (λ q. not (crossed q) && gives_crossing shape (Data 0) q a w) 0 (place_count shape + 1)
-        (λ q l u. false_unless (not (crossed q) && gives_crossing shape (Data 0) q a w)
-          (λ h. true_false (gives_crossing shape (Data 0) q a w) (and_right (not (crossed q)) (gives_crossing shape (Data 0) q a w) h) (gives_crossing-no_link shape allowed a w q never))))
+      (λ q l u. false_unless (not (crossed q) && gives_crossing shape (Data 0) q a w)
+      (λ h. true_false (gives_crossing shape (Data 0) q a w) (and_right (not (crossed q)) (gives_crossing shape (Data 0) q a w) h) (gives_crossing-no_link shape allowed a w q never))))
     where
       true_false : (b : Bool) → b ≡ true → b ≡ false → ⊥
       true_false b y n = cc
@@ -113,10 +113,10 @@ module _ (size : ContextSize) (id : ℕ) (below : id < 256) (shape : Shape) (kin
       let self : (j == j) ≡ true = same_number j in
       begun_is k quiet a w
       ∙ ap (λ n. length (filter (λ p. not (k.given id p) && gives shape (Data 0) p a w) (range_with_len 0 (place_count shape))) + n)
-        (no_crossings (k.crossed id) a w (λ i u e. data_or_link shape allowed a j v i u at e))
+      (no_crossings (k.crossed id) a w (λ i u e. data_or_link shape allowed a j v i u at e))
       ∙ ap (λ ps. length ps + 0) (filter_only (λ p. not (k.given id p) && gives shape (Data 0) p a w) 0 (place_count shape) j (omega arith) (omega (arith, where_.0))
-        (λ p l u ne. false_unless (not (k.given id p) && gives shape (Data 0) p a w)
-          (λ h. not_same p j (λ e. ne e) ((v == 3) && (w % 2 == 1)) (sym (gives-data shape allowed a w j v p at) ∙ and_right (not (k.given id p)) (gives shape (Data 0) p a w) h))))
+      (λ p l u ne. false_unless (not (k.given id p) && gives shape (Data 0) p a w)
+      (λ h. not_same p j (λ e. ne e) ((v == 3) && (w % 2 == 1)) (sym (gives-data shape allowed a w j v p at) ∙ and_right (not (k.given id p)) (gives shape (Data 0) p a w) h))))
       ∙ rw (here, self) (finish (not (k.given id j) && ((v == 3) && (w % 2 == 1))) j)
     where
       not_same : (p j : ℕ) → (p ≡ j → ⊥) → (b : Bool) → ((p == j) && b) ≡ true → ⊥
@@ -136,10 +136,10 @@ module _ (size : ContextSize) (id : ℕ) (below : id < 256) (shape : Shape) (kin
       let self : (j == j) ≡ true = same_number j in
       begun_is k quiet a w
       ∙ ap (λ n. n + length (filter (λ q. not (k.crossed id q) && gives_crossing shape (Data 0) q a w) (range_with_len 0 (place_count shape + 1))))
-        (no_positions (k.given id) a w (λ i u e. data_or_link shape allowed a i u j v e at))
+      (no_positions (k.given id) a w (λ i u e. data_or_link shape allowed a i u j v e at))
       ∙ ap (λ qs. 0 + length qs) (filter_only (λ q. not (k.crossed id q) && gives_crossing shape (Data 0) q a w) 0 (place_count shape + 1) (crossing_of shape j) (omega arith) (omega (arith, lap.1))
-        (λ q l u ne. false_unless (not (k.crossed id q) && gives_crossing shape (Data 0) q a w)
-          (λ h. ne (only_crossing shape allowed a w j v q at (and_right (not (k.crossed id q)) (gives_crossing shape (Data 0) q a w) h)))))
+      (λ q l u ne. false_unless (not (k.crossed id q) && gives_crossing shape (Data 0) q a w)
+      (λ h. ne (only_crossing shape allowed a w j v q at (and_right (not (k.crossed id q)) (gives_crossing shape (Data 0) q a w) h)))))
       ∙ rw (here, self) (finish (not (k.crossed id (crossing_of shape j)) && ((v == 3) && (w % 2 == 1))) (crossing_of shape j))
     where
       finish : (b : Bool) (x : ℕ) → 0 + length (cond b (x ∷ []) []) ≡ cond b 1 0
@@ -151,7 +151,7 @@ module _ (size : ContextSize) (id : ℕ) (below : id < 256) (shape : Shape) (kin
   begun_nowhere k quiet a w at =
       begun_is k quiet a w
       ∙ ap (λ n. n + length (filter (λ q. not (k.crossed id q) && gives_crossing shape (Data 0) q a w) (range_with_len 0 (place_count shape + 1))))
-        (no_positions (k.given id) a w (λ j v e. none-some (AtData j v) (sym at ∙ e)))
+      (no_positions (k.given id) a w (λ j v e. none-some (AtData j v) (sym at ∙ e)))
       ∙ ap (λ n. 0 + n) (no_crossings (k.crossed id) a w (λ j v e. none-some (AtLink j v) (sym at ∙ e)))
     where
       none-some : (p : Place) → None ≡ Some p → ⊥

@@ -87,17 +87,17 @@ module _ (shape : Shape) (allowed : IsShape shape) where
   blocks_miss given a aligned never =
       any_none (λ p. given p && is_in a (address_of shape p) 16) 0 (place_count shape)
       (λ p l u. false_unless (given p && is_in a (address_of shape p) 16)
-        (λ h. never p (a % 16 / 4) (word_of_place p a (omega arith) aligned (and_right (given p) (is_in a (address_of shape p) 16) h))))
+      (λ h. never p (a % 16 / 4) (word_of_place p a (omega arith) aligned (and_right (given p) (is_in a (address_of shape p) 16) h))))
 
   links_miss : (crossed : ℕ → Bool) (a : ℕ) → a % 4 ≡ 0 → ((j w : ℕ) → place_at shape a ≡ Some (AtLink j w) → ⊥) →
       list_any (λ q. is_crossing shape q && crossed q && is_in a (link_address shape q) 16) (range_with_len 0 (place_count shape + 1)) ≡ false
   links_miss crossed a aligned never =
       any_none (λ q. is_crossing shape q && crossed q && is_in a (link_address shape q) 16) 0 (place_count shape + 1)
       (λ q l u. false_unless (is_crossing shape q && crossed q && is_in a (link_address shape q) 16)
-        (λ h.
-          let both = and_left (is_crossing shape q && crossed q) (is_in a (link_address shape q) 16) h in
-          let over = word_of_crossing q a (and_left (is_crossing shape q) (crossed q) both) aligned (and_right (is_crossing shape q && crossed q) (is_in a (link_address shape q) 16) h) in
-          never over.0 (a % 16 / 4) over.2))
+      (λ h.
+      let both = and_left (is_crossing shape q && crossed q) (is_in a (link_address shape q) 16) h in
+      let over = word_of_crossing q a (and_left (is_crossing shape q) (crossed q) both) aligned (and_right (is_crossing shape q && crossed q) (is_in a (link_address shape q) 16) h) in
+      never over.0 (a % 16 / 4) over.2))
 
   aligned_data : (a j w : ℕ) → place_at shape a ≡ Some (AtData j w) → a % 4 ≡ 0
   aligned_data a j w at =
@@ -128,7 +128,7 @@ module _ (shape : Shape) (allowed : IsShape shape) where
       let inside : is_in a (address_of shape j) 16 ≡ true = grind (arith, nat_tests, where_.1, where_.2) in
       any_only (λ p. given p && is_in a (address_of shape p) 16) 0 (place_count shape) j (omega arith) (omega (arith, where_.0))
       (λ p l u ne. false_unless (given p && is_in a (address_of shape p) 16)
-        (λ h. ne (data_is p j _ _ (sym (word_of_place p a (omega arith) (aligned_data a j w at) (and_right (given p) (is_in a (address_of shape p) 16) h)) ∙ at))))
+      (λ h. ne (data_is p j _ _ (sym (word_of_place p a (omega arith) (aligned_data a j w at) (and_right (given p) (is_in a (address_of shape p) 16) h)) ∙ at))))
       ∙ and_true (given j) (is_in a (address_of shape j) 16) inside
     where
       and_true : (x y : Bool) → y ≡ true → (x && y) ≡ x
@@ -146,11 +146,11 @@ module _ (shape : Shape) (allowed : IsShape shape) where
       let inside : is_in a (link_address shape (crossing_of shape j)) 16 ≡ true = grind (arith, nat_tests, where_.1, where_.2, address) in
       any_only (λ q. is_crossing shape q && crossed q && is_in a (link_address shape q) 16) 0 (place_count shape + 1) (crossing_of shape j) (omega arith) (omega (arith, lap.1))
       (λ q l u ne. false_unless (is_crossing shape q && crossed q && is_in a (link_address shape q) 16)
-        (λ h.
-          let both = and_left (is_crossing shape q && crossed q) (is_in a (link_address shape q) 16) h in
-          let there = word_of_crossing q a (and_left (is_crossing shape q) (crossed q) both) (aligned_link a j w at) (and_right (is_crossing shape q && crossed q) (is_in a (link_address shape q) 16) h) in
-          let same : there.0 ≡ j = link_is there.0 j _ _ (sym there.2 ∙ at) in
-          ne (same_first_crossing q j where_.0 (omega arith) (there.1 ∙ ap (λ n. Some n) same))))
+      (λ h.
+      let both = and_left (is_crossing shape q && crossed q) (is_in a (link_address shape q) 16) h in
+      let there = word_of_crossing q a (and_left (is_crossing shape q) (crossed q) both) (aligned_link a j w at) (and_right (is_crossing shape q && crossed q) (is_in a (link_address shape q) 16) h) in
+      let same : there.0 ≡ j = link_is there.0 j _ _ (sym there.2 ∙ at) in
+      ne (same_first_crossing q j where_.0 (omega arith) (there.1 ∙ ap (λ n. Some n) same))))
       ∙ both_true (is_crossing shape (crossing_of shape j)) (crossed (crossing_of shape j)) (is_in a (link_address shape (crossing_of shape j)) 16) is_crossed inside
     where
       both_true : (x y z : Bool) → x ≡ true → z ≡ true → (x && y && z) ≡ y
@@ -183,7 +183,7 @@ module _ (shape : Shape) (allowed : IsShape shape) where
       let where_ = place_at-Data shape allowed a j v at in
       any_only (λ p. not (given p) && gives shape (Data 0) p a w && test p) 0 (place_count shape) j (omega arith) (omega (arith, where_.0))
       (λ p l u ne. false_unless (not (given p) && gives shape (Data 0) p a w && test p)
-        (λ h. ne (data_is p j _ _ (sym (gives_word p a w (and_right (not (given p)) (gives shape (Data 0) p a w) (and_left (not (given p) && gives shape (Data 0) p a w) (test p) h))) ∙ at))))
+      (λ h. ne (data_is p j _ _ (sym (gives_word p a w (and_right (not (given p)) (gives shape (Data 0) p a w) (and_left (not (given p) && gives shape (Data 0) p a w) (test p) h))) ∙ at))))
       ∙ ap (λ b. not (given j) && b && test j) (gives_here j v a w where_.0 where_.2)
 
   giving_miss : (given test : ℕ → Bool) (a w : ℕ) → ((j v : ℕ) → place_at shape a ≡ Some (AtData j v) → ⊥) →
@@ -191,7 +191,7 @@ module _ (shape : Shape) (allowed : IsShape shape) where
   giving_miss given test a w never =
       any_none (λ p. not (given p) && gives shape (Data 0) p a w && test p) 0 (place_count shape)
       (λ p l u. false_unless (not (given p) && gives shape (Data 0) p a w && test p)
-        (λ h. never p (a % 16 / 4) (gives_word p a w (and_right (not (given p)) (gives shape (Data 0) p a w) (and_left (not (given p) && gives shape (Data 0) p a w) (test p) h)))))
+      (λ h. never p (a % 16 / 4) (gives_word p a w (and_right (not (given p)) (gives shape (Data 0) p a w) (and_left (not (given p) && gives shape (Data 0) p a w) (test p) h)))))
 
   crosses_at : (q a w : ℕ) → gives_crossing shape (Data 0) q a w ≡ true → (is_crossing shape q ≡ true) × (q ≤ place_count shape) × (a ≡ link_address shape q + 12)
   crosses_at q a w h = (grind (arith, nat_tests, h), grind (arith, nat_tests, h), grind (arith, nat_tests, h))
@@ -226,11 +226,11 @@ module _ (shape : Shape) (allowed : IsShape shape) where
       let lap = end_in_lap shape allowed j where_.0 in
       any_only (λ q. not (crossed q) && gives_crossing shape (Data 0) q a w && test q) 0 (place_count shape + 1) (crossing_of shape j) (omega arith) (omega (arith, lap.1))
       (λ q l u ne. false_unless (not (crossed q) && gives_crossing shape (Data 0) q a w && test q)
-        (λ h.
-          let gives_it = and_right (not (crossed q)) (gives_crossing shape (Data 0) q a w) (and_left (not (crossed q) && gives_crossing shape (Data 0) q a w) (test q) h) in
-          let there = crosses_word q a w gives_it in
-          let same : there.0 ≡ j = link_is there.0 j _ _ (sym there.2 ∙ at) in
-          ne (same_first_crossing q j where_.0 (crosses_at q a w gives_it).1 (there.1 ∙ ap (λ n. Some n) same))))
+      (λ h.
+      let gives_it = and_right (not (crossed q)) (gives_crossing shape (Data 0) q a w) (and_left (not (crossed q) && gives_crossing shape (Data 0) q a w) (test q) h) in
+      let there = crosses_word q a w gives_it in
+      let same : there.0 ≡ j = link_is there.0 j _ _ (sym there.2 ∙ at) in
+      ne (same_first_crossing q j where_.0 (crosses_at q a w gives_it).1 (there.1 ∙ ap (λ n. Some n) same))))
       ∙ ap (λ b. not (crossed (crossing_of shape j)) && b && test (crossing_of shape j)) (crosses_here j v a w where_.0 where_.2)
 
   crossing_miss : (crossed test : ℕ → Bool) (a w : ℕ) → ((j v : ℕ) → place_at shape a ≡ Some (AtLink j v) → ⊥) →
@@ -238,18 +238,18 @@ module _ (shape : Shape) (allowed : IsShape shape) where
   crossing_miss crossed test a w never =
       any_none (λ q. not (crossed q) && gives_crossing shape (Data 0) q a w && test q) 0 (place_count shape + 1)
       (λ q l u. false_unless (not (crossed q) && gives_crossing shape (Data 0) q a w && test q)
-        (λ h.
-          let there = crosses_word q a w (and_right (not (crossed q)) (gives_crossing shape (Data 0) q a w) (and_left (not (crossed q) && gives_crossing shape (Data 0) q a w) (test q) h)) in
-          never there.0 (a % 16 / 4) there.2))
+      (λ h.
+      let there = crosses_word q a w (and_right (not (crossed q)) (gives_crossing shape (Data 0) q a w) (and_left (not (crossed q) && gives_crossing shape (Data 0) q a w) (test q) h)) in
+      never there.0 (a % 16 / 4) there.2))
 
 module _ (size : ContextSize) (id : ℕ) (below : id < 256) (shape : Shape) (kind : shape.kind ≡ Xfer) (allowed : IsShape shape) where
   no_range_lease : (k : Known) → IsQuiet k → (a n : ℕ) → areas.is_in_range_lease (header_of size id shape) k a n ≡ false
   unfolding areas.is_in_range_lease areas.touches_table areas.leased_contexts areas.touches_entry areas.touches_device areas.device_touches areas.slots
   no_range_lease k quiet a n =
       let no_entry : list_any (areas.touches_entry (header_of size id shape) k a n) (range_with_len 1 255) ≡ false =
-          any_none (areas.touches_entry (header_of size id shape) k a n) 1 255 (λ s l u. rw (quiet.devices s) refl) in
+      any_none (areas.touches_entry (header_of size id shape) k a n) 1 255 (λ s l u. rw (quiet.devices s) refl) in
       let no_device : list_any (λ s. areas.device_touches (header_of size id shape) a n (k.device s)) (range_with_len 1 255) ≡ false =
-          any_none (λ s. areas.device_touches (header_of size id shape) a n (k.device s)) 1 255 (λ s l u. rw (quiet.devices s) refl) in
+      any_none (λ s. areas.device_touches (header_of size id shape) a n (k.device s)) 1 255 (λ s l u. rw (quiet.devices s) refl) in
       rw (event_is size id below shape kind, quiet.registers Erstba, no_commands size id below shape kind k, no_entry, no_device) refl
 
   -- a word is leased where a given block or Link of the ring has it
@@ -287,7 +287,7 @@ module _ (size : ContextSize) (id : ℕ) (below : id < 256) (shape : Shape) (kin
   leased_data k quiet a j w at =
       leased_is k quiet a
       ∙ ap (λ b. b || list_any (λ q. is_crossing shape q && k.crossed id q && is_in a (link_address shape q) 16) (range_with_len 0 (place_count shape + 1)))
-        (block_hit shape allowed (k.given id) a j w at)
+      (block_hit shape allowed (k.given id) a j w at)
       ∙ ap (λ b. k.given id j || b) (links_miss shape allowed (k.crossed id) a (aligned_data shape allowed a j w at) (no_link_at a j w at))
       ∙ or_false (k.given id j)
 
@@ -297,7 +297,7 @@ module _ (size : ContextSize) (id : ℕ) (below : id < 256) (shape : Shape) (kin
   leased_link k quiet a j w at =
       leased_is k quiet a
       ∙ ap (λ b. b || list_any (λ q. is_crossing shape q && k.crossed id q && is_in a (link_address shape q) 16) (range_with_len 0 (place_count shape + 1)))
-        (blocks_miss shape allowed (k.given id) a (aligned_link shape allowed a j w at) (no_data_at a j w at))
+      (blocks_miss shape allowed (k.given id) a (aligned_link shape allowed a j w at) (no_data_at a j w at))
       ∙ link_hit shape allowed (k.crossed id) a j w at
 
   -- and no other word is
@@ -306,7 +306,7 @@ module _ (size : ContextSize) (id : ℕ) (below : id < 256) (shape : Shape) (kin
   leased_nowhere k quiet a aligned at =
       leased_is k quiet a
       ∙ ap (λ b. b || list_any (λ q. is_crossing shape q && k.crossed id q && is_in a (link_address shape q) 16) (range_with_len 0 (place_count shape + 1)))
-        (blocks_miss shape allowed (k.given id) a aligned (λ j w e. nothing_at a at (AtData j w) e))
+      (blocks_miss shape allowed (k.given id) a aligned (λ j w e. nothing_at a at (AtData j w) e))
       ∙ links_miss shape allowed (k.crossed id) a aligned (λ j w e. nothing_at a at (AtLink j w) e)
 
   -- a write gives the position of its place, by the control word with Cycle 1
@@ -366,9 +366,9 @@ module _ (shape : Shape) (allowed : IsShape shape) where
         | inr other ↦
             let none : (i == j) ≡ false = grind (arith, nat_tests, other) in
             rw none (false_unless (gives_crossing shape (Data 0) (crossing_of shape i) a w) (λ h.
-              let there = crosses_word shape allowed (crossing_of shape i) a w h in
-              let over : Some there.0 ≡ Some i = sym there.1 ∙ crossing_over shape allowed i below in
-              other (some_is i there.0 over ∙ link_is shape allowed there.0 j _ _ (sym there.2 ∙ at))))
+            let there = crosses_word shape allowed (crossing_of shape i) a w h in
+            let over : Some there.0 ≡ Some i = sym there.1 ∙ crossing_over shape allowed i below in
+            other (some_is i there.0 over ∙ link_is shape allowed there.0 j _ _ (sym there.2 ∙ at))))
       ]
     where
       some_is : (i j : ℕ) → Some j ≡ Some i → i ≡ j

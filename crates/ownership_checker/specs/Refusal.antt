@@ -1,5 +1,5 @@
--- The rules by their numbers
-use Rattle.std.specs.Prelude.{ℕ, Bool, if◌then◌else◌, List, [], ◌∷◌, map, filter, Option, Some, None}
+-- The rules by their numbers and names
+use Rattle.std.specs.Prelude.{ℕ, Bool, if◌then◌else◌, List, [], ◌∷◌, map, filter, Option, Some, None, codes}
 use Rattle.ownership_checker.specs.declared.refusal.Refusal.{Refusal}
 use Rattle.ownership_checker.specs.declared.refusal.Refusal.TheVariants.{WriteToOwned, NotAsSubmitted, NotDeclared, NotWhole, LinkFault, RingFull, BadDescriptor, BadRegister, BadDoorbell, BadCommand, Busy, ImpossibleEvent, BadErdp, NotInProfile, AfterStop, BadMove}
 
@@ -20,6 +20,25 @@ number_of BadErdp = 22
 number_of NotInProfile = 23
 number_of AfterStop = 24
 number_of BadMove = 25
+
+-- the name that is printed
+abbrev pub name_of : Refusal → List ℕ
+name_of WriteToOwned = codes "WriteToOwned"
+name_of NotAsSubmitted = codes "NotAsSubmitted"
+name_of NotDeclared = codes "NotDeclared"
+name_of NotWhole = codes "NotWhole"
+name_of LinkFault = codes "LinkFault"
+name_of RingFull = codes "RingFull"
+name_of BadDescriptor = codes "BadDescriptor"
+name_of BadRegister = codes "BadRegister"
+name_of BadDoorbell = codes "BadDoorbell"
+name_of BadCommand = codes "BadCommand"
+name_of Busy = codes "Busy"
+name_of ImpossibleEvent = codes "ImpossibleEvent"
+name_of BadErdp = codes "BadErdp"
+name_of NotInProfile = codes "NotInProfile"
+name_of AfterStop = codes "AfterStop"
+name_of BadMove = codes "BadMove"
 
 -- a rule, and whether a row breaks it
 abbrev pub Test : Type 0

@@ -4,3 +4,6 @@
 mod refusal;
 
 pub use refusal::Refusal;
+
+#[cfg(test)]
+mod tests;

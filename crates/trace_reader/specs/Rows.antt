@@ -1,8 +1,6 @@
 -- Rows and steps whose numbers fit the fields of their types
-use Rattle.std.specs.Prelude.{◌≡◌, ℕ, ◌%◌, ◌<◌, ◌^◌, List, All}
-use Rattle.trb.specs.declared.block.Block.{Block}
+use Rattle.std.specs.Prelude.{◌≡◌, ℕ, ◌%◌, ◌<◌, ◌^◌, All}
 use Rattle.trb.specs.Block.{IsBlock}
-use Rattle.trace_reader.specs.declared.register.Register.{Register}
 use Rattle.trace_reader.specs.declared.row.Row.{Row}
 use Rattle.trace_reader.specs.declared.row.Row.TheVariants.{Sub, Write, Reg, Bell, Read}
 use Rattle.trace_reader.specs.declared.step.Step.{Step}

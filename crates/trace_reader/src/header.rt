@@ -38,6 +38,8 @@ impl Rings {
 /// What the lines before the rows say.
 #[derive(Debug, Drop)]
 pub struct Header {
+    /// 32 or 64 bytes a context (xHCI 5.3.6, CSZ).
     pub context_size: ContextSize,
+    /// The rings, in the order of their declaration.
     pub rings: Rings,
 }

@@ -14,3 +14,6 @@ pub use ring::Ring;
 pub use row::Row;
 pub use step::Step;
 pub use trace::{Rows, Trace};
+
+#[cfg(test)]
+mod tests;

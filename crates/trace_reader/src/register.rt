@@ -4,16 +4,27 @@ ghost use Rattle.trace_reader.specs.Register.{is_wide};
 /// A register that a trace may write (xHCI 5.4, 5.5.2).
 #[derive(Clone, Copy, Debug, PartialEq, Eq)]
 pub enum Register {
+    /// USBCMD, 32 bits (5.4.1).
     Usbcmd,
+    /// USBSTS, 32 bits (5.4.2).
     Usbsts,
+    /// DNCTRL, 32 bits (5.4.4).
     Dnctrl,
+    /// CRCR, 64 bits (5.4.5).
     Crcr,
+    /// DCBAAP, 64 bits (5.4.6).
     Dcbaap,
+    /// CONFIG, 32 bits (5.4.7).
     Config,
+    /// IMAN of interrupter 0, 32 bits (5.5.2.1).
     Iman,
+    /// IMOD of interrupter 0, 32 bits (5.5.2.2).
     Imod,
+    /// ERSTSZ of interrupter 0, 32 bits (5.5.2.3.1).
     Erstsz,
+    /// ERSTBA of interrupter 0, 64 bits (5.5.2.3.2).
     Erstba,
+    /// ERDP of interrupter 0, 64 bits (5.5.2.3.3).
     Erdp,
 }
 

@@ -6,14 +6,14 @@ use trb::Block;
 pub enum Step {
     /// The next row of the trace.
     NextRow,
-    /// The controller looks at a ring: one fetch of 16 bytes.
+    /// The controller looks at a ring: one fetch of 16 bytes (xHCI 4.9.2).
     Look { ring: u8 },
-    /// The controller posts a Transfer Event.
+    /// The controller posts a Transfer Event (xHCI 6.4.2.1).
     Report { event: Block },
-    /// The controller posts a Command Completion Event, with the command's effect.
+    /// The controller posts a Command Completion Event, with the command's effect (xHCI 4.6, 6.4.2.2).
     Finish { event: Block },
     /// The controller posts an event of another type.
     Other { event: Block },
-    /// The controller writes a word of a device context.
+    /// The controller writes a word of a device context (xHCI 6.2.1).
     Scribble { at: Addr, word: u32 },
 }

@@ -40,9 +40,11 @@ impl Rows {
 /// A trace that was read. Its rings have allowed shapes and may stand together, and its lines are within the limit.
 #[derive(Debug, Drop)]
 pub struct Trace {
+    /// The context size and the rings.
     pub header: Header,
-    /// The line number of the first row.
+    /// The line number of the first row; lines count from 1.
     pub first: u32,
+    /// The rows, one a line.
     pub rows: Rows,
     pub ghost headed: { IsHeader header },
     pub ghost within: { first + length rows ≤ most_lines + 1 },

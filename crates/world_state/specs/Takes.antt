@@ -1,5 +1,5 @@
 -- The takes of a ring, and which positions they should have had
-use Rattle.std.specs.Prelude.{ℕ, ◌+◌, ◌==◌, ◌&&◌, ◌||◌, Bool, true, false, not, List, [], ◌∷◌, ◌++◌, length, nat_le, drop, find, unwrap_or, Option, Some, None, slice_get}
+use Rattle.std.specs.Prelude.{ℕ, ◌+◌, ◌==◌, ◌&&◌, ◌||◌, Bool, true, false, List, [], ◌∷◌, ◌++◌, drop, find, unwrap_or, Option, Some, None, slice_get}
 use Rattle.std.specs.List.{range_with_len}
 use Rattle.trb.specs.declared.block.Block.{Block}
 use Rattle.trb.specs.Block.{with_cycle, same_words}

@@ -4,3 +4,6 @@
 mod harm;
 
 pub use harm::Harm;
+
+#[cfg(test)]
+mod tests;

@@ -1,5 +1,8 @@
-ghost use Rattle.std.specs.Prelude.{◌≤◌, OnOk};
+ghost use Rattle.std.specs.Prelude.{◌≤◌, OnOk, IfOk};
+ghost use Rattle.ownership_checker.specs.Quiet.{IsQuietRow};
 ghost use Rattle.trace_reader.specs.Limits.{most_lines};
+ghost use Rattle.xhci_cli.specs.FirstPath.{IsFirstSaid};
+ghost use Rattle.xhci_cli.specs.Tracking.{IsTransferRing};
 
 use super::fault::{LineError, LineFault};
 use super::fields::{Fields, count_fields, has_empty_field};
@@ -38,6 +41,7 @@ pub fn said_by(
     line: &Line,
 ) -> Result<Said, LineError>
     ensures within { OnOk result (number ≤ most_lines) }
+    ensures first { IfOk result IsFirstSaid }
 {
     match number {
         0 | 1 => Ok(version_of(line)?),
@@ -56,7 +60,9 @@ pub fn said_by(
 
 /// A line past the limit has that fault, unless a lesser number holds too.
 fn within_limit(number: u32, said: Result<Said, LineError>) -> Result<Said, LineError>
+    requires { IfOk said IsFirstSaid }
     ensures within { OnOk result (number ≤ most_lines) }
+    ensures first { IfOk result IsFirstSaid }
 {
     match said {
         said if number <= MOST_LINES => said,
@@ -67,14 +73,18 @@ fn within_limit(number: u32, said: Result<Said, LineError>) -> Result<Said, Line
     }
 }
 
-fn version_of(line: &Line) -> Result<Said, LineFault> {
+fn version_of(line: &Line) -> Result<Said, LineFault>
+    ensures { IfOk result IsFirstSaid }
+{
     match line.content {
         b"xtrace 1" if line.is_ended => Ok(Said::Version),
         _ => Err(LineFault::Header),
     }
 }
 
-fn size_of(line: &Line) -> Result<Said, LineFault> {
+fn size_of(line: &Line) -> Result<Said, LineFault>
+    ensures { IfOk result IsFirstSaid }
+{
     match line.content {
         b"ctx 20" if line.is_ended => Ok(Said::Size(ContextSize::Bytes32)),
         b"ctx 40" if line.is_ended => Ok(Said::Size(ContextSize::Bytes64)),
@@ -82,7 +92,9 @@ fn size_of(line: &Line) -> Result<Said, LineFault> {
     }
 }
 
-fn said_behind_header(alloc: Global, may_declare: bool, line: &[u8]) -> Result<Said, LineError> {
+fn said_behind_header(alloc: Global, may_declare: bool, line: &[u8]) -> Result<Said, LineError>
+    ensures { IfOk result IsFirstSaid }
+{
     let count = count_fields(line);
     let mut fields = Fields::of(line);
     match fields.next() {
@@ -106,14 +118,18 @@ fn field<'a>(fields: &mut Fields<'a>) -> Result<&'a [u8], LineFault> {
     fields.next().ok_or(LineFault::Row)
 }
 
-fn write_of(mut fields: Fields) -> Result<Row, LineFault> {
+fn write_of(mut fields: Fields) -> Result<Row, LineFault>
+    ensures { IfOk result IsQuietRow }
+{
     let address = u64_of(field(&mut fields)?)?;
     let word = u32_of(field(&mut fields)?)?;
     let at = Addr::new(address).ok_or(LineFault::Number)?;
     Ok(Row::Write { at, word })
 }
 
-fn sub_of(alloc: Global, count: usize, mut fields: Fields) -> Result<Row, LineError> {
+fn sub_of(alloc: Global, count: usize, mut fields: Fields) -> Result<Row, LineError>
+    ensures { IfOk result IsQuietRow }
+{
     let ring = u8_of(field(&mut fields)?)?;
     let mut blocks = Vec::new(alloc);
     for _ in 0..count {
@@ -136,7 +152,9 @@ fn block_of(fields: &mut Fields) -> Result<Block, LineFault> {
     Ok(Block { w: [a, b, c, d] })
 }
 
-fn ring_of(alloc: Global, count: usize, mut fields: Fields) -> Result<Ring, LineError> {
+fn ring_of(alloc: Global, count: usize, mut fields: Fields) -> Result<Ring, LineError>
+    ensures { IfOk result IsTransferRing }
+{
     let id = field(&mut fields)?;
     if field(&mut fields)? != b"xfer".as_slice() {
         return Err(LineFault::Row.into());

@@ -1,5 +1,7 @@
-ghost use Rattle.std.specs.Prelude.{◌≡◌, ◌≤◌, ◌+◌, length, vec_len, OnOk};
+ghost use Rattle.std.specs.Prelude.{◌≡◌, ◌≤◌, ◌+◌, length, vec_len, OnOk, IfOk, All};
+ghost use Rattle.ownership_checker.specs.Quiet.{IsQuietRow};
 ghost use Rattle.trace_reader.specs.Limits.{most_lines};
+ghost use Rattle.xhci_cli.specs.FirstPath.{IsOneAtMost, rings_of};
 
 use super::fault::{LineError, LineFault, ReadFault};
 use super::line::{Said, said_by};
@@ -23,7 +25,10 @@ struct Reader {
 
 /// Reads the text of a trace: `xtrace 1`, `ctx 20` or `ctx 40`, at most one line of a transfer ring, then `sub` and `w`
 /// rows. Every byte sequence is answered: by its trace, or by the first bad line.
-pub fn read_trace(alloc: Global, text: &[u8]) -> Result<Trace, ReadFault> {
+pub fn read_trace(alloc: Global, text: &[u8]) -> Result<Trace, ReadFault>
+    ensures one { IfOk result (λ trace. IsOneAtMost trace.header.rings) }
+    ensures quiet { IfOk result (λ trace. All IsQuietRow trace.rows) }
+{
     let mut reader = Reader {
         alloc,
         size: ContextSize::Bytes32,
@@ -50,7 +55,12 @@ fn at_line(line: u32, error: LineError) -> ReadFault {
 
 impl Reader {
     /// Adds the next line of the text.
-    fn add(&mut self, line: &Line) -> Result<(), LineError> {
+    fn add(&mut self, line: &Line) -> Result<(), LineError>
+        requires one { IsOneAtMost (rings_of self.old.ring) }
+        requires quiet { All IsQuietRow self.old.rows.items }
+        ensures one { OnOk result (IsOneAtMost (rings_of self.new.ring)) }
+        ensures quiet { OnOk result (All IsQuietRow self.new.rows.items) }
+    {
         let number = self.lines + 1;
         let may_declare = self.ring.is_none() && self.rows.is_empty();
         match said_by(self.alloc, number, may_declare, line)? {
@@ -64,7 +74,12 @@ impl Reader {
     }
 
     /// The trace, where its header is whole.
-    fn finish(self) -> Result<Trace, ReadFault> {
+    fn finish(self) -> Result<Trace, ReadFault>
+        requires one { IsOneAtMost (rings_of self.ring) }
+        requires quiet { All IsQuietRow self.rows.items }
+        ensures one { IfOk result (λ trace. IsOneAtMost trace.header.rings) }
+        ensures quiet { IfOk result (λ trace. All IsQuietRow trace.rows) }
+    {
         let Reader {
             alloc,
             size,

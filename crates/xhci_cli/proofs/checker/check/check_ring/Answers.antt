@@ -1,4 +1,9 @@
-use Rattle.std.proofs.Common.{sym, arith}
+use Rattle.std.proofs.Common.{◌≡◌, Some, sym, subst, arith}
+use Rattle.contexts.specs.declared.size.ContextSize.{ContextSize}
+use Rattle.ring_knowledge.specs.Known.{nothing}
+use Rattle.ownership_checker.specs.declared.refusal.Refusal.{Refusal}
+use Rattle.ownership_checker.specs.Rules.{verdict_from}
+use Rattle.xhci_cli.specs.Tracking.{header}
 use Rattle.xhci_cli.proofs.Checking.{started, stepped, refused, ended}
 use Rattle.xhci_cli.proofs.checker.check.check_ring.Goals as goal
 
@@ -14,10 +19,10 @@ loop-row-preserved g c =
 
 pub returns-in-Err-Refused-clause-refused : goal.returns-in-Err-Refused-clause-refused
 returns-in-Err-Refused-clause-refused g c =
-    let d = c.row-item.result in
-    refused c.args.ring.now c.requires.ring c.args.rows.now c.args.first c.loop-row.row-index c.loop-row.number c.loop-row.begun
+    subst (λ (r : Refusal). (size : ContextSize) → verdict_from (header size c.args.ring.now) nothing c.args.first c.args.rows.now ≡ Some (c.loop-row.number, r)) (sym c.in-Err-Refused.refusal-is)
+    (refused c.args.ring.now c.requires.ring c.args.rows.now c.args.first c.loop-row.row-index c.loop-row.number c.loop-row.begun
     c.loop-row.record (g.M.WordMemory.words c.loop-row.memory)
-    c.row-item.result d c.in-Err-Refused.refusal c.in-Err-Refused.field-0 c.in-Err-Refused.field-0-is c.loop-row.invariant c.loop-row-test.true (sym c.row-item.is) c.in-Err-Refused.ensures.refused
+    c.row-item.result c.row-item.result c.in-Err-Refused.refusal c.in-Err-Refused.field-0 c.in-Err-Refused.field-0-is c.loop-row.invariant c.loop-row-test.true (sym c.row-item.is) c.in-Err-Refused.ensures.refused)
 
 pub returns-clause-accepted : goal.returns-clause-accepted
 returns-clause-accepted g c =
