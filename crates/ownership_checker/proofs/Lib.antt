@@ -5,3 +5,4 @@ pub mod QuietAnswers
 pub mod QuietLeases
 pub mod WorkedTraces
 pub mod WorkedLeases
+pub mod Examples

@@ -1,18 +1,15 @@
 -- What is known stays quiet over declarations and writes, and no command is ever given
-use Rattle.std.proofs.Common.{◌≡◌, ◌≢◌, ℕ, suc, zero, ◌+◌, ◌<◌, ◌≤◌, List, [], ◌∷◌, Bool, true, false, Option, Some, None, refl, ap, sym, ◌∙◌, arith, inl, inr, cond}
-use Rattle.std.specs.Prelude.{◌==◌, option_and_then, find, filter}
-use Rattle.std.specs.List.{range_with_len, filter_map}
+use Rattle.std.proofs.Common.{◌≡◌, ◌≢◌, ℕ, ◌<◌, List, [], ◌∷◌, true, false, None, refl, arith, cond}
+use Rattle.std.specs.Prelude.{◌==◌}
 use Rattle.std.proofs.lemmas.Bool.Decides.{nat_tests}
-use Rattle.std.proofs.lemmas.Grind.{common_steps}
 use Rattle.trb.specs.declared.ring_kind.RingKind.TheVariants.{Xfer}
 use Rattle.trb.specs.declared.block.Block.{Block}
 use Rattle.contexts.specs.declared.size.ContextSize.{ContextSize}
-use Rattle.segments.specs.declared.segment.Segment.{Segment}
 use Rattle.segments.specs.ShapeValue.{Shape}
 use Rattle.trb.specs.declared.ring_kind.RingKind.{RingKind}
 use Rattle.trace_reader.specs.declared.ring.Ring.{Ring}
 use Rattle.trb.specs.declared.ring_kind.RingKind.TheVariants.{Evt}
-use Rattle.trace_reader.specs.Header.{is_driver_kind, shape_of, command_id, command_ring, event_shape, event_ring, driver_rings, shape_or, no_shape, ring_with}
+use Rattle.trace_reader.specs.Header.{is_driver_kind, shape_of, command_id, command_ring, event_shape, event_ring, driver_rings, no_shape}
 use Rattle.trace_reader.specs.declared.row.Row.{Row}
 use Rattle.trace_reader.specs.declared.row.Row.TheVariants.{Sub, Write, Reg, Bell, Read}
 use Rattle.ring_knowledge.specs.Known.{Known, nothing}

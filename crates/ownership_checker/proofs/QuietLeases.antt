@@ -1,7 +1,7 @@
 -- While all is quiet: which leases a row begins
-use Rattle.std.proofs.Common.{◌≡◌, ◌≢◌, ℕ, suc, zero, ◌+◌, ◌*◌, ◌-◌, ◌%◌, ◌<◌, ◌≤◌, List, [], ◌∷◌, ◌++◌, Bool, true, false, Option, Some, None, refl, ap, sym, ◌∙◌, arith, cond, length, map, length-append}
-use Rattle.std.specs.Prelude.{◌==◌, ◌&&◌, not, filter, find}
-use Rattle.std.specs.List.{range_with_len, flat_map}
+use Rattle.std.proofs.Common.{◌≡◌, ℕ, ◌+◌, ◌-◌, ◌%◌, ◌<◌, List, [], ◌∷◌, ◌++◌, Bool, true, false, Option, Some, None, refl, ap, sym, ◌∙◌, arith, cond, length, map, length-append}
+use Rattle.std.specs.Prelude.{◌==◌, ◌&&◌, not, filter}
+use Rattle.std.specs.List.{range_with_len}
 use Rattle.std.proofs.lemmas.List.{length-map}
 use Rattle.std.proofs.lemmas.Grind.{common_steps}
 use Rattle.std.proofs.lemmas.Bool.Decides.{nat_tests}
@@ -13,14 +13,14 @@ use Rattle.segments.specs.declared.place.Place.TheVariants.{Data as AtData, Link
 use Rattle.segments.specs.declared.spot.Spot.TheVariants.{Data}
 use Rattle.segments.specs.ShapeValue.{Shape}
 use Rattle.segments.specs.Shape.{IsShape}
-use Rattle.segments.specs.Places.{place_count, links}
+use Rattle.segments.specs.Places.{place_count}
 use Rattle.segments.specs.PlaceAt.{place_at}
 use Rattle.segments.specs.OneRing.{gives, gives_crossing}
 use Rattle.segments.proofs.PlaceAtLemmas.{place_at-Data, place_at-Link}
 use Rattle.segments.proofs.Crossings.{end_in_lap}
 use Rattle.trace_reader.specs.declared.row.Row.{Row}
 use Rattle.trace_reader.specs.declared.row.Row.TheVariants.{Sub, Write}
-use Rattle.trace_reader.specs.Header.{command_id, event_shape, shape_of}
+use Rattle.trace_reader.specs.Header.{shape_of}
 use Rattle.ring_knowledge.specs.declared.lease.Lease.{Lease}
 use Rattle.ring_knowledge.specs.Known.{Known, nothing}
 use Rattle.ring_knowledge.specs.Rings as rings
@@ -49,7 +49,7 @@ unfolding leases.in_order
 length-in_order h [] = refl
 length-in_order h (l ∷ rest) = omega (arith, length-with_lease h l (leases.in_order h rest), length-in_order h rest)
 
-length-leases_from : (h : Header) (k : Known) (n : ℕ) (rows : List Row) → length (leases.leases_from h k n rows) ≡ begun_count h k rows
+pub length-leases_from : (h : Header) (k : Known) (n : ℕ) (rows : List Row) → length (leases.leases_from h k n rows) ≡ begun_count h k rows
 unfolding leases.leases_from begun_count leases.row_leases
 length-leases_from h k n [] = refl
 length-leases_from h k n (row ∷ rows) =

@@ -1,26 +1,23 @@
 -- While all is quiet: which word is leased, and what a write gives, by the place of its address
-use Rattle.std.proofs.Common.{◌≡◌, ◌≢◌, ℕ, suc, zero, ◌+◌, ◌*◌, ◌-◌, ◌/◌, ◌%◌, ◌<◌, ◌≤◌, List, [], ◌∷◌, Bool, true, false, Option, Some, None, refl, ap, sym, ◌∙◌, arith, inl, inr, cond, length, slice_index}
-use Rattle.std.specs.Prelude.{◌==◌, ◌&&◌, ◌||◌, ◌⊎◌, not, nat_le, nat_lt}
+use Rattle.std.proofs.Common.{◌≡◌, ℕ, ◌+◌, ◌*◌, ◌-◌, ◌/◌, ◌%◌, ◌<◌, ◌≤◌, Bool, true, false, Some, None, refl, ap, sym, ◌∙◌, arith, inl, inr, length, slice_index}
+use Rattle.std.specs.Prelude.{◌==◌, ◌&&◌, ◌||◌, not}
 use Rattle.std.specs.List.{range_with_len, list_any}
-use Rattle.std.proofs.lemmas.Bool.{cases_Bool, cases_lt, cases_eq}
+use Rattle.std.proofs.lemmas.Bool.{cases_lt, cases_eq}
 use Rattle.std.proofs.lemmas.Bool.Decides.{nat_tests}
-use Rattle.std.proofs.lemmas.Grind.{common_steps}
 use Rattle.trb.specs.declared.ring_kind.RingKind.TheVariants.{Xfer}
 use Rattle.contexts.specs.declared.size.ContextSize.{ContextSize}
-use Rattle.segments.specs.declared.segment.Segment.{Segment}
 use Rattle.segments.specs.declared.place.Place.{Place}
 use Rattle.segments.specs.declared.place.Place.TheVariants.{Data as AtData, Link as AtLink}
 use Rattle.segments.specs.declared.spot.Spot.TheVariants.{Data}
 use Rattle.segments.specs.ShapeValue.{Shape}
 use Rattle.segments.specs.Shape.{IsShape}
-use Rattle.segments.specs.Places.{place_count, address_of, cycle_of, links, ends, link_crossed, is_crossing, link_address, is_in, data_places}
+use Rattle.segments.specs.Places.{place_count, address_of, cycle_of, links, link_crossed, is_crossing, link_address, is_in}
 use Rattle.segments.specs.PlaceAt.{place_at}
 use Rattle.segments.specs.OneRing.{gives, gives_crossing, is_due, is_crossing_due}
-use Rattle.segments.proofs.Positions.{address_of-first, cycle_of-first, place_count_pos, address_aligned}
+use Rattle.segments.proofs.Positions.{address_of-first, cycle_of-first, address_aligned}
 use Rattle.segments.proofs.DataPlaces.{link_aligned}
 use Rattle.segments.proofs.PlaceAtLemmas.{place_at-data, place_at-link, place_at-Data, place_at-Link}
-use Rattle.segments.proofs.Crossings.{crosses, crossed_link, link_address_is, same_crossing, first_crossing, end_is, end_in_lap, crossing_positive, is_crossing-from}
-use Rattle.trace_reader.specs.Header.{shape_of, driver_rings, event_shape, event_ring}
+use Rattle.segments.proofs.Crossings.{crosses, crossed_link, link_address_is, same_crossing, first_crossing, end_is, end_in_lap, is_crossing-from}
 use Rattle.trace_reader.specs.declared.register.Register.TheVariants.{Erstba}
 use Rattle.ring_knowledge.specs.Known.{Known}
 use Rattle.ring_knowledge.specs.Rings as rings
@@ -28,7 +25,7 @@ use Rattle.ownership_checker.specs.Quiet.{header_of, IsQuiet, crossing_of}
 use Rattle.ownership_checker.specs.Areas as areas
 use Rattle.ownership_checker.specs.Givings as givings
 use Rattle.ownership_checker.proofs.Ranges.{any_none, any_only, or_false}
-use Rattle.ownership_checker.proofs.QuietKnowledge.{shape_here, no_commands, same_number, event_is, drivers_are}
+use Rattle.ownership_checker.proofs.QuietKnowledge.{shape_here, no_commands, event_is, drivers_are}
 
 pub and_left : (x y : Bool) → (x && y) ≡ true → x ≡ true
 and_left true y e = refl

@@ -1,5 +1,5 @@
 -- Which areas of memory are under lease: the controller may read or change them at any moment
-use Rattle.std.specs.Prelude.{ℕ, ◌+◌, ◌*◌, ◌/◌, ◌^◌, ◌&&◌, ◌||◌, Bool, true, false, List, nat_lt, Option, Some, None, is_some}
+use Rattle.std.specs.Prelude.{ℕ, ◌+◌, ◌*◌, ◌/◌, ◌^◌, ◌&&◌, ◌||◌, Bool, false, List, nat_lt, Option, Some, None, is_some}
 use Rattle.std.specs.List.{list_any, range_with_len, filter_map}
 use Rattle.segments.specs.Places.{overlap, is_in, address_of, link_address, is_crossing, touches}
 use Rattle.contexts.specs.Contexts.{device_context_bytes, input_context_bytes}

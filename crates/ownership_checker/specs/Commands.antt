@@ -1,5 +1,5 @@
 -- The rules of a command that is given: xHCI 4.5.3, 4.6, 6.2.5
-use Rattle.std.specs.Prelude.{ℕ, ◌+◌, ◌%◌, ◌==◌, ◌&&◌, ◌||◌, Bool, true, false, not, List, [], ◌∷◌, nat_lt, Option, Some, None, is_some, is_none, filter}
+use Rattle.std.specs.Prelude.{ℕ, ◌%◌, ◌==◌, ◌&&◌, ◌||◌, Bool, false, not, List, nat_lt, Option, Some, None, is_none, filter}
 use Rattle.std.specs.List.{list_any, range_with_len}
 use Rattle.segments.specs.Places.{overlap}
 use Rattle.commands.specs.declared.command.Command.{Command}

@@ -1,5 +1,5 @@
 -- The rules of a declaration (`sub`): xHCI 4.9.2, 4.11.2
-use Rattle.std.specs.Prelude.{ℕ, ◌+◌, ◌-◌, Bool, true, false, not, List, [], ◌∷◌, length, nat_lt, Option, Some, None}
+use Rattle.std.specs.Prelude.{ℕ, ◌+◌, ◌-◌, Bool, false, not, List, [], ◌∷◌, length, nat_lt, Option, Some, None}
 use Rattle.trb.specs.declared.block.Block.{Block}
 use Rattle.trb.specs.Descriptor.{is_bad_descriptor, is_left_out}
 use Rattle.trace_reader.specs.declared.header.Header.{Header}

@@ -6,13 +6,12 @@ use Rattle.trb.specs.declared.kind.BlockKind.TheVariants.{TransferEvent, Command
 use Rattle.trb.specs.Bits.{is_set}
 use Rattle.trb.specs.Block.{word, cycle, kind, pointer, code, slot, endpoint}
 use Rattle.trb.specs.Kind.{is_event, is_transfer_event}
-use Rattle.trb.specs.CompletionCode.{is_success, is_halting, is_trb_error, is_stopping, is_transfer_code}
+use Rattle.trb.specs.CompletionCode.{is_success, is_halting, is_trb_error, is_transfer_code}
 use Rattle.segments.specs.declared.spot.Spot.{Spot}
 use Rattle.segments.specs.declared.spot.Spot.TheVariants.{Data, Link}
 use Rattle.segments.specs.Places.{address_of, cycle_of}
 use Rattle.commands.specs.declared.command.Command.{Command}
 use Rattle.commands.specs.declared.command.Command.TheVariants.{EnableSlot, StopEndpoint}
-use Rattle.commands.specs.declared.state.SlotState.{SlotState}
 use Rattle.commands.specs.declared.state.EndpointState.{EndpointState}
 use Rattle.commands.specs.declared.state.EndpointState.TheVariants.{Disabled as Off}
 use Rattle.commands.specs.Command.{named_slot, named_endpoint}

@@ -1,9 +1,9 @@
 -- The rules of a giving: the write of a control word that hands a block or a Link to the controller: xHCI 4.9.2, 4.11.5.1
-use Rattle.std.specs.Prelude.{ℕ, ◌+◌, ◌-◌, ◌*◌, ◌==◌, ◌&&◌, ◌||◌, Bool, true, false, not, List, [], ◌∷◌, nat_lt, nat_le, slice_index, Option, Some, None, slice_get, if◌then◌else◌, unwrap_or}
+use Rattle.std.specs.Prelude.{ℕ, ◌+◌, ◌-◌, ◌==◌, ◌&&◌, ◌||◌, Bool, true, false, not, List, [], ◌∷◌, nat_le, slice_index, Option, Some, None, slice_get, if◌then◌else◌, unwrap_or}
 use Rattle.std.specs.List.{list_all, list_any, range_with_len}
-use Rattle.guest_memory.specs.Memory.{put, long_at}
+use Rattle.guest_memory.specs.Memory.{put}
 use Rattle.trb.specs.declared.block.Block.{Block}
-use Rattle.trb.specs.Bits.{bits, is_set}
+use Rattle.trb.specs.Bits.{is_set}
 use Rattle.trb.specs.Block.{word, with_cycle, kind, same_words, pointer}
 use Rattle.trb.specs.Kind.{is_link}
 use Rattle.commands.specs.Command.{aligned}

@@ -1,5 +1,5 @@
 -- The headline, as a law over the definitions: a clean trace is harmless beside every run of the controller model
-use Rattle.std.specs.Prelude.{◌≡◌, List, [], ◌∷◌, Option, Some, None, All, reverse}
+use Rattle.std.specs.Prelude.{◌≡◌, List, Some, All, reverse}
 use Rattle.trace_reader.specs.declared.header.Header.{Header}
 use Rattle.trace_reader.specs.declared.row.Row.{Row}
 use Rattle.trace_reader.specs.declared.step.Step.{Step}

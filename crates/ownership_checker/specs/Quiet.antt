@@ -1,5 +1,5 @@
 -- A trace of one transfer ring in which nothing but declarations and writes has come: no register is written, nothing is rung or read
-use Rattle.std.specs.Prelude.{◌≡◌, ℕ, false, List, [], ◌∷◌, None, slice_index}
+use Rattle.std.specs.Prelude.{◌≡◌, ℕ, false, [], ◌∷◌, None, slice_index}
 use Rattle.contexts.specs.declared.size.ContextSize.{ContextSize}
 use Rattle.segments.specs.declared.spot.Spot.TheVariants.{Data}
 use Rattle.segments.specs.ShapeValue.{Shape}

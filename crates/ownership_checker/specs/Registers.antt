@@ -1,7 +1,7 @@
 -- The rules of a register write (`reg`): xHCI 4.2, 4.9.4, 5.4.1, 5.4.5, 5.4.6, 5.4.7, 5.5.2.3, 6.5
-use Rattle.std.specs.Prelude.{ℕ, ◌-◌, ◌+◌, ◌%◌, ◌^◌, ◌==◌, ◌&&◌, ◌||◌, Bool, true, false, not, List, [], ◌∷◌, length, Option, Some, None, is_some, is_none, if◌then◌else◌}
+use Rattle.std.specs.Prelude.{ℕ, ◌-◌, ◌%◌, ◌^◌, ◌==◌, ◌&&◌, ◌||◌, Bool, true, false, not, List, [], ◌∷◌, length, Option, Some, None, is_some, is_none, if◌then◌else◌}
 use Rattle.std.specs.List.{list_any}
-use Rattle.segments.specs.Places.{address_of, place_count}
+use Rattle.segments.specs.Places.{address_of}
 use Rattle.event_ring.specs.EventRing.{is_reached_within, erdp_address, lists, table_bytes}
 use Rattle.trace_reader.specs.declared.header.Header.{Header}
 use Rattle.trace_reader.specs.declared.ring.Ring.{Ring}

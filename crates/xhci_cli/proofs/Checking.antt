@@ -92,6 +92,72 @@ counted_end h k n = add-zero n
 regroup : (b w l n r : ℕ) → w ≡ l + r → l ≡ n → b + w ≡ b + n + r
 regroup b w l n r e f = omega arith
 
+-- a trace, row by row
+module _ (h : Header) (rows : List Row) (first : ℕ) where
+  -- before the first row
+  pub start_checked : (T : Known → Type 0) → T nothing → IsChecked h rows first 0 T 0
+  start_checked T t =
+      let start : known h (reverse (take 0 rows)) ≡ nothing = ap (λ xs. known h xs) (none_taken rows) ∙ nothing_first h in
+      record {
+        tracked = subst T (sym start) t;
+        clean = subst (λ (xs : List Row). IsClean h xs) (sym (none_taken rows)) tt;
+        verdict =
+            ap (λ n. verdict_from h nothing n rows) (sym (add-zero first))
+            ∙ ap (λ k. verdict_from h k (first + 0) rows) (sym start)
+            ∙ ap (λ xs. verdict_from h (known h (reverse (take 0 rows))) (first + 0) xs) (sym (none_dropped rows));
+        counted =
+            sym (zero-add (begun_count h nothing rows))
+            ∙ ap (λ k. 0 + begun_count h k rows) (sym start)
+            ∙ ap (λ xs. 0 + begun_count h (known h (reverse (take 0 rows))) xs) (sym (none_dropped rows));
+      }
+
+  -- one row more
+  pub step_checked : (i begun_ n : ℕ) (T U : Known → Type 0) (row d : Row) → IsChecked h rows first i T begun_ → i < length rows → get_or rows i d ≡ row →
+      ((k : Known) → T k → (broken h k row ≡ []) × (U (learned h k row)) × (length (begun h k row) ≡ n)) → IsChecked h rows first (i + 1) U (begun_ + n)
+  step_checked i begun_ n T U row d c inside is_row step =
+      let before = known h (reverse (take i rows)) in
+      let done = step before c.tracked in
+      let past : reverse (take (i + 1) rows) ≡ row ∷ reverse (take i rows) = one_more rows i d inside ∙ ap (λ x. x ∷ reverse (take i rows)) is_row in
+      let rest : drop i rows ≡ row ∷ drop (i + 1) rows = left rows i d inside ∙ ap (λ x. x ∷ drop (i + 1) rows) is_row in
+      let after : known h (reverse (take (i + 1) rows)) ≡ learned h before row = ap (λ xs. known h xs) past ∙ known_next h (reverse (take i rows)) row in
+      let next_number : first + i + 1 ≡ first + (i + 1) = omega arith in
+      record {
+        tracked = subst U (sym after) done.1;
+        clean = subst (λ (xs : List Row). IsClean h xs) (sym past) (c.clean, done.0);
+        verdict =
+            c.verdict ∙ ap (λ xs. verdict_from h before (first + i) xs) rest
+            ∙ verdict_next h before (first + i) row (drop (i + 1) rows) done.0
+            ∙ ap (λ k. verdict_from h k (first + i + 1) (drop (i + 1) rows)) (sym after)
+            ∙ ap (λ x. verdict_from h (known h (reverse (take (i + 1) rows))) x (drop (i + 1) rows)) next_number;
+        counted =
+            let more = counted_next h before row (drop (i + 1) rows) in
+            c.counted ∙ ap (λ xs. begun_ + begun_count h before xs) rest
+            ∙ regroup begun_ (begun_count h before (row ∷ drop (i + 1) rows)) (length (begun h before row)) n
+              (begun_count h (learned h before row) (drop (i + 1) rows)) more done.2
+            ∙ ap (λ k. begun_ + n + begun_count h k (drop (i + 1) rows)) (sym after);
+      }
+
+  -- the first row that breaks a rule
+  pub refused_checked : (i begun_ : ℕ) (T : Known → Type 0) (row d : Row) (c : Refusal) → IsChecked h rows first i T begun_ → i < length rows → get_or rows i d ≡ row →
+      ((k : Known) → T k → first_of (broken h k row) ≡ Some c) → verdict_from h nothing first rows ≡ Some (first + i, c)
+  refused_checked i begun_ T row d c so_far inside is_row breaks =
+      let before = known h (reverse (take i rows)) in
+      let rest : drop i rows ≡ row ∷ drop (i + 1) rows = left rows i d inside ∙ ap (λ x. x ∷ drop (i + 1) rows) is_row in
+      so_far.verdict ∙ ap (λ xs. verdict_from h before (first + i) xs) rest
+      ∙ verdict_first h before (first + i) row (drop (i + 1) rows) c (breaks before so_far.tracked)
+
+  -- behind the last row
+  pub ended_checked : (i begun_ : ℕ) (T : Known → Type 0) → length (leases h first rows) ≡ begun_count h nothing rows → IsChecked h rows first i T begun_ → i ≡ length rows → IsAccepted h rows first begun_
+  ended_checked i begun_ T lease_count c all =
+      let whole : take i rows ≡ rows = ap (λ n. take n rows) all ∙ take_all rows in
+      let empty : drop i rows ≡ [] = ap (λ n. drop n rows) all ∙ drop_all rows in
+      let before = known h (reverse (take i rows)) in
+      record {
+        clean = subst (λ (xs : List Row). IsClean h (reverse xs)) whole c.clean;
+        verdict = c.verdict ∙ ap (λ xs. verdict_from h before (first + i) xs) empty ∙ verdict_end h before (first + i);
+        counted = lease_count ∙ c.counted ∙ ap (λ xs. begun_ + begun_count h before xs) empty ∙ counted_end h before begun_;
+      }
+
 module _ (ring : Ring) (is : IsTransferRing ring) (rows : List Row) (first : ℕ) where
   same_words : (r : Record) (m : ℕ → ℕ) → Tracks ring nothing r (λ a. 0) → ((a : ℕ) → m a ≡ 0) → Tracks ring nothing r m
   same_words r m t blank = record {
@@ -110,28 +176,13 @@ module _ (ring : Ring) (is : IsTransferRing ring) (rows : List Row) (first : ℕ
     crossed = t.crossed;
   }
 
-  -- before the first row
   pub started : (r : Record) (m : ℕ → ℕ) → Tracks ring nothing r (λ a. 0) → ((a : ℕ) → m a ≡ 0) → IsProgress ring rows first 0 first 0 r m
   started r m t blank = record {
     numbered = sym (add-zero first);
     few = omega arith;
-    checked = λ size.
-        let start : known (header size ring) (reverse (take 0 rows)) ≡ nothing = ap (λ xs. known (header size ring) xs) (none_taken rows) ∙ nothing_first (header size ring) in
-        record {
-          tracked = subst (λ (k : Known). Tracks ring k r m) (sym start) (same_words r m t blank);
-          clean = subst (λ (xs : List Row). IsClean (header size ring) xs) (sym (none_taken rows)) tt;
-          verdict =
-              ap (λ n. verdict_from (header size ring) nothing n rows) (sym (add-zero first))
-              ∙ ap (λ k. verdict_from (header size ring) k (first + 0) rows) (sym start)
-              ∙ ap (λ xs. verdict_from (header size ring) (known (header size ring) (reverse (take 0 rows))) (first + 0) xs) (sym (none_dropped rows));
-          counted =
-              sym (zero-add (begun_count (header size ring) nothing rows))
-              ∙ ap (λ k. 0 + begun_count (header size ring) k rows) (sym start)
-              ∙ ap (λ xs. 0 + begun_count (header size ring) (known (header size ring) (reverse (take 0 rows))) xs) (sym (none_dropped rows));
-        };
+    checked = λ size. start_checked (header size ring) rows first (λ k. Tracks ring k r m) (same_words r m t blank);
   }
 
-  -- one row more
   pub stepped : (i number begun_ n : ℕ) (r s : Record) (m o : ℕ → ℕ) (row d : Row) → IsProgress ring rows first i number begun_ r m → i < length rows → get_or rows i d ≡ row → n ≤ 1 →
       ((size : ContextSize) (k : Known) → Tracks ring k r m → IsStep size ring k row s o n) → IsProgress ring rows first (i + 1) (number + 1) (begun_ + n) s o
   stepped i number begun_ n r s m o row d p inside is_row one step =
@@ -141,55 +192,20 @@ module _ (ring : Ring) (is : IsTransferRing ring) (rows : List Row) (first : ℕ
         numbered = omega arith;
         few = omega arith;
         checked = λ size.
-            let c = p.checked size in
-            let done : IsStep size ring (known (header size ring) (reverse (take i rows))) row s o n = step size (known (header size ring) (reverse (take i rows))) c.tracked in
-            let past : reverse (take (i + 1) rows) ≡ row ∷ reverse (take i rows) = one_more rows i d inside ∙ ap (λ x. x ∷ reverse (take i rows)) is_row in
-            let rest : drop i rows ≡ row ∷ drop (i + 1) rows = left rows i d inside ∙ ap (λ x. x ∷ drop (i + 1) rows) is_row in
-            let before = known (header size ring) (reverse (take i rows)) in
-            let after : known (header size ring) (reverse (take (i + 1) rows)) ≡ learned (header size ring) before row =
-                ap (λ xs. known (header size ring) xs) past ∙ known_next (header size ring) (reverse (take i rows)) row in
-            let next_number : first + i + 1 ≡ first + (i + 1) = omega arith in
-            record {
-              tracked = subst (λ (k : Known). Tracks ring k s o) (sym after) done.tracked;
-              clean = subst (λ (xs : List Row). IsClean (header size ring) xs) (sym past) (c.clean, done.clean);
-              verdict =
-                  c.verdict ∙ ap (λ xs. verdict_from (header size ring) before (first + i) xs) rest
-                  ∙ verdict_next (header size ring) before (first + i) row (drop (i + 1) rows) done.clean
-                  ∙ ap (λ k. verdict_from (header size ring) k (first + i + 1) (drop (i + 1) rows)) (sym after)
-                  ∙ ap (λ x. verdict_from (header size ring) (known (header size ring) (reverse (take (i + 1) rows))) x (drop (i + 1) rows)) next_number;
-              counted =
-                  let more = counted_next (header size ring) before row (drop (i + 1) rows) in
-                  let one = done.counted in
-                  c.counted ∙ ap (λ xs. begun_ + begun_count (header size ring) before xs) rest
-                  ∙ regroup begun_ (begun_count (header size ring) before (row ∷ drop (i + 1) rows)) (length (begun (header size ring) before row)) n
-                    (begun_count (header size ring) (learned (header size ring) before row) (drop (i + 1) rows)) more one
-                  ∙ ap (λ k. begun_ + n + begun_count (header size ring) k (drop (i + 1) rows)) (sym after);
-            };
+            step_checked (header size ring) rows first i begun_ n (λ k. Tracks ring k r m) (λ k. Tracks ring k s o) row d (p.checked size) inside is_row
+            (λ k t. let done = step size k t in (done.clean, done.tracked, done.counted));
       }
 
-  -- the first row that breaks a rule
   pub refused : (i number begun_ : ℕ) (r : Record) (m : ℕ → ℕ) (row d : Row) (c : Refusal) (e : StepFault) → e ≡ Refused c → IsProgress ring rows first i number begun_ r m → i < length rows → get_or rows i d ≡ row →
       IfRefused e (λ x. (size : ContextSize) (k : Known) → Tracks ring k r m → first_of (broken (header size ring) k row) ≡ Some x) →
       (size : ContextSize) → verdict_from (header size ring) nothing first rows ≡ Some (number, c)
   refused i number begun_ r m row d c e is_refused p inside is_row said size =
       let breaks = subst (λ (f : StepFault). IfRefused f (λ x. (size : ContextSize) (k : Known) → Tracks ring k r m → first_of (broken (header size ring) k row) ≡ Some x)) is_refused said in
-      let so_far = p.checked size in
-      let rest : drop i rows ≡ row ∷ drop (i + 1) rows = left rows i d inside ∙ ap (λ x. x ∷ drop (i + 1) rows) is_row in
-      so_far.verdict ∙ ap (λ xs. verdict_from (header size ring) (known (header size ring) (reverse (take i rows))) (first + i) xs) rest
-      ∙ verdict_first (header size ring) (known (header size ring) (reverse (take i rows))) (first + i) row (drop (i + 1) rows) c (breaks size _ so_far.tracked)
+      refused_checked (header size ring) rows first i begun_ (λ k. Tracks ring k r m) row d c (p.checked size) inside is_row (breaks size)
       ∙ ap (λ n. Some (n, c)) (sym p.numbered)
 
-  -- behind the last row
   pub ended : (i number begun_ : ℕ) (r : Record) (m : ℕ → ℕ) → IsProgress ring rows first i number begun_ r m → i ≡ length rows →
       (size : ContextSize) → IsAccepted (header size ring) rows first begun_
   ended i number begun_ r m p all size =
-      let c = p.checked size in
-      let whole : take i rows ≡ rows = ap (λ n. take n rows) all ∙ take_all rows in
-      let empty : drop i rows ≡ [] = ap (λ n. drop n rows) all ∙ drop_all rows in
-      record {
-        clean = subst (λ (xs : List Row). IsClean (header size ring) (reverse xs)) whole c.clean;
-        verdict = c.verdict ∙ ap (λ xs. verdict_from (header size ring) (known (header size ring) (reverse (take i rows))) (first + i) xs) empty ∙ verdict_end (header size ring) _ (first + i);
-        counted =
-            length-leases size ring.id is.below ring.shape is.kind is.allowed first rows ∙ c.counted
-            ∙ ap (λ xs. begun_ + begun_count (header size ring) (known (header size ring) (reverse (take i rows))) xs) empty ∙ counted_end (header size ring) _ begun_;
-      }
+      ended_checked (header size ring) rows first i begun_ (λ k. Tracks ring k r m)
+      (length-leases size ring.id is.below ring.shape is.kind is.allowed first rows) (p.checked size) all

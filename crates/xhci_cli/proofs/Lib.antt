@@ -5,3 +5,4 @@ pub mod Writing
 pub mod Updates
 pub mod Declared
 pub mod Checking
+pub mod Bare

@@ -33,6 +33,10 @@ ArePositive (n ∷ ns) = (0 < n) × ArePositive ns
 abbrev pub header : ContextSize → Ring → Header
 header size ring = header_of size ring.id ring.shape
 
+-- the header of a trace without rings
+abbrev pub bare : ContextSize → Header
+bare size = record { context_size = size; rings = [] }
+
 -- a transfer ring of an allowed shape
 pub record IsTransferRing (ring : Ring) : Type 0 where
   pub below : ring.id < 256
@@ -73,12 +77,12 @@ abbrev pub IfRefusedAt : CheckFault → (ℕ → Refusal → Type 0) → Type 0
 IfRefusedAt (RowRefused row c) P = P row c
 IfRefusedAt NoMemory P = Unit {0}
 
--- some of the rows were checked
-pub record IsChecked (size : ContextSize) (ring : Ring) (rows : List Row) (first : ℕ) (done : ℕ) (r : Record) (memory : ℕ → ℕ) (leases : ℕ) : Type 0 where
-  pub tracked : Tracks ring (known (header size ring) (reverse (take done rows))) r memory
-  pub clean : IsClean (header size ring) (reverse (take done rows))
-  pub verdict : verdict_from (header size ring) nothing first rows ≡ verdict_from (header size ring) (known (header size ring) (reverse (take done rows))) (first + done) (drop done rows)
-  pub counted : begun_count (header size ring) nothing rows ≡ leases + begun_count (header size ring) (known (header size ring) (reverse (take done rows))) (drop done rows)
+-- some of the rows were checked; T tells what is held of what is known after them
+pub record IsChecked (h : Header) (rows : List Row) (first : ℕ) (done : ℕ) (T : Known → Type 0) (leases : ℕ) : Type 0 where
+  pub tracked : T (known h (reverse (take done rows)))
+  pub clean : IsClean h (reverse (take done rows))
+  pub verdict : verdict_from h nothing first rows ≡ verdict_from h (known h (reverse (take done rows))) (first + done) (drop done rows)
+  pub counted : begun_count h nothing rows ≡ leases + begun_count h (known h (reverse (take done rows))) (drop done rows)
 
 -- a whole trace was accepted, with so many leases
 pub record IsAccepted (h : Header) (rows : List Row) (first : ℕ) (leases : ℕ) : Type 0 where
@@ -90,4 +94,9 @@ pub record IsAccepted (h : Header) (rows : List Row) (first : ℕ) (leases : ℕ
 pub record IsProgress (ring : Ring) (rows : List Row) (first done number begun : ℕ) (r : Record) (memory : ℕ → ℕ) : Type 0 where
   pub numbered : number ≡ first + done
   pub few : begun ≤ done
-  pub checked : (size : ContextSize) → IsChecked size ring rows first done r memory begun
+  pub checked : (size : ContextSize) → IsChecked (header size ring) rows first done (λ k. Tracks ring k r memory) begun
+
+-- how far the check of a trace without rings has come
+pub record IsBareProgress (rows : List Row) (first done number : ℕ) : Type 0 where
+  pub numbered : number ≡ first + done
+  pub checked : (size : ContextSize) → IsChecked (bare size) rows first done IsQuiet 0
