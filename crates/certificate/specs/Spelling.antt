@@ -7,11 +7,18 @@ use Rattle.ring_knowledge.specs.declared.lease.Lease.{Lease}
 use Rattle.certificate.specs.declared.fault.CertFault.{CertFault}
 use Rattle.certificate.specs.declared.fault.CertFault.TheVariants.{Magic, Length, Field, Memory}
 
+-- the number and the name that are printed
 abbrev pub cert_fault_number : CertFault → ℕ
 cert_fault_number Magic = 6
 cert_fault_number Length = 7
 cert_fault_number Field = 8
 cert_fault_number Memory = 30
+
+abbrev pub cert_fault_name : CertFault → List ℕ
+cert_fault_name Magic = codes "Magic"
+cert_fault_name Length = codes "Length"
+cert_fault_name Field = codes "Field"
+cert_fault_name Memory = codes "Memory"
 
 abbrev pub magic : List ℕ
 magic = codes "XHCICRT1"

@@ -4,3 +4,6 @@
 mod fault;
 
 pub use fault::CertFault;
+
+#[cfg(test)]
+mod tests;

@@ -1,5 +1,6 @@
 -- The leases of worked traces, written by tools/worked_examples.py from worked cases
-use Rattle.std.specs.Prelude.{◌≡◌, [], ◌∷◌, refl}
+use Rattle.std.specs.Prelude.{◌≡◌, List, [], ◌∷◌, length, refl}
+use Rattle.ring_knowledge.specs.declared.lease.Lease.{Lease}
 use Rattle.ownership_checker.specs.Leases.{leases}
 use Rattle.ownership_checker.specs.OnLiterals.{rules_on_literals}
 use Rattle.ownership_checker.proofs.WorkedTraces as traces

@@ -6,3 +6,4 @@ pub mod Updates
 pub mod Declared
 pub mod Checking
 pub mod Bare
+pub mod Whole

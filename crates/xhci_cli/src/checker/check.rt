@@ -8,15 +8,17 @@ ghost use Rattle.ownership_checker.specs.Quiet.{IsQuietRow};
 ghost use Rattle.ownership_checker.specs.Refusal.{first_of};
 ghost use Rattle.ownership_checker.specs.Rules.{broken, verdict_from};
 ghost use Rattle.trace_reader.specs.Limits.{most_lines};
-ghost use Rattle.xhci_cli.specs.Tracking.{IfRefused, IfRefusedAt, IsAccepted, IsStep, IsTransferRing, Tracks, header};
+ghost use Rattle.xhci_cli.specs.Tracking.{IfRefused, IfRefusedAt, IsAccepted, IsStep, IsTransferRing, Tracks, bare, header};
+ghost use Rattle.xhci_cli.specs.FirstPath.{IsOneAtMost};
 
 use super::fault::{CheckFault, StepFault};
 use super::record::Record;
 use super::refusals::{declaration_refusal, write_refusal};
 use super::updates::{declare, note_write};
-use guest_memory::{Addr, WordMemory};
+use guest_memory::{Addr, SparseMemory, WordMemory};
 use std::alloc::Global;
-use trace_reader::{Ring, Row};
+use ownership_checker::Refusal;
+use trace_reader::{Ring, Row, Trace};
 use trb::Block;
 
 /// Checks a declaration, and notes it; it begins no lease.
@@ -85,7 +87,7 @@ fn check_row<M: WordMemory>(
 }
 
 /// Checks the rows of a trace with one ring, `first` the number of the first; how many leases begin.
-pub fn check_ring<M: WordMemory + Drop>(
+fn check_ring<M: WordMemory + Drop>(
     alloc: Global,
     ring: &Ring,
     first: u32,
@@ -116,4 +118,59 @@ pub fn check_ring<M: WordMemory + Drop>(
         number += 1;
     }
     Ok(begun)
+}
+
+/// Checks a trace without rings: it can declare nothing, and no word of memory is anyone's.
+fn check_bare(first: u32, rows: &[Row]) -> Result<u64, CheckFault>
+    requires quiet { All IsQuietRow rows.now }
+    requires within { first + length rows.now ≤ most_lines + 1 }
+    ensures accepted { IfOk result (λ n. (size : ContextSize) → IsAccepted (bare size) rows.now first n) }
+    ensures refused { IfErr result (λ e. IfRefusedAt e (λ row c. (size : ContextSize) →
+        verdict_from (bare size) nothing first rows.now ≡ Some (row, c))) }
+{
+    let mut number = first;
+    for row in rows {
+        match row {
+            Row::Sub { .. } => return Err(CheckFault::Refused {
+                row: number,
+                refusal: Refusal::NotDeclared,
+            }),
+            Row::Write { .. } => {}
+            _ => unreachable!(),
+        }
+        number += 1;
+    }
+    Ok(0)
+}
+
+/// Checks a trace in one pass; how many leases begin. The memory is all zero.
+pub fn check_in<M: WordMemory + Drop>(
+    alloc: Global,
+    trace: &Trace,
+    memory: M,
+) -> Result<u64, CheckFault>
+    requires one { IsOneAtMost trace.now.header.rings }
+    requires quiet { All IsQuietRow trace.now.rows }
+    requires zero { (a : ℕ) → M.words memory a ≡ 0 }
+    ensures accepted { IfOk result (λ n. IsAccepted trace.now.header trace.now.rows trace.now.first n) }
+    ensures refused { IfErr result (λ e. IfRefusedAt e (λ row c.
+        verdict_from trace.now.header nothing trace.now.first trace.now.rows ≡ Some (row, c))) }
+{
+    match trace.header.rings.as_slice() {
+        [] => check_bare(trace.first, trace.rows.as_slice()),
+        [ring] => check_ring(alloc, ring, trace.first, trace.rows.as_slice(), memory),
+        _ => unreachable!(),
+    }
+}
+
+/// Checks a trace in one pass: how many leases begin, or the first row that breaks a rule and the least of the rules that
+/// it breaks. `Memory` is answered only where a growth was refused.
+pub fn check(alloc: Global, trace: &Trace) -> Result<u64, CheckFault>
+    requires one { IsOneAtMost trace.now.header.rings }
+    requires quiet { All IsQuietRow trace.now.rows }
+    ensures accepted { IfOk result (λ n. IsAccepted trace.now.header trace.now.rows trace.now.first n) }
+    ensures refused { IfErr result (λ e. IfRefusedAt e (λ row c.
+        verdict_from trace.now.header nothing trace.now.first trace.now.rows ≡ Some (row, c))) }
+{
+    check_in(alloc, trace, SparseMemory::new(alloc))
 }

@@ -1,4 +1,4 @@
-//! Checks a trace of one transfer ring against the rules of ownership, in one pass.
+//! Checks a trace of at most one transfer ring against the rules of ownership, in one pass.
 
 mod check;
 mod fault;
@@ -6,4 +6,5 @@ mod record;
 mod refusals;
 mod updates;
 
-pub use record::Record;
+pub use check::{check, check_in};
+pub use fault::CheckFault;

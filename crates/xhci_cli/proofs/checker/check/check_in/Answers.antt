@@ -1,0 +1,29 @@
+use Rattle.std.proofs.Common.{◌≡◌, Some, List, arith, subst, ap, ◌∙◌, sym, length, get_or}
+use Rattle.std.specs.Prelude.{IfErr}
+use Rattle.trace_reader.specs.declared.row.Row.{Row}
+use Rattle.ring_knowledge.specs.Known.{nothing}
+use Rattle.ownership_checker.specs.Rules.{verdict_from}
+use Rattle.xhci_cli.specs.Tracking.{IfRefusedAt, bare, header}
+use Rattle.xhci_cli.proofs.Whole.{bare_header, ring_header, refused_with}
+use Rattle.xhci_cli.proofs.checker.check.check_in.Goals as goal
+
+pub returns-in-empty-clause-refused : goal.returns-in-empty-clause-refused
+returns-in-empty-clause-refused g c =
+    let h = c.args.trace.now.header in
+    let few = c.in-empty.len_below in
+    let same = c.as_slice.ensures in
+    let none : length h.rings ≡ 0 = omega (arith, ap length same) in
+    subst (λ (rows : List Row). IfErr c.check_bare.result (λ e. IfRefusedAt e (λ row r. verdict_from h nothing c.args.trace.now.first rows ≡ Some (row, r)))) c.as_slice-in-empty.ensures
+    (refused_with h bare (bare_header h none) c.as_slice-in-empty.result.now c.args.trace.now.first c.check_bare.result c.check_bare.ensures.refused)
+
+pub returns-in-len1-clause-refused : goal.returns-in-len1-clause-refused
+returns-in-len1-clause-refused g c =
+    let h = c.args.trace.now.header in
+    let few = c.in-len1.len_below in
+    let many = c.in-len1.len_at_least in
+    let same = c.as_slice.ensures in
+    let one : length h.rings ≡ 1 = omega (arith, ap length same) in
+    subst (λ (rows : List Row). IfErr c.check_ring.result (λ e. IfRefusedAt e (λ row r. verdict_from h nothing c.args.trace.now.first rows ≡ Some (row, r)))) c.as_slice-in-len1.ensures
+    (refused_with h (λ size. header size c.ring-item.result)
+      (ring_header h c.ring-item.result one (c.ring-item.is ∙ ap (λ xs. get_or xs 0 c.ring-item.result) same))
+      c.as_slice-in-len1.result.now c.args.trace.now.first c.check_ring.result c.check_ring.ensures.refused)
