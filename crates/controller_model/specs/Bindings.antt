@@ -1,5 +1,5 @@
 -- The effect of commands on slots, endpoints and their rings: xHCI 4.5.3, 4.6, 4.8.3
-use Rattle.std.specs.Prelude.{ℕ, ◌+◌, ◌==◌, ◌&&◌, ◌||◌, if◌then◌else◌, Bool, true, false, not, List, [], ◌∷◌, length, nat_lt, nat_le, ◌%◌, ◌^◌, Option, Some, None, unwrap_or, option_and_then}
+use Rattle.std.specs.Prelude.{ℕ, ◌==◌, ◌&&◌, if◌then◌else◌, Bool, true, false, not, List, [], ◌∷◌, length, nat_lt, nat_le, ◌%◌, ◌^◌, Option, Some, None, unwrap_or, option_and_then}
 use Rattle.std.specs.List.{list_any, range_with_len}
 use Rattle.guest_memory.specs.Memory.{put, put_pair}
 use Rattle.commands.specs.declared.command.Command.{Command}
@@ -11,7 +11,7 @@ use Rattle.contexts.specs.Contexts.{input_drop_flag, input_add_flag, input_endpo
 use Rattle.trace_reader.specs.declared.header.Header.{Header}
 use Rattle.trace_reader.specs.declared.register.Register.TheVariants.{Config}
 use Rattle.trace_reader.specs.Header.{ring_having}
-use Rattle.world_state.specs.World.{World, RingEvent, Took, Placed}
+use Rattle.world_state.specs.World.{World, Placed}
 use Rattle.world_state.specs.Takes.{takes_of}
 use Rattle.controller_model.specs.DriverRows as driver
 

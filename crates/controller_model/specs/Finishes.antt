@@ -1,5 +1,5 @@
 -- A finish: the controller posts the completion of the command under way, with its effect: xHCI 4.6, 6.4.2.2
-use Rattle.std.specs.Prelude.{ℕ, ◌+◌, ◌^◌, ◌==◌, ◌&&◌, ◌||◌, if◌then◌else◌, Bool, true, false, not, nat_lt, Option, Some, None, unwrap_or, option_map, is_some}
+use Rattle.std.specs.Prelude.{ℕ, ◌+◌, ◌^◌, ◌==◌, ◌&&◌, ◌||◌, if◌then◌else◌, Bool, false, not, nat_lt, Option, Some, None, option_map, is_some}
 use Rattle.trb.specs.declared.block.Block.{Block}
 use Rattle.trb.specs.Block.{kind, pointer, code, slot}
 use Rattle.trb.specs.Kind.{is_command_completion}

@@ -1,5 +1,5 @@
 -- A look: the controller fetches the 16 bytes at the pointer of an active ring, and waits, crosses a Link or takes the block: xHCI 4.9.2, 4.9.3, 4.11.5.1
-use Rattle.std.specs.Prelude.{ℕ, ◌+◌, ◌-◌, ◌%◌, ◌^◌, ◌==◌, ◌&&◌, ◌||◌, if◌then◌else◌, Bool, true, false, not, List, [], ◌∷◌, length, Option, Some, None, is_some}
+use Rattle.std.specs.Prelude.{ℕ, ◌+◌, ◌-◌, ◌%◌, ◌^◌, ◌==◌, ◌&&◌, ◌||◌, if◌then◌else◌, Bool, false, not, ◌∷◌, length, Option, Some, None, is_some}
 use Rattle.guest_memory.specs.Memory.{put}
 use Rattle.trb.specs.declared.block.Block.{Block}
 use Rattle.trb.specs.Bits.{is_set}
@@ -11,7 +11,7 @@ use Rattle.commands.specs.declared.command.Command.TheVariants.{AddressDevice}
 use Rattle.commands.specs.Command.{command_of, aligned}
 use Rattle.trace_reader.specs.declared.header.Header.{Header}
 use Rattle.trace_reader.specs.Header.{command_id, shape_of}
-use Rattle.world_state.specs.World.{World, RingEvent, Took, Placed, UnderWay, block_at}
+use Rattle.world_state.specs.World.{World, Took, block_at}
 
 module _ (h : Header) where
   -- the block is taken, and the pointer moves on by 16

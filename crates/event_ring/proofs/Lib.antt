@@ -1,2 +1,3 @@
 pub mod DequeueLemmas
 pub mod CountLemmas
+pub mod TableLemmas

@@ -1,9 +1,12 @@
-ghost use Rattle.std.specs.Prelude.{◌≡◌, ◌<◌, ◌≤◌, IfOk, OnOk, OnErr, is_ok};
+ghost use Rattle.std.specs.Prelude.{◌≡◌, ◌<◌, ◌≤◌, ◌%◌, IfOk, OnOk, OnErr, is_ok};
 ghost use Rattle.segments.specs.Places.{address_of};
 ghost use Rattle.segments.specs.Shape.{IsShape};
+ghost use Rattle.event_ring.specs.EventRing.{is_table_fault};
 ghost use Rattle.event_ring.specs.EventPlaceValue.{IsInOrder, PostsOverNone, after_erdp, after_post, after_read, is_next_event, may_dequeue, may_post};
 
 use crate::fault::{BadErdp, ImpossibleEvent, NoRoom};
+use crate::table::lists;
+use guest_memory::WordMemory;
 use segments::{Place, RingShape};
 use std::marker::Model;
 use trb::{Block, RingKind};
@@ -147,5 +150,19 @@ impl EventPlace {
         }
         self.dequeue += ahead;
         Ok(())
+    }
+
+    /// Whether the Event Ring Segment Table of `size` entries of 16 bytes from `base` on, a multiple of 4, doesn't list the
+    /// segments of this shape in order, or ends above 2^64 (xHCI 6.5). `size` is what ERSTSZ holds (xHCI 5.5.2.3.1).
+    pub fn table_fault<M: WordMemory>(memory: &M, base: u64, size: u16, shape: &RingShape) -> bool
+        requires aligned { base % 4 ≡ 0 }
+        ensures exact { result ≡ is_table_fault (M.words memory.now) base size shape.now }
+    {
+        let segments = shape.segments();
+        if usize::from(size) != segments.len() {
+            return true;
+        }
+        let end = u128::from(base) + 16 * u128::from(size);
+        end > 1 << 64 || !lists(memory, base, segments)
     }
 }

@@ -3,6 +3,7 @@
 
 mod event_place;
 mod fault;
+mod table;
 
 pub use event_place::EventPlace;
 pub use fault::{BadErdp, ImpossibleEvent, NoRoom};

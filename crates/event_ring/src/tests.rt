@@ -1,4 +1,5 @@
 use crate::{BadErdp, EventPlace, ImpossibleEvent, NoRoom};
+use guest_memory::{Addr, SparseMemory, WordMemory};
 use segments::RingShape;
 use std::test::Fail;
 use trb::{Block, RingKind};
@@ -78,6 +79,75 @@ fn three_segments_of_different_sizes(rt: HostRuntime) -> Result<(), Fail> {
     assert_eq!(rt; events.set_dequeue(0x40000), Err(BadErdp), "no event place");
     assert_eq!(rt; events.post(), Ok(0x301f0));
     assert_eq!(rt; events.post(), Ok(0x20000));
+    Ok(())
+}
+
+/// Memory with these words from `base` on.
+fn memory_with(rt: &HostRuntime, base: u64, words: &[u32]) -> Result<SparseMemory, Fail> {
+    let mut memory = SparseMemory::new(rt.alloc());
+    let mut at = base;
+    for word in words {
+        memory.set(Addr::new(at).ok_or("no address of a word")?, *word)?;
+        at = u64::wrapping_add(at, 4);
+    }
+    Ok(memory)
+}
+
+#[test]
+fn a_table_of_one_segment(rt: HostRuntime) -> Result<(), Fail> {
+    let shape = RingShape::new(rt.alloc(), RingKind::Evt, &[(0x20000, 16)]).map_err(
+        |_| "no such shape",
+    )?;
+    let memory = memory_with(&rt, 0x40000, &[0x20000, 0, 0x10, 0])?;
+    assert!(rt; !EventPlace::table_fault(&memory, 0x40000, 1, &shape));
+    assert!(rt; EventPlace::table_fault(&memory, 0x40000, 0, &shape));
+    assert!(rt; EventPlace::table_fault(&memory, 0x40000, 2, &shape));
+    assert!(rt; EventPlace::table_fault(&memory, 0x40010, 1, &shape));
+    for (words, fault) in [
+        ([0x20000, 0, 0xf, 0], true),
+        ([0x20040, 0, 0x10, 0], true),
+        ([0x20000, 1, 0x10, 0], true),
+        ([0x2003f, 0, 0xffff_0010, 0xffff_ffff], false),
+    ] {
+        let memory = memory_with(&rt, 0x40000, &words)?;
+        assert_eq!(rt; EventPlace::table_fault(&memory, 0x40000, 1, &shape), fault);
+    }
+    Ok(())
+}
+
+#[test]
+fn a_table_ends_at_or_below_the_last_byte(rt: HostRuntime) -> Result<(), Fail> {
+    let shape = RingShape::new(rt.alloc(), RingKind::Evt, &[(0x20000, 16)]).map_err(
+        |_| "no such shape",
+    )?;
+    for (base, fault) in [
+        (0xffff_ffff_ffff_fff0, false),
+        (0xffff_ffff_ffff_fff4, true),
+    ] {
+        let memory = memory_with(&rt, base, &[0x20000, 0, 0x10])?;
+        assert_eq!(rt; EventPlace::table_fault(&memory, base, 1, &shape), fault);
+    }
+    Ok(())
+}
+
+#[test]
+fn a_table_of_three_segments(rt: HostRuntime) -> Result<(), Fail> {
+    let segments = [(0x20000, 16), (0x7_0005_0000, 20), (0x30000, 32)];
+    let shape = RingShape::new(rt.alloc(), RingKind::Evt, &segments).map_err(|_| "no such shape")?;
+    let first = [0x20000, 0, 16, 0];
+    let second = [0x50000, 7, 20, 0];
+    let third = [0x30000, 0, 32, 0];
+    for (entries, fault) in [
+        ([first, second, third], false),
+        ([first, third, second], true),
+        ([first, second, [0x30000, 0, 31, 0]], true),
+        ([first, [0x50000, 0, 20, 0], third], true),
+    ] {
+        let memory = memory_with(&rt, 0x40000, entries.as_flattened())?;
+        assert_eq!(rt; EventPlace::table_fault(&memory, 0x40000, 3, &shape), fault);
+        assert!(rt; EventPlace::table_fault(&memory, 0x40000, 2, &shape));
+        assert!(rt; EventPlace::table_fault(&memory, 0xffff_ffff_ffff_ffe0, 3, &shape));
+    }
     Ok(())
 }
 

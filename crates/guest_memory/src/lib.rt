@@ -4,6 +4,8 @@
 mod addr;
 mod memory;
 mod sparse;
+#[cfg(test)]
+mod tests;
 
 pub use addr::Addr;
 pub use memory::WordMemory;

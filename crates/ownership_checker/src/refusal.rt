@@ -21,7 +21,7 @@ pub enum Refusal {
     RingFull,
     /// Blocks that make no descriptor (xHCI 4.11).
     BadDescriptor,
-    /// A register is written too late, or with a value that doesn't fit what was declared (xHCI 4.2, 5.4, 5.5.2).
+    /// A register is written out of its time, or with a value that doesn't fit what was declared (xHCI 4.2, 5.4, 5.5.2).
     BadRegister,
     /// A doorbell of an endpoint that doesn't work, or that a command touches (xHCI 4.7, 4.8.3).
     BadDoorbell,

@@ -6,7 +6,7 @@ use Rattle.trb.specs.declared.block.Block.{Block}
 use Rattle.trb.specs.Block.{code, slot}
 use Rattle.segments.specs.declared.spot.Spot.{Spot}
 use Rattle.segments.specs.declared.spot.Spot.TheVariants.{Data, Link}
-use Rattle.segments.specs.Places.{cycle_of, is_crossing}
+use Rattle.segments.specs.Places.{is_crossing}
 use Rattle.segments.specs.Spots.{number, after, spot_address, spot_cycle}
 use Rattle.commands.specs.declared.command.Command.{Command}
 use Rattle.commands.specs.declared.command.Command.TheVariants.{NoOp, EnableSlot, DisableSlot, AddressDevice, ConfigureEndpoint, EvaluateContext, ResetEndpoint, StopEndpoint, SetTrDequeue, ResetDevice}

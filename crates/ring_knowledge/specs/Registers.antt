@@ -1,5 +1,5 @@
 -- What a register write and a doorbell add to what is known: xHCI 4.7, 5.4.1, 5.5.2.3.3, 5.6
-use Rattle.std.specs.Prelude.{ℕ, ◌==◌, ◌&&◌, ◌||◌, if◌then◌else◌, Bool, true, not, Option, Some, None}
+use Rattle.std.specs.Prelude.{ℕ, ◌==◌, ◌&&◌, ◌||◌, if◌then◌else◌, true, not, Option, Some, None}
 use Rattle.guest_memory.specs.Memory.{put, put_pair}
 use Rattle.commands.specs.declared.state.EndpointState.TheVariants.{Running}
 use Rattle.commands.specs.States.{is_stopped}

@@ -1,8 +1,6 @@
 -- What is known of one ring: xHCI 4.9.2
-use Rattle.std.specs.Prelude.{ℕ, suc, zero, ◌+◌, ◌&&◌, ◌||◌, ◌==◌, if◌then◌else◌, Bool, not, List, [], ◌∷◌, length, nat_lt, nat_le, Option, Some, None, unwrap_or, filter, option_and_then, slice_get}
+use Rattle.std.specs.Prelude.{ℕ, suc, zero, ◌+◌, ◌&&◌, ◌||◌, if◌then◌else◌, Bool, not, List, length, Option, unwrap_or, filter, option_and_then, slice_get}
 use Rattle.std.specs.List.{range_with_len, filter_map}
-use Rattle.trb.specs.declared.block.Block.{Block}
-use Rattle.segments.specs.declared.spot.Spot.{Spot}
 use Rattle.segments.specs.Spots.{number}
 use Rattle.segments.specs.Places.{place_count, is_crossing}
 use Rattle.segments.specs.OneRing.{gives, gives_crossing}

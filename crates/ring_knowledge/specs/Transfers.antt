@@ -1,5 +1,5 @@
 -- What a Transfer Event adds to what is known: xHCI 4.8.3, 4.9.2, 4.10.2, 6.4.2.1
-use Rattle.std.specs.Prelude.{ℕ, ◌+◌, if◌then◌else◌, Bool, true, Option, Some, None, min}
+use Rattle.std.specs.Prelude.{ℕ, ◌+◌, if◌then◌else◌, true, Option, Some, None, min}
 use Rattle.guest_memory.specs.Memory.{put, put_pair}
 use Rattle.trb.specs.declared.block.Block.{Block}
 use Rattle.trb.specs.Block.{pointer, code, slot, endpoint}

@@ -1,5 +1,5 @@
 -- What a write of memory adds to what is known
-use Rattle.std.specs.Prelude.{ℕ, ◌+◌, ◌==◌, ◌&&◌, ◌||◌, Bool, not, Option, Some, None, unwrap_or, find, option_and_then}
+use Rattle.std.specs.Prelude.{ℕ, ◌==◌, ◌&&◌, ◌||◌, not, Option, Some, None, unwrap_or, find, option_and_then}
 use Rattle.guest_memory.specs.Memory.{put}
 use Rattle.segments.specs.Places.{is_in}
 use Rattle.segments.specs.OneRing.{gives, gives_crossing}

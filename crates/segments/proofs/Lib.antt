@@ -13,3 +13,4 @@ pub mod CleanRing
 pub mod Kept
 pub mod NotYet
 mod Examples
+pub mod InsideLemmas

@@ -7,3 +7,4 @@ pub mod Declared
 pub mod Checking
 pub mod Bare
 pub mod Whole
+pub mod Standing

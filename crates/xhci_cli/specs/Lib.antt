@@ -1,2 +1,3 @@
 pub mod Tracking
 pub mod FirstPath
+pub mod Walk

@@ -1,0 +1,54 @@
+-- What enqueue appends, played into memory
+use Rattle.std.proofs.Common.{◌≡◌, ℕ, ◌+◌, ◌-◌, ◌^◌, ◌<◌, ◌≤◌, ◌&&◌, nat_le, nat_lt, true, List, ◌++◌, length, arith, subst, sym, ap, ◌∙◌}
+use Rattle.std.proofs.Math.Seq.{drop-append_seam}
+use Rattle.std.proofs.lemmas.Bool.Decides.{nat_tests}
+use Rattle.trb.specs.declared.block.Block.{Block}
+use Rattle.segments.specs.Shape.{IsShape}
+use Rattle.segments.specs.Places.{place_count}
+use Rattle.segments.proofs.Positions.{place_count_pos}
+use Rattle.cycle_ring.specs.Progress.{Progress, has_room}
+use Rattle.cycle_ring.specs.Writes.{writes_of}
+use Rattle.cycle_ring.specs.Played.{appended, BlocksStand, LinksStand, OthersStay, GivenLast}
+use Rattle.cycle_ring.proofs.DescriptorStands.{blocks_stand, links_stand, others_stay, given_last}
+
+-- blocks for which there is room are fewer than the places
+pub in_lap : (p : Progress) (n : ℕ) → IsShape p.shape → p.retired ≤ p.enqueued → has_room p n ≡ true → n < place_count p.shape
+in_lap p n is_shape in_order room =
+    let some : 0 < place_count p.shape = place_count_pos p.shape is_shape in
+    by_tests p.enqueued p.retired (place_count p.shape) n some in_order room
+  where
+    by_tests :
+        (e r places m : ℕ) → 0 < places → r ≤ e → (nat_le (e + m - r) (places - 1) && nat_lt (e + m) (2 ^ 64)) ≡ true → m < places
+    by_tests e r places m some in_order room = grind (arith, nat_tests)
+
+-- a producer, by its fields and as it is seen; the list before and after; and the writes that were appended
+module _ (p seen : Progress) (is_seen : p ≡ seen) (in_order : p.retired ≤ p.enqueued) (blocks : List Block) (old writes new : List (ℕ × ℕ))
+    (is_shape : IsShape seen.shape) (room : has_room seen (length blocks) ≡ true)
+    (are_writes : writes ≡ writes_of p.shape p.enqueued blocks) (is_new : new ≡ old ++ writes) where
+  fewer : length blocks < place_count seen.shape
+  fewer = in_lap seen (length blocks) is_shape (subst (λ (q : Progress). q.retired ≤ q.enqueued) is_seen in_order) room
+
+  appended_writes : writes_of seen.shape seen.enqueued blocks ≡ appended old new
+  appended_writes =
+      let as_seen = ap (λ (q : Progress). writes_of q.shape q.enqueued blocks) is_seen in
+      sym (rw is_new (drop-append_seam old writes) ∙ are_writes ∙ as_seen)
+
+  pub appended_blocks : BlocksStand seen.shape seen.enqueued blocks (appended old new)
+  appended_blocks =
+      subst (λ (ws : List (ℕ × ℕ)). BlocksStand seen.shape seen.enqueued blocks ws) appended_writes
+      (blocks_stand seen.shape is_shape seen.enqueued blocks fewer)
+
+  pub appended_links : LinksStand seen.shape seen.enqueued blocks (appended old new)
+  appended_links =
+      subst (λ (ws : List (ℕ × ℕ)). LinksStand seen.shape seen.enqueued blocks ws) appended_writes
+      (links_stand seen.shape is_shape seen.enqueued blocks fewer)
+
+  pub appended_others : OthersStay seen.shape seen.enqueued blocks (appended old new)
+  appended_others =
+      subst (λ (ws : List (ℕ × ℕ)). OthersStay seen.shape seen.enqueued blocks ws) appended_writes
+      (others_stay seen.shape is_shape seen.enqueued blocks fewer)
+
+  pub appended_last : GivenLast seen.shape seen.enqueued (appended old new)
+  appended_last =
+      subst (λ (ws : List (ℕ × ℕ)). GivenLast seen.shape seen.enqueued ws) appended_writes
+      (given_last seen.shape is_shape seen.enqueued blocks fewer)

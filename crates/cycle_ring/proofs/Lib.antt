@@ -1,0 +1,4 @@
+pub mod PlayedLemmas
+pub mod WrittenWords
+pub mod DescriptorStands
+pub mod EnqueueLemmas

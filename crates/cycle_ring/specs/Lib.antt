@@ -1,0 +1,4 @@
+pub mod Progress
+pub mod Links
+pub mod Writes
+pub mod Played

@@ -1,0 +1,67 @@
+-- Bytes and words inside a ring's segments, and rings that are apart
+use Rattle.std.specs.Prelude.{◌≡◌, ℕ, suc, ◌+◌, ◌*◌, ◌%◌, ◌<◌, ◌||◌, Bool, true, false, List, [], ◌∷◌, length, nat_lt, is_some}
+use Rattle.std.specs.List.{list_any}
+use Rattle.std.proofs.Common.{arith, sym, ◌∙◌, ap, refl, inl, inr, get_or}
+use Rattle.std.proofs.lemmas.Bool.{cases_Bool, false≢true, or_parts, and_from, lt-ltb}
+use Rattle.std.proofs.lemmas.Bool.Decides.{nat_tests}
+use Rattle.segments.specs.declared.segment.Segment.{Segment}
+use Rattle.segments.specs.ShapeValue.{Shape}
+use Rattle.segments.specs.Places.{overlap, segment_has, is_in, is_inside, touches}
+use Rattle.segments.specs.PlaceAt.{place_at}
+use Rattle.segments.specs.Shape.{IsShape, segments_overlap}
+use Rattle.segments.proofs.Blocks.{segment_at}
+use Rattle.segments.proofs.ShapeFacts.{shape_facts}
+use Rattle.segments.proofs.PlaceAtLemmas.{is_in-parts, place_at-inside, is_inside-place_at}
+use Rattle.segments.proofs.Search.{cases_option}
+
+same_any : {X : Type 0} (p q : X → Bool) (xs : List X) (d : X) → ((k : ℕ) → k < length xs → p (get_or xs k d) ≡ q (get_or xs k d)) → list_any p xs ≡ list_any q xs
+same_any p q [] d same = refl
+same_any p q (x ∷ xs) d same =
+    ap (λ b. b || list_any p xs) (same 0 (omega arith)) ∙ ap (λ b. q x || b) (same_any p q xs d (λ k h. same (suc k) (omega arith)))
+
+word_in : (x a n : ℕ) → x % 4 ≡ 0 → a % 16 ≡ 0 → overlap x 4 a (16 * n) ≡ is_in x a (16 * n)
+word_in x a n word low = grind (arith, nat_tests, word, low)
+
+-- a segment has one of a word's bytes where it has the first one
+pub touches-word : (shape : Shape) → IsShape shape → (x : ℕ) → x % 4 ≡ 0 → touches shape x 4 ≡ is_inside shape x
+touches-word shape is x word =
+    same_any (λ s. overlap x 4 s.base (16 * s.count)) (segment_has x) shape.segments (record { base = 0; count = 0 })
+    (λ k h. word_in x (segment_at shape.segments k).base (segment_at shape.segments k).count word ((shape_facts shape is).each k h).aligned)
+
+-- a word is inside where it is one of a data place or a Link
+pub is_inside-word : (shape : Shape) → IsShape shape → (x : ℕ) → x % 4 ≡ 0 → is_inside shape x ≡ is_some (place_at shape x)
+is_inside-word shape is x word =
+    elim (cases_Bool (is_inside shape x)) [
+      | inl inside ↦ inside ∙ sym (place_at-inside shape is x word inside)
+      | inr outside ↦
+          elim (cases_option (place_at shape x)) [
+            | inl none ↦ outside ∙ sym (ap (λ o. is_some o) none)
+            | inr some ↦ absurd (false≢true (sym outside ∙ is_inside-place_at shape is x some.0 some.1))
+          ]
+    ]
+
+-- a segment of one ring overlaps one of the other
+abbrev pub rings_overlap : Shape → Shape → Bool
+rings_overlap a b = list_any (λ s. list_any (segments_overlap s) b.segments) a.segments
+
+in_any : {X : Type 0} (p : X → Bool) (xs : List X) → list_any p xs ≡ true → (q : X → Bool) → list_any q xs ≡ false → (x : X) × (p x ≡ true) × (q x ≡ false)
+in_any p [] h q none = absurd (false≢true h)
+in_any p (x ∷ xs) h q none =
+    elim (cases_Bool (p x)) [
+      | inl here ↦ (x, here, (or_parts (q x) (list_any q xs) none).0)
+      | inr elsewhere ↦ in_any p xs (sym (ap (λ b. b || list_any p xs) elsewhere) ∙ h) q (or_parts (q x) (list_any q xs) none).1
+    ]
+
+both_have : (x : ℕ) (s t : Segment) → segment_has x s ≡ true → segment_has x t ≡ true → segments_overlap s t ≡ true
+both_have x s t a b =
+    let here = is_in-parts x s.base (16 * s.count) a in
+    let there = is_in-parts x t.base (16 * t.count) b in
+    and_from (nat_lt s.base (t.base + 16 * t.count)) (nat_lt t.base (s.base + 16 * s.count))
+    (lt-ltb s.base (t.base + 16 * t.count) (omega arith)) (lt-ltb t.base (s.base + 16 * s.count) (omega arith))
+
+-- then no byte is inside both
+pub rings_apart : (a b : Shape) (x : ℕ) → rings_overlap a b ≡ false → is_inside a x ≡ true → is_inside b x ≡ true → ⊥
+rings_apart a b x apart ina inb =
+    let here = in_any (segment_has x) a.segments ina (λ s. list_any (segments_overlap s) b.segments) apart in
+    let there = in_any (segment_has x) b.segments inb (segments_overlap here.0) here.2 in
+    false≢true (sym there.2 ∙ both_have x here.0 there.0 here.1 there.1)
