@@ -8,3 +8,4 @@ pub mod Checking
 pub mod Bare
 pub mod Whole
 pub mod Standing
+pub mod CleanStands
