@@ -197,3 +197,13 @@ module _ (size : ContextSize) (id : ℕ) (below : id < 256) (shape : Shape) (kin
   stands_after k (Reg r v) quiet row clean s = absurd row
   stands_after k (Bell s t) quiet row clean x = absurd row
   stands_after k (Read b) quiet row clean s = absurd row
+
+  -- after all rows of a clean history, the newest first
+  pub stands_over : (past : List Row) → All IsQuietRow past → IsClean (header_of size id shape) past → IsQuiet (known (header_of size id shape) past) × Stands (known (header_of size id shape) past)
+  unfolding known
+  stands_over [] rows clean = (quiet_at_first size id below shape kind_is, first_stands)
+  stands_over (row ∷ past) rows clean =
+      let before = stands_over past (λ i d h. rows (suc i) d (omega arith)) clean.0 in
+      let this : IsQuietRow row = rows 0 row (omega arith) in
+      (quiet_after size id below shape kind_is (known (header_of size id shape) past) row this before.0,
+        stands_after (known (header_of size id shape) past) row before.0 this (ap first_of clean.1) before.1)

@@ -9,3 +9,5 @@ pub mod Bare
 pub mod Whole
 pub mod Standing
 pub mod CleanStands
+pub mod Walking
+pub mod Walks

@@ -19,7 +19,7 @@ abbrev pub next_address : Block → ℕ → ℕ
 next_address b a = if is_link (kind b) then aligned (pointer b) else a + 16
 
 -- at most n blocks, from an address on, read on while the Cycle bit is 1
-pub walk : (ℕ → ℕ) → ℕ → ℕ → List Block
+unfoldable pub walk : (ℕ → ℕ) → ℕ → ℕ → List Block
 walk memory a zero = []
 walk memory a (suc n) = if memory (a + 12) % 2 == 1 then block_at memory a ∷ walk memory (next_address (block_at memory a) a) n else []
 
