@@ -41,3 +41,17 @@ module _ (ring : Ring) (is : IsTransferRing ring) (rows : List Row) (quiet : All
       let k = known (header size ring) past in
       reads_declared ring.shape is.kind is.allowed (k.queue ring.id) k.memory (k.given ring.id) (k.crossed ring.id)
       (stands_over size ring.id is.below ring.shape is.kind is.allowed past (quiet_before rows done quiet) clean_past).1 n
+
+  pub ring_walks : IsClean (header size ring) (reverse rows) → WalksRead (header size ring) rows
+  ring_walks clean zero d h = λ done l n. walk_reads clean done n
+  ring_walks clean (suc i) d h = absurd (omega arith)
+
+pub accepted_walks : (h : Header) (ring : Ring) → IsTransferRing ring → h ≡ header h.context_size ring → (rows : List Row) → All IsQuietRow rows → (first : ℕ) (result : Result ℕ CheckFault) →
+    IfOk result (λ n. (size : ContextSize) → IsAccepted (header size ring) rows first n) → OnOk result (WalksRead h rows)
+accepted_walks h ring is same rows quiet first (Ok n) e =
+    subst (λ (x : Header). WalksRead x rows) (sym same) (ring_walks ring is rows quiet h.context_size (e h.context_size).clean)
+accepted_walks h ring is same rows quiet first (Err f) e = tt
+
+pub bare_walks : (h : Header) → length h.rings ≡ 0 → (rows : List Row) → (result : Result ℕ CheckFault) → OnOk result (WalksRead h rows)
+bare_walks h none rows (Ok n) = λ i d l. absurd (omega (arith, none))
+bare_walks h none rows (Err f) = tt

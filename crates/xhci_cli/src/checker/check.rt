@@ -1,4 +1,4 @@
-ghost use Rattle.std.specs.Prelude.{◌≡◌, ◌+◌, ◌≤◌, ◌<◌, ◌^◌, ℕ, List, None, Some, length, reverse, take, drop, All, IfOk, IfErr, if◌then◌else◌};
+ghost use Rattle.std.specs.Prelude.{◌≡◌, ◌+◌, ◌≤◌, ◌<◌, ◌^◌, ℕ, List, None, Some, length, reverse, take, drop, All, IfOk, IfErr, if◌then◌else◌, OnOk};
 ghost use Rattle.contexts.specs.declared.size.ContextSize.{ContextSize};
 ghost use Rattle.trace_reader.specs.declared.row.Row.TheVariants.{Sub, Write};
 ghost use Rattle.ring_knowledge.specs.Known.{Known, nothing};
@@ -10,6 +10,7 @@ ghost use Rattle.ownership_checker.specs.Rules.{broken, verdict_from};
 ghost use Rattle.trace_reader.specs.Limits.{most_lines};
 ghost use Rattle.xhci_cli.specs.Tracking.{IfRefused, IfRefusedAt, IsAccepted, IsStep, IsTransferRing, Tracks, bare, header};
 ghost use Rattle.xhci_cli.specs.FirstPath.{IsOneAtMost};
+ghost use Rattle.xhci_cli.specs.Walk.{WalksRead};
 
 use super::fault::{CheckFault, StepFault};
 use super::record::Record;
@@ -155,6 +156,7 @@ pub fn check_in<M: WordMemory + Drop>(
     ensures accepted { IfOk result (λ n. IsAccepted trace.now.header trace.now.rows trace.now.first n) }
     ensures refused { IfErr result (λ e. IfRefusedAt e (λ row c.
         verdict_from trace.now.header nothing trace.now.first trace.now.rows ≡ Some (row, c))) }
+    ensures walk { OnOk result (WalksRead trace.now.header trace.now.rows) }
 {
     match trace.header.rings.as_slice() {
         [] => check_bare(trace.first, trace.rows.as_slice()),
@@ -171,6 +173,7 @@ pub fn check(alloc: Global, trace: &Trace) -> Result<u64, CheckFault>
     ensures accepted { IfOk result (λ n. IsAccepted trace.now.header trace.now.rows trace.now.first n) }
     ensures refused { IfErr result (λ e. IfRefusedAt e (λ row c.
         verdict_from trace.now.header nothing trace.now.first trace.now.rows ≡ Some (row, c))) }
+    ensures walk { OnOk result (WalksRead trace.now.header trace.now.rows) }
 {
     check_in(alloc, trace, SparseMemory::new(alloc))
 }
