@@ -11,3 +11,4 @@ pub mod Standing
 pub mod CleanStands
 pub mod Walking
 pub mod Walks
+pub mod Telling

@@ -1,4 +1,5 @@
-ghost use Rattle.std.specs.Prelude.{◌≡◌};
+ghost use Rattle.std.specs.Prelude.{◌≡◌, Some};
+ghost use Rattle.xhci_cli.specs.LineFaults.{fault_name, fault_number};
 
 use std::alloc::{AllocError, AllocFailed};
 use std::fmt;
@@ -20,7 +21,9 @@ pub enum LineFault {
 
 impl LineFault {
     /// The number that is printed.
-    pub fn number(self) -> u8 {
+    pub fn number(self) -> u8
+        ensures { result ≡ fault_number self }
+    {
         match self {
             LineFault::Header => 1,
             LineFault::Row => 2,
@@ -29,17 +32,26 @@ impl LineFault {
             LineFault::Shape => 5,
         }
     }
-}
 
-impl fmt::Display for LineFault {
-    fn fmt<W: fmt::Write>(&self, f: &mut fmt::Formatter<W>) -> fmt::Result {
-        f.write_str(match self {
+    /// The name that is printed.
+    pub fn name(self) -> &'static str
+        ensures { result.now ≡ fault_name self }
+    {
+        match self {
             LineFault::Header => "Header",
             LineFault::Row => "Row",
             LineFault::Number => "Number",
             LineFault::Limit => "Limit",
             LineFault::Shape => "Shape",
-        })
+        }
+    }
+}
+
+impl fmt::Display for LineFault {
+    ghost output = { λ fault. Some (fault_name fault) };
+
+    fn fmt<W: fmt::Write>(&self, f: &mut fmt::Formatter<W>) -> fmt::Result {
+        f.write_str(self.name())
     }
 }
 

@@ -1,0 +1,55 @@
+-- The text of each answer, how the program ends on it, and what it writes
+use Rattle.std.specs.Prelude.{◌≡◌, ℕ, List, [], ◌∷◌, ◌++◌, Option, Some, codes, decimal}
+use Rattle.std.specs.Io.KnownBytes.{Appends}
+use Rattle.ring_knowledge.specs.Known.{nothing}
+use Rattle.trace_reader.specs.declared.trace.Trace.{Trace}
+use Rattle.ownership_checker.specs.Rules.{verdict_from}
+use Rattle.ownership_checker.specs.Refusal as rule
+use Rattle.xhci_cli.specs.Tracking.{IsAccepted}
+use Rattle.xhci_cli.specs.LineFaults.{fault_number, fault_name}
+use Rattle.xhci_cli.specs.declared.reader.fault.ReadFault.{ReadFault}
+use Rattle.xhci_cli.specs.declared.reader.fault.ReadFault.TheVariants.{Line, Memory as OutOfMemory}
+use Rattle.xhci_cli.specs.declared.answer.Answer.{Answer}
+use Rattle.xhci_cli.specs.declared.answer.Answer.TheVariants.{Accepted, Refused, BadLine, Memory, Device}
+use Rattle.xhci_cli.specs.declared.answer.Status.{Status}
+use Rattle.xhci_cli.specs.declared.answer.Status.TheVariants.{Clean, Unclean, Unreadable, Unanswered}
+
+-- the status that goes with an answer
+abbrev pub status_of : Answer → Status
+status_of (Accepted leases) = Clean
+status_of (Refused row refusal) = Unclean
+status_of (BadLine line fault) = Unreadable
+status_of Memory = Unanswered
+status_of Device = Unanswered
+
+-- the number of a status
+abbrev pub exit_number : Status → ℕ
+exit_number Clean = 0
+exit_number Unclean = 1
+exit_number Unreadable = 2
+exit_number Unanswered = 3
+
+-- the text of an answer
+abbrev pub text_of : Answer → List ℕ
+text_of (Accepted leases) = codes "accepted: " ++ decimal leases ++ codes " leases"
+text_of (Refused row refusal) = codes "row " ++ decimal row ++ codes ": " ++ decimal (rule.number_of refusal) ++ codes " " ++ rule.name_of refusal
+text_of (BadLine line fault) = codes "xhcitrace: line " ++ decimal line ++ codes ": " ++ decimal (fault_number fault) ++ codes " " ++ fault_name fault
+text_of Memory = codes "xhcitrace: 30 Memory"
+text_of Device = codes "xhcitrace: 31 Device"
+
+-- an answer is right of a trace that was read: its leases, or its first row that breaks a rule and the least rule that it breaks
+abbrev pub IsVerdict : Answer → Trace → Type 0
+IsVerdict (Accepted leases) trace = IsAccepted trace.header trace.rows trace.first leases
+IsVerdict (Refused row refusal) trace = verdict_from trace.header nothing trace.first trace.rows ≡ Some (row, refusal)
+IsVerdict (BadLine line fault) trace = ⊥
+IsVerdict Memory trace = Unit {0}
+IsVerdict Device trace = ⊥
+
+-- what is answered where no trace is read
+abbrev pub answer_of_fault : ReadFault → Answer
+answer_of_fault (Line line fault) = BadLine line fault
+answer_of_fault OutOfMemory = Memory
+
+-- the line of an answer was written behind the bytes before, where these are known
+abbrev pub IsTold : Answer → Option (List ℕ) → Option (List ℕ) → Type 0
+IsTold answer before after = Appends before after (text_of answer ++ 10 ∷ [])

@@ -1,0 +1,92 @@
+//! Reads a trace, checks it, and writes the answer.
+ghost use Rattle.std.specs.Prelude.{◌≡◌, ◌≢◌, ℕ, All, OnOk, IfOk, IfErr};
+ghost use Rattle.ownership_checker.specs.Quiet.{IsQuietRow};
+ghost use Rattle.ownership_checker.specs.declared.refusal.Refusal.{Refusal};
+ghost use Rattle.trace_reader.specs.declared.trace.Trace.{Trace};
+ghost use Rattle.xhci_cli.specs.Answers.{IsTold, IsVerdict, status_of};
+ghost use Rattle.xhci_cli.specs.FirstPath.{IsOneAtMost};
+ghost use Rattle.xhci_cli.specs.declared.reader.fault.LineFault.{LineFault};
+
+use super::answer::{Answer, Status};
+use super::checker::{CheckFault, check};
+use super::reader::read_trace;
+use std::alloc::Global;
+use std::io::{self, Read, Write};
+use trace_reader::Trace;
+
+/// Checks the trace that `input` holds. A verdict goes to `out`, and what hinders one to `err`.
+pub fn run_check<R: Read, O: Write, E: Write>(
+    alloc: Global,
+    input: &mut R,
+    out: &mut O,
+    err: &mut E,
+) -> Status
+    ensures clean { result ≡ Status.Clean → (err.new ≡ err.old)
+        × ((trace : Trace) × (leases : ℕ) × IsVerdict (Answer.Accepted leases) trace
+        × IsTold (Answer.Accepted leases) (O.contents out.old) (O.contents out.new)) }
+    ensures unclean { result ≡ Status.Unclean → (err.new ≡ err.old)
+        × ((trace : Trace) × (row : ℕ) × (c : Refusal) × IsVerdict (Answer.Refused row c) trace
+        × IsTold (Answer.Refused row c) (O.contents out.old) (O.contents out.new)) }
+    ensures unreadable { result ≡ Status.Unreadable → (out.new ≡ out.old)
+        × ((line : ℕ) × (c : LineFault) × IsTold (Answer.BadLine line c) (E.contents err.old) (E.contents err.new)) }
+{
+    match trace_from(alloc, input) {
+        Ok(trace) => tell(&answer_to(alloc, &trace), out, err),
+        Err(answer) => tell(&answer, out, err),
+    }
+}
+
+/// The trace that `input` holds, or the answer to what holds none.
+fn trace_from<R: Read>(alloc: Global, input: &mut R) -> Result<Trace, Answer>
+    ensures one { IfOk result (λ trace. IsOneAtMost trace.header.rings) }
+    ensures quiet { IfOk result (λ trace. All IsQuietRow trace.rows) }
+    ensures fault { IfErr result (λ answer. (status_of answer ≢ Status.Clean) × (status_of answer ≢ Status.Unclean)) }
+{
+    let mut text = Vec::new(alloc);
+    input.read_to_end(&mut text)?;
+    Ok(read_trace(alloc, &text)?)
+}
+
+/// The answer to a trace.
+fn answer_to(alloc: Global, trace: &Trace) -> Answer
+    requires one { IsOneAtMost trace.now.header.rings }
+    requires quiet { All IsQuietRow trace.now.rows }
+    ensures { IsVerdict result trace.now }
+{
+    match check(alloc, trace) {
+        Ok(leases) => Answer::Accepted { leases },
+        Err(CheckFault::Refused { row, refusal }) => Answer::Refused { row, refusal },
+        Err(CheckFault::Memory) => Answer::Memory,
+    }
+}
+
+/// Writes an answer and says how the program ends; an answer that can't be written is a fault of the device.
+pub fn tell<O: Write, E: Write>(answer: &Answer, out: &mut O, err: &mut E) -> Status
+    ensures clean { result ≡ Status.Clean → (status_of answer.now ≡ Status.Clean) × (err.new ≡ err.old)
+        × IsTold answer.now (O.contents out.old) (O.contents out.new) }
+    ensures unclean { result ≡ Status.Unclean → (status_of answer.now ≡ Status.Unclean) × (err.new ≡ err.old)
+        × IsTold answer.now (O.contents out.old) (O.contents out.new) }
+    ensures unreadable { result ≡ Status.Unreadable → (status_of answer.now ≡ Status.Unreadable) × (out.new ≡ out.old)
+        × IsTold answer.now (E.contents err.old) (E.contents err.new) }
+    ensures unanswered { status_of answer.now ≡ Status.Unanswered → (result ≡ Status.Unanswered) × (out.new ≡ out.old) }
+{
+    let written = match answer.status() {
+        Status::Clean | Status::Unclean => write_line(answer, out),
+        Status::Unreadable | Status::Unanswered => write_line(answer, err),
+    };
+    match written {
+        Ok(()) => answer.status(),
+        Err(_) => {
+            // Where this fails too, the status alone tells of it.
+            let _ = write_line(&Answer::Device, err);
+            Status::Unanswered
+        }
+    }
+}
+
+fn write_line<W: Write>(answer: &Answer, writer: &mut W) -> io::Result<()>
+    ensures { OnOk result (IsTold answer.now (W.contents writer.old) (W.contents writer.new)) }
+{
+    writeln!(writer, "{answer}")?;
+    writer.flush()
+}
