@@ -1,23 +1,21 @@
 -- A trace without rings: a declaration names no ring, and a write breaks no rule
-use Rattle.std.proofs.Common.{◌≡◌, ◌≢◌, ℕ, suc, zero, ◌+◌, ◌<◌, ◌≤◌, List, [], ◌∷◌, ◌++◌, Bool, true, false, Option, Some, None, refl, ap, sym, ◌∙◌, arith, cond, length, get_or, subst, add-zero}
-use Rattle.std.specs.Prelude.{◌==◌, ◌||◌, reverse, take, drop}
+use Rattle.std.proofs.Common.{◌≡◌, ℕ, ◌+◌, ◌<◌, List, [], ◌∷◌, Bool, true, false, Option, Some, None, refl, ap, sym, ◌∙◌, arith, cond, length, get_or, add-zero}
 use Rattle.std.specs.List.{range_with_len, list_any}
 use Rattle.trb.specs.declared.block.Block.{Block}
-use Rattle.trb.specs.declared.ring_kind.RingKind.TheVariants.{Xfer, Evt}
+use Rattle.trb.specs.declared.ring_kind.RingKind.TheVariants.{Evt}
 use Rattle.contexts.specs.declared.size.ContextSize.{ContextSize}
-use Rattle.trace_reader.specs.Header.{shape_of, command_id, command_ring, event_shape, event_ring, driver_rings, no_shape, ring_with}
+use Rattle.trace_reader.specs.Header.{shape_of, command_id, command_ring, event_shape, event_ring, driver_rings, no_shape}
 use Rattle.trace_reader.specs.declared.register.Register.TheVariants.{Erstba}
 use Rattle.trace_reader.specs.declared.row.Row.{Row}
-use Rattle.trace_reader.specs.declared.row.Row.TheVariants.{Sub, Write, Reg, Bell, Read}
+use Rattle.trace_reader.specs.declared.row.Row.TheVariants.{Sub, Write}
 use Rattle.commands.specs.declared.command.Command.{Command}
 use Rattle.ring_knowledge.specs.Known.{Known, nothing}
 use Rattle.ring_knowledge.specs.Rings as rings
 use Rattle.ring_knowledge.specs.Writes as writes
-use Rattle.ring_knowledge.specs.Learned.{learned, submitted, known}
-use Rattle.ownership_checker.specs.declared.refusal.Refusal.{Refusal}
+use Rattle.ring_knowledge.specs.Learned.{learned}
 use Rattle.ownership_checker.specs.declared.refusal.Refusal.TheVariants.{NotDeclared, AfterStop}
 use Rattle.ownership_checker.specs.Refusal.{Test, broken_of, first_of, first_broken}
-use Rattle.ownership_checker.specs.Quiet.{IsQuiet, IsQuietRow}
+use Rattle.ownership_checker.specs.Quiet.{IsQuiet}
 use Rattle.ownership_checker.specs.Rules.{tests, broken, verdict_from}
 use Rattle.ownership_checker.specs.Declarations.{declaration_tests, is_driver_ring}
 use Rattle.ownership_checker.specs.Writes.{write_tests, some_command, holds_of}
@@ -79,9 +77,9 @@ module _ (size : ContextSize) where
   unfolding areas.is_leased areas.is_in_range_lease areas.touches_table areas.leased_contexts areas.touches_entry areas.touches_device areas.device_touches areas.slots
   not_leased k quiet a =
       let no_entry : list_any (areas.touches_entry (bare size) k a 4) (range_with_len 1 255) ≡ false =
-          any_none (areas.touches_entry (bare size) k a 4) 1 255 (λ s l u. rw (quiet.devices s) refl) in
+      any_none (areas.touches_entry (bare size) k a 4) 1 255 (λ s l u. rw (quiet.devices s) refl) in
       let no_device : list_any (λ s. areas.device_touches (bare size) a 4 (k.device s)) (range_with_len 1 255) ≡ false =
-          any_none (λ s. areas.device_touches (bare size) a 4 (k.device s)) 1 255 (λ s l u. rw (quiet.devices s) refl) in
+      any_none (λ s. areas.device_touches (bare size) a 4 (k.device s)) 1 255 (λ s l u. rw (quiet.devices s) refl) in
       rw (no_drivers, event_is, quiet.registers Erstba, no_commands k, no_entry, no_device) refl
 
   no_command : (k : Known) (a w : ℕ) (test : Command → Bool) → some_command (bare size) k a w test ≡ false
@@ -99,8 +97,19 @@ module _ (size : ContextSize) where
   none_broken : (k : Known) → IsQuiet k → (a w : ℕ) → broken_of (write_tests (bare size) k a w) ≡ []
   unfolding write_tests
   none_broken k quiet a w =
-      rw (not_leased k quiet a, none_given k a w _, none_given k a w _, none_given k a w _, none_given k a w _, none_crossed k a w _, none_crossed k a w _,
-        no_command k a w _, no_command k a w _, no_command k a w _, no_command k a w _)
+      rw (
+        not_leased k quiet a,
+        none_given k a w _,
+        none_given k a w _,
+        none_given k a w _,
+        none_given k a w _,
+        none_crossed k a w _,
+        none_crossed k a w _,
+        no_command k a w _,
+        no_command k a w _,
+        no_command k a w _,
+        no_command k a w _,
+      )
       refl
 
   -- nothing was stopped

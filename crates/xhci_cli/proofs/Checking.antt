@@ -1,12 +1,12 @@
 -- A row that was checked, in terms of the row as the trace has it; and the whole trace, row by row
-use Rattle.std.proofs.Common.{◌≡◌, ◌≢◌, ℕ, suc, zero, ◌+◌, ◌<◌, ◌≤◌, List, [], ◌∷◌, ◌++◌, Bool, true, false, Option, Some, None, Result, Ok, Err, refl, ap, sym, ◌∙◌, arith, length, subst, get_or, add-zero, zero-add}
+use Rattle.std.proofs.Common.{◌≡◌, ℕ, ◌+◌, ◌<◌, ◌≤◌, List, [], ◌∷◌, Option, Some, None, Result, Ok, Err, refl, ap, sym, ◌∙◌, arith, length, subst, get_or, add-zero, zero-add}
 use Rattle.std.specs.Prelude.{IfOk, IfErr, reverse, take, drop, option_map}
 use Rattle.std.proofs.lemmas.Grind.{common_steps}
 use Rattle.trb.specs.declared.block.Block.{Block}
 use Rattle.contexts.specs.declared.size.ContextSize.{ContextSize}
 use Rattle.trace_reader.specs.declared.ring.Ring.{Ring}
 use Rattle.trace_reader.specs.declared.row.Row.{Row}
-use Rattle.trace_reader.specs.declared.row.Row.TheVariants.{Sub, Write}
+use Rattle.trace_reader.specs.declared.row.Row.TheVariants.{Sub}
 use Rattle.ring_knowledge.specs.Known.{Known, nothing}
 use Rattle.ring_knowledge.specs.Learned.{learned, known}
 use Rattle.ownership_checker.specs.declared.refusal.Refusal.{Refusal}
@@ -133,7 +133,7 @@ module _ (h : Header) (rows : List Row) (first : ℕ) where
             let more = counted_next h before row (drop (i + 1) rows) in
             c.counted ∙ ap (λ xs. begun_ + begun_count h before xs) rest
             ∙ regroup begun_ (begun_count h before (row ∷ drop (i + 1) rows)) (length (begun h before row)) n
-              (begun_count h (learned h before row) (drop (i + 1) rows)) more done.2
+            (begun_count h (learned h before row) (drop (i + 1) rows)) more done.2
             ∙ ap (λ k. begun_ + n + begun_count h k (drop (i + 1) rows)) (sym after);
       }
 

@@ -1,11 +1,9 @@
 -- After any rows of a clean trace of one transfer ring: what stands in memory with Cycle 1 is given, and is what was declared
-use Rattle.std.proofs.Common.{◌≡◌, ◌≢◌, ℕ, suc, zero, ◌+◌, ◌*◌, ◌-◌, ◌%◌, ◌<◌, ◌≤◌, List, [], ◌∷◌, ◌++◌, Bool, true, false, Option, Some, None, refl, ap, sym, ◌∙◌, arith, inl, inr, cond, length, slice_index, get_or, subst}
-use Rattle.std.specs.Prelude.{◌==◌, ◌&&◌, ◌||◌, not, nat_le, nat_lt, All, slice_get, unwrap_or, reverse, take}
-use Rattle.std.proofs.lemmas.Bool.{cases_Bool, cases_lt, cases_eq, eqb-true, and_parts}
+use Rattle.std.proofs.Common.{◌≡◌, ℕ, suc, zero, ◌+◌, ◌-◌, ◌%◌, ◌<◌, ◌≤◌, List, [], ◌∷◌, ◌++◌, Bool, true, false, Option, Some, None, refl, ap, sym, ◌∙◌, arith, inl, inr, cond, length, slice_index, subst}
+use Rattle.std.specs.Prelude.{◌==◌, ◌&&◌, ◌||◌, not, nat_lt, All, slice_get}
+use Rattle.std.proofs.lemmas.Bool.{cases_eq, eqb-true, and_parts}
 use Rattle.std.proofs.lemmas.Bool.Decides.{nat_tests}
-use Rattle.std.proofs.lemmas.Grind.{common_steps}
 use Rattle.trb.specs.declared.block.Block.{Block}
-use Rattle.trb.specs.declared.fault.Fault.{Fault}
 use Rattle.trb.specs.declared.fault.Fault.TheVariants.{BadDescriptor as BadForm, NotInProfile as LeftOut}
 use Rattle.trb.specs.declared.ring_kind.RingKind.TheVariants.{Xfer}
 use Rattle.trb.specs.Block.{word, with_cycle, same_words}
@@ -17,7 +15,7 @@ use Rattle.segments.specs.declared.place.Place.TheVariants.{Data as AtData, Link
 use Rattle.segments.specs.declared.spot.Spot.TheVariants.{Data}
 use Rattle.segments.specs.ShapeValue.{Shape}
 use Rattle.segments.specs.Shape.{IsShape}
-use Rattle.segments.specs.Places.{place_count, address_of, cycle_of, links}
+use Rattle.segments.specs.Places.{place_count, address_of, links}
 use Rattle.segments.specs.OneRing.{gives, gives_crossing}
 use Rattle.segments.specs.PlaceAt.{place_at}
 use Rattle.segments.proofs.Positions.{cycle_of-first}
@@ -143,7 +141,7 @@ module _ (size : ContextSize) (id : ℕ) (below : id < 256) (shape : Shape) (kin
         let m = put k.memory a w in
         let at = address_of shape j in
         let told : same_words (record { w = m at ∷ m (at + 4) ∷ m (at + 8) ∷ m (at + 12) ∷ [] }) (with_cycle (declared_at (k.queue id) j) 1) ≡ true =
-            not_false _ (sym (rw (shape_here size id shape, declared_there (k.queue id) j l, cycle_of-first shape j h) refl) ∙ e) in
+        not_false _ (sym (rw (shape_here size id shape, declared_there (k.queue id) j l, cycle_of-first shape j h) refl) ∙ e) in
         equal_words (m at) (m (at + 4)) (m (at + 8)) (m (at + 12)) (declared_at (k.queue id) j) told
 
     is_declared : (j : ℕ) → givings.is_not_declared (header_of size id shape) k id j ≡ false → j < length (k.queue id)
@@ -171,16 +169,16 @@ module _ (size : ContextSize) (id : ℕ) (below : id < 256) (shape : Shape) (kin
             let answer = split_answer _ (first_broken (position_tests (header_of size id shape) k id a w j)) (k.given id j) ((v == 3) && (w % 2 == 1)) (data_answer size id below shape kind_is allowed k a w j v quiet at) clean in
             data_written shape allowed (k.queue id) k.memory (k.given id) (k.crossed id) s a w j v at answer.0
             (λ g.
-              let pass = two_pass _ _ _ (answer.1 g) in
-              let there = is_declared j pass.1 in
-              (there, as_declared j inside there pass.0))
+            let pass = two_pass _ _ _ (answer.1 g) in
+            let there = is_declared j pass.1 in
+            (there, as_declared j inside there pass.0))
             given_now crossed_now
             (λ p. given_now_is p ∙ ap (λ b. k.given id p || b) (gives-data shape allowed a w j v p at))
             (λ q. crossed_now_is q ∙ none_more (k.crossed id q) _ (gives_crossing-no_link shape allowed a w q (λ i u e. data_or_link shape allowed a j v i u at e)))
         by_place (Some (AtLink j v)) at =
             let inside = (place_at-Link shape allowed a j v at).0 in
             let answer = split_answer _ (first_broken (crossing_tests (header_of size id shape) k id a w (crossing_of shape j))) (k.crossed id (crossing_of shape j)) ((v == 3) && (w % 2 == 1))
-                (link_answer size id below shape kind_is allowed k a w j v quiet at) clean in
+            (link_answer size id below shape kind_is allowed k a w j v quiet at) clean in
             link_written shape allowed (k.queue id) k.memory (k.given id) (k.crossed id) s a w j v inside at answer.0
             (λ g. leads_right j inside (link_passes _ _ (answer.1 g)))
             given_now crossed_now
@@ -189,10 +187,10 @@ module _ (size : ContextSize) (id : ℕ) (below : id < 256) (shape : Shape) (kin
 
   stands_after : (k : Known) (row : Row) → IsQuiet k → IsQuietRow row → first_of (broken (header_of size id shape) k row) ≡ None → Stands k → Stands (learned (header_of size id shape) k row)
   stands_after k (Sub r blocks) quiet row clean s = elim (cases_eq id r) [
-      | inl same ↦ subst (λ (x : ℕ). first_of (broken (header_of size id shape) k (Sub x blocks)) ≡ None → Stands (learned (header_of size id shape) k (Sub x blocks))) same
+    | inl same ↦ subst (λ (x : ℕ). first_of (broken (header_of size id shape) k (Sub x blocks)) ≡ None → Stands (learned (header_of size id shape) k (Sub x blocks))) same
         (λ c. declared_stands k blocks quiet c s) clean
-      | inr other ↦ absurd (none_some NotDeclared (sym (declared_answer size id below shape kind_is allowed k r blocks quiet ∙ declared_elsewhere size id below shape kind_is allowed k r blocks other) ∙ clean))
-    ]
+    | inr other ↦ absurd (none_some NotDeclared (sym (declared_answer size id below shape kind_is allowed k r blocks quiet ∙ declared_elsewhere size id below shape kind_is allowed k r blocks other) ∙ clean))
+  ]
   stands_after k (Write a w) quiet row clean s = written_stands k quiet a w clean s
   stands_after k (Reg r v) quiet row clean s = absurd row
   stands_after k (Bell s t) quiet row clean x = absurd row
@@ -204,6 +202,7 @@ module _ (size : ContextSize) (id : ℕ) (below : id < 256) (shape : Shape) (kin
   stands_over [] rows clean = (quiet_at_first size id below shape kind_is, first_stands)
   stands_over (row ∷ past) rows clean =
       let before = stands_over past (λ i d h. rows (suc i) d (omega arith)) clean.0 in
-      let this : IsQuietRow row = rows 0 row (omega arith) in
-      (quiet_after size id below shape kind_is (known (header_of size id shape) past) row this before.0,
-        stands_after (known (header_of size id shape) past) row before.0 this (ap first_of clean.1) before.1)
+      let this : IsQuietRow row = rows 0 row (omega arith) in (
+        quiet_after size id below shape kind_is (known (header_of size id shape) past) row this before.0,
+        stands_after (known (header_of size id shape) past) row before.0 this (ap first_of clean.1) before.1,
+      )

@@ -1,5 +1,5 @@
 -- What the checker notes of a declaration is what it adds to what is known
-use Rattle.std.proofs.Common.{◌≡◌, ◌≢◌, ℕ, suc, zero, ◌+◌, ◌*◌, ◌-◌, ◌<◌, ◌≤◌, List, [], ◌∷◌, ◌++◌, Bool, true, false, Option, Some, None, refl, ap, sym, ◌∙◌, arith, length, cond, get_or, inl, inr, length-append, subst}
+use Rattle.std.proofs.Common.{◌≡◌, ℕ, suc, zero, ◌+◌, ◌-◌, ◌<◌, ◌≤◌, List, [], ◌∷◌, ◌++◌, Bool, true, false, Option, Some, None, refl, ap, sym, ◌∙◌, arith, length, cond, get_or, inl, inr, length-append, subst}
 use Rattle.std.specs.Prelude.{◌==◌, sum, slice_index, replicate, nat_lt}
 use Rattle.std.proofs.lemmas.List.Sums.{sum_by-cons}
 use Rattle.std.proofs.lemmas.Bool.{cases_eq, cases_lt}
@@ -19,7 +19,6 @@ use Rattle.ownership_checker.specs.Rules.{broken}
 use Rattle.ownership_checker.specs.Givings.{length_from}
 use Rattle.ownership_checker.specs.Quiet.{crossing_of}
 use Rattle.ownership_checker.proofs.QuietKnowledge.{quiet_after, same_number}
-use Rattle.ownership_checker.proofs.QuietAnswers.{declared_answer}
 use Rattle.xhci_cli.specs.declared.checker.record.Record.{Record}
 use Rattle.xhci_cli.specs.Tracking.{IsTransferRing, Tracks, ArePositive, header}
 use Rattle.xhci_cli.proofs.Declaring.{here}

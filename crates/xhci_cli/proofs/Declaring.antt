@@ -1,9 +1,8 @@
 -- What the checker answers on a declaration is the first rule that it breaks
-use Rattle.std.proofs.Common.{◌≡◌, ◌≢◌, ℕ, ◌+◌, ◌-◌, ◌<◌, ◌≤◌, List, [], ◌∷◌, Bool, true, false, Option, Some, None, refl, ap, sym, ◌∙◌, arith, length, cond}
+use Rattle.std.proofs.Common.{◌≡◌, ◌≢◌, ℕ, ◌+◌, ◌-◌, ◌<◌, ◌≤◌, List, [], ◌∷◌, Bool, true, false, Some, None, refl, ap, sym, ◌∙◌, arith, length, cond}
 use Rattle.std.specs.Prelude.{nat_lt, not, ◌||◌}
 use Rattle.std.proofs.lemmas.Bool.Decides.{nat_tests}
 use Rattle.trb.specs.declared.block.Block.{Block}
-use Rattle.trb.specs.declared.fault.Fault.{Fault}
 use Rattle.trb.specs.declared.fault.Fault.TheVariants.{BadDescriptor as BadForm, NotInProfile as LeftOut}
 use Rattle.trb.specs.declared.ring_kind.RingKind.TheVariants.{Xfer}
 use Rattle.trb.specs.Descriptor.{fault_of, is_badly_formed, is_bad_transfer, is_transfer_left_out, is_chain}
@@ -11,7 +10,6 @@ use Rattle.contexts.specs.declared.size.ContextSize.{ContextSize}
 use Rattle.segments.specs.Places.{place_count}
 use Rattle.trace_reader.specs.declared.ring.Ring.{Ring}
 use Rattle.ring_knowledge.specs.Known.{Known}
-use Rattle.ownership_checker.specs.declared.refusal.Refusal.{Refusal}
 use Rattle.ownership_checker.specs.declared.refusal.Refusal.TheVariants.{NotDeclared, RingFull}
 use Rattle.trace_reader.specs.declared.row.Row.TheVariants.{Sub}
 use Rattle.ownership_checker.specs.Rules.{broken}

@@ -1,12 +1,11 @@
 -- A fresh record holds what is known before the first row
-use Rattle.std.proofs.Common.{◌≡◌, ◌≢◌, ℕ, ◌+◌, ◌<◌, ◌≤◌, List, [], Bool, false, Vec, refl, ap, sym, ◌∙◌, arith, length, get_or}
+use Rattle.std.proofs.Common.{◌≡◌, ℕ, ◌≤◌, [], false, refl, ap, sym, ◌∙◌, arith, length, get_or}
 use Rattle.std.specs.Prelude.{replicate}
 use Rattle.std.proofs.lemmas.Grind.{common_steps}
 use Rattle.segments.specs.Places.{place_count, links}
 use Rattle.trace_reader.specs.declared.ring.Ring.{Ring}
-use Rattle.ring_knowledge.specs.Known.{Known, nothing}
+use Rattle.ring_knowledge.specs.Known.{nothing}
 use Rattle.ownership_checker.specs.Givings.{length_from}
-use Rattle.ownership_checker.specs.Quiet.{IsQuiet}
 use Rattle.xhci_cli.specs.declared.checker.record.Record.{Record}
 use Rattle.xhci_cli.specs.Tracking.{IsTransferRing, Tracks}
 

@@ -1,11 +1,9 @@
 -- What the checker answers on a write that gives a block or a Link is the first rule that it breaks
-use Rattle.std.proofs.Common.{◌≡◌, ◌≢◌, ℕ, suc, zero, ◌+◌, ◌*◌, ◌-◌, ◌<◌, ◌≤◌, List, [], ◌∷◌, Bool, true, false, Option, Some, None, refl, ap, sym, ◌∙◌, arith, length, cond, get_or, slice_index, inl, inr}
+use Rattle.std.proofs.Common.{◌≡◌, ◌≢◌, ℕ, ◌+◌, ◌-◌, ◌<◌, ◌≤◌, List, [], ◌∷◌, Bool, true, false, Option, Some, None, refl, ap, sym, ◌∙◌, arith, length, cond, get_or, slice_index, inl, inr}
 use Rattle.std.specs.Prelude.{◌==◌, ◌&&◌, ◌||◌, not, nat_le, slice_get, is_some}
 use Rattle.std.specs.List.{list_all, range_with_len}
 use Rattle.std.proofs.lemmas.Bool.Decides.{nat_tests}
-use Rattle.std.proofs.lemmas.Grind.{common_steps}
 use Rattle.std.proofs.lemmas.Option.{slice_get_cases, slice_get_within}
-use Rattle.guest_memory.specs.Memory.{put}
 use Rattle.trb.specs.declared.block.Block.{Block}
 use Rattle.trb.specs.Block.{same_words, with_cycle, word, pointer, kind}
 use Rattle.trb.specs.Kind.{is_link}
@@ -15,14 +13,12 @@ use Rattle.segments.specs.Places.{link_target, toggles}
 use Rattle.trb.specs.Bits.{is_set}
 use Rattle.trace_reader.specs.declared.header.Header.{Header}
 use Rattle.contexts.specs.declared.size.ContextSize.{ContextSize}
-use Rattle.segments.specs.Places.{place_count, address_of, cycle_of, links, link_crossed, is_crossing}
+use Rattle.segments.specs.Places.{place_count, address_of, links, link_crossed}
 use Rattle.segments.proofs.Positions.{cycle_of-first}
 use Rattle.segments.proofs.Crossings.{crosses}
 use Rattle.trace_reader.specs.declared.ring.Ring.{Ring}
-use Rattle.trace_reader.specs.Header.{shape_of}
 use Rattle.ring_knowledge.specs.Known.{Known}
 use Rattle.ring_knowledge.specs.Rings as rings
-use Rattle.ownership_checker.specs.declared.refusal.Refusal.{Refusal}
 use Rattle.ownership_checker.specs.declared.refusal.Refusal.TheVariants.{NotAsSubmitted, NotDeclared, NotWhole, LinkFault, NotInProfile}
 use Rattle.ownership_checker.specs.Refusal.{first_broken}
 use Rattle.ownership_checker.specs.Givings as givings

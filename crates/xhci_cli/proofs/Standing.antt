@@ -1,13 +1,11 @@
 -- In a clean trace: what stands in memory with Cycle 1 is given, and what is given stands there as declared
-use Rattle.std.proofs.Common.{◌≡◌, ◌≢◌, ℕ, suc, zero, ◌+◌, ◌*◌, ◌-◌, ◌/◌, ◌%◌, ◌<◌, ◌≤◌, List, [], ◌∷◌, ◌++◌, Bool, true, false, Option, Some, None, refl, ap, sym, ◌∙◌, arith, inl, inr, cond, length, slice_index, get_or, subst, length-append}
-use Rattle.std.specs.Prelude.{◌==◌, ◌&&◌, ◌||◌, ◌⊎◌, not, nat_le, nat_lt, All, slice_get}
-use Rattle.std.specs.List.{list_all, list_any}
-use Rattle.std.proofs.lemmas.Bool.{cases_Bool, cases_lt, cases_eq, eqb-true}
+use Rattle.std.proofs.Common.{◌≡◌, ◌≢◌, ℕ, suc, zero, ◌+◌, ◌*◌, ◌-◌, ◌%◌, ◌<◌, ◌≤◌, List, [], ◌∷◌, ◌++◌, Bool, true, false, Some, None, refl, ap, sym, ◌∙◌, arith, inl, inr, length, slice_index, get_or, subst, length-append}
+use Rattle.std.specs.Prelude.{◌==◌, ◌&&◌, ◌||◌, ◌⊎◌, not}
+use Rattle.std.specs.List.{list_all}
+use Rattle.std.proofs.lemmas.Bool.{cases_lt, cases_eq, eqb-true}
 use Rattle.std.proofs.lemmas.Bool.Decides.{nat_tests}
-use Rattle.std.proofs.lemmas.Grind.{common_steps}
 use Rattle.std.proofs.lemmas.List.{get_or_append_left, get_or-append_right}
 use Rattle.std.proofs.Math.Nat.{mod-eq_of_lt}
-use Rattle.contexts.specs.declared.size.ContextSize.{ContextSize}
 use Rattle.guest_memory.specs.Memory.{put}
 use Rattle.segments.specs.declared.place.Place.{Place}
 use Rattle.segments.specs.declared.place.Place.TheVariants.{Data as AtData, Link as AtLink}
@@ -17,8 +15,6 @@ use Rattle.segments.specs.Places.{place_count, address_of, links}
 use Rattle.segments.specs.PlaceAt.{place_at}
 use Rattle.segments.proofs.Positions.{place_count_pos}
 use Rattle.segments.proofs.PlaceAtLemmas.{place_at-address_of, place_at-link_word}
-use Rattle.trb.specs.declared.ring_kind.RingKind.TheVariants.{Xfer}
-use Rattle.ring_knowledge.specs.Known.{Known, nothing}
 use Rattle.ownership_checker.specs.Quiet.{crossing_of}
 use Rattle.ownership_checker.specs.Givings.{is_wrong_link}
 use Rattle.ownership_checker.proofs.QuietKnowledge.{same_number, other_number}
@@ -26,8 +22,8 @@ use Rattle.ownership_checker.proofs.QuietRules.{data_or_link}
 use Rattle.xhci_cli.specs.Walk.{block_at}
 use Rattle.trb.specs.declared.block.Block.{Block}
 use Rattle.trb.specs.declared.kind.BlockKind.{BlockKind}
-use Rattle.trb.specs.declared.kind.BlockKind.TheVariants.{Normal, SetupStage, DataStage, StatusStage, NoOp, Link}
-use Rattle.trb.specs.Block.{word, kind, with_cycle, same_words}
+use Rattle.trb.specs.declared.kind.BlockKind.TheVariants.{Normal, SetupStage, DataStage, StatusStage, NoOp}
+use Rattle.trb.specs.Block.{kind, with_cycle}
 use Rattle.trb.specs.Kind.{is_link, is_normal}
 use Rattle.trb.specs.Descriptor.{are_normal, may_begin, is_transfer_arrangement, has_left_out_type, is_bad_transfer, is_transfer_left_out, is_badly_formed}
 
@@ -232,7 +228,7 @@ module _ (shape : Shape) (allowed : IsShape shape) where
         marked_now p h e = elim (cases_eq (address_of shape p + 12) a) [
           | inl here ↦
               let there : place_at shape a ≡ Some (AtData p 3) =
-                  ap (λ x. place_at shape x) (sym here) ∙ place_at-address_of shape allowed p 3 (omega arith) ∙ ap (λ x. Some (AtData x 3)) (mod-eq_of_lt h) in
+              ap (λ x. place_at shape x) (sym here) ∙ place_at-address_of shape allowed p 3 (omega arith) ∙ ap (λ x. Some (AtData x 3)) (mod-eq_of_lt h) in
               let third : v ≡ 3 = third_of p (sym there ∙ at) in
               let odd : w % 2 ≡ 1 = ap (λ x. x % 2) (sym (put_here m a w)) ∙ ap (λ x. put m a w x % 2) (sym here) ∙ e in
               is_now p ∙ all (given p) (p == j) (v == 3) (w % 2 == 1) (eqb-from p j (only p 3 there)) (eqb-from v 3 third) (eqb-from (w % 2) 1 odd)

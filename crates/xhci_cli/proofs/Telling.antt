@@ -5,7 +5,7 @@ use Rattle.trace_reader.specs.declared.trace.Trace.{Trace}
 use Rattle.xhci_cli.specs.Answers.{IsTold, IsVerdict, exit_number, status_of}
 use Rattle.xhci_cli.specs.declared.answer.Answer.{Answer}
 use Rattle.xhci_cli.specs.declared.answer.Answer.TheVariants.{Accepted, Refused, BadLine, Memory, Device}
-use Rattle.xhci_cli.specs.declared.answer.Status.TheVariants.{Clean, Unclean, Unreadable, Unanswered}
+use Rattle.xhci_cli.specs.declared.answer.Status.TheVariants.{Clean, Unclean, Unreadable}
 use Rattle.xhci_cli.specs.declared.reader.fault.LineFault.{LineFault}
 
 -- an answer of the status of a clean trace tells of leases

@@ -1,5 +1,5 @@
 -- What the checker notes of a row is what the row adds to what is known
-use Rattle.std.proofs.Common.{◌≡◌, ◌≢◌, ℕ, suc, zero, ◌+◌, ◌*◌, ◌-◌, ◌%◌, ◌<◌, ◌≤◌, List, [], ◌∷◌, ◌++◌, Bool, true, false, Option, Some, None, refl, ap, sym, ◌∙◌, arith, length, cond, get_or, set, inl, inr, length-append, subst}
+use Rattle.std.proofs.Common.{◌≡◌, ℕ, ◌+◌, ◌%◌, ◌<◌, ◌≤◌, List, Bool, true, false, Some, None, refl, ap, sym, ◌∙◌, arith, length, cond, get_or, set, inl, inr, subst}
 use Rattle.std.proofs.lemmas.List.{get_or-set_same, get_or-set_other}
 use Rattle.trb.specs.declared.block.Block.{Block}
 use Rattle.ownership_checker.specs.Givings.{length_from}
@@ -7,7 +7,6 @@ use Rattle.std.specs.Prelude.{◌==◌, ◌&&◌, ◌||◌, not, sum, slice_inde
 use Rattle.std.proofs.Math.ListN.{length-set}
 use Rattle.std.proofs.lemmas.Bool.{cases_eq}
 use Rattle.std.proofs.lemmas.Bool.Decides.{nat_tests}
-use Rattle.std.proofs.lemmas.Grind.{common_steps}
 use Rattle.guest_memory.specs.Memory.{put}
 use Rattle.contexts.specs.declared.size.ContextSize.{ContextSize}
 use Rattle.segments.specs.declared.place.Place.{Place}
@@ -18,15 +17,15 @@ use Rattle.segments.specs.PlaceAt.{place_at}
 use Rattle.segments.specs.OneRing.{gives, gives_crossing}
 use Rattle.segments.proofs.PlaceAtLemmas.{place_at-Data, place_at-Link}
 use Rattle.trace_reader.specs.declared.ring.Ring.{Ring}
-use Rattle.trace_reader.specs.declared.row.Row.TheVariants.{Sub, Write}
+use Rattle.trace_reader.specs.declared.row.Row.TheVariants.{Write}
 use Rattle.ring_knowledge.specs.Known.{Known}
 use Rattle.ring_knowledge.specs.Writes.{with_word}
 use Rattle.ring_knowledge.specs.Learned.{learned}
 use Rattle.ownership_checker.specs.Refusal.{first_of}
 use Rattle.ownership_checker.specs.Rules.{broken}
 use Rattle.ownership_checker.specs.Leases.{begun}
-use Rattle.ownership_checker.specs.Quiet.{IsQuiet, crossing_of}
-use Rattle.ownership_checker.proofs.QuietKnowledge.{shape_here, written_is, quiet_after, same_number}
+use Rattle.ownership_checker.specs.Quiet.{crossing_of}
+use Rattle.ownership_checker.proofs.QuietKnowledge.{shape_here, written_is, quiet_after}
 use Rattle.ownership_checker.proofs.QuietRules.{gives-data, gives-no_data, gives_crossing-link, gives_crossing-no_link, data_or_link}
 use Rattle.ownership_checker.proofs.QuietLeases.{begun_data, begun_link, begun_nowhere}
 use Rattle.xhci_cli.specs.declared.checker.record.Record.{Record}

@@ -1,24 +1,23 @@
 -- The walk through memory from a ring's first block reads what was declared
-use Rattle.std.proofs.Common.{◌≡◌, ◌≢◌, ℕ, suc, zero, ◌+◌, ◌*◌, ◌-◌, ◌%◌, ◌<◌, ◌≤◌, List, [], ◌∷◌, ◌++◌, Bool, true, false, Option, Some, None, refl, ap, sym, ◌∙◌, arith, inl, inr, cond, length, slice_index, get_or, subst, map}
-use Rattle.std.specs.Prelude.{◌==◌, ◌&&◌, ◌||◌, ◌⊎◌, not, All, take, drop, is_some}
+use Rattle.std.proofs.Common.{◌≡◌, ◌≢◌, ℕ, suc, zero, ◌+◌, ◌%◌, ◌<◌, ◌≤◌, List, [], ◌∷◌, Bool, true, false, Option, Some, None, refl, ap, sym, ◌∙◌, arith, inl, inr, length, slice_index, get_or, subst, map}
+use Rattle.std.specs.Prelude.{◌==◌, ◌||◌, ◌⊎◌, not, take, drop, is_some}
 use Rattle.std.proofs.lemmas.Bool.{cases_eq, eqb-true}
 use Rattle.std.proofs.lemmas.Bool.Decides.{nat_tests}
 use Rattle.std.proofs.lemmas.Grind.{common_steps}
 use Rattle.trb.specs.declared.block.Block.{Block}
 use Rattle.trb.specs.declared.ring_kind.RingKind.TheVariants.{Xfer, Evt}
-use Rattle.trb.specs.declared.ring_kind.RingKind.{RingKind}
 use Rattle.trb.specs.Block.{kind, pointer, with_cycle}
 use Rattle.trb.specs.Kind.{is_link}
 use Rattle.trb.proofs.BlockLemmas.{kind-with_cycle}
 use Rattle.commands.specs.Command.{aligned}
 use Rattle.segments.specs.ShapeValue.{Shape}
 use Rattle.segments.specs.Shape.{IsShape}
-use Rattle.segments.specs.Places.{place_count, address_of, links, link_crossed, is_crossing, link_address, link_target, toggles}
+use Rattle.segments.specs.Places.{place_count, address_of, links, link_crossed, link_target, toggles}
 use Rattle.std.proofs.Math.Nat.{mod-eq_of_lt}
 use Rattle.segments.proofs.DataPlaces.{length-links}
 use Rattle.segments.proofs.Crossings.{Crosses, crosses, link_address_is, link_target-crossed, link_address-behind, address_of-behind, toggles-crossed}
 use Rattle.ownership_checker.specs.Givings.{is_wrong_link}
-use Rattle.xhci_cli.specs.Walk.{block_at, next_address, walk, data_of, first_declared, ReadsDeclared}
+use Rattle.xhci_cli.specs.Walk.{block_at, next_address, walk, data_of, ReadsDeclared}
 use Rattle.xhci_cli.proofs.Standing.{Standing, declared_at}
 
 walk_on : (m : ℕ → ℕ) (a n : ℕ) → m (a + 12) % 2 ≡ 1 → walk m a (suc n) ≡ block_at m a ∷ walk m (next_address (block_at m a) a) n

@@ -1,5 +1,5 @@
 -- After any rows of an accepted trace the walk reads what was declared
-use Rattle.std.proofs.Common.{◌≡◌, ℕ, suc, zero, ◌+◌, ◌-◌, ◌<◌, ◌≤◌, List, [], ◌∷◌, ◌++◌, Result, Ok, Err, refl, ap, sym, ◌∙◌, arith, inl, inr, length, subst, get_or}
+use Rattle.std.proofs.Common.{◌≡◌, ℕ, suc, zero, ◌-◌, ◌<◌, List, [], ◌∷◌, ◌++◌, Result, Ok, Err, ap, sym, ◌∙◌, arith, length, subst}
 use Rattle.std.specs.Prelude.{All, min, reverse, take, drop, IfOk, OnOk}
 use Rattle.std.proofs.lemmas.List.{take-append-drop, reverse-append, length-take, length-reverse, get_or-reverse, get_or-take}
 use Rattle.contexts.specs.declared.size.ContextSize.{ContextSize}
@@ -10,7 +10,7 @@ use Rattle.ring_knowledge.specs.Learned.{known}
 use Rattle.ownership_checker.specs.Clean.{IsClean}
 use Rattle.ownership_checker.specs.Quiet.{IsQuietRow}
 use Rattle.xhci_cli.specs.declared.checker.fault.CheckFault.{CheckFault}
-use Rattle.xhci_cli.specs.Tracking.{IsTransferRing, IsAccepted, header, bare}
+use Rattle.xhci_cli.specs.Tracking.{IsTransferRing, IsAccepted, header}
 use Rattle.xhci_cli.specs.Walk.{ReadsDeclared, WalksRead}
 use Rattle.xhci_cli.proofs.CleanStands.{stands_over}
 use Rattle.xhci_cli.proofs.Walking.{reads_declared}

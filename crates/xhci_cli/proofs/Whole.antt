@@ -1,7 +1,6 @@
 -- From a trace's only ring, or from none, to its header
-use Rattle.std.proofs.Common.{◌≡◌, ◌≤◌, ◌<◌, ℕ, List, [], ◌∷◌, Result, Ok, Err, Some, refl, sym, subst, ap, ◌∙◌, arith, length, get_or}
+use Rattle.std.proofs.Common.{◌≡◌, ◌≤◌, ℕ, List, [], ◌∷◌, Result, Ok, Err, Some, refl, sym, subst, ap, ◌∙◌, arith, length, get_or}
 use Rattle.std.specs.Prelude.{IfOk, IfErr}
-use Rattle.std.proofs.lemmas.Grind.{common_steps}
 use Rattle.contexts.specs.declared.size.ContextSize.{ContextSize}
 use Rattle.trace_reader.specs.declared.header.Header.{Header}
 use Rattle.trace_reader.specs.declared.ring.Ring.{Ring}

@@ -1,10 +1,10 @@
 -- What the checker answers on a write is the first rule that it breaks
-use Rattle.std.proofs.Common.{◌≡◌, ◌≢◌, ℕ, ◌+◌, ◌*◌, ◌%◌, ◌<◌, ◌≤◌, List, Bool, true, false, Option, Some, None, refl, ap, sym, ◌∙◌, arith, length, cond, get_or, slice_index}
+use Rattle.std.proofs.Common.{◌≡◌, ℕ, ◌+◌, ◌*◌, ◌%◌, Bool, true, false, Option, Some, None, refl, ap, sym, ◌∙◌, arith, cond, get_or, slice_index}
 use Rattle.std.specs.Prelude.{◌==◌, ◌&&◌}
 use Rattle.std.proofs.lemmas.Bool.Decides.{nat_tests}
 use Rattle.contexts.specs.declared.size.ContextSize.{ContextSize}
 use Rattle.segments.specs.declared.place.Place.TheVariants.{Data as AtData, Link as AtLink}
-use Rattle.segments.specs.Places.{place_count, address_of, links}
+use Rattle.segments.specs.Places.{address_of, links}
 use Rattle.segments.specs.declared.place.Place.{Place}
 use Rattle.segments.specs.ShapeValue.{Shape}
 use Rattle.segments.specs.PlaceAt.{place_at}

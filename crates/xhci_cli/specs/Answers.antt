@@ -5,6 +5,7 @@ use Rattle.ring_knowledge.specs.Known.{nothing}
 use Rattle.trace_reader.specs.declared.trace.Trace.{Trace}
 use Rattle.ownership_checker.specs.Rules.{verdict_from}
 use Rattle.ownership_checker.specs.Refusal as rule
+use Rattle.xhci_cli.specs.Walk.{WalksRead}
 use Rattle.xhci_cli.specs.Tracking.{IsAccepted}
 use Rattle.xhci_cli.specs.LineFaults.{fault_number, fault_name}
 use Rattle.xhci_cli.specs.declared.reader.fault.ReadFault.{ReadFault}
@@ -37,9 +38,10 @@ text_of (BadLine line fault) = codes "xhcitrace: line " ++ decimal line ++ codes
 text_of Memory = codes "xhcitrace: 30 Memory"
 text_of Device = codes "xhcitrace: 31 Device"
 
--- an answer is right of a trace that was read: its leases, or its first row that breaks a rule and the least rule that it breaks
+-- an answer is right of a trace that was read: its leases, where no row breaks a rule and a walk after any row reads what was
+-- declared; or its first row that breaks a rule and the least rule that it breaks
 abbrev pub IsVerdict : Answer → Trace → Type 0
-IsVerdict (Accepted leases) trace = IsAccepted trace.header trace.rows trace.first leases
+IsVerdict (Accepted leases) trace = IsAccepted trace.header trace.rows trace.first leases × WalksRead trace.header trace.rows
 IsVerdict (Refused row refusal) trace = verdict_from trace.header nothing trace.first trace.rows ≡ Some (row, refusal)
 IsVerdict (BadLine line fault) trace = ⊥
 IsVerdict Memory trace = Unit {0}

@@ -1,8 +1,6 @@
 -- The traces that are read for now: at most one ring, a transfer ring, and rows that declare blocks or write memory
-use Rattle.std.specs.Prelude.{List, [], ◌∷◌, All, Option, Some, None}
+use Rattle.std.specs.Prelude.{List, [], ◌∷◌, Option, Some, None}
 use Rattle.trace_reader.specs.declared.ring.Ring.{Ring}
-use Rattle.trace_reader.specs.declared.row.Row.{Row}
-use Rattle.trace_reader.specs.declared.header.Header.{Header}
 use Rattle.ownership_checker.specs.Quiet.{IsQuietRow}
 use Rattle.xhci_cli.specs.declared.reader.line.Said.{Said}
 use Rattle.xhci_cli.specs.declared.reader.line.Said.TheVariants.{Version, Size, Ring as RingLine, Row as RowLine}

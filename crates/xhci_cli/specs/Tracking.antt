@@ -2,7 +2,6 @@
 use Rattle.std.specs.Prelude.{None, ◌≡◌, ℕ, ◌+◌, ◌<◌, ◌≤◌, false, List, [], ◌∷◌, length, slice_index, slice_index_or, sum, reverse, take, drop}
 use Rattle.trb.specs.declared.ring_kind.RingKind.TheVariants.{Xfer}
 use Rattle.contexts.specs.declared.size.ContextSize.{ContextSize}
-use Rattle.segments.specs.ShapeValue.{Shape}
 use Rattle.segments.specs.Shape.{IsShape}
 use Rattle.segments.specs.Places.{place_count, links}
 use Rattle.trace_reader.specs.declared.ring.Ring.{Ring}

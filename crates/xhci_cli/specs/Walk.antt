@@ -43,4 +43,4 @@ pub record ReadsDeclared (shape : Shape) (memory : ℕ → ℕ) (queue : List Bl
 abbrev pub WalksRead : Header → List Row → Type 0
 WalksRead h rows =
     All (λ ring. (done : ℕ) → done ≤ length rows → (n : ℕ) →
-      ReadsDeclared ring.shape (known h (reverse (take done rows))).memory ((known h (reverse (take done rows))).queue ring.id) n) h.rings
+    ReadsDeclared ring.shape (known h (reverse (take done rows))).memory ((known h (reverse (take done rows))).queue ring.id) n) h.rings

@@ -17,8 +17,8 @@ use super::record::Record;
 use super::refusals::{declaration_refusal, write_refusal};
 use super::updates::{declare, note_write};
 use guest_memory::{Addr, SparseMemory, WordMemory};
-use std::alloc::Global;
 use ownership_checker::Refusal;
+use std::alloc::Global;
 use trace_reader::{Ring, Row, Trace};
 use trb::Block;
 

@@ -1,4 +1,4 @@
-use Rattle.std.proofs.Common.{◌≡◌, ℕ, ap, sym, ◌∙◌, refl, subst}
+use Rattle.std.proofs.Common.{◌≡◌, ℕ, ap, sym, ◌∙◌, subst}
 use Rattle.trace_reader.specs.declared.row.Row.TheVariants.{Sub}
 use Rattle.ring_knowledge.specs.Learned.{learned}
 use Rattle.ownership_checker.specs.Refusal.{first_of}

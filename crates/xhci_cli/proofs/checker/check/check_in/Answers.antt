@@ -1,4 +1,4 @@
-use Rattle.std.proofs.Common.{◌≡◌, Some, List, arith, subst, ap, ◌∙◌, sym, length, get_or}
+use Rattle.std.proofs.Common.{◌≡◌, Some, List, arith, subst, ap, ◌∙◌, length, get_or}
 use Rattle.std.specs.Prelude.{IfErr, IfOk}
 use Rattle.contexts.specs.declared.size.ContextSize.{ContextSize}
 use Rattle.trace_reader.specs.declared.row.Row.{Row}
@@ -27,8 +27,8 @@ returns-in-len1-clause-refused g c =
     let one : length h.rings ≡ 1 = omega (arith, ap length same) in
     subst (λ (rows : List Row). IfErr c.check_ring.result (λ e. IfRefusedAt e (λ row r. verdict_from h nothing c.args.trace.now.first rows ≡ Some (row, r)))) c.as_slice-in-len1.ensures
     (refused_with h (λ size. header size c.ring-item.result)
-      (ring_header h c.ring-item.result one (c.ring-item.is ∙ ap (λ xs. get_or xs 0 c.ring-item.result) same))
-      c.as_slice-in-len1.result.now c.args.trace.now.first c.check_ring.result c.check_ring.ensures.refused)
+    (ring_header h c.ring-item.result one (c.ring-item.is ∙ ap (λ xs. get_or xs 0 c.ring-item.result) same))
+    c.as_slice-in-len1.result.now c.args.trace.now.first c.check_ring.result c.check_ring.ensures.refused)
 
 pub returns-in-len1-clause-walk : goal.returns-in-len1-clause-walk
 returns-in-len1-clause-walk g c =
@@ -41,4 +41,4 @@ returns-in-len1-clause-walk g c =
     accepted_walks h c.ring-item.result (only_ring h.rings c.ring-item.result c.requires.one one item) (ring_header h c.ring-item.result one item)
     c.args.trace.now.rows c.requires.quiet c.args.trace.now.first c.check_ring.result
     (subst (λ (rows : List Row). IfOk c.check_ring.result (λ n. (size : ContextSize) → IsAccepted (header size c.ring-item.result) rows c.args.trace.now.first n))
-      c.as_slice-in-len1.ensures c.check_ring.ensures.accepted)
+    c.as_slice-in-len1.ensures c.check_ring.ensures.accepted)

@@ -1,5 +1,3 @@
-use Rattle.std.proofs.Common.{◌≡◌, ◌≤◌, ◌+◌}
-use Rattle.contexts.specs.declared.size.ContextSize.{ContextSize}
 use Rattle.xhci_cli.specs.Tracking.{IsProgress}
 use Rattle.xhci_cli.proofs.checker.check.check_ring.Given as goal
 

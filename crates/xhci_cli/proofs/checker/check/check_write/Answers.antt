@@ -1,4 +1,4 @@
-use Rattle.std.proofs.Common.{◌≡◌, ap, sym, ◌∙◌, refl, Bool, true, false, cond}
+use Rattle.std.proofs.Common.{◌≡◌, sym, ◌∙◌, refl, Bool, true, false, cond}
 use mir.Val.{bool_byte}
 use Rattle.ownership_checker.proofs.QuietAnswers.{nothing_broken}
 use Rattle.xhci_cli.proofs.checker.check.check_write.Goals as goal

@@ -1,5 +1,4 @@
-use Rattle.std.proofs.Common.{◌≡◌, ◌≢◌, ap, sym, ◌∙◌, arith, Option, Some, None, Bool, true, false, cond, refl, slice_index}
-use Rattle.trb.specs.declared.block.Block.{Block}
+use Rattle.std.proofs.Common.{◌≡◌, ap, sym, ◌∙◌, Option, Some, None, Bool, true, false, cond, refl, slice_index}
 use Rattle.trb.specs.Bits.{is_set}
 use Rattle.trb.specs.Block.{word}
 use Rattle.segments.specs.Places.{links}

@@ -1,4 +1,4 @@
-use Rattle.std.proofs.Common.{◌≡◌, ◌≢◌, ℕ, ap, sym, ◌∙◌, arith}
+use Rattle.std.proofs.Common.{◌≡◌, arith}
 use Rattle.xhci_cli.proofs.Declaring.{elsewhere, full, formed}
 use Rattle.xhci_cli.proofs.checker.refusals.declaration_refusal.Goals as goal
 

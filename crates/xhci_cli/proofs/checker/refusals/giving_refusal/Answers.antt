@@ -1,8 +1,7 @@
-use Rattle.std.proofs.Common.{◌≡◌, ◌+◌, ◌≤◌, ◌%◌, ◌^◌, ap, sym, ◌∙◌, arith, Bool, true, false}
-use Rattle.std.specs.Prelude.{not}
+use Rattle.std.proofs.Common.{◌≡◌, ap, sym, ◌∙◌, Bool}
 use Rattle.std.proofs.lemmas.Option.{slice_get_within}
 use Rattle.trb.specs.declared.block.Block.{Block}
-use Rattle.trb.specs.Block.{same_words, with_cycle}
+use Rattle.trb.specs.Block.{same_words}
 use Rattle.segments.specs.Places.{address_of}
 use Rattle.segments.proofs.Positions.{address_aligned, address_ends}
 use Rattle.xhci_cli.proofs.Giving.{not_declared, other_words, split, given_well, words_with}

@@ -1,4 +1,4 @@
-use Rattle.std.proofs.Common.{◌≡◌, Bool, true, false, refl, sym, ◌∙◌}
+use Rattle.std.proofs.Common.{◌≡◌, Bool, true, false, sym, ◌∙◌}
 use Rattle.std.specs.Prelude.{◌&&◌}
 use Rattle.xhci_cli.proofs.Giving.{step_some, step_none}
 use Rattle.xhci_cli.proofs.checker.refusals.is_step_given.Goals as goal

@@ -1,10 +1,6 @@
-use Rattle.std.proofs.Common.{◌≡◌, ◌≢◌, ap, sym, ◌∙◌, arith}
-use Rattle.std.specs.Prelude.{not}
-use Rattle.trb.specs.Block.{pointer}
+use Rattle.std.proofs.Common.{ap, sym, ◌∙◌}
 use Rattle.trb.specs.Kind.{is_link}
 use Rattle.commands.specs.Command.{aligned}
-use Rattle.segments.specs.Places.{link_target}
-use Rattle.ownership_checker.specs.Givings.{same}
 use Rattle.xhci_cli.proofs.Giving.{leads_elsewhere, no_link, toggles_wrong}
 use Rattle.xhci_cli.proofs.checker.refusals.is_wrong_link.Goals as goal
 

@@ -1,6 +1,4 @@
-use Rattle.std.proofs.Common.{◌≡◌, ℕ, ap, sym, ◌∙◌, arith, Option, Some, None, refl}
-use Rattle.segments.specs.declared.place.Place.{Place}
-use Rattle.segments.specs.ShapeValue.{Shape}
+use Rattle.std.proofs.Common.{ap, sym, ◌∙◌}
 use Rattle.segments.specs.PlaceAt.{place_at}
 use Rattle.xhci_cli.proofs.Writing.{elsewhere, data_owned, data_given, data_plain, link_owned, link_given, link_plain, found}
 use Rattle.xhci_cli.proofs.checker.refusals.write_refusal.Goals as goal

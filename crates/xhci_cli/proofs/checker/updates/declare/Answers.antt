@@ -1,4 +1,4 @@
-use Rattle.std.proofs.Common.{◌≡◌, refl}
+use Rattle.std.proofs.Common.{refl}
 use Rattle.xhci_cli.proofs.Declared.{declared_tracked}
 use Rattle.xhci_cli.proofs.checker.updates.declare.Goals as goal
 

@@ -1,4 +1,4 @@
-use Rattle.std.proofs.Common.{◌≡◌, ap, sym, ◌∙◌, refl, arith, cond}
+use Rattle.std.proofs.Common.{ap, sym, ◌∙◌, refl, cond}
 use Rattle.segments.specs.PlaceAt.{place_at}
 use Rattle.xhci_cli.proofs.Writing.{found}
 use Rattle.xhci_cli.proofs.Updates.{data_tracked, data_unmarked, data_counted, link_tracked, link_unmarked, link_counted, elsewhere_unmarked, elsewhere_counted}

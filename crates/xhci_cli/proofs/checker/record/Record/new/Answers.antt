@@ -1,4 +1,4 @@
-use Rattle.std.proofs.Common.{◌≡◌, ap, sym, ◌∙◌, refl, length, arith}
+use Rattle.std.proofs.Common.{◌≡◌, ap, sym, ◌∙◌, length, arith}
 use Rattle.std.specs.Prelude.{replicate, false}
 use Rattle.segments.proofs.DataPlaces.{length-links}
 use Rattle.segments.specs.Places.{links}
