@@ -12,3 +12,5 @@ pub mod CleanStands
 pub mod Walking
 pub mod Walks
 pub mod Telling
+pub mod LineCounts
+pub mod PlanLemmas

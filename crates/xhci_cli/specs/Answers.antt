@@ -8,10 +8,13 @@ use Rattle.ownership_checker.specs.Refusal as rule
 use Rattle.xhci_cli.specs.Walk.{WalksRead}
 use Rattle.xhci_cli.specs.Tracking.{IsAccepted}
 use Rattle.xhci_cli.specs.LineFaults.{fault_number, fault_name}
+use Rattle.xhci_cli.specs.PlanRefusals.{refusal_number, refusal_name}
+use Rattle.xhci_cli.specs.declared.writer.fault.PlanFault.{PlanFault}
+use Rattle.xhci_cli.specs.declared.writer.fault.PlanFault.TheVariants.{Line as BadPlanLine, Refused as RefusedLine, Memory as NoPlanMemory}
 use Rattle.xhci_cli.specs.declared.reader.fault.ReadFault.{ReadFault}
 use Rattle.xhci_cli.specs.declared.reader.fault.ReadFault.TheVariants.{Line, Memory as OutOfMemory}
 use Rattle.xhci_cli.specs.declared.answer.Answer.{Answer}
-use Rattle.xhci_cli.specs.declared.answer.Answer.TheVariants.{Accepted, Refused, BadLine, Memory, Device}
+use Rattle.xhci_cli.specs.declared.answer.Answer.TheVariants.{Accepted, Refused, Unfollowed, BadLine, Memory, Device}
 use Rattle.xhci_cli.specs.declared.answer.Status.{Status}
 use Rattle.xhci_cli.specs.declared.answer.Status.TheVariants.{Clean, Unclean, Unreadable, Unanswered}
 
@@ -19,6 +22,7 @@ use Rattle.xhci_cli.specs.declared.answer.Status.TheVariants.{Clean, Unclean, Un
 abbrev pub status_of : Answer → Status
 status_of (Accepted leases) = Clean
 status_of (Refused row refusal) = Unclean
+status_of (Unfollowed line refusal) = Unclean
 status_of (BadLine line fault) = Unreadable
 status_of Memory = Unanswered
 status_of Device = Unanswered
@@ -34,6 +38,7 @@ exit_number Unanswered = 3
 abbrev pub text_of : Answer → List ℕ
 text_of (Accepted leases) = codes "accepted: " ++ decimal leases ++ codes " leases"
 text_of (Refused row refusal) = codes "row " ++ decimal row ++ codes ": " ++ decimal (rule.number_of refusal) ++ codes " " ++ rule.name_of refusal
+text_of (Unfollowed line refusal) = codes "line " ++ decimal line ++ codes ": " ++ decimal (refusal_number refusal) ++ codes " " ++ refusal_name refusal
 text_of (BadLine line fault) = codes "xhcitrace: line " ++ decimal line ++ codes ": " ++ decimal (fault_number fault) ++ codes " " ++ fault_name fault
 text_of Memory = codes "xhcitrace: 30 Memory"
 text_of Device = codes "xhcitrace: 31 Device"
@@ -43,6 +48,7 @@ text_of Device = codes "xhcitrace: 31 Device"
 abbrev pub IsVerdict : Answer → Trace → Type 0
 IsVerdict (Accepted leases) trace = IsAccepted trace.header trace.rows trace.first leases × WalksRead trace.header trace.rows
 IsVerdict (Refused row refusal) trace = verdict_from trace.header nothing trace.first trace.rows ≡ Some (row, refusal)
+IsVerdict (Unfollowed line refusal) trace = ⊥
 IsVerdict (BadLine line fault) trace = ⊥
 IsVerdict Memory trace = Unit {0}
 IsVerdict Device trace = ⊥
@@ -51,6 +57,12 @@ IsVerdict Device trace = ⊥
 abbrev pub answer_of_fault : ReadFault → Answer
 answer_of_fault (Line line fault) = BadLine line fault
 answer_of_fault OutOfMemory = Memory
+
+-- what is answered where a plan isn't written
+abbrev pub answer_of_plan_fault : PlanFault → Answer
+answer_of_plan_fault (BadPlanLine line fault) = BadLine line fault
+answer_of_plan_fault (RefusedLine line refusal) = Unfollowed line refusal
+answer_of_plan_fault NoPlanMemory = Memory
 
 -- the line of an answer was written behind the bytes before, where these are known
 abbrev pub IsTold : Answer → Option (List ℕ) → Option (List ℕ) → Type 0

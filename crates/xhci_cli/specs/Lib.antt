@@ -3,3 +3,8 @@ pub mod FirstPath
 pub mod Walk
 pub mod LineFaults
 pub mod Answers
+pub mod Lines
+pub mod PlanRefusals
+pub mod Texts
+pub mod Plans
+pub mod PlanLines

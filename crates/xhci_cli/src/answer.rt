@@ -3,17 +3,20 @@ ghost use Rattle.std.specs.Prelude.{◌≡◌, Some};
 ghost use Rattle.xhci_cli.specs.Answers.{exit_number, status_of, text_of};
 
 use super::reader::{LineFault, ReadFault};
+use super::writer::{PlanFault, PlanRefusal};
 use ownership_checker::Refusal;
 use std::alloc::AllocError;
 use std::{fmt, io};
 
-/// The answer to a trace.
+/// The answer to a trace or a plan.
 #[derive(Debug, Drop, PartialEq, Eq)]
 pub enum Answer {
     /// The trace is clean, with so many leases.
     Accepted { leases: u64 },
     /// The first row that breaks a rule, by its line from 1, and the least rule that it breaks.
     Refused { row: u32, refusal: Refusal },
+    /// The first line of a plan that can't be followed, from 1, and why.
+    Unfollowed { line: u32, refusal: PlanRefusal },
     /// The first bad line, from 1, and its fault.
     BadLine { line: u32, fault: LineFault },
     /// A growth of memory was refused.
@@ -25,9 +28,9 @@ pub enum Answer {
 /// How the program ends.
 #[derive(Clone, Copy, Debug, PartialEq, Eq)]
 pub enum Status {
-    /// The trace is accepted.
+    /// The trace is accepted, or the plan is written.
     Clean,
-    /// A row breaks a rule.
+    /// A row breaks a rule, or a line of a plan can't be followed.
     Unclean,
     /// The text is no trace, or the arguments are wrong.
     Unreadable,
@@ -41,7 +44,7 @@ impl Answer {
     {
         match self {
             Answer::Accepted { .. } => Status::Clean,
-            Answer::Refused { .. } => Status::Unclean,
+            Answer::Refused { .. } | Answer::Unfollowed { .. } => Status::Unclean,
             Answer::BadLine { .. } => Status::Unreadable,
             Answer::Memory | Answer::Device => Status::Unanswered,
         }
@@ -72,6 +75,11 @@ impl fmt::Display for Answer {
                 let number = refusal.number();
                 write!(f, "row {row}: {number} {refusal}")
             }
+            Answer::Unfollowed { line, refusal } => {
+                let number = refusal.number();
+                let name = refusal.name();
+                write!(f, "line {line}: {number} {name}")
+            }
             Answer::BadLine { line, fault } => {
                 let number = fault.number();
                 write!(f, "xhcitrace: line {line}: {number} {fault}")
@@ -91,6 +99,20 @@ impl From<ReadFault> for Answer {
         match fault {
             ReadFault::Line { line, fault } => Answer::BadLine { line, fault },
             ReadFault::Memory => Answer::Memory,
+        }
+    }
+}
+
+impl From<PlanFault> for Answer {
+    ghost use Rattle.xhci_cli.specs.Answers.{answer_of_plan_fault};
+
+    ghost from_gives = { λ fault answer. answer ≡ answer_of_plan_fault fault };
+
+    fn from(fault: PlanFault) -> Answer {
+        match fault {
+            PlanFault::Line { line, fault } => Answer::BadLine { line, fault },
+            PlanFault::Refused { line, refusal } => Answer::Unfollowed { line, refusal },
+            PlanFault::Memory => Answer::Memory,
         }
     }
 }

@@ -8,9 +8,10 @@ mod reader;
 mod run;
 #[cfg(test)]
 mod tests;
+mod writer;
 
 use answer::{Answer, Status};
-use run::{run_check, tell};
+use run::{run_check, run_write, tell};
 use std::env;
 use std::fs::File;
 use std::process::ExitCode;
@@ -32,7 +33,11 @@ fn obey(rt: &HostRuntime) -> Result<ExitCode, Answer> {
     let command = command_line::command(alloc)?;
     match command.try_get_matches_from(words.as_slice()) {
         Ok(matches) => {
-            let status = check_at(rt, command_line::trace_path(&matches))?;
+            let status = if command_line::is_write(&matches) {
+                write_at(rt, command_line::plan_path(&matches))?
+            } else {
+                check_at(rt, command_line::trace_path(&matches))?
+            };
             Ok(ExitCode::from(status.number()))
         }
         Err(error) if error.kind() == clap::error::ErrorKind::OutOfMemory => Err(Answer::Memory),
@@ -54,5 +59,19 @@ fn check_at(rt: &HostRuntime, path: Option<&str>) -> Result<Status, Answer> {
             Ok(run_check(alloc, &mut file, &mut out, &mut err))
         }
         None => Ok(run_check(alloc, &mut rt.stdin(), &mut out, &mut err)),
+    }
+}
+
+/// Writes the trace of the plan in a file, or on standard input.
+fn write_at(rt: &HostRuntime, path: Option<&str>) -> Result<Status, Answer> {
+    let alloc = rt.alloc();
+    let mut out = rt.stdout();
+    let mut err = rt.stderr();
+    match path {
+        Some(path) => {
+            let mut file = File::open(rt, path)?;
+            Ok(run_write(alloc, &mut file, &mut out, &mut err))
+        }
+        None => Ok(run_write(alloc, &mut rt.stdin(), &mut out, &mut err)),
     }
 }

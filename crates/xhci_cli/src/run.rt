@@ -1,5 +1,8 @@
 //! Reads a trace, checks it, and writes the answer.
-ghost use Rattle.std.specs.Prelude.{◌≡◌, ◌≢◌, ℕ, All, OnOk, IfOk, IfErr};
+ghost use Rattle.std.specs.Io.KnownBytes.{Appends};
+ghost use Rattle.xhci_cli.specs.Plans.{plan_refusal, plan_text};
+ghost use Rattle.xhci_cli.specs.declared.writer.plan.Plan.{Plan};
+ghost use Rattle.std.specs.Prelude.{None, ◌≡◌, ◌≢◌, ℕ, All, OnOk, IfOk, IfErr};
 ghost use Rattle.ownership_checker.specs.Quiet.{IsQuietRow};
 ghost use Rattle.ownership_checker.specs.declared.refusal.Refusal.{Refusal};
 ghost use Rattle.trace_reader.specs.declared.trace.Trace.{Trace};
@@ -10,6 +13,7 @@ ghost use Rattle.xhci_cli.specs.declared.reader.fault.LineFault.{LineFault};
 use super::answer::{Answer, Status};
 use super::checker::{CheckFault, check};
 use super::reader::read_trace;
+use super::writer::write_plan;
 use std::alloc::Global;
 use std::io::{self, Read, Write};
 use trace_reader::Trace;
@@ -34,6 +38,43 @@ pub fn run_check<R: Read, O: Write, E: Write>(
         Ok(trace) => tell(&answer_to(alloc, &trace), out, err),
         Err(answer) => tell(&answer, out, err),
     }
+}
+
+/// Writes the trace of the plan that `input` holds to `out`; a line that can't be followed is told there too, and what hinders
+/// the answer to `err`.
+pub fn run_write<R: Read, O: Write, E: Write>(
+    alloc: Global,
+    input: &mut R,
+    out: &mut O,
+    err: &mut E,
+) -> Status
+    ensures clean { result ≡ Status.Clean → (err.new ≡ err.old)
+        × ((plan : Plan) × (plan_refusal plan ≡ None) × Appends (O.contents out.old) (O.contents out.new) (plan_text plan)) }
+{
+    match written_trace(alloc, input) {
+        Ok(trace) => match write_all(&trace, out) {
+            Ok(()) => Status::Clean,
+            Err(_) => tell(&Answer::Device, out, err),
+        },
+        Err(fault) => tell(&fault, out, err),
+    }
+}
+
+/// The trace of the plan that `input` holds, or the answer to what can't be written.
+fn written_trace<R: Read>(alloc: Global, input: &mut R) -> Result<Vec<u8>, Answer>
+    ensures written { IfOk result (λ trace. (plan : Plan) × (plan_refusal plan ≡ None) × (trace.items ≡ plan_text plan)) }
+    ensures fault { IfErr result (λ answer. status_of answer ≢ Status.Clean) }
+{
+    let mut text = Vec::new(alloc);
+    input.read_to_end(&mut text)?;
+    Ok(write_plan(alloc, &text)?)
+}
+
+fn write_all<W: Write>(bytes: &[u8], writer: &mut W) -> io::Result<()>
+    ensures { OnOk result (Appends (W.contents writer.old) (W.contents writer.new) bytes.now) }
+{
+    writer.write_all(bytes)?;
+    writer.flush()
 }
 
 /// The trace that `input` holds, or the answer to what holds none.

@@ -16,13 +16,13 @@ use trace_reader::{Ring, Row};
 use trb::{Block, Blocks, RingKind};
 
 /// Lines of a trace.
-const MOST_LINES: u32 = 1048576;
+pub const MOST_LINES: u32 = 1048576;
 
 /// Bytes of a line before its line feed.
-const MOST_BYTES: usize = 16384;
+pub const MOST_BYTES: usize = 16384;
 
 /// Blocks of one declaration.
-const MOST_BLOCKS: usize = 256;
+pub const MOST_BLOCKS: usize = 256;
 
 /// What a line says.
 #[derive(Drop)]
@@ -114,7 +114,7 @@ fn said_behind_header(alloc: Global, may_declare: bool, line: &[u8]) -> Result<S
 }
 
 /// The next field, which is there where the fields were counted.
-fn field<'a>(fields: &mut Fields<'a>) -> Result<&'a [u8], LineFault> {
+pub fn field<'a>(fields: &mut Fields<'a>) -> Result<&'a [u8], LineFault> {
     fields.next().ok_or(LineFault::Row)
 }
 
@@ -144,7 +144,8 @@ fn sub_of(alloc: Global, count: usize, mut fields: Fields) -> Result<Row, LineEr
     })
 }
 
-fn block_of(fields: &mut Fields) -> Result<Block, LineFault> {
+/// The next four fields as the words of a block.
+pub fn block_of(fields: &mut Fields) -> Result<Block, LineFault> {
     let a = u32_of(field(fields)?)?;
     let b = u32_of(field(fields)?)?;
     let c = u32_of(field(fields)?)?;

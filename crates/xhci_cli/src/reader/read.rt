@@ -2,6 +2,7 @@ ghost use Rattle.std.specs.Prelude.{◌≡◌, ◌≤◌, ◌+◌, length, vec_l
 ghost use Rattle.ownership_checker.specs.Quiet.{IsQuietRow};
 ghost use Rattle.trace_reader.specs.Limits.{most_lines};
 ghost use Rattle.xhci_cli.specs.FirstPath.{IsOneAtMost, rings_of};
+ghost use Rattle.xhci_cli.specs.Lines.{line_count};
 
 use super::fault::{LineError, LineFault, ReadFault};
 use super::line::{Said, said_by};
@@ -28,6 +29,7 @@ struct Reader {
 pub fn read_trace(alloc: Global, text: &[u8]) -> Result<Trace, ReadFault>
     ensures one { IfOk result (λ trace. IsOneAtMost trace.header.rings) }
     ensures quiet { IfOk result (λ trace. All IsQuietRow trace.rows) }
+    ensures numbered { IfOk result (λ trace. trace.first + length trace.rows ≡ line_count text.now + 1) }
 {
     let mut reader = Reader {
         alloc,
@@ -60,6 +62,7 @@ impl Reader {
         requires quiet { All IsQuietRow self.old.rows.items }
         ensures one { OnOk result (IsOneAtMost (rings_of self.new.ring)) }
         ensures quiet { OnOk result (All IsQuietRow self.new.rows.items) }
+        ensures counted { OnOk result (self.new.lines ≡ self.old.lines + 1) }
     {
         let number = self.lines + 1;
         let may_declare = self.ring.is_none() && self.rows.is_empty();
@@ -79,6 +82,7 @@ impl Reader {
         requires quiet { All IsQuietRow self.rows.items }
         ensures one { IfOk result (λ trace. IsOneAtMost trace.header.rings) }
         ensures quiet { IfOk result (λ trace. All IsQuietRow trace.rows) }
+        ensures numbered { IfOk result (λ trace. trace.first + length trace.rows ≡ self.lines + 1) }
     {
         let Reader {
             alloc,
