@@ -2,4 +2,10 @@ pub mod Limits
 pub mod Register
 pub mod Header
 pub mod Rows
+pub mod Faults
+pub mod Forms
+pub mod Values
+pub mod Reading
+pub mod Spelling
+pub mod Valid
 pub mod OnLiterals

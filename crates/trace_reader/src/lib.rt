@@ -1,6 +1,7 @@
 //! What a trace and a schedule say: rings, rows and steps.
 #![tactic(auto)]
 
+mod fault;
 mod header;
 mod register;
 mod ring;
@@ -8,6 +9,7 @@ mod row;
 mod step;
 mod trace;
 
+pub use fault::{LineFault, ReadFault};
 pub use header::{Header, Rings};
 pub use register::Register;
 pub use ring::Ring;

@@ -1,0 +1,8 @@
+-- How far a line's fields are counted
+use Rattle.std.proofs.Common.{◌≡◌, ℕ, ◌+◌, Bool, List, length}
+use Rattle.std.specs.Prelude.{◌||◌}
+use Rattle.line_text.specs.Fields.{has_empty_field}
+
+pub record AreCounted (fields rest : List (List ℕ)) (n : ℕ) (found : Bool) : Type 0 where
+  pub count : length fields ≡ n + length rest
+  pub empty : has_empty_field fields ≡ found || has_empty_field rest

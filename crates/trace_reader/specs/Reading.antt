@@ -1,0 +1,152 @@
+-- How a trace is read from its text, line by line
+use Rattle.std.specs.Prelude.{ℕ, ◌+◌, ◌-◌, ◌*◌, ◌==◌, ◌&&◌, ◌||◌, Bool, true, false, not, List, [], ◌∷◌, ◌++◌, length, nat_lt, Option, Some, None, Result, Ok, Err, codes, is_none, if◌then◌else◌}
+use Rattle.std.specs.List.{list_any}
+use Rattle.std.specs.Option.{option_and_then, option_map_or}
+use Rattle.std.specs.Str.{bytes_eq}
+use Rattle.contexts.specs.declared.size.ContextSize.{ContextSize}
+use Rattle.contexts.specs.declared.size.ContextSize.TheVariants.{Bytes32, Bytes64}
+use Rattle.segments.specs.Shape.{is_shape}
+use Rattle.line_text.specs.Lines.{TextLine, lines_of}
+use Rattle.line_text.specs.Fields.{fields_of, has_empty_field}
+use Rattle.trace_reader.specs.declared.fault.LineFault.{LineFault}
+use Rattle.trace_reader.specs.declared.fault.LineFault.TheVariants.{Header as BadHeader, Row as BadRow, Number, Limit, Shape}
+use Rattle.trace_reader.specs.declared.header.Header.{Header}
+use Rattle.trace_reader.specs.declared.ring.Ring.{Ring}
+use Rattle.trace_reader.specs.declared.row.Row.{Row}
+use Rattle.trace_reader.specs.declared.row.Row.TheVariants.{Sub, Write, Reg, Bell, Read}
+use Rattle.trace_reader.specs.Forms.{Form, form_of, is_ring_form}
+use Rattle.trace_reader.specs.Header.{clash}
+use Rattle.trace_reader.specs.Limits.{most_lines, most_bytes, most_declared}
+use Rattle.trace_reader.specs.Values.{Said, SaysRow, SaysRing, said_of}
+
+-- what was read so far
+pub record State : Type 0 where
+  -- how many lines
+  pub lines : ℕ
+  pub size : ContextSize
+  -- the rings, in the order of their lines
+  pub rings : List Ring
+  -- a row was read, so that no ring may follow
+  pub begun : Bool
+
+abbrev pub start : State
+start = record { lines = 0; size = Bytes32; rings = []; begun = false }
+
+-- the number of the next line
+abbrev pub next_number : State → ℕ
+next_number st = st.lines + 1
+
+-- 1 Header: the first line is `xtrace 1`, the second `ctx 20` or `ctx 40`, as the contexts have 32 bytes or 64
+unfoldable pub is_version : TextLine → Bool
+is_version line = line.is_ended && bytes_eq line.content (codes "xtrace 1")
+
+unfoldable pub size_of : TextLine → Option ContextSize
+size_of line =
+    if line.is_ended && bytes_eq line.content (codes "ctx 20") then Some Bytes32
+    else if line.is_ended && bytes_eq line.content (codes "ctx 40") then Some Bytes64
+    else None
+
+-- the form of a line, where it has one, and what it says, where its numbers are right
+unfoldable pub form_in : TextLine → Option Form
+form_in line = form_of (fields_of line.content)
+
+unfoldable pub said_in : TextLine → Option Said
+said_in line = option_and_then said_of (form_in line)
+
+-- 2 Row: no line feed at the end, an empty field, no form, or a ring behind a row
+unfoldable pub is_bad_row : State → TextLine → Bool
+is_bad_row st line =
+    not line.is_ended || has_empty_field (fields_of line.content) || is_none (form_in line)
+    || (st.begun && option_map_or is_ring_form (form_in line) false)
+
+-- 3 Number: a number of another length or with another character, or one that doesn't fit its place
+unfoldable pub is_bad_number : TextLine → Bool
+is_bad_number line = is_none (said_in line)
+
+abbrev pub is_too_much : Said → Bool
+is_too_much (SaysRow (Sub ring blocks)) = nat_lt most_declared (length blocks)
+is_too_much _ = false
+
+-- 4 Limit: a line past the limit, or too many blocks in one declaration; a line of too many bytes has this fault alone
+unfoldable pub is_past_limit : State → TextLine → Bool
+is_past_limit st line = nat_lt most_lines (next_number st) || option_map_or is_too_much (said_in line) false
+
+unfoldable pub is_too_long : TextLine → Bool
+is_too_long line = nat_lt most_bytes (length line.content)
+
+abbrev pub is_misplaced : List Ring → Said → Bool
+is_misplaced rings (SaysRing ring) = not (is_shape ring.shape) || list_any (clash ring) rings
+is_misplaced rings (SaysRow row) = false
+
+-- 5 Shape: segments that make no ring, or a ring that can't stand beside an earlier one
+unfoldable pub is_bad_shape : State → TextLine → Bool
+is_bad_shape st line = option_map_or (is_misplaced st.rings) (said_in line) false
+
+-- the least fault of a line behind the header
+unfoldable pub row_fault : State → TextLine → Option LineFault
+row_fault st line =
+    if is_too_long line then Some Limit
+    else if is_bad_row st line then Some BadRow
+    else if is_bad_number line then Some Number
+    else if is_past_limit st line then Some Limit
+    else if is_bad_shape st line then Some Shape
+    else None
+
+-- the least fault of a line
+unfoldable pub line_fault : State → TextLine → Option LineFault
+line_fault st line =
+    if st.lines == 0 then (if is_version line then None else Some BadHeader)
+    else if st.lines == 1 then (if is_none (size_of line) then Some BadHeader else None)
+    else row_fault st line
+
+abbrev pub with_said : State → Option Said → State × Option Row
+with_said st (Some (SaysRow row)) = (record st { lines = next_number st; begun = true }, Some row)
+with_said st (Some (SaysRing ring)) = (record st { lines = next_number st; rings = st.rings ++ ring ∷ [] }, None)
+with_said st None = (st, None)
+
+abbrev pub with_size : State → Option ContextSize → State
+with_size st (Some size) = record st { lines = next_number st; size = size }
+with_size st None = st
+
+-- what is read after a line without a fault, and the row that the line says, if it says one
+unfoldable pub after : State → TextLine → State × Option Row
+after st line =
+    if st.lines == 0 then (record st { lines = next_number st }, None)
+    else if st.lines == 1 then (with_size st (size_of line), None)
+    else with_said st (said_in line)
+
+-- the next line: the new state and the row, or the least fault
+unfoldable pub read_line : State → TextLine → Result (State × Option Row) LineFault
+read_line st line = option_map_or Err (line_fault st line) (Ok (after st line))
+
+abbrev pub with_row : Option Row → Result (State × List Row) (ℕ × LineFault) → Result (State × List Row) (ℕ × LineFault)
+with_row (Some row) (Ok (st, rows)) = Ok (st, row ∷ rows)
+with_row None (Ok (st, rows)) = Ok (st, rows)
+with_row row (Err fault) = Err fault
+
+abbrev pub go_on : ℕ → Result (State × Option Row) LineFault → (State → Result (State × List Row) (ℕ × LineFault)) → Result (State × List Row) (ℕ × LineFault)
+go_on number (Ok (st, row)) rest = with_row row (rest st)
+go_on number (Err fault) rest = Err (number, fault)
+
+-- all lines: the state behind them and the rows, or the first bad line and its least fault
+unfoldable pub read_lines : State → List TextLine → Result (State × List Row) (ℕ × LineFault)
+read_lines st [] = Ok (st, [])
+read_lines st (line ∷ lines) = go_on (next_number st) (read_line st line) (λ after. read_lines after lines)
+
+-- what a text of a trace says
+pub record TraceText : Type 0 where
+  pub header : Header
+  -- the number of the first row's line
+  pub first : ℕ
+  pub rows : List Row
+
+-- a text ends behind its header at the earliest: the line that isn't there is a bad one
+abbrev pub whole : Result (State × List Row) (ℕ × LineFault) → Result TraceText (ℕ × LineFault)
+whole (Ok (st, rows)) =
+    if nat_lt st.lines 2 then Err (next_number st, BadHeader)
+    else Ok (record { header = record { context_size = st.size; rings = st.rings }; first = next_number st - length rows; rows = rows })
+whole (Err fault) = Err fault
+
+-- the trace of a text, or its first bad line and the least fault there
+unfoldable pub trace_of : List ℕ → Result TraceText (ℕ × LineFault)
+trace_of text = whole (read_lines start (lines_of text))
