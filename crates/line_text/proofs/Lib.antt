@@ -1,2 +1,4 @@
 pub mod Cuts
 pub mod Counts
+pub mod Digits
+pub mod Joins

@@ -2,6 +2,10 @@
 use Rattle.std.specs.Prelude.{ℕ, List, codes}
 use Rattle.trace_reader.specs.declared.fault.LineFault.{LineFault}
 use Rattle.trace_reader.specs.declared.fault.LineFault.TheVariants.{Header, Row, Number, Limit, Shape}
+use Rattle.trace_reader.specs.declared.fault.LineError.{LineError}
+use Rattle.trace_reader.specs.declared.fault.LineError.TheVariants.{Fault, Memory}
+use Rattle.segments.specs.declared.fault.ShapeFault.{ShapeFault}
+use Rattle.segments.specs.declared.fault.ShapeFault.TheVariants.{Shape as NoShape, Memory as NoMemory}
 
 abbrev pub fault_number : LineFault → ℕ
 fault_number Header = 1
@@ -17,3 +21,8 @@ fault_name Row = codes "Row"
 fault_name Number = codes "Number"
 fault_name Limit = codes "Limit"
 fault_name Shape = codes "Shape"
+
+-- why segments make no ring, as a fault of their line
+abbrev pub error_of : ShapeFault → LineError
+error_of NoShape = Fault Shape
+error_of NoMemory = Memory

@@ -7,5 +7,7 @@ pub mod Forms
 pub mod Values
 pub mod Reading
 pub mod Spelling
+pub mod Entries
+pub mod Printing
 pub mod Valid
 pub mod OnLiterals

@@ -1,5 +1,5 @@
 -- How a trace is read from its text, line by line
-use Rattle.std.specs.Prelude.{ℕ, ◌+◌, ◌-◌, ◌*◌, ◌==◌, ◌&&◌, ◌||◌, Bool, true, false, not, List, [], ◌∷◌, ◌++◌, length, nat_lt, Option, Some, None, Result, Ok, Err, codes, is_none, if◌then◌else◌}
+use Rattle.std.specs.Prelude.{ℕ, ◌+◌, ◌-◌, ◌==◌, ◌&&◌, ◌||◌, Bool, true, false, not, List, [], ◌∷◌, ◌++◌, length, nat_lt, Option, Some, None, Result, Ok, Err, codes, is_none, if◌then◌else◌}
 use Rattle.std.specs.List.{list_any}
 use Rattle.std.specs.Option.{option_and_then, option_map_or}
 use Rattle.std.specs.Str.{bytes_eq}
@@ -13,7 +13,7 @@ use Rattle.trace_reader.specs.declared.fault.LineFault.TheVariants.{Header as Ba
 use Rattle.trace_reader.specs.declared.header.Header.{Header}
 use Rattle.trace_reader.specs.declared.ring.Ring.{Ring}
 use Rattle.trace_reader.specs.declared.row.Row.{Row}
-use Rattle.trace_reader.specs.declared.row.Row.TheVariants.{Sub, Write, Reg, Bell, Read}
+use Rattle.trace_reader.specs.declared.row.Row.TheVariants.{Sub}
 use Rattle.trace_reader.specs.Forms.{Form, form_of, is_ring_form}
 use Rattle.trace_reader.specs.Header.{clash}
 use Rattle.trace_reader.specs.Limits.{most_lines, most_bytes, most_declared}

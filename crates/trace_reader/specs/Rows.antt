@@ -1,6 +1,9 @@
 -- Rows and steps whose numbers fit the fields of their types
-use Rattle.std.specs.Prelude.{◌≡◌, ℕ, ◌%◌, ◌<◌, ◌^◌, All}
+use Rattle.std.specs.Prelude.{◌≡◌, ◌≢◌, ℕ, ◌%◌, ◌<◌, ◌≤◌, ◌^◌, true, All, List, length}
+use Rattle.std.proofs.Props.{props}
 use Rattle.trb.specs.Block.{IsBlock}
+use Rattle.trace_reader.specs.Limits.{most_declared}
+use Rattle.trace_reader.specs.Register.{is_wide}
 use Rattle.trace_reader.specs.declared.row.Row.{Row}
 use Rattle.trace_reader.specs.declared.row.Row.TheVariants.{Sub, Write, Reg, Bell, Read}
 use Rattle.trace_reader.specs.declared.step.Step.{Step}
@@ -16,6 +19,35 @@ IsRow (Write at word) = IsWordAddress at × (word < 2 ^ 32)
 IsRow (Reg register value) = value < 2 ^ 64
 IsRow (Bell slot target) = (slot < 256) × (target < 256)
 IsRow (Read event) = IsBlock event
+
+-- what a row's line can say: a declaration has a block at least and not too many, and a register of 32 bits a value of 32
+abbrev pub FitsLine : Row → Type 0
+FitsLine (Sub ring blocks) = (0 < length blocks) × (length blocks ≤ most_declared)
+FitsLine (Write at word) = Unit {0}
+FitsLine (Reg register value) = is_wide register ≢ true → value < 2 ^ 32
+FitsLine (Bell slot target) = Unit {0}
+FitsLine (Read event) = Unit {0}
+
+-- each is one fact
+pub row_is_fact : (row : Row) → IsProp (IsRow row)
+row_is_fact (Sub ring blocks) = hlevel props
+row_is_fact (Write at word) = hlevel props
+row_is_fact (Reg register value) = hlevel props
+row_is_fact (Bell slot target) = hlevel props
+row_is_fact (Read event) = hlevel props
+
+pub line_is_fact : (row : Row) → IsProp (FitsLine row)
+line_is_fact (Sub ring blocks) = hlevel props
+line_is_fact (Write at word) = hlevel props
+line_is_fact (Reg register value) = hlevel props
+line_is_fact (Bell slot target) = hlevel props
+line_is_fact (Read event) = hlevel props
+
+abbrev pub AreRows : List Row → Type 0
+AreRows rows = All (λ row. IsRow row × FitsLine row) rows
+
+pub rows_are_fact : (rows : List Row) → IsProp (AreRows rows)
+rows_are_fact rows = hlevel (props, row_is_fact, line_is_fact)
 
 abbrev pub IsStep : Step → Type 0
 IsStep NextRow = Unit {0}

@@ -1,5 +1,5 @@
 -- How a trace is spelled: each line by its fields
-use Rattle.std.specs.Prelude.{ℕ, ◌+◌, ◌&&◌, Bool, true, false, List, [], ◌∷◌, ◌++◌, map, codes}
+use Rattle.std.specs.Prelude.{ℕ, ◌&&◌, Bool, true, false, List, [], ◌∷◌, ◌++◌, map, codes}
 use Rattle.std.specs.List.{flat_map, join_with_byte}
 use Rattle.std.specs.Int.{w8, w16, w32, w64}
 use Rattle.std.specs.Str.{bytes_eq, str_to_ascii_lowercase}

@@ -1,6 +1,7 @@
 ghost use Rattle.std.specs.Prelude.{◌≡◌, Some};
 ghost use Rattle.trace_reader.specs.Faults.{fault_name, fault_number};
 
+use segments::ShapeFault;
 use std::alloc::{AllocError, AllocFailed};
 use std::fmt;
 
@@ -98,6 +99,19 @@ impl<T: Drop> From<AllocFailed<T>> for LineError {
 
     fn from(_error: AllocFailed<T>) -> LineError {
         LineError::Memory
+    }
+}
+
+impl From<ShapeFault> for LineError {
+    ghost use Rattle.trace_reader.specs.Faults.{error_of};
+
+    ghost from_gives = { λ f e. e ≡ error_of f };
+
+    fn from(fault: ShapeFault) -> LineError {
+        match fault {
+            ShapeFault::Shape => LineError::Fault(LineFault::Shape),
+            ShapeFault::Memory => LineError::Memory,
+        }
     }
 }
 

@@ -1,16 +1,24 @@
 //! What a trace and a schedule say: rings, rows and steps.
 #![tactic(auto)]
 
+mod entry;
 mod fault;
 mod header;
+mod line;
+mod print;
+mod read;
+mod reader;
 mod register;
 mod ring;
+mod rings;
 mod row;
 mod step;
 mod trace;
 
 pub use fault::{LineFault, ReadFault};
 pub use header::{Header, Rings};
+pub use print::{print_trace, push_ring, push_row};
+pub use read::read_trace;
 pub use register::Register;
 pub use ring::Ring;
 pub use row::Row;

@@ -1,4 +1,5 @@
 ghost use Rattle.std.specs.Prelude.{◌≡◌};
+ghost use Rattle.trace_reader.specs.Forms.{register_name};
 ghost use Rattle.trace_reader.specs.Register.{is_wide};
 
 /// A register that a trace may write (xHCI 5.4, 5.5.2).
@@ -29,6 +30,40 @@ pub enum Register {
 }
 
 impl Register {
+    /// All registers.
+    pub const ALL: [Register; 11] = [
+        Register::Usbcmd,
+        Register::Usbsts,
+        Register::Dnctrl,
+        Register::Crcr,
+        Register::Dcbaap,
+        Register::Config,
+        Register::Iman,
+        Register::Imod,
+        Register::Erstsz,
+        Register::Erstba,
+        Register::Erdp,
+    ];
+
+    /// The word for it in a trace.
+    pub fn name(self) -> &'static str
+        ensures { result.now ≡ register_name self }
+    {
+        match self {
+            Register::Usbcmd => "usbcmd",
+            Register::Usbsts => "usbsts",
+            Register::Dnctrl => "dnctrl",
+            Register::Crcr => "crcr",
+            Register::Dcbaap => "dcbaap",
+            Register::Config => "config",
+            Register::Iman => "iman",
+            Register::Imod => "imod",
+            Register::Erstsz => "erstsz",
+            Register::Erstba => "erstba",
+            Register::Erdp => "erdp",
+        }
+    }
+
     /// The register has 64 bits; the others have 32.
     pub fn is_wide(self) -> bool
         ensures { result ≡ is_wide self }

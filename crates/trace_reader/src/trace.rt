@@ -1,6 +1,7 @@
 ghost use Rattle.std.specs.Prelude.{◌≡◌, ◌+◌, ◌≤◌, length};
 ghost use Rattle.trace_reader.specs.Header.{IsHeader};
 ghost use Rattle.trace_reader.specs.Limits.{most_lines};
+ghost use Rattle.trace_reader.specs.Rows.{AreRows, rows_are_fact};
 
 use crate::header::Header;
 use crate::row::Row;
@@ -47,5 +48,7 @@ pub struct Trace {
     /// The rows, one a line.
     pub rows: Rows,
     pub ghost headed: { IsHeader header },
+    pub ghost placed: { first ≡ length header.rings + 3 },
+    pub ghost fitting: { AreRows rows } by { rows_are_fact rows },
     pub ghost within: { first + length rows ≤ most_lines + 1 },
 }

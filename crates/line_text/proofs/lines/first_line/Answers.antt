@@ -1,4 +1,4 @@
-use Rattle.std.proofs.Common.{◌≡◌, arith}
+use Rattle.std.proofs.Common.{arith}
 use Rattle.line_text.proofs.Cuts.{line_at, line_alone}
 use Rattle.line_text.proofs.lines.first_line.Goals as goal
 

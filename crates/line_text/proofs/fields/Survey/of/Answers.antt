@@ -1,7 +1,5 @@
-use Rattle.std.proofs.Common.{◌≡◌, ◌+◌, ◌<◌, ◌≤◌, ℕ, suc, length, ap, arith, Fits, w64}
-use Rattle.std.specs.List.{count_by}
-use Rattle.std.proofs.lemmas.List.Splits.{length-slice_split}
-use Rattle.line_text.specs.Fields.{fields_of, is_space}
+use Rattle.std.proofs.Common.{◌≡◌, ◌+◌, ◌≤◌, suc, length, ap, arith}
+use Rattle.line_text.specs.Fields.{fields_of}
 use Rattle.line_text.proofs.Cuts.{few_fields}
 use Rattle.line_text.proofs.fields.Survey.of.Goals as goal
 

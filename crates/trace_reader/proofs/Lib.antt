@@ -1,0 +1,16 @@
+pub mod Prefixes
+pub mod FirstWords
+pub mod LineFields
+pub mod ReadSteps
+pub mod LinePieces
+pub mod SpelledFields
+pub mod SpelledValues
+pub mod SpelledSegments
+pub mod SpelledForms
+pub mod SpelledSizes
+pub mod SpelledHeaders
+pub mod SpelledLines
+pub mod SpelledTraces
+pub mod Spelled
+pub mod Printed
+pub mod Unspelled

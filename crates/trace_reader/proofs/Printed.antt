@@ -1,0 +1,122 @@
+-- What is printed of a trace spells the trace
+use Rattle.std.proofs.Common.{◌≡◌, ℕ, ◌<◌, true, false, List, [], ◌∷◌, ◌++◌, length, map, Ok, All, IsTrue, refl, ap, ◌∙◌, arith, append_assoc, codes, ne_eqb}
+use Rattle.std.specs.List.{flat_map, join_with_byte}
+use Rattle.std.proofs.lemmas.Bool.{and_from}
+use Rattle.std.proofs.lemmas.List.Elements.{All-weaker}
+use Rattle.contexts.specs.declared.size.ContextSize.{ContextSize}
+use Rattle.contexts.specs.declared.size.ContextSize.TheVariants.{Bytes32, Bytes64}
+use Rattle.line_text.specs.Fields.{fields_of, is_space}
+use Rattle.line_text.specs.Lines.{is_line_feed, lines_of}
+use Rattle.line_text.proofs.Joins.{All-join, AreFields, fields_of-join, lines_of-ended, lines_of-nothing}
+use Rattle.trace_reader.specs.declared.ring.Ring.{Ring}
+use Rattle.trace_reader.specs.declared.row.Row.{Row}
+use Rattle.trace_reader.specs.declared.row.Row.TheVariants.{Sub, Write, Reg, Bell, Read}
+use Rattle.trace_reader.specs.Reading.{TraceText, trace_of}
+use Rattle.trace_reader.specs.Spelling.{Field, are_written, lines_written, printed, printed_line, printed_trace, ring_fields, row_fields, size_fields, spells, trace_lines, version_fields}
+use Rattle.trace_reader.specs.Valid.{IsTrace}
+use Rattle.trace_reader.proofs.SpelledFields.{AllSound, plain_fields, written_as_printed}
+use Rattle.trace_reader.proofs.SpelledSizes.{ring_sound, row_sound, sound_named}
+use Rattle.trace_reader.proofs.Spelled.{read_if_spelled}
+
+-- ---- one line
+
+not_space : (c : ℕ) → 32 < c → is_space c ≡ false
+not_space c above = ne_eqb c 32 (λ same. omega (arith, same))
+
+not_line_feed : (c : ℕ) → 32 < c → is_line_feed c ≡ false
+not_line_feed c above = ne_eqb c 10 (λ same. omega (arith, same))
+
+are_fields : (texts : List (List ℕ)) → All (λ text. All (λ c. 32 < c) text) texts → AreFields texts
+are_fields texts plain =
+    All-weaker (λ text. All (λ c. 32 < c) text) (λ text. All (λ c. is_space c ≡ false) text)
+    (λ text above. All-weaker (λ c. 32 < c) (λ c. is_space c ≡ false) not_space text above) texts plain
+
+without_line_feed : (texts : List (List ℕ)) → All (λ text. All (λ c. 32 < c) text) texts → All (λ c. is_line_feed c ≡ false) (join_with_byte 32 texts)
+without_line_feed texts plain =
+    All-join (λ c. is_line_feed c ≡ false) refl texts
+    (All-weaker (λ text. All (λ c. 32 < c) text) (λ text. All (λ c. is_line_feed c ≡ false) text)
+    (λ text above. All-weaker (λ c. 32 < c) (λ c. is_line_feed c ≡ false) not_line_feed text above) texts plain)
+
+-- a line of fields, at least one
+pub record IsSoundLine (fields : List Field) : Type 0 where
+  pub some : 0 < length fields
+  pub sound : AllSound fields
+
+-- the fields of a printed line are the printed fields
+pub printed_fields : (fields : List Field) → IsSoundLine fields → fields_of (join_with_byte 32 (map printed fields)) ≡ map printed fields
+printed_fields [] is = absurd (omega (arith, is.some))
+printed_fields (field ∷ fields) is = fields_of-join (printed field) (map printed fields) (are_fields (map printed (field ∷ fields)) (plain_fields (field ∷ fields) is.sound))
+
+printed_first : (fields : List Field) (rest : List ℕ) → IsSoundLine fields →
+    lines_of (printed_line fields ++ rest) ≡ record { content = join_with_byte 32 (map printed fields); is_ended = true } ∷ lines_of rest
+unfolding printed_line
+printed_first fields rest is =
+    ap (λ (text : List ℕ). lines_of text) (append_assoc (join_with_byte 32 (map printed fields)) (10 ∷ []) rest)
+    ∙ lines_of-ended (join_with_byte 32 (map printed fields)) rest (without_line_feed (map printed fields) (plain_fields fields is.sound))
+
+-- ---- lines
+
+abbrev AllSoundLines : List (List Field) → Type 0
+AllSoundLines [] = Unit {0}
+AllSoundLines (line ∷ lines) = IsSoundLine line × AllSoundLines lines
+
+sound_lines_append : (xs ys : List (List Field)) → AllSoundLines xs → AllSoundLines ys → AllSoundLines (xs ++ ys)
+sound_lines_append [] ys of_xs of_ys = of_ys
+sound_lines_append (x ∷ xs) ys of_xs of_ys = (of_xs.0, sound_lines_append xs ys of_xs.1 of_ys)
+
+sound_lines_map : {A : Type 0} (f : A → List Field) → ((a : A) → IsSoundLine (f a)) → (xs : List A) → AllSoundLines (map f xs)
+sound_lines_map f sound [] = tt
+sound_lines_map f sound (x ∷ xs) = (sound x, sound_lines_map f sound xs)
+
+printed_lines : (lines : List (List Field)) → AllSoundLines lines → lines_written lines (lines_of (flat_map printed_line lines)) ≡ true
+printed_lines [] sound = rw lines_of-nothing refl
+printed_lines (line ∷ lines) sound =
+    let texts = map printed line in
+    let here : are_written line (fields_of (join_with_byte 32 texts)) ≡ true = rw (printed_fields line sound.0) (written_as_printed line sound.0.sound) in
+    let ih = printed_lines lines sound.1 in
+    rw (printed_first line (flat_map printed_line lines) sound.0)
+    (and_from (are_written line (fields_of (join_with_byte 32 texts))) (lines_written lines (lines_of (flat_map printed_line lines))) here ih)
+
+-- ---- the lines of a trace
+
+some_fields : (row : Row) → 0 < length (row_fields row)
+unfolding row_fields
+some_fields (Sub ring blocks) = omega arith
+some_fields (Write at word) = omega arith
+some_fields (Reg register value) = omega arith
+some_fields (Bell slot target) = omega arith
+some_fields (Read event) = omega arith
+
+row_line : (row : Row) → IsSoundLine (row_fields row)
+row_line row = record { some = some_fields row; sound = row_sound row }
+
+ring_line : (ring : Ring) → IsSoundLine (ring_fields ring)
+unfolding ring_fields
+ring_line ring = record { some = omega arith; sound = ring_sound ring }
+
+version_line : IsSoundLine version_fields
+version_line = record { some = omega arith; sound = (sound_named (codes "xtrace") (omega arith) refl, (sound_named (codes "1") (omega arith) refl, tt)) }
+
+size_line : (size : ContextSize) → IsSoundLine (size_fields size)
+size_line Bytes32 = record { some = omega arith; sound = (sound_named (codes "ctx") (omega arith) refl, (sound_named (codes "20") (omega arith) refl, tt)) }
+size_line Bytes64 = record { some = omega arith; sound = (sound_named (codes "ctx") (omega arith) refl, (sound_named (codes "40") (omega arith) refl, tt)) }
+
+trace_sound : (trace : TraceText) → AllSoundLines (trace_lines trace)
+unfolding trace_lines
+trace_sound trace = (
+  version_line,
+  (
+    size_line trace.header.context_size,
+    sound_lines_append (map ring_fields trace.header.rings) (map row_fields trace.rows) (sound_lines_map ring_fields ring_line trace.header.rings)
+        (sound_lines_map row_fields row_line trace.rows),
+  ),
+)
+
+-- what is printed spells the trace, also one that isn't valid
+pub printed_spells : (trace : TraceText) → IsTrue (spells trace (printed_trace trace))
+unfolding spells printed_trace
+printed_spells trace = printed_lines (trace_lines trace) (trace_sound trace)
+
+-- a valid trace is read as it was printed
+pub printed_reads : (trace : TraceText) → IsTrace trace → trace_of (printed_trace trace) ≡ Ok trace
+printed_reads trace is = read_if_spelled (printed_trace trace) trace (printed_spells trace) is

@@ -1,0 +1,273 @@
+-- What is read of a text is the valid trace that the text spells
+use Rattle.std.proofs.Common.{◌≡◌, ℕ, ◌-◌, ◌≤◌, ◌&&◌, ◌↔◌, Bool, true, false, inl, inr, cond, List, [], ◌∷◌, ◌++◌, length, nat_lt, Option, Some, None, Result, Ok, Err, IsTrue, is_none, refl, sym, ap, ◌∙◌, subst, arith, codes, ltb-false, le-ltb}
+use Rattle.std.specs.List.{join_with_byte, list_all}
+use Rattle.std.specs.Str.{bytes_eq}
+use Rattle.std.proofs.lemmas.Bool.{and_parts, and_from, cases_Bool}
+use Rattle.contexts.specs.declared.size.ContextSize.{ContextSize}
+use Rattle.contexts.specs.declared.size.ContextSize.TheVariants.{Bytes32, Bytes64}
+use Rattle.line_text.specs.Fields.{fields_of}
+use Rattle.line_text.specs.Lines.{TextLine, lines_of}
+use Rattle.line_text.proofs.Joins.{join-fields_of}
+use Rattle.trace_reader.specs.declared.fault.LineFault.{LineFault}
+use Rattle.trace_reader.specs.declared.fault.LineFault.TheVariants.{Header as BadHeader}
+use Rattle.trace_reader.specs.declared.ring.Ring.{Ring}
+use Rattle.trace_reader.specs.declared.row.Row.{Row}
+use Rattle.trace_reader.specs.Header.{may_stand_together}
+use Rattle.trace_reader.specs.Limits.{most_lines}
+use Rattle.trace_reader.specs.Reading.{State, TraceText, after, is_version, line_fault, next_number, read_line, read_lines, size_of, start, trace_of, whole, with_size}
+use Rattle.trace_reader.specs.Spelling.{Field, Word, are_written, is_written, lines_written, size_fields, size_word, spells, trace_lines, version_fields}
+use Rattle.trace_reader.specs.Valid.{IsTrace}
+use Rattle.trace_reader.proofs.SpelledFields.{same_bytes, are_same_bytes, then_are}
+use Rattle.trace_reader.proofs.SpelledForms.{word_first}
+use Rattle.trace_reader.proofs.SpelledLines.{ok_there, there}
+use Rattle.trace_reader.proofs.SpelledTraces.{is_line_ring, lines_for, lines_go_on, lines_read, read_on, spells_from_read, with_front}
+use Rattle.trace_reader.proofs.SpelledValues.{only}
+
+-- ---- the first two lines
+
+-- the words of a line of two words, and the line
+two_words : (a b : List ℕ) (line : TextLine) → is_written (Word a ∷ Word b ∷ []) line ≡ true → (line.is_ended ≡ true) × (line.content ≡ a ++ 32 ∷ b)
+two_words a b line written =
+    let parts = and_parts line.is_ended (are_written (Word a ∷ Word b ∷ []) (fields_of line.content)) written in
+    let p = word_first a (Word b ∷ []) (fields_of line.content) parts.1 in
+    let q = word_first b [] p.0 p.2 in
+    let are : fields_of line.content ≡ a ∷ b ∷ [] = then_are p.1 (then_are q.1 (only q.0 q.2)) in
+    (parts.0, sym (join-fields_of line.content) ∙ ap (λ (xs : List (List ℕ)). join_with_byte 32 xs) are)
+
+words_written : (fields : List Field) (text : List ℕ) (line : TextLine) → are_written fields (fields_of text) ≡ true → (line.is_ended && bytes_eq line.content text) ≡ true → is_written fields line ≡ true
+words_written fields text line written is =
+    let parts = and_parts line.is_ended (bytes_eq line.content text) is in
+    and_from line.is_ended (are_written fields (fields_of line.content)) parts.0
+    (ap (λ (xs : List ℕ). are_written fields (fields_of xs)) (same_bytes line.content text parts.1) ∙ written)
+
+version_words : are_written version_fields (fields_of (codes "xtrace 1")) ≡ true
+unfolding fields_of
+version_words = refl
+
+size_words : (size : ContextSize) → are_written (size_fields size) (fields_of (codes "ctx " ++ size_word size)) ≡ true
+unfolding fields_of
+size_words Bytes32 = refl
+size_words Bytes64 = refl
+
+version_written : (line : TextLine) → is_version line ≡ true → is_written version_fields line ≡ true
+unfolding is_version
+version_written line is = words_written version_fields (codes "xtrace 1") line version_words is
+
+version_read : (line : TextLine) → is_written version_fields line ≡ true → is_version line ≡ true
+unfolding is_version
+version_read line written =
+    let is = two_words (codes "xtrace") (codes "1") line written in
+    and_from line.is_ended (bytes_eq line.content (codes "xtrace 1")) is.0 (are_same_bytes line.content (codes "xtrace 1") is.1)
+
+size_written : (line : TextLine) (size : ContextSize) → size_of line ≡ Some size → is_written (size_fields size) line ≡ true
+unfolding size_of
+size_written line size is =
+    elim (cases_Bool (line.is_ended && bytes_eq line.content (codes "ctx 20"))) [
+      | inl small ↦
+          let same : Bytes32 ≡ size = cc (rw small at is) in
+          subst (λ (s : ContextSize). is_written (size_fields s) line ≡ true) same (words_written (size_fields Bytes32) (codes "ctx 20") line (size_words Bytes32) small)
+      | inr other ↦
+          elim (cases_Bool (line.is_ended && bytes_eq line.content (codes "ctx 40"))) [
+            | inl large ↦
+                let same : Bytes64 ≡ size = cc (rw (other, large) at is) in
+                subst (λ (s : ContextSize). is_written (size_fields s) line ≡ true) same (words_written (size_fields Bytes64) (codes "ctx 40") line (size_words Bytes64) large)
+            | inr none ↦ cc (rw (other, none) at is)
+          ]
+    ]
+
+size_named : (line : TextLine) (size : ContextSize) → line.is_ended ≡ true → line.content ≡ codes "ctx " ++ size_word size → size_of line ≡ Some size
+unfolding size_of
+size_named line Bytes32 ended is = rw (is, ended) refl
+size_named line Bytes64 ended is = rw (is, ended) refl
+
+size_read : (line : TextLine) (size : ContextSize) → is_written (size_fields size) line ≡ true → size_of line ≡ Some size
+size_read line Bytes32 written = let is = two_words (codes "ctx") (size_word Bytes32) line written in size_named line Bytes32 is.0 is.1
+size_read line Bytes64 written = let is = two_words (codes "ctx") (size_word Bytes64) line written in size_named line Bytes64 is.0 is.1
+
+-- the states behind the first line and behind the second
+behind_version : State
+behind_version = record start { lines = 1 }
+
+abbrev behind_size : ContextSize → State
+behind_size size = record start { lines = 2; size = size }
+
+if_none : (t : Bool) (fault : LineFault) → cond t None (Some fault) ≡ None → t ≡ true
+if_none true fault is = refl
+if_none false fault is = cc is
+
+if_some : (t : Bool) (fault : LineFault) → cond t (Some fault) None ≡ None → t ≡ false
+if_some true fault is = cc is
+if_some false fault is = refl
+
+first_from_read : (line : TextLine) (next : State × Option Row) → read_line start line ≡ Ok next → (is_version line ≡ true) × ((behind_version, None) ≡ next)
+unfolding read_line line_fault after behind_version
+first_from_read line next is =
+    let p = ok_there (line_fault start line) (after start line) next is in
+    (if_none (is_version line) BadHeader p.0, p.1)
+
+second_from_read : (line : TextLine) (next : State × Option Row) → read_line behind_version line ≡ Ok next →
+    (size : ContextSize) × (size_of line ≡ Some size) × ((behind_size size, None) ≡ next)
+unfolding read_line line_fault after behind_version
+second_from_read line next is =
+    let p = ok_there (line_fault behind_version line) (after behind_version line) next is in
+    let size = there (size_of line) (if_some (is_none (size_of line)) BadHeader p.0) in
+    (size.0, size.1, ap (λ (o : Option ContextSize). (with_size behind_version o, None)) (sym size.1) ∙ p.1)
+
+first_read : (line : TextLine) → is_version line ≡ true → read_line start line ≡ Ok (behind_version, None)
+unfolding read_line line_fault after behind_version
+first_read line is = rw is refl
+
+second_read : (line : TextLine) (size : ContextSize) → size_of line ≡ Some size → read_line behind_version line ≡ Ok (behind_size size, None)
+unfolding read_line line_fault after behind_version
+second_read line size is = rw is refl
+
+-- ---- from a text that is read
+
+whole_there : (x : Result (State × List Row) (ℕ × LineFault)) (trace : TraceText) → whole x ≡ Ok trace →
+    (r : State × List Row) × (x ≡ Ok r) × (2 ≤ r.0.lines)
+    × (record { header = record { context_size = r.0.size; rings = r.0.rings }; first = next_number r.0 - length r.1; rows = r.1 } ≡ trace)
+whole_there (Ok (st, rows)) trace is =
+    elim (cases_Bool (nat_lt st.lines 2)) [
+      | inl few ↦ cc (rw few at is)
+      | inr some ↦ ((st, rows), refl, ltb-false st.lines 2 some, cc (rw some at is))
+    ]
+whole_there (Err fault) trace is = cc is
+
+read_end : (st : State) (r : State × List Row) → read_lines st [] ≡ Ok r → st ≡ r.0
+unfolding read_lines
+read_end st r is = let same : (st, []) ≡ r = cc is in ap (λ (x : State × List Row). x.0) same
+
+record Begins (first second : TextLine) (lines : List TextLine) (r : State × List Row) : Type 0 where
+  size : ContextSize
+  version : is_written version_fields first ≡ true
+  sized : is_written (size_fields size) second ≡ true
+  rest : read_lines (behind_size size) lines ≡ Ok r
+
+second_state : (first : TextLine) (lines : List TextLine) (r : State × List Row) → read_lines start (first ∷ lines) ≡ Ok r →
+    (is_written version_fields first ≡ true) × ((q : State × List Row) × (read_lines behind_version lines ≡ Ok q) × (q.0 ≡ r.0) × (q.1 ≡ r.1))
+second_state first lines r is =
+    let g = lines_go_on start first lines r is in
+    let p = first_from_read first g.next g.step_is in
+    let state_is : behind_version ≡ g.next.0 = ap (λ (x : State × Option Row). x.0) p.1 in
+    let row_is : None ≡ g.next.1 = ap (λ (x : State × Option Row). x.1) p.1 in (
+      version_written first p.0,
+      (g.others, ap (λ (x : State). read_lines x lines) state_is ∙ g.rest_is, g.end_is, ap (λ (o : Option Row). with_front o g.others.1) row_is ∙ g.rows_are),
+    )
+
+third_state : (second : TextLine) (lines : List TextLine) (r : State × List Row) → read_lines behind_version (second ∷ lines) ≡ Ok r →
+    (size : ContextSize) × (is_written (size_fields size) second ≡ true) × ((q : State × List Row) × (read_lines (behind_size size) lines ≡ Ok q) × (q.0 ≡ r.0) × (q.1 ≡ r.1))
+third_state second lines r is =
+    let g = lines_go_on behind_version second lines r is in
+    let p = second_from_read second g.next g.step_is in
+    let state_is : behind_size p.0 ≡ g.next.0 = ap (λ (x : State × Option Row). x.0) p.2 in
+    let row_is : None ≡ g.next.1 = ap (λ (x : State × Option Row). x.1) p.2 in (
+      p.0,
+      size_written second p.0 p.1,
+      (g.others, ap (λ (x : State). read_lines x lines) state_is ∙ g.rest_is, g.end_is, ap (λ (o : Option Row). with_front o g.others.1) row_is ∙ g.rows_are),
+    )
+
+begins : (first second : TextLine) (lines : List TextLine) (r : State × List Row) → read_lines start (first ∷ second ∷ lines) ≡ Ok r → Begins first second lines r
+begins first second lines r is =
+    let p = second_state first (second ∷ lines) r is in
+    let q = third_state second lines p.1.0 p.1.1 in
+    let same : q.2.0 ≡ r = λ k. ((q.2.2 ∙ p.1.2) k, (q.2.3 ∙ p.1.3) k) in
+    record { size = q.0; version = p.0; sized = q.1; rest = q.2.1 ∙ ap (λ (x : State × List Row). Ok x) same }
+
+-- the trace of a state and the rows that were read
+abbrev text_of : State × List Row → TraceText
+text_of r = record { header = record { context_size = r.0.size; rings = r.0.rings }; first = next_number r.0 - length r.1; rows = r.1 }
+
+lines_spell : (first second : TextLine) (lines : List TextLine) (r : State × List Row) → Begins first second lines r →
+    (lines_written (trace_lines (text_of r)) (first ∷ second ∷ lines) ≡ true) × IsTrace (text_of r)
+unfolding trace_lines
+lines_spell first second lines r b =
+    let s = spells_from_read lines (behind_size b.size) r (omega arith) b.rest in
+    let rings_are : r.0.rings ≡ s.rings = s.are.rings_are in
+    let size_is : r.0.size ≡ b.size = s.are.size_is in
+    let within : r.0.lines ≤ most_lines = s.are.within (omega arith) in
+    let rings : lines_written (lines_for r.0.rings r.1) lines ≡ true = ap (λ (rs : List Ring). lines_written (lines_for rs r.1) lines) rings_are ∙ s.are.written in
+    let sized : is_written (size_fields r.0.size) second ≡ true = ap (λ (size : ContextSize). is_written (size_fields size) second) size_is ∙ b.sized in
+    let shapes : list_all is_line_ring r.0.rings ≡ true = ap (λ (rs : List Ring). list_all is_line_ring rs) rings_are ∙ s.are.shapes in
+    let together : may_stand_together r.0.rings ≡ true = ap (λ (rs : List Ring). may_stand_together rs) rings_are ∙ s.are.together refl in
+    let count = s.are.count in
+    let many : length r.0.rings ≡ length s.rings = ap (λ (rs : List Ring). length rs) rings_are in (
+      and_from (is_written version_fields first) _ b.version (and_from (is_written (size_fields r.0.size) second) (lines_written (lines_for r.0.rings r.1) lines) sized rings),
+      record {
+        headed = and_from (list_all is_line_ring r.0.rings) (may_stand_together r.0.rings) shapes together;
+        rows = s.are.fit;
+        first = omega (arith, count, many);
+        within = omega (arith, count, many, within);
+      },
+    )
+
+one_line : (st : State) → behind_version ≡ st → st.lines ≡ 1
+unfolding behind_version
+one_line st same = sym (ap (λ (st : State). st.lines) same)
+
+read_spells : (lines : List TextLine) (trace : TraceText) → whole (read_lines start lines) ≡ Ok trace → (lines_written (trace_lines trace) lines ≡ true) × IsTrace trace
+read_spells [] trace is =
+    let p = whole_there (read_lines start []) trace is in
+    let same : start ≡ p.0.0 = read_end start p.0 p.1 in
+    absurd (omega (arith, p.2, ap (λ (st : State). st.lines) same))
+read_spells (first ∷ []) trace is =
+    let p = whole_there (read_lines start (first ∷ [])) trace is in
+    let q = second_state first [] p.0 p.1 in
+    let same : behind_version ≡ p.0.0 = read_end behind_version q.1.0 q.1.1 ∙ q.1.2 in
+    absurd (omega (arith, p.2, one_line p.0.0 same))
+read_spells (first ∷ second ∷ lines) trace is =
+    let p = whole_there (read_lines start (first ∷ second ∷ lines)) trace is in
+    let spelled = lines_spell first second lines p.0 (begins first second lines p.0 p.1) in
+    subst (λ (t : TraceText). (lines_written (trace_lines t) (first ∷ second ∷ lines) ≡ true) × IsTrace t) p.3 spelled
+
+-- what is read is spelled by the text, and valid
+pub spelled_if_read : (text : List ℕ) (trace : TraceText) → trace_of text ≡ Ok trace → IsTrue (spells trace text) × IsTrace trace
+unfolding trace_of spells
+spelled_if_read text trace is = read_spells (lines_of text) trace is
+
+-- ---- from a text that spells a trace
+
+whole_of : (end : State) (rows : List Row) (trace : TraceText) → 2 ≤ end.lines → end.size ≡ trace.header.context_size → end.rings ≡ trace.header.rings →
+    next_number end - length rows ≡ trace.first → rows ≡ trace.rows → whole (Ok (end, rows)) ≡ Ok trace
+whole_of end rows trace some size_is rings_are first_is rows_are =
+    let same : record { header = record { context_size = end.size; rings = end.rings }; first = next_number end - length rows; rows = rows } ≡ trace =
+    λ k. record { header = record { context_size = size_is k; rings = rings_are k }; first = first_is k; rows = rows_are k } in
+    rw (le-ltb end.lines 2 some) (ap (λ (t : TraceText). Ok t) same)
+
+written_reads : (lines : List TextLine) (trace : TraceText) → lines_written (trace_lines trace) lines ≡ true → IsTrace trace → whole (read_lines start lines) ≡ Ok trace
+unfolding trace_lines
+written_reads [] trace written is = cc written
+written_reads (first ∷ []) trace written is =
+    let p = and_parts (is_written version_fields first) false written in
+    cc (p.1)
+written_reads (first ∷ second ∷ lines) trace written is =
+    let size = trace.header.context_size in
+    let p = and_parts (is_written version_fields first) (lines_written (size_fields size ∷ lines_for trace.header.rings trace.rows) (second ∷ lines)) written in
+    let q = and_parts (is_written (size_fields size) second) (lines_written (lines_for trace.header.rings trace.rows) lines) p.1 in
+    let h = and_parts (list_all is_line_ring trace.header.rings) (may_stand_together trace.header.rings) is.headed in
+    let first_is = is.first in
+    let within = is.within in
+    let read = lines_read trace.header.rings trace.rows lines (behind_size size) (omega arith) refl h.0 h.1 is.rows q.1 (omega (arith, first_is, within)) in
+    let third = read_on behind_version (behind_size size) second lines None read.end trace.rows (second_read second size (size_read second size q.0)) read.is in
+    let all : read_lines start (first ∷ second ∷ lines) ≡ Ok (read.end, trace.rows) =
+    read_on start behind_version first (second ∷ lines) None read.end trace.rows (first_read first (version_read first p.0)) third in
+    let count = read.count in
+    ap (λ (x : Result (State × List Row) (ℕ × LineFault)). whole x) all
+    ∙ whole_of read.end trace.rows trace (omega (arith, count)) read.size_is read.rings_are (omega (arith, count, first_is)) refl
+
+-- a valid trace that the text spells is what is read
+pub read_if_spelled : (text : List ℕ) (trace : TraceText) → IsTrue (spells trace text) → IsTrace trace → trace_of text ≡ Ok trace
+unfolding trace_of spells
+read_if_spelled text trace spelled is = written_reads (lines_of text) trace spelled is
+
+-- ---- the law
+
+pub read_is_spelled : (text : List ℕ) (trace : TraceText) → (trace_of text ≡ Ok trace) ↔ (IsTrue (spells trace text) × IsTrace trace)
+read_is_spelled text trace = (spelled_if_read text trace, λ both. read_if_spelled text trace both.0 both.1)
+
+-- a text spells one valid trace
+pub one_trace : (text : List ℕ) (s t : TraceText) → IsTrue (spells s text) → IsTrace s → IsTrue (spells t text) → IsTrace t → s ≡ t
+one_trace text s t spells_s is_s spells_t is_t =
+    value_same s t (sym (read_if_spelled text s spells_s is_s) ∙ read_if_spelled text t spells_t is_t)
+  where
+    value_same : (s t : TraceText) → ◌≡◌ {A = Result TraceText (ℕ × LineFault)} (Ok s) (Ok t) → s ≡ t
+    value_same s t same = cc same

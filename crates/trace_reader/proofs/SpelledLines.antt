@@ -1,0 +1,214 @@
+-- A line without a fault: what it says, and that it spells it
+use Rattle.std.proofs.Common.{◌≡◌, ℕ, ◌≤◌, ◌&&◌, ◌||◌, Bool, true, false, not, cond, List, length, map, nat_lt, Option, Some, None, Ok, Err, is_none, refl, sym, ap, ◌∙◌, arith, le-ltb, ltb-false, ne_eqb}
+use Rattle.std.specs.List.{list_any}
+use Rattle.std.specs.Option.{option_and_then, option_map_or}
+use Rattle.std.proofs.lemmas.Bool.{not-false, or_parts}
+use Rattle.line_text.specs.Fields.{fields_of, has_empty_field}
+use Rattle.line_text.specs.Lines.{TextLine}
+use Rattle.line_text.proofs.Joins.{length-fields_of, spaced_length}
+use Rattle.segments.specs.Shape.{is_shape}
+use Rattle.trace_reader.specs.declared.fault.LineFault.{LineFault}
+use Rattle.trace_reader.specs.declared.fault.LineFault.TheVariants.{Row as BadRow, Number, Limit, Shape}
+use Rattle.trace_reader.specs.declared.ring.Ring.{Ring}
+use Rattle.trace_reader.specs.declared.row.Row.{Row}
+use Rattle.trace_reader.specs.declared.row.Row.TheVariants.{Sub, Write, Reg, Bell, Read}
+use Rattle.trace_reader.specs.Forms.{Form, is_ring_form}
+use Rattle.trace_reader.specs.Header.{clash}
+use Rattle.trace_reader.specs.Limits.{most_lines, most_bytes, most_declared}
+use Rattle.trace_reader.specs.Reading.{State, next_number, form_in, said_in, is_bad_row, is_bad_number, is_too_much, is_past_limit, is_too_long, is_misplaced, is_bad_shape, row_fault, line_fault, with_said, after, read_line}
+use Rattle.trace_reader.specs.Spelling.{printed}
+use Rattle.trace_reader.specs.Values.{Said, SaysRow, SaysRing, said_of}
+use Rattle.trace_reader.proofs.SpelledFields.{AllSound, all_filled, then_there, written_lengths}
+use Rattle.trace_reader.proofs.SpelledForms.{FitsSaid, IsRead, IsSpelled, fields_said, read_from_spelled, says_ring, spelled_from_read}
+use Rattle.trace_reader.proofs.SpelledHeaders.{shape_says}
+use Rattle.trace_reader.proofs.SpelledSizes.{row_sound, ring_sound, sub_length, write_length, reg_length, bell_length, read_length, ring_length}
+
+-- the line spells it, and it may stand there
+pub record IsGood (st : State) (line : TextLine) (s : Said) : Type 0 where
+  pub ended : line.is_ended ≡ true
+  pub spelled : IsSpelled s (fields_of line.content)
+  pub ordered : st.begun ≡ true → says_ring s ≡ false
+  pub within : next_number st ≤ most_lines
+  pub few : is_too_much s ≡ false
+  pub placed : is_misplaced st.rings s ≡ false
+
+-- ---- from no fault
+
+no_fault : (t : Bool) (fault : LineFault) (rest : Option LineFault) → cond t (Some fault) rest ≡ None → (t ≡ false) × (rest ≡ None)
+no_fault true fault rest is = cc is
+no_fault false fault rest is = (refl, is)
+
+record NoFaults (st : State) (line : TextLine) : Type 0 where
+  short : is_too_long line ≡ false
+  row : is_bad_row st line ≡ false
+  number : is_bad_number line ≡ false
+  limit : is_past_limit st line ≡ false
+  shape : is_bad_shape st line ≡ false
+
+no_faults : (st : State) (line : TextLine) → row_fault st line ≡ None → NoFaults st line
+unfolding row_fault
+no_faults st line none =
+    let a = no_fault (is_too_long line) Limit _ none in
+    let b = no_fault (is_bad_row st line) BadRow _ a.1 in
+    let c = no_fault (is_bad_number line) Number _ b.1 in
+    let d = no_fault (is_past_limit st line) Limit _ c.1 in
+    let e = no_fault (is_bad_shape st line) Shape None d.1 in
+    record { short = a.0; row = b.0; number = c.0; limit = d.0; shape = e.0 }
+
+no_row_fault : (st : State) (line : TextLine) → NoFaults st line → row_fault st line ≡ None
+unfolding row_fault
+no_row_fault st line none = rw (none.short, none.row, none.number, none.limit, none.shape) refl
+
+pub there : {A : Type 0} (o : Option A) → is_none o ≡ false → (a : A) × (o ≡ Some a)
+there (Some a) is = (a, refl)
+there None is = cc is
+
+record RowTests (st : State) (line : TextLine) : Type 0 where
+  ended : line.is_ended ≡ true
+  filled : has_empty_field (fields_of line.content) ≡ false
+  formed : is_none (form_in line) ≡ false
+  ordered : (st.begun && option_map_or is_ring_form (form_in line) false) ≡ false
+
+row_tests : (st : State) (line : TextLine) → is_bad_row st line ≡ false → RowTests st line
+unfolding is_bad_row
+row_tests st line good =
+    let a = or_parts (not line.is_ended || has_empty_field (fields_of line.content) || is_none (form_in line)) (st.begun && option_map_or is_ring_form (form_in line) false) good in
+    let b = or_parts (not line.is_ended || has_empty_field (fields_of line.content)) (is_none (form_in line)) a.0 in
+    let c = or_parts (not line.is_ended) (has_empty_field (fields_of line.content)) b.0 in
+    record { ended = not-false line.is_ended c.0; filled = c.1; formed = b.1; ordered = a.1 }
+
+no_bad_row : (st : State) (line : TextLine) → RowTests st line → is_bad_row st line ≡ false
+unfolding is_bad_row
+no_bad_row st line is = rw (is.ordered, is.formed, is.filled, is.ended) refl
+
+-- a line that says something has its form
+record SaidBy (line : TextLine) (s : Said) : Type 0 where
+  form : Form
+  formed : form_in line ≡ Some form
+  says : said_of form ≡ Some s
+  spelled : IsSpelled s (fields_of line.content)
+  sort : is_ring_form form ≡ says_ring s
+
+said_by : (line : TextLine) (s : Said) → said_in line ≡ Some s → SaidBy line s
+unfolding said_in form_in
+said_by line s says =
+    let p = then_there said_of (form_in line) s says in
+    let q = spelled_from_read (fields_of line.content) p.0 s p.1 p.2 in
+    record { form = p.0; formed = p.1; says = p.2; spelled = q.0; sort = q.1 }
+
+pub good_from_none : (st : State) (line : TextLine) → row_fault st line ≡ None → (s : Said) × (said_in line ≡ Some s) × IsGood st line s
+unfolding is_bad_number is_past_limit is_bad_shape
+good_from_none st line none =
+    let n = no_faults st line none in
+    let tests = row_tests st line n.row in
+    let is = there (said_in line) n.number in
+    let by = said_by line is.0 is.1 in
+    let limits = or_parts (nat_lt most_lines (next_number st)) (option_map_or is_too_much (said_in line) false) n.limit in (
+      is.0,
+      is.1,
+      record {
+        ended = tests.ended;
+        spelled = by.spelled;
+        ordered = λ begun. ring_behind st.begun (form_in line) by.form is.0 begun by.formed by.sort tests.ordered;
+        within = ltb-false most_lines (next_number st) limits.0;
+        few = rw is.1 at limits.1;
+        placed = rw is.1 at n.shape;
+      },
+    )
+  where
+    ring_behind : (begun : Bool) (o : Option Form) (form : Form) (s : Said) → begun ≡ true → o ≡ Some form → is_ring_form form ≡ says_ring s →
+        (begun && option_map_or is_ring_form o false) ≡ false → says_ring s ≡ false
+    ring_behind begun o form s is formed sort none = sym sort ∙ (rw (is, formed) at none)
+
+-- ---- to no fault
+
+said_sound : (s : Said) → AllSound (fields_said s)
+said_sound (SaysRow row) = row_sound row
+said_sound (SaysRing ring) = ring_sound ring
+
+pub few_blocks : (n : ℕ) → nat_lt most_declared n ≡ false → n ≤ most_declared
+few_blocks n few = ltb-false most_declared n few
+
+allowed : (rings : List Ring) (ring : Ring) → is_misplaced rings (SaysRing ring) ≡ false → is_shape ring.shape ≡ true
+allowed rings ring placed = not-false (is_shape ring.shape) ((or_parts (not (is_shape ring.shape)) (list_any (clash ring) rings) placed).0)
+
+said_fits : (rings : List Ring) (s : Said) → FitsSaid s → is_too_much s ≡ false → is_misplaced rings s ≡ false → spaced_length (map printed (fields_said s)) ≤ most_bytes
+said_fits rings (SaysRow (Sub ring blocks)) fits few placed = sub_length ring blocks fits.0.1 (few_blocks (length blocks) few)
+said_fits rings (SaysRow (Write at word)) fits few placed = write_length at word
+said_fits rings (SaysRow (Reg register value)) fits few placed = reg_length register value
+said_fits rings (SaysRow (Bell slot target)) fits few placed = bell_length slot target
+said_fits rings (SaysRow (Read event)) fits few placed = read_length event fits.0
+said_fits rings (SaysRing ring) fits few placed = ring_length ring ((shape_says ring.shape (allowed rings ring placed)).few)
+
+short_line : (st : State) (line : TextLine) (s : Said) → IsGood st line s → is_too_long line ≡ false
+unfolding is_too_long
+short_line st line s good =
+    let long = length-fields_of line.content in
+    let same = written_lengths (fields_said s) (fields_of line.content) good.spelled.written in
+    let fits = said_fits st.rings s good.spelled.fits good.few good.placed in
+    le-ltb most_bytes (length line.content) (omega (arith, long, same, fits))
+
+read_in : (line : TextLine) (s : Said) → IsRead s (fields_of line.content) → said_in line ≡ Some s
+unfolding said_in form_in
+read_in line s is = ap (λ (o : Option Form). option_and_then said_of o) is.formed ∙ is.says
+
+formed_in : (line : TextLine) (s : Said) (is : IsRead s (fields_of line.content)) → form_in line ≡ Some (is.form)
+unfolding form_in
+formed_in line s is = is.formed
+
+pub none_from_good : (st : State) (line : TextLine) (s : Said) → IsGood st line s → (row_fault st line ≡ None) × (said_in line ≡ Some s)
+unfolding is_bad_number is_past_limit is_bad_shape
+none_from_good st line s good =
+    let read = read_from_spelled s (fields_of line.content) good.spelled in
+    let says = read_in line s read in
+    let formed = formed_in line s read in
+    let filled = all_filled (fields_said s) (fields_of line.content) (said_sound s) good.spelled.written in
+    let row = no_bad_row st line (record {
+      ended = good.ended;
+      filled = filled;
+      formed = rw formed refl;
+      ordered = rw formed (in_order st.begun (is_ring_form read.form) (λ begun. read.sort ∙ good.ordered begun));
+    }) in (
+      no_row_fault st line (record {
+        short = short_line st line s good;
+        row = row;
+        number = rw says refl;
+        limit = rw (le-ltb most_lines (next_number st) good.within, says) good.few;
+        shape = rw says good.placed;
+      }),
+      says,
+    )
+  where
+    in_order : (begun ring : Bool) → (begun ≡ true → ring ≡ false) → (begun && ring) ≡ false
+    in_order true ring none = none refl
+    in_order false ring none = refl
+
+-- ---- the next line
+
+line_fault_is : (st : State) (line : TextLine) → 2 ≤ st.lines → line_fault st line ≡ row_fault st line
+unfolding line_fault
+line_fault_is st line behind = rw (ne_eqb st.lines 0 (λ e. omega (arith, e)), ne_eqb st.lines 1 (λ e. omega (arith, e))) refl
+
+after_is : (st : State) (line : TextLine) → 2 ≤ st.lines → after st line ≡ with_said st (said_in line)
+unfolding after
+after_is st line behind = rw (ne_eqb st.lines 0 (λ e. omega (arith, e)), ne_eqb st.lines 1 (λ e. omega (arith, e))) refl
+
+pub ok_there : {A : Type 0} (fault : Option LineFault) (a b : A) → option_map_or (λ f. Err f) fault (Ok a) ≡ Ok b → (fault ≡ None) × (a ≡ b)
+ok_there (Some f) a b is = cc is
+ok_there None a b is = (refl, cc is)
+
+pub step_from_read : (st : State) (line : TextLine) (p : State × Option Row) → 2 ≤ st.lines → read_line st line ≡ Ok p →
+    (s : Said) × IsGood st line s × (with_said st (Some s) ≡ p)
+unfolding read_line
+step_from_read st line p behind is =
+    let q = ok_there (line_fault st line) (after st line) p is in
+    let good = good_from_none st line (sym (line_fault_is st line behind) ∙ q.0) in
+    (good.0, good.2, ap (λ (o : Option Said). with_said st o) (sym good.1) ∙ sym (after_is st line behind) ∙ q.1)
+
+pub read_from_good : (st : State) (line : TextLine) (s : Said) → 2 ≤ st.lines → IsGood st line s → read_line st line ≡ Ok (with_said st (Some s))
+unfolding read_line
+read_from_good st line s behind good =
+    let n = none_from_good st line s good in
+    let fault : line_fault st line ≡ None = line_fault_is st line behind ∙ n.0 in
+    let next : after st line ≡ with_said st (Some s) = after_is st line behind ∙ ap (λ (o : Option Said). with_said st o) n.1 in
+    rw (fault, next) refl

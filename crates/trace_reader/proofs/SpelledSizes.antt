@@ -1,0 +1,185 @@
+-- The fields of rows and rings: none is empty or has a space, and all fit a line
+use Rattle.std.proofs.Common.{◌≡◌, ℕ, ◌*◌, ◌<◌, ◌≤◌, true, List, [], ◌∷◌, ◌++◌, length, map, All, refl, ap, ◌∙◌, arith, length-append, codes, nat_lt, w8, w16, w32, w64, ltb-true}
+use Rattle.std.specs.List.{flat_map, list_all}
+use Rattle.std.specs.Char.{to_ascii_lowercase}
+use Rattle.std.specs.Str.{str_to_ascii_lowercase}
+use Rattle.std.proofs.lemmas.List.{map-append}
+use Rattle.std.proofs.lemmas.List.Sums.{AllPass-from_list_all}
+use Rattle.std.proofs.lemmas.List.Elements.{All-weaker, All-append, All-head, All-tail}
+use Rattle.line_text.specs.Numbers.{digits_of}
+use Rattle.line_text.proofs.Digits.{digits_stay_lower, length-digits_of}
+use Rattle.line_text.proofs.Joins.{spaced_length}
+use Rattle.trb.specs.Block.{IsBlock}
+use Rattle.trb.specs.RingKind.{ring_name}
+use Rattle.trb.specs.declared.block.Block.{Block}
+use Rattle.trb.specs.declared.ring_kind.RingKind.{RingKind}
+use Rattle.trb.specs.declared.ring_kind.RingKind.TheVariants.{Cmd, Evt, Xfer}
+use Rattle.segments.specs.declared.segment.Segment.{Segment}
+use Rattle.trace_reader.specs.Forms.{register_name}
+use Rattle.trace_reader.specs.Limits.{most_bytes, most_declared}
+use Rattle.trace_reader.specs.Spelling.{Word, Digits, printed, block_fields, segment_field, row_fields, ring_fields}
+use Rattle.trace_reader.specs.declared.register.Register.{Register}
+use Rattle.trace_reader.specs.declared.register.Register.TheVariants.{Usbcmd, Usbsts, Dnctrl, Crcr, Dcbaap, Config, Iman, Imod, Erstsz, Erstba, Erdp}
+use Rattle.trace_reader.specs.declared.ring.Ring.{Ring}
+use Rattle.trace_reader.specs.declared.row.Row.{Row}
+use Rattle.trace_reader.specs.declared.row.Row.TheVariants.{Sub, Write, Reg, Bell, Read}
+use Rattle.trace_reader.proofs.SpelledFields.{IsSound, AllSound, sound_word, sound_digits, sound_append, sound_map, plain_digits, are_same_bytes, spaced_length-append}
+use Rattle.trace_reader.proofs.SpelledValues.{word_field}
+
+-- ---- soundness
+
+plain_word : (word : List ℕ) → list_all (λ c. nat_lt 32 c) word ≡ true → All (λ c. 32 < c) word
+plain_word word plain = All-weaker (λ c. nat_lt 32 c ≡ true) (λ c. 32 < c) (λ c above. ltb-true 32 c above) word (AllPass-from_list_all (λ c. nat_lt 32 c) word plain)
+
+pub sound_named : (word : List ℕ) → 0 < length word → list_all (λ c. nat_lt 32 c) word ≡ true → IsSound (Word word)
+sound_named word some plain = sound_word word some (plain_word word plain)
+
+register_sound : (register : Register) → IsSound (Word (register_name register))
+register_sound Usbcmd = sound_named (codes "usbcmd") (omega arith) refl
+register_sound Usbsts = sound_named (codes "usbsts") (omega arith) refl
+register_sound Dnctrl = sound_named (codes "dnctrl") (omega arith) refl
+register_sound Crcr = sound_named (codes "crcr") (omega arith) refl
+register_sound Dcbaap = sound_named (codes "dcbaap") (omega arith) refl
+register_sound Config = sound_named (codes "config") (omega arith) refl
+register_sound Iman = sound_named (codes "iman") (omega arith) refl
+register_sound Imod = sound_named (codes "imod") (omega arith) refl
+register_sound Erstsz = sound_named (codes "erstsz") (omega arith) refl
+register_sound Erstba = sound_named (codes "erstba") (omega arith) refl
+register_sound Erdp = sound_named (codes "erdp") (omega arith) refl
+
+kind_sound : (kind : RingKind) → IsSound (Word (ring_name kind))
+kind_sound Cmd = sound_named (codes "cmd") (omega arith) refl
+kind_sound Evt = sound_named (codes "evt") (omega arith) refl
+kind_sound Xfer = sound_named (codes "xfer") (omega arith) refl
+
+digits_8 : (n : ℕ) → IsSound (Digits (digits_of w8 n))
+digits_8 n = sound_digits w8 n (omega arith)
+
+digits_32 : (n : ℕ) → IsSound (Digits (digits_of w32 n))
+digits_32 n = sound_digits w32 n (omega arith)
+
+digits_64 : (n : ℕ) → IsSound (Digits (digits_of w64 n))
+digits_64 n = sound_digits w64 n (omega arith)
+
+segment_length : (segment : Segment) → length (printed (segment_field segment)) ≡ 21
+segment_length segment =
+    let bases = digits_of w64 segment.base in
+    let counts = digits_of w16 segment.count in
+    let sixteen : length bases ≡ 16 = length-digits_of w64 segment.base in
+    let four : length counts ≡ 4 = length-digits_of w16 segment.count in
+    let front : length (bases ++ codes ":") ≡ 17 = omega (arith, length-append bases (codes ":"), sixteen) in
+    omega (arith, length-append (bases ++ codes ":") counts, front, four)
+
+segment_sound : (segment : Segment) → IsSound (segment_field segment)
+segment_sound segment =
+    let bases = digits_of w64 segment.base in
+    let counts = digits_of w16 segment.count in
+    let lower : str_to_ascii_lowercase (bases ++ codes ":" ++ counts) ≡ bases ++ codes ":" ++ counts =
+    map-append to_ascii_lowercase (bases ++ codes ":") counts
+    ∙ ap (λ (xs : List ℕ). xs ++ str_to_ascii_lowercase counts) (map-append to_ascii_lowercase bases (codes ":") ∙ ap (λ (xs : List ℕ). xs ++ codes ":") (digits_stay_lower w64 segment.base))
+    ∙ ap (λ (xs : List ℕ). (bases ++ codes ":") ++ xs) (digits_stay_lower w16 segment.count) in
+    record {
+      some = omega (arith, segment_length segment);
+      plain =
+          All-append (λ c. 32 < c) (bases ++ codes ":") counts
+          (All-append (λ c. 32 < c) bases (codes ":") (plain_digits w64 segment.base) (plain_word (codes ":") refl)) (plain_digits w16 segment.count);
+      writes = are_same_bytes (str_to_ascii_lowercase (bases ++ codes ":" ++ counts)) (bases ++ codes ":" ++ counts) lower;
+    }
+
+block_sound : (block : Block) → AllSound (block_fields block)
+block_sound block = sound_map word_field digits_32 block.w
+
+blocks_sound : (blocks : List Block) → AllSound (flat_map block_fields blocks)
+blocks_sound [] = tt
+blocks_sound (block ∷ blocks) = sound_append (block_fields block) (flat_map block_fields blocks) (block_sound block) (blocks_sound blocks)
+
+pub row_sound : (row : Row) → AllSound (row_fields row)
+unfolding row_fields
+row_sound (Sub ring blocks) = (sound_named (codes "sub") (omega arith) refl, (digits_8 ring, blocks_sound blocks))
+row_sound (Write at word) = (sound_named (codes "w") (omega arith) refl, (digits_64 at, (digits_32 word, tt)))
+row_sound (Reg register value) = (sound_named (codes "reg") (omega arith) refl, (register_sound register, (digits_64 value, tt)))
+row_sound (Bell slot target) = (sound_named (codes "db") (omega arith) refl, (digits_8 slot, (digits_8 target, tt)))
+row_sound (Read event) = (sound_named (codes "ev") (omega arith) refl, block_sound event)
+
+pub ring_sound : (ring : Ring) → AllSound (ring_fields ring)
+unfolding ring_fields
+ring_sound ring = (
+  sound_named (codes "ring") (omega arith) refl,
+  (digits_8 ring.id, (kind_sound ring.shape.kind, sound_map segment_field segment_sound ring.shape.segments)),
+)
+
+-- ---- lengths
+
+words_length : (words : List ℕ) → spaced_length (map printed (map word_field words)) ≡ 9 * length words
+words_length [] = refl
+words_length (x ∷ words) =
+    let ih = words_length words in
+    let eight : length (digits_of w32 x) ≡ 8 = length-digits_of w32 x in
+    omega (arith, ih, eight)
+
+block_length : (block : Block) → IsBlock block → spaced_length (map printed (block_fields block)) ≡ 36
+block_length block is = let l = words_length block.w in omega (arith, l, is.0)
+
+blocks_length : (blocks : List Block) → All IsBlock blocks → spaced_length (map printed (flat_map block_fields blocks)) ≡ 36 * length blocks
+blocks_length [] are = refl
+blocks_length (block ∷ blocks) are =
+    let here = block_length block (All-head IsBlock block blocks are) in
+    let ih = blocks_length blocks (All-tail IsBlock block blocks are) in
+    let parts = map-append printed (block_fields block) (flat_map block_fields blocks) in
+    let all = ap (λ (xs : List (List ℕ)). spaced_length xs) parts ∙ spaced_length-append (map printed (block_fields block)) (map printed (flat_map block_fields blocks)) in
+    omega (arith, here, ih, all)
+
+segments_length : (segments : List Segment) → spaced_length (map printed (map segment_field segments)) ≡ 22 * length segments
+segments_length [] = refl
+segments_length (segment ∷ segments) = let ih = segments_length segments in omega (arith, ih, segment_length segment)
+
+register_length : (register : Register) → length (register_name register) ≤ 6
+register_length Usbcmd = omega arith
+register_length Usbsts = omega arith
+register_length Dnctrl = omega arith
+register_length Crcr = omega arith
+register_length Dcbaap = omega arith
+register_length Config = omega arith
+register_length Iman = omega arith
+register_length Imod = omega arith
+register_length Erstsz = omega arith
+register_length Erstba = omega arith
+register_length Erdp = omega arith
+
+kind_length : (kind : RingKind) → length (ring_name kind) ≤ 4
+kind_length Cmd = omega arith
+kind_length Evt = omega arith
+kind_length Xfer = omega arith
+
+two_digits : (n : ℕ) → length (digits_of w8 n) ≡ 2
+two_digits n = length-digits_of w8 n
+
+eight_digits : (n : ℕ) → length (digits_of w32 n) ≡ 8
+eight_digits n = length-digits_of w32 n
+
+sixteen_digits : (n : ℕ) → length (digits_of w64 n) ≡ 16
+sixteen_digits n = length-digits_of w64 n
+
+pub sub_length : (ring : ℕ) (blocks : List Block) → All IsBlock blocks → length blocks ≤ most_declared → spaced_length (map printed (row_fields (Sub ring blocks))) ≤ most_bytes
+unfolding row_fields
+sub_length ring blocks are few = omega (arith, two_digits ring, blocks_length blocks are)
+
+pub write_length : (at word : ℕ) → spaced_length (map printed (row_fields (Write at word))) ≤ most_bytes
+unfolding row_fields
+write_length at word = omega (arith, sixteen_digits at, eight_digits word)
+
+pub reg_length : (register : Register) (value : ℕ) → spaced_length (map printed (row_fields (Reg register value))) ≤ most_bytes
+unfolding row_fields
+reg_length register value = omega (arith, register_length register, sixteen_digits value)
+
+pub bell_length : (slot target : ℕ) → spaced_length (map printed (row_fields (Bell slot target))) ≤ most_bytes
+unfolding row_fields
+bell_length slot target = omega (arith, two_digits slot, two_digits target)
+
+pub read_length : (event : Block) → IsBlock event → spaced_length (map printed (row_fields (Read event))) ≤ most_bytes
+unfolding row_fields
+read_length event is = omega (arith, block_length event is)
+
+pub ring_length : (ring : Ring) → length ring.shape.segments ≤ 64 → spaced_length (map printed (ring_fields ring)) ≤ most_bytes
+unfolding ring_fields
+ring_length ring few = omega (arith, two_digits ring.id, kind_length ring.shape.kind, segments_length ring.shape.segments)

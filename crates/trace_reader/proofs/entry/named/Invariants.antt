@@ -1,0 +1,6 @@
+use Rattle.std.proofs.Common.{◌≡◌, drop}
+use Rattle.trace_reader.specs.Forms.{named}
+use Rattle.trace_reader.proofs.entry.named.Given as goal
+
+abbrev pub invariant-loop-register : goal.invariant-loop-register
+invariant-loop-register l = named l.fn.word l.fn.registers ≡ named l.fn.word (drop l.register-index l.registers)

@@ -1,0 +1,8 @@
+use Rattle.std.proofs.Common.{◌≡◌, ◌++◌, map, take, w32}
+use Rattle.line_text.specs.Numbers.{digits_of}
+use Rattle.trace_reader.specs.Printing.{spaced}
+use Rattle.trace_reader.specs.Spelling.{Digits}
+use Rattle.trace_reader.proofs.print.push_block.Given as goal
+
+abbrev pub invariant-loop-word : goal.invariant-loop-word
+invariant-loop-word l = l.out.items ≡ l.initial.out.items ++ spaced (map (λ w. Digits (digits_of w32 w)) (take l.word-index l.block.w))

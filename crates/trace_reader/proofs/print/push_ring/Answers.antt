@@ -1,0 +1,8 @@
+use Rattle.std.proofs.Common.{arith}
+use Rattle.std.proofs.lemmas.Grind.{common_steps}
+use Rattle.trace_reader.specs.Spelling.{ring_fields}
+use Rattle.trace_reader.proofs.LinePieces.{line_of}
+use Rattle.trace_reader.proofs.print.push_ring.Goals as goal
+
+pub returns : goal.returns
+returns c = rw (line_of (ring_fields c.args.ring.now)) (grind (arith, common_steps, c.in_ok-push_ring_fields.ensures, c.in_ok-extend_from_slice.ensures.items))

@@ -1,0 +1,7 @@
+use Rattle.std.proofs.Common.{◌≡◌, ◌++◌, map, take}
+use Rattle.std.specs.List.{flat_map}
+use Rattle.trace_reader.specs.Spelling.{printed_line, ring_fields}
+use Rattle.trace_reader.proofs.print.push_rings.Given as goal
+
+abbrev pub invariant-loop-ring : goal.invariant-loop-ring
+invariant-loop-ring l = l.out.items ≡ l.initial.out.items ++ flat_map printed_line (map ring_fields (take l.ring-index l.rings))

@@ -1,0 +1,7 @@
+use Rattle.std.proofs.Common.{◌≡◌, ◌++◌, map, take}
+use Rattle.std.specs.List.{flat_map}
+use Rattle.trace_reader.specs.Spelling.{printed_line, row_fields}
+use Rattle.trace_reader.proofs.print.push_rows.Given as goal
+
+abbrev pub invariant-loop-row : goal.invariant-loop-row
+invariant-loop-row l = l.out.items ≡ l.initial.out.items ++ flat_map printed_line (map row_fields (take l.row-index l.rows))

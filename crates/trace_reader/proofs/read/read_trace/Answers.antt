@@ -1,0 +1,51 @@
+use Rattle.std.proofs.Common.{◌∙◌, ap, sym, length}
+use Rattle.std.proofs.lemmas.Bool.{eqb-true}
+use Rattle.line_text.specs.Lines.{lines_of}
+use Rattle.trace_reader.specs.Entries.{state_of, text_of}
+use Rattle.trace_reader.specs.Reading.{read_lines}
+use Rattle.trace_reader.proofs.ReadSteps.{ended, prepend, read_on, stopped}
+use Rattle.trace_reader.proofs.Spelled.{one_trace, spelled_if_read}
+use Rattle.trace_reader.proofs.Unspelled.{err_also, ok_also, refused_unspelled}
+use Rattle.trace_reader.proofs.read.read_trace.Goals as goal
+
+pub loop-rest-preserved : goal.loop-rest-preserved
+loop-rest-preserved c =
+    let r = c.loop-rest.reader in
+    read_on c.args.text.now r.rows.items c.add.new.self.rows.items (state_of r) (state_of c.add.new.self) c.first_line-line.result.0 c.first_line-line.result.1.now
+    (lines_of c.loop-rest.rest.now) c.loop-rest.invariant c.first_line-line.ensures.lines c.in_default.ensures.ok
+
+pub returns-in-Err-clause-refused : goal.returns-in-Err-clause-refused
+returns-in-Err-clause-refused c =
+    let r = c.loop-rest.reader in
+    rw c.at_line.ensures
+    (stopped c.args.text.now r.rows.items (state_of r) c.first_line-line.result.0 (lines_of c.first_line-line.result.1.now) c.in-Err.error
+    (c.loop-rest.invariant ∙ ap (λ ls. prepend r.rows.items (read_lines (state_of r) ls)) c.first_line-line.ensures.lines) c.in-Err.ensures.err)
+
+pub finish-requires : goal.finish-requires
+finish-requires c =
+    let r = c.loop-rest.reader in
+    (c.args.text.now, ended c.args.text.now c.loop-rest.rest.now r.rows.items (state_of r) c.loop-rest.invariant (eqb-true (length c.loop-rest.rest.now) 0 (sym c.loop-rest-test.ensures)))
+
+pub returns-clause-read : goal.returns-clause-read
+returns-clause-read c =
+    let r = c.loop-rest.reader in
+    rw (ended c.args.text.now c.loop-rest.rest.now r.rows.items (state_of r) c.loop-rest.invariant (eqb-true (length c.loop-rest.rest.now) 0 (sym c.loop-rest-test.ensures))) c.finish.ensures.read
+
+pub returns-clause-refused : goal.returns-clause-refused
+returns-clause-refused c =
+    let r = c.loop-rest.reader in
+    rw (ended c.args.text.now c.loop-rest.rest.now r.rows.items (state_of r) c.loop-rest.invariant (eqb-true (length c.loop-rest.rest.now) 0 (sym c.loop-rest-test.ensures))) c.finish.ensures.refused
+
+pub returns-in-Err-clause-unspelled : goal.returns-in-Err-clause-unspelled
+returns-in-Err-clause-unspelled c = refused_unspelled c.args.text.now c.at_line.result (returns-in-Err-clause-refused c)
+
+pub returns-clause-spelled : goal.returns-clause-spelled
+returns-clause-spelled c = ok_also c.finish.result (λ trace is. (spelled_if_read c.args.text.now (text_of trace) is).0) (returns-clause-read c)
+
+pub returns-clause-alone : goal.returns-clause-alone
+returns-clause-alone c =
+    ok_also c.finish.result
+    (λ trace is other valid spelled. let s = spelled_if_read c.args.text.now (text_of trace) is in one_trace c.args.text.now other (text_of trace) spelled valid s.0 s.1) (returns-clause-read c)
+
+pub returns-clause-unspelled : goal.returns-clause-unspelled
+returns-clause-unspelled c = err_also c.finish.result (refused_unspelled c.args.text.now) (returns-clause-refused c)

@@ -1,0 +1,13 @@
+use Rattle.std.proofs.Common.{◌≡◌, length}
+use Rattle.line_text.specs.Lines.{lines_of}
+use Rattle.trace_reader.specs.Entries.{state_of}
+use Rattle.trace_reader.specs.Reading.{read_lines, start}
+use Rattle.trace_reader.proofs.ReadSteps.{prepend}
+use Rattle.trace_reader.proofs.read.read_trace.Given as goal
+
+-- the text that is left
+abbrev pub decreases-loop-rest : goal.decreases-loop-rest
+decreases-loop-rest l = length l.rest
+
+abbrev pub invariant-loop-rest : goal.invariant-loop-rest
+invariant-loop-rest l = read_lines start (lines_of l.text) ≡ prepend l.reader.rows.items (read_lines (state_of l.reader) (lines_of l.rest))

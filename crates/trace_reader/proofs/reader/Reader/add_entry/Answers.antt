@@ -1,0 +1,30 @@
+use Rattle.std.proofs.Common.{ap, sym, refl}
+use Rattle.std.specs.Prelude.{not}
+use Rattle.std.proofs.lemmas.Result.{err_from_is_err_and}
+use Rattle.trace_reader.specs.Entries.{state_of, value_of}
+use Rattle.trace_reader.proofs.ReadSteps.{line_entry, line_error}
+use Rattle.trace_reader.proofs.reader.Reader.add_entry.Goals as goal
+
+pub returns-in_err-row-clause-err : goal.returns-in_err-row-clause-err
+returns-in_err-row-clause-err c =
+    let p = err_from_is_err_and c.from_residual.result c.from_residual.ensures.1 in
+    let st = state_of c.args.self.now in
+    rw (p.1, p.2) (line_error st c.args.line.now c.in_err-row.field-0.0 c.requires (c.in_err-row.ensures.answer st refl (ap not (sym c.is_empty.ensures))))
+
+pub returns-in-Row-clause-ok : goal.returns-in-Row-clause-ok
+returns-in-Row-clause-ok c =
+    let st = state_of c.args.self.now in
+    let is = line_entry st c.args.line.now (value_of c.in_ok-row.field-0) c.requires (c.in_ok-row.ensures.answer st refl (ap not (sym c.is_empty.ensures))) in
+    rw (is, c.in-Row.is) c.add_row.ensures.ok
+
+pub returns-in-Ring-clause-ok : goal.returns-in-Ring-clause-ok
+returns-in-Ring-clause-ok c =
+    let st = state_of c.args.self.now in
+    let is = line_entry st c.args.line.now (value_of c.in_ok-row.field-0) c.requires (c.in_ok-row.ensures.answer st refl (ap not (sym c.is_empty.ensures))) in
+    rw (is, c.in-Ring.is) c.add_ring.ensures.ok
+
+pub returns-in-Ring-clause-err : goal.returns-in-Ring-clause-err
+returns-in-Ring-clause-err c =
+    let st = state_of c.args.self.now in
+    let is = line_entry st c.args.line.now (value_of c.in_ok-row.field-0) c.requires (c.in_ok-row.ensures.answer st refl (ap not (sym c.is_empty.ensures))) in
+    rw (is, c.in-Ring.is) c.add_ring.ensures.err

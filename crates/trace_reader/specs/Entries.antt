@@ -1,0 +1,123 @@
+-- What the reader's functions answer, in the words of Reading
+use Rattle.std.specs.Prelude.{◌≡◌, ℕ, ◌&&◌, Bool, not, List, [], ◌∷◌, ◌++◌, length, Option, Some, None, Result, Ok, Err, nat_lt, vec_len, ◌==◌, codes, if◌then◌else◌}
+use Rattle.std.specs.Option.{option_map_or}
+use Rattle.std.specs.Str.{bytes_eq}
+use Rattle.segments.specs.ShapeValue.{shape_of}
+use Rattle.line_text.specs.Fields.{fields_of, has_empty_field}
+use Rattle.line_text.specs.Lines.{TextLine}
+use Rattle.trace_reader.specs.declared.fault.LineFault.{LineFault}
+use Rattle.trace_reader.specs.declared.fault.LineFault.TheVariants.{Row as BadRow, Number, Limit, Shape}
+use Rattle.trace_reader.specs.declared.fault.LineError.{LineError}
+use Rattle.trace_reader.specs.declared.fault.LineError.TheVariants.{Fault, Memory}
+use Rattle.trace_reader.specs.declared.fault.ReadFault.{ReadFault}
+use Rattle.trace_reader.specs.declared.fault.ReadFault.TheVariants.{Line, Memory as NoMemory}
+use Rattle.trace_reader.specs.declared.entry.Entry.{Entry}
+use Rattle.trace_reader.specs.declared.entry.Entry.TheVariants.{Row as RowEntry, Ring as RingEntry}
+use Rattle.trace_reader.specs.declared.entry.RingEntry.{RingEntry as LineOfRing}
+use Rattle.trace_reader.specs.declared.entry.FirstWord.{FirstWord}
+use Rattle.trace_reader.specs.declared.reader.Reader.{Reader}
+use Rattle.trace_reader.specs.declared.ring.Ring.{Ring}
+use Rattle.trace_reader.specs.declared.entry.FirstWord.TheVariants.{Sub as SubWord, W, Reg as RegWord, Db, Ev, Ring as RingWord}
+use Rattle.trace_reader.specs.declared.row.Row.{Row}
+use Rattle.trace_reader.specs.declared.trace.Trace.{Trace}
+use Rattle.trace_reader.specs.Forms.{Form, form_of, is_ring_form, sub_form, write_form, reg_form, bell_form, read_form, ring_form}
+use Rattle.trace_reader.specs.Limits.{most_bytes}
+use Rattle.trace_reader.specs.Reading.{State, TraceText, is_bad_row, is_past_limit, is_misplaced, is_too_long, said_in, with_said}
+use Rattle.trace_reader.specs.Values.{Said, SaysRow, SaysRing, said_of}
+
+-- a ring as its line says
+abbrev pub ring_of : LineOfRing → Ring
+ring_of ring = record { id = ring.id; shape = shape_of ring.kind ring.segments.items }
+
+-- what a read line says
+abbrev pub value_of : Entry → Said
+value_of (RowEntry row) = SaysRow row
+value_of (RingEntry ring) = SaysRing (ring_of ring)
+
+-- the answer is the wanted one, or memory was wanting
+abbrev pub Answers : Result Entry LineError → Result Said LineFault → Type 0
+Answers (Ok entry) wanted = wanted ≡ Ok (value_of entry)
+Answers (Err (Fault fault)) wanted = wanted ≡ Err fault
+Answers (Err Memory) wanted = Unit {0}
+
+-- what a fault says; want of memory says nothing
+abbrev pub IfFault : LineError → (LineFault → Type 0) → Type 0
+IfFault (Fault fault) P = P fault
+IfFault Memory P = Unit {0}
+
+abbrev pub IfBadLine : ReadFault → (ℕ → LineFault → Type 0) → Type 0
+IfBadLine (Line line fault) P = P line fault
+IfBadLine NoMemory P = Unit {0}
+
+-- the fault of the line with this number
+abbrev pub at_line : ℕ → LineError → ReadFault
+at_line line (Fault fault) = Line line fault
+at_line line Memory = NoMemory
+
+-- a line's first word
+unfoldable pub word_named : List ℕ → Option FirstWord
+word_named word =
+    if bytes_eq word (codes "sub") then Some SubWord
+    else if bytes_eq word (codes "w") then Some W
+    else if bytes_eq word (codes "reg") then Some RegWord
+    else if bytes_eq word (codes "db") then Some Db
+    else if bytes_eq word (codes "ev") then Some Ev
+    else if bytes_eq word (codes "ring") then Some RingWord
+    else None
+
+-- the form of the fields behind the first word
+abbrev pub form_behind : Option FirstWord → List (List ℕ) → Option Form
+form_behind (Some SubWord) fields = sub_form fields
+form_behind (Some W) fields = write_form fields
+form_behind (Some RegWord) fields = reg_form fields
+form_behind (Some Db) fields = bell_form fields
+form_behind (Some Ev) fields = read_form fields
+form_behind (Some RingWord) fields = ring_form fields
+form_behind None fields = None
+
+-- a line of this form, by its numbers
+abbrev pub said_by : Option Form → Result Said LineFault
+said_by None = Err BadRow
+said_by (Some form) = option_map_or Ok (said_of form) (Err Number)
+
+abbrev pub unless_begun : Bool → Option Form → Option Form
+unless_begun begun None = None
+unless_begun begun (Some form) = if begun && is_ring_form form then None else Some form
+
+-- a line of these fields; behind a row no ring may follow
+unfoldable pub said_by_fields : Bool → List (List ℕ) → Result Said LineFault
+said_by_fields begun fields = said_by (unless_begun begun (form_of fields))
+
+-- the fault of a line before its fields are looked at
+unfoldable pub content_fault : TextLine → Option LineFault
+content_fault line =
+    if nat_lt most_bytes (length line.content) then Some Limit
+    else if not line.is_ended then Some BadRow
+    else if has_empty_field (fields_of line.content) then Some BadRow
+    else None
+
+-- a line behind the header, before its ring is placed among the others
+unfoldable pub said_by_line : State → TextLine → Result Said LineFault
+said_by_line st line =
+    if is_too_long line then Err Limit
+    else if is_bad_row st line then Err BadRow
+    else option_map_or (λ said. if is_past_limit st line then Err Limit else Ok said) (said_in line) (Err Number)
+
+-- what a trace says
+abbrev pub text_of : Trace → TraceText
+text_of trace = record { header = trace.header; first = trace.first; rows = trace.rows }
+
+-- what the reader holds
+abbrev pub state_of : Reader → State
+state_of r = record { lines = r.lines; size = r.size; rings = r.rings.items; begun = not (vec_len r.rows == 0) }
+
+-- the rows so far, and the row of the next line, if it says one
+abbrev pub took_in : List Row → Result (State × Option Row) LineFault → Result (State × List Row) LineFault
+took_in rows (Ok (st, Some row)) = Ok (st, rows ++ row ∷ [])
+took_in rows (Ok (st, None)) = Ok (st, rows)
+took_in rows (Err fault) = Err fault
+
+-- a line behind the header, with its ring among those before it
+abbrev pub placed : State → Result Said LineFault → Result (State × Option Row) LineFault
+placed st (Err fault) = Err fault
+placed st (Ok said) = if is_misplaced st.rings said then Err Shape else Ok (with_said st (Some said))

@@ -1,0 +1,290 @@
+ghost use Rattle.std.specs.Prelude.{◌≡◌, ◌≤◌, ◌∷◌, Some, None, length, map, IfOk, IfErr, IfSome, IfNone};
+ghost use Rattle.segments.specs.ShapeValue.{segment_of};
+ghost use Rattle.trace_reader.specs.declared.fault.LineFault.{LineFault};
+ghost use Rattle.trace_reader.specs.Entries.{Answers, IfFault, said_by, said_by_fields, unless_begun, word_named};
+ghost use Rattle.trace_reader.specs.Forms.{bell_form, kind_named, named, read_form, reg_form, register_named, ring_form, sub_form, write_form};
+ghost use Rattle.trace_reader.specs.Values.{SaysRow, block_of, blocks_of, cons, register_value_of, said_of, segments_of, word_address_of};
+ghost use Rattle.trace_reader.specs.Values as values;
+
+use crate::fault::{LineError, LineFault};
+use crate::register::Register;
+use crate::row::Row;
+use guest_memory::Addr;
+use line_text::{Fields, u8_of, u16_of, u32_of, u64_of};
+use std::alloc::Global;
+use trb::{Block, Blocks, RingKind};
+
+/// What a line behind the header says.
+#[derive(Drop)]
+pub enum Entry {
+    Row(Row),
+    Ring(RingEntry),
+}
+
+/// What the line of a ring says; its segments may make no ring.
+#[derive(Drop)]
+pub struct RingEntry {
+    pub id: u8,
+    pub kind: RingKind,
+    pub segments: Vec<(u64, u16)>,
+}
+
+/// The entry of a line with these fields, of which there are `count`. A ring line has its place only where no row has
+/// `begun` the rows.
+pub fn entry_of(
+    alloc: Global,
+    begun: bool,
+    count: usize,
+    mut fields: Fields,
+) -> Result<Entry, LineError>
+    requires { count ≡ length fields }
+    ensures { Answers result (said_by_fields begun fields.entry) }
+{
+    let Some(word) = fields.next() else {
+        return Err(LineFault::Row.into());
+    };
+    match word_named(word) {
+        Some(FirstWord::Sub) => sub_entry(alloc, count - 1, fields),
+        Some(FirstWord::W) => write_entry(fields),
+        Some(FirstWord::Reg) => reg_entry(fields),
+        Some(FirstWord::Db) => bell_entry(fields),
+        Some(FirstWord::Ev) => read_entry(fields),
+        Some(FirstWord::Ring) => ring_entry(alloc, begun, count - 1, fields),
+        None => Err(LineFault::Row.into()),
+    }
+}
+
+/// What a line behind the header begins with.
+#[derive(Clone, Copy)]
+enum FirstWord {
+    Sub,
+    W,
+    Reg,
+    Db,
+    Ev,
+    Ring,
+}
+
+#[tactic(auto, unfolding(crate::specs::Entries::word_named))]
+fn word_named(word: &[u8]) -> Option<FirstWord>
+    ensures { result ≡ word_named word.now }
+{
+    if word == b"sub".as_slice() {
+        Some(FirstWord::Sub)
+    } else if word == b"w".as_slice() {
+        Some(FirstWord::W)
+    } else if word == b"reg".as_slice() {
+        Some(FirstWord::Reg)
+    } else if word == b"db".as_slice() {
+        Some(FirstWord::Db)
+    } else if word == b"ev".as_slice() {
+        Some(FirstWord::Ev)
+    } else if word == b"ring".as_slice() {
+        Some(FirstWord::Ring)
+    } else {
+        None
+    }
+}
+
+#[tactic(auto, unfolding(crate::specs::Values::said_of))]
+fn sub_entry(alloc: Global, count: usize, mut fields: Fields) -> Result<Entry, LineError>
+    requires { count ≡ length fields }
+    ensures { Answers result (said_by (sub_form fields.entry)) }
+{
+    let Some(ring) = fields.next() else {
+        return Err(LineFault::Row.into());
+    };
+    if count == 1 || count % 4 != 1 {
+        return Err(LineFault::Row.into());
+    }
+    let ring = u8_of(ring).ok_or(LineFault::Number)?;
+    let blocks = blocks_of(alloc, fields)?;
+    Ok(Entry::Row(Row::Sub {
+        ring,
+        blocks: Blocks::new(blocks),
+    }))
+}
+
+#[tactic(auto, unfolding(crate::specs::Values::said_of))]
+fn write_entry(mut fields: Fields) -> Result<Entry, LineError>
+    ensures { Answers result (said_by (write_form fields.entry)) }
+{
+    let (Some(address), Some(word), None) = (fields.next(), fields.next(), fields.next()) else {
+        return Err(LineFault::Row.into());
+    };
+    let at = word_address_of(address).ok_or(LineFault::Number)?;
+    let word = u32_of(word).ok_or(LineFault::Number)?;
+    Ok(Entry::Row(Row::Write { at, word }))
+}
+
+#[tactic(auto, unfolding(crate::specs::Values::said_of))]
+fn reg_entry(mut fields: Fields) -> Result<Entry, LineError>
+    ensures { Answers result (said_by (reg_form fields.entry)) }
+{
+    let (Some(name), Some(value), None) = (fields.next(), fields.next(), fields.next()) else {
+        return Err(LineFault::Row.into());
+    };
+    let register = register_named(name).ok_or(LineFault::Row)?;
+    let value = register_value_of(register, value).ok_or(LineFault::Number)?;
+    Ok(Entry::Row(Row::Reg { register, value }))
+}
+
+#[tactic(auto, unfolding(crate::specs::Values::said_of))]
+fn bell_entry(mut fields: Fields) -> Result<Entry, LineError>
+    ensures { Answers result (said_by (bell_form fields.entry)) }
+{
+    let (Some(slot), Some(target), None) = (fields.next(), fields.next(), fields.next()) else {
+        return Err(LineFault::Row.into());
+    };
+    let slot = u8_of(slot).ok_or(LineFault::Number)?;
+    let target = u8_of(target).ok_or(LineFault::Number)?;
+    Ok(Entry::Row(Row::Bell { slot, target }))
+}
+
+#[tactic(auto, unfolding(crate::specs::Values::said_of))]
+fn read_entry(mut fields: Fields) -> Result<Entry, LineError>
+    ensures { Answers result (said_by (read_form fields.entry)) }
+{
+    let words = (fields.next(), fields.next(), fields.next(), fields.next());
+    let (Some(a), Some(b), Some(c), Some(d)) = words else {
+        return Err(LineFault::Row.into());
+    };
+    if fields.next().is_some() {
+        return Err(LineFault::Row.into());
+    }
+    let event = block_of(a, b, c, d).ok_or(LineFault::Number)?;
+    Ok(Entry::Row(Row::Read { event }))
+}
+
+#[tactic(auto, unfolding(crate::specs::Values::said_of))]
+fn ring_entry(
+    alloc: Global,
+    begun: bool,
+    count: usize,
+    mut fields: Fields,
+) -> Result<Entry, LineError>
+    requires { count ≡ length fields }
+    ensures { Answers result (said_by (unless_begun begun (ring_form fields.entry))) }
+{
+    let (Some(id), Some(kind)) = (fields.next(), fields.next()) else {
+        return Err(LineFault::Row.into());
+    };
+    if begun || count < 3 {
+        return Err(LineFault::Row.into());
+    }
+    let kind = kind_named(kind).ok_or(LineFault::Row)?;
+    let id = u8_of(id).ok_or(LineFault::Number)?;
+    let segments = segments_of(alloc, fields)?;
+    Ok(Entry::Ring(RingEntry { id, kind, segments }))
+}
+
+#[tactic(auto, unfolding(crate::specs::Forms::kind_named))]
+fn kind_named(word: &[u8]) -> Option<RingKind>
+    ensures { result ≡ kind_named word.now }
+{
+    if word == b"cmd".as_slice() {
+        Some(RingKind::Cmd)
+    } else if word == b"evt".as_slice() {
+        Some(RingKind::Evt)
+    } else if word == b"xfer".as_slice() {
+        Some(RingKind::Xfer)
+    } else {
+        None
+    }
+}
+
+#[tactic(auto, unfolding(crate::specs::Forms::register_named))]
+fn register_named(word: &[u8]) -> Option<Register>
+    ensures { result ≡ register_named word.now }
+{
+    named(word, &Register::ALL)
+}
+
+/// The first of these registers that has this word.
+fn named(word: &[u8], registers: &[Register]) -> Option<Register>
+    ensures { result ≡ named word.now registers.now }
+{
+    for register in registers {
+        if word == register.name().as_bytes() {
+            return Some(*register);
+        }
+    }
+    None
+}
+
+/// The address of a word.
+#[tactic(auto, unfolding(crate::specs::Values::word_address_of))]
+fn word_address_of(field: &[u8]) -> Option<Addr>
+    ensures { result ≡ word_address_of field.now }
+{
+    Addr::new(u64_of(field)?)
+}
+
+#[tactic(auto, unfolding(crate::specs::Values::register_value_of))]
+fn register_value_of(register: Register, field: &[u8]) -> Option<u64>
+    ensures { result ≡ register_value_of register field.now }
+{
+    let value = u64_of(field)?;
+    if !register.is_wide() && value > u64::from(u32::MAX) {
+        return None;
+    }
+    Some(value)
+}
+
+/// The block of four words.
+#[tactic(auto, unfolding(crate::specs::Values::block_of))]
+fn block_of(a: &[u8], b: &[u8], c: &[u8], d: &[u8]) -> Option<Block>
+    ensures { result ≡ block_of a.now b.now c.now d.now }
+{
+    Some(Block {
+        w: [u32_of(a)?, u32_of(b)?, u32_of(c)?, u32_of(d)?],
+    })
+}
+
+/// The block of a word and the next three.
+#[tactic(auto, unfolding(crate::specs::Values::blocks_of))]
+fn next_block(a: &[u8], fields: &mut Fields) -> Option<Block>
+    ensures some { IfSome result (λ block. blocks_of (a.now ∷ fields.old) ≡ cons (Some block) (blocks_of fields.new)) }
+    ensures none { IfNone result (blocks_of (a.now ∷ fields.old) ≡ None) }
+    ensures fewer { length fields.new ≤ length fields.old }
+{
+    block_of(a, fields.next()?, fields.next()?, fields.next()?)
+}
+
+/// The blocks of words, four for each.
+fn blocks_of(alloc: Global, mut fields: Fields) -> Result<Vec<Block>, LineError>
+    ensures ok { IfOk result (λ blocks. blocks_of fields.entry ≡ Some blocks.items) }
+    ensures err { IfErr result (λ e. IfFault e (λ f. (f ≡ LineFault.Number) × (blocks_of fields.entry ≡ None))) }
+{
+    let mut blocks = Vec::new(alloc);
+    while let Some(word) = fields.next() {
+        let block = next_block(word, &mut fields).ok_or(LineFault::Number)?;
+        blocks.push(block)?;
+    }
+    Ok(blocks)
+}
+
+/// A segment, `BASE:COUNT`.
+#[tactic(auto, unfolding(crate::specs::Values::segment_of))]
+fn segment_of(field: &[u8]) -> Option<(u64, u16)>
+    ensures some { IfSome result (λ pair. values.segment_of field.now ≡ Some (segment_of pair)) }
+    ensures none { IfNone result (values.segment_of field.now ≡ None) }
+{
+    if field.len() != 21 || field[16] != b':' {
+        return None;
+    }
+    Some((u64_of(&field[..16])?, u16_of(&field[17..])?))
+}
+
+#[tactic(auto, using(crate::proofs::Prefixes::one_mapped), unfolding(crate::specs::Values::segments_of))]
+fn segments_of(alloc: Global, mut fields: Fields) -> Result<Vec<(u64, u16)>, LineError>
+    ensures ok { IfOk result (λ segments. segments_of fields.entry ≡ Some (map segment_of segments.items)) }
+    ensures err { IfErr result (λ e. IfFault e (λ f. (f ≡ LineFault.Number) × (segments_of fields.entry ≡ None))) }
+{
+    let mut segments = Vec::new(alloc);
+    while let Some(field) = fields.next() {
+        let segment = segment_of(field).ok_or(LineFault::Number)?;
+        segments.push(segment)?;
+    }
+    Ok(segments)
+}

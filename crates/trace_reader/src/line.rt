@@ -1,0 +1,88 @@
+ghost use Rattle.std.specs.Prelude.{◌≡◌, ◌≤◌, ◌+◌, Some, None, OnOk, IfOk, IfErr};
+ghost use Rattle.trace_reader.specs.Entries.{Answers, content_fault, said_by_line, value_of};
+ghost use Rattle.trace_reader.specs.Limits.{most_lines};
+ghost use Rattle.trace_reader.specs.Reading.{State, is_too_much, is_version, size_of};
+
+use crate::entry::{Entry, entry_of};
+use crate::fault::{LineError, LineFault};
+use crate::row::Row;
+use contexts::ContextSize;
+use line_text::{Fields, Line, Survey};
+use std::alloc::Global;
+
+/// Lines of a text.
+pub const MOST_LINES: u32 = 1048576;
+
+/// Bytes of a line before its line feed.
+pub const MOST_BYTES: usize = 16384;
+
+/// Blocks of one declaration.
+pub const MOST_BLOCKS: usize = 256;
+
+/// The first line of a trace.
+#[tactic(auto, unfolding(crate::specs::Reading::is_version))]
+pub fn is_version(line: &Line) -> bool
+    ensures { result ≡ is_version line.now }
+{
+    line.is_ended() && line.content() == b"xtrace 1".as_slice()
+}
+
+/// The second line of a trace.
+#[tactic(auto, unfolding(crate::specs::Reading::size_of))]
+pub fn size_of(line: &Line) -> Option<ContextSize>
+    ensures { result ≡ size_of line.now }
+{
+    if line.is_ended() && line.content() == b"ctx 20".as_slice() {
+        Some(ContextSize::Bytes32)
+    } else if line.is_ended() && line.content() == b"ctx 40".as_slice() {
+        Some(ContextSize::Bytes64)
+    } else {
+        None
+    }
+}
+
+/// What a line behind the header says; `lines` were read before it, and rows if they have `begun`.
+pub fn entry_in(alloc: Global, lines: u32, begun: bool, line: &Line) -> Result<Entry, LineError>
+    ensures answer { (st : State) → st.lines ≡ lines → st.begun ≡ begun → Answers result (said_by_line st line.now) }
+    ensures within { OnOk result (lines + 1 ≤ most_lines) }
+{
+    let content = content_of(line)?;
+    let entry = entry_of(alloc, begun, Survey::of(content).count, Fields::of(content))?;
+    if lines >= MOST_LINES {
+        return Err(LineFault::Limit.into());
+    }
+    if is_too_much(&entry) {
+        return Err(LineFault::Limit.into());
+    }
+    Ok(entry)
+}
+
+/// The bytes of a line that has not too many, ends with a line feed, and has no empty field.
+#[tactic(auto, unfolding(crate::specs::Entries::content_fault))]
+pub fn content_of<'a>(line: &Line<'a>) -> Result<&'a [u8], LineFault>
+    ensures content { IfOk result (λ content. content.now ≡ line.now.content) }
+    ensures whole { OnOk result (content_fault line.now ≡ None) }
+    ensures fault { IfErr result (λ fault. content_fault line.now ≡ Some fault) }
+{
+    let content = line.content();
+    if content.len() > MOST_BYTES {
+        return Err(LineFault::Limit);
+    }
+    if !line.is_ended() {
+        return Err(LineFault::Row);
+    }
+    if Survey::of(content).has_empty {
+        return Err(LineFault::Row);
+    }
+    Ok(content)
+}
+
+/// It declares too many blocks.
+fn is_too_much(entry: &Entry) -> bool
+    ensures { result ≡ is_too_much (value_of entry.now) }
+{
+    match entry {
+        Entry::Row(Row::Sub { blocks, .. }) => blocks.as_slice().len() > MOST_BLOCKS,
+        _ => false,
+    }
+}

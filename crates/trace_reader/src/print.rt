@@ -1,0 +1,173 @@
+ghost use Rattle.std.specs.Prelude.{◌≡◌, ◌++◌, ◌∷◌, [], Ok, map, OnOk, IfOk};
+ghost use Rattle.std.specs.List.{flat_map};
+ghost use Rattle.trace_reader.specs.Entries.{text_of};
+ghost use Rattle.trace_reader.specs.Reading.{trace_of};
+ghost use Rattle.trace_reader.specs.Spelling.{block_fields, printed, printed_line, printed_trace, ring_fields, row_fields, segment_field, size_fields, version_fields};
+ghost use Rattle.trace_reader.specs.Printing.{in_a_row, spaced};
+
+use crate::header::Header;
+use crate::ring::Ring;
+use crate::row::Row;
+use crate::trace::Trace;
+use contexts::ContextSize;
+use line_text::{push_u8, push_u16, push_u32, push_u64};
+use segments::Segment;
+use std::alloc::{AllocError, Global};
+use trb::Block;
+
+/// The text of a trace, with its numbers in lower case.
+pub fn print_trace(alloc: Global, trace: &Trace) -> Result<Vec<u8>, AllocError>
+    ensures printed { IfOk result (λ out. out.items ≡ printed_trace (text_of trace.now)) }
+    // What is printed is read as the same trace.
+    ensures reread { IfOk result (λ out. trace_of out.items ≡ Ok (text_of trace.now)) }
+{
+    let mut out = Vec::new(alloc);
+    push_header(&mut out, &trace.header)?;
+    push_rows(&mut out, trace.rows.as_slice())?;
+    Ok(out)
+}
+
+/// Appends the lines before the rows.
+fn push_header(out: &mut Vec<u8>, header: &Header) -> Result<(), AllocError>
+    ensures { OnOk result (out.new.items ≡ out.old.items ++ printed_line version_fields ++ printed_line (size_fields header.now.context_size) ++ flat_map printed_line (map ring_fields header.now.rings)) }
+{
+    out.extend_from_slice(b"xtrace 1\n")?;
+    push_size(out, header.context_size)?;
+    push_rings(out, header.rings.as_slice())
+}
+
+#[tactic(auto, using(crate::proofs::LinePieces::line_of))]
+fn push_size(out: &mut Vec<u8>, size: ContextSize) -> Result<(), AllocError>
+    ensures { OnOk result (out.new.items ≡ out.old.items ++ printed_line (size_fields size)) }
+{
+    match size {
+        ContextSize::Bytes32 => out.extend_from_slice(b"ctx 20\n"),
+        ContextSize::Bytes64 => out.extend_from_slice(b"ctx 40\n"),
+    }
+}
+
+fn push_rings(out: &mut Vec<u8>, rings: &[Ring]) -> Result<(), AllocError>
+    ensures { OnOk result (out.new.items ≡ out.old.items ++ flat_map printed_line (map ring_fields rings.now)) }
+{
+    for ring in rings {
+        push_ring(out, ring)?;
+    }
+    Ok(())
+}
+
+fn push_rows(out: &mut Vec<u8>, rows: &[Row]) -> Result<(), AllocError>
+    ensures { OnOk result (out.new.items ≡ out.old.items ++ flat_map printed_line (map row_fields rows.now)) }
+{
+    for row in rows {
+        push_row(out, row)?;
+    }
+    Ok(())
+}
+
+/// Appends the line of a ring.
+#[tactic(auto, using(crate::proofs::LinePieces::line_of))]
+pub fn push_ring(out: &mut Vec<u8>, ring: &Ring) -> Result<(), AllocError>
+    ensures { OnOk result (out.new.items ≡ out.old.items ++ printed_line (ring_fields ring.now)) }
+{
+    push_ring_fields(out, ring)?;
+    out.extend_from_slice(b"\n")?;
+    Ok(())
+}
+
+/// Appends the fields of a ring's line, with a space between each two.
+#[tactic(auto, unfolding(crate::specs::Spelling::ring_fields))]
+fn push_ring_fields(out: &mut Vec<u8>, ring: &Ring) -> Result<(), AllocError>
+    ensures { OnOk result (out.new.items ≡ out.old.items ++ in_a_row (ring_fields ring.now)) }
+{
+    out.extend_from_slice(b"ring ")?;
+    push_u8(out, ring.id)?;
+    out.extend_from_slice(b" ")?;
+    out.extend_from_slice(ring.shape.kind().name().as_bytes())?;
+    push_segments(out, ring.shape.segments())
+}
+
+/// Appends the line of a row.
+#[tactic(auto, using(crate::proofs::LinePieces::line_of))]
+pub fn push_row(out: &mut Vec<u8>, row: &Row) -> Result<(), AllocError>
+    ensures { OnOk result (out.new.items ≡ out.old.items ++ printed_line (row_fields row.now)) }
+{
+    push_fields(out, row)?;
+    out.extend_from_slice(b"\n")?;
+    Ok(())
+}
+
+/// Appends the fields of a row, with a space between each two.
+#[tactic(auto, unfolding(crate::specs::Spelling::row_fields))]
+fn push_fields(out: &mut Vec<u8>, row: &Row) -> Result<(), AllocError>
+    ensures { OnOk result (out.new.items ≡ out.old.items ++ in_a_row (row_fields row.now)) }
+{
+    match row {
+        Row::Sub { ring, blocks } => {
+            out.extend_from_slice(b"sub ")?;
+            push_u8(out, *ring)?;
+            push_blocks(out, blocks.as_slice())
+        }
+        Row::Write { at, word } => {
+            out.extend_from_slice(b"w ")?;
+            push_u64(out, at.get())?;
+            out.extend_from_slice(b" ")?;
+            push_u32(out, *word)
+        }
+        Row::Reg { register, value } => {
+            out.extend_from_slice(b"reg ")?;
+            out.extend_from_slice(register.name().as_bytes())?;
+            out.extend_from_slice(b" ")?;
+            push_u64(out, *value)
+        }
+        Row::Bell { slot, target } => {
+            out.extend_from_slice(b"db ")?;
+            push_u8(out, *slot)?;
+            out.extend_from_slice(b" ")?;
+            push_u8(out, *target)
+        }
+        Row::Read { event } => {
+            out.extend_from_slice(b"ev")?;
+            push_block(out, event)
+        }
+    }
+}
+
+/// Appends the words of blocks, each behind a space.
+fn push_blocks(out: &mut Vec<u8>, blocks: &[Block]) -> Result<(), AllocError>
+    ensures { OnOk result (out.new.items ≡ out.old.items ++ spaced (flat_map block_fields blocks.now)) }
+{
+    for block in blocks {
+        push_block(out, block)?;
+    }
+    Ok(())
+}
+
+/// Appends the words of a block, each behind a space.
+fn push_block(out: &mut Vec<u8>, block: &Block) -> Result<(), AllocError>
+    ensures { OnOk result (out.new.items ≡ out.old.items ++ spaced (block_fields block.now)) }
+{
+    for word in &block.w {
+        out.extend_from_slice(b" ")?;
+        push_u32(out, *word)?;
+    }
+    Ok(())
+}
+
+/// Appends segments, `BASE:COUNT` each behind a space.
+fn push_segments(out: &mut Vec<u8>, segments: &[Segment]) -> Result<(), AllocError>
+    ensures { OnOk result (out.new.items ≡ out.old.items ++ spaced (map segment_field segments.now)) }
+{
+    for segment in segments {
+        push_segment(out, *segment)?;
+    }
+    Ok(())
+}
+
+fn push_segment(out: &mut Vec<u8>, segment: Segment) -> Result<(), AllocError>
+    ensures { OnOk result (out.new.items ≡ out.old.items ++ 32 ∷ printed (segment_field segment)) }
+{
+    out.extend_from_slice(b" ")?;
+    push_u64(out, segment.base)?;
+    out.extend_from_slice(b":")?;
+    push_u16(out, segment.count)
+}

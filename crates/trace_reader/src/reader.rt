@@ -1,0 +1,20 @@
+ghost use Rattle.std.specs.Prelude.{◌≤◌, vec_len};
+ghost use Rattle.trace_reader.specs.Limits.{most_lines};
+
+use crate::ring::Ring;
+use crate::row::Row;
+use contexts::ContextSize;
+use std::alloc::Global;
+
+/// What the lines so far have said.
+#[derive(Drop)]
+pub struct Reader {
+    pub alloc: Global,
+    pub size: ContextSize,
+    pub rings: Vec<Ring>,
+    pub rows: Vec<Row>,
+    /// How many lines were read.
+    pub lines: u32,
+    pub ghost counted: { vec_len rows ≤ lines },
+    pub ghost within: { lines ≤ most_lines },
+}
