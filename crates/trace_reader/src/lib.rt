@@ -15,6 +15,7 @@ mod row;
 mod step;
 mod trace;
 
+pub use entry::block_of;
 pub use fault::{LineFault, ReadFault};
 pub use header::{Header, Rings};
 pub use print::{print_trace, push_ring, push_row};

@@ -14,7 +14,7 @@ use Rattle.xhci_cli.specs.declared.writer.fault.PlanFault.TheVariants.{Line as B
 use Rattle.xhci_cli.specs.declared.reader.fault.ReadFault.{ReadFault}
 use Rattle.xhci_cli.specs.declared.reader.fault.ReadFault.TheVariants.{Line, Memory as OutOfMemory}
 use Rattle.xhci_cli.specs.declared.answer.Answer.{Answer}
-use Rattle.xhci_cli.specs.declared.answer.Answer.TheVariants.{Accepted, Refused, Unfollowed, BadLine, Memory, Device}
+use Rattle.xhci_cli.specs.declared.answer.Answer.TheVariants.{Accepted, Refused, Unfollowed, BadLine, BadWord, Memory, Device}
 use Rattle.xhci_cli.specs.declared.answer.Status.{Status}
 use Rattle.xhci_cli.specs.declared.answer.Status.TheVariants.{Clean, Unclean, Unreadable, Unanswered}
 
@@ -24,6 +24,7 @@ status_of (Accepted leases) = Clean
 status_of (Refused row refusal) = Unclean
 status_of (Unfollowed line refusal) = Unclean
 status_of (BadLine line fault) = Unreadable
+status_of BadWord = Unreadable
 status_of Memory = Unanswered
 status_of Device = Unanswered
 
@@ -40,6 +41,7 @@ text_of (Accepted leases) = codes "accepted: " ++ decimal leases ++ codes " leas
 text_of (Refused row refusal) = codes "row " ++ decimal row ++ codes ": " ++ decimal (rule.number_of refusal) ++ codes " " ++ rule.name_of refusal
 text_of (Unfollowed line refusal) = codes "line " ++ decimal line ++ codes ": " ++ decimal (refusal_number refusal) ++ codes " " ++ refusal_name refusal
 text_of (BadLine line fault) = codes "xhcitrace: line " ++ decimal line ++ codes ": " ++ decimal (fault_number fault) ++ codes " " ++ fault_name fault
+text_of BadWord = codes "xhcitrace: 3 Number"
 text_of Memory = codes "xhcitrace: 30 Memory"
 text_of Device = codes "xhcitrace: 31 Device"
 
@@ -50,6 +52,7 @@ IsVerdict (Accepted leases) trace = IsAccepted trace.header trace.rows trace.fir
 IsVerdict (Refused row refusal) trace = verdict_from trace.header nothing trace.first trace.rows ≡ Some (row, refusal)
 IsVerdict (Unfollowed line refusal) trace = ⊥
 IsVerdict (BadLine line fault) trace = ⊥
+IsVerdict BadWord trace = ⊥
 IsVerdict Memory trace = Unit {0}
 IsVerdict Device trace = ⊥
 

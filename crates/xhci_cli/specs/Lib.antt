@@ -8,3 +8,4 @@ pub mod PlanRefusals
 pub mod Texts
 pub mod Plans
 pub mod PlanLines
+pub mod Decoding

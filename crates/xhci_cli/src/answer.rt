@@ -19,6 +19,8 @@ pub enum Answer {
     Unfollowed { line: u32, refusal: PlanRefusal },
     /// The first bad line, from 1, and its fault.
     BadLine { line: u32, fault: LineFault },
+    /// A word of a block isn't 8 hex digits.
+    BadWord,
     /// A growth of memory was refused.
     Memory,
     /// The trace couldn't be opened or read, or the answer couldn't be written.
@@ -32,7 +34,7 @@ pub enum Status {
     Clean,
     /// A row breaks a rule, or a line of a plan can't be followed.
     Unclean,
-    /// The text is no trace, or the arguments are wrong.
+    /// The text is no trace or no block, or the arguments are wrong.
     Unreadable,
     /// Memory or a device failed.
     Unanswered,
@@ -45,7 +47,7 @@ impl Answer {
         match self {
             Answer::Accepted { .. } => Status::Clean,
             Answer::Refused { .. } | Answer::Unfollowed { .. } => Status::Unclean,
-            Answer::BadLine { .. } => Status::Unreadable,
+            Answer::BadLine { .. } | Answer::BadWord => Status::Unreadable,
             Answer::Memory | Answer::Device => Status::Unanswered,
         }
     }
@@ -84,6 +86,7 @@ impl fmt::Display for Answer {
                 let number = fault.number();
                 write!(f, "xhcitrace: line {line}: {number} {fault}")
             }
+            Answer::BadWord => f.write_str("xhcitrace: 3 Number"),
             Answer::Memory => f.write_str("xhcitrace: 30 Memory"),
             Answer::Device => f.write_str("xhcitrace: 31 Device"),
         }

@@ -12,11 +12,36 @@ pub fn command<'a>(alloc: Global) -> Result<Command<'a>, AllocError> {
     let write = Command::new(alloc, "write")
         .about("Writes the trace of a plan: what a driver writes that declares these descriptors")
         .arg(plan)?;
+    let decode = Command::new(alloc, "decode")
+        .about("Tells what a block (TRB) of four words says")
+        .arg(word(alloc, "WORD0"))?
+        .arg(word(alloc, "WORD1"))?
+        .arg(word(alloc, "WORD2"))?
+        .arg(word(alloc, "WORD3"))?;
     Command::new(alloc, "xhcitrace")
         .about("Checks recorded traces of drivers of USB host controllers (xHCI)")
         .bin_name("xhcitrace")?
         .subcommand(check)?
-        .subcommand(write)
+        .subcommand(write)?
+        .subcommand(decode)
+}
+
+/// A word of the block that is to be decoded.
+fn word<'a>(alloc: Global, name: &'a str) -> Arg<'a> {
+    Arg::new(alloc, name)
+        .help("8 hex digits, the first word first")
+        .required(true)
+}
+
+/// The words of the block that is to be decoded, where the program is asked for that.
+pub fn block_words<'a>(matches: &ArgMatches<'a>) -> Option<[&'a str; 4]> {
+    let decode = matches.subcommand_matches("decode")?;
+    Some([
+        decode.get_str("WORD0")?,
+        decode.get_str("WORD1")?,
+        decode.get_str("WORD2")?,
+        decode.get_str("WORD3")?,
+    ])
 }
 
 /// The program is asked to write the trace of a plan.

@@ -4,6 +4,7 @@
 mod answer;
 mod checker;
 mod command_line;
+mod decode;
 mod reader;
 mod run;
 #[cfg(test)]
@@ -11,6 +12,7 @@ mod tests;
 mod writer;
 
 use answer::{Answer, Status};
+use decode::run_decode;
 use run::{run_check, run_write, tell};
 use std::env;
 use std::fs::File;
@@ -33,7 +35,9 @@ fn obey(rt: &HostRuntime) -> Result<ExitCode, Answer> {
     let command = command_line::command(alloc)?;
     match command.try_get_matches_from(words.as_slice()) {
         Ok(matches) => {
-            let status = if command_line::is_write(&matches) {
+            let status = if let Some(words) = command_line::block_words(&matches) {
+                run_decode(alloc, words, &mut rt.stdout(), &mut rt.stderr())
+            } else if command_line::is_write(&matches) {
                 write_at(rt, command_line::plan_path(&matches))?
             } else {
                 check_at(rt, command_line::trace_path(&matches))?

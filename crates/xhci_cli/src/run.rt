@@ -70,7 +70,7 @@ fn written_trace<R: Read>(alloc: Global, input: &mut R) -> Result<Vec<u8>, Answe
     Ok(write_plan(alloc, &text)?)
 }
 
-fn write_all<W: Write>(bytes: &[u8], writer: &mut W) -> io::Result<()>
+pub fn write_all<W: Write>(bytes: &[u8], writer: &mut W) -> io::Result<()>
     ensures { OnOk result (Appends (W.contents writer.old) (W.contents writer.new) bytes.now) }
 {
     writer.write_all(bytes)?;

@@ -1,0 +1,103 @@
+//! Tells what a block says.
+ghost use Rattle.std.specs.Io.KnownBytes.{Appends};
+ghost use Rattle.std.specs.Prelude.{◌≡◌, ◌++◌, ◌∷◌, [], Some, None, ◌≢◌, map, OnOk, IfOk};
+ghost use Rattle.trb.specs.declared.block.Block.{Block};
+ghost use Rattle.trace_reader.specs.Values.{event_of};
+ghost use Rattle.xhci_cli.specs.Answers.{IsTold};
+ghost use Rattle.xhci_cli.specs.Decoding.{bit_text, decoded_text, event_text, kind_text};
+
+use crate::answer::{Answer, Status};
+use crate::run::{tell, write_all};
+use line_text::{push_u8, push_u64};
+use std::alloc::{AllocError, Global};
+use std::io::Write;
+use trace_reader::block_of;
+use trb::Block;
+
+/// Writes what the block of four words says to `out`, and to `err` that one of them isn't 8 hex digits.
+pub fn run_decode<O: Write, E: Write>(
+    alloc: Global,
+    words: [&str; 4],
+    out: &mut O,
+    err: &mut E,
+) -> Status
+    ensures clean { result ≡ Status.Clean → (err.new ≡ err.old)
+        × ((block : Block) × (event_of (map (λ word. word.now) words.entry) ≡ Some block) × Appends (O.contents out.old) (O.contents out.new) (decoded_text block ++ 10 ∷ [])) }
+    ensures unreadable { result ≡ Status.Unreadable → (out.new ≡ out.old)
+        × (event_of (map (λ word. word.now) words.entry) ≡ None) × IsTold Answer.BadWord (E.contents err.old) (E.contents err.new) }
+{
+    let [a, b, c, d] = words;
+    match block_of(a.as_bytes(), b.as_bytes(), c.as_bytes(), d.as_bytes()) {
+        Some(block) => write_block(alloc, block, out, err),
+        None => tell(&Answer::BadWord, out, err),
+    }
+}
+
+/// Writes what a block says.
+fn write_block<O: Write, E: Write>(
+    alloc: Global,
+    block: Block,
+    out: &mut O,
+    err: &mut E,
+) -> Status
+    ensures clean { result ≡ Status.Clean → (err.new ≡ err.old) × Appends (O.contents out.old) (O.contents out.new) (decoded_text block ++ 10 ∷ []) }
+    ensures read { result ≢ Status.Unreadable }
+{
+    match line_of(alloc, block) {
+        Ok(line) => match write_all(&line, out) {
+            Ok(()) => Status::Clean,
+            Err(_) => tell(&Answer::Device, out, err),
+        },
+        Err(error) => tell(&Answer::from(error), out, err),
+    }
+}
+
+/// The line of a block.
+#[tactic(auto, unfolding(crate::specs::Decoding::decoded_text))]
+fn line_of(alloc: Global, block: Block) -> Result<Vec<u8>, AllocError>
+    ensures { IfOk result (λ line. line.items ≡ decoded_text block ++ 10 ∷ []) }
+{
+    let mut line = Vec::new(alloc);
+    push_kind(alloc, &mut line, block)?;
+    line.extend_from_slice(b" cycle ")?;
+    push_bit(&mut line, block.cycle())?;
+    line.extend_from_slice(b" chain ")?;
+    push_bit(&mut line, block.chain())?;
+    push_event_fields(&mut line, block)?;
+    line.extend_from_slice(b"\n")?;
+    Ok(line)
+}
+
+/// Appends the number and the name of a block's type.
+fn push_kind(alloc: Global, line: &mut Vec<u8>, block: Block) -> Result<(), AllocError>
+    ensures { OnOk result (line.new.items ≡ line.old.items ++ kind_text block) }
+{
+    let kind = block.kind();
+    let number = kind.number();
+    let text = format!(in alloc; "{number} {kind}")?;
+    line.extend_from_slice(text.as_bytes())
+}
+
+/// Appends words 1 and 0 and the fields of an event.
+fn push_event_fields(line: &mut Vec<u8>, block: Block) -> Result<(), AllocError>
+    ensures { OnOk result (line.new.items ≡ line.old.items ++ event_text block) }
+{
+    line.extend_from_slice(b" pointer ")?;
+    push_u64(line, block.pointer())?;
+    line.extend_from_slice(b" code ")?;
+    push_u8(line, block.code())?;
+    line.extend_from_slice(b" slot ")?;
+    push_u8(line, block.slot())?;
+    line.extend_from_slice(b" endpoint ")?;
+    push_u8(line, block.endpoint())
+}
+
+fn push_bit(line: &mut Vec<u8>, bit: bool) -> Result<(), AllocError>
+    ensures { OnOk result (line.new.items ≡ line.old.items ++ bit_text bit) }
+{
+    if bit {
+        line.extend_from_slice(b"1")
+    } else {
+        line.extend_from_slice(b"0")
+    }
+}
