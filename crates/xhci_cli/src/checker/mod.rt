@@ -7,6 +7,8 @@ mod record;
 mod refusals;
 mod rings;
 mod row;
+#[cfg(test)]
+mod tests;
 mod updates;
 
 pub use check::{check, check_in};
