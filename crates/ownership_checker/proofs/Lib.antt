@@ -3,6 +3,8 @@ pub mod QuietKnowledge
 pub mod QuietRules
 pub mod QuietAnswers
 pub mod QuietLeases
+pub mod RingsApart
+pub mod OneRingOfMany
 pub mod WorkedTraces
 pub mod WorkedLeases
 pub mod Examples

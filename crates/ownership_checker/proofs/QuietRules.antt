@@ -4,7 +4,6 @@ use Rattle.std.specs.Prelude.{◌==◌, ◌&&◌, ◌||◌, not}
 use Rattle.std.specs.List.{range_with_len, list_any}
 use Rattle.std.proofs.lemmas.Bool.{cases_lt, cases_eq}
 use Rattle.std.proofs.lemmas.Bool.Decides.{nat_tests}
-use Rattle.trb.specs.declared.ring_kind.RingKind.TheVariants.{Xfer}
 use Rattle.contexts.specs.declared.size.ContextSize.{ContextSize}
 use Rattle.segments.specs.declared.place.Place.{Place}
 use Rattle.segments.specs.declared.place.Place.TheVariants.{Data as AtData, Link as AtLink}
@@ -21,7 +20,8 @@ use Rattle.segments.proofs.Crossings.{crosses, crossed_link, link_address_is, sa
 use Rattle.trace_reader.specs.declared.register.Register.TheVariants.{Erstba}
 use Rattle.ring_knowledge.specs.Known.{Known}
 use Rattle.ring_knowledge.specs.Rings as rings
-use Rattle.ownership_checker.specs.Quiet.{header_of, IsQuiet, crossing_of}
+use Rattle.trace_reader.specs.Header.{is_driver_kind}
+use Rattle.ownership_checker.specs.Quiet.{header_of, IsCalm, crossing_of}
 use Rattle.ownership_checker.specs.Areas as areas
 use Rattle.ownership_checker.specs.Givings as givings
 use Rattle.ownership_checker.proofs.Ranges.{any_none, any_only, or_false}
@@ -79,14 +79,14 @@ module _ (shape : Shape) (allowed : IsShape shape) where
       ]
 
   -- where the address is no word of a data place, no given block has it
-  blocks_miss : (given : ℕ → Bool) (a : ℕ) → a % 4 ≡ 0 → ((j w : ℕ) → place_at shape a ≡ Some (AtData j w) → ⊥) →
+  pub blocks_miss : (given : ℕ → Bool) (a : ℕ) → a % 4 ≡ 0 → ((j w : ℕ) → place_at shape a ≡ Some (AtData j w) → ⊥) →
       list_any (λ p. given p && is_in a (address_of shape p) 16) (range_with_len 0 (place_count shape)) ≡ false
   blocks_miss given a aligned never =
       any_none (λ p. given p && is_in a (address_of shape p) 16) 0 (place_count shape)
       (λ p l u. false_unless (given p && is_in a (address_of shape p) 16)
       (λ h. never p (a % 16 / 4) (word_of_place p a (omega arith) aligned (and_right (given p) (is_in a (address_of shape p) 16) h))))
 
-  links_miss : (crossed : ℕ → Bool) (a : ℕ) → a % 4 ≡ 0 → ((j w : ℕ) → place_at shape a ≡ Some (AtLink j w) → ⊥) →
+  pub links_miss : (crossed : ℕ → Bool) (a : ℕ) → a % 4 ≡ 0 → ((j w : ℕ) → place_at shape a ≡ Some (AtLink j w) → ⊥) →
       list_any (λ q. is_crossing shape q && crossed q && is_in a (link_address shape q) 16) (range_with_len 0 (place_count shape + 1)) ≡ false
   links_miss crossed a aligned never =
       any_none (λ q. is_crossing shape q && crossed q && is_in a (link_address shape q) 16) 0 (place_count shape + 1)
@@ -183,7 +183,7 @@ module _ (shape : Shape) (allowed : IsShape shape) where
       (λ h. ne (data_is p j _ _ (sym (gives_word p a w (and_right (not (given p)) (gives shape (Data 0) p a w) (and_left (not (given p) && gives shape (Data 0) p a w) (test p) h))) ∙ at))))
       ∙ ap (λ b. not (given j) && b && test j) (gives_here j v a w where_.0 where_.2)
 
-  giving_miss : (given test : ℕ → Bool) (a w : ℕ) → ((j v : ℕ) → place_at shape a ≡ Some (AtData j v) → ⊥) →
+  pub giving_miss : (given test : ℕ → Bool) (a w : ℕ) → ((j v : ℕ) → place_at shape a ≡ Some (AtData j v) → ⊥) →
       list_any (λ p. not (given p) && gives shape (Data 0) p a w && test p) (range_with_len 0 (place_count shape)) ≡ false
   giving_miss given test a w never =
       any_none (λ p. not (given p) && gives shape (Data 0) p a w && test p) 0 (place_count shape)
@@ -230,7 +230,7 @@ module _ (shape : Shape) (allowed : IsShape shape) where
       ne (same_first_crossing q j where_.0 (crosses_at q a w gives_it).1 (there.1 ∙ ap (λ n. Some n) same))))
       ∙ ap (λ b. not (crossed (crossing_of shape j)) && b && test (crossing_of shape j)) (crosses_here j v a w where_.0 where_.2)
 
-  crossing_miss : (crossed test : ℕ → Bool) (a w : ℕ) → ((j v : ℕ) → place_at shape a ≡ Some (AtLink j v) → ⊥) →
+  pub crossing_miss : (crossed test : ℕ → Bool) (a w : ℕ) → ((j v : ℕ) → place_at shape a ≡ Some (AtLink j v) → ⊥) →
       list_any (λ q. not (crossed q) && gives_crossing shape (Data 0) q a w && test q) (range_with_len 0 (place_count shape + 1)) ≡ false
   crossing_miss crossed test a w never =
       any_none (λ q. not (crossed q) && gives_crossing shape (Data 0) q a w && test q) 0 (place_count shape + 1)
@@ -239,32 +239,32 @@ module _ (shape : Shape) (allowed : IsShape shape) where
       let there = crosses_word q a w (and_right (not (crossed q)) (gives_crossing shape (Data 0) q a w) (and_left (not (crossed q) && gives_crossing shape (Data 0) q a w) (test q) h)) in
       never there.0 (a % 16 / 4) there.2))
 
-module _ (size : ContextSize) (id : ℕ) (below : id < 256) (shape : Shape) (kind : shape.kind ≡ Xfer) (allowed : IsShape shape) where
-  no_range_lease : (k : Known) → IsQuiet k → (a n : ℕ) → areas.is_in_range_lease (header_of size id shape) k a n ≡ false
+module _ (size : ContextSize) (id : ℕ) (shape : Shape) (driver : is_driver_kind shape.kind ≡ true) (allowed : IsShape shape) where
+  no_range_lease : (k : Known) → IsCalm (header_of size id shape) k → (a n : ℕ) → areas.is_in_range_lease (header_of size id shape) k a n ≡ false
   unfolding areas.is_in_range_lease areas.touches_table areas.leased_contexts areas.touches_entry areas.touches_device areas.device_touches areas.slots
-  no_range_lease k quiet a n =
+  no_range_lease k calm a n =
       let no_entry : list_any (areas.touches_entry (header_of size id shape) k a n) (range_with_len 1 255) ≡ false =
-      any_none (areas.touches_entry (header_of size id shape) k a n) 1 255 (λ s l u. rw (quiet.devices s) refl) in
+      any_none (areas.touches_entry (header_of size id shape) k a n) 1 255 (λ s l u. rw (calm.quiet.devices s) refl) in
       let no_device : list_any (λ s. areas.device_touches (header_of size id shape) a n (k.device s)) (range_with_len 1 255) ≡ false =
-      any_none (λ s. areas.device_touches (header_of size id shape) a n (k.device s)) 1 255 (λ s l u. rw (quiet.devices s) refl) in
-      rw (event_is size id below shape kind, quiet.registers Erstba, no_commands size id below shape kind k, no_entry, no_device) refl
+      any_none (λ s. areas.device_touches (header_of size id shape) a n (k.device s)) 1 255 (λ s l u. rw (calm.quiet.devices s) refl) in
+      rw (event_is size id shape driver, calm.quiet.registers Erstba, no_commands (header_of size id shape) k calm, no_entry, no_device) refl
 
   -- a word is leased where a given block or Link of the ring has it
-  leased_is : (k : Known) → IsQuiet k → (a : ℕ) → areas.is_leased (header_of size id shape) k a
+  pub leased_is : (k : Known) → IsCalm (header_of size id shape) k → (a : ℕ) → areas.is_leased (header_of size id shape) k a
       ≡ (list_any (λ p. k.given id p && is_in a (address_of shape p) 16) (range_with_len 0 (place_count shape))
       || list_any (λ q. is_crossing shape q && k.crossed id q && is_in a (link_address shape q) 16) (range_with_len 0 (place_count shape + 1)))
   unfolding areas.is_leased areas.is_in_block_lease areas.is_in_link_lease rings.due_positions rings.due_crossings rings.places rings.floor_number
-  leased_is k quiet a = rw (drivers_are size id below shape kind, no_range_lease k quiet a 4, shape_here size id shape, quiet.floors id, or_false _, or_false _) refl
+  leased_is k calm a = rw (drivers_are size id shape driver, no_range_lease k calm a 4, shape_here size id shape, calm.quiet.floors id, or_false _, or_false _) refl
 
-  some_given_is : (k : Known) → IsQuiet k → (a w : ℕ) (test : ℕ → ℕ → Bool) → givings.some_given (header_of size id shape) k a w test
+  pub some_given_is : (k : Known) → IsCalm (header_of size id shape) k → (a w : ℕ) (test : ℕ → ℕ → Bool) → givings.some_given (header_of size id shape) k a w test
       ≡ list_any (λ p. not (k.given id p) && gives shape (Data 0) p a w && test id p) (range_with_len 0 (place_count shape))
   unfolding givings.some_given rings.gives_now rings.due_positions rings.places rings.floor_number
-  some_given_is k quiet a w test = rw (drivers_are size id below shape kind, shape_here size id shape, quiet.floors id, or_false _) refl
+  some_given_is k calm a w test = rw (drivers_are size id shape driver, shape_here size id shape, calm.quiet.floors id, or_false _) refl
 
-  some_crossed_is : (k : Known) → IsQuiet k → (a w : ℕ) (test : ℕ → ℕ → Bool) → givings.some_crossed (header_of size id shape) k a w test
+  pub some_crossed_is : (k : Known) → IsCalm (header_of size id shape) k → (a w : ℕ) (test : ℕ → ℕ → Bool) → givings.some_crossed (header_of size id shape) k a w test
       ≡ list_any (λ q. not (k.crossed id q) && gives_crossing shape (Data 0) q a w && test id q) (range_with_len 0 (place_count shape + 1))
   unfolding givings.some_crossed rings.crosses_now rings.due_crossings rings.places rings.floor_number
-  some_crossed_is k quiet a w test = rw (drivers_are size id below shape kind, shape_here size id shape, quiet.floors id, or_false _) refl
+  some_crossed_is k calm a w test = rw (drivers_are size id shape driver, shape_here size id shape, calm.quiet.floors id, or_false _) refl
 
   no_link_at : (a j w : ℕ) → place_at shape a ≡ Some (AtData j w) → (i v : ℕ) → place_at shape a ≡ Some (AtLink i v) → ⊥
   no_link_at a j w at i v other = data_no_link shape allowed j i w v (sym at ∙ other)
@@ -279,59 +279,59 @@ module _ (size : ContextSize) (id : ℕ) (below : id < 256) (shape : Shape) (kin
       none-some p e = cc
 
   -- a word of a data place is leased where its position is given
-  pub leased_data : (k : Known) → IsQuiet k → (a j w : ℕ) → place_at shape a ≡ Some (AtData j w) →
+  pub leased_data : (k : Known) → IsCalm (header_of size id shape) k → (a j w : ℕ) → place_at shape a ≡ Some (AtData j w) →
       areas.is_leased (header_of size id shape) k a ≡ k.given id j
-  leased_data k quiet a j w at =
-      leased_is k quiet a
+  leased_data k calm a j w at =
+      leased_is k calm a
       ∙ ap (λ b. b || list_any (λ q. is_crossing shape q && k.crossed id q && is_in a (link_address shape q) 16) (range_with_len 0 (place_count shape + 1)))
       (block_hit shape allowed (k.given id) a j w at)
       ∙ ap (λ b. k.given id j || b) (links_miss shape allowed (k.crossed id) a (aligned_data shape allowed a j w at) (no_link_at a j w at))
       ∙ or_false (k.given id j)
 
   -- a word of a Link where its crossing is
-  pub leased_link : (k : Known) → IsQuiet k → (a j w : ℕ) → place_at shape a ≡ Some (AtLink j w) →
+  pub leased_link : (k : Known) → IsCalm (header_of size id shape) k → (a j w : ℕ) → place_at shape a ≡ Some (AtLink j w) →
       areas.is_leased (header_of size id shape) k a ≡ k.crossed id (crossing_of shape j)
-  leased_link k quiet a j w at =
-      leased_is k quiet a
+  leased_link k calm a j w at =
+      leased_is k calm a
       ∙ ap (λ b. b || list_any (λ q. is_crossing shape q && k.crossed id q && is_in a (link_address shape q) 16) (range_with_len 0 (place_count shape + 1)))
       (blocks_miss shape allowed (k.given id) a (aligned_link shape allowed a j w at) (no_data_at a j w at))
       ∙ link_hit shape allowed (k.crossed id) a j w at
 
   -- and no other word is
-  pub leased_nowhere : (k : Known) → IsQuiet k → (a : ℕ) → a % 4 ≡ 0 → place_at shape a ≡ None →
+  pub leased_nowhere : (k : Known) → IsCalm (header_of size id shape) k → (a : ℕ) → a % 4 ≡ 0 → place_at shape a ≡ None →
       areas.is_leased (header_of size id shape) k a ≡ false
-  leased_nowhere k quiet a aligned at =
-      leased_is k quiet a
+  leased_nowhere k calm a aligned at =
+      leased_is k calm a
       ∙ ap (λ b. b || list_any (λ q. is_crossing shape q && k.crossed id q && is_in a (link_address shape q) 16) (range_with_len 0 (place_count shape + 1)))
       (blocks_miss shape allowed (k.given id) a aligned (λ j w e. nothing_at a at (AtData j w) e))
       ∙ links_miss shape allowed (k.crossed id) a aligned (λ j w e. nothing_at a at (AtLink j w) e)
 
   -- a write gives the position of its place, by the control word with Cycle 1
-  pub given_data : (k : Known) → IsQuiet k → (a w j v : ℕ) (test : ℕ → ℕ → Bool) → place_at shape a ≡ Some (AtData j v) →
+  pub given_data : (k : Known) → IsCalm (header_of size id shape) k → (a w j v : ℕ) (test : ℕ → ℕ → Bool) → place_at shape a ≡ Some (AtData j v) →
       givings.some_given (header_of size id shape) k a w test ≡ (not (k.given id j) && ((v == 3) && (w % 2 == 1)) && test id j)
-  given_data k quiet a w j v test at = some_given_is k quiet a w test ∙ giving_hit shape allowed (k.given id) (test id) a w j v at
+  given_data k calm a w j v test at = some_given_is k calm a w test ∙ giving_hit shape allowed (k.given id) (test id) a w j v at
 
-  pub given_link : (k : Known) → IsQuiet k → (a w j v : ℕ) (test : ℕ → ℕ → Bool) → place_at shape a ≡ Some (AtLink j v) →
+  pub given_link : (k : Known) → IsCalm (header_of size id shape) k → (a w j v : ℕ) (test : ℕ → ℕ → Bool) → place_at shape a ≡ Some (AtLink j v) →
       givings.some_given (header_of size id shape) k a w test ≡ false
-  given_link k quiet a w j v test at = some_given_is k quiet a w test ∙ giving_miss shape allowed (k.given id) (test id) a w (no_data_at a j v at)
+  given_link k calm a w j v test at = some_given_is k calm a w test ∙ giving_miss shape allowed (k.given id) (test id) a w (no_data_at a j v at)
 
-  pub given_nowhere : (k : Known) → IsQuiet k → (a w : ℕ) (test : ℕ → ℕ → Bool) → place_at shape a ≡ None →
+  pub given_nowhere : (k : Known) → IsCalm (header_of size id shape) k → (a w : ℕ) (test : ℕ → ℕ → Bool) → place_at shape a ≡ None →
       givings.some_given (header_of size id shape) k a w test ≡ false
-  given_nowhere k quiet a w test at = some_given_is k quiet a w test ∙ giving_miss shape allowed (k.given id) (test id) a w (λ j v e. nothing_at a at (AtData j v) e)
+  given_nowhere k calm a w test at = some_given_is k calm a w test ∙ giving_miss shape allowed (k.given id) (test id) a w (λ j v e. nothing_at a at (AtData j v) e)
 
   -- or the crossing of its Link
-  pub crossed_link_at : (k : Known) → IsQuiet k → (a w j v : ℕ) (test : ℕ → ℕ → Bool) → place_at shape a ≡ Some (AtLink j v) →
+  pub crossed_link_at : (k : Known) → IsCalm (header_of size id shape) k → (a w j v : ℕ) (test : ℕ → ℕ → Bool) → place_at shape a ≡ Some (AtLink j v) →
       givings.some_crossed (header_of size id shape) k a w test
       ≡ (not (k.crossed id (crossing_of shape j)) && ((v == 3) && (w % 2 == 1)) && test id (crossing_of shape j))
-  crossed_link_at k quiet a w j v test at = some_crossed_is k quiet a w test ∙ crossing_hit shape allowed (k.crossed id) (test id) a w j v at
+  crossed_link_at k calm a w j v test at = some_crossed_is k calm a w test ∙ crossing_hit shape allowed (k.crossed id) (test id) a w j v at
 
-  pub crossed_data : (k : Known) → IsQuiet k → (a w j v : ℕ) (test : ℕ → ℕ → Bool) → place_at shape a ≡ Some (AtData j v) →
+  pub crossed_data : (k : Known) → IsCalm (header_of size id shape) k → (a w j v : ℕ) (test : ℕ → ℕ → Bool) → place_at shape a ≡ Some (AtData j v) →
       givings.some_crossed (header_of size id shape) k a w test ≡ false
-  crossed_data k quiet a w j v test at = some_crossed_is k quiet a w test ∙ crossing_miss shape allowed (k.crossed id) (test id) a w (no_link_at a j v at)
+  crossed_data k calm a w j v test at = some_crossed_is k calm a w test ∙ crossing_miss shape allowed (k.crossed id) (test id) a w (no_link_at a j v at)
 
-  pub crossed_nowhere : (k : Known) → IsQuiet k → (a w : ℕ) (test : ℕ → ℕ → Bool) → place_at shape a ≡ None →
+  pub crossed_nowhere : (k : Known) → IsCalm (header_of size id shape) k → (a w : ℕ) (test : ℕ → ℕ → Bool) → place_at shape a ≡ None →
       givings.some_crossed (header_of size id shape) k a w test ≡ false
-  crossed_nowhere k quiet a w test at = some_crossed_is k quiet a w test ∙ crossing_miss shape allowed (k.crossed id) (test id) a w (λ j v e. nothing_at a at (AtLink j v) e)
+  crossed_nowhere k calm a w test at = some_crossed_is k calm a w test ∙ crossing_miss shape allowed (k.crossed id) (test id) a w (λ j v e. nothing_at a at (AtLink j v) e)
 
 -- what a write adds to the positions and crossings that are given
 module _ (shape : Shape) (allowed : IsShape shape) where

@@ -9,6 +9,7 @@ pub mod Registers
 pub mod Doorbells
 pub mod Events
 pub mod Rules
+pub mod Profile
 pub mod Leases
 pub mod LeaseCount
 pub mod Quiet

@@ -5,6 +5,7 @@ use Rattle.segments.specs.declared.spot.Spot.TheVariants.{Data}
 use Rattle.segments.specs.ShapeValue.{Shape}
 use Rattle.segments.specs.Places.{ends}
 use Rattle.trace_reader.specs.declared.header.Header.{Header}
+use Rattle.trace_reader.specs.Header.{command_id, no_id}
 use Rattle.trace_reader.specs.declared.register.Register.{Register}
 use Rattle.trace_reader.specs.declared.row.Row.{Row}
 use Rattle.trace_reader.specs.declared.row.Row.TheVariants.{Sub, Write, Reg, Bell, Read}
@@ -20,6 +21,12 @@ pub record IsQuiet (k : Known) : Type 0 where
   pub registers : (r : Register) → k.register r ≡ None
   pub floors : (r : ℕ) → k.floor r ≡ Data 0
   pub devices : (s : ℕ) → k.device s ≡ None
+
+-- all is quiet, and no command is declared: nothing is, on the command ring or on no ring
+pub record IsCalm (h : Header) (k : Known) : Type 0 where
+  pub quiet : IsQuiet k
+  pub no_commands : k.queue (command_id h) ≡ []
+  pub no_ring : k.queue no_id ≡ []
 
 -- a declaration or a write
 abbrev pub IsQuietRow : Row → Type 0

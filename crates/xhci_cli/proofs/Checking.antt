@@ -1,41 +1,52 @@
 -- A row that was checked, in terms of the row as the trace has it; and the whole trace, row by row
-use Rattle.std.proofs.Common.{◌≡◌, ℕ, ◌+◌, ◌<◌, ◌≤◌, List, [], ◌∷◌, Option, Some, None, Result, Ok, Err, refl, ap, sym, ◌∙◌, arith, length, subst, get_or, add-zero, zero-add}
-use Rattle.std.specs.Prelude.{IfOk, IfErr, reverse, take, drop, option_map}
+use Rattle.std.proofs.Common.{◌≡◌, ℕ, ◌+◌, ◌-◌, ◌<◌, ◌≤◌, List, false, [], ◌∷◌, Option, Some, None, Result, Ok, Err, refl, inl, inr, ap, sym, ◌∙◌, arith, length, subst, get_or, add-zero}
+use Rattle.std.specs.Prelude.{◌⊎◌, IfOk, IfErr, slice_get, reverse, take, drop, option_map}
 use Rattle.std.proofs.lemmas.Grind.{common_steps}
 use Rattle.trb.specs.declared.block.Block.{Block}
-use Rattle.contexts.specs.declared.size.ContextSize.{ContextSize}
-use Rattle.trace_reader.specs.declared.ring.Ring.{Ring}
 use Rattle.trace_reader.specs.declared.row.Row.{Row}
-use Rattle.trace_reader.specs.declared.row.Row.TheVariants.{Sub}
+use Rattle.trace_reader.specs.declared.row.Row.TheVariants.{Sub, Reg, Bell, Read}
+use Rattle.trace_reader.specs.declared.register.Register.{Register}
+use Rattle.ownership_checker.specs.declared.refusal.Refusal.TheVariants.{NotInProfile}
 use Rattle.ring_knowledge.specs.Known.{Known, nothing}
 use Rattle.ring_knowledge.specs.Learned.{learned, known}
 use Rattle.ownership_checker.specs.declared.refusal.Refusal.{Refusal}
 use Rattle.ownership_checker.specs.Refusal.{first_of}
 use Rattle.ownership_checker.specs.Rules.{broken, verdict_from, first_or}
 use Rattle.ownership_checker.specs.Clean.{IsClean}
-use Rattle.ownership_checker.specs.Leases.{begun, leases}
+use Rattle.ownership_checker.specs.Leases.{begun}
 use Rattle.ownership_checker.specs.LeaseCount.{begun_count}
 use Rattle.ownership_checker.proofs.QuietLeases.{length-leases}
 use Rattle.xhci_cli.specs.declared.checker.record.Record.{Record}
 use Rattle.xhci_cli.specs.declared.checker.fault.StepFault.{StepFault}
 use Rattle.xhci_cli.specs.declared.checker.fault.StepFault.TheVariants.{Refused, Memory}
-use Rattle.xhci_cli.specs.Tracking.{IsTransferRing, Tracks, IsStep, IsChecked, IsProgress, IsAccepted, IfRefused, header}
+use Rattle.xhci_cli.specs.Tracking.{AreInside, Follows, IsRowStep, IsChecked, IsProgress, IsAccepted, IsFirstOfAll, IfRefused}
+use Rattle.trace_reader.specs.Header.{event_shape}
+use Rattle.ownership_checker.specs.Profile.{is_outside, broken_within, verdict_within}
+use Rattle.std.proofs.lemmas.Option.{get_or_from_slice_get}
 use Rattle.trace_reader.specs.declared.header.Header.{Header}
 
-pub declared_step : (ring : Ring) (r n : Record) (memory : ℕ → ℕ) (row : Row) (id : ℕ) (blocks now : List Block) (result : Result ℕ StepFault) → row ≡ Sub id blocks → now ≡ blocks →
-    IfOk result (λ x. (size : ContextSize) (k : Known) (m : ℕ → ℕ) → Tracks ring k r m → IsStep size ring k (Sub id now) n m x) →
-    IfOk result (λ x. (size : ContextSize) (k : Known) → Tracks ring k r memory → IsStep size ring k row n memory x)
-declared_step ring r n memory row id blocks now (Ok x) is same h = λ size k t.
-    subst (λ (w : Row). IsStep size ring k w n memory x) (ap (λ bs. Sub id bs) same ∙ sym is) (h size k memory t)
-declared_step ring r n memory row id blocks now (Err e) is same h = h
+pub declared_step : (h : Header) (rs ns : List Record) (memory : ℕ → ℕ) (row : Row) (id : ℕ) (blocks now : List Block) (result : Result ℕ StepFault) → row ≡ Sub id blocks → now ≡ blocks →
+    IfOk result (λ x. (k : Known) (m : ℕ → ℕ) → Follows h k rs m → IsRowStep h k (Sub id now) ns m x) →
+    IfOk result (λ x. (k : Known) → Follows h k rs memory → IsRowStep h k row ns memory x)
+declared_step h rs ns memory row id blocks now (Ok x) is same e = λ k f.
+    subst (λ (w : Row). IsRowStep h k w ns memory x) (ap (λ bs. Sub id bs) same ∙ sym is) (e k memory f)
+declared_step h rs ns memory row id blocks now (Err e) is same said = said
 
-pub declared_refused : (ring : Ring) (r : Record) (memory : ℕ → ℕ) (row : Row) (id : ℕ) (blocks now : List Block) (result : Result ℕ StepFault) → row ≡ Sub id blocks → now ≡ blocks →
-    IfErr result (λ e. IfRefused e (λ c. (size : ContextSize) (k : Known) (m : ℕ → ℕ) → Tracks ring k r m → first_of (broken (header size ring) k (Sub id now)) ≡ Some c)) →
-    IfErr result (λ e. IfRefused e (λ c. (size : ContextSize) (k : Known) → Tracks ring k r memory → first_of (broken (header size ring) k row) ≡ Some c))
-declared_refused ring r memory row id blocks now (Ok x) is same h = h
-declared_refused ring r memory row id blocks now (Err (Refused c)) is same h = λ size k t.
-    subst (λ (w : Row). first_of (broken (header size ring) k w) ≡ Some c) (ap (λ bs. Sub id bs) same ∙ sym is) (h size k memory t)
-declared_refused ring r memory row id blocks now (Err Memory) is same h = h
+pub declared_refused : (h : Header) (rs : List Record) (memory : ℕ → ℕ) (row : Row) (id : ℕ) (blocks now : List Block) (result : Result ℕ StepFault) → row ≡ Sub id blocks → now ≡ blocks →
+    IfErr result (λ e. IfRefused e (λ c. (k : Known) (m : ℕ → ℕ) → Follows h k rs m → first_of (broken_within h k (Sub id now)) ≡ Some c)) →
+    IfErr result (λ e. IfRefused e (λ c. (k : Known) → Follows h k rs memory → first_of (broken_within h k row) ≡ Some c))
+declared_refused h rs memory row id blocks now (Ok x) is same said = said
+declared_refused h rs memory row id blocks now (Err (Refused c)) is same said = λ k f.
+    subst (λ (w : Row). first_of (broken_within h k w) ≡ Some c) (ap (λ bs. Sub id bs) same ∙ sym is) (said k memory f)
+declared_refused h rs memory row id blocks now (Err Memory) is same said = said
+
+-- a register, a doorbell or an event
+pub outside_refused : (h : Header) (k : Known) (row : Row) →
+    ((r : Register) × (v : ℕ) × (row ≡ Reg r v)) ⊎ (((s : ℕ) × (t : ℕ) × (row ≡ Bell s t)) ⊎ ((b : Block) × (row ≡ Read b))) → first_of (broken_within h k row) ≡ Some NotInProfile
+unfolding broken_within is_outside
+outside_refused h k row (inl e) = rw e.2 refl
+outside_refused h k row (inr (inl e)) = rw e.2 refl
+outside_refused h k row (inr (inr e)) = rw e.1 refl
 
 -- one row more: the newest first
 one_more : (rows : List Row) (i : ℕ) (d : Row) → i < length rows → reverse (take (i + 1) rows) ≡ get_or rows i d ∷ reverse (take i rows)
@@ -56,6 +67,20 @@ verdict_first h k n row rest c e = first_is h (broken h k row) n c (verdict_from
 verdict_next : (h : Header) (k : Known) (n : ℕ) (row : Row) (rest : List Row) → broken h k row ≡ [] → verdict_from h k n (row ∷ rest) ≡ verdict_from h (learned h k row) (n + 1) rest
 unfolding verdict_from first_or
 verdict_next h k n row rest e = rw e refl
+
+within_first : (h : Header) (k : Known) (n : ℕ) (row : Row) (rest : List Row) (c : Refusal) → first_of (broken_within h k row) ≡ Some c → verdict_within h k n (row ∷ rest) ≡ Some (n, c)
+unfolding verdict_within
+within_first h k n row rest c e = first_is h (broken_within h k row) n c (verdict_within h (learned h k row) (n + 1) rest) e
+
+within_next : (h : Header) (k : Known) (n : ℕ) (row : Row) (rest : List Row) → is_outside h row ≡ false → broken h k row ≡ [] →
+    verdict_within h k n (row ∷ rest) ≡ verdict_within h (learned h k row) (n + 1) rest
+unfolding verdict_within broken_within first_or
+within_next h k n row rest inside e = rw (inside, e) refl
+
+-- inside the profile the rules are all rules
+pub broken_inside : (h : Header) (k : Known) (row : Row) → is_outside h row ≡ false → broken_within h k row ≡ broken h k row
+unfolding broken_within
+broken_inside h k row inside = rw inside refl
 
 counted_next : (h : Header) (k : Known) (row : Row) (rest : List Row) → begun_count h k (row ∷ rest) ≡ length (begun h k row) + begun_count h (learned h k row) rest
 unfolding begun_count
@@ -95,117 +120,128 @@ regroup b w l n r e f = omega arith
 -- a trace, row by row
 module _ (h : Header) (rows : List Row) (first : ℕ) where
   -- before the first row
-  pub start_checked : (T : Known → Type 0) → T nothing → IsChecked h rows first 0 T 0
+  pub start_checked : (T : Known → Type 0) → T nothing → IsChecked h rows first 0 T (length (event_shape h).segments)
   start_checked T t =
       let start : known h (reverse (take 0 rows)) ≡ nothing = ap (λ xs. known h xs) (none_taken rows) ∙ nothing_first h in
       record {
         tracked = subst T (sym start) t;
+        inside = subst (λ (xs : List Row). AreInside h xs) (sym (none_taken rows)) tt;
         clean = subst (λ (xs : List Row). IsClean h xs) (sym (none_taken rows)) tt;
         verdict =
             ap (λ n. verdict_from h nothing n rows) (sym (add-zero first))
             ∙ ap (λ k. verdict_from h k (first + 0) rows) (sym start)
             ∙ ap (λ xs. verdict_from h (known h (reverse (take 0 rows))) (first + 0) xs) (sym (none_dropped rows));
+        within =
+            ap (λ n. verdict_within h nothing n rows) (sym (add-zero first))
+            ∙ ap (λ k. verdict_within h k (first + 0) rows) (sym start)
+            ∙ ap (λ xs. verdict_within h (known h (reverse (take 0 rows))) (first + 0) xs) (sym (none_dropped rows));
         counted =
-            sym (zero-add (begun_count h nothing rows))
-            ∙ ap (λ k. 0 + begun_count h k rows) (sym start)
-            ∙ ap (λ xs. 0 + begun_count h (known h (reverse (take 0 rows))) xs) (sym (none_dropped rows));
+            ap (λ k. length (event_shape h).segments + begun_count h k rows) (sym start)
+            ∙ ap (λ xs. length (event_shape h).segments + begun_count h (known h (reverse (take 0 rows))) xs) (sym (none_dropped rows));
       }
 
   -- one row more
   pub step_checked : (i begun_ n : ℕ) (T U : Known → Type 0) (row d : Row) → IsChecked h rows first i T begun_ → i < length rows → get_or rows i d ≡ row →
-      ((k : Known) → T k → (broken h k row ≡ []) × (U (learned h k row)) × (length (begun h k row) ≡ n)) → IsChecked h rows first (i + 1) U (begun_ + n)
-  step_checked i begun_ n T U row d c inside is_row step =
+      ((k : Known) → T k → (is_outside h row ≡ false) × (broken h k row ≡ []) × (U (learned h k row)) × (length (begun h k row) ≡ n)) → IsChecked h rows first (i + 1) U (begun_ + n)
+  step_checked i begun_ n T U row d c below is_row step =
       let before = known h (reverse (take i rows)) in
       let done = step before c.tracked in
-      let past : reverse (take (i + 1) rows) ≡ row ∷ reverse (take i rows) = one_more rows i d inside ∙ ap (λ x. x ∷ reverse (take i rows)) is_row in
-      let rest : drop i rows ≡ row ∷ drop (i + 1) rows = left rows i d inside ∙ ap (λ x. x ∷ drop (i + 1) rows) is_row in
+      let past : reverse (take (i + 1) rows) ≡ row ∷ reverse (take i rows) = one_more rows i d below ∙ ap (λ x. x ∷ reverse (take i rows)) is_row in
+      let rest : drop i rows ≡ row ∷ drop (i + 1) rows = left rows i d below ∙ ap (λ x. x ∷ drop (i + 1) rows) is_row in
       let after : known h (reverse (take (i + 1) rows)) ≡ learned h before row = ap (λ xs. known h xs) past ∙ known_next h (reverse (take i rows)) row in
       let next_number : first + i + 1 ≡ first + (i + 1) = omega arith in
       record {
-        tracked = subst U (sym after) done.1;
-        clean = subst (λ (xs : List Row). IsClean h xs) (sym past) (c.clean, done.0);
+        tracked = subst U (sym after) done.2;
+        inside = subst (λ (xs : List Row). AreInside h xs) (sym past) (c.inside, done.0);
+        clean = subst (λ (xs : List Row). IsClean h xs) (sym past) (c.clean, done.1);
         verdict =
             c.verdict ∙ ap (λ xs. verdict_from h before (first + i) xs) rest
-            ∙ verdict_next h before (first + i) row (drop (i + 1) rows) done.0
+            ∙ verdict_next h before (first + i) row (drop (i + 1) rows) done.1
             ∙ ap (λ k. verdict_from h k (first + i + 1) (drop (i + 1) rows)) (sym after)
             ∙ ap (λ x. verdict_from h (known h (reverse (take (i + 1) rows))) x (drop (i + 1) rows)) next_number;
+        within =
+            c.within ∙ ap (λ xs. verdict_within h before (first + i) xs) rest
+            ∙ within_next h before (first + i) row (drop (i + 1) rows) done.0 done.1
+            ∙ ap (λ k. verdict_within h k (first + i + 1) (drop (i + 1) rows)) (sym after)
+            ∙ ap (λ x. verdict_within h (known h (reverse (take (i + 1) rows))) x (drop (i + 1) rows)) next_number;
         counted =
             let more = counted_next h before row (drop (i + 1) rows) in
             c.counted ∙ ap (λ xs. begun_ + begun_count h before xs) rest
             ∙ regroup begun_ (begun_count h before (row ∷ drop (i + 1) rows)) (length (begun h before row)) n
-            (begun_count h (learned h before row) (drop (i + 1) rows)) more done.2
+            (begun_count h (learned h before row) (drop (i + 1) rows)) more done.3
             ∙ ap (λ k. begun_ + n + begun_count h k (drop (i + 1) rows)) (sym after);
       }
 
-  -- the first row that breaks a rule
+  -- the first row that is refused
   pub refused_checked : (i begun_ : ℕ) (T : Known → Type 0) (row d : Row) (c : Refusal) → IsChecked h rows first i T begun_ → i < length rows → get_or rows i d ≡ row →
-      ((k : Known) → T k → first_of (broken h k row) ≡ Some c) → verdict_from h nothing first rows ≡ Some (first + i, c)
-  refused_checked i begun_ T row d c so_far inside is_row breaks =
+      ((k : Known) → T k → first_of (broken_within h k row) ≡ Some c) → verdict_within h nothing first rows ≡ Some (first + i, c)
+  refused_checked i begun_ T row d c so_far below is_row breaks =
       let before = known h (reverse (take i rows)) in
-      let rest : drop i rows ≡ row ∷ drop (i + 1) rows = left rows i d inside ∙ ap (λ x. x ∷ drop (i + 1) rows) is_row in
+      let rest : drop i rows ≡ row ∷ drop (i + 1) rows = left rows i d below ∙ ap (λ x. x ∷ drop (i + 1) rows) is_row in
+      so_far.within ∙ ap (λ xs. verdict_within h before (first + i) xs) rest
+      ∙ within_first h before (first + i) row (drop (i + 1) rows) c (breaks before so_far.tracked)
+
+  -- inside the profile it is the first that breaks a rule
+  pub first_checked : (i begun_ : ℕ) (T : Known → Type 0) (row d : Row) (c : Refusal) → IsChecked h rows first i T begun_ → i < length rows → get_or rows i d ≡ row →
+      ((k : Known) → T k → first_of (broken_within h k row) ≡ Some c) → IsFirstOfAll h first rows (first + i) c
+  first_checked i begun_ T row d c so_far below is_row breaks = λ same found inside.
+      let before = known h (reverse (take i rows)) in
+      let rest : drop i rows ≡ row ∷ drop (i + 1) rows = left rows i d below ∙ ap (λ x. x ∷ drop (i + 1) rows) is_row in
+      let here : first + i - first ≡ i = omega arith in
+      let this : same ≡ row = sym (get_or_from_slice_get rows i same d (ap (λ n. slice_get rows n) (sym here) ∙ found)) ∙ is_row in
+      let row_inside : is_outside h row ≡ false = ap (λ (x : Row). is_outside h x) (sym this) ∙ inside in
       so_far.verdict ∙ ap (λ xs. verdict_from h before (first + i) xs) rest
-      ∙ verdict_first h before (first + i) row (drop (i + 1) rows) c (breaks before so_far.tracked)
+      ∙ verdict_first h before (first + i) row (drop (i + 1) rows) c (ap first_of (sym (broken_inside h before row row_inside)) ∙ breaks before so_far.tracked)
 
   -- behind the last row
-  pub ended_checked : (i begun_ : ℕ) (T : Known → Type 0) → length (leases h first rows) ≡ begun_count h nothing rows → IsChecked h rows first i T begun_ → i ≡ length rows → IsAccepted h rows first begun_
-  ended_checked i begun_ T lease_count c all =
+  pub ended_checked : (i begun_ : ℕ) (T : Known → Type 0) → IsChecked h rows first i T begun_ → i ≡ length rows → IsAccepted h rows first begun_
+  ended_checked i begun_ T c all =
       let whole : take i rows ≡ rows = ap (λ n. take n rows) all ∙ take_all rows in
       let empty : drop i rows ≡ [] = ap (λ n. drop n rows) all ∙ drop_all rows in
       let before = known h (reverse (take i rows)) in
       record {
         clean = subst (λ (xs : List Row). IsClean h (reverse xs)) whole c.clean;
         verdict = c.verdict ∙ ap (λ xs. verdict_from h before (first + i) xs) empty ∙ verdict_end h before (first + i);
-        counted = lease_count ∙ c.counted ∙ ap (λ xs. begun_ + begun_count h before xs) empty ∙ counted_end h before begun_;
+        counted = length-leases h first rows ∙ c.counted ∙ ap (λ xs. begun_ + begun_count h before xs) empty ∙ counted_end h before begun_;
       }
 
-module _ (ring : Ring) (is : IsTransferRing ring) (rows : List Row) (first : ℕ) where
-  same_words : (r : Record) (m : ℕ → ℕ) → Tracks ring nothing r (λ a. 0) → ((a : ℕ) → m a ≡ 0) → Tracks ring nothing r m
-  same_words r m t blank = record {
-    quiet = t.quiet;
-    words = λ a. t.words a ∙ sym (blank a);
-    queue = t.queue;
-    begins = t.begins;
-    as_many = t.as_many;
-    whole = t.whole;
-    positive = t.positive;
-    room = t.room;
-    within = t.within;
-    places = t.places;
-    given = t.given;
-    segments = t.segments;
-    crossed = t.crossed;
-  }
+  pub ended_inside : (i begun_ : ℕ) (T : Known → Type 0) → IsChecked h rows first i T begun_ → i ≡ length rows → AreInside h (reverse rows)
+  ended_inside i begun_ T c all = subst (λ (xs : List Row). AreInside h (reverse xs)) (ap (λ n. take n rows) all ∙ take_all rows) c.inside
 
-  pub started : (r : Record) (m : ℕ → ℕ) → Tracks ring nothing r (λ a. 0) → ((a : ℕ) → m a ≡ 0) → IsProgress ring rows first 0 first 0 r m
-  started r m t blank = record {
+  pub started : (rs : List Record) (m : ℕ → ℕ) (begun_ : ℕ) → Follows h nothing rs m → begun_ ≡ length (event_shape h).segments → begun_ ≤ 64 → IsProgress h rows first 0 first begun_ rs m
+  started rs m begun_ f segments few_ = record {
     numbered = sym (add-zero first);
     few = omega arith;
-    checked = λ size. start_checked (header size ring) rows first (λ k. Tracks ring k r m) (same_words r m t blank);
+    checked = subst (λ (n : ℕ). IsChecked h rows first 0 (λ k. Follows h k rs m) n) (sym segments) (start_checked (λ k. Follows h k rs m) f);
   }
 
-  pub stepped : (i number begun_ n : ℕ) (r s : Record) (m o : ℕ → ℕ) (row d : Row) → IsProgress ring rows first i number begun_ r m → i < length rows → get_or rows i d ≡ row → n ≤ 1 →
-      ((size : ContextSize) (k : Known) → Tracks ring k r m → IsStep size ring k row s o n) → IsProgress ring rows first (i + 1) (number + 1) (begun_ + n) s o
-  stepped i number begun_ n r s m o row d p inside is_row one step =
+  pub stepped : (i number begun_ n : ℕ) (rs ss : List Record) (m o : ℕ → ℕ) (row d : Row) → IsProgress h rows first i number begun_ rs m → i < length rows → get_or rows i d ≡ row → n ≤ 1 →
+      ((k : Known) → Follows h k rs m → IsRowStep h k row ss o n) → IsProgress h rows first (i + 1) (number + 1) (begun_ + n) ss o
+  stepped i number begun_ n rs ss m o row d p below is_row one step =
       let numbered_ = p.numbered in
       let few_ = p.few in
       record {
         numbered = omega arith;
         few = omega arith;
-        checked = λ size.
-            step_checked (header size ring) rows first i begun_ n (λ k. Tracks ring k r m) (λ k. Tracks ring k s o) row d (p.checked size) inside is_row
-            (λ k t. let done = step size k t in (done.clean, done.tracked, done.counted));
+        checked = step_checked i begun_ n (λ k. Follows h k rs m) (λ k. Follows h k ss o) row d p.checked below is_row
+            (λ k t. let done = step k t in (done.inside, done.clean, done.tracked, done.counted));
       }
 
-  pub refused : (i number begun_ : ℕ) (r : Record) (m : ℕ → ℕ) (row d : Row) (c : Refusal) (e : StepFault) → e ≡ Refused c → IsProgress ring rows first i number begun_ r m → i < length rows → get_or rows i d ≡ row →
-      IfRefused e (λ x. (size : ContextSize) (k : Known) → Tracks ring k r m → first_of (broken (header size ring) k row) ≡ Some x) →
-      (size : ContextSize) → verdict_from (header size ring) nothing first rows ≡ Some (number, c)
-  refused i number begun_ r m row d c e is_refused p inside is_row said size =
-      let breaks = subst (λ (f : StepFault). IfRefused f (λ x. (size : ContextSize) (k : Known) → Tracks ring k r m → first_of (broken (header size ring) k row) ≡ Some x)) is_refused said in
-      refused_checked (header size ring) rows first i begun_ (λ k. Tracks ring k r m) row d c (p.checked size) inside is_row (breaks size)
-      ∙ ap (λ n. Some (n, c)) (sym p.numbered)
+  module _ (i number begun_ : ℕ) (rs : List Record) (m : ℕ → ℕ) (row d : Row) (c : Refusal) (e : StepFault) (is_refused : e ≡ Refused c) (p : IsProgress h rows first i number begun_ rs m)
+      (below : i < length rows) (is_row : get_or rows i d ≡ row)
+      (said : IfRefused e (λ x. (k : Known) → Follows h k rs m → first_of (broken_within h k row) ≡ Some x)) where
+    breaks : (k : Known) → Follows h k rs m → first_of (broken_within h k row) ≡ Some c
+    breaks = subst (λ (f : StepFault). IfRefused f (λ x. (k : Known) → Follows h k rs m → first_of (broken_within h k row) ≡ Some x)) is_refused said
 
-  pub ended : (i number begun_ : ℕ) (r : Record) (m : ℕ → ℕ) → IsProgress ring rows first i number begun_ r m → i ≡ length rows →
-      (size : ContextSize) → IsAccepted (header size ring) rows first begun_
-  ended i number begun_ r m p all size =
-      ended_checked (header size ring) rows first i begun_ (λ k. Tracks ring k r m)
-      (length-leases size ring.id is.below ring.shape is.kind is.allowed first rows) (p.checked size) all
+    pub refused : verdict_within h nothing first rows ≡ Some (number, c)
+    refused = refused_checked i begun_ (λ k. Follows h k rs m) row d c p.checked below is_row breaks ∙ ap (λ n. Some (n, c)) (sym p.numbered)
+
+    pub first_refused : IsFirstOfAll h first rows number c
+    first_refused =
+        subst (λ (n : ℕ). IsFirstOfAll h first rows n c) (sym p.numbered) (first_checked i begun_ (λ k. Follows h k rs m) row d c p.checked below is_row breaks)
+
+  pub ended : (i number begun_ : ℕ) (rs : List Record) (m : ℕ → ℕ) → IsProgress h rows first i number begun_ rs m → i ≡ length rows → IsAccepted h rows first begun_
+  ended i number begun_ rs m p all = ended_checked i begun_ (λ k. Follows h k rs m) p.checked all
+
+  pub all_inside : (i number begun_ : ℕ) (rs : List Record) (m : ℕ → ℕ) → IsProgress h rows first i number begun_ rs m → i ≡ length rows → AreInside h (reverse rows)
+  all_inside i number begun_ rs m p all = ended_inside i begun_ (λ k. Follows h k rs m) p.checked all

@@ -1,7 +1,7 @@
--- After any rows of a clean trace of one transfer ring: what stands in memory with Cycle 1 is given, and is what was declared
-use Rattle.std.proofs.Common.{◌≡◌, ℕ, suc, zero, ◌+◌, ◌-◌, ◌%◌, ◌<◌, ◌≤◌, List, [], ◌∷◌, ◌++◌, Bool, true, false, Option, Some, None, refl, ap, sym, ◌∙◌, arith, inl, inr, cond, length, slice_index, subst}
-use Rattle.std.specs.Prelude.{◌==◌, ◌&&◌, ◌||◌, not, nat_lt, All, slice_get}
-use Rattle.std.proofs.lemmas.Bool.{cases_eq, eqb-true, and_parts}
+-- Over the rows of a clean trace, of one ring: what stands in memory with Cycle 1 is given, and is what was declared
+use Rattle.std.proofs.Common.{◌≡◌, ℕ, suc, zero, ◌+◌, ◌-◌, ◌%◌, ◌<◌, ◌≤◌, List, [], ◌∷◌, ◌++◌, Bool, true, false, Option, Some, None, refl, ap, sym, ◌∙◌, arith, cond, length, slice_index, subst}
+use Rattle.std.specs.Prelude.{◌==◌, ◌&&◌, ◌||◌, not, nat_lt, slice_get}
+use Rattle.std.proofs.lemmas.Bool.{eqb-true, and_parts}
 use Rattle.std.proofs.lemmas.Bool.Decides.{nat_tests}
 use Rattle.trb.specs.declared.block.Block.{Block}
 use Rattle.trb.specs.declared.fault.Fault.TheVariants.{BadDescriptor as BadForm, NotInProfile as LeftOut}
@@ -20,25 +20,23 @@ use Rattle.segments.specs.OneRing.{gives, gives_crossing}
 use Rattle.segments.specs.PlaceAt.{place_at}
 use Rattle.segments.proofs.Positions.{cycle_of-first}
 use Rattle.segments.proofs.PlaceAtLemmas.{place_at-Data, place_at-Link}
-use Rattle.trace_reader.specs.Header.{shape_of}
-use Rattle.trace_reader.specs.declared.row.Row.{Row}
-use Rattle.trace_reader.specs.declared.row.Row.TheVariants.{Sub, Write, Reg, Bell, Read}
+use Rattle.trace_reader.specs.Header.{is_driver_kind, shape_of}
+use Rattle.trace_reader.specs.declared.row.Row.TheVariants.{Sub, Write}
 use Rattle.ring_knowledge.specs.Known.{Known, nothing}
 use Rattle.ring_knowledge.specs.Rings as rings
 use Rattle.ring_knowledge.specs.Writes.{with_word}
-use Rattle.ring_knowledge.specs.Learned.{learned, submitted, known}
+use Rattle.ring_knowledge.specs.Learned.{learned, submitted}
 use Rattle.ownership_checker.specs.declared.refusal.Refusal.{Refusal}
 use Rattle.ownership_checker.specs.declared.refusal.Refusal.TheVariants.{WriteToOwned, NotAsSubmitted, NotDeclared, NotWhole, LinkFault, NotInProfile, RingFull}
 use Rattle.ownership_checker.specs.Refusal.{first_of, first_broken}
-use Rattle.ownership_checker.specs.Quiet.{header_of, IsQuiet, IsQuietRow, crossing_of}
+use Rattle.ownership_checker.specs.Quiet.{header_of, IsCalm, crossing_of}
 use Rattle.ownership_checker.specs.QuietTests.{position_tests, crossing_tests, refusal_of}
 use Rattle.ownership_checker.specs.Rules.{broken}
-use Rattle.ownership_checker.specs.Clean.{IsClean}
 use Rattle.ownership_checker.specs.Givings as givings
 use Rattle.ownership_checker.specs.Givings.{is_wrong_link}
-use Rattle.ownership_checker.proofs.QuietKnowledge.{same_number, shape_here, written_is, quiet_after, quiet_at_first}
+use Rattle.ownership_checker.proofs.QuietKnowledge.{same_number, shape_here, written_is}
 use Rattle.ownership_checker.proofs.QuietRules.{gives-data, gives-no_data, gives_crossing-link, gives_crossing-no_link, data_or_link, crossing_over}
-use Rattle.ownership_checker.proofs.QuietAnswers.{declared_answer, declared_elsewhere, declared_here, data_answer, link_answer}
+use Rattle.ownership_checker.proofs.QuietAnswers.{declared_answer, declared_here, data_answer, link_answer}
 use Rattle.xhci_cli.specs.Walk.{block_at}
 use Rattle.xhci_cli.proofs.Standing.{Standing, declared_at, at_first, declared_more, no_link_declared, data_written, link_written, other_written}
 
@@ -87,19 +85,19 @@ room_left : (full : Bool) (rest : Option Refusal) → cond full (Some RingFull) 
 room_left true rest e = absurd (none_some RingFull e)
 room_left false rest e = (refl, e)
 
-module _ (size : ContextSize) (id : ℕ) (below : id < 256) (shape : Shape) (kind_is : shape.kind ≡ Xfer) (allowed : IsShape shape) where
+module _ (size : ContextSize) (id : ℕ) (shape : Shape) (driver : is_driver_kind shape.kind ≡ true) (allowed : IsShape shape) where
   abbrev pub Stands : Known → Type 0
   Stands k = Standing shape (k.queue id) k.memory (k.given id) (k.crossed id)
 
-  first_stands : Stands nothing
+  pub first_stands : Stands nothing
   unfolding nothing
   first_stands = at_first shape allowed
 
   -- a declaration
-  declared_stands : (k : Known) (blocks : List Block) → IsQuiet k → first_of (broken (header_of size id shape) k (Sub id blocks)) ≡ None → Stands k → Stands (learned (header_of size id shape) k (Sub id blocks))
+  pub declared_stands : (kind_is : shape.kind ≡ Xfer) (k : Known) (blocks : List Block) → IsCalm (header_of size id shape) k → first_of (broken (header_of size id shape) k (Sub id blocks)) ≡ None → Stands k → Stands (learned (header_of size id shape) k (Sub id blocks))
   unfolding learned submitted
-  declared_stands k blocks quiet clean s =
-      let answer = sym (declared_answer size id below shape kind_is allowed k id blocks quiet ∙ declared_here size id below shape kind_is allowed k blocks quiet) ∙ clean in
+  declared_stands kind_is k blocks calm clean s =
+      let answer = sym (declared_answer (header_of size id shape) k id blocks calm ∙ declared_here size id shape kind_is k blocks calm) ∙ clean in
       let left = room_left (nat_lt (place_count shape - 1 + 0) (length (k.queue id) + length blocks)) (refusal_of (fault_of Xfer blocks)) answer in
       let fault = fault_none (is_bad_transfer blocks) (is_transfer_left_out blocks) left.1 in
       let had = s.room in
@@ -110,7 +108,7 @@ module _ (size : ContextSize) (id : ℕ) (below : id < 256) (shape : Shape) (kin
       here : put k.queue id (k.queue id ++ blocks) id ≡ k.queue id ++ blocks
       here = rw (same_number id) refl
 
-  module _ (k : Known) (quiet : IsQuiet k) (a w : ℕ) where
+  module _ (k : Known) (calm : IsCalm (header_of size id shape) k) (a w : ℕ) where
     abbrev given_now : ℕ → Bool
     given_now p = k.given id p || gives (shape_of (header_of size id shape) id) (k.floor id) p a w
 
@@ -118,17 +116,17 @@ module _ (size : ContextSize) (id : ℕ) (below : id < 256) (shape : Shape) (kin
     crossed_now q = k.crossed id q || gives_crossing (shape_of (header_of size id shape) id) (k.floor id) q a w
 
     given_now_is : (p : ℕ) → given_now p ≡ (k.given id p || gives shape (Data 0) p a w)
-    given_now_is p = rw (shape_here size id shape, quiet.floors id) refl
+    given_now_is p = rw (shape_here size id shape, calm.quiet.floors id) refl
 
     crossed_now_is : (q : ℕ) → crossed_now q ≡ (k.crossed id q || gives_crossing shape (Data 0) q a w)
-    crossed_now_is q = rw (shape_here size id shape, quiet.floors id) refl
+    crossed_now_is q = rw (shape_here size id shape, calm.quiet.floors id) refl
 
     word_stands : Standing shape (k.queue id) (put k.memory a w) given_now crossed_now → Stands (with_word (header_of size id shape) k a w)
     unfolding with_word
     word_stands s = s
 
     learned_stands : Standing shape (k.queue id) (put k.memory a w) given_now crossed_now → Stands (learned (header_of size id shape) k (Write a w))
-    learned_stands s = subst (λ (x : Known). Stands x) (sym (written_is size id below shape kind_is k a w)) (word_stands s)
+    learned_stands s = subst (λ (x : Known). Stands x) (sym (written_is (header_of size id shape) k calm a w)) (word_stands s)
 
     none_more : (b c : Bool) → c ≡ false → (b || c) ≡ b
     none_more true c e = refl
@@ -153,7 +151,8 @@ module _ (size : ContextSize) (id : ℕ) (below : id < 256) (shape : Shape) (kin
     unfolding givings.leads_wrong givings.link_of givings.link_block givings.block_with
     leads_right j h e = sym (rw (shape_here size id shape, crossing_over shape allowed j h) refl) ∙ e
 
-    written_stands : first_of (broken (header_of size id shape) k (Write a w)) ≡ None → Stands k → Stands (learned (header_of size id shape) k (Write a w))
+    -- a write that breaks no rule where the ring has a word there
+    pub written_stands : ((p : Place) → place_at shape a ≡ Some p → first_of (broken (header_of size id shape) k (Write a w)) ≡ None) → Stands k → Stands (learned (header_of size id shape) k (Write a w))
     written_stands clean s = learned_stands (by_place (place_at shape a) refl)
       where
         by_place : (o : Option Place) → place_at shape a ≡ o → Standing shape (k.queue id) (put k.memory a w) given_now crossed_now
@@ -166,7 +165,7 @@ module _ (size : ContextSize) (id : ℕ) (below : id < 256) (shape : Shape) (kin
             nowhere p e = cc
         by_place (Some (AtData j v)) at =
             let inside = (place_at-Data shape allowed a j v at).0 in
-            let answer = split_answer _ (first_broken (position_tests (header_of size id shape) k id a w j)) (k.given id j) ((v == 3) && (w % 2 == 1)) (data_answer size id below shape kind_is allowed k a w j v quiet at) clean in
+            let answer = split_answer _ (first_broken (position_tests (header_of size id shape) k id a w j)) (k.given id j) ((v == 3) && (w % 2 == 1)) (data_answer size id shape driver allowed k a w j v calm at) (clean (AtData j v) at) in
             data_written shape allowed (k.queue id) k.memory (k.given id) (k.crossed id) s a w j v at answer.0
             (λ g.
             let pass = two_pass _ _ _ (answer.1 g) in
@@ -178,31 +177,9 @@ module _ (size : ContextSize) (id : ℕ) (below : id < 256) (shape : Shape) (kin
         by_place (Some (AtLink j v)) at =
             let inside = (place_at-Link shape allowed a j v at).0 in
             let answer = split_answer _ (first_broken (crossing_tests (header_of size id shape) k id a w (crossing_of shape j))) (k.crossed id (crossing_of shape j)) ((v == 3) && (w % 2 == 1))
-            (link_answer size id below shape kind_is allowed k a w j v quiet at) clean in
+            (link_answer size id shape driver allowed k a w j v calm at) (clean (AtLink j v) at) in
             link_written shape allowed (k.queue id) k.memory (k.given id) (k.crossed id) s a w j v inside at answer.0
             (λ g. leads_right j inside (link_passes _ _ (answer.1 g)))
             given_now crossed_now
             (λ p. given_now_is p ∙ none_more (k.given id p) _ (gives-no_data shape allowed a w p (λ i u e. data_or_link shape allowed a i u j v e at)))
             (λ i h. crossed_now_is (crossing_of shape i) ∙ ap (λ b. k.crossed id (crossing_of shape i) || b) (gives_crossing-link shape allowed a w j v i h at))
-
-  stands_after : (k : Known) (row : Row) → IsQuiet k → IsQuietRow row → first_of (broken (header_of size id shape) k row) ≡ None → Stands k → Stands (learned (header_of size id shape) k row)
-  stands_after k (Sub r blocks) quiet row clean s = elim (cases_eq id r) [
-    | inl same ↦ subst (λ (x : ℕ). first_of (broken (header_of size id shape) k (Sub x blocks)) ≡ None → Stands (learned (header_of size id shape) k (Sub x blocks))) same
-        (λ c. declared_stands k blocks quiet c s) clean
-    | inr other ↦ absurd (none_some NotDeclared (sym (declared_answer size id below shape kind_is allowed k r blocks quiet ∙ declared_elsewhere size id below shape kind_is allowed k r blocks other) ∙ clean))
-  ]
-  stands_after k (Write a w) quiet row clean s = written_stands k quiet a w clean s
-  stands_after k (Reg r v) quiet row clean s = absurd row
-  stands_after k (Bell s t) quiet row clean x = absurd row
-  stands_after k (Read b) quiet row clean s = absurd row
-
-  -- after all rows of a clean history, the newest first
-  pub stands_over : (past : List Row) → All IsQuietRow past → IsClean (header_of size id shape) past → IsQuiet (known (header_of size id shape) past) × Stands (known (header_of size id shape) past)
-  unfolding known
-  stands_over [] rows clean = (quiet_at_first size id below shape kind_is, first_stands)
-  stands_over (row ∷ past) rows clean =
-      let before = stands_over past (λ i d h. rows (suc i) d (omega arith)) clean.0 in
-      let this : IsQuietRow row = rows 0 row (omega arith) in (
-        quiet_after size id below shape kind_is (known (header_of size id shape) past) row this before.0,
-        stands_after (known (header_of size id shape) past) row before.0 this (ap first_of clean.1) before.1,
-      )

@@ -9,6 +9,7 @@ use Rattle.trb.specs.declared.block.Block.{Block}
 use Rattle.contexts.specs.declared.size.ContextSize.{ContextSize}
 use Rattle.segments.specs.Places.{place_count}
 use Rattle.trace_reader.specs.declared.ring.Ring.{Ring}
+use Rattle.trace_reader.specs.Header.{command_id}
 use Rattle.trace_reader.specs.declared.row.Row.TheVariants.{Sub}
 use Rattle.ring_knowledge.specs.Known.{Known}
 use Rattle.ring_knowledge.specs.Learned.{learned, submitted}
@@ -18,7 +19,7 @@ use Rattle.ownership_checker.specs.Refusal.{first_of}
 use Rattle.ownership_checker.specs.Rules.{broken}
 use Rattle.ownership_checker.specs.Givings.{length_from}
 use Rattle.ownership_checker.specs.Quiet.{crossing_of}
-use Rattle.ownership_checker.proofs.QuietKnowledge.{quiet_after, same_number}
+use Rattle.ownership_checker.proofs.QuietKnowledge.{calm_declared, command_is, same_number}
 use Rattle.xhci_cli.specs.declared.checker.record.Record.{Record}
 use Rattle.xhci_cli.specs.Tracking.{IsTransferRing, Tracks, ArePositive, header}
 use Rattle.xhci_cli.proofs.Declaring.{here}
@@ -170,7 +171,7 @@ module _ (ring : Ring) (is : IsTransferRing ring) (size : ContextSize) (k : Know
       let as_many = t.as_many in
       let whole = t.whole in
       record {
-        quiet = quiet_after size ring.id is.below ring.shape is.kind k (Sub ring.id blocks) tt t.quiet;
+        calm = λ s. calm_declared (header s ring) (header size ring) k ring.id blocks (no_command s) (λ e. omega (arith, is.below, e)) (t.calm s);
         words = λ a. ap (λ f. f a) rest_same ∙ t.words a;
         queue = queue_now ∙ ap (λ q. q ++ blocks) t.queue ∙ sym more;
         begins = λ p. ap (λ ds. length_from ds 0 p) descriptors_now ∙ begins_now n.lengths.items some lengths p;
@@ -184,3 +185,6 @@ module _ (ring : Ring) (is : IsTransferRing ring) (size : ContextSize) (k : Know
         segments = ap length crossed ∙ t.segments;
         crossed = λ j h. ap (λ f. f ring.id (crossing_of ring.shape j)) crossed_same ∙ t.crossed j h ∙ ap (λ xs. get_or xs j false) (sym crossed);
       }
+    where
+      no_command : (s : ContextSize) → ring.id ≡ command_id (header s ring) → ⊥
+      no_command s e = omega (arith, is.below, e ∙ command_is s ring.id ring.shape is.kind)

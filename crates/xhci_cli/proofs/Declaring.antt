@@ -22,15 +22,15 @@ use Rattle.xhci_cli.specs.Tracking.{IsTransferRing, Tracks, header}
 
 module _ (ring : Ring) (is : IsTransferRing ring) (size : ContextSize) (k : Known) (r : Record) (memory : ℕ → ℕ) (t : Tracks ring k r memory) (blocks : List Block) where
   answer : (id : ℕ) → first_of (broken (header size ring) k (Sub id blocks)) ≡ first_broken (declaration_tests (header size ring) k id blocks)
-  answer id = declared_answer size ring.id is.below ring.shape is.kind is.allowed k id blocks t.quiet
+  answer id = declared_answer (header size ring) k id blocks (t.calm size)
 
   pub elsewhere : (id : ℕ) → ring.id ≢ id → Some NotDeclared ≡ first_of (broken (header size ring) k (Sub id blocks))
-  elsewhere id other = sym (answer id ∙ declared_elsewhere size ring.id is.below ring.shape is.kind is.allowed k id blocks other)
+  elsewhere id other = sym (answer id ∙ declared_elsewhere size ring.id ring.shape is.kind k id blocks other)
 
   pub here : first_of (broken (header size ring) k (Sub ring.id blocks))
       ≡ cond (nat_lt (place_count ring.shape - 1 + 0) (length r.blocks.items + length blocks)) (Some RingFull) (refusal_of (fault_of Xfer blocks))
   here =
-      answer ring.id ∙ declared_here size ring.id is.below ring.shape is.kind is.allowed k blocks t.quiet
+      answer ring.id ∙ declared_here size ring.id ring.shape is.kind k blocks (t.calm size)
       ∙ ap (λ q. cond (nat_lt (place_count ring.shape - 1 + 0) (length q + length blocks)) (Some RingFull) (refusal_of (fault_of Xfer blocks))) t.queue
 
   pub full : place_count ring.shape - 1 - length r.blocks.items < length blocks → Some RingFull ≡ first_of (broken (header size ring) k (Sub ring.id blocks))

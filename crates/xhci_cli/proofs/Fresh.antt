@@ -7,17 +7,18 @@ use Rattle.trace_reader.specs.declared.ring.Ring.{Ring}
 use Rattle.ring_knowledge.specs.Known.{nothing}
 use Rattle.ownership_checker.specs.Givings.{length_from}
 use Rattle.xhci_cli.specs.declared.checker.record.Record.{Record}
-use Rattle.xhci_cli.specs.Tracking.{IsTransferRing, Tracks}
+use Rattle.xhci_cli.specs.Tracking.{IsDriverRing, Tracks, header}
+use Rattle.ownership_checker.proofs.QuietKnowledge.{calm_at_first}
 
 at_false : (n p : ℕ) → get_or (replicate n false) p false ≡ false
 at_false n p = grind (arith, common_steps)
 
-pub fresh : (ring : Ring) → IsTransferRing ring → (r : Record) → r.blocks.items ≡ [] → r.lengths.items ≡ []
+pub fresh : (ring : Ring) → IsDriverRing ring → (r : Record) → r.blocks.items ≡ [] → r.lengths.items ≡ []
     → r.given.items ≡ replicate (place_count ring.shape) false → r.crossed.items ≡ replicate (length (links ring.shape)) false
     → 2 ≤ place_count ring.shape → Tracks ring nothing r (λ a. 0)
 unfolding nothing length_from
 fresh ring is r no_blocks no_lengths none_given none_crossed two = record {
-  quiet = record { running = refl; registers = λ q. refl; floors = λ q. refl; devices = λ q. refl };
+  calm = λ size. calm_at_first (header size ring);
   words = λ a. refl;
   queue = sym no_blocks;
   begins = λ p. grind (arith, common_steps, no_lengths);

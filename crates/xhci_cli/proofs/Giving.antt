@@ -28,7 +28,7 @@ use Rattle.ownership_checker.proofs.QuietKnowledge.{shape_here}
 use Rattle.ownership_checker.proofs.QuietRules.{same_first_crossing, crossing_over}
 use Rattle.ownership_checker.proofs.Ranges.{all_from, all_each}
 use Rattle.xhci_cli.specs.declared.checker.record.Record.{Record}
-use Rattle.xhci_cli.specs.Tracking.{IsTransferRing, Tracks, header}
+use Rattle.xhci_cli.specs.Tracking.{IsDriverRing, Tracks, header}
 
 crossing-none : (o : Option ℕ) → o ≡ None → (x : Bool) → (not (is_some o) || x) ≡ true
 crossing-none o e x = rw e refl
@@ -36,7 +36,7 @@ crossing-none o e x = rw e refl
 crossing-some : (o : Option ℕ) (j : ℕ) → o ≡ Some j → (x : Bool) → (not (is_some o) || x) ≡ x
 crossing-some o j e x = rw e refl
 
-module _ (ring : Ring) (is : IsTransferRing ring) (size : ContextSize) (k : Known) (r : Record) (memory : ℕ → ℕ) (t : Tracks ring k r memory) where
+module _ (ring : Ring) (is : IsDriverRing ring) (size : ContextSize) (k : Known) (r : Record) (memory : ℕ → ℕ) (t : Tracks ring k r memory) where
   -- a position, with no Link on the way to it
   pub step_none : (q : ℕ) → q < place_count ring.shape → link_crossed ring.shape q ≡ None → rings.is_step_given (header size ring) k ring.id q ≡ get_or r.given.items q false
   unfolding rings.is_step_given rings.is_way_given
@@ -126,7 +126,7 @@ words_with m a w = record { w = m a ∷ m (a + 4) ∷ m (a + 8) ∷ w ∷ [] }
 same_memory : (m n : ℕ → ℕ) → ((a : ℕ) → m a ≡ n a) → (a w : ℕ) → words_with m a w ≡ words_with n a w
 same_memory m n e a w = rw (e a, e (a + 4), e (a + 8)) refl
 
-module _ (ring : Ring) (is : IsTransferRing ring) (size : ContextSize) (k : Known) (r : Record) (memory : ℕ → ℕ) (t : Tracks ring k r memory) where
+module _ (ring : Ring) (is : IsDriverRing ring) (size : ContextSize) (k : Known) (r : Record) (memory : ℕ → ℕ) (t : Tracks ring k r memory) where
   -- the tests of a position, as the checker makes them
   positions : (p w : ℕ) → p < place_count ring.shape →
       first_broken (position_tests (header size ring) k ring.id (address_of ring.shape p + 12) w p)
@@ -181,7 +181,7 @@ module _ (ring : Ring) (is : IsTransferRing ring) (size : ContextSize) (k : Know
       was_whole true h = absurd (cc)
       was_whole false h = refl
 
-module _ (ring : Ring) (is : IsTransferRing ring) (size : ContextSize) (k : Known) (memory : ℕ → ℕ) (same : (a : ℕ) → k.memory a ≡ memory a) where
+module _ (ring : Ring) (is : IsDriverRing ring) (size : ContextSize) (k : Known) (memory : ℕ → ℕ) (same : (a : ℕ) → k.memory a ≡ memory a) where
   -- the tests of a crossing, as the checker makes them
   pub crossings : (j w : ℕ) → j < length (links ring.shape) →
       first_broken (crossing_tests (header size ring) k ring.id (slice_index (links ring.shape) j + 12) w (crossing_of ring.shape j))

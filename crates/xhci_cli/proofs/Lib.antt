@@ -5,8 +5,7 @@ pub mod Writing
 pub mod Updates
 pub mod Declared
 pub mod Checking
-pub mod Bare
-pub mod Whole
+pub mod Rows
 pub mod Standing
 pub mod CleanStands
 pub mod Walking

@@ -25,11 +25,11 @@ use Rattle.ownership_checker.specs.Refusal.{first_of}
 use Rattle.ownership_checker.specs.Rules.{broken}
 use Rattle.ownership_checker.specs.Leases.{begun}
 use Rattle.ownership_checker.specs.Quiet.{crossing_of}
-use Rattle.ownership_checker.proofs.QuietKnowledge.{shape_here, written_is, quiet_after}
+use Rattle.ownership_checker.proofs.QuietKnowledge.{shape_here, written_is, calm_word}
 use Rattle.ownership_checker.proofs.QuietRules.{gives-data, gives-no_data, gives_crossing-link, gives_crossing-no_link, data_or_link}
 use Rattle.ownership_checker.proofs.QuietLeases.{begun_data, begun_link, begun_nowhere}
 use Rattle.xhci_cli.specs.declared.checker.record.Record.{Record}
-use Rattle.xhci_cli.specs.Tracking.{IsTransferRing, Tracks, ArePositive, header}
+use Rattle.xhci_cli.specs.Tracking.{IsDriverRing, Tracks, ArePositive, header}
 use Rattle.xhci_cli.proofs.Writing.{data_free, link_free}
 
 -- a mark that is set
@@ -58,7 +58,7 @@ or_none : (b c : Bool) → c ≡ false → b ≡ (b || c)
 or_none true c e = refl
 or_none false c e = sym e
 
-module _ (ring : Ring) (is : IsTransferRing ring) (size : ContextSize) (k : Known) (r : Record) (before : ℕ → ℕ) (t : Tracks ring k r before) (a w : ℕ) (after : ℕ → ℕ) (written : (b : ℕ) → after b ≡ put before a w b) where
+module _ (ring : Ring) (is : IsDriverRing ring) (size : ContextSize) (k : Known) (r : Record) (before : ℕ → ℕ) (t : Tracks ring k r before) (a w : ℕ) (after : ℕ → ℕ) (written : (b : ℕ) → after b ≡ put before a w b) where
   kept_memory : (b : ℕ) → (with_word (header size ring) k a w).memory b ≡ after b
   unfolding with_word
   kept_memory b = ap (λ n. cond (b == a) w n) (t.words b) ∙ sym (written b)
@@ -73,11 +73,11 @@ module _ (ring : Ring) (is : IsTransferRing ring) (size : ContextSize) (k : Know
 
   given_now : (p : ℕ) → (with_word (header size ring) k a w).given ring.id p ≡ (k.given ring.id p || gives ring.shape (Data 0) p a w)
   unfolding with_word
-  given_now p = rw (shape_here size ring.id ring.shape, t.quiet.floors ring.id) refl
+  given_now p = rw (shape_here size ring.id ring.shape, (t.calm size).quiet.floors ring.id) refl
 
   crossed_now : (q : ℕ) → (with_word (header size ring) k a w).crossed ring.id q ≡ (k.crossed ring.id q || gives_crossing ring.shape (Data 0) q a w)
   unfolding with_word
-  crossed_now q = rw (shape_here size ring.id ring.shape, t.quiet.floors ring.id) refl
+  crossed_now q = rw (shape_here size ring.id ring.shape, (t.calm size).quiet.floors ring.id) refl
 
   -- a record with what the write gives holds what is known after it
   tracked : (n : Record) → n.blocks.items ≡ r.blocks.items → n.lengths.items ≡ r.lengths.items
@@ -86,8 +86,8 @@ module _ (ring : Ring) (is : IsTransferRing ring) (size : ContextSize) (k : Know
       → ((j : ℕ) → j < length (links ring.shape) → get_or n.crossed.items j false ≡ (get_or r.crossed.items j false || gives_crossing ring.shape (Data 0) (crossing_of ring.shape j) a w))
       → Tracks ring (learned (header size ring) k (Write a w)) n after
   tracked n blocks lengths as_many_places as_many_links given crossed =
-      rw (written_is size ring.id is.below ring.shape is.kind k a w) (record {
-        quiet = rw (written_is size ring.id is.below ring.shape is.kind k a w) at (quiet_after size ring.id is.below ring.shape is.kind k (Write a w) tt t.quiet);
+      rw (written_is (header size ring) k (t.calm size) a w) (record {
+        calm = λ s. calm_word (header s ring) (header size ring) k a w (t.calm s);
         words = kept_memory;
         queue = ap (λ f. f ring.id) kept_queue ∙ t.queue ∙ sym blocks;
         begins = λ p. ap (λ f. length_from (f ring.id) 0 p) kept_descriptors ∙ t.begins p ∙ ap (λ xs. slice_index xs p) (sym lengths);
@@ -137,7 +137,7 @@ module _ (ring : Ring) (is : IsTransferRing ring) (size : ContextSize) (k : Know
 
       pub data_counted : length (begun (header size ring) k (Write a w)) ≡ cond ((v == 3) && (w % 2 == 1)) 1 0
       data_counted =
-          begun_data size ring.id is.below ring.shape is.kind is.allowed k t.quiet a w j v at
+          begun_data size ring.id ring.shape is.driver is.allowed k (t.calm size) a w j v at
           ∙ ap (λ b. cond (not b && ((v == 3) && (w % 2 == 1))) 1 0) (t.given j (place_at-Data ring.shape is.allowed a j v at).0 ∙ is_free)
 
     module _ (j v : ℕ) (at : place_at ring.shape a ≡ Some (AtLink j v)) where
@@ -173,7 +173,7 @@ module _ (ring : Ring) (is : IsTransferRing ring) (size : ContextSize) (k : Know
 
       pub link_counted : length (begun (header size ring) k (Write a w)) ≡ cond ((v == 3) && (w % 2 == 1)) 1 0
       link_counted =
-          begun_link size ring.id is.below ring.shape is.kind is.allowed k t.quiet a w j v at
+          begun_link size ring.id ring.shape is.driver is.allowed k (t.calm size) a w j v at
           ∙ ap (λ b. cond (not b && ((v == 3) && (w % 2 == 1))) 1 0) (t.crossed j (place_at-Link ring.shape is.allowed a j v at).0 ∙ is_open)
 
     -- a write elsewhere
@@ -187,4 +187,4 @@ module _ (ring : Ring) (is : IsTransferRing ring) (size : ContextSize) (k : Know
         none-some p e = cc
 
     pub elsewhere_counted : place_at ring.shape a ≡ None → length (begun (header size ring) k (Write a w)) ≡ 0
-    elsewhere_counted at = begun_nowhere size ring.id is.below ring.shape is.kind is.allowed k t.quiet a w at
+    elsewhere_counted at = begun_nowhere size ring.id ring.shape is.driver is.allowed k (t.calm size) a w at

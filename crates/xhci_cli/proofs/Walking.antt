@@ -5,7 +5,9 @@ use Rattle.std.proofs.lemmas.Bool.{cases_eq, eqb-true}
 use Rattle.std.proofs.lemmas.Bool.Decides.{nat_tests}
 use Rattle.std.proofs.lemmas.Grind.{common_steps}
 use Rattle.trb.specs.declared.block.Block.{Block}
-use Rattle.trb.specs.declared.ring_kind.RingKind.TheVariants.{Xfer, Evt}
+use Rattle.trb.specs.declared.ring_kind.RingKind.{RingKind}
+use Rattle.trb.specs.declared.ring_kind.RingKind.TheVariants.{Cmd, Evt, Xfer}
+use Rattle.trace_reader.specs.Header.{is_driver_kind}
 use Rattle.trb.specs.Block.{kind, pointer, with_cycle}
 use Rattle.trb.specs.Kind.{is_link}
 use Rattle.trb.proofs.BlockLemmas.{kind-with_cycle}
@@ -19,6 +21,11 @@ use Rattle.segments.proofs.Crossings.{Crosses, crosses, link_address_is, link_ta
 use Rattle.ownership_checker.specs.Givings.{is_wrong_link}
 use Rattle.xhci_cli.specs.Walk.{block_at, next_address, walk, data_of, ReadsDeclared}
 use Rattle.xhci_cli.proofs.Standing.{Standing, declared_at}
+
+no_event : (kind : RingKind) → is_driver_kind kind ≡ true → kind ≡ Evt → ⊥
+no_event Cmd d e = cc
+no_event Evt d e = absurd (cc)
+no_event Xfer d e = cc
 
 walk_on : (m : ℕ → ℕ) (a n : ℕ) → m (a + 12) % 2 ≡ 1 → walk m a (suc n) ≡ block_at m a ∷ walk m (next_address (block_at m a) a) n
 unfolding walk
@@ -63,7 +70,7 @@ rest_of queue p d h = grind (arith, common_steps, h)
 one_cycle : Block → Block
 one_cycle b = with_cycle b 1
 
-module _ (shape : Shape) (kind_is : shape.kind ≡ Xfer) (allowed : IsShape shape) (queue : List Block) (m : ℕ → ℕ) (given crossed : ℕ → Bool) (s : Standing shape queue m given crossed) where
+module _ (shape : Shape) (driver : is_driver_kind shape.kind ≡ true) (allowed : IsShape shape) (queue : List Block) (m : ℕ → ℕ) (given crossed : ℕ → Bool) (s : Standing shape queue m given crossed) where
   -- n reads from an address on give blocks that were declared for position p and behind
   record Reads (p a n : ℕ) : Type 0 where
     count : ℕ
@@ -142,10 +149,7 @@ module _ (shape : Shape) (kind_is : shape.kind ≡ Xfer) (allowed : IsShape shap
           omega (arith, c.positive, zero_is, small)
         where
           event : shape.kind ≡ Evt → ⊥
-          event e = differ (sym kind_is ∙ e)
-            where
-              differ : Xfer ≡ Evt → ⊥
-              differ e = cc
+          event e = no_event shape.kind driver e
 
           toggling : (j : ℕ) → j < length (links shape) → length (links shape) ≡ length shape.segments → toggles shape j ≡ true
           toggling j inside same = grind (arith, nat_tests, inside, same, one)
@@ -155,10 +159,7 @@ module _ (shape : Shape) (kind_is : shape.kind ≡ Xfer) (allowed : IsShape shap
       subst (λ (a : ℕ). Reads (p + 1) a n) (address_of-behind shape allowed not_event p (ap is_some none)) (again n)
     where
       not_event : shape.kind ≡ Evt → ⊥
-      not_event e = differ (sym kind_is ∙ e)
-        where
-          differ : Xfer ≡ Evt → ⊥
-          differ e = cc
+      not_event e = no_event shape.kind driver e
   behind_is (Some j) p zero over h again = nothing_read (p + 1) (address_of shape p + 16) 0 h (walk_none m (address_of shape p + 16))
   behind_is (Some j) p (suc n) over h again =
       subst (λ (a : ℕ). Reads (p + 1) a (suc n)) (sym (link_address_is shape (p + 1) j over) ∙ link_address-behind shape allowed p (ap is_some over))
@@ -201,3 +202,20 @@ module _ (shape : Shape) (kind_is : shape.kind ≡ Xfer) (allowed : IsShape shap
     where
       whole : (xs : List Block) → drop 0 xs ≡ xs
       whole xs = grind (arith, common_steps)
+
+-- where the first block's Cycle bit is 0 nothing is read
+pub reads_nothing : (shape : Shape) → 0 < place_count shape → (m : ℕ → ℕ) → m (address_of shape 0 + 12) % 2 ≢ 1 → (queue : List Block) (n : ℕ) → ReadsDeclared shape m queue n
+reads_nothing shape some m even queue n = record {
+  border = 0;
+  declared = omega arith;
+  before_end = some;
+  blocks = ap data_of (nothing n) ∙ sym (none queue);
+  no_link = λ one. nothing n ∙ sym (none queue);
+}
+  where
+    nothing : (n : ℕ) → walk m (address_of shape 0) n ≡ []
+    nothing zero = walk_none m (address_of shape 0)
+    nothing (suc n) = walk_stop m (address_of shape 0) n even
+
+    none : (queue : List Block) → map (λ b. with_cycle b 1) (take 0 queue) ≡ []
+    none queue = grind (arith, common_steps)

@@ -20,7 +20,7 @@ use Rattle.ownership_checker.specs.Quiet.{crossing_of}
 use Rattle.ownership_checker.specs.QuietTests.{position_tests, crossing_tests}
 use Rattle.ownership_checker.proofs.QuietAnswers.{data_answer, link_answer, elsewhere_answer}
 use Rattle.xhci_cli.specs.declared.checker.record.Record.{Record}
-use Rattle.xhci_cli.specs.Tracking.{IsTransferRing, Tracks, header}
+use Rattle.xhci_cli.specs.Tracking.{IsDriverRing, Tracks, header}
 
 owned : (o tests : Option Refusal) (g w : Bool) → o ≡ cond g (Some WriteToOwned) (cond w tests None) → g ≡ true → Some WriteToOwned ≡ o
 owned o tests g w e h = sym (e ∙ rw h refl)
@@ -41,15 +41,15 @@ free o tests false w e n = refl
 is_third : (v w : ℕ) → ((v == 3) && (w % 2 == 1)) ≡ true → v ≡ 3
 is_third v w h = grind (arith, nat_tests, h)
 
-module _ (ring : Ring) (is : IsTransferRing ring) (size : ContextSize) (k : Known) (r : Record) (memory : ℕ → ℕ) (t : Tracks ring k r memory) (a w : ℕ) where
+module _ (ring : Ring) (is : IsDriverRing ring) (size : ContextSize) (k : Known) (r : Record) (memory : ℕ → ℕ) (t : Tracks ring k r memory) (a w : ℕ) where
   pub elsewhere : a % 4 ≡ 0 → place_at ring.shape a ≡ None → None ≡ first_of (broken (header size ring) k (Write a w))
-  elsewhere aligned at = sym (elsewhere_answer size ring.id is.below ring.shape is.kind is.allowed k a w t.quiet aligned at)
+  elsewhere aligned at = sym (elsewhere_answer size ring.id ring.shape is.driver is.allowed k a w (t.calm size) aligned at)
 
   module _ (j v : ℕ) (at : place_at ring.shape a ≡ Some (AtData j v)) where
     here : first_of (broken (header size ring) k (Write a w))
         ≡ cond (get_or r.given.items j false) (Some WriteToOwned) (cond ((v == 3) && (w % 2 == 1)) (first_broken (position_tests (header size ring) k ring.id a w j)) None)
     here =
-        data_answer size ring.id is.below ring.shape is.kind is.allowed k a w j v t.quiet at
+        data_answer size ring.id ring.shape is.driver is.allowed k a w j v (t.calm size) at
         ∙ ap (λ b. cond b (Some WriteToOwned) (cond ((v == 3) && (w % 2 == 1)) (first_broken (position_tests (header size ring) k ring.id a w j)) None))
         (t.given j (place_at-Data ring.shape is.allowed a j v at).0)
 
@@ -76,7 +76,7 @@ module _ (ring : Ring) (is : IsTransferRing ring) (size : ContextSize) (k : Know
         ≡ cond (get_or r.crossed.items j false) (Some WriteToOwned)
         (cond ((v == 3) && (w % 2 == 1)) (first_broken (crossing_tests (header size ring) k ring.id a w (crossing_of ring.shape j))) None)
     there =
-        link_answer size ring.id is.below ring.shape is.kind is.allowed k a w j v t.quiet at
+        link_answer size ring.id ring.shape is.driver is.allowed k a w j v (t.calm size) at
         ∙ ap (λ b. cond b (Some WriteToOwned) (cond ((v == 3) && (w % 2 == 1)) (first_broken (crossing_tests (header size ring) k ring.id a w (crossing_of ring.shape j))) None))
         (t.crossed j (place_at-Link ring.shape is.allowed a j v at).0)
 

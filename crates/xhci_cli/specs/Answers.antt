@@ -3,10 +3,10 @@ use Rattle.std.specs.Prelude.{◌≡◌, ℕ, List, [], ◌∷◌, ◌++◌, Opt
 use Rattle.std.specs.Io.KnownBytes.{Appends}
 use Rattle.ring_knowledge.specs.Known.{nothing}
 use Rattle.trace_reader.specs.declared.trace.Trace.{Trace}
-use Rattle.ownership_checker.specs.Rules.{verdict_from}
+use Rattle.ownership_checker.specs.Profile.{verdict_within}
 use Rattle.ownership_checker.specs.Refusal as rule
 use Rattle.xhci_cli.specs.Walk.{WalksRead}
-use Rattle.xhci_cli.specs.Tracking.{IsAccepted}
+use Rattle.xhci_cli.specs.Tracking.{IsAccepted, IsFirstOfAll}
 use Rattle.xhci_cli.specs.LineFaults.{fault_number, fault_name}
 use Rattle.xhci_cli.specs.PlanRefusals.{refusal_number, refusal_name}
 use Rattle.xhci_cli.specs.declared.writer.fault.PlanFault.{PlanFault}
@@ -49,7 +49,8 @@ text_of Device = codes "xhcitrace: 31 Device"
 -- declared; or its first row that breaks a rule and the least rule that it breaks
 abbrev pub IsVerdict : Answer → Trace → Type 0
 IsVerdict (Accepted leases) trace = IsAccepted trace.header trace.rows trace.first leases × WalksRead trace.header trace.rows
-IsVerdict (Refused row refusal) trace = verdict_from trace.header nothing trace.first trace.rows ≡ Some (row, refusal)
+IsVerdict (Refused row refusal) trace =
+    (verdict_within trace.header nothing trace.first trace.rows ≡ Some (row, refusal)) × IsFirstOfAll trace.header trace.first trace.rows row refusal
 IsVerdict (Unfollowed line refusal) trace = ⊥
 IsVerdict (BadLine line fault) trace = ⊥
 IsVerdict BadWord trace = ⊥

@@ -1,19 +1,21 @@
 -- What the checker's record holds, in terms of what is known after the rows so far
-use Rattle.std.specs.Prelude.{None, ◌≡◌, ℕ, ◌+◌, ◌<◌, ◌≤◌, false, List, [], ◌∷◌, length, slice_index, slice_index_or, sum, reverse, take, drop}
+use Rattle.std.specs.Prelude.{Some, None, ◌≡◌, ℕ, ◌+◌, ◌-◌, ◌<◌, ◌≤◌, true, false, List, [], ◌∷◌, length, slice_get, slice_index, slice_index_or, sum, reverse, take, drop}
 use Rattle.trb.specs.declared.ring_kind.RingKind.TheVariants.{Xfer}
 use Rattle.contexts.specs.declared.size.ContextSize.{ContextSize}
 use Rattle.segments.specs.Shape.{IsShape}
 use Rattle.segments.specs.Places.{place_count, links}
 use Rattle.trace_reader.specs.declared.ring.Ring.{Ring}
 use Rattle.trace_reader.specs.declared.header.Header.{Header}
+use Rattle.trace_reader.specs.Header.{is_driver_kind, event_shape}
 use Rattle.ring_knowledge.specs.Known.{Known}
-use Rattle.ownership_checker.specs.Quiet.{header_of, IsQuiet, crossing_of}
+use Rattle.ownership_checker.specs.Quiet.{header_of, IsCalm, crossing_of}
 use Rattle.ownership_checker.specs.Givings.{length_from}
 use Rattle.trace_reader.specs.declared.row.Row.{Row}
 use Rattle.ring_knowledge.specs.Known.{nothing}
 use Rattle.ring_knowledge.specs.Learned.{learned, known}
 use Rattle.ownership_checker.specs.declared.refusal.Refusal.{Refusal}
 use Rattle.ownership_checker.specs.Rules.{broken, verdict_from}
+use Rattle.ownership_checker.specs.Profile.{is_outside, verdict_within}
 use Rattle.ownership_checker.specs.Clean.{IsClean}
 use Rattle.ownership_checker.specs.Leases.{begun, leases as leases_of}
 use Rattle.ownership_checker.specs.LeaseCount.{begun_count}
@@ -32,19 +34,20 @@ ArePositive (n ∷ ns) = (0 < n) × ArePositive ns
 abbrev pub header : ContextSize → Ring → Header
 header size ring = header_of size ring.id ring.shape
 
--- the header of a trace without rings
-abbrev pub bare : ContextSize → Header
-bare size = record { context_size = size; rings = [] }
-
 -- a transfer ring of an allowed shape
 pub record IsTransferRing (ring : Ring) : Type 0 where
   pub below : ring.id < 256
   pub kind : ring.shape.kind ≡ Xfer
   pub allowed : IsShape ring.shape
 
+-- a command or transfer ring of an allowed shape
+pub record IsDriverRing (ring : Ring) : Type 0 where
+  pub driver : is_driver_kind ring.shape.kind ≡ true
+  pub allowed : IsShape ring.shape
+
 -- the record and the memory hold what is known
 pub record Tracks (ring : Ring) (k : Known) (r : Record) (memory : ℕ → ℕ) : Type 0 where
-  pub quiet : IsQuiet k
+  pub calm : (size : ContextSize) → IsCalm (header size ring) k
   pub words : (a : ℕ) → k.memory a ≡ memory a
   pub queue : k.queue ring.id ≡ r.blocks.items
   -- how long the descriptor is that begins at a position
@@ -60,11 +63,41 @@ pub record Tracks (ring : Ring) (k : Known) (r : Record) (memory : ℕ → ℕ) 
   pub segments : length r.crossed.items ≡ length (links ring.shape)
   pub crossed : (j : ℕ) → j < length (links ring.shape) → k.crossed ring.id (crossing_of ring.shape j) ≡ slice_index_or r.crossed.items j false
 
--- a row was checked: it breaks no rule, the record and the memory hold what is known after it, and so many leases began
+-- a row was checked for this ring alone: it breaks no rule, the record and the memory hold what is known after it, and so many
+-- leases began
 pub record IsStep (size : ContextSize) (ring : Ring) (k : Known) (row : Row) (after : Record) (memory : ℕ → ℕ) (leases : ℕ) : Type 0 where
   pub clean : broken (header size ring) k row ≡ []
   pub tracked : Tracks ring (learned (header size ring) k row) after memory
   pub counted : length (begun (header size ring) k row) ≡ leases
+
+-- the records, one of each ring, and the memory hold what is known
+pub record Follows (h : Header) (k : Known) (records : List Record) (memory : ℕ → ℕ) : Type 0 where
+  pub calm : IsCalm h k
+  pub words : (a : ℕ) → k.memory a ≡ memory a
+  pub as_many : length records ≡ length h.rings
+  pub each : (i : ℕ) (ring : Ring) (r : Record) → slice_get h.rings i ≡ Some ring → slice_get records i ≡ Some r → is_driver_kind ring.shape.kind ≡ true → Tracks ring k r memory
+
+-- records of the first rings, of which nothing is known
+pub record IsFreshSo (rings : List Ring) (records : List Record) (count : ℕ) : Type 0 where
+  pub as_many : length records ≡ count
+  pub each : (i : ℕ) (ring : Ring) (r : Record) → slice_get rings i ≡ Some ring → slice_get records i ≡ Some r → IsDriverRing ring → Tracks ring nothing r (λ a. 0)
+
+-- one of each ring
+abbrev pub AreFresh : List Ring → List Record → Type 0
+AreFresh rings records = IsFreshSo rings records (length rings)
+
+-- a row was checked: it is in the profile and breaks no rule, the records and the memory hold what is known after it, and so
+-- many leases began
+pub record IsRowStep (h : Header) (k : Known) (row : Row) (after : List Record) (memory : ℕ → ℕ) (leases : ℕ) : Type 0 where
+  pub inside : is_outside h row ≡ false
+  pub clean : broken h k row ≡ []
+  pub tracked : Follows h (learned h k row) after memory
+  pub counted : length (begun h k row) ≡ leases
+
+-- no row is outside the profile
+abbrev pub AreInside : Header → List Row → Type 0
+AreInside h [] = Unit {0}
+AreInside h (row ∷ past) = AreInside h past × (is_outside h row ≡ false)
 
 -- what a refusal says; want of memory says nothing
 abbrev pub IfRefused : StepFault → (Refusal → Type 0) → Type 0
@@ -79,9 +112,11 @@ IfRefusedAt NoMemory P = Unit {0}
 -- some of the rows were checked; T tells what is held of what is known after them
 pub record IsChecked (h : Header) (rows : List Row) (first : ℕ) (done : ℕ) (T : Known → Type 0) (leases : ℕ) : Type 0 where
   pub tracked : T (known h (reverse (take done rows)))
+  pub inside : AreInside h (reverse (take done rows))
   pub clean : IsClean h (reverse (take done rows))
   pub verdict : verdict_from h nothing first rows ≡ verdict_from h (known h (reverse (take done rows))) (first + done) (drop done rows)
-  pub counted : begun_count h nothing rows ≡ leases + begun_count h (known h (reverse (take done rows))) (drop done rows)
+  pub within : verdict_within h nothing first rows ≡ verdict_within h (known h (reverse (take done rows))) (first + done) (drop done rows)
+  pub counted : length (event_shape h).segments + begun_count h nothing rows ≡ leases + begun_count h (known h (reverse (take done rows))) (drop done rows)
 
 -- a whole trace was accepted, with so many leases
 pub record IsAccepted (h : Header) (rows : List Row) (first : ℕ) (leases : ℕ) : Type 0 where
@@ -89,13 +124,13 @@ pub record IsAccepted (h : Header) (rows : List Row) (first : ℕ) (leases : ℕ
   pub verdict : verdict_from h nothing first rows ≡ None
   pub counted : length (leases_of h first rows) ≡ leases
 
--- how far the check of a trace has come
-pub record IsProgress (ring : Ring) (rows : List Row) (first done number begun : ℕ) (r : Record) (memory : ℕ → ℕ) : Type 0 where
-  pub numbered : number ≡ first + done
-  pub few : begun ≤ done
-  pub checked : (size : ContextSize) → IsChecked (header size ring) rows first done (λ k. Tracks ring k r memory) begun
+-- where the row of this number is in the profile, it is the first that breaks a rule, of all rules
+abbrev pub IsFirstOfAll : Header → ℕ → List Row → ℕ → Refusal → Type 0
+IsFirstOfAll h first rows number c =
+    (row : Row) → slice_get rows (number - first) ≡ Some row → is_outside h row ≡ false → verdict_from h nothing first rows ≡ Some (number, c)
 
--- how far the check of a trace without rings has come
-pub record IsBareProgress (rows : List Row) (first done number : ℕ) : Type 0 where
+-- how far the check of a trace has come
+pub record IsProgress (h : Header) (rows : List Row) (first done number begun : ℕ) (records : List Record) (memory : ℕ → ℕ) : Type 0 where
   pub numbered : number ≡ first + done
-  pub checked : (size : ContextSize) → IsChecked (bare size) rows first done IsQuiet 0
+  pub few : begun ≤ 64 + done
+  pub checked : IsChecked h rows first done (λ k. Follows h k records memory) begun

@@ -2,12 +2,10 @@
 ghost use Rattle.std.specs.Io.KnownBytes.{Appends};
 ghost use Rattle.xhci_cli.specs.Plans.{plan_refusal, plan_text};
 ghost use Rattle.xhci_cli.specs.declared.writer.plan.Plan.{Plan};
-ghost use Rattle.std.specs.Prelude.{None, ◌≡◌, ◌≢◌, ℕ, All, OnOk, IfOk, IfErr};
-ghost use Rattle.ownership_checker.specs.Quiet.{IsQuietRow};
+ghost use Rattle.std.specs.Prelude.{None, ◌≡◌, ◌≢◌, ℕ, OnOk, IfOk, IfErr};
 ghost use Rattle.ownership_checker.specs.declared.refusal.Refusal.{Refusal};
 ghost use Rattle.trace_reader.specs.declared.trace.Trace.{Trace};
 ghost use Rattle.xhci_cli.specs.Answers.{IsTold, IsVerdict, status_of};
-ghost use Rattle.xhci_cli.specs.FirstPath.{IsOneAtMost};
 ghost use Rattle.xhci_cli.specs.declared.reader.fault.LineFault.{LineFault};
 
 use super::answer::{Answer, Status};
@@ -79,8 +77,6 @@ pub fn write_all<W: Write>(bytes: &[u8], writer: &mut W) -> io::Result<()>
 
 /// The trace that `input` holds, or the answer to what holds none.
 fn trace_from<R: Read>(alloc: Global, input: &mut R) -> Result<Trace, Answer>
-    ensures one { IfOk result (λ trace. IsOneAtMost trace.header.rings) }
-    ensures quiet { IfOk result (λ trace. All IsQuietRow trace.rows) }
     ensures fault { IfErr result (λ answer. (status_of answer ≢ Status.Clean) × (status_of answer ≢ Status.Unclean)) }
 {
     let mut text = Vec::new(alloc);
@@ -90,8 +86,6 @@ fn trace_from<R: Read>(alloc: Global, input: &mut R) -> Result<Trace, Answer>
 
 /// The answer to a trace.
 fn answer_to(alloc: Global, trace: &Trace) -> Answer
-    requires one { IsOneAtMost trace.now.header.rings }
-    requires quiet { All IsQuietRow trace.now.rows }
     ensures { IsVerdict result trace.now }
 {
     match check(alloc, trace) {

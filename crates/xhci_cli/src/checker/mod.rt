@@ -1,9 +1,14 @@
-//! Checks a trace of at most one transfer ring against the rules of ownership, in one pass.
+//! Checks a trace against the rules of ownership, in one pass.
 
 mod check;
 mod fault;
+mod one_ring;
 mod record;
 mod refusals;
+mod rings;
+mod row;
+#[cfg(test)]
+mod tests;
 mod updates;
 
 pub use check::{check, check_in};

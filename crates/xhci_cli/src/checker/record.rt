@@ -1,6 +1,6 @@
 ghost use Rattle.std.specs.Prelude.{◌≡◌, ℕ, IfOk};
 ghost use Rattle.ring_knowledge.specs.Known.{nothing};
-ghost use Rattle.xhci_cli.specs.Tracking.{IsTransferRing, Tracks};
+ghost use Rattle.xhci_cli.specs.Tracking.{IsDriverRing, Tracks};
 
 use std::alloc::{AllocError, Global};
 use trace_reader::Ring;
@@ -22,8 +22,7 @@ pub struct Record {
 impl Record {
     /// Nothing is declared and nothing given.
     pub fn new(alloc: Global, ring: &Ring) -> Result<Record, AllocError>
-        requires { IsTransferRing ring.now }
-        ensures { IfOk result (λ r. Tracks ring.now nothing r (λ a. 0)) }
+        ensures { IfOk result (λ r. IsDriverRing ring.now → Tracks ring.now nothing r (λ a. 0)) }
     {
         let places = ring.shape.places() as usize;
         let segments = ring.shape.segments().len();

@@ -14,7 +14,7 @@ ghost use Rattle.ownership_checker.specs.QuietTests.{position_tests, crossing_te
 ghost use Rattle.trb.specs.Descriptor.{fault_of};
 ghost use Rattle.trb.specs.declared.ring_kind.RingKind.TheVariants.{Xfer};
 ghost use Rattle.trace_reader.specs.declared.row.Row.TheVariants.{Sub, Write};
-ghost use Rattle.xhci_cli.specs.Tracking.{IsTransferRing, Tracks, header};
+ghost use Rattle.xhci_cli.specs.Tracking.{IsDriverRing, IsTransferRing, Tracks, header};
 
 use super::record::Record;
 use guest_memory::{Addr, WordMemory};
@@ -68,7 +68,7 @@ pub fn write_refusal<M: WordMemory>(
     at: Addr,
     word: u32,
 ) -> Option<Refusal>
-    requires { IsTransferRing ring.now }
+    requires { IsDriverRing ring.now }
     ensures { (size : ContextSize) (k : Known) → Tracks ring.now k record.now (M.words memory.now) →
         result ≡ first_of (broken (header size ring.now) k (Write at word)) }
 {
@@ -143,7 +143,7 @@ fn giving_refusal<M: WordMemory>(
     place: u32,
     word: u32,
 ) -> Option<Refusal>
-    requires ring { IsTransferRing ring.now }
+    requires ring { IsDriverRing ring.now }
     requires place { place < place_count ring.now.shape }
     ensures { (size : ContextSize) (k : Known) → Tracks ring.now k record.now (M.words memory.now) →
         result ≡ first_broken (position_tests (header size ring.now) k ring.now.id (address_of ring.now.shape place + 12) word place) }
@@ -175,7 +175,7 @@ fn block_with<M: WordMemory>(memory: &M, base: u64, word: u32) -> Block
 
 /// All blocks but the first of the descriptor that begins at a position, and the crossings between its blocks, are given.
 fn is_whole(ring: &Ring, record: &Record, first: u32) -> bool
-    requires { IsTransferRing ring.now }
+    requires { IsDriverRing ring.now }
     ensures { (size : ContextSize) (k : Known) (memory : ℕ → ℕ) → Tracks ring.now k record.now memory →
         first < length record.now.blocks.items → result ≡ not (is_not_whole (header size ring.now) k ring.now.id first) }
 {
@@ -190,7 +190,7 @@ fn is_whole(ring: &Ring, record: &Record, first: u32) -> bool
 
 /// A position of the first lap, and the crossing on the way to it, are given.
 fn is_step_given(ring: &Ring, record: &Record, q: u64) -> bool
-    requires { IsTransferRing ring.now }
+    requires { IsDriverRing ring.now }
     ensures { (size : ContextSize) (k : Known) (memory : ℕ → ℕ) → Tracks ring.now k record.now memory →
         q < place_count ring.now.shape → result ≡ is_step_given (header size ring.now) k ring.now.id q }
 {
@@ -208,7 +208,7 @@ fn crossing_refusal<M: WordMemory>(
     segment: u32,
     word: u32,
 ) -> Option<Refusal>
-    requires ring { IsTransferRing ring.now }
+    requires ring { IsDriverRing ring.now }
     requires segment { segment < length (links ring.now.shape) }
     ensures { (size : ContextSize) (k : Known) → ((a : ℕ) → k.memory a ≡ M.words memory.now a) →
         result ≡ first_broken (crossing_tests (header size ring.now) k ring.now.id (slice_index (links ring.now.shape) segment + 12) word (crossing_of ring.now.shape segment)) }

@@ -7,7 +7,7 @@ ghost use Rattle.ownership_checker.specs.Leases.{begun};
 ghost use Rattle.ownership_checker.specs.Refusal.{first_of};
 ghost use Rattle.ownership_checker.specs.Rules.{broken};
 ghost use Rattle.trace_reader.specs.declared.row.Row.TheVariants.{Sub, Write};
-ghost use Rattle.xhci_cli.specs.Tracking.{IsTransferRing, Tracks, header};
+ghost use Rattle.xhci_cli.specs.Tracking.{IsDriverRing, IsTransferRing, Tracks, header};
 
 use super::record::Record;
 use super::refusals::is_giving;
@@ -45,7 +45,7 @@ fn push_length(lengths: &mut Vec<u32>, length: u32) -> Result<(), AllocError>
 
 /// Notes what a write gives, if it gives anything, and says whether it does.
 pub fn note_write(ring: &Ring, record: &mut Record, at: Addr, word: u32) -> bool
-    requires { IsTransferRing ring.now }
+    requires { IsDriverRing ring.now }
     ensures tracked { (size : ContextSize) (k : Known) (before after : ℕ → ℕ) → Tracks ring.now k record.old before →
         ((a : ℕ) → after a ≡ put before at word a) →
         first_of (broken (header size ring.now) k (Write at word)) ≡ None →

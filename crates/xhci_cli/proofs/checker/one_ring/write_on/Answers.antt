@@ -1,7 +1,7 @@
 use Rattle.std.proofs.Common.{◌≡◌, sym, ◌∙◌, refl, Bool, true, false, cond}
 use mir.Val.{bool_byte}
 use Rattle.ownership_checker.proofs.QuietAnswers.{nothing_broken}
-use Rattle.xhci_cli.proofs.checker.check.check_write.Goals as goal
+use Rattle.xhci_cli.proofs.checker.one_ring.write_on.Goals as goal
 
 as_number : (b : Bool) → cond b 1 0 ≡ bool_byte b
 as_number true = refl

@@ -6,7 +6,7 @@ use Rattle.ownership_checker.specs.Rules.{broken}
 use Rattle.ownership_checker.proofs.QuietAnswers.{nothing_broken}
 use Rattle.ownership_checker.proofs.QuietLeases.{begun_declared}
 use Rattle.xhci_cli.specs.Tracking.{Tracks, header}
-use Rattle.xhci_cli.proofs.checker.check.check_declaration.Goals as goal
+use Rattle.xhci_cli.proofs.checker.one_ring.declare_on.Goals as goal
 
 pub returns-in-Some-clause-refused : goal.returns-in-Some-clause-refused
 returns-in-Some-clause-refused c = λ size k memory t. sym (c.in-Some.ensures.first size k memory t)
@@ -20,5 +20,5 @@ returns-clause-ok c = λ size k memory t.
       tracked =
           subst (λ (n : ℕ). Tracks c.args.ring.now (learned (header size c.args.ring.now) k (Sub n c.args.blocks.now)) c.declare.new.record memory) (sym own)
           (c.in_ok-declare.ensures size k memory t (ap (λ n. first_of (broken (header size c.args.ring.now) k (Sub n c.args.blocks.now))) (sym own) ∙ ok));
-      counted = begun_declared size c.args.ring.now.id c.requires.below c.args.ring.now.shape c.requires.kind c.requires.allowed k c.args.id c.args.blocks.now;
+      counted = begun_declared (header size c.args.ring.now) k c.args.id c.args.blocks.now;
     }

@@ -1,0 +1,17 @@
+use Rattle.std.proofs.Common.{◌≡◌, ◌+◌, List, length, sym, subst, arith}
+use Rattle.xhci_cli.specs.declared.checker.record.Record.{Record}
+use Rattle.xhci_cli.specs.Tracking.{IsFreshSo}
+use Rattle.xhci_cli.proofs.Rows.{fresh_push}
+use Rattle.xhci_cli.proofs.checker.rings.fresh_records.Goals as goal
+
+pub loop-ring-preserved : goal.loop-ring-preserved
+loop-ring-preserved c =
+    subst (λ (xs : List Record). IsFreshSo c.args.rings.now xs (c.loop-ring.ring-index + 1)) (sym c.in_ok-push.ensures.items)
+    (fresh_push c.args.rings.now c.loop-ring.records.items c.ring-item.result c.loop-ring.ring-index c.in_ok-new.field-0 c.loop-ring.invariant c.ring-item.is c.loop-ring-test.true c.in_ok-new.ensures)
+
+pub returns : goal.returns
+returns c =
+    let ends = c.loop-ring.auto.ring-index-end in
+    let past = c.loop-ring-test.false in
+    let all : c.loop-ring.ring-index ≡ length c.args.rings.now = omega arith in
+    rw all at c.loop-ring.invariant

@@ -1,0 +1,57 @@
+ghost use Rattle.std.specs.Prelude.{◌≡◌, ◌==◌, ◌≤◌, length, position, IfOk};
+ghost use Rattle.segments.specs.Places.{touches};
+ghost use Rattle.trace_reader.specs.Header.{IsHeader, event_shape, is_event_kind};
+ghost use Rattle.xhci_cli.specs.Tracking.{AreFresh};
+
+use super::record::Record;
+use std::alloc::{AllocError, Global};
+use trace_reader::{Header, Ring};
+use trb::RingKind;
+
+/// The number of the ring with this ID in the list.
+pub fn ring_named(rings: &[Ring], id: u8) -> Option<usize>
+    ensures { result ≡ position (λ ring. ring.id == id) rings.now }
+{
+    rings.iter().position(|ring| ring.id == id)
+}
+
+/// The number of the ring that has the word at this address.
+pub fn ring_at(rings: &[Ring], address: u64) -> Option<usize>
+    ensures { result ≡ position (λ ring. touches ring.shape address 4) rings.now }
+{
+    rings
+        .iter()
+        .position(|ring| ring.shape.overlaps(address, 4))
+}
+
+/// The ring carries events.
+pub fn is_event_ring(ring: &Ring) -> bool
+    ensures { result ≡ is_event_kind ring.now.shape.kind }
+{
+    matches!(ring.shape.kind(), RingKind::Evt)
+}
+
+/// How many leases stand from the first row on: one of each event segment.
+pub fn event_leases(header: &Header) -> u64
+    requires { IsHeader header.now }
+    ensures exact { result ≡ length (event_shape header.now).segments }
+    ensures few { result ≤ 64 }
+{
+    for ring in header.rings.as_slice() {
+        if is_event_ring(ring) {
+            return ring.shape.segments().len() as u64;
+        }
+    }
+    0
+}
+
+/// A record of each ring, of which nothing is known.
+pub fn fresh_records(alloc: Global, rings: &[Ring]) -> Result<Vec<Record>, AllocError>
+    ensures { IfOk result (λ records. AreFresh rings.now records.items) }
+{
+    let mut records = Vec::new(alloc);
+    for ring in rings {
+        records.push(Record::new(alloc, ring)?)?;
+    }
+    Ok(records)
+}
