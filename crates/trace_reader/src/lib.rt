@@ -18,7 +18,7 @@ mod trace;
 pub use entry::block_of;
 pub use fault::{LineFault, ReadFault};
 pub use header::{Header, Rings};
-pub use print::{print_trace, push_ring, push_row};
+pub use print::{print_trace, push_ring, push_row, push_sub, push_write};
 pub use read::read_trace;
 pub use register::Register;
 pub use ring::Ring;

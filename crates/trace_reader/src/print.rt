@@ -1,5 +1,6 @@
 ghost use Rattle.std.specs.Prelude.{◌≡◌, ◌++◌, ◌∷◌, [], Ok, map, OnOk, IfOk};
 ghost use Rattle.std.specs.List.{flat_map};
+ghost use Rattle.trace_reader.specs.declared.row.Row.TheVariants.{Sub, Write};
 ghost use Rattle.trace_reader.specs.Entries.{text_of};
 ghost use Rattle.trace_reader.specs.Reading.{trace_of};
 ghost use Rattle.trace_reader.specs.Spelling.{block_fields, printed, printed_line, printed_trace, ring_fields, row_fields, segment_field, size_fields, version_fields};
@@ -10,6 +11,7 @@ use crate::ring::Ring;
 use crate::row::Row;
 use crate::trace::Trace;
 use contexts::ContextSize;
+use guest_memory::Addr;
 use line_text::{push_u8, push_u16, push_u32, push_u64};
 use segments::Segment;
 use std::alloc::{AllocError, Global};
@@ -87,32 +89,40 @@ fn push_ring_fields(out: &mut Vec<u8>, ring: &Ring) -> Result<(), AllocError>
 }
 
 /// Appends the line of a row.
-#[tactic(auto, using(crate::proofs::LinePieces::line_of))]
 pub fn push_row(out: &mut Vec<u8>, row: &Row) -> Result<(), AllocError>
     ensures { OnOk result (out.new.items ≡ out.old.items ++ printed_line (row_fields row.now)) }
 {
-    push_fields(out, row)?;
+    push_row_fields(out, row)?;
+    out.extend_from_slice(b"\n")?;
+    Ok(())
+}
+
+/// Appends the line of a declaration.
+pub fn push_sub(out: &mut Vec<u8>, ring: u8, blocks: &[Block]) -> Result<(), AllocError>
+    ensures { OnOk result (out.new.items ≡ out.old.items ++ printed_line (row_fields (Sub ring blocks.now))) }
+{
+    push_sub_fields(out, ring, blocks)?;
+    out.extend_from_slice(b"\n")?;
+    Ok(())
+}
+
+/// Appends the line of a write.
+pub fn push_write(out: &mut Vec<u8>, at: Addr, word: u32) -> Result<(), AllocError>
+    ensures { OnOk result (out.new.items ≡ out.old.items ++ printed_line (row_fields (Write at word))) }
+{
+    push_write_fields(out, at, word)?;
     out.extend_from_slice(b"\n")?;
     Ok(())
 }
 
 /// Appends the fields of a row, with a space between each two.
 #[tactic(auto, unfolding(crate::specs::Spelling::row_fields))]
-fn push_fields(out: &mut Vec<u8>, row: &Row) -> Result<(), AllocError>
+fn push_row_fields(out: &mut Vec<u8>, row: &Row) -> Result<(), AllocError>
     ensures { OnOk result (out.new.items ≡ out.old.items ++ in_a_row (row_fields row.now)) }
 {
     match row {
-        Row::Sub { ring, blocks } => {
-            out.extend_from_slice(b"sub ")?;
-            push_u8(out, *ring)?;
-            push_blocks(out, blocks.as_slice())
-        }
-        Row::Write { at, word } => {
-            out.extend_from_slice(b"w ")?;
-            push_u64(out, at.get())?;
-            out.extend_from_slice(b" ")?;
-            push_u32(out, *word)
-        }
+        Row::Sub { ring, blocks } => push_sub_fields(out, *ring, blocks.as_slice()),
+        Row::Write { at, word } => push_write_fields(out, *at, *word),
         Row::Reg { register, value } => {
             out.extend_from_slice(b"reg ")?;
             out.extend_from_slice(register.name().as_bytes())?;
@@ -130,6 +140,27 @@ fn push_fields(out: &mut Vec<u8>, row: &Row) -> Result<(), AllocError>
             push_block(out, event)
         }
     }
+}
+
+/// Appends the fields of a declaration, with a space between each two.
+#[tactic(auto, unfolding(crate::specs::Spelling::row_fields))]
+fn push_sub_fields(out: &mut Vec<u8>, ring: u8, blocks: &[Block]) -> Result<(), AllocError>
+    ensures { OnOk result (out.new.items ≡ out.old.items ++ in_a_row (row_fields (Sub ring blocks.now))) }
+{
+    out.extend_from_slice(b"sub ")?;
+    push_u8(out, ring)?;
+    push_blocks(out, blocks)
+}
+
+/// Appends the fields of a write, with a space between each two.
+#[tactic(auto, unfolding(crate::specs::Spelling::row_fields))]
+fn push_write_fields(out: &mut Vec<u8>, at: Addr, word: u32) -> Result<(), AllocError>
+    ensures { OnOk result (out.new.items ≡ out.old.items ++ in_a_row (row_fields (Write at word))) }
+{
+    out.extend_from_slice(b"w ")?;
+    push_u64(out, at.get())?;
+    out.extend_from_slice(b" ")?;
+    push_u32(out, word)
 }
 
 /// Appends the words of blocks, each behind a space.

@@ -1,0 +1,9 @@
+use Rattle.std.proofs.Common.{arith}
+use Rattle.std.proofs.lemmas.Grind.{common_steps}
+use Rattle.trace_reader.specs.declared.row.Row.TheVariants.{Sub}
+use Rattle.trace_reader.specs.Spelling.{row_fields}
+use Rattle.trace_reader.proofs.LinePieces.{line_of}
+use Rattle.trace_reader.proofs.print.push_sub.Goals as goal
+
+pub returns : goal.returns
+returns c = rw (line_of (row_fields (Sub c.args.ring c.args.blocks.now))) (grind (arith, common_steps, c.in_ok-push_sub_fields.ensures, c.in_ok-extend_from_slice.ensures.items))
