@@ -11,5 +11,4 @@ pub mod CleanStands
 pub mod Walking
 pub mod Walks
 pub mod Telling
-pub mod LineCounts
 pub mod PlanLemmas

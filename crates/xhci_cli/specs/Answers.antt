@@ -1,18 +1,21 @@
 -- The text of each answer, how the program ends on it, and what it writes
-use Rattle.std.specs.Prelude.{◌≡◌, ℕ, List, [], ◌∷◌, ◌++◌, Option, Some, codes, decimal}
+use Rattle.std.specs.Prelude.{◌≡◌, ℕ, List, [], ◌∷◌, ◌++◌, Option, Some, None, Ok, Err, codes, decimal}
 use Rattle.std.specs.Io.KnownBytes.{Appends}
 use Rattle.ring_knowledge.specs.Known.{nothing}
 use Rattle.trace_reader.specs.declared.trace.Trace.{Trace}
+use Rattle.trace_reader.specs.declared.fault.LineFault.{LineFault}
+use Rattle.trace_reader.specs.Entries.{text_of as spelled}
+use Rattle.trace_reader.specs.Reading.{trace_of}
 use Rattle.ownership_checker.specs.Profile.{verdict_within}
 use Rattle.ownership_checker.specs.Refusal as rule
 use Rattle.xhci_cli.specs.Walk.{WalksRead}
 use Rattle.xhci_cli.specs.Tracking.{IsAccepted, IsFirstOfAll}
-use Rattle.xhci_cli.specs.LineFaults.{fault_number, fault_name}
+use Rattle.trace_reader.specs.Faults.{fault_number, fault_name}
 use Rattle.xhci_cli.specs.PlanRefusals.{refusal_number, refusal_name}
 use Rattle.xhci_cli.specs.declared.writer.fault.PlanFault.{PlanFault}
 use Rattle.xhci_cli.specs.declared.writer.fault.PlanFault.TheVariants.{Line as BadPlanLine, Refused as RefusedLine, Memory as NoPlanMemory}
-use Rattle.xhci_cli.specs.declared.reader.fault.ReadFault.{ReadFault}
-use Rattle.xhci_cli.specs.declared.reader.fault.ReadFault.TheVariants.{Line, Memory as OutOfMemory}
+use Rattle.trace_reader.specs.declared.fault.ReadFault.{ReadFault}
+use Rattle.trace_reader.specs.declared.fault.ReadFault.TheVariants.{Line, Memory as OutOfMemory}
 use Rattle.xhci_cli.specs.declared.answer.Answer.{Answer}
 use Rattle.xhci_cli.specs.declared.answer.Answer.TheVariants.{Accepted, Refused, Unfollowed, BadLine, BadWord, Memory, Device}
 use Rattle.xhci_cli.specs.declared.answer.Status.{Status}
@@ -67,6 +70,26 @@ abbrev pub answer_of_plan_fault : PlanFault → Answer
 answer_of_plan_fault (BadPlanLine line fault) = BadLine line fault
 answer_of_plan_fault (RefusedLine line refusal) = Unfollowed line refusal
 answer_of_plan_fault NoPlanMemory = Memory
+
+-- the known bytes of an input spell the trace; of bytes that aren't known nothing is said
+abbrev pub IsTextOf : Option (List ℕ) → Trace → Type 0
+IsTextOf None trace = Unit {0}
+IsTextOf (Some bytes) trace = trace_of bytes ≡ Ok (spelled trace)
+
+-- the first bad line of the known bytes of an input, and the least of its faults
+abbrev pub IsFirstBad : Option (List ℕ) → ℕ → LineFault → Type 0
+IsFirstBad None line fault = Unit {0}
+IsFirstBad (Some bytes) line fault = trace_of bytes ≡ Err (line, fault)
+
+-- an answer is right of an input that holds no trace
+abbrev pub IsReadFault : Option (List ℕ) → Answer → Type 0
+IsReadFault known (Accepted leases) = ⊥
+IsReadFault known (Refused row refusal) = ⊥
+IsReadFault known (Unfollowed line refusal) = ⊥
+IsReadFault known (BadLine line fault) = IsFirstBad known line fault
+IsReadFault known BadWord = ⊥
+IsReadFault known Memory = Unit {0}
+IsReadFault known Device = Unit {0}
 
 -- the line of an answer was written behind the bytes before, where these are known
 abbrev pub IsTold : Answer → Option (List ℕ) → Option (List ℕ) → Type 0

@@ -1,9 +1,6 @@
 pub mod Tracking
-pub mod FirstPath
 pub mod Walk
-pub mod LineFaults
 pub mod Answers
-pub mod Lines
 pub mod PlanRefusals
 pub mod Texts
 pub mod Plans

@@ -1,7 +1,7 @@
 -- How a refused line of a plan is told
 use Rattle.std.specs.Prelude.{ℕ, ◌≤◌, Bool, nat_eq, List, [], ◌∷◌, ◌++◌, codes}
 use Rattle.std.specs.List.{starts_with}
-use Rattle.xhci_cli.specs.declared.reader.fault.LineFault.TheVariants.{Header}
+use Rattle.trace_reader.specs.declared.fault.LineFault.TheVariants.{Header}
 use Rattle.trb.specs.declared.fault.Fault.{Fault}
 use Rattle.trb.specs.declared.fault.Fault.TheVariants.{BadDescriptor as NoDescriptor, NotInProfile as LeftOut}
 use Rattle.cycle_ring.specs.declared.fault.EnqueueFault.{EnqueueFault}

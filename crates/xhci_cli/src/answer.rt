@@ -2,11 +2,11 @@
 ghost use Rattle.std.specs.Prelude.{◌≡◌, Some};
 ghost use Rattle.xhci_cli.specs.Answers.{exit_number, status_of, text_of};
 
-use super::reader::{LineFault, ReadFault};
 use super::writer::{PlanFault, PlanRefusal};
 use ownership_checker::Refusal;
 use std::alloc::AllocError;
 use std::{fmt, io};
+use trace_reader::{LineFault, ReadFault};
 
 /// The answer to a trace or a plan.
 #[derive(Debug, Drop, PartialEq, Eq)]
@@ -100,7 +100,7 @@ impl From<ReadFault> for Answer {
 
     fn from(fault: ReadFault) -> Answer {
         match fault {
-            ReadFault::Line { line, fault } => Answer::BadLine { line, fault },
+            ReadFault::Line { line, code } => Answer::BadLine { line, fault: code },
             ReadFault::Memory => Answer::Memory,
         }
     }

@@ -1,4 +1,5 @@
 //! The command line.
+use crate::decode::BlockWords;
 use clap::{Arg, ArgMatches, Command};
 use std::alloc::{AllocError, Global};
 
@@ -34,14 +35,14 @@ fn word<'a>(alloc: Global, name: &'a str) -> Arg<'a> {
 }
 
 /// The words of the block that is to be decoded, where the program is asked for that.
-pub fn block_words<'a>(matches: &ArgMatches<'a>) -> Option<[&'a str; 4]> {
+pub fn block_words<'a>(matches: &ArgMatches<'a>) -> Option<BlockWords<'a>> {
     let decode = matches.subcommand_matches("decode")?;
-    Some([
-        decode.get_str("WORD0")?,
-        decode.get_str("WORD1")?,
-        decode.get_str("WORD2")?,
-        decode.get_str("WORD3")?,
-    ])
+    Some(BlockWords {
+        first: decode.get_str("WORD0")?,
+        second: decode.get_str("WORD1")?,
+        third: decode.get_str("WORD2")?,
+        fourth: decode.get_str("WORD3")?,
+    })
 }
 
 /// The program is asked to write the trace of a plan.

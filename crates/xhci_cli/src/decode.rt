@@ -1,8 +1,8 @@
 //! Tells what a block says.
 ghost use Rattle.std.specs.Io.KnownBytes.{Appends};
-ghost use Rattle.std.specs.Prelude.{◌≡◌, ◌++◌, ◌∷◌, [], Some, None, ◌≢◌, map, OnOk, IfOk};
+ghost use Rattle.std.specs.Prelude.{◌≡◌, ◌++◌, ◌∷◌, [], Some, None, ◌≢◌, OnOk, IfOk};
 ghost use Rattle.trb.specs.declared.block.Block.{Block};
-ghost use Rattle.trace_reader.specs.Values.{event_of};
+ghost use Rattle.trace_reader.specs.Values.{block_of};
 ghost use Rattle.xhci_cli.specs.Answers.{IsTold};
 ghost use Rattle.xhci_cli.specs.Decoding.{bit_text, decoded_text, event_text, kind_text};
 
@@ -14,32 +14,41 @@ use std::io::Write;
 use trace_reader::block_of;
 use trb::Block;
 
+/// The words of a block as they are given.
+#[derive(Drop)]
+pub struct BlockWords<'a> {
+    pub first: &'a str,
+    pub second: &'a str,
+    pub third: &'a str,
+    pub fourth: &'a str,
+}
+
 /// Writes what the block of four words says to `out`, and to `err` that one of them isn't 8 hex digits.
 pub fn run_decode<O: Write, E: Write>(
     alloc: Global,
-    words: [&str; 4],
+    words: &BlockWords,
     out: &mut O,
     err: &mut E,
 ) -> Status
     ensures clean { result ≡ Status.Clean → (err.new ≡ err.old)
-        × ((block : Block) × (event_of (map (λ word. word.now) words.entry) ≡ Some block) × Appends (O.contents out.old) (O.contents out.new) (decoded_text block ++ 10 ∷ [])) }
+        × ((block : Block) × (block_of words.now.first.now words.now.second.now words.now.third.now words.now.fourth.now ≡ Some block) × Appends (O.contents out.old) (O.contents out.new) (decoded_text block ++ 10 ∷ [])) }
     ensures unreadable { result ≡ Status.Unreadable → (out.new ≡ out.old)
-        × (event_of (map (λ word. word.now) words.entry) ≡ None) × IsTold Answer.BadWord (E.contents err.old) (E.contents err.new) }
+        × (block_of words.now.first.now words.now.second.now words.now.third.now words.now.fourth.now ≡ None) × IsTold Answer.BadWord (E.contents err.old) (E.contents err.new) }
 {
-    let [a, b, c, d] = words;
-    match block_of(a.as_bytes(), b.as_bytes(), c.as_bytes(), d.as_bytes()) {
+    let block = block_of(
+        words.first.as_bytes(),
+        words.second.as_bytes(),
+        words.third.as_bytes(),
+        words.fourth.as_bytes(),
+    );
+    match block {
         Some(block) => write_block(alloc, block, out, err),
         None => tell(&Answer::BadWord, out, err),
     }
 }
 
 /// Writes what a block says.
-fn write_block<O: Write, E: Write>(
-    alloc: Global,
-    block: Block,
-    out: &mut O,
-    err: &mut E,
-) -> Status
+fn write_block<O: Write, E: Write>(alloc: Global, block: Block, out: &mut O, err: &mut E) -> Status
     ensures clean { result ≡ Status.Clean → (err.new ≡ err.old) × Appends (O.contents out.old) (O.contents out.new) (decoded_text block ++ 10 ∷ []) }
     ensures read { result ≢ Status.Unreadable }
 {

@@ -36,7 +36,7 @@ fn obey(rt: &HostRuntime) -> Result<ExitCode, Answer> {
     match command.try_get_matches_from(words.as_slice()) {
         Ok(matches) => {
             let status = if let Some(words) = command_line::block_words(&matches) {
-                run_decode(alloc, words, &mut rt.stdout(), &mut rt.stderr())
+                run_decode(alloc, &words, &mut rt.stdout(), &mut rt.stderr())
             } else if command_line::is_write(&matches) {
                 write_at(rt, command_line::plan_path(&matches))?
             } else {

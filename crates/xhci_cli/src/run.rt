@@ -5,16 +5,15 @@ ghost use Rattle.xhci_cli.specs.declared.writer.plan.Plan.{Plan};
 ghost use Rattle.std.specs.Prelude.{None, ◌≡◌, ◌≢◌, ℕ, OnOk, IfOk, IfErr};
 ghost use Rattle.ownership_checker.specs.declared.refusal.Refusal.{Refusal};
 ghost use Rattle.trace_reader.specs.declared.trace.Trace.{Trace};
-ghost use Rattle.xhci_cli.specs.Answers.{IsTold, IsVerdict, status_of};
-ghost use Rattle.xhci_cli.specs.declared.reader.fault.LineFault.{LineFault};
+ghost use Rattle.xhci_cli.specs.Answers.{IsFirstBad, IsReadFault, IsTextOf, IsTold, IsVerdict, status_of};
+ghost use Rattle.trace_reader.specs.declared.fault.LineFault.{LineFault};
 
 use super::answer::{Answer, Status};
 use super::checker::{CheckFault, check};
-use super::reader::read_trace;
 use super::writer::write_plan;
 use std::alloc::Global;
 use std::io::{self, Read, Write};
-use trace_reader::Trace;
+use trace_reader::{Trace, read_trace};
 
 /// Checks the trace that `input` holds. A verdict goes to `out`, and what hinders one to `err`.
 pub fn run_check<R: Read, O: Write, E: Write>(
@@ -24,13 +23,14 @@ pub fn run_check<R: Read, O: Write, E: Write>(
     err: &mut E,
 ) -> Status
     ensures clean { result ≡ Status.Clean → (err.new ≡ err.old)
-        × ((trace : Trace) × (leases : ℕ) × IsVerdict (Answer.Accepted leases) trace
+        × ((trace : Trace) × (leases : ℕ) × IsTextOf (R.remaining input.old) trace × IsVerdict (Answer.Accepted leases) trace
         × IsTold (Answer.Accepted leases) (O.contents out.old) (O.contents out.new)) }
     ensures unclean { result ≡ Status.Unclean → (err.new ≡ err.old)
-        × ((trace : Trace) × (row : ℕ) × (c : Refusal) × IsVerdict (Answer.Refused row c) trace
+        × ((trace : Trace) × (row : ℕ) × (c : Refusal) × IsTextOf (R.remaining input.old) trace × IsVerdict (Answer.Refused row c) trace
         × IsTold (Answer.Refused row c) (O.contents out.old) (O.contents out.new)) }
     ensures unreadable { result ≡ Status.Unreadable → (out.new ≡ out.old)
-        × ((line : ℕ) × (c : LineFault) × IsTold (Answer.BadLine line c) (E.contents err.old) (E.contents err.new)) }
+        × ((line : ℕ) × (c : LineFault) × IsFirstBad (R.remaining input.old) line c
+        × IsTold (Answer.BadLine line c) (E.contents err.old) (E.contents err.new)) }
 {
     match trace_from(alloc, input) {
         Ok(trace) => tell(&answer_to(alloc, &trace), out, err),
@@ -77,7 +77,8 @@ pub fn write_all<W: Write>(bytes: &[u8], writer: &mut W) -> io::Result<()>
 
 /// The trace that `input` holds, or the answer to what holds none.
 fn trace_from<R: Read>(alloc: Global, input: &mut R) -> Result<Trace, Answer>
-    ensures fault { IfErr result (λ answer. (status_of answer ≢ Status.Clean) × (status_of answer ≢ Status.Unclean)) }
+    ensures read { IfOk result (IsTextOf (R.remaining input.old)) }
+    ensures fault { IfErr result (IsReadFault (R.remaining input.old)) }
 {
     let mut text = Vec::new(alloc);
     input.read_to_end(&mut text)?;

@@ -1,68 +1,7 @@
-ghost use Rattle.std.specs.Prelude.{◌≡◌, Some};
-ghost use Rattle.xhci_cli.specs.LineFaults.{fault_name, fault_number};
+ghost use Rattle.std.specs.Prelude.{◌≡◌};
 
 use std::alloc::{AllocError, AllocFailed};
-use std::fmt;
-
-/// What is wrong with a line; the least number that holds is told.
-#[derive(Clone, Copy, Debug, PartialEq, Eq)]
-pub enum LineFault {
-    /// Line 1 or 2 isn't as it must be.
-    Header,
-    /// No line feed at the end, an unknown first word, a wrong number of fields, an empty field, a line out of its place.
-    Row,
-    /// A number of another length or with another character.
-    Number,
-    /// A line past the limit, of too many bytes, or with too many blocks.
-    Limit,
-    /// Segments that make no ring.
-    Shape,
-}
-
-impl LineFault {
-    /// The number that is printed.
-    pub fn number(self) -> u8
-        ensures { result ≡ fault_number self }
-    {
-        match self {
-            LineFault::Header => 1,
-            LineFault::Row => 2,
-            LineFault::Number => 3,
-            LineFault::Limit => 4,
-            LineFault::Shape => 5,
-        }
-    }
-
-    /// The name that is printed.
-    pub fn name(self) -> &'static str
-        ensures { result.now ≡ fault_name self }
-    {
-        match self {
-            LineFault::Header => "Header",
-            LineFault::Row => "Row",
-            LineFault::Number => "Number",
-            LineFault::Limit => "Limit",
-            LineFault::Shape => "Shape",
-        }
-    }
-}
-
-impl fmt::Display for LineFault {
-    ghost output = { λ fault. Some (fault_name fault) };
-
-    fn fmt<W: fmt::Write>(&self, f: &mut fmt::Formatter<W>) -> fmt::Result {
-        f.write_str(self.name())
-    }
-}
-
-/// Why no trace was read.
-#[derive(Debug, Drop, PartialEq, Eq)]
-pub enum ReadFault {
-    /// The first bad line, from 1, and its fault.
-    Line { line: u32, fault: LineFault },
-    /// A growth of memory was refused.
-    Memory,
-}
+use trace_reader::LineFault;
 
 /// Why a line wasn't read.
 #[derive(Debug, Drop)]
@@ -98,15 +37,5 @@ impl<T: Drop> From<AllocFailed<T>> for LineError {
 
     fn from(_error: AllocFailed<T>) -> LineError {
         LineError::Memory
-    }
-}
-
-impl<T: Drop> From<AllocFailed<T>> for ReadFault {
-    ghost use Rattle.xhci_cli.specs.declared.reader.fault.ReadFault.TheVariants.{Memory};
-
-    ghost from_gives = { λ f e. e ≡ Memory };
-
-    fn from(_error: AllocFailed<T>) -> ReadFault {
-        ReadFault::Memory
     }
 }

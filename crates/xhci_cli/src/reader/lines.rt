@@ -1,5 +1,4 @@
-ghost use Rattle.std.specs.Prelude.{◌≡◌, ◌<◌, ◌≤◌, ◌+◌, length};
-ghost use Rattle.xhci_cli.specs.Lines.{line_count};
+ghost use Rattle.std.specs.Prelude.{◌<◌, ◌≤◌, ◌+◌, length};
 
 use memchr::memchr;
 
@@ -15,7 +14,6 @@ pub struct Line<'a> {
 pub fn first_line(text: &[u8]) -> (Line<'_>, &[u8])
     requires { 0 < length text.now }
     ensures shorter { length result.1.now < length text.now }
-    ensures counted { line_count text.now ≡ line_count result.1.now + 1 }
 {
     match memchr(b'\n', text) {
         Some(end) => (

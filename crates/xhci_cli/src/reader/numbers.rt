@@ -1,4 +1,4 @@
-use super::fault::LineFault;
+use trace_reader::LineFault;
 
 /// Eight bytes from 16 hex digits of either case.
 pub fn u64_of(field: &[u8]) -> Result<u64, LineFault> {

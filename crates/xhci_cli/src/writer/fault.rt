@@ -1,9 +1,9 @@
 ghost use Rattle.std.specs.Prelude.{◌≡◌};
 ghost use Rattle.xhci_cli.specs.PlanRefusals.{refusal_number, refusal_name};
 
-use crate::reader::LineFault;
 use cycle_ring::{EnqueueFault, NotGiven};
 use std::alloc::{AllocError, AllocFailed};
+use trace_reader::LineFault;
 
 /// Why a line of a plan can't be followed.
 #[derive(Clone, Copy, Debug, PartialEq, Eq)]

@@ -1,17 +1,17 @@
 ghost use Rattle.std.specs.Prelude.{◌≡◌, ◌<◌, ◌≤◌, ◌⊎◌, ◌↔◌, length, IsTrue, OnOk, IfOk, IfErr, IsErrOf};
 ghost use Rattle.trb.specs.RingKind.{ring_name};
-ghost use Rattle.xhci_cli.specs.declared.reader.fault.LineFault.{LineFault};
+ghost use Rattle.trace_reader.specs.declared.fault.LineFault.{LineFault};
 ghost use Rattle.trace_reader.specs.Limits.{most_lines};
 ghost use Rattle.xhci_cli.specs.PlanLines.{IsDriverRing};
 
 use super::plan::PlanLine;
 use crate::reader::{
-    Fields, Line, LineError, LineFault, MOST_BLOCKS, MOST_BYTES, MOST_LINES, block_of,
-    count_fields, field, has_empty_field, segment_of, u8_of, u64_of,
+    Fields, Line, LineError, MOST_BLOCKS, MOST_BYTES, MOST_LINES, block_of, count_fields, field,
+    has_empty_field, segment_of, u8_of, u64_of,
 };
 use segments::{RingShape, ShapeFault};
 use std::alloc::Global;
-use trace_reader::Ring;
+use trace_reader::{LineFault, Ring};
 use trb::{Blocks, RingKind};
 
 /// Reads the second line of a plan, that of its ring.

@@ -1,5 +1,5 @@
 ghost use Rattle.std.specs.Prelude.{◌≡◌, ◌<◌, ◌≤◌, ◌+◌, ◌↔◌, false, length, vec_len, IsErr, IfOk, IfErr};
-ghost use Rattle.xhci_cli.specs.declared.reader.fault.LineFault.{LineFault};
+ghost use Rattle.trace_reader.specs.declared.fault.LineFault.{LineFault};
 ghost use Rattle.xhci_cli.specs.declared.reader.fault.LineError.TheVariants.{Fault};
 ghost use Rattle.trace_reader.specs.Limits.{most_lines};
 ghost use Rattle.xhci_cli.specs.PlanLines.{IsDriverRing};
@@ -8,9 +8,9 @@ ghost use Rattle.xhci_cli.specs.PlanRefusals.{IsFaultFrom, has_version, no_versi
 use super::fault::PlanFault;
 use super::line::{read_line, read_ring};
 use super::plan::{Plan, PlanLine};
-use crate::reader::{LineError, LineFault, first_line};
+use crate::reader::{LineError, first_line};
 use std::alloc::Global;
-use trace_reader::Ring;
+use trace_reader::{LineFault, Ring};
 
 /// Reads the text of a plan: `xplan 1`, the line of one command or transfer ring, then `sub` and `ret` lines. Every byte
 /// sequence is answered: by its plan, or by the first bad line and the least of its faults.

@@ -1,6 +1,6 @@
 use super::{PlanFault, PlanRefusal, write_plan};
-use crate::reader::LineFault;
 use std::test::Fail;
+use trace_reader::LineFault;
 
 #[test]
 fn writes_a_descriptor_over_a_link(rt: HostRuntime) -> Result<(), Fail> {
