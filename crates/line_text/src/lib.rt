@@ -4,6 +4,8 @@
 mod fields;
 mod lines;
 mod numbers;
+#[cfg(test)]
+mod tests;
 
 pub use fields::{Fields, Survey};
 pub use lines::{Line, first_line};
