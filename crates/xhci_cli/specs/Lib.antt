@@ -1,4 +1,5 @@
 pub mod Tracking
+pub mod Finding
 pub mod FirstPath
 pub mod Walk
 pub mod LineFaults
