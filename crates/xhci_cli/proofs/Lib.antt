@@ -6,6 +6,7 @@ pub mod Updates
 pub mod Declared
 pub mod Checking
 pub mod Rows
+pub mod Finding
 pub mod Standing
 pub mod CleanStands
 pub mod Walking

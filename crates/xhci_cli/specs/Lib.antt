@@ -1,4 +1,5 @@
 pub mod Tracking
+pub mod Finding
 pub mod Walk
 pub mod Answers
 pub mod PlanRefusals

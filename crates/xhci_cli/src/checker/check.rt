@@ -7,6 +7,7 @@ ghost use Rattle.xhci_cli.specs.Tracking.{AreInside, IfRefusedAt, IsAccepted, Is
 ghost use Rattle.xhci_cli.specs.Walk.{WalksRead};
 
 use super::fault::{CheckFault, StepFault};
+use super::finder::Finder;
 use super::rings::{event_leases, fresh_records};
 use super::row::check_row;
 use guest_memory::{SparseMemory, WordMemory};
@@ -30,11 +31,12 @@ fn check_rows<M: WordMemory + Drop>(
     ensures first { IfErr result (λ e. IfRefusedAt e (IsFirstOfAll header.now first rows.now)) }
 {
     let mut memory = memory;
+    let finder = Finder::new(alloc, header)?;
     let mut records = fresh_records(alloc, header.rings.as_slice())?;
     let mut number = first;
     let mut begun = event_leases(header);
     for row in rows {
-        match check_row(header, records.as_mut_slice(), &mut memory, row) {
+        match check_row(header, &finder, records.as_mut_slice(), &mut memory, row) {
             Ok(leases) => begun += leases,
             Err(StepFault::Refused(refusal)) => return Err(CheckFault::Refused {
                 row: number,

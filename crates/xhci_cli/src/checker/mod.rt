@@ -2,6 +2,7 @@
 
 mod check;
 mod fault;
+mod finder;
 mod one_ring;
 mod record;
 mod refusals;

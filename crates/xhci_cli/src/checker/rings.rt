@@ -1,5 +1,4 @@
-ghost use Rattle.std.specs.Prelude.{◌≡◌, ◌==◌, ◌≤◌, length, position, IfOk};
-ghost use Rattle.segments.specs.Places.{touches};
+ghost use Rattle.std.specs.Prelude.{◌≡◌, ◌≤◌, length, IfOk};
 ghost use Rattle.trace_reader.specs.Header.{IsHeader, event_shape, is_event_kind};
 ghost use Rattle.xhci_cli.specs.Tracking.{AreFresh};
 
@@ -7,22 +6,6 @@ use super::record::Record;
 use std::alloc::{AllocError, Global};
 use trace_reader::{Header, Ring};
 use trb::RingKind;
-
-/// The number of the ring with this ID in the list.
-pub fn ring_named(rings: &[Ring], id: u8) -> Option<usize>
-    ensures { result ≡ position (λ ring. ring.id == id) rings.now }
-{
-    rings.iter().position(|ring| ring.id == id)
-}
-
-/// The number of the ring that has the word at this address.
-pub fn ring_at(rings: &[Ring], address: u64) -> Option<usize>
-    ensures { result ≡ position (λ ring. touches ring.shape address 4) rings.now }
-{
-    rings
-        .iter()
-        .position(|ring| ring.shape.overlaps(address, 4))
-}
 
 /// The ring carries events.
 pub fn is_event_ring(ring: &Ring) -> bool

@@ -4,12 +4,14 @@ ghost use Rattle.trace_reader.specs.declared.row.Row.TheVariants.{Sub, Write};
 ghost use Rattle.ring_knowledge.specs.Known.{Known};
 ghost use Rattle.ownership_checker.specs.Profile.{broken_within};
 ghost use Rattle.ownership_checker.specs.Refusal.{first_of};
+ghost use Rattle.xhci_cli.specs.Finding.{IsFinder};
 ghost use Rattle.xhci_cli.specs.Tracking.{Follows, IfRefused, IsRowStep};
 
 use super::fault::StepFault;
+use super::finder::Finder;
 use super::one_ring::{declare_on, write_on};
 use super::record::Record;
-use super::rings::{is_event_ring, ring_at, ring_named};
+use super::rings::is_event_ring;
 use guest_memory::{Addr, WordMemory};
 use ownership_checker::Refusal;
 use trace_reader::{Header, Row};
@@ -18,11 +20,13 @@ use trb::{Block, RingKind};
 /// Checks a row, and notes it; how many leases it begins.
 pub fn check_row<M: WordMemory>(
     header: &Header,
+    finder: &Finder,
     records: &mut [Record],
     memory: &mut M,
     row: &Row,
 ) -> Result<u64, StepFault>
     requires headed { IsHeader header.now }
+    requires found { IsFinder header.now.rings finder.now }
     requires as_many { length records.now ≡ length header.now.rings }
     ensures ok { IfOk result (λ n. (k : Known) → Follows header.now k records.old (M.words memory.old) →
         IsRowStep header.now k row.now records.new (M.words memory.new) n) }
@@ -32,9 +36,9 @@ pub fn check_row<M: WordMemory>(
 {
     match row {
         Row::Sub { ring: id, blocks } => {
-            check_declaration(header, records, *id, blocks.as_slice())
+            check_declaration(header, finder, records, *id, blocks.as_slice())
         }
-        Row::Write { at, word } => check_write(header, records, memory, *at, *word),
+        Row::Write { at, word } => check_write(header, finder, records, memory, *at, *word),
         Row::Reg { .. } | Row::Bell { .. } | Row::Read { .. } => {
             Err(StepFault::Refused(Refusal::NotInProfile))
         }
@@ -44,11 +48,13 @@ pub fn check_row<M: WordMemory>(
 /// Checks a declaration, and notes it; it begins no lease.
 fn check_declaration(
     header: &Header,
+    finder: &Finder,
     records: &mut [Record],
     id: u8,
     blocks: &[Block],
 ) -> Result<u64, StepFault>
     requires headed { IsHeader header.now }
+    requires found { IsFinder header.now.rings finder.now }
     requires as_many { length records.now ≡ length header.now.rings }
     ensures ok { IfOk result (λ n. (k : Known) (memory : ℕ → ℕ) → Follows header.now k records.old memory →
         IsRowStep header.now k (Sub id blocks.now) records.new memory n) }
@@ -56,10 +62,10 @@ fn check_declaration(
     ensures refused { IfErr result (λ e. IfRefused e (λ c. (k : Known) (memory : ℕ → ℕ) → Follows header.now k records.old memory →
         first_of (broken_within header.now k (Sub id blocks.now)) ≡ Some c)) }
 {
-    let rings = header.rings.as_slice();
-    let Some(number) = ring_named(rings, id) else {
+    let Some(number) = finder.ring_named(id) else {
         return Err(StepFault::Refused(Refusal::NotDeclared));
     };
+    let rings = header.rings.as_slice();
     let ring = &rings[number];
     match ring.shape.kind() {
         RingKind::Cmd => Err(StepFault::Refused(Refusal::NotInProfile)),
@@ -71,12 +77,14 @@ fn check_declaration(
 /// Checks a write, makes it, and notes what it gives; how many leases it begins.
 fn check_write<M: WordMemory>(
     header: &Header,
+    finder: &Finder,
     records: &mut [Record],
     memory: &mut M,
     at: Addr,
     word: u32,
 ) -> Result<u64, StepFault>
     requires headed { IsHeader header.now }
+    requires found { IsFinder header.now.rings finder.now }
     requires as_many { length records.now ≡ length header.now.rings }
     ensures ok { IfOk result (λ n. (k : Known) → Follows header.now k records.old (M.words memory.old) →
         IsRowStep header.now k (Write at word) records.new (M.words memory.new) n) }
@@ -84,11 +92,11 @@ fn check_write<M: WordMemory>(
     ensures refused { IfErr result (λ e. IfRefused e (λ c. (k : Known) → Follows header.now k records.old (M.words memory.old) →
         first_of (broken_within header.now k (Write at word)) ≡ Some c)) }
 {
-    let rings = header.rings.as_slice();
-    let Some(number) = ring_at(rings, at.get()) else {
+    let Some(number) = finder.ring_at(header, at.get()) else {
         memory.set(at, word)?;
         return Ok(0);
     };
+    let rings = header.rings.as_slice();
     let ring = &rings[number];
     if is_event_ring(ring) {
         return Err(StepFault::Refused(Refusal::WriteToOwned));

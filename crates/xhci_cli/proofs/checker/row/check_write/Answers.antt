@@ -1,4 +1,4 @@
-use Rattle.std.proofs.Common.{◌≡◌, true, get_or, sym, ◌∙◌, ap, arith}
+use Rattle.std.proofs.Common.{◌≡◌, refl, true, get_or, sym, ◌∙◌, ap, arith}
 use Rattle.std.proofs.lemmas.Option.{slice_get-get_or, slice_get_within}
 use Rattle.trace_reader.specs.Header.{is_driver_kind}
 use Rattle.std.specs.Prelude.{not}
@@ -8,20 +8,20 @@ use Rattle.xhci_cli.proofs.checker.row.check_write.Goals as goal
 
 pub returns-in_default-clause-ok : goal.returns-in_default-clause-ok
 returns-in_default-clause-ok g c = λ k f.
-    nowhere_step c.args.header.now c.requires.headed c.args.at c.args.word c.get.ensures.aligned c.as_slice-rings.result.now _ c.get.ensures.same
-    (sym c.ring_at.ensures ∙ c.in_default.is) c.as_slice-rings.ensures k c.args.records.now _ _ c.in_ok-set.ensures.ok f
+    nowhere_step c.args.header.now c.requires.headed c.args.at c.args.word c.get.ensures.aligned c.args.header.now.rings _ c.get.ensures.same
+    (sym c.ring_at.ensures ∙ c.in_default.is) refl k c.args.records.now _ _ c.in_ok-set.ensures.ok f
 
 pub returns-then-is_event_ring-clause-refused : goal.returns-then-is_event_ring-clause-refused
 returns-then-is_event_ring-clause-refused g c = λ k f.
     let ring = c.index-rings-number.result in
-    let here = ring_here c.args.header.now (λ q. touches q.shape c.get.result 4) c.as_slice-rings.result.now c.in-Some.number ring (sym c.ring_at.ensures ∙ c.in-Some.is) c.as_slice-rings.ensures c.index-rings-number.is in
+    let here = ring_here c.args.header.now (λ q. touches q.shape c.get.result 4) c.args.header.now.rings c.in-Some.number ring (sym c.ring_at.ensures ∙ c.in-Some.is) refl (c.index-rings-number.is ∙ ap (λ xs. get_or xs c.in-Some.number ring) c.as_slice-rings.ensures) in
     let touched : touches ring.shape c.args.at 4 ≡ true = ap (λ n. touches ring.shape n 4) (sym c.get.ensures.same) ∙ here.1 in
     event_write c.args.header.now c.requires.headed c.args.at c.args.word c.get.ensures.aligned c.in-Some.number ring here.0 touched (sym c.is_event_ring.ensures ∙ c.if-is_event_ring.true) k c.args.records.now _ f
 
 pub returns-clause-ok : goal.returns-clause-ok
 returns-clause-ok g c =
     let ring = c.index-rings-number.result in
-    let here = ring_here c.args.header.now (λ q. touches q.shape c.get.result 4) c.as_slice-rings.result.now c.in-Some.number ring (sym c.ring_at.ensures ∙ c.in-Some.is) c.as_slice-rings.ensures c.index-rings-number.is in
+    let here = ring_here c.args.header.now (λ q. touches q.shape c.get.result 4) c.args.header.now.rings c.in-Some.number ring (sym c.ring_at.ensures ∙ c.in-Some.is) refl (c.index-rings-number.is ∙ ap (λ xs. get_or xs c.in-Some.number ring) c.as_slice-rings.ensures) in
     let touched : touches ring.shape c.args.at 4 ≡ true = ap (λ n. touches ring.shape n 4) (sym c.get.ensures.same) ∙ here.1 in
     let driver : is_driver_kind ring.shape.kind ≡ true = ap not (sym c.is_event_ring.ensures ∙ c.if-is_event_ring.false) in
     written_ok c.args.header.now c.requires.headed c.args.at c.args.word c.get.ensures.aligned c.in-Some.number ring here.0 touched driver
@@ -32,7 +32,7 @@ returns-clause-ok g c =
 pub returns-clause-refused : goal.returns-clause-refused
 returns-clause-refused g c =
     let ring = c.index-rings-number.result in
-    let here = ring_here c.args.header.now (λ q. touches q.shape c.get.result 4) c.as_slice-rings.result.now c.in-Some.number ring (sym c.ring_at.ensures ∙ c.in-Some.is) c.as_slice-rings.ensures c.index-rings-number.is in
+    let here = ring_here c.args.header.now (λ q. touches q.shape c.get.result 4) c.args.header.now.rings c.in-Some.number ring (sym c.ring_at.ensures ∙ c.in-Some.is) refl (c.index-rings-number.is ∙ ap (λ xs. get_or xs c.in-Some.number ring) c.as_slice-rings.ensures) in
     let touched : touches ring.shape c.args.at 4 ≡ true = ap (λ n. touches ring.shape n 4) (sym c.get.ensures.same) ∙ here.1 in
     let driver : is_driver_kind ring.shape.kind ≡ true = ap not (sym c.is_event_ring.ensures ∙ c.if-is_event_ring.false) in
     written_bad c.args.header.now c.requires.headed c.args.at c.args.word c.get.ensures.aligned c.in-Some.number ring here.0 touched driver
