@@ -14,3 +14,4 @@ pub mod SpelledTraces
 pub mod Spelled
 pub mod Printed
 pub mod Unspelled
+pub mod Lowered

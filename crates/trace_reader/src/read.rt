@@ -1,8 +1,9 @@
 ghost use Rattle.std.specs.Prelude.{ℕ, List, ◌≡◌, ◌≤◌, ◌+◌, ◌++◌, ◌∷◌, [], true, false, Ok, Err, IsTrue, OnOk, IfOk, IfErr};
+ghost use Rattle.std.specs.Str.{str_to_ascii_lowercase};
 ghost use Rattle.trace_reader.specs.declared.fault.LineFault.{LineFault};
 ghost use Rattle.trace_reader.specs.Entries.{IfBadLine, IfFault, at_line, placed, ring_of, state_of, text_of, took_in};
 ghost use Rattle.trace_reader.specs.Reading.{TraceText, is_misplaced, read_line, trace_of, whole};
-ghost use Rattle.trace_reader.specs.Spelling.{spells};
+ghost use Rattle.trace_reader.specs.Spelling.{printed_trace, spells};
 ghost use Rattle.trace_reader.specs.Valid.{IsTrace};
 ghost use Rattle.trace_reader.specs.Limits.{most_lines};
 ghost use Rattle.trace_reader.specs.Values.{SaysRing, SaysRow};
@@ -27,6 +28,9 @@ use std::alloc::Global;
 pub fn read_trace(alloc: Global, text: &[u8]) -> Result<Trace, ReadFault>
     ensures read { IfOk result (λ trace. trace_of text.now ≡ Ok (text_of trace)) }
     ensures refused { IfErr result (λ e. IfBadLine e (λ line code. trace_of text.now ≡ Err (line, code))) }
+
+    // In lower case the text is what is printed of the trace.
+    ensures lowered { IfOk result (λ trace. str_to_ascii_lowercase text.now ≡ printed_trace (text_of trace)) }
 
     // The text spells the trace, and no other.
     ensures spelled { IfOk result (λ trace. IsTrue (spells (text_of trace) text.now)) }

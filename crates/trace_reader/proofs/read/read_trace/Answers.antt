@@ -3,6 +3,7 @@ use Rattle.std.proofs.lemmas.Bool.{eqb-true}
 use Rattle.line_text.specs.Lines.{lines_of}
 use Rattle.trace_reader.specs.Entries.{state_of, text_of}
 use Rattle.trace_reader.specs.Reading.{read_lines}
+use Rattle.trace_reader.proofs.Lowered.{lowered}
 use Rattle.trace_reader.proofs.ReadSteps.{ended, prepend, read_on, stopped}
 use Rattle.trace_reader.proofs.Spelled.{one_trace, spelled_if_read}
 use Rattle.trace_reader.proofs.Unspelled.{err_also, ok_also, refused_unspelled}
@@ -49,3 +50,6 @@ returns-clause-alone c =
 
 pub returns-clause-unspelled : goal.returns-clause-unspelled
 returns-clause-unspelled c = err_also c.finish.result (refused_unspelled c.args.text.now) (returns-clause-refused c)
+
+pub returns-clause-lowered : goal.returns-clause-lowered
+returns-clause-lowered c = ok_also c.finish.result (λ trace is. lowered c.args.text.now (text_of trace) (spelled_if_read c.args.text.now (text_of trace) is).0) (returns-clause-read c)

@@ -1,0 +1,172 @@
+-- A text that spells a trace is, in lower case, what is printed of the trace
+use Rattle.std.proofs.Common.{◌≡◌, ℕ, List, [], ◌∷◌, ◌++◌, Bool, true, false, ◌&&◌, IsTrue, refl, sym, ap, ◌∙◌, cond, map, codes, arith, w32}
+use Rattle.std.specs.Prelude.{◌==◌}
+use Rattle.std.specs.Char.{to_ascii_lowercase}
+use Rattle.std.specs.List.{flat_map, join_with_byte, slice_split}
+use Rattle.std.specs.Str.{str_to_ascii_lowercase}
+use Rattle.std.proofs.lemmas.Bool.{and_parts}
+use Rattle.std.proofs.lemmas.Grind.{common_steps, flat_map-append}
+use Rattle.std.proofs.lemmas.List.{map-append}
+use Rattle.std.proofs.lemmas.List.Splits.{join_with_byte-slice_split}
+use Rattle.contexts.specs.declared.size.ContextSize.{ContextSize}
+use Rattle.contexts.specs.declared.size.ContextSize.TheVariants.{Bytes32, Bytes64}
+use Rattle.line_text.specs.Fields.{fields_of}
+use Rattle.line_text.specs.Lines.{TextLine, is_line_feed, last_line, lines_between, lines_of}
+use Rattle.line_text.specs.Numbers.{digits_of}
+use Rattle.line_text.proofs.Joins.{join-fields_of}
+use Rattle.segments.specs.declared.segment.Segment.{Segment}
+use Rattle.trb.specs.declared.block.Block.{Block}
+use Rattle.trb.specs.RingKind.{ring_name}
+use Rattle.trb.specs.declared.ring_kind.RingKind.{RingKind}
+use Rattle.trb.specs.declared.ring_kind.RingKind.TheVariants.{Cmd, Evt, Xfer}
+use Rattle.trace_reader.specs.declared.register.Register.{Register}
+use Rattle.trace_reader.specs.declared.register.Register.TheVariants.{Usbcmd, Usbsts, Dnctrl, Crcr, Dcbaap, Config, Iman, Imod, Erstsz, Erstba, Erdp}
+use Rattle.trace_reader.specs.declared.ring.Ring.{Ring}
+use Rattle.trace_reader.specs.declared.row.Row.{Row}
+use Rattle.trace_reader.specs.declared.row.Row.TheVariants.{Sub, Write, Reg, Bell, Read}
+use Rattle.trace_reader.specs.Forms.{register_name}
+use Rattle.trace_reader.specs.Reading.{TraceText}
+use Rattle.trace_reader.specs.Spelling.{Field, Word, Digits, are_written, block_fields, is_written, lines_written, may_be_written, printed, printed_line, printed_trace, ring_fields, row_fields, segment_field, size_fields, size_word, spells, trace_lines, version_fields}
+use Rattle.trace_reader.proofs.SpelledFields.{same_bytes}
+
+-- ---- a text by its lines
+
+-- a line with its line feed
+abbrev whole_line : TextLine → List ℕ
+whole_line line = line.content ++ cond line.is_ended (10 ∷ []) []
+
+last_whole : (piece : List ℕ) → flat_map whole_line (last_line piece) ≡ piece
+last_whole [] = refl
+last_whole (byte ∷ rest) = grind (arith, common_steps)
+
+pieces_whole : (pieces : List (List ℕ)) → flat_map whole_line (lines_between pieces) ≡ join_with_byte 10 pieces
+pieces_whole [] = refl
+pieces_whole (piece ∷ []) = last_whole piece
+pieces_whole (piece ∷ next ∷ rest) = let later = pieces_whole (next ∷ rest) in grind (arith, common_steps, later)
+
+lines_whole : (text : List ℕ) → flat_map whole_line (lines_of text) ≡ text
+unfolding lines_of
+lines_whole text = pieces_whole (slice_split is_line_feed text) ∙ join_with_byte-slice_split 10 text
+
+-- ---- lower case
+
+lower_append : (xs ys : List ℕ) → str_to_ascii_lowercase (xs ++ ys) ≡ str_to_ascii_lowercase xs ++ str_to_ascii_lowercase ys
+lower_append xs ys = map-append to_ascii_lowercase xs ys
+
+-- a word is lower case
+abbrev IsLow : Field → Type 0
+IsLow (Word text) = str_to_ascii_lowercase text ≡ text
+IsLow (Digits text) = Unit {0}
+
+abbrev AreLow : List Field → Type 0
+AreLow [] = Unit {0}
+AreLow (field ∷ fields) = IsLow field × AreLow fields
+
+abbrev AreLowLines : List (List Field) → Type 0
+AreLowLines [] = Unit {0}
+AreLowLines (fields ∷ rest) = AreLow fields × AreLowLines rest
+
+lowered_field : (field : Field) (text : List ℕ) → IsLow field → may_be_written field text ≡ true → str_to_ascii_lowercase text ≡ printed field
+lowered_field (Word word) text low written = ap str_to_ascii_lowercase (same_bytes text word written) ∙ low
+lowered_field (Digits digits) text low written = same_bytes (str_to_ascii_lowercase text) digits written
+
+lowered_fields : (fields : List Field) (texts : List (List ℕ)) → AreLow fields → are_written fields texts ≡ true → str_to_ascii_lowercase (join_with_byte 32 texts) ≡ join_with_byte 32 (map printed fields)
+lowered_fields [] [] low written = refl
+lowered_fields [] (text ∷ texts) low written = cc written
+lowered_fields (field ∷ fields) [] low written = cc written
+lowered_fields (field ∷ []) (text ∷ []) low written = lowered_field field text low.0 (and_parts (may_be_written field text) true written).0
+lowered_fields (field ∷ []) (text ∷ next ∷ texts) low written = let parts = and_parts (may_be_written field text) false written in cc parts.1
+lowered_fields (field ∷ next ∷ fields) (text ∷ []) low written = let parts = and_parts (may_be_written field text) false written in cc parts.1
+lowered_fields (field ∷ next ∷ fields) (text ∷ other ∷ texts) low written =
+    let parts = and_parts (may_be_written field text) (are_written (next ∷ fields) (other ∷ texts)) written in
+    let first : str_to_ascii_lowercase text ≡ printed field = lowered_field field text low.0 parts.0 in
+    let later = lowered_fields (next ∷ fields) (other ∷ texts) low.1 parts.1 in
+    lower_append text (32 ∷ join_with_byte 32 (other ∷ texts)) ∙ ap (λ (xs : List ℕ). xs ++ 32 ∷ str_to_ascii_lowercase (join_with_byte 32 (other ∷ texts))) first
+    ∙ ap (λ (xs : List ℕ). printed field ++ 32 ∷ xs) later
+
+lowered_line : (fields : List Field) (line : TextLine) → AreLow fields → is_written fields line ≡ true → str_to_ascii_lowercase (whole_line line) ≡ printed_line fields
+unfolding printed_line
+lowered_line fields line low written =
+    let parts = and_parts line.is_ended (are_written fields (fields_of line.content)) written in
+    lower_append line.content (cond line.is_ended (10 ∷ []) [])
+    ∙ ap (λ (e : Bool). str_to_ascii_lowercase line.content ++ str_to_ascii_lowercase (cond e (10 ∷ []) [])) parts.0
+    ∙ ap (λ (xs : List ℕ). str_to_ascii_lowercase xs ++ 10 ∷ []) (sym (join-fields_of line.content))
+    ∙ ap (λ (xs : List ℕ). xs ++ 10 ∷ []) (lowered_fields fields (fields_of line.content) low parts.1)
+
+lowered_lines : (rest : List (List Field)) (lines : List TextLine) → AreLowLines rest → lines_written rest lines ≡ true →
+    str_to_ascii_lowercase (flat_map whole_line lines) ≡ flat_map printed_line rest
+lowered_lines [] [] low written = refl
+lowered_lines [] (line ∷ lines) low written = cc written
+lowered_lines (fields ∷ rest) [] low written = cc written
+lowered_lines (fields ∷ rest) (line ∷ lines) low written =
+    let parts = and_parts (is_written fields line) (lines_written rest lines) written in
+    let first = lowered_line fields line low.0 parts.0 in
+    let later = lowered_lines rest lines low.1 parts.1 in
+    lower_append (whole_line line) (flat_map whole_line lines)
+    ∙ ap (λ (xs : List ℕ). xs ++ str_to_ascii_lowercase (flat_map whole_line lines)) first ∙ ap (λ (xs : List ℕ). printed_line fields ++ xs) later
+
+-- ---- the words of a trace
+
+low_append : (xs ys : List Field) → AreLow xs → AreLow ys → AreLow (xs ++ ys)
+low_append [] ys xs-low ys-low = ys-low
+low_append (x ∷ xs) ys xs-low ys-low = (xs-low.0, low_append xs ys xs-low.1 ys-low)
+
+low_words : (words : List ℕ) → AreLow (map (λ w. Digits (digits_of w32 w)) words)
+low_words [] = tt
+low_words (w ∷ words) = (tt, low_words words)
+
+low_blocks : (blocks : List Block) → AreLow (flat_map block_fields blocks)
+low_blocks [] = tt
+low_blocks (block ∷ blocks) = low_append (block_fields block) (flat_map block_fields blocks) (low_words block.w) (low_blocks blocks)
+
+low_register : (register : Register) → IsLow (Word (register_name register))
+low_register Usbcmd = refl
+low_register Usbsts = refl
+low_register Dnctrl = refl
+low_register Crcr = refl
+low_register Dcbaap = refl
+low_register Config = refl
+low_register Iman = refl
+low_register Imod = refl
+low_register Erstsz = refl
+low_register Erstba = refl
+low_register Erdp = refl
+
+low_kind : (kind : RingKind) → IsLow (Word (ring_name kind))
+low_kind Cmd = refl
+low_kind Evt = refl
+low_kind Xfer = refl
+
+low_row : (row : Row) → AreLow (row_fields row)
+unfolding row_fields
+low_row (Sub ring blocks) = (refl, (tt, low_blocks blocks))
+low_row (Write at word) = (refl, (tt, (tt, tt)))
+low_row (Reg register value) = (refl, (low_register register, (tt, tt)))
+low_row (Bell slot target) = (refl, (tt, (tt, tt)))
+low_row (Read event) = (refl, low_words event.w)
+
+low_segments : (segments : List Segment) → AreLow (map segment_field segments)
+low_segments [] = tt
+low_segments (segment ∷ segments) = (tt, low_segments segments)
+
+low_ring : (ring : Ring) → AreLow (ring_fields ring)
+unfolding ring_fields
+low_ring ring = (refl, (tt, (low_kind ring.shape.kind, low_segments ring.shape.segments)))
+
+low_size : (size : ContextSize) → AreLow (size_fields size)
+low_size Bytes32 = (refl, (refl, tt))
+low_size Bytes64 = (refl, (refl, tt))
+
+low_rows : (rows : List Row) → AreLowLines (map row_fields rows)
+low_rows [] = tt
+low_rows (row ∷ rows) = (low_row row, low_rows rows)
+
+low_lines : (rings : List Ring) (rows : List Row) → AreLowLines (map ring_fields rings ++ map row_fields rows)
+low_lines [] rows = low_rows rows
+low_lines (ring ∷ rings) rows = (low_ring ring, low_lines rings rows)
+
+pub lowered : (text : List ℕ) (trace : TraceText) → IsTrue (spells trace text) → str_to_ascii_lowercase text ≡ printed_trace trace
+unfolding spells printed_trace trace_lines
+lowered text trace spelled =
+    let low : AreLowLines (trace_lines trace) = ((refl, (refl, tt)), (low_size trace.header.context_size, low_lines trace.header.rings trace.rows)) in
+    ap str_to_ascii_lowercase (sym (lines_whole text)) ∙ lowered_lines (trace_lines trace) (lines_of text) low spelled
