@@ -14,3 +14,5 @@ pub mod SpelledTraces
 pub mod Spelled
 pub mod Printed
 pub mod Unspelled
+pub mod LineByLine
+pub mod SpelledPlans

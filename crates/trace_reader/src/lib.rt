@@ -5,6 +5,7 @@ mod entry;
 mod fault;
 mod header;
 mod line;
+mod plan;
 mod print;
 mod read;
 mod reader;
@@ -17,6 +18,7 @@ mod trace;
 
 pub use fault::{LineFault, ReadFault};
 pub use header::{Header, Rings};
+pub use plan::{Plan, PlanLine, PlanLines};
 pub use print::{print_trace, push_ring, push_row};
 pub use read::read_trace;
 pub use register::Register;
