@@ -16,3 +16,6 @@ pub mod Printed
 pub mod Unspelled
 pub mod LineByLine
 pub mod SpelledPlans
+pub mod RingLines
+pub mod LineSteps
+pub mod PlanSteps

@@ -1,5 +1,5 @@
 -- Lines that don't depend on each other: what they say, and that they spell it
-use Rattle.std.proofs.Common.{◌≡◌, ℕ, ◌+◌, ◌≤◌, ◌&&◌, ◌||◌, inl, inr, Bool, true, false, not, cond, List, [], ◌∷◌, length, map, Option, Some, None, Result, Ok, Err, All, is_none, refl, ap, ◌∙◌, subst, arith, le-ltb}
+use Rattle.std.proofs.Common.{◌≡◌, ℕ, ◌+◌, ◌≤◌, ◌||◌, inl, inr, Bool, true, false, not, cond, List, [], ◌∷◌, length, map, Option, Some, None, Result, Ok, Err, All, is_none, refl, ap, subst, arith, le-ltb}
 use Rattle.std.specs.Option.{option_and_then, option_map_or}
 use Rattle.std.proofs.lemmas.Bool.{and_parts, and_from, cases_Bool, not-false, or_parts}
 use Rattle.std.proofs.lemmas.List.Elements.{All-cons, All-head, All-nil, All-tail}
@@ -7,7 +7,7 @@ use Rattle.line_text.specs.Fields.{fields_of, has_empty_field}
 use Rattle.line_text.specs.Lines.{TextLine}
 use Rattle.line_text.proofs.Joins.{length-fields_of, spaced_length}
 use Rattle.trace_reader.specs.declared.fault.LineFault.{LineFault}
-use Rattle.trace_reader.specs.declared.fault.LineFault.TheVariants.{Row as BadRow, Number, Limit}
+use Rattle.trace_reader.specs.declared.fault.LineFault.TheVariants.{Row as BadRow, Number}
 use Rattle.trace_reader.specs.Entries.{content_fault}
 use Rattle.trace_reader.specs.Limits.{most_bytes}
 use Rattle.trace_reader.specs.LineAnswers.{faulted_by, valued_by}
@@ -15,10 +15,9 @@ use Rattle.trace_reader.specs.LineByLine.{has_no_form, line_says, lines_say, nex
 use Rattle.trace_reader.specs.Reading.{is_too_long}
 use Rattle.trace_reader.specs.Spelling.{Field, are_written, is_written, lines_written, printed}
 use Rattle.trace_reader.proofs.SpelledFields.{AllSound, all_filled, then_there, written_lengths}
-use Rattle.trace_reader.proofs.SpelledLines.{ok_there, there}
+use Rattle.trace_reader.proofs.SpelledLines.{ok_there}
 
 module _ {Form Value : Type 0} (form_of : List (List ℕ) → Option Form) (value_of : Form → Option Value) (fault_of : Value → Option LineFault) where
-
   -- ---- by its content and its fields
 
   by_value : (o : Option Value) → option_map_or (unless_fault fault_of) o (Err Number) ≡ faulted_by fault_of (option_map_or Ok o (Err Number))

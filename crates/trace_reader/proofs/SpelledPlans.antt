@@ -1,9 +1,9 @@
 -- What is read of a text is the valid plan that the text spells
-use Rattle.std.proofs.Common.{◌≡◌, ℕ, ◌+◌, ◌<◌, ◌≤◌, ◌^◌, ◌&&◌, ◌||◌, inl, inr, Bool, true, false, not, cond, List, [], ◌∷◌, length, map, nat_lt, Option, Some, None, Result, Ok, Err, All, IsTrue, refl, sym, ap, ◌∙◌, subst, arith, codes, w8, w64, le-ltb, ltb-false}
+use Rattle.std.proofs.Common.{◌≡◌, ℕ, ◌<◌, ◌≤◌, ◌^◌, inl, inr, Bool, true, false, not, cond, List, [], ◌∷◌, length, map, nat_lt, Option, Some, None, Result, Ok, Err, All, IsTrue, refl, sym, ap, ◌∙◌, subst, arith, codes, w8, w64, le-ltb, ltb-false}
 use Rattle.std.specs.List.{flat_map}
 use Rattle.std.specs.Option.{option_map}
 use Rattle.std.specs.Str.{bytes_eq}
-use Rattle.std.proofs.lemmas.Bool.{and_parts, and_from, cases_Bool, not-false, or_parts, or_from}
+use Rattle.std.proofs.lemmas.Bool.{and_parts, and_from, cases_Bool, not-false, or_parts}
 use Rattle.line_text.specs.Fields.{fields_of}
 use Rattle.line_text.specs.Lines.{TextLine, lines_of}
 use Rattle.line_text.specs.Numbers.{digits_of, number_of}
@@ -14,21 +14,21 @@ use Rattle.trb.specs.Block.{IsBlock}
 use Rattle.trb.specs.declared.ring_kind.RingKind.{RingKind}
 use Rattle.trb.specs.declared.ring_kind.RingKind.TheVariants.{Cmd, Evt, Xfer}
 use Rattle.trace_reader.specs.declared.fault.LineFault.{LineFault}
-use Rattle.trace_reader.specs.declared.fault.LineFault.TheVariants.{Header as BadHeader, Row as BadRow, Limit, Shape}
+use Rattle.trace_reader.specs.declared.fault.LineFault.TheVariants.{Limit, Shape}
 use Rattle.trace_reader.specs.declared.plan.PlanLine.{PlanLine}
 use Rattle.trace_reader.specs.declared.plan.PlanLine.TheVariants.{Sub, Ret}
 use Rattle.trace_reader.specs.declared.ring.Ring.{Ring}
 use Rattle.trace_reader.specs.Forms.{Form, SubForm, WriteForm, RegForm, BellForm, ReadForm, RingForm, are_blocks, form_of, is_ring_form}
 use Rattle.trace_reader.specs.Header.{is_event_kind}
 use Rattle.trace_reader.specs.Limits.{most_bytes, most_declared, most_lines}
-use Rattle.trace_reader.specs.LineByLine.{line_says, lines_say}
-use Rattle.trace_reader.specs.Plans.{PlanForm, BlocksForm, RetForm, PlanText, declares_too_much, if_ring, is_no_plan_ring, is_past_plan_limit, is_plan_version, plan_behind, plan_form_of, plan_in, plan_line, plan_line_fault, plan_of, plan_ring, plan_ring_fault, plan_sub_form, plan_value, ret_form, ring_line_form, ring_value, with_ring}
+use Rattle.trace_reader.specs.LineByLine.{lines_say}
+use Rattle.trace_reader.specs.Plans.{PlanForm, BlocksForm, RetForm, PlanText, declares_too_much, if_ring, is_no_plan_ring, is_past_plan_limit, is_plan_version, plan_form_of, plan_in, plan_line, plan_line_fault, plan_of, plan_ring, plan_ring_fault, plan_sub_form, plan_value, ret_form, ring_line_form, ring_value, with_ring}
 use Rattle.trace_reader.specs.PlanSpelling.{IsPlan, IsPlanLine, plan_line_fields, plan_text_lines, plan_version_fields, spells_plan}
-use Rattle.trace_reader.specs.Spelling.{Field, Word, Digits, are_written, block_fields, is_written, lines_written, may_be_written, printed, ring_fields}
-use Rattle.trace_reader.specs.Values.{SaysRing, SaysRow, both, blocks_of, said_of, segments_of}
+use Rattle.trace_reader.specs.Spelling.{Digits, are_written, block_fields, is_written, lines_written, may_be_written, printed, ring_fields}
+use Rattle.trace_reader.specs.Values.{SaysRing, blocks_of, said_of, segments_of}
 use Rattle.trace_reader.proofs.LineByLine.{AreSpelled, IsSpelling, line_read, line_spells, lines_read, lines_spell}
 use Rattle.trace_reader.proofs.Spelled.{two_words, words_written}
-use Rattle.trace_reader.proofs.SpelledFields.{AllSound, are_same_bytes, both_of, both_there, cond_there, mapped_there, number_read, number_written, same_bytes, then_are, then_there}
+use Rattle.trace_reader.proofs.SpelledFields.{AllSound, are_same_bytes, both_of, both_there, cond_there, mapped_there, number_read, number_written, then_are, then_there}
 use Rattle.trace_reader.proofs.SpelledForms.{FitsRing, first_of, four_for_each, pick, read_from_spelled, some_blocks, spelled_from_read, word_first}
 use Rattle.trace_reader.proofs.SpelledHeaders.{ring_fits, shape_says}
 use Rattle.trace_reader.proofs.SpelledLines.{few_blocks}
@@ -242,8 +242,7 @@ read_spells (first ∷ second ∷ lines) plan is =
           let p = with_ring_there (plan_ring second) (lines_say plan_line 3 lines) plan (rw version at is) in
           let ring = line_spells ring_line_form ring_value plan_ring_fault ring_fields FitsRing ring_spelling second plan.ring p.0 in
           let tests = plan_ring_tests plan.ring ring.2 in
-          let rest = lines_spell plan_line plan_line_fields IsPlanLine most_lines lines_are_spelled lines 3 plan.lines (omega arith) p.1 in
-          (
+          let rest = lines_spell plan_line plan_line_fields IsPlanLine most_lines lines_are_spelled lines 3 plan.lines (omega arith) p.1 in (
             and_from (is_written plan_version_fields first) _ (version_written first version)
                 (and_from (is_written (ring_fields plan.ring) second) (lines_written (map plan_line_fields plan.lines) lines) ring.0 rest.0),
             record { id = ring.1.id; shape = tests.0; driven = not_event plan.ring.shape.kind tests.1; lines = rest.1; within = omega (arith, rest.2) },

@@ -15,3 +15,4 @@ pub mod LineByLine
 pub mod LineAnswers
 pub mod Plans
 pub mod PlanSpelling
+pub mod PlanValues

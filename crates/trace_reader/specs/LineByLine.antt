@@ -1,5 +1,5 @@
 -- How a text is read whose lines behind the header don't depend on each other
-use Rattle.std.specs.Prelude.{ℕ, ◌+◌, ◌||◌, Bool, not, List, [], ◌∷◌, Option, Some, None, Result, Ok, Err, is_none, if◌then◌else◌}
+use Rattle.std.specs.Prelude.{ℕ, ◌+◌, ◌||◌, Bool, not, List, [], ◌∷◌, Option, Result, Ok, Err, is_none, if◌then◌else◌}
 use Rattle.std.specs.Option.{option_and_then, option_map_or}
 use Rattle.line_text.specs.Lines.{TextLine}
 use Rattle.line_text.specs.Fields.{fields_of, has_empty_field}
