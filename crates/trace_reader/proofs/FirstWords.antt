@@ -52,7 +52,7 @@ reg_row : (register : Option Register) (value : List ℕ) → option_map_or is_r
 reg_row None value = refl
 reg_row (Some r) value = refl
 
-is_row : (word : FirstWord) (fields : List (List ℕ)) → IsRowWord word → option_map_or is_ring_form (form_behind (Some word) fields) false ≡ false
+pub is_row : (word : FirstWord) (fields : List (List ℕ)) → IsRowWord word → option_map_or is_ring_form (form_behind (Some word) fields) false ≡ false
 is_row SubWord [] row = refl
 is_row SubWord (ring ∷ words) row = sub_row (are_blocks words) ring words
 is_row W [] row = refl

@@ -15,3 +15,8 @@ pub mod Spelled
 pub mod Printed
 pub mod Unspelled
 pub mod Lowered
+pub mod LineByLine
+pub mod SpelledPlans
+pub mod RingLines
+pub mod LineSteps
+pub mod PlanSteps

@@ -26,7 +26,7 @@ use Rattle.trace_reader.proofs.SpelledValues.{only}
 -- ---- the first two lines
 
 -- the words of a line of two words, and the line
-two_words : (a b : List ℕ) (line : TextLine) → is_written (Word a ∷ Word b ∷ []) line ≡ true → (line.is_ended ≡ true) × (line.content ≡ a ++ 32 ∷ b)
+pub two_words : (a b : List ℕ) (line : TextLine) → is_written (Word a ∷ Word b ∷ []) line ≡ true → (line.is_ended ≡ true) × (line.content ≡ a ++ 32 ∷ b)
 two_words a b line written =
     let parts = and_parts line.is_ended (are_written (Word a ∷ Word b ∷ []) (fields_of line.content)) written in
     let p = word_first a (Word b ∷ []) (fields_of line.content) parts.1 in
@@ -34,7 +34,7 @@ two_words a b line written =
     let are : fields_of line.content ≡ a ∷ b ∷ [] = then_are p.1 (then_are q.1 (only q.0 q.2)) in
     (parts.0, sym (join-fields_of line.content) ∙ ap (λ (xs : List (List ℕ)). join_with_byte 32 xs) are)
 
-words_written : (fields : List Field) (text : List ℕ) (line : TextLine) → are_written fields (fields_of text) ≡ true → (line.is_ended && bytes_eq line.content text) ≡ true → is_written fields line ≡ true
+pub words_written : (fields : List Field) (text : List ℕ) (line : TextLine) → are_written fields (fields_of text) ≡ true → (line.is_ended && bytes_eq line.content text) ≡ true → is_written fields line ≡ true
 words_written fields text line written is =
     let parts = and_parts line.is_ended (bytes_eq line.content text) is in
     and_from line.is_ended (are_written fields (fields_of line.content)) parts.0

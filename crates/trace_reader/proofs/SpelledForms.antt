@@ -121,14 +121,14 @@ word_register word register is = ap (λ (w : List ℕ). register_named w) (same_
 
 -- ---- addresses and register values
 
-address_there : (field : List ℕ) (a : ℕ) → word_address_of field ≡ Some a → (number_of w64 field ≡ Some a) × (a % 4 ≡ 0)
+pub address_there : (field : List ℕ) (a : ℕ) → word_address_of field ≡ Some a → (number_of w64 field ≡ Some a) × (a % 4 ≡ 0)
 unfolding word_address_of
 address_there field a is =
     let p = then_there (λ (n : ℕ). cond (n % 4 == 0) (Some n) None) (number_of w64 field) a is in
     let q = cond_there (p.0 % 4 == 0) p.0 a p.2 in
     (p.1 ∙ ap (λ (n : ℕ). Some n) q.1, ap (λ n. n % 4) (sym q.1) ∙ eqb-true (p.0 % 4) 0 q.0)
 
-address_of_number : (field : List ℕ) (a : ℕ) → number_of w64 field ≡ Some a → a % 4 ≡ 0 → word_address_of field ≡ Some a
+pub address_of_number : (field : List ℕ) (a : ℕ) → number_of w64 field ≡ Some a → a % 4 ≡ 0 → word_address_of field ≡ Some a
 unfolding word_address_of
 address_of_number field a is four = rw (is, eq-eqb (a % 4) 0 four) refl
 
@@ -160,7 +160,7 @@ value_of_number register field v is small =
 abbrev IsForm : Form → Said → List (List ℕ) → Type 0
 IsForm form s fields = IsSpelled s fields × (is_ring_form form ≡ says_ring s)
 
-some_blocks : (words : List (List ℕ)) (blocks : List Block) → are_blocks words ≡ true → length words ≡ 4 * length blocks → 0 < length blocks
+pub some_blocks : (words : List (List ℕ)) (blocks : List Block) → are_blocks words ≡ true → length words ≡ 4 * length blocks → 0 < length blocks
 some_blocks [] blocks are four = cc are
 some_blocks (word ∷ words) blocks are four = omega (arith, four)
 
@@ -178,7 +178,7 @@ sub_spelled (ring ∷ words) form s is says =
     } in
     subst (λ (x : Said). IsForm form x (codes "sub" ∷ ring ∷ words)) q.4 (spelled, ap (λ (f : Form). is_ring_form f) (sym p.1))
 
-two_written : (f g : Field) (a b : List ℕ) → may_be_written f a ≡ true → may_be_written g b ≡ true → are_written (f ∷ g ∷ []) (a ∷ b ∷ []) ≡ true
+pub two_written : (f g : Field) (a b : List ℕ) → may_be_written f a ≡ true → may_be_written g b ≡ true → are_written (f ∷ g ∷ []) (a ∷ b ∷ []) ≡ true
 two_written f g a b is is' = rw (is, is') refl
 
 write_spelled : (fields : List (List ℕ)) (form : Form) (s : Said) → write_form fields ≡ Some form → said_of form ≡ Some s → IsForm form s (codes "w" ∷ fields)
@@ -257,7 +257,7 @@ ring_spelled (id ∷ kind ∷ segment ∷ segments) form s is says =
     } in
     subst (λ (x : Said). IsForm form x (codes "ring" ∷ id ∷ kind ∷ segment ∷ segments)) q.4 (spelled, ap (λ (f : Form). is_ring_form f) (sym p.2))
 
-pick : (goal : Type 0) (word first : List ℕ) (here other : Option Form) (form : Form) → cond (bytes_eq word first) here other ≡ Some form →
+pub pick : {F : Type 0} (goal : Type 0) (word first : List ℕ) (here other : Option F) (form : F) → cond (bytes_eq word first) here other ≡ Some form →
     (word ≡ first → here ≡ Some form → goal) → (other ≡ Some form → goal) → goal
 pick goal word first here other form is this that =
     elim (cases_Bool (bytes_eq word first)) [
@@ -284,14 +284,14 @@ spelled_from_read (word ∷ fields) form s is says =
 -- ---- from fields to a form
 
 -- the first of the fields, and the rest
-record First (field : Field) (fields : List Field) (texts : List (List ℕ)) : Type 0 where
-  text : List ℕ
-  rest : List (List ℕ)
-  are : texts ≡ text ∷ rest
-  first : may_be_written field text ≡ true
-  others : are_written fields rest ≡ true
+pub record First (field : Field) (fields : List Field) (texts : List (List ℕ)) : Type 0 where
+  pub text : List ℕ
+  pub rest : List (List ℕ)
+  pub are : texts ≡ text ∷ rest
+  pub first : may_be_written field text ≡ true
+  pub others : are_written fields rest ≡ true
 
-first_of : (field : Field) (fields : List Field) (texts : List (List ℕ)) → are_written (field ∷ fields) texts ≡ true → First field fields texts
+pub first_of : (field : Field) (fields : List Field) (texts : List (List ℕ)) → are_written (field ∷ fields) texts ≡ true → First field fields texts
 first_of field fields [] written = cc written
 first_of field fields (text ∷ texts) written =
     let parts = and_parts (may_be_written field text) (are_written fields texts) written in
@@ -304,14 +304,14 @@ word_first word fields texts written =
     (p.rest, p.are ∙ ap (λ (w : List ℕ). w ∷ p.rest) (same_bytes p.text word p.first), p.others)
 
 -- two fields, and no more
-record Two (f g : Field) (texts : List (List ℕ)) : Type 0 where
-  a : List ℕ
-  b : List ℕ
-  are : texts ≡ a ∷ b ∷ []
-  first : may_be_written f a ≡ true
-  second : may_be_written g b ≡ true
+pub record Two (f g : Field) (texts : List (List ℕ)) : Type 0 where
+  pub a : List ℕ
+  pub b : List ℕ
+  pub are : texts ≡ a ∷ b ∷ []
+  pub first : may_be_written f a ≡ true
+  pub second : may_be_written g b ≡ true
 
-two_of : (f g : Field) (texts : List (List ℕ)) → are_written (f ∷ g ∷ []) texts ≡ true → Two f g texts
+pub two_of : (f g : Field) (texts : List (List ℕ)) → are_written (f ∷ g ∷ []) texts ≡ true → Two f g texts
 two_of f g texts written =
     let p = first_of f (g ∷ []) texts written in
     let q = first_of g [] p.rest p.others in
@@ -324,7 +324,7 @@ two_of f g texts written =
       second = q.first;
     }
 
-four_for_each : (words : List (List ℕ)) (blocks : List Block) → 0 < length blocks → length words ≡ 4 * length blocks → are_blocks words ≡ true
+pub four_for_each : (words : List (List ℕ)) (blocks : List Block) → 0 < length blocks → length words ≡ 4 * length blocks → are_blocks words ≡ true
 four_for_each [] blocks some four = absurd (omega arith)
 four_for_each (word ∷ words) blocks some four = let whole : length (word ∷ words) % 4 ≡ 0 = omega (arith, four) in eq-eqb (length (word ∷ words) % 4) 0 whole
 

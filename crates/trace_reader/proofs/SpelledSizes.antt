@@ -52,13 +52,13 @@ kind_sound Cmd = sound_named (codes "cmd") (omega arith) refl
 kind_sound Evt = sound_named (codes "evt") (omega arith) refl
 kind_sound Xfer = sound_named (codes "xfer") (omega arith) refl
 
-digits_8 : (n : ℕ) → IsSound (Digits (digits_of w8 n))
+pub digits_8 : (n : ℕ) → IsSound (Digits (digits_of w8 n))
 digits_8 n = sound_digits w8 n (omega arith)
 
-digits_32 : (n : ℕ) → IsSound (Digits (digits_of w32 n))
+pub digits_32 : (n : ℕ) → IsSound (Digits (digits_of w32 n))
 digits_32 n = sound_digits w32 n (omega arith)
 
-digits_64 : (n : ℕ) → IsSound (Digits (digits_of w64 n))
+pub digits_64 : (n : ℕ) → IsSound (Digits (digits_of w64 n))
 digits_64 n = sound_digits w64 n (omega arith)
 
 segment_length : (segment : Segment) → length (printed (segment_field segment)) ≡ 21
@@ -86,10 +86,10 @@ segment_sound segment =
       writes = are_same_bytes (str_to_ascii_lowercase (bases ++ codes ":" ++ counts)) (bases ++ codes ":" ++ counts) lower;
     }
 
-block_sound : (block : Block) → AllSound (block_fields block)
+pub block_sound : (block : Block) → AllSound (block_fields block)
 block_sound block = sound_map word_field digits_32 block.w
 
-blocks_sound : (blocks : List Block) → AllSound (flat_map block_fields blocks)
+pub blocks_sound : (blocks : List Block) → AllSound (flat_map block_fields blocks)
 blocks_sound [] = tt
 blocks_sound (block ∷ blocks) = sound_append (block_fields block) (flat_map block_fields blocks) (block_sound block) (blocks_sound blocks)
 
@@ -117,10 +117,10 @@ words_length (x ∷ words) =
     let eight : length (digits_of w32 x) ≡ 8 = length-digits_of w32 x in
     omega (arith, ih, eight)
 
-block_length : (block : Block) → IsBlock block → spaced_length (map printed (block_fields block)) ≡ 36
+pub block_length : (block : Block) → IsBlock block → spaced_length (map printed (block_fields block)) ≡ 36
 block_length block is = let l = words_length block.w in omega (arith, l, is.0)
 
-blocks_length : (blocks : List Block) → All IsBlock blocks → spaced_length (map printed (flat_map block_fields blocks)) ≡ 36 * length blocks
+pub blocks_length : (blocks : List Block) → All IsBlock blocks → spaced_length (map printed (flat_map block_fields blocks)) ≡ 36 * length blocks
 blocks_length [] are = refl
 blocks_length (block ∷ blocks) are =
     let here = block_length block (All-head IsBlock block blocks are) in
@@ -151,13 +151,13 @@ kind_length Cmd = omega arith
 kind_length Evt = omega arith
 kind_length Xfer = omega arith
 
-two_digits : (n : ℕ) → length (digits_of w8 n) ≡ 2
+pub two_digits : (n : ℕ) → length (digits_of w8 n) ≡ 2
 two_digits n = length-digits_of w8 n
 
-eight_digits : (n : ℕ) → length (digits_of w32 n) ≡ 8
+pub eight_digits : (n : ℕ) → length (digits_of w32 n) ≡ 8
 eight_digits n = length-digits_of w32 n
 
-sixteen_digits : (n : ℕ) → length (digits_of w64 n) ≡ 16
+pub sixteen_digits : (n : ℕ) → length (digits_of w64 n) ≡ 16
 sixteen_digits n = length-digits_of w64 n
 
 pub sub_length : (ring : ℕ) (blocks : List Block) → All IsBlock blocks → length blocks ≤ most_declared → spaced_length (map printed (row_fields (Sub ring blocks))) ≤ most_bytes

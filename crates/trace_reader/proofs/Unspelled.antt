@@ -1,6 +1,7 @@
 -- A refused text spells no trace
 use Rattle.std.proofs.Common.{◌≡◌, ℕ, List, Bool, true, false, Result, Ok, Err, refl, sym, ◌∙◌}
 use Rattle.std.specs.Prelude.{IfOk, IfErr}
+use Rattle.trace_reader.specs.declared.fault.LineFault.{LineFault}
 use Rattle.trace_reader.specs.declared.fault.ReadFault.{ReadFault}
 use Rattle.trace_reader.specs.declared.fault.ReadFault.TheVariants.{Line, Memory}
 use Rattle.trace_reader.specs.Entries.{IfBadLine}
@@ -9,14 +10,19 @@ use Rattle.trace_reader.specs.Spelling.{spells}
 use Rattle.trace_reader.specs.Valid.{IsTrace}
 use Rattle.trace_reader.proofs.Spelled.{read_if_spelled}
 
+-- what is refused is no value that is spelled, where each valid one that is spelled is read
+pub none_spelled : {T : Type 0} (reads : Result T (ℕ × LineFault)) (spelled : T → Bool) (Is : T → Type 0) → ((t : T) → spelled t ≡ true → Is t → reads ≡ Ok t) →
+    (e : ReadFault) → IfBadLine e (λ line code. reads ≡ Err (line, code)) → IfBadLine e (λ line code. (t : T) → Is t → spelled t ≡ false)
+none_spelled {T} reads spelled Is read (Line line fault) refused = λ t valid. by_test t valid (spelled t) refl
+  where
+    by_test : (t : T) → Is t → (b : Bool) → spelled t ≡ b → b ≡ false
+    by_test t valid false e = refl
+    by_test t valid true e = cc (sym refused ∙ read t e valid)
+none_spelled reads spelled Is read Memory refused = tt
+
 pub refused_unspelled : (text : List ℕ) (e : ReadFault) → IfBadLine e (λ line code. trace_of text ≡ Err (line, code)) →
     IfBadLine e (λ line code. (trace : TraceText) → IsTrace trace → spells trace text ≡ false)
-refused_unspelled text (Line line code) is = λ trace valid. by_test trace valid (spells trace text) refl
-  where
-    by_test : (trace : TraceText) → IsTrace trace → (b : Bool) → spells trace text ≡ b → b ≡ false
-    by_test trace valid false e = refl
-    by_test trace valid true e = cc (sym is ∙ read_if_spelled text trace e valid)
-refused_unspelled text Memory is = tt
+refused_unspelled text e refused = none_spelled (trace_of text) (λ trace. spells trace text) (λ trace. IsTrace trace) (λ trace spelled is. read_if_spelled text trace spelled is) e refused
 
 pub ok_also : {T E : Type 0} {P Q : T → Type 0} (r : Result T E) → ((x : T) → P x → Q x) → IfOk r P → IfOk r Q
 ok_also (Ok x) f is = f x is

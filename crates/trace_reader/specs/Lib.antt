@@ -11,3 +11,8 @@ pub mod Entries
 pub mod Printing
 pub mod Valid
 pub mod OnLiterals
+pub mod LineByLine
+pub mod LineAnswers
+pub mod Plans
+pub mod PlanSpelling
+pub mod PlanValues

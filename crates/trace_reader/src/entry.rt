@@ -1,8 +1,10 @@
 ghost use Rattle.std.specs.Prelude.{◌≡◌, ◌≤◌, ◌∷◌, Some, None, length, map, IfOk, IfErr, IfSome, IfNone};
 ghost use Rattle.segments.specs.ShapeValue.{segment_of};
 ghost use Rattle.trace_reader.specs.declared.fault.LineFault.{LineFault};
-ghost use Rattle.trace_reader.specs.Entries.{Answers, IfFault, said_by, said_by_fields, unless_begun, word_named};
+ghost use Rattle.trace_reader.specs.Entries.{Answers, IfFault, ring_of, said_by, said_by_fields, unless_begun, word_named};
 ghost use Rattle.trace_reader.specs.Forms.{bell_form, kind_named, named, read_form, reg_form, register_named, ring_form, sub_form, write_form};
+ghost use Rattle.trace_reader.specs.LineAnswers.{AnswersBy, valued_by};
+ghost use Rattle.trace_reader.specs.Plans.{ring_value};
 ghost use Rattle.trace_reader.specs.Values.{SaysRow, block_of, blocks_of, cons, register_value_of, said_of, segments_of, word_address_of};
 ghost use Rattle.trace_reader.specs.Values as values;
 
@@ -156,26 +158,32 @@ fn read_entry(mut fields: Fields) -> Result<Entry, LineError>
     Ok(Entry::Row(Row::Read { event }))
 }
 
-#[tactic(auto, unfolding(crate::specs::Values::said_of))]
-fn ring_entry(
-    alloc: Global,
-    begun: bool,
-    count: usize,
-    mut fields: Fields,
-) -> Result<Entry, LineError>
+fn ring_entry(alloc: Global, begun: bool, count: usize, fields: Fields) -> Result<Entry, LineError>
     requires { count ≡ length fields }
     ensures { Answers result (said_by (unless_begun begun (ring_form fields.entry))) }
+{
+    if begun {
+        return Err(LineFault::Row.into());
+    }
+    Ok(Entry::Ring(ring_behind(alloc, count, fields)?))
+}
+
+/// The ring of the fields behind the word `ring`.
+#[tactic(auto, unfolding(crate::specs::Plans::ring_value))]
+pub fn ring_behind(alloc: Global, count: usize, mut fields: Fields) -> Result<RingEntry, LineError>
+    requires { count ≡ length fields }
+    ensures { AnswersBy ring_of result (valued_by ring_value (ring_form fields.entry)) }
 {
     let (Some(id), Some(kind)) = (fields.next(), fields.next()) else {
         return Err(LineFault::Row.into());
     };
-    if begun || count < 3 {
+    if count < 3 {
         return Err(LineFault::Row.into());
     }
     let kind = kind_named(kind).ok_or(LineFault::Row)?;
     let id = u8_of(id).ok_or(LineFault::Number)?;
     let segments = segments_of(alloc, fields)?;
-    Ok(Entry::Ring(RingEntry { id, kind, segments }))
+    Ok(RingEntry { id, kind, segments })
 }
 
 #[tactic(auto, unfolding(crate::specs::Forms::kind_named))]
@@ -252,7 +260,7 @@ fn next_block(a: &[u8], fields: &mut Fields) -> Option<Block>
 }
 
 /// The blocks of words, four for each.
-fn blocks_of(alloc: Global, mut fields: Fields) -> Result<Vec<Block>, LineError>
+pub fn blocks_of(alloc: Global, mut fields: Fields) -> Result<Vec<Block>, LineError>
     ensures ok { IfOk result (λ blocks. blocks_of fields.entry ≡ Some blocks.items) }
     ensures err { IfErr result (λ e. IfFault e (λ f. (f ≡ LineFault.Number) × (blocks_of fields.entry ≡ None))) }
 {

@@ -58,7 +58,8 @@ pub fn read_trace(alloc: Global, text: &[u8]) -> Result<Trace, ReadFault>
     reader.finish()
 }
 
-fn at_line(line: u32, error: LineError) -> ReadFault
+/// The fault of the line with this number.
+pub fn at_line(line: u32, error: LineError) -> ReadFault
     ensures { result ≡ at_line line error }
 {
     match error {

@@ -1,0 +1,38 @@
+-- The first two lines of a plan
+use Rattle.std.proofs.Common.{◌≡◌, ℕ, List, [], ◌∷◌, true, false, Ok, Err, refl, length, arith}
+use Rattle.line_text.specs.Lines.{TextLine, lines_of}
+use Rattle.trace_reader.specs.declared.fault.LineError.{LineError}
+use Rattle.trace_reader.specs.declared.fault.LineError.TheVariants.{Fault, Memory}
+use Rattle.trace_reader.specs.declared.fault.LineFault.TheVariants.{Header as BadHeader, Row as BadRow}
+use Rattle.trace_reader.specs.declared.ring.Ring.{Ring}
+use Rattle.trace_reader.specs.Entries.{IfBadLine, at_line}
+use Rattle.trace_reader.specs.LineAnswers.{AnswersBy}
+use Rattle.trace_reader.specs.LineByLine.{lines_say}
+use Rattle.trace_reader.specs.Plans.{is_plan_version, plan_behind, plan_line, plan_of, plan_ring, with_ring}
+
+pub no_text : (text : List ℕ) → length text ≡ 0 → plan_of text ≡ Err (1, BadHeader)
+unfolding plan_of lines_of
+no_text [] none = refl
+no_text (byte ∷ rest) none = absurd (omega arith)
+
+pub no_version : (text rest : List ℕ) (line : TextLine) → lines_of text ≡ line ∷ lines_of rest → is_plan_version line ≡ false → plan_of text ≡ Err (1, BadHeader)
+unfolding plan_of
+no_version text rest line are is = rw (are, is) refl
+
+pub version_there : (text rest : List ℕ) (line : TextLine) → lines_of text ≡ line ∷ lines_of rest → is_plan_version line ≡ true → plan_of text ≡ plan_behind (lines_of rest)
+unfolding plan_of
+version_there text rest line are is = rw (are, is) refl
+
+pub no_second : (text : List ℕ) → length text ≡ 0 → plan_behind (lines_of text) ≡ Err (2, BadRow)
+unfolding lines_of
+no_second [] none = refl
+no_second (byte ∷ rest) none = absurd (omega arith)
+
+pub ring_taken : (text rest : List ℕ) (line : TextLine) (ring : Ring) → lines_of text ≡ line ∷ lines_of rest → plan_ring line ≡ Ok ring →
+    plan_behind (lines_of text) ≡ with_ring (Ok ring) (lines_say plan_line 3 (lines_of rest))
+ring_taken text rest line ring are is = rw (are, is) refl
+
+pub no_ring_taken : (text rest : List ℕ) (line : TextLine) (e : LineError) → lines_of text ≡ line ∷ lines_of rest → AnswersBy {Answer = Ring} (λ ring. ring) (Err e) (plan_ring line) →
+    IfBadLine (at_line 2 e) (λ number code. plan_behind (lines_of text) ≡ Err (number, code))
+no_ring_taken text rest line (Fault fault) are is = rw (are, is) refl
+no_ring_taken text rest line Memory are is = tt

@@ -1,0 +1,39 @@
+use Rattle.std.proofs.Common.{◌≡◌, ◌∙◌, ap, sym, refl, Some, None}
+use Rattle.std.proofs.lemmas.Result.{err_from_is_err_and}
+use Rattle.line_text.specs.Fields.{fields_of}
+use Rattle.trace_reader.specs.declared.plan.PlanLine.{PlanLine}
+use Rattle.trace_reader.specs.declared.fault.LineFault.TheVariants.{Limit}
+use Rattle.trace_reader.specs.LineAnswers.{valued_by}
+use Rattle.trace_reader.specs.Plans.{plan_form_of, plan_line_fault, plan_value}
+use Rattle.trace_reader.proofs.LineSteps.{content_faulty, content_whole, faulted, passed_by, unfaulted}
+use Rattle.trace_reader.proofs.plan_line.plan_line.Goals as goal
+
+pub returns-in_err-content-clause-answer : goal.returns-in_err-content-clause-answer
+returns-in_err-content-clause-answer c =
+    let p = err_from_is_err_and c.from_residual.result c.from_residual.ensures.1 in
+    rw (p.1, p.2) (content_faulty plan_form_of plan_value (plan_line_fault c.args.number) c.args.line.now _ c.in_err-content.ensures.fault)
+
+pub returns-in_err-said-clause-answer : goal.returns-in_err-said-clause-answer
+returns-in_err-said-clause-answer c =
+    let p = err_from_is_err_and c.from_residual-in_err-said.result c.from_residual-in_err-said.ensures.1 in
+    let whole =
+    content_whole plan_form_of plan_value (plan_line_fault c.args.number) c.args.line.now c.in_ok-content.content.now c.in_ok-content.ensures.whole c.in_ok-content.ensures.content in
+    let passed =
+    passed_by (λ (line : PlanLine). line) (λ (line : PlanLine). line) (plan_line_fault c.args.number) c.in_err-said.field-0.0 (valued_by plan_value (plan_form_of c.of-2.result)) c.in_err-said.ensures in
+    rw (p.1, p.2, whole, sym c.of-2.ensures) passed
+
+pub returns-then-is_past_limit-clause-answer : goal.returns-then-is_past_limit-clause-answer
+returns-then-is_past_limit-clause-answer c =
+    let whole =
+    content_whole plan_form_of plan_value (plan_line_fault c.args.number) c.args.line.now c.in_ok-content.content.now c.in_ok-content.ensures.whole c.in_ok-content.ensures.content in
+    let said = ap (λ xs. valued_by plan_value (plan_form_of xs)) (sym c.of-2.ensures) ∙ c.in_ok-said.ensures in
+    let past : plan_line_fault c.args.number c.in_ok-said.said ≡ Some Limit = rw (sym c.is_past_limit.ensures ∙ c.if-is_past_limit.true) refl in
+    rw (c.into.ensures, whole) (faulted (plan_line_fault c.args.number) (valued_by plan_value (plan_form_of (fields_of c.in_ok-content.content.now))) c.in_ok-said.said Limit said past)
+
+pub returns-clause-answer : goal.returns-clause-answer
+returns-clause-answer c =
+    let whole =
+    content_whole plan_form_of plan_value (plan_line_fault c.args.number) c.args.line.now c.in_ok-content.content.now c.in_ok-content.ensures.whole c.in_ok-content.ensures.content in
+    let said = ap (λ xs. valued_by plan_value (plan_form_of xs)) (sym c.of-2.ensures) ∙ c.in_ok-said.ensures in
+    let within : plan_line_fault c.args.number c.in_ok-said.said ≡ None = rw (sym c.is_past_limit.ensures ∙ c.if-is_past_limit.false) refl in
+    whole ∙ unfaulted (plan_line_fault c.args.number) (valued_by plan_value (plan_form_of (fields_of c.in_ok-content.content.now))) c.in_ok-said.said said within

@@ -1,0 +1,27 @@
+use Rattle.std.proofs.Common.{◌∙◌, ap, sym}
+use Rattle.std.proofs.lemmas.Result.{err_from_is_err_and}
+use Rattle.trace_reader.specs.declared.ring.Ring.{Ring}
+use Rattle.trace_reader.specs.Entries.{ring_of}
+use Rattle.trace_reader.specs.LineAnswers.{valued_by}
+use Rattle.trace_reader.specs.Plans.{plan_ring_fault, ring_line_form, ring_value}
+use Rattle.trace_reader.proofs.LineSteps.{content_faulty, content_whole, passed_by}
+use Rattle.trace_reader.proofs.plan_line.plan_ring.Goals as goal
+
+pub returns-in_err-content : goal.returns-in_err-content
+returns-in_err-content c =
+    let p = err_from_is_err_and c.from_residual.result c.from_residual.ensures.1 in
+    rw (p.1, p.2) (content_faulty ring_line_form ring_value plan_ring_fault c.args.line.now _ c.in_err-content.ensures.fault)
+
+pub returns-in_err-entry : goal.returns-in_err-entry
+returns-in_err-entry c =
+    let p = err_from_is_err_and c.from_residual-in_err-entry.result c.from_residual-in_err-entry.ensures.1 in
+    let whole = content_whole ring_line_form ring_value plan_ring_fault c.args.line.now c.in_ok-content.content.now c.in_ok-content.ensures.whole c.in_ok-content.ensures.content in
+    let passed =
+    passed_by ring_of (λ (ring : Ring). ring) plan_ring_fault c.in_err-entry.field-0.0 (valued_by ring_value (ring_line_form c.of-2.result)) c.in_err-entry.ensures in
+    rw (p.1, p.2, whole, sym c.of-2.ensures) passed
+
+pub returns : goal.returns
+returns c =
+    let whole = content_whole ring_line_form ring_value plan_ring_fault c.args.line.now c.in_ok-content.content.now c.in_ok-content.ensures.whole c.in_ok-content.ensures.content in
+    let said = ap (λ xs. valued_by ring_value (ring_line_form xs)) (sym c.of-2.ensures) ∙ c.in_ok-entry.ensures in
+    rw (whole, said) c.made_ring.ensures

@@ -1,0 +1,6 @@
+-- What a plan says
+use Rattle.trace_reader.specs.declared.plan.Plan.{Plan}
+use Rattle.trace_reader.specs.Plans.{PlanText}
+
+abbrev pub plan_text : Plan → PlanText
+plan_text plan = record { ring = plan.ring; lines = plan.lines }

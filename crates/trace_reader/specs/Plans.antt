@@ -1,0 +1,113 @@
+-- How a plan is read from its text: one ring, and what is done on it
+use Rattle.std.specs.Prelude.{ℕ, ◌&&◌, ◌||◌, Bool, false, not, List, [], ◌∷◌, length, nat_lt, Option, Some, None, Result, Ok, Err, codes, if◌then◌else◌}
+use Rattle.std.specs.Int.{w8, w64}
+use Rattle.std.specs.Option.{option_and_then, option_map}
+use Rattle.std.specs.Str.{bytes_eq}
+use Rattle.line_text.specs.Lines.{TextLine, lines_of}
+use Rattle.line_text.specs.Numbers.{number_of}
+use Rattle.segments.specs.Shape.{is_shape}
+use Rattle.trace_reader.specs.declared.fault.LineFault.{LineFault}
+use Rattle.trace_reader.specs.declared.fault.LineFault.TheVariants.{Header as BadHeader, Row as BadRow, Limit, Shape}
+use Rattle.trace_reader.specs.declared.plan.PlanLine.{PlanLine}
+use Rattle.trace_reader.specs.declared.plan.PlanLine.TheVariants.{Sub, Ret}
+use Rattle.trace_reader.specs.declared.ring.Ring.{Ring}
+use Rattle.trace_reader.specs.Forms.{Form, RingForm, are_blocks, form_of, is_ring_form}
+use Rattle.trace_reader.specs.Header.{is_event_kind}
+use Rattle.trace_reader.specs.Limits.{most_lines, most_declared}
+use Rattle.trace_reader.specs.LineByLine.{line_says, lines_say}
+use Rattle.trace_reader.specs.Values.{both, blocks_of, segments_of}
+
+-- 1 Header: the first line is `xplan 1`
+unfoldable pub is_plan_version : TextLine → Bool
+is_plan_version line = line.is_ended && bytes_eq line.content (codes "xplan 1")
+
+-- ---- the line of the ring
+
+-- the form of a ring's line
+abbrev pub if_ring : Form → Option Form
+if_ring form = if is_ring_form form then Some form else None
+
+abbrev pub ring_line_form : List (List ℕ) → Option Form
+ring_line_form fields = option_and_then if_ring (form_of fields)
+
+unfoldable pub ring_value : Form → Option Ring
+ring_value (RingForm id kind segments) = both (λ i s. record { id = i; shape = record { kind = kind; segments = s } }) (number_of w8 id) (segments_of segments)
+ring_value _ = None
+
+-- 5 Shape: segments that make no ring, or an event ring
+abbrev pub is_no_plan_ring : Ring → Bool
+is_no_plan_ring ring = not (is_shape ring.shape) || is_event_kind ring.shape.kind
+
+abbrev pub plan_ring_fault : Ring → Option LineFault
+plan_ring_fault ring = if is_no_plan_ring ring then Some Shape else None
+
+-- the ring that a line says, or the line's least fault
+abbrev pub plan_ring : TextLine → Result Ring LineFault
+plan_ring line = line_says ring_line_form ring_value plan_ring_fault line
+
+-- ---- the lines behind it
+
+-- the fields behind the first word, which says what they are
+pub data PlanForm : Type 0 where
+  BlocksForm : (ring : List ℕ) (words : List (List ℕ)) → PlanForm
+  RetForm : (upto : List ℕ) → PlanForm
+
+abbrev pub plan_sub_form : List (List ℕ) → Option PlanForm
+plan_sub_form [] = None
+plan_sub_form (ring ∷ words) = if are_blocks words then Some (BlocksForm ring words) else None
+
+abbrev pub ret_form : List (List ℕ) → Option PlanForm
+ret_form (upto ∷ []) = Some (RetForm upto)
+ret_form _ = None
+
+-- None: an unknown first word, or a wrong number of fields
+unfoldable pub plan_form_of : List (List ℕ) → Option PlanForm
+plan_form_of [] = None
+plan_form_of (word ∷ fields) =
+    if bytes_eq word (codes "sub") then plan_sub_form fields
+    else if bytes_eq word (codes "ret") then ret_form fields
+    else None
+
+unfoldable pub plan_value : PlanForm → Option PlanLine
+plan_value (BlocksForm ring words) = both Sub (number_of w8 ring) (blocks_of words)
+plan_value (RetForm upto) = option_map Ret (number_of w64 upto)
+
+abbrev pub declares_too_much : PlanLine → Bool
+declares_too_much (Sub ring blocks) = nat_lt most_declared (length blocks)
+declares_too_much (Ret upto) = false
+
+-- 4 Limit: a line past the limit, or too many blocks in one declaration
+abbrev pub is_past_plan_limit : ℕ → PlanLine → Bool
+is_past_plan_limit number line = nat_lt most_lines number || declares_too_much line
+
+abbrev pub plan_line_fault : ℕ → PlanLine → Option LineFault
+plan_line_fault number line = if is_past_plan_limit number line then Some Limit else None
+
+-- what the line with this number says, or its least fault
+abbrev pub plan_line : ℕ → TextLine → Result PlanLine LineFault
+plan_line number line = line_says plan_form_of plan_value (plan_line_fault number) line
+
+-- ---- the text
+
+-- what a text of a plan says
+pub record PlanText : Type 0 where
+  pub ring : Ring
+  pub lines : List PlanLine
+
+abbrev pub with_ring : Result Ring LineFault → Result (List PlanLine) (ℕ × LineFault) → Result PlanText (ℕ × LineFault)
+with_ring (Ok ring) (Ok lines) = Ok (record { ring = ring; lines = lines })
+with_ring (Ok ring) (Err fault) = Err fault
+with_ring (Err fault) lines = Err (2, fault)
+
+-- the lines behind the first; the line that isn't there is a bad one
+abbrev pub plan_behind : List TextLine → Result PlanText (ℕ × LineFault)
+plan_behind [] = Err (2, BadRow)
+plan_behind (line ∷ lines) = with_ring (plan_ring line) (lines_say plan_line 3 lines)
+
+abbrev pub plan_in : List TextLine → Result PlanText (ℕ × LineFault)
+plan_in [] = Err (1, BadHeader)
+plan_in (line ∷ lines) = if is_plan_version line then plan_behind lines else Err (1, BadHeader)
+
+-- the plan of a text, or its first bad line and the least fault there
+unfoldable pub plan_of : List ℕ → Result PlanText (ℕ × LineFault)
+plan_of text = plan_in (lines_of text)

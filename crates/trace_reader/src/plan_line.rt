@@ -1,0 +1,128 @@
+ghost use Rattle.std.specs.Prelude.{◌≡◌, ◌≤◌, length, OnOk};
+ghost use Rattle.trace_reader.specs.Entries.{ring_of};
+ghost use Rattle.trace_reader.specs.Limits.{most_lines};
+ghost use Rattle.trace_reader.specs.LineAnswers.{AnswersBy, valued_by};
+ghost use Rattle.trace_reader.specs.LineByLine.{unless_fault};
+ghost use Rattle.trace_reader.specs.Plans.{declares_too_much, is_past_plan_limit, plan_form_of, plan_line, plan_ring, plan_ring_fault, plan_sub_form, plan_value, ret_form, ring_line_form, ring_value};
+
+use crate::entry::{RingEntry, blocks_of, ring_behind};
+use crate::fault::{LineError, LineFault};
+use crate::line::{MOST_BLOCKS, MOST_LINES, content_of};
+use crate::plan::PlanLine;
+use crate::ring::Ring;
+use line_text::{Fields, Line, Survey, u8_of, u64_of};
+use segments::RingShape;
+use std::alloc::Global;
+use trb::{Blocks, RingKind};
+
+/// The ring of a plan's second line.
+pub fn plan_ring(alloc: Global, line: &Line) -> Result<Ring, LineError>
+    ensures { AnswersBy (λ ring. ring) result (plan_ring line.now) }
+{
+    let content = content_of(line)?;
+    let entry = ring_in(alloc, Survey::of(content).count, Fields::of(content))?;
+    made_ring(alloc, entry)
+}
+
+/// The ring that these fields say, of which there are `count`.
+fn ring_in(alloc: Global, count: usize, mut fields: Fields) -> Result<RingEntry, LineError>
+    requires { count ≡ length fields }
+    ensures { AnswersBy ring_of result (valued_by ring_value (ring_line_form fields.entry)) }
+{
+    let Some(word) = fields.next() else {
+        return Err(LineFault::Row.into());
+    };
+    if word != b"ring".as_slice() {
+        return Err(LineFault::Row.into());
+    }
+    ring_behind(alloc, count - 1, fields)
+}
+
+/// The ring, where it is a command or transfer ring and its segments make one.
+fn made_ring(alloc: Global, entry: RingEntry) -> Result<Ring, LineError>
+    ensures { AnswersBy (λ ring. ring) result (unless_fault plan_ring_fault (ring_of entry)) }
+{
+    let RingEntry { id, kind, segments } = entry;
+    if matches!(kind, RingKind::Evt) {
+        return Err(LineFault::Shape.into());
+    }
+    let shape = RingShape::new(alloc, kind, segments.as_slice())?;
+    Ok(Ring { id, shape })
+}
+
+/// What a line of a plan behind that of its ring says; it is the line with this number.
+pub fn plan_line(alloc: Global, number: u32, line: &Line) -> Result<PlanLine, LineError>
+    ensures answer { AnswersBy (λ said. said) result (plan_line number line.now) }
+    ensures within { OnOk result (number ≤ most_lines) }
+{
+    let content = content_of(line)?;
+    let said = said_by(alloc, Survey::of(content).count, Fields::of(content))?;
+    if is_past_limit(number, &said) {
+        return Err(LineFault::Limit.into());
+    }
+    Ok(said)
+}
+
+/// What these fields say, of which there are `count`.
+#[tactic(auto, unfolding(crate::specs::Plans::plan_form_of))]
+fn said_by(alloc: Global, count: usize, mut fields: Fields) -> Result<PlanLine, LineError>
+    requires { count ≡ length fields }
+    ensures { AnswersBy (λ said. said) result (valued_by plan_value (plan_form_of fields.entry)) }
+{
+    let Some(word) = fields.next() else {
+        return Err(LineFault::Row.into());
+    };
+    if word == b"sub".as_slice() {
+        sub_line(alloc, count - 1, fields)
+    } else if word == b"ret".as_slice() {
+        ret_line(fields)
+    } else {
+        Err(LineFault::Row.into())
+    }
+}
+
+#[tactic(auto, unfolding(crate::specs::Plans::plan_value))]
+fn sub_line(alloc: Global, count: usize, mut fields: Fields) -> Result<PlanLine, LineError>
+    requires { count ≡ length fields }
+    ensures { AnswersBy (λ said. said) result (valued_by plan_value (plan_sub_form fields.entry)) }
+{
+    let Some(ring) = fields.next() else {
+        return Err(LineFault::Row.into());
+    };
+    if count == 1 || count % 4 != 1 {
+        return Err(LineFault::Row.into());
+    }
+    let ring = u8_of(ring).ok_or(LineFault::Number)?;
+    let blocks = blocks_of(alloc, fields)?;
+    Ok(PlanLine::Sub {
+        ring,
+        blocks: Blocks::new(blocks),
+    })
+}
+
+#[tactic(auto, unfolding(crate::specs::Plans::plan_value))]
+fn ret_line(mut fields: Fields) -> Result<PlanLine, LineError>
+    ensures { AnswersBy (λ said. said) result (valued_by plan_value (ret_form fields.entry)) }
+{
+    let (Some(upto), None) = (fields.next(), fields.next()) else {
+        return Err(LineFault::Row.into());
+    };
+    let upto = u64_of(upto).ok_or(LineFault::Number)?;
+    Ok(PlanLine::Ret { upto })
+}
+
+/// It is a line past the limit, or it declares too many blocks.
+fn is_past_limit(number: u32, said: &PlanLine) -> bool
+    ensures { result ≡ is_past_plan_limit number said.now }
+{
+    number > MOST_LINES || declares_too_much(said)
+}
+
+fn declares_too_much(said: &PlanLine) -> bool
+    ensures { result ≡ declares_too_much said.now }
+{
+    match said {
+        PlanLine::Sub { blocks, .. } => blocks.as_slice().len() > MOST_BLOCKS,
+        PlanLine::Ret { .. } => false,
+    }
+}
