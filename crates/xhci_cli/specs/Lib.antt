@@ -3,7 +3,6 @@ pub mod Finding
 pub mod Walk
 pub mod Answers
 pub mod PlanRefusals
-pub mod Texts
 pub mod Plans
-pub mod PlanLines
 pub mod Decoding
+pub mod PlanAnswers

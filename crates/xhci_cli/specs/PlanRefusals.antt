@@ -1,7 +1,8 @@
 -- How a refused line of a plan is told
-use Rattle.std.specs.Prelude.{ℕ, ◌≤◌, Bool, nat_eq, List, [], ◌∷◌, ◌++◌, codes}
-use Rattle.std.specs.List.{starts_with}
-use Rattle.trace_reader.specs.declared.fault.LineFault.TheVariants.{Header}
+use Rattle.std.specs.Prelude.{ℕ, List, codes}
+use Rattle.trace_reader.specs.declared.fault.LineFault.{LineFault}
+use Rattle.trace_reader.specs.declared.fault.ReadFault.{ReadFault}
+use Rattle.trace_reader.specs.declared.fault.ReadFault.TheVariants.{Line as BadLine, Memory as NoText}
 use Rattle.trb.specs.declared.fault.Fault.{Fault}
 use Rattle.trb.specs.declared.fault.Fault.TheVariants.{BadDescriptor as NoDescriptor, NotInProfile as LeftOut}
 use Rattle.cycle_ring.specs.declared.fault.EnqueueFault.{EnqueueFault}
@@ -57,16 +58,13 @@ IsNoTextFault (Line line fault) = ⊥
 IsNoTextFault (RefusedLine line r) = Unit {0}
 IsNoTextFault NoPlanMemory = Unit {0}
 
--- a fault of the plan's text at a line from this number on, or want of memory: no line was followed
-abbrev pub IsFaultFrom : ℕ → PlanFault → Type 0
-IsFaultFrom n (Line line fault) = n ≤ line
-IsFaultFrom n (RefusedLine line r) = ⊥
-IsFaultFrom n NoPlanMemory = Unit {0}
+-- a bad line of a plan's text, by its number
+abbrev pub IfBadPlanLine : PlanFault → (ℕ → LineFault → Type 0) → Type 0
+IfBadPlanLine (Line line fault) P = P line fault
+IfBadPlanLine (RefusedLine line r) P = Unit {0}
+IfBadPlanLine NoPlanMemory P = Unit {0}
 
--- line 1 isn't as it must be
-abbrev pub no_version : PlanFault
-no_version = Line 1 Header
-
--- the text begins with the first line of a plan
-abbrev pub has_version : List ℕ → Bool
-has_version text = starts_with nat_eq text (codes "xplan 1" ++ 10 ∷ [])
+-- a fault of the plan's text
+abbrev pub text_fault : ReadFault → PlanFault
+text_fault (BadLine line code) = Line line code
+text_fault NoText = NoPlanMemory

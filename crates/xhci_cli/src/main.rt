@@ -5,7 +5,6 @@ mod answer;
 mod checker;
 mod command_line;
 mod decode;
-mod reader;
 mod run;
 #[cfg(test)]
 mod tests;

@@ -1,8 +1,11 @@
 //! Reads a trace, checks it, and writes the answer.
 ghost use Rattle.std.specs.Io.KnownBytes.{Appends};
-ghost use Rattle.xhci_cli.specs.Plans.{plan_refusal, plan_text};
-ghost use Rattle.xhci_cli.specs.declared.writer.plan.Plan.{Plan};
-ghost use Rattle.std.specs.Prelude.{None, ◌≡◌, ◌≢◌, ℕ, OnOk, IfOk, IfErr};
+ghost use Rattle.trace_reader.specs.Plans.{PlanText};
+ghost use Rattle.trace_reader.specs.Spelling.{printed_trace};
+ghost use Rattle.xhci_cli.specs.PlanAnswers.{IsFirstBadInPlan, IsPlanFault, IsPlanIn};
+ghost use Rattle.xhci_cli.specs.Plans.{plan_refusal, plan_trace};
+ghost use Rattle.xhci_cli.specs.declared.writer.fault.PlanRefusal.{PlanRefusal};
+ghost use Rattle.std.specs.Prelude.{None, Some, ◌≡◌, ℕ, OnOk, IfOk, IfErr};
 ghost use Rattle.ownership_checker.specs.declared.refusal.Refusal.{Refusal};
 ghost use Rattle.trace_reader.specs.declared.trace.Trace.{Trace};
 ghost use Rattle.xhci_cli.specs.Answers.{IsFirstBad, IsReadFault, IsTextOf, IsTold, IsVerdict, status_of};
@@ -47,7 +50,14 @@ pub fn run_write<R: Read, O: Write, E: Write>(
     err: &mut E,
 ) -> Status
     ensures clean { result ≡ Status.Clean → (err.new ≡ err.old)
-        × ((plan : Plan) × (plan_refusal plan ≡ None) × Appends (O.contents out.old) (O.contents out.new) (plan_text plan)) }
+        × ((plan : PlanText) × IsPlanIn (R.remaining input.old) plan × (plan_refusal plan ≡ None)
+        × Appends (O.contents out.old) (O.contents out.new) (printed_trace (plan_trace plan))) }
+    ensures unclean { result ≡ Status.Unclean → (err.new ≡ err.old)
+        × ((plan : PlanText) × (line : ℕ) × (r : PlanRefusal) × IsPlanIn (R.remaining input.old) plan × (plan_refusal plan ≡ Some (line, r))
+        × IsTold (Answer.Unfollowed line r) (O.contents out.old) (O.contents out.new)) }
+    ensures unreadable { result ≡ Status.Unreadable → (out.new ≡ out.old)
+        × ((line : ℕ) × (c : LineFault) × IsFirstBadInPlan (R.remaining input.old) line c
+        × IsTold (Answer.BadLine line c) (E.contents err.old) (E.contents err.new)) }
 {
     match written_trace(alloc, input) {
         Ok(trace) => match write_all(&trace, out) {
@@ -60,8 +70,9 @@ pub fn run_write<R: Read, O: Write, E: Write>(
 
 /// The trace of the plan that `input` holds, or the answer to what can't be written.
 fn written_trace<R: Read>(alloc: Global, input: &mut R) -> Result<Vec<u8>, Answer>
-    ensures written { IfOk result (λ trace. (plan : Plan) × (plan_refusal plan ≡ None) × (trace.items ≡ plan_text plan)) }
-    ensures fault { IfErr result (λ answer. status_of answer ≢ Status.Clean) }
+    ensures written { IfOk result (λ trace. (plan : PlanText) × IsPlanIn (R.remaining input.old) plan × (plan_refusal plan ≡ None)
+        × (trace.items ≡ printed_trace (plan_trace plan))) }
+    ensures fault { IfErr result (IsPlanFault (R.remaining input.old)) }
 {
     let mut text = Vec::new(alloc);
     input.read_to_end(&mut text)?;

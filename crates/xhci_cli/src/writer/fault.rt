@@ -2,8 +2,8 @@ ghost use Rattle.std.specs.Prelude.{◌≡◌};
 ghost use Rattle.xhci_cli.specs.PlanRefusals.{refusal_number, refusal_name};
 
 use cycle_ring::{EnqueueFault, NotGiven};
-use std::alloc::{AllocError, AllocFailed};
-use trace_reader::LineFault;
+use std::alloc::AllocError;
+use trace_reader::{LineFault, ReadFault};
 
 /// Why a line of a plan can't be followed.
 #[derive(Clone, Copy, Debug, PartialEq, Eq)]
@@ -69,13 +69,16 @@ impl From<AllocError> for PlanFault {
     }
 }
 
-impl<T: Drop> From<AllocFailed<T>> for PlanFault {
-    ghost use Rattle.xhci_cli.specs.declared.writer.fault.PlanFault.TheVariants.{Memory};
+impl From<ReadFault> for PlanFault {
+    ghost use Rattle.xhci_cli.specs.PlanRefusals.{text_fault};
 
-    ghost from_gives = { λ f e. e ≡ Memory };
+    ghost from_gives = { λ f e. e ≡ text_fault f };
 
-    fn from(_error: AllocFailed<T>) -> PlanFault {
-        PlanFault::Memory
+    fn from(fault: ReadFault) -> PlanFault {
+        match fault {
+            ReadFault::Line { line, code } => PlanFault::Line { line, fault: code },
+            ReadFault::Memory => PlanFault::Memory,
+        }
     }
 }
 

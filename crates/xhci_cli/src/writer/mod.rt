@@ -1,13 +1,9 @@
 //! Writes the trace of a plan: what a driver writes that declares these descriptors on one ring (xHCI 4.9.2).
 
 mod fault;
-mod line;
-mod plan;
 mod print;
-mod read;
 #[cfg(test)]
 mod tests;
-mod text;
 mod write;
 
 pub use fault::{PlanFault, PlanRefusal};

@@ -1,15 +1,34 @@
-ghost use Rattle.std.specs.Prelude.{◌≡◌, ◌≢◌, ◌++◌, None, Some, OnOk, IfOk, IfErr};
-ghost use Rattle.xhci_cli.specs.declared.writer.plan.PlanLine.TheVariants.{Sub, Ret};
+ghost use Rattle.std.specs.Prelude.{◌≡◌, ◌++◌, ◌+◌, ◌≤◌, None, Some, OnOk, IfOk, IfErr, length, map};
+ghost use Rattle.trace_reader.specs.Limits.{most_lines};
+ghost use Rattle.trace_reader.specs.declared.plan.PlanLine.TheVariants.{Sub};
+ghost use Rattle.trace_reader.specs.PlanValues.{plan_text};
+ghost use Rattle.trace_reader.specs.Spelling.{printed_trace};
 ghost use Rattle.xhci_cli.specs.PlanRefusals.{IfStopped, IfRefusedLine, IsNoTextFault};
-ghost use Rattle.xhci_cli.specs.Plans.{refusal_of, progress_after, line_text, plan_refusal, plan_text};
+ghost use Rattle.xhci_cli.specs.Plans.{head_text, plan_refusal, plan_trace, progress_after, refusal_from, refusal_of, rows_from, rows_of, rows_text, write_row};
 
 use super::fault::{LineStop, PlanFault, PlanRefusal};
-use super::plan::{Plan, PlanLine};
-use super::text::{push_head, push_ring, push_sub, push_writes};
 use cycle_ring::Producer;
 use guest_memory::Addr;
-use std::alloc::Global;
+use std::alloc::{AllocError, Global};
+use trace_reader::{Plan, PlanLine, push_ring, push_sub, push_write};
 use trb::Block;
+
+/// Appends the lines before a ring's: the version, and contexts of 32 bytes.
+fn push_head(out: &mut Vec<u8>) -> Result<(), AllocError>
+    ensures { OnOk result (out.new.items ≡ out.old.items ++ head_text) }
+{
+    out.extend_from_slice(b"xtrace 1\nctx 20\n")
+}
+
+/// Appends `w` rows, one after another.
+fn push_writes(out: &mut Vec<u8>, writes: &[(Addr, u32)]) -> Result<(), AllocError>
+    ensures { OnOk result (out.new.items ≡ out.old.items ++ rows_text (map write_row writes.now)) }
+{
+    for (at, word) in writes {
+        push_write(out, *at, *word)?;
+    }
+    Ok(())
+}
 
 /// Follows a `sub` line: the declaration is printed, and the words that the producer writes for it. `writes` is room
 /// that is used again.
@@ -22,7 +41,7 @@ fn print_sub(
     blocks: &[Block],
 ) -> Result<(), LineStop>
     ensures allowed { OnOk result (refusal_of id producer.old (Sub ring blocks.now) ≡ None) }
-    ensures text { OnOk result (out.new.items ≡ out.old.items ++ line_text producer.old (Sub ring blocks.now)) }
+    ensures text { OnOk result (out.new.items ≡ out.old.items ++ rows_text (rows_of producer.old (Sub ring blocks.now))) }
     ensures progress { OnOk result (producer.new ≡ progress_after producer.old (Sub ring blocks.now)) }
     ensures refused { IfErr result (λ e. IfStopped e (λ r. refusal_of id producer.old (Sub ring blocks.now) ≡ Some r)) }
 {
@@ -45,7 +64,7 @@ fn print_line(
     line: &PlanLine,
 ) -> Result<(), LineStop>
     ensures allowed { OnOk result (refusal_of id producer.old line.now ≡ None) }
-    ensures text { OnOk result (out.new.items ≡ out.old.items ++ line_text producer.old line.now) }
+    ensures text { OnOk result (out.new.items ≡ out.old.items ++ rows_text (rows_of producer.old line.now)) }
     ensures progress { OnOk result (producer.new ≡ progress_after producer.old line.now) }
     ensures refused { IfErr result (λ e. IfStopped e (λ r. refusal_of id producer.old line.now ≡ Some r)) }
 {
@@ -57,23 +76,24 @@ fn print_line(
     }
 }
 
-/// The trace of a plan, or its first line that can't be followed.
-pub fn print_plan(alloc: Global, plan: Plan) -> Result<Vec<u8>, PlanFault>
-    ensures printed { IfOk result (λ trace. trace.items ≡ plan_text plan) }
-    ensures followed { OnOk result (plan_refusal plan ≡ None) }
-    ensures refused { IfErr result (λ e. IfRefusedLine e (λ line r. plan_refusal plan ≡ Some (line, r))) }
+/// Follows lines, of which the first has the number 3.
+fn print_lines(
+    alloc: Global,
+    id: u8,
+    producer: &mut Producer,
+    out: &mut Vec<u8>,
+    lines: &[PlanLine],
+) -> Result<(), PlanFault>
+    requires { length lines.now + 2 ≤ most_lines }
+    ensures printed { OnOk result (out.new.items ≡ out.old.items ++ rows_text (rows_from producer.old lines.now)) }
+    ensures followed { OnOk result (refusal_from id producer.old 3 lines.now ≡ None) }
+    ensures refused { IfErr result (λ e. IfRefusedLine e (λ line r. refusal_from id producer.old 3 lines.now ≡ Some (line, r))) }
     ensures read { IfErr result IsNoTextFault }
 {
-    let Plan { ring, lines } = plan;
-    let id = ring.id;
-    let mut out = Vec::new(alloc);
-    push_head(&mut out)?;
-    push_ring(&mut out, id, &ring.shape)?;
-    let mut producer = Producer::new(ring.shape);
     let mut writes = Vec::new(alloc);
     let mut number = 3;
-    for line in &lines {
-        match print_line(id, &mut producer, &mut writes, &mut out, line) {
+    for line in lines {
+        match print_line(id, producer, &mut writes, out, line) {
             Ok(()) => number += 1,
             Err(LineStop::Refused(refusal)) => return Err(PlanFault::Refused {
                 line: number,
@@ -82,5 +102,22 @@ pub fn print_plan(alloc: Global, plan: Plan) -> Result<Vec<u8>, PlanFault>
             Err(LineStop::Memory) => return Err(PlanFault::Memory),
         }
     }
+    Ok(())
+}
+
+/// The trace of a plan, or its first line that can't be followed.
+pub fn print_plan(alloc: Global, plan: Plan) -> Result<Vec<u8>, PlanFault>
+    ensures printed { IfOk result (λ trace. trace.items ≡ printed_trace (plan_trace (plan_text plan))) }
+    ensures followed { OnOk result (plan_refusal (plan_text plan) ≡ None) }
+    ensures refused { IfErr result (λ e. IfRefusedLine e (λ line r. plan_refusal (plan_text plan) ≡ Some (line, r))) }
+    ensures read { IfErr result IsNoTextFault }
+{
+    let Plan { ring, lines } = plan;
+    let id = ring.id;
+    let mut out = Vec::new(alloc);
+    push_head(&mut out)?;
+    push_ring(&mut out, &ring)?;
+    let mut producer = Producer::new(ring.shape);
+    print_lines(alloc, id, &mut producer, &mut out, lines.as_slice())?;
     Ok(out)
 }

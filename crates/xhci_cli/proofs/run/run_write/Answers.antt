@@ -1,10 +1,7 @@
-use Rattle.std.proofs.Common.{◌∙◌, ℕ, List, refl, subst}
-use Rattle.std.specs.Io.KnownBytes.{Appends}
+use Rattle.xhci_cli.proofs.TellingPlans.{told_bad_plan_line}
 use Rattle.xhci_cli.proofs.run.run_write.Goals as goal
 
-pub returns-in-Ok-write_all : goal.returns-in-Ok-write_all
-returns-in-Ok-write_all g c =
-    let w = c.in-Ok.ensures.written in
-    record {
-      clean = λ same. (refl, (w.0, w.1, subst (λ (bytes : List ℕ). Appends (g.O.Write.contents c.args.out.now) (g.O.Write.contents c.write_all.new.writer) bytes) (c.deref.ensures.value ∙ w.2) c.in-Ok-write_all.ensures));
-    }
+pub returns-clause-unreadable : goal.returns-clause-unreadable
+returns-clause-unreadable g c = λ same.
+    let told = c.tell-in-Err.ensures.unreadable same in
+    (told.1, told_bad_plan_line c.in-Err.fault _ _ _ told.0 c.in-Err.ensures.fault told.2)

@@ -1,0 +1,7 @@
+use Rattle.std.proofs.Common.{rules}
+use Rattle.trace_reader.specs.Spelling.{printed_line}
+use Rattle.xhci_cli.proofs.writer.print.push_head.Goals as goal
+
+pub returns : goal.returns
+unfolding printed_line
+returns c = search rules
