@@ -20,3 +20,6 @@ pub mod SpelledPlans
 pub mod RingLines
 pub mod LineSteps
 pub mod PlanSteps
+pub mod EventLines
+pub mod SpelledSchedules
+pub mod ScheduleSteps

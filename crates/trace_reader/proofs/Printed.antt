@@ -56,7 +56,7 @@ printed_first fields rest is =
 
 -- ---- lines
 
-abbrev AllSoundLines : List (List Field) → Type 0
+abbrev pub AllSoundLines : List (List Field) → Type 0
 AllSoundLines [] = Unit {0}
 AllSoundLines (line ∷ lines) = IsSoundLine line × AllSoundLines lines
 
@@ -64,11 +64,11 @@ sound_lines_append : (xs ys : List (List Field)) → AllSoundLines xs → AllSou
 sound_lines_append [] ys of_xs of_ys = of_ys
 sound_lines_append (x ∷ xs) ys of_xs of_ys = (of_xs.0, sound_lines_append xs ys of_xs.1 of_ys)
 
-sound_lines_map : {A : Type 0} (f : A → List Field) → ((a : A) → IsSoundLine (f a)) → (xs : List A) → AllSoundLines (map f xs)
+pub sound_lines_map : {A : Type 0} (f : A → List Field) → ((a : A) → IsSoundLine (f a)) → (xs : List A) → AllSoundLines (map f xs)
 sound_lines_map f sound [] = tt
 sound_lines_map f sound (x ∷ xs) = (sound x, sound_lines_map f sound xs)
 
-printed_lines : (lines : List (List Field)) → AllSoundLines lines → lines_written lines (lines_of (flat_map printed_line lines)) ≡ true
+pub printed_lines : (lines : List (List Field)) → AllSoundLines lines → lines_written lines (lines_of (flat_map printed_line lines)) ≡ true
 printed_lines [] sound = rw lines_of-nothing refl
 printed_lines (line ∷ lines) sound =
     let texts = map printed line in

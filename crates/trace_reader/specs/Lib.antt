@@ -16,3 +16,5 @@ pub mod LineAnswers
 pub mod Plans
 pub mod PlanSpelling
 pub mod PlanValues
+pub mod Schedules
+pub mod ScheduleSpelling

@@ -12,3 +12,7 @@ most_bytes = 16384
 -- blocks of one declaration
 abbrev pub most_declared : ℕ
 most_declared = 256
+
+-- lines of a schedule
+abbrev pub most_schedule_lines : ℕ
+most_schedule_lines = 4194304

@@ -5,7 +5,8 @@ ghost use Rattle.trace_reader.specs.Entries.{Answers, IfFault, ring_of, said_by,
 ghost use Rattle.trace_reader.specs.Forms.{bell_form, kind_named, named, read_form, reg_form, register_named, ring_form, sub_form, write_form};
 ghost use Rattle.trace_reader.specs.LineAnswers.{AnswersBy, valued_by};
 ghost use Rattle.trace_reader.specs.Plans.{ring_value};
-ghost use Rattle.trace_reader.specs.Values.{SaysRow, block_of, blocks_of, cons, register_value_of, said_of, segments_of, word_address_of};
+ghost use Rattle.trace_reader.specs.Schedules.{event_form};
+ghost use Rattle.trace_reader.specs.Values.{SaysRow, block_of, blocks_of, cons, event_of, register_value_of, said_of, segments_of, word_address_of};
 ghost use Rattle.trace_reader.specs.Values as values;
 
 use crate::fault::{LineError, LineFault};
@@ -143,9 +144,16 @@ fn bell_entry(mut fields: Fields) -> Result<Entry, LineError>
     Ok(Entry::Row(Row::Bell { slot, target }))
 }
 
-#[tactic(auto, unfolding(crate::specs::Values::said_of))]
-fn read_entry(mut fields: Fields) -> Result<Entry, LineError>
+fn read_entry(fields: Fields) -> Result<Entry, LineError>
     ensures { Answers result (said_by (read_form fields.entry)) }
+{
+    let event = event_behind(fields)?;
+    Ok(Entry::Row(Row::Read { event }))
+}
+
+/// The block of exactly four words.
+pub fn event_behind(mut fields: Fields) -> Result<Block, LineError>
+    ensures { AnswersBy (λ event. event) result (valued_by event_of (event_form fields.entry)) }
 {
     let words = (fields.next(), fields.next(), fields.next(), fields.next());
     let (Some(a), Some(b), Some(c), Some(d)) = words else {
@@ -155,7 +163,7 @@ fn read_entry(mut fields: Fields) -> Result<Entry, LineError>
         return Err(LineFault::Row.into());
     }
     let event = block_of(a, b, c, d).ok_or(LineFault::Number)?;
-    Ok(Entry::Row(Row::Read { event }))
+    Ok(event)
 }
 
 fn ring_entry(alloc: Global, begun: bool, count: usize, fields: Fields) -> Result<Entry, LineError>
@@ -222,7 +230,7 @@ fn named(word: &[u8], registers: &[Register]) -> Option<Register>
 
 /// The address of a word.
 #[tactic(auto, unfolding(crate::specs::Values::word_address_of))]
-fn word_address_of(field: &[u8]) -> Option<Addr>
+pub fn word_address_of(field: &[u8]) -> Option<Addr>
     ensures { result ≡ word_address_of field.now }
 {
     Addr::new(u64_of(field)?)

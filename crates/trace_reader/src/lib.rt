@@ -15,7 +15,10 @@ mod register;
 mod ring;
 mod rings;
 mod row;
+mod schedule;
+mod schedules;
 mod step;
+mod step_line;
 mod trace;
 
 pub use entry::block_of;
@@ -28,6 +31,8 @@ pub use read::read_trace;
 pub use register::Register;
 pub use ring::Ring;
 pub use row::Row;
+pub use schedule::{Schedule, Steps};
+pub use schedules::{print_schedule, read_schedule};
 pub use step::Step;
 pub use trace::{Rows, Trace};
 

@@ -13,6 +13,9 @@ use std::alloc::Global;
 /// Lines of a text.
 pub const MOST_LINES: u32 = 1048576;
 
+/// Lines of a schedule.
+pub const MOST_SCHEDULE_LINES: u32 = 4194304;
+
 /// Bytes of a line before its line feed.
 pub const MOST_BYTES: usize = 16384;
 

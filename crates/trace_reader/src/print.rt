@@ -174,7 +174,7 @@ fn push_blocks(out: &mut Vec<u8>, blocks: &[Block]) -> Result<(), AllocError>
 }
 
 /// Appends the words of a block, each behind a space.
-fn push_block(out: &mut Vec<u8>, block: &Block) -> Result<(), AllocError>
+pub fn push_block(out: &mut Vec<u8>, block: &Block) -> Result<(), AllocError>
     ensures { OnOk result (out.new.items ≡ out.old.items ++ spaced (block_fields block.now)) }
 {
     for word in &block.w {

@@ -1,0 +1,41 @@
+-- The four words of an event, in a row of a trace
+use Rattle.std.proofs.Common.{◌≡◌, ℕ, List, Bool, true, false, Option, Some, None, Result, Ok, Err, refl, ap, ◌∙◌, cond, length}
+use Rattle.std.specs.Prelude.{◌==◌}
+use Rattle.std.specs.Option.{option_map, option_map_or}
+use Rattle.trb.specs.declared.block.Block.{Block}
+use Rattle.trace_reader.specs.declared.fault.LineError.{LineError}
+use Rattle.trace_reader.specs.declared.fault.LineError.TheVariants.{Fault, Memory}
+use Rattle.trace_reader.specs.declared.fault.LineFault.{LineFault}
+use Rattle.trace_reader.specs.declared.fault.LineFault.TheVariants.{Number}
+use Rattle.trace_reader.specs.declared.row.Row.TheVariants.{Read}
+use Rattle.trace_reader.specs.Entries.{Answers, said_by}
+use Rattle.trace_reader.specs.Forms.{ReadForm, read_form}
+use Rattle.trace_reader.specs.LineAnswers.{AnswersBy, valued_by}
+use Rattle.trace_reader.specs.Schedules.{event_form}
+use Rattle.trace_reader.specs.Values.{Said, SaysRow, event_of, said_of}
+
+as_said : Result Block LineFault → Result Said LineFault
+as_said (Ok event) = Ok (SaysRow (Read event))
+as_said (Err fault) = Err fault
+
+numbers_said : (event : Option Block) → option_map_or Ok (option_map (λ e. SaysRow (Read e)) event) (Err Number) ≡ as_said (option_map_or Ok event (Err Number))
+unfolding as_said
+numbers_said (Some event) = refl
+numbers_said None = refl
+
+by_length : (words : List (List ℕ)) (four : Bool) → said_by (cond four (Some (ReadForm words)) None) ≡ as_said (valued_by event_of (cond four (Some words) None))
+unfolding as_said said_of
+by_length words true = numbers_said (event_of words)
+by_length words false = refl
+
+event_said : (words : List (List ℕ)) → said_by (read_form words) ≡ as_said (valued_by event_of (event_form words))
+event_said words = by_length words (length words == 4)
+
+pub event_there : (words : List (List ℕ)) (event : Block) → valued_by event_of (event_form words) ≡ Ok event → said_by (read_form words) ≡ Ok (SaysRow (Read event))
+unfolding as_said
+event_there words event is = event_said words ∙ ap as_said is
+
+pub no_event_there : (words : List (List ℕ)) (e : LineError) → AnswersBy {Answer = Block} (λ event. event) (Err e) (valued_by event_of (event_form words)) → Answers (Err e) (said_by (read_form words))
+unfolding as_said
+no_event_there words (Fault fault) is = event_said words ∙ ap as_said is
+no_event_there words Memory is = tt

@@ -1,0 +1,29 @@
+-- The first line of a schedule, and its printed lines
+use Rattle.std.proofs.Common.{◌≡◌, ℕ, List, [], ◌∷◌, ◌++◌, false, true, Err, refl, ap, length, map, codes, arith}
+use Rattle.std.specs.List.{flat_map}
+use Rattle.line_text.specs.Lines.{TextLine, lines_of}
+use Rattle.trace_reader.specs.declared.fault.LineFault.TheVariants.{Header as BadHeader}
+use Rattle.trace_reader.specs.declared.step.Step.{Step}
+use Rattle.trace_reader.specs.LineByLine.{lines_say}
+use Rattle.trace_reader.specs.Schedules.{is_schedule_version, schedule_of, step_line}
+use Rattle.trace_reader.specs.ScheduleSpelling.{printed_schedule, schedule_lines, schedule_version_fields, step_fields}
+use Rattle.trace_reader.specs.Spelling.{printed_line}
+use Rattle.trace_reader.proofs.LinePieces.{line_of}
+
+pub no_text : (text : List ℕ) → length text ≡ 0 → schedule_of text ≡ Err (1, BadHeader)
+unfolding schedule_of lines_of
+no_text [] none = refl
+no_text (byte ∷ rest) none = absurd (omega arith)
+
+pub no_version : (text rest : List ℕ) (line : TextLine) → lines_of text ≡ line ∷ lines_of rest → is_schedule_version line ≡ false → schedule_of text ≡ Err (1, BadHeader)
+unfolding schedule_of
+no_version text rest line are is = rw (are, is) refl
+
+pub version_there : (text rest : List ℕ) (line : TextLine) → lines_of text ≡ line ∷ lines_of rest → is_schedule_version line ≡ true →
+    schedule_of text ≡ lines_say step_line 2 (lines_of rest)
+unfolding schedule_of
+version_there text rest line are is = rw (are, is) refl
+
+pub whole_schedule : (steps : List Step) → printed_schedule steps ≡ codes "xsched 1\n" ++ flat_map printed_line (map step_fields steps)
+unfolding printed_schedule schedule_lines
+whole_schedule steps = ap (λ xs. xs ++ flat_map printed_line (map step_fields steps)) (line_of schedule_version_fields)

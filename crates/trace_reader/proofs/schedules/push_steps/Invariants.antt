@@ -1,0 +1,8 @@
+use Rattle.std.proofs.Common.{◌≡◌, ◌++◌, map, take}
+use Rattle.std.specs.List.{flat_map}
+use Rattle.trace_reader.specs.ScheduleSpelling.{step_fields}
+use Rattle.trace_reader.specs.Spelling.{printed_line}
+use Rattle.trace_reader.proofs.schedules.push_steps.Given as goal
+
+abbrev pub invariant-loop-step : goal.invariant-loop-step
+invariant-loop-step l = l.out.items ≡ l.initial.out.items ++ flat_map printed_line (map step_fields (take l.step-index l.steps))

@@ -1,0 +1,36 @@
+use Rattle.std.proofs.Common.{sym, length, arith}
+use Rattle.std.proofs.lemmas.Bool.{eqb-true}
+use Rattle.line_text.specs.Lines.{lines_of}
+use Rattle.trace_reader.specs.LineByLine.{lines_say}
+use Rattle.trace_reader.specs.Schedules.{step_line}
+use Rattle.trace_reader.proofs.LineSteps.{at_start, bad_line_there, lines_ended, one_line_more}
+use Rattle.trace_reader.proofs.schedules.read_steps.Goals as goal
+
+pub loop-rest-init : goal.loop-rest-init
+loop-rest-init c = record {
+  so_far = rw c.new-steps.ensures.items (sym (at_start (lines_say step_line 2 (lines_of c.args.text.now))));
+  within = omega arith;
+}
+
+pub returns-in-Err-clause-err : goal.returns-in-Err-clause-err
+returns-in-Err-clause-err c =
+    let l = c.loop-rest in
+    rw c.at_line.ensures
+    (bad_line_there step_line (lines_say step_line 2 (lines_of c.args.text.now)) l.steps.items l.number l.rest.now c.first_line-line.result.1.now c.first_line-line.result.0 c.in-Err.error
+    l.invariant.so_far c.first_line-line.ensures.lines c.in-Err.ensures.answer)
+
+pub loop-rest-preserved : goal.loop-rest-preserved
+loop-rest-preserved c =
+    let l = c.loop-rest in
+    record {
+      so_far =
+          rw c.in_ok-push-in-Ok.ensures.items
+          (one_line_more step_line (lines_say step_line 2 (lines_of c.args.text.now)) l.steps.items l.number l.rest.now c.first_line-line.result.1.now c.first_line-line.result.0 c.in-Ok.step
+          l.invariant.so_far c.first_line-line.ensures.lines c.in-Ok.ensures.answer);
+      within = omega (arith, c.in-Ok.ensures.within);
+    }
+
+pub returns-clause-ok : goal.returns-clause-ok
+returns-clause-ok c =
+    let l = c.loop-rest in
+    lines_ended step_line (lines_say step_line 2 (lines_of c.args.text.now)) l.steps.items l.number l.rest.now l.invariant.so_far (eqb-true (length l.rest.now) 0 (sym c.loop-rest-test.ensures))

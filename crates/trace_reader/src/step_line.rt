@@ -1,0 +1,105 @@
+ghost use Rattle.std.specs.Prelude.{◌≡◌, ◌≤◌, OnOk};
+ghost use Rattle.trace_reader.specs.Limits.{most_schedule_lines};
+ghost use Rattle.trace_reader.specs.LineAnswers.{AnswersBy, valued_by};
+ghost use Rattle.trace_reader.specs.Schedules.{finish_form, look_form, other_form, report_form, row_form, scrib_form, step_form_of, step_line, step_value};
+
+use crate::entry::{event_behind, word_address_of};
+use crate::fault::{LineError, LineFault};
+use crate::line::{MOST_SCHEDULE_LINES, content_of};
+use crate::step::Step;
+use line_text::{Fields, Line, u8_of, u32_of};
+
+/// The step that a line of a schedule says; it is the line with this number.
+pub fn step_line(number: u32, line: &Line) -> Result<Step, LineError>
+    ensures answer { AnswersBy (λ step. step) result (step_line number line.now) }
+    ensures within { OnOk result (number ≤ most_schedule_lines) }
+{
+    let content = content_of(line)?;
+    let step = step_of(Fields::of(content))?;
+    if number > MOST_SCHEDULE_LINES {
+        return Err(LineFault::Limit.into());
+    }
+    Ok(step)
+}
+
+/// The step that these fields say.
+#[tactic(auto, unfolding(crate::specs::Schedules::step_form_of))]
+fn step_of(mut fields: Fields) -> Result<Step, LineError>
+    ensures { AnswersBy (λ step. step) result (valued_by step_value (step_form_of fields.entry)) }
+{
+    let Some(word) = fields.next() else {
+        return Err(LineFault::Row.into());
+    };
+    if word == b"row".as_slice() {
+        next_row(fields)
+    } else if word == b"look".as_slice() {
+        look(fields)
+    } else if word == b"report".as_slice() {
+        report(fields)
+    } else if word == b"finish".as_slice() {
+        finish(fields)
+    } else if word == b"other".as_slice() {
+        other(fields)
+    } else if word == b"scrib".as_slice() {
+        scribble(fields)
+    } else {
+        Err(LineFault::Row.into())
+    }
+}
+
+#[tactic(auto, unfolding(crate::specs::Schedules::step_value))]
+fn next_row(mut fields: Fields) -> Result<Step, LineError>
+    ensures { AnswersBy (λ step. step) result (valued_by step_value (row_form fields.entry)) }
+{
+    if fields.next().is_some() {
+        return Err(LineFault::Row.into());
+    }
+    Ok(Step::NextRow)
+}
+
+#[tactic(auto, unfolding(crate::specs::Schedules::step_value))]
+fn look(mut fields: Fields) -> Result<Step, LineError>
+    ensures { AnswersBy (λ step. step) result (valued_by step_value (look_form fields.entry)) }
+{
+    let (Some(ring), None) = (fields.next(), fields.next()) else {
+        return Err(LineFault::Row.into());
+    };
+    let ring = u8_of(ring).ok_or(LineFault::Number)?;
+    Ok(Step::Look { ring })
+}
+
+#[tactic(auto, unfolding(crate::specs::Schedules::step_value))]
+fn report(fields: Fields) -> Result<Step, LineError>
+    ensures { AnswersBy (λ step. step) result (valued_by step_value (report_form fields.entry)) }
+{
+    let event = event_behind(fields)?;
+    Ok(Step::Report { event })
+}
+
+#[tactic(auto, unfolding(crate::specs::Schedules::step_value))]
+fn finish(fields: Fields) -> Result<Step, LineError>
+    ensures { AnswersBy (λ step. step) result (valued_by step_value (finish_form fields.entry)) }
+{
+    let event = event_behind(fields)?;
+    Ok(Step::Finish { event })
+}
+
+#[tactic(auto, unfolding(crate::specs::Schedules::step_value))]
+fn other(fields: Fields) -> Result<Step, LineError>
+    ensures { AnswersBy (λ step. step) result (valued_by step_value (other_form fields.entry)) }
+{
+    let event = event_behind(fields)?;
+    Ok(Step::Other { event })
+}
+
+#[tactic(auto, unfolding(crate::specs::Schedules::step_value))]
+fn scribble(mut fields: Fields) -> Result<Step, LineError>
+    ensures { AnswersBy (λ step. step) result (valued_by step_value (scrib_form fields.entry)) }
+{
+    let (Some(address), Some(word), None) = (fields.next(), fields.next(), fields.next()) else {
+        return Err(LineFault::Row.into());
+    };
+    let at = word_address_of(address).ok_or(LineFault::Number)?;
+    let word = u32_of(word).ok_or(LineFault::Number)?;
+    Ok(Step::Scribble { at, word })
+}
