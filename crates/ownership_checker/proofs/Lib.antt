@@ -8,3 +8,4 @@ pub mod OneRingOfMany
 pub mod WorkedTraces
 pub mod WorkedLeases
 pub mod Examples
+pub mod WithinProfile

@@ -1,4 +1,4 @@
--- A trace of one transfer ring in which nothing but declarations and writes has come: no register is written, nothing is rung or read
+-- A trace in which nothing but declarations and writes has come: no register is written, nothing is rung or read
 use Rattle.std.specs.Prelude.{◌≡◌, ℕ, false, [], ◌∷◌, None, slice_index}
 use Rattle.contexts.specs.declared.size.ContextSize.{ContextSize}
 use Rattle.segments.specs.declared.spot.Spot.TheVariants.{Data}

@@ -110,6 +110,10 @@ verdict_end : (h : Header) (k : Known) (n : ℕ) → verdict_from h k n [] ≡ N
 unfolding verdict_from
 verdict_end h k n = refl
 
+within_end : (h : Header) (k : Known) (n : ℕ) → verdict_within h k n [] ≡ None
+unfolding verdict_within
+within_end h k n = refl
+
 counted_end : (h : Header) (k : Known) (n : ℕ) → n + begun_count h k [] ≡ n
 unfolding begun_count
 counted_end h k n = add-zero n
@@ -208,6 +212,11 @@ module _ (h : Header) (rows : List Row) (first : ℕ) where
   pub ended_inside : (i begun_ : ℕ) (T : Known → Type 0) → IsChecked h rows first i T begun_ → i ≡ length rows → AreInside h (reverse rows)
   ended_inside i begun_ T c all = subst (λ (xs : List Row). AreInside h (reverse xs)) (ap (λ n. take n rows) all ∙ take_all rows) c.inside
 
+  pub ended_within : (i begun_ : ℕ) (T : Known → Type 0) → IsChecked h rows first i T begun_ → i ≡ length rows → verdict_within h nothing first rows ≡ None
+  ended_within i begun_ T c all =
+      let before = known h (reverse (take i rows)) in
+      c.within ∙ ap (λ xs. verdict_within h before (first + i) xs) (ap (λ n. drop n rows) all ∙ drop_all rows) ∙ within_end h before (first + i)
+
   pub started : (rs : List Record) (m : ℕ → ℕ) (begun_ : ℕ) → Follows h nothing rs m → begun_ ≡ length (event_shape h).segments → begun_ ≤ 64 → IsProgress h rows first 0 first begun_ rs m
   started rs m begun_ f segments few_ = record {
     numbered = sym (add-zero first);
@@ -242,6 +251,9 @@ module _ (h : Header) (rows : List Row) (first : ℕ) where
 
   pub ended : (i number begun_ : ℕ) (rs : List Record) (m : ℕ → ℕ) → IsProgress h rows first i number begun_ rs m → i ≡ length rows → IsAccepted h rows first begun_
   ended i number begun_ rs m p all = ended_checked i begun_ (λ k. Follows h k rs m) p.checked all
+
+  pub none_refused : (i number begun_ : ℕ) (rs : List Record) (m : ℕ → ℕ) → IsProgress h rows first i number begun_ rs m → i ≡ length rows → verdict_within h nothing first rows ≡ None
+  none_refused i number begun_ rs m p all = ended_within i begun_ (λ k. Follows h k rs m) p.checked all
 
   pub all_inside : (i number begun_ : ℕ) (rs : List Record) (m : ℕ → ℕ) → IsProgress h rows first i number begun_ rs m → i ≡ length rows → AreInside h (reverse rows)
   all_inside i number begun_ rs m p all = ended_inside i begun_ (λ k. Follows h k rs m) p.checked all

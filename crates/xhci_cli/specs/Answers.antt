@@ -49,7 +49,7 @@ text_of Memory = codes "xhcitrace: 30 Memory"
 text_of Device = codes "xhcitrace: 31 Device"
 
 -- an answer is right of a trace that was read: its leases, where no row breaks a rule and a walk after any row reads what was
--- declared; or its first row that breaks a rule and the least rule that it breaks
+-- declared; or its first row that is outside the profile or breaks a rule, and the least rule that it breaks
 abbrev pub IsVerdict : Answer → Trace → Type 0
 IsVerdict (Accepted leases) trace = IsAccepted trace.header trace.rows trace.first leases × WalksRead trace.header trace.rows
 IsVerdict (Refused row refusal) trace =

@@ -1,4 +1,4 @@
-ghost use Rattle.std.specs.Prelude.{◌≡◌, ◌+◌, ◌≤◌, ℕ, Some, length, reverse, IfOk, IfErr, OnOk};
+ghost use Rattle.std.specs.Prelude.{◌≡◌, ◌+◌, ◌≤◌, ℕ, None, Some, length, reverse, IfOk, IfErr, OnOk};
 ghost use Rattle.trace_reader.specs.Header.{IsHeader};
 ghost use Rattle.trace_reader.specs.Limits.{most_lines};
 ghost use Rattle.ring_knowledge.specs.Known.{nothing};
@@ -26,6 +26,7 @@ fn check_rows<M: WordMemory + Drop>(
     requires within { first + length rows.now ≤ most_lines + 1 }
     requires zero { (a : ℕ) → M.words memory a ≡ 0 }
     ensures accepted { IfOk result (λ n. IsAccepted header.now rows.now first n) }
+    ensures passed { OnOk result (verdict_within header.now nothing first rows.now ≡ None) }
     ensures inside { OnOk result (AreInside header.now (reverse rows.now)) }
     ensures refused { IfErr result (λ e. IfRefusedAt e (λ row c. verdict_within header.now nothing first rows.now ≡ Some (row, c))) }
     ensures first { IfErr result (λ e. IfRefusedAt e (IsFirstOfAll header.now first rows.now)) }
@@ -57,6 +58,7 @@ pub fn check_in<M: WordMemory + Drop>(
 ) -> Result<u64, CheckFault>
     requires zero { (a : ℕ) → M.words memory a ≡ 0 }
     ensures accepted { IfOk result (λ n. IsAccepted trace.now.header trace.now.rows trace.now.first n) }
+    ensures passed { OnOk result (verdict_within trace.now.header nothing trace.now.first trace.now.rows ≡ None) }
     ensures refused { IfErr result (λ e. IfRefusedAt e (λ row c.
         verdict_within trace.now.header nothing trace.now.first trace.now.rows ≡ Some (row, c))) }
     ensures first { IfErr result (λ e. IfRefusedAt e (IsFirstOfAll trace.now.header trace.now.first trace.now.rows)) }
@@ -76,6 +78,7 @@ pub fn check_in<M: WordMemory + Drop>(
 /// with `NotInProfile`. `Memory` is answered only where a growth was refused.
 pub fn check(alloc: Global, trace: &Trace) -> Result<u64, CheckFault>
     ensures accepted { IfOk result (λ n. IsAccepted trace.now.header trace.now.rows trace.now.first n) }
+    ensures passed { OnOk result (verdict_within trace.now.header nothing trace.now.first trace.now.rows ≡ None) }
     ensures refused { IfErr result (λ e. IfRefusedAt e (λ row c.
         verdict_within trace.now.header nothing trace.now.first trace.now.rows ≡ Some (row, c))) }
     ensures first { IfErr result (λ e. IfRefusedAt e (IsFirstOfAll trace.now.header trace.now.first trace.now.rows)) }

@@ -6,7 +6,7 @@ use Rattle.ownership_checker.specs.Refusal.{first_of}
 use Rattle.ownership_checker.specs.Profile.{broken_within, verdict_within}
 use Rattle.xhci_cli.specs.declared.checker.record.Record.{Record}
 use Rattle.xhci_cli.specs.Tracking.{AreFresh, Follows, IsProgress, IsRowStep, IfRefused, IsFirstOfAll}
-use Rattle.xhci_cli.proofs.Checking.{started, stepped, refused, first_refused, ended, all_inside}
+use Rattle.xhci_cli.proofs.Checking.{started, stepped, refused, first_refused, ended, none_refused, all_inside}
 use Rattle.xhci_cli.proofs.Rows.{follows_first}
 use Rattle.xhci_cli.proofs.checker.check.check_rows.Goals as goal
 
@@ -56,3 +56,9 @@ returns-clause-inside g c =
     let ends = c.loop-row.auto.row-index-end in
     let past = c.loop-row-test.false in
     all_inside c.args.header.now c.args.rows.now c.args.first c.loop-row.row-index c.loop-row.number c.loop-row.begun c.loop-row.records.items (g.M.WordMemory.words c.loop-row.memory) c.loop-row.invariant (omega arith)
+
+pub returns-clause-passed : goal.returns-clause-passed
+returns-clause-passed g c =
+    let ends = c.loop-row.auto.row-index-end in
+    let past = c.loop-row-test.false in
+    none_refused c.args.header.now c.args.rows.now c.args.first c.loop-row.row-index c.loop-row.number c.loop-row.begun c.loop-row.records.items (g.M.WordMemory.words c.loop-row.memory) c.loop-row.invariant (omega arith)

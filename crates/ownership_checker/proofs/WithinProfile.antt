@@ -1,0 +1,79 @@
+-- Worked verdicts within the profile: rows that are outside are refused as such, and a row that is refused before them comes first
+use Rattle.std.specs.Prelude.{◌≡◌, ℕ, List, [], ◌∷◌, Option, Some, None, refl}
+use Rattle.trb.specs.declared.block.Block.{Block}
+use Rattle.trb.specs.declared.ring_kind.RingKind.TheVariants.{Cmd, Evt, Xfer}
+use Rattle.contexts.specs.declared.size.ContextSize.TheVariants.{Bytes32}
+use Rattle.trace_reader.specs.declared.header.Header.{Header}
+use Rattle.trace_reader.specs.declared.register.Register.TheVariants.{Usbcmd}
+use Rattle.trace_reader.specs.declared.row.Row.{Row}
+use Rattle.trace_reader.specs.declared.row.Row.TheVariants.{Sub, Write, Reg, Bell}
+use Rattle.ring_knowledge.specs.Known.{nothing}
+use Rattle.ownership_checker.specs.declared.refusal.Refusal.{Refusal}
+use Rattle.ownership_checker.specs.declared.refusal.Refusal.TheVariants.{WriteToOwned, NotDeclared, NotInProfile}
+use Rattle.ownership_checker.specs.Rules.{verdict_from}
+use Rattle.ownership_checker.specs.Profile.{verdict_within}
+use Rattle.ownership_checker.specs.OnLiterals.{rules_on_literals}
+
+-- the command ring 0, the event ring 1 and the transfer ring 2
+abbrev three_rings : Header
+three_rings = record {
+  context_size = Bytes32;
+  rings =
+      record { id = 0; shape = record { kind = Cmd; segments = record { base = 0x10000; count = 4 } ∷ [] } }
+      ∷ record { id = 1; shape = record { kind = Evt; segments = record { base = 0x20000; count = 16 } ∷ [] } }
+      ∷ record { id = 2; shape = record { kind = Xfer; segments = record { base = 0x30000; count = 4 } ∷ [] } } ∷ [];
+}
+
+-- a No Op with an interrupt, as a block of a transfer ring, and a No Op command
+abbrev no_op : Block
+no_op = record { w = 0 ∷ 0 ∷ 0 ∷ 0x2020 ∷ [] }
+
+abbrev no_op_command : Block
+no_op_command = record { w = 0 ∷ 0 ∷ 0 ∷ 0x5c00 ∷ [] }
+
+-- the first row is line 6
+abbrev within : List Row → Option (ℕ × Refusal)
+within rows = verdict_within three_rings nothing 6 rows
+
+abbrev full : List Row → Option (ℕ × Refusal)
+full rows = verdict_from three_rings nothing 6 rows
+
+pub given_block : within (Sub 2 (no_op ∷ []) ∷ Write 0x3000c 0x2021 ∷ []) ≡ None
+unfolding rules_on_literals
+given_block = refl
+
+pub register : within (Sub 2 (no_op ∷ []) ∷ Reg Usbcmd 2 ∷ []) ≡ Some (7, NotInProfile)
+unfolding rules_on_literals
+register = refl
+
+-- of all rules the reset breaks none
+pub reset_breaks_nothing : full (Sub 2 (no_op ∷ []) ∷ Reg Usbcmd 2 ∷ []) ≡ None
+unfolding rules_on_literals
+reset_breaks_nothing = refl
+
+pub doorbell : within (Bell 0 0 ∷ []) ≡ Some (6, NotInProfile)
+unfolding rules_on_literals
+doorbell = refl
+
+pub command : within (Sub 0 (no_op_command ∷ []) ∷ []) ≡ Some (6, NotInProfile)
+unfolding rules_on_literals
+command = refl
+
+-- a declaration that names no ring, or the event ring, breaks the rule that it breaks
+pub unknown_ring : within (Sub 3 (no_op ∷ []) ∷ []) ≡ Some (6, NotDeclared)
+unfolding rules_on_literals
+unknown_ring = refl
+
+pub declared_on_events : within (Sub 1 (no_op ∷ []) ∷ []) ≡ Some (6, NotDeclared)
+unfolding rules_on_literals
+declared_on_events = refl
+
+-- an event segment is the controller's from the first row on
+pub event_segment : within (Write 0x20000 0 ∷ []) ≡ Some (6, WriteToOwned)
+unfolding rules_on_literals
+event_segment = refl
+
+-- the first refused row is told
+pub refused_before : within (Write 0x1000c 0x5c01 ∷ Reg Usbcmd 2 ∷ []) ≡ Some (6, NotDeclared)
+unfolding rules_on_literals
+refused_before = refl
