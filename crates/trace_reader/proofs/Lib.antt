@@ -23,3 +23,4 @@ pub mod PlanSteps
 pub mod EventLines
 pub mod SpelledSchedules
 pub mod ScheduleSteps
+pub mod Examples

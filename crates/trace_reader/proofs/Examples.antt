@@ -1,0 +1,117 @@
+-- Texts that are read and printed, on literals
+use Rattle.std.specs.Prelude.{◌≡◌, ℕ, ⊤, List, [], ◌∷◌, ◌++◌, Result, Ok, Err, codes, refl}
+use Rattle.hex.proofs.OnLiterals.{hex_on_literals}
+use Rattle.contexts.specs.declared.size.ContextSize.TheVariants.{Bytes32, Bytes64}
+use Rattle.trb.specs.declared.ring_kind.RingKind.TheVariants.{Cmd, Xfer}
+use Rattle.line_text.specs.Lines.{lines_of}
+use Rattle.line_text.specs.Fields.{fields_of}
+use Rattle.line_text.specs.Numbers.{number_of, digits_of}
+use Rattle.trace_reader.specs.declared.fault.LineFault.{LineFault}
+use Rattle.trace_reader.specs.declared.fault.LineFault.TheVariants.{Header as BadHeader, Row as BadRow, Number, Shape}
+use Rattle.trace_reader.specs.declared.register.Register.TheVariants.{Usbcmd, Crcr}
+use Rattle.trace_reader.specs.declared.ring.Ring.{Ring}
+use Rattle.trace_reader.specs.declared.row.Row.{Row}
+use Rattle.trace_reader.specs.declared.row.Row.TheVariants.{Sub, Write, Reg, Bell, Read}
+use Rattle.trace_reader.specs.Forms.{form_of, kind_named, register_named}
+use Rattle.trace_reader.specs.Values.{block_of, blocks_of, register_value_of, said_of, segment_of, segments_of, word_address_of}
+use Rattle.trace_reader.specs.Reading.{TraceText, after, form_in, is_bad_number, is_bad_row, is_bad_shape, is_past_limit, is_too_long, is_version, line_fault, read_line, read_lines, row_fault, said_in, size_of, trace_of}
+use Rattle.trace_reader.specs.Spelling.{printed_line, printed_trace, ring_fields, row_fields, trace_lines}
+
+unfoldable texts_on_literals : ⊤
+unfolding trace_of read_lines read_line line_fault row_fault after lines_of fields_of number_of hex_on_literals form_of kind_named register_named block_of blocks_of register_value_of said_of segment_of segments_of word_address_of form_in is_bad_number is_bad_row is_bad_shape is_past_limit is_too_long is_version said_in size_of printed_trace trace_lines printed_line row_fields ring_fields digits_of
+texts_on_literals = tt
+
+-- what is read behind the header of one transfer ring
+abbrev behind_header : List ℕ → Result TraceText (ℕ × LineFault)
+behind_header text = trace_of (codes "xtrace 1\nctx 20\nring 02 xfer 0000000000030000:0004\n" ++ text)
+
+abbrev ring_2 : Ring
+ring_2 = record { id = 2; shape = record { kind = Xfer; segments = record { base = 0x30000; count = 4 } ∷ [] } }
+
+-- a trace of that header with these rows
+abbrev with_rows : List Row → TraceText
+with_rows rows = record { header = record { context_size = Bytes32; rings = ring_2 ∷ [] }; first = 4; rows = rows }
+
+pub no_rows : behind_header [] ≡ Ok (with_rows [])
+unfolding texts_on_literals
+no_rows = refl
+
+pub a_declaration : behind_header (codes "sub 02 00000000 00000000 00000000 00002020\n") ≡ Ok (with_rows (Sub 2 (record { w = 0 ∷ 0 ∷ 0 ∷ 0x2020 ∷ [] } ∷ []) ∷ []))
+unfolding texts_on_literals
+a_declaration = refl
+
+pub a_write_in_upper_case : behind_header (codes "w 000000000003000C 0000AbCd\n") ≡ Ok (with_rows (Write 0x3000c 0xabcd ∷ []))
+unfolding texts_on_literals
+a_write_in_upper_case = refl
+
+pub registers : behind_header (codes "reg usbcmd 0000000000000001\nreg crcr 0000000100010001\n") ≡ Ok (with_rows (Reg Usbcmd 1 ∷ Reg Crcr 0x100010001 ∷ []))
+unfolding texts_on_literals
+registers = refl
+
+pub a_doorbell : behind_header (codes "db 01 1f\n") ≡ Ok (with_rows (Bell 1 31 ∷ []))
+unfolding texts_on_literals
+a_doorbell = refl
+
+pub an_event : behind_header (codes "ev 00030000 00000000 01000000 01018001\n") ≡ Ok (with_rows (Read (record { w = 0x30000 ∷ 0 ∷ 0x1000000 ∷ 0x1018001 ∷ [] }) ∷ []))
+unfolding texts_on_literals
+an_event = refl
+
+pub no_text : trace_of [] ≡ Err (1, BadHeader)
+unfolding texts_on_literals
+no_text = refl
+
+pub one_line : trace_of (codes "xtrace 1\n") ≡ Err (2, BadHeader)
+unfolding texts_on_literals
+one_line = refl
+
+pub no_line_feed : behind_header (codes "db 01 01") ≡ Err (4, BadRow)
+unfolding texts_on_literals
+no_line_feed = refl
+
+pub two_spaces : behind_header (codes "db 01  01\n") ≡ Err (4, BadRow)
+unfolding texts_on_literals
+two_spaces = refl
+
+pub upper_case_word : behind_header (codes "DB 01 01\n") ≡ Err (4, BadRow)
+unfolding texts_on_literals
+upper_case_word = refl
+
+pub unknown_register : behind_header (codes "reg ersts 0000000000000001\n") ≡ Err (4, BadRow)
+unfolding texts_on_literals
+unknown_register = refl
+
+pub short_number : behind_header (codes "db 1 01\n") ≡ Err (4, Number)
+unfolding texts_on_literals
+short_number = refl
+
+pub unaligned_address : behind_header (codes "w 000000000003000e 00000000\n") ≡ Err (4, Number)
+unfolding texts_on_literals
+unaligned_address = refl
+
+pub wide_value : behind_header (codes "reg usbcmd 0000000100000000\n") ≡ Err (4, Number)
+unfolding texts_on_literals
+wide_value = refl
+
+pub ring_behind_a_row : behind_header (codes "db 01 01\nring 03 xfer 0000000000040000:000\n") ≡ Err (5, BadRow)
+unfolding texts_on_literals
+ring_behind_a_row = refl
+
+pub number_before_shape : behind_header (codes "ring 02 xfer 0000000000040000:000\n") ≡ Err (4, Number)
+unfolding texts_on_literals
+number_before_shape = refl
+
+pub id_in_use : behind_header (codes "ring 02 xfer 0000000000040000:0004\n") ≡ Err (4, Shape)
+unfolding texts_on_literals
+id_in_use = refl
+
+pub rings_overlap : behind_header (codes "ring 03 cmd 0000000000030000:0004\n") ≡ Err (4, Shape)
+unfolding texts_on_literals
+rings_overlap = refl
+
+pub the_first_bad_line : behind_header (codes "db 1 01\ndb\n") ≡ Err (4, Number)
+unfolding texts_on_literals
+the_first_bad_line = refl
+
+pub printed : printed_trace (with_rows (Write 0x3000c 0xabcd ∷ Bell 1 31 ∷ [])) ≡ codes "xtrace 1\nctx 20\nring 02 xfer 0000000000030000:0004\nw 000000000003000c 0000abcd\ndb 01 1f\n"
+unfolding texts_on_literals
+printed = refl
