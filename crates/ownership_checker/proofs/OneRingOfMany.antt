@@ -394,10 +394,14 @@ module _ (h : Header) (headed : IsHeader h) where
             none_some : Some NotDeclared ≡ None → ⊥
             none_some e = cc
         by (Some r) found =
-            let there = find_some (λ q. q.id == id) h.rings r found in
-            (r, there.0, eqb-true r.id id there.1, kind_of r.shape.kind
-            (λ e. declared_kind r found e)
-            (sym (ap (λ o. is_command_kind (shape_or Xfer o).kind) found) ∙ inside))
+            let there = find_some (λ q. q.id == id) h.rings r found in (
+              r,
+              there.0,
+              eqb-true r.id id there.1,
+              kind_of r.shape.kind
+                  (λ e. declared_kind r found e)
+                  (sym (ap (λ o. is_command_kind (shape_or Xfer o).kind) found) ∙ inside),
+            )
           where
             declared_kind : (r : Ring) → ring_with h id ≡ Some r → is_event_kind r.shape.kind ≡ true → ⊥
             declared_kind r found e = none_some (sym (declared_answer h k id blocks calm ∙ rw (found, e) refl) ∙ clean)

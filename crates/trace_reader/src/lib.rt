@@ -26,7 +26,7 @@ pub use fault::{LineFault, ReadFault};
 pub use header::{Header, Rings};
 pub use plan::{Plan, PlanLine, PlanLines};
 pub use plans::read_plan;
-pub use print::{print_trace, push_ring, push_row, push_sub, push_write};
+pub use print::{print_trace, with_ring, with_sub, with_write};
 pub use read::read_trace;
 pub use register::Register;
 pub use ring::Ring;

@@ -29,6 +29,33 @@ pub fn print_trace(alloc: Global, trace: &Trace) -> Result<Vec<u8>, AllocError>
     Ok(out)
 }
 
+/// A text with the line of a ring behind it.
+pub fn with_ring(text: Vec<u8>, ring: &Ring) -> Result<Vec<u8>, AllocError>
+    ensures { IfOk result (λ longer. longer.items ≡ text.items ++ printed_line (ring_fields ring.now)) }
+{
+    let mut longer = text;
+    push_ring(&mut longer, ring)?;
+    Ok(longer)
+}
+
+/// A text with the line of a declaration behind it.
+pub fn with_sub(text: Vec<u8>, ring: u8, blocks: &[Block]) -> Result<Vec<u8>, AllocError>
+    ensures { IfOk result (λ longer. longer.items ≡ text.items ++ printed_line (row_fields (Sub ring blocks.now))) }
+{
+    let mut longer = text;
+    push_sub(&mut longer, ring, blocks)?;
+    Ok(longer)
+}
+
+/// A text with the line of a write behind it.
+pub fn with_write(text: Vec<u8>, at: Addr, word: u32) -> Result<Vec<u8>, AllocError>
+    ensures { IfOk result (λ longer. longer.items ≡ text.items ++ printed_line (row_fields (Write at word))) }
+{
+    let mut longer = text;
+    push_write(&mut longer, at, word)?;
+    Ok(longer)
+}
+
 /// Appends the lines before the rows.
 fn push_header(out: &mut Vec<u8>, header: &Header) -> Result<(), AllocError>
     ensures { OnOk result (out.new.items ≡ out.old.items ++ printed_line version_fields ++ printed_line (size_fields header.now.context_size) ++ flat_map printed_line (map ring_fields header.now.rings)) }
@@ -68,7 +95,7 @@ fn push_rows(out: &mut Vec<u8>, rows: &[Row]) -> Result<(), AllocError>
 
 /// Appends the line of a ring.
 #[tactic(auto, using(crate::proofs::LinePieces::line_of))]
-pub fn push_ring(out: &mut Vec<u8>, ring: &Ring) -> Result<(), AllocError>
+fn push_ring(out: &mut Vec<u8>, ring: &Ring) -> Result<(), AllocError>
     ensures { OnOk result (out.new.items ≡ out.old.items ++ printed_line (ring_fields ring.now)) }
 {
     push_ring_fields(out, ring)?;
@@ -89,7 +116,7 @@ fn push_ring_fields(out: &mut Vec<u8>, ring: &Ring) -> Result<(), AllocError>
 }
 
 /// Appends the line of a row.
-pub fn push_row(out: &mut Vec<u8>, row: &Row) -> Result<(), AllocError>
+fn push_row(out: &mut Vec<u8>, row: &Row) -> Result<(), AllocError>
     ensures { OnOk result (out.new.items ≡ out.old.items ++ printed_line (row_fields row.now)) }
 {
     push_row_fields(out, row)?;
@@ -98,7 +125,7 @@ pub fn push_row(out: &mut Vec<u8>, row: &Row) -> Result<(), AllocError>
 }
 
 /// Appends the line of a declaration.
-pub fn push_sub(out: &mut Vec<u8>, ring: u8, blocks: &[Block]) -> Result<(), AllocError>
+fn push_sub(out: &mut Vec<u8>, ring: u8, blocks: &[Block]) -> Result<(), AllocError>
     ensures { OnOk result (out.new.items ≡ out.old.items ++ printed_line (row_fields (Sub ring blocks.now))) }
 {
     push_sub_fields(out, ring, blocks)?;
@@ -107,7 +134,7 @@ pub fn push_sub(out: &mut Vec<u8>, ring: u8, blocks: &[Block]) -> Result<(), All
 }
 
 /// Appends the line of a write.
-pub fn push_write(out: &mut Vec<u8>, at: Addr, word: u32) -> Result<(), AllocError>
+fn push_write(out: &mut Vec<u8>, at: Addr, word: u32) -> Result<(), AllocError>
     ensures { OnOk result (out.new.items ≡ out.old.items ++ printed_line (row_fields (Write at word))) }
 {
     push_write_fields(out, at, word)?;

@@ -10,38 +10,41 @@ use super::fault::{LineStop, PlanFault, PlanRefusal};
 use cycle_ring::Producer;
 use guest_memory::Addr;
 use std::alloc::{AllocError, Global};
-use trace_reader::{Plan, PlanLine, push_ring, push_sub, push_write};
+use trace_reader::{Plan, PlanLine, with_ring, with_sub, with_write};
 use trb::Block;
 
-/// Appends the lines before a ring's: the version, and contexts of 32 bytes.
-fn push_head(out: &mut Vec<u8>) -> Result<(), AllocError>
-    ensures { OnOk result (out.new.items ≡ out.old.items ++ head_text) }
+/// The lines before a ring's: the version, and contexts of 32 bytes.
+fn head(alloc: Global) -> Result<Vec<u8>, AllocError>
+    ensures { IfOk result (λ text. text.items ≡ head_text) }
 {
-    out.extend_from_slice(b"xtrace 1\nctx 20\n")
+    let mut text = Vec::new(alloc);
+    text.extend_from_slice(b"xtrace 1\nctx 20\n")?;
+    Ok(text)
 }
 
-/// Appends `w` rows, one after another.
-fn push_writes(out: &mut Vec<u8>, writes: &[(Addr, u32)]) -> Result<(), AllocError>
-    ensures { OnOk result (out.new.items ≡ out.old.items ++ rows_text (map write_row writes.now)) }
+/// A text with `w` rows behind it.
+fn with_writes(text: Vec<u8>, writes: &[(Addr, u32)]) -> Result<Vec<u8>, AllocError>
+    ensures { IfOk result (λ longer. longer.items ≡ text.items ++ rows_text (map write_row writes.now)) }
 {
+    let mut longer = text;
     for (at, word) in writes {
-        push_write(out, *at, *word)?;
+        longer = with_write(longer, *at, *word)?;
     }
-    Ok(())
+    Ok(longer)
 }
 
-/// Follows a `sub` line: the declaration is printed, and the words that the producer writes for it. `writes` is room
-/// that is used again.
+/// Follows a `sub` line: behind the text stands the declaration, and then the words that the producer writes for it.
+/// `writes` is room that is used again.
 fn print_sub(
     id: u8,
     producer: &mut Producer,
     writes: &mut Vec<(Addr, u32)>,
-    out: &mut Vec<u8>,
+    text: Vec<u8>,
     ring: u8,
     blocks: &[Block],
-) -> Result<(), LineStop>
+) -> Result<Vec<u8>, LineStop>
     ensures allowed { OnOk result (refusal_of id producer.old (Sub ring blocks.now) ≡ None) }
-    ensures text { OnOk result (out.new.items ≡ out.old.items ++ rows_text (rows_of producer.old (Sub ring blocks.now))) }
+    ensures text { IfOk result (λ longer. longer.items ≡ text.items ++ rows_text (rows_of producer.old (Sub ring blocks.now))) }
     ensures progress { OnOk result (producer.new ≡ progress_after producer.old (Sub ring blocks.now)) }
     ensures refused { IfErr result (λ e. IfStopped e (λ r. refusal_of id producer.old (Sub ring blocks.now) ≡ Some r)) }
 {
@@ -50,9 +53,8 @@ fn print_sub(
     }
     writes.clear();
     producer.enqueue(blocks, writes)?;
-    push_sub(out, ring, blocks)?;
-    push_writes(out, writes.as_slice())?;
-    Ok(())
+    let declared = with_sub(text, ring, blocks)?;
+    Ok(with_writes(declared, writes.as_slice())?)
 }
 
 /// Follows a line.
@@ -60,19 +62,22 @@ fn print_line(
     id: u8,
     producer: &mut Producer,
     writes: &mut Vec<(Addr, u32)>,
-    out: &mut Vec<u8>,
+    text: Vec<u8>,
     line: &PlanLine,
-) -> Result<(), LineStop>
+) -> Result<Vec<u8>, LineStop>
     ensures allowed { OnOk result (refusal_of id producer.old line.now ≡ None) }
-    ensures text { OnOk result (out.new.items ≡ out.old.items ++ rows_text (rows_of producer.old line.now)) }
+    ensures text { IfOk result (λ longer. longer.items ≡ text.items ++ rows_text (rows_of producer.old line.now)) }
     ensures progress { OnOk result (producer.new ≡ progress_after producer.old line.now) }
     ensures refused { IfErr result (λ e. IfStopped e (λ r. refusal_of id producer.old line.now ≡ Some r)) }
 {
     match line {
         PlanLine::Sub { ring, blocks } => {
-            print_sub(id, producer, writes, out, *ring, blocks.as_slice())
+            print_sub(id, producer, writes, text, *ring, blocks.as_slice())
         }
-        PlanLine::Ret { upto } => Ok(producer.retire(*upto)?),
+        PlanLine::Ret { upto } => {
+            producer.retire(*upto)?;
+            Ok(text)
+        }
     }
 }
 
@@ -81,28 +86,30 @@ fn print_lines(
     alloc: Global,
     id: u8,
     producer: &mut Producer,
-    out: &mut Vec<u8>,
+    text: Vec<u8>,
     lines: &[PlanLine],
-) -> Result<(), PlanFault>
+) -> Result<Vec<u8>, PlanFault>
     requires { length lines.now + 2 ≤ most_lines }
-    ensures printed { OnOk result (out.new.items ≡ out.old.items ++ rows_text (rows_from producer.old lines.now)) }
+    ensures printed { IfOk result (λ longer. longer.items ≡ text.items ++ rows_text (rows_from producer.old lines.now)) }
     ensures followed { OnOk result (refusal_from id producer.old 3 lines.now ≡ None) }
     ensures refused { IfErr result (λ e. IfRefusedLine e (λ line r. refusal_from id producer.old 3 lines.now ≡ Some (line, r))) }
     ensures read { IfErr result IsNoTextFault }
 {
+    let mut longer = text;
     let mut writes = Vec::new(alloc);
     let mut number = 3;
     for line in lines {
-        match print_line(id, producer, &mut writes, out, line) {
-            Ok(()) => number += 1,
+        match print_line(id, producer, &mut writes, longer, line) {
+            Ok(printed) => longer = printed,
             Err(LineStop::Refused(refusal)) => return Err(PlanFault::Refused {
                 line: number,
                 refusal,
             }),
             Err(LineStop::Memory) => return Err(PlanFault::Memory),
         }
+        number += 1;
     }
-    Ok(())
+    Ok(longer)
 }
 
 /// The trace of a plan, or its first line that can't be followed.
@@ -113,11 +120,7 @@ pub fn print_plan(alloc: Global, plan: Plan) -> Result<Vec<u8>, PlanFault>
     ensures read { IfErr result IsNoTextFault }
 {
     let Plan { ring, lines } = plan;
-    let id = ring.id;
-    let mut out = Vec::new(alloc);
-    push_head(&mut out)?;
-    push_ring(&mut out, &ring)?;
+    let text = with_ring(head(alloc)?, &ring)?;
     let mut producer = Producer::new(ring.shape);
-    print_lines(alloc, id, &mut producer, &mut out, lines.as_slice())?;
-    Ok(out)
+    print_lines(alloc, ring.id, &mut producer, text, lines.as_slice())
 }

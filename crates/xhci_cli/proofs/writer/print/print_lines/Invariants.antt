@@ -6,5 +6,5 @@ use Rattle.xhci_cli.proofs.writer.print.print_lines.Given as goal
 abbrev pub invariant-loop-line : goal.invariant-loop-line
 invariant-loop-line l =
     (l.number ≡ 3 + l.line-index)
-    × (l.out.items ++ rows_text (rows_from l.producer (drop l.line-index l.lines)) ≡ l.initial.out.items ++ rows_text (rows_from l.initial.producer l.lines))
+    × (l.longer.items ++ rows_text (rows_from l.producer (drop l.line-index l.lines)) ≡ l.initial.longer.items ++ rows_text (rows_from l.initial.producer l.lines))
     × (refusal_from l.id l.producer l.number (drop l.line-index l.lines) ≡ refusal_from l.id l.initial.producer 3 l.lines)
