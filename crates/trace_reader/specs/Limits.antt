@@ -1,7 +1,7 @@
 -- This project's limits on the texts that are read
 use Rattle.std.specs.Prelude.{ℕ}
 
--- lines of a text
+-- lines of a trace or a plan
 abbrev pub most_lines : ℕ
 most_lines = 1048576
 

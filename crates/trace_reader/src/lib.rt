@@ -1,4 +1,4 @@
-//! What a trace and a schedule say: rings, rows and steps.
+//! Traces, plans and schedules: what they say, and their texts, read and printed exactly.
 #![tactic(auto)]
 
 mod entry;

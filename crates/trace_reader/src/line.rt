@@ -10,7 +10,7 @@ use contexts::ContextSize;
 use line_text::{Fields, Line, Survey};
 use std::alloc::Global;
 
-/// Lines of a text.
+/// Lines of a trace or a plan.
 pub const MOST_LINES: u32 = 1048576;
 
 /// Lines of a schedule.
