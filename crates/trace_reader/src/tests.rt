@@ -236,18 +236,10 @@ fn reads_lines_of_16384_bytes(rt: HostRuntime) -> Result<(), Fail> {
     Ok(())
 }
 
-/// What a beginning of a trace's text answers, where each whole line of the text is a good one.
-fn fault_of_beginning(piece: &[u8]) -> Option<ReadFault> {
+/// The number of the line that a beginning of a text ends in.
+fn last_line(piece: &[u8]) -> u32 {
     let ended = piece.iter().filter(|byte| **byte == b'\n').count();
-    let ended = u32::try_from(ended).unwrap_or(u32::MAX);
-    let next = ended.saturating_add(1);
-    if ended < 2 {
-        bad(next, LineFault::Header)
-    } else if !piece.ends_with(b"\n") {
-        bad(next, LineFault::Row)
-    } else {
-        None
-    }
+    u32::try_from(ended).unwrap_or(u32::MAX).saturating_add(1)
 }
 
 #[test]
@@ -255,7 +247,51 @@ fn answers_each_beginning_of_a_trace(rt: HostRuntime) -> Result<(), Fail> {
     let text = TRACE.as_bytes();
     for end in 0..text.len() {
         let piece = &text[..end];
-        assert_eq!(rt; trace_fault(&rt, piece), fault_of_beginning(piece));
+        let line = last_line(piece);
+        let wanted = if line <= 2 {
+            bad(line, LineFault::Header)
+        } else if !piece.ends_with(b"\n") {
+            bad(line, LineFault::Row)
+        } else {
+            None
+        };
+        assert_eq!(rt; trace_fault(&rt, piece), wanted);
+    }
+    Ok(())
+}
+
+#[test]
+fn answers_each_beginning_of_a_plan(rt: HostRuntime) -> Result<(), Fail> {
+    let text = PLAN.as_bytes();
+    for end in 0..text.len() {
+        let piece = &text[..end];
+        let line = last_line(piece);
+        let wanted = if line == 1 {
+            bad(line, LineFault::Header)
+        } else if line == 2 || !piece.ends_with(b"\n") {
+            bad(line, LineFault::Row)
+        } else {
+            None
+        };
+        assert_eq!(rt; plan_fault(&rt, piece), wanted);
+    }
+    Ok(())
+}
+
+#[test]
+fn answers_each_beginning_of_a_schedule(rt: HostRuntime) -> Result<(), Fail> {
+    let text = SCHEDULE.as_bytes();
+    for end in 0..text.len() {
+        let piece = &text[..end];
+        let line = last_line(piece);
+        let wanted = if line == 1 {
+            bad(line, LineFault::Header)
+        } else if !piece.ends_with(b"\n") {
+            bad(line, LineFault::Row)
+        } else {
+            None
+        };
+        assert_eq!(rt; schedule_fault(&rt, piece), wanted);
     }
     Ok(())
 }
