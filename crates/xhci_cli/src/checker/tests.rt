@@ -1,75 +1,28 @@
-ghost use Rattle.std.specs.Prelude.{◌≡◌, ◌≤◌, length, IfOk};
-ghost use Rattle.segments.specs.ShapeValue.{shape_of};
-
 use super::{CheckFault, check};
-use contexts::ContextSize;
-use guest_memory::Addr;
 use ownership_checker::Refusal;
-use segments::RingShape;
 use std::alloc::Global;
 use std::test::Fail;
-use trace_reader::{Header, Register, Ring, Rings, Row, Rows, Trace};
-use trb::{Block, Blocks, RingKind};
-
-fn shape(alloc: Global, kind: RingKind, segments: &[(u64, u16)]) -> Result<RingShape, Fail>
-    ensures { IfOk result (λ shape. shape ≡ shape_of kind segments.now) }
-{
-    match RingShape::new(alloc, kind, segments) {
-        Ok(shape) => Ok(shape),
-        Err(_) => Err("no such shape".into()),
-    }
-}
+use trace_reader::read_trace;
 
 /// The command ring 0, the event ring 1 of two segments, and the transfer rings 2 and 3; the rows begin at line 7.
-fn trace_of(alloc: Global, rows: Vec<Row>) -> Result<Trace, Fail>
-    requires { length rows.items ≤ 100 }
-{
-    let commands = shape(alloc, RingKind::Cmd, &[(0x10000, 4)])?;
-    let events = shape(alloc, RingKind::Evt, &[(0x20000, 16), (0x21000, 16)])?;
-    let first = shape(alloc, RingKind::Xfer, &[(0x30000, 4)])?;
-    let second = shape(alloc, RingKind::Xfer, &[(0x40000, 3), (0x41000, 3)])?;
-    let rings = vec![in alloc;
-        Ring {
-            id: 0,
-            shape: commands
-        },
-        Ring {
-            id: 1,
-            shape: events
-        },
-        Ring {
-            id: 2,
-            shape: first
-        },
-        Ring {
-            id: 3,
-            shape: second
-        },
-    ]?;
-    Ok(Trace {
-        header: Header {
-            context_size: ContextSize::Bytes32,
-            rings: Rings::new(rings),
-        },
-        first: 7,
-        rows: Rows::new(rows),
-    })
-}
+const HEAD: &str = "xtrace 1\nctx 20\n\
+ring 00 cmd 0000000000010000:0004\n\
+ring 01 evt 0000000000020000:0010 0000000000021000:0010\n\
+ring 02 xfer 0000000000030000:0004\n\
+ring 03 xfer 0000000000040000:0003 0000000000041000:0003\n";
 
-/// Declares one No Op with an interrupt.
-fn sub(alloc: Global, ring: u8) -> Result<Row, Fail> {
-    let block = Block {
-        w: [0, 0, 0, 0x2020],
-    };
-    Ok(Row::Sub {
-        ring,
-        blocks: Blocks::new(vec![in alloc; block]?),
-    })
-}
+/// Declares one No Op with an interrupt on ring 2, and on ring 3.
+const ON_2: &str = "sub 02 00000000 00000000 00000000 00002020\n";
 
-fn write(at: u64, word: u32) -> Result<Row, Fail> {
-    let at = Addr::new(at).ok_or("no address of a word")?;
-    Ok(Row::Write { at, word })
+const ON_3: &str = "sub 03 00000000 00000000 00000000 00002020\n";
+
+/// What is answered to the trace with these rows.
+fn answer_to(alloc: Global, rows: &str) -> Result<Result<u64, CheckFault>, Fail> {
+    let text = format!(in alloc; "{HEAD}{rows}")?;
+    match read_trace(alloc, text.as_bytes()) {
+        Ok(trace) => Ok(check(alloc, &trace)),
+        Err(_) => Err("no trace".into()),
+    }
 }
 
 fn refused(row: u32, refusal: Refusal) -> Result<u64, CheckFault> {
@@ -79,37 +32,29 @@ fn refused(row: u32, refusal: Refusal) -> Result<u64, CheckFault> {
 #[test]
 fn follows_two_transfer_rings(rt: HostRuntime) -> Result<(), Fail> {
     let alloc = rt.alloc();
-    let rows = vec![in alloc;
-        sub(alloc, 3)?,
-        sub(alloc, 2)?,
-        sub(alloc, 3)?,
-        write(0x4000c, 0x2021)?,
-        write(0x3000c, 0x2021)?,
-        write(0x4001c, 0x2021)?,
-    ]?;
-    let trace = trace_of(alloc, rows)?;
+    let rows = format!(in alloc;
+        "{ON_3}{ON_2}{ON_3}w 000000000004000c 00002021\nw 000000000003000c 00002021\nw 000000000004001c 00002021\n"
+    )?;
     // Two leases of event segments, and three of blocks.
-    assert_eq!(rt; check(alloc, &trace), Ok(5));
+    assert_eq!(rt; answer_to(alloc, &rows)?, Ok(5));
     Ok(())
 }
 
 #[test]
 fn each_ring_has_declarations_of_its_own(rt: HostRuntime) -> Result<(), Fail> {
     let alloc = rt.alloc();
-    let rows = vec![in alloc; sub(alloc, 2)?, write(0x4000c, 0x2021)?]?;
-    let trace = trace_of(alloc, rows)?;
-    assert_eq!(rt; check(alloc, &trace), refused(8, Refusal::NotDeclared));
+    let rows = format!(in alloc; "{ON_2}w 000000000004000c 00002021\n")?;
+    assert_eq!(rt; answer_to(alloc, &rows)?, refused(8, Refusal::NotDeclared));
     Ok(())
 }
 
 #[test]
 fn nobody_writes_event_segments(rt: HostRuntime) -> Result<(), Fail> {
     let alloc = rt.alloc();
-    for at in [0x20000, 0x210fc] {
-        let rows = vec![in alloc; write(0x22000, 1)?, write(at, 0)?]?;
-        let trace = trace_of(alloc, rows)?;
+    for at in ["0000000000020000", "00000000000210fc"] {
+        let rows = format!(in alloc; "w 0000000000022000 00000001\nw {at} 00000000\n")?;
         assert_eq!(rt;
-            check(alloc, &trace),
+            answer_to(alloc, &rows)?,
             refused(8, Refusal::WriteToOwned),
             "{at}"
         );
@@ -119,14 +64,12 @@ fn nobody_writes_event_segments(rt: HostRuntime) -> Result<(), Fail> {
 
 #[test]
 fn gives_links_of_the_command_ring(rt: HostRuntime) -> Result<(), Fail> {
-    let alloc = rt.alloc();
-    let rows = vec![in alloc;
-        write(0x10030, 0x10000)?,
-        write(0x1003c, 0x1803)?,
-        write(0x1003c, 0x1803)?,
-    ]?;
-    let trace = trace_of(alloc, rows)?;
-    assert_eq!(rt; check(alloc, &trace), refused(9, Refusal::WriteToOwned));
+    let rows =
+        "w 0000000000010030 00010000\nw 000000000001003c 00001803\nw 000000000001003c 00001803\n";
+    assert_eq!(rt;
+        answer_to(rt.alloc(), rows)?,
+        refused(9, Refusal::WriteToOwned)
+    );
     Ok(())
 }
 
@@ -134,14 +77,13 @@ fn gives_links_of_the_command_ring(rt: HostRuntime) -> Result<(), Fail> {
 fn declarations_need_a_transfer_ring(rt: HostRuntime) -> Result<(), Fail> {
     let alloc = rt.alloc();
     let cases = [
-        (0, Refusal::NotInProfile),
-        (1, Refusal::NotDeclared),
-        (4, Refusal::NotDeclared),
+        ("00", Refusal::NotInProfile),
+        ("01", Refusal::NotDeclared),
+        ("04", Refusal::NotDeclared),
     ];
     for (ring, refusal) in cases {
-        let rows = vec![in alloc; sub(alloc, 2)?, sub(alloc, ring)?]?;
-        let trace = trace_of(alloc, rows)?;
-        assert_eq!(rt; check(alloc, &trace), refused(8, refusal), "{ring}");
+        let rows = format!(in alloc; "{ON_2}sub {ring} 00000000 00000000 00000000 00002020\n")?;
+        assert_eq!(rt; answer_to(alloc, &rows)?, refused(8, refusal), "{ring}");
     }
     Ok(())
 }
@@ -149,30 +91,28 @@ fn declarations_need_a_transfer_ring(rt: HostRuntime) -> Result<(), Fail> {
 #[test]
 fn rows_outside_the_profile_are_refused(rt: HostRuntime) -> Result<(), Fail> {
     let alloc = rt.alloc();
-    let start = Row::Reg {
-        register: Register::Usbcmd,
-        value: 1,
-    };
-    let bell = Row::Bell { slot: 0, target: 0 };
-    let event = Row::Read {
-        event: Block { w: [0, 0, 0, 0] },
-    };
-    for row in vec![in alloc; start, bell, event]? {
-        let trace = trace_of(alloc, vec![in alloc; sub(alloc, 2)?, row]?)?;
-        assert_eq!(rt; check(alloc, &trace), refused(8, Refusal::NotInProfile));
+    let cases = [
+        "reg usbcmd 0000000000000001",
+        "db 00 00",
+        "ev 00000000 00000000 00000000 00000000",
+    ];
+    for row in cases {
+        let rows = format!(in alloc; "{ON_2}{row}\n")?;
+        assert_eq!(rt;
+            answer_to(alloc, &rows)?,
+            refused(8, Refusal::NotInProfile),
+            "{row}"
+        );
     }
     Ok(())
 }
 
 #[test]
 fn a_row_refused_before_comes_first(rt: HostRuntime) -> Result<(), Fail> {
-    let alloc = rt.alloc();
-    let start = Row::Reg {
-        register: Register::Usbcmd,
-        value: 1,
-    };
-    let rows = vec![in alloc; write(0x4000c, 0x2021)?, start]?;
-    let trace = trace_of(alloc, rows)?;
-    assert_eq!(rt; check(alloc, &trace), refused(7, Refusal::NotDeclared));
+    let rows = "w 000000000004000c 00002021\nreg usbcmd 0000000000000001\n";
+    assert_eq!(rt;
+        answer_to(rt.alloc(), rows)?,
+        refused(7, Refusal::NotDeclared)
+    );
     Ok(())
 }
