@@ -8,9 +8,9 @@ use Rattle.commands.specs.declared.state.EndpointState.{EndpointState}
 use Rattle.commands.specs.declared.state.EndpointState.TheVariants.{Disabled as Off, Running, Stopped}
 use Rattle.commands.specs.States.{slot_success}
 use Rattle.contexts.specs.Contexts.{input_drop_flag, input_add_flag, input_endpoint, endpoint_cycle, endpoint_pointer}
-use Rattle.trace_reader.specs.declared.header.Header.{Header}
-use Rattle.trace_reader.specs.declared.register.Register.TheVariants.{Config}
-use Rattle.trace_reader.specs.Header.{ring_having}
+use Rattle.traces.specs.declared.header.Header.{Header}
+use Rattle.traces.specs.declared.register.Register.TheVariants.{Config}
+use Rattle.traces.specs.Header.{ring_having}
 use Rattle.world_state.specs.World.{World, Placed}
 use Rattle.world_state.specs.Takes.{takes_of}
 use Rattle.controller_model.specs.DriverRows as driver

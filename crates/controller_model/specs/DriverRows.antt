@@ -6,13 +6,13 @@ use Rattle.trb.specs.Block.{same_words}
 use Rattle.commands.specs.declared.state.EndpointState.TheVariants.{Running}
 use Rattle.commands.specs.States.{is_running, is_stopped}
 use Rattle.event_ring.specs.EventRing.{position_from, erdp_address, is_event_place}
-use Rattle.trace_reader.specs.declared.header.Header.{Header}
-use Rattle.trace_reader.specs.declared.row.Row.{Row}
-use Rattle.trace_reader.specs.declared.row.Row.TheVariants.{Sub, Write, Reg, Bell, Read}
-use Rattle.trace_reader.specs.declared.register.Register.{Register}
-use Rattle.trace_reader.specs.declared.register.Register.TheVariants.{Usbcmd, Crcr, Erdp}
-use Rattle.trace_reader.specs.Header.{command_id, event_shape}
-use Rattle.trace_reader.specs.Register.{same_register, run_bit, reset_bit, base_address, ring_cycle_state}
+use Rattle.traces.specs.declared.header.Header.{Header}
+use Rattle.traces.specs.declared.row.Row.{Row}
+use Rattle.traces.specs.declared.row.Row.TheVariants.{Sub, Write, Reg, Bell, Read}
+use Rattle.traces.specs.declared.register.Register.{Register}
+use Rattle.traces.specs.declared.register.Register.TheVariants.{Usbcmd, Crcr, Erdp}
+use Rattle.traces.specs.Header.{command_id, event_shape}
+use Rattle.traces.specs.Register.{same_register, run_bit, reset_bit, base_address, ring_cycle_state}
 use Rattle.world_state.specs.World.{World, stored, event_at}
 
 module _ (h : Header) where

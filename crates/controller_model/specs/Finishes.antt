@@ -10,7 +10,7 @@ use Rattle.commands.specs.declared.state.EndpointState.TheVariants.{Disabled as 
 use Rattle.commands.specs.Command.{command_of, named_slot, named_endpoint, named_context}
 use Rattle.commands.specs.States.{slot_success, endpoint_success}
 use Rattle.contexts.specs.Contexts.{input_context_bytes}
-use Rattle.trace_reader.specs.declared.header.Header.{Header}
+use Rattle.traces.specs.declared.header.Header.{Header}
 use Rattle.world_state.specs.World.{World, UnderWay}
 use Rattle.controller_model.specs.Posts as posts
 use Rattle.controller_model.specs.Bindings as bindings

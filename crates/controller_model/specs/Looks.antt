@@ -9,8 +9,8 @@ use Rattle.segments.specs.Places.{is_inside}
 use Rattle.commands.specs.declared.command.Command.{Command}
 use Rattle.commands.specs.declared.command.Command.TheVariants.{AddressDevice}
 use Rattle.commands.specs.Command.{command_of, aligned}
-use Rattle.trace_reader.specs.declared.header.Header.{Header}
-use Rattle.trace_reader.specs.Header.{command_id, shape_of}
+use Rattle.traces.specs.declared.header.Header.{Header}
+use Rattle.traces.specs.Header.{command_id, shape_of}
 use Rattle.world_state.specs.World.{World, Took, block_at}
 
 module _ (h : Header) where

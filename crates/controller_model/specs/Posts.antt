@@ -14,8 +14,8 @@ use Rattle.commands.specs.declared.state.EndpointState.{EndpointState}
 use Rattle.commands.specs.declared.state.EndpointState.TheVariants.{Halted, Error}
 use Rattle.commands.specs.States.{is_running}
 use Rattle.event_ring.specs.EventRing.{has_room}
-use Rattle.trace_reader.specs.declared.header.Header.{Header}
-use Rattle.trace_reader.specs.Header.{event_shape, event_size}
+use Rattle.traces.specs.declared.header.Header.{Header}
+use Rattle.traces.specs.Header.{event_shape, event_size}
 use Rattle.world_state.specs.World.{World, UnderWay, stored_block}
 use Rattle.world_state.specs.Takes.{unreported}
 

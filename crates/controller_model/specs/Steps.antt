@@ -3,11 +3,11 @@ use Rattle.std.specs.Prelude.{ℕ, ◌+◌, ◌&&◌, if◌then◌else◌, Bool,
 use Rattle.std.specs.List.{list_any, range_with_len}
 use Rattle.segments.specs.Places.{is_in}
 use Rattle.contexts.specs.Contexts.{device_context, device_context_bytes}
-use Rattle.trace_reader.specs.declared.header.Header.{Header}
-use Rattle.trace_reader.specs.declared.row.Row.{Row}
-use Rattle.trace_reader.specs.declared.step.Step.{Step}
-use Rattle.trace_reader.specs.declared.step.Step.TheVariants.{NextRow, Look, Report, Finish, Other, Scribble}
-use Rattle.trace_reader.specs.declared.register.Register.TheVariants.{Dcbaap}
+use Rattle.traces.specs.declared.header.Header.{Header}
+use Rattle.traces.specs.declared.row.Row.{Row}
+use Rattle.traces.specs.declared.step.Step.{Step}
+use Rattle.traces.specs.declared.step.Step.TheVariants.{NextRow, Look, Report, Finish, Other, Scribble}
+use Rattle.traces.specs.declared.register.Register.TheVariants.{Dcbaap}
 use Rattle.world_state.specs.declared.harm.Harm.{Harm}
 use Rattle.world_state.specs.World.{World, opening, stored}
 use Rattle.world_state.specs.Harms.{harm_of}

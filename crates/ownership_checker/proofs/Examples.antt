@@ -2,9 +2,9 @@
 use Rattle.std.specs.Prelude.{◌≡◌, ℕ, ◌+◌, List, [], ◌∷◌, ◌++◌, Option, Some, None, refl}
 use Rattle.trb.specs.declared.ring_kind.RingKind.TheVariants.{Xfer}
 use Rattle.contexts.specs.declared.size.ContextSize.TheVariants.{Bytes32}
-use Rattle.trace_reader.specs.declared.header.Header.{Header}
-use Rattle.trace_reader.specs.declared.row.Row.{Row}
-use Rattle.trace_reader.specs.declared.row.Row.TheVariants.{Write}
+use Rattle.traces.specs.declared.header.Header.{Header}
+use Rattle.traces.specs.declared.row.Row.{Row}
+use Rattle.traces.specs.declared.row.Row.TheVariants.{Write}
 use Rattle.ring_knowledge.specs.Known.{nothing}
 use Rattle.ownership_checker.specs.declared.refusal.Refusal.{Refusal}
 use Rattle.ownership_checker.specs.declared.refusal.Refusal.TheVariants.{WriteToOwned, LinkFault, NotInProfile}

@@ -13,11 +13,11 @@ use Rattle.segments.specs.PlaceAt.{place_at}
 use Rattle.segments.specs.OneRing.{gives, gives_crossing}
 use Rattle.segments.proofs.PlaceAtLemmas.{is_inside-place_at}
 use Rattle.segments.proofs.InsideLemmas.{touches-word}
-use Rattle.trace_reader.specs.declared.ring.Ring.{Ring}
-use Rattle.trace_reader.specs.declared.header.Header.{Header}
-use Rattle.trace_reader.specs.declared.register.Register.TheVariants.{Erstba}
-use Rattle.trace_reader.specs.declared.row.Row.TheVariants.{Sub, Write}
-use Rattle.trace_reader.specs.Header.{IsHeader, ring_with, is_driver_kind, is_command_kind, is_event_kind, shape_of, shape_or, command_id, command_ring, id_or_none, event_ring, event_shape, driver_rings}
+use Rattle.traces.specs.declared.ring.Ring.{Ring}
+use Rattle.traces.specs.declared.header.Header.{Header}
+use Rattle.traces.specs.declared.register.Register.TheVariants.{Erstba}
+use Rattle.traces.specs.declared.row.Row.TheVariants.{Sub, Write}
+use Rattle.traces.specs.Header.{IsHeader, ring_with, is_driver_kind, is_command_kind, is_event_kind, shape_of, shape_or, command_id, command_ring, id_or_none, event_ring, event_shape, driver_rings}
 use Rattle.ring_knowledge.specs.Known.{Known}
 use Rattle.ring_knowledge.specs.Rings as rings
 use Rattle.ownership_checker.specs.declared.refusal.Refusal.TheVariants.{WriteToOwned, NotDeclared}

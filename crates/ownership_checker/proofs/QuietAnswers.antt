@@ -4,8 +4,8 @@ use Rattle.std.specs.Prelude.{◌==◌, ◌&&◌, ◌||◌, not, nat_lt}
 use Rattle.trb.specs.declared.block.Block.{Block}
 use Rattle.trb.specs.declared.fault.Fault.TheVariants.{BadDescriptor as BadForm, NotInProfile as LeftOut}
 use Rattle.trb.specs.Descriptor.{fault_of, is_bad_descriptor, is_left_out}
-use Rattle.trace_reader.specs.declared.header.Header.{Header}
-use Rattle.trace_reader.specs.Header.{ring_with, is_driver_kind}
+use Rattle.traces.specs.declared.header.Header.{Header}
+use Rattle.traces.specs.Header.{ring_with, is_driver_kind}
 use Rattle.segments.specs.Places.{place_count}
 use Rattle.ring_knowledge.specs.Rings as rings
 use Rattle.trb.specs.declared.ring_kind.RingKind.TheVariants.{Xfer}
@@ -14,8 +14,8 @@ use Rattle.segments.specs.declared.place.Place.TheVariants.{Data as AtData, Link
 use Rattle.segments.specs.ShapeValue.{Shape}
 use Rattle.segments.specs.Shape.{IsShape}
 use Rattle.segments.specs.PlaceAt.{place_at}
-use Rattle.trace_reader.specs.declared.row.Row.{Row}
-use Rattle.trace_reader.specs.declared.row.Row.TheVariants.{Sub, Write}
+use Rattle.traces.specs.declared.row.Row.{Row}
+use Rattle.traces.specs.declared.row.Row.TheVariants.{Sub, Write}
 use Rattle.commands.specs.declared.command.Command.{Command}
 use Rattle.ring_knowledge.specs.Known.{Known}
 use Rattle.ownership_checker.specs.declared.refusal.Refusal.{Refusal}

@@ -10,11 +10,11 @@ use Rattle.segments.specs.ShapeValue.{Shape}
 use Rattle.trb.specs.declared.ring_kind.RingKind.{RingKind}
 use Rattle.commands.specs.declared.command.Command.{Command}
 use Rattle.guest_memory.specs.Memory.{put}
-use Rattle.trace_reader.specs.declared.ring.Ring.{Ring}
-use Rattle.trace_reader.specs.declared.header.Header.{Header}
+use Rattle.traces.specs.declared.ring.Ring.{Ring}
+use Rattle.traces.specs.declared.header.Header.{Header}
 use Rattle.trb.specs.declared.ring_kind.RingKind.TheVariants.{Evt}
-use Rattle.trace_reader.specs.Header.{is_driver_kind, is_event_kind, shape_of, shape_or, command_id, command_ring, event_shape, event_ring, driver_rings, no_shape, no_id}
-use Rattle.trace_reader.specs.declared.row.Row.TheVariants.{Sub, Write}
+use Rattle.traces.specs.Header.{is_driver_kind, is_event_kind, shape_of, shape_or, command_id, command_ring, event_shape, event_ring, driver_rings, no_shape, no_id}
+use Rattle.traces.specs.declared.row.Row.TheVariants.{Sub, Write}
 use Rattle.ring_knowledge.specs.Known.{Known, nothing}
 use Rattle.ring_knowledge.specs.Rings as rings
 use Rattle.ring_knowledge.specs.Writes as writes

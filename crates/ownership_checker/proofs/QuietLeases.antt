@@ -17,15 +17,15 @@ use Rattle.segments.specs.PlaceAt.{place_at}
 use Rattle.segments.specs.OneRing.{gives, gives_crossing}
 use Rattle.segments.proofs.PlaceAtLemmas.{place_at-Data, place_at-Link}
 use Rattle.segments.proofs.Crossings.{end_in_lap}
-use Rattle.trace_reader.specs.declared.row.Row.{Row}
-use Rattle.trace_reader.specs.declared.row.Row.TheVariants.{Sub, Write}
-use Rattle.trace_reader.specs.Header.{is_driver_kind, shape_of, event_shape}
+use Rattle.traces.specs.declared.row.Row.{Row}
+use Rattle.traces.specs.declared.row.Row.TheVariants.{Sub, Write}
+use Rattle.traces.specs.Header.{is_driver_kind, shape_of, event_shape}
 use Rattle.ring_knowledge.specs.declared.lease.Lease.{Lease}
 use Rattle.ring_knowledge.specs.Known.{Known, nothing}
 use Rattle.ring_knowledge.specs.Rings as rings
 use Rattle.ring_knowledge.specs.Writes as writes
 use Rattle.ring_knowledge.specs.Learned.{learned}
-use Rattle.trace_reader.specs.declared.header.Header.{Header}
+use Rattle.traces.specs.declared.header.Header.{Header}
 use Rattle.ownership_checker.specs.Leases as leases
 use Rattle.ownership_checker.specs.LeaseCount.{begun_count}
 use Rattle.ownership_checker.specs.Leases.{Leased, Block, Link}

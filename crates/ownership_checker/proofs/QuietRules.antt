@@ -17,10 +17,10 @@ use Rattle.segments.proofs.Positions.{address_of-first, cycle_of-first, address_
 use Rattle.segments.proofs.DataPlaces.{link_aligned}
 use Rattle.segments.proofs.PlaceAtLemmas.{place_at-data, place_at-link, place_at-Data, place_at-Link}
 use Rattle.segments.proofs.Crossings.{crosses, crossed_link, link_address_is, same_crossing, first_crossing, end_is, end_in_lap, is_crossing-from}
-use Rattle.trace_reader.specs.declared.register.Register.TheVariants.{Erstba}
+use Rattle.traces.specs.declared.register.Register.TheVariants.{Erstba}
 use Rattle.ring_knowledge.specs.Known.{Known}
 use Rattle.ring_knowledge.specs.Rings as rings
-use Rattle.trace_reader.specs.Header.{is_driver_kind}
+use Rattle.traces.specs.Header.{is_driver_kind}
 use Rattle.ownership_checker.specs.Quiet.{header_of, IsCalm, crossing_of}
 use Rattle.ownership_checker.specs.Areas as areas
 use Rattle.ownership_checker.specs.Givings as givings

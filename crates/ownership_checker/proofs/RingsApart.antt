@@ -9,9 +9,9 @@ use Rattle.segments.specs.Shape.{IsShape, is_shape}
 use Rattle.segments.specs.Places.{is_inside, touches}
 use Rattle.segments.proofs.InsideLemmas.{rings_apart}
 use Rattle.trb.specs.declared.ring_kind.RingKind.TheVariants.{Evt, Xfer}
-use Rattle.trace_reader.specs.declared.ring.Ring.{Ring}
-use Rattle.trace_reader.specs.declared.header.Header.{Header}
-use Rattle.trace_reader.specs.Header.{clash, may_stand_together, IsHeader, is_driver_kind, is_command_kind, is_event_kind, ring_with, shape_of, shape_or, id_or_none, command_ring, command_id, event_ring, event_shape}
+use Rattle.traces.specs.declared.ring.Ring.{Ring}
+use Rattle.traces.specs.declared.header.Header.{Header}
+use Rattle.traces.specs.Header.{clash, may_stand_together, IsHeader, is_driver_kind, is_command_kind, is_event_kind, ring_with, shape_of, shape_or, id_or_none, command_ring, command_id, event_ring, event_shape}
 use Rattle.ownership_checker.proofs.QuietKnowledge.{same_number}
 
 -- the ring stands in the list

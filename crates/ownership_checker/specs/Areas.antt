@@ -5,11 +5,11 @@ use Rattle.segments.specs.Places.{overlap, is_in, address_of, link_address, is_c
 use Rattle.contexts.specs.Contexts.{device_context_bytes, input_context_bytes}
 use Rattle.commands.specs.Command.{named_context}
 use Rattle.event_ring.specs.EventRing.{table_bytes}
-use Rattle.trace_reader.specs.declared.ring.Ring.{Ring}
-use Rattle.trace_reader.specs.declared.header.Header.{Header}
-use Rattle.trace_reader.specs.declared.register.Register.TheVariants.{Erstba}
-use Rattle.trace_reader.specs.Header.{touches_ring, driver_rings, event_shape}
-use Rattle.trace_reader.specs.Register.{base_address}
+use Rattle.traces.specs.declared.ring.Ring.{Ring}
+use Rattle.traces.specs.declared.header.Header.{Header}
+use Rattle.traces.specs.declared.register.Register.TheVariants.{Erstba}
+use Rattle.traces.specs.Header.{touches_ring, driver_rings, event_shape}
+use Rattle.traces.specs.Register.{base_address}
 use Rattle.ring_knowledge.specs.Known.{Known}
 use Rattle.ring_knowledge.specs.Rings as rings
 use Rattle.ring_knowledge.specs.Writes as writes

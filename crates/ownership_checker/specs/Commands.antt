@@ -7,8 +7,8 @@ use Rattle.commands.specs.declared.command.Command.TheVariants.{AddressDevice, C
 use Rattle.commands.specs.Command.{named_slot, named_endpoint, named_context}
 use Rattle.commands.specs.States.{is_disabled, is_off}
 use Rattle.contexts.specs.Contexts.{input_add_flag, input_drop_flag, input_endpoint, endpoint_type, endpoint_streams, is_isochronous, device_context_bytes, input_context_bytes}
-use Rattle.trace_reader.specs.declared.header.Header.{Header}
-use Rattle.trace_reader.specs.declared.register.Register.TheVariants.{Dcbaap}
+use Rattle.traces.specs.declared.header.Header.{Header}
+use Rattle.traces.specs.declared.register.Register.TheVariants.{Dcbaap}
 use Rattle.ring_knowledge.specs.Known.{Known}
 use Rattle.ring_knowledge.specs.Rings as rings
 use Rattle.ring_knowledge.specs.Writes as writes

@@ -2,9 +2,9 @@
 use Rattle.std.specs.Prelude.{ℕ, ◌+◌, ◌-◌, Bool, false, not, List, [], ◌∷◌, length, nat_lt, Option, Some, None}
 use Rattle.trb.specs.declared.block.Block.{Block}
 use Rattle.trb.specs.Descriptor.{is_bad_descriptor, is_left_out}
-use Rattle.trace_reader.specs.declared.header.Header.{Header}
-use Rattle.trace_reader.specs.declared.ring.Ring.{Ring}
-use Rattle.trace_reader.specs.Header.{ring_with, shape_of, is_driver_kind}
+use Rattle.traces.specs.declared.header.Header.{Header}
+use Rattle.traces.specs.declared.ring.Ring.{Ring}
+use Rattle.traces.specs.Header.{ring_with, shape_of, is_driver_kind}
 use Rattle.ring_knowledge.specs.Known.{Known}
 use Rattle.ring_knowledge.specs.Rings as rings
 use Rattle.ownership_checker.specs.Refusal.{Test}

@@ -5,7 +5,7 @@ use Rattle.commands.specs.declared.command.Command.{Command}
 use Rattle.commands.specs.declared.command.Command.TheVariants.{DisableSlot, AddressDevice, ConfigureEndpoint, ResetEndpoint, StopEndpoint, SetTrDequeue, ResetDevice}
 use Rattle.commands.specs.States.{is_running, is_stopped}
 use Rattle.contexts.specs.Contexts.{input_add_flag, input_drop_flag}
-use Rattle.trace_reader.specs.declared.header.Header.{Header}
+use Rattle.traces.specs.declared.header.Header.{Header}
 use Rattle.ring_knowledge.specs.Known.{Known}
 use Rattle.ring_knowledge.specs.Rings as rings
 use Rattle.ownership_checker.specs.Refusal.{Test}

@@ -16,9 +16,9 @@ use Rattle.commands.specs.declared.state.EndpointState.{EndpointState}
 use Rattle.commands.specs.declared.state.EndpointState.TheVariants.{Disabled as Off}
 use Rattle.commands.specs.Command.{named_slot, named_endpoint}
 use Rattle.commands.specs.States.{slot_success, endpoint_success, is_off, is_running}
-use Rattle.trace_reader.specs.declared.header.Header.{Header}
-use Rattle.trace_reader.specs.declared.register.Register.TheVariants.{Config}
-use Rattle.trace_reader.specs.Header.{shape_of, command_id, event_shape, event_size}
+use Rattle.traces.specs.declared.header.Header.{Header}
+use Rattle.traces.specs.declared.register.Register.TheVariants.{Config}
+use Rattle.traces.specs.Header.{shape_of, command_id, event_shape, event_size}
 use Rattle.ring_knowledge.specs.Known.{Known}
 use Rattle.ring_knowledge.specs.Rings as rings
 use Rattle.ring_knowledge.specs.Writes as writes

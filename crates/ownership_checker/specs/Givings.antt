@@ -9,8 +9,8 @@ use Rattle.trb.specs.Kind.{is_link}
 use Rattle.commands.specs.Command.{aligned}
 use Rattle.segments.specs.ShapeValue.{Shape}
 use Rattle.segments.specs.Places.{address_of, cycle_of, link_crossed, links, link_target, toggles}
-use Rattle.trace_reader.specs.declared.header.Header.{Header}
-use Rattle.trace_reader.specs.Header.{shape_of, driver_rings}
+use Rattle.traces.specs.declared.header.Header.{Header}
+use Rattle.traces.specs.Header.{shape_of, driver_rings}
 use Rattle.ring_knowledge.specs.Known.{Known}
 use Rattle.ring_knowledge.specs.Rings as rings
 

@@ -1,10 +1,10 @@
 -- The headline, as a law over the definitions: a clean trace is harmless beside every run of the controller model
 use Rattle.std.specs.Prelude.{◌≡◌, List, Some, All, reverse}
-use Rattle.trace_reader.specs.declared.header.Header.{Header}
-use Rattle.trace_reader.specs.declared.row.Row.{Row}
-use Rattle.trace_reader.specs.declared.step.Step.{Step}
-use Rattle.trace_reader.specs.Header.{IsHeader}
-use Rattle.trace_reader.specs.Rows.{IsRow, IsStep}
+use Rattle.traces.specs.declared.header.Header.{Header}
+use Rattle.traces.specs.declared.row.Row.{Row}
+use Rattle.traces.specs.declared.step.Step.{Step}
+use Rattle.traces.specs.Header.{IsHeader}
+use Rattle.traces.specs.Rows.{IsRow, IsStep}
 use Rattle.world_state.specs.World.{World}
 use Rattle.world_state.specs.Harms.{IsSafe}
 use Rattle.controller_model.specs.Steps.{reached}

@@ -1,9 +1,9 @@
 -- The verdict within what is checked for now: registers, doorbells, events and commands are outside
 use Rattle.std.specs.Prelude.{ℕ, ◌+◌, if◌then◌else◌, Bool, true, false, List, [], ◌∷◌, Option, None}
-use Rattle.trace_reader.specs.declared.header.Header.{Header}
-use Rattle.trace_reader.specs.declared.row.Row.{Row}
-use Rattle.trace_reader.specs.declared.row.Row.TheVariants.{Sub, Write, Reg, Bell, Read}
-use Rattle.trace_reader.specs.Header.{shape_of, is_command_kind}
+use Rattle.traces.specs.declared.header.Header.{Header}
+use Rattle.traces.specs.declared.row.Row.{Row}
+use Rattle.traces.specs.declared.row.Row.TheVariants.{Sub, Write, Reg, Bell, Read}
+use Rattle.traces.specs.Header.{shape_of, is_command_kind}
 use Rattle.ring_knowledge.specs.Known.{Known}
 use Rattle.ring_knowledge.specs.Learned.{learned}
 use Rattle.ownership_checker.specs.declared.refusal.Refusal.{Refusal}

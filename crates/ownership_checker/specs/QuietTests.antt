@@ -2,7 +2,7 @@
 use Rattle.std.specs.Prelude.{ℕ, List, [], ◌∷◌, Option, Some, None}
 use Rattle.trb.specs.declared.fault.Fault.{Fault}
 use Rattle.trb.specs.declared.fault.Fault.TheVariants.{BadDescriptor as BadForm, NotInProfile as LeftOut}
-use Rattle.trace_reader.specs.declared.header.Header.{Header}
+use Rattle.traces.specs.declared.header.Header.{Header}
 use Rattle.ring_knowledge.specs.Known.{Known}
 use Rattle.ownership_checker.specs.Refusal.{Test}
 use Rattle.ownership_checker.specs.declared.refusal.Refusal.{Refusal}

@@ -3,12 +3,12 @@ use Rattle.std.specs.Prelude.{ℕ, ◌-◌, ◌%◌, ◌^◌, ◌==◌, ◌&&◌
 use Rattle.std.specs.List.{list_any}
 use Rattle.segments.specs.Places.{address_of}
 use Rattle.event_ring.specs.EventRing.{is_reached_within, erdp_address, lists, table_bytes}
-use Rattle.trace_reader.specs.declared.header.Header.{Header}
-use Rattle.trace_reader.specs.declared.ring.Ring.{Ring}
-use Rattle.trace_reader.specs.declared.register.Register.{Register}
-use Rattle.trace_reader.specs.declared.register.Register.TheVariants.{Usbcmd, Crcr, Dcbaap, Config, Erstsz, Erstba, Erdp}
-use Rattle.trace_reader.specs.Header.{command_ring, event_ring, event_shape}
-use Rattle.trace_reader.specs.Register.{run_bit, reset_bit, base_address, ring_cycle_state, command_stop, command_abort}
+use Rattle.traces.specs.declared.header.Header.{Header}
+use Rattle.traces.specs.declared.ring.Ring.{Ring}
+use Rattle.traces.specs.declared.register.Register.{Register}
+use Rattle.traces.specs.declared.register.Register.TheVariants.{Usbcmd, Crcr, Dcbaap, Config, Erstsz, Erstba, Erdp}
+use Rattle.traces.specs.Header.{command_ring, event_ring, event_shape}
+use Rattle.traces.specs.Register.{run_bit, reset_bit, base_address, ring_cycle_state, command_stop, command_abort}
 use Rattle.ring_knowledge.specs.Known.{Known}
 use Rattle.ownership_checker.specs.Refusal.{Test}
 use Rattle.ownership_checker.specs.declared.refusal.Refusal.TheVariants.{BadRegister, BadErdp}

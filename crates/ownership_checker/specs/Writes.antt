@@ -1,7 +1,7 @@
 -- The rules of a write of memory (`w`)
 use Rattle.std.specs.Prelude.{ℕ, ◌||◌, Bool, false, List, [], ◌∷◌, Option, Some, None}
 use Rattle.commands.specs.declared.command.Command.{Command}
-use Rattle.trace_reader.specs.declared.header.Header.{Header}
+use Rattle.traces.specs.declared.header.Header.{Header}
 use Rattle.ring_knowledge.specs.Known.{Known}
 use Rattle.ring_knowledge.specs.Writes as writes
 use Rattle.ownership_checker.specs.Refusal.{Test}

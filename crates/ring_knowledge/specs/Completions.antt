@@ -13,8 +13,8 @@ use Rattle.commands.specs.declared.command.Command.TheVariants.{NoOp, EnableSlot
 use Rattle.commands.specs.declared.state.EndpointState.TheVariants.{Disabled as Off, Running, Stopped}
 use Rattle.commands.specs.States.{slot_success, is_off}
 use Rattle.contexts.specs.Contexts.{input_drop_flag, input_add_flag, input_endpoint, endpoint_cycle, endpoint_pointer}
-use Rattle.trace_reader.specs.declared.header.Header.{Header}
-use Rattle.trace_reader.specs.Header.{shape_of, command_id, ring_beginning_at}
+use Rattle.traces.specs.declared.header.Header.{Header}
+use Rattle.traces.specs.Header.{shape_of, command_id, ring_beginning_at}
 use Rattle.ring_knowledge.specs.Known.{Known}
 use Rattle.ring_knowledge.specs.Rings as rings
 

@@ -7,7 +7,7 @@ use Rattle.commands.specs.declared.state.SlotState.{SlotState}
 use Rattle.commands.specs.declared.state.SlotState.TheVariants.{Disabled}
 use Rattle.commands.specs.declared.state.EndpointState.{EndpointState}
 use Rattle.commands.specs.declared.state.EndpointState.TheVariants.{Disabled as Off}
-use Rattle.trace_reader.specs.declared.register.Register.{Register}
+use Rattle.traces.specs.declared.register.Register.{Register}
 
 pub record Known : Type 0 where
   -- the controller was started (R/S), and after that stopped or reset

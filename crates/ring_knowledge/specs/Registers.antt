@@ -4,11 +4,11 @@ use Rattle.guest_memory.specs.Memory.{put, put_pair}
 use Rattle.commands.specs.declared.state.EndpointState.TheVariants.{Running}
 use Rattle.commands.specs.States.{is_stopped}
 use Rattle.event_ring.specs.EventRing.{position_from, erdp_address}
-use Rattle.trace_reader.specs.declared.header.Header.{Header}
-use Rattle.trace_reader.specs.declared.register.Register.{Register}
-use Rattle.trace_reader.specs.declared.register.Register.TheVariants.{Usbcmd, Erdp}
-use Rattle.trace_reader.specs.Header.{command_id, event_shape}
-use Rattle.trace_reader.specs.Register.{same_register, run_bit, reset_bit}
+use Rattle.traces.specs.declared.header.Header.{Header}
+use Rattle.traces.specs.declared.register.Register.{Register}
+use Rattle.traces.specs.declared.register.Register.TheVariants.{Usbcmd, Erdp}
+use Rattle.traces.specs.Header.{command_id, event_shape}
+use Rattle.traces.specs.Register.{same_register, run_bit, reset_bit}
 use Rattle.ring_knowledge.specs.Known.{Known}
 
 module _ (h : Header) where

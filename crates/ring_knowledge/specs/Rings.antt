@@ -6,8 +6,8 @@ use Rattle.segments.specs.Places.{place_count, is_crossing}
 use Rattle.segments.specs.OneRing.{gives, gives_crossing}
 use Rattle.commands.specs.declared.command.Command.{Command}
 use Rattle.commands.specs.Command.{command_of}
-use Rattle.trace_reader.specs.declared.header.Header.{Header}
-use Rattle.trace_reader.specs.Header.{shape_of, command_id}
+use Rattle.traces.specs.declared.header.Header.{Header}
+use Rattle.traces.specs.Header.{shape_of, command_id}
 use Rattle.ring_knowledge.specs.Known.{Known}
 
 module _ (h : Header) where

@@ -9,8 +9,8 @@ use Rattle.segments.specs.declared.spot.Spot.TheVariants.{Data, Link}
 use Rattle.segments.specs.Spots.{number, after, named_spot}
 use Rattle.commands.specs.declared.state.EndpointState.{EndpointState}
 use Rattle.commands.specs.declared.state.EndpointState.TheVariants.{Halted, Error}
-use Rattle.trace_reader.specs.declared.header.Header.{Header}
-use Rattle.trace_reader.specs.Header.{shape_of}
+use Rattle.traces.specs.declared.header.Header.{Header}
+use Rattle.traces.specs.Header.{shape_of}
 use Rattle.ring_knowledge.specs.Known.{Known}
 use Rattle.ring_knowledge.specs.Rings as rings
 

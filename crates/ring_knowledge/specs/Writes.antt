@@ -6,10 +6,10 @@ use Rattle.segments.specs.OneRing.{gives, gives_crossing}
 use Rattle.commands.specs.declared.command.Command.{Command}
 use Rattle.commands.specs.declared.command.Command.TheVariants.{AddressDevice}
 use Rattle.contexts.specs.Contexts.{slot_entry, device_context, device_context_bytes}
-use Rattle.trace_reader.specs.declared.header.Header.{Header}
-use Rattle.trace_reader.specs.declared.register.Register.{Register}
-use Rattle.trace_reader.specs.declared.register.Register.TheVariants.{Dcbaap}
-use Rattle.trace_reader.specs.Header.{shape_of, command_id}
+use Rattle.traces.specs.declared.header.Header.{Header}
+use Rattle.traces.specs.declared.register.Register.{Register}
+use Rattle.traces.specs.declared.register.Register.TheVariants.{Dcbaap}
+use Rattle.traces.specs.Header.{shape_of, command_id}
 use Rattle.ring_knowledge.specs.Known.{Known}
 use Rattle.ring_knowledge.specs.Rings as rings
 

@@ -7,7 +7,7 @@ use Rattle.trace_reader.specs.declared.fault.LineError.{LineError}
 use Rattle.trace_reader.specs.declared.fault.LineError.TheVariants.{Fault, Memory}
 use Rattle.trace_reader.specs.declared.fault.LineFault.{LineFault}
 use Rattle.trace_reader.specs.declared.fault.LineFault.TheVariants.{Number}
-use Rattle.trace_reader.specs.declared.row.Row.TheVariants.{Read}
+use Rattle.traces.specs.declared.row.Row.TheVariants.{Read}
 use Rattle.trace_reader.specs.Entries.{Answers, said_by}
 use Rattle.trace_reader.specs.Forms.{ReadForm, read_form}
 use Rattle.trace_reader.specs.LineAnswers.{AnswersBy, valued_by}

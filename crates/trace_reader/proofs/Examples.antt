@@ -8,10 +8,10 @@ use Rattle.line_text.specs.Fields.{fields_of}
 use Rattle.line_text.specs.Numbers.{number_of, digits_of}
 use Rattle.trace_reader.specs.declared.fault.LineFault.{LineFault}
 use Rattle.trace_reader.specs.declared.fault.LineFault.TheVariants.{Header as BadHeader, Row as BadRow, Number, Shape}
-use Rattle.trace_reader.specs.declared.register.Register.TheVariants.{Usbcmd, Crcr}
-use Rattle.trace_reader.specs.declared.ring.Ring.{Ring}
-use Rattle.trace_reader.specs.declared.row.Row.{Row}
-use Rattle.trace_reader.specs.declared.row.Row.TheVariants.{Sub, Write, Reg, Bell, Read}
+use Rattle.traces.specs.declared.register.Register.TheVariants.{Usbcmd, Crcr}
+use Rattle.traces.specs.declared.ring.Ring.{Ring}
+use Rattle.traces.specs.declared.row.Row.{Row}
+use Rattle.traces.specs.declared.row.Row.TheVariants.{Sub, Write, Reg, Bell, Read}
 use Rattle.trace_reader.specs.Forms.{form_of, kind_named, register_named}
 use Rattle.trace_reader.specs.Values.{block_of, blocks_of, register_value_of, said_of, segment_of, segments_of, word_address_of}
 use Rattle.trace_reader.specs.Reading.{TraceText, after, form_in, is_bad_number, is_bad_row, is_bad_shape, is_past_limit, is_too_long, is_version, line_fault, read_line, read_lines, row_fault, said_in, size_of, trace_of}

@@ -2,7 +2,7 @@
 use Rattle.std.proofs.Common.{◌≡◌, ℕ, List, [], ◌∷◌, Bool, true, false, Option, Some, None, refl, ap, sym, ◌∙◌, cond}
 use Rattle.std.specs.Prelude.{codes, ◌==◌, Err, length}
 use Rattle.std.specs.Option.{option_map, option_map_or}
-use Rattle.trace_reader.specs.declared.register.Register.{Register}
+use Rattle.traces.specs.declared.register.Register.{Register}
 use Rattle.trace_reader.specs.declared.fault.LineFault.TheVariants.{Row as BadRow}
 use Rattle.std.specs.Str.{bytes_eq}
 use Rattle.trace_reader.specs.declared.entry.FirstWord.{FirstWord}

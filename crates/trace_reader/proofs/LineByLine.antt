@@ -9,7 +9,7 @@ use Rattle.line_text.proofs.Joins.{length-fields_of, spaced_length}
 use Rattle.trace_reader.specs.declared.fault.LineFault.{LineFault}
 use Rattle.trace_reader.specs.declared.fault.LineFault.TheVariants.{Row as BadRow, Number}
 use Rattle.trace_reader.specs.Entries.{content_fault}
-use Rattle.trace_reader.specs.Limits.{most_bytes}
+use Rattle.traces.specs.Limits.{most_bytes}
 use Rattle.trace_reader.specs.LineAnswers.{faulted_by, valued_by}
 use Rattle.trace_reader.specs.LineByLine.{has_no_form, line_says, lines_say, next_value, unless_fault, value_in}
 use Rattle.trace_reader.specs.Reading.{is_too_long}

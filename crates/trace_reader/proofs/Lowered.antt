@@ -19,12 +19,12 @@ use Rattle.trb.specs.declared.block.Block.{Block}
 use Rattle.trb.specs.RingKind.{ring_name}
 use Rattle.trb.specs.declared.ring_kind.RingKind.{RingKind}
 use Rattle.trb.specs.declared.ring_kind.RingKind.TheVariants.{Cmd, Evt, Xfer}
-use Rattle.trace_reader.specs.declared.register.Register.{Register}
-use Rattle.trace_reader.specs.declared.register.Register.TheVariants.{Usbcmd, Usbsts, Dnctrl, Crcr, Dcbaap, Config, Iman, Imod, Erstsz, Erstba, Erdp}
-use Rattle.trace_reader.specs.declared.ring.Ring.{Ring}
-use Rattle.trace_reader.specs.declared.row.Row.{Row}
-use Rattle.trace_reader.specs.declared.row.Row.TheVariants.{Sub, Write, Reg, Bell, Read}
-use Rattle.trace_reader.specs.Forms.{register_name}
+use Rattle.traces.specs.declared.register.Register.{Register}
+use Rattle.traces.specs.declared.register.Register.TheVariants.{Usbcmd, Usbsts, Dnctrl, Crcr, Dcbaap, Config, Iman, Imod, Erstsz, Erstba, Erdp}
+use Rattle.traces.specs.declared.ring.Ring.{Ring}
+use Rattle.traces.specs.declared.row.Row.{Row}
+use Rattle.traces.specs.declared.row.Row.TheVariants.{Sub, Write, Reg, Bell, Read}
+use Rattle.traces.specs.Register.{register_name}
 use Rattle.trace_reader.specs.Reading.{TraceText}
 use Rattle.trace_reader.specs.Spelling.{Field, Word, Digits, are_written, block_fields, is_written, lines_written, may_be_written, printed, printed_line, printed_trace, ring_fields, row_fields, segment_field, size_fields, size_word, spells, trace_lines, version_fields}
 use Rattle.trace_reader.proofs.SpelledFields.{same_bytes}

@@ -8,9 +8,9 @@ use Rattle.contexts.specs.declared.size.ContextSize.TheVariants.{Bytes32, Bytes6
 use Rattle.line_text.specs.Fields.{fields_of, is_space}
 use Rattle.line_text.specs.Lines.{is_line_feed, lines_of}
 use Rattle.line_text.proofs.Joins.{All-join, AreFields, fields_of-join, lines_of-ended, lines_of-nothing}
-use Rattle.trace_reader.specs.declared.ring.Ring.{Ring}
-use Rattle.trace_reader.specs.declared.row.Row.{Row}
-use Rattle.trace_reader.specs.declared.row.Row.TheVariants.{Sub, Write, Reg, Bell, Read}
+use Rattle.traces.specs.declared.ring.Ring.{Ring}
+use Rattle.traces.specs.declared.row.Row.{Row}
+use Rattle.traces.specs.declared.row.Row.TheVariants.{Sub, Write, Reg, Bell, Read}
 use Rattle.trace_reader.specs.Reading.{TraceText, trace_of}
 use Rattle.trace_reader.specs.Spelling.{Field, are_written, lines_written, printed, printed_line, printed_trace, ring_fields, row_fields, size_fields, spells, trace_lines, version_fields}
 use Rattle.trace_reader.specs.Valid.{IsTrace}

@@ -10,7 +10,7 @@ use Rattle.trace_reader.specs.declared.fault.LineFault.{LineFault}
 use Rattle.trace_reader.specs.declared.fault.LineFault.TheVariants.{Header as BadHeader, Row as BadRow, Number, Limit, Shape}
 use Rattle.trace_reader.specs.declared.fault.LineError.{LineError}
 use Rattle.trace_reader.specs.declared.fault.LineError.TheVariants.{Fault, Memory}
-use Rattle.trace_reader.specs.declared.row.Row.{Row}
+use Rattle.traces.specs.declared.row.Row.{Row}
 use Rattle.trace_reader.specs.Entries.{Answers, IfBadLine, IfFault, at_line, placed, said_by_line, took_in}
 use Rattle.trace_reader.specs.Reading.{State, after, go_on, is_bad_number, is_bad_row, is_bad_shape, is_misplaced, is_past_limit, is_too_long, is_version, line_fault, next_number, read_line, read_lines, row_fault, said_in, size_of, start, trace_of, whole, with_row, with_said}
 use Rattle.trace_reader.specs.Values.{Said}

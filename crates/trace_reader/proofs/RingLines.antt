@@ -12,7 +12,7 @@ use Rattle.trace_reader.specs.declared.fault.LineError.{LineError}
 use Rattle.trace_reader.specs.declared.fault.LineError.TheVariants.{Fault, Memory}
 use Rattle.trace_reader.specs.declared.fault.LineFault.{LineFault}
 use Rattle.trace_reader.specs.declared.fault.LineFault.TheVariants.{Number}
-use Rattle.trace_reader.specs.declared.ring.Ring.{Ring}
+use Rattle.traces.specs.declared.ring.Ring.{Ring}
 use Rattle.trace_reader.specs.Entries.{Answers, form_behind, ring_of, said_by, unless_begun, word_named}
 use Rattle.trace_reader.specs.Forms.{Form, RingForm, form_of, is_ring_form, kind_named, ring_form}
 use Rattle.trace_reader.specs.LineAnswers.{AnswersBy, valued_by}

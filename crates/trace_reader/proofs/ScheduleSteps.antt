@@ -3,7 +3,7 @@ use Rattle.std.proofs.Common.{◌≡◌, ℕ, List, [], ◌∷◌, ◌++◌, fal
 use Rattle.std.specs.List.{flat_map}
 use Rattle.line_text.specs.Lines.{TextLine, lines_of}
 use Rattle.trace_reader.specs.declared.fault.LineFault.TheVariants.{Header as BadHeader}
-use Rattle.trace_reader.specs.declared.step.Step.{Step}
+use Rattle.traces.specs.declared.step.Step.{Step}
 use Rattle.trace_reader.specs.LineByLine.{lines_say}
 use Rattle.trace_reader.specs.Schedules.{is_schedule_version, schedule_of, step_line}
 use Rattle.trace_reader.specs.ScheduleSpelling.{printed_schedule, schedule_lines, schedule_version_fields, step_fields}

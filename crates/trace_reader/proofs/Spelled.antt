@@ -10,10 +10,10 @@ use Rattle.line_text.specs.Lines.{TextLine, lines_of}
 use Rattle.line_text.proofs.Joins.{join-fields_of}
 use Rattle.trace_reader.specs.declared.fault.LineFault.{LineFault}
 use Rattle.trace_reader.specs.declared.fault.LineFault.TheVariants.{Header as BadHeader}
-use Rattle.trace_reader.specs.declared.ring.Ring.{Ring}
-use Rattle.trace_reader.specs.declared.row.Row.{Row}
-use Rattle.trace_reader.specs.Header.{may_stand_together}
-use Rattle.trace_reader.specs.Limits.{most_lines}
+use Rattle.traces.specs.declared.ring.Ring.{Ring}
+use Rattle.traces.specs.declared.row.Row.{Row}
+use Rattle.traces.specs.Header.{may_stand_together}
+use Rattle.traces.specs.Limits.{most_lines}
 use Rattle.trace_reader.specs.Reading.{State, TraceText, after, is_version, line_fault, next_number, read_line, read_lines, size_of, start, trace_of, whole, with_size}
 use Rattle.trace_reader.specs.Spelling.{Field, Word, are_written, is_written, lines_written, size_fields, size_word, spells, trace_lines, version_fields}
 use Rattle.trace_reader.specs.Valid.{IsTrace}

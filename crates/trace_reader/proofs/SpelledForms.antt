@@ -9,16 +9,17 @@ use Rattle.trb.specs.RingKind.{ring_name}
 use Rattle.trb.specs.declared.block.Block.{Block}
 use Rattle.trb.specs.declared.ring_kind.RingKind.{RingKind}
 use Rattle.trb.specs.declared.ring_kind.RingKind.TheVariants.{Cmd, Evt, Xfer}
-use Rattle.trace_reader.specs.Forms.{Form, SubForm, WriteForm, RegForm, BellForm, ReadForm, RingForm, kind_named, register_name, named, register_named, are_blocks, sub_form, write_form, reg_form, bell_form, read_form, ring_form, form_of, is_ring_form}
-use Rattle.trace_reader.specs.Register.{is_wide}
-use Rattle.trace_reader.specs.Rows.{IsRow}
+use Rattle.trace_reader.specs.Forms.{Form, SubForm, WriteForm, RegForm, BellForm, ReadForm, RingForm, kind_named, named, register_named, are_blocks, sub_form, write_form, reg_form, bell_form, read_form, ring_form, form_of, is_ring_form}
+use Rattle.traces.specs.Register.{register_name}
+use Rattle.traces.specs.Register.{is_wide}
+use Rattle.traces.specs.Rows.{IsRow}
 use Rattle.trace_reader.specs.Spelling.{Field, Word, Digits, may_be_written, are_written, block_fields, segment_field, row_fields, ring_fields}
 use Rattle.trace_reader.specs.Values.{Said, SaysRow, SaysRing, blocks_of, event_of, segments_of, word_address_of, register_value_of, said_of}
-use Rattle.trace_reader.specs.declared.register.Register.{Register}
-use Rattle.trace_reader.specs.declared.register.Register.TheVariants.{Usbcmd, Usbsts, Dnctrl, Crcr, Dcbaap, Config, Iman, Imod, Erstsz, Erstba, Erdp}
-use Rattle.trace_reader.specs.declared.ring.Ring.{Ring}
-use Rattle.trace_reader.specs.declared.row.Row.{Row}
-use Rattle.trace_reader.specs.declared.row.Row.TheVariants.{Sub, Write, Reg, Bell, Read}
+use Rattle.traces.specs.declared.register.Register.{Register}
+use Rattle.traces.specs.declared.register.Register.TheVariants.{Usbcmd, Usbsts, Dnctrl, Crcr, Dcbaap, Config, Iman, Imod, Erstsz, Erstba, Erdp}
+use Rattle.traces.specs.declared.ring.Ring.{Ring}
+use Rattle.traces.specs.declared.row.Row.{Row}
+use Rattle.traces.specs.declared.row.Row.TheVariants.{Sub, Write, Reg, Bell, Read}
 use Rattle.trace_reader.proofs.SpelledFields.{same_bytes, both_there, both_of, mapped_there, then_there, cond_there, number_written, number_read, then_are}
 use Rattle.trace_reader.proofs.SpelledSegments.{FitsSegment, segments_written, segments_read}
 use Rattle.trace_reader.proofs.SpelledValues.{blocks_written, blocks_read, event_written, event_read, only}

@@ -11,8 +11,8 @@ use Rattle.segments.specs.Places.{overlap, place_count}
 use Rattle.segments.specs.Shape.{is_shape, is_segment, most_segments}
 use Rattle.segments.specs.ShapeValue.{Shape}
 use Rattle.segments.specs.declared.segment.Segment.{Segment}
-use Rattle.trace_reader.specs.Header.{clash, is_command_kind, is_event_kind, may_stand_together}
-use Rattle.trace_reader.specs.declared.ring.Ring.{Ring}
+use Rattle.traces.specs.Header.{clash, is_command_kind, is_event_kind, may_stand_together}
+use Rattle.traces.specs.declared.ring.Ring.{Ring}
 use Rattle.trace_reader.proofs.SpelledForms.{FitsRing}
 use Rattle.trace_reader.proofs.SpelledSegments.{FitsSegment}
 

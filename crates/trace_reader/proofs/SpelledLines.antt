@@ -9,12 +9,12 @@ use Rattle.line_text.proofs.Joins.{length-fields_of, spaced_length}
 use Rattle.segments.specs.Shape.{is_shape}
 use Rattle.trace_reader.specs.declared.fault.LineFault.{LineFault}
 use Rattle.trace_reader.specs.declared.fault.LineFault.TheVariants.{Row as BadRow, Number, Limit, Shape}
-use Rattle.trace_reader.specs.declared.ring.Ring.{Ring}
-use Rattle.trace_reader.specs.declared.row.Row.{Row}
-use Rattle.trace_reader.specs.declared.row.Row.TheVariants.{Sub, Write, Reg, Bell, Read}
+use Rattle.traces.specs.declared.ring.Ring.{Ring}
+use Rattle.traces.specs.declared.row.Row.{Row}
+use Rattle.traces.specs.declared.row.Row.TheVariants.{Sub, Write, Reg, Bell, Read}
 use Rattle.trace_reader.specs.Forms.{Form, is_ring_form}
-use Rattle.trace_reader.specs.Header.{clash}
-use Rattle.trace_reader.specs.Limits.{most_lines, most_bytes, most_declared}
+use Rattle.traces.specs.Header.{clash}
+use Rattle.traces.specs.Limits.{most_lines, most_bytes, most_declared}
 use Rattle.trace_reader.specs.Reading.{State, next_number, form_in, said_in, is_bad_row, is_bad_number, is_too_much, is_past_limit, is_too_long, is_misplaced, is_bad_shape, row_fault, line_fault, with_said, after, read_line}
 use Rattle.trace_reader.specs.Spelling.{printed}
 use Rattle.trace_reader.specs.Values.{Said, SaysRow, SaysRing, said_of}

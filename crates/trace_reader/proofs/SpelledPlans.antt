@@ -15,15 +15,16 @@ use Rattle.trb.specs.declared.ring_kind.RingKind.{RingKind}
 use Rattle.trb.specs.declared.ring_kind.RingKind.TheVariants.{Cmd, Evt, Xfer}
 use Rattle.trace_reader.specs.declared.fault.LineFault.{LineFault}
 use Rattle.trace_reader.specs.declared.fault.LineFault.TheVariants.{Limit, Shape}
-use Rattle.trace_reader.specs.declared.plan.PlanLine.{PlanLine}
-use Rattle.trace_reader.specs.declared.plan.PlanLine.TheVariants.{Sub, Ret}
-use Rattle.trace_reader.specs.declared.ring.Ring.{Ring}
+use Rattle.traces.specs.declared.plan.PlanLine.{PlanLine}
+use Rattle.traces.specs.declared.plan.PlanLine.TheVariants.{Sub, Ret}
+use Rattle.traces.specs.declared.ring.Ring.{Ring}
 use Rattle.trace_reader.specs.Forms.{Form, SubForm, WriteForm, RegForm, BellForm, ReadForm, RingForm, are_blocks, form_of, is_ring_form}
-use Rattle.trace_reader.specs.Header.{is_event_kind}
-use Rattle.trace_reader.specs.Limits.{most_bytes, most_declared, most_lines}
+use Rattle.traces.specs.Header.{is_event_kind}
+use Rattle.traces.specs.Limits.{most_bytes, most_declared, most_lines}
 use Rattle.trace_reader.specs.LineByLine.{lines_say}
 use Rattle.trace_reader.specs.Plans.{PlanForm, BlocksForm, RetForm, PlanText, declares_too_much, if_ring, is_no_plan_ring, is_past_plan_limit, is_plan_version, plan_form_of, plan_in, plan_line, plan_line_fault, plan_of, plan_ring, plan_ring_fault, plan_sub_form, plan_value, ret_form, ring_line_form, ring_value, with_ring}
-use Rattle.trace_reader.specs.PlanSpelling.{IsPlan, IsPlanLine, plan_line_fields, plan_text_lines, plan_version_fields, spells_plan}
+use Rattle.trace_reader.specs.PlanSpelling.{IsPlan, plan_line_fields, plan_text_lines, plan_version_fields, spells_plan}
+use Rattle.traces.specs.PlanLines.{IsPlanLine}
 use Rattle.trace_reader.specs.Spelling.{Digits, are_written, block_fields, is_written, lines_written, may_be_written, printed, ring_fields}
 use Rattle.trace_reader.specs.Values.{SaysRing, blocks_of, said_of, segments_of}
 use Rattle.trace_reader.proofs.LineByLine.{AreSpelled, IsSpelling, line_read, line_spells, lines_read, lines_spell}

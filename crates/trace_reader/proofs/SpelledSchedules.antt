@@ -12,10 +12,10 @@ use Rattle.line_text.proofs.Joins.{spaced_length}
 use Rattle.trb.specs.declared.block.Block.{Block}
 use Rattle.trace_reader.specs.declared.fault.LineFault.{LineFault}
 use Rattle.trace_reader.specs.declared.fault.LineFault.TheVariants.{Limit}
-use Rattle.trace_reader.specs.declared.step.Step.{Step}
-use Rattle.trace_reader.specs.declared.step.Step.TheVariants.{NextRow, Look, Report, Finish, Other, Scribble}
-use Rattle.trace_reader.specs.Limits.{most_bytes, most_schedule_lines}
-use Rattle.trace_reader.specs.Rows.{IsStep}
+use Rattle.traces.specs.declared.step.Step.{Step}
+use Rattle.traces.specs.declared.step.Step.TheVariants.{NextRow, Look, Report, Finish, Other, Scribble}
+use Rattle.traces.specs.Limits.{most_bytes, most_schedule_lines}
+use Rattle.traces.specs.Rows.{IsStep}
 use Rattle.trace_reader.specs.Schedules.{StepForm, RowForm, LookForm, ReportForm, FinishForm, OtherForm, ScribForm, event_form, finish_form, is_past_schedule_limit, is_schedule_version, look_form, other_form, report_form, row_form, schedule_in, schedule_of, scrib_form, step_fault, step_form_of, step_line, step_value}
 use Rattle.trace_reader.specs.ScheduleSpelling.{IsSchedule, printed_schedule, schedule_lines, schedule_version_fields, spells_schedule, step_fields}
 use Rattle.trace_reader.specs.Spelling.{Digits, are_written, block_fields, is_written, lines_written, printed}

@@ -7,15 +7,15 @@ use Rattle.line_text.specs.Fields.{fields_of}
 use Rattle.line_text.specs.Lines.{TextLine}
 use Rattle.segments.specs.Shape.{is_shape}
 use Rattle.trace_reader.specs.declared.fault.LineFault.{LineFault}
-use Rattle.trace_reader.specs.declared.ring.Ring.{Ring}
-use Rattle.trace_reader.specs.declared.row.Row.{Row}
-use Rattle.trace_reader.specs.declared.row.Row.TheVariants.{Sub, Write, Reg, Bell, Read}
-use Rattle.trace_reader.specs.Header.{clash, may_stand_together}
-use Rattle.trace_reader.specs.Limits.{most_lines, most_declared}
+use Rattle.traces.specs.declared.ring.Ring.{Ring}
+use Rattle.traces.specs.declared.row.Row.{Row}
+use Rattle.traces.specs.declared.row.Row.TheVariants.{Sub, Write, Reg, Bell, Read}
+use Rattle.traces.specs.Header.{clash, may_stand_together}
+use Rattle.traces.specs.Limits.{most_lines, most_declared}
 use Rattle.trace_reader.specs.Reading.{State, go_on, is_misplaced, is_too_much, next_number, read_line, read_lines, with_row, with_said}
-use Rattle.trace_reader.specs.Rows.{IsRow}
+use Rattle.traces.specs.Rows.{IsRow}
 use Rattle.trace_reader.specs.Spelling.{Field, are_written, is_written, lines_written, ring_fields, row_fields}
-use Rattle.trace_reader.specs.Rows.{FitsLine}
+use Rattle.traces.specs.Rows.{FitsLine}
 use Rattle.trace_reader.specs.Values.{Said, SaysRow, SaysRing}
 use Rattle.trace_reader.proofs.SpelledForms.{FitsText}
 use Rattle.trace_reader.proofs.SpelledHeaders.{no_clash, ring_fits, together_with}

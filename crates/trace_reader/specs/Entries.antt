@@ -16,12 +16,12 @@ use Rattle.trace_reader.specs.declared.entry.Entry.TheVariants.{Row as RowEntry,
 use Rattle.trace_reader.specs.declared.entry.RingEntry.{RingEntry as LineOfRing}
 use Rattle.trace_reader.specs.declared.entry.FirstWord.{FirstWord}
 use Rattle.trace_reader.specs.declared.reader.Reader.{Reader}
-use Rattle.trace_reader.specs.declared.ring.Ring.{Ring}
+use Rattle.traces.specs.declared.ring.Ring.{Ring}
 use Rattle.trace_reader.specs.declared.entry.FirstWord.TheVariants.{Sub as SubWord, W, Reg as RegWord, Db, Ev, Ring as RingWord}
-use Rattle.trace_reader.specs.declared.row.Row.{Row}
-use Rattle.trace_reader.specs.declared.trace.Trace.{Trace}
+use Rattle.traces.specs.declared.row.Row.{Row}
+use Rattle.traces.specs.declared.trace.Trace.{Trace}
 use Rattle.trace_reader.specs.Forms.{Form, form_of, is_ring_form, sub_form, write_form, reg_form, bell_form, read_form, ring_form}
-use Rattle.trace_reader.specs.Limits.{most_bytes}
+use Rattle.traces.specs.Limits.{most_bytes}
 use Rattle.trace_reader.specs.Reading.{State, TraceText, is_bad_row, is_past_limit, is_misplaced, is_too_long, said_in, with_said}
 use Rattle.trace_reader.specs.Values.{Said, SaysRow, SaysRing, said_of}
 

@@ -4,8 +4,9 @@ use Rattle.std.specs.Option.{option_map}
 use Rattle.std.specs.Str.{bytes_eq}
 use Rattle.trb.specs.declared.ring_kind.RingKind.{RingKind}
 use Rattle.trb.specs.declared.ring_kind.RingKind.TheVariants.{Cmd, Evt, Xfer}
-use Rattle.trace_reader.specs.declared.register.Register.{Register}
-use Rattle.trace_reader.specs.declared.register.Register.TheVariants.{Usbcmd, Usbsts, Dnctrl, Crcr, Dcbaap, Config, Iman, Imod, Erstsz, Erstba, Erdp}
+use Rattle.traces.specs.Register.{register_name}
+use Rattle.traces.specs.declared.register.Register.{Register}
+use Rattle.traces.specs.declared.register.Register.TheVariants.{Usbcmd, Usbsts, Dnctrl, Crcr, Dcbaap, Config, Iman, Imod, Erstsz, Erstba, Erdp}
 
 -- the fields behind the first word, which says what they are
 pub data Form : Type 0 where
@@ -23,20 +24,6 @@ kind_named word =
     else if bytes_eq word (codes "evt") then Some Evt
     else if bytes_eq word (codes "xfer") then Some Xfer
     else None
-
--- a register's word
-abbrev pub register_name : Register → List ℕ
-register_name Usbcmd = codes "usbcmd"
-register_name Usbsts = codes "usbsts"
-register_name Dnctrl = codes "dnctrl"
-register_name Crcr = codes "crcr"
-register_name Dcbaap = codes "dcbaap"
-register_name Config = codes "config"
-register_name Iman = codes "iman"
-register_name Imod = codes "imod"
-register_name Erstsz = codes "erstsz"
-register_name Erstba = codes "erstba"
-register_name Erdp = codes "erdp"
 
 abbrev pub named : List ℕ → List Register → Option Register
 named word [] = None

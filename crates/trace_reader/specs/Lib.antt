@@ -1,7 +1,3 @@
-pub mod Limits
-pub mod Register
-pub mod Header
-pub mod Rows
 pub mod Faults
 pub mod Forms
 pub mod Values
@@ -10,7 +6,6 @@ pub mod Spelling
 pub mod Entries
 pub mod Printing
 pub mod Valid
-pub mod OnLiterals
 pub mod LineByLine
 pub mod LineAnswers
 pub mod Plans

@@ -1,16 +1,15 @@
 -- How a plan is spelled, and which plans have a text
 use Rattle.std.specs.Prelude.{◌≢◌, ℕ, ◌+◌, ◌<◌, ◌≤◌, ◌^◌, All, Bool, List, [], ◌∷◌, length, map, codes}
-use Rattle.std.proofs.Props.{props}
 use Rattle.std.specs.Int.{w8, w64}
 use Rattle.std.specs.List.{flat_map}
 use Rattle.line_text.specs.Lines.{lines_of}
 use Rattle.line_text.specs.Numbers.{digits_of}
 use Rattle.segments.specs.Shape.{IsShape}
-use Rattle.trb.specs.Block.{IsBlock}
 use Rattle.trb.specs.declared.ring_kind.RingKind.TheVariants.{Evt}
-use Rattle.trace_reader.specs.declared.plan.PlanLine.{PlanLine}
-use Rattle.trace_reader.specs.declared.plan.PlanLine.TheVariants.{Sub, Ret}
-use Rattle.trace_reader.specs.Limits.{most_lines, most_declared}
+use Rattle.traces.specs.declared.plan.PlanLine.{PlanLine}
+use Rattle.traces.specs.declared.plan.PlanLine.TheVariants.{Sub, Ret}
+use Rattle.traces.specs.Limits.{most_lines}
+use Rattle.traces.specs.PlanLines.{ArePlanLines}
 use Rattle.trace_reader.specs.Plans.{PlanText}
 use Rattle.trace_reader.specs.Spelling.{Field, Word, Digits, block_fields, lines_written, ring_fields}
 
@@ -28,22 +27,6 @@ plan_text_lines plan = plan_version_fields ∷ ring_fields plan.ring ∷ map pla
 -- the text spells the plan
 unfoldable pub spells_plan : PlanText → List ℕ → Bool
 spells_plan plan text = lines_written (plan_text_lines plan) (lines_of text)
-
--- what a plan's line can say: its numbers fit, and a declaration has a block at least and not too many
-abbrev pub IsPlanLine : PlanLine → Type 0
-IsPlanLine (Sub ring blocks) = (ring < 256) × All IsBlock blocks × (0 < length blocks) × (length blocks ≤ most_declared)
-IsPlanLine (Ret upto) = upto < 2 ^ 64
-
--- each is one fact
-pub plan_line_is_fact : (line : PlanLine) → IsProp (IsPlanLine line)
-plan_line_is_fact (Sub ring blocks) = hlevel props
-plan_line_is_fact (Ret upto) = hlevel props
-
-abbrev pub ArePlanLines : List PlanLine → Type 0
-ArePlanLines lines = All IsPlanLine lines
-
-pub plan_lines_are_fact : (lines : List PlanLine) → IsProp (ArePlanLines lines)
-plan_lines_are_fact lines = hlevel (props, plan_line_is_fact)
 
 pub record IsPlan (plan : PlanText) : Type 0 where
   pub id : plan.ring.id < 256

@@ -1,5 +1,5 @@
 -- What a plan says
-use Rattle.trace_reader.specs.declared.plan.Plan.{Plan}
+use Rattle.traces.specs.declared.plan.Plan.{Plan}
 use Rattle.trace_reader.specs.Plans.{PlanText}
 
 abbrev pub plan_text : Plan → PlanText

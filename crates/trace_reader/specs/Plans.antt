@@ -8,12 +8,12 @@ use Rattle.line_text.specs.Numbers.{number_of}
 use Rattle.segments.specs.Shape.{is_shape}
 use Rattle.trace_reader.specs.declared.fault.LineFault.{LineFault}
 use Rattle.trace_reader.specs.declared.fault.LineFault.TheVariants.{Header as BadHeader, Row as BadRow, Limit, Shape}
-use Rattle.trace_reader.specs.declared.plan.PlanLine.{PlanLine}
-use Rattle.trace_reader.specs.declared.plan.PlanLine.TheVariants.{Sub, Ret}
-use Rattle.trace_reader.specs.declared.ring.Ring.{Ring}
+use Rattle.traces.specs.declared.plan.PlanLine.{PlanLine}
+use Rattle.traces.specs.declared.plan.PlanLine.TheVariants.{Sub, Ret}
+use Rattle.traces.specs.declared.ring.Ring.{Ring}
 use Rattle.trace_reader.specs.Forms.{Form, RingForm, are_blocks, form_of, is_ring_form}
-use Rattle.trace_reader.specs.Header.{is_event_kind}
-use Rattle.trace_reader.specs.Limits.{most_lines, most_declared}
+use Rattle.traces.specs.Header.{is_event_kind}
+use Rattle.traces.specs.Limits.{most_lines, most_declared}
 use Rattle.trace_reader.specs.LineByLine.{line_says, lines_say}
 use Rattle.trace_reader.specs.Values.{both, blocks_of, segments_of}
 

@@ -10,13 +10,13 @@ use Rattle.line_text.specs.Lines.{TextLine, lines_of}
 use Rattle.line_text.specs.Fields.{fields_of, has_empty_field}
 use Rattle.trace_reader.specs.declared.fault.LineFault.{LineFault}
 use Rattle.trace_reader.specs.declared.fault.LineFault.TheVariants.{Header as BadHeader, Row as BadRow, Number, Limit, Shape}
-use Rattle.trace_reader.specs.declared.header.Header.{Header}
-use Rattle.trace_reader.specs.declared.ring.Ring.{Ring}
-use Rattle.trace_reader.specs.declared.row.Row.{Row}
-use Rattle.trace_reader.specs.declared.row.Row.TheVariants.{Sub}
+use Rattle.traces.specs.declared.header.Header.{Header}
+use Rattle.traces.specs.declared.ring.Ring.{Ring}
+use Rattle.traces.specs.declared.row.Row.{Row}
+use Rattle.traces.specs.declared.row.Row.TheVariants.{Sub}
 use Rattle.trace_reader.specs.Forms.{Form, form_of, is_ring_form}
-use Rattle.trace_reader.specs.Header.{clash}
-use Rattle.trace_reader.specs.Limits.{most_lines, most_bytes, most_declared}
+use Rattle.traces.specs.Header.{clash}
+use Rattle.traces.specs.Limits.{most_lines, most_bytes, most_declared}
 use Rattle.trace_reader.specs.Values.{Said, SaysRow, SaysRing, said_of}
 
 -- what was read so far

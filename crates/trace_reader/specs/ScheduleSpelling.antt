@@ -1,14 +1,13 @@
 -- How a schedule is spelled, and which schedules have a text
 use Rattle.std.specs.Prelude.{ℕ, ◌+◌, ◌≤◌, All, Bool, List, [], ◌∷◌, length, map, codes}
-use Rattle.std.proofs.Props.{props}
 use Rattle.std.specs.Int.{w8, w32, w64}
 use Rattle.std.specs.List.{flat_map}
 use Rattle.line_text.specs.Lines.{lines_of}
 use Rattle.line_text.specs.Numbers.{digits_of}
-use Rattle.trace_reader.specs.declared.step.Step.{Step}
-use Rattle.trace_reader.specs.declared.step.Step.TheVariants.{NextRow, Look, Report, Finish, Other, Scribble}
-use Rattle.trace_reader.specs.Limits.{most_schedule_lines}
-use Rattle.trace_reader.specs.Rows.{IsStep}
+use Rattle.traces.specs.declared.step.Step.{Step}
+use Rattle.traces.specs.declared.step.Step.TheVariants.{NextRow, Look, Report, Finish, Other, Scribble}
+use Rattle.traces.specs.Limits.{most_schedule_lines}
+use Rattle.traces.specs.Rows.{AreSteps}
 use Rattle.trace_reader.specs.Spelling.{Field, Word, Digits, block_fields, lines_written, printed_line}
 
 unfoldable pub step_fields : Step → List Field
@@ -33,21 +32,6 @@ printed_schedule steps = flat_map printed_line (schedule_lines steps)
 -- the text spells the schedule
 unfoldable pub spells_schedule : List Step → List ℕ → Bool
 spells_schedule steps text = lines_written (schedule_lines steps) (lines_of text)
-
--- each is one fact
-pub step_is_fact : (step : Step) → IsProp (IsStep step)
-step_is_fact NextRow = hlevel props
-step_is_fact (Look ring) = hlevel props
-step_is_fact (Report event) = hlevel props
-step_is_fact (Finish event) = hlevel props
-step_is_fact (Other event) = hlevel props
-step_is_fact (Scribble at word) = hlevel props
-
-abbrev pub AreSteps : List Step → Type 0
-AreSteps steps = All IsStep steps
-
-pub steps_are_fact : (steps : List Step) → IsProp (AreSteps steps)
-steps_are_fact steps = hlevel (props, step_is_fact)
 
 pub record IsSchedule (schedule : List Step) : Type 0 where
   pub steps : AreSteps schedule

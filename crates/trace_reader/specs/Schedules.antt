@@ -7,9 +7,9 @@ use Rattle.line_text.specs.Lines.{TextLine, lines_of}
 use Rattle.line_text.specs.Numbers.{number_of}
 use Rattle.trace_reader.specs.declared.fault.LineFault.{LineFault}
 use Rattle.trace_reader.specs.declared.fault.LineFault.TheVariants.{Header as BadHeader, Limit}
-use Rattle.trace_reader.specs.declared.step.Step.{Step}
-use Rattle.trace_reader.specs.declared.step.Step.TheVariants.{NextRow, Look, Report, Finish, Other, Scribble}
-use Rattle.trace_reader.specs.Limits.{most_schedule_lines}
+use Rattle.traces.specs.declared.step.Step.{Step}
+use Rattle.traces.specs.declared.step.Step.TheVariants.{NextRow, Look, Report, Finish, Other, Scribble}
+use Rattle.traces.specs.Limits.{most_schedule_lines}
 use Rattle.trace_reader.specs.LineByLine.{line_says, lines_say}
 use Rattle.trace_reader.specs.Values.{both, event_of, word_address_of}
 

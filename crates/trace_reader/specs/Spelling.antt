@@ -11,10 +11,10 @@ use Rattle.line_text.specs.Numbers.{digits_of}
 use Rattle.segments.specs.declared.segment.Segment.{Segment}
 use Rattle.trb.specs.declared.block.Block.{Block}
 use Rattle.trb.specs.RingKind.{ring_name}
-use Rattle.trace_reader.specs.declared.ring.Ring.{Ring}
-use Rattle.trace_reader.specs.declared.row.Row.{Row}
-use Rattle.trace_reader.specs.declared.row.Row.TheVariants.{Sub, Write, Reg, Bell, Read}
-use Rattle.trace_reader.specs.Forms.{register_name}
+use Rattle.traces.specs.declared.ring.Ring.{Ring}
+use Rattle.traces.specs.declared.row.Row.{Row}
+use Rattle.traces.specs.declared.row.Row.TheVariants.{Sub, Write, Reg, Bell, Read}
+use Rattle.traces.specs.Register.{register_name}
 use Rattle.trace_reader.specs.Reading.{TraceText}
 
 -- a word stands as it is; the letters of a number's digits may be of either case, and are lower case where it is printed

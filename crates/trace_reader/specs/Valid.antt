@@ -1,9 +1,9 @@
 -- Which traces have a text: the limits and the shapes that reading keeps
 use Rattle.std.specs.Prelude.{◌≡◌, ◌+◌, ◌≤◌, All, length}
-use Rattle.trace_reader.specs.Header.{IsHeader}
-use Rattle.trace_reader.specs.Limits.{most_lines}
+use Rattle.traces.specs.Header.{IsHeader}
+use Rattle.traces.specs.Limits.{most_lines}
 use Rattle.trace_reader.specs.Reading.{TraceText}
-use Rattle.trace_reader.specs.Rows.{IsRow, FitsLine}
+use Rattle.traces.specs.Rows.{IsRow, FitsLine}
 
 pub record IsTrace (trace : TraceText) : Type 0 where
   pub headed : IsHeader trace.header

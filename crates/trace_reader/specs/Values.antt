@@ -5,11 +5,11 @@ use Rattle.std.specs.Int.{w8, w16, w32, w64}
 use Rattle.line_text.specs.Numbers.{number_of}
 use Rattle.trb.specs.declared.block.Block.{Block}
 use Rattle.segments.specs.declared.segment.Segment.{Segment}
-use Rattle.trace_reader.specs.Register.{is_wide}
-use Rattle.trace_reader.specs.declared.register.Register.{Register}
-use Rattle.trace_reader.specs.declared.ring.Ring.{Ring}
-use Rattle.trace_reader.specs.declared.row.Row.{Row}
-use Rattle.trace_reader.specs.declared.row.Row.TheVariants.{Sub, Write, Reg, Bell, Read}
+use Rattle.traces.specs.Register.{is_wide}
+use Rattle.traces.specs.declared.register.Register.{Register}
+use Rattle.traces.specs.declared.ring.Ring.{Ring}
+use Rattle.traces.specs.declared.row.Row.{Row}
+use Rattle.traces.specs.declared.row.Row.TheVariants.{Sub, Write, Reg, Bell, Read}
 use Rattle.trace_reader.specs.Forms.{Form, SubForm, WriteForm, RegForm, BellForm, ReadForm, RingForm}
 
 -- what a line behind the header says

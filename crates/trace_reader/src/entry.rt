@@ -10,12 +10,11 @@ ghost use Rattle.trace_reader.specs.Values.{SaysRow, block_of, blocks_of, cons, 
 ghost use Rattle.trace_reader.specs.Values as values;
 
 use crate::fault::{LineError, LineFault};
-use crate::register::Register;
-use crate::row::Row;
 use guest_memory::Addr;
 use line_text::{Fields, u8_of, u16_of, u32_of, u64_of};
 use std::alloc::Global;
 use trb::{Block, Blocks, RingKind};
+use traces::{Register, Row};
 
 /// What a line behind the header says.
 #[derive(Drop)]

@@ -1,14 +1,14 @@
 ghost use Rattle.std.specs.Prelude.{◌≡◌, ◌≤◌, ◌+◌, Some, None, OnOk, IfOk, IfErr};
 ghost use Rattle.trace_reader.specs.Entries.{Answers, content_fault, said_by_line, value_of};
-ghost use Rattle.trace_reader.specs.Limits.{most_lines};
+ghost use Rattle.traces.specs.Limits.{most_lines};
 ghost use Rattle.trace_reader.specs.Reading.{State, is_too_much, is_version, size_of};
 
 use crate::entry::{Entry, entry_of};
 use crate::fault::{LineError, LineFault};
-use crate::row::Row;
 use contexts::ContextSize;
 use line_text::{Fields, Line, Survey};
 use std::alloc::Global;
+use traces::Row;
 
 /// Lines of a trace or a plan.
 pub const MOST_LINES: u32 = 1048576;

@@ -1,6 +1,6 @@
 ghost use Rattle.std.specs.Prelude.{◌≡◌, ◌≤◌, length, OnOk};
 ghost use Rattle.trace_reader.specs.Entries.{ring_of};
-ghost use Rattle.trace_reader.specs.Limits.{most_lines};
+ghost use Rattle.traces.specs.Limits.{most_lines};
 ghost use Rattle.trace_reader.specs.LineAnswers.{AnswersBy, valued_by};
 ghost use Rattle.trace_reader.specs.LineByLine.{unless_fault};
 ghost use Rattle.trace_reader.specs.Plans.{declares_too_much, is_past_plan_limit, plan_form_of, plan_line, plan_ring, plan_ring_fault, plan_sub_form, plan_value, ret_form, ring_line_form, ring_value};
@@ -8,12 +8,11 @@ ghost use Rattle.trace_reader.specs.Plans.{declares_too_much, is_past_plan_limit
 use crate::entry::{RingEntry, blocks_of, ring_behind};
 use crate::fault::{LineError, LineFault};
 use crate::line::{MOST_BLOCKS, MOST_LINES, content_of};
-use crate::plan::PlanLine;
-use crate::ring::Ring;
 use line_text::{Fields, Line, Survey, u8_of, u64_of};
 use segments::RingShape;
 use std::alloc::Global;
 use trb::{Blocks, RingKind};
+use traces::{PlanLine, Ring};
 
 /// The ring of a plan's second line.
 pub fn plan_ring(alloc: Global, line: &Line) -> Result<Ring, LineError>

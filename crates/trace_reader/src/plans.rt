@@ -7,12 +7,11 @@ ghost use Rattle.trace_reader.specs.PlanSpelling.{IsPlan, spells_plan};
 ghost use Rattle.trace_reader.specs.PlanValues.{plan_text};
 
 use crate::fault::{LineFault, ReadFault};
-use crate::plan::{Plan, PlanLine, PlanLines};
 use crate::plan_line::{plan_line, plan_ring};
 use crate::read::at_line;
-use crate::ring::Ring;
 use line_text::{Line, first_line};
 use std::alloc::Global;
+use traces::{Plan, PlanLine, PlanLines, Ring};
 
 /// Reads the text of a plan: `xplan 1`, the line of a command or transfer ring, then `sub` and `ret` lines. Every byte
 /// sequence is answered, by its plan or by the first bad line and the least of its faults; `Memory` is answered only where

@@ -1,21 +1,18 @@
 ghost use Rattle.std.specs.Prelude.{◌≡◌, ◌++◌, ◌∷◌, [], Ok, map, OnOk, IfOk};
 ghost use Rattle.std.specs.List.{flat_map};
-ghost use Rattle.trace_reader.specs.declared.row.Row.TheVariants.{Sub, Write};
+ghost use Rattle.traces.specs.declared.row.Row.TheVariants.{Sub, Write};
 ghost use Rattle.trace_reader.specs.Entries.{text_of};
 ghost use Rattle.trace_reader.specs.Reading.{trace_of};
 ghost use Rattle.trace_reader.specs.Spelling.{block_fields, printed, printed_line, printed_trace, ring_fields, row_fields, segment_field, size_fields, version_fields};
 ghost use Rattle.trace_reader.specs.Printing.{in_a_row, spaced};
 
-use crate::header::Header;
-use crate::ring::Ring;
-use crate::row::Row;
-use crate::trace::Trace;
 use contexts::ContextSize;
 use guest_memory::Addr;
 use line_text::{push_u8, push_u16, push_u32, push_u64};
 use segments::Segment;
 use std::alloc::{AllocError, Global};
 use trb::Block;
+use traces::{Header, Ring, Row, Trace};
 
 /// The text of a trace, with its numbers in lower case.
 pub fn print_trace(alloc: Global, trace: &Trace) -> Result<Vec<u8>, AllocError>

@@ -5,22 +5,19 @@ ghost use Rattle.trace_reader.specs.Entries.{IfBadLine, IfFault, at_line, placed
 ghost use Rattle.trace_reader.specs.Reading.{TraceText, is_misplaced, read_line, trace_of, whole};
 ghost use Rattle.trace_reader.specs.Spelling.{printed_trace, spells};
 ghost use Rattle.trace_reader.specs.Valid.{IsTrace};
-ghost use Rattle.trace_reader.specs.Limits.{most_lines};
+ghost use Rattle.traces.specs.Limits.{most_lines};
 ghost use Rattle.trace_reader.specs.Values.{SaysRing, SaysRow};
 
 use crate::entry::{Entry, RingEntry};
 use crate::fault::{LineError, LineFault, ReadFault};
-use crate::header::{Header, Rings};
 use crate::line::{entry_in, is_version, size_of};
 use crate::reader::Reader;
-use crate::ring::Ring;
 use crate::rings::clashes_with_one;
-use crate::row::Row;
-use crate::trace::{Rows, Trace};
 use contexts::ContextSize;
 use line_text::{Line, first_line};
 use segments::RingShape;
 use std::alloc::Global;
+use traces::{Header, Ring, Rings, Row, Rows, Trace};
 
 /// Reads the text of a trace: `xtrace 1`, `ctx 20` or `ctx 40`, the lines of the rings, then the rows. Every byte sequence
 /// is answered, by its trace or by the first bad line and the least of its faults; `Memory` is answered only where a growth

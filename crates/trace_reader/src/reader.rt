@@ -1,10 +1,9 @@
 ghost use Rattle.std.specs.Prelude.{◌≤◌, vec_len};
-ghost use Rattle.trace_reader.specs.Limits.{most_lines};
+ghost use Rattle.traces.specs.Limits.{most_lines};
 
-use crate::ring::Ring;
-use crate::row::Row;
 use contexts::ContextSize;
 use std::alloc::Global;
+use traces::{Ring, Row};
 
 /// What the lines so far have said.
 #[derive(Drop)]

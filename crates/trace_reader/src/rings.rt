@@ -1,11 +1,11 @@
 ghost use Rattle.std.specs.Prelude.{◌≡◌, ◌||◌, ◌*◌};
 ghost use Rattle.std.specs.List.{list_any};
 ghost use Rattle.segments.specs.Places.{touches};
-ghost use Rattle.trace_reader.specs.Header.{clash, is_command_kind, is_event_kind};
+ghost use Rattle.traces.specs.Header.{clash, is_command_kind, is_event_kind};
 
-use crate::ring::Ring;
 use segments::RingShape;
 use trb::RingKind;
+use traces::Ring;
 
 /// A ring can't stand beside one of these.
 pub fn clashes_with_one(ring: &Ring, others: &[Ring]) -> bool

@@ -1,7 +1,7 @@
 ghost use Rattle.std.specs.Prelude.{List, ◌≡◌, ◌++◌, false, Ok, Err, map, IsTrue, OnOk, IfOk, IfErr};
 ghost use Rattle.std.specs.List.{flat_map};
 ghost use Rattle.line_text.specs.Lines.{lines_of};
-ghost use Rattle.trace_reader.specs.declared.step.Step.{Step};
+ghost use Rattle.traces.specs.declared.step.Step.{Step};
 ghost use Rattle.trace_reader.specs.Entries.{IfBadLine};
 ghost use Rattle.trace_reader.specs.LineByLine.{lines_say};
 ghost use Rattle.trace_reader.specs.Printing.{in_a_row};
@@ -12,11 +12,10 @@ ghost use Rattle.trace_reader.specs.Spelling.{printed_line};
 use crate::fault::{LineFault, ReadFault};
 use crate::print::push_block;
 use crate::read::at_line;
-use crate::schedule::{Schedule, Steps};
-use crate::step::Step;
 use crate::step_line::step_line;
 use line_text::{Line, first_line, push_u8, push_u32, push_u64};
 use std::alloc::{AllocError, Global};
+use traces::{Schedule, Step, Steps};
 
 /// Reads the text of a schedule: `xsched 1`, then its steps, one a line. Every byte sequence is answered, by its schedule
 /// or by the first bad line and the least of its faults; `Memory` is answered only where a growth was refused.

@@ -1,13 +1,13 @@
 ghost use Rattle.std.specs.Prelude.{◌≡◌, ◌≤◌, OnOk};
-ghost use Rattle.trace_reader.specs.Limits.{most_schedule_lines};
+ghost use Rattle.traces.specs.Limits.{most_schedule_lines};
 ghost use Rattle.trace_reader.specs.LineAnswers.{AnswersBy, valued_by};
 ghost use Rattle.trace_reader.specs.Schedules.{finish_form, look_form, other_form, report_form, row_form, scrib_form, step_form_of, step_line, step_value};
 
 use crate::entry::{event_behind, word_address_of};
 use crate::fault::{LineError, LineFault};
 use crate::line::{MOST_SCHEDULE_LINES, content_of};
-use crate::step::Step;
 use line_text::{Fields, Line, u8_of, u32_of};
+use traces::Step;
 
 /// The step that a line of a schedule says; it is the line with this number.
 pub fn step_line(number: u32, line: &Line) -> Result<Step, LineError>

@@ -7,8 +7,8 @@ use Rattle.segments.specs.ShapeValue.{Shape}
 use Rattle.segments.specs.Places.{address_of}
 use Rattle.commands.specs.Command.{command_of, named_context}
 use Rattle.contexts.specs.Contexts.{input_context_bytes}
-use Rattle.trace_reader.specs.declared.header.Header.{Header}
-use Rattle.trace_reader.specs.Header.{event_size, shape_of}
+use Rattle.traces.specs.declared.header.Header.{Header}
+use Rattle.traces.specs.Header.{event_size, shape_of}
 use Rattle.world_state.specs.declared.harm.Harm.{Harm}
 use Rattle.world_state.specs.declared.harm.Harm.TheVariants.{TakenOutOfOrder, TakenOtherWords, WaitsInsideDescriptor, LooksOutside, PostsOverUnread, InputContextChanged}
 use Rattle.world_state.specs.World.{World, RingEvent, Took, Placed, UnderWay, block_at}

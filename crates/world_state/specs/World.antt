@@ -8,10 +8,10 @@ use Rattle.commands.specs.declared.state.SlotState.TheVariants.{Disabled}
 use Rattle.commands.specs.declared.state.EndpointState.{EndpointState}
 use Rattle.commands.specs.declared.state.EndpointState.TheVariants.{Disabled as Off}
 use Rattle.segments.specs.Places.{address_of}
-use Rattle.trace_reader.specs.declared.header.Header.{Header}
-use Rattle.trace_reader.specs.declared.register.Register.{Register}
-use Rattle.trace_reader.specs.declared.row.Row.{Row}
-use Rattle.trace_reader.specs.Header.{event_shape}
+use Rattle.traces.specs.declared.header.Header.{Header}
+use Rattle.traces.specs.declared.register.Register.{Register}
+use Rattle.traces.specs.declared.row.Row.{Row}
+use Rattle.traces.specs.Header.{event_shape}
 
 -- what happened on a ring: a block was taken, when so many were declared; or the dequeue pointer was set to an address
 pub data RingEvent : Type 0 where

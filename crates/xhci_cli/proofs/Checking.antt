@@ -3,9 +3,9 @@ use Rattle.std.proofs.Common.{◌≡◌, ℕ, ◌+◌, ◌-◌, ◌<◌, ◌≤�
 use Rattle.std.specs.Prelude.{◌⊎◌, IfOk, IfErr, slice_get, reverse, take, drop, option_map}
 use Rattle.std.proofs.lemmas.Grind.{common_steps}
 use Rattle.trb.specs.declared.block.Block.{Block}
-use Rattle.trace_reader.specs.declared.row.Row.{Row}
-use Rattle.trace_reader.specs.declared.row.Row.TheVariants.{Sub, Reg, Bell, Read}
-use Rattle.trace_reader.specs.declared.register.Register.{Register}
+use Rattle.traces.specs.declared.row.Row.{Row}
+use Rattle.traces.specs.declared.row.Row.TheVariants.{Sub, Reg, Bell, Read}
+use Rattle.traces.specs.declared.register.Register.{Register}
 use Rattle.ownership_checker.specs.declared.refusal.Refusal.TheVariants.{NotInProfile}
 use Rattle.ring_knowledge.specs.Known.{Known, nothing}
 use Rattle.ring_knowledge.specs.Learned.{learned, known}
@@ -20,10 +20,10 @@ use Rattle.xhci_cli.specs.declared.checker.record.Record.{Record}
 use Rattle.xhci_cli.specs.declared.checker.fault.StepFault.{StepFault}
 use Rattle.xhci_cli.specs.declared.checker.fault.StepFault.TheVariants.{Refused, Memory}
 use Rattle.xhci_cli.specs.Tracking.{AreInside, Follows, IsRowStep, IsChecked, IsProgress, IsAccepted, IsFirstOfAll, IfRefused}
-use Rattle.trace_reader.specs.Header.{event_shape}
+use Rattle.traces.specs.Header.{event_shape}
 use Rattle.ownership_checker.specs.Profile.{is_outside, broken_within, verdict_within}
 use Rattle.std.proofs.lemmas.Option.{get_or_from_slice_get}
-use Rattle.trace_reader.specs.declared.header.Header.{Header}
+use Rattle.traces.specs.declared.header.Header.{Header}
 
 pub declared_step : (h : Header) (rs ns : List Record) (memory : ℕ → ℕ) (row : Row) (id : ℕ) (blocks now : List Block) (result : Result ℕ StepFault) → row ≡ Sub id blocks → now ≡ blocks →
     IfOk result (λ x. (k : Known) (m : ℕ → ℕ) → Follows h k rs m → IsRowStep h k (Sub id now) ns m x) →

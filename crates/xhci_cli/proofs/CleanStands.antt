@@ -20,8 +20,8 @@ use Rattle.segments.specs.OneRing.{gives, gives_crossing}
 use Rattle.segments.specs.PlaceAt.{place_at}
 use Rattle.segments.proofs.Positions.{cycle_of-first}
 use Rattle.segments.proofs.PlaceAtLemmas.{place_at-Data, place_at-Link}
-use Rattle.trace_reader.specs.Header.{is_driver_kind, shape_of}
-use Rattle.trace_reader.specs.declared.row.Row.TheVariants.{Sub, Write}
+use Rattle.traces.specs.Header.{is_driver_kind, shape_of}
+use Rattle.traces.specs.declared.row.Row.TheVariants.{Sub, Write}
 use Rattle.ring_knowledge.specs.Known.{Known, nothing}
 use Rattle.ring_knowledge.specs.Rings as rings
 use Rattle.ring_knowledge.specs.Writes.{with_word}

@@ -8,9 +8,9 @@ use Rattle.std.proofs.lemmas.Grind.{common_steps}
 use Rattle.trb.specs.declared.block.Block.{Block}
 use Rattle.contexts.specs.declared.size.ContextSize.{ContextSize}
 use Rattle.segments.specs.Places.{place_count}
-use Rattle.trace_reader.specs.declared.ring.Ring.{Ring}
-use Rattle.trace_reader.specs.Header.{command_id}
-use Rattle.trace_reader.specs.declared.row.Row.TheVariants.{Sub}
+use Rattle.traces.specs.declared.ring.Ring.{Ring}
+use Rattle.traces.specs.Header.{command_id}
+use Rattle.traces.specs.declared.row.Row.TheVariants.{Sub}
 use Rattle.ring_knowledge.specs.Known.{Known}
 use Rattle.ring_knowledge.specs.Learned.{learned, submitted}
 use Rattle.ownership_checker.specs.declared.refusal.Refusal.{Refusal}

@@ -8,10 +8,10 @@ use Rattle.trb.specs.declared.ring_kind.RingKind.TheVariants.{Xfer}
 use Rattle.trb.specs.Descriptor.{fault_of, is_badly_formed, is_bad_transfer, is_transfer_left_out, is_chain}
 use Rattle.contexts.specs.declared.size.ContextSize.{ContextSize}
 use Rattle.segments.specs.Places.{place_count}
-use Rattle.trace_reader.specs.declared.ring.Ring.{Ring}
+use Rattle.traces.specs.declared.ring.Ring.{Ring}
 use Rattle.ring_knowledge.specs.Known.{Known}
 use Rattle.ownership_checker.specs.declared.refusal.Refusal.TheVariants.{NotDeclared, RingFull}
-use Rattle.trace_reader.specs.declared.row.Row.TheVariants.{Sub}
+use Rattle.traces.specs.declared.row.Row.TheVariants.{Sub}
 use Rattle.ownership_checker.specs.Rules.{broken}
 use Rattle.ownership_checker.specs.Refusal.{first_broken, first_of}
 use Rattle.ownership_checker.specs.Declarations.{declaration_tests}

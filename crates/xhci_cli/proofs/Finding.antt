@@ -21,9 +21,9 @@ use Rattle.segments.specs.Places.{is_inside, segment_has, touches}
 use Rattle.segments.proofs.InsideLemmas.{touches-word}
 use Rattle.segments.proofs.PlaceAtLemmas.{is_in-true, is_in-parts}
 use Rattle.segments.proofs.Search.{position_only, position_nowhere}
-use Rattle.trace_reader.specs.declared.ring.Ring.{Ring}
-use Rattle.trace_reader.specs.declared.header.Header.{Header}
-use Rattle.trace_reader.specs.Header.{IsHeader, may_stand_together}
+use Rattle.traces.specs.declared.ring.Ring.{Ring}
+use Rattle.traces.specs.declared.header.Header.{Header}
+use Rattle.traces.specs.Header.{IsHeader, may_stand_together}
 use Rattle.ownership_checker.proofs.QuietKnowledge.{same_number}
 use Rattle.ownership_checker.proofs.RingsApart.{Apart, numbers_apart, together, among_at, shape_allowed}
 use Rattle.xhci_cli.specs.declared.checker.finder.Start.{Start}

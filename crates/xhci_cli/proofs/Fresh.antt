@@ -3,7 +3,7 @@ use Rattle.std.proofs.Common.{◌≡◌, ℕ, ◌≤◌, [], false, refl, ap, sy
 use Rattle.std.specs.Prelude.{replicate}
 use Rattle.std.proofs.lemmas.Grind.{common_steps}
 use Rattle.segments.specs.Places.{place_count, links}
-use Rattle.trace_reader.specs.declared.ring.Ring.{Ring}
+use Rattle.traces.specs.declared.ring.Ring.{Ring}
 use Rattle.ring_knowledge.specs.Known.{nothing}
 use Rattle.ownership_checker.specs.Givings.{length_from}
 use Rattle.xhci_cli.specs.declared.checker.record.Record.{Record}

@@ -11,12 +11,12 @@ use Rattle.commands.specs.Command.{aligned}
 use Rattle.segments.specs.ShapeValue.{Shape}
 use Rattle.segments.specs.Places.{link_target, toggles}
 use Rattle.trb.specs.Bits.{is_set}
-use Rattle.trace_reader.specs.declared.header.Header.{Header}
+use Rattle.traces.specs.declared.header.Header.{Header}
 use Rattle.contexts.specs.declared.size.ContextSize.{ContextSize}
 use Rattle.segments.specs.Places.{place_count, address_of, links, link_crossed}
 use Rattle.segments.proofs.Positions.{cycle_of-first}
 use Rattle.segments.proofs.Crossings.{crosses}
-use Rattle.trace_reader.specs.declared.ring.Ring.{Ring}
+use Rattle.traces.specs.declared.ring.Ring.{Ring}
 use Rattle.ring_knowledge.specs.Known.{Known}
 use Rattle.ring_knowledge.specs.Rings as rings
 use Rattle.ownership_checker.specs.declared.refusal.Refusal.TheVariants.{NotAsSubmitted, NotDeclared, NotWhole, LinkFault, NotInProfile}

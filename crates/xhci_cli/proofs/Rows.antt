@@ -15,10 +15,10 @@ use Rattle.segments.specs.Places.{is_inside, touches}
 use Rattle.segments.specs.PlaceAt.{place_at}
 use Rattle.segments.proofs.InsideLemmas.{touches-word}
 use Rattle.segments.proofs.PlaceAtLemmas.{is_inside-place_at}
-use Rattle.trace_reader.specs.declared.ring.Ring.{Ring}
-use Rattle.trace_reader.specs.declared.header.Header.{Header}
-use Rattle.trace_reader.specs.Header.{IsHeader, is_driver_kind, is_command_kind, is_event_kind, shape_of, command_id, command_ring, event_shape, event_ring}
-use Rattle.trace_reader.specs.declared.row.Row.TheVariants.{Sub, Write}
+use Rattle.traces.specs.declared.ring.Ring.{Ring}
+use Rattle.traces.specs.declared.header.Header.{Header}
+use Rattle.traces.specs.Header.{IsHeader, is_driver_kind, is_command_kind, is_event_kind, shape_of, command_id, command_ring, event_shape, event_ring}
+use Rattle.traces.specs.declared.row.Row.TheVariants.{Sub, Write}
 use Rattle.ring_knowledge.specs.Known.{Known, nothing}
 use Rattle.ring_knowledge.specs.Writes.{with_word}
 use Rattle.ring_knowledge.specs.Learned.{learned, submitted}

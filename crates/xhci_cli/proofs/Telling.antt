@@ -1,7 +1,7 @@
 -- What an answer of each status is
 use Rattle.std.proofs.Common.{◌≡◌, ◌∙◌, ℕ, List, Option, Some, None, Ok, Err, ap, sym, arith}
 use Rattle.ownership_checker.specs.declared.refusal.Refusal.{Refusal}
-use Rattle.trace_reader.specs.declared.trace.Trace.{Trace}
+use Rattle.traces.specs.declared.trace.Trace.{Trace}
 use Rattle.xhci_cli.specs.Answers.{IsFirstBad, IsReadFault, IsTextOf, IsTold, IsVerdict, answer_of_fault, exit_number, status_of}
 use Rattle.trace_reader.specs.Entries.{IfBadLine, text_of}
 use Rattle.trace_reader.specs.Reading.{trace_of}

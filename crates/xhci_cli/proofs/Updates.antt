@@ -16,8 +16,8 @@ use Rattle.segments.specs.Places.{place_count, links}
 use Rattle.segments.specs.PlaceAt.{place_at}
 use Rattle.segments.specs.OneRing.{gives, gives_crossing}
 use Rattle.segments.proofs.PlaceAtLemmas.{place_at-Data, place_at-Link}
-use Rattle.trace_reader.specs.declared.ring.Ring.{Ring}
-use Rattle.trace_reader.specs.declared.row.Row.TheVariants.{Write}
+use Rattle.traces.specs.declared.ring.Ring.{Ring}
+use Rattle.traces.specs.declared.row.Row.TheVariants.{Write}
 use Rattle.ring_knowledge.specs.Known.{Known}
 use Rattle.ring_knowledge.specs.Writes.{with_word}
 use Rattle.ring_knowledge.specs.Learned.{learned}

@@ -7,7 +7,7 @@ use Rattle.std.proofs.lemmas.Grind.{common_steps}
 use Rattle.trb.specs.declared.block.Block.{Block}
 use Rattle.trb.specs.declared.ring_kind.RingKind.{RingKind}
 use Rattle.trb.specs.declared.ring_kind.RingKind.TheVariants.{Cmd, Evt, Xfer}
-use Rattle.trace_reader.specs.Header.{is_driver_kind}
+use Rattle.traces.specs.Header.{is_driver_kind}
 use Rattle.trb.specs.Block.{kind, pointer, with_cycle}
 use Rattle.trb.specs.Kind.{is_link}
 use Rattle.trb.proofs.BlockLemmas.{kind-with_cycle}

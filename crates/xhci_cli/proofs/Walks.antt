@@ -16,11 +16,11 @@ use Rattle.segments.specs.PlaceAt.{place_at}
 use Rattle.segments.proofs.Positions.{place_count_pos, address_of-first}
 use Rattle.segments.proofs.DataPlaces.{place_inside}
 use Rattle.segments.proofs.PlaceAtLemmas.{place_at-odd, is_inside-place_at, is_in-parts}
-use Rattle.trace_reader.specs.declared.header.Header.{Header}
-use Rattle.trace_reader.specs.declared.ring.Ring.{Ring}
-use Rattle.trace_reader.specs.declared.row.Row.{Row}
-use Rattle.trace_reader.specs.declared.row.Row.TheVariants.{Sub, Write, Reg, Bell, Read}
-use Rattle.trace_reader.specs.Header.{IsHeader, is_driver_kind, is_command_kind, is_event_kind, shape_of}
+use Rattle.traces.specs.declared.header.Header.{Header}
+use Rattle.traces.specs.declared.ring.Ring.{Ring}
+use Rattle.traces.specs.declared.row.Row.{Row}
+use Rattle.traces.specs.declared.row.Row.TheVariants.{Sub, Write, Reg, Bell, Read}
+use Rattle.traces.specs.Header.{IsHeader, is_driver_kind, is_command_kind, is_event_kind, shape_of}
 use Rattle.ring_knowledge.specs.Known.{Known, nothing}
 use Rattle.ring_knowledge.specs.Writes.{with_word}
 use Rattle.ring_knowledge.specs.Learned.{learned, submitted, known}

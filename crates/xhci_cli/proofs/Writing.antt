@@ -9,8 +9,8 @@ use Rattle.segments.specs.declared.place.Place.{Place}
 use Rattle.segments.specs.ShapeValue.{Shape}
 use Rattle.segments.specs.PlaceAt.{place_at}
 use Rattle.segments.proofs.PlaceAtLemmas.{place_at-Data, place_at-Link}
-use Rattle.trace_reader.specs.declared.ring.Ring.{Ring}
-use Rattle.trace_reader.specs.declared.row.Row.TheVariants.{Write}
+use Rattle.traces.specs.declared.ring.Ring.{Ring}
+use Rattle.traces.specs.declared.row.Row.TheVariants.{Write}
 use Rattle.ring_knowledge.specs.Known.{Known}
 use Rattle.ownership_checker.specs.declared.refusal.Refusal.{Refusal}
 use Rattle.ownership_checker.specs.declared.refusal.Refusal.TheVariants.{WriteToOwned}

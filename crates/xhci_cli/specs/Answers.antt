@@ -2,7 +2,7 @@
 use Rattle.std.specs.Prelude.{◌≡◌, ℕ, List, [], ◌∷◌, ◌++◌, Option, Some, None, Ok, Err, codes, decimal}
 use Rattle.std.specs.Io.KnownBytes.{Appends}
 use Rattle.ring_knowledge.specs.Known.{nothing}
-use Rattle.trace_reader.specs.declared.trace.Trace.{Trace}
+use Rattle.traces.specs.declared.trace.Trace.{Trace}
 use Rattle.trace_reader.specs.declared.fault.LineFault.{LineFault}
 use Rattle.trace_reader.specs.Entries.{text_of as spelled}
 use Rattle.trace_reader.specs.Reading.{trace_of}

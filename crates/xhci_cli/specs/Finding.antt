@@ -3,7 +3,7 @@ use Rattle.std.specs.Prelude.{◌≡◌, ℕ, ◌+◌, ◌<◌, ◌≤◌, List,
 use Rattle.std.specs.List.{Contains}
 use Rattle.std.specs.List.Sorted.{IsNonDecreasingBy, IsPermutation}
 use Rattle.segments.specs.declared.segment.Segment.{Segment}
-use Rattle.trace_reader.specs.declared.ring.Ring.{Ring}
+use Rattle.traces.specs.declared.ring.Ring.{Ring}
 use Rattle.xhci_cli.specs.declared.checker.finder.Start.{Start}
 use Rattle.xhci_cli.specs.declared.checker.finder.Finder.{Finder}
 

@@ -5,11 +5,11 @@ use Rattle.std.specs.Option.{option_map_or}
 use Rattle.trb.specs.Descriptor.{fault_of}
 use Rattle.cycle_ring.specs.Progress.{Progress, has_room, is_given_count}
 use Rattle.cycle_ring.specs.Writes.{writes_of}
-use Rattle.trace_reader.specs.declared.plan.PlanLine.{PlanLine}
-use Rattle.trace_reader.specs.declared.plan.PlanLine.TheVariants.{Sub, Ret}
+use Rattle.traces.specs.declared.plan.PlanLine.{PlanLine}
+use Rattle.traces.specs.declared.plan.PlanLine.TheVariants.{Sub, Ret}
 use Rattle.contexts.specs.declared.size.ContextSize.TheVariants.{Bytes32}
-use Rattle.trace_reader.specs.declared.row.Row.{Row}
-use Rattle.trace_reader.specs.declared.row.Row.TheVariants.{Sub as SubRow, Write}
+use Rattle.traces.specs.declared.row.Row.{Row}
+use Rattle.traces.specs.declared.row.Row.TheVariants.{Sub as SubRow, Write}
 use Rattle.trace_reader.specs.Plans.{PlanText}
 use Rattle.trace_reader.specs.Reading.{TraceText}
 use Rattle.trace_reader.specs.Spelling.{printed_line, row_fields, size_fields, version_fields}

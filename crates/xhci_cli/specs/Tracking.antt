@@ -4,13 +4,13 @@ use Rattle.trb.specs.declared.ring_kind.RingKind.TheVariants.{Xfer}
 use Rattle.contexts.specs.declared.size.ContextSize.{ContextSize}
 use Rattle.segments.specs.Shape.{IsShape}
 use Rattle.segments.specs.Places.{place_count, links}
-use Rattle.trace_reader.specs.declared.ring.Ring.{Ring}
-use Rattle.trace_reader.specs.declared.header.Header.{Header}
-use Rattle.trace_reader.specs.Header.{is_driver_kind, event_shape}
+use Rattle.traces.specs.declared.ring.Ring.{Ring}
+use Rattle.traces.specs.declared.header.Header.{Header}
+use Rattle.traces.specs.Header.{is_driver_kind, event_shape}
 use Rattle.ring_knowledge.specs.Known.{Known}
 use Rattle.ownership_checker.specs.Quiet.{header_of, IsCalm, crossing_of}
 use Rattle.ownership_checker.specs.Givings.{length_from}
-use Rattle.trace_reader.specs.declared.row.Row.{Row}
+use Rattle.traces.specs.declared.row.Row.{Row}
 use Rattle.ring_knowledge.specs.Known.{nothing}
 use Rattle.ring_knowledge.specs.Learned.{learned, known}
 use Rattle.ownership_checker.specs.declared.refusal.Refusal.{Refusal}

@@ -6,8 +6,8 @@ use Rattle.trb.specs.Kind.{is_link}
 use Rattle.commands.specs.Command.{aligned}
 use Rattle.segments.specs.ShapeValue.{Shape}
 use Rattle.segments.specs.Places.{place_count, address_of, links}
-use Rattle.trace_reader.specs.declared.header.Header.{Header}
-use Rattle.trace_reader.specs.declared.row.Row.{Row}
+use Rattle.traces.specs.declared.header.Header.{Header}
+use Rattle.traces.specs.declared.row.Row.{Row}
 use Rattle.ring_knowledge.specs.Learned.{known}
 
 -- the block at an address

@@ -7,7 +7,7 @@ ghost use Rattle.xhci_cli.specs.Plans.{plan_refusal, plan_trace};
 ghost use Rattle.xhci_cli.specs.declared.writer.fault.PlanRefusal.{PlanRefusal};
 ghost use Rattle.std.specs.Prelude.{None, Some, ◌≡◌, ℕ, OnOk, IfOk, IfErr};
 ghost use Rattle.ownership_checker.specs.declared.refusal.Refusal.{Refusal};
-ghost use Rattle.trace_reader.specs.declared.trace.Trace.{Trace};
+ghost use Rattle.traces.specs.declared.trace.Trace.{Trace};
 ghost use Rattle.xhci_cli.specs.Answers.{IsFirstBad, IsReadFault, IsTextOf, IsTold, IsVerdict, status_of};
 ghost use Rattle.trace_reader.specs.declared.fault.LineFault.{LineFault};
 
@@ -16,7 +16,8 @@ use super::checker::{CheckFault, check};
 use super::writer::write_plan;
 use std::alloc::Global;
 use std::io::{self, Read, Write};
-use trace_reader::{Trace, read_trace};
+use trace_reader::read_trace;
+use traces::Trace;
 
 /// Checks the trace that `input` holds. A verdict goes to `out`, and what hinders one to `err`.
 pub fn run_check<R: Read, O: Write, E: Write>(

@@ -1,6 +1,6 @@
 ghost use Rattle.std.specs.Prelude.{◌≡◌, ◌+◌, ◌≤◌, ℕ, None, Some, length, reverse, IfOk, IfErr, OnOk};
-ghost use Rattle.trace_reader.specs.Header.{IsHeader};
-ghost use Rattle.trace_reader.specs.Limits.{most_lines};
+ghost use Rattle.traces.specs.Header.{IsHeader};
+ghost use Rattle.traces.specs.Limits.{most_lines};
 ghost use Rattle.ring_knowledge.specs.Known.{nothing};
 ghost use Rattle.ownership_checker.specs.Profile.{verdict_within};
 ghost use Rattle.xhci_cli.specs.Tracking.{AreInside, IfRefusedAt, IsAccepted, IsFirstOfAll};
@@ -12,7 +12,7 @@ use super::rings::{event_leases, fresh_records};
 use super::row::check_row;
 use guest_memory::{SparseMemory, WordMemory};
 use std::alloc::Global;
-use trace_reader::{Header, Row, Trace};
+use traces::{Header, Row, Trace};
 
 /// Checks the rows of a trace, `first` the number of the first; how many leases begin.
 fn check_rows<M: WordMemory + Drop>(

@@ -1,11 +1,11 @@
 ghost use Rattle.std.specs.Prelude.{◌≡◌, ◌==◌, ◌<◌, ◌%◌, ◌++◌, ℕ, List, length, map, position, true, IfOk, IfSome, OnOk};
 ghost use Rattle.segments.specs.Places.{touches};
-ghost use Rattle.trace_reader.specs.Header.{IsHeader, may_stand_together};
-ghost use Rattle.trace_reader.specs.declared.ring.Ring.{Ring};
+ghost use Rattle.traces.specs.Header.{IsHeader, may_stand_together};
+ghost use Rattle.traces.specs.declared.ring.Ring.{Ring};
 ghost use Rattle.xhci_cli.specs.Finding.{AreNumbers, IsFinder, IsRingBefore, start_of, starts_from};
 
 use std::alloc::{AllocError, Global};
-use trace_reader::{Header, Ring};
+use traces::{Header, Ring};
 
 /// The first address of a segment, and the number of its ring in the header.
 #[derive(Clone, Copy)]

@@ -1,7 +1,7 @@
 ghost use Rattle.std.specs.Prelude.{◌≡◌, ◌≤◌, ℕ, Some, IfOk, IfErr, OnOk};
 ghost use Rattle.contexts.specs.declared.size.ContextSize.{ContextSize};
 ghost use Rattle.guest_memory.specs.Memory.{put};
-ghost use Rattle.trace_reader.specs.declared.row.Row.TheVariants.{Sub, Write};
+ghost use Rattle.traces.specs.declared.row.Row.TheVariants.{Sub, Write};
 ghost use Rattle.ring_knowledge.specs.Known.{Known};
 ghost use Rattle.ownership_checker.specs.Refusal.{first_of};
 ghost use Rattle.ownership_checker.specs.Rules.{broken};
@@ -12,7 +12,7 @@ use super::record::Record;
 use super::refusals::{declaration_refusal, write_refusal};
 use super::updates::{declare, note_write};
 use guest_memory::{Addr, WordMemory};
-use trace_reader::Ring;
+use traces::Ring;
 use trb::Block;
 
 /// Checks a declaration on a transfer ring, and notes it; it begins no lease.

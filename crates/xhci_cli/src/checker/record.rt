@@ -3,7 +3,7 @@ ghost use Rattle.ring_knowledge.specs.Known.{nothing};
 ghost use Rattle.xhci_cli.specs.Tracking.{IsDriverRing, Tracks};
 
 use std::alloc::{AllocError, Global};
-use trace_reader::Ring;
+use traces::Ring;
 use trb::Block;
 
 /// What was declared and given on a ring whose controller's pointer hasn't moved yet.

@@ -13,14 +13,14 @@ ghost use Rattle.ownership_checker.specs.Quiet.{crossing_of};
 ghost use Rattle.ownership_checker.specs.QuietTests.{position_tests, crossing_tests, refusal_of};
 ghost use Rattle.trb.specs.Descriptor.{fault_of};
 ghost use Rattle.trb.specs.declared.ring_kind.RingKind.TheVariants.{Xfer};
-ghost use Rattle.trace_reader.specs.declared.row.Row.TheVariants.{Sub, Write};
+ghost use Rattle.traces.specs.declared.row.Row.TheVariants.{Sub, Write};
 ghost use Rattle.xhci_cli.specs.Tracking.{IsDriverRing, IsTransferRing, Tracks, header};
 
 use super::record::Record;
 use guest_memory::{Addr, WordMemory};
 use ownership_checker::Refusal;
 use segments::Place;
-use trace_reader::Ring;
+use traces::Ring;
 use trb::{Block, BlockFlags, BlockKind, Fault, Flags, RingKind, descriptor_fault};
 
 /// Which rule a declaration breaks first.

@@ -1,10 +1,10 @@
 ghost use Rattle.std.specs.Prelude.{◌≡◌, ◌≤◌, length, IfOk};
-ghost use Rattle.trace_reader.specs.Header.{IsHeader, event_shape, is_event_kind};
+ghost use Rattle.traces.specs.Header.{IsHeader, event_shape, is_event_kind};
 ghost use Rattle.xhci_cli.specs.Tracking.{AreFresh};
 
 use super::record::Record;
 use std::alloc::{AllocError, Global};
-use trace_reader::{Header, Ring};
+use traces::{Header, Ring};
 use trb::RingKind;
 
 /// The ring carries events.

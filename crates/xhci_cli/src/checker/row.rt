@@ -1,6 +1,6 @@
 ghost use Rattle.std.specs.Prelude.{◌≡◌, ◌≤◌, ℕ, Some, length, IfOk, IfErr};
-ghost use Rattle.trace_reader.specs.Header.{IsHeader};
-ghost use Rattle.trace_reader.specs.declared.row.Row.TheVariants.{Sub, Write};
+ghost use Rattle.traces.specs.Header.{IsHeader};
+ghost use Rattle.traces.specs.declared.row.Row.TheVariants.{Sub, Write};
 ghost use Rattle.ring_knowledge.specs.Known.{Known};
 ghost use Rattle.ownership_checker.specs.Profile.{broken_within};
 ghost use Rattle.ownership_checker.specs.Refusal.{first_of};
@@ -14,7 +14,7 @@ use super::record::Record;
 use super::rings::is_event_ring;
 use guest_memory::{Addr, WordMemory};
 use ownership_checker::Refusal;
-use trace_reader::{Header, Row};
+use traces::{Header, Row};
 use trb::{Block, RingKind};
 
 /// Checks a row, and notes it; how many leases it begins.

@@ -6,7 +6,7 @@ ghost use Rattle.ring_knowledge.specs.Learned.{learned};
 ghost use Rattle.ownership_checker.specs.Leases.{begun};
 ghost use Rattle.ownership_checker.specs.Refusal.{first_of};
 ghost use Rattle.ownership_checker.specs.Rules.{broken};
-ghost use Rattle.trace_reader.specs.declared.row.Row.TheVariants.{Sub, Write};
+ghost use Rattle.traces.specs.declared.row.Row.TheVariants.{Sub, Write};
 ghost use Rattle.xhci_cli.specs.Tracking.{IsDriverRing, IsTransferRing, Tracks, header};
 
 use super::record::Record;
@@ -14,7 +14,7 @@ use super::refusals::is_giving;
 use guest_memory::Addr;
 use segments::Place;
 use std::alloc::AllocError;
-use trace_reader::Ring;
+use traces::Ring;
 use trb::Block;
 
 /// Adds the blocks of one descriptor to what is declared.

@@ -1,6 +1,6 @@
 ghost use Rattle.std.specs.Prelude.{◌≡◌, ◌++◌, ◌+◌, ◌≤◌, None, Some, OnOk, IfOk, IfErr, length, map};
-ghost use Rattle.trace_reader.specs.Limits.{most_lines};
-ghost use Rattle.trace_reader.specs.declared.plan.PlanLine.TheVariants.{Sub};
+ghost use Rattle.traces.specs.Limits.{most_lines};
+ghost use Rattle.traces.specs.declared.plan.PlanLine.TheVariants.{Sub};
 ghost use Rattle.trace_reader.specs.PlanValues.{plan_text};
 ghost use Rattle.trace_reader.specs.Spelling.{printed_trace};
 ghost use Rattle.xhci_cli.specs.PlanRefusals.{IfStopped, IfRefusedLine, IsNoTextFault};
@@ -10,7 +10,8 @@ use super::fault::{LineStop, PlanFault, PlanRefusal};
 use cycle_ring::Producer;
 use guest_memory::Addr;
 use std::alloc::{AllocError, Global};
-use trace_reader::{Plan, PlanLine, with_ring, with_sub, with_write};
+use trace_reader::{with_ring, with_sub, with_write};
+use traces::{Plan, PlanLine};
 use trb::Block;
 
 /// The lines before a ring's: the version, and contexts of 32 bytes.

@@ -1,7 +1,7 @@
 use Rattle.std.proofs.Common.{◌≡◌, ◌∙◌, ap, sym, refl, Some, None}
 use Rattle.std.proofs.lemmas.Result.{err_from_is_err_and}
 use Rattle.line_text.specs.Fields.{fields_of}
-use Rattle.trace_reader.specs.declared.plan.PlanLine.{PlanLine}
+use Rattle.traces.specs.declared.plan.PlanLine.{PlanLine}
 use Rattle.trace_reader.specs.declared.fault.LineFault.TheVariants.{Limit}
 use Rattle.trace_reader.specs.LineAnswers.{valued_by}
 use Rattle.trace_reader.specs.Plans.{plan_form_of, plan_line_fault, plan_value}

@@ -1,6 +1,6 @@
 use Rattle.std.proofs.Common.{◌∙◌, ap, sym}
 use Rattle.std.proofs.lemmas.Result.{err_from_is_err_and}
-use Rattle.trace_reader.specs.declared.ring.Ring.{Ring}
+use Rattle.traces.specs.declared.ring.Ring.{Ring}
 use Rattle.trace_reader.specs.Entries.{ring_of}
 use Rattle.trace_reader.specs.LineAnswers.{valued_by}
 use Rattle.trace_reader.specs.Plans.{plan_ring_fault, ring_line_form, ring_value}

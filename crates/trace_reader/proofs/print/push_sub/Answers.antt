@@ -1,6 +1,6 @@
 use Rattle.std.proofs.Common.{arith}
 use Rattle.std.proofs.lemmas.Grind.{common_steps}
-use Rattle.trace_reader.specs.declared.row.Row.TheVariants.{Sub}
+use Rattle.traces.specs.declared.row.Row.TheVariants.{Sub}
 use Rattle.trace_reader.specs.Spelling.{row_fields}
 use Rattle.trace_reader.proofs.LinePieces.{line_of}
 use Rattle.trace_reader.proofs.print.push_sub.Goals as goal

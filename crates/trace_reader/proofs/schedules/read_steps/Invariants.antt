@@ -1,6 +1,6 @@
 use Rattle.std.proofs.Common.{◌≡◌, ◌≤◌, ◌+◌, length}
 use Rattle.line_text.specs.Lines.{lines_of}
-use Rattle.trace_reader.specs.Limits.{most_schedule_lines}
+use Rattle.traces.specs.Limits.{most_schedule_lines}
 use Rattle.trace_reader.specs.LineByLine.{lines_say}
 use Rattle.trace_reader.specs.Schedules.{step_line}
 use Rattle.trace_reader.proofs.LineSteps.{prepended}

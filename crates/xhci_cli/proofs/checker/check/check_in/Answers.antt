@@ -1,6 +1,6 @@
 use Rattle.std.proofs.Common.{List, subst}
 use Rattle.std.specs.Prelude.{OnOk, IfOk, reverse}
-use Rattle.trace_reader.specs.declared.row.Row.{Row}
+use Rattle.traces.specs.declared.row.Row.{Row}
 use Rattle.xhci_cli.specs.Tracking.{AreInside, IsAccepted}
 use Rattle.xhci_cli.proofs.Walks.{accepted_walks}
 use Rattle.xhci_cli.proofs.checker.check.check_in.Goals as goal

@@ -1,5 +1,5 @@
 use Rattle.std.proofs.Common.{◌≡◌, ℕ, ap, sym, ◌∙◌, subst}
-use Rattle.trace_reader.specs.declared.row.Row.TheVariants.{Sub}
+use Rattle.traces.specs.declared.row.Row.TheVariants.{Sub}
 use Rattle.ring_knowledge.specs.Learned.{learned}
 use Rattle.ownership_checker.specs.Refusal.{first_of}
 use Rattle.ownership_checker.specs.Rules.{broken}

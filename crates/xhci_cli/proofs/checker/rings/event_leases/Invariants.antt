@@ -1,6 +1,6 @@
 use Rattle.std.proofs.Common.{◌≡◌, ◌<◌, ℕ, false, get_or}
-use Rattle.trace_reader.specs.declared.ring.Ring.{Ring}
-use Rattle.trace_reader.specs.Header.{is_event_kind}
+use Rattle.traces.specs.declared.ring.Ring.{Ring}
+use Rattle.traces.specs.Header.{is_event_kind}
 use Rattle.xhci_cli.proofs.checker.rings.event_leases.Given as goal
 
 -- no ring so far is an event ring

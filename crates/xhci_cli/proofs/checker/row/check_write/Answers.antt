@@ -1,6 +1,6 @@
 use Rattle.std.proofs.Common.{◌≡◌, refl, true, get_or, sym, ◌∙◌, ap, arith}
 use Rattle.std.proofs.lemmas.Option.{slice_get-get_or, slice_get_within}
-use Rattle.trace_reader.specs.Header.{is_driver_kind}
+use Rattle.traces.specs.Header.{is_driver_kind}
 use Rattle.std.specs.Prelude.{not}
 use Rattle.segments.specs.Places.{touches}
 use Rattle.xhci_cli.proofs.Rows.{nowhere_step, event_write, ring_here, written_ok, written_bad}

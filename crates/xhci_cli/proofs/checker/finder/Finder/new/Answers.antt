@@ -1,7 +1,7 @@
 use Rattle.std.proofs.Common.{List, length, subst, ap, ◌∙◌, rules}
 use Rattle.std.specs.List.Sorted.{IsPermutation}
 use Rattle.std.proofs.lemmas.List.Sorted.{IsNonDecreasingBy-from_sort_by_key}
-use Rattle.trace_reader.specs.declared.ring.Ring.{Ring}
+use Rattle.traces.specs.declared.ring.Ring.{Ring}
 use Rattle.xhci_cli.specs.declared.checker.finder.Start.{Start}
 use Rattle.xhci_cli.specs.Finding.{AreNumbers, starts_from}
 use Rattle.xhci_cli.proofs.checker.finder.Finder.new.Goals as goal

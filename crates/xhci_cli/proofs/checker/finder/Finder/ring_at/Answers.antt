@@ -1,6 +1,6 @@
 use Rattle.std.proofs.Common.{get_or, sym, ap, ◌∙◌}
 use Rattle.segments.specs.Places.{touches}
-use Rattle.trace_reader.specs.declared.ring.Ring.{Ring}
+use Rattle.traces.specs.declared.ring.Ring.{Ring}
 use Rattle.xhci_cli.proofs.Finding.{nothing_before, ring_hit, ring_miss}
 use Rattle.xhci_cli.proofs.checker.finder.Finder.ring_at.Goals as goal
 

@@ -4,7 +4,7 @@ use Rattle.segments.proofs.DataPlaces.{length-links}
 use Rattle.segments.specs.Places.{links}
 use Rattle.trb.specs.declared.ring_kind.RingKind.{RingKind}
 use Rattle.trb.specs.declared.ring_kind.RingKind.TheVariants.{Cmd, Evt, Xfer}
-use Rattle.trace_reader.specs.Header.{is_driver_kind}
+use Rattle.traces.specs.Header.{is_driver_kind}
 use Rattle.xhci_cli.proofs.Fresh.{fresh}
 use Rattle.xhci_cli.proofs.checker.record.Record.new.Goals as goal
 

@@ -1,7 +1,7 @@
 ghost use Rattle.std.specs.Prelude.{◌≡◌, ◌+◌, ◌≤◌, length};
-ghost use Rattle.trace_reader.specs.Header.{IsHeader};
-ghost use Rattle.trace_reader.specs.Limits.{most_lines};
-ghost use Rattle.trace_reader.specs.Rows.{AreRows, rows_are_fact};
+ghost use Rattle.traces.specs.Header.{IsHeader};
+ghost use Rattle.traces.specs.Limits.{most_lines};
+ghost use Rattle.traces.specs.Rows.{AreRows, rows_are_fact};
 
 use crate::header::Header;
 use crate::row::Row;
@@ -15,7 +15,7 @@ pub struct Rows {
 
 impl Model for Rows {
     ghost use Rattle.std.specs.Prelude.{List};
-    ghost use Rattle.trace_reader.specs.declared.row.Row.{Row};
+    ghost use Rattle.traces.specs.declared.row.Row.{Row};
 
     ghost Value = { List Row };
 

@@ -1,6 +1,6 @@
 ghost use Rattle.std.specs.Prelude.{◌≡◌};
-ghost use Rattle.trace_reader.specs.Forms.{register_name};
-ghost use Rattle.trace_reader.specs.Register.{is_wide};
+ghost use Rattle.traces.specs.Register.{register_name};
+ghost use Rattle.traces.specs.Register.{is_wide};
 
 /// A register that a trace may write (xHCI 5.4, 5.5.2).
 #[derive(Clone, Copy, Debug, PartialEq, Eq)]

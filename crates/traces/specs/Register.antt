@@ -1,7 +1,21 @@
 -- The registers of a trace: xHCI 5.4, 5.5.2
-use Rattle.std.specs.Prelude.{ℕ, ◌*◌, ◌/◌, ◌%◌, ◌==◌, Bool, true, false}
-use Rattle.trace_reader.specs.declared.register.Register.{Register}
-use Rattle.trace_reader.specs.declared.register.Register.TheVariants.{Usbcmd, Usbsts, Dnctrl, Crcr, Dcbaap, Config, Iman, Imod, Erstsz, Erstba, Erdp}
+use Rattle.std.specs.Prelude.{ℕ, ◌*◌, ◌/◌, ◌%◌, ◌==◌, Bool, true, false, List, codes}
+use Rattle.traces.specs.declared.register.Register.{Register}
+use Rattle.traces.specs.declared.register.Register.TheVariants.{Usbcmd, Usbsts, Dnctrl, Crcr, Dcbaap, Config, Iman, Imod, Erstsz, Erstba, Erdp}
+
+-- the word for it in a trace
+abbrev pub register_name : Register → List ℕ
+register_name Usbcmd = codes "usbcmd"
+register_name Usbsts = codes "usbsts"
+register_name Dnctrl = codes "dnctrl"
+register_name Crcr = codes "crcr"
+register_name Dcbaap = codes "dcbaap"
+register_name Config = codes "config"
+register_name Iman = codes "iman"
+register_name Imod = codes "imod"
+register_name Erstsz = codes "erstsz"
+register_name Erstba = codes "erstba"
+register_name Erdp = codes "erdp"
 
 -- 64 bits; the others have 32
 abbrev pub is_wide : Register → Bool

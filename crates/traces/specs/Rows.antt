@@ -2,12 +2,12 @@
 use Rattle.std.specs.Prelude.{◌≡◌, ◌≢◌, ℕ, ◌%◌, ◌<◌, ◌≤◌, ◌^◌, true, All, List, length}
 use Rattle.std.proofs.Props.{props}
 use Rattle.trb.specs.Block.{IsBlock}
-use Rattle.trace_reader.specs.Limits.{most_declared}
-use Rattle.trace_reader.specs.Register.{is_wide}
-use Rattle.trace_reader.specs.declared.row.Row.{Row}
-use Rattle.trace_reader.specs.declared.row.Row.TheVariants.{Sub, Write, Reg, Bell, Read}
-use Rattle.trace_reader.specs.declared.step.Step.{Step}
-use Rattle.trace_reader.specs.declared.step.Step.TheVariants.{NextRow, Look, Report, Finish, Other, Scribble}
+use Rattle.traces.specs.Limits.{most_declared}
+use Rattle.traces.specs.Register.{is_wide}
+use Rattle.traces.specs.declared.row.Row.{Row}
+use Rattle.traces.specs.declared.row.Row.TheVariants.{Sub, Write, Reg, Bell, Read}
+use Rattle.traces.specs.declared.step.Step.{Step}
+use Rattle.traces.specs.declared.step.Step.TheVariants.{NextRow, Look, Report, Finish, Other, Scribble}
 
 -- the address of a word
 abbrev pub IsWordAddress : ℕ → Type 0
@@ -56,3 +56,18 @@ IsStep (Report event) = IsBlock event
 IsStep (Finish event) = IsBlock event
 IsStep (Other event) = IsBlock event
 IsStep (Scribble at word) = IsWordAddress at × (word < 2 ^ 32)
+
+-- each is one fact
+pub step_is_fact : (step : Step) → IsProp (IsStep step)
+step_is_fact NextRow = hlevel props
+step_is_fact (Look ring) = hlevel props
+step_is_fact (Report event) = hlevel props
+step_is_fact (Finish event) = hlevel props
+step_is_fact (Other event) = hlevel props
+step_is_fact (Scribble at word) = hlevel props
+
+abbrev pub AreSteps : List Step → Type 0
+AreSteps steps = All IsStep steps
+
+pub steps_are_fact : (steps : List Step) → IsProp (AreSteps steps)
+steps_are_fact steps = hlevel (props, step_is_fact)

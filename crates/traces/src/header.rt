@@ -12,7 +12,7 @@ pub struct Rings {
 
 impl Model for Rings {
     ghost use Rattle.std.specs.Prelude.{List};
-    ghost use Rattle.trace_reader.specs.declared.ring.Ring.{Ring};
+    ghost use Rattle.traces.specs.declared.ring.Ring.{Ring};
 
     ghost Value = { List Ring };
 

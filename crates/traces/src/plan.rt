@@ -1,8 +1,8 @@
 ghost use Rattle.std.specs.Prelude.{◌≡◌, ◌≢◌, ◌+◌, ◌<◌, ◌≤◌, length};
 ghost use Rattle.segments.specs.Shape.{IsShape};
 ghost use Rattle.trb.specs.declared.ring_kind.RingKind.TheVariants.{Evt};
-ghost use Rattle.trace_reader.specs.Limits.{most_lines};
-ghost use Rattle.trace_reader.specs.PlanSpelling.{ArePlanLines, plan_lines_are_fact};
+ghost use Rattle.traces.specs.Limits.{most_lines};
+ghost use Rattle.traces.specs.PlanLines.{ArePlanLines, plan_lines_are_fact};
 
 use crate::ring::Ring;
 use std::marker::Model;
@@ -25,7 +25,7 @@ pub struct PlanLines {
 
 impl Model for PlanLines {
     ghost use Rattle.std.specs.Prelude.{List};
-    ghost use Rattle.trace_reader.specs.declared.plan.PlanLine.{PlanLine};
+    ghost use Rattle.traces.specs.declared.plan.PlanLine.{PlanLine};
 
     ghost Value = { List PlanLine };
 

@@ -1,6 +1,6 @@
 -- What a fact on literals unfolds to compute: name it on an `unfolding` line
 use Rattle.std.specs.Prelude.{⊤}
-use Rattle.trace_reader.specs.Header as of_header
+use Rattle.traces.specs.Header as of_header
 
 unfoldable pub header_on_literals : ⊤
 unfolding of_header.shape_of of_header.command_ring of_header.event_ring of_header.command_id of_header.event_shape of_header.event_size of_header.driver_rings of_header.ring_beginning_at of_header.ring_having of_header.touches_ring

@@ -1,6 +1,6 @@
 ghost use Rattle.std.specs.Prelude.{◌≡◌, ◌+◌, ◌≤◌, length};
-ghost use Rattle.trace_reader.specs.Limits.{most_schedule_lines};
-ghost use Rattle.trace_reader.specs.ScheduleSpelling.{AreSteps, steps_are_fact};
+ghost use Rattle.traces.specs.Limits.{most_schedule_lines};
+ghost use Rattle.traces.specs.Rows.{AreSteps, steps_are_fact};
 
 use crate::step::Step;
 use std::marker::Model;
@@ -13,7 +13,7 @@ pub struct Steps {
 
 impl Model for Steps {
     ghost use Rattle.std.specs.Prelude.{List};
-    ghost use Rattle.trace_reader.specs.declared.step.Step.{Step};
+    ghost use Rattle.traces.specs.declared.step.Step.{Step};
 
     ghost Value = { List Step };
 

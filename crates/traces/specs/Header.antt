@@ -6,8 +6,8 @@ use Rattle.trb.specs.declared.ring_kind.RingKind.TheVariants.{Cmd, Evt, Xfer}
 use Rattle.segments.specs.ShapeValue.{Shape}
 use Rattle.segments.specs.Places.{place_count, address_of, is_inside, touches}
 use Rattle.segments.specs.Shape.{is_shape}
-use Rattle.trace_reader.specs.declared.ring.Ring.{Ring}
-use Rattle.trace_reader.specs.declared.header.Header.{Header}
+use Rattle.traces.specs.declared.ring.Ring.{Ring}
+use Rattle.traces.specs.declared.header.Header.{Header}
 
 abbrev pub is_command_kind : RingKind → Bool
 is_command_kind Cmd = true

@@ -1,0 +1,6 @@
+pub mod Limits
+pub mod Register
+pub mod Header
+pub mod Rows
+pub mod PlanLines
+pub mod OnLiterals
