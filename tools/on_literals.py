@@ -19,8 +19,11 @@ def write(crate, name, lower, comment):
     text='-- '+comment+'\nuse Rattle.std.specs.Prelude.{⊤}\n'+'\n'.join(uses)+f'\n\nunfoldable pub {name} : ⊤\nunfolding '+' '.join(items)+f'\n{name} = tt\n'
     open(f'{d}/OnLiterals.antt','w').write(text)
 c='What a fact on literals unfolds to compute: name it on an `unfolding` line'
+write('contexts','contexts_on_literals',[],c)
+write('segments','views_on_literals',[],c)
+write('commands','commands_on_literals',[('contexts','contexts_on_literals')],c)
 write('traces','header_on_literals',[],c)
-write('world_state','world_on_literals',[('traces','header_on_literals')],c)
-write('controller_model','model_on_literals',[('world_state','world_on_literals')],c)
-write('ring_knowledge','knowledge_on_literals',[('traces','header_on_literals')],c)
-write('ownership_checker','rules_on_literals',[('ring_knowledge','knowledge_on_literals')],c)
+write('world_state','world_on_literals',[('traces','header_on_literals'),('segments','views_on_literals')],c)
+write('controller_model','model_on_literals',[('world_state','world_on_literals'),('commands','commands_on_literals')],c)
+write('ring_knowledge','knowledge_on_literals',[('traces','header_on_literals'),('segments','views_on_literals'),('commands','commands_on_literals')],c)
+write('ownership_rules','rules_on_literals',[('ring_knowledge','knowledge_on_literals')],c)

@@ -2,7 +2,7 @@
 """Writes the worked cases as facts that evaluation has to close: worked_examples.py CASES
 
 CASES is a folder of cases as tests/rows has them. Each trace with its verdict and its leases goes to
-crates/ownership_checker/proofs/, each replay with its ending to crates/controller_model/proofs/. Run it at the top of the repository.
+crates/ownership_rules/proofs/, each replay with its ending to crates/controller_model/proofs/. Run it at the top of the repository.
 """
 import os, sys
 
@@ -69,16 +69,16 @@ use Rattle.traces.specs.declared.register.Register.TheVariants.{Usbcmd, Crcr, Dc
 def main():
     cases = sys.argv[1]
     traces = HEAD % 'Worked traces with their verdicts' + '''use Rattle.ring_knowledge.specs.Known.{nothing}
-use Rattle.ownership_checker.specs.declared.refusal.Refusal.TheVariants.{WriteToOwned, NotAsSubmitted, NotDeclared, NotWhole, LinkFault, RingFull, BadDescriptor, BadRegister, BadDoorbell, BadCommand, Busy, ImpossibleEvent, BadErdp, NotInProfile, AfterStop, BadMove}
-use Rattle.ownership_checker.specs.Rules.{verdict_from}
-use Rattle.ownership_checker.specs.OnLiterals.{rules_on_literals}
+use Rattle.ownership_rules.specs.declared.refusal.Refusal.TheVariants.{WriteToOwned, NotAsSubmitted, NotDeclared, NotWhole, LinkFault, RingFull, BadDescriptor, BadRegister, BadDoorbell, BadCommand, Busy, ImpossibleEvent, BadErdp, NotInProfile, AfterStop, BadMove}
+use Rattle.ownership_rules.specs.Rules.{verdict_from}
+use Rattle.ownership_rules.specs.OnLiterals.{rules_on_literals}
 '''
     leases = '''-- The leases of worked traces, written by tools/worked_examples.py from worked cases
 use Rattle.std.specs.Prelude.{◌≡◌, List, [], ◌∷◌, length, refl}
 use Rattle.ring_knowledge.specs.declared.lease.Lease.{Lease}
-use Rattle.ownership_checker.specs.Leases.{leases}
-use Rattle.ownership_checker.specs.OnLiterals.{rules_on_literals}
-use Rattle.ownership_checker.proofs.WorkedTraces as traces
+use Rattle.ownership_rules.specs.Leases.{leases}
+use Rattle.ownership_rules.specs.OnLiterals.{rules_on_literals}
+use Rattle.ownership_rules.proofs.WorkedTraces as traces
 '''
     replays = HEAD % 'Worked replays with their endings' + '''use Rattle.traces.specs.declared.step.Step.{Step}
 use Rattle.traces.specs.declared.step.Step.TheVariants.{NextRow, Look, Report, Finish, Other, Scribble}
@@ -125,7 +125,7 @@ use Rattle.controller_model.specs.OnLiterals.{model_on_literals}
             replays += text + f'\nabbrev pub {name}_steps : List Step\n{name}_steps =\n    ' + '\n    ∷ '.join(steps + ['[]']) + '\n'
             replays += f'\npub {name} : ending_of {name}_header {name}_rows {name}_steps ≡ {ending}\nunfolding model_on_literals\n{name} = refl\n'
             counts[2] += 1
-    for path, text in [('ownership_checker/proofs/WorkedTraces', traces), ('ownership_checker/proofs/WorkedLeases', leases), ('controller_model/proofs/WorkedReplays', replays)]:
+    for path, text in [('ownership_rules/proofs/WorkedTraces', traces), ('ownership_rules/proofs/WorkedLeases', leases), ('controller_model/proofs/WorkedReplays', replays)]:
         path = f'crates/{path}.antt'
         os.makedirs(os.path.dirname(path), exist_ok=True)
         open(path, 'w').write(text)

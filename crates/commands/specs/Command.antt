@@ -1,16 +1,13 @@
 -- What a command block says: xHCI 4.6, 6.4.3
-use Rattle.std.specs.Prelude.{ℕ, ◌*◌, ◌/◌, Bool, if◌then◌else◌, Option, Some, None}
+use Rattle.std.specs.Prelude.{ℕ, ◌==◌, ◌&&◌, Bool, true, false, if◌then◌else◌, Option, Some, None}
 use Rattle.trb.specs.declared.block.Block.{Block}
 use Rattle.trb.specs.declared.kind.BlockKind.{BlockKind}
 use Rattle.trb.specs.declared.kind.BlockKind.TheVariants as kinds
 use Rattle.trb.specs.Bits.{is_set}
-use Rattle.trb.specs.Block.{word, kind, pointer, slot, endpoint}
+use Rattle.trb.specs.Descriptor.{is_command_left_out}
+use Rattle.trb.specs.Block.{aligned, word, kind, pointer, slot, endpoint}
 use Rattle.commands.specs.declared.command.Command.{Command}
 use Rattle.commands.specs.declared.command.Command.TheVariants.{NoOp, EnableSlot, DisableSlot, AddressDevice, ConfigureEndpoint, EvaluateContext, ResetEndpoint, StopEndpoint, SetTrDequeue, ResetDevice}
-
--- bits 63:4 of a pointer
-abbrev pub aligned : ℕ → ℕ
-aligned p = p / 16 * 16
 
 -- word 3 bit 9: BSR of Address Device, DC of Configure Endpoint
 abbrev pub option_bit : Block → Bool
@@ -29,9 +26,9 @@ command_by_kind kinds.SetTrDequeue b = Some (SetTrDequeue (slot b) (endpoint b) 
 command_by_kind kinds.ResetDevice b = Some (ResetDevice (slot b))
 command_by_kind _ b = None
 
--- the command of a block, where its type is one of the profile
+-- the command of a block, where it is one of the profile by its type and its fields
 abbrev pub command_of : Block → Option Command
-command_of b = command_by_kind (kind b) b
+command_of b = if is_command_left_out b then None else command_by_kind (kind b) b
 
 -- the slot that a command names
 abbrev pub named_slot : Command → Option ℕ
@@ -59,3 +56,26 @@ named_context (AddressDevice s bsr c) = Some c
 named_context (ConfigureEndpoint s dc c) = if dc then None else Some c
 named_context (EvaluateContext s c) = Some c
 named_context _ = None
+
+abbrev pub same_slot : Option ℕ → Option ℕ → Bool
+same_slot (Some s) (Some t) = s == t
+same_slot (Some s) None = false
+same_slot None _ = false
+
+-- both name a slot, and the same one
+abbrev pub name_one_slot : Command → Command → Bool
+name_one_slot c d = same_slot (named_slot c) (named_slot d)
+
+abbrev pub is_slot_or_any : Option ℕ → ℕ → Bool
+is_slot_or_any None n = true
+is_slot_or_any (Some s) n = s == n
+
+-- the slot of its completion may be n: the one that it names, or any where it names none
+abbrev pub may_answer_slot : Option Command → ℕ → Bool
+may_answer_slot None n = true
+may_answer_slot (Some c) n = is_slot_or_any (named_slot c) n
+
+-- a Stop Endpoint for the endpoint of slot s with index i
+abbrev pub is_stop_of : ℕ → ℕ → Option Command → Bool
+is_stop_of s i (Some (StopEndpoint t j)) = s == t && i == j
+is_stop_of s i _ = false

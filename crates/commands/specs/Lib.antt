@@ -1,2 +1,4 @@
 pub mod Command
 pub mod States
+pub mod Changes
+pub mod OnLiterals

@@ -1,7 +1,8 @@
 -- The state tables of slots and endpoints: xHCI 4.5.3, 4.8.3, in this project's profile
-use Rattle.std.specs.Prelude.{ℕ, ◌==◌, if◌then◌else◌, Bool, true, false, Option, Some, None}
+use Rattle.std.specs.Prelude.{ℕ, ◌==◌, ◌&&◌, if◌then◌else◌, Bool, true, false, nat_lt, nat_le, ◌%◌, ◌^◌, Option, Some, None, is_some}
 use Rattle.commands.specs.declared.command.Command.{Command}
 use Rattle.commands.specs.declared.command.Command.TheVariants.{NoOp, EnableSlot, DisableSlot, AddressDevice, ConfigureEndpoint, EvaluateContext, ResetEndpoint, StopEndpoint, SetTrDequeue, ResetDevice}
+use Rattle.commands.specs.Command.{named_slot, named_endpoint}
 use Rattle.commands.specs.declared.state.SlotState.{SlotState}
 use Rattle.commands.specs.declared.state.SlotState.TheVariants.{Disabled, Enabled, Default, Addressed, Configured}
 use Rattle.commands.specs.declared.state.EndpointState.{EndpointState}
@@ -79,3 +80,23 @@ abbrev pub is_at_rest : EndpointState → Bool
 is_at_rest Stopped = true
 is_at_rest Error = true
 is_at_rest _ = false
+
+-- the slot whose state success depends on: that of the event where the command names none
+abbrev pub slot_meant : ℕ → Option ℕ → ℕ
+slot_meant n None = n
+slot_meant n (Some s) = s
+
+abbrev pub endpoint_meant : (ℕ → ℕ → EndpointState) → Option (ℕ × ℕ) → EndpointState
+endpoint_meant states None = Off
+endpoint_meant states (Some e) = states e.0 e.1
+
+-- Enable Slot answers a slot from 1 to MaxSlotsEn (CONFIG bits 7:0)
+abbrev pub is_slot_enabled : ℕ → ℕ → Command → Bool
+is_slot_enabled config n EnableSlot = nat_lt 0 n && nat_le n (config % 2 ^ 8)
+is_slot_enabled config n _ = true
+
+-- the command can succeed, with slot n in its completion, from these states of slots and endpoints and this value of CONFIG
+unfoldable pub can_succeed : (ℕ → SlotState) → (ℕ → ℕ → EndpointState) → ℕ → ℕ → Command → Bool
+can_succeed slots endpoints config n c =
+    is_some (slot_success c (slots (slot_meant n (named_slot c)))) && is_some (endpoint_success c (endpoint_meant endpoints (named_endpoint c)))
+    && is_slot_enabled config n c

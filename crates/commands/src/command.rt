@@ -1,7 +1,7 @@
-ghost use Rattle.std.specs.Prelude.{◌≡◌, ◌↔◌, false, IsTrue, Some};
+ghost use Rattle.std.specs.Prelude.{◌≡◌, ◌↔◌, IsTrue, Some};
 ghost use Rattle.trb.specs.Descriptor.{is_command_left_out, is_no_command};
 
-use crate::fields::command_of;
+use crate::fields::command_by_kind;
 use trb::{Block, Fault, is_command_left_out};
 
 /// A command of the profile (xHCI 4.6). Slots and endpoint indices (DCI) are numbers of the block; addresses are bits
@@ -52,15 +52,14 @@ impl Command {
     /// The command that a block says, whatever its Cycle bit. `NotInProfile` is a command that the profile leaves out,
     /// by its type or by one of its fields; `BadDescriptor` is a block of another type.
     pub fn read(block: &Block) -> Result<Command, Fault>
-        ensures command { (c : Command) → (result ≡ Ok c)
-            ↔ ((command_of block.now ≡ Some c) × (is_command_left_out block.now ≡ false)) }
+        ensures command { (c : Command) → (result ≡ Ok c) ↔ (command_of block.now ≡ Some c) }
         ensures not_in_profile { (result ≡ Err Fault.NotInProfile) ↔ IsTrue (is_command_left_out block.now) }
         ensures bad_descriptor { (result ≡ Err Fault.BadDescriptor) ↔ IsTrue (is_no_command block.now) }
     {
         if is_command_left_out(*block) {
             return Err(Fault::NotInProfile);
         }
-        command_of(*block).ok_or(Fault::BadDescriptor)
+        command_by_kind(*block).ok_or(Fault::BadDescriptor)
     }
 
     /// The slot that the command names.

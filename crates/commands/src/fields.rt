@@ -1,14 +1,14 @@
 ghost use Rattle.std.specs.Prelude.{◌≡◌};
-ghost use Rattle.commands.specs.Command.{command_of, option_bit, aligned};
+ghost use Rattle.commands.specs.Command.{command_by_kind, option_bit};
 ghost use Rattle.trb.specs.Bits.{is_set};
-ghost use Rattle.trb.specs.Block.{word};
+ghost use Rattle.trb.specs.Block.{aligned, kind, word};
 
 use crate::command::Command;
 use trb::{Block, BlockFlags, BlockKind, Flags};
 
-/// The command of a block, where its type is one of the profile.
-pub(crate) fn command_of(block: Block) -> Option<Command>
-    ensures { result ≡ command_of block }
+/// The command of a block by its type, where that is one of the profile.
+pub(crate) fn command_by_kind(block: Block) -> Option<Command>
+    ensures { result ≡ command_by_kind (kind block) block }
 {
     let slot = block.slot();
     let endpoint = block.endpoint();

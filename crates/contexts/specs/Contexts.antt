@@ -1,5 +1,6 @@
 -- Contexts as words of memory: xHCI 6.1 (DCBAA), 6.2.1, 6.2.3, 6.2.5
-use Rattle.std.specs.Prelude.{ℕ, ◌+◌, ◌*◌, ◌/◌, ◌%◌, ◌^◌, ◌==◌, Bool}
+use Rattle.std.specs.Prelude.{ℕ, ◌+◌, ◌*◌, ◌/◌, ◌%◌, ◌^◌, ◌==◌, ◌&&◌, Bool, List, nat_le, filter}
+use Rattle.std.specs.List.{range_with_len}
 use Rattle.guest_memory.specs.Memory.{long_at}
 use Rattle.contexts.specs.declared.size.ContextSize.{ContextSize}
 use Rattle.contexts.specs.declared.size.ContextSize.TheVariants.{Bytes32, Bytes64}
@@ -35,6 +36,13 @@ input_drop_flag memory a i = has_flag (memory a) i
 abbrev pub input_add_flag : (ℕ → ℕ) → ℕ → ℕ → Bool
 input_add_flag memory a i = has_flag (memory (a + 4)) i
 
+-- the endpoints above the default control endpoint that an input context drops, and those that it adds, in order
+abbrev pub is_dropped : (ℕ → ℕ) → ℕ → ℕ → Bool
+is_dropped memory a i = nat_le 2 i && input_drop_flag memory a i
+
+unfoldable pub added_endpoints : (ℕ → ℕ) → ℕ → List ℕ
+added_endpoints memory a = filter (input_add_flag memory a) (range_with_len 2 30)
+
 -- the endpoint context of index i (its DCI) in the input context at address a
 abbrev pub input_endpoint : ContextSize → ℕ → ℕ → ℕ
 input_endpoint size a i = a + (i + 1) * bytes_of size
@@ -58,3 +66,10 @@ endpoint_pointer memory e = long_at memory (e + 8) / 16 * 16
 -- EP Type 1 and 5 are isochronous, which the profile leaves out
 abbrev pub is_isochronous : ℕ → Bool
 is_isochronous t = t % 4 == 1
+
+-- what the context of index i in the input context at address a says of the endpoint's ring
+abbrev pub context_pointer : ContextSize → (ℕ → ℕ) → ℕ → ℕ → ℕ
+context_pointer size memory a i = endpoint_pointer memory (input_endpoint size a i)
+
+abbrev pub context_cycle : ContextSize → (ℕ → ℕ) → ℕ → ℕ → Bool
+context_cycle size memory a i = endpoint_cycle memory (input_endpoint size a i)

@@ -12,22 +12,19 @@ use Rattle.traces.specs.declared.row.Row.TheVariants.{Sub, Write, Reg, Bell, Rea
 use Rattle.traces.specs.declared.register.Register.{Register}
 use Rattle.traces.specs.declared.register.Register.TheVariants.{Usbcmd, Crcr, Erdp}
 use Rattle.traces.specs.Header.{command_id, event_shape}
-use Rattle.traces.specs.Register.{same_register, run_bit, reset_bit, base_address, ring_cycle_state}
+use Rattle.traces.specs.Register.{with_register, register_or_zero, run_bit, reset_bit, base_address, ring_cycle_state}
 use Rattle.world_state.specs.World.{World, stored, event_at}
 
+unfoldable pub valued : World → Register → ℕ → World
+valued w r v = record w { register = with_register w.register r v }
+
 module _ (h : Header) where
-  unfoldable pub register_or_zero : World → Register → ℕ
-  register_or_zero w r = unwrap_or (w.register r) 0
-
-  unfoldable pub with_register : World → Register → ℕ → World
-  with_register w r v = record w { register = λ q. if same_register q r then Some v else w.register q }
-
   -- the start: the command ring's pointer and cycle state are those of CRCR
   unfoldable pub started_with : World → World
   started_with w = record w {
     started = true;
-    pointer_of = put w.pointer_of (command_id h) (base_address (register_or_zero w Crcr));
-    cycle_state = put w.cycle_state (command_id h) (ring_cycle_state (register_or_zero w Crcr));
+    pointer_of = put w.pointer_of (command_id h) (base_address (register_or_zero w.register Crcr));
+    cycle_state = put w.cycle_state (command_id h) (ring_cycle_state (register_or_zero w.register Crcr));
   }
 
   unfoldable pub run_or_stop : World → ℕ → World
@@ -40,9 +37,9 @@ module _ (h : Header) where
   with_dequeue w a = if is_event_place (event_shape h) a then record w { dequeue = position_from (event_shape h) w.dequeue a } else w
 
   unfoldable pub register_row : World → Register → ℕ → World
-  register_row w Usbcmd v = run_or_stop (with_register w Usbcmd v) v
-  register_row w Erdp v = with_dequeue (with_register w Erdp v) (erdp_address v)
-  register_row w r v = with_register w r v
+  register_row w Usbcmd v = run_or_stop (valued w Usbcmd v) v
+  register_row w Erdp v = with_dequeue (valued w Erdp v) (erdp_address v)
+  register_row w r v = valued w r v
 
   unfoldable pub activated : World → ℕ → World
   activated w r = record w { is_active = put w.is_active r true }
@@ -63,7 +60,7 @@ module _ (h : Header) where
   unfoldable pub declared : World → ℕ → List Block → World
   declared w r blocks = record w {
     queue = put w.queue r (w.queue r ++ blocks);
-    descriptors = put w.descriptors r (w.descriptors r ++ length blocks ∷ []);
+    lengths = put w.lengths r (w.lengths r ++ length blocks ∷ []);
   }
 
   -- the driver reads an event: only one that was posted and not yet read, with the words at the read place

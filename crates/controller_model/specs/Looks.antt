@@ -1,23 +1,24 @@
 -- A look: the controller fetches the 16 bytes at the pointer of an active ring, and waits, crosses a Link or takes the block: xHCI 4.9.2, 4.9.3, 4.11.5.1
-use Rattle.std.specs.Prelude.{ℕ, ◌+◌, ◌-◌, ◌%◌, ◌^◌, ◌==◌, ◌&&◌, ◌||◌, if◌then◌else◌, Bool, false, not, ◌∷◌, length, Option, Some, None, is_some}
+use Rattle.std.specs.Prelude.{ℕ, ◌+◌, ◌-◌, ◌%◌, ◌^◌, ◌==◌, ◌&&◌, ◌||◌, if◌then◌else◌, Bool, false, not, ◌∷◌, Option, Some, None, is_some}
 use Rattle.guest_memory.specs.Memory.{put}
 use Rattle.trb.specs.declared.block.Block.{Block}
 use Rattle.trb.specs.Bits.{is_set}
-use Rattle.trb.specs.Block.{word, cycle, kind, pointer}
+use Rattle.trb.specs.Block.{aligned, block_at, word, cycle, kind, pointer}
 use Rattle.trb.specs.Kind.{is_link}
 use Rattle.segments.specs.Places.{is_inside}
 use Rattle.commands.specs.declared.command.Command.{Command}
 use Rattle.commands.specs.declared.command.Command.TheVariants.{AddressDevice}
-use Rattle.commands.specs.Command.{command_of, aligned}
+use Rattle.commands.specs.Command.{command_of}
 use Rattle.traces.specs.declared.header.Header.{Header}
 use Rattle.traces.specs.Header.{command_id, shape_of}
-use Rattle.world_state.specs.World.{World, Took, block_at}
+use Rattle.world_state.specs.World.{World, Took}
+use Rattle.world_state.specs.Takes.{declared_next}
 
 module _ (h : Header) where
-  -- the block is taken, and the pointer moves on by 16
+  -- the block is taken, with what is declared at its position now, and the pointer moves on by 16
   unfoldable pub taken_on : World → ℕ → Block → World
   taken_on w r b = record w {
-    events = put w.events r (Took (w.pointer_of r) b (length (w.queue r)) ∷ w.events r);
+    events = put w.events r (Took (w.pointer_of r) b (declared_next (shape_of h r) w r) ∷ w.events r);
     pointer_of = put w.pointer_of r ((w.pointer_of r + 16) % 2 ^ 64);
   }
 
@@ -28,7 +29,7 @@ module _ (h : Header) where
 
   unfoldable pub command_begun : World → ℕ → Block → World
   command_begun w a b = record w {
-    under_way = Some (record { address = a; block = b; has_stopped = false; written = w.written (a + 12) });
+    under_way = Some (record { address = a; block = b; has_stopped = false });
     scribbles = may_scribble (command_of b) w;
   }
 
@@ -54,4 +55,4 @@ module _ (h : Header) where
       else Some (taken (seen_by_look w r) r b)
 
   unfoldable pub looked : World → ℕ → Option World
-  looked w r = if w.is_active r then looked_at w r (block_at w (w.pointer_of r)) else None
+  looked w r = if w.is_active r then looked_at w r (block_at w.memory (w.pointer_of r)) else None

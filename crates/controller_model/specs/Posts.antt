@@ -7,9 +7,7 @@ use Rattle.trb.specs.Block.{word, cycle, kind, pointer, code, slot, endpoint}
 use Rattle.trb.specs.Kind.{is_transfer_event, is_other_event}
 use Rattle.trb.specs.CompletionCode.{is_success, is_halting, is_trb_error, is_stopping}
 use Rattle.segments.specs.Places.{address_of, cycle_of}
-use Rattle.commands.specs.declared.command.Command.{Command}
-use Rattle.commands.specs.declared.command.Command.TheVariants.{StopEndpoint}
-use Rattle.commands.specs.Command.{command_of}
+use Rattle.commands.specs.Command.{command_of, is_stop_of}
 use Rattle.commands.specs.declared.state.EndpointState.{EndpointState}
 use Rattle.commands.specs.declared.state.EndpointState.TheVariants.{Halted, Error}
 use Rattle.commands.specs.States.{is_running}
@@ -50,14 +48,10 @@ module _ (h : Header) where
       })
       else None
 
-  unfoldable pub is_stop_for : ℕ → ℕ → Option Command → Bool
-  is_stop_for s i (Some (StopEndpoint t j)) = s == t && i == j
-  is_stop_for s i _ = false
-
   -- a Stop Endpoint for this endpoint is under way
   unfoldable pub is_stop_under_way : ℕ → ℕ → Option UnderWay → Bool
   is_stop_under_way s i None = false
-  is_stop_under_way s i (Some u) = is_stop_for s i (command_of u.block)
+  is_stop_under_way s i (Some u) = is_stop_of s i (command_of u.block)
 
   unfoldable pub with_stopped : Option UnderWay → Option UnderWay
   with_stopped None = None

@@ -8,6 +8,7 @@ use Rattle.traces.specs.declared.row.Row.{Row}
 use Rattle.traces.specs.declared.step.Step.{Step}
 use Rattle.traces.specs.declared.step.Step.TheVariants.{NextRow, Look, Report, Finish, Other, Scribble}
 use Rattle.traces.specs.declared.register.Register.TheVariants.{Dcbaap}
+use Rattle.traces.specs.Register.{register_or_zero}
 use Rattle.world_state.specs.declared.harm.Harm.{Harm}
 use Rattle.world_state.specs.World.{World, opening, stored}
 use Rattle.world_state.specs.Harms.{harm_of}
@@ -20,7 +21,7 @@ module _ (h : Header) where
   -- the word belongs to the device context that DCBAA names for a slot, and the controller may write that
   unfoldable pub is_scribbled : World → ℕ → ℕ → Bool
   is_scribbled w a s =
-      w.scribbles s && is_in a (device_context w.memory (driver.register_or_zero h w Dcbaap) s) (device_context_bytes h.context_size)
+      w.scribbles s && is_in a (device_context w.memory (register_or_zero w.register Dcbaap) s) (device_context_bytes h.context_size)
 
   unfoldable pub scribbled : World → ℕ → ℕ → Option World
   scribbled w a x = if list_any (is_scribbled w a) (range_with_len 0 256) then Some (stored w a x) else None

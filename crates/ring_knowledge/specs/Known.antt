@@ -1,8 +1,6 @@
 -- What is known after some rows of a trace, as one record of functions
-use Rattle.std.specs.Prelude.{ℕ, Bool, false, List, [], Option, Some, None}
-use Rattle.trb.specs.declared.block.Block.{Block}
-use Rattle.segments.specs.declared.spot.Spot.{Spot}
-use Rattle.segments.specs.declared.spot.Spot.TheVariants.{Data}
+use Rattle.std.specs.Prelude.{ℕ, Bool, false, Option, None}
+use Rattle.segments.specs.RingView.{RingView, new_ring}
 use Rattle.commands.specs.declared.state.SlotState.{SlotState}
 use Rattle.commands.specs.declared.state.SlotState.TheVariants.{Disabled}
 use Rattle.commands.specs.declared.state.EndpointState.{EndpointState}
@@ -17,16 +15,10 @@ pub record Known : Type 0 where
   pub register : Register → Option ℕ
   -- memory as the driver wrote it
   pub memory : ℕ → ℕ
-  -- by ring ID: the declared blocks, and how many blocks each declared descriptor has
-  pub queue : ℕ → List Block
-  pub descriptors : ℕ → List ℕ
-  -- by ring ID: which positions, and which crossings, were given
-  pub given : ℕ → ℕ → Bool
-  pub crossed : ℕ → ℕ → Bool
-  -- by ring ID: the spot that the controller's dequeue pointer has surely reached
-  pub floor : ℕ → Spot
-  -- by ring ID: the number at which the ring is held; None where it is open
-  pub held : ℕ → Option ℕ
+  -- by ring ID: what is declared and given, and how far the controller may be
+  pub ring : ℕ → RingView
+  -- by ring ID: an endpoint was bound to it
+  pub was_bound : ℕ → Bool
   -- by slot, and by slot and endpoint index (DCI)
   pub slot_state : ℕ → SlotState
   pub endpoint_state : ℕ → ℕ → EndpointState
@@ -35,8 +27,6 @@ pub record Known : Type 0 where
   pub must_move : ℕ → ℕ → Bool
   -- a Stopped event was read, and the completion of its Stop Endpoint not yet
   pub stop_seen : ℕ → ℕ → Bool
-  -- by ring ID: an endpoint was bound to it
-  pub was_bound : ℕ → Bool
   -- by slot: the address of the device context under lease
   pub device : ℕ → Option ℕ
   -- by address: the controller may have changed the word, and the driver hasn't written it since its lease ended
@@ -52,18 +42,13 @@ nothing = record {
   stopped = false;
   register = λ r. None;
   memory = λ a. 0;
-  queue = λ r. [];
-  descriptors = λ r. [];
-  given = λ r p. false;
-  crossed = λ r q. false;
-  floor = λ r. Data 0;
-  held = λ r. Some 0;
+  ring = λ r. new_ring;
+  was_bound = λ r. false;
   slot_state = λ s. Disabled;
   endpoint_state = λ s i. Off;
   ring_of = λ s i. None;
   must_move = λ s i. false;
   stop_seen = λ s i. false;
-  was_bound = λ r. false;
   device = λ s. None;
   soiled = λ a. false;
   reads = 0;

@@ -1,27 +1,21 @@
 -- What each row adds, and what is known after the rows so far
-use Rattle.std.specs.Prelude.{ℕ, ◌+◌, ◌++◌, List, [], ◌∷◌, length}
-use Rattle.guest_memory.specs.Memory.{put}
+use Rattle.std.specs.Prelude.{ℕ, ◌+◌, List, [], ◌∷◌}
 use Rattle.trb.specs.declared.block.Block.{Block}
 use Rattle.trb.specs.declared.kind.BlockKind.{BlockKind}
 use Rattle.trb.specs.declared.kind.BlockKind.TheVariants.{TransferEvent, CommandCompletion}
 use Rattle.trb.specs.Block.{kind}
+use Rattle.segments.specs.RingView.{Declares}
 use Rattle.traces.specs.declared.header.Header.{Header}
 use Rattle.traces.specs.declared.row.Row.{Row}
 use Rattle.traces.specs.declared.row.Row.TheVariants.{Sub, Write, Reg, Bell, Read}
 use Rattle.ring_knowledge.specs.Known.{Known, nothing}
+use Rattle.ring_knowledge.specs.Rings.{on_ring}
 use Rattle.ring_knowledge.specs.Writes as writes
 use Rattle.ring_knowledge.specs.Registers as registers
 use Rattle.ring_knowledge.specs.Transfers as transfers
 use Rattle.ring_knowledge.specs.Completions as completions
 
 module _ (h : Header) where
-  -- blocks are declared as one descriptor
-  unfoldable pub submitted : Known → ℕ → List Block → Known
-  submitted k r blocks = record k {
-    queue = put k.queue r (k.queue r ++ blocks);
-    descriptors = put k.descriptors r (k.descriptors r ++ length blocks ∷ []);
-  }
-
   unfoldable pub event_read : Known → BlockKind → Block → Known
   event_read k TransferEvent b = transfers.transfer_read h k b
   event_read k CommandCompletion b = completions.completed h k b
@@ -29,7 +23,7 @@ module _ (h : Header) where
 
   -- what is known after one more row
   unfoldable pub learned : Known → Row → Known
-  learned k (Sub r blocks) = submitted k r blocks
+  learned k (Sub r blocks) = on_ring h k r (Declares blocks)
   learned k (Write a word) = writes.written h k a word
   learned k (Reg r v) = registers.register_written h k r v
   learned k (Bell s t) = registers.rung h k s t

@@ -1,6 +1,7 @@
 -- What a register write and a doorbell add to what is known: xHCI 4.7, 5.4.1, 5.5.2.3.3, 5.6
 use Rattle.std.specs.Prelude.{ℕ, ◌==◌, ◌&&◌, ◌||◌, if◌then◌else◌, true, not, Option, Some, None}
-use Rattle.guest_memory.specs.Memory.{put, put_pair}
+use Rattle.guest_memory.specs.Memory.{put_pair}
+use Rattle.segments.specs.RingView.{Opens}
 use Rattle.commands.specs.declared.state.EndpointState.TheVariants.{Running}
 use Rattle.commands.specs.States.{is_stopped}
 use Rattle.event_ring.specs.EventRing.{position_from, erdp_address}
@@ -8,33 +9,31 @@ use Rattle.traces.specs.declared.header.Header.{Header}
 use Rattle.traces.specs.declared.register.Register.{Register}
 use Rattle.traces.specs.declared.register.Register.TheVariants.{Usbcmd, Erdp}
 use Rattle.traces.specs.Header.{command_id, event_shape}
-use Rattle.traces.specs.Register.{same_register, run_bit, reset_bit}
+use Rattle.traces.specs.Register.{with_register, run_bit, reset_bit}
 use Rattle.ring_knowledge.specs.Known.{Known}
+use Rattle.ring_knowledge.specs.Rings.{on_ring}
+
+-- the first write of USBCMD with R/S 1 and HCRST 0 starts the controller; after that R/S 0 or HCRST 1 stops it
+unfoldable pub run_or_stop : Known → ℕ → Known
+run_or_stop k v =
+    if not k.started then (if run_bit v && not (reset_bit v) then record k { started = true } else k)
+    else (if not (run_bit v) || reset_bit v then record k { stopped = true } else k)
+
+unfoldable pub valued : Known → Register → ℕ → Known
+valued k r v = record k { register = with_register k.register r v }
 
 module _ (h : Header) where
-  unfoldable pub with_register : Known → Register → ℕ → Known
-  with_register k r v = record k { register = λ q. if same_register q r then Some v else k.register q }
-
-  -- the first write of USBCMD with R/S 1 and HCRST 0 starts the controller; after that R/S 0 or HCRST 1 stops it
-  unfoldable pub run_or_stop : Known → ℕ → Known
-  run_or_stop k v =
-      if not k.started then (if run_bit v && not (reset_bit v) then record k { started = true } else k)
-      else (if not (run_bit v) || reset_bit v then record k { stopped = true } else k)
-
   unfoldable pub register_written : Known → Register → ℕ → Known
-  register_written k Usbcmd v = run_or_stop (with_register k Usbcmd v) v
-  register_written k Erdp v = record (with_register k Erdp v) { dequeue = position_from (event_shape h) k.dequeue (erdp_address v) }
-  register_written k r v = with_register k r v
-
-  unfoldable pub opened : Known → ℕ → Known
-  opened k r = record k { held = put k.held r None }
+  register_written k Usbcmd v = run_or_stop (valued k Usbcmd v) v
+  register_written k Erdp v = record (valued k Erdp v) { dequeue = position_from (event_shape h) k.dequeue (erdp_address v) }
+  register_written k r v = valued k r v
 
   -- the doorbell of an endpoint opens its ring, and makes a Stopped endpoint Running
   unfoldable pub endpoint_rung : Known → ℕ → ℕ → Option ℕ → Known
   endpoint_rung k s t None = k
-  endpoint_rung k s t (Some r) = record (opened k r) {
+  endpoint_rung k s t (Some r) = record (on_ring h k r Opens) {
     endpoint_state = if is_stopped (k.endpoint_state s t) then put_pair k.endpoint_state s t Running else k.endpoint_state;
   }
 
   unfoldable pub rung : Known → ℕ → ℕ → Known
-  rung k s t = if s == 0 then opened k (command_id h) else endpoint_rung k s t (k.ring_of s t)
+  rung k s t = if s == 0 then on_ring h k (command_id h) Opens else endpoint_rung k s t (k.ring_of s t)

@@ -1,64 +1,62 @@
--- What is known of one ring: xHCI 4.9.2
-use Rattle.std.specs.Prelude.{ℕ, suc, zero, ◌+◌, ◌&&◌, ◌||◌, if◌then◌else◌, Bool, not, List, length, Option, unwrap_or, filter, option_and_then, slice_get}
-use Rattle.std.specs.List.{range_with_len, filter_map}
-use Rattle.segments.specs.Spots.{number}
-use Rattle.segments.specs.Places.{place_count, is_crossing}
-use Rattle.segments.specs.OneRing.{gives, gives_crossing}
+-- Rings as they are known: what a write gives of them, what an event names, which commands are unfinished: xHCI 4.9.2, 4.6
+use Rattle.std.specs.Prelude.{ℕ, ◌==◌, Bool, List, [], ◌∷◌, ◌++◌, map, Option, Some, None, option_and_then, option_map, slice_get, filter}
+use Rattle.std.specs.List.{flat_map, filter_map}
+use Rattle.guest_memory.specs.Memory.{put}
+use Rattle.trb.specs.declared.block.Block.{Block}
+use Rattle.trb.specs.Block.{pointer, slot, endpoint}
+use Rattle.segments.specs.declared.spot.Spot.{Spot}
+use Rattle.segments.specs.RingView.{RingView, RingChange, changed, due_positions, floor_number, positions_given, crossings_given}
+use Rattle.segments.specs.Ceiling.{named}
 use Rattle.commands.specs.declared.command.Command.{Command}
 use Rattle.commands.specs.Command.{command_of}
 use Rattle.traces.specs.declared.header.Header.{Header}
-use Rattle.traces.specs.Header.{shape_of, command_id}
+use Rattle.traces.specs.declared.ring.Ring.{Ring}
+use Rattle.traces.specs.Header.{shape_of, command_id, driver_rings}
 use Rattle.ring_knowledge.specs.Known.{Known}
 
+-- what a write may give: a position, or a crossing, of a ring
+pub data Given : Type 0 where
+  Position : (ring position : ℕ) → Given
+  Crossing : (ring crossing : ℕ) → Given
+
+-- a ring and a spot on it
+pub record RingSpot : Type 0 where
+  pub ring : ℕ
+  pub spot : Spot
+
 module _ (h : Header) where
-  unfoldable pub places : ℕ → ℕ
-  places r = place_count (shape_of h r)
+  -- something happens on ring r
+  unfoldable pub on_ring : Known → ℕ → RingChange → Known
+  on_ring k r change = record k { ring = put k.ring r (changed (shape_of h r) (k.ring r) change) }
 
-  unfoldable pub floor_number : Known → ℕ → ℕ
-  floor_number k r = number (k.floor r)
+  unfoldable pub given_of : Known → ℕ → ℕ → ℕ → List Given
+  given_of k a w r =
+      map (Position r) (positions_given (shape_of h r) (k.ring r) a w) ++ map (Crossing r) (crossings_given (shape_of h r) (k.ring r) a w)
 
-  -- how many blocks were declared
-  unfoldable pub declared : Known → ℕ → ℕ
-  declared k r = length (k.queue r)
+  -- all that a write gives
+  unfoldable pub given_by : Known → ℕ → ℕ → List Given
+  given_by k a w = flat_map (λ r. given_of k a w r.id) (driver_rings h)
 
-  -- the write gives position p of ring r, which wasn't given
-  unfoldable pub gives_now : Known → ℕ → ℕ → ℕ → ℕ → Bool
-  gives_now k r p address word = not (k.given r p) && gives (shape_of h r) (k.floor r) p address word
+  -- the spot that a Transfer Event names, on the ring of its endpoint
+  unfoldable pub spot_on : Known → ℕ → Option ℕ → Option RingSpot
+  spot_on k a None = None
+  spot_on k a (Some r) = option_map (λ t. record { ring = r; spot = t }) (named (shape_of h r) (k.ring r) a)
 
-  -- the write gives crossing q of ring r, which wasn't given
-  unfoldable pub crosses_now : Known → ℕ → ℕ → ℕ → ℕ → Bool
-  crosses_now k r q address word = not (k.crossed r q) && gives_crossing (shape_of h r) (k.floor r) q address word
+  unfoldable pub event_at : Known → Block → Option RingSpot
+  event_at k b = spot_on k (pointer b) (k.ring_of (slot b) (endpoint b))
 
-  -- the positions that may be due at some place, and the crossings that may be due at some Link
-  unfoldable pub due_positions : Known → ℕ → List ℕ
-  due_positions k r = range_with_len (floor_number k r) (places r)
-
-  unfoldable pub due_crossings : Known → ℕ → List ℕ
-  due_crossings k r = range_with_len (floor_number k r) (places r + 1)
-
-  -- the crossing to position q, if there is one, was given
-  unfoldable pub is_way_given : Known → ℕ → ℕ → Bool
-  is_way_given k r q = not (is_crossing (shape_of h r) q) || k.crossed r q
-
-  unfoldable pub is_step_given : Known → ℕ → ℕ → Bool
-  is_step_given k r q = k.given r q && is_way_given k r q
-
-  unfoldable pub first_not_given : Known → ℕ → ℕ → ℕ → ℕ
-  first_not_given k r zero q = q
-  first_not_given k r (suc n) q = if is_step_given k r q then first_not_given k r n (q + 1) else q
-
-  -- the greatest number below which all positions, and all crossings to them, are given
-  unfoldable pub given_count : Known → ℕ → ℕ
-  given_count k r = first_not_given k r (floor_number k r + places r) 0
-
-  -- up to which number the controller may have gone: all that is given where the ring is open, else where it is held
-  unfoldable pub ceiling : Known → ℕ → ℕ
-  ceiling k r = unwrap_or (k.held r) (given_count k r)
+  -- the position of the command ring whose command is finished next
+  unfoldable pub next_command : Known → ℕ
+  next_command k = floor_number (k.ring (command_id h))
 
   -- the command declared at a position of the command ring
   unfoldable pub command_at : Known → ℕ → Option Command
-  command_at k p = option_and_then command_of (slice_get (k.queue (command_id h)) p)
+  command_at k p = option_and_then command_of (slice_get (k.ring (command_id h)).queue p)
 
-  -- the commands that were given and whose completion wasn't read
+  -- the positions of the commands that were given and whose completion wasn't read
+  unfoldable pub unfinished_positions : Known → List ℕ
+  unfinished_positions k = filter (k.ring (command_id h)).given (due_positions (shape_of h (command_id h)) (k.ring (command_id h)))
+
+  -- these commands
   unfoldable pub unfinished : Known → List Command
-  unfinished k = filter_map (command_at k) (filter (k.given (command_id h)) (due_positions k (command_id h)))
+  unfinished k = filter_map (command_at k) (unfinished_positions k)

@@ -9,7 +9,7 @@ use Rattle.segments.specs.Places.{data_places, place_count, address_of, cycle_of
 use Rattle.segments.specs.PlaceAt.{place_at}
 use Rattle.segments.specs.Shape.{is_shape}
 use Rattle.segments.specs.Spots.{spot_address, spot_cycle, spots_from, named_spot}
-use Rattle.segments.specs.OneRing.{Writes, is_due, is_crossing_due, is_given}
+use Rattle.segments.specs.RingView.{Writes, changed, is_due, is_crossing_due, new_ring}
 
 -- two segments of three blocks
 abbrev two : Shape
@@ -107,7 +107,7 @@ refused : map is_shape (shape_of Evt ((0x20000, 15) ∷ []) ∷ shape_of Xfer ((
 refused = refl
 
 -- one ring alone: a block is given by its control word, a write with the other Cycle bit gives nothing
-given_by_control_word : (is_given two (Writes 0x8000c 0x2021 ∷ Writes 0x80000 0x1234 ∷ []) 0 ≡ true) × (is_given two (Writes 0x8000c 0x2020 ∷ []) 0 ≡ false)
+given_by_control_word : ((changed two (changed two new_ring (Writes 0x80000 0x1234)) (Writes 0x8000c 0x2021)).given 0 ≡ true) × ((changed two new_ring (Writes 0x8000c 0x2020)).given 0 ≡ false)
 given_by_control_word = (refl, refl)
 
 -- the Link at a lap's end is due at once at the floor 0, and later only from the lap on

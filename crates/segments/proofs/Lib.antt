@@ -9,8 +9,5 @@ pub mod Pairs
 pub mod Lookups
 pub mod SpotOrder
 pub mod NamedSpots
-pub mod CleanRing
-pub mod Kept
-pub mod NotYet
 mod Examples
 pub mod InsideLemmas

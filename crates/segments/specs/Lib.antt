@@ -3,4 +3,9 @@ pub mod Shape
 pub mod Places
 pub mod PlaceAt
 pub mod Spots
-pub mod OneRing
+pub mod RingView
+pub mod Ceiling
+pub mod Descriptors
+pub mod Givings
+pub mod Moves
+pub mod OnLiterals

@@ -104,3 +104,12 @@ ring_having h address = id_of (find (λ r. is_transfer_kind r.shape.kind && is_i
 -- len bytes from this address on touch a declared segment
 unfoldable pub touches_ring : Header → ℕ → ℕ → Bool
 touches_ring h from len = list_any (λ r. touches r.shape from len) h.rings
+
+-- it is ring r
+abbrev pub is_ring : ℕ → Option ℕ → Bool
+is_ring r None = false
+is_ring r (Some q) = q == r
+
+-- of some ring, by its ID, the test holds
+unfoldable pub some_ring : Header → (ℕ → Bool) → Bool
+some_ring h test = list_any (λ r. test r.id) h.rings

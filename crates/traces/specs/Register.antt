@@ -1,5 +1,5 @@
 -- The registers of a trace: xHCI 5.4, 5.5.2
-use Rattle.std.specs.Prelude.{ℕ, ◌*◌, ◌/◌, ◌%◌, ◌==◌, Bool, true, false, List, codes}
+use Rattle.std.specs.Prelude.{ℕ, ◌*◌, ◌/◌, ◌%◌, ◌==◌, Bool, true, false, List, codes, if◌then◌else◌, Option, Some, unwrap_or}
 use Rattle.traces.specs.declared.register.Register.{Register}
 use Rattle.traces.specs.declared.register.Register.TheVariants.{Usbcmd, Usbsts, Dnctrl, Crcr, Dcbaap, Config, Iman, Imod, Erstsz, Erstba, Erdp}
 
@@ -41,6 +41,14 @@ ordinal Erdp = 10
 
 abbrev pub same_register : Register → Register → Bool
 same_register a b = ordinal a == ordinal b
+
+-- the last value written to each register, with one more write
+abbrev pub with_register : (Register → Option ℕ) → Register → ℕ → Register → Option ℕ
+with_register values r v q = if same_register q r then Some v else values q
+
+-- a register that wasn't written counts as 0
+abbrev pub register_or_zero : (Register → Option ℕ) → Register → ℕ
+register_or_zero values r = unwrap_or (values r) 0
 
 -- USBCMD: Run/Stop (R/S) and Host Controller Reset (HCRST)
 abbrev pub run_bit : ℕ → Bool

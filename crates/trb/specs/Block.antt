@@ -1,5 +1,5 @@
 -- The fields of a block (TRB): xHCI 4.11.1, 6.4
-use Rattle.std.specs.Prelude.{◌≡◌, ◌<◌, length, ℕ, ◌+◌, ◌*◌, ◌-◌, ◌^◌, ◌==◌, ◌&&◌, Bool, [], ◌∷◌, slice_index}
+use Rattle.std.specs.Prelude.{◌≡◌, ◌<◌, length, ℕ, ◌+◌, ◌*◌, ◌-◌, ◌/◌, ◌^◌, ◌==◌, ◌&&◌, Bool, [], ◌∷◌, slice_index}
 use Rattle.trb.specs.declared.block.Block.{Block}
 use Rattle.trb.specs.declared.kind.BlockKind.{BlockKind}
 use Rattle.trb.specs.Bits.{bits, is_set}
@@ -28,6 +28,10 @@ is_chained b = is_set (word b 3) 4
 abbrev pub pointer : Block → ℕ
 pointer b = word b 0 + 2 ^ 32 * word b 1
 
+-- bits 63:4 of a pointer
+abbrev pub aligned : ℕ → ℕ
+aligned p = p / 16 * 16
+
 -- the Completion Code of an event, word 2 bits 31:24
 abbrev pub code : Block → ℕ
 code b = bits (word b 2) 24 8
@@ -39,6 +43,10 @@ slot b = bits (word b 3) 24 8
 -- the Endpoint ID, word 3 bits 20:16
 abbrev pub endpoint : Block → ℕ
 endpoint b = bits (word b 3) 16 5
+
+-- the block at an address of a memory
+abbrev pub block_at : (ℕ → ℕ) → ℕ → Block
+block_at memory a = record { w = memory a ∷ memory (a + 4) ∷ memory (a + 8) ∷ memory (a + 12) ∷ [] }
 
 -- the block with Cycle bit c: bit 0 of word 3 alone is changed
 abbrev pub with_cycle : Block → ℕ → Block

@@ -10,7 +10,7 @@ use Rattle.trb.specs.declared.ring_kind.RingKind.{RingKind}
 use Rattle.trb.specs.declared.ring_kind.RingKind.TheVariants.{Cmd, Evt, Xfer}
 use Rattle.trb.specs.Bits.{bits, is_set}
 use Rattle.trb.specs.Block.{word, cycle, kind, is_chained}
-use Rattle.trb.specs.Kind.{is_normal, is_left_out_transfer, is_command, is_left_out_command}
+use Rattle.trb.specs.Kind.{is_normal, is_transfer, is_left_out_transfer, is_command, is_left_out_command}
 
 abbrev pub fault_number : Fault → ℕ
 fault_number BadDescriptor = 16
@@ -59,8 +59,13 @@ has_left_out_type blocks = list_any (λ b. is_left_out_transfer (kind b)) blocks
 abbrev pub has_other_target : Block → Bool
 has_other_target b = not (bits (word b 2) 22 10 == 0)
 
+-- a block whose type is no transfer type
+abbrev pub has_other_type : List Block → Bool
+has_other_type blocks = list_any (λ b. not (is_transfer (kind b))) blocks
+
+-- beside an isochronous or Event Data block the arrangement isn't looked at, the types are
 abbrev pub is_bad_transfer : List Block → Bool
-is_bad_transfer blocks = is_badly_formed blocks || (not (is_transfer_arrangement blocks) && not (has_left_out_type blocks))
+is_bad_transfer blocks = is_badly_formed blocks || has_other_type blocks || (not (is_transfer_arrangement blocks) && not (has_left_out_type blocks))
 
 abbrev pub is_transfer_left_out : List Block → Bool
 is_transfer_left_out blocks = has_left_out_type blocks || list_any has_other_target blocks

@@ -84,6 +84,17 @@ abbrev pub is_link : BlockKind → Bool
 is_link Link = true
 is_link _ = false
 
+-- the types that a transfer descriptor may have, in the profile or not; a Link belongs to no descriptor
+abbrev pub is_transfer : BlockKind → Bool
+is_transfer Normal = true
+is_transfer SetupStage = true
+is_transfer DataStage = true
+is_transfer StatusStage = true
+is_transfer Isoch = true
+is_transfer EventData = true
+is_transfer NoOp = true
+is_transfer _ = false
+
 -- isochronous and Event Data blocks: not in the profile
 abbrev pub is_left_out_transfer : BlockKind → Bool
 is_left_out_transfer Isoch = true

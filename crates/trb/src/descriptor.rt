@@ -1,7 +1,7 @@
 ghost use Rattle.std.specs.Prelude.{◌≡◌, ◌==◌};
 ghost use Rattle.std.specs.List.{list_any, list_all};
 ghost use Rattle.trb.specs.Block.{kind, cycle, is_chained};
-ghost use Rattle.trb.specs.Descriptor.{fault_of, is_bad_descriptor, is_left_out, is_bad_command, is_bad_transfer, is_transfer_left_out, is_command_left_out, is_no_command, has_left_out_field, has_other_target, has_left_out_type, is_transfer_arrangement, may_begin, are_normal, has_setup_data, is_badly_formed, is_chain};
+ghost use Rattle.trb.specs.Descriptor.{fault_of, is_bad_descriptor, is_left_out, is_bad_command, is_bad_transfer, is_transfer_left_out, is_command_left_out, is_no_command, has_left_out_field, has_other_target, has_other_type, has_left_out_type, is_transfer_arrangement, may_begin, are_normal, has_setup_data, is_badly_formed, is_chain};
 
 use crate::bits::{bits, is_set};
 use crate::block::Block;
@@ -98,13 +98,22 @@ fn has_left_out_field(block: Block) -> bool
 fn is_bad_transfer(blocks: &[Block]) -> bool
     ensures { result ≡ is_bad_transfer blocks.now }
 {
-    is_badly_formed(blocks) || !is_transfer_arrangement(blocks) && !has_left_out_type(blocks)
+    is_badly_formed(blocks)
+        || has_other_type(blocks)
+        || !is_transfer_arrangement(blocks) && !has_left_out_type(blocks)
 }
 
 fn is_transfer_left_out(blocks: &[Block]) -> bool
     ensures { result ≡ is_transfer_left_out blocks.now }
 {
     has_left_out_type(blocks) || any_has_other_target(blocks)
+}
+
+/// A block whose type is no transfer type, as a Link's or a command's.
+fn has_other_type(blocks: &[Block]) -> bool
+    ensures { result ≡ has_other_type blocks.now }
+{
+    blocks.iter().any(|b| !b.kind().is_transfer())
 }
 
 fn has_left_out_type(blocks: &[Block]) -> bool

@@ -1,6 +1,6 @@
 ghost use Rattle.std.specs.Prelude.{◌≡◌, Some};
 ghost use Rattle.std.specs.Fmt.{padded};
-ghost use Rattle.trb.specs.Kind.{kind_numbered, number_of, kind_name, is_left_out_transfer, is_command, is_left_out_command};
+ghost use Rattle.trb.specs.Kind.{kind_numbered, number_of, kind_name, is_transfer, is_left_out_transfer, is_command, is_left_out_command};
 
 use std::fmt;
 
@@ -107,6 +107,22 @@ impl BlockKind {
             BlockKind::MfindexWrap => 39,
             BlockKind::Unknown(number) => number,
         }
+    }
+
+    /// The types that a transfer descriptor may have, in the profile or not. A Link belongs to no descriptor.
+    pub fn is_transfer(self) -> bool
+        ensures { result ≡ is_transfer self }
+    {
+        matches!(
+            self,
+            BlockKind::Normal
+                | BlockKind::SetupStage
+                | BlockKind::DataStage
+                | BlockKind::StatusStage
+                | BlockKind::Isoch
+                | BlockKind::EventData
+                | BlockKind::NoOp
+        )
     }
 
     /// Isochronous and Event Data blocks, which the profile leaves out.

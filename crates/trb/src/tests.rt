@@ -57,6 +57,7 @@ fn numbers_the_types(rt: HostRuntime) {
     assert_eq!(rt; BlockKind::MfindexWrap.number(), 39);
     assert!(rt; BlockKind::NoOpCommand.is_command());
     assert!(rt; BlockKind::Isoch.is_left_out_transfer());
+    assert!(rt; BlockKind::Isoch.is_transfer() && !BlockKind::Link.is_transfer());
     assert!(rt; BlockKind::Unknown(48).is_left_out_command());
 }
 

@@ -1,10 +1,11 @@
 -- The takes of a ring, and which positions they should have had
-use Rattle.std.specs.Prelude.{ℕ, ◌+◌, ◌==◌, ◌&&◌, ◌||◌, Bool, true, false, List, [], ◌∷◌, ◌++◌, drop, find, unwrap_or, Option, Some, None, slice_get}
+use Rattle.std.specs.Prelude.{ℕ, ◌+◌, ◌==◌, ◌&&◌, ◌||◌, Bool, true, false, List, [], ◌∷◌, ◌++◌, drop, find, unwrap_or, Option, Some, None}
 use Rattle.std.specs.List.{range_with_len}
 use Rattle.trb.specs.declared.block.Block.{Block}
 use Rattle.trb.specs.Block.{with_cycle, same_words}
 use Rattle.segments.specs.ShapeValue.{Shape}
 use Rattle.segments.specs.Places.{place_count, address_of, cycle_of, is_crossing, link_address}
+use Rattle.segments.specs.Descriptors.{DeclaredBlock, declared_at}
 use Rattle.world_state.specs.World.{World, RingEvent, Took, Placed}
 
 -- the addresses of the takes, the oldest first
@@ -31,18 +32,15 @@ next_take shape [] = 0
 next_take shape (Took a b n ∷ older) = next_take shape older + 1
 next_take shape (Placed a ∷ older) = first_at shape a (next_take shape older)
 
--- a sum of whole descriptors, of these lengths from start on
-unfoldable pub is_border : List ℕ → ℕ → ℕ → Bool
-is_border [] start q = start == q
-is_border (n ∷ rest) start q = start == q || is_border rest (start + n) q
-
 unfoldable pub was_placed : List RingEvent → Bool
 was_placed (Placed a ∷ older) = true
 was_placed _ = false
 
--- a take has the words that were declared at position p, with the cycle of p
-unfoldable pub is_as_declared : Shape → List Block → ℕ → Block → Bool
-is_as_declared shape queue p b = holds (slice_get queue p) where
-  holds : Option Block → Bool
-  holds None = false
-  holds (Some d) = same_words b (with_cycle d (cycle_of shape p))
+-- the words of a take are those that were declared at position p, with the cycle of p
+unfoldable pub is_as_declared : Shape → Option DeclaredBlock → ℕ → Block → Bool
+is_as_declared shape None p b = false
+is_as_declared shape (Some d) p b = same_words b (with_cycle d.block (cycle_of shape p))
+
+-- what is declared at the position of ring r's next take
+unfoldable pub declared_next : Shape → World → ℕ → Option DeclaredBlock
+declared_next shape w r = declared_at (w.queue r) (w.lengths r) (next_take shape (w.events r))

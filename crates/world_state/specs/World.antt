@@ -2,7 +2,8 @@
 use Rattle.std.specs.Prelude.{ℕ, ◌+◌, ◌==◌, if◌then◌else◌, Bool, false, List, [], ◌∷◌, Option, None}
 use Rattle.guest_memory.specs.Memory.{put}
 use Rattle.trb.specs.declared.block.Block.{Block}
-use Rattle.trb.specs.Block.{word}
+use Rattle.trb.specs.Block.{block_at, word}
+use Rattle.segments.specs.Descriptors.{DeclaredBlock}
 use Rattle.commands.specs.declared.state.SlotState.{SlotState}
 use Rattle.commands.specs.declared.state.SlotState.TheVariants.{Disabled}
 use Rattle.commands.specs.declared.state.EndpointState.{EndpointState}
@@ -13,9 +14,10 @@ use Rattle.traces.specs.declared.register.Register.{Register}
 use Rattle.traces.specs.declared.row.Row.{Row}
 use Rattle.traces.specs.Header.{event_shape}
 
--- what happened on a ring: a block was taken, when so many were declared; or the dequeue pointer was set to an address
+-- what happened on a ring: a block was taken, with what was declared at its position then; or the dequeue pointer was set to an
+-- address
 pub data RingEvent : Type 0 where
-  Took : (address : ℕ) (block : Block) (declared : ℕ) → RingEvent
+  Took : (address : ℕ) (block : Block) (declared : Option DeclaredBlock) → RingEvent
   Placed : (address : ℕ) → RingEvent
 
 -- a command that was taken and isn't finished
@@ -25,8 +27,6 @@ pub record UnderWay : Type 0 where
   pub block : Block
   -- it is a Stop Endpoint whose Stopped event was posted
   pub has_stopped : Bool
-  -- at which step its control word was last written
-  pub written : ℕ
 
 pub record World : Type 0 where
   -- the rows still to come, and how many steps were made
@@ -42,7 +42,7 @@ pub record World : Type 0 where
   pub written : ℕ → ℕ
   -- by ring ID: the declared blocks, and how many blocks each declared descriptor has
   pub queue : ℕ → List Block
-  pub descriptors : ℕ → List ℕ
+  pub lengths : ℕ → List ℕ
   -- by slot, and by slot and endpoint index (DCI)
   pub slot_state : ℕ → SlotState
   pub endpoint_state : ℕ → ℕ → EndpointState
@@ -76,7 +76,7 @@ opening rows = record {
   changed = λ a. 0;
   written = λ a. 0;
   queue = λ r. [];
-  descriptors = λ r. [];
+  lengths = λ r. [];
   slot_state = λ s. Disabled;
   endpoint_state = λ s i. Off;
   ring_of = λ s i. None;
@@ -93,10 +93,6 @@ opening rows = record {
   looked_outside = false;
 }
 
--- the block at an address
-unfoldable pub block_at : World → ℕ → Block
-block_at w a = record { w = w.memory a ∷ w.memory (a + 4) ∷ w.memory (a + 8) ∷ w.memory (a + 12) ∷ [] }
-
 -- a word of memory is written, in the step that is being made; only another value changes it
 unfoldable pub stored : World → ℕ → ℕ → World
 stored w a x = record w {
@@ -110,4 +106,4 @@ stored_block w a b = stored (stored (stored (stored w a (word b 0)) (a + 4) (wor
 
 -- the block at event position p
 unfoldable pub event_at : Header → World → ℕ → Block
-event_at h w p = block_at w (address_of (event_shape h) p)
+event_at h w p = block_at w.memory (address_of (event_shape h) p)

@@ -1,0 +1,96 @@
+-- Worked examples of Links that are given: where they lead, which of them toggle the cycle, and what they may not say
+use Rattle.std.specs.Prelude.{◌≡◌, ℕ, ◌+◌, List, [], ◌∷◌, ◌++◌, Option, Some, None, refl}
+use Rattle.trb.specs.declared.ring_kind.RingKind.TheVariants.{Xfer}
+use Rattle.contexts.specs.declared.size.ContextSize.TheVariants.{Bytes32}
+use Rattle.traces.specs.declared.header.Header.{Header}
+use Rattle.traces.specs.declared.row.Row.{Row}
+use Rattle.traces.specs.declared.row.Row.TheVariants.{Write}
+use Rattle.ring_knowledge.specs.Known.{nothing}
+use Rattle.ownership_rules.specs.declared.refusal.Refusal.{Refusal}
+use Rattle.ownership_rules.specs.declared.refusal.Refusal.TheVariants.{WriteToOwned, LinkFault, NotInProfile}
+use Rattle.ownership_rules.specs.Rules.{verdict_from}
+use Rattle.ownership_rules.specs.OnLiterals.{rules_on_literals}
+
+-- a transfer ring of two segments, of 3 blocks at 0x30000 and of 2 blocks at 0x31000
+abbrev two_segments : Header
+two_segments = record { context_size = Bytes32; rings = record { id = 2; shape = record { kind = Xfer; segments = record { base = 0x30000; count = 3 } ∷ record { base = 0x31000; count = 2 } ∷ [] } } ∷ [] }
+
+-- the two rows that give a Link: its pointer, then its control word
+abbrev link : ℕ → ℕ → ℕ → List Row
+link at target control = Write at target ∷ Write (at + 12) control ∷ []
+
+-- the Links of the first and the second segment
+abbrev first : ℕ → ℕ → List Row
+first target control = link 0x30020 target control
+
+abbrev last : ℕ → ℕ → List Row
+last target control = link 0x31010 target control
+
+-- the verdict on a trace with these rows: lines 1 to 3 are the header, the first row is line 4
+abbrev verdict : List Row → Option (ℕ × Refusal)
+verdict rows = verdict_from two_segments nothing 4 rows
+
+-- control words: type 6 with the Cycle bit, with Toggle Cycle (TC), with Interrupt On Completion (IOC)
+abbrev plain : ℕ
+plain = 0x1801
+
+abbrev toggling : ℕ
+toggling = 0x1803
+
+-- ---- the Link of the first segment leads to the second, that of the second back with Toggle Cycle
+
+pub both_links : verdict (first 0x31000 plain ++ last 0x30000 toggling) ≡ None
+unfolding rules_on_literals
+both_links = refl
+
+pub first_link_toggles : verdict (first 0x31000 toggling) ≡ Some (5, LinkFault)
+unfolding rules_on_literals
+first_link_toggles = refl
+
+pub first_link_leads_back_and_toggles : verdict (first 0x30000 toggling) ≡ Some (5, LinkFault)
+unfolding rules_on_literals
+first_link_leads_back_and_toggles = refl
+
+pub last_link_does_not_toggle : verdict (first 0x31000 plain ++ last 0x30000 plain) ≡ Some (7, LinkFault)
+unfolding rules_on_literals
+last_link_does_not_toggle = refl
+
+pub last_link_leads_to_itself : verdict (last 0x31000 toggling) ≡ Some (5, LinkFault)
+unfolding rules_on_literals
+last_link_leads_to_itself = refl
+
+-- type 5 in place of 6
+pub no_link : verdict (first 0x31000 0x1401) ≡ Some (5, LinkFault)
+unfolding rules_on_literals
+no_link = refl
+
+-- bits 3:0 of word 0 are no part of the pointer
+pub pointer_with_low_bits : verdict (first 0x3100f plain) ≡ None
+unfolding rules_on_literals
+pointer_with_low_bits = refl
+
+-- the other lap's Cycle bit gives no Link, whatever the words say
+pub link_not_given : verdict (first 0 0x1802) ≡ None
+unfolding rules_on_literals
+link_not_given = refl
+
+-- ---- Interrupt On Completion (IOC) is 0
+
+pub link_interrupts : verdict (first 0x31000 0x1821) ≡ Some (5, NotInProfile)
+unfolding rules_on_literals
+link_interrupts = refl
+
+pub last_link_interrupts : verdict (last 0x30000 0x1823) ≡ Some (5, NotInProfile)
+unfolding rules_on_literals
+last_link_interrupts = refl
+
+-- the lesser number is told where a Link breaks both rules
+pub wrong_link_interrupts : verdict (first 0x31000 0x1823) ≡ Some (5, LinkFault)
+unfolding rules_on_literals
+wrong_link_interrupts = refl
+
+-- ---- a Link that was given is the controller's
+
+pub link_written_again : verdict (first 0x31000 plain ++ Write 0x30020 0x30000 ∷ []) ≡ Some (6, WriteToOwned)
+unfolding rules_on_literals
+link_written_again = refl

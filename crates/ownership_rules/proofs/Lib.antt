@@ -1,0 +1,3 @@
+pub mod WorkedTraces
+pub mod WorkedLeases
+pub mod Examples

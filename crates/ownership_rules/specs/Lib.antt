@@ -1,0 +1,14 @@
+pub mod Refusal
+pub mod OpenLeases
+pub mod Areas
+pub mod Declarations
+pub mod Commands
+pub mod Moves
+pub mod Writes
+pub mod Registers
+pub mod Doorbells
+pub mod Events
+pub mod Rules
+pub mod Clean
+pub mod Leases
+pub mod OnLiterals

@@ -1,0 +1,18 @@
+-- What a fact on literals unfolds to compute: name it on an `unfolding` line
+use Rattle.std.specs.Prelude.{⊤}
+use Rattle.ownership_rules.specs.Areas as of_areas
+use Rattle.ownership_rules.specs.Commands as of_commands
+use Rattle.ownership_rules.specs.Declarations as of_declarations
+use Rattle.ownership_rules.specs.Doorbells as of_doorbells
+use Rattle.ownership_rules.specs.Events as of_events
+use Rattle.ownership_rules.specs.Leases as of_leases
+use Rattle.ownership_rules.specs.Moves as of_moves
+use Rattle.ownership_rules.specs.OpenLeases as of_openleases
+use Rattle.ownership_rules.specs.Registers as of_registers
+use Rattle.ownership_rules.specs.Rules as of_rules
+use Rattle.ownership_rules.specs.Writes as of_writes
+use Rattle.ring_knowledge.specs.OnLiterals.{knowledge_on_literals}
+
+unfoldable pub rules_on_literals : ⊤
+unfolding of_areas.is_soiled of_areas.is_bad_area of_areas.is_in_range_lease of_commands.names_disabled_slot of_commands.names_disabled_endpoint of_commands.type_in of_commands.streams_in of_commands.has_bad_context of_commands.has_bad_entry of_commands.is_bad_device of_commands.takes_bad_device of_commands.is_bad_added of_commands.has_bad_content of_commands.is_bad_command of_commands.is_busy of_commands.is_left_out_endpoint of_commands.has_left_out_endpoint of_declarations.is_driver_ring of_declarations.declaration_tests of_doorbells.touches_endpoint of_doorbells.is_touched of_doorbells.is_bad_bell of_doorbells.is_bad_doorbell of_doorbells.doorbell_tests of_events.is_in_profile of_events.is_working of_events.was_stop_seen of_events.can_finish of_events.may_be_taken of_events.is_stopping_now of_events.can_report of_events.can_report_at of_events.is_impossible_transfer of_events.is_impossible_completion of_events.is_impossible_by_kind of_events.is_past_room of_events.is_impossible of_events.event_tests of_leases.without_end of_leases.as_lease of_leases.comes_before of_leases.with_lease of_leases.in_order of_leases.begun of_leases.end_from of_leases.with_ends of_leases.leases_from of_leases.leases of_moves.is_among of_moves.has_repeats of_moves.binding_in of_moves.binds of_moves.ring_bound of_moves.binds_ring of_moves.is_used of_moves.is_unused_ring of_moves.is_bad_binding of_moves.is_bad_dequeue of_moves.is_bad_stay of_moves.is_bad_move of_moves.moves_ring of_moves.is_being_moved of_openleases.is_among of_openleases.slots of_openleases.lease_start of_openleases.lease_bytes of_openleases.covers of_openleases.segment_ranges of_openleases.table_range of_openleases.range_of_context of_openleases.range_of_command of_openleases.context_ranges of_openleases.range_of_entry of_openleases.entry_ranges of_openleases.range_of_device of_openleases.device_ranges of_openleases.open_ranges of_openleases.open_on of_openleases.open_leases of_openleases.is_leased of_registers.is_written of_registers.is_unwritten of_registers.is_late_reset of_registers.is_early_start of_registers.is_no_first_block of_registers.may_pass of_registers.is_bad_crcr of_registers.is_bad_size of_registers.is_bad_table of_registers.is_bad_register of_registers.is_bad_erdp of_registers.register_tests of_rules.first_or of_rules.tests of_rules.broken of_rules.verdict_from of_writes.on_position of_writes.on_crossing of_writes.holds_of of_writes.some_given of_writes.some_crossed of_writes.some_command of_writes.write_tests knowledge_on_literals
+rules_on_literals = tt

@@ -1,0 +1,37 @@
+-- All rules: which of them a row breaks, and the verdict on a trace
+use Rattle.std.specs.Prelude.{ℕ, ◌+◌, if◌then◌else◌, List, [], ◌∷◌, Option, Some, None}
+use Rattle.traces.specs.declared.header.Header.{Header}
+use Rattle.traces.specs.declared.row.Row.{Row}
+use Rattle.traces.specs.declared.row.Row.TheVariants.{Sub, Write, Reg, Bell, Read}
+use Rattle.ring_knowledge.specs.Known.{Known}
+use Rattle.ring_knowledge.specs.Learned.{learned}
+use Rattle.ownership_rules.specs.Refusal.{Test, broken_of}
+use Rattle.ownership_rules.specs.declared.refusal.Refusal.{Refusal}
+use Rattle.ownership_rules.specs.declared.refusal.Refusal.TheVariants.{AfterStop}
+use Rattle.ownership_rules.specs.Declarations.{declaration_tests}
+use Rattle.ownership_rules.specs.Writes.{write_tests}
+use Rattle.ownership_rules.specs.Registers.{register_tests}
+use Rattle.ownership_rules.specs.Doorbells.{doorbell_tests}
+use Rattle.ownership_rules.specs.Events.{event_tests}
+
+unfoldable pub first_or : List Refusal → ℕ → Option (ℕ × Refusal) → Option (ℕ × Refusal)
+first_or [] n later = later
+first_or (c ∷ cs) n later = Some (n, c)
+
+module _ (h : Header) where
+  -- the rules for a row's kind, in ascending order of their numbers
+  unfoldable pub tests : Known → Row → List Test
+  tests k (Sub r blocks) = declaration_tests h k r blocks
+  tests k (Write a w) = write_tests h k a w
+  tests k (Reg r v) = register_tests h k r v
+  tests k (Bell s t) = doorbell_tests h k s t
+  tests k (Read b) = event_tests h k b
+
+  -- the rules that a row breaks; after the stop every row breaks one, and nothing else is tested
+  unfoldable pub broken : Known → Row → List Refusal
+  broken k row = if k.stopped then AfterStop ∷ [] else broken_of (tests k row)
+
+  -- the first row that breaks a rule, and the least of these; n is the number of the first row
+  unfoldable pub verdict_from : Known → ℕ → List Row → Option (ℕ × Refusal)
+  verdict_from k n [] = None
+  verdict_from k n (row ∷ rows) = first_or (broken k row) n (verdict_from (learned h k row) (n + 1) rows)

@@ -1,0 +1,53 @@
+-- The rules of a write of memory (`w`)
+use Rattle.std.specs.Prelude.{ℕ, ◌||◌, Bool, false, List, [], ◌∷◌, Option, Some, None}
+use Rattle.std.specs.List.{list_any}
+use Rattle.segments.specs.Givings.{is_other_than_declared, is_not_declared, is_not_whole, leads_wrong, interrupts}
+use Rattle.commands.specs.declared.command.Command.{Command}
+use Rattle.traces.specs.declared.header.Header.{Header}
+use Rattle.traces.specs.Header.{shape_of}
+use Rattle.ring_knowledge.specs.Known.{Known}
+use Rattle.ring_knowledge.specs.Rings.{Given, Position, Crossing, given_by}
+use Rattle.ring_knowledge.specs.Writes.{command_given}
+use Rattle.ownership_rules.specs.Refusal.{Test}
+use Rattle.ownership_rules.specs.declared.refusal.Refusal.TheVariants.{WriteToOwned, NotAsSubmitted, NotDeclared, NotWhole, LinkFault, BadCommand, Busy, NotInProfile, BadMove}
+use Rattle.ownership_rules.specs.OpenLeases.{is_leased}
+use Rattle.ownership_rules.specs.Commands as commands
+use Rattle.ownership_rules.specs.Moves as moves
+
+-- a position, of which this holds
+unfoldable pub on_position : (ℕ → ℕ → Bool) → Given → Bool
+on_position test (Position r p) = test r p
+on_position test (Crossing r q) = false
+
+-- a crossing, of which this holds
+unfoldable pub on_crossing : (ℕ → ℕ → Bool) → Given → Bool
+on_crossing test (Position r p) = false
+on_crossing test (Crossing r q) = test r q
+
+unfoldable pub holds_of : (Command → Bool) → Option Command → Bool
+holds_of test None = false
+holds_of test (Some c) = test c
+
+module _ (h : Header) where
+  -- the write gives some position, or some crossing, of which this holds
+  unfoldable pub some_given : Known → ℕ → ℕ → (ℕ → ℕ → Bool) → Bool
+  some_given k a w test = list_any (on_position test) (given_by h k a w)
+
+  unfoldable pub some_crossed : Known → ℕ → ℕ → (ℕ → ℕ → Bool) → Bool
+  some_crossed k a w test = list_any (on_crossing test) (given_by h k a w)
+
+  -- the write gives a command, of which this holds
+  unfoldable pub some_command : Known → ℕ → ℕ → (Command → Bool) → Bool
+  some_command k a w test = holds_of test (command_given h k a w)
+
+  unfoldable pub write_tests : Known → ℕ → ℕ → List Test
+  write_tests k a w =
+      (WriteToOwned, is_leased h k a)
+      ∷ (NotAsSubmitted, some_given k a w (λ r p. is_other_than_declared (shape_of h r) (k.ring r) k.memory a w p))
+      ∷ (NotDeclared, some_given k a w (λ r p. is_not_declared (k.ring r) p))
+      ∷ (NotWhole, some_given k a w (λ r p. is_not_whole (shape_of h r) (k.ring r) p))
+      ∷ (LinkFault, some_crossed k a w (λ r q. leads_wrong (shape_of h r) k.memory a w q))
+      ∷ (BadCommand, some_command k a w (commands.is_bad_command h k))
+      ∷ (Busy, some_command k a w (commands.is_busy h k) || some_given k a w (λ r p. moves.is_being_moved h k r))
+      ∷ (NotInProfile, some_command k a w (commands.has_left_out_endpoint h k) || some_crossed k a w (λ r q. interrupts (shape_of h r) k.memory a w q))
+      ∷ (BadMove, some_command k a w (λ c. moves.is_bad_binding h k c || moves.is_bad_move h k c)) ∷ []
