@@ -7,7 +7,7 @@ use Rattle.commands.specs.declared.state.SlotState.{SlotState}
 use Rattle.commands.specs.declared.state.SlotState.TheVariants.{Disabled, Enabled, Default, Addressed, Configured}
 use Rattle.commands.specs.declared.state.EndpointState.{EndpointState}
 use Rattle.commands.specs.declared.state.EndpointState.TheVariants.{Disabled as Off, Running, Halted, Stopped, Error}
-use Rattle.commands.specs.Command.{command_of, named_slot, named_endpoint, named_context}
+use Rattle.commands.specs.Command.{command_of, may_answer_slot, named_slot, named_endpoint, named_context}
 use Rattle.commands.specs.States.{slot_after, endpoint_after}
 
 -- ---- a success, from each state of a slot
@@ -158,3 +158,17 @@ context_of_configure_endpoint = refl
 
 pub no_context_of_deconfigure : named_context (ConfigureEndpoint 1 true 0x1000) ≡ None
 no_context_of_deconfigure = refl
+
+-- a Set TR Dequeue of a stream (SCT 1) and a Reset Endpoint that keeps its state (TSP) are outside the profile: they name no slot, so
+-- their completions may carry any
+pub reads_no_move_of_a_stream : command_of (block 0x30013 0 0x1024000) ≡ None
+reads_no_move_of_a_stream = refl
+
+pub answered_for_any_slot : may_answer_slot (command_of (block 0x30013 0 0x1024000)) 7 ≡ true
+answered_for_any_slot = refl
+
+pub reset_that_keeps_its_state : may_answer_slot (command_of (block 0 0 0x1023a00)) 7 ≡ true
+reset_that_keeps_its_state = refl
+
+pub answered_for_its_slot : (may_answer_slot (command_of (block 0x30011 0 0x1024000)) 1 ≡ true) × (may_answer_slot (command_of (block 0x30011 0 0x1024000)) 7 ≡ false)
+answered_for_its_slot = (refl, refl)

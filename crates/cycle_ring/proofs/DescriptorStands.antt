@@ -20,7 +20,7 @@ use Rattle.segments.proofs.PlaceAtLemmas.{place_at-address_of, place_at-link_add
 use Rattle.cycle_ring.specs.Links.{link_block}
 use Rattle.cycle_ring.specs.Writes.{low_writes, control_write, block_at_position, way_writes, later_writes, writes_of}
 use Rattle.cycle_ring.specs.Played.{played, BlocksStand, LinksStand, OthersStay, GivenLast}
-use Rattle.cycle_ring.proofs.PlayedLemmas.{played-written, played-elsewhere, block_in-words, same_address}
+use Rattle.cycle_ring.proofs.PlayedLemmas.{played-written, played-elsewhere, block_at-words, same_address}
 use Rattle.cycle_ring.proofs.WrittenWords.{IsWordOf, IsWordOfLink, IsWordAt, IsWritten, way_writes-words, later_writes-words, writes_of-words, word_of_descriptor_written}
 
 some_parts : {A : Type 0} {a c : A} → Some a ≡ Some c → a ≡ c
@@ -148,7 +148,7 @@ module _ (shape : Shape) (is_shape : IsShape shape) where
         let q = first + i in
         let a = address_of shape q in
         let head = block_at_position shape q b in
-        block_in-words (played memory (writes_of shape first blocks)) a (word head 0) (word head 1) (word head 2) (word head 3)
+        block_at-words (played memory (writes_of shape first blocks)) a (word head 0) (word head 1) (word head 2) (word head 3)
         (stands a 0 (lit< tt) (omega arith)) (stands (a + 4) 1 (lit< tt) refl) (stands (a + 8) 2 (lit< tt) refl) (stands (a + 12) 3 (lit< tt) refl)
       where
         stands :
@@ -162,7 +162,7 @@ module _ (shape : Shape) (is_shape : IsShape shape) where
     links_stand memory q i from below crossed =
         let a = link_address shape q in
         let link = link_block shape i (cycle_of shape (q - 1)) (nat_lt first q) in
-        block_in-words (played memory (writes_of shape first blocks)) a (word link 0) (word link 1) (word link 2) (word link 3)
+        block_at-words (played memory (writes_of shape first blocks)) a (word link 0) (word link 1) (word link 2) (word link 3)
         (stands a 0 (lit< tt) (omega arith)) (stands (a + 4) 1 (lit< tt) refl) (stands (a + 8) 2 (lit< tt) refl) (stands (a + 12) 3 (lit< tt) refl)
       where
         stands :

@@ -5,7 +5,8 @@ use Rattle.std.proofs.lemmas.Bool.{cases_Bool, eqb-true}
 use Rattle.std.proofs.lemmas.Bool.Decides.{nat_tests}
 use Rattle.guest_memory.specs.Memory.{put}
 use Rattle.trb.specs.declared.block.Block.{Block}
-use Rattle.cycle_ring.specs.Played.{played, block_in}
+use Rattle.trb.specs.Block.{block_at}
+use Rattle.cycle_ring.specs.Played.{played}
 
 -- an element is contained in front of others, and behind another
 pub Contains-here : {A : Type 0} (x : A) (xs : List A) → Contains (x ∷ xs) x
@@ -71,7 +72,7 @@ pub played-elsewhere :
 played-elsewhere memory writes x never = played-agree memory writes x (memory x) (λ u h. absurd (never u h)) refl
 
 -- a block is known by its four words
-pub block_in-words :
+pub block_at-words :
     (memory : ℕ → ℕ) (a w0 w1 w2 w3 : ℕ) → memory a ≡ w0 → memory (a + 4) ≡ w1 → memory (a + 8) ≡ w2 → memory (a + 12) ≡ w3
-    → block_in memory a ≡ (let b : Block = record { w = w0 ∷ w1 ∷ w2 ∷ w3 ∷ [] } in b)
-block_in-words memory a w0 w1 w2 w3 e0 e1 e2 e3 = rw (e0, e1, e2, e3) refl
+    → block_at memory a ≡ (let b : Block = record { w = w0 ∷ w1 ∷ w2 ∷ w3 ∷ [] } in b)
+block_at-words memory a w0 w1 w2 w3 e0 e1 e2 e3 = rw (e0, e1, e2, e3) refl

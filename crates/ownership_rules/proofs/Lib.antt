@@ -1,3 +1,6 @@
+pub mod Among
+pub mod ProperLeases
+pub mod Covered
 pub mod WorkedTraces
 pub mod WorkedLeases
 pub mod Examples
