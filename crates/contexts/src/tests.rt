@@ -1,13 +1,13 @@
 use crate::{ContextSize, EndpointContext, InputContext};
-use guest_memory::{Addr, SparseMemory, WordMemory};
+use guest_memory::{Addr, PageMemory, WordMemory};
 use std::test::Fail;
 
 /// Where the input context lies.
 const AT: u64 = 0x60000;
 
 /// Memory with these words, each by its address.
-fn memory(rt: &HostRuntime, words: &[(u64, u32)]) -> Result<SparseMemory, Fail> {
-    let mut memory = SparseMemory::new(rt.alloc());
+fn memory(rt: &HostRuntime, words: &[(u64, u32)]) -> Result<PageMemory, Fail> {
+    let mut memory = PageMemory::new(rt.alloc());
     for &(at, word) in words {
         memory.set(Addr::new(at).ok_or("no address of a word")?, word)?;
     }

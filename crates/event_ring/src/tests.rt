@@ -1,5 +1,5 @@
 use crate::{BadErdp, EventPlace, ImpossibleEvent, NoRoom};
-use guest_memory::{Addr, SparseMemory, WordMemory};
+use guest_memory::{Addr, PageMemory, WordMemory};
 use segments::RingShape;
 use std::test::Fail;
 use trb::{Block, RingKind};
@@ -83,8 +83,8 @@ fn three_segments_of_different_sizes(rt: HostRuntime) -> Result<(), Fail> {
 }
 
 /// Memory with these words from `base` on.
-fn memory_with(rt: &HostRuntime, base: u64, words: &[u32]) -> Result<SparseMemory, Fail> {
-    let mut memory = SparseMemory::new(rt.alloc());
+fn memory_with(rt: &HostRuntime, base: u64, words: &[u32]) -> Result<PageMemory, Fail> {
+    let mut memory = PageMemory::new(rt.alloc());
     let mut at = base;
     for word in words {
         memory.set(Addr::new(at).ok_or("no address of a word")?, *word)?;

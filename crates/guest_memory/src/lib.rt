@@ -3,10 +3,10 @@
 
 mod addr;
 mod memory;
-mod sparse;
+mod page;
 #[cfg(test)]
 mod tests;
 
 pub use addr::Addr;
 pub use memory::WordMemory;
-pub use sparse::SparseMemory;
+pub use page::PageMemory;

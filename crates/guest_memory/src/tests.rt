@@ -1,6 +1,6 @@
 ghost use Rattle.std.specs.Prelude.{◌≡◌, ℕ};
 
-use crate::{Addr, SparseMemory, WordMemory};
+use crate::{Addr, PageMemory, WordMemory};
 use std::test::Fail;
 
 fn at(value: u64) -> Result<Addr, Fail> {
@@ -38,7 +38,7 @@ fn takes_the_addresses_of_words(rt: HostRuntime) {
 
 #[test]
 fn reads_back_what_was_written(rt: HostRuntime) -> Result<(), Fail> {
-    let mut memory = SparseMemory::new(rt.alloc());
+    let mut memory = PageMemory::new(rt.alloc());
     assert_eq!(rt; word_of_zeros(&memory, at(0x30000)?), 0);
     let words = around(&mut memory, at(0x2fffc)?, at(0x30000)?, at(0x30004)?)?;
     assert_eq!(rt; words, [0, 0xffff_ffff, 0]);
@@ -49,11 +49,33 @@ fn reads_back_what_was_written(rt: HostRuntime) -> Result<(), Fail> {
 
 #[test]
 fn keeps_the_first_and_the_last_word(rt: HostRuntime) -> Result<(), Fail> {
-    let mut memory = SparseMemory::new(rt.alloc());
+    let mut memory = PageMemory::new(rt.alloc());
     memory.set(at(0xffff_ffff_ffff_fffc)?, 1)?;
     memory.set(at(0)?, 2)?;
     assert_eq!(rt; memory.word(at(0xffff_ffff_ffff_fffc)?), 1);
     assert_eq!(rt; memory.word(at(0)?), 2);
     assert_eq!(rt; memory.word(at(4)?), 0);
+    Ok(())
+}
+
+#[test]
+fn keeps_pages_that_lie_far_apart(rt: HostRuntime) -> Result<(), Fail> {
+    let written = [
+        (0x40_0000, 1),
+        (0, 2),
+        (0xffff_ffff_ffff_ffc0, 3),
+        (0x40_003c, 4),
+        (0x40_0040, 5),
+    ];
+    let mut memory = PageMemory::new(rt.alloc());
+    for (address, word) in written {
+        memory.set(at(address)?, word)?;
+    }
+    for (address, word) in written {
+        assert_eq!(rt; memory.word(at(address)?), word, "at {address}");
+    }
+    for address in [4, 0x40_0004, 0x40_0044, 0xffff_ffff_ffff_fffc] {
+        assert_eq!(rt; memory.word(at(address)?), 0, "at {address}");
+    }
     Ok(())
 }

@@ -10,7 +10,7 @@ use super::fault::{CheckFault, StepFault};
 use super::finder::Finder;
 use super::rings::{event_leases, fresh_records};
 use super::row::check_row;
-use guest_memory::{SparseMemory, WordMemory};
+use guest_memory::{PageMemory, WordMemory};
 use std::alloc::Global;
 use traces::{Header, Row, Trace};
 
@@ -84,5 +84,5 @@ pub fn check(alloc: Global, trace: &Trace) -> Result<u64, CheckFault>
     ensures first { IfErr result (λ e. IfRefusedAt e (IsFirstOfAll trace.now.header trace.now.first trace.now.rows)) }
     ensures walk { OnOk result (WalksRead trace.now.header trace.now.rows) }
 {
-    check_in(alloc, trace, SparseMemory::new(alloc))
+    check_in(alloc, trace, PageMemory::new(alloc))
 }
