@@ -2,6 +2,7 @@ ghost use Rattle.std.specs.Prelude.{◌≡◌, Some};
 ghost use Rattle.std.specs.Fmt.{padded};
 ghost use Rattle.certificate.specs.Spelling.{cert_fault_number, cert_fault_name};
 
+use std::alloc::AllocError;
 use std::fmt;
 
 /// Why bytes are no certificate.
@@ -50,5 +51,15 @@ impl fmt::Display for CertFault {
 
     fn fmt<W: fmt::Write>(&self, f: &mut fmt::Formatter<W>) -> fmt::Result {
         f.pad(self.name())
+    }
+}
+
+impl From<AllocError> for CertFault {
+    ghost use Rattle.certificate.specs.declared.fault.CertFault.TheVariants.{Memory};
+
+    ghost from_gives = { λ f e. e ≡ Memory };
+
+    fn from(_error: AllocError) -> CertFault {
+        CertFault::Memory
     }
 }

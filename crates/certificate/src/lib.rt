@@ -2,8 +2,12 @@
 #![tactic(auto)]
 
 mod fault;
+mod reading;
+mod writing;
 
 pub use fault::CertFault;
+pub use reading::decode;
+pub use writing::encode;
 
 #[cfg(test)]
 mod tests;

@@ -1,5 +1,7 @@
-use crate::CertFault;
+use crate::{CertFault, decode, encode};
+use ring_knowledge::Lease;
 use std::alloc::AllocError;
+use std::test::Fail;
 
 #[test]
 fn the_numbers_and_names_of_faults(rt: HostRuntime) -> Result<(), AllocError> {
@@ -25,5 +27,76 @@ fn the_message_of_a_certificate_that_is_cut_off(rt: HostRuntime) -> Result<(), A
     let line = format!(in rt.alloc(); "xhcitrace: {number} {fault}")?;
     assert_eq!(rt; line.as_str(), "xhcitrace: 7 Length");
     assert_eq!(rt; fault.name(), "Length");
+    Ok(())
+}
+
+/// The leases of a trace with a No Op Command: an event segment, the segment table, the command's block.
+const LEASES: [Lease; 3] = [
+    Lease {
+        kind: 2,
+        ring: 0x100,
+        pos: 0x20000,
+        from: 0,
+        to: u32::MAX,
+    },
+    Lease {
+        kind: 2,
+        ring: 0x10,
+        pos: 0x40000,
+        from: 9,
+        to: u32::MAX,
+    },
+    Lease {
+        kind: 0,
+        ring: 0,
+        pos: 0,
+        from: 16,
+        to: 18,
+    },
+];
+
+const BYTES: [u8; 80] = [
+    0x58, 0x48, 0x43, 0x49, 0x43, 0x52, 0x54, 0x31, // XHCICRT1
+    2, 0, 0, 0, 0, 1, 0, 0, 0, 0, 2, 0, 0, 0, 0, 0, 0, 0, 0, 0, 0xff, 0xff, 0xff, 0xff, //
+    2, 0, 0, 0, 0x10, 0, 0, 0, 0, 0, 4, 0, 0, 0, 0, 0, 9, 0, 0, 0, 0xff, 0xff, 0xff, 0xff, //
+    0, 0, 0, 0, 0, 0, 0, 0, 0, 0, 0, 0, 0, 0, 0, 0, 0x10, 0, 0, 0, 0x12, 0, 0, 0,
+];
+
+#[test]
+fn the_bytes_of_three_leases(rt: HostRuntime) -> Result<(), Fail> {
+    let bytes = encode(rt.alloc(), &LEASES)?;
+    assert_eq!(rt; bytes.as_slice(), BYTES.as_slice());
+    Ok(())
+}
+
+#[test]
+fn three_leases_are_read(rt: HostRuntime) -> Result<(), Fail> {
+    let leases = decode(rt.alloc(), &BYTES)?;
+    assert_eq!(rt; leases.as_slice(), LEASES.as_slice());
+    Ok(())
+}
+
+#[test]
+fn each_beginning_is_refused_or_shorter(rt: HostRuntime) -> Result<(), Fail> {
+    for end in 0..BYTES.len() {
+        let answer = decode(rt.alloc(), &BYTES[..end]);
+        if end < 8 {
+            assert_eq!(rt; answer.err(), Some(CertFault::Magic));
+        } else if end % 24 == 8 {
+            assert_eq!(rt; answer?.len(), end / 24);
+        } else {
+            assert_eq!(rt; answer.err(), Some(CertFault::Length));
+        }
+    }
+    Ok(())
+}
+
+#[test]
+fn fields_that_no_lease_has(rt: HostRuntime) -> Result<(), Fail> {
+    for (at, byte) in [(8, 3), (61, 1), (76, 16)] {
+        let mut bytes = BYTES;
+        bytes[at] = byte;
+        assert_eq!(rt; decode(rt.alloc(), &bytes).err(), Some(CertFault::Field));
+    }
     Ok(())
 }

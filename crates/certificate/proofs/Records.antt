@@ -1,0 +1,138 @@
+-- Records one after another: what is written is read, and what is read is what was written
+use Rattle.std.specs.Prelude.{◌≡◌, ℕ, suc, zero, ◌+◌, ◌*◌, ◌<◌, ◌≤◌, true, List, [], ◌∷◌, ◌++◌, length, take, drop, All}
+use Rattle.std.specs.List.{flat_map, list_all}
+use Rattle.std.proofs.Common.{arith, sym, ◌∙◌, ap, refl, append_assoc, add-one, inl, inr}
+use Rattle.std.proofs.lemmas.List.{drop-drop, length-drop, get_or-take, get_or-drop, length-take-le, get_or_past}
+use Rattle.std.proofs.Math.Seq.{take-add}
+use Rattle.std.proofs.lemmas.List.Elements.{All-head, All-tail}
+use Rattle.std.proofs.lemmas.Bool.{and_from, cases_lt}
+use Rattle.std.proofs.lemmas.Nat.{le_bytes_4, le_bytes_8}
+use Rattle.std.proofs.Common.{get_or}
+use Rattle.byteorder.specs.Endian.{little_bytes, little_number}
+use Rattle.byteorder.specs.Numbers.{little_number-reads_back}
+use Rattle.ring_knowledge.specs.declared.lease.Lease.{Lease}
+use Rattle.certificate.specs.Spelling.{FitsLease, has_lease_fields, lease_bytes, lease_in, leases_in}
+
+-- one record more
+pub leases_in-push : (bytes : List ℕ) (n : ℕ) → leases_in bytes (n + 1) ≡ leases_in bytes n ++ lease_in (drop (24 * n) bytes) ∷ []
+unfolding leases_in
+leases_in-push bytes zero = refl
+leases_in-push bytes (suc n) =
+    let next : 24 + 24 * n ≡ 24 * suc n = omega arith in
+    let later : drop (24 * n) (drop 24 bytes) ≡ drop (24 * suc n) bytes = drop-drop (24 * n) 24 bytes ∙ ap (λ m. drop m bytes) next in
+    let rest : leases_in (drop 24 bytes) (suc n) ≡ leases_in (drop 24 bytes) n ++ lease_in (drop (24 * n) (drop 24 bytes)) ∷ [] = rw add-one at (leases_in-push (drop 24 bytes) n) in
+    rw add-one (ap (λ ls. lease_in bytes ∷ ls) (rest ∙ ap (λ b. leases_in (drop 24 bytes) n ++ lease_in b ∷ []) later))
+
+-- what is appended five times is appended at once
+pub appended : (x a b c d e p q r s t : List ℕ) → p ≡ x ++ a → q ≡ p ++ b → r ≡ q ++ c → s ≡ r ++ d → t ≡ s ++ e → t ≡ x ++ (a ++ b ++ c ++ d ++ e)
+appended x a b c d e p q r s t h i j k l = rw (l, k, j, i, h) (simp append_assoc)
+
+same_lease : (k r p f t a b c d e : ℕ) → k ≡ a → r ≡ b → p ≡ c → f ≡ d → t ≡ e →
+    ◌≡◌ {A = Lease} (record { kind = k; ring = r; pos = p; from = f; to = t }) (record { kind = a; ring = b; pos = c; from = d; to = e })
+same_lease k r p f t a b c d e g h i j l = cc
+
+-- the first record is the first lease
+first_read : (l : Lease) (rest : List ℕ) → FitsLease l → lease_in (lease_bytes l ++ rest) ≡ l
+unfolding lease_in lease_bytes
+first_read l rest fits =
+    same_lease _ _ _ _ _ l.kind l.ring l.pos l.from l.to
+    (little_number-reads_back 4 l.kind (little_bytes 4 l.ring ++ (little_bytes 8 l.pos ++ (little_bytes 4 l.from ++ (little_bytes 4 l.to ++ rest)))) fits.kind)
+    (little_number-reads_back 4 l.ring (little_bytes 8 l.pos ++ (little_bytes 4 l.from ++ (little_bytes 4 l.to ++ rest))) fits.ring)
+    (little_number-reads_back 8 l.pos (little_bytes 4 l.from ++ (little_bytes 4 l.to ++ rest)) fits.pos)
+    (little_number-reads_back 4 l.from (little_bytes 4 l.to ++ rest) fits.from)
+    (little_number-reads_back 4 l.to rest fits.to)
+
+rest_read : (l : Lease) (rest : List ℕ) → drop 24 (lease_bytes l ++ rest) ≡ rest
+unfolding lease_bytes
+rest_read l rest = refl
+
+pub all_read : (ls : List Lease) → All FitsLease ls → leases_in (flat_map lease_bytes ls) (length ls) ≡ ls
+unfolding leases_in
+all_read [] fits = refl
+all_read (l ∷ ls) fits =
+    let rest = flat_map lease_bytes ls in
+    rw (first_read l rest (All-head FitsLease l ls fits), rest_read l rest) (ap (λ xs. l ∷ xs) (all_read ls (All-tail FitsLease l ls fits)))
+
+-- each record has 24 bytes
+pub length_spelled : (ls : List Lease) → length (flat_map lease_bytes ls) ≡ 24 * length ls
+unfolding lease_bytes
+length_spelled [] = refl
+length_spelled (l ∷ ls) = let rest = length_spelled ls in omega arith
+
+pub fields_stand : (ls : List Lease) → All FitsLease ls → list_all has_lease_fields ls ≡ true
+fields_stand [] fits = refl
+fields_stand (l ∷ ls) fits =
+    and_from (has_lease_fields l) (list_all has_lease_fields ls) (All-head FitsLease l ls fits).fields (fields_stand ls (All-tail FitsLease l ls fits))
+
+-- ---- what is read, spelled again
+
+abbrev pub AreBytes : List ℕ → Type 0
+AreBytes bytes = (i : ℕ) → get_or bytes i 0 < 256
+
+-- what is left out in front, and what is kept, are bytes too
+pub dropped : (n : ℕ) (bytes : List ℕ) → AreBytes bytes → AreBytes (drop n bytes)
+dropped n bytes fit i = rw (get_or-drop n bytes i 0) (fit (n + i))
+
+kept : (n : ℕ) (bytes : List ℕ) → n ≤ length bytes → AreBytes bytes → AreBytes (take n bytes)
+kept n bytes long fit i =
+    elim (cases_lt i n) [
+      | inl inside ↦ rw (get_or-take n bytes i 0 inside) (fit i)
+      | inr past ↦ let size = length-take-le n bytes long in rw (get_or_past (take n bytes) i 0 (omega arith)) (omega arith)
+    ]
+
+field4 : (bytes : List ℕ) → 4 ≤ length bytes → AreBytes bytes → little_bytes 4 (little_number 4 bytes) ≡ take 4 bytes
+field4 bytes long fit =
+    let a = get_or-take 4 bytes 0 0 (omega arith) in
+    let b = get_or-take 4 bytes 1 0 (omega arith) in
+    let c = get_or-take 4 bytes 2 0 (omega arith) in
+    let d = get_or-take 4 bytes 3 0 (omega arith) in
+    le_bytes_4 (take 4 bytes) (little_number 4 bytes) (length-take-le 4 bytes long) (kept 4 bytes long fit) (omega (arith, a, b, c, d))
+
+field8 : (bytes : List ℕ) → 8 ≤ length bytes → AreBytes bytes → little_bytes 8 (little_number 8 bytes) ≡ take 8 bytes
+field8 bytes long fit =
+    let a = get_or-take 8 bytes 0 0 (omega arith) in
+    let b = get_or-take 8 bytes 1 0 (omega arith) in
+    let c = get_or-take 8 bytes 2 0 (omega arith) in
+    let d = get_or-take 8 bytes 3 0 (omega arith) in
+    let e = get_or-take 8 bytes 4 0 (omega arith) in
+    let f = get_or-take 8 bytes 5 0 (omega arith) in
+    let g = get_or-take 8 bytes 6 0 (omega arith) in
+    let h = get_or-take 8 bytes 7 0 (omega arith) in
+    le_bytes_8 (take 8 bytes) (little_number 8 bytes) (length-take-le 8 bytes long) (kept 8 bytes long fit) (omega (arith, a, b, c, d, e, f, g, h))
+
+cut : (bytes : List ℕ) → take 24 bytes ≡ take 4 bytes ++ take 4 (drop 4 bytes) ++ take 8 (drop 8 bytes) ++ take 4 (drop 16 bytes) ++ take 4 (drop 20 bytes)
+cut bytes =
+    take-add 20 4 bytes
+    ∙ ap (λ xs. xs ++ take 4 (drop 20 bytes)) (take-add 16 4 bytes
+    ∙ ap (λ xs. xs ++ take 4 (drop 16 bytes)) (take-add 8 8 bytes
+    ∙ ap (λ xs. xs ++ take 8 (drop 8 bytes)) (take-add 4 4 bytes)))
+
+long_from : (n m : ℕ) (bytes : List ℕ) → n + m ≤ length bytes → m ≤ length (drop n bytes)
+long_from n m bytes long = let size = length-drop n bytes in omega arith
+
+-- a record is the spelling of its lease
+first_spelled : (bytes : List ℕ) → 24 ≤ length bytes → AreBytes bytes → lease_bytes (lease_in bytes) ≡ take 24 bytes
+unfolding lease_in lease_bytes
+first_spelled bytes long fit =
+    joined (little_bytes 4 (little_number 4 bytes)) (little_bytes 4 (little_number 4 (drop 4 bytes))) (little_bytes 8 (little_number 8 (drop 8 bytes)))
+    (little_bytes 4 (little_number 4 (drop 16 bytes))) (little_bytes 4 (little_number 4 (drop 20 bytes)))
+    (take 4 bytes) (take 4 (drop 4 bytes)) (take 8 (drop 8 bytes)) (take 4 (drop 16 bytes)) (take 4 (drop 20 bytes))
+    (field4 bytes (omega arith) fit)
+    (field4 (drop 4 bytes) (long_from 4 4 bytes (omega arith)) (dropped 4 bytes fit))
+    (field8 (drop 8 bytes) (long_from 8 8 bytes (omega arith)) (dropped 8 bytes fit))
+    (field4 (drop 16 bytes) (long_from 16 4 bytes (omega arith)) (dropped 16 bytes fit))
+    (field4 (drop 20 bytes) (long_from 20 4 bytes (omega arith)) (dropped 20 bytes fit))
+    ∙ sym (cut bytes)
+  where
+    joined : (a b c d e p q r s t : List ℕ) → a ≡ p → b ≡ q → c ≡ r → d ≡ s → e ≡ t → (a ++ b ++ c ++ d ++ e) ≡ (p ++ q ++ r ++ s ++ t)
+    joined a b c d e p q r s t h i j k l = rw (h, i, j, k, l) refl
+
+pub all_spelled : (bytes : List ℕ) (n : ℕ) → 24 * n ≤ length bytes → AreBytes bytes → flat_map lease_bytes (leases_in bytes n) ≡ take (24 * n) bytes
+unfolding leases_in
+all_spelled bytes zero long fit = refl
+all_spelled bytes (suc n) long fit =
+    let size = length-drop 24 bytes in
+    let at : 24 + 24 * n ≡ 24 * suc n = omega arith in
+    let first = first_spelled bytes (omega arith) fit in
+    let rest = all_spelled (drop 24 bytes) n (omega arith) (dropped 24 bytes fit) in
+    rw (first, rest) (sym (take-add 24 (24 * n) bytes) ∙ ap (λ m. take m bytes) at)

@@ -1,0 +1,7 @@
+use Rattle.std.proofs.Common.{◌≡◌, ◌++◌, take}
+use Rattle.std.specs.List.{flat_map}
+use Rattle.certificate.specs.Spelling.{lease_bytes, magic}
+use Rattle.certificate.proofs.writing.bytes_of.Given as goal
+
+abbrev pub invariant-loop-lease : goal.invariant-loop-lease
+invariant-loop-lease l = l.bytes.items ≡ magic ++ flat_map lease_bytes (take l.lease-index l.leases)

@@ -1,0 +1,7 @@
+use Rattle.std.proofs.Common.{ap, ◌∙◌}
+use Rattle.certificate.specs.Spelling.{certificate_of}
+use Rattle.certificate.proofs.RoundTrip.{reread}
+use Rattle.certificate.proofs.writing.encode.Goals as goal
+
+pub returns-clause-reread : goal.returns-clause-reread
+returns-clause-reread c = λ fits. ap certificate_of c.in_ok-bytes.ensures ∙ reread c.args.leases.now fits
