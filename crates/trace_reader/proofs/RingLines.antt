@@ -47,9 +47,9 @@ no_ring_there begun fields Memory fresh is = tt
 
 -- ---- in a plan
 
-pub ring_line_is : (all fields : List (List ℕ)) (word : List ℕ) → all ≡ word ∷ fields → bytes_eq word (codes "ring") ≡ true → ring_line_form all ≡ form_as ring_alone fields
+pub named_ring_line : (all fields : List (List ℕ)) (word : List ℕ) → all ≡ word ∷ fields → bytes_eq word (codes "ring") ≡ true → ring_line_form all ≡ form_as ring_alone fields
 unfolding ring_line_form
-ring_line_is all fields word is named = rw (is, named) refl
+named_ring_line all fields word is named = rw (is, named) refl
 
 pub no_ring_line : (all fields : List (List ℕ)) (word : List ℕ) → all ≡ word ∷ fields → bytes_eq word (codes "ring") ≡ false → ring_line_form all ≡ None
 unfolding ring_line_form

@@ -17,7 +17,7 @@ use Rattle.traces.specs.declared.ring.Ring.{Ring}
 use Rattle.traces.specs.Header.{is_event_kind}
 use Rattle.traces.specs.Limits.{most_bytes, most_declared, most_lines}
 use Rattle.trace_reader.specs.LineByLine.{lines_say}
-use Rattle.trace_reader.specs.Plans.{PlanText, declares_too_much, is_no_plan_ring, is_past_plan_limit, is_plan_version, plan_form_of, plan_in, plan_line, plan_line_fault, plan_of, plan_ring, plan_ring_fault, plan_value, ret_line, ring_alone, ring_line_form, ring_value, sub_line, with_ring}
+use Rattle.trace_reader.specs.Plans.{PlanText, declares_too_much, is_no_plan_ring, is_past_plan_limit, is_plan_version, plan_form_of, plan_in, plan_line, plan_line_fault, plan_of, plan_ring, plan_ring_fault, plan_value, ret_line, ring_alone, ring_line_form, ring_value, plan_sub_line, with_ring}
 use Rattle.trace_reader.proofs.Grammar.{AnySort, AreLines, IsSaid, table_read, table_written}
 use Rattle.trace_reader.specs.PlanSpelling.{IsPlan, plan_line_fields, plan_text_lines, plan_version_fields, spells_plan}
 use Rattle.traces.specs.PlanLines.{IsPlanLine}
@@ -65,13 +65,13 @@ FitsPlanLine : PlanLine → Type 0
 FitsPlanLine (Sub ring blocks) = (ring < 256) × All IsBlock blocks × (0 < length blocks)
 FitsPlanLine (Ret upto) = upto < 2 ^ 64
 
-plan_are_lines : AreLines plan_line_fields FitsPlanLine AnySort (sub_line ∷ ret_line ∷ [])
+plan_are_lines : AreLines plan_line_fields FitsPlanLine AnySort (plan_sub_line ∷ ret_line ∷ [])
 unfolding plan_line_fields FitsPlanLine
 plan_are_lines = ((λ v. (refl, (λ fits. (fits.0, fits.1.0, fits.1.1)), tt)), ((λ v. (refl, (λ fits. fits.0), tt)), tt))
 
-each_is_said : (line : PlanLine) → IsSaid plan_line_fields FitsPlanLine AnySort (sub_line ∷ ret_line ∷ []) line
+each_is_said : (line : PlanLine) → IsSaid plan_line_fields FitsPlanLine AnySort (plan_sub_line ∷ ret_line ∷ []) line
 unfolding plan_line_fields FitsPlanLine
-each_is_said (Sub ring blocks) = record { line = sub_line; says = (ring, blocks); makes = refl; named = refl; spelled = refl; fits = λ is. (is.0, (is.1, is.2)) }
+each_is_said (Sub ring blocks) = record { line = plan_sub_line; says = (ring, blocks); makes = refl; named = refl; spelled = refl; fits = λ is. (is.0, (is.1, is.2)) }
 each_is_said (Ret upto) = record { line = ret_line; says = (upto, tt); makes = refl; named = refl; spelled = refl; fits = λ is. (is, tt) }
 
 line_sound : (line : PlanLine) → AllSound (plan_line_fields line)
@@ -98,8 +98,8 @@ line_short number (Ret upto) fits none = omega (arith, sixteen_digits upto)
 line_spelling : (number : ℕ) → IsSpelling plan_form_of plan_value (plan_line_fault number) plan_line_fields FitsPlanLine
 unfolding plan_form_of plan_value
 line_spelling number = record {
-  to_fields = λ fields form line formed valued. let p = table_written plan_line_fields FitsPlanLine AnySort (sub_line ∷ ret_line ∷ []) plan_are_lines fields form line formed valued in (p.0, p.1);
-  to_form = λ fields line fits written. table_read plan_line_fields FitsPlanLine AnySort (sub_line ∷ ret_line ∷ []) each_is_said fields line fits written;
+  to_fields = λ fields form line formed valued. let p = table_written plan_line_fields FitsPlanLine AnySort (plan_sub_line ∷ ret_line ∷ []) plan_are_lines fields form line formed valued in (p.0, p.1);
+  to_form = λ fields line fits written. table_read plan_line_fields FitsPlanLine AnySort (plan_sub_line ∷ ret_line ∷ []) each_is_said fields line fits written;
   sound = line_sound;
   short = line_short number;
 }

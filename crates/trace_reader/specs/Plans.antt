@@ -42,14 +42,14 @@ plan_ring line = line_says ring_line_form ring_value plan_ring_fault line
 
 -- ---- the lines behind it
 
-abbrev pub sub_line : Line PlanLine
-sub_line = record { word = codes "sub"; kinds = Byte ∷ []; tail = Blocks; make = λ v. Sub v.0 v.1 }
+abbrev pub plan_sub_line : Line PlanLine
+plan_sub_line = record { word = codes "sub"; kinds = Byte ∷ []; tail = Blocks; make = λ v. Sub v.0 v.1 }
 
 abbrev pub ret_line : Line PlanLine
 ret_line = record { word = codes "ret"; kinds = Long ∷ []; tail = Nothing; make = λ v. Ret v.0 }
 
 unfoldable pub plan_form_of : List (List ℕ) → Option (FormOf PlanLine)
-plan_form_of fields = form_in (sub_line ∷ ret_line ∷ []) fields
+plan_form_of fields = form_in (plan_sub_line ∷ ret_line ∷ []) fields
 
 unfoldable pub plan_value : FormOf PlanLine → Option PlanLine
 plan_value form = value_in form

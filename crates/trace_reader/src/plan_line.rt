@@ -4,7 +4,7 @@ ghost use Rattle.traces.specs.Limits.{most_lines};
 ghost use Rattle.trace_reader.specs.Grammar.{form_as, value_in};
 ghost use Rattle.trace_reader.specs.LineAnswers.{AnswersBy, valued_by};
 ghost use Rattle.trace_reader.specs.LineByLine.{unless_fault};
-ghost use Rattle.trace_reader.specs.Plans.{declares_too_much, is_past_plan_limit, plan_form_of, plan_line, plan_ring, plan_ring_fault, plan_value, ret_line, ring_line_form, ring_value, sub_line};
+ghost use Rattle.trace_reader.specs.Plans.{declares_too_much, is_past_plan_limit, plan_form_of, plan_line, plan_ring, plan_ring_fault, plan_value, ret_line, ring_line_form, ring_value, plan_sub_line};
 
 use crate::entry::{RingEntry, blocks_of, ring_behind};
 use crate::fault::{LineError, LineFault};
@@ -83,7 +83,7 @@ fn said_by(alloc: Global, count: usize, mut fields: Fields) -> Result<PlanLine, 
 
 fn sub_line(alloc: Global, count: usize, mut fields: Fields) -> Result<PlanLine, LineError>
     requires { count ≡ length fields }
-    ensures { AnswersBy (λ said. said) result (valued_by value_in (form_as sub_line fields.entry)) }
+    ensures { AnswersBy (λ said. said) result (valued_by value_in (form_as plan_sub_line fields.entry)) }
 {
     let Some(ring) = fields.next() else {
         return Err(LineFault::Row.into());
