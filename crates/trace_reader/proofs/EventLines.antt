@@ -9,10 +9,11 @@ use Rattle.trace_reader.specs.declared.fault.LineFault.{LineFault}
 use Rattle.trace_reader.specs.declared.fault.LineFault.TheVariants.{Number}
 use Rattle.traces.specs.declared.row.Row.TheVariants.{Read}
 use Rattle.trace_reader.specs.Entries.{Answers, said_by}
-use Rattle.trace_reader.specs.Forms.{ReadForm, read_form}
+use Rattle.trace_reader.specs.Grammar.{form_as}
 use Rattle.trace_reader.specs.LineAnswers.{AnswersBy, valued_by}
 use Rattle.trace_reader.specs.Schedules.{event_form}
-use Rattle.trace_reader.specs.Values.{Said, SaysRow, event_of, said_of}
+use Rattle.trace_reader.specs.TraceLines.{event_line, said_of}
+use Rattle.trace_reader.specs.Values.{Said, SaysRow, event_of}
 
 as_said : Result Block LineFault → Result Said LineFault
 as_said (Ok event) = Ok (SaysRow (Read event))
@@ -23,19 +24,19 @@ unfolding as_said
 numbers_said (Some event) = refl
 numbers_said None = refl
 
-by_length : (words : List (List ℕ)) (four : Bool) → said_by (cond four (Some (ReadForm words)) None) ≡ as_said (valued_by event_of (cond four (Some words) None))
+by_length : (words : List (List ℕ)) (four : Bool) → said_by (cond four (Some (event_line, words)) None) ≡ as_said (valued_by event_of (cond four (Some words) None))
 unfolding as_said said_of
 by_length words true = numbers_said (event_of words)
 by_length words false = refl
 
-event_said : (words : List (List ℕ)) → said_by (read_form words) ≡ as_said (valued_by event_of (event_form words))
+event_said : (words : List (List ℕ)) → said_by (form_as event_line words) ≡ as_said (valued_by event_of (event_form words))
 event_said words = by_length words (length words == 4)
 
-pub event_there : (words : List (List ℕ)) (event : Block) → valued_by event_of (event_form words) ≡ Ok event → said_by (read_form words) ≡ Ok (SaysRow (Read event))
+pub event_there : (words : List (List ℕ)) (event : Block) → valued_by event_of (event_form words) ≡ Ok event → said_by (form_as event_line words) ≡ Ok (SaysRow (Read event))
 unfolding as_said
 event_there words event is = event_said words ∙ ap as_said is
 
-pub no_event_there : (words : List (List ℕ)) (e : LineError) → AnswersBy {Answer = Block} (λ event. event) (Err e) (valued_by event_of (event_form words)) → Answers (Err e) (said_by (read_form words))
+pub no_event_there : (words : List (List ℕ)) (e : LineError) → AnswersBy {Answer = Block} (λ event. event) (Err e) (valued_by event_of (event_form words)) → Answers (Err e) (said_by (form_as event_line words))
 unfolding as_said
 no_event_there words (Fault fault) is = event_said words ∙ ap as_said is
 no_event_there words Memory is = tt

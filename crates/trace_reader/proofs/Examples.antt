@@ -1,8 +1,8 @@
 -- Texts that are read and printed, on literals
 use Rattle.std.specs.Prelude.{◌≡◌, ℕ, ⊤, List, [], ◌∷◌, ◌++◌, Result, Ok, Err, codes, refl}
 use Rattle.hex.proofs.OnLiterals.{hex_on_literals}
-use Rattle.contexts.specs.declared.size.ContextSize.TheVariants.{Bytes32, Bytes64}
-use Rattle.trb.specs.declared.ring_kind.RingKind.TheVariants.{Cmd, Xfer}
+use Rattle.contexts.specs.declared.size.ContextSize.TheVariants.{Bytes32}
+use Rattle.trb.specs.declared.ring_kind.RingKind.TheVariants.{Xfer}
 use Rattle.line_text.specs.Lines.{lines_of}
 use Rattle.line_text.specs.Fields.{fields_of}
 use Rattle.line_text.specs.Numbers.{number_of, digits_of}
@@ -12,8 +12,10 @@ use Rattle.traces.specs.declared.register.Register.TheVariants.{Usbcmd, Crcr}
 use Rattle.traces.specs.declared.ring.Ring.{Ring}
 use Rattle.traces.specs.declared.row.Row.{Row}
 use Rattle.traces.specs.declared.row.Row.TheVariants.{Sub, Write, Reg, Bell, Read}
-use Rattle.trace_reader.specs.Forms.{form_of, kind_named, register_named}
-use Rattle.trace_reader.specs.Values.{block_of, blocks_of, register_value_of, said_of, segment_of, segments_of, word_address_of}
+use Rattle.trace_reader.specs.Forms.{kind_named, register_named}
+use Rattle.trace_reader.specs.TraceLines.{form_of}
+use Rattle.trace_reader.specs.TraceLines.{said_of}
+use Rattle.trace_reader.specs.Values.{block_of, blocks_of, register_value_of, segment_of, segments_of, word_address_of}
 use Rattle.trace_reader.specs.Reading.{TraceText, after, form_in, is_bad_number, is_bad_row, is_bad_shape, is_past_limit, is_too_long, is_version, line_fault, read_line, read_lines, row_fault, said_in, size_of, trace_of}
 use Rattle.trace_reader.specs.Spelling.{printed_line, printed_trace, ring_fields, row_fields, trace_lines}
 

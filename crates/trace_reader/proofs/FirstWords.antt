@@ -1,17 +1,18 @@
 -- The form of a line by its first word
 use Rattle.std.proofs.Common.{◌≡◌, ℕ, List, [], ◌∷◌, Bool, true, false, Option, Some, None, refl, ap, sym, ◌∙◌, cond}
-use Rattle.std.specs.Prelude.{codes, ◌==◌, Err, length}
-use Rattle.std.specs.Option.{option_map, option_map_or}
-use Rattle.traces.specs.declared.register.Register.{Register}
+use Rattle.std.specs.Prelude.{codes, Err}
+use Rattle.std.specs.Option.{option_and_then, option_map_or}
 use Rattle.trace_reader.specs.declared.fault.LineFault.TheVariants.{Row as BadRow}
 use Rattle.std.specs.Str.{bytes_eq}
 use Rattle.trace_reader.specs.declared.entry.FirstWord.{FirstWord}
 use Rattle.trace_reader.specs.declared.entry.FirstWord.TheVariants.{Sub as SubWord, W, Reg as RegWord, Db, Ev, Ring as RingWord}
 use Rattle.trace_reader.specs.Entries.{form_behind, said_by, said_by_fields, unless_begun, word_named}
-use Rattle.trace_reader.specs.Forms.{Form, are_blocks, form_of, is_ring_form, register_named, sub_form, write_form, reg_form, bell_form, read_form, ring_form, RegForm, SubForm, ReadForm}
+use Rattle.trace_reader.specs.Grammar.{Line, are_fields, form_as}
+use Rattle.trace_reader.specs.TraceLines.{Form, form_of, is_ring_form, sub_line, write_line, reg_line, bell_line, event_line, ring_line}
+use Rattle.trace_reader.specs.Values.{Said}
 
 by_tests : (sub w reg db ev ring : Bool) (fields : List (List ℕ)) →
-    cond sub (sub_form fields) (cond w (write_form fields) (cond reg (reg_form fields) (cond db (bell_form fields) (cond ev (read_form fields) (cond ring (ring_form fields) None)))))
+    option_and_then (λ l. form_as l fields) (cond sub (Some sub_line) (cond w (Some write_line) (cond reg (Some reg_line) (cond db (Some bell_line) (cond ev (Some event_line) (cond ring (Some ring_line) None))))))
     ≡ form_behind (cond sub (Some SubWord) (cond w (Some W) (cond reg (Some RegWord) (cond db (Some Db) (cond ev (Some Ev) (cond ring (Some RingWord) None)))))) fields
 by_tests true w reg db ev ring fields = refl
 by_tests false true reg db ev ring fields = refl
@@ -40,34 +41,16 @@ not_ring begun None row = refl
 not_ring true (Some form) row = rw row refl
 not_ring false (Some form) row = refl
 
-sub_row : (b : Bool) (ring : List ℕ) (words : List (List ℕ)) → option_map_or is_ring_form (cond b (Some (SubForm ring words)) None) false ≡ false
-sub_row true ring words = refl
-sub_row false ring words = refl
-
-ev_row : (b : Bool) (words : List (List ℕ)) → option_map_or is_ring_form (cond b (Some (ReadForm words)) None) false ≡ false
-ev_row true words = refl
-ev_row false words = refl
-
-reg_row : (register : Option Register) (value : List ℕ) → option_map_or is_ring_form (option_map (λ r. RegForm r value) register) false ≡ false
-reg_row None value = refl
-reg_row (Some r) value = refl
+as_row : (l : Line Said) (b : Bool) (fields : List (List ℕ)) → bytes_eq l.word (codes "ring") ≡ false → option_map_or is_ring_form (cond b (Some (l, fields)) None) false ≡ false
+as_row l true fields other = other
+as_row l false fields other = refl
 
 pub is_row : (word : FirstWord) (fields : List (List ℕ)) → IsRowWord word → option_map_or is_ring_form (form_behind (Some word) fields) false ≡ false
-is_row SubWord [] row = refl
-is_row SubWord (ring ∷ words) row = sub_row (are_blocks words) ring words
-is_row W [] row = refl
-is_row W (a ∷ []) row = refl
-is_row W (a ∷ b ∷ []) row = refl
-is_row W (a ∷ b ∷ c ∷ rest) row = refl
-is_row RegWord [] row = refl
-is_row RegWord (a ∷ []) row = refl
-is_row RegWord (a ∷ b ∷ []) row = reg_row (register_named a) b
-is_row RegWord (a ∷ b ∷ c ∷ rest) row = refl
-is_row Db [] row = refl
-is_row Db (a ∷ []) row = refl
-is_row Db (a ∷ b ∷ []) row = refl
-is_row Db (a ∷ b ∷ c ∷ rest) row = refl
-is_row Ev fields row = ev_row (length fields == 4) fields
+is_row SubWord fields row = as_row sub_line (are_fields sub_line.kinds sub_line.tail fields) fields refl
+is_row W fields row = as_row write_line (are_fields write_line.kinds write_line.tail fields) fields refl
+is_row RegWord fields row = as_row reg_line (are_fields reg_line.kinds reg_line.tail fields) fields refl
+is_row Db fields row = as_row bell_line (are_fields bell_line.kinds bell_line.tail fields) fields refl
+is_row Ev fields row = as_row event_line (are_fields event_line.kinds event_line.tail fields) fields refl
 is_row RingWord fields row = absurd row
 
 -- a line that begins with this word
@@ -80,7 +63,7 @@ said_behind begun all fields word kind is named row =
 
 -- a ring
 pub ring_behind : (begun : Bool) (all fields : List (List ℕ)) (word : List ℕ) → all ≡ word ∷ fields → Some RingWord ≡ word_named word →
-    said_by_fields begun all ≡ said_by (unless_begun begun (ring_form fields))
+    said_by_fields begun all ≡ said_by (unless_begun begun (form_as ring_line fields))
 unfolding said_by_fields
 ring_behind begun all fields word is named =
     ap (λ xs. said_by (unless_begun begun (form_of xs))) is ∙ ap (λ form. said_by (unless_begun begun form)) (by_word word fields)

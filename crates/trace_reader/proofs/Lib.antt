@@ -6,7 +6,9 @@ pub mod LinePieces
 pub mod SpelledFields
 pub mod SpelledValues
 pub mod SpelledSegments
-pub mod SpelledForms
+pub mod SpelledWords
+pub mod Grammar
+pub mod SpelledSaid
 pub mod SpelledSizes
 pub mod SpelledHeaders
 pub mod SpelledLines

@@ -10,10 +10,11 @@ use Rattle.trace_reader.specs.declared.fault.LineFault.TheVariants.{Row as BadRo
 use Rattle.trace_reader.specs.declared.fault.LineError.{LineError}
 use Rattle.trace_reader.specs.declared.fault.LineError.TheVariants.{Fault, Memory}
 use Rattle.trace_reader.specs.Entries.{Answers, content_fault, said_by, said_by_fields, said_by_line, unless_begun}
-use Rattle.trace_reader.specs.Forms.{Form, form_of, is_ring_form}
+use Rattle.trace_reader.specs.TraceLines.{Form, form_of, is_ring_form}
 use Rattle.traces.specs.Limits.{most_lines, most_bytes}
 use Rattle.trace_reader.specs.Reading.{State, form_in, is_bad_row, is_past_limit, is_too_long, is_too_much, next_number, said_in}
-use Rattle.trace_reader.specs.Values.{Said, said_of}
+use Rattle.trace_reader.specs.TraceLines.{said_of}
+use Rattle.trace_reader.specs.Values.{Said}
 
 -- a line with this number may not say too much, or be past the limit
 abbrev pub limited : ℕ → Result Said LineFault → Result Said LineFault

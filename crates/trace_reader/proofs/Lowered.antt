@@ -1,11 +1,10 @@
 -- A text that spells a trace is, in lower case, what is printed of the trace
-use Rattle.std.proofs.Common.{◌≡◌, ℕ, List, [], ◌∷◌, ◌++◌, Bool, true, false, ◌&&◌, IsTrue, refl, sym, ap, ◌∙◌, cond, map, codes, arith, w32}
-use Rattle.std.specs.Prelude.{◌==◌}
+use Rattle.std.proofs.Common.{◌≡◌, ℕ, List, [], ◌∷◌, ◌++◌, Bool, true, false, IsTrue, refl, sym, ap, ◌∙◌, cond, map, arith, w32}
 use Rattle.std.specs.Char.{to_ascii_lowercase}
 use Rattle.std.specs.List.{flat_map, join_with_byte, slice_split}
 use Rattle.std.specs.Str.{str_to_ascii_lowercase}
 use Rattle.std.proofs.lemmas.Bool.{and_parts}
-use Rattle.std.proofs.lemmas.Grind.{common_steps, flat_map-append}
+use Rattle.std.proofs.lemmas.Grind.{common_steps}
 use Rattle.std.proofs.lemmas.List.{map-append}
 use Rattle.std.proofs.lemmas.List.Splits.{join_with_byte-slice_split}
 use Rattle.contexts.specs.declared.size.ContextSize.{ContextSize}
@@ -26,7 +25,7 @@ use Rattle.traces.specs.declared.row.Row.{Row}
 use Rattle.traces.specs.declared.row.Row.TheVariants.{Sub, Write, Reg, Bell, Read}
 use Rattle.traces.specs.Register.{register_name}
 use Rattle.trace_reader.specs.Reading.{TraceText}
-use Rattle.trace_reader.specs.Spelling.{Field, Word, Digits, are_written, block_fields, is_written, lines_written, may_be_written, printed, printed_line, printed_trace, ring_fields, row_fields, segment_field, size_fields, size_word, spells, trace_lines, version_fields}
+use Rattle.trace_reader.specs.Spelling.{Field, Word, Digits, are_written, block_fields, is_written, lines_written, may_be_written, printed, printed_line, printed_trace, ring_fields, row_fields, segment_field, size_fields, spells, trace_lines}
 use Rattle.trace_reader.proofs.SpelledFields.{same_bytes}
 
 -- ---- a text by its lines

@@ -18,7 +18,7 @@ use Rattle.trace_reader.specs.Reading.{State, TraceText, after, is_version, line
 use Rattle.trace_reader.specs.Spelling.{Field, Word, are_written, is_written, lines_written, size_fields, size_word, spells, trace_lines, version_fields}
 use Rattle.trace_reader.specs.Valid.{IsTrace}
 use Rattle.trace_reader.proofs.SpelledFields.{same_bytes, are_same_bytes, then_are}
-use Rattle.trace_reader.proofs.SpelledForms.{word_first}
+use Rattle.trace_reader.proofs.SpelledWords.{word_first}
 use Rattle.trace_reader.proofs.SpelledLines.{ok_there, there}
 use Rattle.trace_reader.proofs.SpelledTraces.{is_line_ring, lines_for, lines_go_on, lines_read, read_on, spells_from_read, with_front}
 use Rattle.trace_reader.proofs.SpelledValues.{only}

@@ -13,7 +13,7 @@ use Rattle.segments.specs.ShapeValue.{Shape}
 use Rattle.segments.specs.declared.segment.Segment.{Segment}
 use Rattle.traces.specs.Header.{clash, is_command_kind, is_event_kind, may_stand_together}
 use Rattle.traces.specs.declared.ring.Ring.{Ring}
-use Rattle.trace_reader.proofs.SpelledForms.{FitsRing}
+use Rattle.trace_reader.proofs.SpelledSaid.{FitsRing}
 use Rattle.trace_reader.proofs.SpelledSegments.{FitsSegment}
 
 -- ---- a clash is one of both rings

@@ -12,14 +12,15 @@ use Rattle.trace_reader.specs.declared.fault.LineFault.TheVariants.{Row as BadRo
 use Rattle.traces.specs.declared.ring.Ring.{Ring}
 use Rattle.traces.specs.declared.row.Row.{Row}
 use Rattle.traces.specs.declared.row.Row.TheVariants.{Sub, Write, Reg, Bell, Read}
-use Rattle.trace_reader.specs.Forms.{Form, is_ring_form}
+use Rattle.trace_reader.specs.TraceLines.{Form, is_ring_form}
 use Rattle.traces.specs.Header.{clash}
 use Rattle.traces.specs.Limits.{most_lines, most_bytes, most_declared}
 use Rattle.trace_reader.specs.Reading.{State, next_number, form_in, said_in, is_bad_row, is_bad_number, is_too_much, is_past_limit, is_too_long, is_misplaced, is_bad_shape, row_fault, line_fault, with_said, after, read_line}
 use Rattle.trace_reader.specs.Spelling.{printed}
-use Rattle.trace_reader.specs.Values.{Said, SaysRow, SaysRing, said_of}
+use Rattle.trace_reader.specs.TraceLines.{said_of}
+use Rattle.trace_reader.specs.Values.{Said, SaysRow, SaysRing}
 use Rattle.trace_reader.proofs.SpelledFields.{AllSound, all_filled, then_there, written_lengths}
-use Rattle.trace_reader.proofs.SpelledForms.{FitsSaid, IsRead, IsSpelled, fields_said, read_from_spelled, says_ring, spelled_from_read}
+use Rattle.trace_reader.proofs.SpelledSaid.{FitsSaid, IsRead, IsSpelled, fields_said, read_from_spelled, says_ring, spelled_from_read}
 use Rattle.trace_reader.proofs.SpelledHeaders.{shape_says}
 use Rattle.trace_reader.proofs.SpelledSizes.{row_sound, ring_sound, sub_length, write_length, reg_length, bell_length, read_length, ring_length}
 

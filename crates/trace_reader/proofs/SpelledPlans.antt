@@ -1,13 +1,9 @@
 -- What is read of a text is the valid plan that the text spells
-use Rattle.std.proofs.Common.{◌≡◌, ℕ, ◌<◌, ◌≤◌, ◌^◌, inl, inr, Bool, true, false, not, cond, List, [], ◌∷◌, length, map, nat_lt, Option, Some, None, Result, Ok, Err, All, IsTrue, refl, sym, ap, ◌∙◌, subst, arith, codes, w8, w64, le-ltb, ltb-false}
-use Rattle.std.specs.List.{flat_map}
-use Rattle.std.specs.Option.{option_map}
+use Rattle.std.proofs.Common.{◌≡◌, ℕ, ◌<◌, ◌≤◌, ◌^◌, inl, inr, Bool, true, false, not, cond, List, [], ◌∷◌, length, map, nat_lt, Some, None, Result, Ok, Err, All, IsTrue, refl, sym, ap, ◌∙◌, arith, codes, le-ltb, ltb-false}
 use Rattle.std.specs.Str.{bytes_eq}
 use Rattle.std.proofs.lemmas.Bool.{and_parts, and_from, cases_Bool, not-false, or_parts}
 use Rattle.line_text.specs.Fields.{fields_of}
 use Rattle.line_text.specs.Lines.{TextLine, lines_of}
-use Rattle.line_text.specs.Numbers.{digits_of, number_of}
-use Rattle.line_text.proofs.Digits.{bytes_of_8, bytes_of_64}
 use Rattle.line_text.proofs.Joins.{spaced_length}
 use Rattle.segments.specs.Shape.{is_shape}
 use Rattle.trb.specs.Block.{IsBlock}
@@ -18,51 +14,23 @@ use Rattle.trace_reader.specs.declared.fault.LineFault.TheVariants.{Limit, Shape
 use Rattle.traces.specs.declared.plan.PlanLine.{PlanLine}
 use Rattle.traces.specs.declared.plan.PlanLine.TheVariants.{Sub, Ret}
 use Rattle.traces.specs.declared.ring.Ring.{Ring}
-use Rattle.trace_reader.specs.Forms.{Form, SubForm, WriteForm, RegForm, BellForm, ReadForm, RingForm, are_blocks, form_of, is_ring_form}
 use Rattle.traces.specs.Header.{is_event_kind}
 use Rattle.traces.specs.Limits.{most_bytes, most_declared, most_lines}
 use Rattle.trace_reader.specs.LineByLine.{lines_say}
-use Rattle.trace_reader.specs.Plans.{PlanForm, BlocksForm, RetForm, PlanText, declares_too_much, if_ring, is_no_plan_ring, is_past_plan_limit, is_plan_version, plan_form_of, plan_in, plan_line, plan_line_fault, plan_of, plan_ring, plan_ring_fault, plan_sub_form, plan_value, ret_form, ring_line_form, ring_value, with_ring}
+use Rattle.trace_reader.specs.Plans.{PlanText, declares_too_much, is_no_plan_ring, is_past_plan_limit, is_plan_version, plan_form_of, plan_in, plan_line, plan_line_fault, plan_of, plan_ring, plan_ring_fault, plan_value, ret_line, ring_alone, ring_line_form, ring_value, plan_sub_line, with_ring}
+use Rattle.trace_reader.proofs.Grammar.{AnySort, AreLines, IsSaid, table_read, table_written}
 use Rattle.trace_reader.specs.PlanSpelling.{IsPlan, plan_line_fields, plan_text_lines, plan_version_fields, spells_plan}
 use Rattle.traces.specs.PlanLines.{IsPlanLine}
-use Rattle.trace_reader.specs.Spelling.{Digits, are_written, block_fields, is_written, lines_written, may_be_written, printed, ring_fields}
-use Rattle.trace_reader.specs.Values.{SaysRing, blocks_of, said_of, segments_of}
+use Rattle.trace_reader.specs.Spelling.{are_written, is_written, lines_written, printed, ring_fields}
 use Rattle.trace_reader.proofs.LineByLine.{AreSpelled, IsSpelling, line_read, line_spells, lines_read, lines_spell}
 use Rattle.trace_reader.proofs.Spelled.{two_words, words_written}
-use Rattle.trace_reader.proofs.SpelledFields.{AllSound, are_same_bytes, both_of, both_there, cond_there, mapped_there, number_read, number_written, then_are, then_there}
-use Rattle.trace_reader.proofs.SpelledForms.{FitsRing, first_of, four_for_each, pick, read_from_spelled, some_blocks, spelled_from_read, word_first}
+use Rattle.trace_reader.proofs.SpelledFields.{AllSound, are_same_bytes}
+use Rattle.trace_reader.proofs.SpelledSaid.{FitsRing}
 use Rattle.trace_reader.proofs.SpelledHeaders.{ring_fits, shape_says}
 use Rattle.trace_reader.proofs.SpelledLines.{few_blocks}
 use Rattle.trace_reader.proofs.SpelledSizes.{blocks_length, blocks_sound, digits_64, digits_8, ring_length, ring_sound, sixteen_digits, sound_named, two_digits}
-use Rattle.trace_reader.proofs.SpelledValues.{blocks_read, blocks_written, only}
 
 -- ---- the ring's line
-
--- a form that says a ring
-ring_said : (form : Form) (ring : Ring) → ring_value form ≡ Some ring → said_of form ≡ Some (SaysRing ring)
-unfolding ring_value said_of
-ring_said (RingForm id kind segments) ring is =
-    let p = both_there (λ i s. record { id = i; shape = record { kind = kind; segments = s } }) (number_of _ id) (segments_of segments) ring is in
-    both_of (λ i s. SaysRing (record { id = i; shape = record { kind = kind; segments = s } })) (number_of _ id) (segments_of segments) p.0 p.1 p.2 p.3 ∙ ap (λ (r : Ring). Some (SaysRing r)) p.4
-ring_said (SubForm id words) ring is = cc is
-ring_said (WriteForm address word) ring is = cc is
-ring_said (RegForm register value) ring is = cc is
-ring_said (BellForm slot target) ring is = cc is
-ring_said (ReadForm words) ring is = cc is
-
-said_ring : (form : Form) (ring : Ring) → is_ring_form form ≡ true → said_of form ≡ Some (SaysRing ring) → ring_value form ≡ Some ring
-unfolding ring_value said_of
-said_ring (RingForm id kind segments) ring sort is =
-    let p = both_there (λ i s. SaysRing (record { id = i; shape = record { kind = kind; segments = s } })) (number_of _ id) (segments_of segments) (SaysRing ring) is in
-    let same : record { id = p.0; shape = record { kind = kind; segments = p.1 } } ≡ ring = cc p.4 in
-    let there : ring_value (RingForm id kind segments) ≡ Some (record { id = p.0; shape = record { kind = kind; segments = p.1 } }) =
-    both_of (λ i s. record { id = i; shape = record { kind = kind; segments = s } }) (number_of _ id) (segments_of segments) p.0 p.1 p.2 p.3 in
-    subst (λ (r : Ring). ring_value (RingForm id kind segments) ≡ Some r) same there
-said_ring (SubForm id words) ring sort is = cc sort
-said_ring (WriteForm address word) ring sort is = cc sort
-said_ring (RegForm register value) ring sort is = cc sort
-said_ring (BellForm slot target) ring sort is = cc sort
-said_ring (ReadForm words) ring sort is = cc sort
 
 plan_ring_tests : (ring : Ring) → plan_ring_fault ring ≡ None → (is_shape ring.shape ≡ true) × (is_event_kind ring.shape.kind ≡ false)
 plan_ring_tests ring none =
@@ -73,16 +41,20 @@ plan_ring_tests ring none =
     unless true is = cc is
     unless false is = refl
 
+ring_is_line : AreLines ring_fields FitsRing AnySort (ring_alone ∷ [])
+unfolding ring_fields
+ring_is_line = ((λ v. (refl, (λ fits. record { id = fits.0; some = fits.1.1.1; segments = fits.1.1.0 }), tt)), tt)
+
+ring_is_said : (ring : Ring) → IsSaid ring_fields FitsRing AnySort (ring_alone ∷ []) ring
+unfolding ring_fields
+ring_is_said ring =
+    record { line = ring_alone; says = (ring.id, (ring.shape.kind, ring.shape.segments)); makes = refl; named = refl; spelled = refl; fits = λ is. (is.id, (tt, (is.segments, is.some))) }
+
 ring_spelling : IsSpelling ring_line_form ring_value plan_ring_fault ring_fields FitsRing
+unfolding ring_line_form ring_value
 ring_spelling = record {
-  to_fields = λ fields form ring formed valued.
-      let p = then_there if_ring (form_of fields) form formed in
-      let q = cond_there (is_ring_form p.0) p.0 form p.2 in
-      let s = spelled_from_read fields form (SaysRing ring) (p.1 ∙ ap (λ (f : Form). Some f) q.1) (ring_said form ring valued) in
-      (s.0.written, s.0.fits);
-  to_form = λ fields ring fits written.
-      let read = read_from_spelled (SaysRing ring) fields (record { written = written; fits = fits }) in
-      (read.form, rw (read.formed, read.sort) refl, said_ring read.form ring read.sort read.says);
+  to_fields = λ fields form ring formed valued. let p = table_written ring_fields FitsRing AnySort (ring_alone ∷ []) ring_is_line fields form ring formed valued in (p.0, p.1);
+  to_form = λ fields ring fits written. table_read ring_fields FitsRing AnySort (ring_alone ∷ []) ring_is_said fields ring fits written;
   sound = ring_sound;
   short = λ ring fits none. ring_length ring ((shape_says ring.shape ((plan_ring_tests ring none).0)).few);
 }
@@ -93,63 +65,14 @@ FitsPlanLine : PlanLine → Type 0
 FitsPlanLine (Sub ring blocks) = (ring < 256) × All IsBlock blocks × (0 < length blocks)
 FitsPlanLine (Ret upto) = upto < 2 ^ 64
 
--- what a form says is spelled so by its fields
-abbrev Spelled : PlanLine → List (List ℕ) → Type 0
-Spelled line fields = (are_written (plan_line_fields line) fields ≡ true) × FitsPlanLine line
+plan_are_lines : AreLines plan_line_fields FitsPlanLine AnySort (plan_sub_line ∷ ret_line ∷ [])
+unfolding plan_line_fields FitsPlanLine
+plan_are_lines = ((λ v. (refl, (λ fits. (fits.0, fits.1.0, fits.1.1)), tt)), ((λ v. (refl, (λ fits. fits.0), tt)), tt))
 
-plan_sub_spelled : (fields : List (List ℕ)) (form : PlanForm) (line : PlanLine) → plan_sub_form fields ≡ Some form → plan_value form ≡ Some line → Spelled line (codes "sub" ∷ fields)
-unfolding plan_value plan_line_fields FitsPlanLine
-plan_sub_spelled [] form line is says = cc is
-plan_sub_spelled (ring ∷ words) form line is says =
-    let p = cond_there (are_blocks words) (BlocksForm ring words) form is in
-    let q = both_there Sub (number_of w8 ring) (blocks_of words) line (ap plan_value p.1 ∙ says) in
-    let id = number_written w8 bytes_of_8 ring q.0 q.2 in
-    let blocks = blocks_written words q.1 q.3 in
-    subst (λ (x : PlanLine). Spelled x (codes "sub" ∷ ring ∷ words)) q.4 (
-      and_from (may_be_written (Digits (digits_of w8 q.0)) ring) (are_written (flat_map block_fields q.1) words) id.0 blocks.written,
-      (id.1, blocks.fit, some_blocks words q.1 p.0 blocks.count),
-    )
-
-ret_spelled : (fields : List (List ℕ)) (form : PlanForm) (line : PlanLine) → ret_form fields ≡ Some form → plan_value form ≡ Some line → Spelled line (codes "ret" ∷ fields)
-unfolding plan_value plan_line_fields FitsPlanLine
-ret_spelled [] form line is says = cc is
-ret_spelled (upto ∷ []) form line is says =
-    let p : RetForm upto ≡ form = cc is in
-    let q = mapped_there Ret (number_of w64 upto) line (ap plan_value p ∙ says) in
-    let n = number_written w64 bytes_of_64 upto q.0 q.1 in
-    subst (λ (x : PlanLine). Spelled x (codes "ret" ∷ upto ∷ [])) q.2 (rw n.0 refl, n.1)
-ret_spelled (upto ∷ more ∷ rest) form line is says = cc is
-
-line_spelled : (fields : List (List ℕ)) (form : PlanForm) (line : PlanLine) → plan_form_of fields ≡ Some form → plan_value form ≡ Some line → Spelled line fields
-unfolding plan_form_of
-line_spelled [] form line is says = cc is
-line_spelled (word ∷ fields) form line is says =
-    pick (Spelled line (word ∷ fields)) word (codes "sub") (plan_sub_form fields) _ form is (λ same of. at_word (codes "sub") same (plan_sub_spelled fields form line of says))
-    (λ is_2. pick (Spelled line (word ∷ fields)) word (codes "ret") (ret_form fields) None form is_2 (λ same of. at_word (codes "ret") same (ret_spelled fields form line of says)) (λ is_3. cc is_3))
-  where
-    at_word : (first : List ℕ) → word ≡ first → Spelled line (first ∷ fields) → Spelled line (word ∷ fields)
-    at_word first same is = subst (λ (w : List ℕ). Spelled line (w ∷ fields)) (sym same) is
-
-abbrev HasForm : PlanLine → List (List ℕ) → Type 0
-HasForm line fields = (form : PlanForm) × (plan_form_of fields ≡ Some form) × (plan_value form ≡ Some line)
-
-line_formed : (fields : List (List ℕ)) (line : PlanLine) → FitsPlanLine line → are_written (plan_line_fields line) fields ≡ true → HasForm line fields
-unfolding plan_form_of plan_value plan_line_fields FitsPlanLine
-line_formed fields (Sub ring blocks) fits written =
-    let p = word_first (codes "sub") (Digits (digits_of w8 ring) ∷ flat_map block_fields blocks) fields written in
-    let q = first_of (Digits (digits_of w8 ring)) (flat_map block_fields blocks) p.0 p.2 in
-    let id = number_read w8 bytes_of_8 q.text ring fits.0 q.first in
-    let words = blocks_read blocks q.rest fits.1 q.others in
-    let are : fields ≡ codes "sub" ∷ q.text ∷ q.rest = then_are p.1 q.are in
-    let formed : plan_sub_form (q.text ∷ q.rest) ≡ Some (BlocksForm q.text q.rest) = rw (four_for_each q.rest blocks fits.2 words.1) refl in
-    (BlocksForm q.text q.rest, ap (λ (xs : List (List ℕ)). plan_form_of xs) are ∙ formed, both_of Sub (number_of w8 q.text) (blocks_of q.rest) ring blocks id words.0)
-line_formed fields (Ret upto) fits written =
-    let p = word_first (codes "ret") (Digits (digits_of w64 upto) ∷ []) fields written in
-    let q = first_of (Digits (digits_of w64 upto)) [] p.0 p.2 in
-    let n = number_read w64 bytes_of_64 q.text upto fits q.first in
-    let none = only q.rest q.others in
-    let are : fields ≡ codes "ret" ∷ q.text ∷ [] = then_are p.1 (then_are q.are none) in
-    (RetForm q.text, ap (λ (xs : List (List ℕ)). plan_form_of xs) are, ap (λ (o : Option ℕ). option_map Ret o) n)
+each_is_said : (line : PlanLine) → IsSaid plan_line_fields FitsPlanLine AnySort (plan_sub_line ∷ ret_line ∷ []) line
+unfolding plan_line_fields FitsPlanLine
+each_is_said (Sub ring blocks) = record { line = plan_sub_line; says = (ring, blocks); makes = refl; named = refl; spelled = refl; fits = λ is. (is.0, (is.1, is.2)) }
+each_is_said (Ret upto) = record { line = ret_line; says = (upto, tt); makes = refl; named = refl; spelled = refl; fits = λ is. (is, tt) }
 
 line_sound : (line : PlanLine) → AllSound (plan_line_fields line)
 unfolding plan_line_fields
@@ -173,7 +96,13 @@ line_short number (Sub ring blocks) fits none =
 line_short number (Ret upto) fits none = omega (arith, sixteen_digits upto)
 
 line_spelling : (number : ℕ) → IsSpelling plan_form_of plan_value (plan_line_fault number) plan_line_fields FitsPlanLine
-line_spelling number = record { to_fields = line_spelled; to_form = line_formed; sound = line_sound; short = line_short number }
+unfolding plan_form_of plan_value
+line_spelling number = record {
+  to_fields = λ fields form line formed valued. let p = table_written plan_line_fields FitsPlanLine AnySort (plan_sub_line ∷ ret_line ∷ []) plan_are_lines fields form line formed valued in (p.0, p.1);
+  to_form = λ fields line fits written. table_read plan_line_fields FitsPlanLine AnySort (plan_sub_line ∷ ret_line ∷ []) each_is_said fields line fits written;
+  sound = line_sound;
+  short = line_short number;
+}
 
 line_from_fits : (line : PlanLine) → FitsPlanLine line → declares_too_much line ≡ false → IsPlanLine line
 unfolding FitsPlanLine

@@ -17,7 +17,7 @@ use Rattle.traces.specs.Rows.{IsRow}
 use Rattle.trace_reader.specs.Spelling.{Field, are_written, is_written, lines_written, ring_fields, row_fields}
 use Rattle.traces.specs.Rows.{FitsLine}
 use Rattle.trace_reader.specs.Values.{Said, SaysRow, SaysRing}
-use Rattle.trace_reader.proofs.SpelledForms.{FitsText}
+use Rattle.trace_reader.proofs.SpelledSaid.{FitsText}
 use Rattle.trace_reader.proofs.SpelledHeaders.{no_clash, ring_fits, together_with}
 use Rattle.trace_reader.proofs.SpelledLines.{IsGood, few_blocks, read_from_good, step_from_read}
 

@@ -20,10 +20,11 @@ use Rattle.traces.specs.declared.ring.Ring.{Ring}
 use Rattle.trace_reader.specs.declared.entry.FirstWord.TheVariants.{Sub as SubWord, W, Reg as RegWord, Db, Ev, Ring as RingWord}
 use Rattle.traces.specs.declared.row.Row.{Row}
 use Rattle.traces.specs.declared.trace.Trace.{Trace}
-use Rattle.trace_reader.specs.Forms.{Form, form_of, is_ring_form, sub_form, write_form, reg_form, bell_form, read_form, ring_form}
+use Rattle.trace_reader.specs.Grammar.{form_as}
+use Rattle.trace_reader.specs.TraceLines.{Form, form_of, is_ring_form, said_of, sub_line, write_line, reg_line, bell_line, event_line, ring_line}
 use Rattle.traces.specs.Limits.{most_bytes}
 use Rattle.trace_reader.specs.Reading.{State, TraceText, is_bad_row, is_past_limit, is_misplaced, is_too_long, said_in, with_said}
-use Rattle.trace_reader.specs.Values.{Said, SaysRow, SaysRing, said_of}
+use Rattle.trace_reader.specs.Values.{Said, SaysRow, SaysRing}
 
 -- a ring as its line says
 abbrev pub ring_of : LineOfRing → Ring
@@ -67,12 +68,12 @@ word_named word =
 
 -- the form of the fields behind the first word
 abbrev pub form_behind : Option FirstWord → List (List ℕ) → Option Form
-form_behind (Some SubWord) fields = sub_form fields
-form_behind (Some W) fields = write_form fields
-form_behind (Some RegWord) fields = reg_form fields
-form_behind (Some Db) fields = bell_form fields
-form_behind (Some Ev) fields = read_form fields
-form_behind (Some RingWord) fields = ring_form fields
+form_behind (Some SubWord) fields = form_as sub_line fields
+form_behind (Some W) fields = form_as write_line fields
+form_behind (Some RegWord) fields = form_as reg_line fields
+form_behind (Some Db) fields = form_as bell_line fields
+form_behind (Some Ev) fields = form_as event_line fields
+form_behind (Some RingWord) fields = form_as ring_line fields
 form_behind None fields = None
 
 -- a line of this form, by its numbers

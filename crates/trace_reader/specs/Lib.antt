@@ -1,6 +1,8 @@
 pub mod Faults
 pub mod Forms
 pub mod Values
+pub mod Grammar
+pub mod TraceLines
 pub mod Reading
 pub mod Spelling
 pub mod Entries

@@ -1,5 +1,5 @@
 -- How a plan is spelled, and which plans have a text
-use Rattle.std.specs.Prelude.{◌≢◌, ℕ, ◌+◌, ◌<◌, ◌≤◌, ◌^◌, All, Bool, List, [], ◌∷◌, length, map, codes}
+use Rattle.std.specs.Prelude.{◌≢◌, ℕ, ◌+◌, ◌<◌, ◌≤◌, Bool, List, [], ◌∷◌, length, map, codes}
 use Rattle.std.specs.Int.{w8, w64}
 use Rattle.std.specs.List.{flat_map}
 use Rattle.line_text.specs.Lines.{lines_of}

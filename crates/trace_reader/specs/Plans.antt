@@ -1,21 +1,18 @@
 -- How a plan is read from its text: one ring, and what is done on it
 use Rattle.std.specs.Prelude.{ℕ, ◌&&◌, ◌||◌, Bool, false, not, List, [], ◌∷◌, length, nat_lt, Option, Some, None, Result, Ok, Err, codes, if◌then◌else◌}
-use Rattle.std.specs.Int.{w8, w64}
-use Rattle.std.specs.Option.{option_and_then, option_map}
 use Rattle.std.specs.Str.{bytes_eq}
 use Rattle.line_text.specs.Lines.{TextLine, lines_of}
-use Rattle.line_text.specs.Numbers.{number_of}
 use Rattle.segments.specs.Shape.{is_shape}
 use Rattle.trace_reader.specs.declared.fault.LineFault.{LineFault}
 use Rattle.trace_reader.specs.declared.fault.LineFault.TheVariants.{Header as BadHeader, Row as BadRow, Limit, Shape}
 use Rattle.traces.specs.declared.plan.PlanLine.{PlanLine}
 use Rattle.traces.specs.declared.plan.PlanLine.TheVariants.{Sub, Ret}
 use Rattle.traces.specs.declared.ring.Ring.{Ring}
-use Rattle.trace_reader.specs.Forms.{Form, RingForm, are_blocks, form_of, is_ring_form}
+use Rattle.trace_reader.specs.Grammar.{Byte, Long, KindOfRing, Nothing, Blocks, Segments, Line, FormOf, form_in, value_in}
+use Rattle.trace_reader.specs.TraceLines.{ring_as}
 use Rattle.traces.specs.Header.{is_event_kind}
 use Rattle.traces.specs.Limits.{most_lines, most_declared}
 use Rattle.trace_reader.specs.LineByLine.{line_says, lines_say}
-use Rattle.trace_reader.specs.Values.{both, blocks_of, segments_of}
 
 -- 1 Header: the first line is `xplan 1`
 unfoldable pub is_plan_version : TextLine → Bool
@@ -23,16 +20,14 @@ is_plan_version line = line.is_ended && bytes_eq line.content (codes "xplan 1")
 
 -- ---- the line of the ring
 
--- the form of a ring's line
-abbrev pub if_ring : Form → Option Form
-if_ring form = if is_ring_form form then Some form else None
+abbrev pub ring_alone : Line Ring
+ring_alone = record { word = codes "ring"; kinds = Byte ∷ KindOfRing ∷ []; tail = Segments; make = ring_as }
 
-abbrev pub ring_line_form : List (List ℕ) → Option Form
-ring_line_form fields = option_and_then if_ring (form_of fields)
+unfoldable pub ring_line_form : List (List ℕ) → Option (FormOf Ring)
+ring_line_form fields = form_in (ring_alone ∷ []) fields
 
-unfoldable pub ring_value : Form → Option Ring
-ring_value (RingForm id kind segments) = both (λ i s. record { id = i; shape = record { kind = kind; segments = s } }) (number_of w8 id) (segments_of segments)
-ring_value _ = None
+unfoldable pub ring_value : FormOf Ring → Option Ring
+ring_value form = value_in form
 
 -- 5 Shape: segments that make no ring, or an event ring
 abbrev pub is_no_plan_ring : Ring → Bool
@@ -47,30 +42,17 @@ plan_ring line = line_says ring_line_form ring_value plan_ring_fault line
 
 -- ---- the lines behind it
 
--- the fields behind the first word, which says what they are
-pub data PlanForm : Type 0 where
-  BlocksForm : (ring : List ℕ) (words : List (List ℕ)) → PlanForm
-  RetForm : (upto : List ℕ) → PlanForm
+abbrev pub plan_sub_line : Line PlanLine
+plan_sub_line = record { word = codes "sub"; kinds = Byte ∷ []; tail = Blocks; make = λ v. Sub v.0 v.1 }
 
-abbrev pub plan_sub_form : List (List ℕ) → Option PlanForm
-plan_sub_form [] = None
-plan_sub_form (ring ∷ words) = if are_blocks words then Some (BlocksForm ring words) else None
+abbrev pub ret_line : Line PlanLine
+ret_line = record { word = codes "ret"; kinds = Long ∷ []; tail = Nothing; make = λ v. Ret v.0 }
 
-abbrev pub ret_form : List (List ℕ) → Option PlanForm
-ret_form (upto ∷ []) = Some (RetForm upto)
-ret_form _ = None
+unfoldable pub plan_form_of : List (List ℕ) → Option (FormOf PlanLine)
+plan_form_of fields = form_in (plan_sub_line ∷ ret_line ∷ []) fields
 
--- None: an unknown first word, or a wrong number of fields
-unfoldable pub plan_form_of : List (List ℕ) → Option PlanForm
-plan_form_of [] = None
-plan_form_of (word ∷ fields) =
-    if bytes_eq word (codes "sub") then plan_sub_form fields
-    else if bytes_eq word (codes "ret") then ret_form fields
-    else None
-
-unfoldable pub plan_value : PlanForm → Option PlanLine
-plan_value (BlocksForm ring words) = both Sub (number_of w8 ring) (blocks_of words)
-plan_value (RetForm upto) = option_map Ret (number_of w64 upto)
+unfoldable pub plan_value : FormOf PlanLine → Option PlanLine
+plan_value form = value_in form
 
 abbrev pub declares_too_much : PlanLine → Bool
 declares_too_much (Sub ring blocks) = nat_lt most_declared (length blocks)

@@ -14,10 +14,10 @@ use Rattle.traces.specs.declared.header.Header.{Header}
 use Rattle.traces.specs.declared.ring.Ring.{Ring}
 use Rattle.traces.specs.declared.row.Row.{Row}
 use Rattle.traces.specs.declared.row.Row.TheVariants.{Sub}
-use Rattle.trace_reader.specs.Forms.{Form, form_of, is_ring_form}
+use Rattle.trace_reader.specs.TraceLines.{Form, form_of, is_ring_form, said_of}
 use Rattle.traces.specs.Header.{clash}
 use Rattle.traces.specs.Limits.{most_lines, most_bytes, most_declared}
-use Rattle.trace_reader.specs.Values.{Said, SaysRow, SaysRing, said_of}
+use Rattle.trace_reader.specs.Values.{Said, SaysRow, SaysRing}
 
 -- what was read so far
 pub record State : Type 0 where

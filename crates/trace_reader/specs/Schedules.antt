@@ -1,75 +1,49 @@
 -- How a schedule is read from its text: the steps of a run
 use Rattle.std.specs.Prelude.{ℕ, ◌==◌, ◌&&◌, Bool, List, [], ◌∷◌, length, nat_lt, Option, Some, None, Result, Err, codes, if◌then◌else◌}
-use Rattle.std.specs.Int.{w8, w32}
-use Rattle.std.specs.Option.{option_map}
 use Rattle.std.specs.Str.{bytes_eq}
 use Rattle.line_text.specs.Lines.{TextLine, lines_of}
-use Rattle.line_text.specs.Numbers.{number_of}
 use Rattle.trace_reader.specs.declared.fault.LineFault.{LineFault}
 use Rattle.trace_reader.specs.declared.fault.LineFault.TheVariants.{Header as BadHeader, Limit}
 use Rattle.traces.specs.declared.step.Step.{Step}
 use Rattle.traces.specs.declared.step.Step.TheVariants.{NextRow, Look, Report, Finish, Other, Scribble}
 use Rattle.traces.specs.Limits.{most_schedule_lines}
 use Rattle.trace_reader.specs.LineByLine.{line_says, lines_say}
-use Rattle.trace_reader.specs.Values.{both, event_of, word_address_of}
+use Rattle.trace_reader.specs.Grammar.{Byte, Number, WordAddress, Nothing, Event, Line, FormOf, form_in, value_in}
 
 -- 1 Header: the first line is `xsched 1`
 unfoldable pub is_schedule_version : TextLine → Bool
 is_schedule_version line = line.is_ended && bytes_eq line.content (codes "xsched 1")
 
--- the fields behind the first word, which says what they are
-pub data StepForm : Type 0 where
-  RowForm : StepForm
-  LookForm : (ring : List ℕ) → StepForm
-  ReportForm : (words : List (List ℕ)) → StepForm
-  FinishForm : (words : List (List ℕ)) → StepForm
-  OtherForm : (words : List (List ℕ)) → StepForm
-  ScribForm : (address word : List ℕ) → StepForm
-
-abbrev pub row_form : List (List ℕ) → Option StepForm
-row_form [] = Some RowForm
-row_form _ = None
-
-abbrev pub look_form : List (List ℕ) → Option StepForm
-look_form (ring ∷ []) = Some (LookForm ring)
-look_form _ = None
-
 -- the four words of a block
 abbrev pub event_form : List (List ℕ) → Option (List (List ℕ))
 event_form words = if length words == 4 then Some words else None
 
-abbrev pub report_form : List (List ℕ) → Option StepForm
-report_form words = option_map ReportForm (event_form words)
+abbrev pub row_line : Line Step
+row_line = record { word = codes "row"; kinds = []; tail = Nothing; make = λ v. NextRow }
 
-abbrev pub finish_form : List (List ℕ) → Option StepForm
-finish_form words = option_map FinishForm (event_form words)
+abbrev pub look_line : Line Step
+look_line = record { word = codes "look"; kinds = Byte ∷ []; tail = Nothing; make = λ v. Look v.0 }
 
-abbrev pub other_form : List (List ℕ) → Option StepForm
-other_form words = option_map OtherForm (event_form words)
+abbrev pub report_line : Line Step
+report_line = record { word = codes "report"; kinds = []; tail = Event; make = Report }
 
-abbrev pub scrib_form : List (List ℕ) → Option StepForm
-scrib_form (address ∷ word ∷ []) = Some (ScribForm address word)
-scrib_form _ = None
+abbrev pub finish_line : Line Step
+finish_line = record { word = codes "finish"; kinds = []; tail = Event; make = Finish }
 
--- None: an unknown first word, or a wrong number of fields
-unfoldable pub step_form_of : List (List ℕ) → Option StepForm
-step_form_of [] = None
-step_form_of (word ∷ fields) =
-    if bytes_eq word (codes "row") then row_form fields
-    else if bytes_eq word (codes "look") then look_form fields
-    else if bytes_eq word (codes "report") then report_form fields
-    else if bytes_eq word (codes "finish") then finish_form fields
-    else if bytes_eq word (codes "other") then other_form fields
-    else if bytes_eq word (codes "scrib") then scrib_form fields
-    else None
+abbrev pub other_line : Line Step
+other_line = record { word = codes "other"; kinds = []; tail = Event; make = Other }
 
-unfoldable pub step_value : StepForm → Option Step
-step_value RowForm = Some NextRow
-step_value (LookForm ring) = option_map Look (number_of w8 ring)
-step_value (ReportForm words) = option_map Report (event_of words)
-step_value (FinishForm words) = option_map Finish (event_of words)
-step_value (OtherForm words) = option_map Other (event_of words)
-step_value (ScribForm address word) = both Scribble (word_address_of address) (number_of w32 word)
+abbrev pub scrib_line : Line Step
+scrib_line = record { word = codes "scrib"; kinds = WordAddress ∷ Number ∷ []; tail = Nothing; make = λ v. Scribble v.0 v.1.0 }
+
+abbrev pub step_lines : List (Line Step)
+step_lines = row_line ∷ look_line ∷ report_line ∷ finish_line ∷ other_line ∷ scrib_line ∷ []
+
+unfoldable pub step_form_of : List (List ℕ) → Option (FormOf Step)
+step_form_of fields = form_in step_lines fields
+
+unfoldable pub step_value : FormOf Step → Option Step
+step_value form = value_in form
 
 -- 4 Limit: a line past the limit
 abbrev pub is_past_schedule_limit : ℕ → Bool

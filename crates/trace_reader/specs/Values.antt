@@ -1,7 +1,7 @@
 -- What the number fields of a line say; None where one has another length or another character
 use Rattle.std.specs.Prelude.{ℕ, ◌%◌, ◌^◌, ◌==◌, ◌&&◌, ◌||◌, List, [], ◌∷◌, length, nat_lt, slice_index, take, drop, Option, Some, None, if◌then◌else◌}
 use Rattle.std.specs.Option.{option_map, option_and_then}
-use Rattle.std.specs.Int.{w8, w16, w32, w64}
+use Rattle.std.specs.Int.{w16, w32, w64}
 use Rattle.line_text.specs.Numbers.{number_of}
 use Rattle.trb.specs.declared.block.Block.{Block}
 use Rattle.segments.specs.declared.segment.Segment.{Segment}
@@ -9,8 +9,6 @@ use Rattle.traces.specs.Register.{is_wide}
 use Rattle.traces.specs.declared.register.Register.{Register}
 use Rattle.traces.specs.declared.ring.Ring.{Ring}
 use Rattle.traces.specs.declared.row.Row.{Row}
-use Rattle.traces.specs.declared.row.Row.TheVariants.{Sub, Write, Reg, Bell, Read}
-use Rattle.trace_reader.specs.Forms.{Form, SubForm, WriteForm, RegForm, BellForm, ReadForm, RingForm}
 
 -- what a line behind the header says
 pub data Said : Type 0 where
@@ -61,12 +59,3 @@ segment_of field =
 unfoldable pub segments_of : List (List ℕ) → Option (List Segment)
 segments_of [] = Some []
 segments_of (field ∷ fields) = cons (segment_of field) (segments_of fields)
-
-unfoldable pub said_of : Form → Option Said
-said_of (SubForm ring words) = both (λ id blocks. SaysRow (Sub id blocks)) (number_of w8 ring) (blocks_of words)
-said_of (WriteForm address word) = both (λ a w. SaysRow (Write a w)) (word_address_of address) (number_of w32 word)
-said_of (RegForm register value) = option_map (λ v. SaysRow (Reg register v)) (register_value_of register value)
-said_of (BellForm slot target) = both (λ s t. SaysRow (Bell s t)) (number_of w8 slot) (number_of w8 target)
-said_of (ReadForm words) = option_map (λ event. SaysRow (Read event)) (event_of words)
-said_of (RingForm id kind segments) =
-    both (λ i s. SaysRing (record { id = i; shape = record { kind = kind; segments = s } })) (number_of w8 id) (segments_of segments)

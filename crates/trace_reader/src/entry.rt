@@ -2,19 +2,21 @@ ghost use Rattle.std.specs.Prelude.{◌≡◌, ◌≤◌, ◌∷◌, Some, None,
 ghost use Rattle.segments.specs.ShapeValue.{segment_of};
 ghost use Rattle.trace_reader.specs.declared.fault.LineFault.{LineFault};
 ghost use Rattle.trace_reader.specs.Entries.{Answers, IfFault, ring_of, said_by, said_by_fields, unless_begun, word_named};
-ghost use Rattle.trace_reader.specs.Forms.{bell_form, kind_named, named, read_form, reg_form, register_named, ring_form, sub_form, write_form};
+ghost use Rattle.trace_reader.specs.Forms.{kind_named, named, register_named};
+ghost use Rattle.trace_reader.specs.Grammar.{form_as};
+ghost use Rattle.trace_reader.specs.TraceLines.{bell_line, event_line, reg_line, ring_line, sub_line, write_line};
 ghost use Rattle.trace_reader.specs.LineAnswers.{AnswersBy, valued_by};
-ghost use Rattle.trace_reader.specs.Plans.{ring_value};
+ghost use Rattle.trace_reader.specs.Plans.{ring_alone, ring_value};
 ghost use Rattle.trace_reader.specs.Schedules.{event_form};
-ghost use Rattle.trace_reader.specs.Values.{SaysRow, block_of, blocks_of, cons, event_of, register_value_of, said_of, segments_of, word_address_of};
+ghost use Rattle.trace_reader.specs.Values.{SaysRow, block_of, blocks_of, cons, event_of, register_value_of, segments_of, word_address_of};
 ghost use Rattle.trace_reader.specs.Values as values;
 
 use crate::fault::{LineError, LineFault};
 use guest_memory::Addr;
 use line_text::{Fields, u8_of, u16_of, u32_of, u64_of};
 use std::alloc::Global;
-use trb::{Block, Blocks, RingKind};
 use traces::{Register, Row};
+use trb::{Block, Blocks, RingKind};
 
 /// What a line behind the header says.
 #[derive(Drop)]
@@ -88,10 +90,10 @@ fn word_named(word: &[u8]) -> Option<FirstWord>
     }
 }
 
-#[tactic(auto, unfolding(crate::specs::Values::said_of))]
+#[tactic(auto, unfolding(crate::specs::TraceLines::said_of))]
 fn sub_entry(alloc: Global, count: usize, mut fields: Fields) -> Result<Entry, LineError>
     requires { count ≡ length fields }
-    ensures { Answers result (said_by (sub_form fields.entry)) }
+    ensures { Answers result (said_by (form_as sub_line fields.entry)) }
 {
     let Some(ring) = fields.next() else {
         return Err(LineFault::Row.into());
@@ -107,9 +109,9 @@ fn sub_entry(alloc: Global, count: usize, mut fields: Fields) -> Result<Entry, L
     }))
 }
 
-#[tactic(auto, unfolding(crate::specs::Values::said_of))]
+#[tactic(auto, unfolding(crate::specs::TraceLines::said_of))]
 fn write_entry(mut fields: Fields) -> Result<Entry, LineError>
-    ensures { Answers result (said_by (write_form fields.entry)) }
+    ensures { Answers result (said_by (form_as write_line fields.entry)) }
 {
     let (Some(address), Some(word), None) = (fields.next(), fields.next(), fields.next()) else {
         return Err(LineFault::Row.into());
@@ -119,9 +121,9 @@ fn write_entry(mut fields: Fields) -> Result<Entry, LineError>
     Ok(Entry::Row(Row::Write { at, word }))
 }
 
-#[tactic(auto, unfolding(crate::specs::Values::said_of))]
+#[tactic(auto, unfolding(crate::specs::TraceLines::said_of))]
 fn reg_entry(mut fields: Fields) -> Result<Entry, LineError>
-    ensures { Answers result (said_by (reg_form fields.entry)) }
+    ensures { Answers result (said_by (form_as reg_line fields.entry)) }
 {
     let (Some(name), Some(value), None) = (fields.next(), fields.next(), fields.next()) else {
         return Err(LineFault::Row.into());
@@ -131,9 +133,9 @@ fn reg_entry(mut fields: Fields) -> Result<Entry, LineError>
     Ok(Entry::Row(Row::Reg { register, value }))
 }
 
-#[tactic(auto, unfolding(crate::specs::Values::said_of))]
+#[tactic(auto, unfolding(crate::specs::TraceLines::said_of))]
 fn bell_entry(mut fields: Fields) -> Result<Entry, LineError>
-    ensures { Answers result (said_by (bell_form fields.entry)) }
+    ensures { Answers result (said_by (form_as bell_line fields.entry)) }
 {
     let (Some(slot), Some(target), None) = (fields.next(), fields.next(), fields.next()) else {
         return Err(LineFault::Row.into());
@@ -144,7 +146,7 @@ fn bell_entry(mut fields: Fields) -> Result<Entry, LineError>
 }
 
 fn read_entry(fields: Fields) -> Result<Entry, LineError>
-    ensures { Answers result (said_by (read_form fields.entry)) }
+    ensures { Answers result (said_by (form_as event_line fields.entry)) }
 {
     let event = event_behind(fields)?;
     Ok(Entry::Row(Row::Read { event }))
@@ -167,7 +169,7 @@ pub fn event_behind(mut fields: Fields) -> Result<Block, LineError>
 
 fn ring_entry(alloc: Global, begun: bool, count: usize, fields: Fields) -> Result<Entry, LineError>
     requires { count ≡ length fields }
-    ensures { Answers result (said_by (unless_begun begun (ring_form fields.entry))) }
+    ensures { Answers result (said_by (unless_begun begun (form_as ring_line fields.entry))) }
 {
     if begun {
         return Err(LineFault::Row.into());
@@ -179,7 +181,7 @@ fn ring_entry(alloc: Global, begun: bool, count: usize, fields: Fields) -> Resul
 #[tactic(auto, unfolding(crate::specs::Plans::ring_value))]
 pub fn ring_behind(alloc: Global, count: usize, mut fields: Fields) -> Result<RingEntry, LineError>
     requires { count ≡ length fields }
-    ensures { AnswersBy ring_of result (valued_by ring_value (ring_form fields.entry)) }
+    ensures { AnswersBy ring_of result (valued_by ring_value (form_as ring_alone fields.entry)) }
 {
     let (Some(id), Some(kind)) = (fields.next(), fields.next()) else {
         return Err(LineFault::Row.into());

@@ -1,9 +1,10 @@
 ghost use Rattle.std.specs.Prelude.{◌≡◌, ◌≤◌, length, OnOk};
 ghost use Rattle.trace_reader.specs.Entries.{ring_of};
 ghost use Rattle.traces.specs.Limits.{most_lines};
+ghost use Rattle.trace_reader.specs.Grammar.{form_as, value_in};
 ghost use Rattle.trace_reader.specs.LineAnswers.{AnswersBy, valued_by};
 ghost use Rattle.trace_reader.specs.LineByLine.{unless_fault};
-ghost use Rattle.trace_reader.specs.Plans.{declares_too_much, is_past_plan_limit, plan_form_of, plan_line, plan_ring, plan_ring_fault, plan_sub_form, plan_value, ret_form, ring_line_form, ring_value};
+ghost use Rattle.trace_reader.specs.Plans.{declares_too_much, is_past_plan_limit, plan_form_of, plan_line, plan_ring, plan_ring_fault, plan_value, ret_line, ring_line_form, ring_value, plan_sub_line};
 
 use crate::entry::{RingEntry, blocks_of, ring_behind};
 use crate::fault::{LineError, LineFault};
@@ -11,8 +12,8 @@ use crate::line::{MOST_BLOCKS, MOST_LINES, content_of};
 use line_text::{Fields, Line, Survey, u8_of, u64_of};
 use segments::RingShape;
 use std::alloc::Global;
-use trb::{Blocks, RingKind};
 use traces::{PlanLine, Ring};
+use trb::{Blocks, RingKind};
 
 /// The ring of a plan's second line.
 pub fn plan_ring(alloc: Global, line: &Line) -> Result<Ring, LineError>
@@ -63,7 +64,7 @@ pub fn plan_line(alloc: Global, number: u32, line: &Line) -> Result<PlanLine, Li
 }
 
 /// What these fields say, of which there are `count`.
-#[tactic(auto, unfolding(crate::specs::Plans::plan_form_of))]
+#[tactic(auto, unfolding(crate::specs::Plans::plan_form_of, crate::specs::Plans::plan_value))]
 fn said_by(alloc: Global, count: usize, mut fields: Fields) -> Result<PlanLine, LineError>
     requires { count ≡ length fields }
     ensures { AnswersBy (λ said. said) result (valued_by plan_value (plan_form_of fields.entry)) }
@@ -80,10 +81,9 @@ fn said_by(alloc: Global, count: usize, mut fields: Fields) -> Result<PlanLine, 
     }
 }
 
-#[tactic(auto, unfolding(crate::specs::Plans::plan_value))]
 fn sub_line(alloc: Global, count: usize, mut fields: Fields) -> Result<PlanLine, LineError>
     requires { count ≡ length fields }
-    ensures { AnswersBy (λ said. said) result (valued_by plan_value (plan_sub_form fields.entry)) }
+    ensures { AnswersBy (λ said. said) result (valued_by value_in (form_as plan_sub_line fields.entry)) }
 {
     let Some(ring) = fields.next() else {
         return Err(LineFault::Row.into());
@@ -99,9 +99,8 @@ fn sub_line(alloc: Global, count: usize, mut fields: Fields) -> Result<PlanLine,
     })
 }
 
-#[tactic(auto, unfolding(crate::specs::Plans::plan_value))]
 fn ret_line(mut fields: Fields) -> Result<PlanLine, LineError>
-    ensures { AnswersBy (λ said. said) result (valued_by plan_value (ret_form fields.entry)) }
+    ensures { AnswersBy (λ said. said) result (valued_by value_in (form_as ret_line fields.entry)) }
 {
     let (Some(upto), None) = (fields.next(), fields.next()) else {
         return Err(LineFault::Row.into());

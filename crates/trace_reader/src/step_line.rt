@@ -1,7 +1,8 @@
 ghost use Rattle.std.specs.Prelude.{◌≡◌, ◌≤◌, OnOk};
 ghost use Rattle.traces.specs.Limits.{most_schedule_lines};
 ghost use Rattle.trace_reader.specs.LineAnswers.{AnswersBy, valued_by};
-ghost use Rattle.trace_reader.specs.Schedules.{finish_form, look_form, other_form, report_form, row_form, scrib_form, step_form_of, step_line, step_value};
+ghost use Rattle.trace_reader.specs.Grammar.{form_as, value_in};
+ghost use Rattle.trace_reader.specs.Schedules.{finish_line, look_line, other_line, report_line, row_line, scrib_line, step_form_of, step_line, step_value};
 
 use crate::entry::{event_behind, word_address_of};
 use crate::fault::{LineError, LineFault};
@@ -23,7 +24,7 @@ pub fn step_line(number: u32, line: &Line) -> Result<Step, LineError>
 }
 
 /// The step that these fields say.
-#[tactic(auto, unfolding(crate::specs::Schedules::step_form_of))]
+#[tactic(auto, unfolding(crate::specs::Schedules::step_form_of, crate::specs::Schedules::step_value))]
 fn step_of(mut fields: Fields) -> Result<Step, LineError>
     ensures { AnswersBy (λ step. step) result (valued_by step_value (step_form_of fields.entry)) }
 {
@@ -47,9 +48,8 @@ fn step_of(mut fields: Fields) -> Result<Step, LineError>
     }
 }
 
-#[tactic(auto, unfolding(crate::specs::Schedules::step_value))]
 fn next_row(mut fields: Fields) -> Result<Step, LineError>
-    ensures { AnswersBy (λ step. step) result (valued_by step_value (row_form fields.entry)) }
+    ensures { AnswersBy (λ step. step) result (valued_by value_in (form_as row_line fields.entry)) }
 {
     if fields.next().is_some() {
         return Err(LineFault::Row.into());
@@ -57,9 +57,8 @@ fn next_row(mut fields: Fields) -> Result<Step, LineError>
     Ok(Step::NextRow)
 }
 
-#[tactic(auto, unfolding(crate::specs::Schedules::step_value))]
 fn look(mut fields: Fields) -> Result<Step, LineError>
-    ensures { AnswersBy (λ step. step) result (valued_by step_value (look_form fields.entry)) }
+    ensures { AnswersBy (λ step. step) result (valued_by value_in (form_as look_line fields.entry)) }
 {
     let (Some(ring), None) = (fields.next(), fields.next()) else {
         return Err(LineFault::Row.into());
@@ -68,33 +67,29 @@ fn look(mut fields: Fields) -> Result<Step, LineError>
     Ok(Step::Look { ring })
 }
 
-#[tactic(auto, unfolding(crate::specs::Schedules::step_value))]
 fn report(fields: Fields) -> Result<Step, LineError>
-    ensures { AnswersBy (λ step. step) result (valued_by step_value (report_form fields.entry)) }
+    ensures { AnswersBy (λ step. step) result (valued_by value_in (form_as report_line fields.entry)) }
 {
     let event = event_behind(fields)?;
     Ok(Step::Report { event })
 }
 
-#[tactic(auto, unfolding(crate::specs::Schedules::step_value))]
 fn finish(fields: Fields) -> Result<Step, LineError>
-    ensures { AnswersBy (λ step. step) result (valued_by step_value (finish_form fields.entry)) }
+    ensures { AnswersBy (λ step. step) result (valued_by value_in (form_as finish_line fields.entry)) }
 {
     let event = event_behind(fields)?;
     Ok(Step::Finish { event })
 }
 
-#[tactic(auto, unfolding(crate::specs::Schedules::step_value))]
 fn other(fields: Fields) -> Result<Step, LineError>
-    ensures { AnswersBy (λ step. step) result (valued_by step_value (other_form fields.entry)) }
+    ensures { AnswersBy (λ step. step) result (valued_by value_in (form_as other_line fields.entry)) }
 {
     let event = event_behind(fields)?;
     Ok(Step::Other { event })
 }
 
-#[tactic(auto, unfolding(crate::specs::Schedules::step_value))]
 fn scribble(mut fields: Fields) -> Result<Step, LineError>
-    ensures { AnswersBy (λ step. step) result (valued_by step_value (scrib_form fields.entry)) }
+    ensures { AnswersBy (λ step. step) result (valued_by value_in (form_as scrib_line fields.entry)) }
 {
     let (Some(address), Some(word), None) = (fields.next(), fields.next(), fields.next()) else {
         return Err(LineFault::Row.into());

@@ -1,7 +1,7 @@
 use Rattle.std.proofs.Common.{◌≡◌, ◌∙◌, true, false, sym, refl, codes}
 use Rattle.std.specs.Str.{bytes_eq}
 use Rattle.std.proofs.lemmas.Bool.{not-false, not-true}
-use Rattle.trace_reader.proofs.RingLines.{no_line, no_ring_line, ring_line}
+use Rattle.trace_reader.proofs.RingLines.{no_line, no_ring_line, named_ring_line}
 use Rattle.trace_reader.proofs.plan_line.ring_in.Goals as goal
 
 pub returns-in_default : goal.returns-in_default
@@ -15,4 +15,4 @@ returns-then-ne c =
 pub returns : goal.returns
 returns c =
     let named : bytes_eq c.in-Some.word.now (codes "ring") ≡ true = rw c.as_slice.ensures at (not-false (bytes_eq c.in-Some.word.now c.as_slice.result.now) (sym c.ne.ensures ∙ c.if-ne.false)) in
-    rw (ring_line c.args.fields c.next.new.self c.in-Some.word.now c.in-Some.ensures.some named) c.ring_behind.ensures
+    rw (named_ring_line c.args.fields c.next.new.self c.in-Some.word.now c.in-Some.ensures.some named) c.ring_behind.ensures
