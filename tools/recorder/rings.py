@@ -1,0 +1,171 @@
+"""The rings of a run: their segments, found by their Links, and the positions of their blocks (xHCI 4.9.2)."""
+from bisect import bisect_left
+
+import blocks
+
+MOST_BLOCKS, BOUNDARY = 4096, 0x10000
+
+
+class Ring:
+    def __init__(self, number, kind, segments):
+        self.number, self.kind, self.segments = number, kind, segments
+        self.data, self.links = [], []  # addresses of data places, of Links
+        for start, count in segments:
+            data = count if kind == 'evt' else count - 1
+            self.data += [start + 16 * i for i in range(data)]
+            self.links += [] if kind == 'evt' else [start + 16 * data]
+        self.place = {at: i for i, at in enumerate(self.data)}
+        crossed = 0
+        self.crossing = {}  # by a Link's address: the least crossing over it
+        for (start, count), link in zip(segments, self.links):
+            crossed += count - 1
+            self.crossing[link] = crossed
+
+    def line(self):
+        return f'ring {self.number:02x} {self.kind} ' + ' '.join(f'{start:016x}:{count:04x}' for start, count in self.segments)
+
+    def holds(self, at):
+        return any(start <= at < start + 16 * count for start, count in self.segments)
+
+    def cycle(self, position):
+        return 1 - position // len(self.data) % 2
+
+    def least(self, at, floor):
+        """The least position of the data place at `at`, or the least crossing of the Link there, that isn't below `floor`."""
+        lap = len(self.data)
+        if at in self.place:
+            return floor + (self.place[at] - floor) % lap
+        return floor + (self.crossing[at] - floor) % lap or lap
+
+
+class Links:
+    """Every Link that was ever seen in memory: where it led to, and when."""
+
+    def __init__(self, memory):
+        self.states = {}
+        for at in memory.entries:
+            if at % 16 == 12 and any(self.is_link(entry.word) for entry in memory.entries[at]):
+                self.observe(memory, at - 12)
+        self.places = sorted(self.states)
+
+    def is_link(self, control):
+        return control >> 10 == blocks.LINK
+
+    def observe(self, memory, at):
+        keys = sorted({entry.key for word in (0, 4, 12) for entry in memory.entries.get(at + word, [])})
+        states = []
+        for key in keys:
+            words = memory.block(at, key)
+            if self.is_link(words[3]) and blocks.target(words):
+                states.append((key, blocks.target(words)))
+        if states:
+            self.states[at] = states
+
+    def between(self, start, end):
+        return self.places[bisect_left(self.places, start):bisect_left(self.places, end)]
+
+
+class Finder:
+    """Gives each ring that is named its segments; `blocks_option` is the count for rings whose Link isn't written."""
+
+    def __init__(self, areas, memory, blocks_option):
+        self.areas, self.memory, self.option = areas, memory, blocks_option
+        self.links = Links(memory)
+        self.rings, self.notes = [], []
+        self.cut = None  # the key of the last row, where memory gets other rings than the header can say
+        self.by_start = {}
+        self.find()
+
+    def find(self):
+        transfer = [use for use in self.areas.rings if use.what == 'xfer']
+        for use in [use for use in self.areas.rings if use.what != 'xfer'] + transfer:
+            segments = self.areas.segments if use.what == 'evt' else self.segments_of(use)
+            if use.start in self.by_start:
+                self.see_again(use)
+            elif any(self.overlap(ring, segments) for ring in self.rings):
+                if not any(ring.holds(use.start) and self.shared(ring, use) for ring in self.rings):
+                    self.end_at(use, f'memory of an earlier ring is used for another one at {use.start:#x}')
+            else:
+                self.by_start[use.start] = Ring(len(self.rings), use.what, segments)
+                self.rings.append(self.by_start[use.start])
+
+    def see_again(self, use):
+        """A ring that was let go and is bound once more: its positions go on counting, so no row can say what it holds now."""
+        earlier = [other for other in self.areas.rings if other.start == use.start and other.named < use.named]
+        if any(other.bound and other.ended and other.ended <= use.named for other in earlier):
+            self.end_at(use, f'the ring at {use.start:#x} was used before and is bound anew')
+
+    def end_at(self, use, why):
+        self.notes.append(why + ': the trace ends with the command that names it')
+        if self.cut is None or use.named < self.cut:
+            self.cut = use.named
+
+    def shared(self, ring, use):
+        """Whether the ring is still in use when this use names a block inside it."""
+        return any(other.lives_with(use) for other in self.areas.rings if other is not use and ring.holds(other.start))
+
+    def overlap(self, ring, segments):
+        return any(a < d + 16 * n and d < a + 16 * m for a, m in ring.segments for d, n in segments)
+
+    def segments_of(self, use):
+        """Every segment that a Link ever led to, in the order in which the last Links lead."""
+        starts, counts, last = [use.start], {}, {}
+        for start in starts:
+            link = self.link_of(start, use)
+            if link is None:
+                continue
+            counts[start] = (link - start) // 16 + 1
+            for target in self.targets(link, use):
+                last[start] = target
+                if target not in starts and len(starts) < 64:
+                    starts.append(target)
+        ordered = [use.start]
+        while last.get(ordered[-1]) and last[ordered[-1]] not in ordered:
+            ordered.append(last[ordered[-1]])
+        if len(starts) > len(ordered):
+            self.notes.append(f'the ring at {use.start:#x} has lost segments: they stand last in its line')
+        ordered += [start for start in starts if start not in ordered]
+        return [(start, counts.get(start) or self.guess(start, use)) for start in ordered]
+
+    def states(self, link, use):
+        """What the Link's place held while the ring was used."""
+        life = self.memory.life(link + 12, use.named, use.ended)
+        return [state for state in self.links.states[link] if life and state[0] >= life[0].key
+                and not (use.ended and state[0] >= use.ended)]
+
+    def targets(self, link, use):
+        return [target for key, target in self.states(link, use)]
+
+    def link_of(self, start, use):
+        for link in self.links.between(start + 16, self.bound(start, use)):
+            if link % 16 == start % 16 and self.states(link, use):
+                return link
+        return None
+
+    def bound(self, start, use):
+        """Where the next area in memory begins, at most the next 64 KB boundary."""
+        end = start - start % BOUNDARY + BOUNDARY
+        others = [area.start for area in self.areas.fixed + self.areas.rings if area.start > start and area.lives_with(use)]
+        return min(others + [end])
+
+    def guess(self, start, use):
+        """The count of a segment whose Link was never written."""
+        room = (self.bound(start, use) - start) // 16
+        alike = self.linked_counts()
+        if self.option:
+            why, count = 'as the option says', self.option
+        elif len(alike) == 1:
+            why, count = 'as all rings have whose Link was', alike.pop()
+        else:
+            why, count = 'up to the next area', min(room, MOST_BLOCKS)
+        self.notes.append(f'the Link of the segment at {start:#x} was never written: it is taken to have {count} blocks, {why}')
+        return max(count, 2)
+
+    def linked_counts(self):
+        """The counts of all segments of this run whose Link was written."""
+        counts = set()
+        for use in self.areas.rings:
+            link = None if use.what == 'evt' else self.link_of(use.start, use)
+            if link is not None:
+                counts.add((link - use.start) // 16 + 1)
+        return counts
