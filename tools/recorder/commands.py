@@ -32,5 +32,10 @@ def find(items, memory):
     return commands
 
 
+def fetched(items):
+    """The addresses of all blocks but Links that the controller has fetched and that held something."""
+    return {item.at for item in items if isinstance(item, Fetch) and blocks.kind(item.words) not in (0, blocks.LINK)}
+
+
 def succeeded(command):
     return blocks.code(command.completion) == blocks.SUCCESS

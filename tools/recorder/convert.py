@@ -28,7 +28,7 @@ class Trace:
         written = registers.joined(run.items)
         taken = commands.find(run.items, memory)
         areas = Areas(written, taken, memory, context_size)
-        finder = Finder(areas, memory, blocks_option)
+        finder = Finder(areas, memory, commands.fetched(run.items), blocks_option)
         plain = row_list.collected(run, written, areas, finder.rings, memory, finder.cut)
         producers = descriptors.follow(plain, finder.rings, taken)
         rows, cut = descriptors.declared(plain, producers)

@@ -131,6 +131,13 @@ static void watch(uint64_t at, uint64_t bytes)
         watch_page(page);
 }
 
+/* What stands in an area now: another device may have written there since the last store */
+static void say_found(uint64_t at, uint64_t bytes)
+{
+    for (uint64_t end = at + bytes; at < end && at + 4 <= ram_size; at += 4)
+        say('v', seq, at, word_at(at));
+}
+
 /* A ring from this block to its Link, if that is written, and on to where Links lead that weren't followed yet */
 static void watch_ring(uint64_t at)
 {
@@ -138,8 +145,10 @@ static void watch_ring(uint64_t at)
         uint64_t end = (at | (BOUNDARY - 1)) + 1, link = at;
         while (link < end && (word_at(link + 12) >> 10 != LINK || !long_at(link)))
             link += BLOCK;
+        uint64_t bytes = link == end ? AHEAD : link + BLOCK - at;
         bool known = link == end || (watched_at(at) && watched_at(link));
-        watch(at, link == end ? AHEAD : link + BLOCK - at);
+        watch(at, bytes);
+        say_found(at, bytes);
         if (known)
             break;
         at = long_at(link) & ~(uint64_t)(BLOCK - 1);
@@ -149,9 +158,7 @@ static void watch_ring(uint64_t at)
 static void watch_input_context(uint64_t at)
 {
     watch(at, 33 * context_size);
-    for (uint64_t i = 0; i < 33 * context_size; i += 4)
-        if (at + i + 4 <= ram_size)
-            say('v', seq, at + i, word_at(at + i));
+    say_found(at, 33 * context_size);
     for (int i = 1; i <= 31; i++)
         if (word_at(at + 4) >> i & 1)
             watch_ring(long_at(at + (i + 1) * context_size + 8) & ~(uint64_t)15);
@@ -178,6 +185,7 @@ static void follow_event_ring(void)
     events.at = 0;
     events.cycle = 1;
     watch(events.base, events.count * BLOCK);
+    say_found(events.base, events.count * BLOCK);
 }
 
 static void follow_line(const char *line)

@@ -66,10 +66,11 @@ class Links:
 
 
 class Finder:
-    """Gives each ring that is named its segments; `blocks_option` is the count for rings whose Link isn't written."""
+    """Gives each ring that is named its segments; `blocks_option` is the count where a Link isn't written."""
 
-    def __init__(self, areas, memory, blocks_option):
+    def __init__(self, areas, memory, fetched, blocks_option):
         self.areas, self.memory, self.option = areas, memory, blocks_option
+        self.fetched = fetched  # addresses of all blocks but Links that the controller has fetched and that held something
         self.links = Links(memory)
         self.rings, self.notes = [], []
         self.cut = None  # the key of the last row, where memory gets other rings than the header can say
@@ -150,14 +151,15 @@ class Finder:
 
     def guess(self, start, use):
         """The count of a segment whose Link was never written."""
-        room = (self.bound(start, use) - start) // 16
+        end = self.bound(start, use)
+        used = max((at - start) // 16 + 2 for at in self.fetched | {start} if start <= at < end)
         alike = self.linked_counts()
         if self.option:
             why, count = 'as the option says', self.option
-        elif len(alike) == 1:
-            why, count = 'as all rings have whose Link was', alike.pop()
+        elif len(alike) == 1 and min(alike) >= used:
+            why, count = 'as all rings have whose Link was', min(alike)
         else:
-            why, count = 'up to the next area', min(room, MOST_BLOCKS)
+            why, count = 'up to the next area', min((end - start) // 16, MOST_BLOCKS)
         self.notes.append(f'the Link of the segment at {start:#x} was never written: it is taken to have {count} blocks, {why}')
         return max(count, 2)
 
