@@ -87,8 +87,13 @@ class Areas:
                 self.end(lambda ring: ring.slot == slot and ring.index == index and ring.named < command.given, command.read)
             if added >> index & 1:
                 words = self.memory.block(at + (index + 1) * self.size + 8, command.key)
-                bound = command_list.succeeded(command)
-                self.rings.append(RingUse('xfer', blocks.target(words), command.given, slot, index, bound))
+                self.endpoint(RingUse('xfer', blocks.target(words), command.given, slot, index, command_list.succeeded(command)))
+
+    def endpoint(self, use):
+        """A second Address Device names a block of the ring that the endpoint has: no other ring."""
+        if not any((ring.slot, ring.index, ring.ended) == (use.slot, use.index, None) and ring.bound and use.index == 1
+                   for ring in self.rings):
+            self.rings.append(use)
 
     def let_go(self, kind, slot, drops_all, key):
         if kind == blocks.DISABLE_SLOT:

@@ -40,7 +40,8 @@ class Trace:
         schedule = Schedule(rows, items_until(run, rows, len(rows) < len(plain) or finder.cut), finder.rings)
         self.schedule = schedule.text()
         self.notes = notes.of_run(run, memory, finder, plain, cut, schedule)
-        self.summary = f'{len(rows)} rows, {len(finder.rings)} rings, {notes.fetched(schedule)}'
+        early = ', ends early (see the notes)' if finder.cut or cut < len(plain) else ''
+        self.summary = f'{len(rows)} rows, {len(finder.rings)} rings, {notes.fetched(schedule)}{early}'
 
 
 def items_until(run, rows, ends_early):
@@ -53,11 +54,10 @@ def items_until(run, rows, ends_early):
 def convert(lines, blocks_option=None):
     """A trace for each run of the controller, or Unsupported."""
     recording = read_log(lines)
-    memory = Memory(recording.items)
     runs = split(recording.items)
     if runs and not recording.ended:
         runs[-1].notes.append('the log breaks off: QEMU did not end by itself')
-    return [Trace(run, memory, recording.context_size, blocks_option) for run in runs]
+    return [Trace(run, Memory(recording.items, run.end), recording.context_size, blocks_option) for run in runs]
 
 
 def write(traces, out):

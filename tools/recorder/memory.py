@@ -10,10 +10,14 @@ BEFORE_ALL = (-1, 0, 0)
 
 
 class Memory:
-    def __init__(self, items):
+    """All that was stored up to `end`, a run's last moment."""
+
+    def __init__(self, items, end):
         self.entries = {}       # by address, in order
         self.known_from = 0     # stores before this count may be missing
         for item in items:
+            if item.key > end:
+                break
             if isinstance(item, Store):
                 self.entries.setdefault(item.at, []).append(Entry(item.key, item.word, False))
             elif isinstance(item, Found):

@@ -3,7 +3,7 @@ from bisect import bisect_left
 
 import blocks
 
-MOST_BLOCKS, BOUNDARY = 4096, 0x10000
+MOST_BLOCKS, MOST_SEGMENTS, BOUNDARY = 4096, 64, 0x10000
 
 
 class Ring:
@@ -110,15 +110,12 @@ class Finder:
 
     def segments_of(self, use):
         """Every segment that a Link ever led to, in the order in which the last Links lead."""
-        starts, counts, last = [use.start], {}, {}
+        found = self.linked(use)
+        starts, last = [use.start], {}
         for start in starts:
-            link = self.link_of(start, use)
-            if link is None:
-                continue
-            counts[start] = (link - start) // 16 + 1
-            for target in self.targets(link, use):
+            for target in found[start][1] if start in found else []:
                 last[start] = target
-                if target not in starts and len(starts) < 64:
+                if target not in starts and len(starts) < MOST_SEGMENTS:
                     starts.append(target)
         ordered = [use.start]
         while last.get(ordered[-1]) and last[ordered[-1]] not in ordered:
@@ -126,22 +123,30 @@ class Finder:
         if len(starts) > len(ordered):
             self.notes.append(f'the ring at {use.start:#x} has lost segments: they stand last in its line')
         ordered += [start for start in starts if start not in ordered]
-        return [(start, counts.get(start) or self.guess(start, use)) for start in ordered]
+        return [(start, (found[start][0] - start) // 16 + 1 if start in found else self.guess(start, use)) for start in ordered]
 
-    def states(self, link, use):
-        """What the Link's place held while the ring was used."""
-        life = self.memory.life(link + 12, use.named, use.ended)
-        return [state for state in self.links.states[link] if life and state[0] >= life[0].key
-                and not (use.ended and state[0] >= use.ended)]
+    def linked(self, use):
+        """The Link of each segment of a ring with the targets it ever had: one from which Links lead back to the first segment."""
+        candidates = {}
+        waiting = [use.start]
+        while waiting and len(candidates) < 4 * MOST_SEGMENTS:
+            start = waiting.pop()
+            candidates[start] = [(link, self.targets(link, use)) for link in self.links.between(start + 16, self.bound(start, use))
+                                 if link % 16 == start % 16]
+            waiting += [to for link, targets in candidates[start] for to in targets if to not in candidates and to not in waiting]
+        closed, found = {use.start}, {}
+        while True:
+            more = {start: (link, targets) for start, links in candidates.items() if start not in found
+                    for link, targets in reversed(links) if closed.intersection(targets)}
+            if not more:
+                return found
+            found.update(more)
+            closed.update(more)
 
     def targets(self, link, use):
-        return [target for key, target in self.states(link, use)]
-
-    def link_of(self, start, use):
-        for link in self.links.between(start + 16, self.bound(start, use)):
-            if link % 16 == start % 16 and self.states(link, use):
-                return link
-        return None
+        """Where the block led to while the ring was used and it was a Link."""
+        life = self.memory.life(link + 12, use.named, use.ended)
+        return [target for key, target in self.links.states[link] if life and key >= life[0].key and not (use.ended and key >= use.ended)]
 
     def bound(self, start, use):
         """Where the next area in memory begins, at most the next 64 KB boundary."""
@@ -159,15 +164,16 @@ class Finder:
         elif len(alike) == 1 and min(alike) >= used:
             why, count = 'as all rings have whose Link was', min(alike)
         else:
-            why, count = 'up to the next area', min((end - start) // 16, MOST_BLOCKS)
+            power = max(16, 1 << (used - 1).bit_length())
+            why, count = 'the least power of two that holds what was fetched', min(power, (end - start) // 16, MOST_BLOCKS)
         self.notes.append(f'the Link of the segment at {start:#x} was never written: it is taken to have {count} blocks, {why}')
         return max(count, 2)
 
     def linked_counts(self):
-        """The counts of all segments of this run whose Link was written."""
+        """The counts of all first segments of this run whose Link was written."""
         counts = set()
         for use in self.areas.rings:
-            link = None if use.what == 'evt' else self.link_of(use.start, use)
-            if link is not None:
-                counts.add((link - use.start) // 16 + 1)
+            found = {} if use.what == 'evt' else self.linked(use)
+            if use.start in found:
+                counts.add((found[use.start][0] - use.start) // 16 + 1)
         return counts

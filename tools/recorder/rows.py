@@ -52,7 +52,7 @@ def collected(run, registers, areas, rings, memory, cut):
     rows = [Row(row.key, 'reg', (row.name, row.value)) for row in registers]
     rows += [Row(item.key, 'db', (item.slot, item.target)) for item in run.items if isinstance(item, Bell)]
     rows += [Row(item.key, 'ev', item.words) for item in run.items if isinstance(item, Seen)]
-    end = min(key for key in (run.stop, cut, (float('inf'),)) if key)
+    end = min(run.end, cut or run.end)
     rows = [row for row in rows + writes(areas, rings, memory, cut) if row.key <= end]
     rows.sort(key=lambda row: row.key)
     return needed(rows, [area for area in areas.fixed if area.what.startswith('device context') and area.ended])

@@ -4,7 +4,9 @@ from collections import namedtuple
 from qemu_log import Bell, Found, Page, Reset, Store, Write
 from registers import RESET, RUN, is_command, name_of
 
-Run = namedtuple('Run', 'items stop notes')  # what the driver and the controller did; the key of the row that stops it, or None
+# What the driver and the controller did; the key of the row that stops it, or None; of the run's last moment; what to note of it
+Run = namedtuple('Run', 'items stop end notes')
+FOREVER = (float('inf'),)
 
 
 class Splitter:
@@ -15,16 +17,16 @@ class Splitter:
     def begin(self):
         self.items, self.started, self.stop, self.notes = [], False, None, []
 
-    def close(self):
+    def close(self, end=FOREVER):
         if self.started:
-            self.runs.append(Run(self.items, self.stop, self.notes))
+            self.runs.append(Run(self.items, self.stop, self.stop or end, self.notes))
         self.begin()
 
     def take(self, item):
         if isinstance(item, Reset) and not item.by_driver:
             if self.started and self.stop is None:
                 self.notes.append('the machine was reset while the controller ran: the trace ends there')
-            self.close()
+            self.close(item.key)
         elif is_command(item, RESET):
             if self.started and self.stop is None:
                 self.stop = item.key
