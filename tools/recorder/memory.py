@@ -4,7 +4,7 @@ from collections import namedtuple
 
 from qemu_log import Found, Page, Store
 
-Entry = namedtuple('Entry', 'key word made_up')  # made_up: no store was seen that left this word, but it stood there
+Entry = namedtuple('Entry', 'key word found')  # found: no store was seen that left this word, but then it stood there; or None
 
 BEFORE_ALL = (-1, 0, 0)
 
@@ -19,7 +19,7 @@ class Memory:
             if item.key > end:
                 break
             if isinstance(item, Store):
-                self.entries.setdefault(item.at, []).append(Entry(item.key, item.word, False))
+                self.entries.setdefault(item.at, []).append(Entry(item.key, item.word, None))
             elif isinstance(item, Found):
                 self.compare(item)
             elif isinstance(item, Page):
@@ -30,9 +30,9 @@ class Memory:
         """A word that no store has left was there before the first one, or another device wrote it after the last."""
         entries = self.entries.setdefault(found.at, [])
         if entries and entries[-1].word != found.word:
-            entries.append(Entry(entries[-1].key[:2] + (entries[-1].key[2] + 0.5,), found.word, True))
+            entries.append(Entry(entries[-1].key[:2] + (entries[-1].key[2] + 0.5,), found.word, found.key))
         elif not entries and found.word:
-            entries.append(Entry(BEFORE_ALL, found.word, True))
+            entries.append(Entry(BEFORE_ALL, found.word, found.key))
 
     def word(self, at, key):
         """The word at this time."""

@@ -230,7 +230,7 @@ static void follow_log(void)
     clearerr(log_file);
 }
 
-/* The value that was moved, where QEMU tells it, from byte `from` on; else what stands in memory now */
+/* The word at `at` as it was moved, where QEMU tells that; else what stands in memory now */
 static uint32_t moved_word(qemu_plugin_meminfo_t info, uint64_t phys, uint64_t at, unsigned size)
 {
     if (!qemu_plugin_mem_get_value || at < phys || at + 4 > phys + size || size > 8)
@@ -250,14 +250,28 @@ static void device_stored(uint64_t phys, unsigned size)
         say('d', seq, phys, size);
 }
 
-static void stored(qemu_plugin_meminfo_t info, uint64_t phys, unsigned size)
+static void stored(uint64_t at, uint32_t word)
 {
-    for (uint64_t at = phys & ~(uint64_t)3; at < phys + size && at + 4 <= ram_size; at += 4) {
-        struct store s = { seq, at, moved_word(info, phys, at, size) };
-        history[next++ % history_size] = s;
-        if (watched[at / PAGE])
-            say('w', seq, at, s.word);
+    struct store s = { seq, at, word };
+    history[next++ % history_size] = s;
+    if (watched[at / PAGE])
+        say('w', seq, at, word);
+}
+
+/* A store, or the part of it that lies in one page: pages side by side may be apart in memory */
+static void stored_part(qemu_plugin_meminfo_t info, uint64_t vaddr, unsigned size, bool whole)
+{
+    struct qemu_plugin_hwaddr *hw = qemu_plugin_get_hwaddr(info, vaddr);
+    if (!hw)
+        return;
+    uint64_t phys = qemu_plugin_hwaddr_phys_addr(hw);
+    if (qemu_plugin_hwaddr_is_io(hw)) {
+        if (phys >= DEVICES)
+            device_stored(phys, size);
+        return;
     }
+    for (uint64_t at = phys & ~(uint64_t)3; at < phys + size && at + 4 <= ram_size; at += 4)
+        stored(at, whole ? moved_word(info, phys, at, size) : word_at(at));
 }
 
 /* A load of the next event's Cycle bit, by the place in the page alone: few loads go further */
@@ -294,15 +308,11 @@ static void moved(unsigned int cpu, qemu_plugin_meminfo_t info, uint64_t vaddr, 
             loaded(info, vaddr, size);
         return;
     }
-    struct qemu_plugin_hwaddr *hw = qemu_plugin_get_hwaddr(info, vaddr);
-    if (!hw)
-        return;
-    uint64_t phys = qemu_plugin_hwaddr_phys_addr(hw);
+    unsigned first = PAGE - vaddr % PAGE;
     seq++;
-    if (!qemu_plugin_hwaddr_is_io(hw))
-        stored(info, phys, size);
-    else if (phys >= DEVICES)
-        device_stored(phys, size);
+    stored_part(info, vaddr, size < first ? size : first, size <= first);
+    if (size > first)
+        stored_part(info, vaddr + first, size - first, false);
 }
 
 static void translated(qemu_plugin_id_t id, struct qemu_plugin_tb *tb)

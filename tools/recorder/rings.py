@@ -134,14 +134,12 @@ class Finder:
             candidates[start] = [(link, self.targets(link, use)) for link in self.links.between(start + 16, self.bound(start, use))
                                  if link % 16 == start % 16]
             waiting += [to for link, targets in candidates[start] for to in targets if to not in candidates and to not in waiting]
-        closed, found = {use.start}, {}
-        while True:
-            more = {start: (link, targets) for start, links in candidates.items() if start not in found
-                    for link, targets in reversed(links) if closed.intersection(targets)}
-            if not more:
-                return found
-            found.update(more)
-            closed.update(more)
+        closed, before = {use.start}, 0
+        while len(closed) > before:
+            before = len(closed)
+            closed |= {start for start, links in candidates.items() for link, targets in links if closed.intersection(targets)}
+        return {start: (link, targets) for start, links in candidates.items()
+                for link, targets in reversed(links) if closed.intersection(targets)}
 
     def targets(self, link, use):
         """Where the block led to while the ring was used and it was a Link."""

@@ -24,27 +24,27 @@ def text(row):
 def writes(areas, rings, memory, cut):
     """A row for each store to a word of an area while the area lives."""
     rows = {}
-    for start, length, named, ended, is_device_context in stretches(areas, rings, cut):
+    for start, length, named, ended, mixed in stretches(areas, rings, cut):
         for at in range(start, start + length, 4):
             for i, entry in enumerate(memory.life(at, named, ended)):
-                if entry.made_up and is_device_context:  # the controller wrote it
+                if mixed and entry.found and entry.found[0] > named[0]:
                     continue
                 if_set = i == 0 and entry.word == 0 and entry.key < named
                 known = rows.get((at, entry.key))
                 if not known or known.if_set:
-                    rows[at, entry.key] = Row(entry.key, 'w', (at, entry.word), entry.made_up, if_set)
+                    rows[at, entry.key] = Row(entry.key, 'w', (at, entry.word), entry.found is not None, if_set)
     return list(rows.values())
 
 
 def stretches(areas, rings, cut):
-    """What is looked at, and from when to when; of a ring that is named at `cut` nothing."""
+    """What is looked at, from when to when, and whether the controller writes there too; of a ring that is named at `cut` nothing."""
     for area in areas.fixed:
         yield area.start, area.length, area.named, area.ended, area.what.startswith('device context')
     for use in areas.rings:
         for ring in rings:
             if ring.holds(use.start) and (cut is None or use.named < cut):
                 for start, count in ring.segments:
-                    yield start, 16 * count, use.named, use.ended, False
+                    yield start, 16 * count, use.named, use.ended, ring.kind == 'evt'
 
 
 def collected(run, registers, areas, rings, memory, cut):
