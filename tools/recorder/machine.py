@@ -4,6 +4,7 @@ from qemu_log import Unsupported
 
 MOST_RAM = 2 << 30
 UNITS = {'': 1 << 20, 'b': 1, 'k': 1 << 10, 'm': 1 << 20, 'g': 1 << 30, 't': 1 << 40}
+PLUGIN_FLAGS = ('-O2', '-shared', '-fPIC', '-fvisibility=hidden')  # of the compiler
 CONTROLLERS = ('qemu-xhci', 'nec-usb-xhci')
 OWN = ('-D', '-d', '-trace', '-plugin', '-daemonize')
 DISPLAYS = ('-display', '-nographic', '-vnc', '-curses')
