@@ -74,8 +74,9 @@ class Areas:
     def device_context(self, slot, command):
         if any(area.what == f'device context {slot}' and area.ended is None for area in self.fixed):
             return
-        words = self.memory.block(self.dcbaap + 8 * slot, command.key)
-        self.fixed.append(Area(f'device context {slot}', blocks.pointer(words), 32 * self.size, command.given))
+        at = blocks.pointer(self.memory.block(self.dcbaap + 8 * slot, command.key))
+        if at:
+            self.fixed.append(Area(f'device context {slot}', at, 32 * self.size, command.given))
 
     def endpoints(self, kind, slot, at, command):
         """The rings of the endpoints that are added; those of the endpoints that are dropped are let go."""

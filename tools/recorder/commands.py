@@ -33,8 +33,12 @@ def find(items, memory):
 
 
 def fetched(items):
-    """The addresses of all blocks but Links that the controller has fetched and that held something."""
-    return {item.at for item in items if isinstance(item, Fetch) and blocks.kind(item.words) not in (0, blocks.LINK)}
+    """When each block, Links aside, that held something was first fetched, by its address."""
+    first = {}
+    for item in items:
+        if isinstance(item, Fetch) and blocks.kind(item.words) not in (0, blocks.LINK):
+            first.setdefault(item.at, item.key)
+    return first
 
 
 def succeeded(command):

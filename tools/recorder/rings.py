@@ -3,7 +3,7 @@ from bisect import bisect_left
 
 import blocks
 
-MOST_BLOCKS, MOST_SEGMENTS, BOUNDARY = 4096, 64, 0x10000
+MOST_RINGS, MOST_SEGMENTS, MOST_BLOCKS, BOUNDARY = 256, 64, 4096, 0x10000
 
 
 class Ring:
@@ -70,40 +70,44 @@ class Finder:
 
     def __init__(self, areas, memory, fetched, blocks_option):
         self.areas, self.memory, self.option = areas, memory, blocks_option
-        self.fetched = fetched  # addresses of all blocks but Links that the controller has fetched and that held something
+        self.fetched = fetched  # by address, when a block was first fetched
         self.links = Links(memory)
         self.rings, self.notes = [], []
-        self.cut = None  # the key of the last row, where memory gets other rings than the header can say
-        self.by_start = {}
+        self.cut = self.why = None  # the key of the last row, where memory gets other rings than the header can say
         self.find()
 
     def find(self):
         transfer = [use for use in self.areas.rings if use.what == 'xfer']
         for use in [use for use in self.areas.rings if use.what != 'xfer'] + transfer:
-            segments = self.areas.segments if use.what == 'evt' else self.segments_of(use)
-            if use.start in self.by_start:
-                self.see_again(use)
-            elif any(self.overlap(ring, segments) for ring in self.rings):
-                if not any(ring.holds(use.start) and self.shared(ring, use) for ring in self.rings):
-                    self.end_at(use, f'memory of an earlier ring is used for another one at {use.start:#x}')
+            ring = next((ring for ring in self.rings if ring.holds(use.start)), None)
+            if ring and self.shared(ring, use):
+                self.see_again(ring, use)
             else:
-                self.by_start[use.start] = Ring(len(self.rings), use.what, segments)
-                self.rings.append(self.by_start[use.start])
+                self.see_new(use, self.areas.segments if use.what == 'evt' else self.segments_of(use))
+        self.notes += [self.why] if self.cut else []
 
-    def see_again(self, use):
-        """A ring that was let go and is bound once more: its positions go on counting, so no row can say what it holds now."""
-        earlier = [other for other in self.areas.rings if other.start == use.start and other.named < use.named]
-        if any(other.bound and other.ended and other.ended <= use.named for other in earlier):
+    def see_new(self, use, segments):
+        if any(self.overlap(ring, segments) for ring in self.rings):
+            self.end_at(use, f'memory of an earlier ring is used for another one at {use.start:#x}')
+        elif len(self.rings) == MOST_RINGS:
+            self.end_at(use, f'the ring at {use.start:#x} is one more than the {MOST_RINGS} that a trace may have')
+        else:
+            self.rings.append(Ring(len(self.rings), use.what, segments))
+
+    def shared(self, ring, use):
+        """Whether this use names the ring's first block, or another one while the ring is in use."""
+        return use.start == ring.segments[0][0] or any(
+            other.lives_with(use) for other in self.areas.rings if other is not use and ring.holds(other.start))
+
+    def see_again(self, ring, use):
+        """A ring that has been used and is bound once more: its positions go on counting, so no row can say what it holds now."""
+        earlier = any(other.bound and ring.holds(other.start) and other.named < use.named for other in self.areas.rings)
+        if earlier and any(key < use.named for at, key in self.fetched.items() if ring.holds(at)):
             self.end_at(use, f'the ring at {use.start:#x} was used before and is bound anew')
 
     def end_at(self, use, why):
-        self.notes.append(why + ': the trace ends with the command that names it')
         if self.cut is None or use.named < self.cut:
-            self.cut = use.named
-
-    def shared(self, ring, use):
-        """Whether the ring is still in use when this use names a block inside it."""
-        return any(other.lives_with(use) for other in self.areas.rings if other is not use and ring.holds(other.start))
+            self.cut, self.why = use.named, why + ': the trace ends with the command that names it'
 
     def overlap(self, ring, segments):
         return any(a < d + 16 * n and d < a + 16 * m for a, m in ring.segments for d, n in segments)
@@ -155,7 +159,7 @@ class Finder:
     def guess(self, start, use):
         """The count of a segment whose Link was never written."""
         end = self.bound(start, use)
-        used = max((at - start) // 16 + 2 for at in self.fetched | {start} if start <= at < end)
+        used = max((at - start) // 16 + 2 for at in [start, *self.fetched] if start <= at < end)
         alike = self.linked_counts()
         if self.option:
             why, count = 'as the option says', self.option

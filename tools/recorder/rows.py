@@ -64,8 +64,8 @@ def needed(rows, left):
     for row in rows:
         if row.kind == 'w':
             at, word = row.fields
-            old = any(area.ended < row.key and area.start <= at < area.start + area.length for area in left)
-            if row.if_set and not old and not memory.get(at):
+            if row.if_set and not memory.get(at) and not any(
+                    area.ended < row.key and area.start <= at < area.start + area.length for area in left):
                 continue
             memory[at] = word
         kept.append(row)
