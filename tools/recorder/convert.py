@@ -46,9 +46,9 @@ class Trace:
 
 def items_until(run, rows, ends_early):
     """What the controller did up to the last row, where the trace ends before the recording."""
-    if not rows or not (ends_early or run.stop):
+    if not (ends_early or run.stop):
         return run.items
-    return [item for item in run.items if item.key < rows[-1].key]
+    return [item for item in run.items if rows and item.key < rows[-1].key]
 
 
 def convert(lines, blocks_option=None):

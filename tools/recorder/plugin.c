@@ -73,6 +73,7 @@ __attribute__((constructor)) static void choose_version(void)
 enum { REGISTERS = 0x4000, CAPABILITIES = 0x40, DOORBELLS_END = 0x3000, DEVICES = 0x100000 };
 enum { PAGE = 4096, BLOCK = 16, AHEAD = 1024, DCBAA = 2048, SEGMENTS = 64, BOUNDARY = 0x10000 };
 enum { LINK = 6, ADDRESS_DEVICE = 11, CONFIGURE_ENDPOINT, EVALUATE_CONTEXT, SET_TR_DEQUEUE = 16 };
+enum { DECONFIGURE = 1 << 9 }; /* of Configure Endpoint: it has no input context */
 
 struct store { uint64_t seq; uint32_t at, word; };
 
@@ -172,7 +173,7 @@ static void follow_fetch(uint64_t at, uint64_t pointer, uint32_t control)
         watch_ring(pointer & ~(uint64_t)15);
     if (type == ADDRESS_DEVICE)
         watch(long_at(((oper[12] & ~63u) | (uint64_t)oper[13] << 32) + 8 * (control >> 24)), 32 * context_size);
-    if (type >= ADDRESS_DEVICE && type <= EVALUATE_CONTEXT)
+    if (type >= ADDRESS_DEVICE && type <= EVALUATE_CONTEXT && !(type == CONFIGURE_ENDPOINT && control & DECONFIGURE))
         watch_input_context(pointer & ~(uint64_t)15);
 }
 
