@@ -148,23 +148,25 @@ class Finder:
     def targets(self, link, use):
         """Where the block led to while the ring was used and it was a Link."""
         life = self.memory.life(link + 12, use.named, use.ended)
-        return [target for key, target in self.links.states[link] if life and key >= life[0].key and not (use.ended and key >= use.ended)]
+        return [target for key, target in self.links.states[link]
+                if life and key >= life[0].key and not (use.ended and key >= use.ended)]
 
     def bound(self, start, use):
         """Where the next area in memory begins, at most the next 64 KB boundary."""
         end = start - start % BOUNDARY + BOUNDARY
-        others = [area.start for area in self.areas.fixed + self.areas.rings if area.start > start and area.lives_with(use)]
-        return min(others + [end])
+        own = [other for other in self.areas.rings if use.what == 'xfer' and (other.slot, other.index) == (use.slot, use.index)]
+        others = [area.start for area in self.areas.fixed + self.areas.rings if area not in own and area.lives_with(use)]
+        return min([end] + [other for other in others if other > start])
 
     def guess(self, start, use):
         """The count of a segment whose Link was never written."""
         end = self.bound(start, use)
         used = max((at - start) // 16 + 2 for at in [start, *self.fetched] if start <= at < end)
-        alike = self.linked_counts()
+        linked = self.linked_counts()
         if self.option:
             why, count = 'as the option says', self.option
-        elif len(alike) == 1 and min(alike) >= used:
-            why, count = 'as all rings have whose Link was', min(alike)
+        elif len(linked) == 1 and min(linked) >= used:
+            why, count = 'as all rings have whose Link was', min(linked)
         else:
             power = max(16, 1 << (used - 1).bit_length())
             why, count = 'the least power of two that holds what was fetched', min(power, (end - start) // 16, MOST_BLOCKS)
