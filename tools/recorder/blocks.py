@@ -1,0 +1,49 @@
+"""Fields of blocks (TRBs, xHCI 6.4)."""
+
+LINK, ENABLE_SLOT, DISABLE_SLOT, ADDRESS_DEVICE, CONFIGURE_ENDPOINT, EVALUATE_CONTEXT = 6, 9, 10, 11, 12, 13
+STOP_ENDPOINT, SET_TR_DEQUEUE, RESET_DEVICE = 15, 16, 17
+TRANSFER_EVENT, COMMAND_COMPLETION = 32, 33
+SUCCESS, STOPPED_CODES, HALTING_CODES = 1, (26, 27, 28), (3, 4, 5, 6, 36)
+
+
+def kind(words):
+    return words[3] >> 10 & 63
+
+
+def cycle(words):
+    return words[3] & 1
+
+
+def chained(words):
+    return words[3] >> 4 & 1
+
+
+def toggles(words):
+    return words[3] >> 1 & 1
+
+
+def pointer(words):
+    """Words 1 and 0 whole, as events name a block."""
+    return words[0] | words[1] << 32
+
+
+def target(words):
+    """The 16-byte aligned address of a Link, a command or a dequeue pointer."""
+    return pointer(words) & ~15
+
+
+def code(words):
+    return words[2] >> 24
+
+
+def slot(words):
+    return words[3] >> 24
+
+
+def endpoint(words):
+    return words[3] >> 16 & 31
+
+
+def drops_all(words):
+    """Configure Endpoint with DC 1."""
+    return words[3] >> 9 & 1

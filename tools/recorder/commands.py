@@ -1,0 +1,45 @@
+"""The commands of a run as the controller took them, with the event that the driver read of each."""
+from collections import namedtuple
+
+import blocks
+from qemu_log import Fetch, Post, Seen
+
+# given: the key of the last store to its control word; completion: the posted event's words; read: the key of its reading, or None
+Command = namedtuple('Command', 'key at words given completion read')
+
+
+def events(items):
+    """The posted events of interrupter 0 in order, each with the key of its reading or None; and those read but not as posted."""
+    posts = [item for item in items if isinstance(item, Post) and item.interrupter == 0]
+    seen = [item for item in items if isinstance(item, Seen)]
+    pairs = [(post, seen[i] if i < len(seen) else None) for i, post in enumerate(posts)]
+    return pairs, seen[len(posts):]
+
+
+def find(items, memory):
+    """A fetched command was taken where QEMU posts its completion before it fetches anything else."""
+    read = {id(post): seen for post, seen in events(items)[0] if seen}
+    commands, fetched = [], None
+    for item in items:
+        if isinstance(item, Fetch):
+            fetched = item
+        elif isinstance(item, Post) and fetched and blocks.kind(item.words) == blocks.COMMAND_COMPLETION:
+            if blocks.pointer(item.words) == fetched.at:
+                seen = read.get(id(item))
+                given = memory.last_store(fetched.at + 12, fetched.key) or fetched.key
+                commands.append(Command(fetched.key, fetched.at, fetched.words, given, item.words, seen and seen.key))
+            fetched = None
+    return commands
+
+
+def fetched(items):
+    """When each block, Links aside, that held something was first fetched, by its address."""
+    first = {}
+    for item in items:
+        if isinstance(item, Fetch) and blocks.kind(item.words) not in (0, blocks.LINK):
+            first.setdefault(item.at, item.key)
+    return first
+
+
+def succeeded(command):
+    return blocks.code(command.completion) == blocks.SUCCESS

@@ -1,0 +1,64 @@
+"""What a trace can't say: the text beside it."""
+import registers
+from commands import events
+from qemu_log import Bell
+
+
+def of_run(run, memory, finder, rows, cut, schedule):
+    lines = list(run.notes) + finder.notes
+    lines += of_memory(memory, rows) + of_cut(rows, cut) + of_rows(run) + of_events(run)
+    lines += of_controller(schedule)
+    return ''.join(line + '\n' for line in lines)
+
+
+def of_memory(memory, rows):
+    lines = []
+    if memory.known_from:
+        lines.append(f'stores before number {memory.known_from} were forgotten: what an area held before may be missing (--history)')
+    for row in rows:
+        if row.made_up:
+            lines.append('no store was seen that left the word %08x at %016x: its row is made up' % row.fields[::-1])
+    return lines
+
+
+def of_cut(rows, cut):
+    if cut == len(rows):
+        return []
+    return [f'a descriptor was not given whole: the trace ends before its first row, and {len(rows) - cut} rows are left out']
+
+
+def of_rows(run):
+    lines = [f'{count} register writes make no row: {where}' for where, count in sorted(registers.left_out(run.items).items())]
+    streams = sum(1 for item in run.items if isinstance(item, Bell) and item.stream)
+    if streams:
+        lines.append(f'{streams} doorbells had a stream: a row can not say it')
+    return lines
+
+
+def of_events(run):
+    pairs, more = events(run.items)
+    unread = [post for post, seen in pairs if seen is None]
+    other = sum(1 for post, seen in pairs if seen and seen.words != post.words) + len(more)
+    elsewhere = sum(1 for item in run.items if getattr(item, 'interrupter', 0))
+    lines = [f'events: {len(pairs)} posted, {len(pairs) - len(unread)} read']
+    if unread:
+        why = 'the controller was stopped first' if run.stop else 'the recording ended first'
+        lines.append(f'{len(unread)} events were not read: {why}')
+        lines += ['not read: %08x %08x %08x %08x' % post.words for post in unread[:20]]
+    if other:
+        lines.append(f'{other} events were read with other words than QEMU says it posted')
+    if elsewhere:
+        lines.append(f'{elsewhere} events were posted to interrupters above 0: they are left out')
+    return lines
+
+
+def fetched(schedule):
+    return f'blocks fetched: {schedule.fetched}, {schedule.fetched - schedule.other_words} with the words of the trace'
+
+
+def of_controller(schedule):
+    lines = [fetched(schedule)]
+    if schedule.not_followed:
+        lines.append(f'{schedule.not_followed} blocks were fetched outside the rings of the trace: they have no step')
+    lines.append('what the controller writes to device contexts is not recorded: the schedule has no scrib lines')
+    return lines

@@ -1,0 +1,371 @@
+/*
+ * A TCG plugin for QEMU: writes into QEMU's own log what the guest's CPU stores where an xHCI controller may look, beside QEMU's
+ * trace lines of that controller. A page is watched from the moment a register, a command or a context names it; a history of
+ * recent stores tells what was written there before. Arguments: ram=FILE, the guest's memory from physical address 0 on;
+ * log=FILE, QEMU's log; history=N, the stores that are remembered.
+ *
+ * Lines, all numbers in hex; SEQ counts stores, loads of events and stores to the device, in the order in which the CPU made them:
+ *   xr w SEQ ADDR WORD      a store has left this word; one that was remembered comes later in the log than its SEQ says
+ *   xr v SEQ ADDR WORD      the word as it was found
+ *   xr p SEQ ADDR KNOWN     the page at ADDR is watched from here on; stores are known from KNOWN on
+ *   xr d SEQ ADDR SIZE      a store to a register; the trace lines of what QEMU did for it stand before
+ *   xr e SEQ ADDR W W W W   a load has found the event at ADDR
+ *   xr end SEQ              the end of the recording
+ */
+#include <fcntl.h>
+#include <inttypes.h>
+#include <stdbool.h>
+#include <stdio.h>
+#include <stdlib.h>
+#include <string.h>
+#include <sys/mman.h>
+#include <sys/stat.h>
+#include <unistd.h>
+
+/* QEMU's plugin interface after its documentation (docs/devel/tcg-plugins): no Debian package ships the header */
+typedef uint64_t qemu_plugin_id_t;
+typedef uint32_t qemu_plugin_meminfo_t;
+struct qemu_plugin_tb;
+struct qemu_plugin_insn;
+struct qemu_plugin_hwaddr;
+enum qemu_plugin_cb_flags { QEMU_PLUGIN_CB_NO_REGS };
+enum qemu_plugin_mem_rw { QEMU_PLUGIN_MEM_R = 1, QEMU_PLUGIN_MEM_W, QEMU_PLUGIN_MEM_RW };
+enum qemu_plugin_mem_value_type { VALUE_U8, VALUE_U16, VALUE_U32, VALUE_U64, VALUE_U128 };
+typedef struct {
+    enum qemu_plugin_mem_value_type type;
+    union { uint8_t u8; uint16_t u16; uint32_t u32; uint64_t u64; struct { uint64_t low, high; } u128; } data;
+} qemu_plugin_mem_value;
+typedef struct {
+    const char *target_name;
+    struct { int min, cur; } version;
+    bool system_emulation;
+    union { struct { int smp_vcpus, max_vcpus; } system; };
+} qemu_info_t;
+typedef void (*tb_trans_cb)(qemu_plugin_id_t id, struct qemu_plugin_tb *tb);
+typedef void (*mem_cb)(unsigned int cpu, qemu_plugin_meminfo_t info, uint64_t vaddr, void *data);
+typedef void (*udata_cb)(qemu_plugin_id_t id, void *data);
+void qemu_plugin_register_vcpu_tb_trans_cb(qemu_plugin_id_t id, tb_trans_cb cb);
+void qemu_plugin_register_vcpu_mem_cb(struct qemu_plugin_insn *insn, mem_cb cb, enum qemu_plugin_cb_flags flags,
+                                      enum qemu_plugin_mem_rw rw, void *data);
+void qemu_plugin_register_atexit_cb(qemu_plugin_id_t id, udata_cb cb, void *data);
+size_t qemu_plugin_tb_n_insns(const struct qemu_plugin_tb *tb);
+struct qemu_plugin_insn *qemu_plugin_tb_get_insn(const struct qemu_plugin_tb *tb, size_t idx);
+unsigned int qemu_plugin_mem_size_shift(qemu_plugin_meminfo_t info);
+bool qemu_plugin_mem_is_store(qemu_plugin_meminfo_t info);
+struct qemu_plugin_hwaddr *qemu_plugin_get_hwaddr(qemu_plugin_meminfo_t info, uint64_t vaddr);
+bool qemu_plugin_hwaddr_is_io(const struct qemu_plugin_hwaddr *hw);
+uint64_t qemu_plugin_hwaddr_phys_addr(const struct qemu_plugin_hwaddr *hw);
+void qemu_plugin_outs(const char *text);
+/* there from 9.2 on: the value that was moved */
+__attribute__((weak)) qemu_plugin_mem_value qemu_plugin_mem_get_value(qemu_plugin_meminfo_t info);
+/* there up to 8.2, whose interface is version 1 */
+__attribute__((weak)) int qemu_plugin_n_vcpus(void);
+
+__attribute__((visibility("default"))) int qemu_plugin_version = 1;
+
+__attribute__((constructor)) static void choose_version(void)
+{
+    if (!qemu_plugin_n_vcpus)
+        qemu_plugin_version = 2;
+}
+
+/* QEMU's layout of the controller's registers: 16 KB, the capabilities first; devices below 1 MB are others */
+enum { REGISTERS = 0x4000, CAPABILITIES = 0x40, DOORBELLS_END = 0x3000, DEVICES = 0x100000 };
+enum { PAGE = 4096, BLOCK = 16, AHEAD = 1024, DCBAA = 2048, SEGMENTS = 64, BOUNDARY = 0x10000 };
+enum { LINK = 6, ADDRESS_DEVICE = 11, CONFIGURE_ENDPOINT, EVALUATE_CONTEXT, SET_TR_DEQUEUE = 16 };
+enum { DECONFIGURE = 1 << 9 }; /* of Configure Endpoint: it has no input context */
+
+struct store { uint64_t seq; uint32_t at, word; };
+
+static const uint8_t *ram;
+static uint64_t ram_size, seq;
+static bool *watched;               /* by page */
+static struct store *history;       /* a ring; next counts all stores ever remembered */
+static uint64_t history_size = 1 << 22, next;
+static FILE *log_file;
+static uint32_t oper[16], runtime[16]; /* operational registers; those of interrupter 0 at 8 and up */
+static uint32_t context_size = 32;
+static struct { uint64_t base; uint32_t count, at; uint8_t cycle; } events; /* the place that is read next */
+static unsigned writes;             /* trace lines of register writes since the last store to a device */
+static uint64_t registers;          /* the controller's registers begin here */
+
+static uint32_t word_at(uint64_t at)
+{
+    uint32_t w = 0;
+    if (at + 4 <= ram_size)
+        memcpy(&w, ram + at, 4);
+    return w;
+}
+
+static uint64_t long_at(uint64_t at) { return word_at(at) | (uint64_t)word_at(at + 4) << 32; }
+
+static void say(char kind, uint64_t when, uint64_t at, uint64_t value)
+{
+    char line[80];
+    snprintf(line, sizeof line, "xr %c %" PRIx64 " %" PRIx64 " %" PRIx64 "\n", kind, when, at, value);
+    qemu_plugin_outs(line);
+}
+
+/* A page that wasn't watched: what stands there, and the stores to it that are remembered */
+static void watch_page(uint64_t page)
+{
+    if (page + PAGE > ram_size || watched[page / PAGE])
+        return;
+    watched[page / PAGE] = true;
+    uint64_t oldest = next > history_size ? next - history_size : 0;
+    say('p', seq, page, oldest ? history[oldest % history_size].seq : 0);
+    for (uint64_t at = page; at < page + PAGE; at += 4)
+        if (word_at(at))
+            say('v', seq, at, word_at(at));
+    for (uint64_t i = oldest; i < next; i++) {
+        const struct store *s = &history[i % history_size];
+        if (s->at / PAGE == page / PAGE)
+            say('w', s->seq, s->at, s->word);
+    }
+}
+
+static bool watched_at(uint64_t at) { return at >= ram_size || watched[at / PAGE]; }
+
+static void watch(uint64_t at, uint64_t bytes)
+{
+    for (uint64_t page = at & ~(uint64_t)(PAGE - 1); page < at + bytes && page < ram_size; page += PAGE)
+        watch_page(page);
+}
+
+/* What stands in an area now: another device may have written there since the last store */
+static void say_found(uint64_t at, uint64_t bytes)
+{
+    for (uint64_t end = at + bytes; at < end && at + 4 <= ram_size; at += 4)
+        say('v', seq, at, word_at(at));
+}
+
+/* A ring from this block to its Link, if that is written, and on to where Links lead that weren't followed yet */
+static void watch_ring(uint64_t at)
+{
+    for (int segment = 0; segment < SEGMENTS; segment++) {
+        uint64_t end = (at | (BOUNDARY - 1)) + 1, link = at;
+        while (link < end && (word_at(link + 12) >> 10 != LINK || !long_at(link)))
+            link += BLOCK;
+        uint64_t bytes = link == end ? AHEAD : link + BLOCK - at;
+        bool known = link == end || (watched_at(at) && watched_at(link));
+        watch(at, bytes);
+        say_found(at, bytes);
+        if (known)
+            break;
+        at = long_at(link) & ~(uint64_t)(BLOCK - 1);
+    }
+}
+
+static void watch_input_context(uint64_t at)
+{
+    watch(at, 33 * context_size);
+    say_found(at, 33 * context_size);
+    for (int i = 1; i <= 31; i++)
+        if (word_at(at + 4) >> i & 1)
+            watch_ring(long_at(at + (i + 1) * context_size + 8) & ~(uint64_t)15);
+}
+
+static void follow_fetch(uint64_t at, uint64_t pointer, uint32_t control)
+{
+    uint32_t type = control >> 10 & 63;
+    watch(at, AHEAD);
+    if (type == LINK || type == SET_TR_DEQUEUE)
+        watch_ring(pointer & ~(uint64_t)15);
+    if (type == ADDRESS_DEVICE)
+        watch(long_at(((oper[12] & ~63u) | (uint64_t)oper[13] << 32) + 8 * (control >> 24)), 32 * context_size);
+    if (type >= ADDRESS_DEVICE && type <= EVALUATE_CONTEXT && !(type == CONFIGURE_ENDPOINT && control & DECONFIGURE))
+        watch_input_context(pointer & ~(uint64_t)15);
+}
+
+static void follow_event_ring(void)
+{
+    uint64_t table = (runtime[12] & ~63u) | (uint64_t)runtime[13] << 32;
+    watch(table, BLOCK);
+    events.base = long_at(table) & ~(uint64_t)63;
+    events.count = word_at(table + 8) & 0xffff;
+    events.at = 0;
+    events.cycle = 1;
+    watch(events.base, events.count * BLOCK);
+    say_found(events.base, events.count * BLOCK);
+}
+
+static void follow_line(const char *line)
+{
+    unsigned off, value, control;
+    uint64_t at, pointer;
+    writes += strstr(line, "_write ") != NULL;
+    if (sscanf(line, "usb_xhci_oper_write off %x, val %x", &off, &value) == 2 && off < 64) {
+        oper[off / 4] = value;
+        if (off == 0 && value & 2)
+            events.count = 0;
+        if (off == 0x18 || off == 0x1c)
+            watch_ring((oper[6] & ~63u) | (uint64_t)oper[7] << 32);
+        if (off == 0x30 || off == 0x34)
+            watch((oper[12] & ~63u) | (uint64_t)oper[13] << 32, DCBAA);
+    } else if (sscanf(line, "usb_xhci_runtime_write off %x, val %x", &off, &value) == 2 && off < 64) {
+        runtime[off / 4] = value;
+        if (off == 0x30 || off == 0x34)
+            follow_event_ring();
+    } else if (sscanf(line, "usb_xhci_fetch_trb addr %" SCNx64 ", %*[^,], p %" SCNx64 ", s %*x, c %x", &at, &pointer, &control) == 3) {
+        follow_fetch(at, pointer, control);
+    } else if (sscanf(line, "usb_xhci_cap_read off %x, ret %x", &off, &value) == 2 && off == 0x10) {
+        context_size = value & 4 ? 64 : 32;
+    }
+}
+
+/* What QEMU has written to its log since the last time */
+static void follow_log(void)
+{
+    static char line[512];
+    for (;;) {
+        long start = ftell(log_file);
+        if (!fgets(line, sizeof line, log_file))
+            break;
+        if (!strchr(line, '\n')) {
+            fseek(log_file, start, SEEK_SET);
+            break;
+        }
+        if (!strncmp(line, "usb_xhci_", 9))
+            follow_line(line);
+    }
+    clearerr(log_file);
+}
+
+/* The word at `at` as it was moved, where QEMU tells that; else what stands in memory now */
+static uint32_t moved_word(qemu_plugin_meminfo_t info, uint64_t phys, uint64_t at, unsigned size)
+{
+    if (!qemu_plugin_mem_get_value || at < phys || at + 4 > phys + size || size > 8)
+        return word_at(at);
+    qemu_plugin_mem_value v = qemu_plugin_mem_get_value(info);
+    return v.type == VALUE_U32 ? v.data.u32 : v.type == VALUE_U64 ? v.data.u64 >> 8 * (at - phys) : word_at(at);
+}
+
+/* A store to any device: it was to the controller where QEMU has just told of a register write */
+static void device_stored(uint64_t phys, unsigned size)
+{
+    writes = 0;
+    follow_log();
+    if (writes)
+        registers = phys & ~(uint64_t)(REGISTERS - 1);
+    if (writes || (registers && phys - registers >= CAPABILITIES && phys - registers < DOORBELLS_END))
+        say('d', seq, phys, size);
+}
+
+static void stored(uint64_t at, uint32_t word)
+{
+    struct store s = { seq, at, word };
+    history[next++ % history_size] = s;
+    if (watched[at / PAGE])
+        say('w', seq, at, word);
+}
+
+/* A store, or the part of it that lies in one page: pages side by side may be apart in memory */
+static void stored_part(qemu_plugin_meminfo_t info, uint64_t vaddr, unsigned size, bool whole)
+{
+    struct qemu_plugin_hwaddr *hw = qemu_plugin_get_hwaddr(info, vaddr);
+    if (!hw)
+        return;
+    uint64_t phys = qemu_plugin_hwaddr_phys_addr(hw);
+    if (qemu_plugin_hwaddr_is_io(hw)) {
+        if (phys >= DEVICES)
+            device_stored(phys, size);
+        return;
+    }
+    for (uint64_t at = phys & ~(uint64_t)3; at < phys + size && at + 4 <= ram_size; at += 4)
+        stored(at, whole ? moved_word(info, phys, at, size) : word_at(at));
+}
+
+/* A load of the next event's Cycle bit, by the place in the page alone: few loads go further */
+static bool may_read_event(uint64_t vaddr, unsigned size)
+{
+    uint64_t wanted = (events.base + events.at * BLOCK + 12) % PAGE, from = vaddr % PAGE;
+    return events.count && from <= wanted && wanted < from + size;
+}
+
+static void loaded(qemu_plugin_meminfo_t info, uint64_t vaddr, unsigned size)
+{
+    struct qemu_plugin_hwaddr *hw = qemu_plugin_get_hwaddr(info, vaddr);
+    uint64_t place = events.base + events.at * BLOCK, wanted = place + 12;
+    if (!hw || qemu_plugin_hwaddr_is_io(hw))
+        return;
+    uint64_t phys = qemu_plugin_hwaddr_phys_addr(hw);
+    if (phys > wanted || wanted >= phys + size || (moved_word(info, phys, wanted, size) & 1) != events.cycle)
+        return;
+    char line[128];
+    snprintf(line, sizeof line, "xr e %" PRIx64 " %" PRIx64 " %x %x %x %x\n", ++seq, place,
+             word_at(place), word_at(place + 4), word_at(place + 8), word_at(wanted));
+    qemu_plugin_outs(line);
+    if (++events.at == events.count) {
+        events.at = 0;
+        events.cycle ^= 1;
+    }
+}
+
+static void moved(unsigned int cpu, qemu_plugin_meminfo_t info, uint64_t vaddr, void *data)
+{
+    unsigned size = 1u << qemu_plugin_mem_size_shift(info);
+    if (!qemu_plugin_mem_is_store(info)) {
+        if (may_read_event(vaddr, size))
+            loaded(info, vaddr, size);
+        return;
+    }
+    unsigned first = PAGE - vaddr % PAGE;
+    seq++;
+    stored_part(info, vaddr, size < first ? size : first, size <= first);
+    if (size > first)
+        stored_part(info, vaddr + first, size - first, false);
+}
+
+static void translated(qemu_plugin_id_t id, struct qemu_plugin_tb *tb)
+{
+    for (size_t i = 0; i < qemu_plugin_tb_n_insns(tb); i++)
+        qemu_plugin_register_vcpu_mem_cb(qemu_plugin_tb_get_insn(tb, i), moved, QEMU_PLUGIN_CB_NO_REGS, QEMU_PLUGIN_MEM_RW, NULL);
+}
+
+static void ended(qemu_plugin_id_t id, void *data)
+{
+    char line[40];
+    snprintf(line, sizeof line, "xr end %" PRIx64 "\n", seq);
+    qemu_plugin_outs(line);
+}
+
+static bool map_ram(const char *path)
+{
+    struct stat st;
+    int fd = open(path, O_RDONLY);
+    if (fd < 0 || fstat(fd, &st))
+        return false;
+    ram_size = st.st_size;
+    ram = mmap(NULL, ram_size, PROT_READ, MAP_SHARED, fd, 0);
+    close(fd);
+    return ram != MAP_FAILED;
+}
+
+static int refuse(const char *why)
+{
+    fprintf(stderr, "xrecord: %s\n", why);
+    return 1;
+}
+
+__attribute__((visibility("default"))) int qemu_plugin_install(qemu_plugin_id_t id, const qemu_info_t *info, int argc, char **argv)
+{
+    for (int i = 0; i < argc; i++) {
+        if (!strncmp(argv[i], "ram=", 4) && !map_ram(argv[i] + 4))
+            return refuse("the file of the guest's memory can't be mapped");
+        if (!strncmp(argv[i], "log=", 4))
+            log_file = fopen(argv[i] + 4, "r");
+        if (!strncmp(argv[i], "history=", 8))
+            history_size = strtoull(argv[i] + 8, NULL, 0);
+    }
+    if (!info->system_emulation || info->system.max_vcpus != 1)
+        return refuse("a machine of exactly one CPU is needed");
+    if (!ram || !log_file || !history_size)
+        return refuse("ram=FILE and log=FILE are needed");
+    watched = calloc(ram_size / PAGE + 1, sizeof *watched);
+    history = calloc(history_size, sizeof *history);
+    if (!watched || !history)
+        return refuse("no memory for the history of stores");
+    qemu_plugin_register_vcpu_tb_trans_cb(id, translated);
+    qemu_plugin_register_atexit_cb(id, ended, NULL);
+    return 0;
+}

@@ -1,0 +1,183 @@
+"""The rings of a run: their segments, found by their Links, and the positions of their blocks (xHCI 4.9.2)."""
+from bisect import bisect_left
+
+import blocks
+
+MOST_RINGS, MOST_SEGMENTS, MOST_BLOCKS, BOUNDARY = 256, 64, 4096, 0x10000
+
+
+class Ring:
+    def __init__(self, number, kind, segments):
+        self.number, self.kind, self.segments = number, kind, segments
+        self.data, self.links = [], []  # addresses of data places, of Links
+        for start, count in segments:
+            data = count if kind == 'evt' else count - 1
+            self.data += [start + 16 * i for i in range(data)]
+            self.links += [] if kind == 'evt' else [start + 16 * data]
+        self.place = {at: i for i, at in enumerate(self.data)}
+        crossed = 0
+        self.crossing = {}  # by a Link's address: the least crossing over it
+        for (start, count), link in zip(segments, self.links):
+            crossed += count - 1
+            self.crossing[link] = crossed
+
+    def line(self):
+        return f'ring {self.number:02x} {self.kind} ' + ' '.join(f'{start:016x}:{count:04x}' for start, count in self.segments)
+
+    def holds(self, at):
+        return any(start <= at < start + 16 * count for start, count in self.segments)
+
+    def cycle(self, position):
+        return 1 - position // len(self.data) % 2
+
+    def least(self, at, floor):
+        """The least position of the data place at `at`, or the least crossing of the Link there, that isn't below `floor`."""
+        lap = len(self.data)
+        if at in self.place:
+            return floor + (self.place[at] - floor) % lap
+        return floor + (self.crossing[at] - floor) % lap or lap
+
+
+class Links:
+    """Every Link that was ever seen in memory: where it led to, and when."""
+
+    def __init__(self, memory):
+        self.states = {}
+        for at in memory.entries:
+            if at % 16 == 12 and any(self.is_link(entry.word) for entry in memory.entries[at]):
+                self.observe(memory, at - 12)
+        self.places = sorted(self.states)
+
+    def is_link(self, control):
+        return control >> 10 == blocks.LINK
+
+    def observe(self, memory, at):
+        keys = sorted({entry.key for word in (0, 4, 12) for entry in memory.entries.get(at + word, [])})
+        states = []
+        for key in keys:
+            words = memory.block(at, key)
+            if self.is_link(words[3]) and blocks.target(words):
+                states.append((key, blocks.target(words)))
+        if states:
+            self.states[at] = states
+
+    def between(self, start, end):
+        return self.places[bisect_left(self.places, start):bisect_left(self.places, end)]
+
+
+class Finder:
+    """Gives each ring that is named its segments; `blocks_option` is the count where a Link isn't written."""
+
+    def __init__(self, areas, memory, fetched, blocks_option):
+        self.areas, self.memory, self.option = areas, memory, blocks_option
+        self.fetched = fetched  # by address, when a block was first fetched
+        self.links = Links(memory)
+        self.rings, self.notes = [], []
+        self.cut = self.why = None  # the key of the last row, where memory gets other rings than the header can say
+        self.find()
+
+    def find(self):
+        transfer = [use for use in self.areas.rings if use.what == 'xfer']
+        for use in [use for use in self.areas.rings if use.what != 'xfer'] + transfer:
+            ring = next((ring for ring in self.rings if ring.holds(use.start)), None)
+            if ring and self.shared(ring, use):
+                self.see_again(ring, use)
+            else:
+                self.see_new(use, self.areas.segments if use.what == 'evt' else self.segments_of(use))
+        self.notes += [self.why] if self.cut else []
+
+    def see_new(self, use, segments):
+        if any(self.overlap(ring, segments) for ring in self.rings):
+            self.end_at(use, f'memory of an earlier ring is used for another one at {use.start:#x}')
+        elif len(self.rings) == MOST_RINGS:
+            self.end_at(use, f'the ring at {use.start:#x} is one more than the {MOST_RINGS} that a trace may have')
+        else:
+            self.rings.append(Ring(len(self.rings), use.what, segments))
+
+    def shared(self, ring, use):
+        """Whether this use names the ring's first block, or another one while the ring is in use."""
+        return use.start == ring.segments[0][0] or any(
+            other.lives_with(use) for other in self.areas.rings if other is not use and ring.holds(other.start))
+
+    def see_again(self, ring, use):
+        """A ring that has been used and is bound once more: its positions go on counting, so no row can say what it holds now."""
+        earlier = any(other.bound and ring.holds(other.start) and other.named < use.named for other in self.areas.rings)
+        if earlier and any(key < use.named for at, key in self.fetched.items() if ring.holds(at)):
+            self.end_at(use, f'the ring at {use.start:#x} was used before and is bound anew')
+
+    def end_at(self, use, why):
+        if self.cut is None or use.named < self.cut:
+            self.cut, self.why = use.named, why + ': the trace ends with the command that names it'
+
+    def overlap(self, ring, segments):
+        return any(a < d + 16 * n and d < a + 16 * m for a, m in ring.segments for d, n in segments)
+
+    def segments_of(self, use):
+        """Every segment that a Link ever led to, in the order in which the last Links lead."""
+        found = self.linked(use)
+        starts, last = [use.start], {}
+        for start in starts:
+            for target in found[start][1] if start in found else []:
+                last[start] = target
+                if target not in starts and len(starts) < MOST_SEGMENTS:
+                    starts.append(target)
+        ordered = [use.start]
+        while last.get(ordered[-1]) and last[ordered[-1]] not in ordered:
+            ordered.append(last[ordered[-1]])
+        if len(starts) > len(ordered):
+            self.notes.append(f'the ring at {use.start:#x} has lost segments: they stand last in its line')
+        ordered += [start for start in starts if start not in ordered]
+        return [(start, (found[start][0] - start) // 16 + 1 if start in found else self.guess(start, use)) for start in ordered]
+
+    def linked(self, use):
+        """The Link of each segment of a ring with the targets it ever had: one from which Links lead back to the first segment."""
+        candidates = {}
+        waiting = [use.start]
+        while waiting and len(candidates) < 4 * MOST_SEGMENTS:
+            start = waiting.pop()
+            candidates[start] = [(link, self.targets(link, use)) for link in self.links.between(start + 16, self.bound(start, use))
+                                 if link % 16 == start % 16]
+            waiting += [to for link, targets in candidates[start] for to in targets if to not in candidates and to not in waiting]
+        closed, before = {use.start}, 0
+        while len(closed) > before:
+            before = len(closed)
+            closed |= {start for start, links in candidates.items() for link, targets in links if closed.intersection(targets)}
+        return {start: (link, targets) for start, links in candidates.items()
+                for link, targets in reversed(links) if closed.intersection(targets)}
+
+    def targets(self, link, use):
+        """Where the block led to while the ring was used and it was a Link."""
+        life = self.memory.life(link + 12, use.named, use.ended)
+        return [target for key, target in self.links.states[link]
+                if life and key >= life[0].key and not (use.ended and key >= use.ended)]
+
+    def bound(self, start, use):
+        """Where the next area in memory begins, at most the next 64 KB boundary."""
+        end = start - start % BOUNDARY + BOUNDARY
+        own = [other for other in self.areas.rings if use.what == 'xfer' and (other.slot, other.index) == (use.slot, use.index)]
+        others = [area.start for area in self.areas.fixed + self.areas.rings if area not in own and area.lives_with(use)]
+        return min([end] + [other for other in others if other > start])
+
+    def guess(self, start, use):
+        """The count of a segment whose Link was never written."""
+        end = self.bound(start, use)
+        used = max((at - start) // 16 + 2 for at in [start, *self.fetched] if start <= at < end)
+        linked = self.linked_counts()
+        if self.option:
+            why, count = 'as the option says', self.option
+        elif len(linked) == 1 and min(linked) >= used:
+            why, count = 'as all rings have whose Link was', min(linked)
+        else:
+            power = max(16, 1 << (used - 1).bit_length())
+            why, count = 'the least power of two that holds what was fetched', min(power, (end - start) // 16, MOST_BLOCKS)
+        self.notes.append(f'the Link of the segment at {start:#x} was never written: it is taken to have {count} blocks, {why}')
+        return max(count, 2)
+
+    def linked_counts(self):
+        """The counts of all first segments of this run whose Link was written."""
+        counts = set()
+        for use in self.areas.rings:
+            found = {} if use.what == 'evt' else self.linked(use)
+            if use.start in found:
+                counts.add((found[use.start][0] - use.start) // 16 + 1)
+        return counts

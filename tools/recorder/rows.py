@@ -1,0 +1,72 @@
+"""The rows of a run before descriptors are declared: writes to the areas, registers, doorbells and events read."""
+from collections import namedtuple
+
+from commands import events
+from qemu_log import Bell, Seen
+
+# made_up: a `w` row for a word that no store was seen to leave; if_set: to be left out where the trace's memory has 0 there
+Row = namedtuple('Row', 'key kind fields made_up if_set', defaults=(False, False))
+
+
+def text(row):
+    if row.kind == 'w':
+        return 'w %016x %08x' % row.fields
+    if row.kind == 'reg':
+        return 'reg %s %016x' % row.fields
+    if row.kind == 'db':
+        return 'db %02x %02x' % row.fields
+    if row.kind == 'ev':
+        return 'ev %08x %08x %08x %08x' % row.fields
+    number, words = row.fields
+    return f'sub {number:02x} ' + ' '.join(f'{word:08x}' for word in words)
+
+
+def writes(areas, rings, memory, cut):
+    """A row for each store to a word of an area while the area lives."""
+    rows = {}
+    for start, length, named, ended, mixed in stretches(areas, rings, cut):
+        for at in range(start, start + length, 4):
+            for i, entry in enumerate(memory.life(at, named, ended)):
+                if mixed and entry.found and entry.found[0] > named[0]:
+                    continue
+                if_set = i == 0 and entry.word == 0 and entry.key < named
+                known = rows.get((at, entry.key))
+                if not known or known.if_set:
+                    rows[at, entry.key] = Row(entry.key, 'w', (at, entry.word), entry.found is not None, if_set)
+    return list(rows.values())
+
+
+def stretches(areas, rings, cut):
+    """What is looked at, from when to when, and whether the controller writes there too; of a ring that is named at `cut` nothing."""
+    for area in areas.fixed:
+        yield area.start, area.length, area.named, area.ended, area.what.startswith('device context')
+    for use in areas.rings:
+        for ring in rings:
+            if ring.holds(use.start) and (cut is None or use.named < cut):
+                for start, count in ring.segments:
+                    yield start, 16 * count, use.named, use.ended, ring.kind == 'evt'
+
+
+def collected(run, registers, areas, rings, memory, cut):
+    """All rows in order, up to the row that stops the controller or the one at `cut`."""
+    rows = [Row(row.key, 'reg', (row.name, row.value)) for row in registers]
+    rows += [Row(item.key, 'db', (item.slot, item.target)) for item in run.items if isinstance(item, Bell)]
+    rows += [Row(item.key, 'ev', item.words) for item in run.items if isinstance(item, Seen)]
+    end = min(run.end, cut or run.end)
+    rows = [row for row in rows + writes(areas, rings, memory, cut) if row.key <= end]
+    rows.sort(key=lambda row: row.key)
+    return needed(rows, [area for area in areas.fixed if area.what.startswith('device context') and area.ended])
+
+
+def needed(rows, left):
+    """Stores of 0 from before an area was named count only where something else may stand: `left` are old device contexts."""
+    memory, kept = {}, []
+    for row in rows:
+        if row.kind == 'w':
+            at, word = row.fields
+            if row.if_set and not memory.get(at) and not any(
+                    area.ended < row.key and area.start <= at < area.start + area.length for area in left):
+                continue
+            memory[at] = word
+        kept.append(row)
+    return kept

@@ -1,0 +1,82 @@
+"""The recorded controller's own steps as a schedule: a look for each block fetched, a post for each event, beside the rows.
+
+A fetch of QEMU's main loop is only known to lie between two stores to registers: it is put where memory first has its words.
+"""
+import blocks
+from qemu_log import Fetch, Post
+
+
+class Schedule:
+    def __init__(self, rows, items, rings):
+        self.rows = rows
+        self.owner = {at: ring for ring in rings for at in ring.data + ring.links if ring.kind != 'evt'}
+        self.items = [item for item in items if isinstance(item, (Fetch, Post))]
+        self.next = 0            # the first item whose step isn't written yet
+        self.lines = []
+        self.memory = {}
+        self.cycle = 1           # the command ring's
+        self.taken = {}          # by ring: (line, address) of the looks of its transfers
+        self.fetched = self.other_words = self.not_followed = 0
+        for row in rows:
+            self.before(row)
+            self.lines.append('row')
+            if row.kind == 'w':
+                self.memory[row.fields[0]] = row.fields[1]
+        self.write_until(None, True)
+
+    def before(self, row):
+        """The steps before this row. A store to a register, or an event that is read, waits for all of them."""
+        if row.kind != 'sub':
+            self.write_until(row.key, row.kind != 'w')
+
+    def write_until(self, key, all_of_them):
+        while self.next < len(self.items) and (key is None or self.items[self.next].key < key):
+            item = self.items[self.next]
+            if isinstance(item, Post):
+                self.post(item)
+            elif not self.fetch(item, all_of_them):
+                return
+            self.next += 1
+
+    def fetch(self, item, now):
+        """Whether the fetch has its step, or needs none."""
+        ring = self.owner.get(item.at)
+        if ring is None:
+            self.not_followed += 1
+            return True
+        same = all(self.memory.get(item.at + 4 * i, 0) == word for i, word in enumerate(item.words))
+        waits = ring.kind == 'cmd' and blocks.cycle(item.words) != self.cycle
+        if waits and not same:
+            return True
+        if not same and not now:
+            return False
+        self.fetched += 1
+        self.other_words += not same
+        if ring.kind == 'cmd':
+            self.cycle ^= not waits and blocks.kind(item.words) == blocks.LINK and blocks.toggles(item.words)
+        else:
+            self.taken.setdefault(ring.number, []).append((len(self.lines), item.at))
+        self.lines.append(f'look {ring.number:02x}')
+        return True
+
+    def post(self, item):
+        if item.interrupter:
+            return
+        kind, at = blocks.kind(item.words), blocks.pointer(item.words)
+        stops = blocks.code(item.words) in blocks.HALTING_CODES + blocks.STOPPED_CODES
+        if kind == blocks.TRANSFER_EVENT and stops and at in self.owner:
+            self.give_back(self.owner[at].number, at)
+        name = {blocks.TRANSFER_EVENT: 'report', blocks.COMMAND_COMPLETION: 'finish'}.get(kind, 'other')
+        self.lines.append(name + ' %08x %08x %08x %08x' % item.words)
+
+    def give_back(self, number, at):
+        """What QEMU had fetched beyond the block at which it halted or stopped is no take."""
+        looks = self.taken.get(number, [])
+        last = max((i for i, (line, where) in enumerate(looks) if where == at), default=None)
+        if last is not None:
+            for line, where in looks[last + 1:]:
+                self.lines[line] = None
+        self.taken[number] = []
+
+    def text(self):
+        return 'xsched 1\n' + ''.join(line + '\n' for line in self.lines if line)
