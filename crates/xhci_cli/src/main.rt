@@ -5,45 +5,61 @@ mod answer;
 mod checker;
 mod command_line;
 mod decode;
+mod explain;
 mod run;
+mod tell;
 #[cfg(test)]
 mod tests;
 mod writer;
 
 use answer::{Answer, Status};
 use decode::run_decode;
-use run::{run_check, run_write, tell};
-use std::env;
+use explain::Asked;
+use run::{run_check, run_write};
+use std::alloc::AllocError;
 use std::fs::File;
 use std::process::ExitCode;
+use std::{env, io};
+use tell::{tell, tell_failure};
 
 fn main(rt: HostRuntime) -> ExitCode {
-    match obey(&rt) {
+    let status = match obey(&rt) {
         Ok(code) => code,
-        Err(fault) => {
-            let status = tell(&fault, &mut rt.stdout(), &mut rt.stderr());
+        Err(error) => {
+            let asked = Asked {
+                input: "the command line",
+                explains: false,
+            };
+            let status = tell_failure(
+                rt.alloc(),
+                &asked,
+                error,
+                &mut rt.stdout(),
+                &mut rt.stderr(),
+            );
             ExitCode::from(status.number())
         }
-    }
+    };
+    status
 }
 
 /// Does what the command line says.
-fn obey(rt: &HostRuntime) -> Result<ExitCode, Answer> {
+fn obey(rt: &HostRuntime) -> io::Result<ExitCode> {
     let alloc = rt.alloc();
     let words: Vec<String> = env::args(rt)?.collect(alloc)?;
     let command = command_line::command(alloc)?;
     match command.try_get_matches_from(words.as_slice()) {
         Ok(matches) => {
             let status = if let Some(words) = command_line::block_words(&matches) {
-                run_decode(alloc, &words, &mut rt.stdout(), &mut rt.stderr())
+                run_decode(alloc, false, &words, &mut rt.stdout(), &mut rt.stderr())
             } else if command_line::is_write(&matches) {
-                write_at(rt, command_line::plan_path(&matches))?
+                write_at(rt, command_line::plan_path(&matches))
             } else {
-                check_at(rt, command_line::trace_path(&matches))?
+                check_at(rt, command_line::trace_path(&matches))
             };
             Ok(ExitCode::from(status.number()))
         }
-        Err(error) if error.kind() == clap::error::ErrorKind::OutOfMemory => Err(Answer::Memory),
+        Err(error) if error.kind() == clap::error::ErrorKind::OutOfMemory => Err(AllocError.into()),
         Err(error) => {
             error.print(rt)?;
             Ok(ExitCode::from(error.exit_code() as u8))
@@ -52,29 +68,37 @@ fn obey(rt: &HostRuntime) -> Result<ExitCode, Answer> {
 }
 
 /// Checks the trace in a file, or on standard input.
-fn check_at(rt: &HostRuntime, path: Option<&str>) -> Result<Status, Answer> {
+fn check_at(rt: &HostRuntime, path: Option<&str>) -> Status {
     let alloc = rt.alloc();
     let mut out = rt.stdout();
     let mut err = rt.stderr();
+    let asked = Asked {
+        input: path.unwrap_or("standard input"),
+        explains: false,
+    };
     match path {
-        Some(path) => {
-            let mut file = File::open(rt, path)?;
-            Ok(run_check(alloc, &mut file, &mut out, &mut err))
-        }
-        None => Ok(run_check(alloc, &mut rt.stdin(), &mut out, &mut err)),
+        Some(path) => match File::open(rt, path) {
+            Ok(mut file) => run_check(alloc, &asked, &mut file, &mut out, &mut err),
+            Err(error) => tell_failure(alloc, &asked, error, &mut out, &mut err),
+        },
+        None => run_check(alloc, &asked, &mut rt.stdin(), &mut out, &mut err),
     }
 }
 
 /// Writes the trace of the plan in a file, or on standard input.
-fn write_at(rt: &HostRuntime, path: Option<&str>) -> Result<Status, Answer> {
+fn write_at(rt: &HostRuntime, path: Option<&str>) -> Status {
     let alloc = rt.alloc();
     let mut out = rt.stdout();
     let mut err = rt.stderr();
+    let asked = Asked {
+        input: path.unwrap_or("standard input"),
+        explains: false,
+    };
     match path {
-        Some(path) => {
-            let mut file = File::open(rt, path)?;
-            Ok(run_write(alloc, &mut file, &mut out, &mut err))
-        }
-        None => Ok(run_write(alloc, &mut rt.stdin(), &mut out, &mut err)),
+        Some(path) => match File::open(rt, path) {
+            Ok(mut file) => run_write(alloc, &asked, &mut file, &mut out, &mut err),
+            Err(error) => tell_failure(alloc, &asked, error, &mut out, &mut err),
+        },
+        None => run_write(alloc, &asked, &mut rt.stdin(), &mut out, &mut err),
     }
 }
