@@ -85,11 +85,11 @@ pub fn note_on_words(
     Ok(String::new(alloc))
 }
 
-/// Why an input can't be opened or read, as the system says it.
+/// Why an input can't be opened or read, as the system says it; want of memory is told without.
 pub fn note_on_failure(alloc: Global, asked: &Asked, error: io::Error) -> Result<String, AllocError>
     ensures { IfOk result (λ note. IsNote asked.now.explains (string_bytes note)) }
 {
-    if !asked.explains {
+    if !asked.explains || error.kind() == io::ErrorKind::OutOfMemory {
         return Ok(String::new(alloc));
     }
     let input = asked.input;
