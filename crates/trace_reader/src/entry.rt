@@ -13,8 +13,8 @@ use crate::fault::{LineError, LineFault};
 use guest_memory::Addr;
 use line_text::{Fields, u8_of, u16_of, u32_of, u64_of};
 use std::alloc::Global;
-use trb::{Block, Blocks, RingKind};
 use traces::{Register, Row};
+use trb::{Block, Blocks, RingKind};
 
 /// What a line behind the header says.
 #[derive(Drop)]

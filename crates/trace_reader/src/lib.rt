@@ -20,7 +20,8 @@ pub use print::{print_trace, with_ring, with_sub, with_write};
 pub use read::read_trace;
 pub use schedules::{print_schedule, read_schedule};
 pub use traces::{
-    Header, Plan, PlanLine, PlanLines, Register, Ring, Rings, Row, Rows, Schedule, Step, Steps, Trace,
+    Header, Plan, PlanLine, PlanLines, Register, Ring, Rings, Row, Rows, Schedule, Step, Steps,
+    Trace,
 };
 
 #[cfg(test)]

@@ -11,8 +11,8 @@ use crate::line::{MOST_BLOCKS, MOST_LINES, content_of};
 use line_text::{Fields, Line, Survey, u8_of, u64_of};
 use segments::RingShape;
 use std::alloc::Global;
-use trb::{Blocks, RingKind};
 use traces::{PlanLine, Ring};
+use trb::{Blocks, RingKind};
 
 /// The ring of a plan's second line.
 pub fn plan_ring(alloc: Global, line: &Line) -> Result<Ring, LineError>

@@ -11,8 +11,8 @@ use guest_memory::Addr;
 use line_text::{push_u8, push_u16, push_u32, push_u64};
 use segments::Segment;
 use std::alloc::{AllocError, Global};
-use trb::Block;
 use traces::{Header, Ring, Row, Trace};
+use trb::Block;
 
 /// The text of a trace, with its numbers in lower case.
 pub fn print_trace(alloc: Global, trace: &Trace) -> Result<Vec<u8>, AllocError>

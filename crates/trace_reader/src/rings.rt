@@ -4,8 +4,8 @@ ghost use Rattle.segments.specs.Places.{touches};
 ghost use Rattle.traces.specs.Header.{clash, is_command_kind, is_event_kind};
 
 use segments::RingShape;
-use trb::RingKind;
 use traces::Ring;
+use trb::RingKind;
 
 /// A ring can't stand beside one of these.
 pub fn clashes_with_one(ring: &Ring, others: &[Ring]) -> bool
