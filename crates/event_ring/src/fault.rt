@@ -1,4 +1,7 @@
-ghost use Rattle.std.specs.Prelude.{◌≡◌};
+ghost use Rattle.std.specs.Prelude.{◌≡◌, Some, codes};
+
+use std::error::Error;
+use std::fmt;
 
 /// The Event Ring has no room for one more event.
 #[derive(Clone, Copy, Debug, PartialEq, Eq)]
@@ -13,6 +16,16 @@ impl NoRoom {
     }
 }
 
+impl fmt::Display for NoRoom {
+    ghost output = { λ _. Some (codes "NoRoom") };
+
+    fn fmt<W: fmt::Write>(&self, f: &mut fmt::Formatter<W>) -> fmt::Result {
+        f.write_str("NoRoom")
+    }
+}
+
+impl Error for NoRoom {}
+
 /// No controller posts such an event now.
 #[derive(Clone, Copy, Debug, PartialEq, Eq)]
 pub struct ImpossibleEvent;
@@ -26,6 +39,16 @@ impl ImpossibleEvent {
     }
 }
 
+impl fmt::Display for ImpossibleEvent {
+    ghost output = { λ _. Some (codes "ImpossibleEvent") };
+
+    fn fmt<W: fmt::Write>(&self, f: &mut fmt::Formatter<W>) -> fmt::Result {
+        f.write_str("ImpossibleEvent")
+    }
+}
+
+impl Error for ImpossibleEvent {}
+
 /// ERDP would name no event place up to the position that is read next (xHCI 4.9.4).
 #[derive(Clone, Copy, Debug, PartialEq, Eq)]
 pub struct BadErdp;
@@ -38,3 +61,13 @@ impl BadErdp {
         22
     }
 }
+
+impl fmt::Display for BadErdp {
+    ghost output = { λ _. Some (codes "BadErdp") };
+
+    fn fmt<W: fmt::Write>(&self, f: &mut fmt::Formatter<W>) -> fmt::Result {
+        f.write_str("BadErdp")
+    }
+}
+
+impl Error for BadErdp {}

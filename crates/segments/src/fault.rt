@@ -2,13 +2,16 @@ ghost use Rattle.std.specs.Prelude.{◌≡◌};
 ghost use Rattle.segments.specs.Shape.{shape_fault_number};
 
 use std::alloc::AllocError;
+use thiserror::Error;
 
 /// Why segments make no ring shape.
-#[derive(Clone, Copy, Debug, PartialEq, Eq)]
+#[derive(Clone, Copy, Debug, Error, PartialEq, Eq)]
 pub enum ShapeFault {
     /// The segments break a rule of shapes.
+    #[error("segments that make no ring")]
     Shape,
     /// A growth of memory was refused.
+    #[error("memory is wanted")]
     Memory,
 }
 

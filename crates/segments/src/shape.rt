@@ -175,6 +175,16 @@ impl RingShape {
         None
     }
 
+    /// How many Links the ring has: one a segment, and an event ring none.
+    pub fn links(&self) -> u32
+        ensures { result ≡ length (links self.now) }
+    {
+        match self.kind {
+            RingKind::Evt => 0,
+            RingKind::Cmd | RingKind::Xfer => self.segments.len() as u32,
+        }
+    }
+
     /// The address of the Link of a segment.
     pub fn link(&self, segment: u32) -> u64
         requires { segment < length (links self.now) }

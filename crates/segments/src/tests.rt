@@ -134,3 +134,27 @@ fn the_numbers_of_faults(rt: HostRuntime) {
     assert_eq!(rt; ShapeFault::Shape.number(), 5);
     assert_eq!(rt; ShapeFault::Memory.number(), 30);
 }
+
+#[test]
+fn says_why_there_is_no_shape(rt: HostRuntime) -> Result<(), Fail> {
+    let fault = ShapeFault::Shape;
+    assert_eq!(rt;
+        format!(in rt.alloc(); "{fault}")?.as_str(),
+        "segments that make no ring"
+    );
+    let fault = ShapeFault::Memory;
+    assert_eq!(rt;
+        format!(in rt.alloc(); "{fault}")?.as_str(),
+        "memory is wanted"
+    );
+    Ok(())
+}
+
+#[test]
+fn counts_links(rt: HostRuntime) -> Result<(), Fail> {
+    let ring = RingShape::new(rt.alloc(), RingKind::Xfer, &[(0x80000, 2), (0x80020, 2)])?;
+    assert_eq!(rt; ring.links(), 2);
+    let events = RingShape::new(rt.alloc(), RingKind::Evt, &[(0x20000, 16)])?;
+    assert_eq!(rt; events.links(), 0);
+    Ok(())
+}

@@ -4,6 +4,7 @@ ghost use Rattle.trace_reader.specs.Faults.{fault_name, fault_number};
 use segments::ShapeFault;
 use std::alloc::{AllocError, AllocFailed};
 use std::fmt;
+use thiserror::Error;
 
 /// What is wrong with a line; the least number that holds is told.
 #[derive(Clone, Copy, Debug, PartialEq, Eq)]
@@ -56,12 +57,16 @@ impl fmt::Display for LineFault {
     }
 }
 
+impl std::error::Error for LineFault {}
+
 /// Why no text was read.
-#[derive(Debug, Drop, PartialEq, Eq)]
+#[derive(Debug, Drop, Error, PartialEq, Eq)]
 pub enum ReadFault {
     /// The first bad line, from 1, and its fault.
+    #[error("line {line}: {code}")]
     Line { line: u32, code: LineFault },
     /// A growth of memory was refused.
+    #[error("memory is wanted")]
     Memory,
 }
 

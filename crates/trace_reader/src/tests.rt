@@ -393,3 +393,20 @@ fn tells_the_least_fault_of_a_schedule(rt: HostRuntime) {
         bad(2, LineFault::Number)
     );
 }
+
+#[test]
+fn says_why_no_text_was_read(rt: HostRuntime) -> Result<(), AllocError> {
+    let fault = ReadFault::Line {
+        line: 3,
+        code: LineFault::Shape,
+    };
+    assert_eq!(rt;
+        format!(in rt.alloc(); "{fault}")?.as_str(),
+        "line 3: Shape"
+    );
+    assert_eq!(rt;
+        format!(in rt.alloc(); "{}", ReadFault::Memory)?.as_str(),
+        "memory is wanted"
+    );
+    Ok(())
+}

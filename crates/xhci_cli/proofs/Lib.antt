@@ -12,4 +12,4 @@ pub mod CleanStands
 pub mod Walking
 pub mod Walks
 pub mod Telling
-pub mod TellingPlans
+pub mod Told

@@ -1,78 +1,63 @@
--- What an answer of each status is
-use Rattle.std.proofs.Common.{◌≡◌, ◌∙◌, ℕ, List, Option, Some, None, Ok, Err, ap, sym, arith}
-use Rattle.ownership_checker.specs.declared.refusal.Refusal.{Refusal}
-use Rattle.traces.specs.declared.trace.Trace.{Trace}
-use Rattle.xhci_cli.specs.Answers.{IsFirstBad, IsReadFault, IsTextOf, IsTold, IsVerdict, answer_of_fault, exit_number, status_of}
-use Rattle.trace_reader.specs.Entries.{IfBadLine, text_of}
-use Rattle.trace_reader.specs.Reading.{trace_of}
-use Rattle.trace_reader.specs.declared.fault.ReadFault.{ReadFault}
-use Rattle.trace_reader.specs.declared.fault.ReadFault.TheVariants.{Line, Memory as OutOfMemory}
-use Rattle.std.specs.Prelude.{IfSome}
-use Rattle.xhci_cli.specs.declared.answer.Answer.{Answer}
-use Rattle.xhci_cli.specs.declared.answer.Answer.TheVariants.{Accepted, Refused, Unfollowed, BadLine, BadWord, Memory, Device}
-use Rattle.xhci_cli.specs.declared.answer.Status.TheVariants.{Clean, Unclean, Unreadable, Unanswered}
-use Rattle.trace_reader.specs.declared.fault.LineFault.{LineFault}
+-- What the bytes of a stream are behind one write after another
+use Rattle.std.proofs.Common.{◌≡◌, ◌∙◌, ℕ, ◌+◌, ◌-◌, ◌≤◌, List, [], ◌++◌, take, drop, length, Bool, true, false, Option, Some, None, Result, Ok, Err, ap, sym, subst, arith, append_assoc, length-drop}
+use Rattle.std.proofs.lemmas.List.{drop-take, take-append-drop, take-take, take_all}
+use Rattle.std.proofs.Math.Seq.{take-length}
+use Rattle.std.proofs.lemmas.Grind.{common_steps}
+use Rattle.std.specs.Io.KnownBytes.{Appends, Keeps}
+use Rattle.std.specs.Prelude.{IfOk, IsOk}
+use Rattle.xhci_cli.specs.Answers.{device_line}
+use Rattle.xhci_cli.specs.Telling.{Begins, IsNote}
 
--- an answer of the status of a clean trace tells of leases
-pub told_leases : (a : Answer) (trace : Trace) (known before after : Option (List ℕ)) → status_of a ≡ Clean → IsTextOf known trace → IsVerdict a trace → IsTold a before after
-    → (t : Trace) × (leases : ℕ) × IsTextOf known t × IsVerdict (Accepted leases) t × IsTold (Accepted leases) before after
-told_leases (Accepted leases) trace known before after same text right told = (trace, leases, text, right, told)
-told_leases (Refused row refusal) trace known before after same text right told = let bad : 1 ≡ 0 = ap exit_number same in absurd (omega (arith, bad))
-told_leases (Unfollowed line refusal) trace known before after same text right told = absurd right
-told_leases (BadLine line fault) trace known before after same text right told = absurd right
-told_leases BadWord trace known before after same text right told = absurd right
-told_leases Memory trace known before after same text right told = let bad : 3 ≡ 0 = ap exit_number same in absurd (omega (arith, bad))
-told_leases Device trace known before after same text right told = absurd right
+pub appends_nothing : (known : Option (List ℕ)) → Appends known known []
+appends_nothing None = tt
+appends_nothing (Some xs) = grind (arith, common_steps)
 
--- an answer of the status of a broken rule tells of a row
-pub told_row : (a : Answer) (trace : Trace) (known before after : Option (List ℕ)) → status_of a ≡ Unclean → IsTextOf known trace → IsVerdict a trace → IsTold a before after
-    → (t : Trace) × (row : ℕ) × (refusal : Refusal) × IsTextOf known t × IsVerdict (Refused row refusal) t × IsTold (Refused row refusal) before after
-told_row (Accepted leases) trace known before after same text right told = let bad : 0 ≡ 1 = ap exit_number same in absurd (omega (arith, bad))
-told_row (Refused row refusal) trace known before after same text right told = (trace, row, refusal, text, right, told)
-told_row (Unfollowed line refusal) trace known before after same text right told = absurd right
-told_row (BadLine line fault) trace known before after same text right told = absurd right
-told_row BadWord trace known before after same text right told = absurd right
-told_row Memory trace known before after same text right told = let bad : 3 ≡ 1 = ap exit_number same in absurd (omega (arith, bad))
-told_row Device trace known before after same text right told = absurd right
+pub kept : (a b c : Option (List ℕ)) (bs : List ℕ) → Appends a b bs → Keeps b c → Appends a c bs
+kept None b c bs h k = tt
+kept (Some xs) None c bs h k = absurd h
+kept (Some xs) (Some ys) None bs h k = absurd k
+kept (Some xs) (Some ys) (Some zs) bs h k = k ∙ h
 
--- an answer of the status of a text that is no trace tells of its first bad line
-pub told_bad_line : (a : Answer) (known before after : Option (List ℕ)) → status_of a ≡ Unreadable → IsReadFault known a → IsTold a before after
-    → (line : ℕ) × (fault : LineFault) × IsFirstBad known line fault × IsTold (BadLine line fault) before after
-told_bad_line (Accepted leases) known before after same right told = absurd right
-told_bad_line (Refused row refusal) known before after same right told = absurd right
-told_bad_line (Unfollowed line refusal) known before after same right told = absurd right
-told_bad_line (BadLine line fault) known before after same right told = (line, fault, right, told)
-told_bad_line BadWord known before after same right told = absurd right
-told_bad_line Memory known before after same right told = let bad : 3 ≡ 2 = ap exit_number same in absurd (omega (arith, bad))
-told_bad_line Device known before after same right told = let bad : 3 ≡ 2 = ap exit_number same in absurd (omega (arith, bad))
+pub joined : (a b c : Option (List ℕ)) (bs cs : List ℕ) → Appends a b bs → Appends b c cs → Appends a c (bs ++ cs)
+joined None b c bs cs h k = tt
+joined (Some xs) None c bs cs h k = absurd h
+joined (Some xs) (Some ys) None bs cs h k = absurd k
+joined (Some xs) (Some ys) (Some zs) bs cs h k = k ∙ ap (λ l. l ++ cs) h ∙ append_assoc xs bs cs
 
--- of an input that holds no trace neither a verdict is told
-pub no_verdict : (a : Answer) (known : Option (List ℕ)) → IsReadFault known a → (status_of a ≡ Clean → ⊥) × (status_of a ≡ Unclean → ⊥)
-no_verdict (Accepted leases) known right = absurd right
-no_verdict (Refused row refusal) known right = absurd right
-no_verdict (Unfollowed line refusal) known right = absurd right
-no_verdict (BadLine line fault) known right = ((λ same. let bad : 2 ≡ 0 = ap exit_number same in absurd (omega (arith, bad))), (λ same. let bad : 2 ≡ 1 = ap exit_number same in absurd (omega (arith, bad))))
-no_verdict BadWord known right = absurd right
-no_verdict Memory known right = ((λ same. let bad : 3 ≡ 0 = ap exit_number same in absurd (omega (arith, bad))), (λ same. let bad : 3 ≡ 1 = ap exit_number same in absurd (omega (arith, bad))))
-no_verdict Device known right = ((λ same. let bad : 3 ≡ 0 = ap exit_number same in absurd (omega (arith, bad))), (λ same. let bad : 3 ≡ 1 = ap exit_number same in absurd (omega (arith, bad))))
+pub take_both : (bytes : List ℕ) (done n : ℕ) → take done bytes ++ take n (drop done bytes) ≡ take (done + n) bytes
+take_both bytes done n =
+    let fewer : done ≤ done + n = omega arith in
+    ap (λ l. l ++ take n (drop done bytes)) (sym (take-take done (done + n) bytes fewer)) ∙ ap (λ l. take done (take (done + n) bytes) ++ l) (sym (drop-take done n bytes))
+    ∙ take-append-drop done (take (done + n) bytes)
 
--- a device or memory that failed
-pub unanswered : (a : Answer) (known : Option (List ℕ)) → status_of a ≡ Unanswered → IsReadFault known a
-unanswered (Accepted leases) known same = let bad : 0 ≡ 3 = ap exit_number same in absurd (omega (arith, bad))
-unanswered (Refused row refusal) known same = let bad : 1 ≡ 3 = ap exit_number same in absurd (omega (arith, bad))
-unanswered (Unfollowed line refusal) known same = let bad : 1 ≡ 3 = ap exit_number same in absurd (omega (arith, bad))
-unanswered (BadLine line fault) known same = let bad : 2 ≡ 3 = ap exit_number same in absurd (omega (arith, bad))
-unanswered BadWord known same = let bad : 2 ≡ 3 = ap exit_number same in absurd (omega (arith, bad))
-unanswered Memory known same = tt
-unanswered Device known same = tt
+-- a write that took some of the bytes behind those that stand there
+pub more : (a b c : Option (List ℕ)) (bytes : List ℕ) (done n : ℕ) → Appends a b (take done bytes) → Appends b c (take n (drop done bytes)) →
+    Appends a c (take (done + n) bytes)
+more a b c bytes done n h k = subst (λ (l : List ℕ). Appends a c l) (take_both bytes done n) (joined a b c (take done bytes) (take n (drop done bytes)) h k)
 
--- what was read of the text that the input held
-pub read_text : (known : Option (List ℕ)) (text : List ℕ) (trace : Trace) → IfSome known (λ bytes. text ≡ bytes) → trace_of text ≡ Ok (text_of trace) → IsTextOf known trace
-read_text None text trace same is = tt
-read_text (Some bytes) text trace same is = ap trace_of (sym same) ∙ is
+-- what is left behind the bytes that are done
+pub rest_of : (bytes : List ℕ) (done : ℕ) → take (length bytes - done) (drop done bytes) ≡ drop done bytes
+rest_of bytes done = let enough : length (drop done bytes) ≤ length bytes - done = omega (arith, length-drop done bytes) in take_all (length bytes - done) (drop done bytes) enough
 
-pub unread_text : (known : Option (List ℕ)) (text : List ℕ) (fault : ReadFault) → IfSome known (λ bytes. text ≡ bytes) → IfBadLine fault (λ line code. trace_of text ≡ Err (line, code)) →
-    IsReadFault known (answer_of_fault fault)
-unread_text known text OutOfMemory same is = tt
-unread_text None text (Line line code) same is = tt
-unread_text (Some bytes) text (Line line code) same is = ap trace_of (sym same) ∙ is
+-- all of the bytes
+pub all_of : (a b : Option (List ℕ)) (bytes : List ℕ) (done : ℕ) → length bytes ≤ done → Appends a b (take done bytes) → Appends a b bytes
+all_of a b bytes done le h = subst (λ (l : List ℕ). Appends a b l) (take_all done bytes le) h
+
+pub begun : (a b : Option (List ℕ)) (bytes : List ℕ) → Appends a b bytes → Begins a b bytes
+begun a b bytes h = (length bytes, subst (λ (l : List ℕ). Appends a b l) (sym (take-length bytes)) h)
+
+-- what is told of standard output, with the explanation that could be had
+pub device_noted : {N F : Type 0} (bytes : N → List ℕ) (explains : Bool) (note : Result N F) (errs : List ℕ) (a b : Option (List ℕ)) → IsOk note → IfOk note (λ n. IsNote explains (bytes n)) →
+    IfOk note (λ n. errs ≡ device_line ++ bytes n) → Begins a b errs → (x : List ℕ) × IsNote explains x × Begins a b (device_line ++ x)
+device_noted bytes explains (Ok n) errs a b ok plain is h = (bytes n, plain, subst (λ (l : List ℕ). Begins a b l) is h)
+device_noted bytes explains (Err e) errs a b ok plain is h = absurd (never ok)
+  where
+    never : false ≡ true → ⊥
+    never e = cc
+
+-- a beginning of the first text, and nothing behind it
+pub noted : (a b : Option (List ℕ)) (text : List ℕ) → Begins a b text → Begins a b (text ++ [])
+noted a b text h = subst (λ (l : List ℕ). Begins a b l) (append_nil_is text) h
+  where
+    append_nil_is : (xs : List ℕ) → xs ≡ xs ++ []
+    append_nil_is xs = grind (arith, common_steps)

@@ -1,15 +1,18 @@
--- The text of each answer, how the program ends on it, and what it writes
-use Rattle.std.specs.Prelude.{◌≡◌, ℕ, List, [], ◌∷◌, ◌++◌, Option, Some, None, Ok, Err, codes, decimal}
-use Rattle.std.specs.Io.KnownBytes.{Appends}
+-- The text of each answer, how the program ends on it, and what answer is right
+use Rattle.std.specs.Prelude.{◌≡◌, ℕ, List, [], ◌∷◌, ◌++◌, Bool, true, false, if◌then◌else◌, Option, Some, None, Ok, Err, codes, decimal}
+use Rattle.std.specs.declared.io.ErrorKind.{ErrorKind}
+use Rattle.std.specs.declared.io.ErrorKind.TheVariants.{OutOfMemory as NoMemory}
 use Rattle.ring_knowledge.specs.Known.{nothing}
 use Rattle.traces.specs.declared.trace.Trace.{Trace}
 use Rattle.trace_reader.specs.declared.fault.LineFault.{LineFault}
 use Rattle.trace_reader.specs.Entries.{text_of as spelled}
 use Rattle.trace_reader.specs.Reading.{trace_of}
+use Rattle.trace_reader.specs.Values.{block_of}
 use Rattle.ownership_checker.specs.Profile.{verdict_within}
 use Rattle.ownership_checker.specs.Refusal as rule
 use Rattle.xhci_cli.specs.Walk.{WalksRead}
 use Rattle.xhci_cli.specs.Tracking.{IsAccepted, IsFirstOfAll}
+use Rattle.xhci_cli.specs.Decoding.{decoded_text}
 use Rattle.trace_reader.specs.Faults.{fault_number, fault_name}
 use Rattle.xhci_cli.specs.PlanRefusals.{refusal_number, refusal_name}
 use Rattle.xhci_cli.specs.declared.writer.fault.PlanFault.{PlanFault}
@@ -17,13 +20,15 @@ use Rattle.xhci_cli.specs.declared.writer.fault.PlanFault.TheVariants.{Line as B
 use Rattle.trace_reader.specs.declared.fault.ReadFault.{ReadFault}
 use Rattle.trace_reader.specs.declared.fault.ReadFault.TheVariants.{Line, Memory as OutOfMemory}
 use Rattle.xhci_cli.specs.declared.answer.Answer.{Answer}
-use Rattle.xhci_cli.specs.declared.answer.Answer.TheVariants.{Accepted, Refused, Unfollowed, BadLine, BadWord, Memory, Device}
+use Rattle.xhci_cli.specs.declared.answer.Answer.TheVariants.{Accepted, Written, Decoded, Refused, Unfollowed, BadLine, BadWord, Memory, Device}
 use Rattle.xhci_cli.specs.declared.answer.Status.{Status}
 use Rattle.xhci_cli.specs.declared.answer.Status.TheVariants.{Clean, Unclean, Unreadable, Unanswered}
 
 -- the status that goes with an answer
 abbrev pub status_of : Answer → Status
 status_of (Accepted leases) = Clean
+status_of (Written trace) = Clean
+status_of (Decoded block) = Clean
 status_of (Refused row refusal) = Unclean
 status_of (Unfollowed line refusal) = Unclean
 status_of (BadLine line fault) = Unreadable
@@ -38,20 +43,44 @@ exit_number Unclean = 1
 exit_number Unreadable = 2
 exit_number Unanswered = 3
 
--- the text of an answer
+-- an answer of this status goes to standard output; of another one to standard error
+abbrev pub goes_out : Status → Bool
+goes_out Clean = true
+goes_out Unclean = true
+goes_out Unreadable = false
+goes_out Unanswered = false
+
+abbrev pub memory_line : List ℕ
+memory_line = codes "xhcitrace: 30 Memory\n"
+
+abbrev pub device_line : List ℕ
+device_line = codes "xhcitrace: 31 Device\n"
+
+-- the text of an answer, its line feed too
 abbrev pub text_of : Answer → List ℕ
-text_of (Accepted leases) = codes "accepted: " ++ decimal leases ++ codes " leases"
-text_of (Refused row refusal) = codes "row " ++ decimal row ++ codes ": " ++ decimal (rule.number_of refusal) ++ codes " " ++ rule.name_of refusal
-text_of (Unfollowed line refusal) = codes "line " ++ decimal line ++ codes ": " ++ decimal (refusal_number refusal) ++ codes " " ++ refusal_name refusal
-text_of (BadLine line fault) = codes "xhcitrace: line " ++ decimal line ++ codes ": " ++ decimal (fault_number fault) ++ codes " " ++ fault_name fault
-text_of BadWord = codes "xhcitrace: 3 Number"
-text_of Memory = codes "xhcitrace: 30 Memory"
-text_of Device = codes "xhcitrace: 31 Device"
+text_of (Accepted leases) = codes "accepted: " ++ decimal leases ++ codes " leases" ++ 10 ∷ []
+text_of (Written trace) = trace.items
+text_of (Decoded block) = decoded_text block ++ 10 ∷ []
+text_of (Refused row refusal) = codes "row " ++ decimal row ++ codes ": " ++ decimal (rule.number_of refusal) ++ codes " " ++ rule.name_of refusal ++ 10 ∷ []
+text_of (Unfollowed line refusal) = codes "line " ++ decimal line ++ codes ": " ++ decimal (refusal_number refusal) ++ codes " " ++ refusal_name refusal ++ 10 ∷ []
+text_of (BadLine line fault) = codes "xhcitrace: line " ++ decimal line ++ codes ": " ++ decimal (fault_number fault) ++ codes " " ++ fault_name fault ++ 10 ∷ []
+text_of BadWord = codes "xhcitrace: 3 Number\n"
+text_of Memory = memory_line
+text_of Device = device_line
+
+-- what of an answer goes to standard output, and what to standard error
+abbrev pub out_text : Answer → List ℕ
+out_text answer = if goes_out (status_of answer) then text_of answer else []
+
+abbrev pub err_text : Answer → List ℕ
+err_text answer = if goes_out (status_of answer) then [] else text_of answer
 
 -- an answer is right of a trace that was read: its leases, where no row breaks a rule and a walk after any row reads what was
 -- declared; or its first row that is outside the profile or breaks a rule, and the least rule that it breaks
 abbrev pub IsVerdict : Answer → Trace → Type 0
 IsVerdict (Accepted leases) trace = IsAccepted trace.header trace.rows trace.first leases × WalksRead trace.header trace.rows
+IsVerdict (Written text) trace = ⊥
+IsVerdict (Decoded block) trace = ⊥
 IsVerdict (Refused row refusal) trace =
     (verdict_within trace.header nothing trace.first trace.rows ≡ Some (row, refusal)) × IsFirstOfAll trace.header trace.first trace.rows row refusal
 IsVerdict (Unfollowed line refusal) trace = ⊥
@@ -71,6 +100,11 @@ answer_of_plan_fault (BadPlanLine line fault) = BadLine line fault
 answer_of_plan_fault (RefusedLine line refusal) = Unfollowed line refusal
 answer_of_plan_fault NoPlanMemory = Memory
 
+-- what is answered where a file can't be opened or read: want of memory is told as such, each other kind of error as the device's
+abbrev pub answer_of_kind : ErrorKind → Answer
+answer_of_kind NoMemory = Memory
+answer_of_kind _ = Device
+
 -- the known bytes of an input spell the trace; of bytes that aren't known nothing is said
 abbrev pub IsTextOf : Option (List ℕ) → Trace → Type 0
 IsTextOf None trace = Unit {0}
@@ -81,16 +115,27 @@ abbrev pub IsFirstBad : Option (List ℕ) → ℕ → LineFault → Type 0
 IsFirstBad None line fault = Unit {0}
 IsFirstBad (Some bytes) line fault = trace_of bytes ≡ Err (line, fault)
 
--- an answer is right of an input that holds no trace
-abbrev pub IsReadFault : Option (List ℕ) → Answer → Type 0
-IsReadFault known (Accepted leases) = ⊥
-IsReadFault known (Refused row refusal) = ⊥
-IsReadFault known (Unfollowed line refusal) = ⊥
-IsReadFault known (BadLine line fault) = IsFirstBad known line fault
-IsReadFault known BadWord = ⊥
-IsReadFault known Memory = Unit {0}
-IsReadFault known Device = Unit {0}
+-- an answer to an input is right: the verdict on the trace that it holds; or where it holds none its first bad line; or that
+-- memory or the device failed
+abbrev pub IsCheckAnswer : Option (List ℕ) → Answer → Type 0
+IsCheckAnswer known (Accepted leases) = (trace : Trace) × IsTextOf known trace × IsVerdict (Accepted leases) trace
+IsCheckAnswer known (Written text) = ⊥
+IsCheckAnswer known (Decoded block) = ⊥
+IsCheckAnswer known (Refused row refusal) = (trace : Trace) × IsTextOf known trace × IsVerdict (Refused row refusal) trace
+IsCheckAnswer known (Unfollowed line refusal) = ⊥
+IsCheckAnswer known (BadLine line fault) = IsFirstBad known line fault
+IsCheckAnswer known BadWord = ⊥
+IsCheckAnswer known Memory = Unit {0}
+IsCheckAnswer known Device = Unit {0}
 
--- the line of an answer was written behind the bytes before, where these are known
-abbrev pub IsTold : Answer → Option (List ℕ) → Option (List ℕ) → Type 0
-IsTold answer before after = Appends before after (text_of answer ++ 10 ∷ [])
+-- an answer to four words is right: the block that they spell, or that one of them is no word; or that memory or the device failed
+abbrev pub IsBlockAnswer : List ℕ → List ℕ → List ℕ → List ℕ → Answer → Type 0
+IsBlockAnswer a b c d (Accepted leases) = ⊥
+IsBlockAnswer a b c d (Written text) = ⊥
+IsBlockAnswer a b c d (Decoded block) = block_of a b c d ≡ Some block
+IsBlockAnswer a b c d (Refused row refusal) = ⊥
+IsBlockAnswer a b c d (Unfollowed line refusal) = ⊥
+IsBlockAnswer a b c d (BadLine line fault) = ⊥
+IsBlockAnswer a b c d BadWord = block_of a b c d ≡ None
+IsBlockAnswer a b c d Memory = Unit {0}
+IsBlockAnswer a b c d Device = Unit {0}

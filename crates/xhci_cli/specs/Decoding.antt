@@ -1,5 +1,5 @@
 -- The line that tells what a block says: xHCI 4.11.1, 6.4.2
-use Rattle.std.specs.Prelude.{ℕ, ◌==◌, Bool, true, false, List, ◌++◌, Option, codes, decimal, slice_get}
+use Rattle.std.specs.Prelude.{ℕ, ◌==◌, Bool, true, false, List, ◌++◌, codes, decimal}
 use Rattle.std.specs.Int.{w8, w64}
 use Rattle.line_text.specs.Numbers.{digits_of}
 use Rattle.trb.specs.declared.block.Block.{Block}

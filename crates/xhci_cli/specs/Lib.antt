@@ -2,6 +2,7 @@ pub mod Tracking
 pub mod Finding
 pub mod Walk
 pub mod Answers
+pub mod Telling
 pub mod PlanRefusals
 pub mod Plans
 pub mod Decoding

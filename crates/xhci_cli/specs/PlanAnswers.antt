@@ -2,9 +2,10 @@
 use Rattle.std.specs.Prelude.{◌≡◌, ℕ, List, Option, Some, None, Ok, Err}
 use Rattle.trace_reader.specs.declared.fault.LineFault.{LineFault}
 use Rattle.trace_reader.specs.Plans.{PlanText, plan_of}
-use Rattle.xhci_cli.specs.Plans.{plan_refusal}
+use Rattle.trace_reader.specs.Spelling.{printed_trace}
+use Rattle.xhci_cli.specs.Plans.{plan_refusal, plan_trace}
 use Rattle.xhci_cli.specs.declared.answer.Answer.{Answer}
-use Rattle.xhci_cli.specs.declared.answer.Answer.TheVariants.{Accepted, Refused, Unfollowed, BadLine, BadWord, Memory, Device}
+use Rattle.xhci_cli.specs.declared.answer.Answer.TheVariants.{Accepted, Written, Decoded, Refused, Unfollowed, BadLine, BadWord, Memory, Device}
 
 -- the known bytes of an input spell the plan; of bytes that aren't known nothing is said
 abbrev pub IsPlanIn : Option (List ℕ) → PlanText → Type 0
@@ -16,12 +17,15 @@ abbrev pub IsFirstBadInPlan : Option (List ℕ) → ℕ → LineFault → Type 0
 IsFirstBadInPlan None line fault = Unit {0}
 IsFirstBadInPlan (Some bytes) line fault = plan_of bytes ≡ Err (line, fault)
 
--- an answer is right of an input that holds no plan, or one that can't be followed to its end
-abbrev pub IsPlanFault : Option (List ℕ) → Answer → Type 0
-IsPlanFault known (Accepted leases) = ⊥
-IsPlanFault known (Refused row refusal) = ⊥
-IsPlanFault known (Unfollowed line refusal) = (plan : PlanText) × IsPlanIn known plan × (plan_refusal plan ≡ Some (line, refusal))
-IsPlanFault known (BadLine line fault) = IsFirstBadInPlan known line fault
-IsPlanFault known BadWord = ⊥
-IsPlanFault known Memory = Unit {0}
-IsPlanFault known Device = Unit {0}
+-- an answer to an input is right: the trace of the plan that it holds, or the plan's first line that can't be followed; or where
+-- it holds none its first bad line; or that memory or the device failed
+abbrev pub IsPlanAnswer : Option (List ℕ) → Answer → Type 0
+IsPlanAnswer known (Accepted leases) = ⊥
+IsPlanAnswer known (Written text) = (plan : PlanText) × IsPlanIn known plan × (plan_refusal plan ≡ None) × (text.items ≡ printed_trace (plan_trace plan))
+IsPlanAnswer known (Decoded block) = ⊥
+IsPlanAnswer known (Refused row refusal) = ⊥
+IsPlanAnswer known (Unfollowed line refusal) = (plan : PlanText) × IsPlanIn known plan × (plan_refusal plan ≡ Some (line, refusal))
+IsPlanAnswer known (BadLine line fault) = IsFirstBadInPlan known line fault
+IsPlanAnswer known BadWord = ⊥
+IsPlanAnswer known Memory = Unit {0}
+IsPlanAnswer known Device = Unit {0}

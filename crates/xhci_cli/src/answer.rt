@@ -1,18 +1,24 @@
-//! What is answered to a trace, its text, and the exit status that goes with it.
-ghost use Rattle.std.specs.Prelude.{◌≡◌, Some};
+//! What is answered, its text, and the exit status that goes with it.
+ghost use Rattle.std.specs.Prelude.{◌≡◌, ◌++◌, ◌∷◌, [], IfOk, IsOk, OnOk, codes, decimal, string_bytes};
 ghost use Rattle.xhci_cli.specs.Answers.{exit_number, status_of, text_of};
 
+use super::decode::line_of;
 use super::writer::{PlanFault, PlanRefusal};
 use ownership_checker::Refusal;
-use std::alloc::AllocError;
-use std::{fmt, io};
+use std::alloc::{AllocError, Global};
+use std::io;
 use trace_reader::{LineFault, ReadFault};
+use trb::Block;
 
-/// The answer to a trace or a plan.
+/// The answer to a trace, a plan or a block.
 #[derive(Debug, Drop, PartialEq, Eq)]
 pub enum Answer {
     /// The trace is clean, with so many leases.
     Accepted { leases: u64 },
+    /// The trace of a plan, as it is printed.
+    Written { trace: Vec<u8> },
+    /// What the block says.
+    Decoded { block: Block },
     /// The first row that breaks a rule, by its line from 1, and the least rule that it breaks.
     Refused { row: u32, refusal: Refusal },
     /// The first line of a plan that can't be followed, from 1, and why.
@@ -40,12 +46,42 @@ pub enum Status {
     Unanswered,
 }
 
+/// The bytes of a line, its line feed behind them.
+fn ended(line: Result<String, AllocError>) -> Result<Vec<u8>, AllocError>
+    ensures line { OnOk result (IsOk line) }
+    ensures ended { IfOk result (λ bytes. IfOk line (λ text. bytes.items ≡ string_bytes text ++ 10 ∷ [])) }
+{
+    let mut text = line?;
+    text.push_str("\n")?;
+    Ok(text.into_bytes())
+}
+
+/// What is told of a numbered line.
+fn numbered(
+    alloc: Global,
+    head: &str,
+    line: u32,
+    number: u8,
+    name: &str,
+) -> Result<String, AllocError>
+    ensures { IfOk result (λ text. string_bytes text ≡ head.now ++ (decimal line ++ (codes ": " ++ (decimal number ++ (codes " " ++ name.now))))) }
+{
+    format!(in alloc; "{head}{line}: {number} {name}")
+}
+
+/// What is written where memory is wanted: it needs none.
+pub const MEMORY_LINE: &str = "xhcitrace: 30 Memory\n";
+
+/// What is written where a device failed.
+pub const DEVICE_LINE: &str = "xhcitrace: 31 Device\n";
+
 impl Answer {
     pub fn status(&self) -> Status
         ensures { result ≡ status_of self.now }
     {
         match self {
-            Answer::Accepted { .. } => Status::Clean,
+            Answer::Accepted { .. } | Answer::Written { .. } | Answer::Decoded { .. } =>
+                Status::Clean,
             Answer::Refused { .. } | Answer::Unfollowed { .. } => Status::Unclean,
             Answer::BadLine { .. } | Answer::BadWord => Status::Unreadable,
             Answer::Memory | Answer::Device => Status::Unanswered,
@@ -67,28 +103,33 @@ impl Status {
     }
 }
 
-impl fmt::Display for Answer {
-    ghost output = { λ answer. Some (text_of answer) };
-
-    fn fmt<W: fmt::Write>(&self, f: &mut fmt::Formatter<W>) -> fmt::Result {
+impl Answer {
+    /// The text of the answer, with its line feed.
+    pub fn text(self, alloc: Global) -> Result<Vec<u8>, AllocError>
+        ensures { IfOk result (λ text. text.items ≡ text_of self) }
+    {
         match self {
-            Answer::Accepted { leases } => write!(f, "accepted: {leases} leases"),
+            Answer::Accepted { leases } => ended(format!(in alloc; "accepted: {leases} leases")),
+            Answer::Written { trace } => Ok(trace),
+            Answer::Decoded { block } => line_of(alloc, block),
             Answer::Refused { row, refusal } => {
-                let number = refusal.number();
-                write!(f, "row {row}: {number} {refusal}")
-            }
+                ended(numbered(alloc, "row ", row, refusal.number(), refusal.name()))
+            },
             Answer::Unfollowed { line, refusal } => {
-                let number = refusal.number();
-                let name = refusal.name();
-                write!(f, "line {line}: {number} {name}")
-            }
+                ended(numbered(alloc, "line ", line, refusal.number(), refusal.name()))
+            },
             Answer::BadLine { line, fault } => {
-                let number = fault.number();
-                write!(f, "xhcitrace: line {line}: {number} {fault}")
-            }
-            Answer::BadWord => f.write_str("xhcitrace: 3 Number"),
-            Answer::Memory => f.write_str("xhcitrace: 30 Memory"),
-            Answer::Device => f.write_str("xhcitrace: 31 Device"),
+                ended(numbered(
+                    alloc,
+                    "xhcitrace: line ",
+                    line,
+                    fault.number(),
+                    fault.name(),
+                ))
+            },
+            Answer::BadWord => Vec::from_slice(alloc, b"xhcitrace: 3 Number\n"),
+            Answer::Memory => Vec::from_slice(alloc, MEMORY_LINE.as_bytes()),
+            Answer::Device => Vec::from_slice(alloc, DEVICE_LINE.as_bytes()),
         }
     }
 }
@@ -131,9 +172,10 @@ impl From<AllocError> for Answer {
 }
 
 impl From<io::Error> for Answer {
-    ghost use Rattle.xhci_cli.specs.declared.answer.Status.TheVariants.{Unanswered};
+    ghost use Rattle.std.specs.IoError.{error_kind};
+    ghost use Rattle.xhci_cli.specs.Answers.{answer_of_kind};
 
-    ghost from_gives = { λ _ answer. status_of answer ≡ Unanswered };
+    ghost from_gives = { λ error answer. answer ≡ answer_of_kind (error_kind error) };
 
     fn from(error: io::Error) -> Answer {
         match error.kind() {

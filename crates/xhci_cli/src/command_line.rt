@@ -1,30 +1,96 @@
-//! The command line.
+//! The command line: what the program can be asked for, and what it is asked for.
+ghost use Rattle.clap.specs.Matches.{first_value, found_of};
+ghost use Rattle.std.specs.Prelude.{◌≡◌, Some, IfSome, codes};
+ghost use Rattle.std.specs.Option.{option_map};
+
 use crate::decode::BlockWords;
-use clap::{Arg, ArgMatches, Command};
+use clap::error::ErrorKind;
+use clap::{Arg, ArgAction, ArgMatches, Command, Error};
 use std::alloc::{AllocError, Global};
+
+const STATUSES: &str = "\
+Without a command it checks the trace on standard input.
+
+Exit status:
+  0  the trace is accepted; the plan or the block is printed
+  1  a row breaks a rule (row R: C Name), or a line of a plan can't be followed (line L: C Name)
+  2  a line is no line of a trace or a plan (xhcitrace: line L: C Name), a word is no number, or the arguments are wrong
+  3  memory is wanted (xhcitrace: 30 Memory), or a file can't be opened, read or written (xhcitrace: 31 Device)";
+
+const CHECK: &str = "\
+Prints `accepted: N leases`, status 0, or the first row that breaks a rule of ownership as `row R: C Name`, status 1; on
+standard error the first bad line as `xhcitrace: line L: C Name`, status 2; else status 3.
+
+Example:
+  xhcitrace check --explain examples/written_to_owned.xtrace";
+
+const WRITE: &str = "\
+Prints the trace, status 0, or the first line that can't be followed as `line L: C Name`, status 1; on standard error the
+first bad line as `xhcitrace: line L: C Name`, status 2; else status 3.
+
+Example:
+  printf 'xplan 1\\nring 02 xfer 0000000000030000:0004\\nsub 02 00000000 00000000 00000000 00002020\\n' | xhcitrace write -";
+
+const DECODE: &str = "\
+Prints one line, status 0; on standard error that a word isn't 8 hex digits, status 2; else status 3.
+
+Example:
+  xhcitrace decode 00030000 00000000 01000000 01018001";
 
 /// What the program can be asked for.
 pub fn command<'a>(alloc: Global) -> Result<Command<'a>, AllocError> {
-    let trace = Arg::new(alloc, "TRACE").help("The file of the trace [default: standard input]");
     let check = Command::new(alloc, "check")
         .about("Checks a trace against the rules of ownership")
-        .arg(trace)?;
-    let plan = Arg::new(alloc, "PLAN").help("The file of the plan [default: standard input]");
+        .after_help(CHECK)
+        .arg(file(
+            alloc,
+            "TRACE",
+            "The file of the trace; -, or none: standard input",
+        ))?
+        .arg(explain(alloc))?;
     let write = Command::new(alloc, "write")
         .about("Writes the trace of a plan: what a driver writes that declares these descriptors")
-        .arg(plan)?;
+        .after_help(WRITE)
+        .arg(file(
+            alloc,
+            "PLAN",
+            "The file of the plan; -, or none: standard input",
+        ))?
+        .arg(explain(alloc))?;
     let decode = Command::new(alloc, "decode")
         .about("Tells what a block (TRB) of four words says")
+        .after_help(DECODE)
         .arg(word(alloc, "WORD0"))?
         .arg(word(alloc, "WORD1"))?
         .arg(word(alloc, "WORD2"))?
-        .arg(word(alloc, "WORD3"))?;
+        .arg(word(alloc, "WORD3"))?
+        .arg(explain(alloc))?;
     Command::new(alloc, "xhcitrace")
         .about("Checks recorded traces of drivers of USB host controllers (xHCI)")
+        .version("1.0")
+        .after_help(STATUSES)
         .bin_name("xhcitrace")?
         .subcommand(check)?
         .subcommand(write)?
         .subcommand(decode)
+}
+
+/// What is told of arguments that aren't text.
+pub fn not_text(alloc: Global) -> Result<Error, AllocError> {
+    command(alloc)?.error(ErrorKind::InvalidValue, "an argument isn't UTF-8")
+}
+
+fn file<'a>(alloc: Global, name: &'a str, help: &'a str) -> Arg<'a> {
+    Arg::new(alloc, name).help(help)
+}
+
+fn explain<'a>(alloc: Global) -> Arg<'a> {
+    Arg::new(alloc, "explain")
+        .long("explain")
+        .action(ArgAction::SetTrue)
+        .help(
+            "Says in plain words what is wrong, on standard error (as it does where that is a terminal)",
+        )
 }
 
 /// A word of the block that is to be decoded.
@@ -34,9 +100,13 @@ fn word<'a>(alloc: Global, name: &'a str) -> Arg<'a> {
         .required(true)
 }
 
-/// The words of the block that is to be decoded, where the program is asked for that.
-pub fn block_words<'a>(matches: &ArgMatches<'a>) -> Option<BlockWords<'a>> {
-    let decode = matches.subcommand_matches("decode")?;
+/// The words of the block that is to be decoded, in their order.
+pub fn block_words<'a>(decode: &ArgMatches<'a>) -> Option<BlockWords<'a>>
+    ensures first { IfSome result (λ words. Some words.first.now ≡ first_value (found_of decode.now) (codes "WORD0")) }
+    ensures second { IfSome result (λ words. Some words.second.now ≡ first_value (found_of decode.now) (codes "WORD1")) }
+    ensures third { IfSome result (λ words. Some words.third.now ≡ first_value (found_of decode.now) (codes "WORD2")) }
+    ensures fourth { IfSome result (λ words. Some words.fourth.now ≡ first_value (found_of decode.now) (codes "WORD3")) }
+{
     Some(BlockWords {
         first: decode.get_str("WORD0")?,
         second: decode.get_str("WORD1")?,
@@ -45,19 +115,7 @@ pub fn block_words<'a>(matches: &ArgMatches<'a>) -> Option<BlockWords<'a>> {
     })
 }
 
-/// The program is asked to write the trace of a plan.
-pub fn is_write(matches: &ArgMatches) -> bool {
-    matches.subcommand_matches("write").is_some()
-}
-
-/// The file of the plan that is to be written; none: standard input.
-pub fn plan_path<'a>(matches: &ArgMatches<'a>) -> Option<&'a str> {
-    let write = matches.subcommand_matches("write")?;
-    write.get_str("PLAN")
-}
-
-/// The file that is to be checked; none: standard input.
-pub fn trace_path<'a>(matches: &ArgMatches<'a>) -> Option<&'a str> {
-    let check = matches.subcommand_matches("check")?;
-    check.get_str("TRACE")
+/// The file that is named so, where there is one and it isn't standard input.
+pub fn path<'a>(matches: &ArgMatches<'a>, name: &str) -> Option<&'a str> {
+    matches.get_str(name).filter(|path| *path != "-")
 }

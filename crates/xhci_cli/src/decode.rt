@@ -1,13 +1,12 @@
 //! Tells what a block says.
-ghost use Rattle.std.specs.Io.KnownBytes.{Appends};
-ghost use Rattle.std.specs.Prelude.{◌≡◌, ◌++◌, ◌∷◌, [], Some, None, ◌≢◌, OnOk, IfOk};
-ghost use Rattle.trb.specs.declared.block.Block.{Block};
-ghost use Rattle.trace_reader.specs.Values.{block_of};
-ghost use Rattle.xhci_cli.specs.Answers.{IsTold};
+ghost use Rattle.std.specs.Prelude.{◌≡◌, ◌++◌, ◌∷◌, [], false, true, OnOk, IfOk};
+ghost use Rattle.xhci_cli.specs.Answers.{IsBlockAnswer, goes_out};
 ghost use Rattle.xhci_cli.specs.Decoding.{bit_text, decoded_text, event_text, kind_text};
+ghost use Rattle.xhci_cli.specs.Telling.{IsTold};
 
 use crate::answer::{Answer, Status};
-use crate::run::{tell, write_all};
+use crate::explain::note_on_words;
+use crate::tell::tell;
 use line_text::{push_u8, push_u64};
 use std::alloc::{AllocError, Global};
 use std::io::Write;
@@ -26,14 +25,24 @@ pub struct BlockWords<'a> {
 /// Writes what the block of four words says to `out`, and to `err` that one of them isn't 8 hex digits.
 pub fn run_decode<O: Write, E: Write>(
     alloc: Global,
+    explains: bool,
     words: &BlockWords,
     out: &mut O,
     err: &mut E,
 ) -> Status
-    ensures clean { result ≡ Status.Clean → (err.new ≡ err.old)
-        × ((block : Block) × (block_of words.now.first.now words.now.second.now words.now.third.now words.now.fourth.now ≡ Some block) × Appends (O.contents out.old) (O.contents out.new) (decoded_text block ++ 10 ∷ [])) }
-    ensures unreadable { result ≡ Status.Unreadable → (out.new ≡ out.old)
-        × (block_of words.now.first.now words.now.second.now words.now.third.now words.now.fourth.now ≡ None) × IsTold Answer.BadWord (E.contents err.old) (E.contents err.new) }
+    ensures told { (answer : Answer) × IsBlockAnswer words.now.first.now words.now.second.now words.now.third.now words.now.fourth.now answer
+        × IsTold explains answer result (O.contents out.old) (O.contents out.new) (E.contents err.old) (E.contents err.new) }
+    ensures out { result ≡ Status.Unreadable → out.new ≡ out.old }
+    ensures err { explains ≡ false → goes_out result ≡ true → err.new ≡ err.old }
+{
+    let answer = block_answer(words);
+    let note = note_on_words(alloc, explains, words);
+    tell(alloc, explains, answer, note, out, err)
+}
+
+/// The answer to four words.
+fn block_answer(words: &BlockWords) -> Answer
+    ensures { IsBlockAnswer words.now.first.now words.now.second.now words.now.third.now words.now.fourth.now result }
 {
     let block = block_of(
         words.first.as_bytes(),
@@ -42,28 +51,14 @@ pub fn run_decode<O: Write, E: Write>(
         words.fourth.as_bytes(),
     );
     match block {
-        Some(block) => write_block(alloc, block, out, err),
-        None => tell(&Answer::BadWord, out, err),
+        Some(block) => Answer::Decoded { block },
+        None => Answer::BadWord,
     }
 }
 
-/// Writes what a block says.
-fn write_block<O: Write, E: Write>(alloc: Global, block: Block, out: &mut O, err: &mut E) -> Status
-    ensures clean { result ≡ Status.Clean → (err.new ≡ err.old) × Appends (O.contents out.old) (O.contents out.new) (decoded_text block ++ 10 ∷ []) }
-    ensures read { result ≢ Status.Unreadable }
-{
-    match line_of(alloc, block) {
-        Ok(line) => match write_all(&line, out) {
-            Ok(()) => Status::Clean,
-            Err(_) => tell(&Answer::Device, out, err),
-        },
-        Err(error) => tell(&Answer::from(error), out, err),
-    }
-}
-
-/// The line of a block.
+/// The line of a block, with its line feed.
 #[tactic(auto, unfolding(crate::specs::Decoding::decoded_text))]
-fn line_of(alloc: Global, block: Block) -> Result<Vec<u8>, AllocError>
+pub fn line_of(alloc: Global, block: Block) -> Result<Vec<u8>, AllocError>
     ensures { IfOk result (λ line. line.items ≡ decoded_text block ++ 10 ∷ []) }
 {
     let mut line = Vec::new(alloc);

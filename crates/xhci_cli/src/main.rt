@@ -5,76 +5,128 @@ mod answer;
 mod checker;
 mod command_line;
 mod decode;
+mod explain;
 mod run;
+mod tell;
 #[cfg(test)]
 mod tests;
 mod writer;
 
-use answer::{Answer, Status};
+use answer::Status;
+use clap::ArgMatches;
+use command_line::{block_words, path};
 use decode::run_decode;
-use run::{run_check, run_write, tell};
+use explain::Asked;
+use run::{run_check, run_write};
+use std::alloc::AllocError;
 use std::env;
 use std::fs::File;
+use std::io::{self, ErrorKind, IsTerminal};
 use std::process::ExitCode;
+use tell::tell_failure;
 
 fn main(rt: HostRuntime) -> ExitCode {
     match obey(&rt) {
         Ok(code) => code,
-        Err(fault) => {
-            let status = tell(&fault, &mut rt.stdout(), &mut rt.stderr());
+        Err(error) => {
+            let asked = Asked {
+                input: "the command line",
+                explains: rt.stderr().is_terminal(),
+            };
+            let status = tell_failure(
+                rt.alloc(),
+                &asked,
+                error,
+                &mut rt.stdout(),
+                &mut rt.stderr(),
+            );
             ExitCode::from(status.number())
         }
     }
 }
 
 /// Does what the command line says.
-fn obey(rt: &HostRuntime) -> Result<ExitCode, Answer> {
+fn obey(rt: &HostRuntime) -> io::Result<ExitCode> {
     let alloc = rt.alloc();
-    let words: Vec<String> = env::args(rt)?.collect(alloc)?;
-    let command = command_line::command(alloc)?;
-    match command.try_get_matches_from(words.as_slice()) {
-        Ok(matches) => {
-            let status = if let Some(words) = command_line::block_words(&matches) {
-                run_decode(alloc, &words, &mut rt.stdout(), &mut rt.stderr())
-            } else if command_line::is_write(&matches) {
-                write_at(rt, command_line::plan_path(&matches))?
-            } else {
-                check_at(rt, command_line::trace_path(&matches))?
-            };
-            Ok(ExitCode::from(status.number()))
+    let words: Vec<String> = match env::args(rt) {
+        Ok(words) => words.collect(alloc)?,
+        // std reads arguments as text, and takes paths as text
+        Err(error) if error.kind() == ErrorKind::InvalidData => {
+            return usage(rt, command_line::not_text(alloc)?);
         }
-        Err(error) if error.kind() == clap::error::ErrorKind::OutOfMemory => Err(Answer::Memory),
-        Err(error) => {
-            error.print(rt)?;
-            Ok(ExitCode::from(error.exit_code() as u8))
-        }
+        Err(error) => return Err(error),
+    };
+    match command_line::command(alloc)?.try_get_matches_from(words.as_slice()) {
+        Ok(matches) => Ok(ExitCode::from(status_of(rt, &matches).number())),
+        Err(error) => usage(rt, error),
     }
 }
 
+/// Prints what is told of the arguments: help, or that they are wrong.
+fn usage(rt: &HostRuntime, error: clap::Error) -> io::Result<ExitCode> {
+    if error.kind() == clap::error::ErrorKind::OutOfMemory {
+        return Err(AllocError.into());
+    }
+    error.print(rt)?;
+    Ok(ExitCode::from(error.exit_code() as u8))
+}
+
+/// Runs the command that is asked for, by default `check` on standard input.
+fn status_of(rt: &HostRuntime, matches: &ArgMatches) -> Status {
+    if let Some(decode) = matches.subcommand_matches("decode") {
+        if let Some(words) = block_words(decode) {
+            let explains = explains(rt, decode);
+            return run_decode(
+                rt.alloc(),
+                explains,
+                &words,
+                &mut rt.stdout(),
+                &mut rt.stderr(),
+            );
+        }
+    }
+    if let Some(write) = matches.subcommand_matches("write") {
+        return write_at(rt, path(write, "PLAN"), explains(rt, write));
+    }
+    match matches.subcommand_matches("check") {
+        Some(check) => check_at(rt, path(check, "TRACE"), explains(rt, check)),
+        None => check_at(rt, None, rt.stderr().is_terminal()),
+    }
+}
+
+/// What is wrong is told in plain words too: where that is asked for, or a person reads it.
+fn explains(rt: &HostRuntime, matches: &ArgMatches) -> bool {
+    matches.get_flag("explain") || rt.stderr().is_terminal()
+}
+
 /// Checks the trace in a file, or on standard input.
-fn check_at(rt: &HostRuntime, path: Option<&str>) -> Result<Status, Answer> {
+fn check_at(rt: &HostRuntime, path: Option<&str>, explains: bool) -> Status {
     let alloc = rt.alloc();
     let mut out = rt.stdout();
     let mut err = rt.stderr();
+    let input = path.unwrap_or("standard input");
+    let asked = Asked { input, explains };
     match path {
-        Some(path) => {
-            let mut file = File::open(rt, path)?;
-            Ok(run_check(alloc, &mut file, &mut out, &mut err))
-        }
-        None => Ok(run_check(alloc, &mut rt.stdin(), &mut out, &mut err)),
+        Some(path) => match File::open(rt, path) {
+            Ok(mut file) => run_check(alloc, &asked, &mut file, &mut out, &mut err),
+            Err(error) => tell_failure(alloc, &asked, error, &mut out, &mut err),
+        },
+        None => run_check(alloc, &asked, &mut rt.stdin(), &mut out, &mut err),
     }
 }
 
 /// Writes the trace of the plan in a file, or on standard input.
-fn write_at(rt: &HostRuntime, path: Option<&str>) -> Result<Status, Answer> {
+fn write_at(rt: &HostRuntime, path: Option<&str>, explains: bool) -> Status {
     let alloc = rt.alloc();
     let mut out = rt.stdout();
     let mut err = rt.stderr();
+    let input = path.unwrap_or("standard input");
+    let asked = Asked { input, explains };
     match path {
-        Some(path) => {
-            let mut file = File::open(rt, path)?;
-            Ok(run_write(alloc, &mut file, &mut out, &mut err))
-        }
-        None => Ok(run_write(alloc, &mut rt.stdin(), &mut out, &mut err)),
+        Some(path) => match File::open(rt, path) {
+            Ok(mut file) => run_write(alloc, &asked, &mut file, &mut out, &mut err),
+            Err(error) => tell_failure(alloc, &asked, error, &mut out, &mut err),
+        },
+        None => run_write(alloc, &asked, &mut rt.stdin(), &mut out, &mut err),
     }
 }
