@@ -13,7 +13,7 @@ import registers
 import rows as row_list
 from areas import Areas
 from memory import Memory
-from qemu_log import Unsupported, read_log
+from qemu_log import Unsupported, read_log, whole_lines
 from rings import Finder
 from runs import split
 from steps import Schedule
@@ -75,7 +75,7 @@ def main():
     options = parser.parse_args()
     try:
         with open(options.log, errors='replace') as file:
-            traces = convert(file, options.blocks)
+            traces = convert(whole_lines(file), options.blocks)
     except (OSError, Unsupported) as fault:
         sys.exit(f'xrecord: {fault}')
     write(traces, options.out)

@@ -49,18 +49,23 @@ class LogReader:
         self.recording = Recording()
         self.count = 0       # the greatest count so far
         self.waiting = []    # trace lines from a register write on, until the line of its store
-        self.found = None
 
     def read(self, lines):
         for number, line in enumerate(lines):
-            if line.startswith('xr '):
-                self.plugin_line(number, line.split())
-            elif line.startswith('usb_xhci_'):
-                self.trace_line(number, line)
+            try:
+                self.line(number, line)
+            except (ValueError, TypeError, IndexError, KeyError):
+                raise Unsupported(f'line {number + 1} of the log is not understood: {line.strip()}') from None
         for number, make in self.waiting:
             self.recording.items.append(make((self.count, LATER, number)))
         self.recording.items.sort(key=lambda item: item.key)
         return self.recording
+
+    def line(self, number, line):
+        if line.startswith('xr '):
+            self.plugin_line(number, line.split())
+        elif line.startswith('usb_xhci_'):
+            self.trace_line(number, line)
 
     def plugin_line(self, number, fields):
         kind, count = fields[1], int(fields[2], 16)
@@ -112,6 +117,11 @@ class LogReader:
         first = int(match[1], 16 if kind == 'fetch' else 10)
         words = words_of(*(int(match[i], 16) for i in (2, 3, 4)))
         return lambda key: (Fetch if kind == 'fetch' else Post)(key, first, words)
+
+
+def whole_lines(file):
+    """All lines of a log but a last one that breaks off."""
+    return (line for line in file if line.endswith('\n'))
 
 
 def read_log(lines):

@@ -1,7 +1,6 @@
 """The rows of a run before descriptors are declared: writes to the areas, registers, doorbells and events read."""
 from collections import namedtuple
 
-from commands import events
 from qemu_log import Bell, Seen
 
 # made_up: a `w` row for a word that no store was seen to leave; if_set: to be left out where the trace's memory has 0 there

@@ -1,7 +1,7 @@
 """The runs of the controller in a recording: from HCRST, a reset of the machine or power-on to the row that stops it."""
 from collections import namedtuple
 
-from qemu_log import Bell, Found, Page, Reset, Store, Write
+from qemu_log import Found, Page, Reset, Store, Write
 from registers import RESET, RUN, is_command, name_of
 
 # What the driver and the controller did; the key of the row that stops it, or None; of the run's last moment; what to note of it
