@@ -1,11 +1,6 @@
-pub mod Ranges
-pub mod QuietKnowledge
-pub mod QuietRules
-pub mod QuietAnswers
-pub mod QuietLeases
 pub mod RingsApart
-pub mod OneRingOfMany
-pub mod WorkedTraces
-pub mod WorkedLeases
-pub mod Examples
-pub mod WithinProfile
+pub mod HeaderRings
+pub mod Numbers
+pub mod Starts
+pub mod Ranges
+mod WithinProfile

@@ -1,9 +1,4 @@
-//! The rules of ownership, what a clean trace is, its leases, and the law that a clean trace is harmless.
+//! The checker: reads the rows of a trace in order, and tells the first that breaks a rule of ownership, and which.
 #![tactic(auto)]
 
-mod refusal;
-
-pub use refusal::Refusal;
-
-#[cfg(test)]
-mod tests;
+mod finder;
