@@ -1,5 +1,6 @@
 pub mod RingsApart
 pub mod HeaderRings
+pub mod CalmLemmas
 pub mod Numbers
 pub mod Starts
 pub mod Ranges
