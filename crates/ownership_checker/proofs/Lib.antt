@@ -1,5 +1,7 @@
 pub mod RingsApart
 pub mod HeaderRings
+pub mod Tests
+pub mod WordsInside
 pub mod CalmLemmas
 pub mod Numbers
 pub mod Starts

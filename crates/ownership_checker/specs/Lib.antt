@@ -1,5 +1,6 @@
 pub mod Profile
 pub mod LeaseCount
 pub mod Calm
+pub mod OneRing
 pub mod Finding
 pub mod OnLiterals
