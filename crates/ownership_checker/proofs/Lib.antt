@@ -3,6 +3,7 @@ pub mod HeaderRings
 pub mod Tests
 pub mod WordsInside
 pub mod CalmLemmas
+pub mod OneRingHas
 pub mod Numbers
 pub mod Starts
 pub mod Ranges
