@@ -4,6 +4,7 @@ pub mod Tests
 pub mod WordsInside
 pub mod CalmLemmas
 pub mod OneRingHas
+pub mod OpenBefore
 pub mod Numbers
 pub mod Starts
 pub mod Ranges
