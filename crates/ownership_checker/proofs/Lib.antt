@@ -5,6 +5,7 @@ pub mod WordsInside
 pub mod CalmLemmas
 pub mod OneRingHas
 pub mod OpenBefore
+pub mod Begun
 pub mod Numbers
 pub mod Starts
 pub mod Ranges
