@@ -6,6 +6,9 @@ pub mod CalmLemmas
 pub mod OneRingHas
 pub mod OpenBefore
 pub mod Begun
+pub mod FirstBroken
+pub mod WriteRules
+pub mod DeclarationRules
 pub mod Numbers
 pub mod Starts
 pub mod Ranges

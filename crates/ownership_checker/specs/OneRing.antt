@@ -1,12 +1,14 @@
--- What is left of the rules of a write while no command is declared: those of the one ring that has the word
-use Rattle.std.specs.Prelude.{ℕ, ◌||◌, Bool, List, [], ◌∷◌}
+-- What is left of the rules while only declarations and writes come: those of one ring
+use Rattle.std.specs.Prelude.{ℕ, ◌||◌, Bool, List, [], ◌∷◌, ◌++◌, length}
 use Rattle.std.specs.List.{list_any}
+use Rattle.trb.specs.declared.block.Block.{Block}
+use Rattle.trb.specs.Descriptor.{is_bad_descriptor, is_left_out}
 use Rattle.segments.specs.ShapeValue.{Shape}
 use Rattle.segments.specs.Places.{overlap, address_of, link_address}
 use Rattle.segments.specs.RingView.{RingView, leased_positions, leased_crossings, positions_given, crossings_given}
-use Rattle.segments.specs.Givings.{is_other_than_declared, is_not_declared, is_not_whole, leads_wrong, interrupts}
+use Rattle.segments.specs.Givings.{has_no_room, is_other_than_declared, is_not_declared, is_not_whole, leads_wrong, interrupts}
 use Rattle.ownership_rules.specs.Refusal.{Test}
-use Rattle.ownership_rules.specs.declared.refusal.Refusal.TheVariants.{WriteToOwned, NotAsSubmitted, NotDeclared, NotWhole, LinkFault, NotInProfile}
+use Rattle.ownership_rules.specs.declared.refusal.Refusal.TheVariants.{WriteToOwned, NotAsSubmitted, NotDeclared, NotWhole, LinkFault, RingFull, BadDescriptor, NotInProfile}
 
 -- the word lies in a block or a Link of the ring that is under lease
 abbrev pub is_owned : Shape → RingView → ℕ → Bool
@@ -26,3 +28,16 @@ abbrev pub crossing_tests : Shape → (ℕ → ℕ) → ℕ → ℕ → List ℕ
 crossing_tests shape memory a w crossed =
     (LinkFault, list_any (leads_wrong shape memory a w) crossed)
     ∷ (NotInProfile, list_any (interrupts shape memory a w) crossed) ∷ []
+
+-- of a write inside the ring
+abbrev pub word_tests : Shape → RingView → (ℕ → ℕ) → ℕ → ℕ → List Test
+word_tests shape v memory a w =
+    (WriteToOwned, is_owned shape v a)
+    ∷ (position_tests shape v memory a w (positions_given shape v a w) ++ crossing_tests shape memory a w (crossings_given shape v a w))
+
+-- of a declaration on the ring
+abbrev pub room_tests : Shape → RingView → List Block → List Test
+room_tests shape v blocks =
+    (RingFull, has_no_room shape v (length blocks))
+    ∷ (BadDescriptor, is_bad_descriptor shape.kind blocks)
+    ∷ (NotInProfile, is_left_out shape.kind blocks) ∷ []
