@@ -9,6 +9,8 @@ pub mod Begun
 pub mod FirstBroken
 pub mod WriteRules
 pub mod DeclarationRules
+pub mod Given
+pub mod WrongLinks
 pub mod Numbers
 pub mod Starts
 pub mod Ranges

@@ -84,3 +84,7 @@ filter_twice f g (x ∷ xs) = elim (cases_Bool (g x)) [
     ]
   | inr fails ↦ rw fails (filter_twice f g xs)
 ]
+
+pub from_not : (b d : Bool) → not b ≡ d → b ≡ not d
+from_not true d e = ap not e
+from_not false d e = ap not e

@@ -2,5 +2,6 @@ pub mod Profile
 pub mod LeaseCount
 pub mod Calm
 pub mod OneRing
+pub mod Tracking
 pub mod Finding
 pub mod OnLiterals

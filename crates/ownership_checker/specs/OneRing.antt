@@ -2,6 +2,7 @@
 use Rattle.std.specs.Prelude.{ℕ, ◌||◌, Bool, List, [], ◌∷◌, ◌++◌, length}
 use Rattle.std.specs.List.{list_any}
 use Rattle.trb.specs.declared.block.Block.{Block}
+use Rattle.trb.specs.declared.ring_kind.RingKind.{RingKind}
 use Rattle.trb.specs.Descriptor.{is_bad_descriptor, is_left_out}
 use Rattle.segments.specs.ShapeValue.{Shape}
 use Rattle.segments.specs.Places.{overlap, address_of, link_address}
@@ -35,9 +36,10 @@ word_tests shape v memory a w =
     (WriteToOwned, is_owned shape v a)
     ∷ (position_tests shape v memory a w (positions_given shape v a w) ++ crossing_tests shape memory a w (crossings_given shape v a w))
 
+-- of the form of a descriptor
+abbrev pub form_tests : RingKind → List Block → List Test
+form_tests kind blocks = (BadDescriptor, is_bad_descriptor kind blocks) ∷ (NotInProfile, is_left_out kind blocks) ∷ []
+
 -- of a declaration on the ring
 abbrev pub room_tests : Shape → RingView → List Block → List Test
-room_tests shape v blocks =
-    (RingFull, has_no_room shape v (length blocks))
-    ∷ (BadDescriptor, is_bad_descriptor shape.kind blocks)
-    ∷ (NotInProfile, is_left_out shape.kind blocks) ∷ []
+room_tests shape v blocks = (RingFull, has_no_room shape v (length blocks)) ∷ form_tests shape.kind blocks

@@ -1,4 +1,9 @@
 //! The checker: reads the rows of a trace in order, and tells the first that breaks a rule of ownership, and which.
 #![tactic(auto)]
 
+mod fault;
 mod finder;
+mod one_ring;
+mod refusals;
+
+pub use fault::CheckFault;
