@@ -5,4 +5,5 @@ pub mod Registers
 pub mod Transfers
 pub mod Completions
 pub mod Learned
+pub mod RingRecords
 pub mod OnLiterals
