@@ -1,11 +1,12 @@
 -- What a record of one command or transfer ring holds, in terms of what is known of the ring
-use Rattle.std.specs.Prelude.{◌≡◌, ℕ, ◌+◌, ◌<◌, ◌≤◌, ◌%◌, ◌&&◌, ◌||◌, Bool, false, List, [], ◌∷◌, length, slice_index, slice_index_or, sum, nat_lt, max, Option, Some, None}
+use Rattle.std.specs.Prelude.{◌≡◌, ℕ, ◌+◌, ◌<◌, ◌≤◌, ◌%◌, ◌==◌, ◌&&◌, ◌||◌, Bool, false, List, [], ◌∷◌, length, slice_index, slice_index_or, sum, nat_lt, max, Option, Some, None}
 use Rattle.segments.specs.Shape.{IsShape}
 use Rattle.segments.specs.ShapeValue.{Shape}
 use Rattle.segments.specs.Places.{place_count, links, is_crossing}
 use Rattle.segments.specs.RingView.{RingView, floor_number}
 use Rattle.segments.specs.Descriptors.{length_from}
 use Rattle.segments.specs.Givings.{link_of}
+use Rattle.ring_knowledge.specs.Marks.{is_noted}
 use Rattle.ring_knowledge.specs.declared.ring_record.RingRecord.{RingRecord}
 use Rattle.ring_knowledge.specs.declared.ring_record.RingGiving.{RingGiving}
 use Rattle.ring_knowledge.specs.declared.ring_record.RingGiving.TheVariants.{Position, Crossing}
@@ -21,6 +22,11 @@ crossings_of None = []
 crossings_of (Some (Position p)) = []
 crossings_of (Some (Crossing q)) = q ∷ []
 
+-- the number is the one that is named, if one is
+abbrev pub is_the : Option ℕ → ℕ → Bool
+is_the None n = false
+is_the (Some m) n = n == m
+
 -- each number is above 0
 abbrev pub ArePositive : List ℕ → Type 0
 ArePositive [] = Unit {0}
@@ -29,10 +35,6 @@ ArePositive (n ∷ ns) = (0 < n) × ArePositive ns
 -- the least crossing that may be due
 abbrev pub least_crossing : RingView → ℕ
 least_crossing v = max (floor_number v) 1
-
--- number n, which has the mark i, is given: it lies below the least due one, or it is due and its mark is set
-unfoldable pub is_noted : ℕ → ℕ → List Bool → ℕ → ℕ → Bool
-is_noted least count marks i n = nat_lt n least || (nat_lt n (least + count) && slice_index_or marks i false)
 
 -- the record holds what is known of the ring
 pub record FollowsRing (shape : Shape) (v : RingView) (r : RingRecord) : Type 0 where
