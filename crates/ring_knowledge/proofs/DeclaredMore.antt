@@ -1,8 +1,8 @@
 -- A record with one descriptor more follows what is declared with it
 use Rattle.std.proofs.Common.{◌≡◌, ℕ, suc, zero, ◌+◌, ◌-◌, ◌<◌, ◌≤◌, List, [], ◌∷◌, ◌++◌, Bool, true, false, refl, ap, sym, ◌∙◌, arith, length, get_or, set, inl, inr, length-append, subst}
-use Rattle.std.specs.Prelude.{◌==◌, sum, slice_index, replicate, nat_lt}
+use Rattle.std.specs.Prelude.{◌==◌, not, sum, slice_index, replicate, nat_lt, nat_le, take}
 use Rattle.std.proofs.lemmas.List.Sums.{sum_by-cons}
-use Rattle.std.proofs.lemmas.Bool.{cases_eq, cases_lt, ltb-false}
+use Rattle.std.proofs.lemmas.Bool.{cases_eq, cases_lt, ltb-false, lt-ltb, le-ltb, le-leb, lt-leb}
 use Rattle.std.proofs.lemmas.Bool.Decides.{nat_tests}
 use Rattle.std.proofs.lemmas.Grind.{common_steps}
 use Rattle.trb.specs.declared.block.Block.{Block}
@@ -139,3 +139,29 @@ module _ (shape : Shape) (v : RingView) (r : RingRecord) (follows : FollowsRing 
         segments = rw crossed follows.segments;
         crossed = rw crossed follows.crossed;
       }
+
+-- the lengths as the code makes them
+pub lengths_grown : (ls ms : List ℕ) (start len n : ℕ) → start ≡ len → len ≡ length ls → 0 < n → ms ≡ take (start + n) ls ++ replicate (start + n - len) 0 →
+    set ms start n ≡ ls ++ (n ∷ replicate (n - 1) 0)
+lengths_grown ls ms start len n same all some e =
+    let whole : take (start + n) ls ≡ ls = take-all ls (start + n) (omega arith) in
+    let zeros : start + n - len ≡ n = omega arith in
+    let end : start ≡ length ls = same ∙ all in
+    ap (λ xs. set xs start n) (e ∙ ap (λ xs. xs ++ replicate (start + n - len) 0) whole ∙ ap (λ k. ls ++ replicate k 0) zeros)
+    ∙ ap (λ k. set (ls ++ replicate n 0) k n) end ∙ lengths_more ls n some
+  where
+    take-all : (xs : List ℕ) (k : ℕ) → length xs ≤ k → take k xs ≡ xs
+    take-all xs k h = grind (arith, common_steps, h)
+
+-- whether there is room, as the code tests it
+pub room_test : (shape : Shape) (v : RingView) (r : RingRecord) → FollowsRing shape v r → (count len most : ℕ) → len ≡ length r.blocks.items →
+    most ≡ place_count shape - 1 + floor_number v - len → nat_le count most ≡ not (has_no_room shape v count)
+unfolding has_no_room
+room_test shape v r follows count len most len_is most_is =
+    let many : declared v ≡ len = ap length follows.queue ∙ sym len_is in
+    let some = place_count_pos shape follows.allowed in
+    let room = follows.room in
+    elim (cases_lt (place_count shape - 1 + floor_number v) (declared v + count)) [
+      | inl full ↦ lt-leb count most (omega arith) ∙ sym (ap not (lt-ltb (place_count shape - 1 + floor_number v) (declared v + count) full))
+      | inr fits ↦ le-leb count most (omega arith) ∙ sym (ap not (le-ltb (place_count shape - 1 + floor_number v) (declared v + count) fits))
+    ]
