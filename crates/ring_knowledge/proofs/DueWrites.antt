@@ -30,6 +30,10 @@ link_is i v j w e = (cc, cc)
 pub data_no_link : (i v j w : ℕ) → Some (AtData i v) ≡ Some (AtLink j w) → ⊥
 data_no_link i v j w e = cc
 
+-- what was found at an address
+pub found : (shape : Shape) (n a : ℕ) (p q : Place) → n ≡ a → Some p ≡ place_at shape n → p ≡ q → place_at shape a ≡ Some q
+found shape n a p q e f g = ap (λ m. place_at shape m) (sym e) ∙ sym f ∙ ap (λ x. Some x) g
+
 module _ (shape : Shape) (allowed : IsShape shape) (floor : Spot) where
   -- a position that is given
   pub record Gives (p a w : ℕ) : Type 0 where
@@ -70,14 +74,16 @@ module _ (shape : Shape) (allowed : IsShape shape) (floor : Spot) where
       let j : ℕ = found.0 in
       let at : a ≡ link_address shape q + 4 * 3 = eqb-true a (link_address shape q + 12) front.1 in
       let positive : 0 < q = crossing_positive shape q crossing.0 in
-      let low : number floor ≤ q = leb-true (number floor) q crossing.1 in
-      (j, record {
-        from = omega arith;
-        within = ends_within due.1;
-        over = found.1;
-        word_at = ap (λ x. place_at shape x) at ∙ place_at-link_address shape allowed q j 3 found.1 (omega arith);
-        cycle_is = eqb-true (w % 2) (cycle_of shape (q - 1)) parts.1;
-      })
+      let low : number floor ≤ q = leb-true (number floor) q crossing.1 in (
+        j,
+        record {
+          from = omega arith;
+          within = ends_within due.1;
+          over = found.1;
+          word_at = ap (λ x. place_at shape x) at ∙ place_at-link_address shape allowed q j 3 found.1 (omega arith);
+          cycle_is = eqb-true (w % 2) (cycle_of shape (q - 1)) parts.1;
+        },
+      )
     where
       ends_within : (nat_lt q (number floor + place_count shape) || (q == place_count shape && number floor == 0)) ≡ true → q < max (number floor) 1 + place_count shape
       ends_within h =

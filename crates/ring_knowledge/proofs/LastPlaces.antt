@@ -1,5 +1,5 @@
 -- The data place before a Link
-use Rattle.std.proofs.Common.{◌≡◌, ℕ, ◌+◌, ◌-◌, ◌*◌, ◌/◌, ◌%◌, ◌<◌, ◌≤◌, Some, ap, sym, ◌∙◌, arith, length, slice_index}
+use Rattle.std.proofs.Common.{◌≡◌, ℕ, ◌+◌, ◌-◌, ◌*◌, ◌/◌, ◌%◌, ◌<◌, ◌≤◌, Some, None, ap, sym, ◌∙◌, arith, length, slice_index}
 use Rattle.segments.specs.declared.place.Place.{Place}
 use Rattle.segments.specs.declared.place.Place.TheVariants.{Data as AtData, Link as AtLink}
 use Rattle.segments.specs.ShapeValue.{Shape}
@@ -30,13 +30,15 @@ last_place shape is j h =
     let place : slice_index (data_places shape) (slice_index (ends shape) j - 1) ≡ (segment_at shape.segments j).base + 16 * (data_count shape.kind (segment_at shape.segments j) - 1) =
     ap (λ n. slice_index (data_places shape) n) (sym number) ∙ last.1.address in
     let address : slice_index (links shape) j - 16 ≡ (segment_at shape.segments j).base + 16 * (data_count shape.kind (segment_at shape.segments j) - 1) =
-    one_back _ _ _ some link.address in
-    ((slice_index (links shape) j - 16) % 16 / 4, record {
-      address = omega (arith, link.address);
-      some = lap.0;
-      most = lap.1;
-      at = place_at-data shape is (slice_index (ends shape) j - 1) (slice_index (links shape) j - 16) (omega arith) (word_of _ (link_aligned shape is j h)) (omega arith) (omega arith);
-    })
+    one_back _ _ _ some link.address in (
+      (slice_index (links shape) j - 16) % 16 / 4,
+      record {
+        address = omega (arith, link.address);
+        some = lap.0;
+        most = lap.1;
+        at = place_at-data shape is (slice_index (ends shape) j - 1) (slice_index (links shape) j - 16) (omega arith) (word_of _ (link_aligned shape is j h)) (omega arith) (omega arith);
+      },
+    )
   where
     one_back : (a n x : ℕ) → 1 ≤ n → x ≡ a + 16 * n → x - 16 ≡ a + 16 * (n - 1)
     one_back a n x h e = omega arith
@@ -53,3 +55,19 @@ pub last_found : (shape : Shape) (j word : ℕ) → IsLast shape j word → (x i
 last_found shape j word last x i v p address found is_data =
     let same : slice_index (ends shape) j - 1 ≡ i = data_is p (slice_index (ends shape) j - 1) word i v (sym last.at ∙ ap (λ a. place_at shape a) (sym address) ∙ found) is_data in
     omega (arith, last.some)
+
+data_no_link : (p : Place) (i v j w : ℕ) → Some (AtData i v) ≡ Some p → p ≡ AtLink j w → ⊥
+data_no_link p i v j w e f = cc
+
+data_not_none : (i v : ℕ) → Some (AtData i v) ≡ None → ⊥
+data_not_none i v e = cc
+
+-- and neither a Link nor nothing
+pub last_no_link : (shape : Shape) (j word : ℕ) → IsLast shape j word → (x i v : ℕ) (p : Place) → x ≡ slice_index (links shape) j - 16 →
+    place_at shape x ≡ Some p → p ≡ AtLink i v → ⊥
+last_no_link shape j word last x i v p address found is_link =
+    data_no_link p (slice_index (ends shape) j - 1) word i v (sym last.at ∙ ap (λ a. place_at shape a) (sym address) ∙ found) is_link
+
+pub last_somewhere : (shape : Shape) (j word : ℕ) → IsLast shape j word → (x : ℕ) → x ≡ slice_index (links shape) j - 16 → place_at shape x ≡ None → ⊥
+last_somewhere shape j word last x address none =
+    data_not_none (slice_index (ends shape) j - 1) word (sym last.at ∙ ap (λ a. place_at shape a) (sym address) ∙ none)

@@ -1,6 +1,6 @@
 -- A record with the mark of what a write gives follows what is known after the write
-use Rattle.std.proofs.Common.{◌≡◌, ◌≢◌, ℕ, ◌+◌, ◌%◌, ◌<◌, ◌≤◌, List, Bool, true, false, Some, refl, ap, sym, ◌∙◌, arith, inl, inr, length, get_or, set}
-use Rattle.std.specs.Prelude.{◌==◌, ◌&&◌, ◌||◌, max}
+use Rattle.std.proofs.Common.{◌≡◌, ◌≢◌, ℕ, ◌+◌, ◌%◌, ◌<◌, ◌≤◌, List, Bool, true, false, Option, Some, None, refl, ap, sym, ◌∙◌, arith, inl, inr, length, get_or, set}
+use Rattle.std.specs.Prelude.{◌==◌, ◌&&◌, ◌||◌, max, is_some, IfSome}
 use Rattle.std.proofs.Math.ListN.{length-set}
 use Rattle.std.proofs.lemmas.Bool.{cases_Bool, cases_eq, ne_eqb, false≢true}
 use Rattle.segments.specs.ShapeValue.{Shape}
@@ -51,14 +51,14 @@ module _ (shape : Shape) (v : RingView) (r : RingRecord) (follows : FollowsRing 
     room = rw has.blocks follows.room;
     places = ap length has.given_is ∙ places ∙ follows.places;
     given = λ p.
-    ap (λ b. b || gives shape v.floor p a w) (follows.given p)
-    ∙ ap (λ f. is_noted (floor_number v) (place_count shape) r.given.items (p % place_count shape) p || gives shape f p a w) follows.floor
-    ∙ sym (positions p) ∙ ap (λ marks. is_noted (floor_number v) (place_count shape) marks (p % place_count shape) p) (sym has.given_is);
+        ap (λ b. b || gives shape v.floor p a w) (follows.given p)
+        ∙ ap (λ f. is_noted (floor_number v) (place_count shape) r.given.items (p % place_count shape) p || gives shape f p a w) follows.floor
+        ∙ sym (positions p) ∙ ap (λ marks. is_noted (floor_number v) (place_count shape) marks (p % place_count shape) p) (sym has.given_is);
     segments = omega (arith, follows.segments, segments, ap length has.crossed_is);
     crossed = λ q.
-    ap (λ b. b || gives_crossing shape v.floor q a w) (follows.crossed q)
-    ∙ ap (λ f. (is_crossing shape q && is_noted (least_crossing v) (place_count shape) r.crossed.items (link_of shape q) q) || gives_crossing shape f q a w) follows.floor
-    ∙ sym (crossings q) ∙ ap (λ marks. is_crossing shape q && is_noted (least_crossing v) (place_count shape) marks (link_of shape q) q) (sym has.crossed_is);
+        ap (λ b. b || gives_crossing shape v.floor q a w) (follows.crossed q)
+        ∙ ap (λ f. (is_crossing shape q && is_noted (least_crossing v) (place_count shape) r.crossed.items (link_of shape q) q) || gives_crossing shape f q a w) follows.floor
+        ∙ sym (crossings q) ∙ ap (λ marks. is_crossing shape q && is_noted (least_crossing v) (place_count shape) marks (link_of shape q) q) (sym has.crossed_is);
   }
 
   -- a write that gives nothing
@@ -113,3 +113,29 @@ module _ (shape : Shape) (v : RingView) (r : RingRecord) (follows : FollowsRing 
             ∙ sym (ap (λ b. (b && is_noted (least_crossing v) (place_count shape) r.crossed.items (link_of shape q) q) || gives_crossing shape r.floor q a w) none ∙ gives_it q ∙ other)
       ])
       n has
+
+  -- a write of a word of place i: o is the position that it gives
+  pub position_write : (i : ℕ) → i < place_count shape → (o : Option ℕ) → ((p : ℕ) → gives shape r.floor p a w ≡ is_the o p) →
+      IfSome o (λ m. (number r.floor ≤ m) × (m < number r.floor + place_count shape) × (m % place_count shape ≡ i)) →
+      ((q : ℕ) → gives_crossing shape r.floor q a w ≡ false) → is_some o ≡ true →
+      (n : RingRecord) → HasMarks r n (set r.given.items i true) r.crossed.items → FollowsRing shape (changed shape v (Writes a w)) n
+  position_write i inside None gives_it due no_crossing some n has = absurd (false≢true some)
+  position_write i inside (Some m) gives_it due no_crossing some n has = position_noted i m inside due.0 due.1 due.2 gives_it no_crossing n has
+
+  pub other_write : (o : Option ℕ) → ((p : ℕ) → gives shape r.floor p a w ≡ is_the o p) → ((q : ℕ) → gives_crossing shape r.floor q a w ≡ false) → is_some o ≡ false →
+      FollowsRing shape (changed shape v (Writes a w)) r
+  other_write None gives_it no_crossing none = nothing_noted gives_it no_crossing
+  other_write (Some m) gives_it no_crossing none = absurd (false≢true (sym none))
+
+  -- a write of a word of the Link of segment j: o is the crossing that it gives
+  pub crossing_write : (j : ℕ) → j < length (links shape) → (o : Option ℕ) → ((p : ℕ) → gives shape r.floor p a w ≡ false) →
+      ((q : ℕ) → gives_crossing shape r.floor q a w ≡ is_the o q) →
+      IfSome o (λ m. (max (number r.floor) 1 ≤ m) × (m < max (number r.floor) 1 + place_count shape) × (link_crossed shape m ≡ Some j)) → is_some o ≡ true →
+      (n : RingRecord) → HasMarks r n r.given.items (set r.crossed.items j true) → FollowsRing shape (changed shape v (Writes a w)) n
+  crossing_write j inside None no_position gives_it due some n has = absurd (false≢true some)
+  crossing_write j inside (Some m) no_position gives_it due some n has = crossing_noted j m inside due.0 due.1 due.2 no_position gives_it n has
+
+  pub other_link_write : (o : Option ℕ) → ((p : ℕ) → gives shape r.floor p a w ≡ false) → ((q : ℕ) → gives_crossing shape r.floor q a w ≡ is_the o q) → is_some o ≡ false →
+      FollowsRing shape (changed shape v (Writes a w)) r
+  other_link_write None no_position gives_it none = nothing_noted no_position gives_it
+  other_link_write (Some m) no_position gives_it none = absurd (false≢true (sym none))

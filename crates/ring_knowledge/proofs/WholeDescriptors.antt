@@ -1,5 +1,5 @@
 -- Whether the further blocks of a descriptor are given, on a ring that a record follows
-use Rattle.std.proofs.Common.{◌≡◌, ℕ, ◌+◌, ◌-◌, ◌%◌, ◌<◌, ◌≤◌, Bool, true, false, Option, Some, None, refl, ap, sym, ◌∙◌, arith, slice_index}
+use Rattle.std.proofs.Common.{◌≡◌, ℕ, ◌+◌, ◌-◌, ◌%◌, ◌<◌, ◌≤◌, List, Bool, true, false, Option, Some, None, refl, ap, sym, ◌∙◌, arith, slice_index}
 use Rattle.std.specs.Prelude.{◌&&◌, ◌||◌, not, is_some}
 use Rattle.std.specs.List.{list_all, range_with_len}
 use Rattle.segments.specs.ShapeValue.{Shape}
@@ -65,3 +65,8 @@ module _ (shape : Shape) (v : RingView) (r : RingRecord) (follows : FollowsRing 
       some_fails : (b : Bool) → (b ≡ true → ⊥) → b ≡ false
       some_fails true h = absurd (h refl)
       some_fails false h = refl
+
+-- one note, of equal numbers
+pub same_note : (least least' count count' i i' q : ℕ) (marks marks' : List Bool) → least ≡ least' → count ≡ count' → marks ≡ marks' → i ≡ i' →
+    is_noted least count marks i q ≡ is_noted least' count' marks' i' q
+same_note least least' count count' i i' q marks marks' e f g h = cc

@@ -92,7 +92,7 @@ impl RingRecord {
     pub fn owns(&self, shape: &RingShape, at: Addr) -> bool
         ensures { (v : RingView) → FollowsRing shape.now v self.now → result ≡
             (list_any (λ p. overlap at 4 (address_of shape.now p) 16) (leased_positions shape.now v)
-                || list_any (λ q. overlap at 4 (link_address shape.now q) 16) (leased_crossings shape.now v)) }
+            || list_any (λ q. overlap at 4 (link_address shape.now q) 16) (leased_crossings shape.now v)) }
     {
         match shape.place_at(at.get()) {
             Some(Place::Data { place, .. }) => is_marked(&self.given, place as usize),
@@ -114,10 +114,12 @@ impl RingRecord {
                 let position = self.position_by(shape, at, place, index, word)?;
                 Some(RingGiving::Position(position))
             }
-            Some(Place::Link {
-                segment,
-                word: index,
-            }) => {
+            Some(
+                Place::Link {
+                    segment,
+                    word: index,
+                },
+            ) => {
                 if is_marked(&self.crossed, segment as usize) {
                     return None;
                 }
@@ -240,10 +242,12 @@ impl RingRecord {
                     mark(&mut self.given, place as usize);
                 }
             }
-            Some(Place::Link {
-                segment,
-                word: index,
-            }) => {
+            Some(
+                Place::Link {
+                    segment,
+                    word: index,
+                },
+            ) => {
                 if self.crossing_by(shape, at, segment, index, word).is_some() {
                     mark(&mut self.crossed, segment as usize);
                 }
@@ -313,7 +317,8 @@ fn place_before(shape: &RingShape, segment: u32) -> u32
 {
     match shape.place_at(shape.link(segment) - 16) {
         Some(Place::Data { place, .. }) => place,
-        _ => unreachable!(),
+        Some(Place::Link { .. }) => unreachable!(),
+        None => unreachable!(),
     }
 }
 
