@@ -11,6 +11,7 @@ pub mod WriteRules
 pub mod DeclarationRules
 pub mod Given
 pub mod WrongLinks
+pub mod Tracked
 pub mod Numbers
 pub mod Starts
 pub mod Ranges

@@ -2,10 +2,6 @@
 use Rattle.std.proofs.Common.{◌≡◌, ℕ, ◌+◌, ◌%◌, List, [], ◌∷◌, ◌++◌, Bool, true, false, Option, Some, None, refl, ap, sym, ◌∙◌, cond}
 use Rattle.std.specs.Prelude.{◌||◌, map, if◌then◌else◌}
 use Rattle.std.specs.List.{list_any}
-use Rattle.guest_memory.specs.Memory.{put}
-use Rattle.trb.specs.Bits.{is_set}
-use Rattle.trb.specs.Block.{block_at, word}
-use Rattle.segments.specs.ShapeValue.{Shape}
 use Rattle.segments.specs.Places.{touches, link_address}
 use Rattle.segments.specs.RingView.{RingView, positions_given, crossings_given}
 use Rattle.segments.specs.Givings.{is_other_than_declared, is_not_declared, is_not_whole, leads_wrong, interrupts}
@@ -44,34 +40,6 @@ none_broken : (owned other not_declared not_whole wrong interrupting command bus
     ∷ (BadCommand, command) ∷ (Busy, busy || moved) ∷ (NotInProfile, left_out || interrupting) ∷ (BadMove, binding) ∷ [])
     ≡ left_over owned other not_declared not_whole wrong interrupting
 none_broken owned other not_declared not_whole wrong interrupting command busy moved left_out binding a b c d e = rw (a, b, c, d, e) refl
-
--- words alone decide on the tests of a ring
-module _ (shape : Shape) (v : RingView) (before now : ℕ → ℕ) (same : (b : ℕ) → before b ≡ now b) (a w : ℕ) where
-  same_block : (x : ℕ) → block_at (put before a w) x ≡ block_at (put now a w) x
-  same_block x = rw (same x, same (x + 4), same (x + 8), same (x + 12)) refl
-
-  same_other : (p : ℕ) → is_other_than_declared shape v before a w p ≡ is_other_than_declared shape v now a w p
-  unfolding is_other_than_declared
-  same_other p = rw (same_block _) refl
-
-  same_wrong : (q : ℕ) → leads_wrong shape before a w q ≡ leads_wrong shape now a w q
-  unfolding leads_wrong
-  same_wrong q = rw (same_block _) refl
-
-  same_interrupts : (q : ℕ) → interrupts shape before a w q ≡ interrupts shape now a w q
-  unfolding interrupts
-  same_interrupts q = ap (λ b. is_set (word b 3) 5) (same_block (link_address shape q))
-
-  any_equal : (f g : ℕ → Bool) → ((x : ℕ) → f x ≡ g x) → (xs : List ℕ) → list_any f xs ≡ list_any g xs
-  any_equal f g each [] = refl
-  any_equal f g each (x ∷ xs) = rw (each x, any_equal f g each xs) refl
-
-  pub same_tests : word_tests shape v before a w ≡ word_tests shape v now a w
-  same_tests = rw (
-    any_equal (is_other_than_declared shape v before a w) (is_other_than_declared shape v now a w) same_other (positions_given shape v a w),
-    any_equal (leads_wrong shape before a w) (leads_wrong shape now a w) same_wrong (crossings_given shape v a w),
-    any_equal (interrupts shape before a w) (interrupts shape now a w) same_interrupts (crossings_given shape v a w),
-  ) refl
 
 module _ (h : Header) (headed : IsHeader h) (k : Known) (calm : IsCalm h k) (a w : ℕ) where
   no_command : (test : Command → Bool) → some_command h k a w test ≡ false
