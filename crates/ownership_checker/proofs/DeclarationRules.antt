@@ -6,6 +6,7 @@ use Rattle.trb.specs.declared.ring_kind.RingKind.{RingKind}
 use Rattle.trb.specs.declared.ring_kind.RingKind.TheVariants.{Cmd, Evt, Xfer}
 use Rattle.traces.specs.declared.ring.Ring.{Ring}
 use Rattle.traces.specs.declared.header.Header.{Header}
+use Rattle.traces.specs.declared.row.Row.{Row}
 use Rattle.traces.specs.declared.row.Row.TheVariants.{Sub}
 use Rattle.traces.specs.Header.{IsHeader, is_driver_kind, is_event_kind, is_command_kind, ring_with, shape_of}
 use Rattle.ring_knowledge.specs.Known.{Known}
@@ -69,3 +70,8 @@ module _ (h : Header) (k : Known) (calm : IsCalm h k) (id : ℕ) (blocks : List 
 pub unnamed_inside : (h : Header) (id : ℕ) (blocks : List Block) → ((q : Ring) → IsAmong q h.rings → (q.id == id) ≡ false) → is_outside h (Sub id blocks) ≡ false
 unfolding is_outside shape_of
 unnamed_inside h id blocks none = rw (not_found (λ q. q.id == id) h.rings none) refl
+
+-- inside the profile the rules are all rules
+pub broken_inside : (h : Header) (k : Known) (row : Row) → is_outside h row ≡ false → broken_within h k row ≡ broken h k row
+unfolding broken_within
+broken_inside h k row inside = rw inside refl

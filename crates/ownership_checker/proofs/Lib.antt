@@ -12,6 +12,9 @@ pub mod DeclarationRules
 pub mod Given
 pub mod WrongLinks
 pub mod Tracked
+pub mod LeaseCounts
+pub mod Checking
+pub mod Rows
 pub mod Numbers
 pub mod Starts
 pub mod Ranges
