@@ -15,6 +15,8 @@ pub mod Tracked
 pub mod LeaseCounts
 pub mod Checking
 pub mod Rows
+pub mod Fresh
+pub mod OutsideRows
 pub mod Numbers
 pub mod Starts
 pub mod Ranges

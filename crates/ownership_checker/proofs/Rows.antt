@@ -64,9 +64,9 @@ module _ (h : Header) (headed : IsHeader h) where
 
       module _ (kind : ring.shape.kind ≡ Xfer) (rs : List RingRecord) (old : RingRecord) (there : slice_get rs n ≡ Some old) where
         -- one on a transfer ring
-        pub declared_ok : (new : RingRecord) → ((v : RingView) → FollowsRing ring.shape v old → IsDeclared ring.shape v blocks new) →
-            (k : Known) (m : ℕ → ℕ) → Follows h k rs m → IsRowStep h k (Sub id blocks) (set rs n new) m 0
-        declared_ok new checked k m f =
+        pub declared_ok : {X : Type 0} (new : RingRecord) (result : Result X StepFault) → OnOk result ((v : RingView) → FollowsRing ring.shape v old → IsDeclared ring.shape v blocks new) →
+            OnOk result ((k : Known) (m : ℕ → ℕ) → Follows h k rs m → IsRowStep h k (Sub id blocks) (set rs n new) m 0)
+        declared_ok new (Ok x) checked = λ k m f.
             let step = checked (k.ring ring.id) (f.each n ring old at there (ap is_driver_kind kind)) in
             let other = ap is_command_kind kind in
             record {
@@ -75,13 +75,17 @@ module _ (h : Header) (headed : IsHeader h) where
               tracked = subst (λ (i : ℕ). Follows h (learned h k (Sub i blocks)) (set rs n new) m) named (declared_on h headed k rs m f n ring at other blocks new step.followed);
               counted = ap length (ap (λ i. begun h k (Sub i blocks)) (sym named) ∙ begun_declared h headed k f.calm ring among other blocks);
             }
+        declared_ok new (Err e) checked = checked
 
-        pub declared_bad : (c : Refusal) → ((v : RingView) → FollowsRing ring.shape v old → first_broken (room_tests ring.shape v blocks) ≡ Some c) →
-            (k : Known) (m : ℕ → ℕ) → Follows h k rs m → first_of (broken_within h k (Sub id blocks)) ≡ Some c
-        declared_bad c breaks k m f =
+        pub declared_bad : {X : Type 0} (result : Result X StepFault) →
+            IfErr result (λ e. IfRefused e (λ c. (v : RingView) → FollowsRing ring.shape v old → first_broken (room_tests ring.shape v blocks) ≡ Some c)) →
+            IfErr result (λ e. IfRefused e (λ c. (k : Known) (m : ℕ → ℕ) → Follows h k rs m → first_of (broken_within h k (Sub id blocks)) ≡ Some c))
+        declared_bad (Ok x) breaks = breaks
+        declared_bad (Err (Refused c)) breaks = λ k m f.
             ap first_of (broken_inside h k (Sub id blocks) (declared_inside h k f.calm id blocks headed ring among named (ap is_command_kind kind)))
             ∙ declared_on_ring h k f.calm id blocks headed ring among named (ap is_driver_kind kind)
             ∙ breaks (k.ring ring.id) (f.each n ring old at there (ap is_driver_kind kind))
+        declared_bad (Err Memory) breaks = breaks
 
   module _ (a w : ℕ) (aligned : a % 4 ≡ 0) where
     write_inside : is_outside h (Write a w) ≡ false

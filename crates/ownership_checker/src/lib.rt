@@ -5,5 +5,9 @@ mod fault;
 mod finder;
 mod one_ring;
 mod refusals;
+mod rings;
+mod row;
+mod trace_check;
 
 pub use fault::CheckFault;
+pub use trace_check::{check, check_in};
