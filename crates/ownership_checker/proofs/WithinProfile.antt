@@ -8,11 +8,11 @@ use Rattle.traces.specs.declared.register.Register.TheVariants.{Usbcmd}
 use Rattle.traces.specs.declared.row.Row.{Row}
 use Rattle.traces.specs.declared.row.Row.TheVariants.{Sub, Write, Reg, Bell}
 use Rattle.ring_knowledge.specs.Known.{nothing}
-use Rattle.ownership_checker.specs.declared.refusal.Refusal.{Refusal}
-use Rattle.ownership_checker.specs.declared.refusal.Refusal.TheVariants.{WriteToOwned, NotDeclared, NotInProfile}
-use Rattle.ownership_checker.specs.Rules.{verdict_from}
+use Rattle.ownership_rules.specs.declared.refusal.Refusal.{Refusal}
+use Rattle.ownership_rules.specs.declared.refusal.Refusal.TheVariants.{WriteToOwned, NotDeclared, NotInProfile}
+use Rattle.ownership_rules.specs.Rules.{verdict_from}
 use Rattle.ownership_checker.specs.Profile.{verdict_within}
-use Rattle.ownership_checker.specs.OnLiterals.{rules_on_literals}
+use Rattle.ownership_checker.specs.OnLiterals.{profile_on_literals}
 
 -- the command ring 0, the event ring 1 and the transfer ring 2
 abbrev three_rings : Header
@@ -39,41 +39,41 @@ abbrev full : List Row → Option (ℕ × Refusal)
 full rows = verdict_from three_rings nothing 6 rows
 
 pub given_block : within (Sub 2 (no_op ∷ []) ∷ Write 0x3000c 0x2021 ∷ []) ≡ None
-unfolding rules_on_literals
+unfolding profile_on_literals
 given_block = refl
 
 pub register : within (Sub 2 (no_op ∷ []) ∷ Reg Usbcmd 2 ∷ []) ≡ Some (7, NotInProfile)
-unfolding rules_on_literals
+unfolding profile_on_literals
 register = refl
 
 -- of all rules the reset breaks none
 pub reset_breaks_nothing : full (Sub 2 (no_op ∷ []) ∷ Reg Usbcmd 2 ∷ []) ≡ None
-unfolding rules_on_literals
+unfolding profile_on_literals
 reset_breaks_nothing = refl
 
 pub doorbell : within (Bell 0 0 ∷ []) ≡ Some (6, NotInProfile)
-unfolding rules_on_literals
+unfolding profile_on_literals
 doorbell = refl
 
 pub command : within (Sub 0 (no_op_command ∷ []) ∷ []) ≡ Some (6, NotInProfile)
-unfolding rules_on_literals
+unfolding profile_on_literals
 command = refl
 
 -- a declaration that names no ring, or the event ring, breaks the rule that it breaks
 pub unknown_ring : within (Sub 3 (no_op ∷ []) ∷ []) ≡ Some (6, NotDeclared)
-unfolding rules_on_literals
+unfolding profile_on_literals
 unknown_ring = refl
 
 pub declared_on_events : within (Sub 1 (no_op ∷ []) ∷ []) ≡ Some (6, NotDeclared)
-unfolding rules_on_literals
+unfolding profile_on_literals
 declared_on_events = refl
 
 -- an event segment is the controller's from the first row on
 pub event_segment : within (Write 0x20000 0 ∷ []) ≡ Some (6, WriteToOwned)
-unfolding rules_on_literals
+unfolding profile_on_literals
 event_segment = refl
 
 -- the first refused row is told
 pub refused_before : within (Write 0x1000c 0x5c01 ∷ Reg Usbcmd 2 ∷ []) ≡ Some (6, NotDeclared)
-unfolding rules_on_literals
+unfolding profile_on_literals
 refused_before = refl

@@ -4,7 +4,7 @@ use Rattle.traces.specs.declared.header.Header.{Header}
 use Rattle.traces.specs.declared.row.Row.{Row}
 use Rattle.ring_knowledge.specs.Known.{Known}
 use Rattle.ring_knowledge.specs.Learned.{learned}
-use Rattle.ownership_checker.specs.Leases.{begun}
+use Rattle.ownership_rules.specs.Leases.{begun}
 
 -- the rows in their order, from what is known before them
 unfoldable pub begun_count : Header → Known → List Row → ℕ

@@ -6,9 +6,9 @@ use Rattle.traces.specs.declared.row.Row.TheVariants.{Sub, Write, Reg, Bell, Rea
 use Rattle.traces.specs.Header.{shape_of, is_command_kind}
 use Rattle.ring_knowledge.specs.Known.{Known}
 use Rattle.ring_knowledge.specs.Learned.{learned}
-use Rattle.ownership_checker.specs.declared.refusal.Refusal.{Refusal}
-use Rattle.ownership_checker.specs.declared.refusal.Refusal.TheVariants.{NotInProfile}
-use Rattle.ownership_checker.specs.Rules.{broken, first_or}
+use Rattle.ownership_rules.specs.declared.refusal.Refusal.{Refusal}
+use Rattle.ownership_rules.specs.declared.refusal.Refusal.TheVariants.{NotInProfile}
+use Rattle.ownership_rules.specs.Rules.{broken, first_or}
 
 module _ (h : Header) where
   -- a row that is refused whatever it says: a register, a doorbell, an event, or a declaration on the command ring
@@ -26,4 +26,4 @@ module _ (h : Header) where
   -- the first row that breaks a rule, and the least of these; n is the number of the first row
   unfoldable pub verdict_within : Known → ℕ → List Row → Option (ℕ × Refusal)
   verdict_within k n [] = None
-  verdict_within k n (row ∷ rows) = first_or h (broken_within k row) n (verdict_within (learned h k row) (n + 1) rows)
+  verdict_within k n (row ∷ rows) = first_or (broken_within k row) n (verdict_within (learned h k row) (n + 1) rows)

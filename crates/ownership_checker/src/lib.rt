@@ -1,9 +1,13 @@
-//! The rules of ownership, what a clean trace is, its leases, and the law that a clean trace is harmless.
+//! The checker: reads the rows of a trace in order, and tells the first that breaks a rule of ownership, and which.
 #![tactic(auto)]
 
-mod refusal;
+mod fault;
+mod finder;
+mod one_ring;
+mod refusals;
+mod rings;
+mod row;
+mod trace_check;
 
-pub use refusal::Refusal;
-
-#[cfg(test)]
-mod tests;
+pub use fault::CheckFault;
+pub use trace_check::{check, check_in};

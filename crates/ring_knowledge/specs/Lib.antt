@@ -5,4 +5,6 @@ pub mod Registers
 pub mod Transfers
 pub mod Completions
 pub mod Learned
+pub mod Marks
+pub mod RingRecords
 pub mod OnLiterals

@@ -2,5 +2,7 @@
 #![tactic(auto)]
 
 mod lease;
+mod ring_record;
 
 pub use lease::Lease;
+pub use ring_record::{RingGiving, RingRecord};

@@ -1,0 +1,126 @@
+-- While all is calm: whether a block, a Link or an event segment is already under lease
+use Rattle.std.proofs.Common.{◌≡◌, ◌≢◌, ℕ, ◌+◌, ◌<◌, ◌≤◌, List, [], ◌∷◌, ◌++◌, Bool, true, false, refl, ap, sym, ◌∙◌, arith, length}
+use Rattle.std.specs.Prelude.{◌==◌, ◌&&◌, ◌||◌, not, map, filter}
+use Rattle.std.specs.List.{list_any, flat_map, range_with_len}
+use Rattle.std.proofs.lemmas.Bool.Decides.{nat_tests}
+use Rattle.segments.specs.Places.{place_count, is_crossing}
+use Rattle.segments.specs.RingView.{floor_number, leased_positions, leased_crossings, due_positions, due_crossings}
+use Rattle.traces.specs.declared.ring.Ring.{Ring}
+use Rattle.traces.specs.declared.header.Header.{Header}
+use Rattle.traces.specs.Header.{IsHeader, is_driver_kind, driver_rings, event_shape}
+use Rattle.ring_knowledge.specs.Known.{Known}
+use Rattle.ownership_rules.specs.OpenLeases.{Use, EventSegment, SegmentTable, InputContext, SlotEntry, DeviceContext, Leased, Block, Link, Range, same_leased, is_among, open_on, open_leases, open_ranges, segment_ranges}
+use Rattle.ownership_checker.specs.Calm.{IsCalm}
+use Rattle.ownership_checker.proofs.Tests.{or_false, any_append, any_map, any_flat_map, any_nowhere, any_filter}
+use Rattle.ownership_checker.proofs.Ranges.{any_only}
+use Rattle.ownership_checker.proofs.RingsApart.{IsAmong, Apart, same_number, other_number}
+use Rattle.ownership_checker.proofs.HeaderRings.{together, one_driver}
+use Rattle.ownership_checker.proofs.CalmLemmas.{segments_alone}
+
+pub same_itself : (l : Leased) → same_leased l l ≡ true
+same_itself (Block r p) = rw (same_number r, same_number p) refl
+same_itself (Link r q) = rw (same_number r, same_number q) refl
+same_itself (Range n a EventSegment) = rw (same_number n, same_number a) refl
+same_itself (Range n a SegmentTable) = rw (same_number n, same_number a) refl
+same_itself (Range n a (InputContext p)) = rw (same_number n, same_number a, same_number p) refl
+same_itself (Range n a (SlotEntry s)) = rw (same_number n, same_number a, same_number s) refl
+same_itself (Range n a (DeviceContext s)) = rw (same_number n, same_number a, same_number s) refl
+
+-- what stands in a list is among it
+pub none_new : (before xs : List Leased) → filter (λ l. not (is_among (before ++ xs) l)) xs ≡ []
+unfolding is_among
+none_new before [] = refl
+none_new before (x ∷ xs) =
+    let here : list_any (same_leased x) (before ++ x ∷ xs) ≡ true =
+    any_append (same_leased x) before (x ∷ xs) ∙ ap (λ b. list_any (same_leased x) before || (b || list_any (same_leased x) xs)) (same_itself x) ∙ or_true (list_any (same_leased x) before) in
+    rw here (ap (λ ys. filter (λ l. not (list_any (same_leased l) ys)) xs) (regroup before) ∙ none_new (before ++ x ∷ []) xs)
+  where
+    or_true : (b : Bool) → (b || true) ≡ true
+    or_true true = refl
+    or_true false = refl
+
+    regroup : (ys : List Leased) → ys ++ x ∷ xs ≡ (ys ++ x ∷ []) ++ xs
+    regroup [] = refl
+    regroup (y ∷ ys) = ap (λ zs. y ∷ zs) (regroup ys)
+
+-- a number is among those that pass, if it does
+among_passing : (f : ℕ → Bool) (from n p : ℕ) → from ≤ p → p < from + n → list_any (λ x. p == x) (filter f (range_with_len from n)) ≡ f p
+among_passing f from n p low high =
+    any_filter (λ x. p == x) f (range_with_len from n)
+    ∙ any_only (λ x. f x && p == x) from n p low high (λ x l u ne. rw (other_number p x (λ e. ne (sym e))) (and_false (f x)))
+    ∙ rw (same_number p) (and_true (f p))
+  where
+    and_false : (b : Bool) → (b && false) ≡ false
+    and_false true = refl
+    and_false false = refl
+
+    and_true : (b : Bool) → (b && true) ≡ b
+    and_true true = refl
+    and_true false = refl
+
+module _ (h : Header) (headed : IsHeader h) (k : Known) (calm : IsCalm h k) where
+  pub open_is : open_leases h k ≡ flat_map (open_on h k) (driver_rings h) ++ segment_ranges h
+  unfolding open_leases
+  open_is = ap (λ ls. flat_map (open_on h k) (driver_rings h) ++ ls) (segments_alone h k calm)
+
+  module _ (r : Ring) (among : IsAmong r h.rings) (driver : is_driver_kind r.shape.kind ≡ true) where
+    -- what is tested here fails on the leases of other rings, and on event segments
+    among_own : (l : Leased) → ((s : Ring) → r.id ≢ s.id → list_any (same_leased l) (open_on h k s) ≡ false) → list_any (same_leased l) (segment_ranges h) ≡ false →
+        is_among (open_leases h k) l ≡ list_any (same_leased l) (open_on h k r)
+    unfolding is_among driver_rings
+    among_own l others no_segment =
+        ap (λ ls. list_any (same_leased l) ls) open_is
+        ∙ any_append (same_leased l) (flat_map (open_on h k) (driver_rings h)) (segment_ranges h)
+        ∙ rw (any_flat_map (same_leased l) (open_on h k) (driver_rings h), no_segment)
+        (or_false _ ∙ one_driver (λ s. list_any (same_leased l) (open_on h k s)) h.rings (together h headed) r among driver (λ s there apart. others s apart.ids))
+
+    block_no_segment : (p : ℕ) → list_any (same_leased (Block r.id p)) (segment_ranges h) ≡ false
+    unfolding segment_ranges
+    block_no_segment p = any_map (same_leased (Block r.id p)) _ (event_shape h).segments ∙ any_nowhere _ (λ s. refl) (event_shape h).segments
+
+    link_no_segment : (q : ℕ) → list_any (same_leased (Link r.id q)) (segment_ranges h) ≡ false
+    unfolding segment_ranges
+    link_no_segment q = any_map (same_leased (Link r.id q)) _ (event_shape h).segments ∙ any_nowhere _ (λ s. refl) (event_shape h).segments
+
+    block_on : (p : ℕ) (s : Ring) → list_any (same_leased (Block r.id p)) (open_on h k s) ≡ list_any (λ x. r.id == s.id && p == x) (leased_positions s.shape (k.ring s.id))
+    unfolding open_on
+    block_on p s =
+        any_append (same_leased (Block r.id p)) (map (Block s.id) (leased_positions s.shape (k.ring s.id))) (map (Link s.id) (leased_crossings s.shape (k.ring s.id)))
+        ∙ rw (
+          any_map (same_leased (Block r.id p)) (Block s.id) (leased_positions s.shape (k.ring s.id)),
+          any_map (same_leased (Block r.id p)) (Link s.id) (leased_crossings s.shape (k.ring s.id)),
+          any_nowhere (λ x. same_leased (Block r.id p) (Link s.id x)) (λ x. refl) (leased_crossings s.shape (k.ring s.id)),
+        ) (or_false _)
+
+    link_on : (q : ℕ) (s : Ring) → list_any (same_leased (Link r.id q)) (open_on h k s) ≡ list_any (λ x. r.id == s.id && q == x) (leased_crossings s.shape (k.ring s.id))
+    unfolding open_on
+    link_on q s =
+        any_append (same_leased (Link r.id q)) (map (Block s.id) (leased_positions s.shape (k.ring s.id))) (map (Link s.id) (leased_crossings s.shape (k.ring s.id)))
+        ∙ rw (
+          any_map (same_leased (Link r.id q)) (Block s.id) (leased_positions s.shape (k.ring s.id)),
+          any_nowhere (λ x. same_leased (Link r.id q) (Block s.id x)) (λ x. refl) (leased_positions s.shape (k.ring s.id)),
+          any_map (same_leased (Link r.id q)) (Link s.id) (leased_crossings s.shape (k.ring s.id)),
+        ) refl
+
+    elsewhere : (p : ℕ) (s : Ring) → r.id ≢ s.id → (xs : List ℕ) → list_any (λ x. r.id == s.id && p == x) xs ≡ false
+    elsewhere p s other xs = any_nowhere (λ x. r.id == s.id && p == x) (λ x. ap (λ b. b && p == x) (other_number r.id s.id other)) xs
+
+    here : (p : ℕ) (xs : List ℕ) → list_any (λ x. r.id == r.id && p == x) xs ≡ list_any (λ x. p == x) xs
+    here p xs = ap (λ b. list_any (λ x. b && p == x) xs) (same_number r.id)
+
+    -- a due position is under lease where it was given
+    pub block_was : (p : ℕ) → floor_number (k.ring r.id) ≤ p → p < floor_number (k.ring r.id) + place_count r.shape → is_among (open_leases h k) (Block r.id p) ≡ (k.ring r.id).given p
+    unfolding leased_positions due_positions
+    block_was p low high =
+        among_own (Block r.id p) (λ s other. block_on p s ∙ elsewhere p s other (leased_positions s.shape (k.ring s.id))) (block_no_segment p)
+        ∙ block_on p r ∙ here p (leased_positions r.shape (k.ring r.id))
+        ∙ among_passing (k.ring r.id).given (floor_number (k.ring r.id)) (place_count r.shape) p low high
+
+    -- and a due crossing
+    pub link_was : (q : ℕ) → floor_number (k.ring r.id) ≤ q → q < floor_number (k.ring r.id) + (place_count r.shape + 1) →
+        is_among (open_leases h k) (Link r.id q) ≡ (is_crossing r.shape q && (k.ring r.id).crossed q)
+    unfolding leased_crossings due_crossings
+    link_was q low high =
+        among_own (Link r.id q) (λ s other. link_on q s ∙ elsewhere q s other (leased_crossings s.shape (k.ring s.id))) (link_no_segment q)
+        ∙ link_on q r ∙ here q (leased_crossings r.shape (k.ring r.id))
+        ∙ among_passing (λ x. is_crossing r.shape x && (k.ring r.id).crossed x) (floor_number (k.ring r.id)) (place_count r.shape + 1) q low high

@@ -1,0 +1,142 @@
+-- While all is calm: which rules a write breaks
+use Rattle.std.proofs.Common.{◌≡◌, ℕ, ◌+◌, ◌%◌, List, [], ◌∷◌, ◌++◌, Bool, true, false, Option, Some, None, refl, ap, sym, ◌∙◌, cond}
+use Rattle.std.specs.Prelude.{◌||◌, map, if◌then◌else◌}
+use Rattle.std.specs.List.{list_any}
+use Rattle.segments.specs.Places.{touches, link_address}
+use Rattle.segments.specs.RingView.{RingView, positions_given, crossings_given}
+use Rattle.segments.specs.Givings.{is_other_than_declared, is_not_declared, is_not_whole, leads_wrong, interrupts}
+use Rattle.traces.specs.declared.ring.Ring.{Ring}
+use Rattle.traces.specs.declared.header.Header.{Header}
+use Rattle.traces.specs.declared.row.Row.TheVariants.{Write}
+use Rattle.traces.specs.Header.{IsHeader, is_driver_kind, is_event_kind, shape_of}
+use Rattle.commands.specs.declared.command.Command.{Command}
+use Rattle.ring_knowledge.specs.Known.{Known}
+use Rattle.ring_knowledge.specs.Rings.{Given, Position, Crossing, given_by}
+use Rattle.ownership_rules.specs.declared.refusal.Refusal.TheVariants.{WriteToOwned, NotAsSubmitted, NotDeclared, NotWhole, LinkFault, BadCommand, Busy, NotInProfile, BadMove, AfterStop}
+use Rattle.ownership_rules.specs.Refusal.{Test, broken_of, first_of, first_broken}
+use Rattle.ownership_rules.specs.OpenLeases.{is_leased}
+use Rattle.ownership_rules.specs.Commands as commands
+use Rattle.ownership_rules.specs.Moves as moves
+use Rattle.ownership_rules.specs.Writes.{write_tests, some_given, some_crossed, some_command, holds_of, on_position, on_crossing}
+use Rattle.ownership_rules.specs.Rules.{broken, tests}
+use Rattle.ownership_checker.specs.Calm.{IsCalm}
+use Rattle.ownership_checker.specs.OneRing.{is_owned, position_tests, crossing_tests, word_tests}
+use Rattle.ownership_checker.proofs.Tests.{or_false, any_append, any_map, any_nowhere}
+use Rattle.ownership_checker.proofs.FirstBroken.{first_broken-is}
+use Rattle.ownership_checker.proofs.RingsApart.{IsAmong}
+use Rattle.ownership_checker.proofs.HeaderRings.{shape_there}
+use Rattle.ownership_checker.proofs.CalmLemmas.{none_unfinished, no_command_given}
+use Rattle.ownership_checker.proofs.OneRingHas.{leased_nowhere, given_nowhere, leased_in_events, leased_here, given_by_one}
+
+-- the rules of commands are met
+abbrev pub left_over : Bool → Bool → Bool → Bool → Bool → Bool → List Test
+left_over owned other not_declared not_whole wrong interrupting =
+    (WriteToOwned, owned) ∷ (NotAsSubmitted, other) ∷ (NotDeclared, not_declared) ∷ (NotWhole, not_whole) ∷ (LinkFault, wrong)
+    ∷ (BadCommand, false) ∷ (Busy, false) ∷ (NotInProfile, interrupting) ∷ (BadMove, false) ∷ []
+
+none_broken : (owned other not_declared not_whole wrong interrupting command busy moved left_out binding : Bool) →
+    command ≡ false → busy ≡ false → moved ≡ false → left_out ≡ false → binding ≡ false →
+    ((WriteToOwned, owned) ∷ (NotAsSubmitted, other) ∷ (NotDeclared, not_declared) ∷ (NotWhole, not_whole) ∷ (LinkFault, wrong)
+    ∷ (BadCommand, command) ∷ (Busy, busy || moved) ∷ (NotInProfile, left_out || interrupting) ∷ (BadMove, binding) ∷ [])
+    ≡ left_over owned other not_declared not_whole wrong interrupting
+none_broken owned other not_declared not_whole wrong interrupting command busy moved left_out binding a b c d e = rw (a, b, c, d, e) refl
+
+module _ (h : Header) (headed : IsHeader h) (k : Known) (calm : IsCalm h k) (a w : ℕ) where
+  no_command : (test : Command → Bool) → some_command h k a w test ≡ false
+  unfolding some_command holds_of
+  no_command test = rw (no_command_given h k calm a w) refl
+
+  not_moved : (g : Given) → on_position (λ r p. moves.is_being_moved h k r) g ≡ false
+  unfolding on_position moves.is_being_moved
+  not_moved (Position r p) = rw (none_unfinished h k calm) refl
+  not_moved (Crossing r q) = refl
+
+  none_moved : some_given h k a w (λ r p. moves.is_being_moved h k r) ≡ false
+  unfolding some_given
+  none_moved = any_nowhere (on_position (λ r p. moves.is_being_moved h k r)) not_moved (given_by h k a w)
+
+  -- the tests that may fail
+  abbrev LeftOver : List Test
+  LeftOver = left_over (is_leased h k a)
+      (some_given h k a w (λ r p. is_other_than_declared (shape_of h r) (k.ring r) k.memory a w p))
+      (some_given h k a w (λ r p. is_not_declared (k.ring r) p))
+      (some_given h k a w (λ r p. is_not_whole (shape_of h r) (k.ring r) p))
+      (some_crossed h k a w (λ r q. leads_wrong (shape_of h r) k.memory a w q))
+      (some_crossed h k a w (λ r q. interrupts (shape_of h r) k.memory a w q))
+
+  tests_are : write_tests h k a w ≡ LeftOver
+  unfolding write_tests
+  tests_are =
+      none_broken _ _ _ _ _ _ _ _ _ _ _
+      (no_command (commands.is_bad_command h k))
+      (no_command (commands.is_busy h k))
+      none_moved
+      (no_command (commands.has_left_out_endpoint h k))
+      (no_command (λ c. moves.is_bad_binding h k c || moves.is_bad_move h k c))
+
+  broken_is : broken h k (Write a w) ≡ broken_of LeftOver
+  unfolding broken tests
+  broken_is = ap (λ b. if b then AfterStop ∷ [] else broken_of (write_tests h k a w)) calm.running ∙ ap broken_of tests_are
+
+  module _ (aligned : a % 4 ≡ 0) where
+    -- no ring has the word
+    pub nothing_breaks : ((q : Ring) → IsAmong q h.rings → touches q.shape a 4 ≡ false) → broken h k (Write a w) ≡ []
+    unfolding some_given some_crossed
+    nothing_breaks none = broken_is ∙ rw (leased_nowhere h headed k a aligned none calm, given_nowhere h headed k a aligned none w) refl
+
+    -- an event segment has it
+    pub owned_by_events : (e : Ring) → IsAmong e h.rings → is_event_kind e.shape.kind ≡ true → touches e.shape a 4 ≡ true → first_of (broken h k (Write a w)) ≡ Some WriteToOwned
+    owned_by_events e among event has = ap first_of broken_is ∙ first_broken-is LeftOver ∙ rw (leased_in_events h headed k a aligned calm e among event has) refl
+
+    -- a command or transfer ring has it
+    module _ (r : Ring) (among : IsAmong r h.rings) (driver : is_driver_kind r.shape.kind ≡ true) (has : touches r.shape a 4 ≡ true) where
+      given_is : (test : ℕ → ℕ → Bool) → some_given h k a w test ≡ list_any (test r.id) (positions_given r.shape (k.ring r.id) a w)
+      unfolding some_given on_position
+      given_is test =
+          ap (λ gs. list_any (on_position test) gs) (given_by_one h headed k a aligned r among driver has w)
+          ∙ any_append (on_position test) (map (Position r.id) (positions_given r.shape (k.ring r.id) a w)) (map (Crossing r.id) (crossings_given r.shape (k.ring r.id) a w))
+          ∙ rw (
+            any_map (on_position test) (Position r.id) (positions_given r.shape (k.ring r.id) a w),
+            any_map (on_position test) (Crossing r.id) (crossings_given r.shape (k.ring r.id) a w),
+            any_nowhere (λ q. on_position test (Crossing r.id q)) (λ q. refl) (crossings_given r.shape (k.ring r.id) a w),
+          ) (or_false _)
+
+      crossed_is : (test : ℕ → ℕ → Bool) → some_crossed h k a w test ≡ list_any (test r.id) (crossings_given r.shape (k.ring r.id) a w)
+      unfolding some_crossed on_crossing
+      crossed_is test =
+          ap (λ gs. list_any (on_crossing test) gs) (given_by_one h headed k a aligned r among driver has w)
+          ∙ any_append (on_crossing test) (map (Position r.id) (positions_given r.shape (k.ring r.id) a w)) (map (Crossing r.id) (crossings_given r.shape (k.ring r.id) a w))
+          ∙ rw (
+            any_map (on_crossing test) (Position r.id) (positions_given r.shape (k.ring r.id) a w),
+            any_nowhere (λ p. on_crossing test (Position r.id p)) (λ p. refl) (positions_given r.shape (k.ring r.id) a w),
+            any_map (on_crossing test) (Crossing r.id) (crossings_given r.shape (k.ring r.id) a w),
+          ) refl
+
+      abbrev ps : List ℕ
+      ps = positions_given r.shape (k.ring r.id) a w
+
+      abbrev cs : List ℕ
+      cs = crossings_given r.shape (k.ring r.id) a w
+
+      abbrev OfRing : List Test
+      OfRing = left_over (is_owned r.shape (k.ring r.id) a)
+          (list_any (is_other_than_declared r.shape (k.ring r.id) k.memory a w) ps)
+          (list_any (is_not_declared (k.ring r.id)) ps)
+          (list_any (is_not_whole r.shape (k.ring r.id)) ps)
+          (list_any (leads_wrong r.shape k.memory a w) cs)
+          (list_any (interrupts r.shape k.memory a w) cs)
+
+      left_is : LeftOver ≡ OfRing
+      left_is = rw (
+        leased_here h headed k a aligned r among driver has calm,
+        given_is (λ s p. is_other_than_declared (shape_of h s) (k.ring s) k.memory a w p),
+        given_is (λ s p. is_not_declared (k.ring s) p),
+        given_is (λ s p. is_not_whole (shape_of h s) (k.ring s) p),
+        crossed_is (λ s q. leads_wrong (shape_of h s) k.memory a w q),
+        crossed_is (λ s q. interrupts (shape_of h s) k.memory a w q),
+        shape_there h headed r among,
+      ) refl
+
+      -- the first rule that it breaks is the first of the ring's own tests
+      pub first_of_ring : first_of (broken h k (Write a w)) ≡ first_broken (word_tests r.shape (k.ring r.id) k.memory a w)
+      first_of_ring = ap first_of (broken_is ∙ ap broken_of left_is) ∙ first_broken-is OfRing

@@ -1,0 +1,43 @@
+use Rattle.std.proofs.Common.{◌≡◌, false, true, get_or, sym, ◌∙◌, ap, arith, refl}
+use Rattle.std.specs.Prelude.{not}
+use Rattle.std.proofs.lemmas.Option.{slice_get-get_or, slice_get_within}
+use Rattle.segments.specs.Places.{touches}
+use Rattle.traces.specs.Header.{is_driver_kind}
+use Rattle.ownership_checker.proofs.Fresh.{ring_here, none_here}
+use Rattle.ownership_checker.proofs.Rows.{nowhere_step, event_write, written_ok, written_bad}
+use Rattle.ownership_checker.proofs.row.check_write.Goals as goal
+
+pub returns-in_default-clause-ok : goal.returns-in_default-clause-ok
+returns-in_default-clause-ok g c = λ k f.
+    let none = none_here c.args.header.now (λ q. touches q.shape c.get.result 4) c.args.header.now.rings (sym c.ring_at.ensures ∙ c.in_default.is) refl in
+    nowhere_step c.args.header.now c.requires.headed c.args.at c.args.word c.get.ensures.aligned
+    (λ q among. ap (λ n. touches q.shape n 4) (sym c.get.ensures.same) ∙ none q among) k c.args.records.now _ _ c.in_ok-set.ensures.ok f
+
+pub returns-then-is_event_ring-clause-refused : goal.returns-then-is_event_ring-clause-refused
+returns-then-is_event_ring-clause-refused g c = λ k f.
+    let ring = c.index-rings-number.result in
+    let here = ring_here c.args.header.now (λ q. touches q.shape c.get.result 4) c.args.header.now.rings c.in-Some.number ring (sym c.ring_at.ensures ∙ c.in-Some.is) refl (c.index-rings-number.is ∙ ap (λ xs. get_or xs c.in-Some.number ring) c.as_slice-rings.ensures) in
+    let touched : touches ring.shape c.args.at 4 ≡ true = ap (λ n. touches ring.shape n 4) (sym c.get.ensures.same) ∙ here.1 in
+    event_write c.args.header.now c.requires.headed c.args.at c.args.word c.get.ensures.aligned c.in-Some.number ring here.0 touched (sym c.is_event_ring.ensures ∙ c.if-is_event_ring.true) k c.args.records.now _ f
+
+pub returns-clause-ok : goal.returns-clause-ok
+returns-clause-ok g c =
+    let ring = c.index-rings-number.result in
+    let here = ring_here c.args.header.now (λ q. touches q.shape c.get.result 4) c.args.header.now.rings c.in-Some.number ring (sym c.ring_at.ensures ∙ c.in-Some.is) refl (c.index-rings-number.is ∙ ap (λ xs. get_or xs c.in-Some.number ring) c.as_slice-rings.ensures) in
+    let touched : touches ring.shape c.args.at 4 ≡ true = ap (λ n. touches ring.shape n 4) (sym c.get.ensures.same) ∙ here.1 in
+    let driver : is_driver_kind ring.shape.kind ≡ true = ap not (sym c.is_event_ring.ensures ∙ c.if-is_event_ring.false) in
+    written_ok c.args.header.now c.requires.headed c.args.at c.args.word c.get.ensures.aligned c.in-Some.number ring here.0 touched driver
+    c.args.records.now (get_or c.args.records.now c.in-Some.number c.index-records-number.result)
+    (slice_get-get_or c.args.records.now c.in-Some.number c.index-records-number.result (omega (arith, c.requires.as_many, slice_get_within c.args.header.now.rings c.in-Some.number ring here.0)))
+    _ c.write_on.new.record _ c.write_on.result c.write_on.ensures.made c.write_on.ensures.ok
+
+pub returns-clause-refused : goal.returns-clause-refused
+returns-clause-refused g c =
+    let ring = c.index-rings-number.result in
+    let here = ring_here c.args.header.now (λ q. touches q.shape c.get.result 4) c.args.header.now.rings c.in-Some.number ring (sym c.ring_at.ensures ∙ c.in-Some.is) refl (c.index-rings-number.is ∙ ap (λ xs. get_or xs c.in-Some.number ring) c.as_slice-rings.ensures) in
+    let touched : touches ring.shape c.args.at 4 ≡ true = ap (λ n. touches ring.shape n 4) (sym c.get.ensures.same) ∙ here.1 in
+    let driver : is_driver_kind ring.shape.kind ≡ true = ap not (sym c.is_event_ring.ensures ∙ c.if-is_event_ring.false) in
+    written_bad c.args.header.now c.requires.headed c.args.at c.args.word c.get.ensures.aligned c.in-Some.number ring here.0 touched driver
+    c.args.records.now (get_or c.args.records.now c.in-Some.number c.index-records-number.result)
+    (slice_get-get_or c.args.records.now c.in-Some.number c.index-records-number.result (omega (arith, c.requires.as_many, slice_get_within c.args.header.now.rings c.in-Some.number ring here.0)))
+    _ c.write_on.result c.write_on.ensures.refused

@@ -1,0 +1,116 @@
+-- What the checker's records and memory hold, in terms of what is known after the rows so far; and what it answers
+use Rattle.std.specs.Prelude.{Some, None, ◌≡◌, ℕ, ◌+◌, ◌-◌, ◌≤◌, true, false, List, [], ◌∷◌, length, slice_get, reverse, take, drop}
+use Rattle.trb.specs.declared.block.Block.{Block}
+use Rattle.segments.specs.ShapeValue.{Shape}
+use Rattle.segments.specs.Shape.{IsShape}
+use Rattle.segments.specs.RingView.{RingView, Declares, Writes, changed, new_ring, positions_given, crossings_given}
+use Rattle.traces.specs.declared.ring.Ring.{Ring}
+use Rattle.traces.specs.declared.header.Header.{Header}
+use Rattle.traces.specs.declared.row.Row.{Row}
+use Rattle.traces.specs.Header.{is_driver_kind, event_shape}
+use Rattle.ring_knowledge.specs.declared.ring_record.RingRecord.{RingRecord}
+use Rattle.ring_knowledge.specs.RingRecords.{FollowsRing}
+use Rattle.ring_knowledge.specs.Known.{Known, nothing}
+use Rattle.ring_knowledge.specs.Learned.{learned, known}
+use Rattle.ownership_rules.specs.declared.refusal.Refusal.{Refusal}
+use Rattle.ownership_rules.specs.Refusal.{first_broken}
+use Rattle.ownership_rules.specs.Rules.{broken, verdict_from}
+use Rattle.ownership_rules.specs.Clean.{IsClean}
+use Rattle.ownership_rules.specs.Leases.{begun, leases as leases_of}
+use Rattle.ownership_checker.specs.Calm.{IsCalm}
+use Rattle.ownership_checker.specs.OneRing.{room_tests, word_tests}
+use Rattle.ownership_checker.specs.Profile.{is_outside, verdict_within}
+use Rattle.ownership_checker.specs.LeaseCount.{begun_count}
+use Rattle.ownership_checker.specs.declared.fault.StepFault.{StepFault}
+use Rattle.ownership_checker.specs.declared.fault.StepFault.TheVariants.{Refused, Memory}
+use Rattle.ownership_checker.specs.declared.fault.CheckFault.{CheckFault}
+use Rattle.ownership_checker.specs.declared.fault.CheckFault.TheVariants.{Refused as RowRefused, Memory as NoMemory}
+
+-- ---- one ring
+
+-- the allowed shape of a command or transfer ring
+pub record IsDriver (shape : Shape) : Type 0 where
+  pub driver : is_driver_kind shape.kind ≡ true
+  pub allowed : IsShape shape
+
+-- a declaration breaks no rule of the ring, and the record holds what is known after it
+pub record IsDeclared (shape : Shape) (v : RingView) (blocks : List Block) (after : RingRecord) : Type 0 where
+  pub clean : first_broken (room_tests shape v blocks) ≡ None
+  pub followed : FollowsRing shape (changed shape v (Declares blocks)) after
+
+-- a write breaks no rule of the ring, the record holds what is known after it, and it gives so much
+pub record IsWritten (shape : Shape) (v : RingView) (memory : ℕ → ℕ) (a w : ℕ) (after : RingRecord) (given : ℕ) : Type 0 where
+  pub clean : first_broken (word_tests shape v memory a w) ≡ None
+  pub followed : FollowsRing shape (changed shape v (Writes a w)) after
+  pub counted : length (positions_given shape v a w) + length (crossings_given shape v a w) ≡ given
+
+-- ---- all rings
+
+-- the records, one of each ring, and the memory hold what is known
+pub record Follows (h : Header) (k : Known) (records : List RingRecord) (memory : ℕ → ℕ) : Type 0 where
+  pub calm : IsCalm h k
+  pub words : (a : ℕ) → k.memory a ≡ memory a
+  pub as_many : length records ≡ length h.rings
+  pub each : (i : ℕ) (ring : Ring) (r : RingRecord) → slice_get h.rings i ≡ Some ring → slice_get records i ≡ Some r →
+      is_driver_kind ring.shape.kind ≡ true → FollowsRing ring.shape (k.ring ring.id) r
+
+-- records of the first rings, of which nothing is known
+pub record IsFreshSo (rings : List Ring) (records : List RingRecord) (count : ℕ) : Type 0 where
+  pub as_many : length records ≡ count
+  pub each : (i : ℕ) (ring : Ring) (r : RingRecord) → slice_get rings i ≡ Some ring → slice_get records i ≡ Some r → FollowsRing ring.shape new_ring r
+
+-- one of each ring
+abbrev pub AreFresh : List Ring → List RingRecord → Type 0
+AreFresh rings records = IsFreshSo rings records (length rings)
+
+-- a row was checked: it is in the profile and breaks no rule, the records and the memory hold what is known after it, and so
+-- many leases began
+pub record IsRowStep (h : Header) (k : Known) (row : Row) (after : List RingRecord) (memory : ℕ → ℕ) (leases : ℕ) : Type 0 where
+  pub inside : is_outside h row ≡ false
+  pub clean : broken h k row ≡ []
+  pub tracked : Follows h (learned h k row) after memory
+  pub counted : length (begun h k row) ≡ leases
+
+-- no row is outside the profile
+abbrev pub AreInside : Header → List Row → Type 0
+AreInside h [] = Unit {0}
+AreInside h (row ∷ past) = AreInside h past × (is_outside h row ≡ false)
+
+-- ---- answers
+
+-- what a refusal says; want of memory says nothing
+abbrev pub IfRefused : StepFault → (Refusal → Type 0) → Type 0
+IfRefused (Refused c) P = P c
+IfRefused Memory P = Unit {0}
+
+-- a refused row of a trace, by its number
+abbrev pub IfRefusedAt : CheckFault → (ℕ → Refusal → Type 0) → Type 0
+IfRefusedAt (RowRefused row c) P = P row c
+IfRefusedAt NoMemory P = Unit {0}
+
+-- some of the rows were checked; T tells what is held of what is known after them
+pub record IsChecked (h : Header) (rows : List Row) (first : ℕ) (done : ℕ) (T : Known → Type 0) (leases : ℕ) : Type 0 where
+  pub tracked : T (known h (reverse (take done rows)))
+  pub inside : AreInside h (reverse (take done rows))
+  pub clean : IsClean h (reverse (take done rows))
+  pub verdict : verdict_from h nothing first rows ≡ verdict_from h (known h (reverse (take done rows))) (first + done) (drop done rows)
+  pub within : verdict_within h nothing first rows ≡ verdict_within h (known h (reverse (take done rows))) (first + done) (drop done rows)
+  pub counted : length (event_shape h).segments + begun_count h nothing rows ≡ leases + begun_count h (known h (reverse (take done rows))) (drop done rows)
+
+-- a whole trace was accepted, with so many leases
+pub record IsAccepted (h : Header) (rows : List Row) (first : ℕ) (leases : ℕ) : Type 0 where
+  pub inside : AreInside h (reverse rows)
+  pub clean : IsClean h (reverse rows)
+  pub verdict : verdict_from h nothing first rows ≡ None
+  pub counted : length (leases_of h first rows) ≡ leases
+
+-- where the row of this number is in the profile, it is the first that breaks a rule, of all rules
+abbrev pub IsFirstOfAll : Header → ℕ → List Row → ℕ → Refusal → Type 0
+IsFirstOfAll h first rows number c =
+    (row : Row) → slice_get rows (number - first) ≡ Some row → is_outside h row ≡ false → verdict_from h nothing first rows ≡ Some (number, c)
+
+-- how far the check of a trace has come
+pub record IsProgress (h : Header) (rows : List Row) (first done number begun : ℕ) (records : List RingRecord) (memory : ℕ → ℕ) : Type 0 where
+  pub numbered : number ≡ first + done
+  pub few : begun ≤ 64 + done
+  pub checked : IsChecked h rows first done (λ k. Follows h k records memory) begun

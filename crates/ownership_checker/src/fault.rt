@@ -1,0 +1,42 @@
+ghost use Rattle.std.specs.Prelude.{◌≡◌};
+
+use ownership_rules::Refusal;
+use std::alloc::AllocError;
+
+/// Why a trace isn't accepted.
+#[derive(Debug, Drop, PartialEq, Eq)]
+pub enum CheckFault {
+    /// The first row that breaks a rule, by its line number, and the least of the rules that it breaks.
+    Refused { row: u32, refusal: Refusal },
+    /// A growth of memory was refused.
+    Memory,
+}
+
+/// Why a row isn't accepted.
+#[derive(Debug, Drop)]
+pub enum StepFault {
+    /// The least of the rules that the row breaks.
+    Refused(Refusal),
+    /// A growth of memory was refused.
+    Memory,
+}
+
+impl From<AllocError> for StepFault {
+    ghost use Rattle.ownership_checker.specs.declared.fault.StepFault.TheVariants.{Memory};
+
+    ghost from_gives = { λ f e. e ≡ Memory };
+
+    fn from(_error: AllocError) -> StepFault {
+        StepFault::Memory
+    }
+}
+
+impl From<AllocError> for CheckFault {
+    ghost use Rattle.ownership_checker.specs.declared.fault.CheckFault.TheVariants.{Memory};
+
+    ghost from_gives = { λ f e. e ≡ Memory };
+
+    fn from(_error: AllocError) -> CheckFault {
+        CheckFault::Memory
+    }
+}

@@ -1,0 +1,40 @@
+ghost use Rattle.std.specs.Prelude.{◌≡◌, ◌≤◌, length, IfOk};
+ghost use Rattle.traces.specs.Header.{IsHeader, event_shape, is_event_kind};
+ghost use Rattle.ownership_checker.specs.Tracking.{AreFresh};
+
+use ring_knowledge::RingRecord;
+use std::alloc::{AllocError, Global};
+use traces::{Header, Ring};
+use trb::RingKind;
+
+/// The ring carries events.
+pub fn is_event_ring(ring: &Ring) -> bool
+    ensures { result ≡ is_event_kind ring.now.shape.kind }
+{
+    matches!(ring.shape.kind(), RingKind::Evt)
+}
+
+/// How many leases stand from the first row on: one of each event segment.
+pub fn event_leases(header: &Header) -> u64
+    requires { IsHeader header.now }
+    ensures exact { result ≡ length (event_shape header.now).segments }
+    ensures few { result ≤ 64 }
+{
+    for ring in header.rings.as_slice() {
+        if is_event_ring(ring) {
+            return ring.shape.segments().len() as u64;
+        }
+    }
+    0
+}
+
+/// A record of each ring, of which nothing is known.
+pub fn fresh_records(alloc: Global, rings: &[Ring]) -> Result<Vec<RingRecord>, AllocError>
+    ensures { IfOk result (λ records. AreFresh rings.now records.items) }
+{
+    let mut records = Vec::new(alloc);
+    for ring in rings {
+        records.push(RingRecord::new(alloc, &ring.shape)?)?;
+    }
+    Ok(records)
+}

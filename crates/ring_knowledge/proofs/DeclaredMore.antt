@@ -1,0 +1,167 @@
+-- A record with one descriptor more follows what is declared with it
+use Rattle.std.proofs.Common.{◌≡◌, ℕ, suc, zero, ◌+◌, ◌-◌, ◌<◌, ◌≤◌, List, [], ◌∷◌, ◌++◌, Bool, true, false, refl, ap, sym, ◌∙◌, arith, length, get_or, set, inl, inr, length-append, subst}
+use Rattle.std.specs.Prelude.{◌==◌, not, sum, slice_index, replicate, nat_lt, nat_le, take}
+use Rattle.std.proofs.lemmas.List.Sums.{sum_by-cons}
+use Rattle.std.proofs.lemmas.Bool.{cases_eq, cases_lt, ltb-false, lt-ltb, le-ltb, le-leb, lt-leb}
+use Rattle.std.proofs.lemmas.Bool.Decides.{nat_tests}
+use Rattle.std.proofs.lemmas.Grind.{common_steps}
+use Rattle.trb.specs.declared.block.Block.{Block}
+use Rattle.segments.specs.ShapeValue.{Shape}
+use Rattle.segments.specs.Places.{place_count}
+use Rattle.segments.proofs.Positions.{place_count_pos}
+use Rattle.segments.specs.RingView.{RingView, Declares, changed, declared, floor_number}
+use Rattle.segments.specs.Descriptors.{length_from}
+use Rattle.segments.specs.Givings.{has_no_room}
+use Rattle.ring_knowledge.specs.declared.ring_record.RingRecord.{RingRecord}
+use Rattle.ring_knowledge.specs.RingRecords.{ArePositive, FollowsRing}
+
+sum-cons : (d : ℕ) (ds : List ℕ) → sum (d ∷ ds) ≡ d + sum ds
+sum-cons d ds = sum_by-cons (λ x. x) d ds
+
+-- one descriptor more: the others begin where they began
+earlier : (ds : List ℕ) (n start p : ℕ) → p < start + sum ds → length_from (ds ++ n ∷ []) start p ≡ length_from ds start p
+unfolding length_from
+earlier [] n start p h =
+    let other : (start == p) ≡ false = grind (arith, nat_tests, h) in
+    rw other refl
+earlier (d ∷ ds) n start p h =
+    let all = sum-cons d ds in
+    let rest : p < start + d + sum ds → length_from (ds ++ n ∷ []) (start + d) p ≡ length_from ds (start + d) p = λ below. earlier ds n (start + d) p below in
+    elim (cases_eq start p) [
+      | inl same ↦ let here : (start == p) ≡ true = grind (arith, nat_tests, same) in rw here refl
+      | inr other ↦ let there : (start == p) ≡ false = grind (arith, nat_tests, other) in rw there (rest (omega arith))
+    ]
+
+-- it begins behind them
+at_end : (ds : List ℕ) (n start p : ℕ) → ArePositive ds → p ≡ start + sum ds → length_from (ds ++ n ∷ []) start p ≡ n
+unfolding length_from
+at_end [] n start p pos h =
+    let here : (start == p) ≡ true = grind (arith, nat_tests, h) in
+    rw here refl
+at_end (d ∷ ds) n start p pos h =
+    let some = pos.0 in
+    let all = sum-cons d ds in
+    let there : (start == p) ≡ false = grind (arith, nat_tests, h, some, all) in
+    rw there (at_end ds n (start + d) p pos.1 (omega arith))
+
+-- and none begins later
+past_end : (ds : List ℕ) (n start p : ℕ) → start + sum ds < p → length_from (ds ++ n ∷ []) start p ≡ 0
+unfolding length_from
+past_end [] n start p h =
+    let there : (start == p) ≡ false = grind (arith, nat_tests, h) in
+    rw there refl
+past_end (d ∷ ds) n start p h =
+    let all = sum-cons d ds in
+    let there : (start == p) ≡ false = grind (arith, nat_tests, h, all) in
+    rw there (past_end ds n (start + d) p (omega arith))
+
+positive_push : (ds : List ℕ) (n : ℕ) → ArePositive ds → 0 < n → ArePositive (ds ++ n ∷ [])
+positive_push [] n pos h = (h, tt)
+positive_push (d ∷ ds) n pos h = (pos.0, positive_push ds n pos.1 h)
+
+sum_push : (ds : List ℕ) (n : ℕ) → sum (ds ++ n ∷ []) ≡ sum ds + n
+sum_push ds n = grind (arith, common_steps)
+
+index_before : (ls ms : List ℕ) (p : ℕ) → p < length ls → slice_index (ls ++ ms) p ≡ slice_index ls p
+index_before ls ms p h = grind (arith, common_steps, h)
+
+index_at : (ls ms : List ℕ) (n p : ℕ) → p ≡ length ls → slice_index (ls ++ n ∷ ms) p ≡ n
+index_at ls ms n p h = grind (arith, common_steps, h)
+
+zero_in : (m i : ℕ) → slice_index (replicate m 0) i ≡ 0
+zero_in zero i = refl
+zero_in (suc m) zero = refl
+zero_in (suc m) (suc i) = zero_in m i
+
+index_past : (ls : List ℕ) (n m p : ℕ) → length ls < p → slice_index (ls ++ n ∷ replicate m 0) p ≡ 0
+index_past [] n m zero h = absurd (omega arith)
+index_past [] n m (suc p) h = zero_in m p
+index_past (l ∷ ls) n m zero h = absurd (omega arith)
+index_past (l ∷ ls) n m (suc p) h = index_past ls n m p (omega arith)
+
+-- so many zeros behind the lengths, and the first of them made the descriptor's length
+pub lengths_more : (ls : List ℕ) (n : ℕ) → 0 < n → set (ls ++ replicate n 0) (length ls) n ≡ ls ++ (n ∷ replicate (n - 1) 0)
+lengths_more [] zero h = absurd (omega arith)
+lengths_more [] (suc n) h = let less : suc n - 1 ≡ n = omega arith in rw less refl
+lengths_more (l ∷ ls) n h = ap (λ xs. l ∷ xs) (lengths_more ls n h)
+
+module _ (shape : Shape) (v : RingView) (r : RingRecord) (follows : FollowsRing shape v r) (blocks : List Block) where
+  room_left : has_no_room shape v (length blocks) ≡ false → length r.blocks.items + length blocks + 1 ≤ floor_number v + place_count shape
+  unfolding has_no_room
+  room_left fits =
+      let most = ltb-false (place_count shape - 1 + floor_number v) (declared v + length blocks) fits in
+      omega (arith, ap length follows.queue, follows.room, place_count_pos shape follows.allowed)
+
+  begins_now : (ls : List ℕ) → 0 < length blocks → ls ≡ r.lengths.items ++ (length blocks ∷ replicate (length blocks - 1) 0) → (p : ℕ) →
+      length_from (v.lengths ++ length blocks ∷ []) 0 p ≡ slice_index ls p
+  begins_now ls some e p =
+      let whole = follows.whole in
+      let as_many = follows.as_many in
+      let split : (r.lengths.items ++ (length blocks ∷ replicate (length blocks - 1) 0)) ≡ ls = sym e in
+      elim (cases_lt p (sum v.lengths)) [
+        | inl before ↦
+            earlier v.lengths (length blocks) 0 p (omega arith) ∙ follows.begins p
+            ∙ sym (index_before r.lengths.items (length blocks ∷ replicate (length blocks - 1) 0) p (omega arith)) ∙ ap (λ xs. slice_index xs p) split
+        | inr from ↦ elim (cases_eq p (sum v.lengths)) [
+          | inl at ↦
+              at_end v.lengths (length blocks) 0 p follows.positive (omega arith)
+              ∙ sym (index_at r.lengths.items (replicate (length blocks - 1) 0) (length blocks) p (omega arith)) ∙ ap (λ xs. slice_index xs p) split
+          | inr other ↦
+              past_end v.lengths (length blocks) 0 p (omega arith)
+              ∙ sym (index_past r.lengths.items (length blocks) (length blocks - 1) p (omega arith)) ∙ ap (λ xs. slice_index xs p) split
+        ]
+      ]
+
+  -- the record with the blocks and their length
+  pub declared_follows : has_no_room shape v (length blocks) ≡ false → 0 < length blocks → (n : RingRecord) → n.blocks.items ≡ r.blocks.items ++ blocks
+      → n.lengths.items ≡ r.lengths.items ++ (length blocks ∷ replicate (length blocks - 1) 0)
+      → n.given.items ≡ r.given.items → n.crossed.items ≡ r.crossed.items → n.floor ≡ r.floor → n.held ≡ r.held
+      → FollowsRing shape (changed shape v (Declares blocks)) n
+  declared_follows fits some n more lengths given crossed floor held =
+      let many : length n.blocks.items ≡ length r.blocks.items + length blocks = ap length more ∙ length-append r.blocks.items blocks in
+      let long : length n.lengths.items ≡ length r.lengths.items + length blocks =
+      ap length lengths ∙ length-append r.lengths.items (length blocks ∷ replicate (length blocks - 1) 0) ∙ grind (arith, common_steps, some) in
+      let room : length r.blocks.items + length blocks + 1 ≤ floor_number v + place_count shape = room_left fits in
+      let as_many = follows.as_many in
+      let whole = follows.whole in
+      record {
+        allowed = follows.allowed;
+        queue = ap (λ q. q ++ blocks) follows.queue ∙ sym more;
+        floor = follows.floor ∙ sym floor;
+        held = follows.held ∙ sym held;
+        begins = begins_now n.lengths.items some lengths;
+        as_many = omega arith;
+        whole = sum_push v.lengths (length blocks) ∙ omega arith;
+        positive = positive_push v.lengths (length blocks) follows.positive some;
+        room = omega arith;
+        places = ap length given ∙ follows.places;
+        given = rw given follows.given;
+        segments = rw crossed follows.segments;
+        crossed = rw crossed follows.crossed;
+      }
+
+-- the lengths as the code makes them
+pub lengths_grown : (ls ms : List ℕ) (start len n : ℕ) → start ≡ len → len ≡ length ls → 0 < n → ms ≡ take (start + n) ls ++ replicate (start + n - len) 0 →
+    set ms start n ≡ ls ++ (n ∷ replicate (n - 1) 0)
+lengths_grown ls ms start len n same all some e =
+    let whole : take (start + n) ls ≡ ls = take-all ls (start + n) (omega arith) in
+    let zeros : start + n - len ≡ n = omega arith in
+    let end : start ≡ length ls = same ∙ all in
+    ap (λ xs. set xs start n) (e ∙ ap (λ xs. xs ++ replicate (start + n - len) 0) whole ∙ ap (λ k. ls ++ replicate k 0) zeros)
+    ∙ ap (λ k. set (ls ++ replicate n 0) k n) end ∙ lengths_more ls n some
+  where
+    take-all : (xs : List ℕ) (k : ℕ) → length xs ≤ k → take k xs ≡ xs
+    take-all xs k h = grind (arith, common_steps, h)
+
+-- whether there is room, as the code tests it
+pub room_test : (shape : Shape) (v : RingView) (r : RingRecord) → FollowsRing shape v r → (count len most : ℕ) → len ≡ length r.blocks.items →
+    most ≡ place_count shape - 1 + floor_number v - len → nat_le count most ≡ not (has_no_room shape v count)
+unfolding has_no_room
+room_test shape v r follows count len most len_is most_is =
+    let many : declared v ≡ len = ap length follows.queue ∙ sym len_is in
+    let some = place_count_pos shape follows.allowed in
+    let room = follows.room in
+    elim (cases_lt (place_count shape - 1 + floor_number v) (declared v + count)) [
+      | inl full ↦ lt-leb count most (omega arith) ∙ sym (ap not (lt-ltb (place_count shape - 1 + floor_number v) (declared v + count) full))
+      | inr fits ↦ le-leb count most (omega arith) ∙ sym (ap not (le-ltb (place_count shape - 1 + floor_number v) (declared v + count) fits))
+    ]

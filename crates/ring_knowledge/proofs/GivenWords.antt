@@ -1,0 +1,124 @@
+-- What a write gives of a ring that a record follows
+use Rattle.std.proofs.Common.{◌≡◌, ◌≢◌, ℕ, ◌+◌, ◌%◌, ◌<◌, ◌≤◌, [], ◌∷◌, Bool, true, false, Some, refl, ap, sym, ◌∙◌, arith, length, get_or, cond}
+use Rattle.std.specs.Prelude.{◌==◌, ◌&&◌, not, max, filter}
+use Rattle.std.specs.List.{range_with_len}
+use Rattle.std.proofs.lemmas.Bool.{and_parts, eq-eqb, ne_eqb}
+use Rattle.segments.specs.declared.place.Place.TheVariants.{Data as AtData, Link as AtLink}
+use Rattle.segments.specs.ShapeValue.{Shape}
+use Rattle.segments.specs.Places.{place_count, link_crossed, is_crossing}
+use Rattle.segments.specs.PlaceAt.{place_at}
+use Rattle.segments.specs.Spots.{number}
+use Rattle.segments.specs.RingView.{RingView, floor_number, gives, gives_crossing, due_positions, due_crossings, positions_given, crossings_given}
+use Rattle.segments.specs.Givings.{link_of}
+use Rattle.segments.proofs.Crossings.{is_crossing-from}
+use Rattle.ring_knowledge.specs.declared.ring_record.RingRecord.{RingRecord}
+use Rattle.ring_knowledge.specs.Marks.{is_noted}
+use Rattle.ring_knowledge.specs.RingRecords.{FollowsRing, is_the, least_crossing}
+use Rattle.ring_knowledge.proofs.Noted.{noted_due, false_unless}
+use Rattle.ring_knowledge.proofs.Ranges.{filter_none, filter_only}
+use Rattle.ring_knowledge.proofs.DueNumbers.{link_of-crossed}
+use Rattle.ring_knowledge.proofs.DueWrites.{Gives, gives-true, GivesCrossing, gives_crossing-true}
+
+data_is : (i v j w : ℕ) → Some (AtData i v) ≡ Some (AtData j w) → i ≡ j
+data_is i v j w e = cc
+
+link_is : (i v j w : ℕ) → Some (AtLink i v) ≡ Some (AtLink j w) → i ≡ j
+link_is i v j w e = cc
+
+yes_no : (b : Bool) → not b ≡ true → b ≡ true → ⊥
+yes_no b n y = cc
+
+module _ (shape : Shape) (v : RingView) (r : RingRecord) (follows : FollowsRing shape v r) where
+  -- the mark of a due position
+  pub given_due : (p : ℕ) → floor_number v ≤ p → p < floor_number v + place_count shape → v.given p ≡ get_or r.given.items (p % place_count shape) false
+  given_due p low high = follows.given p ∙ noted_due (floor_number v) (place_count shape) r.given.items (p % place_count shape) p low high
+
+  -- the mark of a due crossing
+  pub crossed_due : (q j : ℕ) → least_crossing v ≤ q → q < least_crossing v + place_count shape → link_crossed shape q ≡ Some j → v.crossed q ≡ get_or r.crossed.items j false
+  crossed_due q j low high over =
+      follows.crossed q ∙ ap (λ b. b && is_noted (least_crossing v) (place_count shape) r.crossed.items (link_of shape q) q) (is_crossing-from shape q j over)
+      ∙ noted_due (least_crossing v) (place_count shape) r.crossed.items (link_of shape q) q low high
+      ∙ ap (λ n. get_or r.crossed.items n false) (link_of-crossed shape q j over)
+
+  module _ (a w : ℕ) where
+    -- no position is given where none would be
+    pub positions_none : ((p : ℕ) → gives shape r.floor p a w ≡ false) → positions_given shape v a w ≡ []
+    unfolding positions_given due_positions
+    positions_none never =
+        filter_none (λ p. not (v.given p) && gives shape v.floor p a w) (floor_number v) (place_count shape)
+        (λ p low high. ap (λ b. not (v.given p) && b) (ap (λ f. gives shape f p a w) follows.floor ∙ never p) ∙ and_false (not (v.given p)))
+      where
+        and_false : (b : Bool) → (b && false) ≡ false
+        and_false true = refl
+        and_false false = refl
+
+    pub crossings_none : ((q : ℕ) → gives_crossing shape r.floor q a w ≡ false) → crossings_given shape v a w ≡ []
+    unfolding crossings_given due_crossings
+    crossings_none never =
+        filter_none (λ q. not (v.crossed q) && gives_crossing shape v.floor q a w) (floor_number v) (place_count shape + 1)
+        (λ q low high. ap (λ b. not (v.crossed q) && b) (ap (λ f. gives_crossing shape f q a w) follows.floor ∙ never q) ∙ and_false (not (v.crossed q)))
+      where
+        and_false : (b : Bool) → (b && false) ≡ false
+        and_false true = refl
+        and_false false = refl
+
+    -- nor where the due one is given already
+    pub positions_marked : (i u : ℕ) → place_at shape a ≡ Some (AtData i u) → get_or r.given.items i false ≡ true → positions_given shape v a w ≡ []
+    unfolding positions_given due_positions
+    positions_marked i u at marked =
+        filter_none (λ p. not (v.given p) && gives shape v.floor p a w) (floor_number v) (place_count shape)
+        (λ p low high. false_unless (not (v.given p) && gives shape v.floor p a w) (λ h.
+        let parts = and_parts (not (v.given p)) (gives shape v.floor p a w) h in
+        let g : Gives shape follows.allowed v.floor p a w = gives-true shape follows.allowed v.floor p a w parts.1 in
+        let here = data_is (p % place_count shape) 3 i u (sym g.word_at ∙ at) in
+        yes_no (v.given p) parts.0 (given_due p low high ∙ ap (λ n. get_or r.given.items n false) here ∙ marked)))
+
+    pub crossings_marked : (j u : ℕ) → place_at shape a ≡ Some (AtLink j u) → get_or r.crossed.items j false ≡ true → crossings_given shape v a w ≡ []
+    unfolding crossings_given due_crossings
+    crossings_marked j u at marked =
+        filter_none (λ q. not (v.crossed q) && gives_crossing shape v.floor q a w) (floor_number v) (place_count shape + 1)
+        (λ q low high. false_unless (not (v.crossed q) && gives_crossing shape v.floor q a w) (λ h.
+        let parts = and_parts (not (v.crossed q)) (gives_crossing shape v.floor q a w) h in
+        let found = gives_crossing-true shape follows.allowed v.floor q a w parts.1 in
+        let i : ℕ = found.0 in
+        let g : GivesCrossing shape follows.allowed v.floor q i a w = found.1 in
+        let here = link_is i 3 j u (sym g.word_at ∙ at) in
+        yes_no (v.crossed q) parts.0 (crossed_due q i g.from g.within g.over ∙ ap (λ n. get_or r.crossed.items n false) here ∙ marked)))
+
+    -- a position that isn't given yet
+    pub positions_one : (i q : ℕ) → get_or r.given.items i false ≡ false → number r.floor ≤ q → q < number r.floor + place_count shape → q % place_count shape ≡ i →
+        ((p : ℕ) → gives shape r.floor p a w ≡ is_the (Some q) p) → positions_given shape v a w ≡ q ∷ []
+    unfolding positions_given due_positions
+    positions_one i q free low high here gives_it =
+        let floor = ap number follows.floor in
+        let low' : floor_number v ≤ q = omega arith in
+        let high' : q < floor_number v + place_count shape = omega arith in
+        let not_given : v.given q ≡ false = given_due q low' high' ∙ ap (λ n. get_or r.given.items n false) here ∙ free in
+        let one : (not (v.given q) && gives shape v.floor q a w) ≡ true =
+        ap (λ b. not b && gives shape v.floor q a w) not_given ∙ ap (λ f. gives shape f q a w) follows.floor ∙ gives_it q ∙ eq-eqb q q refl in
+        filter_only (λ p. not (v.given p) && gives shape v.floor p a w) (floor_number v) (place_count shape) q low' high'
+        (λ p l u other. ap (λ b. not (v.given p) && b) (ap (λ f. gives shape f p a w) follows.floor ∙ gives_it p ∙ ne_eqb p q other) ∙ and_false (not (v.given p)))
+        ∙ ap (λ b. cond b (q ∷ []) []) one
+      where
+        and_false : (b : Bool) → (b && false) ≡ false
+        and_false true = refl
+        and_false false = refl
+
+    -- a crossing that isn't given yet
+    pub crossings_one : (j q : ℕ) → get_or r.crossed.items j false ≡ false → max (number r.floor) 1 ≤ q → q < max (number r.floor) 1 + place_count shape → link_crossed shape q ≡ Some j →
+        ((n : ℕ) → gives_crossing shape r.floor n a w ≡ is_the (Some q) n) → crossings_given shape v a w ≡ q ∷ []
+    unfolding crossings_given due_crossings
+    crossings_one j q free low high over gives_it =
+        let floor = ap number follows.floor in
+        let low' : least_crossing v ≤ q = omega arith in
+        let high' : q < least_crossing v + place_count shape = omega arith in
+        let not_crossed : v.crossed q ≡ false = crossed_due q j low' high' over ∙ free in
+        let one : (not (v.crossed q) && gives_crossing shape v.floor q a w) ≡ true =
+        ap (λ b. not b && gives_crossing shape v.floor q a w) not_crossed ∙ ap (λ f. gives_crossing shape f q a w) follows.floor ∙ gives_it q ∙ eq-eqb q q refl in
+        filter_only (λ n. not (v.crossed n) && gives_crossing shape v.floor n a w) (floor_number v) (place_count shape + 1) q (omega arith) (omega arith)
+        (λ n l u other. ap (λ b. not (v.crossed n) && b) (ap (λ f. gives_crossing shape f n a w) follows.floor ∙ gives_it n ∙ ne_eqb n q other) ∙ and_false (not (v.crossed n)))
+        ∙ ap (λ b. cond b (q ∷ []) []) one
+      where
+        and_false : (b : Bool) → (b && false) ≡ false
+        and_false true = refl
+        and_false false = refl

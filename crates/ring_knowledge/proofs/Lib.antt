@@ -1,0 +1,11 @@
+pub mod Ranges
+pub mod Noted
+pub mod DueNumbers
+pub mod DueWrites
+pub mod LastPlaces
+pub mod NewRecord
+pub mod DeclaredMore
+pub mod OwnedWords
+pub mod GivenWords
+pub mod NotedWrites
+pub mod WholeDescriptors

@@ -1,0 +1,72 @@
+-- A new record follows a ring on which nothing happened
+use Rattle.std.proofs.Common.{◌≡◌, ℕ, ◌+◌, ◌-◌, ◌*◌, ◌<◌, ◌≤◌, ◌%◌, List, [], Bool, true, false, Some, refl, ap, sym, ◌∙◌, arith, inl, inr, length, get_or}
+use Rattle.std.specs.Prelude.{replicate, ◌&&◌}
+use Rattle.std.proofs.lemmas.Bool.{cases_lt, cases_Bool}
+use Rattle.std.proofs.lemmas.Grind.{common_steps}
+use Rattle.std.proofs.lemmas.List.{length-map}
+use Rattle.trb.specs.declared.ring_kind.RingKind.{RingKind}
+use Rattle.trb.specs.declared.ring_kind.RingKind.TheVariants.{Cmd, Evt, Xfer}
+use Rattle.segments.specs.declared.segment.Segment.{Segment}
+use Rattle.segments.specs.declared.spot.Spot.TheVariants.{Data}
+use Rattle.segments.specs.ShapeValue.{Shape}
+use Rattle.segments.specs.Shape.{IsShape}
+use Rattle.segments.specs.Places.{place_count, links, links_of, is_crossing}
+use Rattle.segments.specs.RingView.{new_ring}
+use Rattle.segments.specs.Descriptors.{length_from}
+use Rattle.segments.specs.Givings.{link_of}
+use Rattle.segments.proofs.Crossings.{crossing_positive}
+use Rattle.ring_knowledge.specs.declared.ring_record.RingRecord.{RingRecord}
+use Rattle.ring_knowledge.specs.Marks.{is_noted}
+use Rattle.ring_knowledge.specs.RingRecords.{FollowsRing}
+use Rattle.ring_knowledge.proofs.Noted.{noted_due, noted_past}
+
+-- no more Links than segments
+few_links : (kind : RingKind) (segments : List Segment) → length (links_of kind segments) ≤ length segments
+few_links Evt segments = omega arith
+few_links Cmd segments = omega (arith, length-map segments (λ s. s.base + 16 * (s.count - 1)))
+few_links Xfer segments = omega (arith, length-map segments (λ s. s.base + 16 * (s.count - 1)))
+
+at_false : (n p : ℕ) → get_or (replicate n false) p false ≡ false
+at_false n p = grind (arith, common_steps)
+
+-- with no mark nothing is noted from the least due number on
+none_noted : (least count : ℕ) (marks : List Bool) (many i n : ℕ) → marks ≡ replicate many false → least ≤ n → is_noted least count marks i n ≡ false
+none_noted least count marks many i n none from =
+    elim (cases_lt n (least + count)) [
+      | inl within ↦ noted_due least count marks i n from within ∙ ap (λ ms. get_or ms i false) none ∙ at_false many i
+      | inr past ↦ noted_past least count marks i n past
+    ]
+
+and_false : (b : Bool) → (b && false) ≡ false
+and_false true = refl
+and_false false = refl
+
+none_crossed : (shape : Shape) (marks : List Bool) (many q : ℕ) → marks ≡ replicate many false →
+    false ≡ (is_crossing shape q && is_noted 1 (place_count shape) marks (link_of shape q) q)
+none_crossed shape marks many q none =
+    elim (cases_Bool (is_crossing shape q)) [
+      | inl crossing ↦
+          let positive = crossing_positive shape q crossing in
+          sym (ap (λ b. is_crossing shape q && b) (none_noted 1 (place_count shape) marks many (link_of shape q) q none (omega arith)) ∙ and_false (is_crossing shape q))
+      | inr other ↦ sym (ap (λ b. b && is_noted 1 (place_count shape) marks (link_of shape q) q) other)
+    ]
+
+pub new_follows : (shape : Shape) → IsShape shape → 2 ≤ place_count shape → (r : RingRecord) → r.blocks.items ≡ [] → r.lengths.items ≡ []
+    → r.given.items ≡ replicate (place_count shape) false → r.crossed.items ≡ replicate (length shape.segments) false
+    → r.floor ≡ Data 0 → r.held ≡ Some 0 → FollowsRing shape new_ring r
+unfolding length_from
+new_follows shape allowed two r no_blocks no_lengths none_given no_crossings floor held = record {
+  allowed = allowed;
+  queue = sym no_blocks;
+  floor = sym floor;
+  held = sym held;
+  begins = λ p. grind (arith, common_steps, no_lengths);
+  as_many = grind (arith, common_steps, no_blocks, no_lengths);
+  whole = grind (arith, common_steps, no_blocks);
+  positive = tt;
+  room = grind (arith, common_steps, no_blocks, two);
+  places = grind (arith, common_steps, none_given);
+  given = λ p. sym (none_noted 0 (place_count shape) r.given.items (place_count shape) (p % place_count shape) p none_given (omega arith));
+  segments = grind (arith, common_steps, no_crossings, few_links shape.kind shape.segments);
+  crossed = λ q. none_crossed shape r.crossed.items (length shape.segments) q no_crossings;
+}

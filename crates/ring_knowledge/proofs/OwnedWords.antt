@@ -1,0 +1,175 @@
+-- Which words of a ring its controller may own, by the place of the address
+use Rattle.std.proofs.Common.{◌≡◌, ◌≢◌, ℕ, ◌+◌, ◌-◌, ◌*◌, ◌/◌, ◌%◌, ◌<◌, ◌≤◌, List, [], ◌∷◌, Bool, true, false, Some, None, refl, ap, sym, ◌∙◌, arith, inl, inr, length, slice_index, get_or, cond}
+use Rattle.std.specs.Prelude.{◌&&◌, ◌||◌, max, nat_lt, filter}
+use Rattle.std.specs.List.{list_any, range_with_len}
+use Rattle.std.proofs.lemmas.Bool.{cases_Bool, and_parts, and_from, lt-ltb, ltb-true}
+use Rattle.segments.specs.declared.place.Place.{Place}
+use Rattle.segments.specs.declared.place.Place.TheVariants.{Data as AtData, Link as AtLink}
+use Rattle.segments.specs.ShapeValue.{Shape}
+use Rattle.segments.specs.Places.{place_count, address_of, data_places, links, link_crossed, is_crossing, link_address, overlap}
+use Rattle.segments.specs.PlaceAt.{place_at}
+use Rattle.segments.specs.Spots.{number}
+use Rattle.segments.specs.RingView.{RingView, floor_number, due_positions, due_crossings, leased_positions, leased_crossings}
+use Rattle.segments.specs.Givings.{link_of}
+use Rattle.segments.proofs.Positions.{place_count_pos, place_below, address_aligned, address_of-first, address_of-mod}
+use Rattle.segments.proofs.DataPlaces.{link_aligned}
+use Rattle.segments.proofs.Crossings.{crosses, crossed_link, crossing_positive, is_crossing-from, link_address_is}
+use Rattle.segments.proofs.PlaceAtLemmas.{place_at-data, place_at-link, place_at-Data, place_at-Link}
+use Rattle.ring_knowledge.specs.declared.ring_record.RingRecord.{RingRecord}
+use Rattle.ring_knowledge.specs.Marks.{is_noted}
+use Rattle.ring_knowledge.specs.RingRecords.{FollowsRing, least_crossing}
+use Rattle.ring_knowledge.proofs.Noted.{noted_due, noted_within, false_unless, or_false}
+use Rattle.ring_knowledge.proofs.Ranges.{any_none, any_only}
+use Rattle.ring_knowledge.proofs.DueNumbers.{IsDue, link_of-crossed, due_number, same_due, due_crossing, same_due_crossing}
+use Rattle.ring_knowledge.proofs.DueWrites.{data_no_link}
+
+-- a test of what passes another test
+any_filtered : (f g : ℕ → Bool) (xs : List ℕ) → list_any f (filter g xs) ≡ list_any (λ x. g x && f x) xs
+any_filtered f g [] = refl
+any_filtered f g (x ∷ xs) = by_test (g x) (any_filtered f g xs)
+  where
+    by_test : (b : Bool) → list_any f (filter g xs) ≡ list_any (λ y. g y && f y) xs →
+        list_any f (cond b (x ∷ filter g xs) (filter g xs)) ≡ ((b && f x) || list_any (λ y. g y && f y) xs)
+    by_test true e = ap (λ c. f x || c) e
+    by_test false e = e
+
+-- a word and a block with a byte in common: the word is one of the block's
+word_inside : (a b : ℕ) → a % 4 ≡ 0 → b % 16 ≡ 0 → a < b + 16 → b < a + 4 → b ≤ a
+word_inside a b word block near far = omega arith
+
+data_is : (i v j w : ℕ) → Some (AtData i v) ≡ Some (AtData j w) → i ≡ j
+data_is i v j w e = cc
+
+link_is : (i v j w : ℕ) → Some (AtLink i v) ≡ Some (AtLink j w) → i ≡ j
+link_is i v j w e = cc
+
+some_none : (p : Place) → None ≡ Some p → ⊥
+some_none p e = cc
+
+module _ (shape : Shape) (v : RingView) (r : RingRecord) (follows : FollowsRing shape v r) (a : ℕ) (word : a % 4 ≡ 0) where
+  -- a word with a byte of a position's block is a word of its place
+  of_place : (p : ℕ) → overlap a 4 (address_of shape p) 16 ≡ true → place_at shape a ≡ Some (AtData (p % place_count shape) (a % 16 / 4))
+  of_place p h =
+      let bytes = and_parts (nat_lt a (address_of shape p + 16)) (nat_lt (address_of shape p) (a + 4)) h in
+      let near = ltb-true a (address_of shape p + 16) bytes.0 in
+      let far = ltb-true (address_of shape p) (a + 4) bytes.1 in
+      let low : address_of shape p ≤ a = word_inside a (address_of shape p) word (address_aligned shape follows.allowed p) near far in
+      let below = place_below shape follows.allowed p in
+      let first = address_of-first shape (p % place_count shape) below in
+      let same = address_of-mod shape follows.allowed p in
+      place_at-data shape follows.allowed (p % place_count shape) a below word (omega (arith, first, same)) (omega (arith, first, same))
+
+  -- one with a byte of a crossed Link is a word of the Link
+  of_link : (q j : ℕ) → link_crossed shape q ≡ Some j → overlap a 4 (link_address shape q) 16 ≡ true → place_at shape a ≡ Some (AtLink j (a % 16 / 4))
+  of_link q j over h =
+      let bytes = and_parts (nat_lt a (link_address shape q + 16)) (nat_lt (link_address shape q) (a + 4)) h in
+      let near = ltb-true a (link_address shape q + 16) bytes.0 in
+      let far = ltb-true (link_address shape q) (a + 4) bytes.1 in
+      let inside : j < length (links shape) = (crosses shape q j over).link in
+      let at = link_address_is shape q j over in
+      let aligned = link_aligned shape follows.allowed j inside in
+      let low : slice_index (links shape) j ≤ a = word_inside a (slice_index (links shape) j) word aligned (omega (arith, at)) (omega (arith, at)) in
+      place_at-link shape follows.allowed j a inside word low (omega (arith, at))
+
+  positions_are : list_any (λ p. overlap a 4 (address_of shape p) 16) (leased_positions shape v)
+      ≡ list_any (λ p. v.given p && overlap a 4 (address_of shape p) 16) (range_with_len (floor_number v) (place_count shape))
+  unfolding leased_positions due_positions
+  positions_are = any_filtered (λ p. overlap a 4 (address_of shape p) 16) v.given (range_with_len (floor_number v) (place_count shape))
+
+  crossings_are : list_any (λ q. overlap a 4 (link_address shape q) 16) (leased_crossings shape v)
+      ≡ list_any (λ q. (is_crossing shape q && v.crossed q) && overlap a 4 (link_address shape q) 16) (range_with_len (floor_number v) (place_count shape + 1))
+  unfolding leased_crossings due_crossings
+  crossings_are = any_filtered (λ q. overlap a 4 (link_address shape q) 16) (λ q. is_crossing shape q && v.crossed q) (range_with_len (floor_number v) (place_count shape + 1))
+
+  no_positions : ((j w : ℕ) → place_at shape a ≡ Some (AtData j w) → ⊥) → list_any (λ p. overlap a 4 (address_of shape p) 16) (leased_positions shape v) ≡ false
+  no_positions never =
+      positions_are
+      ∙ any_none (λ p. v.given p && overlap a 4 (address_of shape p) 16) (floor_number v) (place_count shape)
+      (λ p low high. false_unless (v.given p && overlap a 4 (address_of shape p) 16)
+      (λ h. never (p % place_count shape) (a % 16 / 4) (of_place p (and_parts (v.given p) (overlap a 4 (address_of shape p) 16) h).1)))
+
+  no_crossings : ((j w : ℕ) → place_at shape a ≡ Some (AtLink j w) → ⊥) → list_any (λ q. overlap a 4 (link_address shape q) 16) (leased_crossings shape v) ≡ false
+  no_crossings never =
+      crossings_are
+      ∙ any_none (λ q. (is_crossing shape q && v.crossed q) && overlap a 4 (link_address shape q) 16) (floor_number v) (place_count shape + 1)
+      (λ q low high. false_unless ((is_crossing shape q && v.crossed q) && overlap a 4 (link_address shape q) 16)
+      (λ h.
+      let parts = and_parts (is_crossing shape q && v.crossed q) (overlap a 4 (link_address shape q) 16) h in
+      let found = crossed_link shape q (and_parts (is_crossing shape q) (v.crossed q) parts.0).0 in
+      never found.0 (a % 16 / 4) (of_link q found.0 found.1 parts.1)))
+
+  -- at a word of a data place: its mark
+  pub owned_data : (i w : ℕ) → place_at shape a ≡ Some (AtData i w) → get_or r.given.items i false
+      ≡ (list_any (λ p. overlap a 4 (address_of shape p) 16) (leased_positions shape v) || list_any (λ q. overlap a 4 (link_address shape q) 16) (leased_crossings shape v))
+  owned_data i w at =
+      let where_ = place_at-Data shape follows.allowed a i w at in
+      let found = due_number (floor_number v) (place_count shape) i where_.0 in
+      let p : ℕ = found.0 in
+      let due : IsDue (floor_number v) (place_count shape) i p = found.1 in
+      let same = address_of-mod shape follows.allowed p in
+      let rest = ap (λ n. address_of shape n) due.rest_is in
+      let here : overlap a 4 (address_of shape p) 16 ≡ true =
+      and_from (nat_lt a (address_of shape p + 16)) (nat_lt (address_of shape p) (a + 4)) (lt-ltb a (address_of shape p + 16) (omega (arith, where_.1, where_.2))) (lt-ltb (address_of shape p) (a + 4) (omega (arith, where_.2))) in
+      let given : v.given p ≡ get_or r.given.items i false =
+      follows.given p ∙ noted_due (floor_number v) (place_count shape) r.given.items (p % place_count shape) p due.from due.within ∙ ap (λ n. get_or r.given.items n false) due.rest_is in
+      let only : list_any (λ n. overlap a 4 (address_of shape n) 16) (leased_positions shape v) ≡ get_or r.given.items i false =
+      positions_are
+      ∙ any_only (λ n. v.given n && overlap a 4 (address_of shape n) 16) (floor_number v) (place_count shape) p due.from due.within
+      (λ n low high other. false_unless (v.given n && overlap a 4 (address_of shape n) 16)
+      (λ h. other (same_due (floor_number v) (place_count shape) n p (place_count_pos shape follows.allowed) low high due.from due.within
+      (data_is (n % place_count shape) (a % 16 / 4) i w (sym (of_place n (and_parts (v.given n) (overlap a 4 (address_of shape n) 16) h).1) ∙ at) ∙ sym due.rest_is))))
+      ∙ ap (λ b. v.given p && b) here ∙ and_true (v.given p) ∙ given in
+      let none = no_crossings (λ j u e. data_no_link i w j u (sym at ∙ e)) in
+      sym (ap (λ b. b || list_any (λ q. overlap a 4 (link_address shape q) 16) (leased_crossings shape v)) only
+      ∙ ap (λ b. get_or r.given.items i false || b) none ∙ or_false (get_or r.given.items i false))
+    where
+      and_true : (b : Bool) → (b && true) ≡ b
+      and_true true = refl
+      and_true false = refl
+
+  -- at a word of a Link: its mark
+  pub owned_link : (j w : ℕ) → place_at shape a ≡ Some (AtLink j w) → get_or r.crossed.items j false
+      ≡ (list_any (λ p. overlap a 4 (address_of shape p) 16) (leased_positions shape v) || list_any (λ q. overlap a 4 (link_address shape q) 16) (leased_crossings shape v))
+  owned_link j w at =
+      let where_ = place_at-Link shape follows.allowed a j w at in
+      let found = due_crossing shape follows.allowed (floor_number v) j where_.0 in
+      let q : ℕ = found.0 in
+      let over : link_crossed shape q ≡ Some j = found.3 in
+      let address = link_address_is shape q j over in
+      let crossing : is_crossing shape q ≡ true = is_crossing-from shape q j over in
+      let here : overlap a 4 (link_address shape q) 16 ≡ true =
+      and_from (nat_lt a (link_address shape q + 16)) (nat_lt (link_address shape q) (a + 4)) (lt-ltb a (link_address shape q + 16) (omega (arith, where_.1, where_.2))) (lt-ltb (link_address shape q) (a + 4) (omega (arith, where_.2))) in
+      let crossed : v.crossed q ≡ get_or r.crossed.items j false =
+      follows.crossed q ∙ ap (λ b. b && is_noted (least_crossing v) (place_count shape) r.crossed.items (link_of shape q) q) crossing
+      ∙ noted_due (least_crossing v) (place_count shape) r.crossed.items (link_of shape q) q found.1 found.2 ∙ ap (λ n. get_or r.crossed.items n false) (link_of-crossed shape q j over) in
+      let only : list_any (λ n. overlap a 4 (link_address shape n) 16) (leased_crossings shape v) ≡ get_or r.crossed.items j false =
+      crossings_are
+      ∙ any_only (λ n. (is_crossing shape n && v.crossed n) && overlap a 4 (link_address shape n) 16) (floor_number v) (place_count shape + 1) q (omega (arith, found.1)) (omega (arith, found.2))
+      (λ n low high other. false_unless ((is_crossing shape n && v.crossed n) && overlap a 4 (link_address shape n) 16) (λ h. other (same_there n q low found.1 found.2 over h)))
+      ∙ ap (λ b. (is_crossing shape q && v.crossed q) && b) here ∙ ap (λ b. (b && v.crossed q) && true) crossing ∙ and_true (v.crossed q) ∙ crossed in
+      let none = no_positions (λ i u e. data_no_link i u j w (sym e ∙ at)) in
+      sym (ap (λ b. b || list_any (λ n. overlap a 4 (link_address shape n) 16) (leased_crossings shape v)) none ∙ only)
+    where
+      and_true : (b : Bool) → (b && true) ≡ b
+      and_true true = refl
+      and_true false = refl
+
+      same_there : (n q : ℕ) → floor_number v ≤ n → least_crossing v ≤ q → q < least_crossing v + place_count shape → link_crossed shape q ≡ Some j →
+          ((is_crossing shape n && v.crossed n) && overlap a 4 (link_address shape n) 16) ≡ true → n ≡ q
+      same_there n q low low' high' over h =
+          let parts = and_parts (is_crossing shape n && v.crossed n) (overlap a 4 (link_address shape n) 16) h in
+          let both = and_parts (is_crossing shape n) (v.crossed n) parts.0 in
+          let noted = (and_parts (is_crossing shape n) (is_noted (least_crossing v) (place_count shape) r.crossed.items (link_of shape n) n) (sym (follows.crossed n) ∙ both.1)).1 in
+          let high = noted_within (least_crossing v) (place_count shape) r.crossed.items (link_of shape n) n noted in
+          let positive = crossing_positive shape n both.0 in
+          let there = crossed_link shape n both.0 in
+          let segment : there.0 ≡ j = link_is there.0 (a % 16 / 4) j w (sym (of_link n there.0 there.1 parts.1) ∙ at) in
+          same_due_crossing shape follows.allowed (least_crossing v) j n q (omega arith) high low' high' (there.1 ∙ ap (λ i. Some i) segment) over
+
+  -- elsewhere
+  pub owned_nowhere : place_at shape a ≡ None → false
+      ≡ (list_any (λ p. overlap a 4 (address_of shape p) 16) (leased_positions shape v) || list_any (λ q. overlap a 4 (link_address shape q) 16) (leased_crossings shape v))
+  owned_nowhere at =
+      let positions = no_positions (λ j u e. some_none (AtData j u) (sym at ∙ e)) in
+      let crossings = no_crossings (λ j u e. some_none (AtLink j u) (sym at ∙ e)) in
+      sym (ap (λ b. b || list_any (λ q. overlap a 4 (link_address shape q) 16) (leased_crossings shape v)) positions ∙ crossings)

@@ -1,0 +1,72 @@
+-- Whether the further blocks of a descriptor are given, on a ring that a record follows
+use Rattle.std.proofs.Common.{◌≡◌, ℕ, ◌+◌, ◌-◌, ◌%◌, ◌<◌, ◌≤◌, List, Bool, true, false, Option, Some, None, refl, ap, sym, ◌∙◌, arith, slice_index}
+use Rattle.std.specs.Prelude.{◌&&◌, ◌||◌, not, is_some}
+use Rattle.std.specs.List.{list_all, range_with_len}
+use Rattle.segments.specs.ShapeValue.{Shape}
+use Rattle.segments.specs.Places.{place_count, link_crossed, is_crossing}
+use Rattle.segments.specs.RingView.{RingView, floor_number}
+use Rattle.segments.specs.Ceiling.{is_step_given, is_way_given}
+use Rattle.segments.specs.Givings.{is_not_whole, descriptor_length, link_of}
+use Rattle.segments.proofs.Crossings.{is_crossing-from}
+use Rattle.ring_knowledge.specs.declared.ring_record.RingRecord.{RingRecord}
+use Rattle.ring_knowledge.specs.Marks.{is_noted}
+use Rattle.ring_knowledge.specs.RingRecords.{FollowsRing, least_crossing}
+use Rattle.ring_knowledge.proofs.Ranges.{all_from, all_each}
+use Rattle.ring_knowledge.proofs.DueNumbers.{link_of-crossed}
+
+module _ (shape : Shape) (v : RingView) (r : RingRecord) (follows : FollowsRing shape v r) where
+  -- a position that isn't given
+  pub step_not_given : (q : ℕ) → is_noted (floor_number v) (place_count shape) r.given.items (q % place_count shape) q ≡ false → false ≡ is_step_given shape v q
+  unfolding is_step_given
+  step_not_given q none = sym (ap (λ b. b && is_way_given shape v q) (follows.given q ∙ none))
+
+  -- one that is, with no Link on the way to it
+  pub step_without_link : (q : ℕ) → is_noted (floor_number v) (place_count shape) r.given.items (q % place_count shape) q ≡ true → link_crossed shape q ≡ None → true ≡ is_step_given shape v q
+  unfolding is_step_given is_way_given
+  step_without_link q given none = sym (ap (λ b. b && (not (is_crossing shape q) || v.crossed q)) (follows.given q ∙ given) ∙ ap (λ o. not (is_some o) || v.crossed q) none)
+
+  -- and with the Link of a segment
+  pub step_with_link : (q j : ℕ) → is_noted (floor_number v) (place_count shape) r.given.items (q % place_count shape) q ≡ true → link_crossed shape q ≡ Some j →
+      is_noted (least_crossing v) (place_count shape) r.crossed.items j q ≡ is_step_given shape v q
+  unfolding is_step_given is_way_given
+  step_with_link q j given over =
+      sym (ap (λ b. b && (not (is_crossing shape q) || v.crossed q)) (follows.given q ∙ given) ∙ ap (λ b. not b || v.crossed q) (is_crossing-from shape q j over)
+      ∙ follows.crossed q ∙ ap (λ b. b && is_noted (least_crossing v) (place_count shape) r.crossed.items (link_of shape q) q) (is_crossing-from shape q j over)
+      ∙ ap (λ i. is_noted (least_crossing v) (place_count shape) r.crossed.items i q) (link_of-crossed shape q j over))
+
+  is_not_whole-is : (p : ℕ) → is_not_whole shape v p ≡ not (list_all (λ q. is_step_given shape v q) (range_with_len (p + 1) (slice_index r.lengths.items p - 1)))
+  unfolding is_not_whole descriptor_length
+  is_not_whole-is p = ap (λ n. not (list_all (λ q. is_step_given shape v q) (range_with_len (p + 1) (n - 1)))) (follows.begins p)
+
+  not_not : (b : Bool) → b ≡ not (not b)
+  not_not true = refl
+  not_not false = refl
+
+  -- all further steps of the descriptor are given
+  pub whole : (p : ℕ) → ((o : ℕ) → 1 ≤ o → o < slice_index r.lengths.items p → is_step_given shape v (p + o) ≡ true) → true ≡ not (is_not_whole shape v p)
+  whole p h =
+      let all : list_all (λ q. is_step_given shape v q) (range_with_len (p + 1) (slice_index r.lengths.items p - 1)) ≡ true =
+      all_from (λ q. is_step_given shape v q) (p + 1) (slice_index r.lengths.items p - 1)
+      (λ q low high. let at : p + (q - p) ≡ q = omega arith in rw at at (h (q - p) (omega arith) (omega arith))) in
+      sym (ap not (is_not_whole-is p) ∙ sym (not_not (list_all (λ q. is_step_given shape v q) (range_with_len (p + 1) (slice_index r.lengths.items p - 1)))) ∙ all)
+
+  -- one of them isn't
+  pub not_whole : (p o : ℕ) → 1 ≤ o → o < slice_index r.lengths.items p → is_step_given shape v (p + o) ≡ false → false ≡ not (is_not_whole shape v p)
+  not_whole p o low high fails =
+      let some : list_all (λ q. is_step_given shape v q) (range_with_len (p + 1) (slice_index r.lengths.items p - 1)) ≡ false =
+      some_fails (list_all (λ q. is_step_given shape v q) (range_with_len (p + 1) (slice_index r.lengths.items p - 1)))
+      (λ all. yes_no (is_step_given shape v (p + o))
+      (all_each (λ q. is_step_given shape v q) (p + 1) (slice_index r.lengths.items p - 1) all (p + o) (omega arith) (omega arith)) fails) in
+      sym (ap not (is_not_whole-is p) ∙ sym (not_not (list_all (λ q. is_step_given shape v q) (range_with_len (p + 1) (slice_index r.lengths.items p - 1)))) ∙ some)
+    where
+      yes_no : (b : Bool) → b ≡ true → b ≡ false → ⊥
+      yes_no b y n = cc
+
+      some_fails : (b : Bool) → (b ≡ true → ⊥) → b ≡ false
+      some_fails true h = absurd (h refl)
+      some_fails false h = refl
+
+-- one note, of equal numbers
+pub same_note : (least least' count count' i i' q : ℕ) (marks marks' : List Bool) → least ≡ least' → count ≡ count' → marks ≡ marks' → i ≡ i' →
+    is_noted least count marks i q ≡ is_noted least' count' marks' i' q
+same_note least least' count count' i i' q marks marks' e f g h = cc

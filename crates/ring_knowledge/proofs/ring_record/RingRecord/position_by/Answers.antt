@@ -1,0 +1,36 @@
+use Rattle.std.proofs.Common.{◌≡◌, ◌≢◌, ◌%◌, ◌<◌, ◌≤◌, ◌+◌, ap, sym, ◌∙◌, arith}
+use Rattle.std.proofs.lemmas.Bool.{eqb-true, eqb-false}
+use Rattle.segments.specs.Spots.{number}
+use Rattle.segments.specs.Places.{place_count, cycle_of}
+use Rattle.segments.proofs.PlaceAtLemmas.{place_at-Data}
+use Rattle.ring_knowledge.proofs.DueWrites.{gives-data, gives-other_word, gives-other_cycle}
+use Rattle.ring_knowledge.proofs.ring_record.RingRecord.position_by.Goals as goal
+
+pub next_with_rest-position-requires-clause-rest : goal.next_with_rest-position-requires-clause-rest
+next_with_rest-position-requires-clause-rest c =
+    let at = place_at-Data c.args.shape.now c.places.ensures.allowed c.args.at c.args.place c.args.index c.requires in
+    omega (arith, at.0, c.from.ensures, c.from-places.ensures, c.places.ensures.count)
+
+pub returns-then-index-ne3-clause-gives : goal.returns-then-index-ne3-clause-gives
+returns-then-index-ne3-clause-gives c =
+    gives-other_word c.args.shape.now c.places.ensures.allowed c.args.self.now.floor c.args.at c.args.word c.args.place c.args.index c.requires c.if-index-ne3.true
+
+pub returns-then-has_cycle_of-clause-gives : goal.returns-then-has_cycle_of-clause-gives
+returns-then-has_cycle_of-clause-gives c =
+    let q = c.next_with_rest-position.result in
+    let count : c.from-places.result ≡ place_count c.args.shape.now = c.from-places.ensures ∙ c.places.ensures.count in
+    let low : number c.args.self.now.floor ≤ q = omega (arith, c.number.ensures, c.next_with_rest-position.ensures.from) in
+    let high : q < number c.args.self.now.floor + place_count c.args.shape.now = omega (arith, c.number.ensures, c.next_with_rest-position.ensures.within) in
+    let here : q % place_count c.args.shape.now ≡ c.args.place = ap (λ n. q % n) (sym count) ∙ c.next_with_rest-position.ensures.rest_is ∙ c.from.ensures in
+    gives-data c.args.shape.now c.places.ensures.allowed c.args.self.now.floor c.args.at c.args.word c.args.place c.args.index c.requires
+    q c.if-index-ne3.false low high here (eqb-true (c.args.word % 2) (cycle_of c.args.shape.now q) (sym c.has_cycle_of.ensures ∙ c.if-has_cycle_of.true))
+
+pub returns-else-has_cycle_of-clause-gives : goal.returns-else-has_cycle_of-clause-gives
+returns-else-has_cycle_of-clause-gives c =
+    let q = c.next_with_rest-position.result in
+    let count : c.from-places.result ≡ place_count c.args.shape.now = c.from-places.ensures ∙ c.places.ensures.count in
+    let low : number c.args.self.now.floor ≤ q = omega (arith, c.number.ensures, c.next_with_rest-position.ensures.from) in
+    let high : q < number c.args.self.now.floor + place_count c.args.shape.now = omega (arith, c.number.ensures, c.next_with_rest-position.ensures.within) in
+    let here : q % place_count c.args.shape.now ≡ c.args.place = ap (λ n. q % n) (sym count) ∙ c.next_with_rest-position.ensures.rest_is ∙ c.from.ensures in
+    gives-other_cycle c.args.shape.now c.places.ensures.allowed c.args.self.now.floor c.args.at c.args.word c.args.place c.args.index c.requires
+    q low high here (eqb-false (c.args.word % 2) (cycle_of c.args.shape.now q) (sym c.has_cycle_of.ensures ∙ c.if-has_cycle_of.false))

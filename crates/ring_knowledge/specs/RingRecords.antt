@@ -1,0 +1,56 @@
+-- What a record of one command or transfer ring holds, in terms of what is known of the ring
+use Rattle.std.specs.Prelude.{◌≡◌, ℕ, ◌+◌, ◌<◌, ◌≤◌, ◌%◌, ◌==◌, ◌&&◌, ◌||◌, Bool, false, List, [], ◌∷◌, length, slice_index, slice_index_or, sum, nat_lt, max, Option, Some, None}
+use Rattle.segments.specs.Shape.{IsShape}
+use Rattle.segments.specs.ShapeValue.{Shape}
+use Rattle.segments.specs.Places.{place_count, links, is_crossing}
+use Rattle.segments.specs.RingView.{RingView, floor_number}
+use Rattle.segments.specs.Descriptors.{length_from}
+use Rattle.segments.specs.Givings.{link_of}
+use Rattle.ring_knowledge.specs.Marks.{is_noted}
+use Rattle.ring_knowledge.specs.declared.ring_record.RingRecord.{RingRecord}
+use Rattle.ring_knowledge.specs.declared.ring_record.RingGiving.{RingGiving}
+use Rattle.ring_knowledge.specs.declared.ring_record.RingGiving.TheVariants.{Position, Crossing}
+
+-- the positions, and the crossings, that an answer names
+abbrev pub positions_of : Option RingGiving → List ℕ
+positions_of None = []
+positions_of (Some (Position p)) = p ∷ []
+positions_of (Some (Crossing q)) = []
+
+abbrev pub crossings_of : Option RingGiving → List ℕ
+crossings_of None = []
+crossings_of (Some (Position p)) = []
+crossings_of (Some (Crossing q)) = q ∷ []
+
+-- the number is the one that is named, if one is
+abbrev pub is_the : Option ℕ → ℕ → Bool
+is_the None n = false
+is_the (Some m) n = n == m
+
+-- each number is above 0
+abbrev pub ArePositive : List ℕ → Type 0
+ArePositive [] = Unit {0}
+ArePositive (n ∷ ns) = (0 < n) × ArePositive ns
+
+-- the least crossing that may be due
+abbrev pub least_crossing : RingView → ℕ
+least_crossing v = max (floor_number v) 1
+
+-- the record holds what is known of the ring
+pub record FollowsRing (shape : Shape) (v : RingView) (r : RingRecord) : Type 0 where
+  pub allowed : IsShape shape
+  pub queue : v.queue ≡ r.blocks.items
+  pub floor : v.floor ≡ r.floor
+  pub held : v.held ≡ r.held
+  -- how long the descriptor is that begins at a position
+  pub begins : (p : ℕ) → length_from v.lengths 0 p ≡ slice_index r.lengths.items p
+  pub as_many : length r.lengths.items ≡ length r.blocks.items
+  pub whole : sum v.lengths ≡ length r.blocks.items
+  pub positive : ArePositive v.lengths
+  -- one place stays empty
+  pub room : length r.blocks.items + 1 ≤ floor_number v + place_count shape
+  -- a mark for each data place, and one for each Link
+  pub places : length r.given.items ≡ place_count shape
+  pub given : (p : ℕ) → v.given p ≡ is_noted (floor_number v) (place_count shape) r.given.items (p % place_count shape) p
+  pub segments : length (links shape) ≤ length r.crossed.items
+  pub crossed : (q : ℕ) → v.crossed q ≡ (is_crossing shape q && is_noted (least_crossing v) (place_count shape) r.crossed.items (link_of shape q) q)

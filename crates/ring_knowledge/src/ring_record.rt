@@ -1,0 +1,330 @@
+ghost use Rattle.std.specs.Prelude.{◌≡◌, ◌+◌, ◌%◌, ◌<◌, ◌≤◌, ◌^◌, ◌==◌, ◌||◌, not, ℕ, max, true, false, length, slice_get, slice_index, slice_index_or, slice_set, IfOk, IfSome, OnOk, OnErr};
+ghost use Rattle.std.specs.List.{list_any};
+ghost use Rattle.segments.specs.Spots.{number};
+ghost use Rattle.segments.specs.ShapeValue.{Shape};
+ghost use Rattle.segments.specs.Places.{address_of, cycle_of, ends, link_address, link_crossed, links, overlap, place_count};
+ghost use Rattle.segments.specs.PlaceAt.{place_at};
+ghost use Rattle.segments.specs.Shape.{IsShape};
+ghost use Rattle.segments.specs.Ceiling.{is_step_given};
+ghost use Rattle.segments.specs.Givings.{has_no_room, is_not_whole};
+ghost use Rattle.segments.specs.RingView.{RingView, Declares, Writes, changed, crossings_given, declared, gives, gives_crossing, leased_crossings, leased_positions, new_ring, positions_given};
+ghost use Rattle.ring_knowledge.specs.Marks.{is_noted};
+
+use guest_memory::Addr;
+use segments::{Place, RingShape, Spot};
+use std::alloc::{AllocError, Global};
+use trb::Block;
+
+/// What a write gives of one ring (xHCI 4.9.2).
+#[derive(Clone, Copy, Debug, PartialEq, Eq)]
+pub enum RingGiving {
+    /// A declared position.
+    Position(u64),
+    /// A crossing: the position to which its Link leads.
+    Crossing(u64),
+}
+
+/// What one pass over a trace keeps of a command or transfer ring: what is declared, what is given, and how far its
+/// controller's dequeue pointer has surely come. Contracts compare it with the `RingView` that it follows.
+#[derive(Drop)]
+pub struct RingRecord {
+    /// The declared blocks.
+    blocks: Vec<Block>,
+    /// By position: how many blocks the descriptor has that begins there; 0 where none begins.
+    lengths: Vec<u32>,
+    /// By data place: its due position is given.
+    given: Vec<bool>,
+    /// By segment: the due crossing of its Link is given.
+    crossed: Vec<bool>,
+    floor: Spot,
+    held: Option<u64>,
+    ghost floor_fits: { number floor < 2 ^ 63 },
+}
+
+impl RingRecord {
+    ghost use Rattle.ring_knowledge.specs.RingRecords.{FollowsRing, crossings_of, is_the, positions_of};
+
+    /// The record before anything happens on the ring.
+    pub fn new(alloc: Global, shape: &RingShape) -> Result<RingRecord, AllocError>
+        ensures { IfOk result (λ r. FollowsRing shape.now new_ring r) }
+    {
+        let places = shape.places() as usize;
+        let segments = shape.segments().len();
+        Ok(RingRecord {
+            blocks: Vec::new(alloc),
+            lengths: Vec::new(alloc),
+            given: vec![in alloc; false; places]?,
+            crossed: vec![in alloc; false; segments]?,
+            floor: Spot::Data(0),
+            held: Some(0),
+        })
+    }
+
+    /// Whether the ring has room for this many blocks more: one place stays empty.
+    pub fn has_room(&self, shape: &RingShape, count: usize) -> bool
+        ensures { (v : RingView) → FollowsRing shape.now v self.now → result ≡ not (has_no_room shape.now v count) }
+    {
+        let most = u64::from(shape.places()) - 1 + number(self.floor);
+        count as u64 <= most.saturating_sub(self.blocks.len() as u64)
+    }
+
+    /// Adds the blocks of one descriptor, for which there is room, to what is declared. Want of memory changes nothing
+    /// of what is known.
+    pub fn declare(&mut self, blocks: &[Block]) -> Result<(), AllocError>
+        requires some { 0 < length blocks.now }
+        requires few { length blocks.now ≤ 256 }
+        ensures ok { OnOk result ((shape : Shape) (v : RingView) → FollowsRing shape v self.old →
+            has_no_room shape v (length blocks.now) ≡ false → FollowsRing shape (changed shape v (Declares blocks.now)) self.new) }
+        ensures err { OnErr result ((shape : Shape) (v : RingView) → FollowsRing shape v self.old → FollowsRing shape v self.new) }
+    {
+        let start = self.lengths.len();
+        self.lengths.resize(start + blocks.len(), 0)?;
+        if let Err(refused) = self.blocks.extend_from_slice(blocks) {
+            self.lengths.truncate(start);
+            return Err(refused);
+        }
+        self.lengths[start] = blocks.len() as u32;
+        Ok(())
+    }
+
+    /// Whether the controller may own the word at an address: it lies in a block or a Link that is given and that the
+    /// controller may not have passed.
+    pub fn owns(&self, shape: &RingShape, at: Addr) -> bool
+        ensures { (v : RingView) → FollowsRing shape.now v self.now → result ≡
+            (list_any (λ p. overlap at 4 (address_of shape.now p) 16) (leased_positions shape.now v)
+            || list_any (λ q. overlap at 4 (link_address shape.now q) 16) (leased_crossings shape.now v)) }
+    {
+        match shape.place_at(at.get()) {
+            Some(Place::Data { place, .. }) => is_marked(&self.given, place as usize),
+            Some(Place::Link { segment, .. }) => is_marked(&self.crossed, segment as usize),
+            None => false,
+        }
+    }
+
+    /// What the write of a word gives of the ring, if it gives anything.
+    pub fn given_by(&self, shape: &RingShape, at: Addr, word: u32) -> Option<RingGiving>
+        ensures positions { (v : RingView) → FollowsRing shape.now v self.now → positions_given shape.now v at word ≡ positions_of result }
+        ensures crossings { (v : RingView) → FollowsRing shape.now v self.now → crossings_given shape.now v at word ≡ crossings_of result }
+    {
+        match shape.place_at(at.get()) {
+            Some(Place::Data { place, word: index }) => {
+                if is_marked(&self.given, place as usize) {
+                    return None;
+                }
+                let position = self.position_by(shape, at, place, index, word)?;
+                Some(RingGiving::Position(position))
+            }
+            Some(
+                Place::Link {
+                    segment,
+                    word: index,
+                },
+            ) => {
+                if is_marked(&self.crossed, segment as usize) {
+                    return None;
+                }
+                let crossing = self.crossing_by(shape, at, segment, index, word)?;
+                Some(RingGiving::Crossing(crossing))
+            }
+            None => None,
+        }
+    }
+
+    /// The position that the write of a word of a data place would give, were it not given yet.
+    fn position_by(
+        &self,
+        shape: &RingShape,
+        at: Addr,
+        place: u32,
+        index: u8,
+        word: u32,
+    ) -> Option<u64>
+        requires { place_at shape.now at ≡ Some (Place.Data place index) }
+        ensures gives { (p : ℕ) → gives shape.now self.now.floor p at word ≡ is_the result p }
+        ensures due { IfSome result (λ p. (number self.now.floor ≤ p) × (p < number self.now.floor + place_count shape.now) × (p % place_count shape.now ≡ place)) }
+    {
+        let places = u64::from(shape.places());
+        if index != 3 {
+            return None;
+        }
+        let position = next_with_rest(number(self.floor), places, u64::from(place));
+        if has_cycle_of(shape, position, word) {
+            Some(position)
+        } else {
+            None
+        }
+    }
+
+    /// The crossing that the write of a word of a Link would give, were it not given yet.
+    fn crossing_by(
+        &self,
+        shape: &RingShape,
+        at: Addr,
+        segment: u32,
+        index: u8,
+        word: u32,
+    ) -> Option<u64>
+        requires { place_at shape.now at ≡ Some (Place.Link segment index) }
+        ensures gives { (q : ℕ) → gives_crossing shape.now self.now.floor q at word ≡ is_the result q }
+        ensures due { IfSome result (λ q. (max (number self.now.floor) 1 ≤ q) × (q < max (number self.now.floor) 1 + place_count shape.now)
+            × (link_crossed shape.now q ≡ Some segment)) }
+    {
+        let places = u64::from(shape.places());
+        if index != 3 {
+            return None;
+        }
+        let passed = number(self.floor).saturating_sub(1);
+        let before = next_with_rest(passed, places, u64::from(place_before(shape, segment)));
+        if has_cycle_of(shape, before, word) {
+            Some(before + 1)
+        } else {
+            None
+        }
+    }
+
+    /// How many blocks are declared.
+    pub fn declared_count(&self) -> usize
+        ensures { (shape : Shape) (v : RingView) → FollowsRing shape v self.now → result ≡ declared v }
+    {
+        self.blocks.len()
+    }
+
+    /// The block that is declared at a position.
+    pub fn declared(&self, position: u64) -> Option<Block>
+        ensures { (shape : Shape) (v : RingView) → FollowsRing shape v self.now → result ≡ slice_get v.queue position }
+    {
+        self.blocks.get(position as usize).copied()
+    }
+
+    /// Whether no descriptor begins at a position, or all its further blocks, and the crossings between its blocks, are given.
+    pub fn is_whole(&self, shape: &RingShape, position: u64) -> bool
+        ensures { (v : RingView) → FollowsRing shape.now v self.now → result ≡ not (is_not_whole shape.now v position) }
+    {
+        let length = self.length_at(position);
+        for offset in 1..length {
+            if !self.is_step_given(shape, position + u64::from(offset)) {
+                return false;
+            }
+        }
+        true
+    }
+
+    /// How many blocks the descriptor has that begins at a position; 0 where none begins.
+    fn length_at(&self, position: u64) -> u32
+        ensures value { result ≡ slice_index self.now.lengths.items position }
+        ensures fits { 0 < result → position < 2 ^ 63 }
+    {
+        self.lengths.get(position as usize).copied().unwrap_or(0)
+    }
+
+    /// A position, and the crossing on the way to it, are given.
+    fn is_step_given(&self, shape: &RingShape, q: u64) -> bool
+        ensures { (v : RingView) → FollowsRing shape.now v self.now → result ≡ is_step_given shape.now v q }
+    {
+        let places = u64::from(shape.places());
+        let floor = number(self.floor);
+        if !is_noted(floor, places, &self.given, (q % places) as usize, q) {
+            return false;
+        }
+        match shape.crossing(q) {
+            None => true,
+            Some(segment) => is_noted(floor.max(1), places, &self.crossed, segment as usize, q),
+        }
+    }
+
+    /// Notes what the write of a word gives of the ring, if it gives anything.
+    pub fn note_write(&mut self, shape: &RingShape, at: Addr, word: u32)
+        ensures { (v : RingView) → FollowsRing shape.now v self.old → FollowsRing shape.now (changed shape.now v (Writes at word)) self.new }
+    {
+        match shape.place_at(at.get()) {
+            Some(Place::Data { place, word: index }) => {
+                if self.position_by(shape, at, place, index, word).is_some() {
+                    mark(&mut self.given, place as usize);
+                }
+            }
+            Some(
+                Place::Link {
+                    segment,
+                    word: index,
+                },
+            ) => {
+                if self.crossing_by(shape, at, segment, index, word).is_some() {
+                    mark(&mut self.crossed, segment as usize);
+                }
+            }
+            None => {}
+        }
+    }
+}
+
+/// The number of a spot.
+fn number(spot: Spot) -> u64
+    ensures { result ≡ number spot }
+{
+    match spot {
+        Spot::Data(position) => position,
+        Spot::Link(position) => position,
+    }
+}
+
+/// The mark is set.
+fn is_marked(marks: &[bool], at: usize) -> bool
+    ensures { result ≡ slice_index_or marks.now at false }
+{
+    marks.get(at).copied().unwrap_or(false)
+}
+
+/// Sets a mark.
+fn mark(marks: &mut Vec<bool>, at: usize)
+    ensures { marks.new.items ≡ slice_set marks.old.items at true }
+{
+    if let Some(mark) = marks.get_mut(at) {
+        *mark = true;
+    }
+}
+
+/// A number is given: it lies below the least due one, or it is due and its mark is set.
+#[tactic(auto, unfolding(crate::specs::Marks::is_noted))]
+fn is_noted(least: u64, count: u64, marks: &[bool], at: usize, number: u64) -> bool
+    requires { least + count < 2 ^ 64 }
+    ensures { result ≡ is_noted least count marks.now at number }
+{
+    number < least || number < least + count && is_marked(marks, at)
+}
+
+/// The least number from `least` on that leaves this rest when divided by `count`.
+fn next_with_rest(least: u64, count: u64, rest: u64) -> u64
+    requires rest { rest < count }
+    requires fits { least + count < 2 ^ 64 }
+    ensures from { least ≤ result }
+    ensures within { result < least + count }
+    ensures rest_is { result % count ≡ rest }
+{
+    let reached = least % count;
+    if rest < reached {
+        least + (count - reached) + rest
+    } else {
+        least + (rest - reached)
+    }
+}
+
+/// The data place before the Link of a segment.
+fn place_before(shape: &RingShape, segment: u32) -> u32
+    requires allowed { IsShape shape.now }
+    requires segment { segment < length (links shape.now) }
+    ensures end { result + 1 ≡ slice_index (ends shape.now) segment }
+    ensures place { result < place_count shape.now }
+{
+    match shape.place_at(shape.link(segment) - 16) {
+        Some(Place::Data { place, .. }) => place,
+        Some(Place::Link { .. }) => unreachable!(),
+        None => unreachable!(),
+    }
+}
+
+/// The word has the Cycle bit of a position.
+fn has_cycle_of(shape: &RingShape, position: u64, word: u32) -> bool
+    ensures { result ≡ (word % 2 == cycle_of shape.now position) }
+{
+    shape.cycle(position) == (word % 2 == 1)
+}

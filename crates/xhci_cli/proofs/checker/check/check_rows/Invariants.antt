@@ -1,5 +1,0 @@
-use Rattle.xhci_cli.specs.Tracking.{IsProgress}
-use Rattle.xhci_cli.proofs.checker.check.check_rows.Given as goal
-
-abbrev pub invariant-loop-row : goal.invariant-loop-row
-invariant-loop-row g l = IsProgress l.header l.rows l.first l.row-index l.number l.begun l.records.items (g.M.WordMemory.words l.memory)
