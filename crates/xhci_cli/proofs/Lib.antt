@@ -1,15 +1,2 @@
-pub mod Declaring
-pub mod Fresh
-pub mod Giving
-pub mod Writing
-pub mod Updates
-pub mod Declared
-pub mod Checking
-pub mod Rows
-pub mod Finding
-pub mod Standing
-pub mod CleanStands
-pub mod Walking
-pub mod Walks
 pub mod Telling
 pub mod Told

@@ -1,6 +1,3 @@
-pub mod Tracking
-pub mod Finding
-pub mod Walk
 pub mod Answers
 pub mod Telling
 pub mod PlanRefusals

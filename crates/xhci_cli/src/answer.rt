@@ -4,7 +4,7 @@ ghost use Rattle.xhci_cli.specs.Answers.{exit_number, status_of, text_of};
 
 use super::decode::line_of;
 use super::writer::{PlanFault, PlanRefusal};
-use ownership_checker::Refusal;
+use ownership_rules::Refusal;
 use std::alloc::{AllocError, Global};
 use std::io;
 use trace_reader::{LineFault, ReadFault};

@@ -2,7 +2,6 @@
 #![tactic(auto)]
 
 mod answer;
-mod checker;
 mod command_line;
 mod decode;
 mod explain;

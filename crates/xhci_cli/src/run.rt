@@ -5,10 +5,10 @@ ghost use Rattle.xhci_cli.specs.PlanAnswers.{IsPlanAnswer};
 ghost use Rattle.xhci_cli.specs.Telling.{IsTold};
 
 use super::answer::{Answer, Status};
-use super::checker::{CheckFault, check};
 use super::explain::{Asked, note_on_plan, note_on_trace};
 use super::tell::{tell, tell_failure};
 use super::writer::write_plan;
+use ownership_checker::{CheckFault, check};
 use std::alloc::Global;
 use std::io::{Read, Write};
 use trace_reader::read_trace;

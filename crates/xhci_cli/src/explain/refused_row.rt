@@ -1,6 +1,6 @@
 //! What is said of a refused row: the rule, and which block of which ring the row is about. Runs over the rows again.
 use super::words::why_refused;
-use ownership_checker::Refusal;
+use ownership_rules::Refusal;
 use segments::Place;
 use std::alloc::{AllocError, Global};
 use trace_reader::{ReadFault, read_trace};

@@ -2,7 +2,7 @@ use super::{Asked, note_on_failure, note_on_plan, note_on_trace, note_on_words};
 use crate::answer::Answer;
 use crate::decode::BlockWords;
 use crate::writer::PlanRefusal;
-use ownership_checker::Refusal;
+use ownership_rules::Refusal;
 use std::io;
 use std::test::Fail;
 use trace_reader::LineFault;

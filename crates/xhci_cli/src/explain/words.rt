@@ -1,6 +1,6 @@
 //! The rules of the texts and of ownership in plain words.
 use crate::writer::PlanRefusal;
-use ownership_checker::Refusal;
+use ownership_rules::Refusal;
 
 pub const LIMITS: &str =
     "at most 16384 bytes a line, 1048576 lines, 256 rings and 256 blocks a declaration";
