@@ -6,10 +6,10 @@ use Rattle.std.proofs.lemmas.Option.{none-some, same_Some}
 use Rattle.segments.specs.declared.spot.Spot.{Spot}
 use Rattle.segments.specs.ShapeValue.{Shape}
 use Rattle.segments.specs.Places.{place_count}
-use Rattle.segments.specs.Spots.{number, next, spot_address, spots_from, named_spot}
+use Rattle.segments.specs.Spots.{IsSpot, rank, number, next, spot_address, spots_from, named_spot}
 use Rattle.segments.specs.Shape.{IsShape}
 use Rattle.segments.proofs.Search.{cases_option}
-use Rattle.segments.proofs.SpotOrder.{IsSpot, rank, rank_least, rank_most, same_rank, next_is_spot, next_later, next_least, same_spot}
+use Rattle.segments.proofs.SpotOrder.{rank_least, rank_most, same_rank, next_is_spot, next_later, next_least, same_spot}
 
 -- t is the least spot from s on that passes
 pub record IsFirst (shape : Shape) (p : Spot → Bool) (s t : Spot) : Type 0 where

@@ -1,27 +1,17 @@
 -- Spots in their order, where they lie, and what the controller's cycle is there
 use Rattle.std.specs.Prelude.{◌≡◌, ℕ, ◌+◌, ◌-◌, ◌*◌, ◌%◌, ◌<◌, ◌≤◌, ◌⊎◌, true, false, slice_index}
-use Rattle.std.proofs.Common.{arith, sym, ◌∙◌, ap, subst, inl, inr}
+use Rattle.std.proofs.Common.{arith, refl, sym, ◌∙◌, ap, subst, inl, inr}
 use Rattle.std.proofs.lemmas.Bool.{cases_Bool, cases_lt, cases_eq, cond-true, cond-false, false≢true}
 use Rattle.trb.specs.declared.ring_kind.RingKind.TheVariants.{Evt}
 use Rattle.segments.specs.declared.spot.Spot.{Spot}
 use Rattle.segments.specs.declared.spot.Spot.TheVariants.{Data, Link}
 use Rattle.segments.specs.ShapeValue.{Shape}
 use Rattle.segments.specs.Places.{place_count, address_of, cycle_of, links, is_crossing, link_address}
-use Rattle.segments.specs.Spots.{number, after, next, spot_address, spot_cycle}
+use Rattle.segments.specs.Spots.{IsSpot, rank, number, after, next, spot_address, spot_cycle}
 use Rattle.segments.specs.Shape.{IsShape}
 use Rattle.segments.proofs.DataPlaces.{place_not_link}
 use Rattle.segments.proofs.Positions.{next_at_end, place_count_pos, place_below, same_position, cycle_of-next}
 use Rattle.segments.proofs.Crossings.{crosses, crossed_link, link_address_is, same_crossing_at, link_address-behind, address_of-behind, crossing_at_end}
-
--- Link q exists where a Link is crossed on the way to q
-abbrev pub IsSpot : Shape → Spot → Type 0
-IsSpot shape (Data q) = Unit {0}
-IsSpot shape (Link q) = is_crossing shape q ≡ true
-
--- the place of a spot in the order: Data (q - 1), Link q, Data q
-abbrev pub rank : Spot → ℕ
-rank (Data q) = 2 * q + 1
-rank (Link q) = 2 * q
 
 pub rank_least : (s : Spot) → 2 * number s ≤ rank s
 rank_least (Data q) = omega arith
@@ -53,11 +43,11 @@ after_is shape p =
 
 -- the next spot is one
 pub next_is_spot : (shape : Shape) (s : Spot) → IsSpot shape (next shape s)
-next_is_spot shape (Link q) = tt
+next_is_spot shape (Link q) = refl
 next_is_spot shape (Data p) =
     elim (after_is shape p) [
       | inl link ↦ subst (λ t. IsSpot shape t) (sym link.1) link.0
-      | inr none ↦ subst (λ t. IsSpot shape t) (sym none.1) tt
+      | inr none ↦ subst (λ t. IsSpot shape t) (sym none.1) refl
     ]
 
 -- and it is later

@@ -8,4 +8,5 @@ pub mod Ceiling
 pub mod Descriptors
 pub mod Givings
 pub mod Moves
+pub mod RingKeeps
 pub mod OnLiterals

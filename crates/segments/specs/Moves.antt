@@ -1,19 +1,13 @@
 -- Where the dequeue pointer of a ring may be set: xHCI 4.6.5, 4.6.10
-use Rattle.std.specs.Prelude.{ℕ, ◌+◌, ◌-◌, ◌==◌, ◌&&◌, Bool, true, List, [], ◌∷◌, Option, find, if◌then◌else◌}
+use Rattle.std.specs.Prelude.{ℕ, ◌+◌, ◌-◌, ◌==◌, ◌&&◌, Bool, List, [], ◌∷◌, Option, find, if◌then◌else◌}
 use Rattle.std.specs.List.{list_all, list_any, range_with_len, flat_map}
 use Rattle.segments.specs.declared.spot.Spot.{Spot}
 use Rattle.segments.specs.declared.spot.Spot.TheVariants.{Data, Link}
 use Rattle.segments.specs.ShapeValue.{Shape}
-use Rattle.segments.specs.Places.{is_crossing}
-use Rattle.segments.specs.Spots.{number, spot_address, spot_cycle}
+use Rattle.segments.specs.Spots.{is_spot, number, spot_address, spot_cycle}
 use Rattle.segments.specs.RingView.{RingView, declared, floor_number}
 use Rattle.segments.specs.Ceiling.{is_way_given}
 use Rattle.segments.specs.Descriptors.{is_border}
-
--- the spot exists
-unfoldable pub is_spot : Shape → Spot → Bool
-is_spot shape (Data q) = true
-is_spot shape (Link q) = is_crossing shape q
 
 -- a pointer and a cycle state stand at the spot
 unfoldable pub is_target : Shape → ℕ → Bool → Spot → Bool

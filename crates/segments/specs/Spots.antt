@@ -1,5 +1,5 @@
 -- Where a controller's dequeue pointer may stand, and which of these spots an event names: xHCI 4.9.2, 6.4.2
-use Rattle.std.specs.Prelude.{ℕ, suc, zero, ◌+◌, ◌-◌, ◌*◌, ◌==◌, ◌&&◌, if◌then◌else◌, List, [], ◌∷◌, nat_le, Option, find}
+use Rattle.std.specs.Prelude.{◌≡◌, ℕ, suc, zero, ◌+◌, ◌-◌, ◌*◌, ◌==◌, ◌&&◌, if◌then◌else◌, Bool, true, List, [], ◌∷◌, nat_le, Option, find}
 use Rattle.segments.specs.declared.spot.Spot.{Spot}
 use Rattle.segments.specs.declared.spot.Spot.TheVariants.{Data, Link}
 use Rattle.segments.specs.ShapeValue.{Shape}
@@ -8,6 +8,19 @@ use Rattle.segments.specs.Places.{address_of, cycle_of, is_crossing, link_addres
 abbrev pub number : Spot → ℕ
 number (Data q) = q
 number (Link q) = q
+
+-- the spot exists: Link q does where a Link is crossed on the way to q
+abbrev pub is_spot : Shape → Spot → Bool
+is_spot shape (Data q) = true
+is_spot shape (Link q) = is_crossing shape q
+
+abbrev pub IsSpot : Shape → Spot → Type 0
+IsSpot shape t = is_spot shape t ≡ true
+
+-- the place of a spot in the order: Data (q - 1), Link q, Data q
+abbrev pub rank : Spot → ℕ
+rank (Data q) = 2 * q + 1
+rank (Link q) = 2 * q
 
 -- the spot behind the block of position p: the Link there, if there is one, else the next block
 abbrev pub after : Shape → ℕ → Spot
