@@ -21,3 +21,5 @@ pub mod Declaring
 pub mod Writing
 pub mod Reaching
 pub mod Elsewhere
+pub mod OneGiving
+pub mod ReachedSpots

@@ -47,13 +47,13 @@ step_more shape v w more q h =
 
 -- ---- descriptors
 
-all_in_range : (test : ℕ → Bool) (a n : ℕ) → ((q : ℕ) → a ≤ q → q < a + n → test q ≡ true) → list_all test (range_with_len a n) ≡ true
+pub all_in_range : (test : ℕ → Bool) (a n : ℕ) → ((q : ℕ) → a ≤ q → q < a + n → test q ≡ true) → list_all test (range_with_len a n) ≡ true
 all_in_range test a zero each = refl
 all_in_range test a (suc n) each =
     and_from (test a) (list_all test (range_with_len (a + 1) n)) (each a (omega arith) (omega arith))
     (all_in_range test (a + 1) n (λ q low high. each q (omega arith) (omega arith)))
 
-in_range_all : (test : ℕ → Bool) (a n : ℕ) → list_all test (range_with_len a n) ≡ true → (q : ℕ) → a ≤ q → q < a + n → test q ≡ true
+pub in_range_all : (test : ℕ → Bool) (a n : ℕ) → list_all test (range_with_len a n) ≡ true → (q : ℕ) → a ≤ q → q < a + n → test q ≡ true
 in_range_all test a n all q low high =
     elim (cases_Bool (test q)) [
       | inl passes ↦ passes
