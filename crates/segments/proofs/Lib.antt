@@ -23,3 +23,4 @@ pub mod Reaching
 pub mod Elsewhere
 pub mod OneGiving
 pub mod ReachedSpots
+pub mod GivenBorder

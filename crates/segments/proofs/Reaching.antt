@@ -81,7 +81,7 @@ module _ (shape : Shape) (is : IsShape shape) (memory : ℕ → ℕ) (v : RingVi
       let place : address_of shape p ≡ address_of shape (p - place_count shape) = ap (λ n. address_of shape n) (sym lap) ∙ address_of-lap shape (p - place_count shape) in
       λ same. cycle_of_flips shape is (p - place_count shape) (ap (λ n. cycle_of shape n) lap ∙ sym same ∙ ap (λ a. memory (a + 12) % 2) place ∙ cycle)
 
-  crossed_due : (q : ℕ) → floor_number v ≤ q → v.crossed q ≡ true → is_crossing_due shape v.floor q ≡ true
+  pub crossed_due : (q : ℕ) → floor_number v ≤ q → v.crossed q ≡ true → is_crossing_due shape v.floor q ≡ true
   crossed_due q low g = crossing_due_from shape v.floor q (record { crossing = k.crossed_is_crossing q g; from = low; within = k.crossed_within q g })
 
   -- the same of a Link
