@@ -24,3 +24,5 @@ pub mod Elsewhere
 pub mod OneGiving
 pub mod ReachedSpots
 pub mod GivenBorder
+pub mod WalkSteps
+pub mod WalkReads

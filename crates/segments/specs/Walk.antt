@@ -71,6 +71,6 @@ pub record WalkReads (shape : Shape) (memory : ℕ → ℕ) (v : RingView) : Typ
   pub blocks : data_of (walk memory (standing shape v.floor) steps) ≡ laid_between shape v (floor_number v) border
   -- a Link that is read was given
   pub links : (n : ℕ) (at : Pointer) → Contains (looks memory (standing shape v.floor) n) at → is_shown memory at ≡ true → is_link (kind (block_under memory at)) ≡ true →
-      (q : ℕ) × (v.crossed q ≡ true) × (at.address ≡ link_address shape q)
+      (q : ℕ) × (floor_number v ≤ q) × (v.crossed q ≡ true) × (at.address ≡ link_address shape q)
   -- each of the 16 bytes at which it looks is in the ring's segments
   pub inside : (n : ℕ) → All (λ at. (k : ℕ) → k < 16 → is_inside shape (at.address + k) ≡ true) (looks memory (standing shape v.floor) n)
