@@ -1,5 +1,5 @@
 -- A declaration keeps the rules of a ring
-use Rattle.std.specs.Prelude.{◌≡◌, ℕ, ◌+◌, ◌-◌, ◌<◌, ◌≤◌, true, false, List, [], ◌∷◌, ◌++◌, length, sum, Some, slice_get, All}
+use Rattle.std.specs.Prelude.{◌≡◌, ℕ, ◌+◌, ◌-◌, ◌<◌, ◌≤◌, false, List, [], ◌∷◌, ◌++◌, length, sum, Some, slice_get, All}
 use Rattle.std.proofs.Common.{arith, refl, sym, ◌∙◌, ap, subst, inl, inr, get_or, length-append}
 use Rattle.std.proofs.lemmas.Bool.{cases_lt, ltb-false}
 use Rattle.std.proofs.lemmas.Option.{slice_get-get_or, slice_get_within, get_or_from_slice_get}
@@ -18,7 +18,7 @@ use Rattle.segments.specs.Givings.{has_no_room, descriptor_length}
 use Rattle.segments.specs.RingKeeps.{RingKeeps, MayDeclare, MayHold}
 use Rattle.segments.proofs.Positions.{place_count_pos}
 use Rattle.segments.proofs.GivenCount.{given_count_same}
-use Rattle.segments.proofs.StepFacts.{GivesMore, whole_more, length_from-push}
+use Rattle.segments.proofs.StepFacts.{whole_more, length_from-push}
 
 has_room : (shape : Shape) (v : RingView) (n : ℕ) → has_no_room shape v n ≡ false → declared v + n ≤ place_count shape - 1 + floor_number v
 unfolding has_no_room
@@ -76,7 +76,7 @@ declares_keeps shape is memory v blocks k may =
       kept_link = k.kept_link;
       not_yet_link = k.not_yet_link;
       whole = λ p g. whole_more shape v (changed shape v (Declares blocks)) p (record { given = λ q h. h; crossed = λ q h. h })
-        (length_kept shape v blocks p k.descriptors (k.given_declared p g)) (k.whole p g);
+          (length_kept shape v blocks p k.descriptors (k.given_declared p g)) (k.whole p g);
       lengths = All-push (λ n. 0 < n) v.lengths (length blocks) k.lengths may.some;
       descriptors = adds ∙ ap (λ n. n + length blocks) k.descriptors ∙ sym more;
       blocks = λ p d at. declared_now (λ b. is_link (kind b) ≡ false) v.queue blocks p d k.blocks may.no_link at;

@@ -2,10 +2,9 @@
 use Rattle.std.specs.Prelude.{◌≡◌, ℕ, ◌+◌, ◌-◌, ◌<◌, ◌≤◌, ◌&&◌, not, Bool, true, false, List, [], ◌∷◌, length, Contains, filter, suc, zero}
 use Rattle.std.specs.List.{range_with_len}
 use Rattle.std.proofs.Common.{arith, refl, sym, ◌∙◌, ap, subst, inl, inr, get_or}
-use Rattle.std.proofs.lemmas.Bool.{cases_Bool, and_parts, and_from, not-true, not_from_false, cond-true, cond-false, false≢true}
-use Rattle.std.proofs.lemmas.List.Elements.{All-contains, All-filter, All-contains_itself, filter_passes, Contains-append_right, Contains-append_left}
+use Rattle.std.proofs.lemmas.Bool.{cases_Bool, and_parts, and_from, not-true, not_from_false, cond-true, cond-false}
+use Rattle.std.proofs.lemmas.List.Elements.{All-contains, All-filter, All-contains_itself, filter_passes, Contains-append_right}
 use Rattle.std.proofs.lemmas.List.FromFn.{length-range_with_len, get_or-range_with_len}
-use Rattle.segments.specs.declared.spot.Spot.{Spot}
 use Rattle.segments.specs.ShapeValue.{Shape}
 use Rattle.segments.specs.Places.{place_count, is_crossing}
 use Rattle.segments.specs.RingView.{RingView, floor_number, is_due, is_crossing_due, gives, gives_crossing, due_positions, due_crossings, positions_given, crossings_given, leased_positions, leased_crossings}

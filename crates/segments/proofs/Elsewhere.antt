@@ -1,14 +1,13 @@
 -- What happens outside a ring's segments changes nothing of what the rules keep of it
-use Rattle.std.specs.Prelude.{◌≡◌, ◌≢◌, ℕ, ◌+◌, ◌-◌, ◌%◌, ◌<◌, ◌≤◌, ◌*◌, true, false, List, [], ◌∷◌, length, slice_index, nat_lt, All, Contains, filter}
-use Rattle.std.specs.List.{list_any}
-use Rattle.std.proofs.Common.{arith, refl, sym, ◌∙◌, ap, subst, inl, inr, get_or}
+use Rattle.std.specs.Prelude.{◌≡◌, ℕ, ◌+◌, ◌%◌, ◌<◌, ◌*◌, true, false, List, [], ◌∷◌, length, nat_lt, All, Contains}
+use Rattle.std.proofs.Common.{arith, refl, sym, ◌∙◌, ap, subst, get_or}
 use Rattle.std.proofs.lemmas.Bool.{false≢true, false_from_ne_true, lt-ltb, and_from}
 use Rattle.std.proofs.lemmas.Bool.Decides.{nat_tests}
 use Rattle.std.proofs.lemmas.List.Folds.{list_any_at}
 use Rattle.std.proofs.lemmas.List.Elements.{Contains-get_or, All-nil}
 use Rattle.guest_memory.specs.Memory.{put}
 use Rattle.segments.specs.ShapeValue.{Shape}
-use Rattle.segments.specs.Places.{data_count, place_count, address_of, links, is_crossing, link_address, is_inside, overlap, touches}
+use Rattle.segments.specs.Places.{data_count, place_count, address_of, is_crossing, link_address, is_inside, overlap, touches}
 use Rattle.segments.specs.Shape.{IsShape}
 use Rattle.segments.specs.RingView.{RingView, Writes, changed, positions_given, crossings_given, leased_positions, leased_crossings}
 use Rattle.segments.specs.Givings.{is_other_than_declared, is_not_declared, is_not_whole, is_wrong_link, leads_wrong}
@@ -18,7 +17,7 @@ use Rattle.segments.proofs.DataPlaces.{IsPlace, place_is, link_is, place_inside,
 use Rattle.segments.proofs.Positions.{place_below}
 use Rattle.segments.proofs.Crossings.{crosses, crossed_link, link_address_is}
 use Rattle.segments.proofs.Giving.{crossing_due_is, gives_is, gives_crossing_is}
-use Rattle.segments.proofs.DueLists.{leased_position_is, leased_crossing_is, position_given_is, crossing_given_is}
+use Rattle.segments.proofs.DueLists.{leased_crossing_is, position_given_is, crossing_given_is}
 use Rattle.segments.proofs.MemoryWords.{SameBlock, block_same}
 use Rattle.segments.proofs.Writing.{writes_keeps}
 
@@ -56,11 +55,11 @@ memory_keeps shape is memory other v same k =
       kept = λ p d low g at. block_same memory other (address_of shape p) (place p) ∙ k.kept p d low g at;
       not_yet = λ p due g shows. k.not_yet p due g (ap (λ n. n % 2) (sym (place p 12 (omega arith))) ∙ shows);
       kept_link = λ q i due g at.
-        let before = k.kept_link q i due g at in
-        let crossing = (crossing_due_is shape v.floor q due).crossing in
-        (ap (λ b. is_wrong_link shape i b) (block_same memory other (link_address shape q) (link q crossing)) ∙ before.0, ap (λ n. n % 2) (link q crossing 12 (omega arith)) ∙ before.1);
+          let before = k.kept_link q i due g at in
+          let crossing = (crossing_due_is shape v.floor q due).crossing in
+          (ap (λ b. is_wrong_link shape i b) (block_same memory other (link_address shape q) (link q crossing)) ∙ before.0, ap (λ n. n % 2) (link q crossing 12 (omega arith)) ∙ before.1);
       not_yet_link = λ q due g shows.
-        k.not_yet_link q due g (ap (λ n. n % 2) (sym (link q (crossing_due_is shape v.floor q due).crossing 12 (omega arith))) ∙ shows);
+          k.not_yet_link q due g (ap (λ n. n % 2) (sym (link q (crossing_due_is shape v.floor q due).crossing 12 (omega arith))) ∙ shows);
     }
 
 -- ---- a word outside the segments
@@ -120,7 +119,7 @@ outside_may_write shape is memory v a w out =
     record {
       blocks = all_in (λ p. overlap a 4 (address_of shape p) 16 ≡ false) (leased_positions shape v) (λ p c. apart_from_place shape is a p out);
       links = all_in (λ q. overlap a 4 (link_address shape q) 16 ≡ false) (leased_crossings shape v)
-        (λ q c. apart_from_link shape is a q out (leased_crossing_is shape v q c).0);
+          (λ q c. apart_from_link shape is a q out (leased_crossing_is shape v q c).0);
       as_declared = subst (λ xs. All (λ p. is_other_than_declared shape v memory a w p ≡ false) xs) (sym no_position) (All-nil (λ p. is_other_than_declared shape v memory a w p ≡ false));
       declared = subst (λ xs. All (λ p. is_not_declared v p ≡ false) xs) (sym no_position) (All-nil (λ p. is_not_declared v p ≡ false));
       whole = subst (λ xs. All (λ p. is_not_whole shape v p ≡ false) xs) (sym no_position) (All-nil (λ p. is_not_whole shape v p ≡ false));

@@ -1,6 +1,6 @@
 -- What it says that a position or a crossing is due, and that a write gives it
 use Rattle.std.specs.Prelude.{◌≡◌, ℕ, ◌+◌, ◌-◌, ◌%◌, ◌<◌, ◌≤◌, ◌⊎◌, ◌==◌, ◌&&◌, ◌||◌, true, nat_le, nat_lt}
-use Rattle.std.proofs.Common.{arith, refl, inl, inr}
+use Rattle.std.proofs.Common.{refl, inl, inr}
 use Rattle.std.proofs.lemmas.Bool.{and_parts, and_from, or_cases, or_left, or_right, leb-true, le-leb, ltb-true, lt-ltb, eqb-true, eq-eqb}
 use Rattle.segments.specs.declared.spot.Spot.{Spot}
 use Rattle.segments.specs.ShapeValue.{Shape}

@@ -1,6 +1,6 @@
 -- Before anything happens on a ring the rules are kept
-use Rattle.std.specs.Prelude.{◌≡◌, ℕ, ◌+◌, ◌-◌, ◌%◌, ◌<◌, ◌≤◌, ◌≢◌, true, false, Some}
-use Rattle.std.proofs.Common.{arith, refl, sym, ◌∙◌, ap, inl, inr}
+use Rattle.std.specs.Prelude.{◌≡◌, ℕ, ◌+◌, ◌-◌, ◌%◌, ◌<◌, ◌≤◌, ◌≢◌}
+use Rattle.std.proofs.Common.{arith, refl, inl, inr}
 use Rattle.std.proofs.lemmas.Bool.{false≢true}
 use Rattle.std.proofs.lemmas.Option.{none-some, same_Some}
 use Rattle.std.proofs.lemmas.List.Elements.{All-nil}
@@ -8,7 +8,7 @@ use Rattle.segments.specs.declared.spot.Spot.TheVariants.{Data}
 use Rattle.segments.specs.ShapeValue.{Shape}
 use Rattle.segments.specs.Places.{place_count, address_of, cycle_of, link_address}
 use Rattle.segments.specs.Shape.{IsShape}
-use Rattle.segments.specs.RingView.{new_ring, is_due, is_crossing_due}
+use Rattle.segments.specs.RingView.{new_ring}
 use Rattle.segments.specs.RingKeeps.{RingKeeps}
 use Rattle.segments.proofs.Positions.{place_count_pos, cycle_of-first}
 use Rattle.segments.proofs.Crossings.{crossing_positive}
@@ -34,15 +34,15 @@ new_ring_keeps shape is memory zeros =
       crossed_within = λ q g. absurd (false≢true g);
       kept = λ p d h g at. absurd (false≢true g);
       not_yet = λ p due g.
-        let is_due = due_is shape (Data 0) p due in
-        zero_shows (memory (address_of shape p + 12)) (cycle_of shape p) (zeros (address_of shape p + 12)) (cycle_of-first shape p (omega arith));
+          let is_due = due_is shape (Data 0) p due in
+          zero_shows (memory (address_of shape p + 12)) (cycle_of shape p) (zeros (address_of shape p + 12)) (cycle_of-first shape p (omega arith));
       kept_link = λ q i due g at. absurd (false≢true g);
       not_yet_link = λ q due g.
-        let is_due = crossing_due_is shape (Data 0) q due in
-        let some = crossing_positive shape q is_due.crossing in
-        let first : q ≤ place_count shape = elim is_due.within [ inl below ↦ omega arith | inr end ↦ omega arith ] in
-        let pos = place_count_pos shape is in
-        zero_shows (memory (link_address shape q + 12)) (cycle_of shape (q - 1)) (zeros (link_address shape q + 12)) (cycle_of-first shape (q - 1) (omega arith));
+          let is_due = crossing_due_is shape (Data 0) q due in
+          let some = crossing_positive shape q is_due.crossing in
+          let first : q ≤ place_count shape = elim is_due.within [ inl below ↦ omega arith | inr end ↦ omega arith ] in
+          let pos = place_count_pos shape is in
+          zero_shows (memory (link_address shape q + 12)) (cycle_of shape (q - 1)) (zeros (link_address shape q + 12)) (cycle_of-first shape (q - 1) (omega arith));
       whole = λ p g. absurd (false≢true g);
       lengths = All-nil (λ n. 0 < n);
       descriptors = refl;

@@ -1,20 +1,18 @@
 -- A word gives one position or one crossing at most: a place has one due position, a Link one due crossing
-use Rattle.std.specs.Prelude.{◌≡◌, ℕ, suc, zero, ◌+◌, ◌-◌, ◌<◌, ◌≤◌, ◌⊎◌, ◌&&◌, not, Bool, true, false, List, [], ◌∷◌, length, Contains, filter}
+use Rattle.std.specs.Prelude.{◌≡◌, ℕ, suc, zero, ◌+◌, ◌<◌, ◌≤◌, ◌⊎◌, ◌&&◌, not, Bool, true, [], ◌∷◌, Contains, filter}
 use Rattle.std.specs.List.{range_with_len}
-use Rattle.std.proofs.Common.{arith, refl, sym, ◌∙◌, ap, inl, inr, get_or}
-use Rattle.std.proofs.lemmas.Bool.{cases_Bool, cases_lt, cases_eq, cond-true, cond-false, and_parts, not-true, false≢true, false_from_ne_true}
-use Rattle.std.proofs.lemmas.List.Elements.{Contains-get_or}
+use Rattle.std.proofs.Common.{arith, refl, sym, ◌∙◌, ap, inl, inr}
+use Rattle.std.proofs.lemmas.Bool.{cases_Bool, cases_lt, cond-true, cond-false, and_parts, false_from_ne_true}
 use Rattle.segments.specs.declared.spot.Spot.{Spot}
 use Rattle.segments.specs.ShapeValue.{Shape}
-use Rattle.segments.specs.Places.{place_count, address_of, is_crossing, link_address}
-use Rattle.segments.specs.Spots.{number}
+use Rattle.segments.specs.Places.{place_count, link_address}
 use Rattle.segments.specs.Shape.{IsShape}
 use Rattle.segments.specs.RingView.{RingView, floor_number, gives, gives_crossing, due_positions, due_crossings, positions_given, crossings_given}
 use Rattle.segments.proofs.Positions.{same_position_near}
 use Rattle.segments.proofs.Crossings.{same_crossing_at, crossing_positive}
 use Rattle.segments.proofs.SpotOrder.{data_not_link}
-use Rattle.segments.proofs.Giving.{Gives, GivesCrossing, IsCrossingDue, gives_is, gives_crossing_is}
-use Rattle.segments.proofs.DueLists.{filter_contained, range_contained, position_given_is, crossing_given_is}
+use Rattle.segments.proofs.Giving.{IsCrossingDue, gives_is, gives_crossing_is}
+use Rattle.segments.proofs.DueLists.{position_given_is, crossing_given_is}
 
 module _ (shape : Shape) (is : IsShape shape) (floor : Spot) (a w : ℕ) where
   pub gives_one : (p q : ℕ) → gives shape floor p a w ≡ true → gives shape floor q a w ≡ true → p ≡ q
@@ -62,7 +60,7 @@ one_from test a (suc n) one =
           inr (
             a,
             cond-true (test a) (a ∷ filter test (range_with_len (a + 1) n)) (filter test (range_with_len (a + 1) n)) passes
-            ∙ ap (λ xs. a ∷ xs) (none_from test (a + 1) n (λ q h t. let same : a ≡ q = one a q passes t in absurd (omega arith))),
+                ∙ ap (λ xs. a ∷ xs) (none_from test (a + 1) n (λ q h t. let same : a ≡ q = one a q passes t in absurd (omega arith))),
           )
       | inr fails ↦
           let skips = cond-false (test a) (a ∷ filter test (range_with_len (a + 1) n)) (filter test (range_with_len (a + 1) n)) fails in

@@ -1,18 +1,16 @@
 -- Spots that the controller's pointer may be known to have reached: behind a finished block, where it stopped, where it is moved
-use Rattle.std.specs.Prelude.{◌≡◌, ℕ, ◌+◌, ◌-◌, ◌<◌, ◌≤◌, ◌⊎◌, ◌==◌, ◌&&◌, ◌||◌, not, Bool, true, false, Option, None, Some, min, unwrap_or, nat_lt, nat_le}
-use Rattle.std.specs.List.{list_all, range_with_len}
+use Rattle.std.specs.Prelude.{◌≡◌, ℕ, ◌+◌, ◌-◌, ◌<◌, ◌≤◌, ◌==◌, ◌&&◌, not, true, nat_lt}
 use Rattle.std.proofs.Common.{arith, refl, sym, ◌∙◌, ap, subst, inl, inr}
-use Rattle.std.proofs.lemmas.Bool.{cases_Bool, cases_eq, cases_lt, cond-true, cond-false, and_parts, or_cases, not-true, ltb-true, leb-true, eqb-true, false≢true}
+use Rattle.std.proofs.lemmas.Bool.{cases_eq, and_parts, or_cases, not-true, ltb-true, leb-true, eqb-true, false≢true}
 use Rattle.segments.specs.declared.spot.Spot.{Spot}
 use Rattle.segments.specs.declared.spot.Spot.TheVariants.{Data, Link}
 use Rattle.segments.specs.ShapeValue.{Shape}
-use Rattle.segments.specs.Places.{place_count, is_crossing}
-use Rattle.segments.specs.Spots.{IsSpot, rank, number, after}
-use Rattle.segments.specs.Shape.{IsShape}
+use Rattle.segments.specs.Places.{is_crossing}
+use Rattle.segments.specs.Spots.{IsSpot, number, after}
 use Rattle.segments.specs.RingView.{RingView, floor_number}
-use Rattle.segments.specs.Ceiling.{is_way_given, is_step_given, given_count, ceiling, is_data_below, is_stop_spot, stopped_number}
+use Rattle.segments.specs.Ceiling.{is_way_given, is_step_given, given_count, is_stop_spot, stopped_number}
 use Rattle.segments.specs.Moves.{are_given, are_ways_given, is_reached}
-use Rattle.segments.specs.RingKeeps.{RingKeeps, MayReach}
+use Rattle.segments.specs.RingKeeps.{MayReach}
 use Rattle.segments.proofs.Crossings.{crossing_positive}
 use Rattle.segments.proofs.SpotOrder.{after_is}
 use Rattle.segments.proofs.GivenCount.{given_below}
@@ -36,10 +34,10 @@ data_reached shape v q later steps way =
       later = later;
       passed = λ p h. (step_is shape v p (steps p h)).0;
       passed_links = λ p crossing h.
-        elim (cases_eq p q) [
-          | inl here ↦ ap (λ n. v.crossed n) here ∙ way (ap (λ n. is_crossing shape n) (sym here) ∙ crossing)
-          | inr before ↦ (step_is shape v p (steps p (omega arith))).1 crossing
-        ];
+          elim (cases_eq p q) [
+            | inl here ↦ ap (λ n. v.crossed n) here ∙ way (ap (λ n. is_crossing shape n) (sym here) ∙ crossing)
+            | inr before ↦ (step_is shape v p (steps p (omega arith))).1 crossing
+          ];
     }
 
 -- a Link up to which all is given

@@ -1,26 +1,25 @@
 -- A spot that is reached, a ring that is opened or held: what the rules keep of a ring stays
-use Rattle.std.specs.Prelude.{◌≡◌, ◌≢◌, ℕ, ◌+◌, ◌-◌, ◌%◌, ◌<◌, ◌≤◌, ◌⊎◌, true, false, [], Option, None, Some, slice_get}
+use Rattle.std.specs.Prelude.{◌≡◌, ◌≢◌, ℕ, ◌+◌, ◌-◌, ◌%◌, ◌<◌, ◌≤◌, true, false, [], Option, None, Some}
 use Rattle.std.proofs.Common.{arith, refl, sym, ◌∙◌, ap, inl, inr, get_or}
 use Rattle.std.proofs.lemmas.Bool.{cases_lt, cases_eq, false≢true}
 use Rattle.std.proofs.lemmas.Option.{none-some, same_Some, slice_get-get_or}
 use Rattle.trb.specs.declared.block.Block.{Block}
 use Rattle.trb.specs.Block.{word, with_cycle}
 use Rattle.segments.specs.declared.spot.Spot.{Spot}
-use Rattle.segments.specs.declared.spot.Spot.TheVariants.{Link}
 use Rattle.segments.specs.ShapeValue.{Shape}
 use Rattle.segments.specs.Places.{place_count, address_of, cycle_of, is_crossing, link_address}
-use Rattle.segments.specs.Spots.{rank, number}
+use Rattle.segments.specs.Spots.{number}
 use Rattle.segments.specs.Shape.{IsShape}
 use Rattle.segments.specs.RingView.{RingView, Reaches, Opens, Holds, changed, declared, floor_number, is_due, is_crossing_due}
 use Rattle.segments.specs.Ceiling.{is_step_given, is_way_given, given_count}
 use Rattle.segments.specs.Givings.{descriptor_length}
 use Rattle.segments.specs.RingKeeps.{RingKeeps, MayReach, MayHold}
 use Rattle.segments.proofs.Positions.{place_count_pos, address_of-lap, cycle_of_bit, cycle_of_flips}
-use Rattle.segments.proofs.Crossings.{crossed_link, crossing_positive, is_crossing-lap, link_address-lap}
+use Rattle.segments.proofs.Crossings.{crossed_link, is_crossing-lap, link_address-lap}
 use Rattle.segments.proofs.SpotOrder.{rank_least}
-use Rattle.segments.proofs.Giving.{due_is, due_from, IsCrossingDue, crossing_due_is, crossing_due_from}
+use Rattle.segments.proofs.Giving.{due_is, due_from, crossing_due_is, crossing_due_from}
 use Rattle.segments.proofs.GivenCount.{given_below, given_count_least, given_count_stops, given_count_still}
-use Rattle.segments.proofs.StepFacts.{GivesMore, step_is, step_from, whole_more}
+use Rattle.segments.proofs.StepFacts.{step_is, step_from, whole_more}
 
 -- the view with another floor and another number at which the ring is held
 abbrev pub moved : RingView → Spot → Option ℕ → RingView
@@ -160,14 +159,14 @@ module _ (shape : Shape) (is : IsShape shape) (memory : ℕ → ℕ) (v : RingVi
           given_declared = k.given_declared;
           crossed_is_crossing = k.crossed_is_crossing;
           crossed_within = λ q g.
-            elim (k.crossed_within q g) [
-              | inl below ↦ inl (omega (arith, may.later))
-              | inr first ↦
-                  elim (cases_eq (number t) 0) [
-                    | inl still ↦ inr (first.0, still)
-                    | inr on ↦ inl (omega arith)
-                  ]
-            ];
+              elim (k.crossed_within q g) [
+                | inl below ↦ inl (omega (arith, may.later))
+                | inr first ↦
+                    elim (cases_eq (number t) 0) [
+                      | inl still ↦ inr (first.0, still)
+                      | inr on ↦ inl (omega arith)
+                    ]
+              ];
           kept = λ p d low g at. k.kept p d (omega (arith, may.later)) g at;
           not_yet = not_yet_from;
           kept_link = λ q i due g at. k.kept_link q i (crossed_due q (omega (arith, may.later, (crossing_due_is shape t q due).from)) g) g at;

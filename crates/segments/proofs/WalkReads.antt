@@ -1,9 +1,9 @@
 -- From the floor's spot the controller reads whole descriptors as declared, in order, through given Links, and then waits
-use Rattle.std.specs.Prelude.{◌≡◌, ℕ, suc, zero, ◌+◌, ◌-◌, ◌*◌, ◌<◌, ◌≤◌, ◌⊎◌, if◌then◌else◌, not, Bool, true, false, List, [], ◌∷◌, length, All, Contains, map, take, filter, Some}
+use Rattle.std.specs.Prelude.{◌≡◌, ℕ, suc, zero, ◌+◌, ◌-◌, ◌*◌, ◌<◌, ◌≤◌, not, true, false, List, [], ◌∷◌, length, All, map, take, filter, Some}
 use Rattle.std.specs.List.{range_with_len, filter_map, cons_option}
 use Rattle.std.proofs.Common.{arith, refl, sym, ◌∙◌, ap, subst, inl, inr}
 use Rattle.std.proofs.lemmas.Bool.{cases_eq, cond-true, cond-false, false≢true, not_from_true, not_from_false}
-use Rattle.std.proofs.lemmas.List.{take-map, take_all, length-map}
+use Rattle.std.proofs.lemmas.List.{take-map, take_all}
 use Rattle.std.proofs.lemmas.List.Elements.{All-nil, All-cons, All-map, All-take, All-contains, All-same, All-weaker}
 use Rattle.trb.specs.declared.block.Block.{Block}
 use Rattle.trb.specs.declared.ring_kind.RingKind.TheVariants.{Evt}
@@ -192,24 +192,24 @@ module _ (shape : Shape) (is : IsShape shape) (other : shape.kind ≡ Evt → �
         is_border = given_count_border shape is memory v k;
         spots = p.spots;
         reads = λ n.
-          walked n
-          ∙ ap (map (block_under memory)) (sym (take-map (standing shape) n (spots_from shape v.floor p.steps)))
-          ∙ sym (take-map (block_under memory) n (map (standing shape) (spots_from shape v.floor p.steps)))
-          ∙ ap (take n) (sym all);
+            walked n
+            ∙ ap (map (block_under memory)) (sym (take-map (standing shape) n (spots_from shape v.floor p.steps)))
+            ∙ sym (take-map (block_under memory) n (map (standing shape) (spots_from shape v.floor p.steps)))
+            ∙ ap (take n) (sym all);
         blocks = ap data_of all ∙ p.blocks;
         links = λ n.
-          let P = λ (at : Pointer). is_shown memory at ≡ true → is_link (kind (block_under memory at)) ≡ true →
-          (q : ℕ) × (floor_number v ≤ q) × (v.crossed q ≡ true) × (at.address ≡ link_address shape q) in
-          let each : All P (looks memory (standing shape v.floor) n) =
-          All-same P (looks memory (standing shape v.floor) n) _ (p.spots n)
-          (All-map P (standing shape) (take n (spots_from shape v.floor (suc p.steps)))
-          (All-weaker (IsLooked shape memory v t w) (λ u. P (standing shape u)) (given_link t w) _ (at_spots n))) in
-          λ at c. All-contains P (looks memory (standing shape v.floor) n) at each c;
+            let P = λ (at : Pointer). is_shown memory at ≡ true → is_link (kind (block_under memory at)) ≡ true →
+            (q : ℕ) × (floor_number v ≤ q) × (v.crossed q ≡ true) × (at.address ≡ link_address shape q) in
+            let each : All P (looks memory (standing shape v.floor) n) =
+            All-same P (looks memory (standing shape v.floor) n) _ (p.spots n)
+            (All-map P (standing shape) (take n (spots_from shape v.floor (suc p.steps)))
+            (All-weaker (IsLooked shape memory v t w) (λ u. P (standing shape u)) (given_link t w) _ (at_spots n))) in
+            λ at c. All-contains P (looks memory (standing shape v.floor) n) at each c;
         inside = λ n.
-          let P = λ (at : Pointer). (b : ℕ) → b < 16 → is_inside shape (at.address + b) ≡ true in
-          All-same P (looks memory (standing shape v.floor) n) _ (p.spots n)
-          (All-map P (standing shape) (take n (spots_from shape v.floor (suc p.steps)))
-          (All-weaker (IsLooked shape memory v t w) (λ u. P (standing shape u)) (λ u looked. spot_inside u looked.is_spot) _ (at_spots n)));
+            let P = λ (at : Pointer). (b : ℕ) → b < 16 → is_inside shape (at.address + b) ≡ true in
+            All-same P (looks memory (standing shape v.floor) n) _ (p.spots n)
+            (All-map P (standing shape) (take n (spots_from shape v.floor (suc p.steps)))
+            (All-weaker (IsLooked shape memory v t w) (λ u. P (standing shape u)) (λ u looked. spot_inside u looked.is_spot) _ (at_spots n)));
       }
 
   pub walk_reads : WalkReads shape memory v

@@ -1,7 +1,7 @@
 -- One step of the walk: at each spot up to the first that isn't given a block stands that leads to the next spot, and there none
-use Rattle.std.specs.Prelude.{◌≡◌, ◌≢◌, ℕ, ◌+◌, ◌-◌, ◌*◌, ◌/◌, ◌^◌, ◌%◌, ◌<◌, ◌≤◌, ◌⊎◌, ◌==◌, ◌||◌, if◌then◌else◌, not, Bool, true, false, [], Option, Some, slice_get}
+use Rattle.std.specs.Prelude.{◌≡◌, ◌≢◌, ℕ, ◌+◌, ◌-◌, ◌*◌, ◌/◌, ◌^◌, ◌%◌, ◌<◌, ◌≤◌, ◌==◌, ◌||◌, if◌then◌else◌, not, Bool, true, false, [], Some, slice_get}
 use Rattle.std.specs.Option.{option_map}
-use Rattle.std.proofs.Common.{arith, refl, sym, ◌∙◌, ap, subst, inl, inr, get_or}
+use Rattle.std.proofs.Common.{arith, refl, sym, ◌∙◌, ap, inl, inr, get_or}
 use Rattle.std.proofs.lemmas.Bool.{cases_Bool, cases_lt, cases_eq, cond-true, cond-false, eq-eqb, ne_eqb, eqb-true, or_parts, not-false, false≢true, false_from_ne_true}
 use Rattle.std.proofs.lemmas.Option.{slice_get-get_or}
 use Rattle.std.proofs.Math.Nat.{mod-eq_of_lt}
@@ -14,11 +14,11 @@ use Rattle.trb.proofs.BlockLemmas.{kind-with_cycle}
 use Rattle.segments.specs.declared.spot.Spot.{Spot}
 use Rattle.segments.specs.declared.spot.Spot.TheVariants.{Data, Link}
 use Rattle.segments.specs.ShapeValue.{Shape}
-use Rattle.segments.specs.Places.{place_count, address_of, cycle_of, is_crossing, link_crossed, link_address, link_target, toggles}
+use Rattle.segments.specs.Places.{address_of, cycle_of, is_crossing, link_address, link_target, toggles}
 use Rattle.segments.specs.Spots.{IsSpot, rank, number, after, next, spot_address, spot_cycle}
 use Rattle.segments.specs.Shape.{IsShape}
 use Rattle.segments.specs.RingView.{RingView, floor_number}
-use Rattle.segments.specs.Ceiling.{is_way_given, is_step_given, given_count}
+use Rattle.segments.specs.Ceiling.{given_count}
 use Rattle.segments.specs.Givings.{same, is_wrong_link}
 use Rattle.segments.specs.RingKeeps.{RingKeeps}
 use Rattle.segments.specs.Walk.{Pointer, block_under, is_shown, behind, laid, standing}
@@ -29,8 +29,7 @@ use Rattle.segments.proofs.SpotOrder.{rank_most, next_is_spot, spot_address-afte
 use Rattle.segments.proofs.Giving.{due_from, crossing_due_from}
 use Rattle.segments.proofs.GivenCount.{given_below, given_count_stops}
 use Rattle.segments.proofs.StepFacts.{step_is, step_from}
-use Rattle.segments.proofs.Reaching.{given_count_near, given_count_declared, floor_given, kept_cycle, crossed_due}
-use Rattle.segments.proofs.ReachedSpots.{way_is}
+use Rattle.segments.proofs.Reaching.{given_count_near, floor_given, kept_cycle, crossed_due}
 
 -- what stands at a spot that is read
 abbrev pub ReadAs : Shape → (ℕ → ℕ) → RingView → Spot → Type 0
@@ -84,9 +83,9 @@ module _ (shape : Shape) (is : IsShape shape) (other : shape.kind ≡ Evt → �
       let low_end : spot_address shape (after shape p) < 2 ^ 64 = spot_ends (after shape p) (next_is_spot shape (Data p)) in
       record {
         shown = eq-eqb (cycle (block_at memory (address_of shape p))) (cycle_of shape p)
-          (cycle_at (memory (address_of shape p + 12)) ∙ kept_cycle shape is memory v k p low given);
+            (cycle_at (memory (address_of shape p + 12)) ∙ kept_cycle shape is memory v k p low given);
         on = cond-false (is_link (kind (block_at memory (address_of shape p)))) _ _ no_link
-          ∙ same_pointer _ _ _ _ (mod-eq_of_lt (omega arith) ∙ near) (sym (spot_cycle-after shape is other p));
+            ∙ same_pointer _ _ _ _ (mod-eq_of_lt (omega arith) ∙ near) (sym (spot_cycle-after shape is other p));
         stands = (high, no_link, ap (λ o. option_map (λ b. with_cycle b (cycle_of shape p)) o) declared ∙ ap (λ b. Some b) (sym stands));
       }
 
@@ -111,8 +110,8 @@ module _ (shape : Shape) (is : IsShape shape) (other : shape.kind ≡ Evt → �
       record {
         shown = eq-eqb (cycle b) (cycle_of shape (q - 1)) (cycle_at (memory (link_address shape q + 12)) ∙ stands.1);
         on = cond-true (is_link (kind b)) _ _ link.1
-          ∙ same_pointer _ _ _ _ (link.0 ∙ sym (link_target-crossed shape is q found.0 found.1))
-          (ap (λ t. if t then 1 - cycle_of shape (q - 1) else cycle_of shape (q - 1)) link.2 ∙ sym (cycle_of-crossed shape is q found.0 found.1));
+            ∙ same_pointer _ _ _ _ (link.0 ∙ sym (link_target-crossed shape is q found.0 found.1))
+            (ap (λ t. if t then 1 - cycle_of shape (q - 1) else cycle_of shape (q - 1)) link.2 ∙ sym (cycle_of-crossed shape is q found.0 found.1));
         stands = (given, link.1);
       }
 
