@@ -1,1 +1,2 @@
+pub mod RingsKeep
 pub mod Headline

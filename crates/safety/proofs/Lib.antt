@@ -1,0 +1,4 @@
+pub mod TestsPassed
+pub mod RingsOfHeader
+pub mod Declaring
+pub mod Writing
