@@ -2,3 +2,5 @@ pub mod TestsPassed
 pub mod RingsOfHeader
 pub mod Declaring
 pub mod Writing
+pub mod DriverRows
+pub mod Transfers

@@ -26,3 +26,4 @@ pub mod ReachedSpots
 pub mod GivenBorder
 pub mod WalkSteps
 pub mod WalkReads
+pub mod Named
