@@ -4,3 +4,5 @@ pub mod Declaring
 pub mod Writing
 pub mod DriverRows
 pub mod Transfers
+pub mod Completions
+pub mod Histories
