@@ -27,3 +27,5 @@ pub mod GivenBorder
 pub mod WalkSteps
 pub mod WalkReads
 pub mod Named
+pub mod RingsApart
+mod WalkExamples
