@@ -1,1 +1,4 @@
+pub mod RingsKeep
+pub mod Placings
+pub mod KeptHistories
 pub mod Headline

@@ -11,3 +11,21 @@ pub mod SpotOrder
 pub mod NamedSpots
 mod Examples
 pub mod InsideLemmas
+pub mod GivenCount
+pub mod Giving
+pub mod DueLists
+pub mod StepFacts
+pub mod MemoryWords
+pub mod NewRing
+pub mod Declaring
+pub mod Writing
+pub mod Reaching
+pub mod Elsewhere
+pub mod OneGiving
+pub mod ReachedSpots
+pub mod GivenBorder
+pub mod WalkSteps
+pub mod WalkReads
+pub mod Named
+pub mod RingsApart
+mod WalkExamples

@@ -34,7 +34,7 @@ same_rank (Link p) (Link q) e = ap Link (halves p q e)
     halves : (p q : ℕ) → 2 * p ≡ 2 * q → p ≡ q
     halves p q e = omega arith
 
-after_is : (shape : Shape) (p : ℕ) → ((is_crossing shape (p + 1) ≡ true) × (after shape p ≡ Link (p + 1))) ⊎ ((is_crossing shape (p + 1) ≡ false) × (after shape p ≡ Data (p + 1)))
+pub after_is : (shape : Shape) (p : ℕ) → ((is_crossing shape (p + 1) ≡ true) × (after shape p ≡ Link (p + 1))) ⊎ ((is_crossing shape (p + 1) ≡ false) × (after shape p ≡ Data (p + 1)))
 after_is shape p =
     elim (cases_Bool (is_crossing shape (p + 1))) [
       | inl link ↦ inl (link, cond-true (is_crossing shape (p + 1)) (Link (p + 1)) (Data (p + 1)) link)
@@ -81,7 +81,7 @@ next_least shape (Data p) (Link q) is l =
 
 -- ---- where spots lie
 
-data_not_link : (shape : Shape) → IsShape shape → (p q : ℕ) → is_crossing shape q ≡ true → address_of shape p ≡ link_address shape q → ⊥
+pub data_not_link : (shape : Shape) → IsShape shape → (p q : ℕ) → is_crossing shape q ≡ true → address_of shape p ≡ link_address shape q → ⊥
 data_not_link shape is p q crossing same =
     let found = crossed_link shape q crossing in
     let at : link_address shape q ≡ slice_index (links shape) found.0 = link_address_is shape q found.0 found.1 in

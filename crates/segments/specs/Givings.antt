@@ -1,5 +1,5 @@
 -- The rules of one ring: what is declared on it, and what a write gives of it: xHCI 4.9.2, 4.11.2, 4.11.5.1
-use Rattle.std.specs.Prelude.{ℕ, ◌+◌, ◌-◌, ◌==◌, ◌&&◌, ◌||◌, Bool, true, false, not, nat_le, nat_lt, slice_index, Option, Some, None, slice_get, unwrap_or}
+use Rattle.std.specs.Prelude.{ℕ, ◌+◌, ◌-◌, ◌==◌, ◌||◌, Bool, true, false, not, nat_le, nat_lt, Option, Some, None, slice_get, unwrap_or}
 use Rattle.std.specs.List.{list_all, range_with_len}
 use Rattle.guest_memory.specs.Memory.{put}
 use Rattle.trb.specs.declared.block.Block.{Block}

@@ -9,4 +9,5 @@ pub mod Descriptors
 pub mod Givings
 pub mod Moves
 pub mod RingKeeps
+pub mod Walk
 pub mod OnLiterals

@@ -1,0 +1,139 @@
+-- A Command Completion Event that may be read keeps what the rules keep of each ring, so long as it places endpoints where it may
+use Rattle.std.specs.Prelude.{◌≡◌, ℕ, ◌+◌, ◌<◌, ◌≤◌, ◌==◌, ◌||◌, not, if◌then◌else◌, nat_lt, Bool, true, false, List, [], ◌∷◌, Option, None, Some}
+use Rattle.std.proofs.Common.{arith, refl, sym, ◌∙◌, ap, subst, inl, inr}
+use Rattle.std.proofs.lemmas.Bool.{cond_both, or_parts, not-false, ltb-true, eqb-true}
+use Rattle.trb.specs.declared.block.Block.{Block}
+use Rattle.trb.specs.Block.{code, slot, pointer}
+use Rattle.segments.specs.declared.spot.Spot.{Spot}
+use Rattle.segments.specs.declared.spot.Spot.TheVariants.{Data}
+use Rattle.segments.specs.Places.{address_of}
+use Rattle.segments.specs.Spots.{number, after}
+use Rattle.segments.specs.RingView.{RingView, Reaches, Holds, floor_number}
+use Rattle.segments.specs.Ceiling.{ceiling, given_count}
+use Rattle.segments.specs.Moves.{target}
+use Rattle.segments.specs.RingKeeps.{RingKeeps, MayReach}
+use Rattle.segments.proofs.Reaching.{holds_keeps, reaches_keeps, reaches_and_holds_keeps, reached_given}
+use Rattle.segments.proofs.ReachedSpots.{after_reached, number-after, move_reached}
+use Rattle.segments.proofs.Named.{ceiling_held, ceiling_within, IsAhead, target_ahead, start_reached}
+use Rattle.commands.specs.declared.command.Command.{Command}
+use Rattle.commands.specs.declared.command.Command.TheVariants.{StopEndpoint}
+use Rattle.commands.specs.declared.state.EndpointState.{EndpointState}
+use Rattle.commands.specs.declared.state.EndpointState.TheVariants.{Stopped}
+use Rattle.commands.specs.States.{is_off}
+use Rattle.commands.specs.Changes.{Change, SlotGoesOn, DeviceLeft, Disables, Places, Stops, Resets, changes}
+use Rattle.traces.specs.declared.header.Header.{Header}
+use Rattle.traces.specs.Header.{IsHeader, shape_of, command_id, ring_beginning_at}
+use Rattle.ring_knowledge.specs.Known.{Known}
+use Rattle.ring_knowledge.specs.Rings.{command_at, next_command, on_ring}
+use Rattle.ring_knowledge.specs.Completions.{set_to, bound_to, moved_to, moved, pointed, disabled, in_state, held_at_ceiling, changed_by, changed_by_all, succeeded, stop_ended, finished, completed}
+use Rattle.ownership_rules.specs.Events.{may_be_taken, can_finish, is_impossible_completion}
+use Rattle.safety.specs.RingsKeep.{IsDriverRing, RingsKeep}
+use Rattle.safety.specs.Placings.{MayPoint, MayChange, MayChangeAll, MayFinish}
+use Rattle.safety.proofs.RingsOfHeader.{shape_allowed}
+use Rattle.safety.proofs.DriverRows.{same_keeps, on_ring_keeps, on_ring_twice_keeps}
+
+module _ (h : Header) (is : IsHeader h) where
+  -- the pointer of a ring is set to a spot that it may reach
+  set_keeps : (k : Known) → RingsKeep h k → (r : ℕ) (t : Spot) → (IsDriverRing h r → MayReach (shape_of h r) (k.ring r) t) → RingsKeep h (set_to h k r t)
+  unfolding set_to
+  set_keeps k keeps r t may =
+      on_ring_twice_keeps h k r (Reaches t) (Holds (number t)) keeps (λ driver.
+      let allowed = shape_allowed h is r driver in
+      reaches_and_holds_keeps (shape_of h r) allowed k.memory (k.ring r) (keeps r driver) t (may driver) (number t) (omega arith)
+      (reached_given (shape_of h r) allowed k.memory (k.ring r) (keeps r driver) t (may driver)))
+
+  bound_keeps : (k : Known) → RingsKeep h k → (s i : ℕ) (o : Option ℕ) → ((r : ℕ) → o ≡ Some r → floor_number (k.ring r) ≡ 0) → RingsKeep h (bound_to h k s i o)
+  unfolding bound_to
+  bound_keeps k keeps s i None new = keeps
+  bound_keeps k keeps s i (Some r) new =
+      same_keeps h (set_to h k r (Data 0)) (bound_to h k s i (Some r)) refl refl
+      (set_keeps k keeps r (Data 0) (λ driver. start_reached (shape_of h r) (k.ring r) (new r refl)))
+
+  target_keeps : (k : Known) → RingsKeep h k → (r : ℕ) (o : Option Spot) → ((t : Spot) → o ≡ Some t → IsDriverRing h r → MayReach (shape_of h r) (k.ring r) t) →
+      RingsKeep h (moved_to h k r o)
+  unfolding moved_to
+  target_keeps k keeps r None may = keeps
+  target_keeps k keeps r (Some t) may = set_keeps k keeps r t (may t refl)
+
+  moved_keeps : (k : Known) → RingsKeep h k → (s i p : ℕ) (cycle : Bool) → MayPoint h k s i p cycle → is_off (k.endpoint_state s i) ≡ false →
+      (o : Option ℕ) → k.ring_of s i ≡ o → RingsKeep h (moved h k o p cycle)
+  unfolding moved
+  moved_keeps k keeps s i p cycle may on None at = keeps
+  moved_keeps k keeps s i p cycle may on (Some r) at =
+      target_keeps k keeps r (target (shape_of h r) (k.ring r) p cycle) (λ t named driver.
+      let ahead : IsAhead (shape_of h r) (k.ring r) t = target_ahead (shape_of h r) (k.ring r) p cycle t named in
+      move_reached (shape_of h r) (k.ring r) t ahead.is_spot ahead.from (may.moves on r t at named))
+
+  pointed_keeps : (k : Known) → RingsKeep h k → (s i p : ℕ) (cycle : Bool) → MayPoint h k s i p cycle → RingsKeep h (pointed h k s i p cycle)
+  unfolding pointed
+  pointed_keeps k keeps s i p cycle may =
+      cond_both (is_off (k.endpoint_state s i)) (bound_to h k s i (ring_beginning_at h p)) (moved h k (k.ring_of s i) p cycle) (RingsKeep h)
+      (λ off. bound_keeps k keeps s i (ring_beginning_at h p) (may.binds off)) (λ on. moved_keeps k keeps s i p cycle may on (k.ring_of s i) refl)
+
+  -- a stopped endpoint's ring is held as far as its controller may be
+  held_keeps : (k : Known) → RingsKeep h k → (o : Option ℕ) → RingsKeep h (held_at_ceiling h k o)
+  unfolding held_at_ceiling
+  held_keeps k keeps None = keeps
+  held_keeps k keeps (Some r) =
+      on_ring_keeps h k r (Holds (ceiling (shape_of h r) (k.ring r))) keeps (λ driver.
+      let allowed = shape_allowed h is r driver in
+      let within = ceiling_within (shape_of h r) allowed k.memory (k.ring r) (keeps r driver) in
+      holds_keeps (shape_of h r) allowed k.memory (k.ring r) (keeps r driver) (ceiling (shape_of h r) (k.ring r)) (record { from = within.0; to = within.1 }))
+
+  state_keeps : (k : Known) → RingsKeep h k → (s i : ℕ) (state : EndpointState) → RingsKeep h (in_state h k s i state)
+  unfolding in_state
+  state_keeps k keeps s i state = same_keeps h k (in_state h k s i state) refl refl keeps
+
+  change_keeps : (c : Command) (k : Known) (change : Change) → RingsKeep h k → MayChange h k change → RingsKeep h (changed_by h c k change)
+  unfolding changed_by disabled in_state
+  change_keeps c k (SlotGoesOn s) keeps may = same_keeps h k (changed_by h c k (SlotGoesOn s)) refl refl keeps
+  change_keeps c k (DeviceLeft s) keeps may = same_keeps h k (changed_by h c k (DeviceLeft s)) refl refl keeps
+  change_keeps c k (Disables s which) keeps may = same_keeps h k (changed_by h c k (Disables s which)) refl refl keeps
+  change_keeps c k (Places s i p cycle state) keeps may =
+      same_keeps h (pointed h k s i p cycle) (changed_by h c k (Places s i p cycle state)) refl refl (pointed_keeps k keeps s i p cycle may)
+  change_keeps c k (Stops s i) keeps may = held_keeps (in_state h k s i Stopped) (state_keeps k keeps s i Stopped) (k.ring_of s i)
+  change_keeps c k (Resets s i) keeps may = state_keeps k keeps s i Stopped
+
+  changes_keep : (c : Command) (k : Known) (all : List Change) → RingsKeep h k → MayChangeAll h c k all → RingsKeep h (changed_by_all h c k all)
+  unfolding changed_by_all
+  changes_keep c k [] keeps may = keeps
+  changes_keep c k (change ∷ rest) keeps may = changes_keep c (changed_by h c k change) rest (change_keeps c k change keeps may.0) may.1
+
+  stop_keeps : (k : Known) (c : Command) → RingsKeep h k → RingsKeep h (stop_ended h k c)
+  unfolding stop_ended
+  stop_keeps k (StopEndpoint s i) keeps = same_keeps h k (stop_ended h k (StopEndpoint s i)) refl refl keeps
+  stop_keeps k _ keeps = keeps
+
+  finish_keeps : (k : Known) (b : Block) (o : Option Command) → RingsKeep h k →
+      ((c : Command) → o ≡ Some c → code b ≡ 1 → MayChangeAll h c k (changes h.context_size k.memory (slot b) c)) → RingsKeep h (finished h k b o)
+  unfolding finished succeeded
+  finish_keeps k b None keeps may = keeps
+  finish_keeps k b (Some c) keeps may =
+      stop_keeps (if code b == 1 then succeeded h k (slot b) c else k) c
+      (cond_both (code b == 1) (succeeded h k (slot b) c) k (RingsKeep h)
+      (λ success. changes_keep c k (changes h.context_size k.memory (slot b) c) keeps (may c refl (eqb-true (code b) 1 success))) (λ _. keeps))
+
+  at_floor : (k : Known) → next_command h k ≡ floor_number (k.ring (command_id h))
+  unfolding next_command
+  at_floor k = refl
+
+  pub completion_keeps : (k : Known) (b : Block) → RingsKeep h k → is_impossible_completion h k b ≡ false → MayFinish h k b → RingsKeep h (completed h k b)
+  unfolding completed is_impossible_completion may_be_taken
+  completion_keeps k b keeps possible may =
+      let r : ℕ = command_id h in
+      let n : ℕ = next_command h k in
+      let l : Known = finished h k b (command_at h k n) in
+      let three = or_parts (not (nat_lt n (ceiling (shape_of h r) (k.ring r))) || not (pointer b == address_of (shape_of h r) n) || code b == 0) (not (can_finish k b (command_at h k n))) possible in
+      let two = or_parts (not (nat_lt n (ceiling (shape_of h r) (k.ring r))) || not (pointer b == address_of (shape_of h r) n)) (code b == 0) three.0 in
+      let one = or_parts (not (nat_lt n (ceiling (shape_of h r) (k.ring r)))) (not (pointer b == address_of (shape_of h r) n)) two.0 in
+      let below : n < ceiling (shape_of h r) (k.ring r) = ltb-true n (ceiling (shape_of h r) (k.ring r)) (not-false (nat_lt n (ceiling (shape_of h r) (k.ring r))) one.0) in
+      let finishes : RingsKeep h l = finish_keeps k b (command_at h k n) keeps may.places in
+      on_ring_keeps h l r (Reaches (after (shape_of h r) n)) finishes (λ driver.
+      let allowed = shape_allowed h is r driver in
+      let within = ceiling_within (shape_of h r) allowed k.memory (k.ring r) (keeps r driver) in
+      let reached : MayReach (shape_of h r) (k.ring r) (after (shape_of h r) n) = after_reached (shape_of h r) (k.ring r) n (omega (arith, at_floor k)) (omega (arith, within.1, below)) in
+      let held : (m : ℕ) → (k.ring r).held ≡ Some m → number (after (shape_of h r) n) ≤ m =
+      λ m at. omega (arith, number-after (shape_of h r) n, ceiling_held (shape_of h r) (k.ring r) m at, below) in
+      reaches_keeps (shape_of h r) allowed l.memory (l.ring r) (finishes r driver) (after (shape_of h r) n)
+      (subst (λ (v : RingView). MayReach (shape_of h r) v (after (shape_of h r) n)) (sym may.command_ring) reached)
+      (subst (λ (v : RingView). (m : ℕ) → v.held ≡ Some m → number (after (shape_of h r) n) ≤ m) (sym may.command_ring) held))

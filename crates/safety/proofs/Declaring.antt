@@ -1,0 +1,61 @@
+-- A declaration that breaks no rule is one that its ring allows
+use Rattle.std.specs.Prelude.{◌≡◌, ℕ, ◌<◌, ◌==◌, ◌&&◌, ◌||◌, not, Bool, true, false, List, [], ◌∷◌, length, nat_lt, All}
+use Rattle.std.specs.List.{list_any}
+use Rattle.std.proofs.Common.{arith, refl, sym, ◌∙◌, ap, subst, inl, inr}
+use Rattle.std.proofs.lemmas.Bool.{or_parts, not-false, false≢true}
+use Rattle.std.proofs.lemmas.List.Elements.{All-weaker}
+use Rattle.trb.specs.declared.block.Block.{Block}
+use Rattle.trb.specs.declared.kind.BlockKind.{BlockKind}
+use Rattle.trb.specs.declared.kind.BlockKind.TheVariants.{Link}
+use Rattle.trb.specs.declared.ring_kind.RingKind.{RingKind}
+use Rattle.trb.specs.declared.ring_kind.RingKind.TheVariants.{Cmd, Evt, Xfer}
+use Rattle.trb.specs.Block.{kind, cycle}
+use Rattle.trb.specs.Kind.{is_link, is_transfer, is_command, is_left_out_command}
+use Rattle.trb.specs.Descriptor.{is_chain, is_badly_formed, is_bad_descriptor, is_no_command, has_other_type, has_left_out_type, is_transfer_arrangement}
+use Rattle.segments.specs.Givings.{has_no_room}
+use Rattle.segments.specs.RingKeeps.{MayDeclare}
+use Rattle.traces.specs.declared.header.Header.{Header}
+use Rattle.traces.specs.declared.row.Row.TheVariants.{Sub}
+use Rattle.traces.specs.Header.{ring_with, shape_of}
+use Rattle.ring_knowledge.specs.Known.{Known}
+use Rattle.ownership_rules.specs.Declarations.{is_driver_ring, declaration_tests}
+use Rattle.ownership_rules.specs.Rules.{tests, broken}
+use Rattle.safety.proofs.TestsPassed.{AllFail, tests_fail, each_fails}
+
+command_no_link : (k : BlockKind) → (not (is_command k) && not (is_left_out_command k)) ≡ false → is_link k ≡ false
+command_no_link Link h = absurd (false≢true (sym h))
+command_no_link _ h = refl
+
+transfer_no_link : (k : BlockKind) → not (is_transfer k) ≡ false → is_link k ≡ false
+transfer_no_link Link h = absurd (false≢true (sym h))
+transfer_no_link _ h = refl
+
+-- an empty list is no chain
+some_blocks : (blocks : List Block) → is_badly_formed blocks ≡ false → 0 < length blocks
+some_blocks [] h = absurd (false≢true (sym h))
+some_blocks (b ∷ rest) h = omega arith
+
+good_descriptor : (ring : RingKind) (blocks : List Block) → is_bad_descriptor ring blocks ≡ false → (0 < length blocks) × All (λ b. is_link (kind b) ≡ false) blocks
+good_descriptor Cmd blocks h =
+    let two = or_parts (is_badly_formed blocks || not (length blocks == 1)) (list_any is_no_command blocks) h in
+    let one = or_parts (is_badly_formed blocks) (not (length blocks == 1)) two.0 in (
+      some_blocks blocks one.0,
+      All-weaker (λ b. is_no_command b ≡ false) (λ b. is_link (kind b) ≡ false) (λ b. command_no_link (kind b)) blocks (each_fails is_no_command blocks two.1),
+    )
+good_descriptor Xfer blocks h =
+    let two = or_parts (is_badly_formed blocks || has_other_type blocks) (not (is_transfer_arrangement blocks) && not (has_left_out_type blocks)) h in
+    let one = or_parts (is_badly_formed blocks) (has_other_type blocks) two.0 in (
+      some_blocks blocks one.0,
+      All-weaker (λ b. not (is_transfer (kind b)) ≡ false) (λ b. is_link (kind b) ≡ false) (λ b. transfer_no_link (kind b)) blocks
+          (each_fails (λ b. not (is_transfer (kind b))) blocks one.1),
+    )
+good_descriptor Evt blocks h = absurd (false≢true (sym h))
+
+-- its ring is a command or transfer ring that has room for it
+pub may_declare : (h : Header) (k : Known) (r : ℕ) (blocks : List Block) → broken h k (Sub r blocks) ≡ [] →
+    (is_driver_ring (ring_with h r) ≡ true) × MayDeclare (shape_of h r) (k.ring r) blocks
+unfolding tests declaration_tests
+may_declare h k r blocks clean =
+    let fails : AllFail (declaration_tests h k r blocks) = tests_fail h k (Sub r blocks) clean in
+    let good = good_descriptor (shape_of h r).kind blocks fails.1.1.0 in
+    (not-false (is_driver_ring (ring_with h r)) fails.0, record { room = fails.1.0; some = good.0; no_link = good.1 })

@@ -1,0 +1,98 @@
+-- The command and transfer rings of a header, each found by its ID
+use Rattle.std.specs.Prelude.{◌≡◌, ℕ, ◌==◌, ◌&&◌, ◌||◌, ◌++◌, Bool, true, false, List, [], ◌∷◌, nat_lt, Option, Some, None, find, filter}
+use Rattle.std.specs.List.{list_any, list_all, flat_map}
+use Rattle.std.proofs.Common.{arith, refl, sym, ◌∙◌, ap, subst, inl, inr}
+use Rattle.std.proofs.lemmas.Bool.{cases_Bool, cond-true, cond-false, false≢true, and_parts, or_parts, eqb-true}
+use Rattle.std.proofs.lemmas.Option.{none-some, same_Some}
+use Rattle.std.proofs.lemmas.List.Folds.{list_any-append}
+use Rattle.segments.specs.Shape.{IsShape, is_shape}
+use Rattle.trb.specs.declared.ring_kind.RingKind.TheVariants.{Xfer}
+use Rattle.traces.specs.declared.header.Header.{Header}
+use Rattle.traces.specs.declared.ring.Ring.{Ring}
+use Rattle.traces.specs.Header.{IsHeader, may_stand_together, is_driver_kind, ring_with, shape_of, shape_or, driver_rings}
+use Rattle.ownership_rules.specs.Declarations.{is_driver_ring}
+use Rattle.safety.specs.RingsKeep.{IsDriverRing}
+
+-- what is found passes the test, and whatever each ring passes
+found_passes : (test : Ring → Bool) (rs : List Ring) (r : Ring) → find test rs ≡ Some r → test r ≡ true
+found_passes test [] r found = absurd (none-some r found)
+found_passes test (q ∷ rest) r found =
+    elim (cases_Bool (test q)) [
+      | inl here ↦ ap test (sym (same_Some q r (sym (cond-true (test q) (Some q) (find test rest) here) ∙ found))) ∙ here
+      | inr later ↦ found_passes test rest r (sym (cond-false (test q) (Some q) (find test rest) later) ∙ found)
+    ]
+
+found_allowed : (test each : Ring → Bool) (rs : List Ring) (r : Ring) → find test rs ≡ Some r → list_all each rs ≡ true → each r ≡ true
+found_allowed test each [] r found all = absurd (none-some r found)
+found_allowed test each (q ∷ rest) r found all =
+    let parts = and_parts (each q) (list_all each rest) all in
+    elim (cases_Bool (test q)) [
+      | inl here ↦ ap each (sym (same_Some q r (sym (cond-true (test q) (Some q) (find test rest) here) ∙ found))) ∙ parts.0
+      | inr later ↦ found_allowed test each rest r (sym (cond-false (test q) (Some q) (find test rest) later) ∙ found) parts.1
+    ]
+
+-- where nothing of all driver rings passes, nothing of the one that is found does
+none_of_found : {X : Type 0} (test : Ring → Bool) (passes : X → Bool) (f : Ring → List X) (rs : List Ring) (r : Ring) → find test rs ≡ Some r →
+    is_driver_kind r.shape.kind ≡ true → list_any passes (flat_map f (filter (λ q. is_driver_kind q.shape.kind) rs)) ≡ false → list_any passes (f r) ≡ false
+none_of_found test passes f [] r found driver none = absurd (none-some r found)
+none_of_found test passes f (q ∷ rest) r found driver none =
+    let others : List Ring = filter (λ q. is_driver_kind q.shape.kind) rest in
+    elim (cases_Bool (is_driver_kind q.shape.kind)) [
+      | inl kept ↦
+          let all : list_any passes (f q ++ flat_map f others) ≡ false =
+          ap (λ qs. list_any passes (flat_map f qs)) (sym (cond-true (is_driver_kind q.shape.kind) (q ∷ others) others kept)) ∙ none in
+          let parts = or_parts (list_any passes (f q)) (list_any passes (flat_map f others)) (sym (list_any-append passes (f q) (flat_map f others)) ∙ all) in
+          elim (cases_Bool (test q)) [
+            | inl here ↦ ap (λ s. list_any passes (f s)) (sym (same_Some q r (sym (cond-true (test q) (Some q) (find test rest) here) ∙ found))) ∙ parts.0
+            | inr later ↦ none_of_found test passes f rest r (sym (cond-false (test q) (Some q) (find test rest) later) ∙ found) driver parts.1
+          ]
+      | inr dropped ↦
+          let all : list_any passes (flat_map f others) ≡ false =
+          ap (λ qs. list_any passes (flat_map f qs)) (sym (cond-false (is_driver_kind q.shape.kind) (q ∷ others) others dropped)) ∙ none in
+          elim (cases_Bool (test q)) [
+            | inl here ↦
+                let same : q ≡ r = same_Some q r (sym (cond-true (test q) (Some q) (find test rest) here) ∙ found) in
+                absurd (false≢true (sym dropped ∙ ap (λ (s : Ring). is_driver_kind s.shape.kind) same ∙ driver))
+            | inr later ↦ none_of_found test passes f rest r (sym (cond-false (test q) (Some q) (find test rest) later) ∙ found) driver all
+          ]
+    ]
+
+-- the ring of an ID
+pub record HasRing (h : Header) (r : ℕ) : Type 0 where
+  pub ring : Ring
+  pub found : ring_with h r ≡ Some ring
+  pub id : ring.id ≡ r
+  pub shape : shape_of h r ≡ ring.shape
+  pub driver : is_driver_kind ring.shape.kind ≡ true
+
+shape_found : (h : Header) (r : ℕ) (ring : Ring) → ring_with h r ≡ Some ring → shape_of h r ≡ ring.shape
+unfolding shape_of
+shape_found h r ring found = ap (λ o. shape_or Xfer o) found
+
+driver_is : (o : Option Ring) → is_driver_ring o ≡ true → (ring : Ring) × (o ≡ Some ring) × (is_driver_kind ring.shape.kind ≡ true)
+unfolding is_driver_ring
+driver_is None h = absurd (false≢true h)
+driver_is (Some ring) h = (ring, refl, h)
+
+pub has_ring : (h : Header) (r : ℕ) → IsDriverRing h r → HasRing h r
+has_ring h r driver =
+    let is = driver_is (ring_with h r) driver in
+    record {
+      ring = is.0;
+      found = is.1;
+      id = eqb-true is.0.id r (found_passes (λ q. q.id == r) h.rings is.0 is.1);
+      shape = shape_found h r is.0 is.1;
+      driver = is.2;
+    }
+
+pub none_of_ring : {X : Type 0} (h : Header) (r : ℕ) (has : HasRing h r) (passes : X → Bool) (f : Ring → List X) →
+    list_any passes (flat_map f (driver_rings h)) ≡ false → list_any passes (f has.ring) ≡ false
+unfolding driver_rings
+none_of_ring h r has passes f none = none_of_found (λ q. q.id == r) passes f h.rings has.ring has.found has.driver none
+
+pub shape_allowed : (h : Header) → IsHeader h → (r : ℕ) → IsDriverRing h r → IsShape (shape_of h r)
+shape_allowed h is r driver =
+    let has = has_ring h r driver in
+    let all = (and_parts (list_all (λ q. nat_lt q.id 256 && is_shape q.shape) h.rings) (may_stand_together h.rings) is).0 in
+    let allowed = found_allowed (λ q. q.id == r) (λ q. nat_lt q.id 256 && is_shape q.shape) h.rings has.ring has.found all in
+    ap is_shape has.shape ∙ (and_parts (nat_lt has.ring.id 256) (is_shape has.ring.shape) allowed).1

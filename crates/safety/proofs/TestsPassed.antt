@@ -1,0 +1,42 @@
+-- A row that breaks no rule fails none of its tests
+use Rattle.std.specs.Prelude.{◌≡◌, ℕ, Bool, true, false, if◌then◌else◌, List, [], ◌∷◌, map, filter, All}
+use Rattle.std.proofs.Common.{arith, refl, sym, ◌∙◌, ap, inl, inr, get_or}
+use Rattle.std.specs.List.{list_any}
+use Rattle.std.proofs.lemmas.Bool.{cases_Bool, cond-true, cond-false, false≢true, false_from_ne_true}
+use Rattle.std.proofs.lemmas.List.Folds.{list_any_at}
+use Rattle.traces.specs.declared.header.Header.{Header}
+use Rattle.traces.specs.declared.row.Row.{Row}
+use Rattle.ring_knowledge.specs.Known.{Known}
+use Rattle.ownership_rules.specs.declared.refusal.Refusal.{Refusal}
+use Rattle.ownership_rules.specs.declared.refusal.Refusal.TheVariants.{AfterStop}
+use Rattle.ownership_rules.specs.Refusal.{Test, broken_of}
+use Rattle.ownership_rules.specs.Rules.{tests, broken}
+
+some_none : (c : Refusal) (cs : List Refusal) → c ∷ cs ≡ [] → ⊥
+some_none c cs e = cc
+
+-- before a stop, and with no test failed
+pub clean_tests : (h : Header) (k : Known) (row : Row) → broken h k row ≡ [] → (k.stopped ≡ false) × (broken_of (tests h k row) ≡ [])
+unfolding broken
+clean_tests h k row clean =
+    elim (cases_Bool k.stopped) [
+      | inl stopped ↦ absurd (some_none AfterStop [] (sym (cond-true k.stopped (AfterStop ∷ []) (broken_of (tests h k row)) stopped) ∙ clean))
+      | inr on ↦ (on, sym (cond-false k.stopped (AfterStop ∷ []) (broken_of (tests h k row)) on) ∙ clean)
+    ]
+
+-- each test fails
+abbrev pub AllFail : List Test → Type 0
+AllFail [] = Unit {0}
+AllFail (t ∷ ts) = (t.1 ≡ false) × AllFail ts
+
+all_fail : (ts : List Test) → broken_of ts ≡ [] → AllFail ts
+all_fail [] clean = tt
+all_fail ((c, true) ∷ ts) clean = absurd (some_none c (broken_of ts) clean)
+all_fail ((c, false) ∷ ts) clean = (refl, all_fail ts clean)
+
+pub tests_fail : (h : Header) (k : Known) (row : Row) → broken h k row ≡ [] → AllFail (tests h k row)
+tests_fail h k row clean = all_fail (tests h k row) (clean_tests h k row clean).1
+
+-- where none passes a test each fails it
+pub each_fails : {X : Type 0} (test : X → Bool) (xs : List X) → list_any test xs ≡ false → All (λ x. test x ≡ false) xs
+each_fails test xs none k d h = false_from_ne_true (test (get_or xs k d)) (λ passes. false≢true (sym none ∙ list_any_at test xs k d h passes))

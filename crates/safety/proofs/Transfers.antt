@@ -1,0 +1,132 @@
+-- A Transfer Event that may be read keeps what the rules keep of each ring
+use Rattle.std.specs.Prelude.{◌≡◌, ℕ, ◌+◌, ◌<◌, ◌≤◌, ◌&&◌, ◌||◌, not, if◌then◌else◌, Bool, true, false, Option, None, Some}
+use Rattle.std.specs.Option.{option_map}
+use Rattle.std.proofs.Common.{arith, refl, sym, ◌∙◌, ap, subst, inl, inr}
+use Rattle.std.proofs.lemmas.Bool.{cond_both, and_parts, and_cases, or_left, or_right, or_parts, or_from, not-false, false≢true}
+use Rattle.std.proofs.lemmas.Option.{none-some, same_Some}
+use Rattle.guest_memory.specs.Memory.{put_pair}
+use Rattle.trb.specs.declared.block.Block.{Block}
+use Rattle.trb.specs.Block.{pointer, code, slot, endpoint}
+use Rattle.trb.specs.CompletionCode.{is_success, is_halting, is_trb_error, is_stopping}
+use Rattle.segments.specs.declared.spot.Spot.{Spot}
+use Rattle.segments.specs.Spots.{number, after}
+use Rattle.segments.specs.RingView.{RingView, Reaches, Holds, changed, floor_number}
+use Rattle.segments.specs.Ceiling.{given_count, ceiling, named, is_data_below, is_stop_spot, stopped_number}
+use Rattle.segments.specs.RingKeeps.{RingKeeps, MayReach}
+use Rattle.segments.proofs.Reaching.{reaches_keeps, reaches_and_holds_keeps, holds_and_reaches_keeps}
+use Rattle.segments.proofs.ReachedSpots.{after_reached, number-after, stop_spot_reached, stopped_within}
+use Rattle.segments.proofs.Named.{ceiling_held, ceiling_within, below_is, IsAhead, named_ahead}
+use Rattle.commands.specs.declared.state.EndpointState.{EndpointState}
+use Rattle.commands.specs.declared.state.EndpointState.TheVariants.{Halted, Error}
+use Rattle.traces.specs.declared.header.Header.{Header}
+use Rattle.traces.specs.Header.{IsHeader, shape_of}
+use Rattle.ring_knowledge.specs.Known.{Known}
+use Rattle.ring_knowledge.specs.Rings.{RingSpot, on_ring, spot_on, event_at}
+use Rattle.ring_knowledge.specs.Transfers.{passed, broken_off, stopped_at, transferred, transferred_at, transfer_read}
+use Rattle.ownership_rules.specs.Events.{is_in_profile, is_working, is_stopping_now, can_report, can_report_at, is_impossible_transfer}
+use Rattle.commands.specs.States.{is_off}
+use Rattle.safety.specs.RingsKeep.{IsDriverRing, RingsKeep}
+use Rattle.safety.proofs.RingsOfHeader.{shape_allowed}
+use Rattle.safety.proofs.DriverRows.{same_keeps, on_ring_keeps, on_ring_twice_keeps}
+
+-- what each branch of a chain of two tests says
+chain : (b c x y z : Bool) → (if b then x else if c then y else z) ≡ true →
+    (b ≡ true → x ≡ true) × (b ≡ false → c ≡ true → y ≡ true) × (b ≡ false → c ≡ false → z ≡ true)
+chain true c x y z h = (λ _. h, λ e. absurd (false≢true (sym e)), λ e. absurd (false≢true (sym e)))
+chain false true x y z h = (λ e. absurd (false≢true e), λ _ _. h, λ _ e. absurd (false≢true (sym e)))
+chain false false x y z h = (λ e. absurd (false≢true e), λ _ e. absurd (false≢true e), λ _ _. h)
+
+module _ (h : Header) (is : IsHeader h) (k : Known) (keeps : RingsKeep h k) where
+  -- the block at the spot is finished
+  passed_keeps : (r : ℕ) (t : Spot) → (IsDriverRing h r → floor_number (k.ring r) ≤ number t) → number t < ceiling (shape_of h r) (k.ring r) → RingsKeep h (passed h k r t)
+  unfolding passed
+  passed_keeps r t ahead below =
+      on_ring_keeps h k r (Reaches (after (shape_of h r) (number t))) keeps (λ driver.
+      let allowed = shape_allowed h is r driver in
+      let ring : RingKeeps (shape_of h r) k.memory (k.ring r) = keeps r driver in
+      let within = ceiling_within (shape_of h r) allowed k.memory (k.ring r) ring in
+      reaches_keeps (shape_of h r) allowed k.memory (k.ring r) ring (after (shape_of h r) (number t))
+      (after_reached (shape_of h r) (k.ring r) (number t) (omega (arith, ahead driver)) (omega (arith, within.1, below)))
+      (λ m at. omega (arith, number-after (shape_of h r) (number t), ceiling_held (shape_of h r) (k.ring r) m at, below)))
+
+  -- and the controller stopped behind it
+  broken_keeps : (s i r : ℕ) (t : Spot) (state : EndpointState) → (IsDriverRing h r → floor_number (k.ring r) ≤ number t) → number t < ceiling (shape_of h r) (k.ring r) →
+      RingsKeep h (broken_off h k s i r t state)
+  unfolding passed broken_off
+  broken_keeps s i r t state ahead below =
+      same_keeps h (on_ring h (on_ring h k r (Reaches (after (shape_of h r) (number t)))) r (Holds (number t + 1))) (broken_off h k s i r t state) refl refl
+      (on_ring_twice_keeps h k r (Reaches (after (shape_of h r) (number t))) (Holds (number t + 1)) keeps (λ driver.
+      let allowed = shape_allowed h is r driver in
+      let ring : RingKeeps (shape_of h r) k.memory (k.ring r) = keeps r driver in
+      let within = ceiling_within (shape_of h r) allowed k.memory (k.ring r) ring in
+      reaches_and_holds_keeps (shape_of h r) allowed k.memory (k.ring r) ring (after (shape_of h r) (number t))
+      (after_reached (shape_of h r) (k.ring r) (number t) (omega (arith, ahead driver)) (omega (arith, within.1, below)))
+      (number t + 1) (omega (arith, number-after (shape_of h r) (number t))) (omega (arith, within.1, below))))
+
+  -- it was stopped at the spot
+  stopped_keeps : (s i r : ℕ) (t : Spot) → (IsDriverRing h r → IsAhead (shape_of h r) (k.ring r) t) → is_stop_spot (shape_of h r) (k.ring r) t ≡ true →
+      RingsKeep h (stopped_at h k s i r t)
+  unfolding stopped_at
+  stopped_keeps s i r t ahead stop =
+      same_keeps h (on_ring h (on_ring h k r (Holds (stopped_number (shape_of h r) (k.ring r) t))) r (Reaches t)) (stopped_at h k s i r t) refl refl
+      (on_ring_twice_keeps h k r (Holds (stopped_number (shape_of h r) (k.ring r) t)) (Reaches t) keeps (λ driver.
+      let at : IsAhead (shape_of h r) (k.ring r) t = ahead driver in
+      let bounds = stopped_within (shape_of h r) (k.ring r) t stop in
+      holds_and_reaches_keeps (shape_of h r) (shape_allowed h is r driver) k.memory (k.ring r) (keeps r driver) t
+      (stop_spot_reached (shape_of h r) (k.ring r) t at.is_spot at.from stop) (stopped_number (shape_of h r) (k.ring r) t) bounds.0 bounds.1))
+
+  transferred_keeps : (c s i r : ℕ) (t : Spot) → (IsDriverRing h r → IsAhead (shape_of h r) (k.ring r) t) → can_report h k c s i r t ≡ true → RingsKeep h (transferred h k c s i r t)
+  unfolding transferred can_report
+  transferred_keeps c s i r t ahead can =
+      let below : Bool = is_data_below (ceiling (shape_of h r) (k.ring r)) t in
+      let stops : Bool = is_working k s i r && is_stopping_now h k s i && is_stop_spot (shape_of h r) (k.ring r) t in
+      let cases = chain (is_success c) (is_halting c || is_trb_error c) below (below && is_working k s i r) stops can in
+      let halts : Known = record (broken_off h k s i r t Halted) { must_move = put_pair k.must_move s i true } in
+      let fails : Known = broken_off h k s i r t Error in
+      let stopped : Known = if is_stopping c then stopped_at h k s i r t else k in
+      let from : IsDriverRing h r → floor_number (k.ring r) ≤ number t = λ driver. (ahead driver).from in
+      cond_both (is_success c) (passed h k r t) (if is_halting c then halts else if is_trb_error c then fails else stopped) (RingsKeep h)
+      (λ success. passed_keeps r t from (below_is (ceiling (shape_of h r) (k.ring r)) t (cases.0 success)))
+      (λ other. cond_both (is_halting c) halts (if is_trb_error c then fails else stopped) (RingsKeep h)
+      (λ halting.
+      let given = (and_parts below (is_working k s i r) (cases.1 other (or_left (is_halting c) (is_trb_error c) halting))).0 in
+      same_keeps h (broken_off h k s i r t Halted) halts refl refl (broken_keeps s i r t Halted from (below_is (ceiling (shape_of h r) (k.ring r)) t given)))
+      (λ not_halting. cond_both (is_trb_error c) fails stopped (RingsKeep h)
+      (λ error.
+      let given = (and_parts below (is_working k s i r) (cases.1 other (or_right (is_halting c) (is_trb_error c) error))).0 in
+      broken_keeps s i r t Error from (below_is (ceiling (shape_of h r) (k.ring r)) t given))
+      (λ not_error.
+      let given = (and_parts (is_working k s i r && is_stopping_now h k s i) (is_stop_spot (shape_of h r) (k.ring r) t)
+      (cases.2 other (or_from (is_halting c) (is_trb_error c) not_halting not_error))).1 in
+      cond_both (is_stopping c) (stopped_at h k s i r t) k (RingsKeep h) (λ _. stopped_keeps s i r t ahead given) (λ _. keeps))))
+
+  -- the spot that an event names is named on its ring
+  spot_is : (a : ℕ) (o : Option ℕ) (at : RingSpot) → spot_on h k a o ≡ Some at → named (shape_of h at.ring) (k.ring at.ring) a ≡ Some at.spot
+  unfolding spot_on
+  spot_is a None at e = absurd (none-some at e)
+  spot_is a (Some r) at e = by (named (shape_of h r) (k.ring r) a) refl e
+    where
+      by : (m : Option Spot) → named (shape_of h r) (k.ring r) a ≡ m → option_map (λ t. let x : RingSpot = record { ring = r; spot = t } in x) m ≡ Some at →
+          named (shape_of h at.ring) (k.ring at.ring) a ≡ Some at.spot
+      by None found e = absurd (none-some at e)
+      by (Some t) found e =
+          let same : ◌≡◌ {A = RingSpot} (record { ring = r; spot = t }) at = same_Some (record { ring = r; spot = t }) at e in
+          subst (λ (x : RingSpot). named (shape_of h x.ring) (k.ring x.ring) a ≡ Some x.spot) same found
+
+  reported_keeps : (b : Block) (o : Option RingSpot) → event_at h k b ≡ o → can_report_at h k b o ≡ true → RingsKeep h (transferred_at h k b o)
+  unfolding transferred_at can_report_at event_at
+  reported_keeps b None found can = absurd (false≢true can)
+  reported_keeps b (Some at) found can =
+      transferred_keeps (code b) (slot b) (endpoint b) at.ring at.spot
+      (λ driver. named_ahead (shape_of h at.ring) k.memory (k.ring at.ring) (keeps at.ring driver) (pointer b) at.spot
+      (spot_is (pointer b) (k.ring_of (slot b) (endpoint b)) at found)) can
+
+  pub transfer_keeps : (b : Block) → is_impossible_transfer h k b ≡ false → is_in_profile b ≡ true → RingsKeep h (transfer_read h k b)
+  unfolding transfer_read is_impossible_transfer
+  transfer_keeps b possible inside =
+      elim (and_cases (is_in_profile b) (is_off (k.endpoint_state (slot b) (endpoint b)) || not (can_report_at h k b (event_at h k b))) possible) [
+        | inl outside ↦ absurd (false≢true (sym outside ∙ inside))
+        | inr none ↦
+            let parts = or_parts (is_off (k.endpoint_state (slot b) (endpoint b))) (not (can_report_at h k b (event_at h k b))) none in
+            reported_keeps b (event_at h k b) refl (not-false (can_report_at h k b (event_at h k b)) parts.1)
+      ]

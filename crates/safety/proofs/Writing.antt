@@ -1,0 +1,102 @@
+-- A write that breaks no rule is one that each ring allows
+use Rattle.std.specs.Prelude.{◌≡◌, ℕ, ◌||◌, Bool, true, false, List, [], ◌∷◌, ◌++◌, map, All}
+use Rattle.std.specs.List.{list_any, flat_map}
+use Rattle.std.proofs.Common.{arith, refl, sym, ◌∙◌, ap, subst, inl, inr}
+use Rattle.std.proofs.lemmas.Bool.{or_parts}
+use Rattle.std.proofs.lemmas.List.Folds.{list_any-append}
+use Rattle.segments.specs.ShapeValue.{Shape}
+use Rattle.segments.specs.Places.{address_of, link_address, overlap}
+use Rattle.segments.specs.RingView.{RingView, positions_given, crossings_given, leased_positions, leased_crossings}
+use Rattle.segments.specs.Givings.{is_other_than_declared, is_not_declared, is_not_whole, leads_wrong}
+use Rattle.segments.specs.RingKeeps.{MayWrite}
+use Rattle.traces.specs.declared.header.Header.{Header}
+use Rattle.traces.specs.declared.ring.Ring.{Ring}
+use Rattle.traces.specs.declared.row.Row.TheVariants.{Write}
+use Rattle.traces.specs.Header.{shape_of, driver_rings}
+use Rattle.ring_knowledge.specs.Known.{Known}
+use Rattle.ring_knowledge.specs.Rings.{Given, Position, Crossing, given_of, given_by}
+use Rattle.ownership_rules.specs.OpenLeases.{Leased, Block, Link, covers, lease_start, lease_bytes, open_on, open_ranges, open_leases, is_leased}
+use Rattle.ownership_rules.specs.Writes.{on_position, on_crossing, some_given, some_crossed, write_tests}
+use Rattle.ownership_rules.specs.Rules.{tests, broken}
+use Rattle.safety.specs.RingsKeep.{IsDriverRing}
+use Rattle.safety.proofs.TestsPassed.{AllFail, tests_fail, each_fails}
+use Rattle.safety.proofs.RingsOfHeader.{HasRing, has_ring, none_of_ring}
+
+-- a test of what a function makes of each
+none_of_map : {X Y : Type 0} (test : Y → Bool) (f : X → Y) (xs : List X) → list_any test (map f xs) ≡ false → list_any (λ x. test (f x)) xs ≡ false
+none_of_map test f [] none = refl
+none_of_map test f (x ∷ rest) none =
+    let parts = or_parts (test (f x)) (list_any test (map f rest)) none in
+    rw parts.0 (none_of_map test f rest parts.1)
+
+none_of_both : {X : Type 0} (test : X → Bool) (xs ys : List X) → list_any test (xs ++ ys) ≡ false → (list_any test xs ≡ false) × (list_any test ys ≡ false)
+none_of_both test xs ys none = or_parts (list_any test xs) (list_any test ys) (sym (list_any-append test xs ys) ∙ none)
+
+module _ (h : Header) (k : Known) (a w r : ℕ) (has : HasRing h r) where
+  -- no lease of the ring covers the word
+  module _ (free : is_leased h k a ≡ false) where
+    on_this_ring : list_any (covers h a 4) (open_on h k has.ring) ≡ false
+    unfolding is_leased open_leases
+    on_this_ring =
+        none_of_ring h r has (covers h a 4) (open_on h k)
+        (none_of_both (covers h a 4) (flat_map (open_on h k) (driver_rings h)) (open_ranges h k) free).0
+
+    both : (list_any (covers h a 4) (map (Block has.ring.id) (leased_positions has.ring.shape (k.ring has.ring.id))) ≡ false)
+        × (list_any (covers h a 4) (map (Link has.ring.id) (leased_crossings has.ring.shape (k.ring has.ring.id))) ≡ false)
+    unfolding open_on
+    both = none_of_both (covers h a 4) _ _ on_this_ring
+
+    pub blocks_free : All (λ p. overlap a 4 (address_of (shape_of h r) p) 16 ≡ false) (leased_positions (shape_of h r) (k.ring r))
+    unfolding covers lease_start lease_bytes
+    blocks_free =
+        let each = each_fails (λ p. overlap a 4 (address_of (shape_of h has.ring.id) p) 16) (leased_positions has.ring.shape (k.ring has.ring.id))
+        (none_of_map (covers h a 4) (Block has.ring.id) (leased_positions has.ring.shape (k.ring has.ring.id)) both.0) in
+        let by_shape : All (λ p. overlap a 4 (address_of (shape_of h has.ring.id) p) 16 ≡ false) (leased_positions (shape_of h r) (k.ring has.ring.id)) =
+        subst (λ s. All (λ p. overlap a 4 (address_of (shape_of h has.ring.id) p) 16 ≡ false) (leased_positions s (k.ring has.ring.id))) (sym has.shape) each in
+        subst (λ n. All (λ p. overlap a 4 (address_of (shape_of h n) p) 16 ≡ false) (leased_positions (shape_of h r) (k.ring n))) has.id by_shape
+
+    pub links_free : All (λ q. overlap a 4 (link_address (shape_of h r) q) 16 ≡ false) (leased_crossings (shape_of h r) (k.ring r))
+    unfolding covers lease_start lease_bytes
+    links_free =
+        let each = each_fails (λ q. overlap a 4 (link_address (shape_of h has.ring.id) q) 16) (leased_crossings has.ring.shape (k.ring has.ring.id))
+        (none_of_map (covers h a 4) (Link has.ring.id) (leased_crossings has.ring.shape (k.ring has.ring.id)) both.1) in
+        let by_shape : All (λ q. overlap a 4 (link_address (shape_of h has.ring.id) q) 16 ≡ false) (leased_crossings (shape_of h r) (k.ring has.ring.id)) =
+        subst (λ s. All (λ q. overlap a 4 (link_address (shape_of h has.ring.id) q) 16 ≡ false) (leased_crossings s (k.ring has.ring.id))) (sym has.shape) each in
+        subst (λ n. All (λ q. overlap a 4 (link_address (shape_of h n) q) 16 ≡ false) (leased_crossings (shape_of h r) (k.ring n))) has.id by_shape
+
+  -- of what the write gives of the ring the test fails
+  of_ring : (passes : Given → Bool) → list_any passes (given_by h k a w) ≡ false → list_any passes (given_of h k a w r) ≡ false
+  unfolding given_by
+  of_ring passes none =
+      ap (λ n. list_any passes (given_of h k a w n)) (sym has.id) ∙ none_of_ring h r has passes (λ q. given_of h k a w q.id) none
+
+  pub none_given : (test : ℕ → ℕ → Bool) → some_given h k a w test ≡ false → All (λ p. test r p ≡ false) (positions_given (shape_of h r) (k.ring r) a w)
+  unfolding some_given given_of on_position
+  none_given test none =
+      each_fails (test r) (positions_given (shape_of h r) (k.ring r) a w)
+      (none_of_map (on_position test) (Position r) (positions_given (shape_of h r) (k.ring r) a w)
+      (none_of_both (on_position test) (map (Position r) (positions_given (shape_of h r) (k.ring r) a w)) (map (Crossing r) (crossings_given (shape_of h r) (k.ring r) a w))
+      (of_ring (on_position test) none)).0)
+
+  pub none_crossed : (test : ℕ → ℕ → Bool) → some_crossed h k a w test ≡ false → All (λ q. test r q ≡ false) (crossings_given (shape_of h r) (k.ring r) a w)
+  unfolding some_crossed given_of on_crossing
+  none_crossed test none =
+      each_fails (test r) (crossings_given (shape_of h r) (k.ring r) a w)
+      (none_of_map (on_crossing test) (Crossing r) (crossings_given (shape_of h r) (k.ring r) a w)
+      (none_of_both (on_crossing test) (map (Position r) (positions_given (shape_of h r) (k.ring r) a w)) (map (Crossing r) (crossings_given (shape_of h r) (k.ring r) a w))
+      (of_ring (on_crossing test) none)).1)
+
+-- of each command and transfer ring
+pub may_write : (h : Header) (k : Known) (a w : ℕ) → broken h k (Write a w) ≡ [] → (r : ℕ) → IsDriverRing h r → MayWrite (shape_of h r) k.memory (k.ring r) a w
+unfolding tests write_tests
+may_write h k a w clean r driver =
+    let has = has_ring h r driver in
+    let fails : AllFail (write_tests h k a w) = tests_fail h k (Write a w) clean in
+    record {
+      blocks = blocks_free h k a w r has fails.0;
+      links = links_free h k a w r has fails.0;
+      as_declared = none_given h k a w r has (λ r p. is_other_than_declared (shape_of h r) (k.ring r) k.memory a w p) fails.1.0;
+      declared = none_given h k a w r has (λ r p. is_not_declared (k.ring r) p) fails.1.1.0;
+      whole = none_given h k a w r has (λ r p. is_not_whole (shape_of h r) (k.ring r) p) fails.1.1.1.0;
+      leads = none_crossed h k a w r has (λ r q. leads_wrong (shape_of h r) k.memory a w q) fails.1.1.1.1.0;
+    }

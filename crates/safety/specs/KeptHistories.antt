@@ -1,0 +1,29 @@
+-- Histories of which it is said what they keep of each ring
+use Rattle.std.specs.Prelude.{◌≡◌, true, List, [], ◌∷◌}
+use Rattle.trb.specs.Block.{kind}
+use Rattle.trb.specs.Kind.{is_command_completion}
+use Rattle.traces.specs.declared.header.Header.{Header}
+use Rattle.traces.specs.declared.row.Row.{Row}
+use Rattle.traces.specs.declared.row.Row.TheVariants.{Sub, Write, Reg, Bell, Read}
+use Rattle.ring_knowledge.specs.Known.{Known}
+use Rattle.ring_knowledge.specs.Learned.{known}
+use Rattle.safety.specs.Placings.{MayFinish}
+
+-- the row is no event
+abbrev pub IsDriverRow : Row → Type 0
+IsDriverRow (Read b) = ⊥
+IsDriverRow _ = Unit {0}
+
+abbrev pub AreDriverRows : List Row → Type 0
+AreDriverRows [] = Unit {0}
+AreDriverRows (row ∷ past) = AreDriverRows past × IsDriverRow row
+
+module _ (h : Header) where
+  -- a completion places endpoints where it may
+  abbrev pub MayRead : Known → Row → Type 0
+  MayRead k (Read b) = is_command_completion (kind b) ≡ true → MayFinish h k b
+  MayRead k _ = Unit {0}
+
+  abbrev pub MayReadAll : List Row → Type 0
+  MayReadAll [] = Unit {0}
+  MayReadAll (row ∷ past) = MayReadAll past × MayRead (known h past) row

@@ -1,0 +1,39 @@
+-- Where the success of a command may place the ring of an endpoint: xHCI 4.6.5, 4.6.6, 4.6.10
+use Rattle.std.specs.Prelude.{◌≡◌, ℕ, Bool, true, false, List, [], ◌∷◌, Some}
+use Rattle.trb.specs.declared.block.Block.{Block}
+use Rattle.trb.specs.Block.{code, slot}
+use Rattle.segments.specs.declared.spot.Spot.{Spot}
+use Rattle.segments.specs.RingView.{floor_number}
+use Rattle.segments.specs.Moves.{target, is_reached}
+use Rattle.commands.specs.declared.command.Command.{Command}
+use Rattle.commands.specs.States.{is_off}
+use Rattle.commands.specs.Changes.{Change, SlotGoesOn, DeviceLeft, Disables, Places, Stops, Resets, changes}
+use Rattle.traces.specs.declared.header.Header.{Header}
+use Rattle.traces.specs.Header.{shape_of, command_id, ring_beginning_at}
+use Rattle.ring_knowledge.specs.Known.{Known}
+use Rattle.ring_knowledge.specs.Rings.{command_at, next_command}
+use Rattle.ring_knowledge.specs.Completions.{changed_by, finished}
+
+module _ (h : Header) where
+  -- an endpoint that is off gets a ring whose pointer hasn't moved yet; any other one has its ring moved to a spot up to which all is given
+  pub record MayPoint (k : Known) (s i p : ℕ) (cycle : Bool) : Type 0 where
+    pub binds : is_off (k.endpoint_state s i) ≡ true → (r : ℕ) → ring_beginning_at h p ≡ Some r → floor_number (k.ring r) ≡ 0
+    pub moves : is_off (k.endpoint_state s i) ≡ false → (r : ℕ) (t : Spot) → k.ring_of s i ≡ Some r → target (shape_of h r) (k.ring r) p cycle ≡ Some t →
+        is_reached (shape_of h r) (k.ring r) t ≡ true
+
+  abbrev pub MayChange : Known → Change → Type 0
+  MayChange k (Places s i p cycle state) = MayPoint k s i p cycle
+  MayChange k (SlotGoesOn s) = Unit {0}
+  MayChange k (DeviceLeft s) = Unit {0}
+  MayChange k (Disables s which) = Unit {0}
+  MayChange k (Stops s i) = Unit {0}
+  MayChange k (Resets s i) = Unit {0}
+
+  abbrev pub MayChangeAll : Command → Known → List Change → Type 0
+  MayChangeAll c k [] = Unit {0}
+  MayChangeAll c k (change ∷ rest) = MayChange k change × MayChangeAll c (changed_by h c k change) rest
+
+  -- what the completion of the next command places; no endpoint has the command ring
+  pub record MayFinish (k : Known) (b : Block) : Type 0 where
+    pub places : (c : Command) → command_at h k (next_command h k) ≡ Some c → code b ≡ 1 → MayChangeAll c k (changes h.context_size k.memory (slot b) c)
+    pub command_ring : (finished h k b (command_at h k (next_command h k))).ring (command_id h) ≡ k.ring (command_id h)

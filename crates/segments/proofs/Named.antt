@@ -1,0 +1,99 @@
+-- The spots that events and pointers name, and how far a ring's controller may have gone
+use Rattle.std.specs.Prelude.{◌≡◌, ℕ, suc, zero, ◌+◌, ◌-◌, ◌*◌, ◌<◌, ◌≤◌, ◌==◌, ◌&&◌, if◌then◌else◌, Bool, true, false, List, [], ◌∷◌, All, find, Option, None, Some, unwrap_or}
+use Rattle.std.specs.List.{range_with_len, flat_map}
+use Rattle.std.proofs.Common.{arith, refl, sym, ◌∙◌, ap, subst, inl, inr}
+use Rattle.std.proofs.lemmas.Bool.{cases_Bool, cond-true, cond-false, false≢true, and_parts, eqb-true, ltb-true}
+use Rattle.std.proofs.lemmas.Option.{none-some, same_Some}
+use Rattle.std.proofs.lemmas.List.Elements.{All-nil, All-cons, All-head, All-tail}
+use Rattle.segments.specs.declared.spot.Spot.{Spot}
+use Rattle.segments.specs.declared.spot.Spot.TheVariants.{Data, Link}
+use Rattle.segments.specs.ShapeValue.{Shape}
+use Rattle.segments.specs.Spots.{IsSpot, is_spot, rank, number, spot_address, spot_cycle}
+use Rattle.segments.specs.Shape.{IsShape}
+use Rattle.segments.specs.RingView.{RingView, declared, floor_number}
+use Rattle.segments.specs.Ceiling.{given_count, ceiling, named, is_data_below}
+use Rattle.segments.specs.Moves.{is_target, spots_between, target}
+use Rattle.segments.specs.RingKeeps.{RingKeeps, MayReach, MayHold}
+use Rattle.segments.proofs.Crossings.{crossing_positive}
+use Rattle.segments.proofs.SpotOrder.{rank_least, rank_most}
+use Rattle.segments.proofs.NamedSpots.{IsNamed, named_spot-Some}
+use Rattle.segments.proofs.Reaching.{floor_given}
+
+-- ---- how far
+
+pub ceiling_held : (shape : Shape) (v : RingView) (m : ℕ) → v.held ≡ Some m → ceiling shape v ≡ m
+unfolding ceiling
+ceiling_held shape v m at = ap (λ o. unwrap_or o (given_count shape v)) at
+
+pub ceiling_open : (shape : Shape) (v : RingView) → v.held ≡ None → ceiling shape v ≡ given_count shape v
+unfolding ceiling
+ceiling_open shape v at = ap (λ o. unwrap_or o (given_count shape v)) at
+
+-- the ceiling lies between the floor and what is given
+pub ceiling_within : (shape : Shape) → IsShape shape → (memory : ℕ → ℕ) (v : RingView) → RingKeeps shape memory v →
+    (floor_number v ≤ ceiling shape v) × (ceiling shape v ≤ given_count shape v)
+ceiling_within shape is memory v k = by v.held refl
+  where
+    by : (o : Option ℕ) → v.held ≡ o → (floor_number v ≤ ceiling shape v) × (ceiling shape v ≤ given_count shape v)
+    by None at = (omega (arith, ceiling_open shape v at, floor_given shape is memory v k), omega (arith, ceiling_open shape v at))
+    by (Some m) at =
+        let may : MayHold shape v m = k.held m at in
+        (omega (arith, ceiling_held shape v m at, may.from), omega (arith, ceiling_held shape v m at, may.to))
+
+pub below_is : (n : ℕ) (t : Spot) → is_data_below n t ≡ true → number t < n
+unfolding is_data_below
+below_is n (Data p) h = ltb-true p n h
+below_is n (Link q) h = absurd (false≢true h)
+
+-- ---- what is named
+
+-- a spot from the floor on
+pub record IsAhead (shape : Shape) (v : RingView) (t : Spot) : Type 0 where
+  pub is_spot : IsSpot shape t
+  pub from : floor_number v ≤ number t
+
+pub named_ahead : (shape : Shape) (memory : ℕ → ℕ) (v : RingView) → RingKeeps shape memory v → (address : ℕ) (t : Spot) → named shape v address ≡ Some t → IsAhead shape v t
+unfolding named
+named_ahead shape memory v k address t h =
+    let is : IsNamed shape v.floor (declared v) address t = named_spot-Some shape v.floor (declared v) address t k.is_spot h in
+    record { is_spot = is.spot; from = omega (arith, is.from, rank_least v.floor, rank_most t) }
+
+-- what is found passes, and is as all are
+found_is : (test : Spot → Bool) (P : Spot → Type 0) (ts : List Spot) (t : Spot) → find test ts ≡ Some t → All P ts → (test t ≡ true) × P t
+found_is test P [] t found all = absurd (none-some t found)
+found_is test P (u ∷ rest) t found all =
+    elim (cases_Bool (test u)) [
+      | inl here ↦
+          let same : u ≡ t = same_Some u t (sym (cond-true (test u) (Some u) (find test rest) here) ∙ found) in
+          (ap test (sym same) ∙ here, subst P same (All-head P u rest all))
+      | inr later ↦ found_is test P rest t (sym (cond-false (test u) (Some u) (find test rest) later) ∙ found) (All-tail P u rest all)
+    ]
+
+spots_ahead : (least a n : ℕ) → least ≤ a → All (λ t. least ≤ number t) (flat_map (λ q. Link q ∷ Data q ∷ []) (range_with_len a n))
+spots_ahead least a zero low = All-nil (λ t. least ≤ number t)
+spots_ahead least a (suc n) low =
+    let rest : List Spot = flat_map (λ q. Link q ∷ Data q ∷ []) (range_with_len (a + 1) n) in
+    All-cons (λ t. least ≤ number t) (Link a) (Data a ∷ rest) low (All-cons (λ t. least ≤ number t) (Data a) rest low (spots_ahead least (a + 1) n (omega arith)))
+
+-- the target of a pointer and a cycle state is a spot from the floor on, there
+pub target_ahead : (shape : Shape) (v : RingView) (address : ℕ) (cycle : Bool) (t : Spot) → target shape v address cycle ≡ Some t → IsAhead shape v t
+unfolding target spots_between is_target
+target_ahead shape v address cycle t h =
+    let least : ℕ = floor_number v in
+    let is = found_is (λ u. is_spot shape u && spot_address shape u == address && spot_cycle shape u == (if cycle then 1 else 0)) (λ u. least ≤ number u)
+    (flat_map (λ q. Link q ∷ Data q ∷ []) (range_with_len least (declared v + 1 - least))) t h (spots_ahead least least (declared v + 1 - least) (omega arith)) in
+    record {
+      is_spot = (and_parts (is_spot shape t) (spot_address shape t == address)
+        (and_parts (is_spot shape t && spot_address shape t == address) (spot_cycle shape t == (if cycle then 1 else 0)) is.0).0).0;
+      from = is.1;
+    }
+
+-- a ring whose controller hasn't moved may begin anew
+pub start_reached : (shape : Shape) (v : RingView) → floor_number v ≡ 0 → MayReach shape v (Data 0)
+start_reached shape v at =
+    record {
+      is_spot = refl;
+      later = omega arith;
+      passed = λ p h. absurd (omega arith);
+      passed_links = λ q crossing h. absurd (omega (arith, crossing_positive shape q crossing));
+    }

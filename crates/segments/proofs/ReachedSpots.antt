@@ -1,0 +1,126 @@
+-- Spots that the controller's pointer may be known to have reached: behind a finished block, where it stopped, where it is moved
+use Rattle.std.specs.Prelude.{◌≡◌, ℕ, ◌+◌, ◌-◌, ◌<◌, ◌≤◌, ◌==◌, ◌&&◌, not, true, nat_lt}
+use Rattle.std.proofs.Common.{arith, refl, sym, ◌∙◌, ap, subst, inl, inr}
+use Rattle.std.proofs.lemmas.Bool.{cases_eq, and_parts, or_cases, not-true, ltb-true, leb-true, eqb-true, false≢true}
+use Rattle.segments.specs.declared.spot.Spot.{Spot}
+use Rattle.segments.specs.declared.spot.Spot.TheVariants.{Data, Link}
+use Rattle.segments.specs.ShapeValue.{Shape}
+use Rattle.segments.specs.Places.{is_crossing}
+use Rattle.segments.specs.Spots.{IsSpot, number, after}
+use Rattle.segments.specs.RingView.{RingView, floor_number}
+use Rattle.segments.specs.Ceiling.{is_way_given, is_step_given, given_count, is_stop_spot, stopped_number}
+use Rattle.segments.specs.Moves.{are_given, are_ways_given, is_reached}
+use Rattle.segments.specs.RingKeeps.{MayReach}
+use Rattle.segments.proofs.Crossings.{crossing_positive}
+use Rattle.segments.proofs.SpotOrder.{after_is}
+use Rattle.segments.proofs.GivenCount.{given_below}
+use Rattle.segments.proofs.StepFacts.{step_is, in_range_all}
+
+-- the ways to a number
+pub way_is : (shape : Shape) (v : RingView) (q : ℕ) → is_way_given shape v q ≡ true → is_crossing shape q ≡ true → v.crossed q ≡ true
+unfolding is_way_given
+way_is shape v q h crossing =
+    elim (or_cases (not (is_crossing shape q)) (v.crossed q) h) [
+      | inl none ↦ absurd (false≢true (sym (not-true (is_crossing shape q) none) ∙ crossing))
+      | inr crossed ↦ crossed
+    ]
+
+-- a block up to which all is given, with the way to it
+pub data_reached : (shape : Shape) (v : RingView) (q : ℕ) → floor_number v ≤ q → ((p : ℕ) → p < q → is_step_given shape v p ≡ true) →
+    (is_crossing shape q ≡ true → v.crossed q ≡ true) → MayReach shape v (Data q)
+data_reached shape v q later steps way =
+    record {
+      is_spot = refl;
+      later = later;
+      passed = λ p h. (step_is shape v p (steps p h)).0;
+      passed_links = λ p crossing h.
+          elim (cases_eq p q) [
+            | inl here ↦ ap (λ n. v.crossed n) here ∙ way (ap (λ n. is_crossing shape n) (sym here) ∙ crossing)
+            | inr before ↦ (step_is shape v p (steps p (omega arith))).1 crossing
+          ];
+    }
+
+-- a Link up to which all is given
+pub link_reached : (shape : Shape) (v : RingView) (q : ℕ) → is_crossing shape q ≡ true → floor_number v ≤ q → ((p : ℕ) → p < q → is_step_given shape v p ≡ true) → MayReach shape v (Link q)
+link_reached shape v q is later steps =
+    record {
+      is_spot = is;
+      later = later;
+      passed = λ p h. (step_is shape v p (steps p h)).0;
+      passed_links = λ p crossing h. (step_is shape v p (steps p (omega arith))).1 crossing;
+    }
+
+-- the spot behind a given block
+pub after_reached : (shape : Shape) (v : RingView) (p : ℕ) → floor_number v ≤ p + 1 → p < given_count shape v → MayReach shape v (after shape p)
+after_reached shape v p later h =
+    let steps : (q : ℕ) → q < p + 1 → is_step_given shape v q ≡ true = λ q l. given_below shape v q (omega arith) in
+    elim (after_is shape p) [
+      | inl link ↦ subst (λ t. MayReach shape v t) (sym link.1) (link_reached shape v (p + 1) link.0 later steps)
+      | inr none ↦ subst (λ t. MayReach shape v t) (sym none.1) (data_reached shape v (p + 1) later steps (λ crossing. absurd (false≢true (sym none.0 ∙ crossing))))
+    ]
+
+pub number-after : (shape : Shape) (p : ℕ) → number (after shape p) ≡ p + 1
+number-after shape p =
+    elim (after_is shape p) [
+      | inl link ↦ ap number link.1
+      | inr none ↦ ap number none.1
+    ]
+
+-- a spot at which the controller may have stopped
+pub stop_spot_reached : (shape : Shape) (v : RingView) (t : Spot) → IsSpot shape t → floor_number v ≤ number t → is_stop_spot shape v t ≡ true → MayReach shape v t
+unfolding is_stop_spot
+stop_spot_reached shape v (Data p) is later h =
+    elim (or_cases (nat_lt p (given_count shape v)) (p == given_count shape v && is_way_given shape v p) h) [
+      | inl below ↦
+          let within : p < given_count shape v = ltb-true p (given_count shape v) below in
+          data_reached shape v p later (λ q l. given_below shape v q (omega arith)) ((step_is shape v p (given_below shape v p within)).1)
+      | inr end ↦
+          let parts = and_parts (p == given_count shape v) (is_way_given shape v p) end in
+          let at : p ≡ given_count shape v = eqb-true p (given_count shape v) parts.0 in
+          data_reached shape v p later (λ q l. given_below shape v q (omega arith)) (way_is shape v p parts.1)
+    ]
+stop_spot_reached shape v (Link q) is later h =
+    let within : q ≤ given_count shape v = leb-true q (given_count shape v) h in
+    link_reached shape v q is later (λ p l. given_below shape v p (omega arith))
+
+-- where it is held then
+pub stopped_within : (shape : Shape) (v : RingView) (t : Spot) → is_stop_spot shape v t ≡ true →
+    (number t ≤ stopped_number shape v t) × (stopped_number shape v t ≤ given_count shape v)
+unfolding is_stop_spot stopped_number
+stopped_within shape v (Data p) h =
+    elim (or_cases (nat_lt p (given_count shape v)) (p == given_count shape v && is_way_given shape v p) h) [
+      | inl below ↦ let within : p < given_count shape v = ltb-true p (given_count shape v) below in (omega arith, omega arith)
+      | inr end ↦
+          let parts = and_parts (p == given_count shape v) (is_way_given shape v p) end in
+          let at : p ≡ given_count shape v = eqb-true p (given_count shape v) parts.0 in
+          (omega arith, omega arith)
+    ]
+stopped_within shape v (Link q) h = let within : q ≤ given_count shape v = leb-true q (given_count shape v) h in (omega arith, within)
+
+-- a spot to which the ring may be moved
+ways_below : (shape : Shape) (v : RingView) (n : ℕ) → are_ways_given shape v n ≡ true → (q : ℕ) → 1 ≤ q → q < 1 + n → is_way_given shape v q ≡ true
+unfolding are_ways_given
+ways_below shape v n h q low high = in_range_all (is_way_given shape v) 1 n h q low high
+
+all_below : (v : RingView) (n : ℕ) → are_given v n ≡ true → (p : ℕ) → p < n → v.given p ≡ true
+unfolding are_given
+all_below v n h p l = in_range_all v.given 0 n h p (omega arith) (omega arith)
+
+pub move_reached : (shape : Shape) (v : RingView) (t : Spot) → IsSpot shape t → floor_number v ≤ number t → is_reached shape v t ≡ true → MayReach shape v t
+unfolding is_reached
+move_reached shape v (Data q) is later h =
+    let parts = and_parts (are_given v q) (are_ways_given shape v q) h in
+    record {
+      is_spot = refl;
+      later = later;
+      passed = all_below v q parts.0;
+      passed_links = λ p crossing l. way_is shape v p (ways_below shape v q parts.1 p (crossing_positive shape p crossing) (omega arith)) crossing;
+    }
+move_reached shape v (Link q) is later h =
+    let parts = and_parts (are_given v q) (are_ways_given shape v (q - 1)) h in
+    record {
+      is_spot = is;
+      later = later;
+      passed = all_below v q parts.0;
+      passed_links = λ p crossing l. way_is shape v p (ways_below shape v (q - 1) parts.1 p (crossing_positive shape p crossing) (omega arith)) crossing;
+    }

@@ -1,0 +1,220 @@
+-- From the floor's spot the controller reads whole descriptors as declared, in order, through given Links, and then waits
+use Rattle.std.specs.Prelude.{◌≡◌, ℕ, suc, zero, ◌+◌, ◌-◌, ◌*◌, ◌<◌, ◌≤◌, not, true, false, List, [], ◌∷◌, length, All, map, take, filter, Some}
+use Rattle.std.specs.List.{range_with_len, filter_map, cons_option}
+use Rattle.std.proofs.Common.{arith, refl, sym, ◌∙◌, ap, subst, inl, inr}
+use Rattle.std.proofs.lemmas.Bool.{cases_eq, cond-true, cond-false, false≢true, not_from_true, not_from_false}
+use Rattle.std.proofs.lemmas.List.{take-map, take_all}
+use Rattle.std.proofs.lemmas.List.Elements.{All-nil, All-cons, All-map, All-take, All-contains, All-same, All-weaker}
+use Rattle.trb.specs.declared.block.Block.{Block}
+use Rattle.trb.specs.declared.ring_kind.RingKind.TheVariants.{Evt}
+use Rattle.trb.specs.Block.{kind}
+use Rattle.trb.specs.Kind.{is_link}
+use Rattle.segments.specs.declared.spot.Spot.{Spot}
+use Rattle.segments.specs.declared.spot.Spot.TheVariants.{Data, Link}
+use Rattle.segments.specs.ShapeValue.{Shape}
+use Rattle.segments.specs.Places.{is_inside, link_address}
+use Rattle.segments.specs.Spots.{IsSpot, rank, number, next, spot_address, spots_from}
+use Rattle.segments.specs.Shape.{IsShape}
+use Rattle.segments.specs.RingView.{RingView, floor_number}
+use Rattle.segments.specs.Ceiling.{given_count}
+use Rattle.segments.specs.RingKeeps.{RingKeeps}
+use Rattle.segments.specs.Walk.{Pointer, WalkReads, block_under, is_shown, behind, looks, walk, data_of, laid, laid_between, standing}
+use Rattle.segments.proofs.SpotOrder.{rank_least, rank_most, same_rank, next_is_spot, next_later, next_least}
+use Rattle.segments.proofs.ReachedSpots.{number-after}
+use Rattle.segments.proofs.Reaching.{given_count_declared, floor_given}
+use Rattle.segments.proofs.GivenBorder.{given_count_border}
+use Rattle.segments.proofs.Elsewhere.{address_inside, link_address_inside}
+use Rattle.segments.proofs.WalkSteps.{ReadAs, IsRead, Waits, waits}
+
+take_none : {X : Type 0} (n : ℕ) → take n (let none : List X = [] in none) ≡ []
+take_none zero = refl
+take_none (suc n) = refl
+
+length-spots_from : (shape : Shape) (s : Spot) (n : ℕ) → length (spots_from shape s n) ≡ n
+length-spots_from shape s zero = refl
+length-spots_from shape s (suc n) = ap suc (length-spots_from shape (next shape s) n)
+
+-- ---- one look
+
+no_look : (memory : ℕ → ℕ) (at : Pointer) → looks memory at zero ≡ []
+unfolding looks
+no_look memory at = refl
+
+look_on : (memory : ℕ → ℕ) (at on : Pointer) (n : ℕ) → is_shown memory at ≡ true → behind at (block_under memory at) ≡ on → looks memory at (suc n) ≡ at ∷ looks memory on n
+unfolding looks
+look_on memory at on n shown next =
+    ap (λ ats. at ∷ ats) (cond-true (is_shown memory at) (looks memory (behind at (block_under memory at)) n) [] shown ∙ ap (λ p. looks memory p n) next)
+
+look_last : (memory : ℕ → ℕ) (at : Pointer) (n : ℕ) → is_shown memory at ≡ false → looks memory at (suc n) ≡ at ∷ []
+unfolding looks
+look_last memory at n hidden = ap (λ ats. at ∷ ats) (cond-false (is_shown memory at) (looks memory (behind at (block_under memory at)) n) [] hidden)
+
+module _ (shape : Shape) (memory : ℕ → ℕ) (v : RingView) (t : Spot) (w : Waits shape memory v t) where
+  -- a spot at which a look is made
+  record IsLooked (u : Spot) : Type 0 where
+    pub is_spot : IsSpot shape u
+    pub from : floor_number v ≤ number u
+    pub to : rank u ≤ rank t
+
+  -- the walk from s on
+  record Path (s : Spot) : Type 0 where
+    pub steps : ℕ
+    pub spots : (n : ℕ) → looks memory (standing shape s) n ≡ map (standing shape) (take n (spots_from shape s (suc steps)))
+    pub shown : (n : ℕ) → filter (is_shown memory) (map (standing shape) (take n (spots_from shape s (suc steps)))) ≡ map (standing shape) (take n (spots_from shape s steps))
+    pub blocks : data_of (map (block_under memory) (map (standing shape) (spots_from shape s steps))) ≡ laid_between shape v (number s) (given_count shape v)
+    pub looked : All IsLooked (spots_from shape s (suc steps))
+
+  -- where it waits
+  at_end : IsLooked t → Path t
+  at_end looked =
+      record {
+        steps = 0;
+        spots = spots_there;
+        shown = shown_there;
+        blocks = ap (λ n. filter_map (laid shape v) (range_with_len (number t) n)) (left (given_count shape v) (number t) w.at);
+        looked = All-cons IsLooked t [] looked (All-nil IsLooked);
+      }
+    where
+      left : (g n : ℕ) → n ≡ g → 0 ≡ g - n
+      left g n e = omega arith
+
+      spots_there : (n : ℕ) → looks memory (standing shape t) n ≡ map (standing shape) (take n (t ∷ []))
+      spots_there zero = no_look memory (standing shape t)
+      spots_there (suc n) = look_last memory (standing shape t) n w.hidden ∙ ap (λ ts. standing shape t ∷ map (standing shape) ts) (sym (take_none n))
+
+      shown_there : (n : ℕ) → filter (is_shown memory) (map (standing shape) (take n (t ∷ []))) ≡ map (standing shape) (take n (let none : List Spot = [] in none))
+      shown_there zero = refl
+      shown_there (suc n) =
+          ap (λ ts. filter (is_shown memory) (standing shape t ∷ map (standing shape) ts)) (take_none n)
+          ∙ cond-false (is_shown memory (standing shape t)) (standing shape t ∷ []) [] w.hidden
+
+  data_on : (s : Spot) (rest : List Block) → ReadAs shape memory v s → number s ≤ given_count shape v → data_of rest ≡ laid_between shape v (number (next shape s)) (given_count shape v) →
+      data_of (block_under memory (standing shape s) ∷ rest) ≡ laid_between shape v (number s) (given_count shape v)
+  data_on (Data p) rest read low is =
+      let b : Block = block_under memory (standing shape (Data p)) in
+      cond-true (not (is_link (kind b))) (b ∷ data_of rest) (data_of rest) (not_from_false (is_link (kind b)) read.1)
+      ∙ ap (λ bs. b ∷ bs) (is ∙ ap (λ n. laid_between shape v n (given_count shape v)) (number-after shape p))
+      ∙ sym (first_laid p (given_count shape v) b read.0 read.2)
+    where
+      first_laid : (p g : ℕ) (b : Block) → p < g → laid shape v p ≡ Some b → laid_between shape v p g ≡ b ∷ laid_between shape v (p + 1) g
+      first_laid p g b below at =
+          let one : g - p ≡ suc (g - (p + 1)) = omega arith in
+          ap (λ n. filter_map (laid shape v) (range_with_len p n)) one
+          ∙ ap (λ o. cons_option o (filter_map (laid shape v) (range_with_len (p + 1) (g - (p + 1))))) at
+  data_on (Link q) rest read low is =
+      let b : Block = block_under memory (standing shape (Link q)) in
+      cond-false (not (is_link (kind b))) (b ∷ data_of rest) (data_of rest) (not_from_true (is_link (kind b)) read.1) ∙ is
+
+  number_below : (s : Spot) → rank s ≤ rank t → number s ≤ given_count shape v
+  number_below s near = below (number s) (rank s) (rank t) (given_count shape v) (rank_least s) near (omega (arith, rank_most t, w.at))
+    where
+      below : (n r u g : ℕ) → 2 * n ≤ r → r ≤ u → u ≤ 2 * g + 1 → n ≤ g
+      below n r u g a b c = omega arith
+
+  number_next : (s : Spot) → number s ≤ number (next shape s)
+  number_next (Data p) = omega (arith, number-after shape p)
+  number_next (Link q) = omega arith
+
+  one_on : (s : Spot) → IsLooked s → IsRead shape memory v s → Path (next shape s) → Path s
+  one_on s looked read rest =
+      record {
+        steps = suc rest.steps;
+        spots = spots_there;
+        shown = shown_there;
+        blocks = data_on s (map (block_under memory) (map (standing shape) (spots_from shape (next shape s) rest.steps))) read.stands (number_below s looked.to) rest.blocks;
+        looked = All-cons IsLooked s (spots_from shape (next shape s) (suc rest.steps)) looked rest.looked;
+      }
+    where
+      spots_there : (n : ℕ) → looks memory (standing shape s) n ≡ map (standing shape) (take n (s ∷ spots_from shape (next shape s) (suc rest.steps)))
+      spots_there zero = no_look memory (standing shape s)
+      spots_there (suc n) = look_on memory (standing shape s) (standing shape (next shape s)) n read.shown read.on ∙ ap (λ ats. standing shape s ∷ ats) (rest.spots n)
+
+      shown_there : (n : ℕ) → filter (is_shown memory) (map (standing shape) (take n (s ∷ spots_from shape (next shape s) (suc rest.steps))))
+          ≡ map (standing shape) (take n (s ∷ spots_from shape (next shape s) rest.steps))
+      shown_there zero = refl
+      shown_there (suc n) =
+          cond-true (is_shown memory (standing shape s)) _ _ read.shown ∙ ap (λ ats. standing shape s ∷ ats) (rest.shown n)
+
+  path : (m : ℕ) (s : Spot) → IsLooked s → rank t ≤ rank s + m → Path s
+  path zero s looked near =
+      let same : s ≡ t = same_rank s t (omega (arith, looked.to)) in
+      subst Path (sym same) (at_end (subst IsLooked same looked))
+  path (suc m) s looked near =
+      elim (cases_eq (rank s) (rank t)) [
+        | inl end ↦ let same : s ≡ t = same_rank s t end in subst Path (sym same) (at_end (subst IsLooked same looked))
+        | inr earlier ↦
+            let later = next_later shape s in
+            let below : rank s < rank t = omega (arith, looked.to) in
+            one_on s looked (w.before s looked.is_spot looked.from below)
+            (path m (next shape s) (record { is_spot = next_is_spot shape s; from = omega (arith, looked.from, number_next s); to = next_least shape s t w.is_spot below }) (omega arith))
+      ]
+
+-- ---- the law
+
+module _ (shape : Shape) (is : IsShape shape) (other : shape.kind ≡ Evt → ⊥) (memory : ℕ → ℕ) (v : RingView) (k : RingKeeps shape memory v) where
+  given_link : (t : Spot) (w : Waits shape memory v t) (u : Spot) → IsLooked shape memory v t w u →
+      is_shown memory (standing shape u) ≡ true → is_link (kind (block_under memory (standing shape u))) ≡ true →
+      (q : ℕ) × (floor_number v ≤ q) × (v.crossed q ≡ true) × (spot_address shape u ≡ link_address shape q)
+  given_link t w u looked shown link =
+      elim (cases_eq (rank u) (rank t)) [
+        | inl end ↦ absurd (false≢true (sym w.hidden ∙ ap (λ s. is_shown memory (standing shape s)) (sym (same_rank u t end)) ∙ shown))
+        | inr earlier ↦ crossed u looked.from ((w.before u looked.is_spot looked.from (omega (arith, looked.to))).stands) link
+      ]
+    where
+      crossed : (u : Spot) → floor_number v ≤ number u → ReadAs shape memory v u → is_link (kind (block_under memory (standing shape u))) ≡ true →
+          (q : ℕ) × (floor_number v ≤ q) × (v.crossed q ≡ true) × (spot_address shape u ≡ link_address shape q)
+      crossed (Data p) from read link = absurd (false≢true (sym read.1 ∙ link))
+      crossed (Link q) from read link = (q, from, read.0, refl)
+
+  spot_inside : (u : Spot) → IsSpot shape u → (b : ℕ) → b < 16 → is_inside shape (spot_address shape u + b) ≡ true
+  spot_inside (Data p) spot b h = address_inside shape is p b h
+  spot_inside (Link q) spot b h = link_address_inside shape is q b spot h
+
+  reads_of : (t : Spot) (w : Waits shape memory v t) (p : Path shape memory v t w v.floor) (n : ℕ) →
+      walk memory (standing shape v.floor) n ≡ map (block_under memory) (map (standing shape) (take n (spots_from shape v.floor p.steps)))
+  unfolding walk
+  reads_of t w p n = ap (λ ats. map (block_under memory) (filter (is_shown memory) ats)) (p.spots n) ∙ ap (map (block_under memory)) (p.shown n)
+
+  reads_from : (t : Spot) (w : Waits shape memory v t) → Path shape memory v t w v.floor → WalkReads shape memory v
+  reads_from t w p =
+      let at_spots : (n : ℕ) → All (IsLooked shape memory v t w) (take n (spots_from shape v.floor (suc p.steps))) =
+      λ n. All-take (IsLooked shape memory v t w) n (spots_from shape v.floor (suc p.steps)) p.looked in
+      let walked : (n : ℕ) → walk memory (standing shape v.floor) n ≡ map (block_under memory) (map (standing shape) (take n (spots_from shape v.floor p.steps))) = reads_of t w p in
+      let whole : take p.steps (spots_from shape v.floor p.steps) ≡ spots_from shape v.floor p.steps =
+      take_all p.steps (spots_from shape v.floor p.steps) (omega (arith, length-spots_from shape v.floor p.steps)) in
+      let all : walk memory (standing shape v.floor) p.steps ≡ map (block_under memory) (map (standing shape) (spots_from shape v.floor p.steps)) =
+      walked p.steps ∙ ap (λ ts. map (block_under memory) (map (standing shape) ts)) whole in
+      record {
+        border = given_count shape v;
+        steps = p.steps;
+        from = floor_given shape is memory v k;
+        to = given_count_declared shape is memory v k;
+        is_border = given_count_border shape is memory v k;
+        spots = p.spots;
+        reads = λ n.
+            walked n
+            ∙ ap (map (block_under memory)) (sym (take-map (standing shape) n (spots_from shape v.floor p.steps)))
+            ∙ sym (take-map (block_under memory) n (map (standing shape) (spots_from shape v.floor p.steps)))
+            ∙ ap (take n) (sym all);
+        blocks = ap data_of all ∙ p.blocks;
+        links = λ n.
+            let P = λ (at : Pointer). is_shown memory at ≡ true → is_link (kind (block_under memory at)) ≡ true →
+            (q : ℕ) × (floor_number v ≤ q) × (v.crossed q ≡ true) × (at.address ≡ link_address shape q) in
+            let each : All P (looks memory (standing shape v.floor) n) =
+            All-same P (looks memory (standing shape v.floor) n) _ (p.spots n)
+            (All-map P (standing shape) (take n (spots_from shape v.floor (suc p.steps)))
+            (All-weaker (IsLooked shape memory v t w) (λ u. P (standing shape u)) (given_link t w) _ (at_spots n))) in
+            λ at c. All-contains P (looks memory (standing shape v.floor) n) at each c;
+        inside = λ n.
+            let P = λ (at : Pointer). (b : ℕ) → b < 16 → is_inside shape (at.address + b) ≡ true in
+            All-same P (looks memory (standing shape v.floor) n) _ (p.spots n)
+            (All-map P (standing shape) (take n (spots_from shape v.floor (suc p.steps)))
+            (All-weaker (IsLooked shape memory v t w) (λ u. P (standing shape u)) (λ u looked. spot_inside u looked.is_spot) _ (at_spots n)));
+      }
+
+  pub walk_reads : WalkReads shape memory v
+  walk_reads =
+      let found = waits shape is other memory v k in
+      let w : Waits shape memory v found.0 = found.1 in
+      reads_from found.0 w
+      (path shape memory v found.0 w (rank found.0) v.floor (record { is_spot = k.is_spot; from = omega arith; to = w.from }) (omega arith))

@@ -1,0 +1,184 @@
+-- One step of the walk: at each spot up to the first that isn't given a block stands that leads to the next spot, and there none
+use Rattle.std.specs.Prelude.{◌≡◌, ◌≢◌, ℕ, ◌+◌, ◌-◌, ◌*◌, ◌/◌, ◌^◌, ◌%◌, ◌<◌, ◌≤◌, ◌==◌, ◌||◌, if◌then◌else◌, not, Bool, true, false, [], Some, slice_get}
+use Rattle.std.specs.Option.{option_map}
+use Rattle.std.proofs.Common.{arith, refl, sym, ◌∙◌, ap, inl, inr, get_or}
+use Rattle.std.proofs.lemmas.Bool.{cases_Bool, cases_lt, cases_eq, cond-true, cond-false, eq-eqb, ne_eqb, eqb-true, or_parts, not-false, false≢true, false_from_ne_true}
+use Rattle.std.proofs.lemmas.Option.{slice_get-get_or}
+use Rattle.std.proofs.Math.Nat.{mod-eq_of_lt}
+use Rattle.trb.specs.declared.block.Block.{Block}
+use Rattle.trb.specs.declared.ring_kind.RingKind.TheVariants.{Evt}
+use Rattle.trb.specs.Bits.{is_set}
+use Rattle.trb.specs.Block.{aligned, block_at, word, cycle, kind, pointer, with_cycle}
+use Rattle.trb.specs.Kind.{is_link}
+use Rattle.trb.proofs.BlockLemmas.{kind-with_cycle}
+use Rattle.segments.specs.declared.spot.Spot.{Spot}
+use Rattle.segments.specs.declared.spot.Spot.TheVariants.{Data, Link}
+use Rattle.segments.specs.ShapeValue.{Shape}
+use Rattle.segments.specs.Places.{address_of, cycle_of, is_crossing, link_address, link_target, toggles}
+use Rattle.segments.specs.Spots.{IsSpot, rank, number, after, next, spot_address, spot_cycle}
+use Rattle.segments.specs.Shape.{IsShape}
+use Rattle.segments.specs.RingView.{RingView, floor_number}
+use Rattle.segments.specs.Ceiling.{given_count}
+use Rattle.segments.specs.Givings.{same, is_wrong_link}
+use Rattle.segments.specs.RingKeeps.{RingKeeps}
+use Rattle.segments.specs.Walk.{Pointer, block_under, is_shown, behind, laid, standing}
+use Rattle.segments.proofs.DataPlaces.{link_ends}
+use Rattle.segments.proofs.Positions.{address_ends, cycle_of_bit}
+use Rattle.segments.proofs.Crossings.{crosses, crossed_link, link_address_is, link_target-crossed, cycle_of-crossed}
+use Rattle.segments.proofs.SpotOrder.{rank_most, next_is_spot, spot_address-after, spot_cycle-after}
+use Rattle.segments.proofs.Giving.{due_from, crossing_due_from}
+use Rattle.segments.proofs.GivenCount.{given_below, given_count_stops}
+use Rattle.segments.proofs.StepFacts.{step_is, step_from}
+use Rattle.segments.proofs.Reaching.{given_count_near, floor_given, kept_cycle, crossed_due}
+
+-- what stands at a spot that is read
+abbrev pub ReadAs : Shape → (ℕ → ℕ) → RingView → Spot → Type 0
+ReadAs shape memory v (Data p) =
+    (p < given_count shape v) × (is_link (kind (block_under memory (standing shape (Data p)))) ≡ false) × (laid shape v p ≡ Some (block_under memory (standing shape (Data p))))
+ReadAs shape memory v (Link q) = (v.crossed q ≡ true) × (is_link (kind (block_under memory (standing shape (Link q)))) ≡ true)
+
+pub record IsRead (shape : Shape) (memory : ℕ → ℕ) (v : RingView) (s : Spot) : Type 0 where
+  pub shown : is_shown memory (standing shape s) ≡ true
+  pub on : behind (standing shape s) (block_under memory (standing shape s)) ≡ standing shape (next shape s)
+  pub stands : ReadAs shape memory v s
+
+-- the spot at which the controller waits
+pub record Waits (shape : Shape) (memory : ℕ → ℕ) (v : RingView) (t : Spot) : Type 0 where
+  pub is_spot : IsSpot shape t
+  pub at : number t ≡ given_count shape v
+  pub from : rank v.floor ≤ rank t
+  pub hidden : is_shown memory (standing shape t) ≡ false
+  pub before : (s : Spot) → IsSpot shape s → floor_number v ≤ number s → rank s < rank t → IsRead shape memory v s
+
+cycle_at : (n : ℕ) → n / 2 ^ 0 % 2 ^ 1 ≡ n % 2
+cycle_at n = omega arith
+
+same_is : (x y : Bool) → same x y ≡ true → x ≡ y
+same_is true true h = refl
+same_is false false h = refl
+same_is true false h = absurd (false≢true h)
+same_is false true h = absurd (false≢true h)
+
+same_pointer : (a b c d : ℕ) → a ≡ b → c ≡ d → ◌≡◌ {A = Pointer} (record { address = a; cycle_state = c }) (record { address = b; cycle_state = d })
+same_pointer a b c d p q = cc
+
+module _ (shape : Shape) (is : IsShape shape) (other : shape.kind ≡ Evt → ⊥) (memory : ℕ → ℕ) (v : RingView) (k : RingKeeps shape memory v) where
+  spot_ends : (t : Spot) → IsSpot shape t → spot_address shape t < 2 ^ 64
+  spot_ends (Data p) spot = omega (arith, address_ends shape is p)
+  spot_ends (Link q) spot =
+      let found = crossed_link shape q spot in
+      omega (arith, link_ends shape is found.0 (crosses shape q found.0 found.1).link, link_address_is shape q found.0 found.1)
+
+  -- a block that is given
+  data_read : (p : ℕ) → floor_number v ≤ p → p < given_count shape v → IsRead shape memory v (Data p)
+  data_read p low high =
+      let given = (step_is shape v p (given_below shape v p high)).0 in
+      let none : Block = record { w = [] } in
+      let d : Block = get_or v.queue p none in
+      let declared : slice_get v.queue p ≡ Some d = slice_get-get_or v.queue p none (k.given_declared p given) in
+      let stands : block_at memory (address_of shape p) ≡ with_cycle d (cycle_of shape p) = k.kept p d low given declared in
+      let no_link : is_link (kind (block_at memory (address_of shape p))) ≡ false =
+      ap (λ b. is_link (kind b)) stands ∙ ap (λ n. is_link n) (kind-with_cycle d (cycle_of shape p) (cycle_of_bit shape p)) ∙ k.blocks p d declared in
+      let near : address_of shape p + 16 ≡ spot_address shape (after shape p) = sym (spot_address-after shape is other p) in
+      let low_end : spot_address shape (after shape p) < 2 ^ 64 = spot_ends (after shape p) (next_is_spot shape (Data p)) in
+      record {
+        shown = eq-eqb (cycle (block_at memory (address_of shape p))) (cycle_of shape p)
+            (cycle_at (memory (address_of shape p + 12)) ∙ kept_cycle shape is memory v k p low given);
+        on = cond-false (is_link (kind (block_at memory (address_of shape p)))) _ _ no_link
+            ∙ same_pointer _ _ _ _ (mod-eq_of_lt (omega arith) ∙ near) (sym (spot_cycle-after shape is other p));
+        stands = (high, no_link, ap (λ o. option_map (λ b. with_cycle b (cycle_of shape p)) o) declared ∙ ap (λ b. Some b) (sym stands));
+      }
+
+  -- a Link that is given
+  leads : (q i : ℕ) (b : Block) → is_wrong_link shape i b ≡ false →
+      (aligned (pointer b) ≡ link_target shape i) × (is_link (kind b) ≡ true) × (is_set (word b 3) 1 ≡ toggles shape i)
+  unfolding is_wrong_link
+  leads q i b right =
+      let two = or_parts (not (aligned (pointer b) == link_target shape i) || not (is_link (kind b))) (not (same (is_set (word b 3) 1) (toggles shape i))) right in
+      let one = or_parts (not (aligned (pointer b) == link_target shape i)) (not (is_link (kind b))) two.0 in (
+        eqb-true (aligned (pointer b)) (link_target shape i) (not-false (aligned (pointer b) == link_target shape i) one.0),
+        not-false (is_link (kind b)) one.1,
+        same_is (is_set (word b 3) 1) (toggles shape i) (not-false (same (is_set (word b 3) 1) (toggles shape i)) two.1),
+      )
+
+  link_read : (q : ℕ) → floor_number v ≤ q → is_crossing shape q ≡ true → v.crossed q ≡ true → IsRead shape memory v (Link q)
+  link_read q low crossing given =
+      let found = crossed_link shape q crossing in
+      let stands = k.kept_link q found.0 (crossed_due shape is memory v k q low given) given found.1 in
+      let b : Block = block_at memory (link_address shape q) in
+      let link = leads q found.0 b stands.0 in
+      record {
+        shown = eq-eqb (cycle b) (cycle_of shape (q - 1)) (cycle_at (memory (link_address shape q + 12)) ∙ stands.1);
+        on = cond-true (is_link (kind b)) _ _ link.1
+            ∙ same_pointer _ _ _ _ (link.0 ∙ sym (link_target-crossed shape is q found.0 found.1))
+            (ap (λ t. if t then 1 - cycle_of shape (q - 1) else cycle_of shape (q - 1)) link.2 ∙ sym (cycle_of-crossed shape is q found.0 found.1));
+        stands = (given, link.1);
+      }
+
+  hides : (s : Spot) → memory (spot_address shape s + 12) % 2 ≢ spot_cycle shape s → is_shown memory (standing shape s) ≡ false
+  hides s not_yet =
+      ne_eqb (cycle (block_under memory (standing shape s))) (spot_cycle shape s) (λ same. not_yet (sym (cycle_at (memory (spot_address shape s + 12))) ∙ same))
+
+  -- the first position that isn't given, with the way to it
+  waits_at_data : rank v.floor ≤ 2 * given_count shape v + 1 → (is_crossing shape (given_count shape v) ≡ true → v.crossed (given_count shape v) ≡ true) → Waits shape memory v (Data (given_count shape v))
+  waits_at_data from way =
+      let n : ℕ = given_count shape v in
+      let near = given_count_near shape is memory v k in
+      let low = floor_given shape is memory v k in
+      let missing : v.given n ≡ false =
+      false_from_ne_true (v.given n) (λ g. false≢true (sym (given_count_stops shape v near) ∙ step_from shape v n g way)) in
+      record {
+        is_spot = refl;
+        at = refl;
+        from = from;
+        hidden = hides (Data n) (k.not_yet n (due_from shape v.floor n low near) missing);
+        before = before n refl way;
+      }
+    where
+      before : (n : ℕ) → n ≡ given_count shape v → (is_crossing shape n ≡ true → v.crossed n ≡ true) →
+          (s : Spot) → IsSpot shape s → floor_number v ≤ number s → rank s < 2 * n + 1 → IsRead shape memory v s
+      before n at way (Data p) spot low below = data_read p low (omega arith)
+      before n at way (Link q) spot low below =
+          link_read q low spot (elim (cases_eq q n) [
+            | inl here ↦ ap (λ m. v.crossed m) here ∙ way (ap (λ m. is_crossing shape m) (sym here) ∙ spot)
+            | inr earlier ↦ (step_is shape v q (given_below shape v q (omega arith))).1 spot
+          ])
+
+  -- or the Link to it, which isn't given
+  waits_at_link : rank v.floor ≤ 2 * given_count shape v → is_crossing shape (given_count shape v) ≡ true → v.crossed (given_count shape v) ≡ false → Waits shape memory v (Link (given_count shape v))
+  waits_at_link from crossing missing =
+      let n : ℕ = given_count shape v in
+      let near = given_count_near shape is memory v k in
+      let low = floor_given shape is memory v k in
+      record {
+        is_spot = crossing;
+        at = refl;
+        from = from;
+        hidden = hides (Link n) (k.not_yet_link n (crossing_due_from shape v.floor n (record { crossing = crossing; from = low; within = inl near })) missing);
+        before = before n refl;
+      }
+    where
+      before : (n : ℕ) → n ≡ given_count shape v → (s : Spot) → IsSpot shape s → floor_number v ≤ number s → rank s < 2 * n → IsRead shape memory v s
+      before n at (Data p) spot low below = data_read p low (omega arith)
+      before n at (Link q) spot low below = link_read q low spot ((step_is shape v q (given_below shape v q (omega arith))).1 spot)
+
+  -- a floor behind the Link has its crossing given
+  floor_below : is_crossing shape (given_count shape v) ≡ true → v.crossed (given_count shape v) ≡ false → rank v.floor ≤ 2 * given_count shape v
+  floor_below crossing missing =
+      elim (cases_lt (2 * given_count shape v) (rank v.floor)) [
+        | inl above ↦ absurd (false≢true (sym missing ∙ k.passed_links (given_count shape v) crossing above))
+        | inr within ↦ within
+      ]
+
+  pub waits : (t : Spot) × Waits shape memory v t
+  waits =
+      let n : ℕ = given_count shape v in
+      let high : rank v.floor ≤ 2 * n + 1 = omega (arith, rank_most v.floor, floor_given shape is memory v k) in
+      elim (cases_Bool (is_crossing shape n)) [
+        | inl crossing ↦
+            elim (cases_Bool (v.crossed n)) [
+              | inl given ↦ (Data n, waits_at_data high (λ _. given))
+              | inr missing ↦ (Link n, waits_at_link (floor_below crossing missing) crossing missing)
+            ]
+        | inr none ↦ (Data n, waits_at_data high (λ crossing. absurd (false≢true (sym none ∙ crossing))))
+      ]
