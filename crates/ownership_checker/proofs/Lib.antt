@@ -21,3 +21,4 @@ pub mod Numbers
 pub mod Starts
 pub mod Ranges
 mod WithinProfile
+pub mod Walks

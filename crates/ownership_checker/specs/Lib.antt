@@ -5,3 +5,4 @@ pub mod OneRing
 pub mod Tracking
 pub mod Finding
 pub mod OnLiterals
+pub mod Walks

@@ -4,6 +4,7 @@ ghost use Rattle.traces.specs.Limits.{most_lines};
 ghost use Rattle.ring_knowledge.specs.Known.{nothing};
 ghost use Rattle.ownership_checker.specs.Profile.{verdict_within};
 ghost use Rattle.ownership_checker.specs.Tracking.{IfRefusedAt, IsAccepted, IsFirstOfAll};
+ghost use Rattle.ownership_checker.specs.Walks.{WalksRead};
 
 use crate::fault::{CheckFault, StepFault};
 use crate::finder::Finder;
@@ -60,6 +61,7 @@ pub fn check_in<M: WordMemory + Drop>(
     ensures refused { IfErr result (λ e. IfRefusedAt e (λ row c.
         verdict_within trace.now.header nothing trace.now.first trace.now.rows ≡ Some (row, c))) }
     ensures first { IfErr result (λ e. IfRefusedAt e (IsFirstOfAll trace.now.header trace.now.first trace.now.rows)) }
+    ensures walk { OnOk result (WalksRead trace.now.header trace.now.rows) }
 {
     check_rows(
         alloc,
@@ -79,6 +81,7 @@ pub fn check(alloc: Global, trace: &Trace) -> Result<u64, CheckFault>
     ensures refused { IfErr result (λ e. IfRefusedAt e (λ row c.
         verdict_within trace.now.header nothing trace.now.first trace.now.rows ≡ Some (row, c))) }
     ensures first { IfErr result (λ e. IfRefusedAt e (IsFirstOfAll trace.now.header trace.now.first trace.now.rows)) }
+    ensures walk { OnOk result (WalksRead trace.now.header trace.now.rows) }
 {
     check_in(alloc, trace, PageMemory::new(alloc))
 }

@@ -1,0 +1,62 @@
+-- After any rows of an accepted trace the walk through each ring reads what was declared
+use Rattle.std.specs.Prelude.{◌≡◌, ℕ, ◌≤◌, Bool, true, false, List, [], ◌∷◌, ◌++◌, length, take, drop, reverse, Result, Ok, Err, IfOk, OnOk}
+use Rattle.std.proofs.Common.{sym, ◌∙◌, ap, refl, subst}
+use Rattle.std.proofs.lemmas.Bool.{false≢true}
+use Rattle.std.proofs.lemmas.List.{reverse-append, take-append-drop}
+use Rattle.trb.specs.declared.ring_kind.RingKind.{RingKind}
+use Rattle.trb.specs.declared.ring_kind.RingKind.TheVariants.{Evt}
+use Rattle.segments.proofs.WalkReads.{walk_reads}
+use Rattle.traces.specs.declared.header.Header.{Header}
+use Rattle.traces.specs.declared.row.Row.{Row}
+use Rattle.traces.specs.declared.row.Row.TheVariants.{Sub, Write, Reg, Bell, Read}
+use Rattle.traces.specs.Header.{IsHeader, is_driver_kind, shape_of}
+use Rattle.ring_knowledge.specs.Learned.{known}
+use Rattle.ownership_rules.specs.Clean.{IsClean}
+use Rattle.safety.specs.KeptHistories.{AreDriverRows}
+use Rattle.safety.proofs.Histories.{keeps_driver_rings}
+use Rattle.safety.proofs.RingsOfHeader.{HasRing, has_ring, shape_allowed}
+use Rattle.ownership_checker.specs.Profile.{is_outside}
+use Rattle.ownership_checker.specs.Tracking.{AreInside, IsAccepted}
+use Rattle.ownership_checker.specs.declared.fault.CheckFault.{CheckFault}
+use Rattle.ownership_checker.specs.Walks.{WalksRead}
+
+-- what a history keeps its beginning kept
+earlier_clean : (h : Header) (xs ys : List Row) → IsClean h (xs ++ ys) → IsClean h ys
+earlier_clean h [] ys clean = clean
+earlier_clean h (x ∷ xs) ys clean = earlier_clean h xs ys clean.0
+
+earlier_inside : (h : Header) (xs ys : List Row) → AreInside h (xs ++ ys) → AreInside h ys
+earlier_inside h [] ys inside = inside
+earlier_inside h (x ∷ xs) ys inside = earlier_inside h xs ys inside.0
+
+split : (rows : List Row) (done : ℕ) → reverse rows ≡ reverse (drop done rows) ++ reverse (take done rows)
+split rows done = ap reverse (sym (take-append-drop done rows)) ∙ reverse-append (take done rows) (drop done rows)
+
+-- no event is in the profile yet
+no_events : (h : Header) (past : List Row) → AreInside h past → AreDriverRows past
+unfolding is_outside
+no_events h [] inside = tt
+no_events h (Sub r blocks ∷ past) inside = (no_events h past inside.0, tt)
+no_events h (Write a w ∷ past) inside = (no_events h past inside.0, tt)
+no_events h (Reg r x ∷ past) inside = (no_events h past inside.0, tt)
+no_events h (Bell s t ∷ past) inside = (no_events h past inside.0, tt)
+no_events h (Read b ∷ past) inside = absurd (false≢true (sym inside.1))
+
+no_event_ring : (kind : RingKind) → is_driver_kind kind ≡ true → kind ≡ Evt → ⊥
+no_event_ring kind driver is = false≢true (sym (ap is_driver_kind is) ∙ driver)
+
+pub walks : (h : Header) → IsHeader h → (rows : List Row) → AreInside h (reverse rows) → IsClean h (reverse rows) → WalksRead h rows
+walks h is rows inside clean done r within driver =
+    let past : List Row = reverse (take done rows) in
+    let was_clean : IsClean h past = earlier_clean h (reverse (drop done rows)) past (subst (IsClean h) (split rows done) clean) in
+    let was_inside : AreInside h past = earlier_inside h (reverse (drop done rows)) past (subst (AreInside h) (split rows done) inside) in
+    let keeps = keeps_driver_rings h is past was_clean (no_events h past was_inside) r driver in
+    let has : HasRing h r = has_ring h r driver in
+    walk_reads (shape_of h r) (shape_allowed h is r driver) (no_event_ring (shape_of h r).kind (ap (λ s. is_driver_kind s.kind) has.shape ∙ has.driver))
+    (known h past).memory ((known h past).ring r) keeps
+
+-- of an answer: where it accepts
+pub accepted_walks : (h : Header) → IsHeader h → (rows : List Row) (first : ℕ) (answer : Result ℕ CheckFault) →
+    IfOk answer (λ n. IsAccepted h rows first n) → OnOk answer (WalksRead h rows)
+accepted_walks h is rows first (Ok n) accepted = walks h is rows accepted.inside accepted.clean
+accepted_walks h is rows first (Err e) accepted = tt
