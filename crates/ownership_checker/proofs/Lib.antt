@@ -1,6 +1,6 @@
 pub mod RingsApart
 pub mod HeaderRings
-pub mod Tests
+pub mod ListTests
 pub mod WordsInside
 pub mod CalmLemmas
 pub mod OneRingHas
