@@ -17,6 +17,7 @@ pub mod Checking
 pub mod Rows
 pub mod Fresh
 pub mod OutsideRows
+pub mod AcceptedRows
 pub mod Numbers
 pub mod Starts
 pub mod Ranges
