@@ -13,7 +13,7 @@ use Rattle.segments.specs.Givings.{link_of}
 use Rattle.segments.proofs.Crossings.{is_crossing-from}
 use Rattle.ring_knowledge.specs.declared.ring_record.RingRecord.{RingRecord}
 use Rattle.ring_knowledge.specs.Marks.{is_noted}
-use Rattle.ring_knowledge.specs.RingRecords.{FollowsRing, is_the, least_crossing}
+use Rattle.ring_knowledge.specs.RingRecords.{FollowsMarks, is_the, least_crossing}
 use Rattle.ring_knowledge.proofs.Noted.{noted_due, false_unless}
 use Rattle.ring_knowledge.proofs.Ranges.{filter_none, filter_only}
 use Rattle.ring_knowledge.proofs.DueNumbers.{link_of-crossed}
@@ -28,7 +28,7 @@ link_is i v j w e = cc
 yes_no : (b : Bool) → not b ≡ true → b ≡ true → ⊥
 yes_no b n y = cc
 
-module _ (shape : Shape) (v : RingView) (r : RingRecord) (follows : FollowsRing shape v r) where
+module _ (shape : Shape) (v : RingView) (r : RingRecord) (follows : FollowsMarks shape v r) where
   -- the mark of a due position
   pub given_due : (p : ℕ) → floor_number v ≤ p → p < floor_number v + place_count shape → v.given p ≡ get_or r.given.items (p % place_count shape) false
   given_due p low high = follows.given p ∙ noted_due (floor_number v) (place_count shape) r.given.items (p % place_count shape) p low high

@@ -17,7 +17,7 @@ use Rattle.segments.proofs.Crossings.{crosses, crossed_link, crossing_positive, 
 use Rattle.segments.proofs.PlaceAtLemmas.{place_at-data, place_at-link, place_at-Data, place_at-Link}
 use Rattle.ring_knowledge.specs.declared.ring_record.RingRecord.{RingRecord}
 use Rattle.ring_knowledge.specs.Marks.{is_noted}
-use Rattle.ring_knowledge.specs.RingRecords.{FollowsRing, least_crossing}
+use Rattle.ring_knowledge.specs.RingRecords.{FollowsMarks, least_crossing}
 use Rattle.ring_knowledge.proofs.Noted.{noted_due, noted_within, false_unless, or_false}
 use Rattle.ring_knowledge.proofs.Ranges.{any_none, any_only}
 use Rattle.ring_knowledge.proofs.DueNumbers.{IsDue, link_of-crossed, due_number, same_due, due_crossing, same_due_crossing}
@@ -46,7 +46,7 @@ link_is i v j w e = cc
 some_none : (p : Place) → None ≡ Some p → ⊥
 some_none p e = cc
 
-module _ (shape : Shape) (v : RingView) (r : RingRecord) (follows : FollowsRing shape v r) (a : ℕ) (word : a % 4 ≡ 0) where
+module _ (shape : Shape) (v : RingView) (r : RingRecord) (follows : FollowsMarks shape v r) (a : ℕ) (word : a % 4 ≡ 0) where
   -- a word with a byte of a position's block is a word of its place
   of_place : (p : ℕ) → overlap a 4 (address_of shape p) 16 ≡ true → place_at shape a ≡ Some (AtData (p % place_count shape) (a % 16 / 4))
   of_place p h =
