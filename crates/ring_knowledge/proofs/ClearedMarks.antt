@@ -1,5 +1,5 @@
 -- Marks that are cleared in turn
-use Rattle.std.proofs.Common.{◌≡◌, ℕ, suc, zero, ◌+◌, ◌%◌, ◌<◌, ◌≤◌, subst, List, [], ◌∷◌, Bool, true, false, refl, ap, sym, ◌∙◌, arith, inl, inr, length, get_or, set}
+use Rattle.std.proofs.Common.{◌≡◌, ℕ, suc, zero, ◌+◌, ◌%◌, ◌≤◌, subst, List, [], ◌∷◌, Bool, false, refl, ap, sym, ◌∙◌, arith, inl, inr, get_or, set}
 use Rattle.std.proofs.Math.ListN.{length-set}
 use Rattle.std.proofs.lemmas.Bool.{cases_lt, cases_eq}
 use Rattle.std.proofs.lemmas.List.{get_or-set_other}

@@ -1,11 +1,10 @@
 -- What a write gives of a ring that a record follows
-use Rattle.std.proofs.Common.{◌≡◌, ◌≢◌, ℕ, ◌+◌, ◌%◌, ◌<◌, ◌≤◌, [], ◌∷◌, Bool, true, false, Some, refl, ap, sym, ◌∙◌, arith, length, get_or, cond}
-use Rattle.std.specs.Prelude.{◌==◌, ◌&&◌, not, max, filter}
-use Rattle.std.specs.List.{range_with_len}
+use Rattle.std.proofs.Common.{◌≡◌, ℕ, ◌+◌, ◌%◌, ◌<◌, ◌≤◌, [], ◌∷◌, Bool, true, false, Some, refl, ap, sym, ◌∙◌, arith, get_or, cond}
+use Rattle.std.specs.Prelude.{◌&&◌, not, max}
 use Rattle.std.proofs.lemmas.Bool.{and_parts, eq-eqb, ne_eqb}
 use Rattle.segments.specs.declared.place.Place.TheVariants.{Data as AtData, Link as AtLink}
 use Rattle.segments.specs.ShapeValue.{Shape}
-use Rattle.segments.specs.Places.{place_count, link_crossed, is_crossing}
+use Rattle.segments.specs.Places.{place_count, link_crossed}
 use Rattle.segments.specs.PlaceAt.{place_at}
 use Rattle.segments.specs.Spots.{number}
 use Rattle.segments.specs.RingView.{RingView, floor_number, gives, gives_crossing, due_positions, due_crossings, positions_given, crossings_given}

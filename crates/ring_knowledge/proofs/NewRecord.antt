@@ -1,5 +1,5 @@
 -- A new record follows a ring on which nothing happened
-use Rattle.std.proofs.Common.{◌≡◌, ℕ, ◌+◌, ◌-◌, ◌*◌, ◌<◌, ◌≤◌, ◌%◌, List, [], Bool, true, false, Some, refl, ap, sym, ◌∙◌, arith, inl, inr, length, get_or}
+use Rattle.std.proofs.Common.{◌≡◌, ℕ, ◌+◌, ◌-◌, ◌*◌, ◌≤◌, ◌%◌, List, [], Bool, true, false, Some, refl, ap, sym, ◌∙◌, arith, inl, inr, length, get_or}
 use Rattle.std.specs.Prelude.{replicate, ◌&&◌}
 use Rattle.std.proofs.lemmas.Bool.{cases_lt, cases_Bool}
 use Rattle.std.proofs.lemmas.Grind.{common_steps}
@@ -10,7 +10,7 @@ use Rattle.segments.specs.declared.segment.Segment.{Segment}
 use Rattle.segments.specs.declared.spot.Spot.TheVariants.{Data}
 use Rattle.segments.specs.ShapeValue.{Shape}
 use Rattle.segments.specs.Shape.{IsShape}
-use Rattle.segments.specs.Places.{place_count, links, links_of, is_crossing}
+use Rattle.segments.specs.Places.{place_count, links_of, is_crossing}
 use Rattle.segments.specs.RingView.{new_ring}
 use Rattle.segments.specs.Descriptors.{length_from}
 use Rattle.segments.specs.Givings.{link_of}

@@ -1,19 +1,19 @@
 -- A record with the mark of what a write gives follows what is known after the write
-use Rattle.std.proofs.Common.{◌≡◌, ◌≢◌, ℕ, ◌+◌, ◌%◌, ◌<◌, ◌≤◌, List, Bool, true, false, Option, Some, None, refl, ap, sym, ◌∙◌, arith, inl, inr, length, get_or, set}
+use Rattle.std.proofs.Common.{◌≡◌, ℕ, ◌+◌, ◌%◌, ◌<◌, ◌≤◌, List, Bool, true, false, Option, Some, None, refl, ap, sym, ◌∙◌, arith, inl, inr, length, set}
 use Rattle.std.specs.Prelude.{◌==◌, ◌&&◌, ◌||◌, max, is_some, IfSome}
 use Rattle.std.proofs.Math.ListN.{length-set}
-use Rattle.std.proofs.lemmas.Bool.{cases_Bool, cases_eq, ne_eqb, false≢true}
+use Rattle.std.proofs.lemmas.Bool.{cases_Bool, ne_eqb, false≢true}
 use Rattle.segments.specs.ShapeValue.{Shape}
 use Rattle.segments.specs.Places.{place_count, links, link_crossed, is_crossing}
 use Rattle.segments.specs.Spots.{number}
 use Rattle.segments.specs.RingView.{RingView, Writes, changed, floor_number, gives, gives_crossing}
 use Rattle.segments.specs.Givings.{link_of}
 use Rattle.segments.proofs.Positions.{place_count_pos}
-use Rattle.segments.proofs.Crossings.{crossed_link, is_crossing-from, crosses}
+use Rattle.segments.proofs.Crossings.{crossed_link, is_crossing-from}
 use Rattle.ring_knowledge.specs.declared.ring_record.RingRecord.{RingRecord}
 use Rattle.ring_knowledge.specs.Marks.{is_noted}
 use Rattle.ring_knowledge.specs.RingRecords.{FollowsMarks, is_the, least_crossing}
-use Rattle.ring_knowledge.proofs.Noted.{noted_more, noted_same, or_false}
+use Rattle.ring_knowledge.proofs.Noted.{noted_more, noted_same}
 use Rattle.ring_knowledge.proofs.DueNumbers.{same_due, same_due_crossing, link_of-crossed}
 
 -- a record with other marks and all else the same
@@ -26,12 +26,6 @@ pub record HasMarks (r n : RingRecord) (given crossed : List Bool) : Type 0 wher
   pub crossed_is : n.crossed.items ≡ crossed
 
 module _ (shape : Shape) (v : RingView) (r : RingRecord) (follows : FollowsMarks shape v r) (a w : ℕ) where
-  noted_given : List Bool → ℕ → Bool
-  noted_given marks p = is_noted (floor_number v) (place_count shape) marks (p % place_count shape) p
-
-  noted_crossed : List Bool → ℕ → Bool
-  noted_crossed marks q = is_crossing shape q && is_noted (least_crossing v) (place_count shape) marks (link_of shape q) q
-
   -- marks that note what was noted, and what the write gives
   with_marks : (given crossed : List Bool) → length given ≡ length r.given.items → length crossed ≡ length r.crossed.items →
       ((p : ℕ) → is_noted (floor_number v) (place_count shape) given (p % place_count shape) p

@@ -1,14 +1,13 @@
 -- Which words of a ring its controller may own, by the place of the address
-use Rattle.std.proofs.Common.{◌≡◌, ◌≢◌, ℕ, ◌+◌, ◌-◌, ◌*◌, ◌/◌, ◌%◌, ◌<◌, ◌≤◌, List, [], ◌∷◌, Bool, true, false, Some, None, refl, ap, sym, ◌∙◌, arith, inl, inr, length, slice_index, get_or, cond}
-use Rattle.std.specs.Prelude.{◌&&◌, ◌||◌, max, nat_lt, filter}
+use Rattle.std.proofs.Common.{◌≡◌, ℕ, ◌+◌, ◌/◌, ◌%◌, ◌<◌, ◌≤◌, List, [], ◌∷◌, Bool, true, false, Some, None, refl, ap, sym, ◌∙◌, arith, length, slice_index, get_or, cond}
+use Rattle.std.specs.Prelude.{◌&&◌, ◌||◌, nat_lt, filter}
 use Rattle.std.specs.List.{list_any, range_with_len}
-use Rattle.std.proofs.lemmas.Bool.{cases_Bool, and_parts, and_from, lt-ltb, ltb-true}
+use Rattle.std.proofs.lemmas.Bool.{and_parts, and_from, lt-ltb, ltb-true}
 use Rattle.segments.specs.declared.place.Place.{Place}
 use Rattle.segments.specs.declared.place.Place.TheVariants.{Data as AtData, Link as AtLink}
 use Rattle.segments.specs.ShapeValue.{Shape}
-use Rattle.segments.specs.Places.{place_count, address_of, data_places, links, link_crossed, is_crossing, link_address, overlap}
+use Rattle.segments.specs.Places.{place_count, address_of, links, link_crossed, is_crossing, link_address, overlap}
 use Rattle.segments.specs.PlaceAt.{place_at}
-use Rattle.segments.specs.Spots.{number}
 use Rattle.segments.specs.RingView.{RingView, floor_number, due_positions, due_crossings, leased_positions, leased_crossings}
 use Rattle.segments.specs.Givings.{link_of}
 use Rattle.segments.proofs.Positions.{place_count_pos, place_below, address_aligned, address_of-first, address_of-mod}

@@ -1,7 +1,6 @@
 -- A record whose floor has moved on: the marks of what the controller has passed are cleared
-use Rattle.std.proofs.Common.{◌≡◌, ◌≢◌, ℕ, ◌+◌, ◌-◌, ◌%◌, ◌<◌, ◌≤◌, List, Bool, true, false, Some, refl, ap, sym, ◌∙◌, arith, inl, inr, length, get_or}
+use Rattle.std.proofs.Common.{◌≡◌, ℕ, ◌+◌, ◌-◌, ◌%◌, ◌<◌, ◌≤◌, List, Bool, true, false, Some, ap, sym, ◌∙◌, arith, inl, inr, length}
 use Rattle.std.specs.Prelude.{◌&&◌, ◌||◌, not, max}
-use Rattle.std.specs.List.{list_all, range_with_len}
 use Rattle.std.proofs.lemmas.Bool.{cases_lt, cases_Bool, and_parts, false≢true}
 use Rattle.std.proofs.Math.Nat.{add-mod_right}
 use Rattle.segments.specs.declared.spot.Spot.{Spot}
@@ -19,7 +18,7 @@ use Rattle.ring_knowledge.specs.declared.ring_record.RingRecord.{RingRecord}
 use Rattle.ring_knowledge.specs.Marks.{AreCleared, is_noted}
 use Rattle.ring_knowledge.specs.RingRecords.{FollowsMarks, least_crossing}
 use Rattle.ring_knowledge.proofs.Ranges.{all_each}
-use Rattle.ring_knowledge.proofs.Noted.{noted_below, noted_due, noted_past, noted_within}
+use Rattle.ring_knowledge.proofs.Noted.{noted_below, noted_due, noted_past}
 use Rattle.ring_knowledge.proofs.DueNumbers.{same_due, same_due_crossing, link_of-crossed}
 
 -- before a spot that is reached all positions are given

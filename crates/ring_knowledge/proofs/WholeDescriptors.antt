@@ -1,5 +1,5 @@
 -- Whether the further blocks of a descriptor are given, on a ring that a record follows
-use Rattle.std.proofs.Common.{◌≡◌, ℕ, ◌+◌, ◌-◌, ◌%◌, ◌<◌, ◌≤◌, List, Bool, true, false, Option, Some, None, refl, ap, sym, ◌∙◌, arith, slice_index}
+use Rattle.std.proofs.Common.{◌≡◌, ℕ, ◌+◌, ◌-◌, ◌%◌, ◌<◌, ◌≤◌, List, Bool, true, false, Some, None, refl, ap, sym, ◌∙◌, arith, slice_index}
 use Rattle.std.specs.Prelude.{◌&&◌, ◌||◌, not, is_some}
 use Rattle.std.specs.List.{list_all, range_with_len}
 use Rattle.segments.specs.ShapeValue.{Shape}

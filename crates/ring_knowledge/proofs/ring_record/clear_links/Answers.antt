@@ -1,4 +1,4 @@
-use Rattle.std.proofs.Common.{◌≡◌, ℕ, ◌≤◌, ◌+◌, List, Bool, Some, None, Option, refl, ap, sym, ◌∙◌, arith, subst}
+use Rattle.std.proofs.Common.{◌≡◌, ℕ, ◌+◌, List, Bool, Some, Option, ap, sym, ◌∙◌, arith, subst}
 use Rattle.segments.specs.Places.{link_crossed}
 use Rattle.ring_knowledge.specs.Marks.{AreCleared}
 use Rattle.ring_knowledge.proofs.ClearedMarks.{none_cleared, one_cleared, none_here}

@@ -1,4 +1,4 @@
-use Rattle.std.proofs.Common.{◌≡◌, false, true, ap, sym, ◌∙◌, get_or}
+use Rattle.std.proofs.Common.{false, ap, sym, ◌∙◌, get_or}
 use Rattle.segments.specs.PlaceAt.{place_at}
 use Rattle.ring_knowledge.specs.RingRecords.{is_the, positions_of, crossings_of}
 use Rattle.ring_knowledge.proofs.DueWrites.{found, no_crossing_of_data, no_position_of_link, no_position_elsewhere, no_crossing_elsewhere}

@@ -1,4 +1,4 @@
-use Rattle.std.proofs.Common.{◌≡◌, ap, sym, ◌∙◌, arith}
+use Rattle.std.proofs.Common.{ap, arith}
 use Rattle.segments.specs.Spots.{number}
 use Rattle.ring_knowledge.proofs.DeclaredMore.{room_test}
 use Rattle.ring_knowledge.proofs.ring_record.RingRecord.has_room.Goals as goal

@@ -1,4 +1,4 @@
-use Rattle.std.proofs.Common.{◌≡◌, ap, refl, ◌∙◌, length, arith}
+use Rattle.std.proofs.Common.{ap, refl, ◌∙◌, length, arith}
 use Rattle.std.specs.Prelude.{replicate, false}
 use Rattle.ring_knowledge.proofs.NewRecord.{new_marks}
 use Rattle.ring_knowledge.proofs.GivenCount.{new_stop}

@@ -2,9 +2,8 @@ use Rattle.std.proofs.Common.{refl, ap, sym, ◌∙◌}
 use Rattle.segments.specs.PlaceAt.{place_at}
 use Rattle.segments.specs.RingView.{Writes, changed}
 use Rattle.segments.proofs.PlaceAtLemmas.{place_at-Data, place_at-Link}
-use Rattle.ring_knowledge.specs.RingRecords.{is_the}
 use Rattle.ring_knowledge.proofs.DueWrites.{found, no_crossing_of_data, no_position_of_link, no_position_elsewhere, no_crossing_elsewhere}
-use Rattle.ring_knowledge.proofs.NotedWrites.{HasMarks, nothing_noted, position_write, other_write, crossing_write, other_link_write}
+use Rattle.ring_knowledge.proofs.NotedWrites.{nothing_noted, position_write, other_write, crossing_write, other_link_write}
 use Rattle.ring_knowledge.proofs.GivenCount.{counts_on, nothing_more, none_named, written_step}
 use Rattle.ring_knowledge.proofs.ring_record.RingRecord.note_write.Goals as goal
 

@@ -1,4 +1,4 @@
-use Rattle.std.proofs.Common.{◌≡◌, ◌%◌, false, ap, sym, ◌∙◌, get_or, arith}
+use Rattle.std.proofs.Common.{◌≡◌, ◌%◌, false, ap, sym, ◌∙◌, get_or}
 use Rattle.segments.specs.PlaceAt.{place_at}
 use Rattle.ring_knowledge.proofs.DueWrites.{found}
 use Rattle.ring_knowledge.proofs.OwnedWords.{owned_data, owned_link, owned_nowhere}

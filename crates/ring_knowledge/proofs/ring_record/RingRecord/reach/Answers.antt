@@ -1,4 +1,4 @@
-use Rattle.std.proofs.Common.{◌≡◌, ◌≤◌, ℕ, Some, refl, ap, sym, ◌∙◌, arith}
+use Rattle.std.proofs.Common.{◌≡◌, Some, refl, ap, sym, ◌∙◌, arith}
 use Rattle.segments.specs.Spots.{number}
 use Rattle.segments.specs.Places.{link_crossed}
 use Rattle.segments.specs.RingView.{floor_number}
