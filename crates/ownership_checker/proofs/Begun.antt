@@ -20,7 +20,7 @@ use Rattle.ring_knowledge.specs.Writes.{with_word}
 use Rattle.ownership_rules.specs.OpenLeases.{Leased, Block, Link, is_among, open_on, open_leases, segment_ranges}
 use Rattle.ownership_rules.specs.Leases.{begun}
 use Rattle.ownership_checker.specs.Calm.{IsCalm}
-use Rattle.ownership_checker.proofs.Tests.{and_left, filter_append, filter_map_is, filter_flat_map, filter_twice}
+use Rattle.ownership_checker.proofs.ListTests.{and_left, filter_append, filter_map_is, filter_flat_map, filter_twice}
 use Rattle.ownership_checker.proofs.RingsApart.{IsAmong}
 use Rattle.ownership_checker.proofs.HeaderRings.{shape_there, drivers_of}
 use Rattle.ownership_checker.proofs.CalmLemmas.{written_is, calm_written, calm_declared}

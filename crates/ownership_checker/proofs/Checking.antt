@@ -18,9 +18,10 @@ use Rattle.ownership_checker.specs.LeaseCount.{begun_count}
 use Rattle.ownership_checker.specs.Profile.{is_outside, broken_within, verdict_within}
 use Rattle.ownership_checker.specs.declared.fault.StepFault.{StepFault}
 use Rattle.ownership_checker.specs.declared.fault.StepFault.TheVariants.{Refused}
-use Rattle.ownership_checker.specs.Tracking.{AreInside, Follows, IsRowStep, IsChecked, IsProgress, IsAccepted, IsFirstOfAll, IfRefused}
+use Rattle.ownership_checker.specs.Tracking.{AreInside, AreTransferRows, Follows, IsRowStep, IsChecked, IsProgress, IsAccepted, IsFirstOfAll, IfRefused}
 use Rattle.ownership_checker.proofs.LeaseCounts.{length-leases}
 use Rattle.ownership_checker.proofs.DeclarationRules.{broken_inside}
+use Rattle.ownership_checker.proofs.AcceptedRows.{transfer_rows}
 
 -- one row more: the newest first
 one_more : (rows : List Row) (i : ℕ) (d : Row) → i < length rows → reverse (take (i + 1) rows) ≡ get_or rows i d ∷ reverse (take i rows)
@@ -173,7 +174,7 @@ module _ (h : Header) (rows : List Row) (first : ℕ) where
       let empty : drop i rows ≡ [] = ap (λ n. drop n rows) all ∙ drop_all rows in
       let before = known h (reverse (take i rows)) in
       record {
-        inside = subst (λ (xs : List Row). AreInside h (reverse xs)) whole c.inside;
+        on_transfers = subst (λ (xs : List Row). AreTransferRows h (reverse xs)) whole (transfer_rows h (reverse (take i rows)) c.inside c.clean);
         clean = subst (λ (xs : List Row). IsClean h (reverse xs)) whole c.clean;
         verdict = c.verdict ∙ ap (λ xs. verdict_from h before (first + i) xs) empty ∙ verdict_end h before (first + i);
         counted = length-leases h first rows ∙ c.counted ∙ ap (λ xs. begun_ + begun_count h before xs) empty ∙ counted_end h before begun_;

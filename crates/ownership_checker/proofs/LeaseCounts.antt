@@ -15,7 +15,7 @@ use Rattle.ring_knowledge.specs.Learned.{learned}
 use Rattle.ownership_rules.specs.OpenLeases.{Leased, Block, Link, open_on, open_leases, open_ranges, segment_ranges}
 use Rattle.ownership_rules.specs.Leases.{with_lease, comes_before, in_order, as_lease, end_from, with_ends, begun, leases_from, leases}
 use Rattle.ownership_checker.specs.LeaseCount.{begun_count}
-use Rattle.ownership_checker.proofs.Tests.{and_false, filter_nothing}
+use Rattle.ownership_checker.proofs.ListTests.{and_false, filter_nothing}
 use Rattle.ownership_checker.proofs.CalmLemmas.{calm_at_first, segments_alone}
 
 length-with_lease : (l : Lease) (ls : List Lease) → length (with_lease l ls) ≡ length ls + 1

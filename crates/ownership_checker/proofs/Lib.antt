@@ -1,6 +1,6 @@
 pub mod RingsApart
 pub mod HeaderRings
-pub mod Tests
+pub mod ListTests
 pub mod WordsInside
 pub mod CalmLemmas
 pub mod OneRingHas
@@ -17,6 +17,7 @@ pub mod Checking
 pub mod Rows
 pub mod Fresh
 pub mod OutsideRows
+pub mod AcceptedRows
 pub mod Numbers
 pub mod Starts
 pub mod Ranges

@@ -30,7 +30,7 @@ use Rattle.ownership_checker.specs.declared.fault.StepFault.TheVariants.{Refused
 use Rattle.ownership_checker.specs.Tracking.{IfRefused, IsDriver, IsDeclared, IsWritten, Follows, IsRowStep}
 use Rattle.ownership_checker.proofs.RingsApart.{IsAmong, Apart, among_at}
 use Rattle.ownership_checker.proofs.HeaderRings.{shape_allowed}
-use Rattle.ownership_checker.proofs.Tests.{false_unless}
+use Rattle.ownership_checker.proofs.ListTests.{false_unless}
 use Rattle.ownership_checker.proofs.FirstBroken.{nothing_broken}
 use Rattle.ownership_checker.proofs.DeclarationRules.{broken_inside, declared_nowhere, declared_on_events, declared_on_ring, declared_on_commands, declared_inside, unnamed_inside}
 use Rattle.ownership_checker.proofs.WriteRules.{nothing_breaks, owned_by_events, first_of_ring}

@@ -21,7 +21,7 @@ use Rattle.ownership_rules.specs.Writes.{write_tests, some_given, some_crossed, 
 use Rattle.ownership_rules.specs.Rules.{broken, tests}
 use Rattle.ownership_checker.specs.Calm.{IsCalm}
 use Rattle.ownership_checker.specs.OneRing.{is_owned, position_tests, crossing_tests, word_tests}
-use Rattle.ownership_checker.proofs.Tests.{or_false, any_append, any_map, any_nowhere}
+use Rattle.ownership_checker.proofs.ListTests.{or_false, any_append, any_map, any_nowhere}
 use Rattle.ownership_checker.proofs.FirstBroken.{first_broken-is}
 use Rattle.ownership_checker.proofs.RingsApart.{IsAmong}
 use Rattle.ownership_checker.proofs.HeaderRings.{shape_there}

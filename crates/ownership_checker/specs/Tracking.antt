@@ -1,13 +1,15 @@
 -- What the checker's records and memory hold, in terms of what is known after the rows so far; and what it answers
 use Rattle.std.specs.Prelude.{Some, None, ◌≡◌, ℕ, ◌+◌, ◌-◌, ◌≤◌, true, false, List, [], ◌∷◌, length, slice_get, reverse, take, drop}
 use Rattle.trb.specs.declared.block.Block.{Block}
+use Rattle.trb.specs.declared.ring_kind.RingKind.TheVariants.{Xfer}
 use Rattle.segments.specs.ShapeValue.{Shape}
 use Rattle.segments.specs.Shape.{IsShape}
 use Rattle.segments.specs.RingView.{RingView, Declares, Writes, changed, new_ring, positions_given, crossings_given}
 use Rattle.traces.specs.declared.ring.Ring.{Ring}
 use Rattle.traces.specs.declared.header.Header.{Header}
 use Rattle.traces.specs.declared.row.Row.{Row}
-use Rattle.traces.specs.Header.{is_driver_kind, event_shape}
+use Rattle.traces.specs.declared.row.Row.TheVariants.{Sub, Write, Reg, Bell, Read}
+use Rattle.traces.specs.Header.{is_driver_kind, event_shape, shape_of}
 use Rattle.ring_knowledge.specs.declared.ring_record.RingRecord.{RingRecord}
 use Rattle.ring_knowledge.specs.RingRecords.{FollowsRing}
 use Rattle.ring_knowledge.specs.Known.{Known, nothing}
@@ -76,6 +78,19 @@ abbrev pub AreInside : Header → List Row → Type 0
 AreInside h [] = Unit {0}
 AreInside h (row ∷ past) = AreInside h past × (is_outside h row ≡ false)
 
+-- a declaration on a transfer ring, or a write
+abbrev pub IsTransferRow : Header → Row → Type 0
+IsTransferRow h (Sub r blocks) = (shape_of h r).kind ≡ Xfer
+IsTransferRow h (Write a w) = Unit {0}
+IsTransferRow h (Reg r v) = ⊥
+IsTransferRow h (Bell s t) = ⊥
+IsTransferRow h (Read b) = ⊥
+
+-- of rows, the newest first
+abbrev pub AreTransferRows : Header → List Row → Type 0
+AreTransferRows h [] = Unit {0}
+AreTransferRows h (row ∷ past) = AreTransferRows h past × IsTransferRow h row
+
 -- ---- answers
 
 -- what a refusal says; want of memory says nothing
@@ -97,9 +112,9 @@ pub record IsChecked (h : Header) (rows : List Row) (first : ℕ) (done : ℕ) (
   pub within : verdict_within h nothing first rows ≡ verdict_within h (known h (reverse (take done rows))) (first + done) (drop done rows)
   pub counted : length (event_shape h).segments + begun_count h nothing rows ≡ leases + begun_count h (known h (reverse (take done rows))) (drop done rows)
 
--- a whole trace was accepted, with so many leases
+-- a whole trace was accepted, with so many leases: it only declares on transfer rings and writes, and breaks no rule
 pub record IsAccepted (h : Header) (rows : List Row) (first : ℕ) (leases : ℕ) : Type 0 where
-  pub inside : AreInside h (reverse rows)
+  pub on_transfers : AreTransferRows h (reverse rows)
   pub clean : IsClean h (reverse rows)
   pub verdict : verdict_from h nothing first rows ≡ None
   pub counted : length (leases_of h first rows) ≡ leases

@@ -7,6 +7,8 @@ mod one_ring;
 mod refusals;
 mod rings;
 mod row;
+#[cfg(test)]
+mod tests;
 mod trace_check;
 
 pub use fault::CheckFault;

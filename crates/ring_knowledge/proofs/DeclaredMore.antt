@@ -1,6 +1,6 @@
 -- A record with one descriptor more follows what is declared with it
-use Rattle.std.proofs.Common.{◌≡◌, ℕ, suc, zero, ◌+◌, ◌-◌, ◌<◌, ◌≤◌, List, [], ◌∷◌, ◌++◌, Bool, true, false, refl, ap, sym, ◌∙◌, arith, length, get_or, set, inl, inr, length-append, subst}
-use Rattle.std.specs.Prelude.{◌==◌, not, sum, slice_index, replicate, nat_lt, nat_le, take}
+use Rattle.std.proofs.Common.{◌≡◌, ℕ, suc, zero, ◌+◌, ◌-◌, ◌<◌, ◌≤◌, List, [], ◌∷◌, ◌++◌, true, false, refl, ap, sym, ◌∙◌, arith, length, set, inl, inr, length-append}
+use Rattle.std.specs.Prelude.{◌==◌, not, sum, slice_index, replicate, nat_le, take}
 use Rattle.std.proofs.lemmas.List.Sums.{sum_by-cons}
 use Rattle.std.proofs.lemmas.Bool.{cases_eq, cases_lt, ltb-false, lt-ltb, le-ltb, le-leb, lt-leb}
 use Rattle.std.proofs.lemmas.Bool.Decides.{nat_tests}
@@ -13,7 +13,7 @@ use Rattle.segments.specs.RingView.{RingView, Declares, changed, declared, floor
 use Rattle.segments.specs.Descriptors.{length_from}
 use Rattle.segments.specs.Givings.{has_no_room}
 use Rattle.ring_knowledge.specs.declared.ring_record.RingRecord.{RingRecord}
-use Rattle.ring_knowledge.specs.RingRecords.{ArePositive, FollowsRing}
+use Rattle.ring_knowledge.specs.RingRecords.{ArePositive, FollowsMarks}
 
 sum-cons : (d : ℕ) (ds : List ℕ) → sum (d ∷ ds) ≡ d + sum ds
 sum-cons d ds = sum_by-cons (λ x. x) d ds
@@ -85,7 +85,7 @@ lengths_more [] zero h = absurd (omega arith)
 lengths_more [] (suc n) h = let less : suc n - 1 ≡ n = omega arith in rw less refl
 lengths_more (l ∷ ls) n h = ap (λ xs. l ∷ xs) (lengths_more ls n h)
 
-module _ (shape : Shape) (v : RingView) (r : RingRecord) (follows : FollowsRing shape v r) (blocks : List Block) where
+module _ (shape : Shape) (v : RingView) (r : RingRecord) (follows : FollowsMarks shape v r) (blocks : List Block) where
   room_left : has_no_room shape v (length blocks) ≡ false → length r.blocks.items + length blocks + 1 ≤ floor_number v + place_count shape
   unfolding has_no_room
   room_left fits =
@@ -113,11 +113,11 @@ module _ (shape : Shape) (v : RingView) (r : RingRecord) (follows : FollowsRing 
       ]
 
   -- the record with the blocks and their length
-  pub declared_follows : has_no_room shape v (length blocks) ≡ false → 0 < length blocks → (n : RingRecord) → n.blocks.items ≡ r.blocks.items ++ blocks
+  pub declared_marks : has_no_room shape v (length blocks) ≡ false → 0 < length blocks → (n : RingRecord) → n.blocks.items ≡ r.blocks.items ++ blocks
       → n.lengths.items ≡ r.lengths.items ++ (length blocks ∷ replicate (length blocks - 1) 0)
       → n.given.items ≡ r.given.items → n.crossed.items ≡ r.crossed.items → n.floor ≡ r.floor → n.held ≡ r.held
-      → FollowsRing shape (changed shape v (Declares blocks)) n
-  declared_follows fits some n more lengths given crossed floor held =
+      → FollowsMarks shape (changed shape v (Declares blocks)) n
+  declared_marks fits some n more lengths given crossed floor held =
       let many : length n.blocks.items ≡ length r.blocks.items + length blocks = ap length more ∙ length-append r.blocks.items blocks in
       let long : length n.lengths.items ≡ length r.lengths.items + length blocks =
       ap length lengths ∙ length-append r.lengths.items (length blocks ∷ replicate (length blocks - 1) 0) ∙ grind (arith, common_steps, some) in
@@ -154,7 +154,7 @@ lengths_grown ls ms start len n same all some e =
     take-all xs k h = grind (arith, common_steps, h)
 
 -- whether there is room, as the code tests it
-pub room_test : (shape : Shape) (v : RingView) (r : RingRecord) → FollowsRing shape v r → (count len most : ℕ) → len ≡ length r.blocks.items →
+pub room_test : (shape : Shape) (v : RingView) (r : RingRecord) → FollowsMarks shape v r → (count len most : ℕ) → len ≡ length r.blocks.items →
     most ≡ place_count shape - 1 + floor_number v - len → nat_le count most ≡ not (has_no_room shape v count)
 unfolding has_no_room
 room_test shape v r follows count len most len_is most_is =

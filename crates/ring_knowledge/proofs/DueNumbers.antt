@@ -1,5 +1,5 @@
 -- The number that is due at a place, and the crossing that is due at a Link
-use Rattle.std.proofs.Common.{◌≡◌, ◌≢◌, ℕ, ◌+◌, ◌-◌, ◌*◌, ◌/◌, ◌%◌, ◌<◌, ◌≤◌, refl, ap, sym, ◌∙◌, arith, inl, inr, length, slice_index, Some}
+use Rattle.std.proofs.Common.{◌≡◌, ℕ, ◌+◌, ◌-◌, ◌*◌, ◌/◌, ◌%◌, ◌<◌, ◌≤◌, refl, sym, arith, inl, inr, length, slice_index, Some}
 use Rattle.std.specs.Prelude.{max}
 use Rattle.std.proofs.lemmas.Bool.{cases_lt}
 use Rattle.std.proofs.lemmas.Nat.{mod-mul-add}
@@ -8,7 +8,7 @@ use Rattle.segments.specs.ShapeValue.{Shape}
 use Rattle.segments.specs.Shape.{IsShape}
 use Rattle.segments.specs.Places.{place_count, links, ends, link_crossed}
 use Rattle.segments.specs.Givings.{link_of}
-use Rattle.segments.proofs.Positions.{place_count_pos, same_in_lap}
+use Rattle.segments.proofs.Positions.{same_in_lap}
 use Rattle.segments.proofs.Crossings.{Crosses, crosses-from, end_in_lap, same_crossing}
 
 -- the least number from another one on with a remainder, on this side of the next multiple and behind it

@@ -1,5 +1,5 @@
 -- What a write would give of a ring, by the place of its address: xHCI 4.9.2
-use Rattle.std.proofs.Common.{◌≡◌, ◌≢◌, ℕ, ◌+◌, ◌-◌, ◌*◌, ◌%◌, ◌<◌, ◌≤◌, Bool, true, false, Option, Some, None, refl, ap, sym, ◌∙◌, arith, inl, inr, length, slice_index}
+use Rattle.std.proofs.Common.{◌≡◌, ◌≢◌, ℕ, ◌+◌, ◌-◌, ◌*◌, ◌%◌, ◌<◌, ◌≤◌, Bool, true, false, Some, None, refl, ap, sym, ◌∙◌, arith, inl, inr}
 use Rattle.std.specs.Prelude.{◌==◌, ◌&&◌, ◌||◌, max, nat_lt, nat_le}
 use Rattle.std.proofs.lemmas.Bool.{cases_lt, cases_eq, lt-ltb, le-ltb, le-leb, eq-eqb, ne_eqb, eqb-true, ltb-true, leb-true, and_parts, or_cases, and_from}
 use Rattle.segments.specs.declared.place.Place.{Place}
@@ -7,7 +7,7 @@ use Rattle.segments.specs.declared.place.Place.TheVariants.{Data as AtData, Link
 use Rattle.segments.specs.declared.spot.Spot.{Spot}
 use Rattle.segments.specs.ShapeValue.{Shape}
 use Rattle.segments.specs.Shape.{IsShape}
-use Rattle.segments.specs.Places.{place_count, address_of, cycle_of, links, link_crossed, is_crossing, link_address}
+use Rattle.segments.specs.Places.{place_count, address_of, cycle_of, link_crossed, is_crossing, link_address}
 use Rattle.segments.specs.PlaceAt.{place_at}
 use Rattle.segments.specs.Spots.{number}
 use Rattle.segments.specs.RingView.{is_due, is_crossing_due, gives, gives_crossing}

@@ -1,11 +1,10 @@
 -- What a write gives of a ring that a record follows
-use Rattle.std.proofs.Common.{◌≡◌, ◌≢◌, ℕ, ◌+◌, ◌%◌, ◌<◌, ◌≤◌, [], ◌∷◌, Bool, true, false, Some, refl, ap, sym, ◌∙◌, arith, length, get_or, cond}
-use Rattle.std.specs.Prelude.{◌==◌, ◌&&◌, not, max, filter}
-use Rattle.std.specs.List.{range_with_len}
+use Rattle.std.proofs.Common.{◌≡◌, ℕ, ◌+◌, ◌%◌, ◌<◌, ◌≤◌, [], ◌∷◌, Bool, true, false, Some, refl, ap, sym, ◌∙◌, arith, get_or, cond}
+use Rattle.std.specs.Prelude.{◌&&◌, not, max}
 use Rattle.std.proofs.lemmas.Bool.{and_parts, eq-eqb, ne_eqb}
 use Rattle.segments.specs.declared.place.Place.TheVariants.{Data as AtData, Link as AtLink}
 use Rattle.segments.specs.ShapeValue.{Shape}
-use Rattle.segments.specs.Places.{place_count, link_crossed, is_crossing}
+use Rattle.segments.specs.Places.{place_count, link_crossed}
 use Rattle.segments.specs.PlaceAt.{place_at}
 use Rattle.segments.specs.Spots.{number}
 use Rattle.segments.specs.RingView.{RingView, floor_number, gives, gives_crossing, due_positions, due_crossings, positions_given, crossings_given}
@@ -13,7 +12,7 @@ use Rattle.segments.specs.Givings.{link_of}
 use Rattle.segments.proofs.Crossings.{is_crossing-from}
 use Rattle.ring_knowledge.specs.declared.ring_record.RingRecord.{RingRecord}
 use Rattle.ring_knowledge.specs.Marks.{is_noted}
-use Rattle.ring_knowledge.specs.RingRecords.{FollowsRing, is_the, least_crossing}
+use Rattle.ring_knowledge.specs.RingRecords.{FollowsMarks, is_the, least_crossing}
 use Rattle.ring_knowledge.proofs.Noted.{noted_due, false_unless}
 use Rattle.ring_knowledge.proofs.Ranges.{filter_none, filter_only}
 use Rattle.ring_knowledge.proofs.DueNumbers.{link_of-crossed}
@@ -28,7 +27,7 @@ link_is i v j w e = cc
 yes_no : (b : Bool) → not b ≡ true → b ≡ true → ⊥
 yes_no b n y = cc
 
-module _ (shape : Shape) (v : RingView) (r : RingRecord) (follows : FollowsRing shape v r) where
+module _ (shape : Shape) (v : RingView) (r : RingRecord) (follows : FollowsMarks shape v r) where
   -- the mark of a due position
   pub given_due : (p : ℕ) → floor_number v ≤ p → p < floor_number v + place_count shape → v.given p ≡ get_or r.given.items (p % place_count shape) false
   given_due p low high = follows.given p ∙ noted_due (floor_number v) (place_count shape) r.given.items (p % place_count shape) p low high

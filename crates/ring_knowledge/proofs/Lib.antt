@@ -9,3 +9,6 @@ pub mod OwnedWords
 pub mod GivenWords
 pub mod NotedWrites
 pub mod WholeDescriptors
+pub mod GivenCount
+pub mod ClearedMarks
+pub mod ReachedSpots

@@ -1,5 +1,5 @@
 -- A new record follows a ring on which nothing happened
-use Rattle.std.proofs.Common.{◌≡◌, ℕ, ◌+◌, ◌-◌, ◌*◌, ◌<◌, ◌≤◌, ◌%◌, List, [], Bool, true, false, Some, refl, ap, sym, ◌∙◌, arith, inl, inr, length, get_or}
+use Rattle.std.proofs.Common.{◌≡◌, ℕ, ◌+◌, ◌-◌, ◌*◌, ◌≤◌, ◌%◌, List, [], Bool, true, false, Some, refl, ap, sym, ◌∙◌, arith, inl, inr, length, get_or}
 use Rattle.std.specs.Prelude.{replicate, ◌&&◌}
 use Rattle.std.proofs.lemmas.Bool.{cases_lt, cases_Bool}
 use Rattle.std.proofs.lemmas.Grind.{common_steps}
@@ -10,14 +10,14 @@ use Rattle.segments.specs.declared.segment.Segment.{Segment}
 use Rattle.segments.specs.declared.spot.Spot.TheVariants.{Data}
 use Rattle.segments.specs.ShapeValue.{Shape}
 use Rattle.segments.specs.Shape.{IsShape}
-use Rattle.segments.specs.Places.{place_count, links, links_of, is_crossing}
+use Rattle.segments.specs.Places.{place_count, links_of, is_crossing}
 use Rattle.segments.specs.RingView.{new_ring}
 use Rattle.segments.specs.Descriptors.{length_from}
 use Rattle.segments.specs.Givings.{link_of}
 use Rattle.segments.proofs.Crossings.{crossing_positive}
 use Rattle.ring_knowledge.specs.declared.ring_record.RingRecord.{RingRecord}
 use Rattle.ring_knowledge.specs.Marks.{is_noted}
-use Rattle.ring_knowledge.specs.RingRecords.{FollowsRing}
+use Rattle.ring_knowledge.specs.RingRecords.{FollowsMarks}
 use Rattle.ring_knowledge.proofs.Noted.{noted_due, noted_past}
 
 -- no more Links than segments
@@ -51,11 +51,11 @@ none_crossed shape marks many q none =
       | inr other ↦ sym (ap (λ b. b && is_noted 1 (place_count shape) marks (link_of shape q) q) other)
     ]
 
-pub new_follows : (shape : Shape) → IsShape shape → 2 ≤ place_count shape → (r : RingRecord) → r.blocks.items ≡ [] → r.lengths.items ≡ []
+pub new_marks : (shape : Shape) → IsShape shape → 2 ≤ place_count shape → (r : RingRecord) → r.blocks.items ≡ [] → r.lengths.items ≡ []
     → r.given.items ≡ replicate (place_count shape) false → r.crossed.items ≡ replicate (length shape.segments) false
-    → r.floor ≡ Data 0 → r.held ≡ Some 0 → FollowsRing shape new_ring r
+    → r.floor ≡ Data 0 → r.held ≡ Some 0 → FollowsMarks shape new_ring r
 unfolding length_from
-new_follows shape allowed two r no_blocks no_lengths none_given no_crossings floor held = record {
+new_marks shape allowed two r no_blocks no_lengths none_given no_crossings floor held = record {
   allowed = allowed;
   queue = sym no_blocks;
   floor = sym floor;

@@ -1,19 +1,19 @@
 -- A record with the mark of what a write gives follows what is known after the write
-use Rattle.std.proofs.Common.{◌≡◌, ◌≢◌, ℕ, ◌+◌, ◌%◌, ◌<◌, ◌≤◌, List, Bool, true, false, Option, Some, None, refl, ap, sym, ◌∙◌, arith, inl, inr, length, get_or, set}
+use Rattle.std.proofs.Common.{◌≡◌, ℕ, ◌+◌, ◌%◌, ◌<◌, ◌≤◌, List, Bool, true, false, Option, Some, None, refl, ap, sym, ◌∙◌, arith, inl, inr, length, set}
 use Rattle.std.specs.Prelude.{◌==◌, ◌&&◌, ◌||◌, max, is_some, IfSome}
 use Rattle.std.proofs.Math.ListN.{length-set}
-use Rattle.std.proofs.lemmas.Bool.{cases_Bool, cases_eq, ne_eqb, false≢true}
+use Rattle.std.proofs.lemmas.Bool.{cases_Bool, ne_eqb, false≢true}
 use Rattle.segments.specs.ShapeValue.{Shape}
 use Rattle.segments.specs.Places.{place_count, links, link_crossed, is_crossing}
 use Rattle.segments.specs.Spots.{number}
 use Rattle.segments.specs.RingView.{RingView, Writes, changed, floor_number, gives, gives_crossing}
 use Rattle.segments.specs.Givings.{link_of}
 use Rattle.segments.proofs.Positions.{place_count_pos}
-use Rattle.segments.proofs.Crossings.{crossed_link, is_crossing-from, crosses}
+use Rattle.segments.proofs.Crossings.{crossed_link, is_crossing-from}
 use Rattle.ring_knowledge.specs.declared.ring_record.RingRecord.{RingRecord}
 use Rattle.ring_knowledge.specs.Marks.{is_noted}
-use Rattle.ring_knowledge.specs.RingRecords.{FollowsRing, is_the, least_crossing}
-use Rattle.ring_knowledge.proofs.Noted.{noted_more, noted_same, or_false}
+use Rattle.ring_knowledge.specs.RingRecords.{FollowsMarks, is_the, least_crossing}
+use Rattle.ring_knowledge.proofs.Noted.{noted_more, noted_same}
 use Rattle.ring_knowledge.proofs.DueNumbers.{same_due, same_due_crossing, link_of-crossed}
 
 -- a record with other marks and all else the same
@@ -25,20 +25,14 @@ pub record HasMarks (r n : RingRecord) (given crossed : List Bool) : Type 0 wher
   pub given_is : n.given.items ≡ given
   pub crossed_is : n.crossed.items ≡ crossed
 
-module _ (shape : Shape) (v : RingView) (r : RingRecord) (follows : FollowsRing shape v r) (a w : ℕ) where
-  noted_given : List Bool → ℕ → Bool
-  noted_given marks p = is_noted (floor_number v) (place_count shape) marks (p % place_count shape) p
-
-  noted_crossed : List Bool → ℕ → Bool
-  noted_crossed marks q = is_crossing shape q && is_noted (least_crossing v) (place_count shape) marks (link_of shape q) q
-
+module _ (shape : Shape) (v : RingView) (r : RingRecord) (follows : FollowsMarks shape v r) (a w : ℕ) where
   -- marks that note what was noted, and what the write gives
   with_marks : (given crossed : List Bool) → length given ≡ length r.given.items → length crossed ≡ length r.crossed.items →
       ((p : ℕ) → is_noted (floor_number v) (place_count shape) given (p % place_count shape) p
       ≡ (is_noted (floor_number v) (place_count shape) r.given.items (p % place_count shape) p || gives shape r.floor p a w)) →
       ((q : ℕ) → (is_crossing shape q && is_noted (least_crossing v) (place_count shape) crossed (link_of shape q) q)
       ≡ ((is_crossing shape q && is_noted (least_crossing v) (place_count shape) r.crossed.items (link_of shape q) q) || gives_crossing shape r.floor q a w)) →
-      (n : RingRecord) → HasMarks r n given crossed → FollowsRing shape (changed shape v (Writes a w)) n
+      (n : RingRecord) → HasMarks r n given crossed → FollowsMarks shape (changed shape v (Writes a w)) n
   with_marks given crossed places segments positions crossings n has = record {
     allowed = follows.allowed;
     queue = follows.queue ∙ sym has.blocks;
@@ -63,7 +57,7 @@ module _ (shape : Shape) (v : RingView) (r : RingRecord) (follows : FollowsRing 
 
   -- a write that gives nothing
   pub nothing_noted : ((p : ℕ) → gives shape r.floor p a w ≡ false) → ((q : ℕ) → gives_crossing shape r.floor q a w ≡ false) →
-      FollowsRing shape (changed shape v (Writes a w)) r
+      FollowsMarks shape (changed shape v (Writes a w)) r
   nothing_noted no_position no_crossing =
       with_marks r.given.items r.crossed.items refl refl
       (λ p. noted_same (is_noted (floor_number v) (place_count shape) r.given.items (p % place_count shape) p) (gives shape r.floor p a w) (no_position p))
@@ -73,7 +67,7 @@ module _ (shape : Shape) (v : RingView) (r : RingRecord) (follows : FollowsRing 
   -- a write that gives position m, which lies at place i
   pub position_noted : (i m : ℕ) → i < place_count shape → number r.floor ≤ m → m < number r.floor + place_count shape → m % place_count shape ≡ i →
       ((p : ℕ) → gives shape r.floor p a w ≡ is_the (Some m) p) → ((q : ℕ) → gives_crossing shape r.floor q a w ≡ false) →
-      (n : RingRecord) → HasMarks r n (set r.given.items i true) r.crossed.items → FollowsRing shape (changed shape v (Writes a w)) n
+      (n : RingRecord) → HasMarks r n (set r.given.items i true) r.crossed.items → FollowsMarks shape (changed shape v (Writes a w)) n
   position_noted i m inside low high here gives_it no_crossing n has =
       let floor = ap number follows.floor in
       let low' : floor_number v ≤ m = omega arith in
@@ -89,7 +83,7 @@ module _ (shape : Shape) (v : RingView) (r : RingRecord) (follows : FollowsRing 
   -- a write that gives crossing m, over the Link of segment j
   pub crossing_noted : (j m : ℕ) → j < length (links shape) → max (number r.floor) 1 ≤ m → m < max (number r.floor) 1 + place_count shape → link_crossed shape m ≡ Some j →
       ((p : ℕ) → gives shape r.floor p a w ≡ false) → ((q : ℕ) → gives_crossing shape r.floor q a w ≡ is_the (Some m) q) →
-      (n : RingRecord) → HasMarks r n r.given.items (set r.crossed.items j true) → FollowsRing shape (changed shape v (Writes a w)) n
+      (n : RingRecord) → HasMarks r n r.given.items (set r.crossed.items j true) → FollowsMarks shape (changed shape v (Writes a w)) n
   crossing_noted j m inside low high over no_position gives_it n has =
       let floor = ap number follows.floor in
       let low' : least_crossing v ≤ m = omega arith in
@@ -118,12 +112,12 @@ module _ (shape : Shape) (v : RingView) (r : RingRecord) (follows : FollowsRing 
   pub position_write : (i : ℕ) → i < place_count shape → (o : Option ℕ) → ((p : ℕ) → gives shape r.floor p a w ≡ is_the o p) →
       IfSome o (λ m. (number r.floor ≤ m) × (m < number r.floor + place_count shape) × (m % place_count shape ≡ i)) →
       ((q : ℕ) → gives_crossing shape r.floor q a w ≡ false) → is_some o ≡ true →
-      (n : RingRecord) → HasMarks r n (set r.given.items i true) r.crossed.items → FollowsRing shape (changed shape v (Writes a w)) n
+      (n : RingRecord) → HasMarks r n (set r.given.items i true) r.crossed.items → FollowsMarks shape (changed shape v (Writes a w)) n
   position_write i inside None gives_it due no_crossing some n has = absurd (false≢true some)
   position_write i inside (Some m) gives_it due no_crossing some n has = position_noted i m inside due.0 due.1 due.2 gives_it no_crossing n has
 
   pub other_write : (o : Option ℕ) → ((p : ℕ) → gives shape r.floor p a w ≡ is_the o p) → ((q : ℕ) → gives_crossing shape r.floor q a w ≡ false) → is_some o ≡ false →
-      FollowsRing shape (changed shape v (Writes a w)) r
+      FollowsMarks shape (changed shape v (Writes a w)) r
   other_write None gives_it no_crossing none = nothing_noted gives_it no_crossing
   other_write (Some m) gives_it no_crossing none = absurd (false≢true (sym none))
 
@@ -131,11 +125,11 @@ module _ (shape : Shape) (v : RingView) (r : RingRecord) (follows : FollowsRing 
   pub crossing_write : (j : ℕ) → j < length (links shape) → (o : Option ℕ) → ((p : ℕ) → gives shape r.floor p a w ≡ false) →
       ((q : ℕ) → gives_crossing shape r.floor q a w ≡ is_the o q) →
       IfSome o (λ m. (max (number r.floor) 1 ≤ m) × (m < max (number r.floor) 1 + place_count shape) × (link_crossed shape m ≡ Some j)) → is_some o ≡ true →
-      (n : RingRecord) → HasMarks r n r.given.items (set r.crossed.items j true) → FollowsRing shape (changed shape v (Writes a w)) n
+      (n : RingRecord) → HasMarks r n r.given.items (set r.crossed.items j true) → FollowsMarks shape (changed shape v (Writes a w)) n
   crossing_write j inside None no_position gives_it due some n has = absurd (false≢true some)
   crossing_write j inside (Some m) no_position gives_it due some n has = crossing_noted j m inside due.0 due.1 due.2 no_position gives_it n has
 
   pub other_link_write : (o : Option ℕ) → ((p : ℕ) → gives shape r.floor p a w ≡ false) → ((q : ℕ) → gives_crossing shape r.floor q a w ≡ is_the o q) → is_some o ≡ false →
-      FollowsRing shape (changed shape v (Writes a w)) r
+      FollowsMarks shape (changed shape v (Writes a w)) r
   other_link_write None no_position gives_it none = nothing_noted no_position gives_it
   other_link_write (Some m) no_position gives_it none = absurd (false≢true (sym none))

@@ -1,5 +1,5 @@
 -- Whether the further blocks of a descriptor are given, on a ring that a record follows
-use Rattle.std.proofs.Common.{◌≡◌, ℕ, ◌+◌, ◌-◌, ◌%◌, ◌<◌, ◌≤◌, List, Bool, true, false, Option, Some, None, refl, ap, sym, ◌∙◌, arith, slice_index}
+use Rattle.std.proofs.Common.{◌≡◌, ℕ, ◌+◌, ◌-◌, ◌%◌, ◌<◌, ◌≤◌, List, Bool, true, false, Some, None, refl, ap, sym, ◌∙◌, arith, slice_index}
 use Rattle.std.specs.Prelude.{◌&&◌, ◌||◌, not, is_some}
 use Rattle.std.specs.List.{list_all, range_with_len}
 use Rattle.segments.specs.ShapeValue.{Shape}
@@ -10,11 +10,11 @@ use Rattle.segments.specs.Givings.{is_not_whole, descriptor_length, link_of}
 use Rattle.segments.proofs.Crossings.{is_crossing-from}
 use Rattle.ring_knowledge.specs.declared.ring_record.RingRecord.{RingRecord}
 use Rattle.ring_knowledge.specs.Marks.{is_noted}
-use Rattle.ring_knowledge.specs.RingRecords.{FollowsRing, least_crossing}
+use Rattle.ring_knowledge.specs.RingRecords.{FollowsMarks, least_crossing}
 use Rattle.ring_knowledge.proofs.Ranges.{all_from, all_each}
 use Rattle.ring_knowledge.proofs.DueNumbers.{link_of-crossed}
 
-module _ (shape : Shape) (v : RingView) (r : RingRecord) (follows : FollowsRing shape v r) where
+module _ (shape : Shape) (v : RingView) (r : RingRecord) (follows : FollowsMarks shape v r) where
   -- a position that isn't given
   pub step_not_given : (q : ℕ) → is_noted (floor_number v) (place_count shape) r.given.items (q % place_count shape) q ≡ false → false ≡ is_step_given shape v q
   unfolding is_step_given

@@ -1,16 +1,15 @@
 -- Rings as they are known: what a write gives of them, what an event names, which commands are unfinished: xHCI 4.9.2, 4.6
-use Rattle.std.specs.Prelude.{ℕ, ◌==◌, Bool, List, [], ◌∷◌, ◌++◌, map, Option, Some, None, option_and_then, option_map, slice_get, filter}
+use Rattle.std.specs.Prelude.{ℕ, List, ◌++◌, map, Option, Some, None, option_and_then, option_map, slice_get, filter}
 use Rattle.std.specs.List.{flat_map, filter_map}
 use Rattle.guest_memory.specs.Memory.{put}
 use Rattle.trb.specs.declared.block.Block.{Block}
 use Rattle.trb.specs.Block.{pointer, slot, endpoint}
 use Rattle.segments.specs.declared.spot.Spot.{Spot}
-use Rattle.segments.specs.RingView.{RingView, RingChange, changed, due_positions, floor_number, positions_given, crossings_given}
+use Rattle.segments.specs.RingView.{RingChange, changed, due_positions, floor_number, positions_given, crossings_given}
 use Rattle.segments.specs.Ceiling.{named}
 use Rattle.commands.specs.declared.command.Command.{Command}
 use Rattle.commands.specs.Command.{command_of}
 use Rattle.traces.specs.declared.header.Header.{Header}
-use Rattle.traces.specs.declared.ring.Ring.{Ring}
 use Rattle.traces.specs.Header.{shape_of, command_id, driver_rings}
 use Rattle.ring_knowledge.specs.Known.{Known}
 

@@ -3,6 +3,8 @@
 
 mod lease;
 mod ring_record;
+#[cfg(test)]
+mod tests;
 
 pub use lease::Lease;
 pub use ring_record::{RingGiving, RingRecord};

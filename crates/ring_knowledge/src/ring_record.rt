@@ -5,10 +5,11 @@ ghost use Rattle.segments.specs.ShapeValue.{Shape};
 ghost use Rattle.segments.specs.Places.{address_of, cycle_of, ends, link_address, link_crossed, links, overlap, place_count};
 ghost use Rattle.segments.specs.PlaceAt.{place_at};
 ghost use Rattle.segments.specs.Shape.{IsShape};
-ghost use Rattle.segments.specs.Ceiling.{is_step_given};
+ghost use Rattle.segments.specs.Ceiling.{ceiling, given_count, is_open, is_step_given};
+ghost use Rattle.segments.specs.Moves.{is_reached};
 ghost use Rattle.segments.specs.Givings.{has_no_room, is_not_whole};
-ghost use Rattle.segments.specs.RingView.{RingView, Declares, Writes, changed, crossings_given, declared, gives, gives_crossing, leased_crossings, leased_positions, new_ring, positions_given};
-ghost use Rattle.ring_knowledge.specs.Marks.{is_noted};
+ghost use Rattle.segments.specs.RingView.{RingView, Declares, Holds, Opens, Reaches, Writes, changed, crossings_given, declared, floor_number, gives, gives_crossing, leased_crossings, leased_positions, new_ring, positions_given};
+ghost use Rattle.ring_knowledge.specs.Marks.{AreCleared, is_noted};
 
 use guest_memory::Addr;
 use segments::{Place, RingShape, Spot};
@@ -38,11 +39,13 @@ pub struct RingRecord {
     crossed: Vec<bool>,
     floor: Spot,
     held: Option<u64>,
+    /// The least number at which the position, or the crossing to it, isn't given.
+    count: u64,
     ghost floor_fits: { number floor < 2 ^ 63 },
 }
 
 impl RingRecord {
-    ghost use Rattle.ring_knowledge.specs.RingRecords.{FollowsRing, crossings_of, is_the, positions_of};
+    ghost use Rattle.ring_knowledge.specs.RingRecords.{FollowsMarks, FollowsRing, crossings_of, is_the, positions_of};
 
     /// The record before anything happens on the ring.
     pub fn new(alloc: Global, shape: &RingShape) -> Result<RingRecord, AllocError>
@@ -57,6 +60,7 @@ impl RingRecord {
             crossed: vec![in alloc; false; segments]?,
             floor: Spot::Data(0),
             held: Some(0),
+            count: 0,
         })
     }
 
@@ -219,7 +223,7 @@ impl RingRecord {
 
     /// A position, and the crossing on the way to it, are given.
     fn is_step_given(&self, shape: &RingShape, q: u64) -> bool
-        ensures { (v : RingView) → FollowsRing shape.now v self.now → result ≡ is_step_given shape.now v q }
+        ensures { (v : RingView) → FollowsMarks shape.now v self.now → result ≡ is_step_given shape.now v q }
     {
         let places = u64::from(shape.places());
         let floor = number(self.floor);
@@ -239,7 +243,8 @@ impl RingRecord {
         match shape.place_at(at.get()) {
             Some(Place::Data { place, word: index }) => {
                 if self.position_by(shape, at, place, index, word).is_some() {
-                    mark(&mut self.given, place as usize);
+                    set_mark(&mut self.given, place as usize, true);
+                    self.count = self.first_not_given(shape, self.count);
                 }
             }
             Some(
@@ -249,11 +254,82 @@ impl RingRecord {
                 },
             ) => {
                 if self.crossing_by(shape, at, segment, index, word).is_some() {
-                    mark(&mut self.crossed, segment as usize);
+                    set_mark(&mut self.crossed, segment as usize, true);
+                    self.count = self.first_not_given(shape, self.count);
                 }
             }
             None => {}
         }
+    }
+
+    /// The least number from another one on at which the position, or the crossing to it, isn't given.
+    fn first_not_given(&self, shape: &RingShape, from: u64) -> u64
+        ensures steps { (v : RingView) → FollowsMarks shape.now v self.now → (q : ℕ) → from ≤ q → q < result → is_step_given shape.now v q ≡ true }
+        ensures stop { (v : RingView) → FollowsMarks shape.now v self.now → is_step_given shape.now v result ≡ false }
+    {
+        let end = number(self.floor) + u64::from(shape.places());
+        for q in from..end {
+            if !self.is_step_given(shape, q) {
+                return q;
+            }
+        }
+        end
+    }
+
+    /// How many positions are given without a gap, with the crossings to them.
+    pub fn given_count(&self) -> u64
+        ensures { (shape : Shape) (v : RingView) → FollowsRing shape v self.now → result ≡ given_count shape v }
+    {
+        self.count
+    }
+
+    /// Up to which number the controller may have gone: all that is given where the ring is open, else where it is held.
+    pub fn ceiling(&self) -> u64
+        ensures { (shape : Shape) (v : RingView) → FollowsRing shape v self.now → result ≡ ceiling shape v }
+    {
+        self.held.unwrap_or(self.count)
+    }
+
+    /// Whether the ring is open.
+    pub fn is_open(&self) -> bool
+        ensures { (shape : Shape) (v : RingView) → FollowsRing shape v self.now → result ≡ is_open v }
+    {
+        self.held.is_none()
+    }
+
+    /// The spot that the controller's dequeue pointer has surely reached.
+    pub fn floor(&self) -> Spot
+        ensures { (shape : Shape) (v : RingView) → FollowsRing shape v self.now → result ≡ v.floor }
+    {
+        self.floor
+    }
+
+    /// Opens the ring.
+    pub fn open(&mut self)
+        ensures { (shape : Shape) (v : RingView) → FollowsRing shape v self.old → FollowsRing shape (changed shape v Opens) self.new }
+    {
+        self.held = None;
+    }
+
+    /// Holds the ring at a number.
+    pub fn hold(&mut self, number: u64)
+        ensures { (shape : Shape) (v : RingView) → FollowsRing shape v self.old → FollowsRing shape (changed shape v (Holds number)) self.new }
+    {
+        self.held = Some(number);
+    }
+
+    /// Notes that the controller's dequeue pointer has reached a spot, before which all is given: the places that it has
+    /// passed may be given anew.
+    pub fn reach(&mut self, shape: &RingShape, spot: Spot)
+        requires { number spot < 2 ^ 63 }
+        ensures { (v : RingView) → FollowsRing shape.now v self.old → floor_number v ≤ number spot → is_reached shape.now v spot ≡ true →
+            FollowsRing shape.now (changed shape.now v (Reaches spot)) self.new }
+    {
+        let places = u64::from(shape.places());
+        let passed = number(self.floor);
+        clear_places(&mut self.given, places, passed, number(spot));
+        clear_links(&mut self.crossed, shape, passed, number(spot));
+        self.floor = spot;
     }
 }
 
@@ -274,12 +350,33 @@ fn is_marked(marks: &[bool], at: usize) -> bool
     marks.get(at).copied().unwrap_or(false)
 }
 
-/// Sets a mark.
-fn mark(marks: &mut Vec<bool>, at: usize)
-    ensures { marks.new.items ≡ slice_set marks.old.items at true }
+/// Sets a mark, or clears it.
+fn set_mark(marks: &mut Vec<bool>, at: usize, is_set: bool)
+    ensures { marks.new.items ≡ slice_set marks.old.items at is_set }
 {
     if let Some(mark) = marks.get_mut(at) {
-        *mark = true;
+        *mark = is_set;
+    }
+}
+
+/// Clears the marks of the places of the positions from one to another.
+fn clear_places(marks: &mut Vec<bool>, places: u64, from: u64, to: u64)
+    requires { 0 < places }
+    ensures { from ≤ to → AreCleared (λ p i. p % places ≡ i) marks.old.items marks.new.items from to }
+{
+    for position in from..to {
+        set_mark(marks, (position % places) as usize, false);
+    }
+}
+
+/// Clears the marks of the Links that are crossed on the way to the positions from one to another.
+fn clear_links(marks: &mut Vec<bool>, shape: &RingShape, from: u64, to: u64)
+    ensures { from ≤ to → AreCleared (λ q j. link_crossed shape.now q ≡ Some j) marks.old.items marks.new.items from to }
+{
+    for position in from..to {
+        if let Some(segment) = shape.crossing(position) {
+            set_mark(marks, segment as usize, false);
+        }
     }
 }
 

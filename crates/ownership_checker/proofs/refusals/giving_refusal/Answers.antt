@@ -5,7 +5,7 @@ use Rattle.trb.specs.Block.{block_at, same_words, with_cycle}
 use Rattle.segments.specs.Places.{address_of, cycle_of}
 use Rattle.segments.proofs.Positions.{address_aligned, address_ends}
 use Rattle.ownership_checker.proofs.Given.{not_declared, other_words, split, given_well, cycle_bit}
-use Rattle.ownership_checker.proofs.Tests.{from_not}
+use Rattle.ownership_checker.proofs.ListTests.{from_not}
 use Rattle.ownership_checker.proofs.refusals.giving_refusal.Goals as goal
 
 pub returns-in_default : goal.returns-in_default

@@ -1,4 +1,4 @@
-use Rattle.std.proofs.Common.{◌≡◌, ◌-◌, ap, sym, ◌∙◌, arith}
+use Rattle.std.proofs.Common.{◌-◌, ap, sym, arith}
 use Rattle.ring_knowledge.proofs.LastPlaces.{last_place, last_found, last_no_link, last_somewhere, IsLast}
 use Rattle.ring_knowledge.proofs.ring_record.place_before.Goals as goal
 

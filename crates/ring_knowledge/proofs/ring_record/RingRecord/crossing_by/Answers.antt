@@ -1,8 +1,8 @@
-use Rattle.std.proofs.Common.{◌≡◌, ◌≢◌, ◌%◌, ◌<◌, ◌≤◌, ◌+◌, ◌-◌, Some, ap, sym, ◌∙◌, arith, slice_index}
+use Rattle.std.proofs.Common.{◌≡◌, ◌≢◌, ◌%◌, ◌<◌, ◌≤◌, ◌+◌, ◌-◌, Some, ap, sym, ◌∙◌, arith}
 use Rattle.std.specs.Prelude.{max}
 use Rattle.std.proofs.lemmas.Bool.{eqb-true, eqb-false}
 use Rattle.segments.specs.Spots.{number}
-use Rattle.segments.specs.Places.{place_count, cycle_of, ends, link_crossed}
+use Rattle.segments.specs.Places.{place_count, cycle_of, link_crossed}
 use Rattle.segments.proofs.PlaceAtLemmas.{place_at-Link}
 use Rattle.ring_knowledge.proofs.DueNumbers.{crossing_behind}
 use Rattle.ring_knowledge.proofs.DueWrites.{gives_crossing-link, gives_crossing-other_word, gives_crossing-other_cycle}

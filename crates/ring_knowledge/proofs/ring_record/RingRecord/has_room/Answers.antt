@@ -1,10 +1,11 @@
-use Rattle.std.proofs.Common.{◌≡◌, ap, sym, ◌∙◌, arith}
+use Rattle.std.proofs.Common.{ap, arith}
 use Rattle.segments.specs.Spots.{number}
 use Rattle.ring_knowledge.proofs.DeclaredMore.{room_test}
 use Rattle.ring_knowledge.proofs.ring_record.RingRecord.has_room.Goals as goal
 
 pub returns : goal.returns
-returns c = λ v follows.
+returns c = λ v known.
+    let follows = known.marks in
     let floor = ap number follows.floor in
     room_test c.args.shape.now v c.args.self.now follows c.args.count c.len.result c.saturating_sub.result
     (omega (arith, c.len.ensures, c.args.self.now.blocks.ok.0))

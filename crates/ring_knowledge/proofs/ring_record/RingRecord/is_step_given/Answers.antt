@@ -1,4 +1,4 @@
-use Rattle.std.proofs.Common.{◌≡◌, ◌%◌, ap, sym, ◌∙◌, refl}
+use Rattle.std.proofs.Common.{◌%◌, ap, sym, ◌∙◌, refl}
 use Rattle.std.specs.Prelude.{max}
 use Rattle.segments.specs.Spots.{number}
 use Rattle.ring_knowledge.proofs.WholeDescriptors.{same_note, step_not_given, step_without_link, step_with_link}

@@ -1,11 +1,12 @@
-use Rattle.std.proofs.Common.{◌≡◌, ◌≤◌, ◌<◌, ◌+◌, sym, ◌∙◌, arith, slice_index, ap, inl, inr}
+use Rattle.std.proofs.Common.{◌≡◌, ◌<◌, ◌+◌, sym, ◌∙◌, arith, slice_index, ap, inl, inr}
 use Rattle.std.proofs.lemmas.Bool.{cases_lt}
 use Rattle.segments.specs.Ceiling.{is_step_given}
 use Rattle.ring_knowledge.proofs.WholeDescriptors.{whole, not_whole}
 use Rattle.ring_knowledge.proofs.ring_record.RingRecord.is_whole.Goals as goal
 
 pub returns-then-not-is_step_given : goal.returns-then-not-is_step_given
-returns-then-not-is_step_given c = λ v follows.
+returns-then-not-is_step_given c = λ v known.
+    let follows = known.marks in
     let long : c.loop-offset.offset < slice_index c.args.self.now.lengths.items c.args.position = omega (arith, c.length_at-length.ensures.value, c.loop-offset-test.true) in
     not_whole c.args.shape.now v c.args.self.now follows c.args.position c.loop-offset.offset c.loop-offset.auto.offset long
     (ap (λ n. is_step_given c.args.shape.now v (c.args.position + n)) (sym c.from.ensures) ∙ sym (c.is_step_given.ensures v follows) ∙ c.if-not-is_step_given.true)
@@ -20,6 +21,7 @@ loop-offset-preserved c = λ v follows o low high.
     ]
 
 pub returns : goal.returns
-returns c = λ v follows.
+returns c = λ v known.
+    let follows = known.marks in
     whole c.args.shape.now v c.args.self.now follows c.args.position
     (λ o low high. c.loop-offset.invariant v follows o low (omega (arith, c.length_at-length.ensures.value)))

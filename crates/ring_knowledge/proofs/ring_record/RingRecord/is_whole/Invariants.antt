@@ -1,10 +1,10 @@
 use Rattle.std.proofs.Common.{◌≡◌, ℕ, ◌+◌, ◌<◌, ◌≤◌, true}
 use Rattle.segments.specs.RingView.{RingView}
 use Rattle.segments.specs.Ceiling.{is_step_given}
-use Rattle.ring_knowledge.specs.RingRecords.{FollowsRing}
+use Rattle.ring_knowledge.specs.RingRecords.{FollowsMarks}
 use Rattle.ring_knowledge.proofs.ring_record.RingRecord.is_whole.Given as goal
 
 -- the steps so far are given
 abbrev pub invariant-loop-offset : goal.invariant-loop-offset
 invariant-loop-offset l =
-    (v : RingView) → FollowsRing l.shape v l.self → (o : ℕ) → 1 ≤ o → o < l.offset → is_step_given l.shape v (l.position + o) ≡ true
+    (v : RingView) → FollowsMarks l.shape v l.self → (o : ℕ) → 1 ≤ o → o < l.offset → is_step_given l.shape v (l.position + o) ≡ true

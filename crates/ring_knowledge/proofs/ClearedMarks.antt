@@ -1,0 +1,62 @@
+-- Marks that are cleared in turn
+use Rattle.std.proofs.Common.{◌≡◌, ℕ, suc, zero, ◌+◌, ◌%◌, ◌≤◌, subst, List, [], ◌∷◌, Bool, false, refl, ap, sym, ◌∙◌, arith, inl, inr, get_or, set}
+use Rattle.std.proofs.Math.ListN.{length-set}
+use Rattle.std.proofs.lemmas.Bool.{cases_lt, cases_eq}
+use Rattle.std.proofs.lemmas.List.{get_or-set_other}
+use Rattle.ring_knowledge.specs.Marks.{AreCleared}
+
+-- a cleared mark
+cleared_at : (marks : List Bool) (j : ℕ) → get_or (set marks j false) j false ≡ false
+cleared_at [] j = refl
+cleared_at (m ∷ marks) zero = refl
+cleared_at (m ∷ marks) (suc j) = cleared_at marks j
+
+-- one that was clear stays so
+clear_still : (marks : List Bool) (j i : ℕ) → get_or marks i false ≡ false → get_or (set marks j false) i false ≡ false
+clear_still marks j i clear =
+    elim (cases_eq i j) [
+      | inl same ↦ ap (λ n. get_or (set marks j false) n false) same ∙ cleared_at marks j
+      | inr other ↦ get_or-set_other marks j i false false other ∙ clear
+    ]
+
+module _ (R : ℕ → ℕ → Type 0) (old : List Bool) (from : ℕ) where
+  -- none at first
+  pub none_cleared : AreCleared R old old from from
+  none_cleared = record { as_many = refl; cleared = λ n i l u h. absurd (omega arith); kept = λ i never. refl }
+
+  -- the mark of one number more
+  pub one_cleared : (marks : List Bool) (k j : ℕ) → AreCleared R old marks from k → from ≤ k → R k j → ((i : ℕ) → R k i → i ≡ j) → AreCleared R old (set marks j false) from (k + 1)
+  one_cleared marks k j so_far low has only = record {
+    as_many = length-set marks j false ∙ so_far.as_many;
+    cleared = λ n i l u h. elim (cases_lt n k) [
+      | inl before ↦ clear_still marks j i (so_far.cleared n i l before h)
+      | inr now ↦
+          let same : n ≡ k = omega arith in
+          let here : i ≡ j = only i (rw same at h) in
+          ap (λ m. get_or (set marks j false) m false) here ∙ cleared_at marks j
+    ];
+    kept = λ i never.
+        get_or-set_other marks j i false false (λ same. never k low (omega arith) (rw (sym same) at has))
+        ∙ so_far.kept i (λ n l u h. never n l (omega arith) h);
+  }
+
+  -- a number without a mark
+  pub none_here : (marks : List Bool) (k : ℕ) → AreCleared R old marks from k → ((i : ℕ) → R k i → ⊥) → AreCleared R old marks from (k + 1)
+  none_here marks k so_far never = record {
+    as_many = so_far.as_many;
+    cleared = λ n i l u h. elim (cases_lt n k) [
+      | inl before ↦ so_far.cleared n i l before h
+      | inr now ↦ let same : n ≡ k = omega arith in absurd (never i (rw same at h))
+    ];
+    kept = λ i unmarked. so_far.kept i (λ n l u h. unmarked n l (omega arith) h);
+  }
+
+-- the same with equal numbers
+pub same_places : (old new : List Bool) (count count' from from' to to' : ℕ) → count ≡ count' → from ≡ from' → to ≡ to' →
+    AreCleared (λ p i. p % count ≡ i) old new from to → AreCleared (λ p i. p % count' ≡ i) old new from' to'
+same_places old new count count' from from' to to' e f g cleared =
+    subst (λ (n : ℕ). AreCleared (λ p i. p % n ≡ i) old new from' to') e
+    (subst (λ (n : ℕ). AreCleared (λ p i. p % count ≡ i) old new n to') f (subst (λ (n : ℕ). AreCleared (λ p i. p % count ≡ i) old new from n) g cleared))
+
+pub same_numbers : (R : ℕ → ℕ → Type 0) (old new : List Bool) (from from' to to' : ℕ) → from ≡ from' → to ≡ to' → AreCleared R old new from to → AreCleared R old new from' to'
+same_numbers R old new from from' to to' f g cleared = subst (λ (n : ℕ). AreCleared R old new n to') f (subst (λ (n : ℕ). AreCleared R old new from n) g cleared)

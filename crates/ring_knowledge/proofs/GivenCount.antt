@@ -1,0 +1,108 @@
+-- How many positions are given without a gap
+use Rattle.std.proofs.Common.{◌≡◌, ℕ, suc, zero, ◌+◌, ◌<◌, ◌≤◌, List, Bool, true, false, Option, Some, None, refl, ap, sym, ◌∙◌, arith, inl, inr, cond}
+use Rattle.std.specs.Prelude.{◌&&◌, ◌||◌, ◌%◌, not, is_some}
+use Rattle.std.proofs.lemmas.Bool.{cases_lt, cases_eq, false≢true}
+use Rattle.trb.specs.declared.block.Block.{Block}
+use Rattle.segments.specs.declared.spot.Spot.{Spot}
+use Rattle.segments.specs.ShapeValue.{Shape}
+use Rattle.segments.specs.Places.{place_count, is_crossing}
+use Rattle.segments.specs.RingView.{RingView, Declares, Writes, Reaches, Opens, Holds, changed, new_ring, floor_number, gives, gives_crossing}
+use Rattle.segments.specs.Ceiling.{is_step_given, is_way_given, first_not_given, given_count}
+use Rattle.ring_knowledge.specs.declared.ring_record.RingRecord.{RingRecord}
+use Rattle.ring_knowledge.specs.RingRecords.{FollowsMarks, FollowsRing, is_the}
+use Rattle.ring_knowledge.proofs.Noted.{noted_past, or_false}
+use Rattle.ring_knowledge.proofs.WholeDescriptors.{step_not_given}
+
+-- the steps up to g are given, and that to g isn't
+counted : (shape : Shape) (v : RingView) (n q g : ℕ) → q ≤ g → g ≤ q + n → ((r : ℕ) → q ≤ r → r < g → is_step_given shape v r ≡ true) → is_step_given shape v g ≡ false →
+    first_not_given shape v n q ≡ g
+unfolding first_not_given
+counted shape v zero q g low high steps stop = omega arith
+counted shape v (suc n) q g low high steps stop =
+    elim (cases_eq q g) [
+      | inl same ↦ ap (λ b. cond b (first_not_given shape v n (q + 1)) q) (ap (λ r. is_step_given shape v r) same ∙ stop) ∙ same
+      | inr other ↦
+          ap (λ b. cond b (first_not_given shape v n (q + 1)) q) (steps q (omega arith) (omega arith))
+          ∙ counted shape v n (q + 1) g (omega arith) (omega arith) (λ r l u. steps r (omega arith) u) stop
+    ]
+
+-- no step is given that is a lap from the floor
+pub past_not_given : (shape : Shape) (v : RingView) (r : RingRecord) → FollowsMarks shape v r → (q : ℕ) → floor_number v + place_count shape ≤ q → is_step_given shape v q ≡ false
+past_not_given shape v r follows q past =
+    sym (step_not_given shape v r follows q (noted_past (floor_number v) (place_count shape) r.given.items (q % place_count shape) q past))
+
+pub count_is : (shape : Shape) (v : RingView) (r : RingRecord) → FollowsRing shape v r → r.count ≡ given_count shape v
+unfolding given_count
+count_is shape v r known =
+    let within : r.count ≤ 0 + (floor_number v + place_count shape) =
+    elim (cases_lt (floor_number v + place_count shape) r.count) [
+      | inl far ↦ absurd (false≢true (sym (past_not_given shape v r known.marks (floor_number v + place_count shape) (omega arith)) ∙ known.steps (floor_number v + place_count shape) far))
+      | inr near ↦ omega arith
+    ] in
+    sym (counted shape v (floor_number v + place_count shape) 0 r.count (omega arith) within (λ q l u. known.steps q u) known.stop)
+
+-- at first none is
+pub new_stop : (shape : Shape) → is_step_given shape new_ring 0 ≡ false
+unfolding is_step_given
+new_stop shape = refl
+
+-- a declaration, a floor that moves on, and a ring that is opened or held leave what is given
+pub declared_step : (shape : Shape) (v : RingView) (blocks : List Block) (q : ℕ) → is_step_given shape (changed shape v (Declares blocks)) q ≡ is_step_given shape v q
+unfolding is_step_given is_way_given
+declared_step shape v blocks q = refl
+
+pub reached_step : (shape : Shape) (v : RingView) (spot : Spot) (q : ℕ) → is_step_given shape (changed shape v (Reaches spot)) q ≡ is_step_given shape v q
+unfolding is_step_given is_way_given
+reached_step shape v spot q = refl
+
+pub opened_step : (shape : Shape) (v : RingView) (q : ℕ) → is_step_given shape (changed shape v Opens) q ≡ is_step_given shape v q
+unfolding is_step_given is_way_given
+opened_step shape v q = refl
+
+pub held_step : (shape : Shape) (v : RingView) (n q : ℕ) → is_step_given shape (changed shape v (Holds n)) q ≡ is_step_given shape v q
+unfolding is_step_given is_way_given
+held_step shape v n q = refl
+
+-- what is given stays given at a write
+pub written_step : (shape : Shape) (v : RingView) (a w q : ℕ) → is_step_given shape v q ≡ true → is_step_given shape (changed shape v (Writes a w)) q ≡ true
+unfolding is_step_given is_way_given
+written_step shape v a w q given =
+    kept (v.given q) (gives shape v.floor q a w) (is_crossing shape q) (v.crossed q) (gives_crossing shape v.floor q a w) given
+  where
+    kept : (g h c x y : Bool) → (g && (not c || x)) ≡ true → ((g || h) && (not c || (x || y))) ≡ true
+    kept true h true true y e = refl
+    kept true h true false y e = absurd (false≢true e)
+    kept true h false x y e = refl
+    kept false h c x y e = absurd (false≢true e)
+
+-- a counted record, from its marks and the steps that were counted before
+pub counts_on : (shape : Shape) (v : RingView) (r : RingRecord) → FollowsMarks shape v r → (before : ℕ) → ((q : ℕ) → q < before → is_step_given shape v q ≡ true) →
+    ((q : ℕ) → before ≤ q → q < r.count → is_step_given shape v q ≡ true) → is_step_given shape v r.count ≡ false → FollowsRing shape v r
+counts_on shape v r marks before counted_ more stop = record {
+  marks = marks;
+  steps = λ q h. elim (cases_lt q before) [ inl early ↦ counted_ q early | inr late ↦ more q late h ];
+  stop = stop;
+}
+
+-- a write that gives nothing
+pub nothing_more : (shape : Shape) (v : RingView) (r : RingRecord) → FollowsRing shape v r → (a w : ℕ) → ((p : ℕ) → gives shape r.floor p a w ≡ false) →
+    ((q : ℕ) → gives_crossing shape r.floor q a w ≡ false) → FollowsMarks shape (changed shape v (Writes a w)) r → FollowsRing shape (changed shape v (Writes a w)) r
+unfolding is_step_given is_way_given
+nothing_more shape v r known a w no_position no_crossing marks = record {
+  marks = marks;
+  steps = λ q h. same q ∙ known.steps q h;
+  stop = same r.count ∙ known.stop;
+}
+  where
+    none : (g h c x y : Bool) → h ≡ false → y ≡ false → ((g || h) && (not c || (x || y))) ≡ (g && (not c || x))
+    none g h c x y e f = ap (λ b. (g || b) && (not c || (x || y))) e ∙ ap (λ b. b && (not c || (x || y))) (or_false g) ∙ ap (λ b. g && (not c || (x || b))) f ∙ ap (λ b. g && (not c || b)) (or_false x)
+
+    same : (q : ℕ) → is_step_given shape (changed shape v (Writes a w)) q ≡ is_step_given shape v q
+    same q =
+        none (v.given q) (gives shape v.floor q a w) (is_crossing shape q) (v.crossed q) (gives_crossing shape v.floor q a w)
+        (ap (λ f. gives shape f q a w) known.marks.floor ∙ no_position q) (ap (λ f. gives_crossing shape f q a w) known.marks.floor ∙ no_crossing q)
+
+-- nothing is named
+pub none_named : (o : Option ℕ) → is_some o ≡ false → (p : ℕ) → is_the o p ≡ false
+none_named None none p = refl
+none_named (Some m) none p = absurd (false≢true (sym none))

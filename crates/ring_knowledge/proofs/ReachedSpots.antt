@@ -1,0 +1,150 @@
+-- A record whose floor has moved on: the marks of what the controller has passed are cleared
+use Rattle.std.proofs.Common.{◌≡◌, ℕ, ◌+◌, ◌-◌, ◌%◌, ◌<◌, ◌≤◌, List, Bool, true, false, Some, ap, sym, ◌∙◌, arith, inl, inr, length}
+use Rattle.std.specs.Prelude.{◌&&◌, ◌||◌, not, max}
+use Rattle.std.proofs.lemmas.Bool.{cases_lt, cases_Bool, and_parts, false≢true}
+use Rattle.std.proofs.Math.Nat.{add-mod_right}
+use Rattle.segments.specs.declared.spot.Spot.{Spot}
+use Rattle.segments.specs.declared.spot.Spot.TheVariants.{Data, Link}
+use Rattle.segments.specs.ShapeValue.{Shape}
+use Rattle.segments.specs.Places.{place_count, link_crossed, is_crossing}
+use Rattle.segments.specs.Spots.{number}
+use Rattle.segments.specs.RingView.{RingView, Reaches, changed, floor_number}
+use Rattle.segments.specs.Ceiling.{is_way_given}
+use Rattle.segments.specs.Moves.{is_reached, are_given, are_ways_given}
+use Rattle.segments.specs.Givings.{link_of}
+use Rattle.segments.proofs.Positions.{place_count_pos}
+use Rattle.segments.proofs.Crossings.{crossed_link, crossing_positive, is_crossing-from, link_crossed-lap}
+use Rattle.ring_knowledge.specs.declared.ring_record.RingRecord.{RingRecord}
+use Rattle.ring_knowledge.specs.Marks.{AreCleared, is_noted}
+use Rattle.ring_knowledge.specs.RingRecords.{FollowsMarks, least_crossing}
+use Rattle.ring_knowledge.proofs.Ranges.{all_each}
+use Rattle.ring_knowledge.proofs.Noted.{noted_below, noted_due, noted_past}
+use Rattle.ring_knowledge.proofs.DueNumbers.{same_due, same_due_crossing, link_of-crossed}
+
+-- before a spot that is reached all positions are given
+pub reached_given : (shape : Shape) (v : RingView) (spot : Spot) → is_reached shape v spot ≡ true → (p : ℕ) → p < number spot → v.given p ≡ true
+unfolding is_reached are_given
+reached_given shape v (Data q) reached p below = all_each v.given 0 q (and_parts (are_given v q) (are_ways_given shape v q) reached).0 p (omega arith) (omega arith)
+reached_given shape v (Link q) reached p below = all_each v.given 0 q (and_parts (are_given v q) (are_ways_given shape v (q - 1)) reached).0 p (omega arith) (omega arith)
+
+-- and all crossings
+pub reached_crossed : (shape : Shape) (v : RingView) (spot : Spot) → is_reached shape v spot ≡ true → (q : ℕ) → is_crossing shape q ≡ true → 0 < q → q < number spot → v.crossed q ≡ true
+unfolding is_reached are_ways_given is_way_given
+reached_crossed shape v (Data n) reached q crossing positive below =
+    is_crossed (is_crossing shape q) (v.crossed q) crossing (all_each (is_way_given shape v) 1 n (and_parts (are_given v n) (are_ways_given shape v n) reached).1 q positive (omega arith))
+  where
+    is_crossed : (c x : Bool) → c ≡ true → (not c || x) ≡ true → x ≡ true
+    is_crossed true x c h = h
+    is_crossed false x c h = absurd (false≢true c)
+reached_crossed shape v (Link n) reached q crossing positive below =
+    is_crossed (is_crossing shape q) (v.crossed q) crossing (all_each (is_way_given shape v) 1 (n - 1) (and_parts (are_given v n) (are_ways_given shape v (n - 1)) reached).1 q positive (omega arith))
+  where
+    is_crossed : (c x : Bool) → c ≡ true → (not c || x) ≡ true → x ≡ true
+    is_crossed true x c h = h
+    is_crossed false x c h = absurd (false≢true c)
+
+-- a record with another floor and other marks, and all else the same
+pub record HasFloor (r n : RingRecord) (spot : Spot) : Type 0 where
+  pub blocks : n.blocks.items ≡ r.blocks.items
+  pub lengths : n.lengths.items ≡ r.lengths.items
+  pub floor : n.floor ≡ spot
+  pub held : n.held ≡ r.held
+
+module _ (shape : Shape) (v : RingView) (r : RingRecord) (follows : FollowsMarks shape v r) (spot : Spot) (later : floor_number v ≤ number spot) (reached : is_reached shape v spot ≡ true) where
+  -- a position's note with the new floor and marks
+  given_now : (marks : List Bool) → AreCleared (λ p i. p % place_count shape ≡ i) r.given.items marks (floor_number v) (number spot) →
+      (p : ℕ) → v.given p ≡ is_noted (number spot) (place_count shape) marks (p % place_count shape) p
+  given_now marks cleared p =
+      elim (cases_lt p (number spot)) [
+        | inl passed ↦ reached_given shape v spot reached p passed ∙ sym (noted_below (number spot) (place_count shape) marks (p % place_count shape) p passed)
+        | inr from ↦ elim (cases_lt p (number spot + place_count shape)) [
+          | inr past ↦
+              follows.given p ∙ noted_past (floor_number v) (place_count shape) r.given.items (p % place_count shape) p (omega arith)
+              ∙ sym (noted_past (number spot) (place_count shape) marks (p % place_count shape) p past)
+          | inl within ↦
+              let now = noted_due (number spot) (place_count shape) marks (p % place_count shape) p from within in
+              elim (cases_lt p (floor_number v + place_count shape)) [
+                | inl due ↦
+                    follows.given p ∙ noted_due (floor_number v) (place_count shape) r.given.items (p % place_count shape) p (omega arith) due
+                    ∙ sym (cleared.kept (p % place_count shape) (λ q l u same.
+                    let one : q ≡ p = same_due (floor_number v) (place_count shape) q p (place_count_pos shape follows.allowed) l (omega arith) (omega arith) due same in absurd (omega arith)))
+                    ∙ sym now
+                | inr next ↦
+                    let lap : (p - place_count shape) % place_count shape ≡ p % place_count shape = lap_before p (place_count shape) (omega arith) in
+                    follows.given p ∙ noted_past (floor_number v) (place_count shape) r.given.items (p % place_count shape) p next
+                    ∙ sym (cleared.cleared (p - place_count shape) (p % place_count shape) (omega arith) (omega arith) lap) ∙ sym now
+              ]
+        ]
+      ]
+    where
+      lap_before : (p n : ℕ) → n ≤ p → (p - n) % n ≡ p % n
+      lap_before p n h = let e : p - n + n ≡ p = omega arith in sym (add-mod_right (p - n) n) ∙ ap (λ x. x % n) e
+
+  -- and a crossing's
+  crossed_now : (marks : List Bool) → AreCleared (λ q j. link_crossed shape q ≡ Some j) r.crossed.items marks (floor_number v) (number spot) →
+      (q : ℕ) → v.crossed q ≡ (is_crossing shape q && is_noted (max (number spot) 1) (place_count shape) marks (link_of shape q) q)
+  crossed_now marks cleared q =
+      elim (cases_Bool (is_crossing shape q)) [
+        | inr none ↦
+            follows.crossed q ∙ ap (λ b. b && is_noted (least_crossing v) (place_count shape) r.crossed.items (link_of shape q) q) none
+            ∙ sym (ap (λ b. b && is_noted (max (number spot) 1) (place_count shape) marks (link_of shape q) q) none)
+        | inl crossing ↦
+            let over = crossed_link shape q crossing in
+            let positive = crossing_positive shape q crossing in
+            was crossing ∙ same_note over.0 over.1 crossing positive
+            ∙ sym (ap (λ b. b && is_noted (max (number spot) 1) (place_count shape) marks (link_of shape q) q) crossing)
+      ]
+    where
+      was : is_crossing shape q ≡ true → v.crossed q ≡ is_noted (least_crossing v) (place_count shape) r.crossed.items (link_of shape q) q
+      was crossing = follows.crossed q ∙ ap (λ b. b && is_noted (least_crossing v) (place_count shape) r.crossed.items (link_of shape q) q) crossing
+
+      same_note : (j : ℕ) → link_crossed shape q ≡ Some j → is_crossing shape q ≡ true → 0 < q →
+          is_noted (least_crossing v) (place_count shape) r.crossed.items (link_of shape q) q ≡ is_noted (max (number spot) 1) (place_count shape) marks (link_of shape q) q
+      same_note j over crossing positive =
+          let at = link_of-crossed shape q j over in
+          elim (cases_lt q (max (number spot) 1)) [
+            | inl passed ↦
+                sym (was crossing) ∙ reached_crossed shape v spot reached q crossing positive (omega arith)
+                ∙ sym (noted_below (max (number spot) 1) (place_count shape) marks (link_of shape q) q passed)
+            | inr from ↦ elim (cases_lt q (max (number spot) 1 + place_count shape)) [
+              | inr past ↦
+                  noted_past (least_crossing v) (place_count shape) r.crossed.items (link_of shape q) q (omega arith)
+                  ∙ sym (noted_past (max (number spot) 1) (place_count shape) marks (link_of shape q) q past)
+              | inl within ↦
+                  let now = noted_due (max (number spot) 1) (place_count shape) marks (link_of shape q) q from within in
+                  elim (cases_lt q (least_crossing v + place_count shape)) [
+                    | inl due ↦
+                        noted_due (least_crossing v) (place_count shape) r.crossed.items (link_of shape q) q (omega arith) due
+                        ∙ sym (cleared.kept (link_of shape q) (λ n l u same.
+                        let some = crossing_positive shape n (is_crossing-from shape n (link_of shape q) same) in
+                        let one : n ≡ q = same_due_crossing shape follows.allowed (least_crossing v) j n q (omega arith) (omega arith) (omega arith) due (same ∙ ap (λ k. Some k) at) over in
+                        absurd (omega arith)))
+                        ∙ sym now
+                    | inr next ↦
+                        let lap : q - place_count shape + place_count shape ≡ q = omega arith in
+                        let before : link_crossed shape (q - place_count shape) ≡ Some (link_of shape q) =
+                        sym (link_crossed-lap shape (q - place_count shape) (omega arith)) ∙ ap (λ n. link_crossed shape n) lap ∙ over ∙ ap (λ k. Some k) (sym at) in
+                        noted_past (least_crossing v) (place_count shape) r.crossed.items (link_of shape q) q next
+                        ∙ sym (cleared.cleared (q - place_count shape) (link_of shape q) (omega arith) (omega arith) before) ∙ sym now
+                  ]
+            ]
+          ]
+
+  -- the record with the new floor
+  pub reached_marks : (n : RingRecord) → HasFloor r n spot → AreCleared (λ p i. p % place_count shape ≡ i) r.given.items n.given.items (floor_number v) (number spot) →
+      AreCleared (λ q j. link_crossed shape q ≡ Some j) r.crossed.items n.crossed.items (floor_number v) (number spot) → FollowsMarks shape (changed shape v (Reaches spot)) n
+  reached_marks n has given crossed = record {
+    allowed = follows.allowed;
+    queue = follows.queue ∙ sym has.blocks;
+    floor = sym has.floor;
+    held = follows.held ∙ sym has.held;
+    begins = rw has.lengths follows.begins;
+    as_many = ap length has.lengths ∙ follows.as_many ∙ sym (ap length has.blocks);
+    whole = follows.whole ∙ sym (ap length has.blocks);
+    positive = follows.positive;
+    room = omega (arith, follows.room, ap length has.blocks);
+    places = given.as_many ∙ follows.places;
+    given = given_now n.given.items given;
+    segments = omega (arith, follows.segments, crossed.as_many);
+    crossed = crossed_now n.crossed.items crossed;
+  }

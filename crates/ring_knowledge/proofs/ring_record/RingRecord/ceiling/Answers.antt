@@ -1,0 +1,10 @@
+use Rattle.std.proofs.Common.{ap, sym, ◌∙◌}
+use Rattle.std.specs.Prelude.{unwrap_or}
+use Rattle.segments.specs.Ceiling.{ceiling, given_count}
+use Rattle.ring_knowledge.proofs.GivenCount.{count_is}
+use Rattle.ring_knowledge.proofs.ring_record.RingRecord.ceiling.Goals as goal
+
+pub returns : goal.returns
+unfolding ceiling
+returns c = λ shape v known.
+    c.unwrap_or.ensures ∙ ap (λ n. unwrap_or c.args.self.now.held n) (count_is shape v c.args.self.now known) ∙ ap (λ o. unwrap_or o (given_count shape v)) (sym known.marks.held)

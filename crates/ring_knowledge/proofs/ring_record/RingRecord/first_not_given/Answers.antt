@@ -1,0 +1,29 @@
+use Rattle.std.proofs.Common.{◌≡◌, sym, ◌∙◌, ap, arith, inl, inr}
+use Rattle.std.proofs.lemmas.Bool.{cases_lt}
+use Rattle.segments.specs.Spots.{number}
+use Rattle.segments.specs.Ceiling.{is_step_given}
+use Rattle.ring_knowledge.proofs.GivenCount.{past_not_given}
+use Rattle.ring_knowledge.proofs.ring_record.RingRecord.first_not_given.Goals as goal
+
+pub loop-q-preserved : goal.loop-q-preserved
+loop-q-preserved c = λ v follows n low high.
+    elim (cases_lt n c.loop-q.q) [
+      | inl earlier ↦ c.loop-q.invariant v follows n low earlier
+      | inr now ↦
+          let same : n ≡ c.loop-q.q = omega arith in
+          ap (λ m. is_step_given c.args.shape.now v m) same ∙ sym (c.is_step_given.ensures v follows) ∙ c.if-not-is_step_given.false
+    ]
+
+pub returns-then-not-is_step_given-clause-steps : goal.returns-then-not-is_step_given-clause-steps
+returns-then-not-is_step_given-clause-steps c = λ v follows n low high. c.loop-q.invariant v follows n low high
+
+pub returns-then-not-is_step_given-clause-stop : goal.returns-then-not-is_step_given-clause-stop
+returns-then-not-is_step_given-clause-stop c = λ v follows. sym (c.is_step_given.ensures v follows) ∙ c.if-not-is_step_given.true
+
+pub returns-clause-steps : goal.returns-clause-steps
+returns-clause-steps c = λ v follows n low high. c.loop-q.invariant v follows n low (omega (arith, c.loop-q-test.false))
+
+pub returns-clause-stop : goal.returns-clause-stop
+returns-clause-stop c = λ v follows.
+    past_not_given c.args.shape.now v c.args.self.now follows _
+    (omega (arith, c.number.ensures, ap number follows.floor, c.from.ensures, c.places.ensures.count))

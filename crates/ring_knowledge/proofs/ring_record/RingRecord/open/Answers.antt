@@ -1,0 +1,24 @@
+use Rattle.std.proofs.Common.{refl, ◌∙◌}
+use Rattle.ring_knowledge.proofs.GivenCount.{opened_step}
+use Rattle.ring_knowledge.proofs.ring_record.RingRecord.open.Goals as goal
+
+pub returns : goal.returns
+returns c = λ shape v known. let m = known.marks in record {
+  marks = record {
+    allowed = m.allowed;
+    queue = m.queue;
+    floor = m.floor;
+    held = refl;
+    begins = m.begins;
+    as_many = m.as_many;
+    whole = m.whole;
+    positive = m.positive;
+    room = m.room;
+    places = m.places;
+    given = m.given;
+    segments = m.segments;
+    crossed = m.crossed;
+  };
+  steps = λ q h. opened_step shape v q ∙ known.steps q h;
+  stop = opened_step shape v c.args.self.now.count ∙ known.stop;
+}
