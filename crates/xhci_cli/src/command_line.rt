@@ -1,7 +1,6 @@
 //! The command line: what the program can be asked for, and what it is asked for.
 ghost use Rattle.clap.specs.Matches.{first_value, found_of};
-ghost use Rattle.std.specs.Prelude.{◌≡◌, Some, IfSome, codes};
-ghost use Rattle.std.specs.Option.{option_map};
+ghost use Rattle.std.specs.Prelude.{◌≡◌, ◌≢◌, ◌⊎◌, None, Some, IfNone, IfSome, codes};
 
 use crate::decode::BlockWords;
 use clap::error::ErrorKind;
@@ -116,6 +115,11 @@ pub fn block_words<'a>(decode: &ArgMatches<'a>) -> Option<BlockWords<'a>>
 }
 
 /// The file that is named so, where there is one and it isn't standard input.
-pub fn path<'a>(matches: &ArgMatches<'a>, name: &str) -> Option<&'a str> {
-    matches.get_str(name).filter(|path| *path != "-")
+pub fn path<'a>(matches: &ArgMatches<'a>, name: &str) -> Option<&'a str>
+    ensures named { IfSome result (λ path. Some path.now ≡ first_value (found_of matches.now) name.now) }
+    ensures file { IfSome result (λ path. path.now ≢ codes "-") }
+    ensures input { IfNone result ((first_value (found_of matches.now) name.now ≡ None) ⊎ (first_value (found_of matches.now) name.now ≡ Some (codes "-"))) }
+{
+    let path = matches.get_str(name)?;
+    if path == "-" { None } else { Some(path) }
 }
