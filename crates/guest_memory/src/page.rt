@@ -1,5 +1,6 @@
-ghost use Rattle.std.specs.Prelude.{◌≡◌, ◌/◌, ◌%◌, ℕ, OnOk};
-ghost use Rattle.guest_memory.specs.Page.{word_in};
+ghost use Rattle.std.specs.Prelude.{◌≡◌, ◌<◌, ◌/◌, ◌%◌, ℕ, None, OnOk, unwrap_or, replicate};
+ghost use Rattle.std.specs.Ordering.{nat_cmp};
+ghost use Rattle.std.specs.BTreeMap.{get};
 
 use crate::addr::Addr;
 use crate::memory::WordMemory;
@@ -18,10 +19,13 @@ const WORDS: usize = 8;
 pub struct PageMemory {
     /// The pages by their number; an older copy of the current one may be among them.
     pages: BTreeMap<u64, [u32; WORDS]>,
+    /// No page above this number is among them.
+    highest: u64,
     /// The number of the page that was written last.
     current: u64,
     /// The words of that page.
     words: [u32; WORDS],
+    ghost none_above: { (p : ℕ) → highest < p → get nat_cmp pages p ≡ None },
 }
 
 /// The number of a word's page, and the word's index there.
@@ -34,15 +38,28 @@ fn place(at: Addr) -> (u64, usize)
 }
 
 impl PageMemory {
+    ghost use Rattle.guest_memory.specs.Page.{word_in};
+
     /// Memory in which no word was written. It takes none itself.
     pub fn new(alloc: Global) -> PageMemory
         ensures { (a : ℕ) → word_in result a ≡ 0 }
     {
         PageMemory {
             pages: BTreeMap::new(alloc),
+            highest: 0,
             current: 0,
             words: [0; WORDS],
         }
+    }
+
+    /// The words of a page among the others.
+    fn page(&self, number: u64) -> [u32; WORDS]
+        ensures { result ≡ unwrap_or (get nat_cmp self.now.pages number) (replicate 8 0) }
+    {
+        if number > self.highest {
+            return [0; WORDS];
+        }
+        self.pages.get(&number).copied().unwrap_or([0; WORDS])
     }
 
     /// Opens a page, and puts the current one among the others. No word changes.
@@ -53,8 +70,9 @@ impl PageMemory {
         if page == self.current {
             return Ok(());
         }
-        let words = self.pages.get(&page).copied().unwrap_or([0; WORDS]);
+        let words = self.page(page);
         self.pages.insert(self.current, self.words)?;
+        self.highest = self.highest.max(self.current);
         self.current = page;
         self.words = words;
         Ok(())
@@ -62,6 +80,8 @@ impl PageMemory {
 }
 
 impl WordMemory for PageMemory {
+    ghost use Rattle.guest_memory.specs.Page.{word_in};
+
     ghost words = { word_in };
 
     fn word(&self, at: Addr) -> u32 {

@@ -11,6 +11,7 @@ use Rattle.trace_reader.specs.Values.{block_of}
 use Rattle.ownership_checker.specs.Profile.{verdict_within}
 use Rattle.ownership_rules.specs.Refusal as rule
 use Rattle.ownership_checker.specs.Tracking.{IsAccepted, IsFirstOfAll}
+use Rattle.ownership_checker.specs.Walks.{WalksRead}
 use Rattle.xhci_cli.specs.Decoding.{decoded_text}
 use Rattle.trace_reader.specs.Faults.{fault_number, fault_name}
 use Rattle.xhci_cli.specs.PlanRefusals.{refusal_number, refusal_name}
@@ -77,7 +78,7 @@ err_text answer = if goes_out (status_of answer) then [] else text_of answer
 -- an answer is right of a trace that was read: its leases, where no row breaks a rule and a walk after any row reads what was
 -- declared; or its first row that is outside the profile or breaks a rule, and the least rule that it breaks
 abbrev pub IsVerdict : Answer → Trace → Type 0
-IsVerdict (Accepted leases) trace = IsAccepted trace.header trace.rows trace.first leases
+IsVerdict (Accepted leases) trace = IsAccepted trace.header trace.rows trace.first leases × WalksRead trace.header trace.rows
 IsVerdict (Written text) trace = ⊥
 IsVerdict (Decoded block) trace = ⊥
 IsVerdict (Refused row refusal) trace =
