@@ -1,1 +1,5 @@
+pub mod Keeps
+pub mod Stands
+pub mod Matches
+pub mod Invariant
 pub mod Headline
