@@ -11,3 +11,6 @@ pub mod SpotOrder
 pub mod NamedSpots
 mod Examples
 pub mod InsideLemmas
+pub mod GivenCount
+pub mod Giving
+pub mod DueLists

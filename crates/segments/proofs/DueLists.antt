@@ -1,0 +1,120 @@
+-- Which numbers stand in the lists of due, given and leased positions and crossings
+use Rattle.std.specs.Prelude.{◌≡◌, ℕ, ◌+◌, ◌-◌, ◌<◌, ◌≤◌, ◌&&◌, not, Bool, true, false, List, [], ◌∷◌, length, Contains, filter, suc, zero}
+use Rattle.std.specs.List.{range_with_len}
+use Rattle.std.proofs.Common.{arith, refl, sym, ◌∙◌, ap, subst, inl, inr, get_or}
+use Rattle.std.proofs.lemmas.Bool.{cases_Bool, and_parts, and_from, not-true, not_from_false, cond-true, cond-false, false≢true}
+use Rattle.std.proofs.lemmas.List.Elements.{All-contains, All-filter, All-contains_itself, filter_passes, Contains-append_right, Contains-append_left}
+use Rattle.std.proofs.lemmas.List.FromFn.{length-range_with_len, get_or-range_with_len}
+use Rattle.segments.specs.declared.spot.Spot.{Spot}
+use Rattle.segments.specs.ShapeValue.{Shape}
+use Rattle.segments.specs.Places.{place_count, is_crossing}
+use Rattle.segments.specs.RingView.{RingView, floor_number, is_due, is_crossing_due, gives, gives_crossing, due_positions, due_crossings, positions_given, crossings_given, leased_positions, leased_crossings}
+use Rattle.segments.proofs.Giving.{due_is, due_from, crossing_due_is, gives_is, gives_crossing_is}
+
+-- ---- a range, and a filter
+
+pub range_contains : (a n x : ℕ) → a ≤ x → x < a + n → Contains (range_with_len a n) x
+range_contains a n x low high =
+    (x - a, omega (arith, length-range_with_len a n), get_or-range_with_len a n (x - a) x (omega arith) ∙ omega arith)
+
+pub range_contained : (a n x : ℕ) → Contains (range_with_len a n) x → (a ≤ x) × (x < a + n)
+range_contained a n x c =
+    let inside : c.0 < n = omega (arith, c.1, length-range_with_len a n) in
+    let at : a + c.0 ≡ x = sym (get_or-range_with_len a n c.0 x inside) ∙ c.2 in
+    (omega arith, omega arith)
+
+cons_contains : (y : ℕ) (ys : List ℕ) (x : ℕ) → Contains ys x → Contains (y ∷ ys) x
+cons_contains y ys x c = Contains-append_right (y ∷ []) ys x c
+
+pub filter_contains : (test : ℕ → Bool) (xs : List ℕ) (x : ℕ) → Contains xs x → test x ≡ true → Contains (filter test xs) x
+filter_contains test xs x c passes = subst (λ ys. Contains ys x) refl (from_place test xs c.0 x c.1 c.2 passes)
+  where
+    from_place : (test : ℕ → Bool) (xs : List ℕ) (k x : ℕ) → k < length xs → get_or xs k x ≡ x → test x ≡ true → Contains (filter test xs) x
+    from_place test [] k x h at passes = absurd (omega arith)
+    from_place test (y ∷ ys) zero x h at passes =
+        let here : filter test (y ∷ ys) ≡ y ∷ filter test ys = cond-true (test y) (y ∷ filter test ys) (filter test ys) (ap test at ∙ passes) in
+        subst (λ zs. Contains zs x) (sym here) (0, omega arith, at)
+    from_place test (y ∷ ys) (suc k) x h at passes =
+        let rest : Contains (filter test ys) x = from_place test ys k x (omega arith) at passes in
+        elim (cases_Bool (test y)) [
+          | inl keeps ↦ subst (λ zs. Contains zs x) (sym (cond-true (test y) (y ∷ filter test ys) (filter test ys) keeps)) (cons_contains y (filter test ys) x rest)
+          | inr drops ↦ subst (λ zs. Contains zs x) (sym (cond-false (test y) (y ∷ filter test ys) (filter test ys) drops)) rest
+        ]
+
+pub filter_contained : (test : ℕ → Bool) (xs : List ℕ) (x : ℕ) → Contains (filter test xs) x → Contains xs x × (test x ≡ true)
+filter_contained test xs x c = (
+  All-contains (Contains xs) (filter test xs) x (All-filter test (Contains xs) xs (All-contains_itself xs)) c,
+  All-contains (λ y. test y ≡ true) (filter test xs) x (filter_passes test xs) c,
+)
+
+-- ---- positions
+
+pub due_position : (shape : Shape) (v : RingView) (p : ℕ) → is_due shape v.floor p ≡ true → Contains (due_positions shape v) p
+unfolding due_positions
+due_position shape v p due =
+    let is = due_is shape v.floor p due in
+    range_contains (floor_number v) (place_count shape) p is.0 is.1
+
+pub due_position_is : (shape : Shape) (v : RingView) (p : ℕ) → Contains (due_positions shape v) p → is_due shape v.floor p ≡ true
+unfolding due_positions
+due_position_is shape v p c =
+    let is = range_contained (floor_number v) (place_count shape) p c in
+    due_from shape v.floor p is.0 is.1
+
+pub leased_position : (shape : Shape) (v : RingView) (p : ℕ) → is_due shape v.floor p ≡ true → v.given p ≡ true → Contains (leased_positions shape v) p
+unfolding leased_positions
+leased_position shape v p due given = filter_contains v.given (due_positions shape v) p (due_position shape v p due) given
+
+pub leased_position_is : (shape : Shape) (v : RingView) (p : ℕ) → Contains (leased_positions shape v) p → (is_due shape v.floor p ≡ true) × (v.given p ≡ true)
+unfolding leased_positions
+leased_position_is shape v p c =
+    let is = filter_contained v.given (due_positions shape v) p c in
+    (due_position_is shape v p is.0, is.1)
+
+pub position_given : (shape : Shape) (v : RingView) (a w p : ℕ) → v.given p ≡ false → gives shape v.floor p a w ≡ true → Contains (positions_given shape v a w) p
+unfolding positions_given
+position_given shape v a w p wasn't now =
+    filter_contains (λ p. not (v.given p) && gives shape v.floor p a w) (due_positions shape v) p
+    (due_position shape v p (gives_is shape v.floor p a w now).due) (and_from (not (v.given p)) (gives shape v.floor p a w) (not_from_false (v.given p) wasn't) now)
+
+pub position_given_is : (shape : Shape) (v : RingView) (a w p : ℕ) → Contains (positions_given shape v a w) p → (v.given p ≡ false) × (gives shape v.floor p a w ≡ true)
+unfolding positions_given
+position_given_is shape v a w p c =
+    let is = filter_contained (λ p. not (v.given p) && gives shape v.floor p a w) (due_positions shape v) p c in
+    let parts = and_parts (not (v.given p)) (gives shape v.floor p a w) is.1 in
+    (not-true (v.given p) parts.0, parts.1)
+
+-- ---- crossings
+
+due_crossing : (shape : Shape) (v : RingView) (q : ℕ) → is_crossing_due shape v.floor q ≡ true → Contains (due_crossings shape v) q
+unfolding due_crossings
+due_crossing shape v q due =
+    let is = crossing_due_is shape v.floor q due in
+    range_contains (floor_number v) (place_count shape + 1) q is.from (elim is.within [ inl below ↦ omega arith | inr first ↦ omega arith ])
+
+pub leased_crossing : (shape : Shape) (v : RingView) (q : ℕ) → is_crossing_due shape v.floor q ≡ true → v.crossed q ≡ true → Contains (leased_crossings shape v) q
+unfolding leased_crossings
+leased_crossing shape v q due given =
+    filter_contains (λ q. is_crossing shape q && v.crossed q) (due_crossings shape v) q (due_crossing shape v q due)
+    (and_from (is_crossing shape q) (v.crossed q) (crossing_due_is shape v.floor q due).crossing given)
+
+pub leased_crossing_is : (shape : Shape) (v : RingView) (q : ℕ) → Contains (leased_crossings shape v) q → (is_crossing shape q ≡ true) × (v.crossed q ≡ true) × (floor_number v ≤ q)
+unfolding leased_crossings due_crossings
+leased_crossing_is shape v q c =
+    let is = filter_contained (λ q. is_crossing shape q && v.crossed q) (due_crossings shape v) q c in
+    let parts = and_parts (is_crossing shape q) (v.crossed q) is.1 in
+    (parts.0, parts.1, (range_contained (floor_number v) (place_count shape + 1) q is.0).0)
+
+pub crossing_given : (shape : Shape) (v : RingView) (a w q : ℕ) → v.crossed q ≡ false → gives_crossing shape v.floor q a w ≡ true → Contains (crossings_given shape v a w) q
+unfolding crossings_given
+crossing_given shape v a w q wasn't now =
+    filter_contains (λ q. not (v.crossed q) && gives_crossing shape v.floor q a w) (due_crossings shape v) q
+    (due_crossing shape v q (gives_crossing_is shape v.floor q a w now).is_due)
+    (and_from (not (v.crossed q)) (gives_crossing shape v.floor q a w) (not_from_false (v.crossed q) wasn't) now)
+
+pub crossing_given_is : (shape : Shape) (v : RingView) (a w q : ℕ) → Contains (crossings_given shape v a w) q → (v.crossed q ≡ false) × (gives_crossing shape v.floor q a w ≡ true)
+unfolding crossings_given
+crossing_given_is shape v a w q c =
+    let is = filter_contained (λ q. not (v.crossed q) && gives_crossing shape v.floor q a w) (due_crossings shape v) q c in
+    let parts = and_parts (not (v.crossed q)) (gives_crossing shape v.floor q a w) is.1 in
+    (not-true (v.crossed q) parts.0, parts.1)
