@@ -14,3 +14,7 @@ pub mod InsideLemmas
 pub mod GivenCount
 pub mod Giving
 pub mod DueLists
+pub mod StepFacts
+pub mod MemoryWords
+pub mod NewRing
+pub mod Declaring

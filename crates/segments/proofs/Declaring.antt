@@ -1,0 +1,84 @@
+-- A declaration keeps the rules of a ring
+use Rattle.std.specs.Prelude.{◌≡◌, ℕ, ◌+◌, ◌-◌, ◌<◌, ◌≤◌, true, false, List, [], ◌∷◌, ◌++◌, length, sum, Some, slice_get, All}
+use Rattle.std.proofs.Common.{arith, refl, sym, ◌∙◌, ap, subst, inl, inr, get_or, length-append}
+use Rattle.std.proofs.lemmas.Bool.{cases_lt, ltb-false}
+use Rattle.std.proofs.lemmas.Option.{slice_get-get_or, slice_get_within, get_or_from_slice_get}
+use Rattle.std.proofs.lemmas.List.{get_or_append_left, get_or-append_right}
+use Rattle.std.proofs.lemmas.List.Elements.{All-push, All-get_or}
+use Rattle.std.proofs.lemmas.List.Sums.{sum_by_push}
+use Rattle.trb.specs.declared.block.Block.{Block}
+use Rattle.trb.specs.Block.{kind}
+use Rattle.trb.specs.Kind.{is_link}
+use Rattle.segments.specs.ShapeValue.{Shape}
+use Rattle.segments.specs.Places.{place_count}
+use Rattle.segments.specs.Shape.{IsShape}
+use Rattle.segments.specs.RingView.{RingView, Declares, changed, declared, floor_number}
+use Rattle.segments.specs.Ceiling.{is_step_given, is_way_given, given_count}
+use Rattle.segments.specs.Givings.{has_no_room, descriptor_length}
+use Rattle.segments.specs.RingKeeps.{RingKeeps, MayDeclare, MayHold}
+use Rattle.segments.proofs.Positions.{place_count_pos}
+use Rattle.segments.proofs.GivenCount.{given_count_same}
+use Rattle.segments.proofs.StepFacts.{GivesMore, whole_more, length_from-push}
+
+has_room : (shape : Shape) (v : RingView) (n : ℕ) → has_no_room shape v n ≡ false → declared v + n ≤ place_count shape - 1 + floor_number v
+unfolding has_no_room
+has_room shape v n h = ltb-false (place_count shape - 1 + floor_number v) (declared v + n) h
+
+-- what was declared stays
+pub slice_get-append : (xs ys : List Block) (p : ℕ) → p < length xs → slice_get (xs ++ ys) p ≡ slice_get xs p
+slice_get-append xs ys p h =
+    let none : Block = record { w = [] } in
+    slice_get-get_or (xs ++ ys) p none (omega (arith, length-append xs ys)) ∙ ap (λ b. Some b) (get_or_append_left xs ys none p h) ∙ sym (slice_get-get_or xs p none h)
+
+-- what is declared then is what was declared, or is declared now
+declared_now : (P : Block → Type 0) (xs ys : List Block) (p : ℕ) (d : Block) → ((p : ℕ) (d : Block) → slice_get xs p ≡ Some d → P d) → All P ys →
+    slice_get (xs ++ ys) p ≡ Some d → P d
+declared_now P xs ys p d old new at =
+    elim (cases_lt p (length xs)) [
+      | inl was ↦ old p d (sym (slice_get-append xs ys p was) ∙ at)
+      | inr is ↦
+          let inside = slice_get_within (xs ++ ys) p d at in
+          let there : get_or ys (p - length xs) d ≡ d = sym (get_or-append_right xs ys (length xs) p d refl is) ∙ get_or_from_slice_get (xs ++ ys) p d d at in
+          subst P there (All-get_or P ys (p - length xs) d (omega (arith, length-append xs ys)) new)
+    ]
+
+length_kept : (shape : Shape) (v : RingView) (blocks : List Block) (p : ℕ) → sum v.lengths ≡ declared v → p < declared v →
+    descriptor_length (changed shape v (Declares blocks)) p ≡ descriptor_length v p
+unfolding descriptor_length
+length_kept shape v blocks p all h = length_from-push v.lengths (length blocks) 0 p (omega arith)
+
+steps_kept : (shape : Shape) (v : RingView) (blocks : List Block) (q : ℕ) → is_step_given shape v q ≡ is_step_given shape (changed shape v (Declares blocks)) q
+unfolding is_step_given is_way_given
+steps_kept shape v blocks q = refl
+
+-- a declaration changes nothing of what is given
+pub given_count-declares : (shape : Shape) (v : RingView) (blocks : List Block) → given_count shape v ≡ given_count shape (changed shape v (Declares blocks))
+given_count-declares shape v blocks = given_count_same shape v (changed shape v (Declares blocks)) refl (steps_kept shape v blocks)
+
+pub declares_keeps : (shape : Shape) → IsShape shape → (memory : ℕ → ℕ) (v : RingView) (blocks : List Block) → RingKeeps shape memory v → MayDeclare shape v blocks →
+    RingKeeps shape memory (changed shape v (Declares blocks))
+declares_keeps shape is memory v blocks k may =
+    let more : length (v.queue ++ blocks) ≡ declared v + length blocks = length-append v.queue blocks in
+    let fits = has_room shape v (length blocks) may.room in
+    let pos = place_count_pos shape is in
+    let adds : sum (v.lengths ++ length blocks ∷ []) ≡ sum v.lengths + length blocks = sum_by_push (λ n. n) v.lengths (length blocks) in
+    record {
+      is_spot = k.is_spot;
+      room = omega (arith, more, fits, pos);
+      passed = k.passed;
+      passed_links = k.passed_links;
+      given_within = k.given_within;
+      given_declared = λ p g. omega (arith, more, k.given_declared p g);
+      crossed_is_crossing = k.crossed_is_crossing;
+      crossed_within = k.crossed_within;
+      kept = λ p d low g at. k.kept p d low g (sym (slice_get-append v.queue blocks p (k.given_declared p g)) ∙ at);
+      not_yet = k.not_yet;
+      kept_link = k.kept_link;
+      not_yet_link = k.not_yet_link;
+      whole = λ p g. whole_more shape v (changed shape v (Declares blocks)) p (record { given = λ q h. h; crossed = λ q h. h })
+        (length_kept shape v blocks p k.descriptors (k.given_declared p g)) (k.whole p g);
+      lengths = All-push (λ n. 0 < n) v.lengths (length blocks) k.lengths may.some;
+      descriptors = adds ∙ ap (λ n. n + length blocks) k.descriptors ∙ sym more;
+      blocks = λ p d at. declared_now (λ b. is_link (kind b) ≡ false) v.queue blocks p d k.blocks may.no_link at;
+      held = λ m at. let may_hold : MayHold shape v m = k.held m at in record { from = may_hold.from; to = omega (arith, may_hold.to, given_count-declares shape v blocks) };
+    }

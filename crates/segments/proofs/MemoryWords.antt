@@ -1,0 +1,44 @@
+-- Words of a block before and after a write
+use Rattle.std.specs.Prelude.{◌≡◌, ◌≢◌, ℕ, ◌+◌, ◌<◌, ◌==◌, ◌&&◌, true, false, List, [], ◌∷◌, nat_lt}
+use Rattle.std.proofs.Common.{arith, refl, sym, ◌∙◌, ap, inl, inr, add-zero}
+use Rattle.std.proofs.lemmas.Bool.{cond-true, cond-false, eq-eqb, ne_eqb, eqb-true, and_from, and_parts, lt-ltb, false≢true}
+use Rattle.guest_memory.specs.Memory.{put}
+use Rattle.trb.specs.declared.block.Block.{Block}
+use Rattle.trb.specs.Block.{block_at, same_words, word, with_cycle}
+use Rattle.segments.specs.Places.{overlap}
+
+pub put_here : (memory : ℕ → ℕ) (a w : ℕ) → put memory a w a ≡ w
+put_here memory a w = cond-true (a == a) w (memory a) (eq-eqb a a refl)
+
+pub put_elsewhere : (memory : ℕ → ℕ) (a w x : ℕ) → x ≢ a → put memory a w x ≡ memory x
+put_elsewhere memory a w x other = cond-false (x == a) w (memory x) (ne_eqb x a other)
+
+-- the two memories agree in the 16 bytes from b on
+abbrev pub SameBlock : (ℕ → ℕ) → (ℕ → ℕ) → ℕ → Type 0
+SameBlock memory other b = (k : ℕ) → k < 16 → other (b + k) ≡ memory (b + k)
+
+-- a word that overlaps none of them is none of them
+pub same_apart : (memory : ℕ → ℕ) (a w b : ℕ) → overlap a 4 b 16 ≡ false → SameBlock memory (put memory a w) b
+same_apart memory a w b apart k h =
+    put_elsewhere memory a w (b + k) (λ same. false≢true (sym apart ∙ and_from (nat_lt a (b + 16)) (nat_lt b (a + 4)) (lt-ltb a (b + 16) (omega arith)) (lt-ltb b (a + 4) (omega arith))))
+
+four_words : (a b c d e f g h : ℕ) → a ≡ e → b ≡ f → c ≡ g → d ≡ h →
+    ◌≡◌ {A = Block} (record { w = a ∷ b ∷ c ∷ d ∷ [] }) (record { w = e ∷ f ∷ g ∷ h ∷ [] })
+four_words a b c d e f g h p q r s = cc
+
+pub block_same : (memory other : ℕ → ℕ) (b : ℕ) → SameBlock memory other b → block_at other b ≡ block_at memory b
+block_same memory other b same =
+    four_words (other b) (other (b + 4)) (other (b + 8)) (other (b + 12)) (memory b) (memory (b + 4)) (memory (b + 8)) (memory (b + 12))
+    (ap other (sym (add-zero b)) ∙ same 0 (omega arith) ∙ ap memory (add-zero b))
+    (same 4 (omega arith)) (same 8 (omega arith)) (same 12 (omega arith))
+
+-- a block of memory with the words of a declared one is it
+pub same_words_is : (memory : ℕ → ℕ) (a : ℕ) (d : Block) (c : ℕ) → same_words (block_at memory a) (with_cycle d c) ≡ true → block_at memory a ≡ with_cycle d c
+same_words_is memory a d c h =
+    let x = block_at memory a in
+    let y = with_cycle d c in
+    let three = and_parts (word x 0 == word y 0 && word x 1 == word y 1 && word x 2 == word y 2) (word x 3 == word y 3) h in
+    let two = and_parts (word x 0 == word y 0 && word x 1 == word y 1) (word x 2 == word y 2) three.0 in
+    let one = and_parts (word x 0 == word y 0) (word x 1 == word y 1) two.0 in
+    four_words (word x 0) (word x 1) (word x 2) (word x 3) (word y 0) (word y 1) (word y 2) (word y 3)
+    (eqb-true (word x 0) (word y 0) one.0) (eqb-true (word x 1) (word y 1) one.1) (eqb-true (word x 2) (word y 2) two.1) (eqb-true (word x 3) (word y 3) three.1)

@@ -1,0 +1,95 @@
+-- Steps that are given, and descriptors all of whose blocks are
+use Rattle.std.specs.Prelude.{◌≡◌, ℕ, suc, zero, ◌+◌, ◌-◌, ◌<◌, ◌≤◌, ◌==◌, ◌&&◌, ◌||◌, not, Bool, true, false, List, [], ◌∷◌, ◌++◌, length, sum, if◌then◌else◌}
+use Rattle.std.specs.List.{list_all, range_with_len}
+use Rattle.std.proofs.Common.{arith, refl, sym, ◌∙◌, ap, subst, inl, inr, get_or}
+use Rattle.std.proofs.lemmas.Bool.{cases_Bool, cases_eq, cond-true, cond-false, false≢true, and_parts, and_from, or_left, or_right, not_from_false, not_from_true, not-false, not-true, eq-eqb, ne_eqb, or_cases}
+use Rattle.std.proofs.lemmas.List.Folds.{list_all_at}
+use Rattle.std.proofs.lemmas.List.Sums.{sum_by-cons}
+use Rattle.std.proofs.lemmas.List.FromFn.{length-range_with_len, get_or-range_with_len}
+use Rattle.segments.specs.ShapeValue.{Shape}
+use Rattle.segments.specs.Places.{place_count, is_crossing}
+use Rattle.segments.specs.RingView.{RingView}
+use Rattle.segments.specs.Ceiling.{is_way_given, is_step_given}
+use Rattle.segments.specs.Descriptors.{length_from}
+use Rattle.segments.specs.Givings.{descriptor_length, is_not_whole}
+
+-- ---- a step
+
+pub step_from : (shape : Shape) (v : RingView) (q : ℕ) → v.given q ≡ true → (is_crossing shape q ≡ true → v.crossed q ≡ true) → is_step_given shape v q ≡ true
+unfolding is_step_given is_way_given
+step_from shape v q given crossed =
+    and_from (v.given q) (not (is_crossing shape q) || v.crossed q) given
+    (elim (cases_Bool (is_crossing shape q)) [
+      | inl link ↦ or_right (not (is_crossing shape q)) (v.crossed q) (crossed link)
+      | inr none ↦ or_left (not (is_crossing shape q)) (v.crossed q) (not_from_false (is_crossing shape q) none)
+    ])
+
+pub step_is : (shape : Shape) (v : RingView) (q : ℕ) → is_step_given shape v q ≡ true → (v.given q ≡ true) × (is_crossing shape q ≡ true → v.crossed q ≡ true)
+unfolding is_step_given is_way_given
+step_is shape v q h =
+    let parts = and_parts (v.given q) (not (is_crossing shape q) || v.crossed q) h in (
+      parts.0,
+      λ link. elim (or_cases (not (is_crossing shape q)) (v.crossed q) parts.1) [
+        | inl none ↦ absurd (false≢true (sym (not-true (is_crossing shape q) none) ∙ link))
+        | inr crossed ↦ crossed
+      ],
+    )
+
+-- what one view gives another one gives too
+pub record GivesMore (v w : RingView) : Type 0 where
+  pub given : (p : ℕ) → v.given p ≡ true → w.given p ≡ true
+  pub crossed : (q : ℕ) → v.crossed q ≡ true → w.crossed q ≡ true
+
+pub step_more : (shape : Shape) (v w : RingView) → GivesMore v w → (q : ℕ) → is_step_given shape v q ≡ true → is_step_given shape w q ≡ true
+step_more shape v w more q h =
+    let parts = step_is shape v q h in
+    step_from shape w q (more.given q parts.0) (λ link. more.crossed q (parts.1 link))
+
+-- ---- descriptors
+
+all_in_range : (test : ℕ → Bool) (a n : ℕ) → ((q : ℕ) → a ≤ q → q < a + n → test q ≡ true) → list_all test (range_with_len a n) ≡ true
+all_in_range test a zero each = refl
+all_in_range test a (suc n) each =
+    and_from (test a) (list_all test (range_with_len (a + 1) n)) (each a (omega arith) (omega arith))
+    (all_in_range test (a + 1) n (λ q low high. each q (omega arith) (omega arith)))
+
+in_range_all : (test : ℕ → Bool) (a n : ℕ) → list_all test (range_with_len a n) ≡ true → (q : ℕ) → a ≤ q → q < a + n → test q ≡ true
+in_range_all test a n all q low high =
+    elim (cases_Bool (test q)) [
+      | inl passes ↦ passes
+      | inr fails ↦
+          let at : get_or (range_with_len a n) (q - a) 0 ≡ q = get_or-range_with_len a n (q - a) 0 (omega arith) ∙ omega arith in
+          absurd (false≢true (sym (list_all_at test (range_with_len a n) (q - a) 0 (omega (arith, length-range_with_len a n)) (ap test at ∙ fails)) ∙ all))
+    ]
+
+-- the blocks behind the first one of a whole descriptor are given, with the ways to them
+pub whole_is : (shape : Shape) (v : RingView) (p : ℕ) → is_not_whole shape v p ≡ false → (q : ℕ) → p < q → q < p + descriptor_length v p → is_step_given shape v q ≡ true
+unfolding is_not_whole
+whole_is shape v p whole q low high =
+    in_range_all (λ q. is_step_given shape v q) (p + 1) (descriptor_length v p - 1)
+    (not-false (list_all (λ q. is_step_given shape v q) (range_with_len (p + 1) (descriptor_length v p - 1))) whole) q (omega arith) (omega arith)
+
+pub whole_from : (shape : Shape) (v : RingView) (p : ℕ) → ((q : ℕ) → p < q → q < p + descriptor_length v p → is_step_given shape v q ≡ true) → is_not_whole shape v p ≡ false
+unfolding is_not_whole
+whole_from shape v p each =
+    not_from_true (list_all (λ q. is_step_given shape v q) (range_with_len (p + 1) (descriptor_length v p - 1)))
+    (all_in_range (λ q. is_step_given shape v q) (p + 1) (descriptor_length v p - 1) (λ q low high. each q (omega arith) (omega arith)))
+
+-- it stays whole where more is given
+pub whole_more : (shape : Shape) (v w : RingView) (p : ℕ) → GivesMore v w → descriptor_length w p ≡ descriptor_length v p → is_not_whole shape v p ≡ false → is_not_whole shape w p ≡ false
+whole_more shape v w p more same whole = whole_from shape w p (λ q low high. step_more shape v w more q (whole_is shape v p whole q low (omega arith)))
+
+-- a descriptor more changes the length of none before it
+pub length_from-push : (lengths : List ℕ) (n start p : ℕ) → p < start + sum lengths → length_from (lengths ++ n ∷ []) start p ≡ length_from lengths start p
+unfolding length_from
+length_from-push [] n start p h = cond-false (start == p) n 0 (ne_eqb start p (λ e. absurd (omega arith)))
+length_from-push (m ∷ rest) n start p h =
+    elim (cases_eq start p) [
+      | inl here ↦
+          cond-true (start == p) m (length_from (rest ++ n ∷ []) (start + m) p) (eq-eqb start p here)
+          ∙ sym (cond-true (start == p) m (length_from rest (start + m) p) (eq-eqb start p here))
+      | inr past ↦
+          cond-false (start == p) m (length_from (rest ++ n ∷ []) (start + m) p) (ne_eqb start p past)
+          ∙ length_from-push rest n (start + m) p (omega (arith, sum_by-cons (λ x. x) m rest))
+          ∙ sym (cond-false (start == p) m (length_from rest (start + m) p) (ne_eqb start p past))
+    ]
