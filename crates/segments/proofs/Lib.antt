@@ -18,3 +18,4 @@ pub mod StepFacts
 pub mod MemoryWords
 pub mod NewRing
 pub mod Declaring
+pub mod Writing

@@ -1,0 +1,155 @@
+-- A write keeps the rules of a ring: it changes no leased block or Link, and what it gives stands as it must
+use Rattle.std.specs.Prelude.{◌≡◌, ◌≢◌, ℕ, ◌+◌, ◌-◌, ◌%◌, ◌<◌, ◌≤◌, ◌⊎◌, ◌||◌, not, Bool, true, false, Some, None, Option, slice_get, unwrap_or, All, Contains}
+use Rattle.std.proofs.Common.{arith, refl, sym, ◌∙◌, ap, subst, inl, inr}
+use Rattle.std.proofs.lemmas.Bool.{cases_Bool, cases_eq, or_cases, or_parts, or_left, false≢true, not-false, leb-false}
+use Rattle.std.proofs.lemmas.List.Elements.{All-contains}
+use Rattle.guest_memory.specs.Memory.{put}
+use Rattle.trb.specs.declared.block.Block.{Block}
+use Rattle.trb.specs.Block.{block_at, same_words, with_cycle}
+use Rattle.segments.specs.ShapeValue.{Shape}
+use Rattle.segments.specs.Places.{place_count, address_of, cycle_of, link_crossed, link_address, overlap}
+use Rattle.segments.specs.RingView.{RingView, Writes, changed, declared, floor_number, is_due, is_crossing_due, gives, gives_crossing, positions_given, crossings_given, leased_positions, leased_crossings}
+use Rattle.segments.specs.Ceiling.{given_count}
+use Rattle.segments.specs.Givings.{descriptor_length, is_declared_as, is_other_than_declared, is_not_declared, is_not_whole, is_wrong_link, link_of, leads_wrong}
+use Rattle.segments.specs.RingKeeps.{RingKeeps, MayWrite, MayHold}
+use Rattle.segments.proofs.Giving.{Gives, GivesCrossing, gives_is, gives_from, gives_crossing_is, gives_crossing_from, due_from, crossing_due_is, crossing_due_from, IsCrossingDue}
+use Rattle.segments.proofs.DueLists.{leased_position, leased_crossing, position_given, crossing_given}
+use Rattle.segments.proofs.GivenCount.{given_count_grows}
+use Rattle.segments.proofs.StepFacts.{GivesMore, step_more, whole_more}
+use Rattle.segments.proofs.MemoryWords.{put_here, put_elsewhere, SameBlock, same_apart, block_same, same_words_is}
+
+-- what is given then was given, or is given now
+was_or_now : (x y : Bool) → (x || y) ≡ true → (x ≡ true) ⊎ ((x ≡ false) × (y ≡ true))
+was_or_now true y h = inl refl
+was_or_now false y h = inr (refl, h)
+
+module _ (shape : Shape) (memory : ℕ → ℕ) (v : RingView) (a w : ℕ) where
+  abbrev after_write : RingView
+  after_write = changed shape v (Writes a w)
+
+  pub writes_more : GivesMore v (changed shape v (Writes a w))
+  writes_more = record { given = λ p g. or_left (v.given p) (gives shape v.floor p a w) g; crossed = λ q g. or_left (v.crossed q) (gives_crossing shape v.floor q a w) g }
+
+  -- with each write more is given
+  pub given_count-writes : given_count shape v ≤ given_count shape (changed shape v (Writes a w))
+  given_count-writes = given_count_grows shape v after_write (omega arith) (λ p h. step_more shape v after_write writes_more p h)
+
+  -- what was given by this write is given by rule
+  declared_as : (p : ℕ) (d : Block) → is_other_than_declared shape v memory a w p ≡ false → slice_get v.queue p ≡ Some d →
+      block_at (put memory a w) (address_of shape p) ≡ with_cycle d (cycle_of shape p)
+  unfolding is_other_than_declared is_declared_as
+  declared_as p d same at =
+      same_words_is (put memory a w) (address_of shape p) d (cycle_of shape p)
+      (sym (ap (λ o. is_declared_as (block_at (put memory a w) (address_of shape p)) (cycle_of shape p) o) at)
+      ∙ not-false (is_declared_as (block_at (put memory a w) (address_of shape p)) (cycle_of shape p) (slice_get v.queue p)) same)
+
+  leads_on : (q i : ℕ) → leads_wrong shape memory a w q ≡ false → link_crossed shape q ≡ Some i → is_wrong_link shape i (block_at (put memory a w) (link_address shape q)) ≡ false
+  unfolding leads_wrong link_of
+  leads_on q i right at = ap (λ o. is_wrong_link shape (unwrap_or o 0) (block_at (put memory a w) (link_address shape q))) (sym at) ∙ right
+
+  is_below : (p : ℕ) → is_not_declared v p ≡ false → p < declared v
+  unfolding is_not_declared
+  is_below p h = leb-false (declared v) p h
+
+  length_stays : (p : ℕ) → descriptor_length after_write p ≡ descriptor_length v p
+  unfolding descriptor_length
+  length_stays p = refl
+
+  module _ (k : RingKeeps shape memory v) (may : MayWrite shape memory v a w) where
+    block_kept : (p : ℕ) → floor_number v ≤ p → v.given p ≡ true → SameBlock memory (put memory a w) (address_of shape p)
+    block_kept p low g =
+        same_apart memory a w (address_of shape p)
+        (All-contains (λ p. overlap a 4 (address_of shape p) 16 ≡ false) (leased_positions shape v) p may.blocks
+        (leased_position shape v p (due_from shape v.floor p low (k.given_within p g)) g))
+
+    link_kept : (q : ℕ) → is_crossing_due shape v.floor q ≡ true → v.crossed q ≡ true → SameBlock memory (put memory a w) (link_address shape q)
+    link_kept q due g =
+        same_apart memory a w (link_address shape q)
+        (All-contains (λ q. overlap a 4 (link_address shape q) 16 ≡ false) (leased_crossings shape v) q may.links (leased_crossing shape v q due g))
+
+    kept_by : (p : ℕ) (d : Block) → floor_number v ≤ p → (v.given p || gives shape v.floor p a w) ≡ true → slice_get v.queue p ≡ Some d →
+        block_at (put memory a w) (address_of shape p) ≡ with_cycle d (cycle_of shape p)
+    kept_by p d low g at =
+        elim (was_or_now (v.given p) (gives shape v.floor p a w) g) [
+          | inl was ↦ block_same memory (put memory a w) (address_of shape p) (block_kept p low was) ∙ k.kept p d low was at
+          | inr now ↦
+              declared_as p d
+              (All-contains (λ p. is_other_than_declared shape v memory a w p ≡ false) (positions_given shape v a w) p may.as_declared (position_given shape v a w p now.0 now.1)) at
+        ]
+
+    not_yet_by : (p : ℕ) → is_due shape v.floor p ≡ true → (v.given p || gives shape v.floor p a w) ≡ false → put memory a w (address_of shape p + 12) % 2 ≢ cycle_of shape p
+    not_yet_by p due g =
+        let parts = or_parts (v.given p) (gives shape v.floor p a w) g in
+        elim (cases_eq (address_of shape p + 12) a) [
+          | inl here ↦ λ same.
+              let written : w % 2 ≡ cycle_of shape p = ap (λ n. n % 2) (sym (put_here memory a w) ∙ ap (put memory a w) (sym here)) ∙ same in
+              false≢true (sym parts.1 ∙ ap (λ x. gives shape v.floor p x w) (sym here) ∙ gives_from shape v.floor p w due written)
+          | inr elsewhere ↦ λ same.
+              k.not_yet p due parts.0 (ap (λ n. n % 2) (sym (put_elsewhere memory a w (address_of shape p + 12) elsewhere)) ∙ same)
+        ]
+
+    kept_link_by : (q i : ℕ) → is_crossing_due shape v.floor q ≡ true → (v.crossed q || gives_crossing shape v.floor q a w) ≡ true → link_crossed shape q ≡ Some i →
+        (is_wrong_link shape i (block_at (put memory a w) (link_address shape q)) ≡ false) × (put memory a w (link_address shape q + 12) % 2 ≡ cycle_of shape (q - 1))
+    kept_link_by q i due g at =
+        elim (was_or_now (v.crossed q) (gives_crossing shape v.floor q a w) g) [
+          | inl was ↦
+              let before = k.kept_link q i due was at in
+              let same = link_kept q due was in (
+                ap (λ b. is_wrong_link shape i b) (block_same memory (put memory a w) (link_address shape q) same) ∙ before.0,
+                ap (λ n. n % 2) (same 12 (omega arith)) ∙ before.1,
+              )
+          | inr now ↦
+              let giving = gives_crossing_is shape v.floor q a w now.1 in (
+                leads_on q i (All-contains (λ q. leads_wrong shape memory a w q ≡ false) (crossings_given shape v a w) q may.leads (crossing_given shape v a w q now.0 now.1)) at,
+                ap (λ x. put memory a w x % 2) (sym giving.at) ∙ ap (λ n. n % 2) (put_here memory a w) ∙ giving.cycle,
+              )
+        ]
+
+    not_yet_link_by : (q : ℕ) → is_crossing_due shape v.floor q ≡ true → (v.crossed q || gives_crossing shape v.floor q a w) ≡ false → put memory a w (link_address shape q + 12) % 2 ≢ cycle_of shape (q - 1)
+    not_yet_link_by q due g =
+        let parts = or_parts (v.crossed q) (gives_crossing shape v.floor q a w) g in
+        elim (cases_eq (link_address shape q + 12) a) [
+          | inl here ↦ λ same.
+              let written : w % 2 ≡ cycle_of shape (q - 1) = ap (λ n. n % 2) (sym (put_here memory a w) ∙ ap (put memory a w) (sym here)) ∙ same in
+              false≢true (sym parts.1 ∙ ap (λ x. gives_crossing shape v.floor q x w) (sym here) ∙ gives_crossing_from shape v.floor q w due written)
+          | inr elsewhere ↦ λ same.
+              k.not_yet_link q due parts.0 (ap (λ n. n % 2) (sym (put_elsewhere memory a w (link_address shape q + 12) elsewhere)) ∙ same)
+        ]
+
+    pub writes_keeps : RingKeeps shape (put memory a w) (changed shape v (Writes a w))
+    writes_keeps =
+        record {
+          is_spot = k.is_spot;
+          room = k.room;
+          passed = λ p h. or_left (v.given p) (gives shape v.floor p a w) (k.passed p h);
+          passed_links = λ q crossing h. or_left (v.crossed q) (gives_crossing shape v.floor q a w) (k.passed_links q crossing h);
+          given_within = λ p g. elim (or_cases (v.given p) (gives shape v.floor p a w) g) [
+            | inl was ↦ k.given_within p was
+            | inr now ↦ (gives_is shape v.floor p a w now).within
+          ];
+          given_declared = λ p g. elim (was_or_now (v.given p) (gives shape v.floor p a w) g) [
+            | inl was ↦ k.given_declared p was
+            | inr now ↦ is_below p (All-contains (λ p. is_not_declared v p ≡ false) (positions_given shape v a w) p may.declared (position_given shape v a w p now.0 now.1))
+          ];
+          crossed_is_crossing = λ q g. elim (or_cases (v.crossed q) (gives_crossing shape v.floor q a w) g) [
+            | inl was ↦ k.crossed_is_crossing q was
+            | inr now ↦ (gives_crossing_is shape v.floor q a w now).due.crossing
+          ];
+          crossed_within = λ q g. elim (or_cases (v.crossed q) (gives_crossing shape v.floor q a w) g) [
+            | inl was ↦ k.crossed_within q was
+            | inr now ↦ (gives_crossing_is shape v.floor q a w now).due.within
+          ];
+          kept = kept_by;
+          not_yet = not_yet_by;
+          kept_link = kept_link_by;
+          not_yet_link = not_yet_link_by;
+          whole = λ p g. elim (was_or_now (v.given p) (gives shape v.floor p a w) g) [
+            | inl was ↦ whole_more shape v after_write p writes_more (length_stays p) (k.whole p was)
+            | inr now ↦ whole_more shape v after_write p writes_more (length_stays p)
+                (All-contains (λ p. is_not_whole shape v p ≡ false) (positions_given shape v a w) p may.whole (position_given shape v a w p now.0 now.1))
+          ];
+          lengths = k.lengths;
+          descriptors = k.descriptors;
+          blocks = k.blocks;
+          held = λ m at. let may_hold : MayHold shape v m = k.held m at in record { from = may_hold.from; to = omega (arith, may_hold.to, given_count-writes) };
+        }
