@@ -19,3 +19,5 @@ pub mod MemoryWords
 pub mod NewRing
 pub mod Declaring
 pub mod Writing
+pub mod Reaching
+pub mod Elsewhere

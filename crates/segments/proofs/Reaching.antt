@@ -1,0 +1,204 @@
+-- A spot that is reached, a ring that is opened or held: what the rules keep of a ring stays
+use Rattle.std.specs.Prelude.{◌≡◌, ◌≢◌, ℕ, ◌+◌, ◌-◌, ◌%◌, ◌<◌, ◌≤◌, ◌⊎◌, true, false, [], Option, None, Some, slice_get}
+use Rattle.std.proofs.Common.{arith, refl, sym, ◌∙◌, ap, inl, inr, get_or}
+use Rattle.std.proofs.lemmas.Bool.{cases_lt, cases_eq, false≢true}
+use Rattle.std.proofs.lemmas.Option.{none-some, same_Some, slice_get-get_or}
+use Rattle.trb.specs.declared.block.Block.{Block}
+use Rattle.trb.specs.Block.{word, with_cycle}
+use Rattle.segments.specs.declared.spot.Spot.{Spot}
+use Rattle.segments.specs.declared.spot.Spot.TheVariants.{Link}
+use Rattle.segments.specs.ShapeValue.{Shape}
+use Rattle.segments.specs.Places.{place_count, address_of, cycle_of, is_crossing, link_address}
+use Rattle.segments.specs.Spots.{rank, number}
+use Rattle.segments.specs.Shape.{IsShape}
+use Rattle.segments.specs.RingView.{RingView, Reaches, Opens, Holds, changed, declared, floor_number, is_due, is_crossing_due}
+use Rattle.segments.specs.Ceiling.{is_step_given, is_way_given, given_count}
+use Rattle.segments.specs.Givings.{descriptor_length}
+use Rattle.segments.specs.RingKeeps.{RingKeeps, MayReach, MayHold}
+use Rattle.segments.proofs.Positions.{place_count_pos, address_of-lap, cycle_of_bit, cycle_of_flips}
+use Rattle.segments.proofs.Crossings.{crossed_link, crossing_positive, is_crossing-lap, link_address-lap}
+use Rattle.segments.proofs.SpotOrder.{rank_least}
+use Rattle.segments.proofs.Giving.{due_is, due_from, IsCrossingDue, crossing_due_is, crossing_due_from}
+use Rattle.segments.proofs.GivenCount.{given_below, given_count_least, given_count_stops, given_count_still}
+use Rattle.segments.proofs.StepFacts.{GivesMore, step_is, step_from, whole_more}
+
+-- the view with another floor and another number at which the ring is held
+abbrev pub moved : RingView → Spot → Option ℕ → RingView
+moved v t held = record v { floor = t; held = held }
+
+module _ (shape : Shape) (is : IsShape shape) (memory : ℕ → ℕ) (v : RingView) (k : RingKeeps shape memory v) where
+  -- ---- what is given
+
+  pub given_count_declared : given_count shape v ≤ declared v
+  given_count_declared =
+      elim (cases_lt (declared v) (given_count shape v)) [
+        | inl above ↦
+            let last = step_is shape v (declared v) (given_below shape v (declared v) above) in
+            absurd (omega (arith, k.given_declared (declared v) last.0))
+        | inr within ↦ within
+      ]
+
+  -- a place stays empty, so what is given ends less than a lap ahead of the floor
+  pub given_count_near : given_count shape v < floor_number v + place_count shape
+  given_count_near = omega (arith, given_count_declared, k.room)
+
+  steps_to_floor : (p : ℕ) → p < floor_number v → is_step_given shape v p ≡ true
+  steps_to_floor p h = step_from shape v p (k.passed p h) (λ crossing. k.passed_links p crossing (omega (arith, rank_least v.floor)))
+
+  -- the floor isn't ahead of what is given
+  pub floor_given : floor_number v ≤ given_count shape v
+  floor_given = given_count_least shape v (floor_number v) (omega arith) steps_to_floor
+
+  -- a spot that may be reached isn't ahead of what is given
+  pub reached_given : (t : Spot) → MayReach shape v t → number t ≤ given_count shape v
+  reached_given t may =
+      elim (cases_lt (given_count shape v) (number t)) [
+        | inl above ↦
+            let n : ℕ = given_count shape v in
+            let given : is_step_given shape v n ≡ true = step_from shape v n (may.passed n above) (λ crossing. may.passed_links n crossing (omega (arith, rank_least t))) in
+            absurd (false≢true (sym (given_count_stops shape v given_count_near) ∙ given))
+        | inr within ↦ within
+      ]
+
+  -- ---- a lap behind
+
+  cycle_bit : (d : Block) (c : ℕ) → c < 2 → word (with_cycle d c) 3 % 2 ≡ c
+  cycle_bit d c l = omega arith
+
+  -- a position that is given and not passed shows its own cycle
+  pub kept_cycle : (p : ℕ) → floor_number v ≤ p → v.given p ≡ true → memory (address_of shape p + 12) % 2 ≡ cycle_of shape p
+  kept_cycle p low g =
+      let none : Block = record { w = [] } in
+      let d : Block = get_or v.queue p none in
+      let stands = k.kept p d low g (slice_get-get_or v.queue p none (k.given_declared p g)) in
+      ap (λ b. word b 3 % 2) stands ∙ cycle_bit d (cycle_of shape p) (cycle_of_bit shape p)
+
+  -- so where the position a lap before is given, the place doesn't show the cycle of this one
+  behind_given : (p : ℕ) → floor_number v + place_count shape ≤ p → v.given (p - place_count shape) ≡ true → memory (address_of shape p + 12) % 2 ≢ cycle_of shape p
+  behind_given p above g =
+      let lap : p - place_count shape + place_count shape ≡ p = omega arith in
+      let cycle = kept_cycle (p - place_count shape) (omega arith) g in
+      let place : address_of shape p ≡ address_of shape (p - place_count shape) = ap (λ n. address_of shape n) (sym lap) ∙ address_of-lap shape (p - place_count shape) in
+      λ same. cycle_of_flips shape is (p - place_count shape) (ap (λ n. cycle_of shape n) lap ∙ sym same ∙ ap (λ a. memory (a + 12) % 2) place ∙ cycle)
+
+  crossed_due : (q : ℕ) → floor_number v ≤ q → v.crossed q ≡ true → is_crossing_due shape v.floor q ≡ true
+  crossed_due q low g = crossing_due_from shape v.floor q (record { crossing = k.crossed_is_crossing q g; from = low; within = k.crossed_within q g })
+
+  -- the same of a Link
+  link_behind_given : (q : ℕ) → floor_number v + place_count shape ≤ q → 0 < q - place_count shape → v.crossed (q - place_count shape) ≡ true →
+      memory (link_address shape q + 12) % 2 ≢ cycle_of shape (q - 1)
+  link_behind_given q above some g =
+      let lap : q - place_count shape + place_count shape ≡ q = omega arith in
+      let one : q - place_count shape - 1 + place_count shape ≡ q - 1 = omega arith in
+      let found = crossed_link shape (q - place_count shape) (k.crossed_is_crossing (q - place_count shape) g) in
+      let stands = k.kept_link (q - place_count shape) found.0 (crossed_due (q - place_count shape) (omega arith) g) g found.1 in
+      let place : link_address shape q ≡ link_address shape (q - place_count shape) =
+      ap (λ n. link_address shape n) (sym lap) ∙ link_address-lap shape (q - place_count shape) some in
+      λ same. cycle_of_flips shape is (q - place_count shape - 1) (ap (λ n. cycle_of shape n) one ∙ sym same ∙ ap (λ a. memory (a + 12) % 2) place ∙ stands.1)
+
+  -- ---- from a later floor
+
+  module _ (t : Spot) (may : MayReach shape v t) where
+    not_yet_from : (p : ℕ) → is_due shape t p ≡ true → v.given p ≡ false → memory (address_of shape p + 12) % 2 ≢ cycle_of shape p
+    not_yet_from p due g =
+        let is_due = due_is shape t p due in
+        elim (cases_lt p (floor_number v + place_count shape)) [
+          | inl near ↦ k.not_yet p (due_from shape v.floor p (omega (arith, may.later)) near) g
+          | inr far ↦ behind_given p far (may.passed (p - place_count shape) (omega (arith, place_count_pos shape is)))
+        ]
+
+    not_yet_link_from : (q : ℕ) → is_crossing_due shape t q ≡ true → v.crossed q ≡ false → memory (link_address shape q + 12) % 2 ≢ cycle_of shape (q - 1)
+    not_yet_link_from q is_due g =
+        let due = crossing_due_is shape t q is_due in
+        let low : floor_number v ≤ q = omega (arith, may.later, due.from) in
+        elim (cases_lt q (floor_number v + place_count shape)) [
+          | inl near ↦ k.not_yet_link q (crossing_due_from shape v.floor q (record { crossing = due.crossing; from = low; within = inl near })) g
+          | inr far ↦
+              elim (cases_eq q (place_count shape)) [
+                | inl first ↦ k.not_yet_link q (crossing_due_from shape v.floor q (record { crossing = due.crossing; from = low; within = inr (first, omega arith) })) g
+                | inr more ↦
+                    let below : q < number t + place_count shape = elim due.within [ inl below ↦ below | inr end ↦ absurd (more end.0) ] in
+                    let some : 0 < q - place_count shape = omega arith in
+                    let lap : q - place_count shape + place_count shape ≡ q = omega arith in
+                    let crossing : is_crossing shape (q - place_count shape) ≡ true =
+                    sym (is_crossing-lap shape (q - place_count shape) some) ∙ ap (λ n. is_crossing shape n) lap ∙ due.crossing in
+                    link_behind_given q far some (may.passed_links (q - place_count shape) crossing (omega (arith, rank_least t)))
+              ]
+        ]
+
+    step_stays : (held : Option ℕ) (p : ℕ) → is_step_given shape v p ≡ is_step_given shape (moved v t held) p
+    unfolding is_step_given is_way_given
+    step_stays held p = refl
+
+    length_stays : (held : Option ℕ) (p : ℕ) → descriptor_length (moved v t held) p ≡ descriptor_length v p
+    unfolding descriptor_length
+    length_stays held p = refl
+
+    moved_count_declared : (held : Option ℕ) → given_count shape (moved v t held) ≤ declared v
+    moved_count_declared held =
+        elim (cases_lt (declared v) (given_count shape (moved v t held))) [
+          | inl above ↦
+              let last = step_is shape (moved v t held) (declared v) (given_below shape (moved v t held) (declared v) above) in
+              absurd (omega (arith, k.given_declared (declared v) last.0))
+          | inr within ↦ within
+        ]
+
+    -- a floor that moves on changes nothing of what is given
+    pub given_count-moved : (held : Option ℕ) → given_count shape v ≡ given_count shape (moved v t held)
+    given_count-moved held =
+        given_count_still shape v (moved v t held) (step_stays held) given_count_near (omega (arith, moved_count_declared held, k.room, may.later))
+
+    -- the pointer reaches a spot, and the ring is open then, or held at a number from the spot's up to what is given
+    pub moved_keeps : (held : Option ℕ) → ((m : ℕ) → held ≡ Some m → (number t ≤ m) × (m ≤ given_count shape v)) → RingKeeps shape memory (moved v t held)
+    moved_keeps held within =
+        record {
+          is_spot = may.is_spot;
+          room = omega (arith, k.room, may.later);
+          passed = may.passed;
+          passed_links = may.passed_links;
+          given_within = λ p g. omega (arith, k.given_within p g, may.later);
+          given_declared = k.given_declared;
+          crossed_is_crossing = k.crossed_is_crossing;
+          crossed_within = λ q g.
+            elim (k.crossed_within q g) [
+              | inl below ↦ inl (omega (arith, may.later))
+              | inr first ↦
+                  elim (cases_eq (number t) 0) [
+                    | inl still ↦ inr (first.0, still)
+                    | inr on ↦ inl (omega arith)
+                  ]
+            ];
+          kept = λ p d low g at. k.kept p d (omega (arith, may.later)) g at;
+          not_yet = not_yet_from;
+          kept_link = λ q i due g at. k.kept_link q i (crossed_due q (omega (arith, may.later, (crossing_due_is shape t q due).from)) g) g at;
+          not_yet_link = not_yet_link_from;
+          whole = λ p g. whole_more shape v (moved v t held) p (record { given = λ q h. h; crossed = λ q h. h }) (length_stays held p) (k.whole p g);
+          lengths = k.lengths;
+          descriptors = k.descriptors;
+          blocks = k.blocks;
+          held = λ m at. let bounds = within m at in record { from = bounds.0; to = omega (arith, bounds.1, given_count-moved held) };
+        }
+
+    -- a ring that is held goes no further than the number at which it is held
+    pub reaches_keeps : ((m : ℕ) → v.held ≡ Some m → number t ≤ m) → RingKeeps shape memory (changed shape v (Reaches t))
+    reaches_keeps within = moved_keeps v.held (λ m at. (within m at, (k.held m at).to))
+
+    -- the pointer reaches a spot and stands there, or has begun the block there
+    pub reaches_and_holds_keeps : (n : ℕ) → number t ≤ n → n ≤ given_count shape v → RingKeeps shape memory (changed shape (changed shape v (Reaches t)) (Holds n))
+    reaches_and_holds_keeps n low high = moved_keeps (Some n) (λ m at. let same : n ≡ m = same_Some n m at in (omega arith, omega arith))
+
+    -- the other way round it is the same view
+    pub holds_and_reaches_keeps : (n : ℕ) → number t ≤ n → n ≤ given_count shape v → RingKeeps shape memory (changed shape (changed shape v (Holds n)) (Reaches t))
+    holds_and_reaches_keeps n low high = reaches_and_holds_keeps n low high
+
+  -- ---- the floor stays
+
+  -- the floor itself is reached
+  pub floor_reached : MayReach shape v v.floor
+  floor_reached = record { is_spot = k.is_spot; later = omega arith; passed = k.passed; passed_links = k.passed_links }
+
+  pub opens_keeps : RingKeeps shape memory (changed shape v Opens)
+  opens_keeps = moved_keeps v.floor floor_reached None (λ m at. absurd (none-some m at))
+
+  pub holds_keeps : (n : ℕ) → MayHold shape v n → RingKeeps shape memory (changed shape v (Holds n))
+  holds_keeps n may = moved_keeps v.floor floor_reached (Some n) (λ m at. let same : n ≡ m = same_Some n m at in (omega (arith, may.from), omega (arith, may.to)))
