@@ -1,0 +1,9 @@
+pub mod Opens
+pub mod Headers
+pub mod SameCommand
+pub mod AtSpots
+pub mod Descriptors
+pub mod NoWait
+pub mod RingMemory
+pub mod SafeContext
+pub mod Safe
