@@ -1,7 +1,7 @@
 -- The rings of a header: allowed, and apart from the event ring
-use Rattle.std.specs.Prelude.{◌≡◌, ℕ, ◌==◌, ◌%◌, ◌&&◌, ◌||◌, ◌⊎◌, Bool, true, false, not, List, [], ◌∷◌, nat_lt, Option, Some, None, find, IsTrue}
+use Rattle.std.specs.Prelude.{◌≡◌, ℕ, ◌==◌, ◌%◌, ◌&&◌, ◌⊎◌, Bool, true, false, not, List, [], ◌∷◌, nat_lt, Option, Some, None, find}
 use Rattle.std.specs.List.{list_all, list_any}
-use Rattle.std.proofs.Common.{arith, refl, sym, ◌∙◌, ap, subst, inl, inr}
+use Rattle.std.proofs.Common.{refl, sym, ◌∙◌, ap, subst, inl, inr}
 use Rattle.std.proofs.lemmas.Bool.{cases_Bool, false≢true, cond-true, cond-false, and_parts, or_parts, not-true, not_from_true, false_from_ne_true}
 use Rattle.std.proofs.lemmas.Option.{none-some, same_Some}
 use Rattle.trb.specs.declared.ring_kind.RingKind.{RingKind}
@@ -13,7 +13,7 @@ use Rattle.segments.proofs.Search.{cases_option}
 use Rattle.segments.proofs.InsideLemmas.{rings_apart, touches-word}
 use Rattle.traces.specs.declared.header.Header.{Header}
 use Rattle.traces.specs.declared.ring.Ring.{Ring}
-use Rattle.traces.specs.Header.{IsHeader, may_stand_together, clash, ring_with, shape_of, shape_or, event_ring, event_shape, is_event_kind, is_driver_kind, is_transfer_kind, no_shape}
+use Rattle.traces.specs.Header.{IsHeader, may_stand_together, clash, ring_with, shape_of, shape_or, event_ring, event_shape, is_event_kind, is_driver_kind, is_transfer_kind}
 use Rattle.ownership_rules.proofs.Among.{IsIn, any_of}
 use Rattle.safety.specs.Keeps.{IsDriverRing, IsTransferRing}
 

@@ -42,10 +42,9 @@ module _ (h : Header) (rows : List Row) where
     slots = λ s. refl;
     endpoints = λ s i. refl;
     ring_of = λ s i. refl;
-    read = refl;
     rings = λ r other. inr (record { none = λ s i at. none-some r at; rests = record { inactive = refl; in_order = refl; as_declared = refl } });
     fresh = λ r other unbound. refl;
-    before = λ off. record { inactive = refl; no_events = refl; none = refl; posted = refl };
+    before = λ off. record { inactive = refl; no_events = refl; none = refl };
     command = λ on. absurd (false≢true on);
     scribbles = λ s on. absurd (false≢true on);
     contexts = λ p c unfinished. absurd (false≢true unfinished.given);
@@ -56,6 +55,10 @@ module _ (h : Header) (rows : List Row) where
   unfolding opening
   stamps a = omega arith
 
+  read : (opening rows).posted ≡ nothing.reads
+  unfolding opening nothing
+  read = refl
+
   on : nothing.stopped ≡ false
   unfolding nothing
   on = refl
@@ -63,4 +66,4 @@ module _ (h : Header) (rows : List Row) where
   -- a run begins so
   pub opens : Runs h [] (opening rows)
   unfolding known
-  opens = record { unread = []; clean = tt; on = on; agrees = record { stands = stands; events = events; matches = matches; stamps = stamps } }
+  opens = record { unread = []; clean = tt; on = on; agrees = record { stands = stands; events = events; matches = matches; read = read; stamps = stamps } }

@@ -6,7 +6,7 @@ use Rattle.trb.specs.Block.{block_at}
 use Rattle.segments.specs.declared.spot.Spot.{Spot}
 use Rattle.segments.specs.declared.spot.Spot.TheVariants.{Data, Link}
 use Rattle.segments.specs.ShapeValue.{Shape}
-use Rattle.segments.specs.Places.{address_of, is_crossing, is_inside, link_address}
+use Rattle.segments.specs.Places.{is_inside}
 use Rattle.segments.specs.Spots.{IsSpot, spot_address}
 use Rattle.segments.specs.Shape.{IsShape}
 use Rattle.segments.proofs.DataPlaces.{link_aligned, link_ends}

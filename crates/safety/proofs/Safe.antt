@@ -1,33 +1,26 @@
 -- A world that agrees with what a rule-keeping driver's rows lead to is safe: harm by harm
-use Rattle.std.specs.Prelude.{◌≡◌, ◌≢◌, ℕ, ◌+◌, ◌-◌, ◌*◌, ◌/◌, ◌<◌, ◌≤◌, ◌==◌, ◌&&◌, ◌||◌, Bool, true, false, not, List, [], ◌∷◌, nat_lt, nat_le, Option, Some, None, find, option_map, option_and_then, slice_get}
-use Rattle.std.specs.List.{list_any, range_with_len}
-use Rattle.std.proofs.Common.{arith, refl, sym, ◌∙◌, ap, inl, inr, get_or}
-use Rattle.std.proofs.lemmas.Bool.{cases_Bool, cases_eq, false≢true, and_left, and_right, eq-eqb, or_from, le-ltb, lt-leb, not_from_true}
-use Rattle.std.proofs.lemmas.Bool.Decides.{nat_tests}
-use Rattle.std.proofs.lemmas.Option.{none-some, same_Some, slice_get-get_or}
+use Rattle.std.specs.Prelude.{◌≡◌, ℕ, ◌+◌, ◌-◌, ◌<◌, ◌≤◌, ◌==◌, ◌&&◌, Bool, false, not, List, [], ◌∷◌, nat_lt, nat_le, None, find, option_map}
+use Rattle.std.specs.List.{list_any}
+use Rattle.std.proofs.Common.{arith, refl, sym, ◌∙◌, ap, inl, inr}
+use Rattle.std.proofs.lemmas.Bool.{cases_Bool, cases_eq, and_left, and_right, eq-eqb, or_from, le-ltb, lt-leb, not_from_true}
 use Rattle.trb.specs.declared.block.Block.{Block}
-use Rattle.trb.specs.Block.{block_at, cycle, with_cycle}
-use Rattle.segments.specs.Places.{address_of, cycle_of}
-use Rattle.segments.specs.Spots.{number, spot_address, spot_cycle}
+use Rattle.trb.specs.Block.{block_at, cycle}
+use Rattle.segments.specs.Spots.{number, spot_address}
 use Rattle.segments.specs.declared.spot.Spot.{Spot}
-use Rattle.segments.specs.RingView.{declared, floor_number}
-use Rattle.segments.specs.Ceiling.{ceiling, given_count}
-use Rattle.segments.proofs.Search.{cases_option}
-use Rattle.segments.proofs.Positions.{cycle_of_bit}
-use Rattle.segments.proofs.Reaching.{given_count_declared, given_count_near}
+use Rattle.segments.proofs.Reaching.{given_count_declared}
 use Rattle.traces.specs.declared.header.Header.{Header}
 use Rattle.traces.specs.declared.ring.Ring.{Ring}
 use Rattle.traces.specs.declared.row.Row.{Row}
 use Rattle.traces.specs.Header.{IsHeader, shape_of, command_id, event_size, some_ring}
 use Rattle.world_state.specs.declared.harm.Harm.{Harm}
 use Rattle.world_state.specs.declared.harm.Harm.TheVariants.{TakenOutOfOrder, TakenOtherWords, WaitsInsideDescriptor, LooksOutside, PostsOverUnread, InputContextChanged}
-use Rattle.world_state.specs.World.{World, UnderWay}
+use Rattle.world_state.specs.World.{World}
 use Rattle.world_state.specs.Harms.{is_out_of_order, has_other_words, is_inside_descriptor, waits, harms, harm_of, IsSafe, has_changed_context}
 use Rattle.ring_knowledge.specs.Known.{Known}
 use Rattle.ring_knowledge.specs.Learned.{known}
 use Rattle.safety.specs.Keeps.{IsDriverRing, DriverKeeps}
-use Rattle.safety.specs.Stands.{Stands, EventsStand}
-use Rattle.safety.specs.Matches.{RingMatches, Matches, Agrees}
+use Rattle.safety.specs.Stands.{Stands}
+use Rattle.safety.specs.Matches.{RingMatches, state_of, Agrees}
 use Rattle.safety.specs.Invariant.{Runs, reading}
 use Rattle.safety.proofs.Headers.{transfer_driver, ring_shape}
 use Rattle.safety.proofs.AtSpots.{MayStand}
@@ -80,17 +73,17 @@ room_left size posted reads dequeue low read room =
 
 module _ (h : Header) (is : IsHeader h) (k : Known) (w : World) (d : DriverKeeps h k) (s : Stands h k w) where
   -- the pointer of a ring stands where it may
-  pub stands_at : (r : ℕ) (t : Spot) → IsDriverRing h r → RingMatches h k w r t → MayStand (shape_of h r) (k.ring r) t
+  pub stands_at : (r : ℕ) (t : Spot) → IsDriverRing h r → RingMatches (shape_of h r) (k.ring r) (state_of w r) t → MayStand (shape_of h r) (k.ring r) t
   stands_at r t ring m =
       let low = ceiling_given (shape_of h r) (ring_shape h is r ring).is k.memory (k.ring r) (d.rings r ring) in
       record { is_spot = m.is_spot; reached = m.reached; below = omega (arith, m.below); way = m.way }
 
   -- what the controller finds at its pointer is what is known to stand there
-  pub block_found : (r : ℕ) (t : Spot) → IsDriverRing h r → RingMatches h k w r t → block_at w.memory (w.pointer_of r) ≡ block_at k.memory (spot_address (shape_of h r) t)
+  pub block_found : (r : ℕ) (t : Spot) → IsDriverRing h r → RingMatches (shape_of h r) (k.ring r) (state_of w r) t → block_at w.memory (w.pointer_of r) ≡ block_at k.memory (spot_address (shape_of h r) t)
   block_found r t ring m = ap (λ a. block_at w.memory a) m.pointer ∙ block_at_spot h is k w d s r t ring m.is_spot
 
   -- no wait inside a descriptor
-  matched_no_wait : (r : ℕ) (t : Spot) → IsDriverRing h r → RingMatches h k w r t → (waits w r && is_inside_descriptor (w.events r)) ≡ false
+  matched_no_wait : (r : ℕ) (t : Spot) → IsDriverRing h r → RingMatches (shape_of h r) (k.ring r) (state_of w r) t → (waits w r && is_inside_descriptor (w.events r)) ≡ false
   matched_no_wait r t ring m =
       elim (cases_Bool (is_inside_descriptor (w.events r))) [
         | inr outside ↦ and_right (waits w r) (is_inside_descriptor (w.events r)) outside

@@ -1,14 +1,13 @@
 -- The input context of the command under way is as it was when the command was given
 use Rattle.std.specs.Prelude.{◌≡◌, ℕ, suc, zero, ◌+◌, ◌*◌, ◌/◌, ◌<◌, ◌≤◌, Bool, true, false, [], nat_lt, Option, Some, None, is_some, option_and_then, slice_get}
 use Rattle.std.specs.List.{list_any, range_with_len}
-use Rattle.std.proofs.Common.{arith, refl, sym, ◌∙◌, ap, subst, inl, inr, get_or}
+use Rattle.std.proofs.Common.{arith, refl, sym, ◌∙◌, ap, inl, inr, get_or}
 use Rattle.std.proofs.lemmas.Bool.{false≢true, or_from, le-ltb}
 use Rattle.std.proofs.lemmas.Option.{slice_get-get_or}
 use Rattle.trb.specs.declared.block.Block.{Block}
 use Rattle.segments.specs.declared.spot.Spot.{Spot}
-use Rattle.segments.specs.Places.{place_count, address_of, cycle_of}
-use Rattle.segments.specs.Spots.{number}
-use Rattle.segments.specs.RingView.{declared, floor_number, is_due}
+use Rattle.segments.specs.Places.{address_of}
+use Rattle.segments.specs.RingView.{floor_number, is_due}
 use Rattle.segments.specs.Ceiling.{given_count}
 use Rattle.segments.proofs.Search.{cases_option}
 use Rattle.segments.proofs.Positions.{cycle_of_bit}
@@ -26,8 +25,8 @@ use Rattle.world_state.specs.World.{World, UnderWay}
 use Rattle.world_state.specs.Harms.{is_changed_since, is_context_changed, has_changed_context}
 use Rattle.ring_knowledge.specs.Known.{Known}
 use Rattle.ring_knowledge.specs.Rings.{command_at, next_command}
-use Rattle.safety.specs.Keeps.{IsDriverRing, IsUnfinished, DriverKeeps}
-use Rattle.safety.specs.Matches.{RingMatches, UnderWayMatches, IsUnchanged, Matches}
+use Rattle.safety.specs.Keeps.{IsDriverRing, DriverKeeps}
+use Rattle.safety.specs.Matches.{RingMatches, state_of, UnderWayMatches, IsUnchanged, Matches}
 use Rattle.safety.proofs.Headers.{ring_shape}
 use Rattle.safety.proofs.SameCommand.{command_of-with_cycle}
 use Rattle.safety.proofs.NoWait.{ceiling_given}
@@ -112,7 +111,7 @@ module _ (h : Header) (is : IsHeader h) (k : Known) (d : DriverKeeps h k) where
       (m.contexts (next_command h k) c (record { due = f.due; given = f.given; command = command_at_is h k (next_command h k) f.block f.queued ∙ some }))
 
   -- the input context of the command under way wasn't changed
-  pub under_way_unchanged : (w : World) → Matches h k w → (t : Spot) → IsDriverRing h (command_id h) → RingMatches h k w (command_id h) t →
+  pub under_way_unchanged : (w : World) → Matches h k w → (t : Spot) → IsDriverRing h (command_id h) → RingMatches (shape_of h (command_id h)) (k.ring (command_id h)) (state_of w (command_id h)) t →
       (o : Option UnderWay) → UnderWayMatches h k t o → has_changed_context h w o ≡ false
   under_way_unchanged w m t ring at None under = changed_none h w
   under_way_unchanged w m t ring at (Some u) under =

@@ -1,16 +1,13 @@
 -- A block is the same command with either Cycle bit
-use Rattle.std.specs.Prelude.{◌≡◌, ℕ, ◌<◌, ◌||◌, if◌then◌else◌, Option, None}
-use Rattle.std.proofs.Common.{refl, sym, ◌∙◌, ap}
+use Rattle.std.specs.Prelude.{◌≡◌, ℕ, ◌<◌, ◌||◌, if◌then◌else◌, None}
+use Rattle.std.proofs.Common.{refl, ◌∙◌, ap}
 use Rattle.trb.specs.declared.block.Block.{Block}
 use Rattle.trb.specs.declared.kind.BlockKind.{BlockKind}
 use Rattle.trb.specs.declared.kind.BlockKind.TheVariants as kinds
-use Rattle.trb.specs.Block.{with_cycle, kind, aligned, pointer, slot, word}
-use Rattle.trb.specs.Bits.{is_set}
+use Rattle.trb.specs.Block.{with_cycle, kind}
 use Rattle.trb.specs.Kind.{is_left_out_command}
 use Rattle.trb.specs.Descriptor.{has_left_out_field, is_command_left_out}
 use Rattle.trb.proofs.BlockLemmas.{kind-with_cycle, slot-with_cycle, endpoint-with_cycle, is_set-with_cycle}
-use Rattle.commands.specs.declared.command.Command.{Command}
-use Rattle.commands.specs.declared.command.Command.TheVariants.{DisableSlot, AddressDevice, ConfigureEndpoint, EvaluateContext, ResetEndpoint, StopEndpoint, SetTrDequeue, ResetDevice}
 use Rattle.commands.specs.Command.{command_of, command_by_kind}
 
 module _ (b : Block) (c : ℕ) (is_bit : c < 2) where

@@ -1,8 +1,9 @@
 -- What the controller did is what is known of it when all posted events are read
-use Rattle.std.specs.Prelude.{◌≡◌, ◌≢◌, ℕ, ◌+◌, ◌-◌, ◌*◌, ◌/◌, ◌<◌, ◌≤◌, ◌⊎◌, true, false, List, [], ◌∷◌, length, map, Option, Some, None, slice_get}
+use Rattle.std.specs.Prelude.{◌≡◌, ◌≢◌, ℕ, ◌+◌, ◌-◌, ◌*◌, ◌/◌, ◌<◌, ◌≤◌, ◌⊎◌, Bool, true, false, List, [], ◌∷◌, length, drop, map, Option, Some, None, slice_get}
 use Rattle.std.specs.List.{range_with_len}
 use Rattle.trb.specs.declared.block.Block.{Block}
 use Rattle.trb.specs.Block.{with_cycle}
+use Rattle.segments.specs.ShapeValue.{Shape}
 use Rattle.segments.specs.declared.spot.Spot.{Spot}
 use Rattle.segments.specs.declared.spot.Spot.TheVariants.{Data}
 use Rattle.segments.specs.Places.{address_of, cycle_of}
@@ -16,7 +17,7 @@ use Rattle.contexts.specs.Contexts.{input_context_bytes}
 use Rattle.traces.specs.declared.header.Header.{Header}
 use Rattle.traces.specs.Header.{shape_of, command_id}
 use Rattle.world_state.specs.World.{World, RingEvent, Took, Placed, UnderWay}
-use Rattle.world_state.specs.Takes.{takes_of, unreported, next_take}
+use Rattle.world_state.specs.Takes.{takes_of, next_take}
 use Rattle.world_state.specs.Harms.{is_out_of_order, has_other_words}
 use Rattle.ring_knowledge.specs.Known.{Known}
 use Rattle.ring_knowledge.specs.Rings.{command_at, next_command}
@@ -31,47 +32,62 @@ Newest v n [] = is_border v.lengths 0 n ≡ true
 Newest v n (Placed a ∷ older) = is_border v.lengths 0 n ≡ true
 Newest v n (Took a b d ∷ older) = (0 < n) × (d ≡ declared_at v.queue v.lengths (n - 1))
 
+-- one ring as the controller has it
+pub record RingState : Type 0 where
+  pub pointer : ℕ
+  pub cycle : ℕ
+  pub active : Bool
+  pub events : List RingEvent
+  pub reported : ℕ
+
+abbrev pub state_of : World → ℕ → RingState
+state_of w r = record { pointer = w.pointer_of r; cycle = w.cycle_state r; active = w.is_active r; events = w.events r; reported = w.reported r }
+
+-- a ring whose pointer stands at spot t
+pub record RingMatches (shape : Shape) (v : RingView) (s : RingState) (t : Spot) : Type 0 where
+  pub is_spot : IsSpot shape t
+  pub pointer : s.pointer ≡ spot_address shape t
+  pub cycle : s.cycle ≡ spot_cycle shape t
+  pub reached : rank v.floor ≤ rank t
+  pub below : number t ≤ ceiling shape v
+  -- a pointer behind a Link is there because the Link was given
+  pub way : (q : ℕ) → t ≡ Data q → is_way_given shape v q ≡ true
+  pub opened : s.active ≡ true → v.held ≡ None
+  pub next : next_take shape s.events ≡ number t
+  pub newest : Newest v (number t) s.events
+  pub in_order : is_out_of_order shape s.events ≡ false
+  pub as_declared : has_other_words shape s.events ≡ false
+
+-- a ring that can't be looked at; its takes were as they should be
+pub record Rests (shape : Shape) (s : RingState) : Type 0 where
+  pub inactive : s.active ≡ false
+  pub in_order : is_out_of_order shape s.events ≡ false
+  pub as_declared : has_other_words shape s.events ≡ false
+
+-- the takes from the floor on, and no others, are unreported
+pub record Unreported (shape : Shape) (v : RingView) (s : RingState) (t : Spot) : Type 0 where
+  pub takes : drop s.reported (takes_of s.events) ≡ map (address_of shape) (range_with_len (floor_number v) (number t - floor_number v))
+  -- no more takes are reported than there are: else a later take would count as reported
+  pub most : s.reported ≤ length (takes_of s.events)
+
+-- an endpoint has ring r
+pub record BoundRing (shape : Shape) (ring_of : ℕ → ℕ → Option ℕ) (v : RingView) (s : RingState) (r : ℕ) : Type 0 where
+  pub slot : ℕ
+  pub index : ℕ
+  pub bound : ring_of slot index ≡ Some r
+  pub spot : Spot
+  pub matches : RingMatches shape v s spot
+  pub takes : Unreported shape v s spot
+
+-- no endpoint has it
+pub record FreeRing (shape : Shape) (ring_of : ℕ → ℕ → Option ℕ) (s : RingState) (r : ℕ) : Type 0 where
+  pub none : (t i : ℕ) → ring_of t i ≢ Some r
+  pub rests : Rests shape s
+
 module _ (h : Header) where
-  -- a ring whose pointer stands at spot t
-  pub record RingMatches (k : Known) (w : World) (r : ℕ) (t : Spot) : Type 0 where
-    pub is_spot : IsSpot (shape_of h r) t
-    pub pointer : w.pointer_of r ≡ spot_address (shape_of h r) t
-    pub cycle : w.cycle_state r ≡ spot_cycle (shape_of h r) t
-    pub reached : rank (k.ring r).floor ≤ rank t
-    pub below : number t ≤ ceiling (shape_of h r) (k.ring r)
-    -- a pointer behind a Link is there because the Link was given
-    pub way : (q : ℕ) → t ≡ Data q → is_way_given (shape_of h r) (k.ring r) q ≡ true
-    pub opened : w.is_active r ≡ true → (k.ring r).held ≡ None
-    pub next : next_take (shape_of h r) (w.events r) ≡ number t
-    pub newest : Newest (k.ring r) (number t) (w.events r)
-    pub in_order : is_out_of_order (shape_of h r) (w.events r) ≡ false
-    pub as_declared : has_other_words (shape_of h r) (w.events r) ≡ false
-
-  -- a ring that can't be looked at; its takes were as they should be
-  pub record Rests (w : World) (r : ℕ) : Type 0 where
-    pub inactive : w.is_active r ≡ false
-    pub in_order : is_out_of_order (shape_of h r) (w.events r) ≡ false
-    pub as_declared : has_other_words (shape_of h r) (w.events r) ≡ false
-
-  -- the takes from the floor on, and no others, are unreported
-  pub record Unreported (k : Known) (w : World) (r : ℕ) (t : Spot) : Type 0 where
-    pub takes : unreported w r ≡ map (address_of (shape_of h r)) (range_with_len (floor_number (k.ring r)) (number t - floor_number (k.ring r)))
-    -- no more takes are reported than there are: else a later take would count as reported
-    pub most : w.reported r ≤ length (takes_of (w.events r))
-
-  -- an endpoint has the ring
-  pub record BoundRing (k : Known) (w : World) (r : ℕ) : Type 0 where
-    pub slot : ℕ
-    pub index : ℕ
-    pub bound : k.ring_of slot index ≡ Some r
-    pub spot : Spot
-    pub matches : RingMatches k w r spot
-    pub takes : Unreported k w r spot
-
-  -- no endpoint has it
-  pub record FreeRing (k : Known) (w : World) (r : ℕ) : Type 0 where
-    pub none : (s i : ℕ) → k.ring_of s i ≢ Some r
-    pub rests : Rests w r
+  -- which of the two it is, is part of the invariant
+  abbrev pub EndpointRing : Known → World → ℕ → Type 0
+  EndpointRing k w r = BoundRing (shape_of h r) k.ring_of (k.ring r) (state_of w r) r ⊎ FreeRing (shape_of h r) k.ring_of (state_of w r) r
 
   -- the command that was taken is the one at the floor
   pub record TakenCommand (k : Known) (u : UnderWay) : Type 0 where
@@ -87,7 +103,7 @@ module _ (h : Header) where
   -- of the command ring nothing is said of reports: a command's take is never reported
   pub record CommandMatches (k : Known) (w : World) : Type 0 where
     pub spot : Spot
-    pub ring : RingMatches k w (command_id h) spot
+    pub ring : RingMatches (shape_of h (command_id h)) (k.ring (command_id h)) (state_of w (command_id h)) spot
     pub under_way : UnderWayMatches k spot w.under_way
 
   -- before the start the command ring's pointer is nowhere yet
@@ -95,7 +111,6 @@ module _ (h : Header) where
     pub inactive : w.is_active (command_id h) ≡ false
     pub no_events : w.events (command_id h) ≡ []
     pub none : w.under_way ≡ None
-    pub posted : w.posted ≡ 0
 
   -- no word of the input context was changed after the control word at address at + 12 was last written
   abbrev pub IsUnchanged : World → ℕ → Option ℕ → Type 0
@@ -106,9 +121,8 @@ module _ (h : Header) where
     pub slots : (s : ℕ) → w.slot_state s ≡ k.slot_state s
     pub endpoints : (s i : ℕ) → w.endpoint_state s i ≡ k.endpoint_state s i
     pub ring_of : (s i : ℕ) → w.ring_of s i ≡ k.ring_of s i
-    pub read : w.posted ≡ k.reads
-    -- any number but the command ring's, also one that no ring has: which of the two it is, is part of the invariant
-    pub rings : (r : ℕ) → r ≢ command_id h → BoundRing k w r ⊎ FreeRing k w r
+    -- any number but the command ring's, also one that no ring has
+    pub rings : (r : ℕ) → r ≢ command_id h → EndpointRing k w r
     pub fresh : (r : ℕ) → r ≢ command_id h → k.was_bound r ≡ false → w.events r ≡ []
     pub before : k.started ≡ false → NotStarted w
     pub command : k.started ≡ true → CommandMatches k w
@@ -122,5 +136,6 @@ module _ (h : Header) where
     pub stands : Stands h k w
     pub events : EventsStand h w unread
     pub matches : Matches k w
+    pub read : w.posted ≡ k.reads
     -- no stamp is later than now
     pub stamps : (a : ℕ) → w.changed a ≤ w.steps
