@@ -1,19 +1,20 @@
 -- The rings of a header: allowed, and apart from the event ring
-use Rattle.std.specs.Prelude.{◌≡◌, ℕ, ◌==◌, ◌%◌, ◌&&◌, ◌⊎◌, Bool, true, false, not, List, [], ◌∷◌, nat_lt, Option, Some, None, find}
+use Rattle.std.specs.Prelude.{◌≡◌, ℕ, ◌==◌, ◌%◌, ◌<◌, ◌&&◌, ◌⊎◌, Bool, true, false, not, List, [], ◌∷◌, nat_lt, Option, Some, None, find}
 use Rattle.std.specs.List.{list_all, list_any}
-use Rattle.std.proofs.Common.{refl, sym, ◌∙◌, ap, subst, inl, inr}
+use Rattle.std.proofs.Common.{arith, refl, sym, ◌∙◌, ap, subst, inl, inr}
 use Rattle.std.proofs.lemmas.Bool.{cases_Bool, false≢true, cond-true, cond-false, and_parts, or_parts, not-true, not_from_true, false_from_ne_true}
 use Rattle.std.proofs.lemmas.Option.{none-some, same_Some}
 use Rattle.trb.specs.declared.ring_kind.RingKind.{RingKind}
 use Rattle.trb.specs.declared.ring_kind.RingKind.TheVariants.{Cmd, Evt, Xfer}
 use Rattle.segments.specs.ShapeValue.{Shape}
-use Rattle.segments.specs.Places.{is_inside, touches}
+use Rattle.segments.specs.Places.{is_inside, place_count, touches}
 use Rattle.segments.specs.Shape.{IsShape, is_shape}
+use Rattle.segments.proofs.ShapeFacts.{shape_facts}
 use Rattle.segments.proofs.Search.{cases_option}
 use Rattle.segments.proofs.InsideLemmas.{rings_apart, touches-word}
 use Rattle.traces.specs.declared.header.Header.{Header}
 use Rattle.traces.specs.declared.ring.Ring.{Ring}
-use Rattle.traces.specs.Header.{IsHeader, may_stand_together, clash, ring_with, shape_of, shape_or, event_ring, event_shape, is_event_kind, is_driver_kind, is_transfer_kind}
+use Rattle.traces.specs.Header.{IsHeader, may_stand_together, clash, ring_with, shape_of, shape_or, event_ring, event_shape, event_size, is_event_kind, is_driver_kind, is_transfer_kind}
 use Rattle.ownership_rules.proofs.Among.{IsIn, any_of}
 use Rattle.safety.specs.Keeps.{IsDriverRing, IsTransferRing}
 
@@ -71,6 +72,13 @@ transfer_is_driver Cmd h = refl
 transfer_is_driver Xfer h = refl
 transfer_is_driver Evt h = absurd (false≢true h)
 
+-- the event ring of a header that has one
+pub record EventRing (h : Header) : Type 0 where
+  pub ring : Ring
+  pub at : IsIn ring h.rings
+  pub shape : event_shape h ≡ ring.shape
+  pub is : IsShape (event_shape h)
+
 pub record IsAllowed (shape : Shape) : Type 0 where
   pub is : IsShape shape
   pub other : shape.kind ≡ Evt → ⊥
@@ -104,6 +112,23 @@ module _ (h : Header) where
     unfolding event_ring
     event_found e at = found_in (λ r. is_event_kind r.shape.kind) h.rings e at
 
+    size_is : event_size h ≡ place_count (event_shape h)
+    unfolding event_size
+    size_is = refl
+
+    pub event_ring_is : 0 < event_size h → EventRing h
+    event_ring_is some =
+        elim (cases_option (event_ring h)) [
+          | inl none ↦
+              let no : place_count (event_shape h) ≡ 0 = ap (λ s. place_count s) (events_of None none) in
+              absurd (omega (arith, size_is))
+          | inr found ↦
+              let e : Ring = found.0 in
+              let at = event_found e found.1 in
+              let shape = events_of (Some e) found.1 in
+              record { ring = e; at = at.0; shape = shape; is = subst (λ s. IsShape s) (sym shape) (ring_allowed e at.0) }
+        ]
+
     both_kinds : (r e : Ring) → is_driver_kind r.shape.kind ≡ true → is_event_kind e.shape.kind ≡ true → r ≡ e → ⊥
     both_kinds r e a b same = false≢true (sym (not_from_true (is_event_kind e.shape.kind) b) ∙ sym (ap (λ x. is_driver_kind x.shape.kind) same) ∙ a)
 
@@ -127,4 +152,18 @@ module _ (h : Header) where
                   | inr other ↦ clash_apart e d.ring a other there here
                 ]
               ])
+        ]
+
+    -- without an event ring no word belongs to it
+    pub no_events : event_size h ≡ 0 → (a : ℕ) → touches (event_shape h) a 4 ≡ false
+    no_events empty a =
+        elim (cases_option (event_ring h)) [
+          | inl none ↦ ap (λ s. touches s a 4) (events_of None none)
+          | inr found ↦
+              let e : Ring = found.0 in
+              let at = event_found e found.1 in
+              let shape = events_of (Some e) found.1 in
+              let several = (shape_facts e.shape (ring_allowed e at.0)).several in
+              let same : place_count (event_shape h) ≡ place_count e.shape = ap (λ s. place_count s) shape in
+              absurd (omega (arith, size_is))
         ]

@@ -7,3 +7,12 @@ pub mod NoWait
 pub mod RingMemory
 pub mod SafeContext
 pub mod Safe
+pub mod Stored
+pub mod Counted
+pub mod Areas
+pub mod WithReads
+pub mod Posting
+pub mod Posted
+pub mod EventRead
+pub mod Other
+pub mod Scribble
