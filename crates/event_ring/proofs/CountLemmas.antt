@@ -10,7 +10,7 @@ use Rattle.segments.proofs.Positions.{same_position}
 use Rattle.event_ring.specs.EventRing.{EventCounts, AreInOrder, has_room}
 use Rattle.event_ring.specs.EventPlaceValue.{EventState, may_post}
 
-posted_in_order : (size : ℕ) (c : EventCounts) → 2 ≤ size → has_room size c.posted c.dequeue ≡ true → AreInOrder size c →
+pub posted_in_order : (size : ℕ) (c : EventCounts) → 2 ≤ size → has_room size c.posted c.dequeue ≡ true → AreInOrder size c →
     AreInOrder size (record c { posted = c.posted + 1 })
 posted_in_order size c some room order =
     let far : c.posted + 1 ≢ c.dequeue + size = λ e.

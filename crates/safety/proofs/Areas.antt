@@ -1,0 +1,77 @@
+-- Where an unfinished command's input context lies: in no ring, and clean
+use Rattle.std.specs.Prelude.{◌≡◌, ◌≢◌, ℕ, suc, zero, ◌+◌, ◌*◌, ◌/◌, ◌<◌, ◌≤◌, ◌&&◌, ◌||◌, Bool, true, false, nat_lt, Option, Some}
+use Rattle.std.specs.List.{list_any, range_with_len}
+use Rattle.std.proofs.Common.{arith, refl, sym, ◌∙◌, ap, inl, inr}
+use Rattle.std.proofs.lemmas.Bool.{cases_eq, false_from_ne_true, false≢true, or_parts, and_parts, and_from, lt-ltb, leb-true, ltb-true}
+use Rattle.segments.specs.ShapeValue.{Shape}
+use Rattle.segments.specs.declared.segment.Segment.{Segment}
+use Rattle.segments.specs.Places.{is_in, is_inside, overlap, segment_has, touches}
+use Rattle.commands.specs.declared.command.Command.{Command}
+use Rattle.commands.specs.Command.{named_context}
+use Rattle.contexts.specs.Contexts.{input_context_bytes}
+use Rattle.traces.specs.declared.header.Header.{Header}
+use Rattle.traces.specs.declared.ring.Ring.{Ring}
+use Rattle.traces.specs.Header.{touches_ring}
+use Rattle.ring_knowledge.specs.Known.{Known}
+use Rattle.ownership_rules.specs.Areas.{is_bad_area, is_soiled}
+use Rattle.ownership_rules.specs.Commands.{is_bad_command, has_bad_context}
+use Rattle.ownership_rules.proofs.Among.{IsIn, any_of, some_of}
+use Rattle.safety.specs.Keeps.{IsUnfinished, DriverKeeps}
+use Rattle.safety.proofs.Stored.{IsInNoContext}
+
+none_of_range : (test : ℕ → Bool) (a n : ℕ) → list_any test (range_with_len a n) ≡ false → (i : ℕ) → a ≤ i → i < a + n → test i ≡ false
+none_of_range test a zero none i low high = absurd (omega arith)
+none_of_range test a (suc n) none i low high =
+    let parts = or_parts (test a) (list_any test (range_with_len (a + 1) n)) none in
+    elim (cases_eq a i) [
+      | inl here ↦ ap test (sym here) ∙ parts.0
+      | inr later ↦ none_of_range test (a + 1) n parts.1 i (omega arith) (omega arith)
+    ]
+
+-- a clean area has no soiled word
+pub clean_word : (k : Known) (from len i : ℕ) → is_soiled k from len ≡ false → i < len / 4 → k.soiled (from + 4 * i) ≡ false
+unfolding is_soiled
+clean_word k from len i none l = none_of_range (λ i. k.soiled (from + 4 * i)) 0 (len / 4) none i (omega arith) (omega arith)
+
+-- a byte inside a ring's segments is in no area that touches none
+pub byte_apart : (shape : Shape) (from len x : ℕ) → touches shape from len ≡ false → is_inside shape x ≡ true → from ≤ x → x < from + len → ⊥
+byte_apart shape from len x none inside low high =
+    let s = some_of (segment_has x) shape.segments inside in
+    let parts = and_parts _ _ s.2 in
+    let a = leb-true s.0.base x parts.0 in
+    let b = ltb-true x (s.0.base + 16 * s.0.count) parts.1 in
+    false≢true (sym none ∙ any_of (λ s. overlap from len s.base (16 * s.count)) shape.segments s.0 s.1
+    (and_from (nat_lt from (s.0.base + 16 * s.0.count)) (nat_lt s.0.base (from + len)) (lt-ltb from (s.0.base + 16 * s.0.count) (omega arith)) (lt-ltb s.0.base (from + len) (omega arith))))
+
+pub ring_untouched : (h : Header) (from len : ℕ) → touches_ring h from len ≡ false → (r : Ring) → IsIn r h.rings → touches r.shape from len ≡ false
+unfolding touches_ring
+ring_untouched h from len none r at = false_from_ne_true (touches r.shape from len) (λ t. false≢true (sym none ∙ any_of (λ r. touches r.shape from len) h.rings r at t))
+
+-- the input context of a command that may be given
+pub record ContextLies (h : Header) (k : Known) (n : ℕ) : Type 0 where
+  pub rings : touches_ring h n (input_context_bytes h.context_size) ≡ false
+  pub clean : is_soiled k n (input_context_bytes h.context_size) ≡ false
+
+bad_context_parts : (h : Header) (k : Known) (n : ℕ) → has_bad_context h k (Some n) ≡ false → ContextLies h k n
+unfolding has_bad_context is_bad_area
+bad_context_parts h k n none =
+    let parts = or_parts _ _ none in
+    let area = or_parts _ _ parts.0 in
+    let ends = or_parts _ _ area.0 in
+    record { rings = ends.1; clean = parts.1 }
+
+bad_command_context : (h : Header) (k : Known) (c : Command) → is_bad_command h k c ≡ false → has_bad_context h k (named_context c) ≡ false
+unfolding is_bad_command
+bad_command_context h k c none =
+    let parts = or_parts _ _ none in
+    (or_parts _ _ parts.0).1
+
+pub context_lies : (h : Header) (k : Known) (d : DriverKeeps h k) (p n : ℕ) (c : Command) → IsUnfinished h k p c → named_context c ≡ Some n → ContextLies h k n
+context_lies h k d p n c u is =
+    bad_context_parts h k n (ap (λ o. has_bad_context h k o) (sym is) ∙ bad_command_context h k c (d.unfinished p c u).good)
+
+-- a soiled word is in no input context
+pub soiled_in_no_context : (h : Header) (k : Known) (d : DriverKeeps h k) (a : ℕ) → k.soiled a ≡ true → IsInNoContext h k a
+soiled_in_no_context h k d a soiled p n i c u is l same =
+    let lies = context_lies h k d p n c u is in
+    false≢true (sym (clean_word k n (input_context_bytes h.context_size) i lies.clean l) ∙ ap k.soiled same ∙ soiled)

@@ -1,0 +1,116 @@
+-- What a controller finds at its pointer's spot on a ring of a rule-keeping driver: a block or a Link that was given, or the other cycle
+use Rattle.std.specs.Prelude.{◌≡◌, ◌≢◌, ℕ, ◌+◌, ◌-◌, ◌%◌, ◌<◌, ◌≤◌, true, false, Some, slice_get, []}
+use Rattle.std.proofs.Common.{arith, refl, sym, ◌∙◌, ap, inl, inr, get_or}
+use Rattle.std.proofs.lemmas.Bool.{cases_lt, false≢true, and_from}
+use Rattle.std.proofs.lemmas.Option.{slice_get-get_or}
+use Rattle.trb.specs.declared.block.Block.{Block}
+use Rattle.trb.specs.Block.{block_at, cycle, kind, with_cycle}
+use Rattle.trb.specs.Kind.{is_link}
+use Rattle.trb.proofs.BlockLemmas.{cycle-with_cycle}
+use Rattle.segments.specs.declared.spot.Spot.{Spot}
+use Rattle.segments.specs.declared.spot.Spot.TheVariants.{Data, Link}
+use Rattle.segments.specs.ShapeValue.{Shape}
+use Rattle.segments.specs.Places.{place_count, address_of, cycle_of, link_crossed, link_address}
+use Rattle.segments.specs.Spots.{IsSpot, rank, number}
+use Rattle.segments.specs.Shape.{IsShape}
+use Rattle.segments.specs.RingView.{RingView, declared, floor_number, is_crossing_due}
+use Rattle.segments.specs.Ceiling.{given_count, is_way_given, is_step_given}
+use Rattle.segments.specs.Givings.{is_wrong_link}
+use Rattle.segments.specs.RingKeeps.{RingKeeps}
+use Rattle.segments.proofs.Positions.{cycle_of_bit}
+use Rattle.segments.proofs.Crossings.{crossed_link}
+use Rattle.segments.proofs.SpotOrder.{rank_least, rank_most}
+use Rattle.segments.proofs.Giving.{due_from, crossing_due_from}
+use Rattle.segments.proofs.GivenCount.{given_count_stops}
+use Rattle.segments.proofs.Reaching.{given_count_near}
+
+-- where the pointer of a controller may stand
+pub record MayStand (shape : Shape) (v : RingView) (t : Spot) : Type 0 where
+  pub is_spot : IsSpot shape t
+  pub reached : rank v.floor ≤ rank t
+  pub below : number t ≤ given_count shape v
+  pub way : (q : ℕ) → t ≡ Data q → is_way_given shape v q ≡ true
+
+-- the block of position p is given, and stands in memory as declared
+pub record Takeable (shape : Shape) (memory : ℕ → ℕ) (v : RingView) (q : ℕ) : Type 0 where
+  pub given : v.given q ≡ true
+  pub declared : q < declared v
+  pub block : Block
+  pub queued : slice_get v.queue q ≡ Some block
+  pub stands : block_at memory (address_of shape q) ≡ with_cycle block (cycle_of shape q)
+  pub cycle_is : cycle (block_at memory (address_of shape q)) ≡ cycle_of shape q
+  pub no_link : is_link (kind block) ≡ false
+  pub below : q + 1 ≤ given_count shape v
+
+-- the Link on the way to position q is given, and leads on
+pub record Crossable (shape : Shape) (memory : ℕ → ℕ) (v : RingView) (q : ℕ) : Type 0 where
+  pub given : v.crossed q ≡ true
+  pub link : ℕ
+  pub crosses : link_crossed shape q ≡ Some link
+  pub leads : is_wrong_link shape link (block_at memory (link_address shape q)) ≡ false
+  pub cycle_is : cycle (block_at memory (link_address shape q)) ≡ cycle_of shape (q - 1)
+
+cycle_at : (memory : ℕ → ℕ) (a : ℕ) → cycle (block_at memory a) ≡ memory (a + 12) % 2
+cycle_at memory a = omega arith
+
+way_from : (shape : Shape) (v : RingView) (q : ℕ) → v.given q ≡ true → is_way_given shape v q ≡ true → is_step_given shape v q ≡ true
+unfolding is_step_given
+way_from shape v q given way = and_from (v.given q) (is_way_given shape v q) given way
+
+module _ (shape : Shape) (is : IsShape shape) (memory : ℕ → ℕ) (v : RingView) (k : RingKeeps shape memory v) where
+  near : (t : Spot) → MayStand shape v t → (floor_number v ≤ number t) × (number t < floor_number v + place_count shape)
+  near t at =
+      let high = given_count_near shape is memory v k in
+      let low = rank_least v.floor in
+      let top = rank_most t in
+      (omega (arith, at.reached), omega (arith, at.below))
+
+  pub takeable : (q : ℕ) → MayStand shape v (Data q) → v.given q ≡ true → Takeable shape memory v q
+  takeable q at given =
+      let n = near (Data q) at in
+      let none : Block = record { w = [] } in
+      let in_queue : q < declared v = k.given_declared q given in
+      let d : Block = get_or v.queue q none in
+      let queued : slice_get v.queue q ≡ Some d = slice_get-get_or v.queue q none in_queue in
+      let stands = k.kept q d n.0 given queued in
+      record {
+        given = given;
+        declared = in_queue;
+        block = d;
+        queued = queued;
+        stands = stands;
+        cycle_is = ap (λ b. cycle b) stands ∙ cycle-with_cycle d (cycle_of shape q) (cycle_of_bit shape q);
+        no_link = k.blocks q d queued;
+        below = elim (cases_lt q (given_count shape v)) [
+          | inl below ↦ omega arith
+          | inr top ↦
+              let here : given_count shape v ≡ q = omega (arith, at.below) in
+              absurd (false≢true (sym (given_count_stops shape v (given_count_near shape is memory v k)) ∙ ap (λ n. is_step_given shape v n) here
+              ∙ way_from shape v q given (at.way q refl)))
+        ];
+      }
+
+  pub waits_at_block : (q : ℕ) → MayStand shape v (Data q) → v.given q ≡ false → cycle (block_at memory (address_of shape q)) ≢ cycle_of shape q
+  waits_at_block q at missing same =
+      let n = near (Data q) at in
+      k.not_yet q (due_from shape v.floor q n.0 n.1) missing (sym (cycle_at memory (address_of shape q)) ∙ same)
+
+  crossing_near : (q : ℕ) → MayStand shape v (Link q) → is_crossing_due shape v.floor q ≡ true
+  crossing_near q at =
+      let n = near (Link q) at in
+      crossing_due_from shape v.floor q (record { crossing = at.is_spot; from = n.0; within = inl n.1 })
+
+  pub crossable : (q : ℕ) → MayStand shape v (Link q) → v.crossed q ≡ true → Crossable shape memory v q
+  crossable q at given =
+      let found = crossed_link shape q at.is_spot in
+      let kept = k.kept_link q found.0 (crossing_near q at) given found.1 in
+      record {
+        given = given;
+        link = found.0;
+        crosses = found.1;
+        leads = kept.0;
+        cycle_is = cycle_at memory (link_address shape q) ∙ kept.1;
+      }
+
+  pub waits_at_link : (q : ℕ) → MayStand shape v (Link q) → v.crossed q ≡ false → cycle (block_at memory (link_address shape q)) ≢ cycle_of shape (q - 1)
+  waits_at_link q at missing same = k.not_yet_link q (crossing_near q at) missing (sym (cycle_at memory (link_address shape q)) ∙ same)

@@ -1,0 +1,36 @@
+-- Behind a step, once it is counted
+use Rattle.std.specs.Prelude.{◌≡◌, ℕ, List}
+use Rattle.std.proofs.Common.{arith}
+use Rattle.trb.specs.declared.block.Block.{Block}
+use Rattle.traces.specs.declared.header.Header.{Header}
+use Rattle.world_state.specs.World.{World}
+use Rattle.world_state.specs.World as of_world
+use Rattle.controller_model.specs.Steps.{counted}
+use Rattle.ring_knowledge.specs.Known.{Known}
+use Rattle.safety.specs.Stands.{Stands, EventsStand}
+use Rattle.safety.specs.Matches.{Matches, Agrees}
+use Rattle.safety.proofs.Stored.{Late}
+
+module _ (h : Header) where
+  -- what holds of the world behind a step holds once the step is counted
+  pub agrees_counted : (k : Known) (unread : List Block) (v : World) → Stands h k v → EventsStand h v unread → Matches h k v → v.posted ≡ k.reads → Late v →
+      Agrees h k unread (counted h v)
+  unfolding counted of_world.event_at
+  agrees_counted k unread v s e m read late = record {
+    stands = record { started = s.started; stopped = s.stopped; registers = s.registers; queues = s.queues; lengths = s.lengths; dequeue = s.dequeue; quiet = s.quiet };
+    events = record { order = e.order; count = e.count; places = e.places; started = e.started; ring = e.ring };
+    matches = record {
+      slots = m.slots;
+      endpoints = m.endpoints;
+      ring_of = m.ring_of;
+      rings = m.rings;
+      fresh = m.fresh;
+      before = λ off. let b = m.before off in record { inactive = b.inactive; no_events = b.no_events; none = b.none };
+      command = λ on. let c = m.command on in record { spot = c.spot; ring = c.ring; under_way = c.under_way };
+      scribbles = m.scribbles;
+      contexts = m.contexts;
+      inside = m.inside;
+    };
+    read = read;
+    stamps = late;
+  }

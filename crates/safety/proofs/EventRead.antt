@@ -1,0 +1,69 @@
+-- When a posted event is possible where it will be read, and what reading it adds
+use Rattle.std.specs.Prelude.{◌≡◌, ℕ, ◌+◌, ◌-◌, ◌<◌, ◌≤◌, ◌==◌, ◌&&◌, ◌||◌, Bool, true, false, not, List, [], ◌∷◌, ◌++◌, nat_lt, filter, map}
+use Rattle.std.proofs.Common.{arith, refl, sym, ◌∙◌, ap, subst}
+use Rattle.std.proofs.lemmas.Bool.{false≢true, cond-false, or_from, not_from_true, le-ltb, eq-eqb}
+use Rattle.trb.specs.declared.block.Block.{Block}
+use Rattle.trb.specs.declared.kind.BlockKind.{BlockKind}
+use Rattle.trb.specs.Block.{cycle, kind}
+use Rattle.trb.specs.Kind.{is_event, is_other_event, is_transfer_event}
+use Rattle.trb.specs.declared.kind.BlockKind.TheVariants as kinds
+use Rattle.segments.specs.Places.{cycle_of}
+use Rattle.traces.specs.declared.header.Header.{Header}
+use Rattle.traces.specs.declared.row.Row.{Row}
+use Rattle.traces.specs.declared.row.Row.TheVariants.{Read}
+use Rattle.traces.specs.Header.{event_shape, event_size}
+use Rattle.world_state.specs.World.{World}
+use Rattle.ring_knowledge.specs.Known.{Known}
+use Rattle.ring_knowledge.specs.Learned.{event_read, learned, known}
+use Rattle.ownership_rules.specs.Refusal.{Test, broken_of}
+use Rattle.ownership_rules.specs.declared.refusal.Refusal.TheVariants.{AfterStop, ImpossibleEvent, NotInProfile}
+use Rattle.ownership_rules.specs.Rules.{broken}
+use Rattle.ownership_rules.specs.Rules as of_rules
+use Rattle.ownership_rules.specs.Clean.{IsClean}
+use Rattle.ownership_rules.specs.Events.{is_in_profile, is_impossible_by_kind, is_past_room, is_impossible}
+use Rattle.ownership_rules.specs.Events as of_events
+use Rattle.safety.specs.Stands.{Stands}
+use Rattle.safety.specs.Invariant.{reading}
+use Rattle.safety.proofs.Posting.{CanPost}
+use Rattle.safety.proofs.WithReads.{with_reads, reading_more}
+
+pub learned_read : (h : Header) (k : Known) (b : Block) → learned h k (Read b) ≡ with_reads (event_read h k (kind b) b) (k.reads + 1)
+unfolding learned
+learned_read h k b = refl
+
+none_broken : (x y : Bool) → x ≡ false → y ≡ false → broken_of ((ImpossibleEvent, x) ∷ (NotInProfile, y) ∷ []) ≡ []
+none_broken x y hx hy = rw (hx, hy) refl
+
+room_is : (h : Header) (k : Known) → k.reads + 2 ≤ k.dequeue + event_size h → is_past_room h k ≡ false
+unfolding is_past_room
+room_is h k room = le-ltb (event_size h - 2) (k.reads - k.dequeue) (omega arith)
+
+not_impossible : (h : Header) (k : Known) (b : Block) → k.started ≡ true → k.reads + 2 ≤ k.dequeue + event_size h → cycle b ≡ cycle_of (event_shape h) k.reads →
+    is_event (kind b) ≡ true → is_impossible_by_kind h k (kind b) b ≡ false → is_impossible h k b ≡ false
+unfolding is_impossible
+not_impossible h k b on room same event possible =
+    or_from _ _ (or_from _ _ (or_from _ _ (or_from _ _ (not_from_true k.started on) (room_is h k room))
+    (not_from_true (cycle b == cycle_of (event_shape h) k.reads) (eq-eqb (cycle b) (cycle_of (event_shape h) k.reads) same)))
+    (not_from_true (is_event (kind b)) event)) possible
+
+event_broken : (h : Header) (k : Known) (b : Block) → k.stopped ≡ false → is_impossible h k b ≡ false → (is_transfer_event (kind b) && not (is_in_profile b)) ≡ false → broken h k (Read b) ≡ []
+unfolding broken of_rules.tests of_events.event_tests
+event_broken h k b on possible in_profile =
+    cond-false k.stopped (AfterStop ∷ []) (broken_of ((ImpossibleEvent, is_impossible h k b) ∷ (NotInProfile, is_transfer_event (kind b) && not (is_in_profile b)) ∷ [])) on
+    ∙ none_broken (is_impossible h k b) (is_transfer_event (kind b) && not (is_in_profile b)) possible in_profile
+
+-- a posted event of a possible kind breaks no rule where it will be read
+pub event_clean : (h : Header) (k : Known) (w : World) (b : Block) → Stands h k w → w.posted ≡ k.reads → w.stopped ≡ false → CanPost h w b → w.posted + 2 ≤ w.dequeue + event_size h →
+    is_event (kind b) ≡ true → is_impossible_by_kind h k (kind b) b ≡ false → (is_transfer_event (kind b) && not (is_in_profile b)) ≡ false → broken h k (Read b) ≡ []
+event_clean h k w b s read on can room event possible in_profile =
+    event_broken h k b (sym s.stopped ∙ on)
+    (not_impossible h k b (sym s.started ∙ can.started) (omega (arith, s.dequeue)) (can.cycle_is ∙ ap (λ n. cycle_of (event_shape h) n) read) event possible) in_profile
+
+-- with it at the end, the unread events are clean and lead on
+pub clean_more : (h : Header) (unread : List Block) (past : List Row) (b : Block) → IsClean h (reading unread past) → broken h (known h (reading unread past)) (Read b) ≡ [] →
+    IsClean h (reading (unread ++ b ∷ []) past)
+clean_more h unread past b clean none = subst (λ rows. IsClean h rows) (sym (reading_more unread past b)) (clean, none)
+
+pub known_more : (h : Header) (unread : List Block) (past : List Row) (b : Block) → known h (reading (unread ++ b ∷ []) past) ≡ learned h (known h (reading unread past)) (Read b)
+unfolding known
+known_more h unread past b = ap (λ rows. known h rows) (reading_more unread past b)

@@ -1,0 +1,83 @@
+-- Inside a descriptor the controller never waits: all of a descriptor whose first block is given is given
+use Rattle.std.specs.Prelude.{◌≡◌, ℕ, ◌+◌, ◌-◌, ◌≤◌, true, false, List, [], ◌∷◌, Some, None, slice_get}
+use Rattle.std.proofs.Common.{arith, refl, sym, ◌∙◌, ap, inl, inr, get_or}
+use Rattle.std.proofs.lemmas.Bool.{false≢true, not-true}
+use Rattle.std.proofs.lemmas.Option.{slice_get-get_or}
+use Rattle.trb.specs.declared.block.Block.{Block}
+use Rattle.trb.specs.Block.{block_at, cycle}
+use Rattle.segments.specs.declared.spot.Spot.{Spot}
+use Rattle.segments.specs.declared.spot.Spot.TheVariants.{Data, Link}
+use Rattle.segments.specs.ShapeValue.{Shape}
+use Rattle.segments.specs.Spots.{number, spot_address, spot_cycle}
+use Rattle.segments.specs.Shape.{IsShape}
+use Rattle.segments.specs.Descriptors.{DeclaredBlock, is_border, declared_at, length_from}
+use Rattle.segments.specs.RingView.{RingView, declared}
+use Rattle.segments.specs.Ceiling.{ceiling, given_count, is_step_given}
+use Rattle.segments.specs.Givings.{descriptor_length}
+use Rattle.segments.specs.RingKeeps.{RingKeeps}
+use Rattle.segments.proofs.Search.{cases_option}
+use Rattle.segments.proofs.GivenCount.{given_below}
+use Rattle.segments.proofs.StepFacts.{step_is, whole_is}
+use Rattle.segments.proofs.Reaching.{given_count_declared}
+use Rattle.world_state.specs.World.{RingEvent, Took, Placed}
+use Rattle.world_state.specs.Harms.{is_end, is_inside_descriptor}
+use Rattle.safety.specs.Matches.{Newest}
+use Rattle.safety.proofs.Descriptors.{Surrounds, surrounded}
+use Rattle.safety.proofs.AtSpots.{MayStand, takeable, crossable}
+
+-- the ceiling of an open ring, and of one that is held
+pub ceiling_open : (shape : Shape) (v : RingView) → v.held ≡ None → ceiling shape v ≡ given_count shape v
+unfolding ceiling
+ceiling_open shape v none = rw none refl
+
+ceiling_held : (shape : Shape) (v : RingView) (m : ℕ) → v.held ≡ Some m → ceiling shape v ≡ m
+unfolding ceiling
+ceiling_held shape v m held = rw held refl
+
+length_is : (v : RingView) (p : ℕ) → descriptor_length v p ≡ length_from v.lengths 0 p
+unfolding descriptor_length
+length_is v p = refl
+
+declared_some : (queue : List Block) (lengths : List ℕ) (p : ℕ) (d : Block) → slice_get queue p ≡ Some d →
+    declared_at queue lengths p ≡ Some (record { block = d; begins = is_border lengths 0 p; ends = is_border lengths 0 (p + 1) })
+unfolding declared_at
+declared_some queue lengths p d at = rw at refl
+
+end_is : (d : DeclaredBlock) → is_end (Some d) ≡ d.ends
+unfolding is_end
+end_is d = refl
+
+-- where the last take doesn't end its descriptor, the next position is no border
+pub inside_no_border : (v : RingView) (n : ℕ) (events : List RingEvent) → Newest v n events → n ≤ declared v → is_inside_descriptor events ≡ true →
+    is_border v.lengths 0 n ≡ false
+unfolding is_inside_descriptor
+inside_no_border v n [] newest within inside = absurd (false≢true inside)
+inside_no_border v n (Placed a ∷ older) newest within inside = absurd (false≢true inside)
+inside_no_border v n (Took a b d ∷ older) newest within inside =
+    let none : Block = record { w = [] } in
+    let x : Block = get_or v.queue (n - 1) none in
+    let queued : slice_get v.queue (n - 1) ≡ Some x = slice_get-get_or v.queue (n - 1) none (omega (arith, newest.0)) in
+    let here : n - 1 + 1 ≡ n = omega (arith, newest.0) in
+    let ends : is_end d ≡ is_border v.lengths 0 (n - 1 + 1) = ap is_end (newest.1 ∙ declared_some v.queue v.lengths (n - 1) x queued) ∙ end_is _ in
+    ap (λ m. is_border v.lengths 0 m) (sym here) ∙ sym ends ∙ not-true (is_end d) inside
+
+module _ (shape : Shape) (is : IsShape shape) (memory : ℕ → ℕ) (v : RingView) (k : RingKeeps shape memory v) where
+  pub ceiling_given : ceiling shape v ≤ given_count shape v
+  ceiling_given =
+      elim (cases_option v.held) [
+        | inl none ↦ omega (arith, ceiling_open shape v none)
+        | inr held ↦ omega (arith, ceiling_held shape v held.0 held.1, (k.held held.0 held.1).to)
+      ]
+
+  -- behind the first block of a descriptor that isn't at its end, the next step is given
+  step_inside : (n : ℕ) → n ≤ given_count shape v → is_border v.lengths 0 n ≡ false → is_step_given shape v n ≡ true
+  step_inside n below none =
+      let within = given_count_declared shape is memory v k in
+      let s : Surrounds v.lengths 0 n = surrounded v.lengths 0 n k.lengths (omega arith) (omega (arith, k.descriptors)) none in
+      let first = (step_is shape v s.begin (given_below shape v s.begin (omega (arith, s.before)))).0 in
+      whole_is shape v s.begin (k.whole s.begin first) n s.before (omega (arith, s.behind, length_is v s.begin))
+
+  -- so the controller finds its own cycle there
+  pub cycle_inside : (t : Spot) → MayStand shape v t → is_border v.lengths 0 (number t) ≡ false → cycle (block_at memory (spot_address shape t)) ≡ spot_cycle shape t
+  cycle_inside (Data q) at none = (takeable shape is memory v k q at (step_is shape v q (step_inside q at.below none)).0).cycle_is
+  cycle_inside (Link q) at none = (crossable shape is memory v k q at ((step_is shape v q (step_inside q at.below none)).1 at.is_spot)).cycle_is

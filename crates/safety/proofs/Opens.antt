@@ -1,0 +1,69 @@
+-- Before the first row: nothing is known, nothing is posted, and the opening world agrees with that
+use Rattle.std.specs.Prelude.{◌≡◌, ℕ, ◌≤◌, false, List, []}
+use Rattle.std.proofs.Common.{arith, refl, inr}
+use Rattle.std.proofs.lemmas.Bool.{false≢true}
+use Rattle.std.proofs.lemmas.Option.{none-some}
+use Rattle.traces.specs.declared.header.Header.{Header}
+use Rattle.traces.specs.declared.row.Row.{Row}
+use Rattle.world_state.specs.World.{opening}
+use Rattle.world_state.specs.Harms as of_harms
+use Rattle.ring_knowledge.specs.Known.{nothing}
+use Rattle.ring_knowledge.specs.Learned.{known}
+use Rattle.safety.specs.Stands.{Stands, EventsStand}
+use Rattle.safety.specs.Matches.{Matches}
+use Rattle.safety.specs.Invariant.{Runs}
+
+module _ (h : Header) (rows : List Row) where
+  stands : Stands h nothing (opening rows)
+  unfolding nothing opening
+  stands = record {
+    started = refl;
+    stopped = refl;
+    registers = λ r. refl;
+    queues = λ r. refl;
+    lengths = λ r. refl;
+    dequeue = refl;
+    quiet = λ a clean apart. refl;
+  }
+
+  events : EventsStand h (opening rows) []
+  unfolding opening
+  events = record {
+    order = record { dequeued = omega arith; read = omega arith; room = λ some. absurd (omega arith) };
+    count = omega arith;
+    places = λ i e at. absurd (none-some e at);
+    started = λ some. absurd (omega arith);
+    ring = λ some. absurd (omega arith);
+  }
+
+  matches : Matches h nothing (opening rows)
+  unfolding nothing opening of_harms.is_out_of_order of_harms.has_other_words
+  matches = record {
+    slots = λ s. refl;
+    endpoints = λ s i. refl;
+    ring_of = λ s i. refl;
+    rings = λ r other. inr (record { none = λ s i at. none-some r at; rests = record { inactive = refl; in_order = refl; as_declared = refl } });
+    fresh = λ r other unbound. refl;
+    before = λ off. record { inactive = refl; no_events = refl; none = refl };
+    command = λ on. absurd (false≢true on);
+    scribbles = λ s on. absurd (false≢true on);
+    contexts = λ p c unfinished. absurd (false≢true unfinished.given);
+    inside = refl;
+  }
+
+  stamps : (a : ℕ) → (opening rows).changed a ≤ (opening rows).steps
+  unfolding opening
+  stamps a = omega arith
+
+  read : (opening rows).posted ≡ nothing.reads
+  unfolding opening nothing
+  read = refl
+
+  on : nothing.stopped ≡ false
+  unfolding nothing
+  on = refl
+
+  -- a run begins so
+  pub opens : Runs h [] (opening rows)
+  unfolding known
+  opens = record { unread = []; clean = tt; on = on; agrees = record { stands = stands; events = events; matches = matches; read = read; stamps = stamps } }

@@ -1,0 +1,78 @@
+-- An event of the controller itself is posted: the run goes on
+use Rattle.std.specs.Prelude.{◌≡◌, ℕ, ◌+◌, ◌&&◌, ◌||◌, if◌then◌else◌, true, false, not, List, [], ◌∷◌, ◌++◌, Option, Some, None}
+use Rattle.std.proofs.Common.{arith, refl, sym, ◌∙◌, ap, subst}
+use Rattle.std.proofs.lemmas.Bool.{false≢true, and_parts, and_left, or_right}
+use Rattle.std.proofs.lemmas.Option.{cond_some}
+use Rattle.trb.specs.declared.block.Block.{Block}
+use Rattle.trb.specs.declared.kind.BlockKind.{BlockKind}
+use Rattle.trb.specs.declared.kind.BlockKind.TheVariants as kinds
+use Rattle.trb.specs.Block.{IsBlock, kind}
+use Rattle.trb.specs.Kind.{is_event, is_transfer_event, is_command_completion, is_other_event}
+use Rattle.traces.specs.declared.header.Header.{Header}
+use Rattle.traces.specs.declared.row.Row.{Row}
+use Rattle.traces.specs.declared.row.Row.TheVariants.{Read}
+use Rattle.traces.specs.Header.{IsHeader}
+use Rattle.world_state.specs.World.{World}
+use Rattle.controller_model.specs.Posts.{can_post, posted, other_posted}
+use Rattle.controller_model.specs.Steps.{counted}
+use Rattle.ring_knowledge.specs.Known.{Known}
+use Rattle.ring_knowledge.specs.Learned.{event_read, learned, known}
+use Rattle.ownership_rules.specs.Events.{is_in_profile, is_impossible_by_kind}
+use Rattle.safety.specs.Keeps.{DriverKeeps}
+use Rattle.safety.specs.Matches.{Agrees}
+use Rattle.safety.specs.Invariant.{Runs, reading}
+use Rattle.safety.proofs.Counted.{agrees_counted}
+use Rattle.safety.proofs.WithReads.{with_reads, stands_with_reads, matches_with_reads}
+use Rattle.safety.proofs.Posted.{PostKeeps, post_keeps}
+use Rattle.safety.proofs.EventRead.{learned_read, event_clean, clean_more, known_more}
+
+-- what such an event says
+pub record SaysNothing (h : Header) (k : Known) (b : Block) (t : BlockKind) : Type 0 where
+  pub read : event_read h k t b ≡ k
+  pub possible : is_impossible_by_kind h k t b ≡ false
+  pub no_transfer : is_transfer_event t ≡ false
+
+says_nothing : (h : Header) (k : Known) (b : Block) (t : BlockKind) → is_other_event t ≡ true → SaysNothing h k b t
+unfolding event_read is_impossible_by_kind
+says_nothing h k b kinds.PortStatusChange other = record { read = refl; possible = refl; no_transfer = refl }
+says_nothing h k b kinds.BandwidthRequest other = record { read = refl; possible = refl; no_transfer = refl }
+says_nothing h k b kinds.Doorbell other = record { read = refl; possible = refl; no_transfer = refl }
+says_nothing h k b kinds.HostController other = record { read = refl; possible = refl; no_transfer = refl }
+says_nothing h k b kinds.DeviceNotification other = record { read = refl; possible = refl; no_transfer = refl }
+says_nothing h k b kinds.MfindexWrap other = record { read = refl; possible = refl; no_transfer = refl }
+says_nothing h k b _ other = absurd (false≢true other)
+
+posted_is : (h : Header) (w v : World) (b : Block) → other_posted h w b ≡ Some v → (can_post h w b ≡ true) × (is_other_event (kind b) ≡ true) × (posted h w b ≡ v)
+unfolding other_posted
+posted_is h w v b at =
+    let c = cond_some (can_post h w b && is_other_event (kind b)) (posted h w b) v at in
+    let p = and_parts (can_post h w b) (is_other_event (kind b)) c.0 in
+    (p.0, p.1, c.1)
+
+module _ (h : Header) (is : IsHeader h) (k : Known) (unread : List Block) (w : World) (b : Block) (block : IsBlock b) (d : DriverKeeps h k) (g : Agrees h k unread w) (can : can_post h w b ≡ true) (other : is_other_event (kind b) ≡ true) where
+  learned_same : learned h k (Read b) ≡ with_reads k (k.reads + 1)
+  learned_same = learned_read h k b ∙ ap (λ m. with_reads m (k.reads + 1)) (says_nothing h k b (kind b) other).read
+
+  agrees_other : Agrees h (with_reads k (k.reads + 1)) (unread ++ b ∷ []) (counted h (posted h w b))
+  agrees_other =
+      let p = post_keeps h is k unread w b block d g can in
+      agrees_counted h (with_reads k (k.reads + 1)) (unread ++ b ∷ []) (posted h w b) (stands_with_reads h (k.reads + 1) k (posted h w b) p.stands) p.events (matches_with_reads h (k.reads + 1) k (posted h w b) p.matches) p.posted_is p.late
+
+-- the run goes on behind the post
+pub other_runs : (h : Header) → IsHeader h → (past : List Row) (w v : World) (b : Block) → IsBlock b → w.stopped ≡ false → (r : Runs h past w) →
+    DriverKeeps h (known h (reading r.unread past)) → other_posted h w b ≡ Some v → Runs h past (counted h v)
+other_runs h is past w v b block running r d at =
+    let k : Known = known h (reading r.unread past) in
+    let p = posted_is h w v b at in
+    let s = says_nothing h k b (kind b) p.1 in
+    let keeps = post_keeps h is k r.unread w b block d r.agrees p.0 in
+    let none = event_clean h k w b r.agrees.stands r.agrees.read running keeps.can keeps.room
+    (or_right (is_transfer_event (kind b) || is_command_completion (kind b)) (is_other_event (kind b)) p.1) s.possible
+    (and_left (is_transfer_event (kind b)) (not (is_in_profile b)) s.no_transfer) in
+    record {
+      unread = r.unread ++ b ∷ [];
+      clean = clean_more h r.unread past b r.clean none;
+      on = r.on;
+      agrees = subst (λ m. Agrees h m (r.unread ++ b ∷ []) (counted h v)) (sym (known_more h r.unread past b ∙ learned_same h is k r.unread w b block d r.agrees p.0 p.1))
+      (subst (λ u. Agrees h (with_reads k (k.reads + 1)) (r.unread ++ b ∷ []) (counted h u)) p.2 (agrees_other h is k r.unread w b block d r.agrees p.0 p.1));
+    }

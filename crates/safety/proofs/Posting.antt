@@ -1,0 +1,130 @@
+-- An event that is posted: it lies behind the unread ones, and nothing else that the driver or the controller did changes
+use Rattle.std.specs.Prelude.{◌≡◌, ◌≢◌, ℕ, ◌+◌, ◌*◌, ◌/◌, ◌%◌, ◌<◌, ◌≤◌, ◌==◌, ◌&&◌, true, false, List, [], ◌∷◌, ◌++◌, length, nat_lt, Some, slice_get, slice_index}
+use Rattle.std.proofs.Common.{arith, refl, sym, ◌∙◌, ap, inl, inr, add-zero, get_or, length-append}
+use Rattle.std.proofs.lemmas.Bool.{cases_lt, and_parts, ltb-true, eqb-true, false≢true}
+use Rattle.std.proofs.lemmas.Option.{same_Some}
+use Rattle.trb.specs.declared.block.Block.{Block}
+use Rattle.trb.specs.Block.{IsBlock, block_at, cycle, word}
+use Rattle.segments.specs.ShapeValue.{Shape}
+use Rattle.segments.specs.Places.{place_count, address_of, cycle_of, is_inside}
+use Rattle.segments.specs.Shape.{IsShape}
+use Rattle.segments.proofs.ShapeFacts.{shape_facts}
+use Rattle.segments.proofs.Positions.{address_aligned, place_count_pos, same_in_lap, same_place_of}
+use Rattle.segments.proofs.Elsewhere.{address_inside}
+use Rattle.segments.proofs.InsideLemmas.{touches-word}
+use Rattle.event_ring.specs.EventRing.{has_room}
+use Rattle.event_ring.proofs.CountLemmas.{posted_in_order}
+use Rattle.traces.specs.declared.header.Header.{Header}
+use Rattle.traces.specs.Header.{IsHeader, event_shape, event_size}
+use Rattle.contexts.specs.Contexts.{input_context_bytes}
+use Rattle.world_state.specs.World.{World, stored, stored_block, event_at}
+use Rattle.controller_model.specs.Posts.{can_post, posted}
+use Rattle.ring_knowledge.specs.Known.{Known}
+use Rattle.safety.specs.Keeps.{DriverKeeps}
+use Rattle.safety.specs.Stands.{Stands, EventsStand, touches_events}
+use Rattle.safety.specs.Matches.{Matches, Agrees}
+use Rattle.safety.proofs.Headers.{EventRing, event_ring_is}
+use Rattle.safety.proofs.RingMemory.{same_block_at}
+use Rattle.safety.proofs.Stored.{Late, IsInNoContext, late_stored, matches_stored, stands_stored, memory_stored, memory_here}
+use Rattle.safety.proofs.Areas.{byte_apart, context_lies, ring_untouched}
+
+-- ---- four words
+
+four_of : (l : List ℕ) → length l ≡ 4 → slice_index l 0 ∷ slice_index l 1 ∷ slice_index l 2 ∷ slice_index l 3 ∷ [] ≡ l
+four_of [] h = absurd (omega arith)
+four_of (a ∷ []) h = absurd (omega arith)
+four_of (a ∷ b ∷ []) h = absurd (omega arith)
+four_of (a ∷ b ∷ c ∷ []) h = absurd (omega arith)
+four_of (a ∷ b ∷ c ∷ d ∷ []) h = refl
+four_of (a ∷ b ∷ c ∷ d ∷ e ∷ l) h = absurd (omega arith)
+
+same_word_list : (a b c d e f g h : ℕ) → a ≡ e → b ≡ f → c ≡ g → d ≡ h →
+    ◌≡◌ {A = List ℕ} (a ∷ b ∷ c ∷ d ∷ []) (e ∷ f ∷ g ∷ h ∷ [])
+same_word_list a b c d e f g h p q r s = cc
+
+-- a block's words, and no others, are written where it is stored
+pub block_elsewhere : (w : World) (a x : ℕ) (b : Block) → ((j : ℕ) → j < 16 → x ≢ a + j) → (stored_block w a b).memory x ≡ w.memory x
+unfolding stored_block
+block_elsewhere w a x b apart =
+    memory_stored _ (a + 12) (word b 3) x (apart 12 (omega arith)) ∙ memory_stored _ (a + 8) (word b 2) x (apart 8 (omega arith))
+    ∙ memory_stored _ (a + 4) (word b 1) x (apart 4 (omega arith)) ∙ memory_stored w a (word b 0) x (λ e. apart 0 (omega arith) (e ∙ sym (add-zero a)))
+
+pub block_here : (w : World) (a : ℕ) (b : Block) → IsBlock b → block_at (stored_block w a b).memory a ≡ b
+unfolding stored_block
+block_here w a b is =
+    ap (λ l. let r : Block = record { w = l } in r)
+    (same_word_list _ _ _ _ (word b 0) (word b 1) (word b 2) (word b 3)
+    (memory_stored _ (a + 12) (word b 3) a (omega arith) ∙ memory_stored _ (a + 8) (word b 2) a (omega arith) ∙ memory_stored _ (a + 4) (word b 1) a (omega arith) ∙ memory_here w a (word b 0))
+    (memory_stored _ (a + 12) (word b 3) (a + 4) (omega arith) ∙ memory_stored _ (a + 8) (word b 2) (a + 4) (omega arith) ∙ memory_here _ (a + 4) (word b 1))
+    (memory_stored _ (a + 12) (word b 3) (a + 8) (omega arith) ∙ memory_here _ (a + 8) (word b 2))
+    (memory_here _ (a + 12) (word b 3))
+    ∙ four_of b.w is.0)
+
+-- ---- where it may be posted
+
+pub record CanPost (h : Header) (w : World) (b : Block) : Type 0 where
+  pub size : 0 < event_size h
+  pub started : w.started ≡ true
+  pub room : has_room (event_size h) w.posted w.dequeue ≡ true
+  pub cycle_is : cycle b ≡ cycle_of (event_shape h) w.posted
+
+pub can_post_is : (h : Header) (w : World) (b : Block) → can_post h w b ≡ true → CanPost h w b
+unfolding can_post
+can_post_is h w b can =
+    let p = and_parts (nat_lt 0 (event_size h) && w.started && has_room (event_size h) w.posted w.dequeue) (cycle b == cycle_of (event_shape h) w.posted) can in
+    let q = and_parts (nat_lt 0 (event_size h) && w.started) (has_room (event_size h) w.posted w.dequeue) p.0 in
+    let r = and_parts (nat_lt 0 (event_size h)) w.started q.0 in
+    record { size = ltb-true 0 (event_size h) r.0; started = r.1; room = q.1; cycle_is = eqb-true (cycle b) (cycle_of (event_shape h) w.posted) p.1 }
+
+pub size_is : (h : Header) → event_size h ≡ place_count (event_shape h)
+unfolding event_size
+size_is h = refl
+
+module _ (h : Header) (e : EventRing h) where
+  event_word : (p j : ℕ) → j < 16 → j % 4 ≡ 0 → touches_events h (address_of (event_shape h) p + j) ≡ true
+  event_word p j low word =
+      let aligned = address_aligned (event_shape h) e.is p in
+      touches-word (event_shape h) e.is (address_of (event_shape h) p + j) (omega arith) ∙ address_inside (event_shape h) e.is p j low
+
+  event_in_no_context : (k : Known) → DriverKeeps h k → (p j : ℕ) → j < 16 → IsInNoContext h k (address_of (event_shape h) p + j)
+  event_in_no_context k d p j low q n i c u is l same =
+      let lies = context_lies h k d q n c u is in
+      byte_apart e.ring.shape n (input_context_bytes h.context_size) (address_of (event_shape h) p + j)
+      (ring_untouched h n (input_context_bytes h.context_size) lies.rings e.ring e.at)
+      (ap (λ s. is_inside s (address_of (event_shape h) p + j)) (sym e.shape) ∙ address_inside (event_shape h) e.is p j low)
+      (omega arith) (omega arith)
+
+  -- two positions less than a lap apart have no byte in common
+  pub places_apart : (p q i j : ℕ) → p < q → q < p + place_count (event_shape h) → i < 16 → j < 16 → address_of (event_shape h) p + i ≢ address_of (event_shape h) q + j
+  places_apart p q i j less near hi hj same =
+      let place = same_place_of (event_shape h) e.is p q (omega arith) (omega arith) in
+      let one : p ≡ q = same_in_lap (place_count (event_shape h)) p q (place_count_pos (event_shape h) e.is) (omega arith) near place in
+      omega arith
+
+  module _ (k : Known) (d : DriverKeeps h k) (w : World) (p : ℕ) (b : Block) where
+    pub stands_block : Stands h k w → Stands h k (stored_block w (address_of (event_shape h) p) b)
+    unfolding stored_block
+    stands_block s =
+        let a : ℕ = address_of (event_shape h) p in
+        stands_stored h k _ (a + 12) (word b 3) (inr (event_word p 12 (omega arith) refl))
+        (stands_stored h k _ (a + 8) (word b 2) (inr (event_word p 8 (omega arith) refl))
+        (stands_stored h k _ (a + 4) (word b 1) (inr (event_word p 4 (omega arith) refl))
+        (stands_stored h k w a (word b 0) (inr (ap (λ x. touches_events h x) (sym (add-zero a)) ∙ event_word p 0 (omega arith) refl)) s)))
+
+    pub late_block : Late w → Late (stored_block w (address_of (event_shape h) p) b)
+    unfolding stored_block
+    late_block late =
+        let a : ℕ = address_of (event_shape h) p in
+        late_stored h _ (a + 12) (word b 3) (late_stored h _ (a + 8) (word b 2) (late_stored h _ (a + 4) (word b 1) (late_stored h w a (word b 0) late)))
+
+    pub matches_block : Late w → Matches h k w → Matches h k (stored_block w (address_of (event_shape h) p) b)
+    unfolding stored_block
+    matches_block late m =
+        let a : ℕ = address_of (event_shape h) p in
+        let l1 = late_stored h w a (word b 0) late in
+        let l2 = late_stored h (stored w a (word b 0)) (a + 4) (word b 1) l1 in
+        let l3 = late_stored h (stored (stored w a (word b 0)) (a + 4) (word b 1)) (a + 8) (word b 2) l2 in
+        matches_stored h k _ (a + 12) (word b 3) l3 (event_in_no_context k d p 12 (omega arith))
+        (matches_stored h k _ (a + 8) (word b 2) l2 (event_in_no_context k d p 8 (omega arith))
+        (matches_stored h k _ (a + 4) (word b 1) l1 (event_in_no_context k d p 4 (omega arith))
+        (matches_stored h k w a (word b 0) late (λ q n i c u is l same. event_in_no_context k d p 0 (omega arith) q n i c u is l (same ∙ sym (add-zero a))) m)))

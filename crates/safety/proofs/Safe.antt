@@ -1,0 +1,161 @@
+-- A world that agrees with what a rule-keeping driver's rows lead to is safe: harm by harm
+use Rattle.std.specs.Prelude.{◌≡◌, ℕ, ◌+◌, ◌-◌, ◌<◌, ◌≤◌, ◌==◌, ◌&&◌, Bool, false, not, List, [], ◌∷◌, nat_lt, nat_le, None, find, option_map}
+use Rattle.std.specs.List.{list_any}
+use Rattle.std.proofs.Common.{arith, refl, sym, ◌∙◌, ap, inl, inr}
+use Rattle.std.proofs.lemmas.Bool.{cases_Bool, cases_eq, and_left, and_right, eq-eqb, or_from, le-ltb, lt-leb, not_from_true}
+use Rattle.trb.specs.declared.block.Block.{Block}
+use Rattle.trb.specs.Block.{block_at, cycle}
+use Rattle.segments.specs.Spots.{number, spot_address}
+use Rattle.segments.specs.declared.spot.Spot.{Spot}
+use Rattle.segments.proofs.Reaching.{given_count_declared}
+use Rattle.traces.specs.declared.header.Header.{Header}
+use Rattle.traces.specs.declared.ring.Ring.{Ring}
+use Rattle.traces.specs.declared.row.Row.{Row}
+use Rattle.traces.specs.Header.{IsHeader, shape_of, command_id, event_size, some_ring}
+use Rattle.world_state.specs.declared.harm.Harm.{Harm}
+use Rattle.world_state.specs.declared.harm.Harm.TheVariants.{TakenOutOfOrder, TakenOtherWords, WaitsInsideDescriptor, LooksOutside, PostsOverUnread, InputContextChanged}
+use Rattle.world_state.specs.World.{World}
+use Rattle.world_state.specs.Harms.{is_out_of_order, has_other_words, is_inside_descriptor, waits, harms, harm_of, IsSafe, has_changed_context}
+use Rattle.ring_knowledge.specs.Known.{Known}
+use Rattle.ring_knowledge.specs.Learned.{known}
+use Rattle.safety.specs.Keeps.{IsDriverRing, DriverKeeps}
+use Rattle.safety.specs.Stands.{Stands}
+use Rattle.safety.specs.Matches.{RingMatches, state_of, Agrees}
+use Rattle.safety.specs.Invariant.{Runs, reading}
+use Rattle.safety.proofs.Headers.{transfer_driver, ring_shape}
+use Rattle.safety.proofs.AtSpots.{MayStand}
+use Rattle.safety.proofs.NoWait.{ceiling_given, inside_no_border, cycle_inside}
+use Rattle.safety.proofs.RingMemory.{block_at_spot}
+use Rattle.safety.proofs.SafeContext.{changed_none, command_is_ring, under_way_unchanged}
+
+no_ring : (rings : List Ring) (test : ℕ → Bool) → ((r : ℕ) → test r ≡ false) → list_any (λ r. test r.id) rings ≡ false
+no_ring [] test none = refl
+no_ring (r ∷ rest) test none = or_from (test r.id) (list_any (λ r. test r.id) rest) (none r.id) (no_ring rest test none)
+
+pub no_some_ring : (h : Header) (test : ℕ → Bool) → ((r : ℕ) → test r ≡ false) → some_ring h test ≡ false
+unfolding some_ring
+no_some_ring h test none = no_ring h.rings test none
+
+not_inside_nothing : is_inside_descriptor [] ≡ false
+unfolding is_inside_descriptor
+not_inside_nothing = refl
+
+in_order_nothing : (h : Header) (r : ℕ) → is_out_of_order (shape_of h r) [] ≡ false
+unfolding is_out_of_order
+in_order_nothing h r = refl
+
+as_declared_nothing : (h : Header) (r : ℕ) → has_other_words (shape_of h r) [] ≡ false
+unfolding has_other_words
+as_declared_nothing h r = refl
+
+waits_not : (w : World) (r : ℕ) → cycle (block_at w.memory (w.pointer_of r)) ≡ w.cycle_state r → waits w r ≡ false
+unfolding waits
+waits_not w r same =
+    and_right (w.is_active r) (not (cycle (block_at w.memory (w.pointer_of r)) == w.cycle_state r))
+    (not_from_true (cycle (block_at w.memory (w.pointer_of r)) == w.cycle_state r) (eq-eqb (cycle (block_at w.memory (w.pointer_of r))) (w.cycle_state r) same))
+
+waits_inactive : (w : World) (r : ℕ) → w.is_active r ≡ false → waits w r ≡ false
+unfolding waits
+waits_inactive w r off = and_left (w.is_active r) (not (cycle (block_at w.memory (w.pointer_of r)) == w.cycle_state r)) off
+
+-- events posted and not yet read are fewer than the ring has places
+room_left : (size posted reads dequeue : ℕ) → dequeue ≤ reads → reads ≤ posted → (0 < posted → posted + 1 ≤ dequeue + size) → (nat_lt 0 size && nat_le size (posted - reads)) ≡ false
+room_left size posted reads dequeue low read room =
+    elim (cases_eq posted 0) [
+      | inl none ↦ elim (cases_eq size 0) [
+        | inl empty ↦ and_left (nat_lt 0 size) (nat_le size (posted - reads)) (le-ltb 0 size (omega arith))
+        | inr some ↦ and_right (nat_lt 0 size) (nat_le size (posted - reads)) (lt-leb size (posted - reads) (omega arith))
+      ]
+      | inr some ↦
+          let high : posted + 1 ≤ dequeue + size = room (omega arith) in
+          and_right (nat_lt 0 size) (nat_le size (posted - reads)) (lt-leb size (posted - reads) (omega arith))
+    ]
+
+module _ (h : Header) (is : IsHeader h) (k : Known) (w : World) (d : DriverKeeps h k) (s : Stands h k w) where
+  -- the pointer of a ring stands where it may
+  pub stands_at : (r : ℕ) (t : Spot) → IsDriverRing h r → RingMatches (shape_of h r) (k.ring r) (state_of w r) t → MayStand (shape_of h r) (k.ring r) t
+  stands_at r t ring m =
+      let low = ceiling_given (shape_of h r) (ring_shape h is r ring).is k.memory (k.ring r) (d.rings r ring) in
+      record { is_spot = m.is_spot; reached = m.reached; below = omega (arith, m.below); way = m.way }
+
+  -- what the controller finds at its pointer is what is known to stand there
+  pub block_found : (r : ℕ) (t : Spot) → IsDriverRing h r → RingMatches (shape_of h r) (k.ring r) (state_of w r) t → block_at w.memory (w.pointer_of r) ≡ block_at k.memory (spot_address (shape_of h r) t)
+  block_found r t ring m = ap (λ a. block_at w.memory a) m.pointer ∙ block_at_spot h is k w d s r t ring m.is_spot
+
+  -- no wait inside a descriptor
+  matched_no_wait : (r : ℕ) (t : Spot) → IsDriverRing h r → RingMatches (shape_of h r) (k.ring r) (state_of w r) t → (waits w r && is_inside_descriptor (w.events r)) ≡ false
+  matched_no_wait r t ring m =
+      elim (cases_Bool (is_inside_descriptor (w.events r))) [
+        | inr outside ↦ and_right (waits w r) (is_inside_descriptor (w.events r)) outside
+        | inl inside ↦
+            let shape = shape_of h r in
+            let allowed = (ring_shape h is r ring).is in
+            let keeps = d.rings r ring in
+            let at = stands_at r t ring m in
+            let high = given_count_declared (shape_of h r) allowed k.memory (k.ring r) keeps in
+            let none = inside_no_border (k.ring r) (number t) (w.events r) m.newest (omega (arith, at.below)) inside in
+            let cycle_is = cycle_inside (shape_of h r) allowed k.memory (k.ring r) keeps t at none in
+            and_left (waits w r) (is_inside_descriptor (w.events r)) (waits_not w r (ap (λ b. cycle b) (block_found r t ring m) ∙ cycle_is ∙ sym m.cycle))
+      ]
+
+nothing_found : (a b c d e f : Bool) → a ≡ false → b ≡ false → c ≡ false → d ≡ false → e ≡ false → f ≡ false →
+    option_map (λ (t : Harm × Bool). t.0) (find (λ (t : Harm × Bool). t.1) ((TakenOutOfOrder, a) ∷ (TakenOtherWords, b) ∷ (WaitsInsideDescriptor, c) ∷ (LooksOutside, d) ∷ (PostsOverUnread, e) ∷ (InputContextChanged, f) ∷ [])) ≡ None
+nothing_found a b c d e f ha hb hc hd he hf = rw (ha, hb, hc, hd, he, hf) refl
+
+safe_from : (h : Header) (w : World) → some_ring h (λ r. is_out_of_order (shape_of h r) (w.events r)) ≡ false →
+    some_ring h (λ r. has_other_words (shape_of h r) (w.events r)) ≡ false → some_ring h (λ r. waits w r && is_inside_descriptor (w.events r)) ≡ false →
+    w.looked_outside ≡ false → (nat_lt 0 (event_size h) && nat_le (event_size h) (w.posted - w.reads)) ≡ false → has_changed_context h w w.under_way ≡ false → IsSafe h w
+unfolding harm_of harms
+safe_from h w a b c d e f = nothing_found _ _ _ _ _ _ a b c d e f
+
+module _ (h : Header) (is : IsHeader h) (k : Known) (unread : List Block) (w : World) (d : DriverKeeps h k) (g : Agrees h k unread w) where
+  in_order : (r : ℕ) → is_out_of_order (shape_of h r) (w.events r) ≡ false
+  in_order r =
+      elim (cases_eq r (command_id h)) [
+        | inl command ↦ elim (cases_Bool k.started) [
+          | inl on ↦ ap (λ r. is_out_of_order (shape_of h r) (w.events r)) command ∙ (g.matches.command on).ring.in_order
+          | inr off ↦ ap (λ r. is_out_of_order (shape_of h r) (w.events r)) command ∙ ap (λ es. is_out_of_order (shape_of h (command_id h)) es) (g.matches.before off).no_events ∙ in_order_nothing h (command_id h)
+        ]
+        | inr other ↦ elim (g.matches.rings r other) [ inl bound ↦ bound.matches.in_order | inr free ↦ free.rests.in_order ]
+      ]
+
+  as_declared : (r : ℕ) → has_other_words (shape_of h r) (w.events r) ≡ false
+  as_declared r =
+      elim (cases_eq r (command_id h)) [
+        | inl command ↦ elim (cases_Bool k.started) [
+          | inl on ↦ ap (λ r. has_other_words (shape_of h r) (w.events r)) command ∙ (g.matches.command on).ring.as_declared
+          | inr off ↦ ap (λ r. has_other_words (shape_of h r) (w.events r)) command ∙ ap (λ es. has_other_words (shape_of h (command_id h)) es) (g.matches.before off).no_events ∙ as_declared_nothing h (command_id h)
+        ]
+        | inr other ↦ elim (g.matches.rings r other) [ inl bound ↦ bound.matches.as_declared | inr free ↦ free.rests.as_declared ]
+      ]
+
+  no_wait : (r : ℕ) → (waits w r && is_inside_descriptor (w.events r)) ≡ false
+  no_wait r =
+      elim (cases_eq r (command_id h)) [
+        | inl command ↦ ap (λ r. waits w r && is_inside_descriptor (w.events r)) command ∙ elim (cases_Bool k.started) [
+          | inl on ↦ matched_no_wait h is k w d g.stands (command_id h) (g.matches.command on).spot (command_is_ring h k d on) (g.matches.command on).ring
+          | inr off ↦ and_left (waits w (command_id h)) (is_inside_descriptor (w.events (command_id h))) (waits_inactive w (command_id h) (g.matches.before off).inactive)
+        ]
+        | inr other ↦ elim (g.matches.rings r other) [
+          | inl bound ↦ matched_no_wait h is k w d g.stands r bound.spot (transfer_driver h r (d.states.transfer bound.slot bound.index r bound.bound)) bound.matches
+          | inr free ↦ and_left (waits w r) (is_inside_descriptor (w.events r)) (waits_inactive w r free.rests.inactive)
+        ]
+      ]
+
+  context_kept : has_changed_context h w w.under_way ≡ false
+  context_kept =
+      elim (cases_Bool k.started) [
+        | inl on ↦ let c = g.matches.command on in under_way_unchanged h is k d w g.matches c.spot (command_is_ring h k d on) c.ring w.under_way c.under_way
+        | inr off ↦ ap (λ o. has_changed_context h w o) (g.matches.before off).none ∙ changed_none h w
+      ]
+
+  pub agreed_safe : IsSafe h w
+  agreed_safe =
+      safe_from h w (no_some_ring h (λ r. is_out_of_order (shape_of h r) (w.events r)) in_order)
+      (no_some_ring h (λ r. has_other_words (shape_of h r) (w.events r)) as_declared)
+      (no_some_ring h (λ r. waits w r && is_inside_descriptor (w.events r)) no_wait)
+      g.matches.inside (room_left (event_size h) w.posted w.reads w.dequeue g.events.order.dequeued g.events.order.read g.events.order.room) context_kept
+
+-- each world of a run is safe
+pub safe : (h : Header) → IsHeader h → (past : List Row) (w : World) (r : Runs h past w) → DriverKeeps h (known h (reading r.unread past)) → IsSafe h w
+safe h is past w r d = agreed_safe h is (known h (reading r.unread past)) r.unread w d r.agrees

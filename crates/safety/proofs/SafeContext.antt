@@ -1,0 +1,120 @@
+-- The input context of the command under way is as it was when the command was given
+use Rattle.std.specs.Prelude.{◌≡◌, ℕ, suc, zero, ◌+◌, ◌*◌, ◌/◌, ◌<◌, ◌≤◌, Bool, true, false, [], nat_lt, Option, Some, None, is_some, option_and_then, slice_get}
+use Rattle.std.specs.List.{list_any, range_with_len}
+use Rattle.std.proofs.Common.{arith, refl, sym, ◌∙◌, ap, inl, inr, get_or}
+use Rattle.std.proofs.lemmas.Bool.{false≢true, or_from, le-ltb}
+use Rattle.std.proofs.lemmas.Option.{slice_get-get_or}
+use Rattle.trb.specs.declared.block.Block.{Block}
+use Rattle.segments.specs.declared.spot.Spot.{Spot}
+use Rattle.segments.specs.Places.{address_of}
+use Rattle.segments.specs.RingView.{floor_number, is_due}
+use Rattle.segments.specs.Ceiling.{given_count}
+use Rattle.segments.proofs.Search.{cases_option}
+use Rattle.segments.proofs.Positions.{cycle_of_bit}
+use Rattle.segments.proofs.Giving.{due_from}
+use Rattle.segments.proofs.GivenCount.{given_below}
+use Rattle.segments.proofs.StepFacts.{step_is}
+use Rattle.segments.proofs.Reaching.{given_count_declared, given_count_near}
+use Rattle.commands.specs.declared.command.Command.{Command}
+use Rattle.commands.specs.Command.{command_of, named_context}
+use Rattle.contexts.specs.Contexts.{input_context_bytes}
+use Rattle.traces.specs.declared.header.Header.{Header}
+use Rattle.traces.specs.declared.register.Register.TheVariants.{Crcr}
+use Rattle.traces.specs.Header.{IsHeader, shape_of, command_id}
+use Rattle.world_state.specs.World.{World, UnderWay}
+use Rattle.world_state.specs.Harms.{is_changed_since, is_context_changed, has_changed_context}
+use Rattle.ring_knowledge.specs.Known.{Known}
+use Rattle.ring_knowledge.specs.Rings.{command_at, next_command}
+use Rattle.safety.specs.Keeps.{IsDriverRing, DriverKeeps}
+use Rattle.safety.specs.Matches.{RingMatches, state_of, UnderWayMatches, IsUnchanged, Matches}
+use Rattle.safety.proofs.Headers.{ring_shape}
+use Rattle.safety.proofs.SameCommand.{command_of-with_cycle}
+use Rattle.safety.proofs.NoWait.{ceiling_given}
+
+pub none_in_range : (test : ℕ → Bool) (a n : ℕ) → ((i : ℕ) → a ≤ i → i < a + n → test i ≡ false) → list_any test (range_with_len a n) ≡ false
+none_in_range test a zero each = refl
+none_in_range test a (suc n) each =
+    or_from (test a) (list_any test (range_with_len (a + 1) n)) (each a (omega arith) (omega arith))
+    (none_in_range test (a + 1) n (λ i low high. each i (omega arith) (omega arith)))
+
+pub next_is : (h : Header) (k : Known) → next_command h k ≡ floor_number (k.ring (command_id h))
+unfolding next_command
+next_is h k = refl
+
+pub command_at_is : (h : Header) (k : Known) (p : ℕ) (d : Block) → slice_get (k.ring (command_id h)).queue p ≡ Some d → command_at h k p ≡ command_of d
+unfolding command_at
+command_at_is h k p d at = rw at refl
+
+unchanged_test : (h : Header) (w : World) (at : ℕ) (c : Option ℕ) → IsUnchanged h w at c → is_context_changed h w (w.written (at + 12)) c ≡ false
+unfolding is_context_changed is_changed_since
+unchanged_test h w at None same = refl
+unchanged_test h w at (Some c) same =
+    none_in_range (λ i. nat_lt (w.written (at + 12)) (w.changed (c + 4 * i))) 0 (input_context_bytes h.context_size / 4)
+    (λ i low high. le-ltb (w.written (at + 12)) (w.changed (c + 4 * i)) (same i (omega arith)))
+
+pub changed_none : (h : Header) (w : World) → has_changed_context h w None ≡ false
+unfolding has_changed_context
+changed_none h w = refl
+
+changed_some : (h : Header) (w : World) (u : UnderWay) (o : Option Command) → command_of u.block ≡ o →
+    has_changed_context h w (Some u) ≡ is_context_changed h w (w.written (u.address + 12)) (option_and_then named_context o)
+unfolding has_changed_context
+changed_some h w u o is = ap (λ x. is_context_changed h w (w.written (u.address + 12)) (option_and_then named_context x)) is
+
+no_context : (h : Header) (w : World) (step : ℕ) → is_context_changed h w step None ≡ false
+unfolding is_context_changed
+no_context h w step = refl
+
+-- the command ring is declared once the controller is started
+pub command_is_ring : (h : Header) (k : Known) → DriverKeeps h k → k.started ≡ true → IsDriverRing h (command_id h)
+command_is_ring h k d started =
+    elim (cases_option (k.register Crcr)) [
+      | inl none ↦ absurd (false≢true (sym (ap (λ o. is_some o) none) ∙ d.crcr_written started))
+      | inr some ↦ (d.crcr some.0 some.1).is_ring
+    ]
+
+-- the command that was taken: what is declared at the floor, given and unfinished
+pub record AtFloor (h : Header) (k : Known) : Type 0 where
+  pub block : Block
+  pub queued : slice_get (k.ring (command_id h)).queue (next_command h k) ≡ Some block
+  pub due : is_due (shape_of h (command_id h)) (k.ring (command_id h)).floor (next_command h k) ≡ true
+  pub given : (k.ring (command_id h)).given (next_command h k) ≡ true
+
+module _ (h : Header) (is : IsHeader h) (k : Known) (d : DriverKeeps h k) where
+  pub at_floor : IsDriverRing h (command_id h) → next_command h k < given_count (shape_of h (command_id h)) (k.ring (command_id h)) → AtFloor h k
+  at_floor ring below =
+      let shape = shape_of h (command_id h) in
+      let allowed = (ring_shape h is (command_id h) ring).is in
+      let keeps = d.rings (command_id h) ring in
+      let high = given_count_declared (shape_of h (command_id h)) allowed k.memory (k.ring (command_id h)) keeps in
+      let near = given_count_near (shape_of h (command_id h)) allowed k.memory (k.ring (command_id h)) keeps in
+      let none : Block = record { w = [] } in
+      record {
+        block = get_or (k.ring (command_id h)).queue (next_command h k) none;
+        queued = slice_get-get_or (k.ring (command_id h)).queue (next_command h k) none (omega arith);
+        due = due_from (shape_of h (command_id h)) (k.ring (command_id h)).floor (next_command h k) (omega (arith, next_is h k)) (omega (arith, next_is h k));
+        given = (step_is (shape_of h (command_id h)) (k.ring (command_id h)) (next_command h k)
+        (given_below (shape_of h (command_id h)) (k.ring (command_id h)) (next_command h k) below)).0;
+      }
+
+  unchanged_of : (w : World) → Matches h k w → (u : UnderWay) (t : Spot) (f : AtFloor h k) → UnderWayMatches h k t (Some u) → (o : Option Command) → command_of f.block ≡ o →
+      has_changed_context h w (Some u) ≡ false
+  unchanged_of w m u t f under None none =
+      changed_some h w u None
+      (ap (λ b. command_of b) (under.1.words f.block f.queued) ∙ command_of-with_cycle f.block _ (cycle_of_bit (shape_of h (command_id h)) (next_command h k)) ∙ none)
+      ∙ no_context h w (w.written (u.address + 12))
+  unchanged_of w m u t f under (Some c) some =
+      changed_some h w u (Some c)
+      (ap (λ b. command_of b) (under.1.words f.block f.queued) ∙ command_of-with_cycle f.block _ (cycle_of_bit (shape_of h (command_id h)) (next_command h k)) ∙ some)
+      ∙ ap (λ a. is_context_changed h w (w.written (a + 12)) (named_context c)) under.1.address
+      ∙ unchanged_test h w (address_of (shape_of h (command_id h)) (next_command h k)) (named_context c)
+      (m.contexts (next_command h k) c (record { due = f.due; given = f.given; command = command_at_is h k (next_command h k) f.block f.queued ∙ some }))
+
+  -- the input context of the command under way wasn't changed
+  pub under_way_unchanged : (w : World) → Matches h k w → (t : Spot) → IsDriverRing h (command_id h) → RingMatches (shape_of h (command_id h)) (k.ring (command_id h)) (state_of w (command_id h)) t →
+      (o : Option UnderWay) → UnderWayMatches h k t o → has_changed_context h w o ≡ false
+  under_way_unchanged w m t ring at None under = changed_none h w
+  under_way_unchanged w m t ring at (Some u) under =
+      let low = ceiling_given (shape_of h (command_id h)) (ring_shape h is (command_id h) ring).is k.memory (k.ring (command_id h)) (d.rings (command_id h) ring) in
+      let f = at_floor ring (omega (arith, at.below, under.0)) in
+      unchanged_of w m u t f under (command_of f.block) refl

@@ -1,0 +1,37 @@
+-- A block is the same command with either Cycle bit
+use Rattle.std.specs.Prelude.{◌≡◌, ℕ, ◌<◌, ◌||◌, if◌then◌else◌, None}
+use Rattle.std.proofs.Common.{refl, ◌∙◌, ap}
+use Rattle.trb.specs.declared.block.Block.{Block}
+use Rattle.trb.specs.declared.kind.BlockKind.{BlockKind}
+use Rattle.trb.specs.declared.kind.BlockKind.TheVariants as kinds
+use Rattle.trb.specs.Block.{with_cycle, kind}
+use Rattle.trb.specs.Kind.{is_left_out_command}
+use Rattle.trb.specs.Descriptor.{has_left_out_field, is_command_left_out}
+use Rattle.trb.proofs.BlockLemmas.{kind-with_cycle, slot-with_cycle, endpoint-with_cycle, is_set-with_cycle}
+use Rattle.commands.specs.Command.{command_of, command_by_kind}
+
+module _ (b : Block) (c : ℕ) (is_bit : c < 2) where
+  fields_same : (k : BlockKind) → has_left_out_field k (with_cycle b c) ≡ has_left_out_field k b
+  fields_same kinds.ResetEndpoint = is_set-with_cycle b c is_bit 8
+  fields_same _ = refl
+
+  command_same : (k : BlockKind) → command_by_kind k (with_cycle b c) ≡ command_by_kind k b
+  command_same kinds.DisableSlot = let s = slot-with_cycle b c is_bit in cc
+  command_same kinds.AddressDevice = let s = slot-with_cycle b c is_bit in let o = is_set-with_cycle b c is_bit 8 in cc
+  command_same kinds.ConfigureEndpoint = let s = slot-with_cycle b c is_bit in let o = is_set-with_cycle b c is_bit 8 in cc
+  command_same kinds.EvaluateContext = let s = slot-with_cycle b c is_bit in cc
+  command_same kinds.ResetEndpoint = let s = slot-with_cycle b c is_bit in let e = endpoint-with_cycle b c is_bit in cc
+  command_same kinds.StopEndpoint = let s = slot-with_cycle b c is_bit in let e = endpoint-with_cycle b c is_bit in cc
+  command_same kinds.SetTrDequeue = let s = slot-with_cycle b c is_bit in let e = endpoint-with_cycle b c is_bit in cc
+  command_same kinds.ResetDevice = let s = slot-with_cycle b c is_bit in cc
+  command_same _ = refl
+
+  pub command_of-with_cycle : command_of (with_cycle b c) ≡ command_of b
+  command_of-with_cycle =
+      let k = kind-with_cycle b c is_bit in
+      let left_out : is_command_left_out (with_cycle b c) ≡ is_command_left_out b =
+      ap (λ k. is_left_out_command k || has_left_out_field k (with_cycle b c)) k ∙ ap (λ f. is_left_out_command (kind b) || f) (fields_same (kind b)) in
+      let same : command_by_kind (kind (with_cycle b c)) (with_cycle b c) ≡ command_by_kind (kind b) b =
+      ap (λ k. command_by_kind k (with_cycle b c)) k ∙ command_same (kind b) in
+      ap (λ t. if t then None else command_by_kind (kind (with_cycle b c)) (with_cycle b c)) left_out
+      ∙ ap (λ o. if is_command_left_out b then None else o) same

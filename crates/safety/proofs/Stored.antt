@@ -1,0 +1,102 @@
+-- A word that the controller writes: what stands in the world and what the controller did stay
+use Rattle.std.specs.Prelude.{◌≡◌, ◌≢◌, ℕ, ◌+◌, ◌*◌, ◌/◌, ◌<◌, ◌≤◌, ◌==◌, ◌⊎◌, if◌then◌else◌, true, false, Option, Some, None}
+use Rattle.std.proofs.Common.{arith, refl, sym, ◌∙◌, ap, subst, inl, inr}
+use Rattle.std.proofs.lemmas.Bool.{cases_Bool, cases_eq, false≢true, cond-true, cond-false}
+use Rattle.guest_memory.specs.Memory.{put}
+use Rattle.segments.proofs.MemoryWords.{put_here, put_elsewhere}
+use Rattle.commands.specs.declared.command.Command.{Command}
+use Rattle.commands.specs.Command.{named_context}
+use Rattle.contexts.specs.Contexts.{input_context_bytes}
+use Rattle.traces.specs.declared.header.Header.{Header}
+use Rattle.traces.specs.Header.{shape_of, command_id}
+use Rattle.segments.specs.Places.{address_of}
+use Rattle.world_state.specs.World.{World, stored}
+use Rattle.ring_knowledge.specs.Known.{Known}
+use Rattle.safety.specs.Keeps.{IsUnfinished}
+use Rattle.safety.specs.Stands.{Stands, touches_events}
+use Rattle.safety.specs.Matches.{IsUnchanged, Matches}
+
+-- within a step a stamp is at most that of the step
+abbrev pub Late : World → Type 0
+Late w = (a : ℕ) → w.changed a ≤ w.steps + 1
+
+pub memory_stored : (w : World) (a x b : ℕ) → b ≢ a → (stored w a x).memory b ≡ w.memory b
+unfolding stored
+memory_stored w a x b other = put_elsewhere w.memory a x b other
+
+pub memory_here : (w : World) (a x : ℕ) → (stored w a x).memory a ≡ x
+unfolding stored
+memory_here w a x = put_here w.memory a x
+
+module _ (h : Header) where
+  -- the word at a belongs to no input context of an unfinished command
+  abbrev pub IsInNoContext : Known → ℕ → Type 0
+  IsInNoContext k a = (p n i : ℕ) (c : Command) → IsUnfinished h k p c → named_context c ≡ Some n → i < input_context_bytes h.context_size / 4 → n + 4 * i ≢ a
+
+  pub late_stored : (w : World) (a x : ℕ) → Late w → Late (stored w a x)
+  unfolding stored
+  late_stored w a x late b =
+      elim (cases_Bool (w.memory a == x)) [
+        | inl same ↦ omega (arith, ap (λ f. f b) (cond-true (w.memory a == x) w.changed (put w.changed a (w.steps + 1)) same), late b)
+        | inr other ↦ elim (cases_eq b a) [
+          | inl here ↦ omega (arith, ap (λ f. f b) (cond-false (w.memory a == x) w.changed (put w.changed a (w.steps + 1)) other), ap (λ c. put w.changed a (w.steps + 1) c) here, put_here w.changed a (w.steps + 1))
+          | inr there ↦ omega (arith, ap (λ f. f b) (cond-false (w.memory a == x) w.changed (put w.changed a (w.steps + 1)) other), put_elsewhere w.changed a (w.steps + 1) b there, late b)
+        ]
+      ]
+
+  -- a word other than the one written keeps its stamp
+  changed_elsewhere : (w : World) (a x b : ℕ) → b ≢ a → (stored w a x).changed b ≡ w.changed b
+  unfolding stored
+  changed_elsewhere w a x b other =
+      elim (cases_Bool (w.memory a == x)) [
+        | inl same ↦ ap (λ f. f b) (cond-true (w.memory a == x) w.changed (put w.changed a (w.steps + 1)) same)
+        | inr new ↦ ap (λ f. f b) (cond-false (w.memory a == x) w.changed (put w.changed a (w.steps + 1)) new) ∙ put_elsewhere w.changed a (w.steps + 1) b other
+      ]
+
+  -- a write is stamped, and no other write's stamp changes
+  written_later : (w : World) (a x b n : ℕ) → n ≤ w.written b → n ≤ w.steps + 1 → n ≤ (stored w a x).written b
+  unfolding stored
+  written_later w a x b n low now =
+      elim (cases_eq b a) [
+        | inl here ↦ omega (arith, ap (λ c. put w.written a (w.steps + 1) c) here, put_here w.written a (w.steps + 1))
+        | inr other ↦ omega (arith, put_elsewhere w.written a (w.steps + 1) b other)
+      ]
+
+  unchanged_stored : (w : World) (a x at : ℕ) (o : Option ℕ) → Late w → ((n i : ℕ) → o ≡ Some n → i < input_context_bytes h.context_size / 4 → n + 4 * i ≢ a) →
+      IsUnchanged h w at o → IsUnchanged h (stored w a x) at o
+  unchanged_stored w a x at None late apart same = tt
+  unchanged_stored w a x at (Some n) late apart same = λ i l.
+      let kept = changed_elsewhere w a x (n + 4 * i) (apart n i refl l) in
+      let high = written_later w a x (at + 12) (w.changed (n + 4 * i)) (same i l) (late (n + 4 * i)) in
+      omega arith
+
+  pub matches_stored : (k : Known) (w : World) (a x : ℕ) → Late w → IsInNoContext k a → Matches h k w → Matches h k (stored w a x)
+  unfolding stored
+  matches_stored k w a x late apart m = record {
+    slots = m.slots;
+    endpoints = m.endpoints;
+    ring_of = m.ring_of;
+    rings = m.rings;
+    fresh = m.fresh;
+    before = λ off. let b = m.before off in record { inactive = b.inactive; no_events = b.no_events; none = b.none };
+    command = λ on. let c = m.command on in record { spot = c.spot; ring = c.ring; under_way = c.under_way };
+    scribbles = m.scribbles;
+    contexts = λ p c u. unchanged_stored w a x (address_of (shape_of h (command_id h)) p) (named_context c) late (λ n i is l. apart p n i c u is l) (m.contexts p c u);
+    inside = m.inside;
+  }
+
+  -- a word that the controller may write: it is soiled, or belongs to the event ring
+  pub stands_stored : (k : Known) (w : World) (a x : ℕ) → (k.soiled a ≡ true) ⊎ (touches_events h a ≡ true) → Stands h k w → Stands h k (stored w a x)
+  unfolding stored
+  stands_stored k w a x may s = record {
+    started = s.started;
+    stopped = s.stopped;
+    registers = s.registers;
+    queues = s.queues;
+    lengths = s.lengths;
+    dequeue = s.dequeue;
+    quiet = λ b clean apart. put_elsewhere w.memory a x b (λ same. elim may [
+      | inl soiled ↦ false≢true (sym clean ∙ ap k.soiled same ∙ soiled)
+      | inr event ↦ false≢true (sym apart ∙ ap (λ c. touches_events h c) same ∙ event)
+    ]) ∙ s.quiet b clean apart;
+  }

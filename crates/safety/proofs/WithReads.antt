@@ -1,0 +1,62 @@
+-- Other events counted as read, with nothing else that they say
+use Rattle.std.specs.Prelude.{◌≡◌, ℕ, ◌+◌, List, [], ◌∷◌, ◌++◌, Option, Some, None}
+use Rattle.std.proofs.Common.{refl, sym, ◌∙◌, ap}
+use Rattle.trb.specs.declared.block.Block.{Block}
+use Rattle.segments.specs.declared.spot.Spot.{Spot}
+use Rattle.commands.specs.declared.command.Command.{Command}
+use Rattle.commands.specs.declared.command.Command.TheVariants.{StopEndpoint}
+use Rattle.traces.specs.declared.header.Header.{Header}
+use Rattle.traces.specs.declared.row.Row.{Row}
+use Rattle.traces.specs.declared.row.Row.TheVariants.{Read}
+use Rattle.world_state.specs.World.{World, UnderWay}
+use Rattle.ring_knowledge.specs.Known.{Known}
+use Rattle.ring_knowledge.specs.Rings as of_rings
+use Rattle.ownership_rules.specs.Events as of_events
+use Rattle.safety.specs.Keeps.{IsUnfinished}
+use Rattle.safety.specs.Stands.{Stands}
+use Rattle.safety.specs.Matches.{UnderWayMatches, TakenCommand, Matches}
+use Rattle.safety.specs.Invariant.{reading}
+
+abbrev pub with_reads : Known → ℕ → Known
+with_reads k n = record k { reads = n }
+
+-- the unread events with one more are read with that one last
+pub reading_more : (unread : List Block) (past : List Row) (b : Block) → reading (unread ++ b ∷ []) past ≡ Read b ∷ reading unread past
+reading_more [] past b = refl
+reading_more (e ∷ rest) past b = reading_more rest (Read e ∷ past) b
+
+module _ (h : Header) where
+  pub stands_with_reads : (n : ℕ) (k : Known) (w : World) → Stands h k w → Stands h (with_reads k n) w
+  stands_with_reads n k w s = record { started = s.started; stopped = s.stopped; registers = s.registers; queues = s.queues; lengths = s.lengths; dequeue = s.dequeue; quiet = s.quiet }
+
+  seen_with_reads : (n : ℕ) (k : Known) (c : Command) → of_events.was_stop_seen (with_reads k n) c ≡ of_events.was_stop_seen k c
+  unfolding of_events.was_stop_seen
+  seen_with_reads n k (StopEndpoint s i) = refl
+  seen_with_reads n k _ = refl
+
+  taken_with_reads : (n : ℕ) (k : Known) (u : UnderWay) → TakenCommand h k u → TakenCommand h (with_reads k n) u
+  unfolding of_rings.next_command of_rings.command_at
+  taken_with_reads n k u t = record { address = t.address; words = t.words; stopped = λ c at. t.stopped c at ∙ sym (seen_with_reads n k c) }
+
+  under_way_with_reads : (n : ℕ) (k : Known) (t : Spot) (o : Option UnderWay) → UnderWayMatches h k t o → UnderWayMatches h (with_reads k n) t o
+  unfolding of_rings.next_command
+  under_way_with_reads n k t None under = under
+  under_way_with_reads n k t (Some u) under = (under.0, taken_with_reads n k u under.1)
+
+  unfinished_with_reads : (n : ℕ) (k : Known) (p : ℕ) (c : Command) → IsUnfinished h (with_reads k n) p c → IsUnfinished h k p c
+  unfolding of_rings.command_at
+  unfinished_with_reads n k p c u = record { due = u.due; given = u.given; command = u.command }
+
+  pub matches_with_reads : (n : ℕ) (k : Known) (w : World) → Matches h k w → Matches h (with_reads k n) w
+  matches_with_reads n k w m = record {
+    slots = m.slots;
+    endpoints = m.endpoints;
+    ring_of = m.ring_of;
+    rings = m.rings;
+    fresh = m.fresh;
+    before = m.before;
+    command = λ on. let c = m.command on in record { spot = c.spot; ring = c.ring; under_way = under_way_with_reads n k c.spot w.under_way c.under_way };
+    scribbles = m.scribbles;
+    contexts = λ p c u. m.contexts p c (unfinished_with_reads n k p c u);
+    inside = m.inside;
+  }

@@ -1,0 +1,149 @@
+-- What a driver that keeps the rules keeps, told of what is known after its rows, without any world
+use Rattle.std.specs.Prelude.{◌≡◌, ◌≢◌, ℕ, ◌+◌, ◌%◌, ◌^◌, ◌<◌, ◌≤◌, ◌⊎◌, Bool, true, false, map, All, Some, None, slice_get, is_some}
+use Rattle.trb.specs.declared.block.Block.{Block}
+use Rattle.segments.specs.declared.spot.Spot.TheVariants.{Data}
+use Rattle.segments.specs.Places.{address_of, is_in, is_inside, overlap}
+use Rattle.segments.specs.RingView.{floor_number, is_due}
+use Rattle.segments.specs.RingKeeps.{RingKeeps}
+use Rattle.segments.specs.Moves.{is_move}
+use Rattle.commands.specs.declared.command.Command.{Command}
+use Rattle.commands.specs.declared.command.Command.TheVariants.{AddressDevice}
+use Rattle.commands.specs.declared.state.SlotState.TheVariants.{Disabled, Enabled, Configured}
+use Rattle.commands.specs.declared.state.EndpointState.TheVariants.{Disabled as Off, Running}
+use Rattle.commands.specs.Command.{command_of, named_slot, same_slot}
+use Rattle.contexts.specs.Contexts.{device_context_bytes, context_pointer, context_cycle}
+use Rattle.traces.specs.declared.header.Header.{Header}
+use Rattle.traces.specs.declared.register.Register.TheVariants.{Crcr, Dcbaap, Erstba}
+use Rattle.traces.specs.declared.ring.Ring.{Ring}
+use Rattle.traces.specs.Header.{ring_with, shape_of, command_id, event_shape, event_size, touches_ring, is_driver_kind, is_transfer_kind}
+use Rattle.traces.specs.Register.{base_address, ring_cycle_state}
+use Rattle.event_ring.specs.EventRing.{table_bytes}
+use Rattle.ring_knowledge.specs.Known.{Known}
+use Rattle.ring_knowledge.specs.Rings.{command_at}
+use Rattle.ring_knowledge.specs.Writes.{device_named, entry_of}
+use Rattle.ownership_rules.specs.Areas.{is_soiled}
+use Rattle.ownership_rules.specs.Commands as commands
+use Rattle.ownership_rules.specs.Moves as moves
+use Rattle.ownership_rules.specs.Events.{is_stopping_now}
+
+module _ (h : Header) where
+  -- r is the ID of a command or transfer ring
+  pub record IsDriverRing (r : ℕ) : Type 0 where
+    pub ring : Ring
+    pub found : ring_with h r ≡ Some ring
+    pub kind : is_driver_kind ring.shape.kind ≡ true
+
+  pub record IsTransferRing (r : ℕ) : Type 0 where
+    pub ring : Ring
+    pub found : ring_with h r ≡ Some ring
+    pub kind : is_transfer_kind ring.shape.kind ≡ true
+
+  -- the command ring holds commands, each alone in its descriptor; it is open from its first doorbell on, and before that no
+  -- completion was read
+  pub record CommandRingKeeps (k : Known) : Type 0 where
+    pub commands : (p : ℕ) (d : Block) → slice_get (k.ring (command_id h)).queue p ≡ Some d → is_some (command_of d) ≡ true
+    pub alone : All (λ n. n ≡ 1) (k.ring (command_id h)).lengths
+    pub held : ((k.ring (command_id h)).held ≡ None) ⊎ (((k.ring (command_id h)).held ≡ Some 0) × ((k.ring (command_id h)).floor ≡ Data 0))
+
+  pub record StatesKeep (k : Known) : Type 0 where
+    pub no_slot : k.slot_state 0 ≡ Disabled
+    pub no_endpoint : (s i : ℕ) → (s ≡ 0) ⊎ (i ≡ 0) → k.ring_of s i ≡ None
+    -- an endpoint has a ring exactly where it isn't Disabled
+    pub off : (s i : ℕ) → k.ring_of s i ≡ None → k.endpoint_state s i ≡ Off
+    pub on : (s i r : ℕ) → k.ring_of s i ≡ Some r → k.endpoint_state s i ≢ Off
+    pub transfer : (s i r : ℕ) → k.ring_of s i ≡ Some r → IsTransferRing r
+    pub was_bound : (s i r : ℕ) → k.ring_of s i ≡ Some r → k.was_bound r ≡ true
+    pub one_endpoint : (s i t j r : ℕ) → k.ring_of s i ≡ Some r → k.ring_of t j ≡ Some r → (s ≡ t) × (i ≡ j)
+    pub open_runs : (s i r : ℕ) → k.ring_of s i ≡ Some r → (k.ring r).held ≡ None → k.endpoint_state s i ≡ Running
+    pub never_bound : (r : ℕ) → IsTransferRing r → k.was_bound r ≡ false → ((k.ring r).floor ≡ Data 0) × ((k.ring r).held ≡ Some 0)
+    -- a Stopped event was read: its Stop Endpoint is the next command to be finished
+    pub seen_command : (s i : ℕ) → k.stop_seen s i ≡ true → is_stopping_now h k s i ≡ true
+    pub seen_runs : (s i : ℕ) → k.stop_seen s i ≡ true → k.endpoint_state s i ≡ Running
+    pub seen_held : (s i r : ℕ) → k.stop_seen s i ≡ true → k.ring_of s i ≡ Some r → (k.ring r).held ≢ None
+    -- endpoints are there in the slot states that have them
+    pub slots : (s i r : ℕ) → k.ring_of s i ≡ Some r → (k.slot_state s ≢ Disabled) × (k.slot_state s ≢ Enabled) × ((i ≡ 1) ⊎ (k.slot_state s ≡ Configured))
+    pub first : (s : ℕ) → (k.slot_state s ≡ Disabled) ⊎ (k.slot_state s ≡ Enabled) ⊎ (k.ring_of s 1 ≢ None)
+    pub no_device : (s : ℕ) → k.slot_state s ≡ Disabled → k.device s ≡ None
+
+  -- before the start nothing is known of the controller
+  pub record Unstarted (k : Known) : Type 0 where
+    pub reads : k.reads ≡ 0
+    pub dequeue : k.dequeue ≡ 0
+    pub slots : (s : ℕ) → k.slot_state s ≡ Disabled
+    pub rings : (s i : ℕ) → k.ring_of s i ≡ None
+    pub floors : (r : ℕ) → (k.ring r).floor ≡ Data 0
+    pub held : (r : ℕ) → (k.ring r).held ≡ Some 0
+    pub bound : (r : ℕ) → k.was_bound r ≡ false
+    pub seen : (s i : ℕ) → k.stop_seen s i ≡ false
+
+  -- the device context at d, which slot s has under lease
+  pub record DeviceKeeps (k : Known) (s d : ℕ) : Type 0 where
+    pub slot : (0 < s) × (s < 256)
+    pub aligned : d % 64 ≡ 0
+    pub ends : d + device_context_bytes h.context_size ≤ 2 ^ 64
+    pub rings : touches_ring h d (device_context_bytes h.context_size) ≡ false
+    -- each of its bytes, so that nothing rests on alignment
+    pub soiled : (a : ℕ) → is_in a d (device_context_bytes h.context_size) ≡ true → k.soiled a ≡ true
+    -- the slot's entry names it, and nobody but the driver changes that entry
+    pub written : is_some (k.register Dcbaap) ≡ true
+    pub entry : device_named k s ≡ d
+    pub entry_clean : is_soiled k (entry_of k s) 8 ≡ false
+    pub entry_rings : touches_ring h (entry_of k s) 8 ≡ false
+    pub others : (t e : ℕ) → k.device t ≡ Some e → t ≢ s → overlap d (device_context_bytes h.context_size) e (device_context_bytes h.context_size) ≡ false
+    pub entries : (t e : ℕ) → k.device t ≡ Some e → overlap d (device_context_bytes h.context_size) (entry_of k t) 8 ≡ false
+    pub table : (v : ℕ) → k.register Erstba ≡ Some v → overlap d (device_context_bytes h.context_size) (base_address v) (table_bytes (event_shape h)) ≡ false
+
+  -- c is given at position p of the command ring, and its completion isn't read
+  pub record IsUnfinished (k : Known) (p : ℕ) (c : Command) : Type 0 where
+    pub due : is_due (shape_of h (command_id h)) (k.ring (command_id h)).floor p ≡ true
+    pub given : (k.ring (command_id h)).given p ≡ true
+    pub command : command_at h k p ≡ Some c
+
+  -- a second Address Device: its pointer names a spot at the floor's number, and nothing from the floor on is given
+  pub record Stays (k : Known) (r c : ℕ) : Type 0 where
+    pub here : is_move (shape_of h r) (k.ring r) (context_pointer h.context_size k.memory c 1) (context_cycle h.context_size k.memory c 1) (floor_number (k.ring r)) (floor_number (k.ring r)) ≡ true
+    pub nothing : (p : ℕ) → floor_number (k.ring r) ≤ p → (k.ring r).given p ≡ false
+
+  abbrev pub StaysIf : Known → Command → Type 0
+  StaysIf k (AddressDevice s bsr c) = (r : ℕ) → k.ring_of s 1 ≡ Some r → Stays k r c
+  StaysIf k _ = Unit {0}
+
+  -- the rule of moves, but for an Address Device, which has its own clause
+  abbrev pub MovesIf : Known → Command → Type 0
+  MovesIf k (AddressDevice s bsr c) = Unit {0}
+  MovesIf k c = moves.is_bad_move h k c ≡ false
+
+  -- what was tested when a command was given, and stays true until its completion is read
+  pub record CommandKeeps (k : Known) (p : ℕ) (c : Command) : Type 0 where
+    -- no other unfinished command names its slot
+    pub alone : (q : ℕ) (d : Command) → IsUnfinished k q d → q ≢ p → same_slot (named_slot d) (named_slot c) ≡ false
+    pub good : commands.is_bad_command h k c ≡ false
+    pub in_profile : commands.has_left_out_endpoint h k c ≡ false
+    pub device : (s n : ℕ) (bsr : Bool) → c ≡ AddressDevice s bsr n → k.device s ≢ None
+    -- each ring that it binds is unused but for this command, named once, and begins with cycle state 1
+    pub binds : All (λ b. (is_some (moves.ring_bound h b) ≡ true) × (b.cycle ≡ true)) (moves.binds h k c)
+    pub repeats : moves.has_repeats (map (moves.ring_bound h) (moves.binds h k c)) ≡ false
+    pub unbound : (r : ℕ) → moves.binds_ring h k r c ≡ true → k.was_bound r ≡ false
+    pub unshared : (r q : ℕ) (d : Command) → moves.binds_ring h k r c ≡ true → IsUnfinished k q d → q ≢ p → moves.binds_ring h k r d ≡ false
+    pub moves_on : MovesIf k c
+    pub stays : StaysIf k c
+
+  -- what is known once the command ring's base is written
+  pub record CommandRingNamed (value : ℕ) : Type 0 where
+    pub is_ring : IsDriverRing (command_id h)
+    pub base : base_address value ≡ address_of (shape_of h (command_id h)) 0
+    pub cycle : ring_cycle_state value ≡ 1
+
+  pub record DriverKeeps (k : Known) : Type 0 where
+    pub rings : (r : ℕ) → IsDriverRing r → RingKeeps (shape_of h r) k.memory (k.ring r)
+    -- no word of a ring is soiled
+    pub clean : (r a : ℕ) → IsDriverRing r → is_inside (shape_of h r) a ≡ true → k.soiled a ≡ false
+    pub command_ring : CommandRingKeeps k
+    pub states : StatesKeep k
+    pub unstarted : k.started ≡ false → Unstarted k
+    pub crcr : (v : ℕ) → k.register Crcr ≡ Some v → CommandRingNamed v
+    pub crcr_written : k.started ≡ true → is_some (k.register Crcr) ≡ true
+    pub dequeued : k.dequeue ≤ k.reads
+    pub read_room : 0 < k.reads → k.reads + 1 ≤ k.dequeue + event_size h
+    pub devices : (s d : ℕ) → k.device s ≡ Some d → DeviceKeeps k s d
+    pub unfinished : (p : ℕ) (c : Command) → IsUnfinished k p c → CommandKeeps k p c
