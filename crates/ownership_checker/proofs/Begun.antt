@@ -1,18 +1,17 @@
 -- Which leases begin at a row: at a write what it gives, at a declaration none
-use Rattle.std.proofs.Common.{◌≡◌, ℕ, ◌+◌, ◌<◌, ◌≤◌, List, [], ◌∷◌, ◌++◌, Bool, true, false, refl, ap, sym, ◌∙◌, arith, inl, inr, length, zero, suc, cond}
+use Rattle.std.proofs.Common.{◌≡◌, ℕ, ◌+◌, ◌<◌, ◌≤◌, List, [], ◌∷◌, ◌++◌, Bool, true, false, refl, ap, sym, ◌∙◌, arith, inl, inr, length, zero, suc}
 use Rattle.std.specs.Prelude.{◌==◌, ◌&&◌, ◌||◌, not, map, filter}
 use Rattle.std.specs.List.{flat_map, range_with_len}
-use Rattle.std.proofs.lemmas.Bool.{cases_Bool, eqb-true, false≢true}
+use Rattle.std.proofs.lemmas.Bool.{cases_Bool, eqb-true}
 use Rattle.std.proofs.lemmas.List.{append-nil, length-map}
-use Rattle.guest_memory.specs.Memory.{put}
 use Rattle.trb.specs.declared.block.Block.{Block as Trb}
 use Rattle.segments.specs.ShapeValue.{Shape}
 use Rattle.segments.specs.Places.{place_count, is_crossing}
-use Rattle.segments.specs.RingView.{RingView, Writes, Declares, changed, floor_number, gives, gives_crossing, is_crossing_due, positions_given, crossings_given, leased_positions, leased_crossings, due_positions, due_crossings}
+use Rattle.segments.specs.RingView.{RingView, Writes, changed, floor_number, gives, gives_crossing, is_crossing_due, positions_given, crossings_given, leased_positions, leased_crossings, due_positions, due_crossings}
 use Rattle.traces.specs.declared.ring.Ring.{Ring}
 use Rattle.traces.specs.declared.header.Header.{Header}
 use Rattle.traces.specs.declared.row.Row.TheVariants.{Sub, Write}
-use Rattle.traces.specs.Header.{IsHeader, is_driver_kind, is_command_kind, shape_of, driver_rings}
+use Rattle.traces.specs.Header.{IsHeader, is_driver_kind, is_command_kind, driver_rings}
 use Rattle.ring_knowledge.specs.Known.{Known}
 use Rattle.ring_knowledge.specs.Learned.{learned}
 use Rattle.ring_knowledge.specs.Rings.{Given, Position, Crossing, given_of, given_by, on_ring}
@@ -114,9 +113,9 @@ module _ (h : Header) (headed : IsHeader h) (k : Known) (calm : IsCalm h k) wher
             new_blocks,
             new_links,
           ) (sym (
-            ap (λ s. map lease_of (map (Position r.id) (positions_given s (k.ring r.id) a w) ++ map (Crossing r.id) (crossings_given s (k.ring r.id) a w))) (shape_there h headed r among)
-            ∙ map_append lease_of (map (Position r.id) (positions_given r.shape (k.ring r.id) a w)) (map (Crossing r.id) (crossings_given r.shape (k.ring r.id) a w))
-            ∙ rw (map_map lease_of (Position r.id) (positions_given r.shape (k.ring r.id) a w), map_map lease_of (Crossing r.id) (crossings_given r.shape (k.ring r.id) a w)) refl
+          ap (λ s. map lease_of (map (Position r.id) (positions_given s (k.ring r.id) a w) ++ map (Crossing r.id) (crossings_given s (k.ring r.id) a w))) (shape_there h headed r among)
+          ∙ map_append lease_of (map (Position r.id) (positions_given r.shape (k.ring r.id) a w)) (map (Crossing r.id) (crossings_given r.shape (k.ring r.id) a w))
+          ∙ rw (map_map lease_of (Position r.id) (positions_given r.shape (k.ring r.id) a w), map_map lease_of (Crossing r.id) (crossings_given r.shape (k.ring r.id) a w)) refl
           ))
 
     -- at a write begin the leases of what it gives, and no others

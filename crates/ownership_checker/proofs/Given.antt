@@ -1,7 +1,7 @@
 -- The first rule that a write breaks which gives one position, or one crossing
-use Rattle.std.proofs.Common.{◌≡◌, ℕ, ◌+◌, ◌<◌, ◌≤◌, List, [], ◌∷◌, Bool, true, false, Some, None, refl, ap, sym, ◌∙◌, arith, inl, inr, length, get_or, cond}
-use Rattle.std.specs.Prelude.{◌==◌, ◌||◌, not, nat_le, slice_get, slice_index, if◌then◌else◌}
-use Rattle.std.proofs.lemmas.Bool.{cases_lt, le-leb, false≢true}
+use Rattle.std.proofs.Common.{◌≡◌, ℕ, ◌<◌, List, [], ◌∷◌, true, false, Some, None, refl, ap, sym, ◌∙◌, arith, inl, inr, length, get_or}
+use Rattle.std.specs.Prelude.{◌==◌, not, nat_le, slice_get, slice_index, if◌then◌else◌}
+use Rattle.std.proofs.lemmas.Bool.{cases_lt, le-leb}
 use Rattle.std.proofs.lemmas.Bool.Decides.{nat_tests}
 use Rattle.std.proofs.lemmas.Option.{slice_get-get_or, slice_get_within}
 use Rattle.guest_memory.specs.Memory.{put}
@@ -9,7 +9,6 @@ use Rattle.trb.specs.declared.block.Block.{Block}
 use Rattle.trb.specs.Bits.{is_set}
 use Rattle.trb.specs.Block.{block_at, same_words, with_cycle, word}
 use Rattle.segments.specs.ShapeValue.{Shape}
-use Rattle.segments.specs.Shape.{IsShape}
 use Rattle.segments.specs.Places.{address_of, cycle_of, links, link_address}
 use Rattle.segments.specs.RingView.{RingView}
 use Rattle.segments.specs.Givings.{is_other_than_declared, is_declared_as, is_not_declared, is_not_whole, leads_wrong, interrupts, is_wrong_link, link_of}

@@ -1,5 +1,5 @@
 -- A trace has so many leases as its event segments and its rows begin
-use Rattle.std.proofs.Common.{◌≡◌, ℕ, ◌+◌, List, [], ◌∷◌, ◌++◌, Bool, true, false, refl, ap, sym, ◌∙◌, arith, length, cond, length-append}
+use Rattle.std.proofs.Common.{◌≡◌, ℕ, ◌+◌, List, [], ◌∷◌, ◌++◌, Bool, true, false, refl, ap, ◌∙◌, arith, length, cond, length-append}
 use Rattle.std.specs.Prelude.{◌&&◌, map}
 use Rattle.std.specs.List.{flat_map}
 use Rattle.std.proofs.lemmas.List.{length-map}
@@ -12,7 +12,7 @@ use Rattle.segments.specs.Places.{is_crossing}
 use Rattle.ring_knowledge.specs.declared.lease.Lease.{Lease}
 use Rattle.ring_knowledge.specs.Known.{Known, nothing}
 use Rattle.ring_knowledge.specs.Learned.{learned}
-use Rattle.ownership_rules.specs.OpenLeases.{Leased, Block, Link, open_on, open_leases, open_ranges, segment_ranges}
+use Rattle.ownership_rules.specs.OpenLeases.{Leased, open_on, open_leases, open_ranges, segment_ranges}
 use Rattle.ownership_rules.specs.Leases.{with_lease, comes_before, in_order, as_lease, end_from, with_ends, begun, leases_from, leases}
 use Rattle.ownership_checker.specs.LeaseCount.{begun_count}
 use Rattle.ownership_checker.proofs.ListTests.{and_false, filter_nothing}

@@ -1,5 +1,5 @@
 -- Tests over lists that are put together or filtered
-use Rattle.std.proofs.Common.{◌≡◌, List, [], ◌∷◌, ◌++◌, Bool, true, false, refl, ap, sym, ◌∙◌, inl, inr, cond}
+use Rattle.std.proofs.Common.{◌≡◌, List, [], ◌∷◌, ◌++◌, Bool, true, false, refl, ap, ◌∙◌, inl, inr}
 use Rattle.std.specs.Prelude.{◌||◌, ◌&&◌, not, map, filter}
 use Rattle.std.specs.List.{list_any, flat_map}
 use Rattle.std.proofs.lemmas.Bool.{cases_Bool}
@@ -83,9 +83,9 @@ pub filter_twice : {X : Type 0} (f g : X → Bool) (xs : List X) → filter f (f
 filter_twice f g [] = refl
 filter_twice f g (x ∷ xs) = elim (cases_Bool (g x)) [
   | inl passes ↦ elim (cases_Bool (f x)) [
-      | inl both ↦ rw (passes, both) (ap (λ zs. x ∷ zs) (filter_twice f g xs))
-      | inr only ↦ rw (passes, only) (filter_twice f g xs)
-    ]
+    | inl both ↦ rw (passes, both) (ap (λ zs. x ∷ zs) (filter_twice f g xs))
+    | inr only ↦ rw (passes, only) (filter_twice f g xs)
+  ]
   | inr fails ↦ rw fails (filter_twice f g xs)
 ]
 

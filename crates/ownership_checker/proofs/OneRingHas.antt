@@ -1,5 +1,5 @@
 -- Of the rings of a header only the one that has a word can own it, or give something by its write
-use Rattle.std.proofs.Common.{◌≡◌, ℕ, ◌%◌, List, [], ◌++◌, Bool, true, false, Option, Some, None, refl, ap, sym, ◌∙◌, inl, inr, length}
+use Rattle.std.proofs.Common.{◌≡◌, ℕ, ◌%◌, [], ◌++◌, Bool, true, false, Option, Some, None, refl, ap, sym, ◌∙◌, inl, inr}
 use Rattle.std.specs.Prelude.{◌||◌, map}
 use Rattle.std.specs.List.{list_any, flat_map}
 use Rattle.std.proofs.lemmas.List.{append-nil}
@@ -10,9 +10,9 @@ use Rattle.segments.specs.RingView.{positions_given, crossings_given, leased_pos
 use Rattle.segments.proofs.InsideLemmas.{touches-word}
 use Rattle.traces.specs.declared.ring.Ring.{Ring}
 use Rattle.traces.specs.declared.header.Header.{Header}
-use Rattle.traces.specs.Header.{IsHeader, is_driver_kind, is_event_kind, shape_of, shape_or, driver_rings, event_ring, event_shape}
+use Rattle.traces.specs.Header.{IsHeader, is_driver_kind, is_event_kind, shape_or, driver_rings, event_ring, event_shape}
 use Rattle.ring_knowledge.specs.Known.{Known}
-use Rattle.ring_knowledge.specs.Rings.{Given, Position, Crossing, given_of, given_by}
+use Rattle.ring_knowledge.specs.Rings.{Position, Crossing, given_of, given_by}
 use Rattle.ownership_rules.specs.OpenLeases as leases
 use Rattle.ownership_checker.specs.Calm.{IsCalm}
 use Rattle.ownership_checker.specs.OneRing.{is_owned}
@@ -45,7 +45,7 @@ module _ (h : Header) (headed : IsHeader h) (k : Known) (a : ℕ) (aligned : a %
         any_map (leases.covers h a 4) (leases.Link q.id) (leased_crossings q.shape (k.ring q.id)),
       )
       (ap (λ s. list_any (λ p. overlap a 4 (address_of s p) 16) (leased_positions q.shape (k.ring q.id))
-          || list_any (λ p. overlap a 4 (link_address s p) 16) (leased_crossings q.shape (k.ring q.id))) (shape_there h headed q among))
+      || list_any (λ p. overlap a 4 (link_address s p) 16) (leased_crossings q.shape (k.ring q.id))) (shape_there h headed q among))
 
   segments_cover : list_any (leases.covers h a 4) (leases.segment_ranges h) ≡ touches (event_shape h) a 4
   unfolding leases.segment_ranges leases.covers leases.lease_start leases.lease_bytes

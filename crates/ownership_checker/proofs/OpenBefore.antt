@@ -1,19 +1,18 @@
 -- While all is calm: whether a block, a Link or an event segment is already under lease
-use Rattle.std.proofs.Common.{◌≡◌, ◌≢◌, ℕ, ◌+◌, ◌<◌, ◌≤◌, List, [], ◌∷◌, ◌++◌, Bool, true, false, refl, ap, sym, ◌∙◌, arith, length}
+use Rattle.std.proofs.Common.{◌≡◌, ◌≢◌, ℕ, ◌+◌, ◌<◌, ◌≤◌, List, [], ◌∷◌, ◌++◌, Bool, true, false, refl, ap, sym, ◌∙◌}
 use Rattle.std.specs.Prelude.{◌==◌, ◌&&◌, ◌||◌, not, map, filter}
 use Rattle.std.specs.List.{list_any, flat_map, range_with_len}
-use Rattle.std.proofs.lemmas.Bool.Decides.{nat_tests}
 use Rattle.segments.specs.Places.{place_count, is_crossing}
 use Rattle.segments.specs.RingView.{floor_number, leased_positions, leased_crossings, due_positions, due_crossings}
 use Rattle.traces.specs.declared.ring.Ring.{Ring}
 use Rattle.traces.specs.declared.header.Header.{Header}
 use Rattle.traces.specs.Header.{IsHeader, is_driver_kind, driver_rings, event_shape}
 use Rattle.ring_knowledge.specs.Known.{Known}
-use Rattle.ownership_rules.specs.OpenLeases.{Use, EventSegment, SegmentTable, InputContext, SlotEntry, DeviceContext, Leased, Block, Link, Range, same_leased, is_among, open_on, open_leases, open_ranges, segment_ranges}
+use Rattle.ownership_rules.specs.OpenLeases.{EventSegment, SegmentTable, InputContext, SlotEntry, DeviceContext, Leased, Block, Link, Range, same_leased, is_among, open_on, open_leases, segment_ranges}
 use Rattle.ownership_checker.specs.Calm.{IsCalm}
 use Rattle.ownership_checker.proofs.ListTests.{or_false, any_append, any_map, any_flat_map, any_nowhere, any_filter}
 use Rattle.ownership_checker.proofs.Ranges.{any_only}
-use Rattle.ownership_checker.proofs.RingsApart.{IsAmong, Apart, same_number, other_number}
+use Rattle.ownership_checker.proofs.RingsApart.{IsAmong, same_number, other_number}
 use Rattle.ownership_checker.proofs.HeaderRings.{together, one_driver}
 use Rattle.ownership_checker.proofs.CalmLemmas.{segments_alone}
 

@@ -1,5 +1,5 @@
 -- A row that was checked, from what was checked of one ring
-use Rattle.std.proofs.Common.{◌≡◌, ℕ, ◌+◌, ◌%◌, List, [], ◌∷◌, ◌++◌, Bool, true, false, Some, None, Result, Ok, Err, refl, ap, sym, ◌∙◌, length, set, subst, length-append}
+use Rattle.std.proofs.Common.{◌≡◌, ℕ, ◌+◌, ◌%◌, List, true, false, Some, Result, Ok, Err, refl, ap, sym, ◌∙◌, length, set, subst, length-append}
 use Rattle.std.specs.Prelude.{◌==◌, slice_get, map, IfOk, IfErr, OnOk}
 use Rattle.std.proofs.Math.Path.{fun_ext}
 use Rattle.std.proofs.lemmas.List.{length-map}
@@ -18,7 +18,6 @@ use Rattle.ring_knowledge.specs.RingRecords.{FollowsRing}
 use Rattle.ring_knowledge.specs.Known.{Known}
 use Rattle.ring_knowledge.specs.Learned.{learned}
 use Rattle.ring_knowledge.specs.Rings.{Position, Crossing}
-use Rattle.ownership_rules.specs.declared.refusal.Refusal.{Refusal}
 use Rattle.ownership_rules.specs.declared.refusal.Refusal.TheVariants.{NotDeclared, WriteToOwned, NotInProfile}
 use Rattle.ownership_rules.specs.Refusal.{first_of, first_broken}
 use Rattle.ownership_rules.specs.Rules.{broken}
@@ -28,7 +27,7 @@ use Rattle.ownership_checker.specs.OneRing.{room_tests, word_tests}
 use Rattle.ownership_checker.specs.declared.fault.StepFault.{StepFault}
 use Rattle.ownership_checker.specs.declared.fault.StepFault.TheVariants.{Refused, Memory}
 use Rattle.ownership_checker.specs.Tracking.{IfRefused, IsDriver, IsDeclared, IsWritten, Follows, IsRowStep}
-use Rattle.ownership_checker.proofs.RingsApart.{IsAmong, Apart, among_at}
+use Rattle.ownership_checker.proofs.RingsApart.{IsAmong, among_at}
 use Rattle.ownership_checker.proofs.HeaderRings.{shape_allowed}
 use Rattle.ownership_checker.proofs.ListTests.{false_unless}
 use Rattle.ownership_checker.proofs.FirstBroken.{nothing_broken}

@@ -1,5 +1,5 @@
 -- What the records and the memory hold after a row that was checked
-use Rattle.std.proofs.Common.{◌≡◌, ◌≢◌, ℕ, zero, suc, ◌+◌, ◌%◌, ◌<◌, List, [], ◌∷◌, ◌++◌, Bool, true, false, Option, Some, None, refl, ap, sym, ◌∙◌, arith, inl, inr, length, set, subst}
+use Rattle.std.proofs.Common.{◌≡◌, ◌≢◌, ℕ, zero, suc, ◌%◌, List, [], ◌∷◌, true, false, Some, None, refl, ap, sym, ◌∙◌, arith, inl, inr, set, subst}
 use Rattle.std.specs.Prelude.{◌==◌, ◌⊎◌, slice_get, if◌then◌else◌}
 use Rattle.std.proofs.Math.ListN.{length-set}
 use Rattle.trb.specs.declared.block.Block.{Block}
@@ -9,7 +9,7 @@ use Rattle.segments.specs.RingView.{RingView, Declares, Writes, changed}
 use Rattle.traces.specs.declared.ring.Ring.{Ring}
 use Rattle.traces.specs.declared.header.Header.{Header}
 use Rattle.traces.specs.declared.row.Row.TheVariants.{Sub, Write}
-use Rattle.traces.specs.Header.{IsHeader, is_driver_kind, is_command_kind, shape_of}
+use Rattle.traces.specs.Header.{IsHeader, is_driver_kind, is_command_kind}
 use Rattle.ring_knowledge.specs.declared.ring_record.RingRecord.{RingRecord}
 use Rattle.ring_knowledge.specs.RingRecords.{FollowsRing}
 use Rattle.ring_knowledge.specs.Known.{Known}

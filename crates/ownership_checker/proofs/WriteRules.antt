@@ -1,9 +1,9 @@
 -- While all is calm: which rules a write breaks
-use Rattle.std.proofs.Common.{◌≡◌, ℕ, ◌+◌, ◌%◌, List, [], ◌∷◌, ◌++◌, Bool, true, false, Option, Some, None, refl, ap, sym, ◌∙◌, cond}
+use Rattle.std.proofs.Common.{◌≡◌, ℕ, ◌%◌, List, [], ◌∷◌, Bool, true, false, Some, refl, ap, ◌∙◌}
 use Rattle.std.specs.Prelude.{◌||◌, map, if◌then◌else◌}
 use Rattle.std.specs.List.{list_any}
-use Rattle.segments.specs.Places.{touches, link_address}
-use Rattle.segments.specs.RingView.{RingView, positions_given, crossings_given}
+use Rattle.segments.specs.Places.{touches}
+use Rattle.segments.specs.RingView.{positions_given, crossings_given}
 use Rattle.segments.specs.Givings.{is_other_than_declared, is_not_declared, is_not_whole, leads_wrong, interrupts}
 use Rattle.traces.specs.declared.ring.Ring.{Ring}
 use Rattle.traces.specs.declared.header.Header.{Header}
@@ -20,7 +20,7 @@ use Rattle.ownership_rules.specs.Moves as moves
 use Rattle.ownership_rules.specs.Writes.{write_tests, some_given, some_crossed, some_command, holds_of, on_position, on_crossing}
 use Rattle.ownership_rules.specs.Rules.{broken, tests}
 use Rattle.ownership_checker.specs.Calm.{IsCalm}
-use Rattle.ownership_checker.specs.OneRing.{is_owned, position_tests, crossing_tests, word_tests}
+use Rattle.ownership_checker.specs.OneRing.{is_owned, word_tests}
 use Rattle.ownership_checker.proofs.ListTests.{or_false, any_append, any_map, any_nowhere}
 use Rattle.ownership_checker.proofs.FirstBroken.{first_broken-is}
 use Rattle.ownership_checker.proofs.RingsApart.{IsAmong}

@@ -1,6 +1,6 @@
 -- In which ways a Link is wrong
-use Rattle.std.proofs.Common.{◌≡◌, ℕ, Bool, true, false, refl, ap, sym, ◌∙◌}
-use Rattle.std.specs.Prelude.{◌==◌, ◌||◌, not}
+use Rattle.std.proofs.Common.{◌≡◌, ℕ, true, false, refl, ap, sym, ◌∙◌}
+use Rattle.std.specs.Prelude.{◌==◌, not}
 use Rattle.trb.specs.declared.block.Block.{Block}
 use Rattle.trb.specs.Bits.{is_set}
 use Rattle.trb.specs.Block.{aligned, word, kind, pointer}

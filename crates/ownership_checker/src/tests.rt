@@ -13,9 +13,11 @@ use traces::{Header, Register, Ring, Rings, Row, Rows, Trace};
 use trb::{Block, Blocks, RingKind};
 
 /// A No Op with an interrupt (IOC), and its control word as it is given in the first lap.
-const NO_OP: Block = Block { w: [0, 0, 0, 0x2020] };
-const GIVEN: u32 = 0x2021;
+const NO_OP: Block = Block {
+    w: [0, 0, 0, 0x2020],
+};
 
+const GIVEN: u32 = 0x2021;
 
 /// The command ring 0, the event ring 1 of two segments, and the transfer rings 2 and 3.
 fn four_rings(alloc: Global) -> Result<Header, Fail>
@@ -29,10 +31,22 @@ fn four_rings(alloc: Global) -> Result<Header, Fail>
     Ok(Header {
         context_size: ContextSize::Bytes32,
         rings: Rings::new(vec![in alloc;
-            Ring { id: 0, shape: command },
-            Ring { id: 1, shape: event },
-            Ring { id: 2, shape: second },
-            Ring { id: 3, shape: third }
+            Ring {
+                id: 0,
+                shape: command
+            },
+            Ring {
+                id: 1,
+                shape: event
+            },
+            Ring {
+                id: 2,
+                shape: second
+            },
+            Ring {
+                id: 3,
+                shape: third
+            },
         ]?),
     })
 }
@@ -99,7 +113,11 @@ fn nobody_writes_event_segments(rt: HostRuntime) -> Result<(), Fail> {
     let alloc = rt.alloc();
     for at in [0x20000, 0x210fc] {
         let rows = rows_of(alloc, &[], &[(0x22000, 1), (at, 0)])?;
-        assert_eq!(rt; answer_to(alloc, rows)?, refused(8, Refusal::WriteToOwned), "{at:x}");
+        assert_eq!(rt;
+            answer_to(alloc, rows)?,
+            refused(8, Refusal::WriteToOwned),
+            "{at:x}"
+        );
     }
     Ok(())
 }

@@ -1,4 +1,4 @@
-use Rattle.std.proofs.Common.{◌≡◌, ap, sym, ◌∙◌}
+use Rattle.std.proofs.Common.{ap, sym, ◌∙◌}
 use Rattle.guest_memory.specs.Memory.{put}
 use Rattle.trb.specs.Block.{block_at}
 use Rattle.segments.proofs.DataPlaces.{link_aligned, link_ends}

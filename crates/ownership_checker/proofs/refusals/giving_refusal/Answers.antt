@@ -1,8 +1,7 @@
-use Rattle.std.proofs.Common.{◌≡◌, ℕ, ap, sym, ◌∙◌}
-use Rattle.std.specs.Prelude.{not, if◌then◌else◌}
+use Rattle.std.proofs.Common.{ap, sym, ◌∙◌}
+use Rattle.std.specs.Prelude.{if◌then◌else◌}
 use Rattle.guest_memory.specs.Memory.{put}
 use Rattle.trb.specs.Block.{block_at, same_words, with_cycle}
-use Rattle.segments.specs.Places.{address_of, cycle_of}
 use Rattle.segments.proofs.Positions.{address_aligned, address_ends}
 use Rattle.ownership_checker.proofs.Given.{not_declared, other_words, split, given_well, cycle_bit}
 use Rattle.ownership_checker.proofs.ListTests.{from_not}

@@ -4,7 +4,6 @@ use Rattle.trb.specs.Bits.{is_set}
 use Rattle.trb.specs.Block.{aligned, word}
 use Rattle.trb.specs.Kind.{is_link}
 use Rattle.segments.specs.Givings.{same}
-use Rattle.segments.specs.Places.{toggles}
 use Rattle.ownership_checker.proofs.WrongLinks.{leads_elsewhere, no_link, toggles_wrong}
 use Rattle.ownership_checker.proofs.refusals.is_wrong_link.Goals as goal
 
