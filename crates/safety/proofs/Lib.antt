@@ -6,3 +6,5 @@ pub mod DriverRows
 pub mod Transfers
 pub mod Completions
 pub mod Histories
+pub mod RingIds
+pub mod Endpoints
