@@ -79,14 +79,14 @@ module _ (h : Header) where
           ];
       }
 
-  in_use_leaves : (k : Known) (r : ℕ) (change : RingChange) → MayBeInUse h k r → Leaves k (on_ring h k r change)
+  pub in_use_leaves : (k : Known) (r : ℕ) (change : RingChange) → MayBeInUse h k r → Leaves k (on_ring h k r change)
   in_use_leaves k r change used = on_ring_leaves k r change (λ transfer never start. absurd (false≢true (sym never ∙ used transfer)))
 
   -- an endpoint's ring is in use
   pub endpoint_in_use : (k : Known) → EndpointsKeep h k → (s i r : ℕ) → k.ring_of s i ≡ Some r → MayBeInUse h k r
   endpoint_in_use k keeps s i r at transfer = keeps.was_bound s i r at
 
-  on_bound : (k : Known) (r : ℕ) (change : RingChange) → k.was_bound ≡ (on_ring h k r change).was_bound
+  pub on_bound : (k : Known) (r : ℕ) (change : RingChange) → k.was_bound ≡ (on_ring h k r change).was_bound
   unfolding on_ring
   on_bound k r change = refl
 

@@ -8,3 +8,4 @@ pub mod Completions
 pub mod Histories
 pub mod RingIds
 pub mod Endpoints
+pub mod EndpointHistories
