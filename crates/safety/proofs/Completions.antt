@@ -28,8 +28,10 @@ use Rattle.ring_knowledge.specs.Rings.{command_at, next_command, on_ring}
 use Rattle.ring_knowledge.specs.Completions.{set_to, bound_to, moved_to, moved, pointed, disabled, in_state, held_at_ceiling, changed_by, changed_by_all, succeeded, stop_ended, finished, completed}
 use Rattle.ownership_rules.specs.Events.{may_be_taken, can_finish, is_impossible_completion}
 use Rattle.safety.specs.RingsKeep.{IsDriverRing, RingsKeep}
+use Rattle.safety.specs.EndpointsKeep.{EndpointsKeep}
 use Rattle.safety.specs.Placings.{MayPoint, MayChange, MayChangeAll, MayFinish}
 use Rattle.safety.proofs.RingsOfHeader.{shape_allowed}
+use Rattle.safety.proofs.EndpointHistories.{finish_elsewhere}
 use Rattle.safety.proofs.DriverRows.{same_keeps, on_ring_keeps, on_ring_twice_keeps}
 
 module _ (h : Header) (is : IsHeader h) where
@@ -117,9 +119,9 @@ module _ (h : Header) (is : IsHeader h) where
   unfolding next_command
   at_floor k = refl
 
-  pub completion_keeps : (k : Known) (b : Block) → RingsKeep h k → is_impossible_completion h k b ≡ false → MayFinish h k b → RingsKeep h (completed h k b)
+  pub completion_keeps : (k : Known) (b : Block) → RingsKeep h k → EndpointsKeep h k → is_impossible_completion h k b ≡ false → MayFinish h k b → RingsKeep h (completed h k b)
   unfolding completed is_impossible_completion may_be_taken
-  completion_keeps k b keeps possible may =
+  completion_keeps k b keeps endpoints possible may =
       let r : ℕ = command_id h in
       let n : ℕ = next_command h k in
       let l : Known = finished h k b (command_at h k n) in
@@ -127,7 +129,8 @@ module _ (h : Header) (is : IsHeader h) where
       let two = or_parts (not (nat_lt n (ceiling (shape_of h r) (k.ring r))) || not (pointer b == address_of (shape_of h r) n)) (code b == 0) three.0 in
       let one = or_parts (not (nat_lt n (ceiling (shape_of h r) (k.ring r)))) (not (pointer b == address_of (shape_of h r) n)) two.0 in
       let below : n < ceiling (shape_of h r) (k.ring r) = ltb-true n (ceiling (shape_of h r) (k.ring r)) (not-false (nat_lt n (ceiling (shape_of h r) (k.ring r))) one.0) in
-      let finishes : RingsKeep h l = finish_keeps k b (command_at h k n) keeps may.places in
+      let still : l.ring r ≡ k.ring r = finish_elsewhere h is k b (command_at h k n) endpoints in
+      let finishes : RingsKeep h l = finish_keeps k b (command_at h k n) keeps may in
       on_ring_keeps h l r (Reaches (after (shape_of h r) n)) finishes (λ driver.
       let allowed = shape_allowed h is r driver in
       let within = ceiling_within (shape_of h r) allowed k.memory (k.ring r) (keeps r driver) in
@@ -135,5 +138,5 @@ module _ (h : Header) (is : IsHeader h) where
       let held : (m : ℕ) → (k.ring r).held ≡ Some m → number (after (shape_of h r) n) ≤ m =
       λ m at. omega (arith, number-after (shape_of h r) n, ceiling_held (shape_of h r) (k.ring r) m at, below) in
       reaches_keeps (shape_of h r) allowed l.memory (l.ring r) (finishes r driver) (after (shape_of h r) n)
-      (subst (λ (v : RingView). MayReach (shape_of h r) v (after (shape_of h r) n)) (sym may.command_ring) reached)
-      (subst (λ (v : RingView). (m : ℕ) → v.held ≡ Some m → number (after (shape_of h r) n) ≤ m) (sym may.command_ring) held))
+      (subst (λ (v : RingView). MayReach (shape_of h r) v (after (shape_of h r) n)) (sym still) reached)
+      (subst (λ (v : RingView). (m : ℕ) → v.held ≡ Some m → number (after (shape_of h r) n) ≤ m) (sym still) held))

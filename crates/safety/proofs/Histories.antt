@@ -18,20 +18,22 @@ use Rattle.ownership_rules.specs.Events.{is_in_profile, is_impossible_by_kind, i
 use Rattle.ownership_rules.specs.Rules.{tests, broken}
 use Rattle.ownership_rules.specs.Clean.{IsClean}
 use Rattle.safety.specs.RingsKeep.{RingsKeep}
+use Rattle.safety.specs.EndpointsKeep.{EndpointsKeep}
 use Rattle.safety.specs.Placings.{MayFinish}
 use Rattle.safety.specs.KeptHistories.{MayRead, MayReadAll, IsDriverRow, AreDriverRows}
 use Rattle.safety.proofs.TestsPassed.{AllFail, tests_fail}
 use Rattle.safety.proofs.DriverRows.{same_keeps, nothing_keeps, declared_keeps, written_keeps, register_keeps, rung_keeps}
 use Rattle.safety.proofs.Transfers.{transfer_keeps}
+use Rattle.safety.proofs.EndpointHistories.{keeps_endpoints}
 use Rattle.safety.proofs.Completions.{completion_keeps}
 
 module _ (h : Header) (is : IsHeader h) where
-  event_keeps : (k : Known) (b : Block) (n : BlockKind) → RingsKeep h k → is_impossible_by_kind h k n b ≡ false → (is_transfer_event n && not (is_in_profile b)) ≡ false →
+  event_keeps : (k : Known) (b : Block) (n : BlockKind) → RingsKeep h k → EndpointsKeep h k → is_impossible_by_kind h k n b ≡ false → (is_transfer_event n && not (is_in_profile b)) ≡ false →
       (is_command_completion n ≡ true → MayFinish h k b) → RingsKeep h (event_read h k n b)
   unfolding event_read is_impossible_by_kind
-  event_keeps k b TransferEvent keeps possible inside may = transfer_keeps h is k keeps b possible (not-false (is_in_profile b) inside)
-  event_keeps k b CommandCompletion keeps possible inside may = completion_keeps h is k b keeps possible (may refl)
-  event_keeps k b _ keeps possible inside may = keeps
+  event_keeps k b TransferEvent keeps endpoints possible inside may = transfer_keeps h is k keeps b possible (not-false (is_in_profile b) inside)
+  event_keeps k b CommandCompletion keeps endpoints possible inside may = completion_keeps h is k b keeps endpoints possible (may refl)
+  event_keeps k b _ keeps endpoints possible inside may = keeps
 
   read_facts : (k : Known) (b : Block) → broken h k (Read b) ≡ [] →
       (is_impossible_by_kind h k (kind b) b ≡ false) × ((is_transfer_event (kind b) && not (is_in_profile b)) ≡ false)
@@ -43,21 +45,21 @@ module _ (h : Header) (is : IsHeader h) where
       )
 
   -- one row more
-  pub row_keeps : (k : Known) (row : Row) → RingsKeep h k → broken h k row ≡ [] → MayRead h k row → RingsKeep h (learned h k row)
+  pub row_keeps : (k : Known) (row : Row) → RingsKeep h k → EndpointsKeep h k → broken h k row ≡ [] → MayRead h k row → RingsKeep h (learned h k row)
   unfolding learned
-  row_keeps k (Sub r blocks) keeps clean may = declared_keeps h is k r blocks keeps clean
-  row_keeps k (Write a w) keeps clean may = written_keeps h k a w keeps clean
-  row_keeps k (Reg r x) keeps clean may = register_keeps h k r x keeps
-  row_keeps k (Bell s t) keeps clean may = rung_keeps h is k s t keeps
-  row_keeps k (Read b) keeps clean may =
+  row_keeps k (Sub r blocks) keeps endpoints clean may = declared_keeps h is k r blocks keeps clean
+  row_keeps k (Write a w) keeps endpoints clean may = written_keeps h k a w keeps clean
+  row_keeps k (Reg r x) keeps endpoints clean may = register_keeps h k r x keeps
+  row_keeps k (Bell s t) keeps endpoints clean may = rung_keeps h is k s t keeps
+  row_keeps k (Read b) keeps endpoints clean may =
       let facts = read_facts k b clean in
-      same_keeps h (event_read h k (kind b) b) (learned h k (Read b)) refl refl (event_keeps k b (kind b) keeps facts.0 facts.1 may)
+      same_keeps h (event_read h k (kind b) b) (learned h k (Read b)) refl refl (event_keeps k b (kind b) keeps endpoints facts.0 facts.1 may)
 
   -- of a clean history whose completions place endpoints where they may
   pub keeps_rings : (past : List Row) → IsClean h past → MayReadAll h past → RingsKeep h (known h past)
   unfolding known
   keeps_rings [] clean may = nothing_keeps h is
-  keeps_rings (row ∷ past) clean may = row_keeps (known h past) row (keeps_rings past clean.0 may.0) clean.1 may.1
+  keeps_rings (row ∷ past) clean may = row_keeps (known h past) row (keeps_rings past clean.0 may.0) (keeps_endpoints h is past) clean.1 may.1
 
   -- so of one without events
   no_events : (past : List Row) → AreDriverRows past → MayReadAll h past

@@ -24,3 +24,6 @@ pub mod Posted
 pub mod EventRead
 pub mod Other
 pub mod Scribble
+pub mod RingIds
+pub mod Endpoints
+pub mod EndpointHistories

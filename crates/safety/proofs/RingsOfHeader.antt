@@ -14,7 +14,7 @@ use Rattle.ownership_rules.specs.Declarations.{is_driver_ring}
 use Rattle.safety.specs.RingsKeep.{IsDriverRing}
 
 -- what is found passes the test, and whatever each ring passes
-found_passes : (test : Ring → Bool) (rs : List Ring) (r : Ring) → find test rs ≡ Some r → test r ≡ true
+pub found_passes : (test : Ring → Bool) (rs : List Ring) (r : Ring) → find test rs ≡ Some r → test r ≡ true
 found_passes test [] r found = absurd (none-some r found)
 found_passes test (q ∷ rest) r found =
     elim (cases_Bool (test q)) [
@@ -22,7 +22,7 @@ found_passes test (q ∷ rest) r found =
       | inr later ↦ found_passes test rest r (sym (cond-false (test q) (Some q) (find test rest) later) ∙ found)
     ]
 
-found_allowed : (test each : Ring → Bool) (rs : List Ring) (r : Ring) → find test rs ≡ Some r → list_all each rs ≡ true → each r ≡ true
+pub found_allowed : (test each : Ring → Bool) (rs : List Ring) (r : Ring) → find test rs ≡ Some r → list_all each rs ≡ true → each r ≡ true
 found_allowed test each [] r found all = absurd (none-some r found)
 found_allowed test each (q ∷ rest) r found all =
     let parts = and_parts (each q) (list_all each rest) all in

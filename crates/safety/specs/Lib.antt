@@ -1,4 +1,5 @@
 pub mod RingsKeep
+pub mod EndpointsKeep
 pub mod Placings
 pub mod KeptHistories
 pub mod Keeps

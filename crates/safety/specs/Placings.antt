@@ -9,10 +9,10 @@ use Rattle.commands.specs.declared.command.Command.{Command}
 use Rattle.commands.specs.States.{is_off}
 use Rattle.commands.specs.Changes.{Change, SlotGoesOn, DeviceLeft, Disables, Places, Stops, Resets, changes}
 use Rattle.traces.specs.declared.header.Header.{Header}
-use Rattle.traces.specs.Header.{shape_of, command_id, ring_beginning_at}
+use Rattle.traces.specs.Header.{shape_of, ring_beginning_at}
 use Rattle.ring_knowledge.specs.Known.{Known}
 use Rattle.ring_knowledge.specs.Rings.{command_at, next_command}
-use Rattle.ring_knowledge.specs.Completions.{changed_by, finished}
+use Rattle.ring_knowledge.specs.Completions.{changed_by}
 
 module _ (h : Header) where
   -- an endpoint that is off gets a ring whose pointer hasn't moved yet; any other one has its ring moved to a spot up to which all is given
@@ -33,7 +33,6 @@ module _ (h : Header) where
   MayChangeAll c k [] = Unit {0}
   MayChangeAll c k (change ∷ rest) = MayChange k change × MayChangeAll c (changed_by h c k change) rest
 
-  -- what the completion of the next command places; no endpoint has the command ring
-  pub record MayFinish (k : Known) (b : Block) : Type 0 where
-    pub places : (c : Command) → command_at h k (next_command h k) ≡ Some c → code b ≡ 1 → MayChangeAll c k (changes h.context_size k.memory (slot b) c)
-    pub command_ring : (finished h k b (command_at h k (next_command h k))).ring (command_id h) ≡ k.ring (command_id h)
+  -- what the success of the next command places
+  abbrev pub MayFinish : Known → Block → Type 0
+  MayFinish k b = (c : Command) → command_at h k (next_command h k) ≡ Some c → code b ≡ 1 → MayChangeAll c k (changes h.context_size k.memory (slot b) c)

@@ -29,3 +29,4 @@ pub mod WalkReads
 pub mod Named
 pub mod RingsApart
 mod WalkExamples
+pub mod MoveTargets

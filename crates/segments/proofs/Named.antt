@@ -59,7 +59,7 @@ named_ahead shape memory v k address t h =
     record { is_spot = is.spot; from = omega (arith, is.from, rank_least v.floor, rank_most t) }
 
 -- what is found passes, and is as all are
-found_is : (test : Spot → Bool) (P : Spot → Type 0) (ts : List Spot) (t : Spot) → find test ts ≡ Some t → All P ts → (test t ≡ true) × P t
+pub found_is : (test : Spot → Bool) (P : Spot → Type 0) (ts : List Spot) (t : Spot) → find test ts ≡ Some t → All P ts → (test t ≡ true) × P t
 found_is test P [] t found all = absurd (none-some t found)
 found_is test P (u ∷ rest) t found all =
     elim (cases_Bool (test u)) [

@@ -1,0 +1,92 @@
+-- No two rings of a header have one ID, so each is found by its own
+use Rattle.std.specs.Prelude.{◌≡◌, ℕ, ◌+◌, ◌*◌, ◌<◌, ◌==◌, ◌&&◌, ◌||◌, not, Bool, true, false, List, [], ◌∷◌, nat_lt, Option, Some, None, find}
+use Rattle.std.specs.List.{list_any, list_all}
+use Rattle.std.proofs.Common.{arith, refl, sym, ◌∙◌, ap, subst, inl, inr}
+use Rattle.std.proofs.lemmas.Bool.{cases_Bool, cond-true, cond-false, false≢true, and_parts, or_parts, not-true, eq-eqb, eqb-true, ltb-true}
+use Rattle.std.proofs.lemmas.Option.{none-some, same_Some}
+use Rattle.trb.specs.declared.ring_kind.RingKind.{RingKind}
+use Rattle.trb.specs.declared.ring_kind.RingKind.TheVariants.{Cmd, Evt, Xfer}
+use Rattle.segments.specs.Places.{address_of, touches}
+use Rattle.segments.specs.Shape.{is_shape}
+use Rattle.traces.specs.declared.header.Header.{Header}
+use Rattle.traces.specs.declared.ring.Ring.{Ring}
+use Rattle.traces.specs.Header.{IsHeader, clash, may_stand_together, is_command_kind, is_event_kind, is_transfer_kind, ring_with, id_of, id_or_none, command_ring, command_id, ring_beginning_at}
+use Rattle.safety.specs.EndpointsKeep.{is_transfer_ring, IsTransferRing}
+use Rattle.safety.proofs.RingsOfHeader.{found_passes, found_allowed}
+
+-- what all rings fail the one that is found fails
+found_fails : (test fails : Ring → Bool) (rs : List Ring) (r : Ring) → find test rs ≡ Some r → list_any fails rs ≡ false → fails r ≡ false
+found_fails test fails [] r found none = absurd (none-some r found)
+found_fails test fails (q ∷ rest) r found none =
+    let parts = or_parts (fails q) (list_any fails rest) none in
+    elim (cases_Bool (test q)) [
+      | inl here ↦ ap fails (sym (same_Some q r (sym (cond-true (test q) (Some q) (find test rest) here) ∙ found))) ∙ parts.0
+      | inr later ↦ found_fails test fails rest r (sym (cond-false (test q) (Some q) (find test rest) later) ∙ found) parts.1
+    ]
+
+other_ids : (x r : Ring) → clash x r ≡ false → (x.id == r.id) ≡ false
+other_ids x r e =
+    let first = or_parts (x.id == r.id || list_any (λ s. touches r.shape s.base (16 * s.count)) x.shape.segments || (is_command_kind x.shape.kind && is_command_kind r.shape.kind))
+    (is_event_kind x.shape.kind && is_event_kind r.shape.kind) e in
+    let second = or_parts (x.id == r.id || list_any (λ s. touches r.shape s.base (16 * s.count)) x.shape.segments) (is_command_kind x.shape.kind && is_command_kind r.shape.kind) first.0 in
+    (or_parts (x.id == r.id) (list_any (λ s. touches r.shape s.base (16 * s.count)) x.shape.segments) second.0).0
+
+-- what any test finds is found by its ID
+found_again : (test : Ring → Bool) (rs : List Ring) (r : Ring) → may_stand_together rs ≡ true → find test rs ≡ Some r → find (λ q. q.id == r.id) rs ≡ Some r
+found_again test [] r together found = absurd (none-some r found)
+found_again test (x ∷ rest) r together found =
+    let parts = and_parts (not (list_any (clash x) rest)) (may_stand_together rest) together in
+    elim (cases_Bool (test x)) [
+      | inl here ↦
+          let same : x ≡ r = same_Some x r (sym (cond-true (test x) (Some x) (find test rest) here) ∙ found) in
+          cond-true (x.id == r.id) (Some x) (find (λ q. q.id == r.id) rest) (eq-eqb x.id r.id (ap (λ (q : Ring). q.id) same)) ∙ ap (λ (q : Ring). Some q) same
+      | inr later ↦
+          let on : find test rest ≡ Some r = sym (cond-false (test x) (Some x) (find test rest) later) ∙ found in
+          let apart = found_fails test (clash x) rest r on (not-true (list_any (clash x) rest) parts.0) in
+          cond-false (x.id == r.id) (Some x) (find (λ q. q.id == r.id) rest) (other_ids x r apart) ∙ found_again test rest r parts.1 on
+    ]
+
+module _ (h : Header) (is : IsHeader h) where
+  together : may_stand_together h.rings ≡ true
+  together = (and_parts (list_all (λ q. nat_lt q.id 256 && is_shape q.shape) h.rings) (may_stand_together h.rings) is).1
+
+  allowed : list_all (λ q. nat_lt q.id 256 && is_shape q.shape) h.rings ≡ true
+  allowed = (and_parts (list_all (λ q. nat_lt q.id 256 && is_shape q.shape) h.rings) (may_stand_together h.rings) is).0
+
+  beginning_is : (test : Ring → Bool) (o : Option Ring) (r : ℕ) → find test h.rings ≡ o → ((q : Ring) → test q ≡ true → is_transfer_kind q.shape.kind ≡ true) → id_of o ≡ Some r →
+      IsTransferRing h r
+  beginning_is test None r found kinds e = absurd (none-some r e)
+  beginning_is test (Some q) r found kinds e =
+      let same : q.id ≡ r = same_Some q.id r e in
+      subst (λ n. IsTransferRing h n) same (ap is_transfer_ring (found_again test h.rings q together found) ∙ kinds q (found_passes test h.rings q found))
+
+  -- a ring that begins at an address is a transfer ring
+  pub beginning_transfer : (p r : ℕ) → ring_beginning_at h p ≡ Some r → IsTransferRing h r
+  unfolding ring_beginning_at
+  beginning_transfer p r e =
+      beginning_is (λ q. is_transfer_kind q.shape.kind && address_of q.shape 0 == p) (find (λ q. is_transfer_kind q.shape.kind && address_of q.shape 0 == p) h.rings) r refl
+      (λ q passes. (and_parts (is_transfer_kind q.shape.kind) (address_of q.shape 0 == p) passes).0) e
+
+  two_kinds : (kind : RingKind) → is_command_kind kind ≡ true → is_transfer_kind kind ≡ true → ⊥
+  two_kinds Cmd c t = false≢true t
+  two_kinds Evt c t = false≢true c
+  two_kinds Xfer c t = false≢true c
+
+  no_ring : (o : Option Ring) → ring_with h 256 ≡ o → is_transfer_ring o ≡ true → ⊥
+  no_ring None found transfer = false≢true transfer
+  no_ring (Some q) found transfer =
+      let same : q.id ≡ 256 = eqb-true q.id 256 (found_passes (λ q. q.id == 256) h.rings q found) in
+      let below : q.id < 256 =
+      ltb-true q.id 256 (and_parts (nat_lt q.id 256) (is_shape q.shape) (found_allowed (λ q. q.id == 256) (λ q. nat_lt q.id 256 && is_shape q.shape) h.rings q found allowed)).0 in
+      omega arith
+
+  not_transfer : (o : Option Ring) → find (λ q. is_command_kind q.shape.kind) h.rings ≡ o → IsTransferRing h (id_or_none o) → ⊥
+  not_transfer None found transfer = no_ring (ring_with h 256) refl transfer
+  not_transfer (Some q) found transfer =
+      two_kinds q.shape.kind (found_passes (λ q. is_command_kind q.shape.kind) h.rings q found)
+      (sym (ap is_transfer_ring (found_again (λ q. is_command_kind q.shape.kind) h.rings q together found)) ∙ transfer)
+
+  -- the command ring is none
+  pub command_not_transfer : IsTransferRing h (command_id h) → ⊥
+  unfolding command_id command_ring
+  command_not_transfer transfer = not_transfer (find (λ q. is_command_kind q.shape.kind) h.rings) refl transfer

@@ -1,0 +1,81 @@
+-- The spot that a pointer and a cycle state name is the one to which the ring may be moved
+use Rattle.std.specs.Prelude.{◌≡◌, ℕ, suc, zero, ◌+◌, ◌-◌, ◌*◌, ◌<◌, ◌≤◌, ◌==◌, ◌&&◌, if◌then◌else◌, Bool, true, false, List, [], ◌∷◌, All, Some, find}
+use Rattle.std.specs.List.{list_any, range_with_len, flat_map}
+use Rattle.std.proofs.Common.{arith, refl, sym, ◌∙◌, ap, subst, inl, inr, get_or}
+use Rattle.std.proofs.lemmas.Bool.{cases_lt, and_parts, eqb-true}
+use Rattle.std.proofs.lemmas.List.Elements.{All-nil, All-cons, All-get_or}
+use Rattle.std.proofs.lemmas.List.Folds.{Any-from_list_any}
+use Rattle.segments.specs.declared.spot.Spot.{Spot}
+use Rattle.segments.specs.declared.spot.Spot.TheVariants.{Data, Link}
+use Rattle.segments.specs.ShapeValue.{Shape}
+use Rattle.segments.specs.Places.{place_count}
+use Rattle.segments.specs.Spots.{IsSpot, is_spot, rank, number, spot_address, spot_cycle}
+use Rattle.segments.specs.Shape.{IsShape}
+use Rattle.segments.specs.RingView.{RingView, declared, floor_number}
+use Rattle.segments.specs.Descriptors.{is_border}
+use Rattle.segments.specs.Moves.{is_target, spots_between, target, is_reached, may_move_to, is_move}
+use Rattle.segments.specs.RingKeeps.{RingKeeps}
+use Rattle.segments.proofs.SpotOrder.{rank_least, rank_most, same_spot}
+use Rattle.segments.proofs.Named.{found_is}
+
+-- a spot at an address, with a number from least to most
+record IsAt (shape : Shape) (address least most : ℕ) (t : Spot) : Type 0 where
+  pub is_spot : IsSpot shape t
+  pub at : spot_address shape t ≡ address
+  pub from : least ≤ number t
+  pub to : number t ≤ most
+
+spots_within : (least most a n : ℕ) → least ≤ a → a + n ≤ most + 1 → All (λ t. (least ≤ number t) × (number t ≤ most)) (flat_map (λ q. Link q ∷ Data q ∷ []) (range_with_len a n))
+spots_within least most a zero low high = All-nil (λ t. (least ≤ number t) × (number t ≤ most))
+spots_within least most a (suc n) low high =
+    let P = λ (t : Spot). (least ≤ number t) × (number t ≤ most) in
+    let rest : List Spot = flat_map (λ q. Link q ∷ Data q ∷ []) (range_with_len (a + 1) n) in
+    All-cons P (Link a) (Data a ∷ rest) (low, omega arith)
+    (All-cons P (Data a) rest (low, omega arith) (spots_within least most (a + 1) n (omega arith) (omega arith)))
+
+between : (least most : ℕ) → All (λ t. (least ≤ number t) × (number t ≤ most)) (spots_between least most)
+unfolding spots_between
+between least most =
+    elim (cases_lt most least) [
+      | inl none ↦
+          let empty : 0 ≡ most + 1 - least = omega arith in
+          subst (λ n. All (λ t. (least ≤ number t) × (number t ≤ most)) (flat_map (λ q. Link q ∷ Data q ∷ []) (range_with_len least n))) empty
+          (All-nil (λ t. (least ≤ number t) × (number t ≤ most)))
+      | inr some ↦ spots_within least most least (most + 1 - least) (omega arith) (omega arith)
+    ]
+
+target_at : (shape : Shape) (address : ℕ) (cycle : Bool) (least most : ℕ) (t : Spot) → is_target shape address cycle t ≡ true → (least ≤ number t) × (number t ≤ most) →
+    IsAt shape address least most t
+unfolding is_target
+target_at shape address cycle least most t is bounds =
+    let parts = and_parts (is_spot shape t) (spot_address shape t == address)
+    (and_parts (is_spot shape t && spot_address shape t == address) (spot_cycle shape t == (if cycle then 1 else 0)) is).0 in
+    record { is_spot = parts.0; at = eqb-true (spot_address shape t) address parts.1; from = bounds.0; to = bounds.1 }
+
+-- two spots at one address from the floor's number up to what is declared are one
+one_at : (shape : Shape) → IsShape shape → (memory : ℕ → ℕ) (v : RingView) → RingKeeps shape memory v → (address : ℕ) (s t : Spot) →
+    IsAt shape address (floor_number v) (declared v) s → IsAt shape address (floor_number v) (declared v) t → s ≡ t
+one_at shape is memory v k address s t a b =
+    elim (cases_lt (rank s) (rank t)) [
+      | inl lower ↦
+          same_spot shape is s t a.is_spot b.is_spot (omega arith) (omega (arith, rank_least s, rank_most t, a.from, b.to, k.room)) (a.at ∙ sym b.at)
+      | inr upper ↦
+          sym (same_spot shape is t s b.is_spot a.is_spot upper (omega (arith, rank_least t, rank_most s, b.from, a.to, k.room)) (b.at ∙ sym a.at))
+    ]
+
+-- where a spot passes the test of a move, the target is that spot: everything before it is given
+pub move_target : (shape : Shape) → IsShape shape → (memory : ℕ → ℕ) (v : RingView) → RingKeeps shape memory v → (address : ℕ) (cycle : Bool) (least most : ℕ) (t : Spot) →
+    floor_number v ≤ least → most ≤ declared v → is_move shape v address cycle least most ≡ true → target shape v address cycle ≡ Some t → is_reached shape v t ≡ true
+unfolding is_move target may_move_to
+move_target shape is memory v k address cycle least most t low high moves named =
+    let found = found_is (is_target shape address cycle) (λ u. (floor_number v ≤ number u) × (number u ≤ declared v)) (spots_between (floor_number v) (declared v)) t named (between (floor_number v) (declared v)) in
+    let any = Any-from_list_any (λ u. is_target shape address cycle u && may_move_to shape v u) (spots_between least most) moves in
+    let u : Spot = any.1 in
+    let passes = and_parts (is_target shape address cycle u) (may_move_to shape v u) any.4 in
+    let bounds : (least ≤ number u) × (number u ≤ most) =
+    subst (λ (x : Spot). (least ≤ number x) × (number x ≤ most)) any.3
+    (All-get_or (λ x. (least ≤ number x) × (number x ≤ most)) (spots_between least most) any.0 u any.2 (between least most)) in
+    let same : u ≡ t = one_at shape is memory v k address u t
+    (target_at shape address cycle (floor_number v) (declared v) u passes.0 (omega arith, omega arith))
+    (target_at shape address cycle (floor_number v) (declared v) t found.0 found.1) in
+    ap (λ x. is_reached shape v x) (sym same) ∙ (and_parts (is_border v.lengths 0 (number u)) (is_reached shape v u) passes.1).1
