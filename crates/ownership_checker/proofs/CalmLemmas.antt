@@ -54,9 +54,9 @@ module _ (h : Header) (k : Known) (calm : IsCalm h k) where
   unfolding leases.context_ranges leases.range_of_command
   no_contexts = none_mapped (λ p. leases.range_of_command h p (rings.command_at h k p)) (λ p. rw (no_command_at p) refl) (rings.unfinished_positions h k)
 
-  no_entries : leases.entry_ranges h k ≡ []
+  no_entries : leases.entry_ranges k ≡ []
   unfolding leases.entry_ranges leases.range_of_entry
-  no_entries = none_mapped (λ s. leases.range_of_entry h k s (k.device s)) (λ s. rw (calm.devices s) refl) leases.slots
+  no_entries = none_mapped (λ s. leases.range_of_entry k s (k.device s)) (λ s. rw (calm.devices s) refl) leases.slots
 
   no_contexts_of_devices : leases.device_ranges h k ≡ []
   unfolding leases.device_ranges leases.range_of_device

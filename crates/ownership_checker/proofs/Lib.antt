@@ -20,6 +20,5 @@ pub mod OutsideRows
 pub mod AcceptedRows
 pub mod Numbers
 pub mod Starts
-pub mod Ranges
 mod WithinProfile
 pub mod Walks

@@ -11,7 +11,7 @@ use Rattle.ring_knowledge.specs.Known.{Known}
 use Rattle.ownership_rules.specs.OpenLeases.{EventSegment, SegmentTable, InputContext, SlotEntry, DeviceContext, Leased, Block, Link, Range, same_leased, is_among, open_on, open_leases, segment_ranges}
 use Rattle.ownership_checker.specs.Calm.{IsCalm}
 use Rattle.ownership_checker.proofs.ListTests.{or_false, any_append, any_map, any_flat_map, any_nowhere, any_filter}
-use Rattle.ownership_checker.proofs.Ranges.{any_only}
+use Rattle.ring_knowledge.proofs.Ranges.{any_only}
 use Rattle.ownership_checker.proofs.RingsApart.{IsAmong, same_number, other_number}
 use Rattle.ownership_checker.proofs.HeaderRings.{together, one_driver}
 use Rattle.ownership_checker.proofs.CalmLemmas.{segments_alone}

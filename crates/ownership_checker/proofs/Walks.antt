@@ -15,8 +15,7 @@ use Rattle.ownership_rules.specs.Clean.{IsClean}
 use Rattle.safety.specs.KeptHistories.{AreDriverRows}
 use Rattle.safety.proofs.Histories.{keeps_driver_rings}
 use Rattle.safety.proofs.RingsOfHeader.{HasRing, has_ring, shape_allowed}
-use Rattle.ownership_checker.specs.Profile.{is_outside}
-use Rattle.ownership_checker.specs.Tracking.{AreInside, IsAccepted}
+use Rattle.ownership_checker.specs.Tracking.{AreTransferRows, IsAccepted}
 use Rattle.ownership_checker.specs.declared.fault.CheckFault.{CheckFault}
 use Rattle.ownership_checker.specs.Walks.{WalksRead}
 
@@ -25,32 +24,31 @@ earlier_clean : (h : Header) (xs ys : List Row) → IsClean h (xs ++ ys) → IsC
 earlier_clean h [] ys clean = clean
 earlier_clean h (x ∷ xs) ys clean = earlier_clean h xs ys clean.0
 
-earlier_inside : (h : Header) (xs ys : List Row) → AreInside h (xs ++ ys) → AreInside h ys
-earlier_inside h [] ys inside = inside
-earlier_inside h (x ∷ xs) ys inside = earlier_inside h xs ys inside.0
+earlier_transfers : (h : Header) (xs ys : List Row) → AreTransferRows h (xs ++ ys) → AreTransferRows h ys
+earlier_transfers h [] ys on = on
+earlier_transfers h (x ∷ xs) ys on = earlier_transfers h xs ys on.0
 
 split : (rows : List Row) (done : ℕ) → reverse rows ≡ reverse (drop done rows) ++ reverse (take done rows)
 split rows done = ap reverse (sym (take-append-drop done rows)) ∙ reverse-append (take done rows) (drop done rows)
 
 -- no event is in the profile yet
-no_events : (h : Header) (past : List Row) → AreInside h past → AreDriverRows past
-unfolding is_outside
-no_events h [] inside = tt
-no_events h (Sub r blocks ∷ past) inside = (no_events h past inside.0, tt)
-no_events h (Write a w ∷ past) inside = (no_events h past inside.0, tt)
-no_events h (Reg r x ∷ past) inside = (no_events h past inside.0, tt)
-no_events h (Bell s t ∷ past) inside = (no_events h past inside.0, tt)
-no_events h (Read b ∷ past) inside = absurd (false≢true (sym inside.1))
+no_events : (h : Header) (past : List Row) → AreTransferRows h past → AreDriverRows past
+no_events h [] on = tt
+no_events h (Sub r blocks ∷ past) on = (no_events h past on.0, tt)
+no_events h (Write a w ∷ past) on = (no_events h past on.0, tt)
+no_events h (Reg r x ∷ past) on = absurd on.1
+no_events h (Bell s t ∷ past) on = absurd on.1
+no_events h (Read b ∷ past) on = absurd on.1
 
 no_event_ring : (kind : RingKind) → is_driver_kind kind ≡ true → kind ≡ Evt → ⊥
 no_event_ring kind driver is = false≢true (sym (ap is_driver_kind is) ∙ driver)
 
-pub walks : (h : Header) → IsHeader h → (rows : List Row) → AreInside h (reverse rows) → IsClean h (reverse rows) → WalksRead h rows
-walks h is rows inside clean done r within driver =
+pub walks : (h : Header) → IsHeader h → (rows : List Row) → AreTransferRows h (reverse rows) → IsClean h (reverse rows) → WalksRead h rows
+walks h is rows on clean done r within driver =
     let past : List Row = reverse (take done rows) in
     let was_clean : IsClean h past = earlier_clean h (reverse (drop done rows)) past (subst (IsClean h) (split rows done) clean) in
-    let was_inside : AreInside h past = earlier_inside h (reverse (drop done rows)) past (subst (AreInside h) (split rows done) inside) in
-    let keeps = keeps_driver_rings h is past was_clean (no_events h past was_inside) r driver in
+    let was_on : AreTransferRows h past = earlier_transfers h (reverse (drop done rows)) past (subst (AreTransferRows h) (split rows done) on) in
+    let keeps = keeps_driver_rings h is past was_clean (no_events h past was_on) r driver in
     let has : HasRing h r = has_ring h r driver in
     walk_reads (shape_of h r) (shape_allowed h is r driver) (no_event_ring (shape_of h r).kind (ap (λ s. is_driver_kind s.kind) has.shape ∙ has.driver))
     (known h past).memory ((known h past).ring r) keeps
@@ -58,5 +56,5 @@ walks h is rows inside clean done r within driver =
 -- of an answer: where it accepts
 pub accepted_walks : (h : Header) → IsHeader h → (rows : List Row) (first : ℕ) (answer : Result ℕ CheckFault) →
     IfOk answer (λ n. IsAccepted h rows first n) → OnOk answer (WalksRead h rows)
-accepted_walks h is rows first (Ok n) accepted = walks h is rows accepted.inside accepted.clean
+accepted_walks h is rows first (Ok n) accepted = walks h is rows accepted.on_transfers accepted.clean
 accepted_walks h is rows first (Err e) accepted = tt

@@ -2,13 +2,16 @@ ghost use Rattle.std.specs.Prelude.{◌≡◌};
 
 use ownership_rules::Refusal;
 use std::alloc::AllocError;
+use thiserror::Error;
 
 /// Why a trace isn't accepted.
-#[derive(Debug, Drop, PartialEq, Eq)]
+#[derive(Debug, Drop, Error, PartialEq, Eq)]
 pub enum CheckFault {
     /// The first row that breaks a rule, by its line number, and the least of the rules that it breaks.
+    #[error("row {row}: {refusal}")]
     Refused { row: u32, refusal: Refusal },
     /// A growth of memory was refused.
+    #[error("memory is wanted")]
     Memory,
 }
 

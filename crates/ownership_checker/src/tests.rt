@@ -7,7 +7,7 @@ use contexts::ContextSize;
 use guest_memory::Addr;
 use ownership_rules::Refusal;
 use segments::RingShape;
-use std::alloc::Global;
+use std::alloc::{AllocError, Global};
 use std::test::Fail;
 use traces::{Header, Register, Ring, Rings, Row, Rows, Trace};
 use trb::{Block, Blocks, RingKind};
@@ -162,5 +162,20 @@ fn rows_outside_the_profile_are_refused(rt: HostRuntime) -> Result<(), Fail> {
         rows.push(last)?;
         assert_eq!(rt; answer_to(alloc, rows)?, refused(8, Refusal::NotInProfile));
     }
+    Ok(())
+}
+
+#[test]
+fn faults_say_what_is_wrong(rt: HostRuntime) -> Result<(), AllocError> {
+    let refused = CheckFault::Refused {
+        row: 8,
+        refusal: Refusal::LinkFault,
+    };
+    assert_eq!(rt; format!(in rt.alloc(); "{refused}")?.as_str(), "row 8: LinkFault");
+    assert_eq!(
+        rt;
+        format!(in rt.alloc(); "{}", CheckFault::Memory)?.as_str(),
+        "memory is wanted",
+    );
     Ok(())
 }

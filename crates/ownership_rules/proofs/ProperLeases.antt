@@ -84,7 +84,7 @@ module _ (h : Header) (k : Known) where
   command p None = none
   command p (Some c) = context p (named_context c)
 
-  entry : (s : ℕ) (d : Option ℕ) → AreProper (range_of_entry h k s d)
+  entry : (s : ℕ) (d : Option ℕ) → AreProper (range_of_entry k s d)
   unfolding range_of_entry
   entry s None = none
   entry s (Some d) = one _ _ _
@@ -97,7 +97,7 @@ module _ (h : Header) (k : Known) where
   ranges : AreProper (open_ranges h k)
   unfolding open_ranges context_ranges entry_ranges device_ranges
   ranges =
-      both (segment_ranges h ++ table_range h (k.register Erstba) ++ context_ranges h k ++ entry_ranges h k) _
+      both (segment_ranges h ++ table_range h (k.register Erstba) ++ context_ranges h k ++ entry_ranges k) _
       (both (segment_ranges h ++ table_range h (k.register Erstba) ++ context_ranges h k) _
       (both (segment_ranges h ++ table_range h (k.register Erstba)) _
       (both (segment_ranges h) _ segments (table (k.register Erstba)))

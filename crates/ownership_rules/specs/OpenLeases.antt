@@ -60,6 +60,14 @@ is_among leases l = list_any (same_leased l) leases
 unfoldable pub slots : List ℕ
 slots = range_with_len 1 255
 
+unfoldable pub range_of_entry : Known → ℕ → Option ℕ → List Leased
+range_of_entry k s None = []
+range_of_entry k s (Some d) = Range 8 (entry_of k s) (SlotEntry s) ∷ []
+
+-- the entries of the DCBAA that name a device context under lease
+unfoldable pub entry_ranges : Known → List Leased
+entry_ranges k = flat_map (λ s. range_of_entry k s (k.device s)) slots
+
 module _ (h : Header) where
   -- the words that a lease covers
   unfoldable pub lease_start : Leased → ℕ
@@ -97,14 +105,6 @@ module _ (h : Header) where
   -- the input contexts of unfinished commands
   unfoldable pub context_ranges : Known → List Leased
   context_ranges k = flat_map (λ p. range_of_command p (rings.command_at h k p)) (rings.unfinished_positions h k)
-
-  unfoldable pub range_of_entry : Known → ℕ → Option ℕ → List Leased
-  range_of_entry k s None = []
-  range_of_entry k s (Some d) = Range 8 (entry_of k s) (SlotEntry s) ∷ []
-
-  -- the entries of the DCBAA that name a device context under lease
-  unfoldable pub entry_ranges : Known → List Leased
-  entry_ranges k = flat_map (λ s. range_of_entry k s (k.device s)) slots
 
   unfoldable pub range_of_device : ℕ → Option ℕ → List Leased
   range_of_device s None = []

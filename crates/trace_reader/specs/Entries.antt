@@ -15,7 +15,7 @@ use Rattle.trace_reader.specs.declared.entry.Entry.{Entry}
 use Rattle.trace_reader.specs.declared.entry.Entry.TheVariants.{Row as RowEntry, Ring as RingEntry}
 use Rattle.trace_reader.specs.declared.entry.RingEntry.{RingEntry as LineOfRing}
 use Rattle.trace_reader.specs.declared.entry.FirstWord.{FirstWord}
-use Rattle.trace_reader.specs.declared.reader.Reader.{Reader}
+use Rattle.trace_reader.specs.declared.so_far.TraceSoFar.{TraceSoFar}
 use Rattle.traces.specs.declared.ring.Ring.{Ring}
 use Rattle.trace_reader.specs.declared.entry.FirstWord.TheVariants.{Sub as SubWord, W, Reg as RegWord, Db, Ev, Ring as RingWord}
 use Rattle.traces.specs.declared.row.Row.{Row}
@@ -109,7 +109,7 @@ abbrev pub text_of : Trace → TraceText
 text_of trace = record { header = trace.header; first = trace.first; rows = trace.rows }
 
 -- what the reader holds
-abbrev pub state_of : Reader → State
+abbrev pub state_of : TraceSoFar → State
 state_of r = record { lines = r.lines; size = r.size; rings = r.rings.items; begun = not (vec_len r.rows == 0) }
 
 -- the rows so far, and the row of the next line, if it says one

@@ -1,6 +1,7 @@
 //! The texts of traces, plans and schedules, read and printed exactly.
 #![tactic(auto)]
 
+mod clashes;
 mod entry;
 mod fault;
 mod line;
@@ -8,9 +9,8 @@ mod plan_line;
 mod plans;
 mod print;
 mod read;
-mod reader;
-mod rings;
 mod schedules;
+mod so_far;
 mod step_line;
 
 pub use entry::block_of;

@@ -11,8 +11,8 @@ ghost use Rattle.trace_reader.specs.Values.{SaysRing, SaysRow};
 use crate::entry::{Entry, RingEntry};
 use crate::fault::{LineError, LineFault, ReadFault};
 use crate::line::{entry_in, is_version, size_of};
-use crate::reader::Reader;
-use crate::rings::clashes_with_one;
+use crate::so_far::TraceSoFar;
+use crate::clashes::clashes_with_one;
 use contexts::ContextSize;
 use line_text::{Line, first_line};
 use segments::RingShape;
@@ -36,7 +36,7 @@ pub fn read_trace(alloc: Global, text: &[u8]) -> Result<Trace, ReadFault>
     // A refused text spells no trace.
     ensures unspelled { IfErr result (λ e. IfBadLine e (λ line code. (trace : TraceText) → IsTrace trace → spells trace text.now ≡ false)) }
 {
-    let mut reader = Reader {
+    let mut so_far = TraceSoFar {
         alloc,
         size: ContextSize::Bytes32,
         rings: Vec::new(alloc),
@@ -46,13 +46,13 @@ pub fn read_trace(alloc: Global, text: &[u8]) -> Result<Trace, ReadFault>
     let mut rest = text;
     while !rest.is_empty() {
         let (line, after) = first_line(rest);
-        let number = reader.lines + 1;
-        if let Err(error) = reader.add(&line) {
+        let number = so_far.lines + 1;
+        if let Err(error) = so_far.add(&line) {
             return Err(at_line(number, error));
         }
         rest = after;
     }
-    reader.finish()
+    so_far.finish()
 }
 
 /// The fault of the line with this number.
@@ -65,7 +65,7 @@ pub fn at_line(line: u32, error: LineError) -> ReadFault
     }
 }
 
-impl Reader {
+impl TraceSoFar {
     /// Adds the next line of the text.
     fn add(&mut self, line: &Line) -> Result<(), LineError>
         ensures ok { OnOk result (took_in self.old.rows.items (read_line (state_of self.old) line.now) ≡ Ok (state_of self.new, self.new.rows.items)) }

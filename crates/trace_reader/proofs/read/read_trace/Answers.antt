@@ -11,30 +11,30 @@ use Rattle.trace_reader.proofs.read.read_trace.Goals as goal
 
 pub loop-rest-preserved : goal.loop-rest-preserved
 loop-rest-preserved c =
-    let r = c.loop-rest.reader in
+    let r = c.loop-rest.so_far in
     read_on c.args.text.now r.rows.items c.add.new.self.rows.items (state_of r) (state_of c.add.new.self) c.first_line-line.result.0 c.first_line-line.result.1.now
     (lines_of c.loop-rest.rest.now) c.loop-rest.invariant c.first_line-line.ensures.lines c.in_default.ensures.ok
 
 pub returns-in-Err-clause-refused : goal.returns-in-Err-clause-refused
 returns-in-Err-clause-refused c =
-    let r = c.loop-rest.reader in
+    let r = c.loop-rest.so_far in
     rw c.at_line.ensures
     (stopped c.args.text.now r.rows.items (state_of r) c.first_line-line.result.0 (lines_of c.first_line-line.result.1.now) c.in-Err.error
     (c.loop-rest.invariant ∙ ap (λ ls. prepend r.rows.items (read_lines (state_of r) ls)) c.first_line-line.ensures.lines) c.in-Err.ensures.err)
 
 pub finish-requires : goal.finish-requires
 finish-requires c =
-    let r = c.loop-rest.reader in
+    let r = c.loop-rest.so_far in
     (c.args.text.now, ended c.args.text.now c.loop-rest.rest.now r.rows.items (state_of r) c.loop-rest.invariant (eqb-true (length c.loop-rest.rest.now) 0 (sym c.loop-rest-test.ensures)))
 
 pub returns-clause-read : goal.returns-clause-read
 returns-clause-read c =
-    let r = c.loop-rest.reader in
+    let r = c.loop-rest.so_far in
     rw (ended c.args.text.now c.loop-rest.rest.now r.rows.items (state_of r) c.loop-rest.invariant (eqb-true (length c.loop-rest.rest.now) 0 (sym c.loop-rest-test.ensures))) c.finish.ensures.read
 
 pub returns-clause-refused : goal.returns-clause-refused
 returns-clause-refused c =
-    let r = c.loop-rest.reader in
+    let r = c.loop-rest.so_far in
     rw (ended c.args.text.now c.loop-rest.rest.now r.rows.items (state_of r) c.loop-rest.invariant (eqb-true (length c.loop-rest.rest.now) 0 (sym c.loop-rest-test.ensures))) c.finish.ensures.refused
 
 pub returns-in-Err-clause-unspelled : goal.returns-in-Err-clause-unspelled

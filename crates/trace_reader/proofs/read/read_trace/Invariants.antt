@@ -10,4 +10,4 @@ abbrev pub decreases-loop-rest : goal.decreases-loop-rest
 decreases-loop-rest l = length l.rest
 
 abbrev pub invariant-loop-rest : goal.invariant-loop-rest
-invariant-loop-rest l = read_lines start (lines_of l.text) ≡ prepend l.reader.rows.items (read_lines (state_of l.reader) (lines_of l.rest))
+invariant-loop-rest l = read_lines start (lines_of l.text) ≡ prepend l.so_far.rows.items (read_lines (state_of l.so_far) (lines_of l.rest))

@@ -1,7 +1,7 @@
 use Rattle.std.proofs.Common.{ap, sym}
 use Rattle.trace_reader.specs.Entries.{state_of, took_in}
 use Rattle.trace_reader.proofs.ReadSteps.{size_read, no_size}
-use Rattle.trace_reader.proofs.reader.Reader.add_size.Goals as goal
+use Rattle.trace_reader.proofs.so_far.TraceSoFar.add_size.Goals as goal
 
 pub returns-in_default-clause-err : goal.returns-in_default-clause-err
 returns-in_default-clause-err c = rw c.into.ensures (no_size (state_of c.args.self.now) c.args.line.now c.requires (sym c.in_default.ensures))

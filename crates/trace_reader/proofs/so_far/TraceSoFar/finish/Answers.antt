@@ -2,7 +2,7 @@ use Rattle.std.proofs.Common.{◌≤◌, ◌∙◌, arith}
 use Rattle.trace_reader.specs.Entries.{state_of}
 use Rattle.trace_reader.proofs.ReadSteps.{header_there}
 use Rattle.trace_reader.proofs.Spelled.{spelled_if_read}
-use Rattle.trace_reader.proofs.reader.Reader.finish.Goals as goal
+use Rattle.trace_reader.proofs.so_far.TraceSoFar.finish.Goals as goal
 
 pub invariant_of-result : goal.invariant_of-result
 invariant_of-result c =

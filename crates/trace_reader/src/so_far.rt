@@ -7,7 +7,7 @@ use traces::{Ring, Row};
 
 /// What the lines so far have said.
 #[derive(Drop)]
-pub struct Reader {
+pub struct TraceSoFar {
     pub alloc: Global,
     pub size: ContextSize,
     pub rings: Vec<Ring>,

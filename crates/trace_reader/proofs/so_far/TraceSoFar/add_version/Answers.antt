@@ -1,7 +1,7 @@
 use Rattle.std.proofs.Common.{◌∙◌, ap, sym}
 use Rattle.trace_reader.specs.Entries.{state_of, took_in}
 use Rattle.trace_reader.proofs.ReadSteps.{version_read, no_version}
-use Rattle.trace_reader.proofs.reader.Reader.add_version.Goals as goal
+use Rattle.trace_reader.proofs.so_far.TraceSoFar.add_version.Goals as goal
 
 pub returns-then-not-is_version-clause-err : goal.returns-then-not-is_version-clause-err
 returns-then-not-is_version-clause-err c =

@@ -3,7 +3,7 @@ use Rattle.std.specs.Prelude.{not}
 use Rattle.std.proofs.lemmas.Result.{err_from_is_err_and}
 use Rattle.trace_reader.specs.Entries.{state_of, value_of}
 use Rattle.trace_reader.proofs.ReadSteps.{line_entry, line_error}
-use Rattle.trace_reader.proofs.reader.Reader.add_entry.Goals as goal
+use Rattle.trace_reader.proofs.so_far.TraceSoFar.add_entry.Goals as goal
 
 pub returns-in_err-row-clause-err : goal.returns-in_err-row-clause-err
 returns-in_err-row-clause-err c =
