@@ -165,7 +165,7 @@ module _ (h : Header) where
   unfolding in_state
   state_keeps k keeps s i = leaves_keeps k (in_state h k s i Stopped) keeps (same_leaves k (in_state h k s i Stopped) (λ s i r at. at) refl refl)
 
-  change_keeps : IsHeader h → (c : Command) (k : Known) (change : Change) → EndpointsKeep h k → EndpointsKeep h (changed_by h c k change)
+  pub change_keeps : IsHeader h → (c : Command) (k : Known) (change : Change) → EndpointsKeep h k → EndpointsKeep h (changed_by h c k change)
   unfolding changed_by disabled in_state
   change_keeps is c k (SlotGoesOn s) keeps = leaves_keeps k (changed_by h c k (SlotGoesOn s)) keeps (same_leaves k (changed_by h c k (SlotGoesOn s)) (λ s i r at. at) refl refl)
   change_keeps is c k (DeviceLeft s) keeps = leaves_keeps k (changed_by h c k (DeviceLeft s)) keeps (same_leaves k (changed_by h c k (DeviceLeft s)) (λ s i r at. at) refl refl)

@@ -9,3 +9,5 @@ pub mod Histories
 pub mod RingIds
 pub mod Endpoints
 pub mod EndpointHistories
+pub mod Placings
+pub mod StillPlacing
