@@ -11,3 +11,5 @@ pub mod Endpoints
 pub mod EndpointHistories
 pub mod Placings
 pub mod StillPlacing
+pub mod GivenCommands
+pub mod Walks
