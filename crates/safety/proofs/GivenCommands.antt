@@ -1,14 +1,14 @@
 -- What the rules test of a command that a write gives: its bindings and its moves may be made
-use Rattle.std.specs.Prelude.{◌≡◌, ℕ, ◌≤◌, ◌==◌, ◌&&◌, ◌||◌, not, Bool, true, false, List, [], ◌∷◌, map, nat_le, All, Option, None, Some, is_some, suc, zero, ◌+◌}
+use Rattle.std.specs.Prelude.{◌≡◌, ℕ, ◌≤◌, ◌==◌, ◌||◌, not, Bool, true, false, [], map, nat_le, All, Option, None, Some, is_some, suc, zero, ◌+◌}
 use Rattle.std.specs.List.{list_any, range_with_len}
 use Rattle.std.proofs.Common.{arith, refl, sym, ◌∙◌, ap, subst, inl, inr, get_or}
-use Rattle.std.proofs.lemmas.Bool.{cases_Bool, or_parts, and_parts, and_cases, and_from, or_cases, or_left, or_right, not-false, not-true, not_from_false, eqb-true, le-leb, false≢true}
+use Rattle.std.proofs.lemmas.Bool.{or_parts, and_cases, and_from, or_cases, or_left, or_right, not-false, not-true, not_from_false, eqb-true, le-leb, false≢true}
 use Rattle.std.proofs.lemmas.Option.{same_Some}
 use Rattle.std.proofs.lemmas.List.Elements.{All-nil, All-cons, All-filter, All-get_or, All-weaker}
 use Rattle.std.proofs.lemmas.List.Folds.{Any-from_list_any}
 use Rattle.segments.specs.RingView.{declared, floor_number}
 use Rattle.segments.specs.Moves.{is_move}
-use Rattle.contexts.specs.Contexts.{input_drop_flag, input_add_flag, added_endpoints, is_dropped, context_pointer, context_cycle}
+use Rattle.contexts.specs.Contexts.{input_drop_flag, input_add_flag, added_endpoints, is_dropped}
 use Rattle.commands.specs.declared.command.Command.{Command}
 use Rattle.commands.specs.declared.command.Command.TheVariants.{NoOp, EnableSlot, DisableSlot, AddressDevice, ConfigureEndpoint, EvaluateContext, ResetEndpoint, StopEndpoint, SetTrDequeue, ResetDevice}
 use Rattle.commands.specs.Command.{named_slot, named_endpoint, named_context}
@@ -57,9 +57,9 @@ module _ (h : Header) (k : Known) where
       let parts = or_parts (list_any (λ b. not (is_unused_ring h k (ring_bound h b)) || not b.cycle) (binds h k c)) (has_repeats (map (ring_bound h) (binds h k c))) good in
       record {
         unused =
-          All-weaker (λ b. (not (is_unused_ring h k (ring_bound h b)) || not b.cycle) ≡ false) (λ b. is_unused_ring h k (ring_bound h b) ≡ true)
-          (λ b fails. not-false (is_unused_ring h k (ring_bound h b)) (or_parts (not (is_unused_ring h k (ring_bound h b))) (not b.cycle) fails).0)
-          (binds h k c) (each_fails (λ b. not (is_unused_ring h k (ring_bound h b)) || not b.cycle) (binds h k c) parts.0);
+            All-weaker (λ b. (not (is_unused_ring h k (ring_bound h b)) || not b.cycle) ≡ false) (λ b. is_unused_ring h k (ring_bound h b) ≡ true)
+            (λ b fails. not-false (is_unused_ring h k (ring_bound h b)) (or_parts (not (is_unused_ring h k (ring_bound h b))) (not b.cycle) fails).0)
+            (binds h k c) (each_fails (λ b. not (is_unused_ring h k (ring_bound h b)) || not b.cycle) (binds h k c) parts.0);
         repeats = parts.1;
       }
 
@@ -151,7 +151,7 @@ module _ (h : Header) (k : Known) where
       let bindings : GoodBindings c = good_bindings c parts.0 in
       record {
         named = All-weaker (λ b. is_unused_ring h k (ring_bound h b) ≡ true) (λ b. is_some (ring_bound h b) ≡ true)
-          (λ b unused. ap (λ o. is_some o) (unused_is (ring_bound h b) unused).1) (binds h k c) bindings.unused;
+            (λ b unused. ap (λ o. is_some o) (unused_is (ring_bound h b) unused).1) (binds h k c) bindings.unused;
         repeats = bindings.repeats;
         unbound = never_bound c bindings;
         free = are_free c (content_good c good);

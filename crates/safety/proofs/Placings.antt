@@ -1,20 +1,16 @@
 -- A command of which what was tested still holds places endpoints where it may
 use Rattle.std.specs.Prelude.{◌≡◌, ◌≢◌, ℕ, ◌<◌, ◌≤◌, ◌==◌, ◌&&◌, ◌||◌, not, if◌then◌else◌, Bool, true, false, List, [], ◌∷◌, map, length, All, Option, None, Some, is_some}
 use Rattle.std.specs.List.{list_any}
-use Rattle.std.proofs.Common.{arith, refl, sym, ◌∙◌, ap, subst, inl, inr, get_or}
-use Rattle.std.proofs.lemmas.Bool.{cases_Bool, cases_eq, cond-true, cond-false, and_from, and_right, or_parts, or_left, or_cases, not-false, eq-eqb, ne_eqb, false≢true}
-use Rattle.std.proofs.lemmas.Option.{none-some, same_Some}
+use Rattle.std.proofs.Common.{arith, refl, sym, ◌∙◌, ap, get_or}
+use Rattle.std.proofs.lemmas.Bool.{cond-true, cond-false, and_from, and_right, or_parts, or_left, not-false, eq-eqb, ne_eqb, false≢true}
 use Rattle.std.proofs.lemmas.List.Elements.{All-head, All-tail}
 use Rattle.std.proofs.lemmas.List.Folds.{list_any_at}
 use Rattle.std.proofs.lemmas.List.{length-map, get_or-map}
 use Rattle.guest_memory.specs.Memory.{put, put_pair}
-use Rattle.trb.specs.declared.block.Block.{Block}
-use Rattle.trb.specs.Block.{code, slot}
 use Rattle.segments.specs.declared.spot.Spot.{Spot}
-use Rattle.segments.specs.declared.spot.Spot.TheVariants.{Data}
 use Rattle.segments.specs.Spots.{number}
 use Rattle.segments.specs.RingView.{RingView, declared, floor_number}
-use Rattle.segments.specs.Ceiling.{ceiling, given_count}
+use Rattle.segments.specs.Ceiling.{ceiling}
 use Rattle.segments.specs.Moves.{target, is_move, is_reached}
 use Rattle.segments.proofs.Reaching.{floor_given, given_count_declared}
 use Rattle.segments.proofs.Named.{ceiling_within}
@@ -23,7 +19,7 @@ use Rattle.contexts.specs.Contexts.{added_endpoints, is_dropped, context_pointer
 use Rattle.commands.specs.declared.command.Command.{Command}
 use Rattle.commands.specs.declared.command.Command.TheVariants.{NoOp, EnableSlot, DisableSlot, AddressDevice, ConfigureEndpoint, EvaluateContext, ResetEndpoint, StopEndpoint, SetTrDequeue, ResetDevice}
 use Rattle.commands.specs.declared.state.EndpointState.{EndpointState}
-use Rattle.commands.specs.declared.state.EndpointState.TheVariants.{Disabled as Off, Running, Stopped}
+use Rattle.commands.specs.declared.state.EndpointState.TheVariants.{Disabled as Off, Running}
 use Rattle.commands.specs.States.{is_off, is_at_rest}
 use Rattle.commands.specs.Changes.{Change, SlotGoesOn, Disables, Places, changes, placed_by_context}
 use Rattle.traces.specs.declared.header.Header.{Header}
@@ -31,10 +27,10 @@ use Rattle.traces.specs.Header.{IsHeader, shape_of, is_ring, ring_beginning_at}
 use Rattle.ring_knowledge.specs.Known.{Known}
 use Rattle.ring_knowledge.specs.Rings.{on_ring}
 use Rattle.ring_knowledge.specs.Completions.{set_to, bound_to, moved, pointed, disabled, in_state, changed_by}
-use Rattle.ownership_rules.specs.Moves.{is_among, has_repeats, Binding, binding_in, binds, ring_bound, binds_ring, is_bad_dequeue, is_bad_move}
+use Rattle.ownership_rules.specs.Moves.{is_among, has_repeats, binding_in, binds, ring_bound, binds_ring, is_bad_dequeue, is_bad_move}
 use Rattle.safety.specs.RingsKeep.{IsDriverRing, RingsKeep}
-use Rattle.safety.specs.EndpointsKeep.{IsTransferRing, EndpointsKeep}
-use Rattle.safety.specs.Placings.{MayPoint, MayChangeAll, AreFree, MovesOn, StillHolds}
+use Rattle.safety.specs.EndpointsKeep.{EndpointsKeep}
+use Rattle.safety.specs.Placings.{MayPoint, MayChangeAll, StillHolds}
 use Rattle.safety.proofs.TestsPassed.{each_fails, any_of_map}
 use Rattle.safety.proofs.RingsOfHeader.{shape_allowed}
 use Rattle.safety.proofs.RingIds.{beginning_transfer, transfer_driver}
@@ -87,27 +83,27 @@ module _ (h : Header) (is : IsHeader h) where
       let cycle : Bool = context_cycle h.context_size k.memory n 1 in
       record {
         binds = λ off r at.
-          let bound : binds_ring h k r (AddressDevice s bsr n) ≡ true =
-          ap (list_any (λ b. is_ring r (ring_bound h b))) (cond-true (is_off (k.endpoint_state s 1)) (binding_in h k n 1 ∷ []) [] off)
-          ∙ or_left (is_ring r (ring_beginning_at h p)) false (ap (is_ring r) at ∙ eq-eqb r r refl) in
-          starts k endpoints p r at (still.unbound r bound);
+            let bound : binds_ring h k r (AddressDevice s bsr n) ≡ true =
+            ap (list_any (λ b. is_ring r (ring_bound h b))) (cond-true (is_off (k.endpoint_state s 1)) (binding_in h k n 1 ∷ []) [] off)
+            ∙ or_left (is_ring r (ring_beginning_at h p)) false (ap (is_ring r) at ∙ eq-eqb r r refl) in
+            starts k endpoints p r at (still.unbound r bound);
         moves = λ on r t at named.
-          let driver : IsDriverRing h r = transfer_driver h r (endpoints.transfer s 1 r at) in
-          let allowed = shape_allowed h is r driver in
-          let low = floor_given (shape_of h r) allowed k.memory (k.ring r) (rings r driver) in
-          let high = given_count_declared (shape_of h r) allowed k.memory (k.ring r) (rings r driver) in
-          moves_by k rings endpoints s 1 r at p cycle (floor_number (k.ring r)) (floor_number (k.ring r)) t (omega arith) (omega arith) (still.moves_on on r at) named;
+            let driver : IsDriverRing h r = transfer_driver h r (endpoints.transfer s 1 r at) in
+            let allowed = shape_allowed h is r driver in
+            let low = floor_given (shape_of h r) allowed k.memory (k.ring r) (rings r driver) in
+            let high = given_count_declared (shape_of h r) allowed k.memory (k.ring r) (rings r driver) in
+            moves_by k rings endpoints s 1 r at p cycle (floor_number (k.ring r)) (floor_number (k.ring r)) t (omega arith) (omega arith) (still.moves_on on r at) named;
       }
 
   same_points : (k l : Known) (s i p : ℕ) (cycle : Bool) → k.endpoint_state ≡ l.endpoint_state → k.ring_of ≡ l.ring_of → k.ring ≡ l.ring → MayPoint h k s i p cycle → MayPoint h l s i p cycle
   same_points k l s i p cycle states ring_of rings may =
       record {
         binds = λ off r at.
-          ap (λ (f : ℕ → RingView). floor_number (f r)) (sym rings) ∙ may.binds (ap (λ (f : ℕ → ℕ → EndpointState). is_off (f s i)) states ∙ off) r at;
+            ap (λ (f : ℕ → RingView). floor_number (f r)) (sym rings) ∙ may.binds (ap (λ (f : ℕ → ℕ → EndpointState). is_off (f s i)) states ∙ off) r at;
         moves = λ on r t at named.
-          ap (λ (f : ℕ → RingView). is_reached (shape_of h r) (f r) t) (sym rings)
-          ∙ may.moves (ap (λ (f : ℕ → ℕ → EndpointState). is_off (f s i)) states ∙ on) r t (ap (λ (f : ℕ → ℕ → Option ℕ). f s i) ring_of ∙ at)
-          (ap (λ (f : ℕ → RingView). target (shape_of h r) (f r) p cycle) rings ∙ named);
+            ap (λ (f : ℕ → RingView). is_reached (shape_of h r) (f r) t) (sym rings)
+            ∙ may.moves (ap (λ (f : ℕ → ℕ → EndpointState). is_off (f s i)) states ∙ on) r t (ap (λ (f : ℕ → ℕ → Option ℕ). f s i) ring_of ∙ at)
+            (ap (λ (f : ℕ → RingView). target (shape_of h r) (f r) p cycle) rings ∙ named);
       }
 
   -- ---- Configure Endpoint
@@ -157,18 +153,18 @@ module _ (h : Header) (is : IsHeader h) where
       let pointed_bound = pointed_is l s i p r cycle off at in
       record {
         off =
-          ap (λ (f : ℕ → ℕ → EndpointState). is_off (f s j)) (placed_state c l s i p cycle)
-          ∙ ap is_off (cond-false (s == s && j == i) Running ((pointed h l s i p cycle).endpoint_state s j) (and_right (s == s) (j == i) (ne_eqb j i other)))
-          ∙ ap (λ (m : Known). is_off (m.endpoint_state s j)) pointed_bound
-          ∙ ap (λ (f : ℕ → ℕ → EndpointState). is_off (f s j)) (bound_state l s i r)
-          ∙ ready.off;
+            ap (λ (f : ℕ → ℕ → EndpointState). is_off (f s j)) (placed_state c l s i p cycle)
+            ∙ ap is_off (cond-false (s == s && j == i) Running ((pointed h l s i p cycle).endpoint_state s j) (and_right (s == s) (j == i) (ne_eqb j i other)))
+            ∙ ap (λ (m : Known). is_off (m.endpoint_state s j)) pointed_bound
+            ∙ ap (λ (f : ℕ → ℕ → EndpointState). is_off (f s j)) (bound_state l s i r)
+            ∙ ready.off;
         unbound = λ q named.
-          let not_r : q ≢ r = λ same. false≢true (sym apart ∙ ap (is_ring r) named ∙ eq-eqb q r same) in
-          ap (λ (f : ℕ → Bool). f q) (placed_was c l s i p cycle)
-          ∙ ap (λ (m : Known). m.was_bound q) pointed_bound
-          ∙ ap (λ (f : ℕ → Bool). f q) (bound_was l s i r)
-          ∙ cond-false (q == r) true (l.was_bound q) (ne_eqb q r not_r)
-          ∙ ready.unbound q named;
+            let not_r : q ≢ r = λ same. false≢true (sym apart ∙ ap (is_ring r) named ∙ eq-eqb q r same) in
+            ap (λ (f : ℕ → Bool). f q) (placed_was c l s i p cycle)
+            ∙ ap (λ (m : Known). m.was_bound q) pointed_bound
+            ∙ ap (λ (f : ℕ → Bool). f q) (bound_was l s i r)
+            ∙ cond-false (q == r) true (l.was_bound q) (ne_eqb q r not_r)
+            ∙ ready.unbound q named;
         named = ready.named;
       }
 
@@ -226,14 +222,14 @@ module _ (h : Header) (is : IsHeader h) where
       record {
         off = ap is_off (dropped_state c k s a i) ∙ off_then (is_off (k.endpoint_state s i)) (is_dropped k.memory a i) (k.endpoint_state s i) s refl (still.free x d inside);
         unbound = λ r at.
-          let bound : binds_ring h k r c ≡ true =
-          any_of_map (λ b. is_ring r (ring_bound h b)) (binding_in h k a) added
-          ∙ list_any_at (λ j. is_ring r (ring_at k.memory a j)) added x d inside (ap (is_ring r) at ∙ eq-eqb r r refl) in
-          ap (λ (f : ℕ → Bool). f r) (dropped_was c k s a) ∙ still.unbound r bound;
+            let bound : binds_ring h k r c ≡ true =
+            any_of_map (λ b. is_ring r (ring_bound h b)) (binding_in h k a) added
+            ∙ list_any_at (λ j. is_ring r (ring_at k.memory a j)) added x d inside (ap (is_ring r) at ∙ eq-eqb r r refl) in
+            ap (λ (f : ℕ → Bool). f r) (dropped_was c k s a) ∙ still.unbound r bound;
         named =
-          let mapped : x < length (map (binding_in h k a) added) = omega (arith, length-map added (binding_in h k a)) in
-          let at = get_or-map (binding_in h k a) added x d (binding_in h k a d) inside in
-          ap (λ b. is_some (ring_bound h b)) (sym at) ∙ still.named x (binding_in h k a d) mapped;
+            let mapped : x < length (map (binding_in h k a) added) = omega (arith, length-map added (binding_in h k a)) in
+            let at = get_or-map (binding_in h k a) added x d (binding_in h k a d) inside in
+            ap (λ b. is_some (ring_bound h b)) (sym at) ∙ still.named x (binding_in h k a d) mapped;
       }
 
   configures : (k : Known) → EndpointsKeep h k → (s a : ℕ) → StillHolds h k (ConfigureEndpoint s false a) →
@@ -260,9 +256,14 @@ module _ (h : Header) (is : IsHeader h) where
   still_places k rings endpoints n (DisableSlot s) still = (tt, (tt, (tt, tt)))
   still_places k rings endpoints n (AddressDevice s bsr a) still =
       let c : Command = AddressDevice s bsr a in
-      let same = behind_slot c k s in
-      (tt, (same_points k (changed_by h c k (SlotGoesOn s)) s 1 (context_pointer h.context_size k.memory a 1) (context_cycle h.context_size k.memory a 1) same.0 same.1 same.2
-      (address_points k rings endpoints s a bsr still), tt))
+      let same = behind_slot c k s in (
+        tt,
+        (
+          same_points k (changed_by h c k (SlotGoesOn s)) s 1 (context_pointer h.context_size k.memory a 1) (context_cycle h.context_size k.memory a 1) same.0 same.1 same.2
+              (address_points k rings endpoints s a bsr still),
+          tt,
+        ),
+      )
   still_places k rings endpoints n (ConfigureEndpoint s false a) still = (tt, (tt, configures k endpoints s a still))
   still_places k rings endpoints n (ConfigureEndpoint s true a) still = (tt, (tt, tt))
   still_places k rings endpoints n (EvaluateContext s a) still = tt

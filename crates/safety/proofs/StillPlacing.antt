@@ -1,6 +1,6 @@
 -- A clean history keeps what the rules keep of each ring, so long as what was tested of a command holds still when it succeeds
-use Rattle.std.specs.Prelude.{◌≡◌, true, List, [], ◌∷◌, Some}
-use Rattle.trb.specs.Block.{kind, slot}
+use Rattle.std.specs.Prelude.{List, [], ◌∷◌}
+use Rattle.trb.specs.Block.{slot}
 use Rattle.traces.specs.declared.header.Header.{Header}
 use Rattle.traces.specs.declared.row.Row.{Row}
 use Rattle.traces.specs.declared.row.Row.TheVariants.{Sub, Write, Reg, Bell, Read}

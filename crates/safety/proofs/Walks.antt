@@ -1,8 +1,7 @@
 -- From the floor of each ring of a clean history the controller reads whole descriptors as declared, and then waits
-use Rattle.std.specs.Prelude.{◌≡◌, ℕ, true, false}
-use Rattle.std.proofs.Common.{refl, sym, ◌∙◌, ap}
+use Rattle.std.specs.Prelude.{◌≡◌, ℕ}
+use Rattle.std.proofs.Common.{sym, ◌∙◌, ap}
 use Rattle.std.proofs.lemmas.Bool.{false≢true}
-use Rattle.trb.specs.declared.ring_kind.RingKind.{RingKind}
 use Rattle.trb.specs.declared.ring_kind.RingKind.TheVariants.{Evt}
 use Rattle.segments.specs.ShapeValue.{Shape}
 use Rattle.segments.specs.Walk.{WalkReads}

@@ -5,7 +5,7 @@ use Rattle.trb.specs.Kind.{is_command_completion}
 use Rattle.commands.specs.declared.command.Command.{Command}
 use Rattle.traces.specs.declared.header.Header.{Header}
 use Rattle.traces.specs.declared.row.Row.{Row}
-use Rattle.traces.specs.declared.row.Row.TheVariants.{Sub, Write, Reg, Bell, Read}
+use Rattle.traces.specs.declared.row.Row.TheVariants.{Read}
 use Rattle.ring_knowledge.specs.Known.{Known}
 use Rattle.ring_knowledge.specs.Rings.{command_at, next_command}
 use Rattle.ring_knowledge.specs.Learned.{known}
