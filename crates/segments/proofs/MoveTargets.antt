@@ -32,7 +32,7 @@ spots_within least most a (suc n) low high =
     All-cons P (Link a) (Data a ∷ rest) (low, omega arith)
     (All-cons P (Data a) rest (low, omega arith) (spots_within least most (a + 1) n (omega arith) (omega arith)))
 
-between : (least most : ℕ) → All (λ t. (least ≤ number t) × (number t ≤ most)) (spots_between least most)
+pub between : (least most : ℕ) → All (λ t. (least ≤ number t) × (number t ≤ most)) (spots_between least most)
 unfolding spots_between
 between least most =
     elim (cases_lt most least) [
