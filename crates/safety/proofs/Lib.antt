@@ -13,3 +13,4 @@ pub mod Placings
 pub mod StillPlacing
 pub mod GivenCommands
 pub mod Walks
+pub mod StillHolding
