@@ -1,5 +1,5 @@
 -- What was tested of a command holds still where no endpoint, binding or context changes, as behind a declaration
-use Rattle.std.specs.Prelude.{◌≡◌, ℕ, ◌≤◌, ◌==◌, ◌||◌, not, if◌then◌else◌, Bool, true, false, List, [], ◌∷◌, map, All, Option, None, Some, is_some, length, unwrap_or}
+use Rattle.std.specs.Prelude.{◌≡◌, ℕ, ◌||◌, not, if◌then◌else◌, Bool, true, false, List, [], ◌∷◌, map, All, Option, None, Some, is_some, unwrap_or}
 use Rattle.std.specs.List.{list_any}
 use Rattle.std.proofs.Common.{arith, refl, sym, ◌∙◌, ap, subst, inl, inr, length-append}
 use Rattle.std.proofs.lemmas.Bool.{cases_eq, or_parts, or_from, not-false, not_from_true}
@@ -110,7 +110,7 @@ module _ (h : Header) where
         named = subst (λ bs. All (λ b. is_some (ring_bound h b) ≡ true) bs) one still.named;
         repeats = ap (λ bs. has_repeats (map (ring_bound h) bs)) (sym one) ∙ still.repeats;
         unbound = λ r bound.
-          ap (λ (f : ℕ → Bool). f r) (sym same.was_bound) ∙ still.unbound r (ap (λ bs. list_any (λ b. is_ring r (ring_bound h b)) bs) one ∙ bound);
+            ap (λ (f : ℕ → Bool). f r) (sym same.was_bound) ∙ still.unbound r (ap (λ bs. list_any (λ b. is_ring r (ring_bound h b)) bs) one ∙ bound);
         free = free_same k l c same still.free;
         moves_on = moves_same k l c same still.moves_on;
       }
@@ -126,8 +126,8 @@ module _ (h : Header) where
       record {
         standing = λ p cycle moves. move-declares shape v p cycle (floor_number v) (floor_number v) (floor_number v) (floor_number v) (omega arith) (omega arith) moves blocks;
         ahead = λ p cycle moves.
-          move-declares shape v p cycle (ceiling shape v) (declared v) (ceiling shape (changed shape v (Declares blocks))) (declared (changed shape v (Declares blocks)))
-          (omega (arith, ceiling_declares shape v blocks)) (omega (arith, length-append v.queue blocks)) moves blocks;
+            move-declares shape v p cycle (ceiling shape v) (declared v) (ceiling shape (changed shape v (Declares blocks))) (declared (changed shape v (Declares blocks)))
+            (omega (arith, ceiling_declares shape v blocks)) (omega (arith, length-append v.queue blocks)) moves blocks;
       }
 
   moves_stand : (shape : Shape) (v : RingView) → MovesStay shape v v
@@ -142,12 +142,12 @@ module _ (h : Header) where
         ring_of = refl;
         was_bound = refl;
         moves = λ q.
-          elim (cases_eq q r) [
-            | inl here ↦
-                subst (λ n. MovesStay (shape_of h n) (k.ring n) ((on_ring h k r (Declares blocks)).ring n)) (sym here)
-                (subst (λ v. MovesStay (shape_of h r) (k.ring r) v) (sym (ring_here h k r (Declares blocks))) (moves_declares (shape_of h r) (k.ring r) blocks))
-            | inr other ↦ subst (λ v. MovesStay (shape_of h q) (k.ring q) v) (sym (ring_elsewhere h k r q (Declares blocks) other)) (moves_stand (shape_of h q) (k.ring q))
-          ];
+            elim (cases_eq q r) [
+              | inl here ↦
+                  subst (λ n. MovesStay (shape_of h n) (k.ring n) ((on_ring h k r (Declares blocks)).ring n)) (sym here)
+                  (subst (λ v. MovesStay (shape_of h r) (k.ring r) v) (sym (ring_here h k r (Declares blocks))) (moves_declares (shape_of h r) (k.ring r) blocks))
+              | inr other ↦ subst (λ v. MovesStay (shape_of h q) (k.ring q) v) (sym (ring_elsewhere h k r q (Declares blocks) other)) (moves_stand (shape_of h q) (k.ring q))
+            ];
       }
 
   pub still_declared : (k : Known) (r : ℕ) (blocks : List Block) (c : Command) → StillHolds h k c → StillHolds h (on_ring h k r (Declares blocks)) c
