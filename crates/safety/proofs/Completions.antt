@@ -1,6 +1,6 @@
 -- A Command Completion Event that may be read keeps what the rules keep of each ring, so long as it places endpoints where it may
-use Rattle.std.specs.Prelude.{◌≡◌, ℕ, ◌+◌, ◌<◌, ◌≤◌, ◌==◌, ◌||◌, not, if◌then◌else◌, nat_lt, Bool, true, false, List, [], ◌∷◌, Option, None, Some}
-use Rattle.std.proofs.Common.{arith, refl, sym, ◌∙◌, ap, subst, inl, inr}
+use Rattle.std.specs.Prelude.{◌≡◌, ℕ, ◌<◌, ◌≤◌, ◌==◌, ◌||◌, not, if◌then◌else◌, nat_lt, Bool, false, List, [], ◌∷◌, Option, None, Some}
+use Rattle.std.proofs.Common.{arith, refl, sym, subst}
 use Rattle.std.proofs.lemmas.Bool.{cond_both, or_parts, not-false, ltb-true, eqb-true}
 use Rattle.trb.specs.declared.block.Block.{Block}
 use Rattle.trb.specs.Block.{code, slot, pointer}
@@ -9,9 +9,9 @@ use Rattle.segments.specs.declared.spot.Spot.TheVariants.{Data}
 use Rattle.segments.specs.Places.{address_of}
 use Rattle.segments.specs.Spots.{number, after}
 use Rattle.segments.specs.RingView.{RingView, Reaches, Holds, floor_number}
-use Rattle.segments.specs.Ceiling.{ceiling, given_count}
+use Rattle.segments.specs.Ceiling.{ceiling}
 use Rattle.segments.specs.Moves.{target}
-use Rattle.segments.specs.RingKeeps.{RingKeeps, MayReach}
+use Rattle.segments.specs.RingKeeps.{MayReach}
 use Rattle.segments.proofs.Reaching.{holds_keeps, reaches_keeps, reaches_and_holds_keeps, reached_given}
 use Rattle.segments.proofs.ReachedSpots.{after_reached, number-after, move_reached}
 use Rattle.segments.proofs.Named.{ceiling_held, ceiling_within, IsAhead, target_ahead, start_reached}
@@ -24,7 +24,7 @@ use Rattle.commands.specs.Changes.{Change, SlotGoesOn, DeviceLeft, Disables, Pla
 use Rattle.traces.specs.declared.header.Header.{Header}
 use Rattle.traces.specs.Header.{IsHeader, shape_of, command_id, ring_beginning_at}
 use Rattle.ring_knowledge.specs.Known.{Known}
-use Rattle.ring_knowledge.specs.Rings.{command_at, next_command, on_ring}
+use Rattle.ring_knowledge.specs.Rings.{command_at, next_command}
 use Rattle.ring_knowledge.specs.Completions.{set_to, bound_to, moved_to, moved, pointed, disabled, in_state, held_at_ceiling, changed_by, changed_by_all, succeeded, stop_ended, finished, completed}
 use Rattle.ownership_rules.specs.Events.{may_be_taken, can_finish, is_impossible_completion}
 use Rattle.safety.specs.RingsKeep.{IsDriverRing, RingsKeep}

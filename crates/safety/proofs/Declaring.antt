@@ -1,7 +1,7 @@
 -- A declaration that breaks no rule is one that its ring allows
-use Rattle.std.specs.Prelude.{◌≡◌, ℕ, ◌<◌, ◌==◌, ◌&&◌, ◌||◌, not, Bool, true, false, List, [], ◌∷◌, length, nat_lt, All}
+use Rattle.std.specs.Prelude.{◌≡◌, ℕ, ◌<◌, ◌==◌, ◌&&◌, ◌||◌, not, true, false, List, [], ◌∷◌, length, All}
 use Rattle.std.specs.List.{list_any}
-use Rattle.std.proofs.Common.{arith, refl, sym, ◌∙◌, ap, subst, inl, inr}
+use Rattle.std.proofs.Common.{arith, refl, sym}
 use Rattle.std.proofs.lemmas.Bool.{or_parts, not-false, false≢true}
 use Rattle.std.proofs.lemmas.List.Elements.{All-weaker}
 use Rattle.trb.specs.declared.block.Block.{Block}
@@ -9,10 +9,9 @@ use Rattle.trb.specs.declared.kind.BlockKind.{BlockKind}
 use Rattle.trb.specs.declared.kind.BlockKind.TheVariants.{Link}
 use Rattle.trb.specs.declared.ring_kind.RingKind.{RingKind}
 use Rattle.trb.specs.declared.ring_kind.RingKind.TheVariants.{Cmd, Evt, Xfer}
-use Rattle.trb.specs.Block.{kind, cycle}
+use Rattle.trb.specs.Block.{kind}
 use Rattle.trb.specs.Kind.{is_link, is_transfer, is_command, is_left_out_command}
-use Rattle.trb.specs.Descriptor.{is_chain, is_badly_formed, is_bad_descriptor, is_no_command, has_other_type, has_left_out_type, is_transfer_arrangement}
-use Rattle.segments.specs.Givings.{has_no_room}
+use Rattle.trb.specs.Descriptor.{is_badly_formed, is_bad_descriptor, is_no_command, has_other_type, has_left_out_type, is_transfer_arrangement}
 use Rattle.segments.specs.RingKeeps.{MayDeclare}
 use Rattle.traces.specs.declared.header.Header.{Header}
 use Rattle.traces.specs.declared.row.Row.TheVariants.{Sub}

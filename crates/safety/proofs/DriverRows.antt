@@ -1,10 +1,9 @@
 -- Declarations, writes, register writes and doorbells keep what the rules keep of each ring
-use Rattle.std.specs.Prelude.{◌≡◌, ◌≢◌, ℕ, ◌==◌, ◌&&◌, ◌||◌, not, Bool, true, false, if◌then◌else◌, List, [], ◌∷◌, Option, None, Some, option_and_then}
-use Rattle.std.proofs.Common.{arith, refl, sym, ◌∙◌, ap, subst, inl, inr}
-use Rattle.std.proofs.lemmas.Bool.{cases_Bool, cases_eq, cond-true, cond-false, eq-eqb, ne_eqb, cond_both}
-use Rattle.guest_memory.specs.Memory.{put}
+use Rattle.std.specs.Prelude.{◌≡◌, ◌≢◌, ℕ, ◌==◌, ◌&&◌, ◌||◌, not, true, if◌then◌else◌, List, [], Option, None, Some, option_and_then}
+use Rattle.std.proofs.Common.{refl, sym, ◌∙◌, ap, subst, inl, inr}
+use Rattle.std.proofs.lemmas.Bool.{cases_eq, cond-true, cond-false, eq-eqb, ne_eqb, cond_both}
 use Rattle.trb.specs.declared.block.Block.{Block}
-use Rattle.segments.specs.RingView.{RingView, RingChange, Declares, Opens, changed, new_ring}
+use Rattle.segments.specs.RingView.{RingView, RingChange, Declares, Opens, changed}
 use Rattle.segments.specs.RingKeeps.{RingKeeps}
 use Rattle.segments.proofs.NewRing.{new_ring_keeps}
 use Rattle.segments.proofs.Declaring.{declares_keeps}
@@ -13,15 +12,13 @@ use Rattle.segments.proofs.Reaching.{opens_keeps}
 use Rattle.traces.specs.declared.header.Header.{Header}
 use Rattle.traces.specs.declared.register.Register.{Register}
 use Rattle.traces.specs.declared.register.Register.TheVariants.{Erdp, Usbcmd}
-use Rattle.traces.specs.declared.row.Row.{Row}
-use Rattle.traces.specs.declared.row.Row.TheVariants.{Sub, Write, Reg, Bell, Read}
+use Rattle.traces.specs.declared.row.Row.TheVariants.{Sub, Write}
 use Rattle.traces.specs.Header.{IsHeader, shape_of, command_id}
 use Rattle.traces.specs.Register.{run_bit, reset_bit}
 use Rattle.ring_knowledge.specs.Known.{Known, nothing}
 use Rattle.ring_knowledge.specs.Rings.{on_ring}
 use Rattle.ring_knowledge.specs.Writes.{with_device, with_word, written, command_given, taken_device}
 use Rattle.ring_knowledge.specs.Registers.{run_or_stop, valued, register_written, endpoint_rung, rung}
-use Rattle.ring_knowledge.specs.Learned.{learned}
 use Rattle.ownership_rules.specs.Rules.{broken}
 use Rattle.safety.specs.RingsKeep.{IsDriverRing, RingsKeep}
 use Rattle.safety.proofs.RingsOfHeader.{shape_allowed}

@@ -1,8 +1,8 @@
 -- Any history keeps endpoints on transfer rings that were bound, and the command ring is none of them
-use Rattle.std.specs.Prelude.{◌≡◌, ◌≢◌, ℕ, ◌+◌, ◌==◌, ◌&&◌, ◌||◌, not, if◌then◌else◌, Bool, true, false, List, [], ◌∷◌, Option, None, Some, option_and_then}
+use Rattle.std.specs.Prelude.{◌≡◌, ℕ, ◌+◌, ◌==◌, ◌&&◌, ◌||◌, not, if◌then◌else◌, Bool, true, List, [], ◌∷◌, Option, None, Some, option_and_then}
 use Rattle.std.specs.Option.{option_map}
-use Rattle.std.proofs.Common.{refl, sym, ◌∙◌, ap, subst, inl, inr}
-use Rattle.std.proofs.lemmas.Bool.{cond_both, false≢true}
+use Rattle.std.proofs.Common.{refl, sym, ◌∙◌, ap}
+use Rattle.std.proofs.lemmas.Bool.{cond_both}
 use Rattle.std.proofs.lemmas.Option.{none-some, same_Some}
 use Rattle.guest_memory.specs.Memory.{put_pair}
 use Rattle.trb.specs.declared.block.Block.{Block}
@@ -33,7 +33,7 @@ use Rattle.ring_knowledge.specs.Registers.{run_or_stop, valued, register_written
 use Rattle.ring_knowledge.specs.Transfers.{passed, broken_off, stopped_at, transferred, transferred_at, transfer_read}
 use Rattle.ring_knowledge.specs.Completions.{succeeded, stop_ended, finished, completed}
 use Rattle.ring_knowledge.specs.Learned.{event_read, learned, known}
-use Rattle.safety.specs.EndpointsKeep.{IsTransferRing, EndpointsKeep}
+use Rattle.safety.specs.EndpointsKeep.{EndpointsKeep}
 use Rattle.safety.proofs.RingIds.{command_not_transfer}
 use Rattle.safety.proofs.Endpoints.{MayBeInUse, Leaves, leaves_keeps, same_leaves, both_leave, on_ring_leaves, in_use_leaves, endpoint_in_use, on_bound, changes_keep, changes_elsewhere}
 

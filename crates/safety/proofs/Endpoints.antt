@@ -1,17 +1,16 @@
 -- Any history keeps endpoints on transfer rings that were bound
-use Rattle.std.specs.Prelude.{◌≡◌, ◌≢◌, ◌⊎◌, ℕ, ◌==◌, ◌&&◌, ◌||◌, not, if◌then◌else◌, Bool, true, false, List, [], ◌∷◌, Option, None, Some, option_and_then}
+use Rattle.std.specs.Prelude.{◌≡◌, ◌≢◌, ◌⊎◌, ℕ, ◌==◌, ◌&&◌, if◌then◌else◌, Bool, true, false, List, [], ◌∷◌, Option, None, Some}
 use Rattle.std.proofs.Common.{refl, sym, ◌∙◌, ap, subst, inl, inr}
 use Rattle.std.proofs.lemmas.Bool.{cases_Bool, cases_eq, cond-true, cond-false, cond_both, eq-eqb, ne_eqb, false≢true}
 use Rattle.std.proofs.lemmas.Option.{none-some, same_Some}
-use Rattle.guest_memory.specs.Memory.{put, put_pair}
+use Rattle.guest_memory.specs.Memory.{put}
 use Rattle.segments.specs.declared.spot.Spot.{Spot}
 use Rattle.segments.specs.declared.spot.Spot.TheVariants.{Data}
 use Rattle.segments.specs.Spots.{number}
-use Rattle.segments.specs.RingView.{RingView, RingChange, Reaches, Holds, Opens, changed}
+use Rattle.segments.specs.RingView.{RingView, RingChange, Reaches, Holds, changed}
 use Rattle.segments.specs.Ceiling.{ceiling}
 use Rattle.segments.specs.Moves.{target}
 use Rattle.commands.specs.declared.command.Command.{Command}
-use Rattle.commands.specs.declared.command.Command.TheVariants.{StopEndpoint}
 use Rattle.commands.specs.declared.state.EndpointState.TheVariants.{Stopped}
 use Rattle.commands.specs.States.{is_off}
 use Rattle.commands.specs.Changes.{Change, SlotGoesOn, DeviceLeft, Disables, Places, Stops, Resets}
@@ -45,8 +44,8 @@ module _ (h : Header) where
         transfer = λ s i r at. keeps.transfer s i r (leaves.endpoints s i r at);
         was_bound = λ s i r at. ap (λ (f : ℕ → Bool). f r) (sym leaves.bound) ∙ keeps.was_bound s i r (leaves.endpoints s i r at);
         never_bound = λ r transfer never.
-          let before : k.was_bound r ≡ false = ap (λ (f : ℕ → Bool). f r) leaves.bound ∙ never in
-          leaves.rings r transfer before (keeps.never_bound r transfer before);
+            let before : k.was_bound r ≡ false = ap (λ (f : ℕ → Bool). f r) leaves.bound ∙ never in
+            leaves.rings r transfer before (keeps.never_bound r transfer before);
       }
 
   pub same_leaves : (k l : Known) → ((s i r : ℕ) → l.ring_of s i ≡ Some r → k.ring_of s i ≡ Some r) → k.was_bound ≡ l.was_bound → k.ring ≡ l.ring → Leaves k l
@@ -59,7 +58,7 @@ module _ (h : Header) where
         endpoints = λ s i r at. first.endpoints s i r (second.endpoints s i r at);
         bound = first.bound ∙ second.bound;
         rings = λ r transfer never start.
-          second.rings r transfer (ap (λ (f : ℕ → Bool). f r) (sym first.bound) ∙ never) (first.rings r transfer never start);
+            second.rings r transfer (ap (λ (f : ℕ → Bool). f r) (sym first.bound) ∙ never) (first.rings r transfer never start);
       }
 
   pub on_ring_leaves : (k : Known) (r : ℕ) (change : RingChange) → (IsTransferRing h r → k.was_bound r ≡ false → IsAtStart (k.ring r) → IsAtStart (changed (shape_of h r) (k.ring r) change)) →
@@ -70,13 +69,13 @@ module _ (h : Header) where
         endpoints = λ s i q at. at;
         bound = refl;
         rings = λ q transfer never start.
-          elim (cases_eq q r) [
-            | inl same ↦
-                subst (λ n. IsAtStart ((on_ring h k r change).ring n)) (sym same)
-                (subst IsAtStart (sym (ring_here h k r change))
-                (here (subst (λ n. IsTransferRing h n) same transfer) (subst (λ n. k.was_bound n ≡ false) same never) (subst (λ n. IsAtStart (k.ring n)) same start)))
-            | inr other ↦ subst IsAtStart (sym (ring_elsewhere h k r q change other)) start
-          ];
+            elim (cases_eq q r) [
+              | inl same ↦
+                  subst (λ n. IsAtStart ((on_ring h k r change).ring n)) (sym same)
+                  (subst IsAtStart (sym (ring_here h k r change))
+                  (here (subst (λ n. IsTransferRing h n) same transfer) (subst (λ n. k.was_bound n ≡ false) same never) (subst (λ n. IsAtStart (k.ring n)) same start)))
+              | inr other ↦ subst IsAtStart (sym (ring_elsewhere h k r q change other)) start
+            ];
       }
 
   pub in_use_leaves : (k : Known) (r : ℕ) (change : RingChange) → MayBeInUse h k r → Leaves k (on_ring h k r change)
@@ -124,12 +123,12 @@ module _ (h : Header) where
         transfer = λ t j q at. by (t == s && j == i) t j q at;
         was_bound = λ t j q at. bound q (by_bound (t == s && j == i) t j q at);
         never_bound = λ q transfer never.
-          elim (cases_eq q r) [
-            | inl same ↦ absurd (false≢true (sym never ∙ cond-true (q == r) true (k.was_bound q) (eq-eqb q r same)))
-            | inr other ↦
-                subst IsAtStart (sym (set_elsewhere k r q (Data 0) other))
-                (keeps.never_bound q transfer (sym (cond-false (q == r) true (k.was_bound q) (ne_eqb q r other)) ∙ never))
-          ];
+            elim (cases_eq q r) [
+              | inl same ↦ absurd (false≢true (sym never ∙ cond-true (q == r) true (k.was_bound q) (eq-eqb q r same)))
+              | inr other ↦
+                  subst IsAtStart (sym (set_elsewhere k r q (Data 0) other))
+                  (keeps.never_bound q transfer (sym (cond-false (q == r) true (k.was_bound q) (ne_eqb q r other)) ∙ never))
+            ];
       }
     where
       by : (b : Bool) (t j q : ℕ) → (if b then Some r else k.ring_of t j) ≡ Some q → IsTransferRing h q
@@ -165,7 +164,7 @@ module _ (h : Header) where
   unfolding in_state
   state_keeps k keeps s i = leaves_keeps k (in_state h k s i Stopped) keeps (same_leaves k (in_state h k s i Stopped) (λ s i r at. at) refl refl)
 
-  change_keeps : IsHeader h → (c : Command) (k : Known) (change : Change) → EndpointsKeep h k → EndpointsKeep h (changed_by h c k change)
+  pub change_keeps : IsHeader h → (c : Command) (k : Known) (change : Change) → EndpointsKeep h k → EndpointsKeep h (changed_by h c k change)
   unfolding changed_by disabled in_state
   change_keeps is c k (SlotGoesOn s) keeps = leaves_keeps k (changed_by h c k (SlotGoesOn s)) keeps (same_leaves k (changed_by h c k (SlotGoesOn s)) (λ s i r at. at) refl refl)
   change_keeps is c k (DeviceLeft s) keeps = leaves_keeps k (changed_by h c k (DeviceLeft s)) keeps (same_leaves k (changed_by h c k (DeviceLeft s)) (λ s i r at. at) refl refl)

@@ -1,7 +1,7 @@
 -- A clean history keeps what the rules keep of each ring
-use Rattle.std.specs.Prelude.{◌≡◌, ℕ, ◌&&◌, ◌||◌, ◌==◌, not, Bool, true, false, List, [], ◌∷◌}
-use Rattle.std.proofs.Common.{refl, sym, ◌∙◌, ap, subst, inl, inr}
-use Rattle.std.proofs.lemmas.Bool.{or_parts, and_cases, not-false, false≢true}
+use Rattle.std.specs.Prelude.{◌≡◌, ◌&&◌, ◌||◌, ◌==◌, not, true, false, List, [], ◌∷◌}
+use Rattle.std.proofs.Common.{refl}
+use Rattle.std.proofs.lemmas.Bool.{or_parts, not-false}
 use Rattle.trb.specs.declared.block.Block.{Block}
 use Rattle.trb.specs.declared.kind.BlockKind.{BlockKind}
 use Rattle.trb.specs.declared.kind.BlockKind.TheVariants.{TransferEvent, CommandCompletion}
@@ -20,7 +20,7 @@ use Rattle.ownership_rules.specs.Clean.{IsClean}
 use Rattle.safety.specs.RingsKeep.{RingsKeep}
 use Rattle.safety.specs.EndpointsKeep.{EndpointsKeep}
 use Rattle.safety.specs.Placings.{MayFinish}
-use Rattle.safety.specs.KeptHistories.{MayRead, MayReadAll, IsDriverRow, AreDriverRows}
+use Rattle.safety.specs.KeptHistories.{MayRead, MayReadAll, AreDriverRows}
 use Rattle.safety.proofs.TestsPassed.{AllFail, tests_fail}
 use Rattle.safety.proofs.DriverRows.{same_keeps, nothing_keeps, declared_keeps, written_keeps, register_keeps, rung_keeps}
 use Rattle.safety.proofs.Transfers.{transfer_keeps}

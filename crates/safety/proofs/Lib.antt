@@ -27,3 +27,8 @@ pub mod Scribble
 pub mod RingIds
 pub mod Endpoints
 pub mod EndpointHistories
+pub mod Placings
+pub mod StillPlacing
+pub mod GivenCommands
+pub mod Walks
+pub mod StillHolding

@@ -1,5 +1,5 @@
 -- No two rings of a header have one ID, so each is found by its own
-use Rattle.std.specs.Prelude.{◌≡◌, ℕ, ◌+◌, ◌*◌, ◌<◌, ◌==◌, ◌&&◌, ◌||◌, not, Bool, true, false, List, [], ◌∷◌, nat_lt, Option, Some, None, find}
+use Rattle.std.specs.Prelude.{◌≡◌, ℕ, ◌*◌, ◌<◌, ◌==◌, ◌&&◌, ◌||◌, not, Bool, true, false, List, [], ◌∷◌, nat_lt, Option, Some, None, find}
 use Rattle.std.specs.List.{list_any, list_all}
 use Rattle.std.proofs.Common.{arith, refl, sym, ◌∙◌, ap, subst, inl, inr}
 use Rattle.std.proofs.lemmas.Bool.{cases_Bool, cond-true, cond-false, false≢true, and_parts, or_parts, not-true, eq-eqb, eqb-true, ltb-true}
@@ -10,7 +10,9 @@ use Rattle.segments.specs.Places.{address_of, touches}
 use Rattle.segments.specs.Shape.{is_shape}
 use Rattle.traces.specs.declared.header.Header.{Header}
 use Rattle.traces.specs.declared.ring.Ring.{Ring}
-use Rattle.traces.specs.Header.{IsHeader, clash, may_stand_together, is_command_kind, is_event_kind, is_transfer_kind, ring_with, id_of, id_or_none, command_ring, command_id, ring_beginning_at}
+use Rattle.traces.specs.Header.{IsHeader, clash, may_stand_together, is_command_kind, is_event_kind, is_transfer_kind, is_driver_kind, ring_with, id_of, id_or_none, command_ring, command_id, ring_beginning_at}
+use Rattle.ownership_rules.specs.Declarations.{is_driver_ring}
+use Rattle.safety.specs.RingsKeep.{IsDriverRing}
 use Rattle.safety.specs.EndpointsKeep.{is_transfer_ring, IsTransferRing}
 use Rattle.safety.proofs.RingsOfHeader.{found_passes, found_allowed}
 
@@ -90,3 +92,17 @@ module _ (h : Header) (is : IsHeader h) where
   pub command_not_transfer : IsTransferRing h (command_id h) → ⊥
   unfolding command_id command_ring
   command_not_transfer transfer = not_transfer (find (λ q. is_command_kind q.shape.kind) h.rings) refl transfer
+
+-- a transfer ring is one of the driver's
+transfer_is_driver : (o : Option Ring) → is_transfer_ring o ≡ true → is_driver_ring o ≡ true
+unfolding is_driver_ring
+transfer_is_driver None t = absurd (false≢true t)
+transfer_is_driver (Some q) t = driver_kind q.shape.kind t
+  where
+    driver_kind : (kind : RingKind) → is_transfer_kind kind ≡ true → is_driver_kind kind ≡ true
+    driver_kind Cmd t = refl
+    driver_kind Evt t = absurd (false≢true t)
+    driver_kind Xfer t = refl
+
+pub transfer_driver : (h : Header) (r : ℕ) → IsTransferRing h r → IsDriverRing h r
+transfer_driver h r t = transfer_is_driver (ring_with h r) t

@@ -1,6 +1,6 @@
 -- A row that breaks no rule fails none of its tests
-use Rattle.std.specs.Prelude.{◌≡◌, ℕ, Bool, true, false, if◌then◌else◌, List, [], ◌∷◌, map, filter, All}
-use Rattle.std.proofs.Common.{arith, refl, sym, ◌∙◌, ap, inl, inr, get_or}
+use Rattle.std.specs.Prelude.{◌≡◌, ◌||◌, Bool, true, false, List, [], ◌∷◌, map, All}
+use Rattle.std.proofs.Common.{refl, sym, ◌∙◌, ap, inl, inr, get_or}
 use Rattle.std.specs.List.{list_any}
 use Rattle.std.proofs.lemmas.Bool.{cases_Bool, cond-true, cond-false, false≢true, false_from_ne_true}
 use Rattle.std.proofs.lemmas.List.Folds.{list_any_at}
@@ -40,3 +40,8 @@ tests_fail h k row clean = all_fail (tests h k row) (clean_tests h k row clean).
 -- where none passes a test each fails it
 pub each_fails : {X : Type 0} (test : X → Bool) (xs : List X) → list_any test xs ≡ false → All (λ x. test x ≡ false) xs
 each_fails test xs none k d h = false_from_ne_true (test (get_or xs k d)) (λ passes. false≢true (sym none ∙ list_any_at test xs k d h passes))
+
+-- a test of what a function makes of each
+pub any_of_map : {X Y : Type 0} (test : Y → Bool) (f : X → Y) (xs : List X) → list_any test (map f xs) ≡ list_any (λ x. test (f x)) xs
+any_of_map test f [] = refl
+any_of_map test f (x ∷ rest) = ap (λ b. test (f x) || b) (any_of_map test f rest)

@@ -1,7 +1,7 @@
 -- A Transfer Event that may be read keeps what the rules keep of each ring
 use Rattle.std.specs.Prelude.{◌≡◌, ℕ, ◌+◌, ◌<◌, ◌≤◌, ◌&&◌, ◌||◌, not, if◌then◌else◌, Bool, true, false, Option, None, Some}
 use Rattle.std.specs.Option.{option_map}
-use Rattle.std.proofs.Common.{arith, refl, sym, ◌∙◌, ap, subst, inl, inr}
+use Rattle.std.proofs.Common.{arith, refl, sym, ◌∙◌, subst, inl, inr}
 use Rattle.std.proofs.lemmas.Bool.{cond_both, and_parts, and_cases, or_left, or_right, or_parts, or_from, not-false, false≢true}
 use Rattle.std.proofs.lemmas.Option.{none-some, same_Some}
 use Rattle.guest_memory.specs.Memory.{put_pair}
@@ -10,9 +10,9 @@ use Rattle.trb.specs.Block.{pointer, code, slot, endpoint}
 use Rattle.trb.specs.CompletionCode.{is_success, is_halting, is_trb_error, is_stopping}
 use Rattle.segments.specs.declared.spot.Spot.{Spot}
 use Rattle.segments.specs.Spots.{number, after}
-use Rattle.segments.specs.RingView.{RingView, Reaches, Holds, changed, floor_number}
-use Rattle.segments.specs.Ceiling.{given_count, ceiling, named, is_data_below, is_stop_spot, stopped_number}
-use Rattle.segments.specs.RingKeeps.{RingKeeps, MayReach}
+use Rattle.segments.specs.RingView.{Reaches, Holds, floor_number}
+use Rattle.segments.specs.Ceiling.{ceiling, named, is_data_below, is_stop_spot, stopped_number}
+use Rattle.segments.specs.RingKeeps.{RingKeeps}
 use Rattle.segments.proofs.Reaching.{reaches_keeps, reaches_and_holds_keeps, holds_and_reaches_keeps}
 use Rattle.segments.proofs.ReachedSpots.{after_reached, number-after, stop_spot_reached, stopped_within}
 use Rattle.segments.proofs.Named.{ceiling_held, ceiling_within, below_is, IsAhead, named_ahead}

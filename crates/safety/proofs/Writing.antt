@@ -1,33 +1,24 @@
 -- A write that breaks no rule is one that each ring allows
-use Rattle.std.specs.Prelude.{◌≡◌, ℕ, ◌||◌, Bool, true, false, List, [], ◌∷◌, ◌++◌, map, All}
+use Rattle.std.specs.Prelude.{◌≡◌, ℕ, Bool, false, List, [], ◌++◌, map, All}
 use Rattle.std.specs.List.{list_any, flat_map}
-use Rattle.std.proofs.Common.{arith, refl, sym, ◌∙◌, ap, subst, inl, inr}
+use Rattle.std.proofs.Common.{sym, ◌∙◌, ap, subst}
 use Rattle.std.proofs.lemmas.Bool.{or_parts}
 use Rattle.std.proofs.lemmas.List.Folds.{list_any-append}
-use Rattle.segments.specs.ShapeValue.{Shape}
 use Rattle.segments.specs.Places.{address_of, link_address, overlap}
-use Rattle.segments.specs.RingView.{RingView, positions_given, crossings_given, leased_positions, leased_crossings}
+use Rattle.segments.specs.RingView.{positions_given, crossings_given, leased_positions, leased_crossings}
 use Rattle.segments.specs.Givings.{is_other_than_declared, is_not_declared, is_not_whole, leads_wrong}
 use Rattle.segments.specs.RingKeeps.{MayWrite}
 use Rattle.traces.specs.declared.header.Header.{Header}
-use Rattle.traces.specs.declared.ring.Ring.{Ring}
 use Rattle.traces.specs.declared.row.Row.TheVariants.{Write}
 use Rattle.traces.specs.Header.{shape_of, driver_rings}
 use Rattle.ring_knowledge.specs.Known.{Known}
 use Rattle.ring_knowledge.specs.Rings.{Given, Position, Crossing, given_of, given_by}
-use Rattle.ownership_rules.specs.OpenLeases.{Leased, Block, Link, covers, lease_start, lease_bytes, open_on, open_ranges, open_leases, is_leased}
+use Rattle.ownership_rules.specs.OpenLeases.{Block, Link, covers, lease_start, lease_bytes, open_on, open_ranges, open_leases, is_leased}
 use Rattle.ownership_rules.specs.Writes.{on_position, on_crossing, some_given, some_crossed, write_tests}
 use Rattle.ownership_rules.specs.Rules.{tests, broken}
 use Rattle.safety.specs.RingsKeep.{IsDriverRing}
-use Rattle.safety.proofs.TestsPassed.{AllFail, tests_fail, each_fails}
+use Rattle.safety.proofs.TestsPassed.{AllFail, tests_fail, each_fails, any_of_map}
 use Rattle.safety.proofs.RingsOfHeader.{HasRing, has_ring, none_of_ring}
-
--- a test of what a function makes of each
-none_of_map : {X Y : Type 0} (test : Y → Bool) (f : X → Y) (xs : List X) → list_any test (map f xs) ≡ false → list_any (λ x. test (f x)) xs ≡ false
-none_of_map test f [] none = refl
-none_of_map test f (x ∷ rest) none =
-    let parts = or_parts (test (f x)) (list_any test (map f rest)) none in
-    rw parts.0 (none_of_map test f rest parts.1)
 
 none_of_both : {X : Type 0} (test : X → Bool) (xs ys : List X) → list_any test (xs ++ ys) ≡ false → (list_any test xs ≡ false) × (list_any test ys ≡ false)
 none_of_both test xs ys none = or_parts (list_any test xs) (list_any test ys) (sym (list_any-append test xs ys) ∙ none)
@@ -50,7 +41,7 @@ module _ (h : Header) (k : Known) (a w r : ℕ) (has : HasRing h r) where
     unfolding covers lease_start lease_bytes
     blocks_free =
         let each = each_fails (λ p. overlap a 4 (address_of (shape_of h has.ring.id) p) 16) (leased_positions has.ring.shape (k.ring has.ring.id))
-        (none_of_map (covers h a 4) (Block has.ring.id) (leased_positions has.ring.shape (k.ring has.ring.id)) both.0) in
+        (sym (any_of_map (covers h a 4) (Block has.ring.id) (leased_positions has.ring.shape (k.ring has.ring.id))) ∙ both.0) in
         let by_shape : All (λ p. overlap a 4 (address_of (shape_of h has.ring.id) p) 16 ≡ false) (leased_positions (shape_of h r) (k.ring has.ring.id)) =
         subst (λ s. All (λ p. overlap a 4 (address_of (shape_of h has.ring.id) p) 16 ≡ false) (leased_positions s (k.ring has.ring.id))) (sym has.shape) each in
         subst (λ n. All (λ p. overlap a 4 (address_of (shape_of h n) p) 16 ≡ false) (leased_positions (shape_of h r) (k.ring n))) has.id by_shape
@@ -59,7 +50,7 @@ module _ (h : Header) (k : Known) (a w r : ℕ) (has : HasRing h r) where
     unfolding covers lease_start lease_bytes
     links_free =
         let each = each_fails (λ q. overlap a 4 (link_address (shape_of h has.ring.id) q) 16) (leased_crossings has.ring.shape (k.ring has.ring.id))
-        (none_of_map (covers h a 4) (Link has.ring.id) (leased_crossings has.ring.shape (k.ring has.ring.id)) both.1) in
+        (sym (any_of_map (covers h a 4) (Link has.ring.id) (leased_crossings has.ring.shape (k.ring has.ring.id))) ∙ both.1) in
         let by_shape : All (λ q. overlap a 4 (link_address (shape_of h has.ring.id) q) 16 ≡ false) (leased_crossings (shape_of h r) (k.ring has.ring.id)) =
         subst (λ s. All (λ q. overlap a 4 (link_address (shape_of h has.ring.id) q) 16 ≡ false) (leased_crossings s (k.ring has.ring.id))) (sym has.shape) each in
         subst (λ n. All (λ q. overlap a 4 (link_address (shape_of h n) q) 16 ≡ false) (leased_crossings (shape_of h r) (k.ring n))) has.id by_shape
@@ -74,16 +65,16 @@ module _ (h : Header) (k : Known) (a w r : ℕ) (has : HasRing h r) where
   unfolding some_given given_of on_position
   none_given test none =
       each_fails (test r) (positions_given (shape_of h r) (k.ring r) a w)
-      (none_of_map (on_position test) (Position r) (positions_given (shape_of h r) (k.ring r) a w)
-      (none_of_both (on_position test) (map (Position r) (positions_given (shape_of h r) (k.ring r) a w)) (map (Crossing r) (crossings_given (shape_of h r) (k.ring r) a w))
+      (sym (any_of_map (on_position test) (Position r) (positions_given (shape_of h r) (k.ring r) a w))
+      ∙ (none_of_both (on_position test) (map (Position r) (positions_given (shape_of h r) (k.ring r) a w)) (map (Crossing r) (crossings_given (shape_of h r) (k.ring r) a w))
       (of_ring (on_position test) none)).0)
 
   pub none_crossed : (test : ℕ → ℕ → Bool) → some_crossed h k a w test ≡ false → All (λ q. test r q ≡ false) (crossings_given (shape_of h r) (k.ring r) a w)
   unfolding some_crossed given_of on_crossing
   none_crossed test none =
       each_fails (test r) (crossings_given (shape_of h r) (k.ring r) a w)
-      (none_of_map (on_crossing test) (Crossing r) (crossings_given (shape_of h r) (k.ring r) a w)
-      (none_of_both (on_crossing test) (map (Position r) (positions_given (shape_of h r) (k.ring r) a w)) (map (Crossing r) (crossings_given (shape_of h r) (k.ring r) a w))
+      (sym (any_of_map (on_crossing test) (Crossing r) (crossings_given (shape_of h r) (k.ring r) a w))
+      ∙ (none_of_both (on_crossing test) (map (Position r) (positions_given (shape_of h r) (k.ring r) a w)) (map (Crossing r) (crossings_given (shape_of h r) (k.ring r) a w))
       (of_ring (on_crossing test) none)).1)
 
 -- of each command and transfer ring

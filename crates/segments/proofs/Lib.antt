@@ -30,3 +30,4 @@ pub mod Named
 pub mod RingsApart
 mod WalkExamples
 pub mod MoveTargets
+pub mod MovesStay

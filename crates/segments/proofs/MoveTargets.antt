@@ -1,14 +1,13 @@
 -- The spot that a pointer and a cycle state name is the one to which the ring may be moved
-use Rattle.std.specs.Prelude.{◌≡◌, ℕ, suc, zero, ◌+◌, ◌-◌, ◌*◌, ◌<◌, ◌≤◌, ◌==◌, ◌&&◌, if◌then◌else◌, Bool, true, false, List, [], ◌∷◌, All, Some, find}
-use Rattle.std.specs.List.{list_any, range_with_len, flat_map}
-use Rattle.std.proofs.Common.{arith, refl, sym, ◌∙◌, ap, subst, inl, inr, get_or}
+use Rattle.std.specs.Prelude.{◌≡◌, ℕ, suc, zero, ◌+◌, ◌-◌, ◌≤◌, ◌==◌, ◌&&◌, if◌then◌else◌, Bool, true, List, [], ◌∷◌, All, Some}
+use Rattle.std.specs.List.{range_with_len, flat_map}
+use Rattle.std.proofs.Common.{arith, sym, ◌∙◌, ap, subst, inl, inr}
 use Rattle.std.proofs.lemmas.Bool.{cases_lt, and_parts, eqb-true}
 use Rattle.std.proofs.lemmas.List.Elements.{All-nil, All-cons, All-get_or}
 use Rattle.std.proofs.lemmas.List.Folds.{Any-from_list_any}
 use Rattle.segments.specs.declared.spot.Spot.{Spot}
 use Rattle.segments.specs.declared.spot.Spot.TheVariants.{Data, Link}
 use Rattle.segments.specs.ShapeValue.{Shape}
-use Rattle.segments.specs.Places.{place_count}
 use Rattle.segments.specs.Spots.{IsSpot, is_spot, rank, number, spot_address, spot_cycle}
 use Rattle.segments.specs.Shape.{IsShape}
 use Rattle.segments.specs.RingView.{RingView, declared, floor_number}
@@ -33,7 +32,7 @@ spots_within least most a (suc n) low high =
     All-cons P (Link a) (Data a ∷ rest) (low, omega arith)
     (All-cons P (Data a) rest (low, omega arith) (spots_within least most (a + 1) n (omega arith) (omega arith)))
 
-between : (least most : ℕ) → All (λ t. (least ≤ number t) × (number t ≤ most)) (spots_between least most)
+pub between : (least most : ℕ) → All (λ t. (least ≤ number t) × (number t ≤ most)) (spots_between least most)
 unfolding spots_between
 between least most =
     elim (cases_lt most least) [

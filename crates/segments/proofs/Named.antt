@@ -1,14 +1,14 @@
 -- The spots that events and pointers name, and how far a ring's controller may have gone
-use Rattle.std.specs.Prelude.{◌≡◌, ℕ, suc, zero, ◌+◌, ◌-◌, ◌*◌, ◌<◌, ◌≤◌, ◌==◌, ◌&&◌, if◌then◌else◌, Bool, true, false, List, [], ◌∷◌, All, find, Option, None, Some, unwrap_or}
+use Rattle.std.specs.Prelude.{◌≡◌, ℕ, suc, zero, ◌+◌, ◌-◌, ◌<◌, ◌≤◌, ◌==◌, ◌&&◌, if◌then◌else◌, Bool, true, List, [], ◌∷◌, All, find, Option, None, Some, unwrap_or}
 use Rattle.std.specs.List.{range_with_len, flat_map}
 use Rattle.std.proofs.Common.{arith, refl, sym, ◌∙◌, ap, subst, inl, inr}
-use Rattle.std.proofs.lemmas.Bool.{cases_Bool, cond-true, cond-false, false≢true, and_parts, eqb-true, ltb-true}
+use Rattle.std.proofs.lemmas.Bool.{cases_Bool, cond-true, cond-false, false≢true, and_parts, ltb-true}
 use Rattle.std.proofs.lemmas.Option.{none-some, same_Some}
 use Rattle.std.proofs.lemmas.List.Elements.{All-nil, All-cons, All-head, All-tail}
 use Rattle.segments.specs.declared.spot.Spot.{Spot}
 use Rattle.segments.specs.declared.spot.Spot.TheVariants.{Data, Link}
 use Rattle.segments.specs.ShapeValue.{Shape}
-use Rattle.segments.specs.Spots.{IsSpot, is_spot, rank, number, spot_address, spot_cycle}
+use Rattle.segments.specs.Spots.{IsSpot, is_spot, number, spot_address, spot_cycle}
 use Rattle.segments.specs.Shape.{IsShape}
 use Rattle.segments.specs.RingView.{RingView, declared, floor_number}
 use Rattle.segments.specs.Ceiling.{given_count, ceiling, named, is_data_below}
@@ -84,7 +84,7 @@ target_ahead shape v address cycle t h =
     (flat_map (λ q. Link q ∷ Data q ∷ []) (range_with_len least (declared v + 1 - least))) t h (spots_ahead least least (declared v + 1 - least) (omega arith)) in
     record {
       is_spot = (and_parts (is_spot shape t) (spot_address shape t == address)
-        (and_parts (is_spot shape t && spot_address shape t == address) (spot_cycle shape t == (if cycle then 1 else 0)) is.0).0).0;
+          (and_parts (is_spot shape t && spot_address shape t == address) (spot_cycle shape t == (if cycle then 1 else 0)) is.0).0).0;
       from = is.1;
     }
 

@@ -1,6 +1,6 @@
 -- Rings that lie apart: a word inside one gives nothing of another, and touches none of its leases
-use Rattle.std.specs.Prelude.{◌≡◌, ℕ, ◌+◌, ◌%◌, ◌<◌, ◌≢◌, true, false, List, [], length, slice_index_or, All, AllPairs}
-use Rattle.std.proofs.Common.{arith, refl, sym, ◌∙◌, ap, inl, inr, get_or}
+use Rattle.std.specs.Prelude.{◌≡◌, ℕ, ◌%◌, ◌<◌, ◌≢◌, true, false, List, [], length, AllPairs}
+use Rattle.std.proofs.Common.{arith, ◌∙◌, inl, inr, get_or}
 use Rattle.std.proofs.lemmas.Bool.{cases_lt, false_from_ne_true}
 use Rattle.guest_memory.specs.Memory.{put}
 use Rattle.segments.specs.ShapeValue.{Shape}

@@ -1,11 +1,11 @@
 -- What a controller reads of a small ring, on numbers
-use Rattle.std.specs.Prelude.{◌≡◌, ℕ, ◌∷◌, [], List, map, refl, true}
+use Rattle.std.specs.Prelude.{◌≡◌, ℕ, ◌∷◌, [], map, refl, true}
 use Rattle.guest_memory.specs.Memory.{put}
 use Rattle.trb.specs.declared.block.Block.{Block}
 use Rattle.trb.specs.declared.ring_kind.RingKind.TheVariants.{Xfer}
 use Rattle.segments.specs.declared.spot.Spot.TheVariants.{Data, Link}
 use Rattle.segments.specs.ShapeValue.{Shape, shape_of}
-use Rattle.segments.specs.RingView.{RingView, Declares, Writes, Reaches, changed, new_ring}
+use Rattle.segments.specs.RingView.{RingView, Declares, Writes, changed, new_ring}
 use Rattle.segments.specs.Ceiling.{given_count}
 use Rattle.segments.specs.Descriptors.{is_border}
 use Rattle.segments.specs.Walk.{looks, walk, data_of, laid_between, standing}

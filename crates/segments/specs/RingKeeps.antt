@@ -17,6 +17,8 @@ pub record MayHold (shape : Shape) (v : RingView) (m : ℕ) : Type 0 where
   pub from : floor_number v ≤ m
   pub to : m ≤ given_count shape v
 
+-- That the floor isn't ahead of what is given follows, so no clause says it. Of which words the controller may have changed
+-- nothing is said here: that is known of memory, not of one ring
 pub record RingKeeps (shape : Shape) (memory : ℕ → ℕ) (v : RingView) : Type 0 where
   pub is_spot : IsSpot shape v.floor
   -- one place stays empty
@@ -43,6 +45,8 @@ pub record RingKeeps (shape : Shape) (memory : ℕ → ℕ) (v : RingView) : Typ
   pub lengths : All (λ n. 0 < n) v.lengths
   pub descriptors : sum v.lengths ≡ declared v
   pub blocks : (p : ℕ) (d : Block) → slice_get v.queue p ≡ Some d → is_link (kind d) ≡ false
+  -- where the ring is held. A pointer that is set goes to its spot and the ring is held there: in between this may fail, so the law
+  -- of a spot that is reached speaks of both at once
   pub held : (m : ℕ) → v.held ≡ Some m → MayHold shape v m
 
 -- ---- what each thing that happens on the ring has to satisfy

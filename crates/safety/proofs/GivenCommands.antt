@@ -1,0 +1,159 @@
+-- What the rules test of a command that a write gives: its bindings and its moves may be made
+use Rattle.std.specs.Prelude.{◌≡◌, ℕ, ◌≤◌, ◌==◌, ◌||◌, not, Bool, true, false, [], map, nat_le, All, Option, None, Some, is_some, suc, zero, ◌+◌}
+use Rattle.std.specs.List.{list_any, range_with_len}
+use Rattle.std.proofs.Common.{arith, refl, sym, ◌∙◌, ap, subst, inl, inr, get_or}
+use Rattle.std.proofs.lemmas.Bool.{or_parts, and_cases, and_from, or_cases, or_left, or_right, not-false, not-true, not_from_false, eqb-true, le-leb, false≢true}
+use Rattle.std.proofs.lemmas.Option.{same_Some}
+use Rattle.std.proofs.lemmas.List.Elements.{All-nil, All-cons, All-filter, All-get_or, All-weaker}
+use Rattle.std.proofs.lemmas.List.Folds.{Any-from_list_any}
+use Rattle.segments.specs.RingView.{declared, floor_number}
+use Rattle.segments.specs.Moves.{is_move}
+use Rattle.contexts.specs.Contexts.{input_drop_flag, input_add_flag, added_endpoints, is_dropped}
+use Rattle.commands.specs.declared.command.Command.{Command}
+use Rattle.commands.specs.declared.command.Command.TheVariants.{NoOp, EnableSlot, DisableSlot, AddressDevice, ConfigureEndpoint, EvaluateContext, ResetEndpoint, StopEndpoint, SetTrDequeue, ResetDevice}
+use Rattle.commands.specs.Command.{named_slot, named_endpoint, named_context}
+use Rattle.commands.specs.States.{is_off}
+use Rattle.traces.specs.declared.header.Header.{Header}
+use Rattle.traces.specs.declared.row.Row.TheVariants.{Write}
+use Rattle.traces.specs.Header.{shape_of, is_ring}
+use Rattle.ring_knowledge.specs.Known.{Known}
+use Rattle.ring_knowledge.specs.Rings.{unfinished}
+use Rattle.ring_knowledge.specs.Writes.{command_given}
+use Rattle.ownership_rules.specs.Commands as commands
+use Rattle.ownership_rules.specs.Moves.{Binding, binding_in, binds, ring_bound, binds_ring, is_used, is_unused_ring, has_repeats, is_bad_binding, is_bad_stay, is_bad_move}
+use Rattle.ownership_rules.specs.Writes.{holds_of, some_command, write_tests}
+use Rattle.ownership_rules.specs.Rules.{tests, broken}
+use Rattle.safety.specs.Placings.{AreFree, MovesOn, StillHolds}
+use Rattle.safety.proofs.TestsPassed.{AllFail, tests_fail, each_fails}
+
+ring_is : (r : ℕ) (o : Option ℕ) → is_ring r o ≡ true → o ≡ Some r
+ring_is r None h = absurd (false≢true h)
+ring_is r (Some q) h = ap (λ n. Some n) (eqb-true q r h)
+
+range_above : (least a n : ℕ) → least ≤ a → All (λ i. nat_le least i ≡ true) (range_with_len a n)
+range_above least a zero low = All-nil (λ i. nat_le least i ≡ true)
+range_above least a (suc n) low =
+    All-cons (λ i. nat_le least i ≡ true) a (range_with_len (a + 1) n) (le-leb least a low) (range_above least (a + 1) n (omega arith))
+
+-- what a context adds lies above the default control endpoint
+added_above : (memory : ℕ → ℕ) (n : ℕ) → All (λ i. nat_le 2 i ≡ true) (added_endpoints memory n)
+unfolding added_endpoints
+added_above memory n = All-filter (input_add_flag memory n) (λ i. nat_le 2 i ≡ true) (range_with_len 2 30) (range_above 2 2 30 (omega arith))
+
+module _ (h : Header) (k : Known) where
+  -- a ring that is unused was never bound
+  unused_is : (o : Option ℕ) → is_unused_ring h k o ≡ true → (r : ℕ) × (o ≡ Some r) × (k.was_bound r ≡ false)
+  unfolding is_unused_ring is_used
+  unused_is None e = absurd (false≢true e)
+  unused_is (Some r) e = (r, refl, (or_parts (k.was_bound r) (list_any (binds_ring h k r) (unfinished h k)) (not-true (k.was_bound r || list_any (binds_ring h k r) (unfinished h k)) e)).0)
+
+  record GoodBindings (c : Command) : Type 0 where
+    pub unused : All (λ b. is_unused_ring h k (ring_bound h b) ≡ true) (binds h k c)
+    pub repeats : has_repeats (map (ring_bound h) (binds h k c)) ≡ false
+
+  good_bindings : (c : Command) → is_bad_binding h k c ≡ false → GoodBindings c
+  unfolding is_bad_binding
+  good_bindings c good =
+      let parts = or_parts (list_any (λ b. not (is_unused_ring h k (ring_bound h b)) || not b.cycle) (binds h k c)) (has_repeats (map (ring_bound h) (binds h k c))) good in
+      record {
+        unused =
+            All-weaker (λ b. (not (is_unused_ring h k (ring_bound h b)) || not b.cycle) ≡ false) (λ b. is_unused_ring h k (ring_bound h b) ≡ true)
+            (λ b fails. not-false (is_unused_ring h k (ring_bound h b)) (or_parts (not (is_unused_ring h k (ring_bound h b))) (not b.cycle) fails).0)
+            (binds h k c) (each_fails (λ b. not (is_unused_ring h k (ring_bound h b)) || not b.cycle) (binds h k c) parts.0);
+        repeats = parts.1;
+      }
+
+  never_bound : (c : Command) → GoodBindings c → (r : ℕ) → binds_ring h k r c ≡ true → k.was_bound r ≡ false
+  unfolding binds_ring
+  never_bound c good r bound =
+      let any = Any-from_list_any (λ b. is_ring r (ring_bound h b)) (binds h k c) bound in
+      let b : Binding = any.1 in
+      let unused : is_unused_ring h k (ring_bound h b) ≡ true =
+      subst (λ (x : Binding). is_unused_ring h k (ring_bound h x) ≡ true) any.3 (All-get_or (λ x. is_unused_ring h k (ring_bound h x) ≡ true) (binds h k c) any.0 b any.2 good.unused) in
+      let found = unused_is (Some r) (ap (λ o. is_unused_ring h k o) (sym (ring_is r (ring_bound h b) any.4)) ∙ unused) in
+      ap k.was_bound (same_Some r found.0 found.1) ∙ found.2
+
+  -- what Configure Endpoint adds
+  free_by : (s n i : ℕ) → commands.is_bad_added h k s n i ≡ false → nat_le 2 i ≡ true → (is_off (k.endpoint_state s i) || is_dropped k.memory n i) ≡ true
+  unfolding commands.is_bad_added
+  free_by s n i good above =
+      let free : (is_off (k.endpoint_state s i) || input_drop_flag k.memory n i) ≡ true =
+      not-false (is_off (k.endpoint_state s i) || input_drop_flag k.memory n i)
+      (or_parts (commands.type_in h k n i == 0) (not (is_off (k.endpoint_state s i) || input_drop_flag k.memory n i)) good).1 in
+      elim (or_cases (is_off (k.endpoint_state s i)) (input_drop_flag k.memory n i) free) [
+        | inl off ↦ or_left (is_off (k.endpoint_state s i)) (is_dropped k.memory n i) off
+        | inr drops ↦ or_right (is_off (k.endpoint_state s i)) (is_dropped k.memory n i) (and_from (nat_le 2 i) (input_drop_flag k.memory n i) above drops)
+      ]
+
+  content_good : (c : Command) → commands.is_bad_command h k c ≡ false → commands.has_bad_content h k c ≡ false
+  unfolding commands.is_bad_command
+  content_good c good =
+      (or_parts (commands.names_disabled_slot k (named_slot c) || commands.names_disabled_endpoint k (named_endpoint c) || commands.has_bad_context h k (named_context c))
+      (commands.has_bad_content h k c) good).1
+
+  are_free : (c : Command) → commands.has_bad_content h k c ≡ false → AreFree h k c
+  unfolding commands.has_bad_content
+  are_free (ConfigureEndpoint s false n) good =
+      let each = each_fails (commands.is_bad_added h k s n) (added_endpoints k.memory n) good in
+      λ x d inside. free_by s n (get_or (added_endpoints k.memory n) x d) (each x d inside) (added_above k.memory n x d inside)
+  are_free (ConfigureEndpoint s true n) good = tt
+  are_free NoOp good = tt
+  are_free EnableSlot good = tt
+  are_free (DisableSlot s) good = tt
+  are_free (AddressDevice s bsr n) good = tt
+  are_free (EvaluateContext s n) good = tt
+  are_free (ResetEndpoint s i) good = tt
+  are_free (StopEndpoint s i) good = tt
+  are_free (SetTrDequeue s i p cycle) good = tt
+  are_free (ResetDevice s) good = tt
+
+  -- where the pointer stands
+  stays : (b : Binding) (o : Option ℕ) (r : ℕ) → is_bad_stay h k o b ≡ false → o ≡ Some r →
+      is_move (shape_of h r) (k.ring r) b.pointer b.cycle (floor_number (k.ring r)) (floor_number (k.ring r)) ≡ true
+  unfolding is_bad_stay
+  stays b o r good at =
+      let here : is_bad_stay h k (Some r) b ≡ false = ap (λ x. is_bad_stay h k x b) (sym at) ∙ good in
+      let move : ℕ → Bool = λ n. is_move (shape_of h r) (k.ring r) b.pointer b.cycle n n in
+      let parts = or_parts (not (declared (k.ring r) == floor_number (k.ring r))) (not (move (declared (k.ring r)))) here in
+      let same : declared (k.ring r) ≡ floor_number (k.ring r) = eqb-true (declared (k.ring r)) (floor_number (k.ring r)) (not-false (declared (k.ring r) == floor_number (k.ring r)) parts.0) in
+      ap move (sym same) ∙ not-false (move (declared (k.ring r))) parts.1
+
+  moves_on : (c : Command) → is_bad_move h k c ≡ false → MovesOn h k c
+  unfolding is_bad_move binding_in
+  moves_on (SetTrDequeue s i p cycle) good = good
+  moves_on (AddressDevice s bsr n) good =
+      λ on r at.
+      elim (and_cases (not (is_off (k.endpoint_state s 1))) (is_bad_stay h k (k.ring_of s 1) (binding_in h k n 1)) good) [
+        | inl off ↦ absurd (false≢true (sym off ∙ not_from_false (is_off (k.endpoint_state s 1)) on))
+        | inr stand ↦ stays (binding_in h k n 1) (k.ring_of s 1) r stand at
+      ]
+  moves_on NoOp good = tt
+  moves_on EnableSlot good = tt
+  moves_on (DisableSlot s) good = tt
+  moves_on (ConfigureEndpoint s d n) good = tt
+  moves_on (EvaluateContext s n) good = tt
+  moves_on (ResetEndpoint s i) good = tt
+  moves_on (StopEndpoint s i) good = tt
+  moves_on (ResetDevice s) good = tt
+
+  fails_of : (test : Command → Bool) (o : Option Command) (c : Command) → holds_of test o ≡ false → o ≡ Some c → test c ≡ false
+  unfolding holds_of
+  fails_of test o c none at = ap (holds_of test) (sym at) ∙ none
+
+  -- a command that a write gives without breaking a rule
+  pub given_holds : (a w : ℕ) (c : Command) → broken h k (Write a w) ≡ [] → command_given h k a w ≡ Some c → StillHolds h k c
+  unfolding tests write_tests some_command
+  given_holds a w c clean given =
+      let fails : AllFail (write_tests h k a w) = tests_fail h k (Write a w) clean in
+      let good = fails_of (commands.is_bad_command h k) (command_given h k a w) c fails.1.1.1.1.1.0 given in
+      let places = fails_of (λ c. is_bad_binding h k c || is_bad_move h k c) (command_given h k a w) c fails.1.1.1.1.1.1.1.1.0 given in
+      let parts = or_parts (is_bad_binding h k c) (is_bad_move h k c) places in
+      let bindings : GoodBindings c = good_bindings c parts.0 in
+      record {
+        named = All-weaker (λ b. is_unused_ring h k (ring_bound h b) ≡ true) (λ b. is_some (ring_bound h b) ≡ true)
+            (λ b unused. ap (λ o. is_some o) (unused_is (ring_bound h b) unused).1) (binds h k c) bindings.unused;
+        repeats = bindings.repeats;
+        unbound = never_bound c bindings;
+        free = are_free c (content_good c good);
+        moves_on = moves_on c parts.1;
+      }

@@ -1,0 +1,32 @@
+-- A clean history keeps what the rules keep of each ring, so long as what was tested of a command holds still when it succeeds
+use Rattle.std.specs.Prelude.{List, [], ◌∷◌}
+use Rattle.trb.specs.Block.{slot}
+use Rattle.traces.specs.declared.header.Header.{Header}
+use Rattle.traces.specs.declared.row.Row.{Row}
+use Rattle.traces.specs.declared.row.Row.TheVariants.{Sub, Write, Reg, Bell, Read}
+use Rattle.traces.specs.Header.{IsHeader}
+use Rattle.ring_knowledge.specs.Known.{Known}
+use Rattle.ring_knowledge.specs.Learned.{known}
+use Rattle.ownership_rules.specs.Clean.{IsClean}
+use Rattle.safety.specs.RingsKeep.{RingsKeep}
+use Rattle.safety.specs.EndpointsKeep.{EndpointsKeep}
+use Rattle.safety.specs.KeptHistories.{MayRead, StillReads, StillReadsAll}
+use Rattle.safety.proofs.DriverRows.{nothing_keeps}
+use Rattle.safety.proofs.EndpointHistories.{keeps_endpoints}
+use Rattle.safety.proofs.Placings.{still_places}
+use Rattle.safety.proofs.Histories.{row_keeps}
+
+module _ (h : Header) (is : IsHeader h) where
+  still_reads : (k : Known) (row : Row) → RingsKeep h k → EndpointsKeep h k → StillReads h k row → MayRead h k row
+  still_reads k (Sub r blocks) rings endpoints still = tt
+  still_reads k (Write a w) rings endpoints still = tt
+  still_reads k (Reg r x) rings endpoints still = tt
+  still_reads k (Bell s t) rings endpoints still = tt
+  still_reads k (Read b) rings endpoints still = λ completion c at success. still_places h is k rings endpoints (slot b) c (still completion c at success)
+
+  pub still_keeps_rings : (past : List Row) → IsClean h past → StillReadsAll h past → RingsKeep h (known h past)
+  unfolding known
+  still_keeps_rings [] clean still = nothing_keeps h is
+  still_keeps_rings (row ∷ past) clean still =
+      let rings : RingsKeep h (known h past) = still_keeps_rings past clean.0 still.0 in
+      row_keeps h is (known h past) row rings (keeps_endpoints h is past) clean.1 (still_reads (known h past) row rings (keeps_endpoints h is past) still.1)

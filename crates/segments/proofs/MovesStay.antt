@@ -1,0 +1,102 @@
+-- A spot to which a ring may be moved stays one, whatever is declared, written or reached since
+use Rattle.std.specs.Prelude.{◌≡◌, ℕ, suc, zero, ◌+◌, ◌-◌, ◌<◌, ◌≤◌, ◌==◌, ◌&&◌, ◌||◌, not, Bool, true, List, [], ◌∷◌, ◌++◌, length}
+use Rattle.std.specs.List.{list_any, range_with_len, flat_map}
+use Rattle.std.proofs.Common.{arith, sym, ◌∙◌, ap, subst, inl, inr}
+use Rattle.std.proofs.lemmas.Bool.{cases_eq, and_parts, and_from, or_cases, or_left, or_right}
+use Rattle.std.proofs.lemmas.List.Elements.{All-get_or}
+use Rattle.std.proofs.lemmas.List.Folds.{Any-from_list_any}
+use Rattle.trb.specs.declared.block.Block.{Block}
+use Rattle.segments.specs.declared.spot.Spot.{Spot}
+use Rattle.segments.specs.declared.spot.Spot.TheVariants.{Data, Link}
+use Rattle.segments.specs.ShapeValue.{Shape}
+use Rattle.segments.specs.Places.{is_crossing}
+use Rattle.segments.specs.Spots.{number}
+use Rattle.segments.specs.RingView.{RingView, Declares, Writes, changed}
+use Rattle.segments.specs.Ceiling.{is_way_given}
+use Rattle.segments.specs.Descriptors.{is_border}
+use Rattle.segments.specs.Moves.{is_target, spots_between, are_given, are_ways_given, is_reached, may_move_to, is_move}
+use Rattle.segments.proofs.StepFacts.{GivesMore, in_range_all, all_in_range}
+use Rattle.segments.proofs.Writing.{writes_more}
+use Rattle.segments.proofs.MoveTargets.{between}
+
+-- a border stays one when a descriptor is added
+pub is_border-push : (lengths : List ℕ) (n start q : ℕ) → is_border lengths start q ≡ true → is_border (lengths ++ n ∷ []) start q ≡ true
+unfolding is_border
+is_border-push [] n start q h = or_left (start == q) (start + n == q) h
+is_border-push (m ∷ rest) n start q h =
+    elim (or_cases (start == q) (is_border rest (start + m) q) h) [
+      | inl here ↦ or_left (start == q) (is_border (rest ++ n ∷ []) (start + m) q) here
+      | inr later ↦ or_right (start == q) (is_border (rest ++ n ∷ []) (start + m) q) (is_border-push rest n (start + m) q later)
+    ]
+
+-- a spot between the bounds is among those between them
+any_between : (test : Spot → Bool) (a n : ℕ) (u : Spot) → a ≤ number u → number u < a + n → test u ≡ true →
+    list_any test (flat_map (λ q. Link q ∷ Data q ∷ []) (range_with_len a n)) ≡ true
+any_between test a zero u low high passes = absurd (omega arith)
+any_between test a (suc n) u low high passes =
+    let rest : List Spot = flat_map (λ q. Link q ∷ Data q ∷ []) (range_with_len (a + 1) n) in
+    elim (cases_eq (number u) a) [
+      | inl here ↦ at_first test a rest u here passes
+      | inr later ↦
+          or_right (test (Link a)) (test (Data a) || list_any test rest)
+          (or_right (test (Data a)) (list_any test rest) (any_between test (a + 1) n u (omega arith) (omega arith) passes))
+    ]
+  where
+    at_first : (test : Spot → Bool) (a : ℕ) (rest : List Spot) (u : Spot) → number u ≡ a → test u ≡ true → (test (Link a) || (test (Data a) || list_any test rest)) ≡ true
+    at_first test a rest (Data q) same passes =
+        or_right (test (Link a)) (test (Data a) || list_any test rest)
+        (or_left (test (Data a)) (list_any test rest) (ap (λ n. test (Data n)) (sym same) ∙ passes))
+    at_first test a rest (Link q) same passes = or_left (test (Link a)) (test (Data a) || list_any test rest) (ap (λ n. test (Link n)) (sym same) ∙ passes)
+
+module _ (shape : Shape) (v w : RingView) (more : GivesMore v w) where
+  way_more : (q : ℕ) → is_way_given shape v q ≡ true → is_way_given shape w q ≡ true
+  unfolding is_way_given
+  way_more q h =
+      elim (or_cases (not (is_crossing shape q)) (v.crossed q) h) [
+        | inl none ↦ or_left (not (is_crossing shape q)) (w.crossed q) none
+        | inr crossed ↦ or_right (not (is_crossing shape q)) (w.crossed q) (more.crossed q crossed)
+      ]
+
+  given_more : (n : ℕ) → are_given v n ≡ true → are_given w n ≡ true
+  unfolding are_given
+  given_more n h = all_in_range w.given 0 n (λ q low high. more.given q (in_range_all v.given 0 n h q low high))
+
+  ways_more : (n : ℕ) → are_ways_given shape v n ≡ true → are_ways_given shape w n ≡ true
+  unfolding are_ways_given
+  ways_more n h = all_in_range (is_way_given shape w) 1 n (λ q low high. way_more q (in_range_all (is_way_given shape v) 1 n h q low high))
+
+  -- a spot that is reached stays reached
+  pub reached_more : (t : Spot) → is_reached shape v t ≡ true → is_reached shape w t ≡ true
+  unfolding is_reached
+  reached_more (Data q) h =
+      let parts = and_parts (are_given v q) (are_ways_given shape v q) h in
+      and_from (are_given w q) (are_ways_given shape w q) (given_more q parts.0) (ways_more q parts.1)
+  reached_more (Link q) h =
+      let parts = and_parts (are_given v q) (are_ways_given shape v (q - 1)) h in
+      and_from (are_given w q) (are_ways_given shape w (q - 1)) (given_more q parts.0) (ways_more (q - 1) parts.1)
+
+  -- with more given, more declared and wider bounds a move stays one
+  pub move_more : ((q : ℕ) → is_border v.lengths 0 q ≡ true → is_border w.lengths 0 q ≡ true) → (address : ℕ) (cycle : Bool) (least most low high : ℕ) → low ≤ least → most ≤ high →
+      is_move shape v address cycle least most ≡ true → is_move shape w address cycle low high ≡ true
+  unfolding is_move may_move_to spots_between
+  move_more borders address cycle least most low high below above moves =
+      let any = Any-from_list_any (λ u. is_target shape address cycle u && may_move_to shape v u) (spots_between least most) moves in
+      let u : Spot = any.1 in
+      let passes = and_parts (is_target shape address cycle u) (may_move_to shape v u) any.4 in
+      let at = and_parts (is_border v.lengths 0 (number u)) (is_reached shape v u) passes.1 in
+      let bounds : (least ≤ number u) × (number u ≤ most) =
+      subst (λ (x : Spot). (least ≤ number x) × (number x ≤ most)) any.3
+      (All-get_or (λ x. (least ≤ number x) × (number x ≤ most)) (spots_between least most) any.0 u any.2 (between least most)) in
+      any_between (λ u. is_target shape address cycle u && may_move_to shape w u) low (high + 1 - low) u (omega (arith, bounds.0)) (omega (arith, bounds.0, bounds.1))
+      (and_from (is_target shape address cycle u) (may_move_to shape w u) passes.0
+      (and_from (is_border w.lengths 0 (number u)) (is_reached shape w u) (borders (number u) at.0) (reached_more u at.1)))
+
+module _ (shape : Shape) (v : RingView) (address : ℕ) (cycle : Bool) (least most low high : ℕ) (below : low ≤ least) (above : most ≤ high)
+    (moves : is_move shape v address cycle least most ≡ true) where
+  pub move-declares : (blocks : List Block) → is_move shape (changed shape v (Declares blocks)) address cycle low high ≡ true
+  move-declares blocks =
+      move_more shape v (changed shape v (Declares blocks)) (record { given = λ p g. g; crossed = λ q g. g }) (λ q h. is_border-push v.lengths (length blocks) 0 q h)
+      address cycle least most low high below above moves
+
+  pub move-writes : (a w : ℕ) → is_move shape (changed shape v (Writes a w)) address cycle low high ≡ true
+  move-writes a w = move_more shape v (changed shape v (Writes a w)) (writes_more shape (λ x. 0) v a w) (λ q h. h) address cycle least most low high below above moves
