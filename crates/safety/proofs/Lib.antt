@@ -16,3 +16,8 @@ pub mod Posted
 pub mod EventRead
 pub mod Other
 pub mod Scribble
+pub mod LookedRing
+pub mod OnlyRing
+pub mod LookKinds
+pub mod LookSpots
+pub mod Look

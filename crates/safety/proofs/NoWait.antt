@@ -38,7 +38,7 @@ length_is : (v : RingView) (p : ℕ) → descriptor_length v p ≡ length_from v
 unfolding descriptor_length
 length_is v p = refl
 
-declared_some : (queue : List Block) (lengths : List ℕ) (p : ℕ) (d : Block) → slice_get queue p ≡ Some d →
+pub declared_some : (queue : List Block) (lengths : List ℕ) (p : ℕ) (d : Block) → slice_get queue p ≡ Some d →
     declared_at queue lengths p ≡ Some (record { block = d; begins = is_border lengths 0 p; ends = is_border lengths 0 (p + 1) })
 unfolding declared_at
 declared_some queue lengths p d at = rw at refl
