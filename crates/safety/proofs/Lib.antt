@@ -21,3 +21,5 @@ pub mod OnlyRing
 pub mod LookKinds
 pub mod LookSpots
 pub mod Look
+pub mod LookCommand
+pub mod LookRuns

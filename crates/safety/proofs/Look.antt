@@ -45,11 +45,11 @@ pub record LookRest (h : Header) (w v : World) (r : ℕ) : Type 0 where
   pub scribbles : v.scribbles ≡ w.scribbles
   pub outside : v.looked_outside ≡ (w.looked_outside || not (is_inside (shape_of h r) (w.pointer_of r)))
 
-seen_rest : (h : Header) (w : World) (r : ℕ) → LookRest h w (seen_by_look h w r) r
+pub seen_rest : (h : Header) (w : World) (r : ℕ) → LookRest h w (seen_by_look h w r) r
 unfolding seen_by_look
 seen_rest h w r = record { under_way = refl; scribbles = refl; outside = refl }
 
-crossed_rest : (h : Header) (w : World) (r : ℕ) (b : Block) → LookRest h w (crossed h (seen_by_look h w r) r b) r
+pub crossed_rest : (h : Header) (w : World) (r : ℕ) (b : Block) → LookRest h w (crossed h (seen_by_look h w r) r b) r
 unfolding seen_by_look crossed
 crossed_rest h w r b = record { under_way = refl; scribbles = refl; outside = refl }
 
@@ -67,13 +67,13 @@ taken_elsewhere h w r b other = cond-false (r == command_id h) _ _ (ne_eqb r (co
 
 module _ (h : Header) (is : IsHeader h) (k : Known) (unread : List Block) (w : World) (d : DriverKeeps h k) (g : Agrees h k unread w) (r : ℕ) where
   -- the look is inside
-  inside_still : IsDriverRing h r → (t : Spot) → RingMatches (shape_of h r) (k.ring r) (state_of w r) t → (w.looked_outside || not (is_inside (shape_of h r) (w.pointer_of r))) ≡ false
+  pub inside_still : IsDriverRing h r → (t : Spot) → RingMatches (shape_of h r) (k.ring r) (state_of w r) t → (w.looked_outside || not (is_inside (shape_of h r) (w.pointer_of r))) ≡ false
   inside_still ring t m =
       let lies = spot_lies (shape_of h r) (ring_shape h is r ring).is t m.is_spot in
       or_from w.looked_outside (not (is_inside (shape_of h r) (w.pointer_of r))) g.matches.inside
       (not_from_true (is_inside (shape_of h r) (w.pointer_of r)) (ap (λ a. is_inside (shape_of h r) a) (m.pointer ∙ sym (add-zero (spot_address (shape_of h r) t))) ∙ lies.inside 0 (omega arith)))
 
-  agrees_only : (v : World) (s : RingState) → OnlyRing w v r s → Matches h k v → Agrees h k unread (counted h v)
+  pub agrees_only : (v : World) (s : RingState) → OnlyRing w v r s → Matches h k v → Agrees h k unread (counted h v)
   agrees_only v s o m =
       agrees_counted h k unread v (stands_only h k w v r s o g.stands) (events_only h k w v r s o unread g.events) m (read_only h k w v r s o g.read)
       (late_only h k w v r s o (λ a. omega (arith, g.stamps a)))
@@ -118,7 +118,7 @@ module _ (h : Header) (is : IsHeader h) (k : Known) (unread : List Block) (w : W
         (matches_transfer h k w v r (behind_block h w r (seen w r)) o d g.matches other (now_at (behind_block h w r (seen w r)) (after (shape_of h r) c.number) c.matches u)
         rest.under_way rest.scribbles (rest.outside ∙ inside_still its_ring b.spot b.matches))
 
-    transfer_looks : (v : World) → LookEnds h w v r → Agrees h k unread (counted h v)
+    pub transfer_looks : (v : World) → LookEnds h w v r → Agrees h k unread (counted h v)
     transfer_looks v (inl waits) = subst (λ u. Agrees h k unread (counted h u)) waits.is transfer_waits
     transfer_looks v (inr (inl link)) =
         subst (λ u. Agrees h k unread (counted h u)) link.is (transfer_crosses (cross_done h is k w d g.stands r its_ring b.spot b.matches link.cycle_is link.link))
