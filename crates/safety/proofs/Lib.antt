@@ -23,3 +23,4 @@ pub mod LookSpots
 pub mod Look
 pub mod LookCommand
 pub mod LookRuns
+pub mod Learns

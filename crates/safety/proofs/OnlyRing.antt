@@ -71,7 +71,7 @@ module _ (h : Header) (k : Known) (w v : World) (r : ℕ) (s : RingState) (o : O
   pub read_only : w.posted ≡ k.reads → v.posted ≡ k.reads
   read_only read = o.posted ∙ read
 
-  unchanged_only : (at : ℕ) (c : Option ℕ) → IsUnchanged h w at c → IsUnchanged h v at c
+  pub unchanged_only : (at : ℕ) (c : Option ℕ) → IsUnchanged h w at c → IsUnchanged h v at c
   unchanged_only at None same = tt
   unchanged_only at (Some c) same = λ i l. let kept = same i l in omega (arith, ap (λ f. f (c + 4 * i)) o.changed, ap (λ f. f (at + 12)) o.written)
 
