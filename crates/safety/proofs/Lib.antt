@@ -24,3 +24,5 @@ pub mod Look
 pub mod LookCommand
 pub mod LookRuns
 pub mod Learns
+pub mod ReportedRing
+pub mod ReportSuccess

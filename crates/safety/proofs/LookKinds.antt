@@ -24,7 +24,7 @@ put_at f n x = cond-true (n == n) x (f n) (eq-eqb n n refl)
 pub put_off : {A : Type 0} (f : ℕ → A) (n : ℕ) (x : A) (m : ℕ) → m ≢ n → put f n x m ≡ f m
 put_off f n x m other = cond-false (m == n) x (f m) (ne_eqb m n other)
 
-cond_is : {A : Type 0} (b : Bool) (x y z : A) → cond b x y ≡ z → ((b ≡ true) × (x ≡ z)) ⊎ ((b ≡ false) × (y ≡ z))
+pub cond_is : {A : Type 0} (b : Bool) (x y z : A) → cond b x y ≡ z → ((b ≡ true) × (x ≡ z)) ⊎ ((b ≡ false) × (y ≡ z))
 cond_is true x y z at = inl (refl, at)
 cond_is false x y z at = inr (refl, at)
 

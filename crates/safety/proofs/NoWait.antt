@@ -30,7 +30,7 @@ pub ceiling_open : (shape : Shape) (v : RingView) → v.held ≡ None → ceilin
 unfolding ceiling
 ceiling_open shape v none = rw none refl
 
-ceiling_held : (shape : Shape) (v : RingView) (m : ℕ) → v.held ≡ Some m → ceiling shape v ≡ m
+pub ceiling_held : (shape : Shape) (v : RingView) (m : ℕ) → v.held ≡ Some m → ceiling shape v ≡ m
 unfolding ceiling
 ceiling_held shape v m held = rw held refl
 
