@@ -26,3 +26,5 @@ pub mod LookRuns
 pub mod Learns
 pub mod ReportedRing
 pub mod ReportSuccess
+pub mod BrokenRing
+pub mod EndpointStates
