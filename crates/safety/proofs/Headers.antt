@@ -2,7 +2,7 @@
 use Rattle.std.specs.Prelude.{◌≡◌, ℕ, ◌==◌, ◌%◌, ◌<◌, ◌&&◌, ◌⊎◌, Bool, true, false, not, List, [], ◌∷◌, nat_lt, Option, Some, None, find}
 use Rattle.std.specs.List.{list_all, list_any}
 use Rattle.std.proofs.Common.{arith, refl, sym, ◌∙◌, ap, subst, inl, inr}
-use Rattle.std.proofs.lemmas.Bool.{cases_Bool, false≢true, cond-true, cond-false, and_parts, or_parts, not-true, not_from_true, false_from_ne_true}
+use Rattle.std.proofs.lemmas.Bool.{cases_Bool, eq-eqb, eqb-true, ltb-true, false≢true, cond-true, cond-false, and_parts, or_parts, not-true, not_from_true, false_from_ne_true}
 use Rattle.std.proofs.lemmas.Option.{none-some, same_Some}
 use Rattle.trb.specs.declared.ring_kind.RingKind.{RingKind}
 use Rattle.trb.specs.declared.ring_kind.RingKind.TheVariants.{Cmd, Evt, Xfer}
@@ -14,7 +14,7 @@ use Rattle.segments.proofs.Search.{cases_option}
 use Rattle.segments.proofs.InsideLemmas.{rings_apart, touches-word}
 use Rattle.traces.specs.declared.header.Header.{Header}
 use Rattle.traces.specs.declared.ring.Ring.{Ring}
-use Rattle.traces.specs.Header.{IsHeader, may_stand_together, clash, ring_with, shape_of, shape_or, event_ring, event_shape, event_size, is_event_kind, is_driver_kind, is_transfer_kind}
+use Rattle.traces.specs.Header.{IsHeader, may_stand_together, clash, ring_with, shape_of, shape_or, event_ring, event_shape, event_size, command_ring, command_id, id_or_none, is_command_kind, is_event_kind, is_driver_kind, is_transfer_kind}
 use Rattle.ownership_rules.proofs.Among.{IsIn, any_of}
 use Rattle.safety.specs.Keeps.{IsDriverRing, IsTransferRing}
 
@@ -61,6 +61,11 @@ clash_apart r q x none a b =
     let p2 = or_parts _ _ p1.0 in
     let p3 = or_parts _ _ p2.0 in
     rings_apart r.shape q.shape x p3.1 a b
+
+kinds_apart : (kind : RingKind) → is_transfer_kind kind ≡ true → is_command_kind kind ≡ true → ⊥
+kinds_apart Cmd a b = false≢true a
+kinds_apart Xfer a b = false≢true b
+kinds_apart Evt a b = false≢true a
 
 driver_not_event : (kind : RingKind) → is_driver_kind kind ≡ true → kind ≡ Evt → ⊥
 driver_not_event Cmd h e = cc
@@ -166,4 +171,45 @@ module _ (h : Header) where
               let several = (shape_facts e.shape (ring_allowed e at.0)).several in
               let same : place_count (event_shape h) ≡ place_count e.shape = ap (λ s. place_count s) shape in
               absurd (omega (arith, size_is))
+        ]
+
+    command_found : (c : Ring) → command_ring h ≡ Some c → IsIn c h.rings × (is_command_kind c.shape.kind ≡ true)
+    unfolding command_ring
+    command_found c at = found_in (λ r. is_command_kind r.shape.kind) h.rings c at
+
+    command_named : (o : Option Ring) → command_ring h ≡ o → command_id h ≡ id_or_none o
+    unfolding command_id
+    command_named o at = ap id_or_none at
+
+    not_both : (r c : Ring) → is_transfer_kind r.shape.kind ≡ true → is_command_kind c.shape.kind ≡ true → r ≡ c → ⊥
+    not_both r c a b same = kinds_apart c.shape.kind (ap (λ x. is_transfer_kind x.shape.kind) (sym same) ∙ a) b
+
+    ids_apart : (r c : Ring) → clash r c ≡ false → r.id ≡ c.id → ⊥
+    ids_apart r c none same =
+        let p1 = or_parts _ _ none in
+        let p2 = or_parts _ _ p1.0 in
+        let p3 = or_parts _ _ p2.0 in
+        false≢true (sym p3.0 ∙ eq-eqb r.id c.id same)
+
+    -- a transfer ring isn't the command ring
+    pub transfer_not_command : (r : ℕ) → IsTransferRing h r → r ≡ command_id h → ⊥
+    transfer_not_command r t same =
+        let mine = found_in (λ q. q.id == r) h.rings t.ring t.found in
+        let id = eqb-true t.ring.id r mine.1 in
+        elim (cases_option (command_ring h)) [
+          | inl none ↦
+              let none_is = command_named None none in
+              let low = ltb-true t.ring.id 256 (and_parts (nat_lt t.ring.id 256) (is_shape t.ring.shape) (each_passes (λ r. nat_lt r.id 256 && is_shape r.shape) h.rings t.ring header_parts.0 mine.0)).0 in
+              omega arith
+          | inr some ↦
+              let c : Ring = some.0 in
+              let found = command_found c some.1 in
+              let both : t.ring.id ≡ c.id = id ∙ same ∙ command_named (Some c) some.1 in
+              elim (together h.rings t.ring c header_parts.1 mine.0 found.0) [
+                | inl one ↦ not_both t.ring c t.kind found.1 one
+                | inr apart ↦ elim apart [
+                  | inl first ↦ ids_apart t.ring c first both
+                  | inr second ↦ ids_apart c t.ring second (sym both)
+                ]
+              ]
         ]

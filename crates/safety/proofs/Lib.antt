@@ -32,3 +32,15 @@ pub mod StillPlacing
 pub mod GivenCommands
 pub mod Walks
 pub mod StillHolding
+pub mod LookedRing
+pub mod OnlyRing
+pub mod LookKinds
+pub mod LookSpots
+pub mod Look
+pub mod LookCommand
+pub mod LookRuns
+pub mod Learns
+pub mod ReportedRing
+pub mod ReportSuccess
+pub mod BrokenRing
+pub mod EndpointStates

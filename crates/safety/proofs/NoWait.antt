@@ -30,7 +30,7 @@ pub ceiling_open : (shape : Shape) (v : RingView) → v.held ≡ None → ceilin
 unfolding ceiling
 ceiling_open shape v none = rw none refl
 
-ceiling_held : (shape : Shape) (v : RingView) (m : ℕ) → v.held ≡ Some m → ceiling shape v ≡ m
+pub ceiling_held : (shape : Shape) (v : RingView) (m : ℕ) → v.held ≡ Some m → ceiling shape v ≡ m
 unfolding ceiling
 ceiling_held shape v m held = rw held refl
 
@@ -38,7 +38,7 @@ length_is : (v : RingView) (p : ℕ) → descriptor_length v p ≡ length_from v
 unfolding descriptor_length
 length_is v p = refl
 
-declared_some : (queue : List Block) (lengths : List ℕ) (p : ℕ) (d : Block) → slice_get queue p ≡ Some d →
+pub declared_some : (queue : List Block) (lengths : List ℕ) (p : ℕ) (d : Block) → slice_get queue p ≡ Some d →
     declared_at queue lengths p ≡ Some (record { block = d; begins = is_border lengths 0 p; ends = is_border lengths 0 (p + 1) })
 unfolding declared_at
 declared_some queue lengths p d at = rw at refl

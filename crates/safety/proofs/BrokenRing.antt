@@ -1,0 +1,104 @@
+-- A take with which an endpoint halts or goes to Error: what the event names, and the ring behind it
+use Rattle.std.specs.Prelude.{◌≡◌, ℕ, ◌+◌, ◌-◌, ◌<◌, ◌≤◌, true, false, List, [], ◌∷◌, length, drop, map, Some}
+use Rattle.std.specs.List.{range_with_len}
+use Rattle.std.proofs.Common.{arith, refl, sym, ◌∙◌, ap, get_or, length-drop}
+use Rattle.std.proofs.lemmas.Bool.{false≢true, eqb-true}
+use Rattle.std.proofs.lemmas.List.{drop-drop}
+use Rattle.std.proofs.lemmas.List.FromFn.{get_or-map-range_with_len}
+use Rattle.segments.specs.declared.spot.Spot.{Spot}
+use Rattle.segments.specs.declared.spot.Spot.TheVariants.{Data}
+use Rattle.segments.specs.ShapeValue.{Shape}
+use Rattle.segments.specs.Places.{address_of}
+use Rattle.segments.specs.Spots.{number, after}
+use Rattle.segments.specs.Shape.{IsShape}
+use Rattle.segments.specs.RingView.{RingView, floor_number}
+use Rattle.segments.specs.Ceiling.{is_way_given, named}
+use Rattle.segments.specs.RingKeeps.{RingKeeps}
+use Rattle.traces.specs.declared.header.Header.{Header}
+use Rattle.world_state.specs.World.{RingEvent, Took, Placed}
+use Rattle.world_state.specs.Takes.{takes_of}
+use Rattle.controller_model.specs.Posts.{is_last}
+use Rattle.safety.specs.Matches.{Newest, RingState, RingMatches, Unreported}
+use Rattle.safety.proofs.NoWait.{ceiling_held}
+use Rattle.safety.proofs.LookedRing.{number_after}
+use Rattle.safety.proofs.ReportedRing.{open_takes, drop_range, low, count, named_near, floor_before}
+
+last_at : (h : Header) (a b : ℕ) (xs : List ℕ) → is_last h a (b ∷ xs) ≡ true → get_or (b ∷ xs) (length xs) 0 ≡ a
+unfolding is_last
+last_at h a b [] at = eqb-true b a at
+last_at h a b (c ∷ rest) at = last_at h a c rest at
+
+none_last : (h : Header) (a : ℕ) → is_last h a [] ≡ true → ⊥
+unfolding is_last
+none_last h a at = false≢true at
+
+-- the last of a list, and its place
+pub last_is : (h : Header) (a : ℕ) (l : List ℕ) → is_last h a l ≡ true → (n : ℕ) × (length l ≡ n + 1) × (get_or l n 0 ≡ a)
+last_is h a [] at = absurd (none_last h a at)
+last_is h a (b ∷ xs) at = (length xs, omega arith, last_at h a b xs at)
+
+-- held behind position p
+abbrev pub broken_at : Shape → RingView → ℕ → RingView
+broken_at shape v p = record v { floor = after shape p; held = Some (p + 1) }
+
+ways_still : (shape : Shape) (v : RingView) (p q : ℕ) → is_way_given shape (broken_at shape v p) q ≡ is_way_given shape v q
+unfolding is_way_given
+ways_still shape v p q = refl
+
+newest_still : (shape : Shape) (v : RingView) (p n : ℕ) (events : List RingEvent) → Newest v n events → Newest (broken_at shape v p) n events
+newest_still shape v p n [] newest = newest
+newest_still shape v p n (Placed a ∷ older) newest = newest
+newest_still shape v p n (Took a b d ∷ older) newest = newest
+
+module _ (shape : Shape) (is : IsShape shape) (memory : ℕ → ℕ) (v : RingView) (k : RingKeeps shape memory v) (s : RingState) (t : Spot) (m : RingMatches shape v s t) (u : Unreported shape v s t) where
+  -- the last take, unreported yet
+  pub record LastTake (a : ℕ) : Type 0 where
+    pub position : ℕ
+    pub from : floor_number v ≤ position
+    pub last : number t ≡ position + 1
+    pub named_is : named shape v a ≡ Some (Data position)
+
+  pub last_take : (a n : ℕ) → length (open_takes s) ≡ n + 1 → get_or (open_takes s) n 0 ≡ a → LastTake a
+  last_take a n long at =
+      let before = low shape is memory v k s t m u in
+      let all = count shape is memory v k s t m u in
+      let inside : n < number t - floor_number v = omega arith in
+      let element : get_or (open_takes s) n 0 ≡ address_of shape (floor_number v + n) =
+      ap (λ l. get_or l n 0) u.takes ∙ get_or-map-range_with_len (address_of shape) (floor_number v) (number t - floor_number v) n (floor_number v + n) 0 inside refl in
+      record {
+        position = floor_number v + n;
+        from = omega arith;
+        last = omega arith;
+        named_is = ap (λ x. named shape v x) (sym at ∙ element) ∙ named_near shape is memory v k s t m u (floor_number v + n) (omega arith) (omega arith);
+      }
+
+  pub broken_matches : (a c : ℕ) (l : LastTake a) → RingMatches shape (broken_at shape v l.position) (record s { active = false; reported = c }) t
+  broken_matches a c l = record {
+    is_spot = m.is_spot;
+    pointer = m.pointer;
+    cycle = m.cycle;
+    reached = floor_before shape is memory v k s t m u l.position (omega (arith, l.last));
+    below = omega (arith, l.last, ceiling_held shape (broken_at shape v l.position) (l.position + 1) refl);
+    way = λ q e. ways_still shape v l.position q ∙ m.way q e;
+    opened = λ on. absurd (false≢true on);
+    next = m.next;
+    newest = newest_still shape v l.position (number t) s.events m.newest;
+    in_order = m.in_order;
+    as_declared = m.as_declared;
+  }
+
+  pub broken_unreported : (a : ℕ) (l : LastTake a) → Unreported shape (broken_at shape v l.position) (record s { active = false; reported = s.reported + length (open_takes s) }) t
+  broken_unreported a l =
+      let before = low shape is memory v k s t m u in
+      let all = count shape is memory v k s t m u in
+      let at : number (after shape l.position) ≡ l.position + 1 = number_after shape l.position in
+      let start : floor_number v + length (open_takes s) ≡ number (after shape l.position) = omega (arith, l.last) in
+      let rest : number t - floor_number v - length (open_takes s) ≡ number t - number (after shape l.position) = omega (arith, l.last) in
+      let long = length-drop s.reported (takes_of s.events) in
+      record {
+        takes = sym (drop-drop (length (open_takes s)) s.reported (takes_of s.events)) ∙ ap (λ x. drop (length (open_takes s)) x) u.takes
+        ∙ drop_range (address_of shape) (floor_number v) (number t - floor_number v) (length (open_takes s)) (omega arith)
+        ∙ ap (λ b. map (address_of shape) (range_with_len b (number t - floor_number v - length (open_takes s)))) start
+        ∙ ap (λ n. map (address_of shape) (range_with_len (number (after shape l.position)) n)) rest;
+        most = omega (arith, u.most);
+      }

@@ -1,0 +1,139 @@
+-- One ring about which more is known, and which has changed in the world: all else that is said of both stays
+use Rattle.std.specs.Prelude.{◌≡◌, ◌≢◌, ℕ, ◌+◌, ◌⊎◌, true, false, List, Option, Some, None, option_and_then, slice_get}
+use Rattle.std.proofs.Common.{refl, sym, ◌∙◌, ap, subst, inl, inr}
+use Rattle.std.proofs.lemmas.Bool.{cases_eq, false≢true}
+use Rattle.std.proofs.lemmas.Option.{none-some}
+use Rattle.trb.specs.declared.block.Block.{Block}
+use Rattle.trb.specs.Block.{with_cycle}
+use Rattle.segments.specs.declared.spot.Spot.{Spot}
+use Rattle.segments.specs.Places.{address_of, cycle_of}
+use Rattle.segments.specs.RingView.{RingView, floor_number, is_due}
+use Rattle.commands.specs.declared.command.Command.{Command}
+use Rattle.commands.specs.declared.command.Command.TheVariants.{StopEndpoint}
+use Rattle.commands.specs.Command.{command_of, named_context}
+use Rattle.traces.specs.declared.header.Header.{Header}
+use Rattle.traces.specs.Header.{shape_of, command_id}
+use Rattle.world_state.specs.World.{World, UnderWay}
+use Rattle.ring_knowledge.specs.Known.{Known}
+use Rattle.ring_knowledge.specs.Rings.{command_at, next_command}
+use Rattle.ownership_rules.specs.Events.{was_stop_seen}
+use Rattle.safety.specs.Keeps.{DriverKeeps, IsUnfinished}
+use Rattle.safety.specs.Stands.{Stands}
+use Rattle.safety.specs.Matches.{RingState, state_of, RingMatches, BoundRing, FreeRing, EndpointRing, UnderWayMatches, TakenCommand, IsUnchanged, Matches}
+use Rattle.safety.proofs.OnlyRing.{OnlyRing, unchanged_only}
+
+pub record LearnsRing (k m : Known) (r : ℕ) (x : RingView) : Type 0 where
+  pub here : m.ring r ≡ x
+  pub others : (q : ℕ) → q ≢ r → m.ring q ≡ k.ring q
+  pub queue : x.queue ≡ (k.ring r).queue
+  pub lengths : x.lengths ≡ (k.ring r).lengths
+  pub started : m.started ≡ k.started
+  pub stopped : m.stopped ≡ k.stopped
+  pub register : m.register ≡ k.register
+  pub memory : m.memory ≡ k.memory
+  pub soiled : m.soiled ≡ k.soiled
+  pub device : m.device ≡ k.device
+  pub dequeue : m.dequeue ≡ k.dequeue
+  pub was_bound : m.was_bound ≡ k.was_bound
+  pub slot_state : m.slot_state ≡ k.slot_state
+  pub endpoint_state : m.endpoint_state ≡ k.endpoint_state
+  pub ring_of : m.ring_of ≡ k.ring_of
+  pub stop_seen : m.stop_seen ≡ k.stop_seen
+
+-- ---- the command under way, where the command ring is known as before
+
+module _ (h : Header) (k m : Known) (ring : m.ring (command_id h) ≡ k.ring (command_id h)) (stop_seen : m.stop_seen ≡ k.stop_seen) where
+  next_same : next_command h m ≡ next_command h k
+  unfolding next_command
+  next_same = ap (λ v. floor_number v) ring
+
+  command_same : (p : ℕ) → command_at h m p ≡ command_at h k p
+  unfolding command_at
+  command_same p = ap (λ v. option_and_then command_of (slice_get v.queue p)) ring
+
+  seen_same : (c : Command) → was_stop_seen m c ≡ was_stop_seen k c
+  unfolding was_stop_seen
+  seen_same (StopEndpoint s i) = ap (λ f. f s i) stop_seen
+  seen_same _ = refl
+
+  taken_same : (u : UnderWay) → TakenCommand h k u → TakenCommand h m u
+  taken_same u t = record {
+    address = t.address ∙ ap (λ n. address_of (shape_of h (command_id h)) n) (sym next_same);
+    words = λ d at. t.words d (ap (λ n. slice_get (k.ring (command_id h)).queue n) (sym next_same) ∙ ap (λ v. slice_get v.queue (next_command h m)) (sym ring) ∙ at)
+    ∙ ap (λ n. with_cycle d (cycle_of (shape_of h (command_id h)) n)) (sym next_same);
+    stopped = λ c at. t.stopped c (ap (λ n. command_at h k n) (sym next_same) ∙ sym (command_same (next_command h m)) ∙ at) ∙ sym (seen_same c);
+  }
+
+  pub under_way_same : (t : Spot) (o : Option UnderWay) → UnderWayMatches h k t o → UnderWayMatches h m t o
+  under_way_same t None under = (under.0 ∙ sym next_same, λ s i. ap (λ f. f s i) stop_seen ∙ under.1 s i)
+  under_way_same t (Some u) under = (under.0 ∙ ap (λ n. n + 1) (sym next_same), taken_same u under.1)
+
+  pub unfinished_same : (p : ℕ) (c : Command) → IsUnfinished h m p c → IsUnfinished h k p c
+  unfinished_same p c u = record {
+    due = ap (λ v. is_due (shape_of h (command_id h)) v.floor p) (sym ring) ∙ u.due;
+    given = ap (λ v. v.given p) (sym ring) ∙ u.given;
+    command = sym (command_same p) ∙ u.command;
+  }
+
+-- ---- what is said of the world
+
+module _ (h : Header) (k m : Known) (r : ℕ) (x : RingView) (l : LearnsRing k m r x) where
+  pub stands_learns : (w : World) → Stands h k w → Stands h m w
+  stands_learns w s = record {
+    started = s.started ∙ sym l.started;
+    stopped = s.stopped ∙ sym l.stopped;
+    registers = λ q. s.registers q ∙ ap (λ f. f q) (sym l.register);
+    queues = λ q. elim (cases_eq q r) [
+      | inl same ↦ s.queues q ∙ ap (λ p. (k.ring p).queue) same ∙ sym l.queue ∙ ap (λ v. v.queue) (sym l.here) ∙ ap (λ p. (m.ring p).queue) (sym same)
+      | inr other ↦ s.queues q ∙ ap (λ v. v.queue) (sym (l.others q other))
+    ];
+    lengths = λ q. elim (cases_eq q r) [
+      | inl same ↦ s.lengths q ∙ ap (λ p. (k.ring p).lengths) same ∙ sym l.lengths ∙ ap (λ v. v.lengths) (sym l.here) ∙ ap (λ p. (m.ring p).lengths) (sym same)
+      | inr other ↦ s.lengths q ∙ ap (λ v. v.lengths) (sym (l.others q other))
+    ];
+    dequeue = s.dequeue ∙ sym l.dequeue;
+    quiet = λ a clean apart. s.quiet a (ap (λ f. f a) (sym l.soiled) ∙ clean) apart ∙ ap (λ f. f a) (sym l.memory);
+  }
+
+  module _ (u v : World) (s : RingState) (o : OnlyRing u v r s) where
+    other_ring : (q : ℕ) → q ≢ r → EndpointRing h k u q → EndpointRing h m v q
+    other_ring q other (inl bound) =
+        inl (subst (λ f. BoundRing (shape_of h q) f (m.ring q) (state_of v q) q) (sym l.ring_of)
+        (subst (λ y. BoundRing (shape_of h q) k.ring_of y (state_of v q) q) (sym (l.others q other))
+        (subst (λ y. BoundRing (shape_of h q) k.ring_of (k.ring q) y q) (sym (o.others q other)) bound)))
+    other_ring q other (inr free) =
+        inr (subst (λ f. FreeRing (shape_of h q) f (state_of v q) q) (sym l.ring_of)
+        (subst (λ y. FreeRing (shape_of h q) k.ring_of y q) (sym (o.others q other)) free))
+
+    -- an endpoint's ring, of which more is known
+    pub matches_learns : DriverKeeps h k → Matches h k u → r ≢ command_id h → BoundRing (shape_of h r) k.ring_of x s r →
+        v.under_way ≡ u.under_way → v.scribbles ≡ u.scribbles → v.looked_outside ≡ u.looked_outside → Matches h m v
+    matches_learns d y other bound under scribbles inside =
+        let command_ring : m.ring (command_id h) ≡ k.ring (command_id h) = l.others (command_id h) (λ e. other (sym e)) in
+        let command_state : state_of v (command_id h) ≡ state_of u (command_id h) = o.others (command_id h) (λ e. other (sym e)) in
+        record {
+          slots = λ q. ap (λ f. f q) o.slot_state ∙ y.slots q ∙ ap (λ f. f q) (sym l.slot_state);
+          endpoints = λ q i. ap (λ f. f q i) o.endpoint_state ∙ y.endpoints q i ∙ ap (λ f. f q i) (sym l.endpoint_state);
+          ring_of = λ q i. ap (λ f. f q i) o.ring_of ∙ y.ring_of q i ∙ ap (λ f. f q i) (sym l.ring_of);
+          rings = λ q not_command. elim (cases_eq q r) [
+            | inl same ↦ subst (λ p. EndpointRing h m v p) (sym same)
+            (inl (subst (λ f. BoundRing (shape_of h r) f (m.ring r) (state_of v r) r) (sym l.ring_of)
+            (subst (λ z. BoundRing (shape_of h r) k.ring_of z (state_of v r) r) (sym l.here)
+            (subst (λ z. BoundRing (shape_of h r) k.ring_of x z r) (sym o.here) bound))))
+            | inr apart ↦ other_ring q apart (y.rings q not_command)
+          ];
+          fresh = λ q not_command unused. let before : k.was_bound q ≡ false = ap (λ f. f q) (sym l.was_bound) ∙ unused in elim (cases_eq q r) [
+            | inl same ↦ absurd (false≢true (sym before ∙ ap k.was_bound same ∙ d.states.was_bound bound.slot bound.index r bound.bound))
+            | inr apart ↦ ap (λ z. z.events) (o.others q apart) ∙ y.fresh q not_command before
+          ];
+          before = λ off. absurd (none-some r (sym ((d.unstarted (sym l.started ∙ off)).rings bound.slot bound.index) ∙ bound.bound));
+          command = λ on. let c = y.command (sym l.started ∙ on) in record {
+            spot = c.spot;
+            ring = subst (λ z. RingMatches (shape_of h (command_id h)) z (state_of v (command_id h)) c.spot) (sym command_ring)
+            (subst (λ z. RingMatches (shape_of h (command_id h)) (k.ring (command_id h)) z c.spot) (sym command_state) c.ring);
+            under_way = subst (λ z. UnderWayMatches h m c.spot z) (sym under) (under_way_same h k m command_ring l.stop_seen c.spot u.under_way c.under_way);
+          };
+          scribbles = λ q may none. y.scribbles q (ap (λ f. f q) (sym scribbles) ∙ may) (ap (λ f. f q) (sym l.device) ∙ none);
+          contexts = λ p c a. unchanged_only h k u v r s o (address_of (shape_of h (command_id h)) p) (named_context c) (y.contexts p c (unfinished_same h k m command_ring l.stop_seen p c a));
+          inside = inside ∙ y.inside;
+        }

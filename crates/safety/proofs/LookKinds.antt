@@ -1,0 +1,139 @@
+-- The three ways in which a look ends, and what each changes
+use Rattle.std.specs.Prelude.{◌≡◌, ◌≢◌, ℕ, ◌+◌, ◌-◌, ◌%◌, ◌^◌, ◌==◌, ◌&&◌, ◌||◌, ◌⊎◌, if◌then◌else◌, Bool, true, false, not, List, ◌∷◌, Option, Some, None, is_some}
+use Rattle.std.proofs.Common.{refl, sym, ◌∙◌, ap, inl, inr, cond}
+use Rattle.std.proofs.lemmas.Bool.{cases_Bool, cond-true, cond-false, eq-eqb, ne_eqb, not-true, not-false, eqb-true, eqb-false}
+use Rattle.std.proofs.lemmas.Option.{cond_some, same_Some}
+use Rattle.guest_memory.specs.Memory.{put}
+use Rattle.trb.specs.declared.block.Block.{Block}
+use Rattle.trb.specs.Bits.{is_set}
+use Rattle.trb.specs.Block.{aligned, block_at, cycle, kind, pointer, word}
+use Rattle.trb.specs.Kind.{is_link}
+use Rattle.segments.specs.Descriptors.{declared_at}
+use Rattle.traces.specs.declared.header.Header.{Header}
+use Rattle.traces.specs.Header.{command_id, shape_of}
+use Rattle.world_state.specs.World.{World, RingEvent, Took}
+use Rattle.world_state.specs.Takes.{next_take}
+use Rattle.world_state.specs.Takes as of_takes
+use Rattle.controller_model.specs.Looks.{looked, looked_at, seen_by_look, crossed, taken, taken_on, command_begun}
+use Rattle.safety.specs.Matches.{RingState, state_of}
+use Rattle.safety.proofs.OnlyRing.{OnlyRing}
+
+pub put_at : {A : Type 0} (f : ℕ → A) (n : ℕ) (x : A) → put f n x n ≡ x
+put_at f n x = cond-true (n == n) x (f n) (eq-eqb n n refl)
+
+pub put_off : {A : Type 0} (f : ℕ → A) (n : ℕ) (x : A) (m : ℕ) → m ≢ n → put f n x m ≡ f m
+put_off f n x m other = cond-false (m == n) x (f m) (ne_eqb m n other)
+
+pub cond_is : {A : Type 0} (b : Bool) (x y z : A) → cond b x y ≡ z → ((b ≡ true) × (x ≡ z)) ⊎ ((b ≡ false) × (y ≡ z))
+cond_is true x y z at = inl (refl, at)
+cond_is false x y z at = inr (refl, at)
+
+chosen_at : (t : Bool) (f g : ℕ → ℕ) (n : ℕ) → (if t then f else g) n ≡ (if t then f n else g n)
+chosen_at true f g n = refl
+chosen_at false f g n = refl
+
+-- the block that is looked at
+abbrev pub seen : World → ℕ → Block
+seen w r = block_at w.memory (w.pointer_of r)
+
+pub record Waits (h : Header) (w v : World) (r : ℕ) : Type 0 where
+  pub is : seen_by_look h w r ≡ v
+
+pub record Crosses (h : Header) (w v : World) (r : ℕ) : Type 0 where
+  pub cycle_is : cycle (seen w r) ≡ w.cycle_state r
+  pub link : is_link (kind (seen w r)) ≡ true
+  pub is : crossed h (seen_by_look h w r) r (seen w r) ≡ v
+
+pub record TakesBlock (h : Header) (w v : World) (r : ℕ) : Type 0 where
+  pub cycle_is : cycle (seen w r) ≡ w.cycle_state r
+  pub link : is_link (kind (seen w r)) ≡ false
+  pub free : (r == command_id h && is_some w.under_way) ≡ false
+  pub is : taken h (seen_by_look h w r) r (seen w r) ≡ v
+
+abbrev pub LookEnds : Header → World → World → ℕ → Type 0
+LookEnds h w v r = Waits h w v r ⊎ Crosses h w v r ⊎ TakesBlock h w v r
+
+none_is : {A : Type 0} (x : A) → None ≡ Some x → ⊥
+none_is x e = cc
+
+looked_at_is : (h : Header) (w v : World) (r : ℕ) → looked_at h w r (seen w r) ≡ Some v → LookEnds h w v r
+unfolding looked_at
+looked_at_is h w v r at =
+    elim (cond_is (not (cycle (seen w r) == w.cycle_state r)) _ _ (Some v) at) [
+      | inl waits ↦ inl (record { is = same_Some (seen_by_look h w r) v waits.1 })
+      | inr on ↦
+          let same = eqb-true (cycle (seen w r)) (w.cycle_state r) (not-false (cycle (seen w r) == w.cycle_state r) on.0) in
+          elim (cond_is (is_link (kind (seen w r))) _ _ (Some v) on.1) [
+            | inl link ↦ inr (inl (record { cycle_is = same; link = link.0; is = same_Some (crossed h (seen_by_look h w r) r (seen w r)) v link.1 }))
+            | inr block ↦
+                elim (cond_is (r == command_id h && is_some w.under_way) _ _ (Some v) block.1) [
+                  | inl busy ↦ absurd (none_is v busy.1)
+                  | inr free ↦ inr (inr (record { cycle_is = same; link = block.0; free = free.0; is = same_Some (taken h (seen_by_look h w r) r (seen w r)) v free.1 }))
+                ]
+          ]
+    ]
+
+pub looked_is : (h : Header) (w v : World) (r : ℕ) → looked h w r ≡ Some v → (w.is_active r ≡ true) × LookEnds h w v r
+unfolding looked
+looked_is h w v r at =
+    elim (cond_is (w.is_active r) _ _ (Some v) at) [
+      | inl on ↦ (on.0, looked_at_is h w v r on.1)
+      | inr off ↦ absurd (none_is v off.1)
+    ]
+
+-- ---- what each changes
+
+state_eq : (p q c d : ℕ) (a : Bool) (e f : List RingEvent) (n : ℕ) → p ≡ q → c ≡ d → e ≡ f →
+    ◌≡◌ {A = RingState} (record { pointer = p; cycle = c; active = a; events = e; reported = n }) (record { pointer = q; cycle = d; active = a; events = f; reported = n })
+state_eq p q c d a e f n x y z = cc
+
+module _ (h : Header) (w : World) (r : ℕ) where
+  pub only_seen : OnlyRing w (seen_by_look h w r) r (state_of w r)
+  unfolding seen_by_look
+  only_seen = record {
+    here = refl; others = λ q other. refl; steps = refl; started = refl; stopped = refl; register = refl; memory = refl; changed = refl; written = refl;
+    queue = refl; lengths = refl; slot_state = refl; endpoint_state = refl; ring_of = refl; posted = refl; reads = refl; dequeue = refl;
+  }
+
+  -- the pointer and the cycle state behind a Link
+  abbrev pub behind_link : Block → RingState
+  behind_link b = record (state_of w r) { pointer = aligned (pointer b); cycle = if is_set (word b 3) 1 then 1 - w.cycle_state r else w.cycle_state r }
+
+  pub only_crossed : (b : Block) → OnlyRing w (crossed h (seen_by_look h w r) r b) r (behind_link b)
+  unfolding seen_by_look crossed
+  only_crossed b = record {
+    here = state_eq _ _ _ _ (w.is_active r) (w.events r) (w.events r) (w.reported r) (put_at w.pointer_of r (aligned (pointer b)))
+    (chosen_at (is_set (word b 3) 1) (put w.cycle_state r (1 - w.cycle_state r)) w.cycle_state r ∙ ap (λ n. if is_set (word b 3) 1 then n else w.cycle_state r) (put_at w.cycle_state r (1 - w.cycle_state r))) refl;
+    others = λ q other. state_eq _ _ _ _ (w.is_active q) (w.events q) (w.events q) (w.reported q) (put_off w.pointer_of r (aligned (pointer b)) q other)
+    (chosen_at (is_set (word b 3) 1) (put w.cycle_state r (1 - w.cycle_state r)) w.cycle_state q ∙ ap (λ n. if is_set (word b 3) 1 then n else w.cycle_state q) (put_off w.cycle_state r (1 - w.cycle_state r) q other)
+    ∙ both_same (is_set (word b 3) 1) (w.cycle_state q)) refl;
+    steps = refl; started = refl; stopped = refl; register = refl; memory = refl; changed = refl; written = refl;
+    queue = refl; lengths = refl; slot_state = refl; endpoint_state = refl; ring_of = refl; posted = refl; reads = refl; dequeue = refl;
+  }
+    where
+      both_same : (t : Bool) (n : ℕ) → (if t then n else n) ≡ n
+      both_same true n = refl
+      both_same false n = refl
+
+  -- the pointer behind a taken block
+  abbrev pub behind_block : Block → RingState
+  behind_block b = record (state_of w r) {
+    pointer = (w.pointer_of r + 16) % 2 ^ 64;
+    events = Took (w.pointer_of r) b (declared_at (w.queue r) (w.lengths r) (next_take (shape_of h r) (w.events r))) ∷ w.events r;
+  }
+
+  pub only_taken : (b : Block) → OnlyRing w (taken_on h (seen_by_look h w r) r b) r (behind_block b)
+  unfolding seen_by_look taken_on of_takes.declared_next
+  only_taken b = record {
+    here = state_eq _ _ _ _ (w.is_active r) _ _ (w.reported r) (put_at w.pointer_of r ((w.pointer_of r + 16) % 2 ^ 64)) refl (put_at w.events r _);
+    others = λ q other. state_eq _ _ _ _ (w.is_active q) _ _ (w.reported q) (put_off w.pointer_of r ((w.pointer_of r + 16) % 2 ^ 64) q other) refl (put_off w.events r _ q other);
+    steps = refl; started = refl; stopped = refl; register = refl; memory = refl; changed = refl; written = refl;
+    queue = refl; lengths = refl; slot_state = refl; endpoint_state = refl; ring_of = refl; posted = refl; reads = refl; dequeue = refl;
+  }
+
+  pub only_begun : (u : World) (s : RingState) (a : ℕ) (b : Block) → OnlyRing w u r s → OnlyRing w (command_begun h u a b) r s
+  unfolding command_begun
+  only_begun u s a b o = record {
+    here = o.here; others = o.others; steps = o.steps; started = o.started; stopped = o.stopped; register = o.register; memory = o.memory; changed = o.changed; written = o.written;
+    queue = o.queue; lengths = o.lengths; slot_state = o.slot_state; endpoint_state = o.endpoint_state; ring_of = o.ring_of; posted = o.posted; reads = o.reads; dequeue = o.dequeue;
+  }

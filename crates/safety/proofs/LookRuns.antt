@@ -1,0 +1,48 @@
+-- Behind a look the run goes on
+use Rattle.std.specs.Prelude.{◌≡◌, ◌≢◌, ℕ, true, false, List, Some}
+use Rattle.std.proofs.Common.{sym, ◌∙◌, ap, subst, inl, inr}
+use Rattle.std.proofs.lemmas.Bool.{cases_Bool, cases_eq, false≢true}
+use Rattle.trb.specs.declared.block.Block.{Block}
+use Rattle.traces.specs.declared.header.Header.{Header}
+use Rattle.traces.specs.declared.row.Row.{Row}
+use Rattle.traces.specs.Header.{IsHeader, command_id}
+use Rattle.world_state.specs.World.{World}
+use Rattle.controller_model.specs.Looks.{looked}
+use Rattle.controller_model.specs.Steps.{counted}
+use Rattle.ring_knowledge.specs.Known.{Known}
+use Rattle.ring_knowledge.specs.Learned.{known}
+use Rattle.safety.specs.Keeps.{DriverKeeps}
+use Rattle.safety.specs.Matches.{Agrees}
+use Rattle.safety.specs.Invariant.{Runs, reading}
+use Rattle.safety.proofs.LookKinds.{LookEnds, looked_is}
+use Rattle.safety.proofs.Look.{transfer_looks}
+use Rattle.safety.proofs.LookCommand.{command_looks}
+
+module _ (h : Header) (is : IsHeader h) (k : Known) (unread : List Block) (w : World) (d : DriverKeeps h k) (g : Agrees h k unread w) where
+  command_agrees : (v : World) → looked h w (command_id h) ≡ Some v → Agrees h k unread (counted h v)
+  command_agrees v at =
+      let l = looked_is h w v (command_id h) at in
+      elim (cases_Bool k.started) [
+        | inl on ↦ command_looks h is k unread w d g on v l.0 l.1
+        | inr off ↦ absurd (false≢true (sym (g.matches.before off).inactive ∙ l.0))
+      ]
+
+  transfer_agrees : (v : World) (r : ℕ) → r ≢ command_id h → looked h w r ≡ Some v → Agrees h k unread (counted h v)
+  transfer_agrees v r other at =
+      let l = looked_is h w v r at in
+      elim (g.matches.rings r other) [
+        | inl bound ↦ transfer_looks h is k unread w d g r other bound l.0 v l.1
+        | inr free ↦ absurd (false≢true (sym free.rests.inactive ∙ l.0))
+      ]
+
+  look_agrees : (v : World) (r : ℕ) → looked h w r ≡ Some v → Agrees h k unread (counted h v)
+  look_agrees v r at =
+      elim (cases_eq r (command_id h)) [
+        | inl command ↦ command_agrees v (ap (λ q. looked h w q) (sym command) ∙ at)
+        | inr other ↦ transfer_agrees v r other at
+      ]
+
+pub look_runs : (h : Header) → IsHeader h → (past : List Row) (w v : World) (r : ℕ) → (run : Runs h past w) → DriverKeeps h (known h (reading run.unread past)) →
+    looked h w r ≡ Some v → Runs h past (counted h v)
+look_runs h is past w v r run d at =
+    record { unread = run.unread; clean = run.clean; on = run.on; agrees = look_agrees h is (known h (reading run.unread past)) run.unread w d run.agrees v r at }

@@ -1,0 +1,191 @@
+-- One ring behind a look: a Link that is followed, a block that is taken
+use Rattle.std.specs.Prelude.{◌≡◌, ℕ, suc, zero, ◌+◌, ◌-◌, ◌*◌, ◌<◌, ◌≤◌, ◌==◌, ◌&&◌, ◌||◌, ◌⊎◌, if◌then◌else◌, Bool, true, false, not, List, [], ◌∷◌, ◌++◌, length, drop, map, Option, Some, None}
+use Rattle.std.specs.List.{range_with_len}
+use Rattle.std.proofs.Common.{arith, refl, sym, ◌∙◌, ap, inl, inr, length-append}
+use Rattle.std.proofs.lemmas.Bool.{cases_Bool, false≢true, cond-true, cond-false, or_parts, or_from, or_left, or_right, not_from_true, not_from_false, not-false, eqb-true, eq-eqb, and_from}
+use Rattle.std.proofs.lemmas.List.FromFn.{map-range_with_len_more}
+use Rattle.trb.specs.declared.ring_kind.RingKind.TheVariants.{Evt}
+use Rattle.trb.specs.declared.block.Block.{Block}
+use Rattle.trb.specs.Bits.{is_set}
+use Rattle.trb.specs.Block.{aligned, block_at, kind, pointer, same_words, with_cycle, word}
+use Rattle.trb.specs.Kind.{is_link}
+use Rattle.segments.specs.declared.spot.Spot.{Spot}
+use Rattle.segments.specs.declared.spot.Spot.TheVariants.{Data, Link}
+use Rattle.segments.specs.ShapeValue.{Shape}
+use Rattle.segments.specs.Places.{address_of, cycle_of, is_crossing, link_crossed, link_target, toggles}
+use Rattle.segments.specs.Spots.{rank, number, after, next, spot_address, spot_cycle}
+use Rattle.segments.specs.Shape.{IsShape}
+use Rattle.segments.specs.Descriptors.{DeclaredBlock, declared_at, is_border}
+use Rattle.segments.specs.RingView.{RingView, floor_number}
+use Rattle.segments.specs.Ceiling.{ceiling, is_way_given}
+use Rattle.segments.specs.Givings.{is_wrong_link, same}
+use Rattle.segments.proofs.Crossings.{cycle_of-crossed, link_target-crossed}
+use Rattle.segments.proofs.SpotOrder.{rank_most, next_is_spot, next_later, spot_address-after, spot_cycle-after, rank_least}
+use Rattle.world_state.specs.World.{RingEvent, Took, Placed}
+use Rattle.world_state.specs.Takes.{takes_of, next_take, was_placed, is_as_declared}
+use Rattle.world_state.specs.Harms.{is_right_place, is_out_of_order, has_other_words}
+use Rattle.safety.specs.Matches.{Newest, RingState, RingMatches, Unreported}
+use Rattle.safety.proofs.AtSpots.{Takeable, Crossable}
+use Rattle.safety.proofs.NoWait.{declared_some}
+
+-- ---- a Link that leads on
+
+same_is : (a b : Bool) → same a b ≡ true → a ≡ b
+same_is true true h = refl
+same_is true false h = absurd (false≢true h)
+same_is false true h = absurd (false≢true h)
+same_is false false h = refl
+
+pub record LeadsOn (shape : Shape) (i : ℕ) (b : Block) : Type 0 where
+  pub target : aligned (pointer b) ≡ link_target shape i
+  pub is_link : is_link (kind b) ≡ true
+  pub toggles_is : is_set (word b 3) 1 ≡ toggles shape i
+
+pub leads_on : (shape : Shape) (i : ℕ) (b : Block) → is_wrong_link shape i b ≡ false → LeadsOn shape i b
+unfolding is_wrong_link
+leads_on shape i b right =
+    let p = or_parts _ _ right in
+    let q = or_parts _ _ p.0 in
+    record {
+      target = eqb-true (aligned (pointer b)) (link_target shape i) (not-false (aligned (pointer b) == link_target shape i) q.0);
+      is_link = not-false (is_link (kind b)) q.1;
+      toggles_is = same_is (is_set (word b 3) 1) (toggles shape i) (not-false (same (is_set (word b 3) 1) (toggles shape i)) p.1);
+    }
+
+way_crossed : (shape : Shape) (v : RingView) (q : ℕ) → v.crossed q ≡ true → is_way_given shape v q ≡ true
+unfolding is_way_given
+way_crossed shape v q given = or_right (not (is_crossing shape q)) (v.crossed q) given
+
+way_plain : (shape : Shape) (v : RingView) (q : ℕ) → is_crossing shape q ≡ false → is_way_given shape v q ≡ true
+unfolding is_way_given
+way_plain shape v q none = or_left (not (is_crossing shape q)) (v.crossed q) (not_from_false (is_crossing shape q) none)
+
+same_number : (p q : ℕ) → Data p ≡ Data q → p ≡ q
+same_number p q e = cc
+
+link_not_data : (p q : ℕ) → Link p ≡ Data q → ⊥
+link_not_data p q e = cc
+
+module _ (shape : Shape) (is : IsShape shape) (memory : ℕ → ℕ) (v : RingView) (s : RingState) (q : ℕ) where
+  -- the pointer has followed the Link on the way to position q
+  pub crossed_matches : RingMatches shape v s (Link q) → (c : Crossable shape memory v q) (p n : ℕ) → p ≡ link_target shape c.link →
+      n ≡ (if toggles shape c.link then 1 - s.cycle else s.cycle) → RingMatches shape v (record s { pointer = p; cycle = n }) (Data q)
+  crossed_matches m c p n leads turned =
+      let turn = cycle_of-crossed shape is q c.link c.crosses in
+      record {
+        is_spot = refl;
+        pointer = leads ∙ sym (link_target-crossed shape is q c.link c.crosses);
+        cycle = turned ∙ ap (λ x. if toggles shape c.link then 1 - x else x) m.cycle ∙ sym turn;
+        reached = omega (arith, m.reached);
+        below = m.below;
+        way = λ p e. ap (λ x. is_way_given shape v x) (sym (same_number q p e)) ∙ way_crossed shape v q c.given;
+        opened = m.opened;
+        next = m.next;
+        newest = m.newest;
+        in_order = m.in_order;
+        as_declared = m.as_declared;
+      }
+
+  pub crossed_unreported : Unreported shape v s (Link q) → (p n : ℕ) → Unreported shape v (record s { pointer = p; cycle = n }) (Data q)
+  crossed_unreported u p n = record { takes = u.takes; most = u.most }
+
+-- ---- a block that is taken
+
+pub number_after : (shape : Shape) (p : ℕ) → number (after shape p) ≡ p + 1
+number_after shape p =
+    elim (cases_Bool (is_crossing shape (p + 1))) [
+      | inl link ↦ ap number (cond-true (is_crossing shape (p + 1)) (Link (p + 1)) (Data (p + 1)) link)
+      | inr none ↦ ap number (cond-false (is_crossing shape (p + 1)) (Link (p + 1)) (Data (p + 1)) none)
+    ]
+
+way_after : (shape : Shape) (v : RingView) (p q : ℕ) → after shape p ≡ Data q → is_way_given shape v q ≡ true
+way_after shape v p q e =
+    elim (cases_Bool (is_crossing shape (p + 1))) [
+      | inl link ↦ absurd (link_not_data (p + 1) q (sym (cond-true (is_crossing shape (p + 1)) (Link (p + 1)) (Data (p + 1)) link) ∙ e))
+      | inr none ↦
+          let at = same_number (p + 1) q (sym (cond-false (is_crossing shape (p + 1)) (Link (p + 1)) (Data (p + 1)) none) ∙ e) in
+          ap (λ x. is_way_given shape v x) (sym at) ∙ way_plain shape v (p + 1) none
+    ]
+
+placed_begins : (v : RingView) (n : ℕ) (events : List RingEvent) → Newest v n events → was_placed events ≡ true → is_border v.lengths 0 n ≡ true
+unfolding was_placed
+placed_begins v n [] newest placed = newest
+placed_begins v n (Placed a ∷ older) newest placed = newest
+placed_begins v n (Took a b d ∷ older) newest placed = absurd (false≢true placed)
+
+next_behind : (shape : Shape) (a : ℕ) (b : Block) (d : Option DeclaredBlock) (older : List RingEvent) → next_take shape (Took a b d ∷ older) ≡ next_take shape older + 1
+unfolding next_take
+next_behind shape a b d older = refl
+
+right_place : (first : Bool) (d : DeclaredBlock) → (first ≡ true → d.begins ≡ true) → is_right_place first (Some d) ≡ true
+unfolding is_right_place
+right_place true d begins = begins refl
+right_place false d begins = refl
+
+order_kept : (shape : Shape) (a : ℕ) (b : Block) (d : Option DeclaredBlock) (older : List RingEvent) → is_right_place (was_placed older) d ≡ true →
+    address_of shape (next_take shape older) ≡ a → is_out_of_order shape older ≡ false → is_out_of_order shape (Took a b d ∷ older) ≡ false
+unfolding is_out_of_order
+order_kept shape a b d older right here rest =
+    or_from _ _ (or_from _ _ (not_from_true (is_right_place (was_placed older) d) right)
+    (not_from_true (address_of shape (next_take shape older) == a) (eq-eqb (address_of shape (next_take shape older)) a here))) rest
+
+words_itself : (b : Block) → same_words b b ≡ true
+words_itself b =
+    and_from _ _ (and_from _ _ (and_from _ _ (eq-eqb (word b 0) (word b 0) refl) (eq-eqb (word b 1) (word b 1) refl)) (eq-eqb (word b 2) (word b 2) refl)) (eq-eqb (word b 3) (word b 3) refl)
+
+words_kept : (shape : Shape) (a : ℕ) (b : Block) (d : DeclaredBlock) (older : List RingEvent) → b ≡ with_cycle d.block (cycle_of shape (next_take shape older)) →
+    has_other_words shape older ≡ false → has_other_words shape (Took a b (Some d) ∷ older) ≡ false
+unfolding has_other_words is_as_declared
+words_kept shape a b d older is rest =
+    or_from _ _ (not_from_true (same_words b (with_cycle d.block (cycle_of shape (next_take shape older)))) (ap (λ x. same_words b x) (sym is) ∙ words_itself b)) rest
+
+drop_more : (n : ℕ) (xs : List ℕ) (y : ℕ) → n ≤ length xs → drop n (xs ++ y ∷ []) ≡ drop n xs ++ y ∷ []
+drop_more zero xs y h = refl
+drop_more (suc n) [] y h = absurd (omega arith)
+drop_more (suc n) (x ∷ xs) y h = drop_more n xs y (omega arith)
+
+takes_more : (a : ℕ) (b : Block) (d : Option DeclaredBlock) (older : List RingEvent) → takes_of (Took a b d ∷ older) ≡ takes_of older ++ a ∷ []
+unfolding takes_of
+takes_more a b d older = refl
+
+module _ (shape : Shape) (is : IsShape shape) (other : shape.kind ≡ Evt → ⊥) (memory : ℕ → ℕ) (v : RingView) (s : RingState) (q : ℕ) where
+  -- the block of position q was taken
+  pub taken_matches : (m : RingMatches shape v s (Data q)) (t : Takeable shape memory v q) (p : ℕ) (b : Block) → p ≡ address_of shape q + 16 →
+      b ≡ block_at memory (address_of shape q) → q + 1 ≤ ceiling shape v →
+      RingMatches shape v (record s { pointer = p; events = Took s.pointer b (declared_at v.queue v.lengths q) ∷ s.events }) (after shape q)
+  taken_matches m t p b behind found high =
+      let d : DeclaredBlock = record { block = t.block; begins = is_border v.lengths 0 q; ends = is_border v.lengths 0 (q + 1) } in
+      let here : declared_at v.queue v.lengths q ≡ Some d = declared_some v.queue v.lengths q t.block t.queued in
+      let at : number (after shape q) ≡ q + 1 = number_after shape q in
+      let last : number (after shape q) - 1 ≡ q = omega arith in
+      record {
+        is_spot = next_is_spot shape (Data q);
+        pointer = behind ∙ sym (spot_address-after shape is other q);
+        cycle = m.cycle ∙ sym (spot_cycle-after shape is other q);
+        reached = let later = next_later shape (Data q) in omega (arith, m.reached);
+        below = omega arith;
+        way = λ n e. way_after shape v q n e;
+        opened = m.opened;
+        next = next_behind shape s.pointer b (declared_at v.queue v.lengths q) s.events ∙ ap (λ n. n + 1) m.next ∙ sym at;
+        newest = (omega arith, ap (λ n. declared_at v.queue v.lengths n) (sym last));
+        in_order = ap (λ o. is_out_of_order shape (Took s.pointer b o ∷ s.events)) here
+        ∙ order_kept shape s.pointer b (Some d) s.events (right_place (was_placed s.events) d (placed_begins v q s.events m.newest))
+        (ap (λ n. address_of shape n) m.next ∙ sym m.pointer) m.in_order;
+        as_declared = ap (λ o. has_other_words shape (Took s.pointer b o ∷ s.events)) here
+        ∙ words_kept shape s.pointer b d s.events (found ∙ t.stands ∙ ap (λ n. with_cycle t.block (cycle_of shape n)) (sym m.next)) m.as_declared;
+      }
+
+  pub taken_unreported : RingMatches shape v s (Data q) → Unreported shape v s (Data q) → (p : ℕ) (b : Block) (d : Option DeclaredBlock) →
+      Unreported shape v (record s { pointer = p; events = Took s.pointer b d ∷ s.events }) (after shape q)
+  taken_unreported m u p b d =
+      let at : number (after shape q) ≡ q + 1 = number_after shape q in
+      let low : floor_number v ≤ q = omega (arith, m.reached, rank_least v.floor) in
+      let more : number (after shape q) - floor_number v ≡ q - floor_number v + 1 = omega arith in
+      let grown : length (takes_of (Took s.pointer b d ∷ s.events)) ≡ length (takes_of s.events) + 1 = ap length (takes_more s.pointer b d s.events) ∙ length-append (takes_of s.events) (s.pointer ∷ []) in
+      record {
+        takes = ap (λ l. drop s.reported l) (takes_more s.pointer b d s.events) ∙ drop_more s.reported (takes_of s.events) s.pointer u.most
+        ∙ ap (λ l. l ++ s.pointer ∷ []) u.takes ∙ ap (λ a. map (address_of shape) (range_with_len (floor_number v) (q - floor_number v)) ++ a ∷ []) m.pointer
+        ∙ sym (map-range_with_len_more (address_of shape) (floor_number v) (q - floor_number v) q (omega arith))
+        ∙ ap (λ n. map (address_of shape) (range_with_len (floor_number v) n)) (sym more);
+        most = omega (arith, u.most);
+      }

@@ -1,0 +1,125 @@
+-- A world in which one ring alone has changed: all else that is said of it stays
+use Rattle.std.specs.Prelude.{◌≡◌, ◌≢◌, ℕ, ◌+◌, ◌⊎◌, ◌*◌, true, false, List, length, Option, Some, None}
+use Rattle.std.proofs.Common.{arith, refl, sym, ◌∙◌, ap, subst, inl, inr}
+use Rattle.std.proofs.lemmas.Bool.{cases_eq, false≢true}
+use Rattle.std.proofs.lemmas.Option.{none-some}
+use Rattle.trb.specs.declared.block.Block.{Block}
+use Rattle.trb.specs.Block.{block_at}
+use Rattle.segments.specs.Places.{address_of}
+use Rattle.commands.specs.declared.command.Command.{Command}
+use Rattle.commands.specs.declared.state.SlotState.{SlotState}
+use Rattle.commands.specs.declared.state.EndpointState.{EndpointState}
+use Rattle.commands.specs.Command.{named_context}
+use Rattle.traces.specs.declared.header.Header.{Header}
+use Rattle.traces.specs.declared.register.Register.{Register}
+use Rattle.traces.specs.Header.{shape_of, command_id, event_shape, event_size}
+use Rattle.event_ring.specs.EventRing.{AreInOrder}
+use Rattle.world_state.specs.World.{World, event_at}
+use Rattle.ring_knowledge.specs.Known.{Known}
+use Rattle.safety.specs.Keeps.{DriverKeeps, IsUnfinished}
+use Rattle.safety.specs.Stands.{Stands, EventsStand}
+use Rattle.safety.specs.Matches.{RingState, state_of, RingMatches, BoundRing, FreeRing, EndpointRing, CommandMatches, UnderWayMatches, IsUnchanged, Matches}
+use Rattle.safety.proofs.Stored.{Late}
+
+pub record OnlyRing (w v : World) (r : ℕ) (s : RingState) : Type 0 where
+  pub here : state_of v r ≡ s
+  pub others : (q : ℕ) → q ≢ r → state_of v q ≡ state_of w q
+  pub steps : v.steps ≡ w.steps
+  pub started : v.started ≡ w.started
+  pub stopped : v.stopped ≡ w.stopped
+  pub register : v.register ≡ w.register
+  pub memory : v.memory ≡ w.memory
+  pub changed : v.changed ≡ w.changed
+  pub written : v.written ≡ w.written
+  pub queue : v.queue ≡ w.queue
+  pub lengths : v.lengths ≡ w.lengths
+  pub slot_state : v.slot_state ≡ w.slot_state
+  pub endpoint_state : v.endpoint_state ≡ w.endpoint_state
+  pub ring_of : v.ring_of ≡ w.ring_of
+  pub posted : v.posted ≡ w.posted
+  pub reads : v.reads ≡ w.reads
+  pub dequeue : v.dequeue ≡ w.dequeue
+
+module _ (h : Header) (k : Known) (w v : World) (r : ℕ) (s : RingState) (o : OnlyRing w v r s) where
+  pub stands_only : Stands h k w → Stands h k v
+  stands_only x = record {
+    started = o.started ∙ x.started;
+    stopped = o.stopped ∙ x.stopped;
+    registers = λ q. ap (λ f. f q) o.register ∙ x.registers q;
+    queues = λ q. ap (λ f. f q) o.queue ∙ x.queues q;
+    lengths = λ q. ap (λ f. f q) o.lengths ∙ x.lengths q;
+    dequeue = o.dequeue ∙ x.dequeue;
+    quiet = λ a clean apart. ap (λ f. f a) o.memory ∙ x.quiet a clean apart;
+  }
+
+  event_same : (p : ℕ) → event_at h v p ≡ event_at h w p
+  unfolding event_at
+  event_same p = ap (λ m. block_at m (address_of (event_shape h) p)) o.memory
+
+  pub events_only : (unread : List Block) → EventsStand h w unread → EventsStand h v unread
+  events_only unread x = record {
+    order = record { dequeued = omega (arith, x.order.dequeued, o.dequeue, o.reads); read = omega (arith, x.order.read, o.posted, o.reads); room = λ some. let high = x.order.room (omega (arith, o.posted)) in omega (arith, o.posted, o.dequeue) };
+    count = o.posted ∙ x.count ∙ ap (λ n. n + length unread) (sym o.reads);
+    places = λ i e at. ap (λ n. event_at h v (n + i)) o.reads ∙ event_same (w.reads + i) ∙ x.places i e at;
+    started = λ some. o.started ∙ x.started (omega (arith, o.posted));
+    ring = λ some. x.ring (omega (arith, o.posted));
+  }
+
+  pub late_only : Late w → Late v
+  late_only late a = omega (arith, ap (λ f. f a) o.changed, o.steps, late a)
+
+  pub read_only : w.posted ≡ k.reads → v.posted ≡ k.reads
+  read_only read = o.posted ∙ read
+
+  pub unchanged_only : (at : ℕ) (c : Option ℕ) → IsUnchanged h w at c → IsUnchanged h v at c
+  unchanged_only at None same = tt
+  unchanged_only at (Some c) same = λ i l. let kept = same i l in omega (arith, ap (λ f. f (c + 4 * i)) o.changed, ap (λ f. f (at + 12)) o.written)
+
+  other_ring : (q : ℕ) → q ≢ r → EndpointRing h k w q → EndpointRing h k v q
+  other_ring q other (inl bound) = inl (subst (λ x. BoundRing (shape_of h q) k.ring_of (k.ring q) x q) (sym (o.others q other)) bound)
+  other_ring q other (inr free) = inr (subst (λ x. FreeRing (shape_of h q) k.ring_of x q) (sym (o.others q other)) free)
+
+  -- where an endpoint's ring has changed
+  pub matches_transfer : DriverKeeps h k → Matches h k w → r ≢ command_id h → BoundRing (shape_of h r) k.ring_of (k.ring r) s r →
+      v.under_way ≡ w.under_way → v.scribbles ≡ w.scribbles → v.looked_outside ≡ false → Matches h k v
+  matches_transfer d m other bound under scribbles inside =
+      let command_same : state_of v (command_id h) ≡ state_of w (command_id h) = o.others (command_id h) (λ e. other (sym e)) in
+      record {
+        slots = λ q. ap (λ f. f q) o.slot_state ∙ m.slots q;
+        endpoints = λ q i. ap (λ f. f q i) o.endpoint_state ∙ m.endpoints q i;
+        ring_of = λ q i. ap (λ f. f q i) o.ring_of ∙ m.ring_of q i;
+        rings = λ q not_command. elim (cases_eq q r) [
+          | inl same ↦ subst (λ x. EndpointRing h k v x) (sym same) (inl (subst (λ x. BoundRing (shape_of h r) k.ring_of (k.ring r) x r) (sym o.here) bound))
+          | inr apart ↦ other_ring q apart (m.rings q not_command)
+        ];
+        fresh = λ q not_command unused. elim (cases_eq q r) [
+          | inl same ↦ absurd (false≢true (sym unused ∙ ap k.was_bound same ∙ d.states.was_bound bound.slot bound.index r bound.bound))
+          | inr apart ↦ ap (λ x. x.events) (o.others q apart) ∙ m.fresh q not_command unused
+        ];
+        before = λ off. absurd (none-some r (sym ((d.unstarted off).rings bound.slot bound.index) ∙ bound.bound));
+        command = λ on. let c = m.command on in record {
+          spot = c.spot;
+          ring = subst (λ x. RingMatches (shape_of h (command_id h)) (k.ring (command_id h)) x c.spot) (sym command_same) c.ring;
+          under_way = subst (λ x. UnderWayMatches h k c.spot x) (sym under) c.under_way;
+        };
+        scribbles = λ q on. m.scribbles q (ap (λ f. f q) (sym scribbles) ∙ on);
+        contexts = λ p c u. unchanged_only (address_of (shape_of h (command_id h)) p) (named_context c) (m.contexts p c u);
+        inside = inside;
+      }
+
+  -- where the command ring has
+  pub matches_command : Matches h k w → r ≡ command_id h → k.started ≡ true → CommandMatches h k v →
+      ((q : ℕ) → v.scribbles q ≡ true → k.device q ≢ None) → v.looked_outside ≡ false → Matches h k v
+  matches_command m command on new scribbles inside =
+      record {
+        slots = λ q. ap (λ f. f q) o.slot_state ∙ m.slots q;
+        endpoints = λ q i. ap (λ f. f q i) o.endpoint_state ∙ m.endpoints q i;
+        ring_of = λ q i. ap (λ f. f q i) o.ring_of ∙ m.ring_of q i;
+        rings = λ q not_command. other_ring q (λ e. not_command (e ∙ command)) (m.rings q not_command);
+        fresh = λ q not_command unused. ap (λ x. x.events) (o.others q (λ e. not_command (e ∙ command))) ∙ m.fresh q not_command unused;
+        before = λ off. absurd (false≢true (sym off ∙ on));
+        command = λ yes. new;
+        scribbles = scribbles;
+        contexts = λ p c u. unchanged_only (address_of (shape_of h (command_id h)) p) (named_context c) (m.contexts p c u);
+        inside = inside;
+      }

@@ -1,0 +1,241 @@
+-- The controller reports that a take has succeeded: the run goes on
+use Rattle.std.specs.Prelude.{◌≡◌, ◌≢◌, ℕ, ◌+◌, ◌<◌, ◌==◌, ◌&&◌, ◌||◌, Bool, true, false, not, List, [], ◌∷◌, ◌++◌, nat_lt, drop, Option, Some, None, position, option_map}
+use Rattle.std.proofs.Common.{arith, refl, sym, ◌∙◌, ap, subst, inl, inr}
+use Rattle.std.proofs.lemmas.Bool.{cases_Bool, false≢true, and_parts, and_from, and_left, and_right, or_from, or_left, cond-true, not-true, not_from_true, not_from_false, lt-ltb}
+use Rattle.std.proofs.lemmas.Option.{none-some, same_Some, cond_some}
+use Rattle.trb.specs.declared.block.Block.{Block}
+use Rattle.trb.specs.declared.kind.BlockKind.{BlockKind}
+use Rattle.trb.specs.declared.kind.BlockKind.TheVariants as kinds
+use Rattle.trb.specs.Bits.{is_set}
+use Rattle.trb.specs.Block.{IsBlock, code, endpoint, kind, pointer, slot, word}
+use Rattle.trb.specs.Kind.{is_event, is_transfer_event, is_command_completion, is_other_event}
+use Rattle.trb.specs.CompletionCode.{is_success, is_halting, is_trb_error, is_stopping, is_transfer_code}
+use Rattle.segments.specs.declared.spot.Spot.{Spot}
+use Rattle.segments.specs.declared.spot.Spot.TheVariants.{Data}
+use Rattle.segments.specs.Spots.{after, number}
+use Rattle.segments.specs.RingView.{RingView, Reaches, floor_number}
+use Rattle.segments.specs.Ceiling.{ceiling, named, is_data_below}
+use Rattle.commands.specs.declared.state.EndpointState.{EndpointState}
+use Rattle.commands.specs.declared.state.EndpointState.TheVariants.{Disabled as Off, Running, Halted, Stopped, Error}
+use Rattle.commands.specs.States.{is_off}
+use Rattle.traces.specs.declared.header.Header.{Header}
+use Rattle.traces.specs.declared.row.Row.{Row}
+use Rattle.traces.specs.declared.row.Row.TheVariants.{Read}
+use Rattle.traces.specs.Header.{IsHeader, shape_of, command_id}
+use Rattle.world_state.specs.World.{World, RingEvent}
+use Rattle.world_state.specs.Takes.{takes_of, unreported}
+use Rattle.world_state.specs.World as of_world
+use Rattle.controller_model.specs.Posts.{can_post, posted, with_reported, report_success, report_code, reported_on, reported}
+use Rattle.controller_model.specs.Steps.{counted}
+use Rattle.ring_knowledge.specs.Known.{Known}
+use Rattle.ring_knowledge.specs.Learned.{event_read, learned, known}
+use Rattle.ring_knowledge.specs.Rings.{RingSpot, event_at, on_ring, spot_on}
+use Rattle.ring_knowledge.specs.Transfers.{passed, transferred, transferred_at, transfer_read}
+use Rattle.ownership_rules.specs.Rules.{broken}
+use Rattle.ownership_rules.specs.Events.{is_in_profile, is_impossible_by_kind, is_impossible_transfer, can_report, can_report_at}
+use Rattle.safety.specs.Keeps.{DriverKeeps}
+use Rattle.safety.specs.Matches.{RingState, state_of, BoundRing, Agrees}
+use Rattle.safety.specs.Invariant.{Runs, reading}
+use Rattle.safety.proofs.Headers.{transfer_driver, transfer_not_command, ring_shape}
+use Rattle.safety.proofs.Counted.{agrees_counted}
+use Rattle.safety.proofs.WithReads.{with_reads, stands_with_reads, matches_with_reads}
+use Rattle.safety.proofs.Posted.{PostKeeps, post_keeps}
+use Rattle.safety.proofs.EventRead.{learned_read, event_clean, clean_more, known_more}
+use Rattle.safety.proofs.OnlyRing.{OnlyRing, stands_only, events_only, late_only}
+use Rattle.safety.proofs.LookKinds.{cond_is, put_at, put_off}
+use Rattle.safety.proofs.Learns.{LearnsRing, stands_learns, matches_learns}
+use Rattle.safety.proofs.ReportedRing.{Reported, open_takes, reported_is, reported_matches, reported_unreported}
+
+pub transfer_kind : (t : BlockKind) → is_transfer_event t ≡ true → t ≡ kinds.TransferEvent
+transfer_kind kinds.TransferEvent h = refl
+transfer_kind _ h = absurd (false≢true h)
+
+pub not_off : (e : EndpointState) → e ≢ Off → is_off e ≡ false
+not_off Off h = absurd (h refl)
+not_off Running h = refl
+not_off Halted h = refl
+not_off Stopped h = refl
+not_off Error h = refl
+
+mapped : {A B : Type 0} (f : A → B) (o : Option A) (y : B) → option_map f o ≡ Some y → (x : A) × (o ≡ Some x) × (f x ≡ y)
+mapped f None y at = absurd (none-some y at)
+mapped f (Some x) y at = (x, refl, same_Some (f x) y at)
+
+pub record IsReport (h : Header) (w v : World) (b : Block) : Type 0 where
+  pub can : can_post h w b ≡ true
+  pub transfer : is_transfer_event (kind b) ≡ true
+  pub no_data : is_set (word b 3) 2 ≡ false
+  pub ring : ℕ
+  pub had : w.ring_of (slot b) (endpoint b) ≡ Some ring
+  pub by_code : report_code h (posted h w b) (code b) (slot b) (endpoint b) ring (pointer b) ≡ Some v
+
+on_ring_is : (h : Header) (w v : World) (b : Block) (o : Option ℕ) → reported_on h w b o ≡ Some v → (r : ℕ) × (o ≡ Some r) × (report_code h (posted h w b) (code b) (slot b) (endpoint b) r (pointer b) ≡ Some v)
+unfolding reported_on
+on_ring_is h w v b None at = absurd (none-some v at)
+on_ring_is h w v b (Some r) at = (r, refl, at)
+
+pub report_is : (h : Header) (w v : World) (b : Block) → reported h w b ≡ Some v → IsReport h w v b
+unfolding reported
+report_is h w v b at =
+    elim (cond_is (can_post h w b && is_transfer_event (kind b) && not (is_set (word b 3) 2)) (reported_on h w b (w.ring_of (slot b) (endpoint b))) None (Some v) at) [
+      | inl on ↦
+          let p = and_parts (can_post h w b && is_transfer_event (kind b)) (not (is_set (word b 3) 2)) on.0 in
+          let q = and_parts (can_post h w b) (is_transfer_event (kind b)) p.0 in
+          let r = on_ring_is h w v b (w.ring_of (slot b) (endpoint b)) on.1 in
+          record { can = q.0; transfer = q.1; no_data = not-true (is_set (word b 3) 2) p.1; ring = r.0; had = r.1; by_code = r.2 }
+      | inr off ↦ absurd (none-some v off.1)
+    ]
+
+-- ---- a success
+
+success_is : (h : Header) (u v : World) (c s i r a : ℕ) → is_success c ≡ true → report_code h u c s i r a ≡ Some v →
+    (n : ℕ) × (position (λ b. b == a) (open_takes (state_of u r)) ≡ Some n) × (with_reported h u r (u.reported r + n + 1) ≡ v)
+unfolding report_code report_success unreported
+success_is h u v c s i r a success at =
+    mapped (λ n. with_reported h u r (u.reported r + n + 1)) (position (λ b. b == a) (drop (u.reported r) (takes_of (u.events r)))) v
+    (sym (cond-true (is_success c) (option_map (λ n. with_reported h u r (u.reported r + n + 1)) (position (λ b. b == a) (drop (u.reported r) (takes_of (u.events r))))) _ success) ∙ at)
+
+state_reported : (p c : ℕ) (a : Bool) (e : List RingEvent) (m n : ℕ) → m ≡ n →
+    ◌≡◌ {A = RingState} (record { pointer = p; cycle = c; active = a; events = e; reported = m }) (record { pointer = p; cycle = c; active = a; events = e; reported = n })
+state_reported p c a e m n x = cc
+
+only_reported : (h : Header) (u : World) (r n : ℕ) → OnlyRing u (with_reported h u r n) r (record (state_of u r) { reported = n })
+unfolding with_reported
+only_reported h u r n = record {
+  here = state_reported (u.pointer_of r) (u.cycle_state r) (u.is_active r) (u.events r) _ n (put_at u.reported r n);
+  others = λ q other. state_reported (u.pointer_of q) (u.cycle_state q) (u.is_active q) (u.events q) _ (u.reported q) (put_off u.reported r n q other);
+  steps = refl; started = refl; stopped = refl; register = refl; memory = refl; changed = refl; written = refl;
+  queue = refl; lengths = refl; slot_state = refl; endpoint_state = refl; ring_of = refl; posted = refl; reads = refl; dequeue = refl;
+}
+
+reported_under : (h : Header) (u : World) (r n : ℕ) → (with_reported h u r n).under_way ≡ u.under_way
+unfolding with_reported
+reported_under h u r n = refl
+
+reported_scribbles : (h : Header) (u : World) (r n : ℕ) → (with_reported h u r n).scribbles ≡ u.scribbles
+unfolding with_reported
+reported_scribbles h u r n = refl
+
+reported_inside : (h : Header) (u : World) (r n : ℕ) → (with_reported h u r n).looked_outside ≡ u.looked_outside
+unfolding with_reported
+reported_inside h u r n = refl
+
+-- what is known once the success of the block at a spot is read
+learns_passed : (h : Header) (k : Known) (r n : ℕ) (t : Spot) → LearnsRing k (with_reads (passed h k r t) n) r (record (k.ring r) { floor = after (shape_of h r) (number t) })
+unfolding passed on_ring
+learns_passed h k r n t = record {
+  here = put_at k.ring r _; others = λ q other. put_off k.ring r _ q other; queue = refl; lengths = refl; started = refl; stopped = refl; register = refl; memory = refl;
+  soiled = refl; device = refl; dequeue = refl; was_bound = refl; slot_state = refl; endpoint_state = refl; ring_of = refl; stop_seen = refl;
+}
+
+pub spot_named : (h : Header) (k : Known) (b : Block) (r : ℕ) (t : Spot) → k.ring_of (slot b) (endpoint b) ≡ Some r → named (shape_of h r) (k.ring r) (pointer b) ≡ Some t →
+    event_at h k b ≡ Some (record { ring = r; spot = t })
+unfolding event_at spot_on
+spot_named h k b r t had is =
+    ap (λ o. spot_on h k (pointer b) o) had ∙ ap (λ o. option_map (λ (t : Spot). let x : RingSpot = record { ring = r; spot = t } in x) o) is
+
+success_read : (h : Header) (k : Known) (b : Block) (r : ℕ) (t : Spot) → is_transfer_event (kind b) ≡ true → is_success (code b) ≡ true → event_at h k b ≡ Some (record { ring = r; spot = t }) →
+    event_read h k (kind b) b ≡ passed h k r t
+unfolding event_read transfer_read transferred_at transferred
+success_read h k b r t transfer success at =
+    ap (λ n. event_read h k n b) (transfer_kind (kind b) transfer) ∙ ap (λ o. transferred_at h k b o) at ∙ cond-true (is_success (code b)) (passed h k r t) _ success
+
+pub below_is : (n p : ℕ) → p < n → is_data_below n (Data p) ≡ true
+unfolding is_data_below
+below_is n p l = lt-ltb p n l
+
+may_report : (h : Header) (k : Known) (b : Block) (r p : ℕ) → is_success (code b) ≡ true → p < ceiling (shape_of h r) (k.ring r) → can_report_at h k b (Some (record { ring = r; spot = Data p })) ≡ true
+unfolding can_report_at can_report
+may_report h k b r p success below = cond-true (is_success (code b)) _ _ success ∙ below_is (ceiling (shape_of h r) (k.ring r)) p below
+
+success_possible : (h : Header) (k : Known) (b : Block) (r p : ℕ) → is_transfer_event (kind b) ≡ true → is_success (code b) ≡ true → event_at h k b ≡ Some (record { ring = r; spot = Data p }) →
+    p < ceiling (shape_of h r) (k.ring r) → k.endpoint_state (slot b) (endpoint b) ≢ Off → is_impossible_by_kind h k (kind b) b ≡ false
+unfolding is_impossible_by_kind is_impossible_transfer
+success_possible h k b r p transfer success at below on =
+    ap (λ n. is_impossible_by_kind h k n b) (transfer_kind (kind b) transfer)
+    ∙ and_right (is_in_profile b) (is_off (k.endpoint_state (slot b) (endpoint b)) || not (can_report_at h k b (event_at h k b)))
+    (or_from (is_off (k.endpoint_state (slot b) (endpoint b))) (not (can_report_at h k b (event_at h k b))) (not_off (k.endpoint_state (slot b) (endpoint b)) on)
+    (not_from_true (can_report_at h k b (event_at h k b)) (ap (λ o. can_report_at h k b o) at ∙ may_report h k b r p success below)))
+
+pub in_profile_is : (b : Block) → is_set (word b 3) 2 ≡ false → is_transfer_code (code b) ≡ true → is_in_profile b ≡ true
+unfolding is_in_profile
+in_profile_is b none code_is = and_from (not (is_set (word b 3) 2)) (is_transfer_code (code b)) (not_from_false (is_set (word b 3) 2) none) code_is
+
+success_code : (c : ℕ) → is_success c ≡ true → is_transfer_code c ≡ true
+success_code c success =
+    or_left (is_success c || is_halting c || is_trb_error c) (is_stopping c) (or_left (is_success c || is_halting c) (is_trb_error c) (or_left (is_success c) (is_halting c) success))
+
+-- the agreement behind the report, and that the event breaks no rule where it will be read
+pub record ReportKeeps (h : Header) (k : Known) (unread : List Block) (w v : World) (b : Block) : Type 0 where
+  pub clean : broken h k (Read b) ≡ []
+  pub agrees : Agrees h (learned h k (Read b)) (unread ++ b ∷ []) (counted h v)
+
+module _ (h : Header) (is : IsHeader h) (k : Known) (unread : List Block) (w v : World) (b : Block) (block : IsBlock b) (running : w.stopped ≡ false) (d : DriverKeeps h k) (g : Agrees h k unread w) (x : IsReport h w v b) (success : is_success (code b) ≡ true) where
+  p : PostKeeps h k unread w b
+  p = post_keeps h is k unread w b block d g x.can
+
+  had : k.ring_of (slot b) (endpoint b) ≡ Some x.ring
+  had = sym (g.matches.ring_of (slot b) (endpoint b)) ∙ x.had
+
+  other : x.ring ≢ command_id h
+  other = transfer_not_command h is x.ring (d.states.transfer (slot b) (endpoint b) x.ring had)
+
+  on_bound : BoundRing (shape_of h x.ring) k.ring_of (k.ring x.ring) (state_of (posted h w b) x.ring) x.ring → ReportKeeps h k unread w v b
+  on_bound bound =
+      let r : ℕ = x.ring in
+      let u : World = posted h w b in
+      let driver = transfer_driver h r (d.states.transfer (slot b) (endpoint b) r had) in
+      let allowed = (ring_shape h is r driver).is in
+      let keeps = d.rings r driver in
+      let f = success_is h u v (code b) (slot b) (endpoint b) r (pointer b) success x.by_code in
+      let named_take = reported_is (shape_of h r) allowed k.memory (k.ring r) keeps (state_of u r) bound.spot bound.matches bound.takes (pointer b) f.0 f.1 in
+      let q : ℕ = floor_number (k.ring r) + f.0 in
+      let at = spot_named h k b r (Data q) had named_take.named_is in
+      let l = learns_passed h k r (k.reads + 1) (Data q) in
+      let c : ℕ = u.reported r + f.0 + 1 in
+      let o = only_reported h u r c in
+      let next : BoundRing (shape_of h r) k.ring_of (record (k.ring r) { floor = after (shape_of h r) q }) (record (state_of u r) { reported = c }) r =
+      record {
+        slot = bound.slot;
+        index = bound.index;
+        bound = bound.bound;
+        spot = bound.spot;
+        matches = reported_matches (shape_of h r) allowed k.memory (k.ring r) keeps (state_of u r) bound.spot bound.matches bound.takes (pointer b) f.0 c named_take;
+        takes = reported_unreported (shape_of h r) allowed k.memory (k.ring r) keeps (state_of u r) bound.spot bound.matches bound.takes (pointer b) f.0 named_take;
+      } in
+      let z : World = with_reported h u r c in
+      let m : Known = with_reads (passed h k r (Data q)) (k.reads + 1) in
+      let after_z : Agrees h m (unread ++ b ∷ []) (counted h z) =
+      agrees_counted h m (unread ++ b ∷ []) z
+      (stands_learns h k m r _ l z (stands_only h k u z r _ o p.stands))
+      (events_only h k u z r _ o (unread ++ b ∷ []) p.events)
+      (matches_learns h k m r _ l u z _ o d p.matches other next (reported_under h u r c) (reported_scribbles h u r c) (reported_inside h u r c))
+      (o.posted ∙ p.posted_is) (late_only h k u z r _ o p.late) in
+      let learned_is : learned h k (Read b) ≡ m = learned_read h k b ∙ ap (λ n. with_reads n (k.reads + 1)) (success_read h k b r (Data q) x.transfer success at) in
+      record {
+        clean = event_clean h k w b g.stands g.read running p.can p.room
+        (or_left (is_transfer_event (kind b) || is_command_completion (kind b)) (is_other_event (kind b)) (or_left (is_transfer_event (kind b)) (is_command_completion (kind b)) x.transfer))
+        (success_possible h k b r q x.transfer success at (omega (arith, named_take.within, bound.matches.below)) (d.states.on (slot b) (endpoint b) r had))
+        (and_right (is_transfer_event (kind b)) (not (is_in_profile b)) (not_from_true (is_in_profile b) (in_profile_is b x.no_data (success_code (code b) success))));
+        agrees = subst (λ n. Agrees h n (unread ++ b ∷ []) (counted h v)) (sym learned_is) (subst (λ y. Agrees h m (unread ++ b ∷ []) (counted h y)) f.2 after_z);
+      }
+
+  success_keeps : ReportKeeps h k unread w v b
+  success_keeps =
+      elim (p.matches.rings x.ring other) [
+        | inl bound ↦ on_bound bound
+        | inr free ↦ absurd (free.none (slot b) (endpoint b) had)
+      ]
+
+-- the run goes on behind the report of a success
+pub report_success_runs : (h : Header) → IsHeader h → (past : List Row) (w v : World) (b : Block) → IsBlock b → w.stopped ≡ false → (run : Runs h past w) →
+    DriverKeeps h (known h (reading run.unread past)) → is_success (code b) ≡ true → reported h w b ≡ Some v → Runs h past (counted h v)
+report_success_runs h is past w v b block running run d success at =
+    let k : Known = known h (reading run.unread past) in
+    let keeps = success_keeps h is k run.unread w v b block running d run.agrees (report_is h w v b at) success in
+    record {
+      unread = run.unread ++ b ∷ [];
+      clean = clean_more h run.unread past b run.clean keeps.clean;
+      on = run.on;
+      agrees = subst (λ m. Agrees h m (run.unread ++ b ∷ []) (counted h v)) (sym (known_more h run.unread past b)) keeps.agrees;
+    }
