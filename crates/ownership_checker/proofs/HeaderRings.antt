@@ -114,23 +114,12 @@ module _ (h : Header) (headed : IsHeader h) where
     unfolding shape_of
     shape_there = ap (λ o. shape_or Xfer o) ring_found
 
-    not_command : (q : Ring) → is_command_kind r.shape.kind ≡ true → Apart r q → is_command_kind q.shape.kind ≡ false
-    not_command q is apart = by (is_command_kind q.shape.kind) (λ e. apart.one_command is e)
-      where
-        by : (b : Bool) → (b ≡ true → ⊥) → b ≡ false
-        by true n = absurd (n refl)
-        by false n = refl
-
     not_event : (q : Ring) → is_event_kind r.shape.kind ≡ true → Apart r q → is_event_kind q.shape.kind ≡ false
     not_event q is apart = by (is_event_kind q.shape.kind) (λ e. apart.one_event is e)
       where
         by : (b : Bool) → (b ≡ true → ⊥) → b ≡ false
         by true n = absurd (n refl)
         by false n = refl
-
-    pub command_here : is_command_kind r.shape.kind ≡ true → command_id h ≡ r.id
-    unfolding command_id command_ring
-    command_here is = ap (λ o. id_or_none o) (find_only (λ q. is_command_kind q.shape.kind) h.rings together r among is (λ q apart. not_command q is apart))
 
     pub event_here : is_event_kind r.shape.kind ≡ true → event_shape h ≡ r.shape
     unfolding event_shape event_ring

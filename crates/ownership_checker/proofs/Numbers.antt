@@ -41,20 +41,7 @@ no_position (r ∷ rest) p none =
     no_true true n = absurd (n refl)
     no_true false n = refl
 
-at_none : (n p : ℕ) → get_or (replicate {A = Option ℕ} n None) p None ≡ None
-at_none n p = grind (arith, common_steps)
-
 -- the table of numbers, ring by ring
-pub no_numbers : (rings : List Ring) (numbers : List (Option ℕ)) → numbers ≡ replicate 256 None → AreNumbers rings 0 numbers
-no_numbers rings numbers e = record {
-  all = grind (arith, common_steps, e);
-  right = λ id n at. absurd (none_some n (sym (empty id) ∙ at));
-  each = λ n ring below at. absurd (omega arith);
-}
-  where
-    empty : (id : ℕ) → get_or numbers id None ≡ None
-    empty id = ap (λ xs. get_or xs id None) e ∙ at_none 256 id
-
 pub one_number : (rings : List Ring) → may_stand_together rings ≡ true → (numbers : List (Option ℕ)) (i : ℕ) (ring : Ring) → AreNumbers rings i numbers → slice_get rings i ≡ Some ring → ring.id < 256 →
     AreNumbers rings (i + 1) (set numbers ring.id (Some i))
 one_number rings together numbers i ring a at below = record {

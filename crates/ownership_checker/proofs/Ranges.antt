@@ -1,8 +1,8 @@
 -- Tests over a run of numbers of which at most one passes
-use Rattle.std.proofs.Common.{◌≡◌, ◌≢◌, ℕ, suc, zero, ◌+◌, ◌<◌, ◌≤◌, [], ◌∷◌, Bool, true, false, refl, ap, sym, ◌∙◌, arith, inl, inr, cond}
-use Rattle.std.specs.Prelude.{◌||◌, ◌&&◌, filter}
-use Rattle.std.specs.List.{range_with_len, list_any, list_all}
+use Rattle.std.proofs.Common.{◌≡◌, ◌≢◌, ℕ, suc, zero, ◌+◌, ◌<◌, ◌≤◌, Bool, false, refl, ap, arith, inl, inr}
+use Rattle.std.specs.List.{range_with_len, list_any}
 use Rattle.std.proofs.lemmas.Bool.{cases_eq}
+use Rattle.ownership_checker.proofs.ListTests.{or_false}
 
 -- no number passes
 pub any_none : (f : ℕ → Bool) (a n : ℕ) → ((p : ℕ) → a ≤ p → p < a + n → f p ≡ false) → list_any f (range_with_len a n) ≡ false
@@ -11,10 +11,6 @@ any_none f a (suc n) h =
     let here : f a ≡ false = h a (omega arith) (omega arith) in
     let rest : list_any f (range_with_len (a + 1) n) ≡ false = any_none f (a + 1) n (λ p l u. h p (omega arith) (omega arith)) in
     rw (here, rest) refl
-
-pub or_false : (b : Bool) → (b || false) ≡ b
-or_false true = refl
-or_false false = refl
 
 -- no number but j passes
 pub any_only : (f : ℕ → Bool) (a n j : ℕ) → a ≤ j → j < a + n → ((p : ℕ) → a ≤ p → p < a + n → p ≢ j → f p ≡ false) → list_any f (range_with_len a n) ≡ f j
@@ -29,47 +25,3 @@ any_only f a (suc n) j l u h =
           let rest : list_any f (range_with_len (a + 1) n) ≡ f j = any_only f (a + 1) n j (omega arith) (omega arith) (λ p l' u' ne. h p (omega arith) (omega arith) ne) in
           rw (here, rest) refl
     ]
-
-pub filter_none : (f : ℕ → Bool) (a n : ℕ) → ((p : ℕ) → a ≤ p → p < a + n → f p ≡ false) → filter f (range_with_len a n) ≡ []
-filter_none f a zero h = refl
-filter_none f a (suc n) h =
-    let here : f a ≡ false = h a (omega arith) (omega arith) in
-    let rest : filter f (range_with_len (a + 1) n) ≡ [] = filter_none f (a + 1) n (λ p l u. h p (omega arith) (omega arith)) in
-    rw (here, rest) refl
-
-pub filter_only : (f : ℕ → Bool) (a n j : ℕ) → a ≤ j → j < a + n → ((p : ℕ) → a ≤ p → p < a + n → p ≢ j → f p ≡ false) → filter f (range_with_len a n) ≡ cond (f j) (j ∷ []) []
-filter_only f a zero j l u h = absurd (omega arith)
-filter_only f a (suc n) j l u h =
-    elim (cases_eq a j) [
-      | inl same ↦
-          let rest : filter f (range_with_len (a + 1) n) ≡ [] = filter_none f (a + 1) n (λ p l' u'. h p (omega arith) (omega arith) (omega arith)) in
-          rw (rest, same) refl
-      | inr other ↦
-          let here : f a ≡ false = h a (omega arith) (omega arith) other in
-          let rest : filter f (range_with_len (a + 1) n) ≡ cond (f j) (j ∷ []) [] = filter_only f (a + 1) n j (omega arith) (omega arith) (λ p l' u' ne. h p (omega arith) (omega arith) ne) in
-          rw (here, rest) refl
-    ]
-
--- each number passes
-pub all_from : (f : ℕ → Bool) (a n : ℕ) → ((p : ℕ) → a ≤ p → p < a + n → f p ≡ true) → list_all f (range_with_len a n) ≡ true
-all_from f a zero h = refl
-all_from f a (suc n) h =
-    let here : f a ≡ true = h a (omega arith) (omega arith) in
-    let rest : list_all f (range_with_len (a + 1) n) ≡ true = all_from f (a + 1) n (λ p l u. h p (omega arith) (omega arith)) in
-    rw (here, rest) refl
-
-pub all_each : (f : ℕ → Bool) (a n : ℕ) → list_all f (range_with_len a n) ≡ true → (p : ℕ) → a ≤ p → p < a + n → f p ≡ true
-all_each f a zero h p l u = absurd (omega arith)
-all_each f a (suc n) h p l u =
-    elim (cases_eq a p) [
-      | inl same ↦ ap f (sym same) ∙ and_left (f a) (list_all f (range_with_len (a + 1) n)) h
-      | inr other ↦ all_each f (a + 1) n (and_right (f a) (list_all f (range_with_len (a + 1) n)) h) p (omega arith) (omega arith)
-    ]
-  where
-    and_left : (x y : Bool) → (x && y) ≡ true → x ≡ true
-    and_left true y e = refl
-    and_left false y e = absurd (cc)
-
-    and_right : (x y : Bool) → (x && y) ≡ true → y ≡ true
-    and_right true y e = e
-    and_right false y e = absurd (cc)
