@@ -1,9 +1,8 @@
 -- A finder finds the ring of an ID that a walk over all would find
 use Rattle.std.proofs.Common.{◌≡◌, ℕ, ◌+◌, ◌<◌, List, [], ◌∷◌, Bool, true, false, Option, Some, None, refl, ap, sym, ◌∙◌, arith, inl, inr, length, get_or, set, Bor}
-use Rattle.std.specs.Prelude.{◌==◌, slice_get, position, replicate, unwrap_or}
+use Rattle.std.specs.Prelude.{◌==◌, slice_get, position, unwrap_or}
 use Rattle.std.specs.Option.{option_copied, option_flatten, option_map}
 use Rattle.std.proofs.lemmas.Bool.{cases_eq, eqb-true}
-use Rattle.std.proofs.lemmas.Grind.{common_steps}
 use Rattle.std.proofs.lemmas.Option.{slice_get-get_or, slice_get_within, get_or_from_slice_get}
 use Rattle.std.proofs.lemmas.List.{get_or-set_same, get_or-set_other}
 use Rattle.std.proofs.Math.ListN.{length-set}

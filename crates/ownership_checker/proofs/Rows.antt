@@ -26,7 +26,7 @@ use Rattle.ownership_checker.specs.Profile.{is_outside, broken_within}
 use Rattle.ownership_checker.specs.OneRing.{room_tests, word_tests}
 use Rattle.ownership_checker.specs.declared.fault.StepFault.{StepFault}
 use Rattle.ownership_checker.specs.declared.fault.StepFault.TheVariants.{Refused, Memory}
-use Rattle.ownership_checker.specs.Tracking.{IfRefused, IsDriver, IsDeclared, IsWritten, Follows, IsRowStep}
+use Rattle.ownership_checker.specs.Tracking.{IfRefused, IsDeclared, IsWritten, Follows, IsRowStep}
 use Rattle.ownership_checker.proofs.RingsApart.{IsAmong, among_at}
 use Rattle.ownership_checker.proofs.HeaderRings.{shape_allowed}
 use Rattle.ownership_checker.proofs.ListTests.{false_unless}
