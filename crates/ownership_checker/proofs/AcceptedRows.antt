@@ -20,7 +20,8 @@ use Rattle.ownership_rules.specs.Rules.{broken, tests}
 use Rattle.ownership_rules.specs.Clean.{IsClean}
 use Rattle.ownership_checker.specs.OneRing.{room_tests}
 use Rattle.ownership_checker.specs.Profile.{is_outside}
-use Rattle.ownership_checker.specs.Tracking.{AreInside, AreTransferRows, IsTransferRow}
+use Rattle.ownership_checker.specs.Verdicts.{AreTransferRows, IsTransferRow}
+use Rattle.ownership_checker.specs.Tracking.{AreInside}
 
 none_broken : (c : Refusal) (cs : List Refusal) → c ∷ cs ≡ [] → ⊥
 none_broken c cs e = cc

@@ -18,7 +18,8 @@ use Rattle.ownership_checker.specs.LeaseCount.{begun_count}
 use Rattle.ownership_checker.specs.Profile.{is_outside, broken_within, verdict_within}
 use Rattle.ownership_checker.specs.declared.fault.StepFault.{StepFault}
 use Rattle.ownership_checker.specs.declared.fault.StepFault.TheVariants.{Refused}
-use Rattle.ownership_checker.specs.Tracking.{AreInside, AreTransferRows, Follows, IsRowStep, IsChecked, IsProgress, IsAccepted, IsFirstOfAll, IfRefused}
+use Rattle.ownership_checker.specs.Verdicts.{AreTransferRows, IsAccepted, IsFirstOfAll}
+use Rattle.ownership_checker.specs.Tracking.{AreInside, Follows, IsRowStep, IsChecked, IsProgress, IfRefused}
 use Rattle.ownership_checker.proofs.LeaseCounts.{length-leases}
 use Rattle.ownership_checker.proofs.DeclarationRules.{broken_inside}
 use Rattle.ownership_checker.proofs.AcceptedRows.{transfer_rows}

@@ -8,6 +8,7 @@ use Rattle.trb.specs.declared.ring_kind.RingKind.TheVariants.{Evt, Xfer}
 use Rattle.traces.specs.declared.ring.Ring.{Ring}
 use Rattle.traces.specs.declared.header.Header.{Header}
 use Rattle.traces.specs.Header.{may_stand_together, IsHeader, is_driver_kind, is_command_kind, is_event_kind, ring_with, shape_of, shape_or, id_or_none, command_ring, command_id, event_ring, event_shape}
+use Rattle.ownership_checker.proofs.ListTests.{or_false}
 use Rattle.ownership_checker.proofs.RingsApart.{IsAmong, Apart, apart_back, first_apart, rest_together, same_or_apart, same_number, other_number}
 
 -- the one ring that passes a test is found
@@ -52,10 +53,6 @@ one_driver f (x ∷ rest) together r (inl same) driver none =
     let later : list_any f (drivers_of rest) ≡ false =
     no_driver f rest (λ q among d. none q (inr among) (subst (λ (y : Ring). Apart y q) same (first_apart x rest together q among))) in
     rw (here, later) (or_false (f x) ∙ ap f same)
-  where
-    or_false : (b : Bool) → (b || false) ≡ b
-    or_false true = refl
-    or_false false = refl
 one_driver f (x ∷ rest) together r (inr later) driver none =
     let x_fails : f x ≡ false = none x (inl refl) (apart_back x r (first_apart x rest together r later)) in
     let rest_is : list_any f (drivers_of rest) ≡ f r =
@@ -114,23 +111,12 @@ module _ (h : Header) (headed : IsHeader h) where
     unfolding shape_of
     shape_there = ap (λ o. shape_or Xfer o) ring_found
 
-    not_command : (q : Ring) → is_command_kind r.shape.kind ≡ true → Apart r q → is_command_kind q.shape.kind ≡ false
-    not_command q is apart = by (is_command_kind q.shape.kind) (λ e. apart.one_command is e)
-      where
-        by : (b : Bool) → (b ≡ true → ⊥) → b ≡ false
-        by true n = absurd (n refl)
-        by false n = refl
-
     not_event : (q : Ring) → is_event_kind r.shape.kind ≡ true → Apart r q → is_event_kind q.shape.kind ≡ false
     not_event q is apart = by (is_event_kind q.shape.kind) (λ e. apart.one_event is e)
       where
         by : (b : Bool) → (b ≡ true → ⊥) → b ≡ false
         by true n = absurd (n refl)
         by false n = refl
-
-    pub command_here : is_command_kind r.shape.kind ≡ true → command_id h ≡ r.id
-    unfolding command_id command_ring
-    command_here is = ap (λ o. id_or_none o) (find_only (λ q. is_command_kind q.shape.kind) h.rings together r among is (λ q apart. not_command q is apart))
 
     pub event_here : is_event_kind r.shape.kind ≡ true → event_shape h ≡ r.shape
     unfolding event_shape event_ring

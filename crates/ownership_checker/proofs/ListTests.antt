@@ -41,10 +41,6 @@ pub any_flat_map : {X Y : Type 0} (f : Y → Bool) (g : X → List Y) (xs : List
 any_flat_map f g [] = refl
 any_flat_map f g (x ∷ xs) = any_append f (g x) (flat_map g xs) ∙ ap (λ b. list_any f (g x) || b) (any_flat_map f g xs)
 
-pub any_same : {X : Type 0} (f g : X → Bool) → ((x : X) → f x ≡ g x) → (xs : List X) → list_any f xs ≡ list_any g xs
-any_same f g same [] = refl
-any_same f g same (x ∷ xs) = rw (same x, any_same f g same xs) refl
-
 -- what passes for none
 pub any_nowhere : {X : Type 0} (f : X → Bool) → ((x : X) → f x ≡ false) → (xs : List X) → list_any f xs ≡ false
 any_nowhere f none [] = refl

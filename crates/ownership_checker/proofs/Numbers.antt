@@ -1,9 +1,8 @@
 -- A finder finds the ring of an ID that a walk over all would find
 use Rattle.std.proofs.Common.{◌≡◌, ℕ, ◌+◌, ◌<◌, List, [], ◌∷◌, Bool, true, false, Option, Some, None, refl, ap, sym, ◌∙◌, arith, inl, inr, length, get_or, set, Bor}
-use Rattle.std.specs.Prelude.{◌==◌, slice_get, position, replicate, unwrap_or}
+use Rattle.std.specs.Prelude.{◌==◌, slice_get, position, unwrap_or}
 use Rattle.std.specs.Option.{option_copied, option_flatten, option_map}
 use Rattle.std.proofs.lemmas.Bool.{cases_eq, eqb-true}
-use Rattle.std.proofs.lemmas.Grind.{common_steps}
 use Rattle.std.proofs.lemmas.Option.{slice_get-get_or, slice_get_within, get_or_from_slice_get}
 use Rattle.std.proofs.lemmas.List.{get_or-set_same, get_or-set_other}
 use Rattle.std.proofs.Math.ListN.{length-set}
@@ -41,20 +40,7 @@ no_position (r ∷ rest) p none =
     no_true true n = absurd (n refl)
     no_true false n = refl
 
-at_none : (n p : ℕ) → get_or (replicate {A = Option ℕ} n None) p None ≡ None
-at_none n p = grind (arith, common_steps)
-
 -- the table of numbers, ring by ring
-pub no_numbers : (rings : List Ring) (numbers : List (Option ℕ)) → numbers ≡ replicate 256 None → AreNumbers rings 0 numbers
-no_numbers rings numbers e = record {
-  all = grind (arith, common_steps, e);
-  right = λ id n at. absurd (none_some n (sym (empty id) ∙ at));
-  each = λ n ring below at. absurd (omega arith);
-}
-  where
-    empty : (id : ℕ) → get_or numbers id None ≡ None
-    empty id = ap (λ xs. get_or xs id None) e ∙ at_none 256 id
-
 pub one_number : (rings : List Ring) → may_stand_together rings ≡ true → (numbers : List (Option ℕ)) (i : ℕ) (ring : Ring) → AreNumbers rings i numbers → slice_get rings i ≡ Some ring → ring.id < 256 →
     AreNumbers rings (i + 1) (set numbers ring.id (Some i))
 one_number rings together numbers i ring a at below = record {

@@ -26,7 +26,7 @@ use Rattle.ownership_checker.specs.Profile.{is_outside, broken_within}
 use Rattle.ownership_checker.specs.OneRing.{room_tests, word_tests}
 use Rattle.ownership_checker.specs.declared.fault.StepFault.{StepFault}
 use Rattle.ownership_checker.specs.declared.fault.StepFault.TheVariants.{Refused, Memory}
-use Rattle.ownership_checker.specs.Tracking.{IfRefused, IsDriver, IsDeclared, IsWritten, Follows, IsRowStep}
+use Rattle.ownership_checker.specs.Tracking.{IfRefused, IsDeclared, IsWritten, Follows, IsRowStep}
 use Rattle.ownership_checker.proofs.RingsApart.{IsAmong, among_at}
 use Rattle.ownership_checker.proofs.HeaderRings.{shape_allowed}
 use Rattle.ownership_checker.proofs.ListTests.{false_unless}
@@ -38,9 +38,6 @@ use Rattle.ownership_checker.proofs.Begun.{begun_declared, length-begun_written}
 use Rattle.ownership_checker.proofs.Tracked.{written_nowhere, written_on, declared_on}
 
 module _ (h : Header) (headed : IsHeader h) where
-  pub driver_at : (n : ℕ) (ring : Ring) → slice_get h.rings n ≡ Some ring → is_driver_kind ring.shape.kind ≡ true → IsDriver ring.shape
-  driver_at n ring at driver = record { driver = driver; allowed = shape_allowed h headed ring (among_at h.rings n ring at) }
-
   module _ (id : ℕ) (blocks : List Block) where
     -- a declaration that names no ring
     pub undeclared : ((q : Ring) → IsAmong q h.rings → (q.id == id) ≡ false) → (k : Known) (rs : List RingRecord) (m : ℕ → ℕ) → Follows h k rs m →

@@ -15,7 +15,7 @@ use Rattle.ownership_rules.specs.Clean.{IsClean}
 use Rattle.safety.specs.KeptHistories.{AreDriverRows}
 use Rattle.safety.proofs.Histories.{keeps_driver_rings}
 use Rattle.safety.proofs.RingsOfHeader.{HasRing, has_ring, shape_allowed}
-use Rattle.ownership_checker.specs.Tracking.{AreTransferRows, IsAccepted}
+use Rattle.ownership_checker.specs.Verdicts.{AreTransferRows, IsAccepted}
 use Rattle.ownership_checker.specs.declared.fault.CheckFault.{CheckFault}
 use Rattle.ownership_checker.specs.Walks.{WalksRead}
 

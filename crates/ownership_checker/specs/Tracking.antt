@@ -1,15 +1,13 @@
--- What the checker's records and memory hold, in terms of what is known after the rows so far; and what it answers
-use Rattle.std.specs.Prelude.{Some, None, ◌≡◌, ℕ, ◌+◌, ◌-◌, ◌≤◌, true, false, List, [], ◌∷◌, length, slice_get, reverse, take, drop}
+-- What the checker's records and memory hold, in terms of what is known after the rows so far
+use Rattle.std.specs.Prelude.{Some, None, ◌≡◌, ℕ, ◌+◌, ◌≤◌, true, false, List, [], ◌∷◌, length, slice_get, reverse, take, drop}
 use Rattle.trb.specs.declared.block.Block.{Block}
-use Rattle.trb.specs.declared.ring_kind.RingKind.TheVariants.{Xfer}
 use Rattle.segments.specs.ShapeValue.{Shape}
 use Rattle.segments.specs.Shape.{IsShape}
 use Rattle.segments.specs.RingView.{RingView, Declares, Writes, changed, new_ring, positions_given, crossings_given}
 use Rattle.traces.specs.declared.ring.Ring.{Ring}
 use Rattle.traces.specs.declared.header.Header.{Header}
 use Rattle.traces.specs.declared.row.Row.{Row}
-use Rattle.traces.specs.declared.row.Row.TheVariants.{Sub, Write, Reg, Bell, Read}
-use Rattle.traces.specs.Header.{is_driver_kind, event_shape, shape_of}
+use Rattle.traces.specs.Header.{is_driver_kind, event_shape}
 use Rattle.ring_knowledge.specs.declared.ring_record.RingRecord.{RingRecord}
 use Rattle.ring_knowledge.specs.RingRecords.{FollowsRing}
 use Rattle.ring_knowledge.specs.Known.{Known, nothing}
@@ -18,15 +16,13 @@ use Rattle.ownership_rules.specs.declared.refusal.Refusal.{Refusal}
 use Rattle.ownership_rules.specs.Refusal.{first_broken}
 use Rattle.ownership_rules.specs.Rules.{broken, verdict_from}
 use Rattle.ownership_rules.specs.Clean.{IsClean}
-use Rattle.ownership_rules.specs.Leases.{begun, leases as leases_of}
+use Rattle.ownership_rules.specs.Leases.{begun}
 use Rattle.ownership_checker.specs.Calm.{IsCalm}
 use Rattle.ownership_checker.specs.OneRing.{room_tests, word_tests}
 use Rattle.ownership_checker.specs.Profile.{is_outside, verdict_within}
 use Rattle.ownership_checker.specs.LeaseCount.{begun_count}
 use Rattle.ownership_checker.specs.declared.fault.StepFault.{StepFault}
 use Rattle.ownership_checker.specs.declared.fault.StepFault.TheVariants.{Refused, Memory}
-use Rattle.ownership_checker.specs.declared.fault.CheckFault.{CheckFault}
-use Rattle.ownership_checker.specs.declared.fault.CheckFault.TheVariants.{Refused as RowRefused, Memory as NoMemory}
 
 -- ---- one ring
 
@@ -78,30 +74,12 @@ abbrev pub AreInside : Header → List Row → Type 0
 AreInside h [] = Unit {0}
 AreInside h (row ∷ past) = AreInside h past × (is_outside h row ≡ false)
 
--- a declaration on a transfer ring, or a write
-abbrev pub IsTransferRow : Header → Row → Type 0
-IsTransferRow h (Sub r blocks) = (shape_of h r).kind ≡ Xfer
-IsTransferRow h (Write a w) = Unit {0}
-IsTransferRow h (Reg r v) = ⊥
-IsTransferRow h (Bell s t) = ⊥
-IsTransferRow h (Read b) = ⊥
-
--- of rows, the newest first
-abbrev pub AreTransferRows : Header → List Row → Type 0
-AreTransferRows h [] = Unit {0}
-AreTransferRows h (row ∷ past) = AreTransferRows h past × IsTransferRow h row
-
--- ---- answers
+-- ---- a trace
 
 -- what a refusal says; want of memory says nothing
 abbrev pub IfRefused : StepFault → (Refusal → Type 0) → Type 0
 IfRefused (Refused c) P = P c
 IfRefused Memory P = Unit {0}
-
--- a refused row of a trace, by its number
-abbrev pub IfRefusedAt : CheckFault → (ℕ → Refusal → Type 0) → Type 0
-IfRefusedAt (RowRefused row c) P = P row c
-IfRefusedAt NoMemory P = Unit {0}
 
 -- some of the rows were checked; T tells what is held of what is known after them
 pub record IsChecked (h : Header) (rows : List Row) (first : ℕ) (done : ℕ) (T : Known → Type 0) (leases : ℕ) : Type 0 where
@@ -111,18 +89,6 @@ pub record IsChecked (h : Header) (rows : List Row) (first : ℕ) (done : ℕ) (
   pub verdict : verdict_from h nothing first rows ≡ verdict_from h (known h (reverse (take done rows))) (first + done) (drop done rows)
   pub within : verdict_within h nothing first rows ≡ verdict_within h (known h (reverse (take done rows))) (first + done) (drop done rows)
   pub counted : length (event_shape h).segments + begun_count h nothing rows ≡ leases + begun_count h (known h (reverse (take done rows))) (drop done rows)
-
--- a whole trace was accepted, with so many leases: it only declares on transfer rings and writes, and breaks no rule
-pub record IsAccepted (h : Header) (rows : List Row) (first : ℕ) (leases : ℕ) : Type 0 where
-  pub on_transfers : AreTransferRows h (reverse rows)
-  pub clean : IsClean h (reverse rows)
-  pub verdict : verdict_from h nothing first rows ≡ None
-  pub counted : length (leases_of h first rows) ≡ leases
-
--- where the row of this number is in the profile, it is the first that breaks a rule, of all rules
-abbrev pub IsFirstOfAll : Header → ℕ → List Row → ℕ → Refusal → Type 0
-IsFirstOfAll h first rows number c =
-    (row : Row) → slice_get rows (number - first) ≡ Some row → is_outside h row ≡ false → verdict_from h nothing first rows ≡ Some (number, c)
 
 -- how far the check of a trace has come
 pub record IsProgress (h : Header) (rows : List Row) (first done number begun : ℕ) (records : List RingRecord) (memory : ℕ → ℕ) : Type 0 where

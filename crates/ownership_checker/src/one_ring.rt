@@ -16,41 +16,41 @@ use trb::Block;
 /// Checks a declaration on a ring, and notes it.
 pub fn declare_on(
     shape: &RingShape,
-    record: &mut RingRecord,
+    known: &mut RingRecord,
     blocks: &[Block],
 ) -> Result<(), StepFault>
-    ensures ok { OnOk result ((v : RingView) → FollowsRing shape.now v record.old → IsDeclared shape.now v blocks.now record.new) }
-    ensures refused { IfErr result (λ e. IfRefused e (λ c. (v : RingView) → FollowsRing shape.now v record.old →
+    ensures ok { OnOk result ((v : RingView) → FollowsRing shape.now v known.old → IsDeclared shape.now v blocks.now known.new) }
+    ensures refused { IfErr result (λ e. IfRefused e (λ c. (v : RingView) → FollowsRing shape.now v known.old →
         first_broken (room_tests shape.now v blocks.now) ≡ Some c)) }
 {
-    if let Some(refusal) = declaration_refusal(shape, record, blocks) {
+    if let Some(refusal) = declaration_refusal(shape, known, blocks) {
         return Err(StepFault::Refused(refusal));
     }
-    record.declare(blocks)?;
+    known.declare(blocks)?;
     Ok(())
 }
 
 /// Checks a write inside a command or transfer ring, makes it, and notes what it gives; how much that is.
 pub fn write_on<M: WordMemory>(
     shape: &RingShape,
-    record: &mut RingRecord,
+    known: &mut RingRecord,
     memory: &mut M,
     at: Addr,
     word: u32,
 ) -> Result<u64, StepFault>
     requires { IsDriver shape.now }
-    ensures ok { IfOk result (λ n. (v : RingView) → FollowsRing shape.now v record.old →
-        IsWritten shape.now v (M.words memory.old) at word record.new n) }
+    ensures ok { IfOk result (λ n. (v : RingView) → FollowsRing shape.now v known.old →
+        IsWritten shape.now v (M.words memory.old) at word known.new n) }
     ensures made { OnOk result ((a : ℕ) → M.words memory.new a ≡ put (M.words memory.old) at word a) }
     ensures few { IfOk result (λ n. n ≤ 1) }
-    ensures refused { IfErr result (λ e. IfRefused e (λ c. (v : RingView) → FollowsRing shape.now v record.old →
+    ensures refused { IfErr result (λ e. IfRefused e (λ c. (v : RingView) → FollowsRing shape.now v known.old →
         first_broken (word_tests shape.now v (M.words memory.old) at word) ≡ Some c)) }
 {
-    let giving = record.given_by(shape, at, word);
-    if let Some(refusal) = write_refusal(shape, record, memory, at, word, giving) {
+    let giving = known.given_by(shape, at, word);
+    if let Some(refusal) = write_refusal(shape, known, memory, at, word, giving) {
         return Err(StepFault::Refused(refusal));
     }
     memory.set(at, word)?;
-    record.note_write(shape, at, word);
+    known.note_write(shape, at, word);
     Ok(u64::from(giving.is_some()))
 }

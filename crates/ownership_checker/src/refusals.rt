@@ -20,14 +20,14 @@ use trb::{Block, BlockFlags, BlockKind, Fault, Flags, RingKind, descriptor_fault
 /// Which rule a declaration breaks first.
 pub fn declaration_refusal(
     shape: &RingShape,
-    record: &RingRecord,
+    known: &RingRecord,
     blocks: &[Block],
 ) -> Option<Refusal>
-    ensures first { (v : RingView) → FollowsRing shape.now v record.now → result ≡ first_broken (room_tests shape.now v blocks.now) }
+    ensures first { (v : RingView) → FollowsRing shape.now v known.now → result ≡ first_broken (room_tests shape.now v blocks.now) }
     ensures some { IfNone result (0 < length blocks.now) }
     ensures few { IfNone result (length blocks.now ≤ 256) }
 {
-    if !record.has_room(shape, blocks.len()) {
+    if !known.has_room(shape, blocks.len()) {
         return Some(Refusal::RingFull);
     }
     form_refusal(shape.kind(), blocks)
@@ -49,23 +49,23 @@ fn form_refusal(kind: RingKind, blocks: &[Block]) -> Option<Refusal>
 /// Which rule a write breaks first that gives this of the ring.
 pub fn write_refusal<M: WordMemory>(
     shape: &RingShape,
-    record: &RingRecord,
+    known: &RingRecord,
     memory: &M,
     at: Addr,
     word: u32,
     giving: Option<RingGiving>,
 ) -> Option<Refusal>
     requires { IsDriver shape.now }
-    ensures { (v : RingView) → FollowsRing shape.now v record.now →
+    ensures { (v : RingView) → FollowsRing shape.now v known.now →
         positions_given shape.now v at word ≡ positions_of giving → crossings_given shape.now v at word ≡ crossings_of giving →
         result ≡ first_broken (word_tests shape.now v (M.words memory.now) at word) }
 {
-    if record.owns(shape, at) {
+    if known.owns(shape, at) {
         return Some(Refusal::WriteToOwned);
     }
     match giving {
         None => None,
-        Some(RingGiving::Position(p)) => giving_refusal(shape, record, memory, at, word, p),
+        Some(RingGiving::Position(p)) => giving_refusal(shape, known, memory, at, word, p),
         Some(RingGiving::Crossing(q)) => crossing_refusal(shape, memory, at, word, q),
     }
 }
@@ -73,24 +73,24 @@ pub fn write_refusal<M: WordMemory>(
 /// Which rule a write breaks first that gives a position.
 fn giving_refusal<M: WordMemory>(
     shape: &RingShape,
-    record: &RingRecord,
+    known: &RingRecord,
     memory: &M,
     at: Addr,
     word: u32,
     position: u64,
 ) -> Option<Refusal>
     requires { IsDriver shape.now }
-    ensures { (v : RingView) → FollowsRing shape.now v record.now →
+    ensures { (v : RingView) → FollowsRing shape.now v known.now →
         result ≡ first_broken (position_tests shape.now v (M.words memory.now) at word (position ∷ [])) }
 {
-    let Some(declared) = record.declared(position) else {
+    let Some(declared) = known.declared(position) else {
         return Some(Refusal::NotDeclared);
     };
     let given = block_after(memory, at, word, shape.address(position));
     if !have_same_words(given, declared.with_cycle(shape.cycle(position))) {
         return Some(Refusal::NotAsSubmitted);
     }
-    if !record.is_whole(shape, position) {
+    if !known.is_whole(shape, position) {
         return Some(Refusal::NotWhole);
     }
     None

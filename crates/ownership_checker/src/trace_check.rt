@@ -3,7 +3,7 @@ ghost use Rattle.traces.specs.Header.{IsHeader};
 ghost use Rattle.traces.specs.Limits.{most_lines};
 ghost use Rattle.ring_knowledge.specs.Known.{nothing};
 ghost use Rattle.ownership_checker.specs.Profile.{verdict_within};
-ghost use Rattle.ownership_checker.specs.Tracking.{IfRefusedAt, IsAccepted, IsFirstOfAll};
+ghost use Rattle.ownership_checker.specs.Verdicts.{IfRefusedAt, IsAccepted, IsFirstOfAll};
 ghost use Rattle.ownership_checker.specs.Walks.{WalksRead};
 
 use crate::fault::{CheckFault, StepFault};

@@ -10,7 +10,7 @@ use Rattle.trace_reader.specs.Reading.{trace_of}
 use Rattle.trace_reader.specs.Values.{block_of}
 use Rattle.ownership_checker.specs.Profile.{verdict_within}
 use Rattle.ownership_rules.specs.Refusal as rule
-use Rattle.ownership_checker.specs.Tracking.{IsAccepted, IsFirstOfAll}
+use Rattle.ownership_checker.specs.Verdicts.{IsAccepted, IsFirstOfAll}
 use Rattle.ownership_checker.specs.Walks.{WalksRead}
 use Rattle.xhci_cli.specs.Decoding.{decoded_text}
 use Rattle.trace_reader.specs.Faults.{fault_number, fault_name}

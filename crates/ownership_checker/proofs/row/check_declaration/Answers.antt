@@ -30,7 +30,7 @@ returns-in-Xfer-clause-ok c =
     declared_ok c.args.header.now c.requires.headed c.args.id c.args.blocks.now c.in-Some.number ring here.0 (eqb-true ring.id c.args.id here.1) (sym c.kind.ensures ∙ c.in-Xfer.is)
     c.args.records.now (get_or c.args.records.now c.in-Some.number c.index-records-number.result)
     (slice_get-get_or c.args.records.now c.in-Some.number c.index-records-number.result (omega (arith, c.requires.as_many, slice_get_within c.args.header.now.rings c.in-Some.number ring here.0)))
-    c.declare_on.new.record c.declare_on.result c.declare_on.ensures.ok
+    c.declare_on.new.known c.declare_on.result c.declare_on.ensures.ok
 
 pub returns-in-Xfer-clause-refused : goal.returns-in-Xfer-clause-refused
 returns-in-Xfer-clause-refused c =

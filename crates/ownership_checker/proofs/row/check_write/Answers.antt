@@ -29,7 +29,7 @@ returns-clause-ok g c =
     written_ok c.args.header.now c.requires.headed c.args.at c.args.word c.get.ensures.aligned c.in-Some.number ring here.0 touched driver
     c.args.records.now (get_or c.args.records.now c.in-Some.number c.index-records-number.result)
     (slice_get-get_or c.args.records.now c.in-Some.number c.index-records-number.result (omega (arith, c.requires.as_many, slice_get_within c.args.header.now.rings c.in-Some.number ring here.0)))
-    _ c.write_on.new.record _ c.write_on.result c.write_on.ensures.made c.write_on.ensures.ok
+    _ c.write_on.new.known _ c.write_on.result c.write_on.ensures.made c.write_on.ensures.ok
 
 pub returns-clause-refused : goal.returns-clause-refused
 returns-clause-refused g c =

@@ -5,7 +5,8 @@ use Rattle.ownership_rules.specs.declared.refusal.Refusal.{Refusal}
 use Rattle.ownership_rules.specs.Refusal.{first_of}
 use Rattle.ownership_checker.specs.Profile.{broken_within, verdict_within}
 use Rattle.ring_knowledge.specs.declared.ring_record.RingRecord.{RingRecord}
-use Rattle.ownership_checker.specs.Tracking.{AreFresh, Follows, IsProgress, IsRowStep, IfRefused, IsFirstOfAll}
+use Rattle.ownership_checker.specs.Verdicts.{IsFirstOfAll}
+use Rattle.ownership_checker.specs.Tracking.{AreFresh, Follows, IsProgress, IsRowStep, IfRefused}
 use Rattle.ownership_checker.proofs.Checking.{started, stepped, refused, first_refused, ended, none_refused}
 use Rattle.ownership_checker.proofs.Fresh.{follows_first}
 use Rattle.ownership_checker.proofs.trace_check.check_rows.Goals as goal
