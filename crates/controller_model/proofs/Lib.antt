@@ -1,1 +1,2 @@
 pub mod WorkedReplays
+pub mod WorkedShowing

@@ -4,4 +4,5 @@ pub mod Posts
 pub mod Bindings
 pub mod Finishes
 pub mod Steps
+pub mod Showing
 pub mod OnLiterals
