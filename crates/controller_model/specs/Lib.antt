@@ -6,3 +6,7 @@ pub mod Finishes
 pub mod Steps
 pub mod Showing
 pub mod OnLiterals
+pub mod Held
+pub mod Faults
+pub mod Declarations
+pub mod Histories
