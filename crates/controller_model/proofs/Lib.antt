@@ -5,3 +5,10 @@ pub mod Borders
 pub mod DeclaredLemmas
 pub mod HistoryLemmas
 pub mod FirstFound
+pub mod RowLemmas
+pub mod RingLemmas
+pub mod RingSteps
+pub mod LookLemmas
+pub mod LookBranches
+pub mod SlotLemmas
+pub mod PostLemmas

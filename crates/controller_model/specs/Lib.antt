@@ -10,3 +10,4 @@ pub mod Held
 pub mod Faults
 pub mod Declarations
 pub mod Histories
+pub mod Following

@@ -63,6 +63,7 @@ pub(crate) fn store<M: WordMemory>(
     step: u64,
 ) -> Result<bool, AllocError>
     ensures changes { IfOk result (λ b. b ≡ not (M.words memory.old at == word)) }
+    ensures below { at < 2 ^ 64 }
     ensures stored { OnOk result (held (M.words memory.new) stamps.new ≡ held_stored (held (M.words memory.old) stamps.old) at word step) }
 {
     let is_changed = memory.word(at) != word;
