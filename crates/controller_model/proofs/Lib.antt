@@ -12,3 +12,6 @@ pub mod LookLemmas
 pub mod LookBranches
 pub mod SlotLemmas
 pub mod PostLemmas
+pub mod EndpointLemmas
+pub mod BellLemmas
+pub mod ReadLemmas

@@ -1,5 +1,5 @@
 -- Which way a look goes
-use Rattle.std.proofs.Common.{◌≡◌, ℕ, ◌+◌, ◌%◌, ◌==◌, ◌||◌, ◌&&◌, ◌∙◌, if◌then◌else◌, not, Bool, true, false, Option, Some, None, Ok, Err, is_some, option_map, ap, sym, subst, refl, inl, inr, arith}
+use Rattle.std.proofs.Common.{◌≡◌, ℕ, ◌==◌, ◌||◌, ◌&&◌, ◌∙◌, not, Bool, true, false, Option, Some, None, Ok, Err, is_some, option_map, ap, sym, subst, refl, inl, inr, arith}
 use Rattle.std.proofs.lemmas.Bool.{cond-true, cond-false, cases_eq, eq-eqb, ne_eqb}
 use Rattle.trb.specs.declared.block.Block.{Block}
 use Rattle.trb.specs.Block.{block_at, cycle, kind}

@@ -5,7 +5,7 @@ use Rattle.segments.specs.ShapeValue.{Shape}
 use Rattle.segments.specs.Descriptors.{DeclaredBlock, declared_at}
 use Rattle.traces.specs.declared.header.Header.{Header}
 use Rattle.traces.specs.Header.{shape_of, ring_with}
-use Rattle.world_state.specs.World.{RingEvent, Took}
+use Rattle.world_state.specs.World.{Took}
 use Rattle.world_state.specs.Takes.{next_take}
 use Rattle.controller_model.specs.declared.kept.RingState.{RingState}
 use Rattle.controller_model.specs.declared.history.History.{History}

@@ -13,7 +13,7 @@ use Rattle.trb.specs.declared.block.Block.{Block}
 use Rattle.traces.specs.declared.header.Header.{Header}
 use Rattle.world_state.specs.World.{World, Took}
 use Rattle.controller_model.specs.DriverRows.{declared, activated}
-use Rattle.controller_model.specs.Following.{RingHeld, ring_held}
+use Rattle.controller_model.specs.Following.{ring_held}
 use Rattle.controller_model.proofs.RingLemmas.{put_same, put_other}
 
 pub declared_here : (h : Header) (w : World) (r : ℕ) (bs : List Block) →

@@ -1,5 +1,5 @@
 -- How what the program keeps stands for the world
-use Rattle.std.specs.Prelude.{◌≡◌, ℕ, ◌+◌, ◌*◌, ◌%◌, ◌<◌, ◌≤◌, ◌^◌, if◌then◌else◌, Bool, true, List, ◌∷◌, Option, Some, None, IsSome, drop, length, slice_get, option_map}
+use Rattle.std.specs.Prelude.{◌≡◌, ℕ, ◌+◌, ◌*◌, ◌%◌, ◌<◌, ◌≤◌, ◌^◌, if◌then◌else◌, Bool, true, List, ◌∷◌, Option, Some, None, IsSome, drop, slice_get, option_map}
 use Rattle.std.specs.Prelude.{◌==◌, false, Result, Ok, Err}
 use Rattle.commands.specs.declared.command.Command.{Command}
 use Rattle.commands.specs.declared.command.Command.TheVariants.{AddressDevice}

@@ -66,7 +66,7 @@ fn first_at(shape: &RingShape, address: u64, from: u64) -> u64
 }
 
 /// Whether two blocks have the same words.
-fn same_words(a: &Block, b: &Block) -> bool
+pub(crate) fn same_words(a: &Block, b: &Block) -> bool
     ensures { result ≡ same_words a.now b.now }
 {
     a.w[0] == b.w[0] && a.w[1] == b.w[1] && a.w[2] == b.w[2] && a.w[3] == b.w[3]

@@ -4,6 +4,7 @@
 //! declarations, looks at rings, and the controller's own events.
 #![tactic(auto)]
 
+mod bells;
 mod declared;
 mod fault;
 mod history;

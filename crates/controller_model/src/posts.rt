@@ -9,14 +9,16 @@ ghost use Rattle.traces.specs.declared.row.Row.{Row as RowValue};
 ghost use Rattle.traces.specs.Header.{event_ring, event_shape, is_event_kind};
 ghost use Rattle.world_state.specs.World.{World};
 ghost use Rattle.controller_model.specs.Posts.{can_post, posted, other_posted};
-ghost use Rattle.controller_model.specs.declared.seen.Seen.TheVariants.{Posted};
+ghost use Rattle.controller_model.specs.declared.seen.Seen.TheVariants.{Posted, Row};
+ghost use Rattle.controller_model.specs.DriverRows.{event_read};
 ghost use Rattle.controller_model.specs.Following.{Follows, IsStep};
 
 use crate::fault::StepFault;
+use crate::history::same_words;
 use crate::kept::Kept;
 use crate::looks::agrees;
 use crate::seen::Seen;
-use crate::stamps::store_block;
+use crate::stamps::{block_at, store_block};
 use guest_memory::WordMemory;
 use segments::RingShape;
 use std::alloc::AllocError;
@@ -134,4 +136,38 @@ pub(crate) fn post_other<M: WordMemory>(
     }
     let at = post(shape, memory, kept, block, step)?;
     Ok(Seen::Posted { at })
+}
+
+/// Where an event position lies; 0 where no event ring is declared.
+#[tactic(auto, unfolding(traces::specs::Header::event_shape))]
+fn event_address(header: &Header, position: u64) -> u64
+    ensures same { result ≡ address_of (event_shape header.now) position }
+    ensures aligned { result % 16 ≡ 0 }
+{
+    match event_ring(header) {
+        None => 0,
+        Some(ring) => place(&ring.shape, position),
+    }
+}
+
+/// The driver reads an event: one that was posted and not yet read, with the words at the read place (xHCI 4.9.4).
+pub(crate) fn read_event<M: WordMemory>(
+    header: &Header,
+    memory: &M,
+    kept: &mut Kept,
+    event: &Block,
+) -> Result<Seen, StepFault>
+    ensures step { (rows : List RowValue) (w : World) → Follows header.now rows (M.words memory.now) kept.old w →
+        IsStep result (event_read header.now w event.now) Row (Follows header.now rows (M.words memory.now) kept.new) }
+    ensures refused { result ≡ Err StepFault.NotPossible → kept.new ≡ kept.old }
+{
+    if kept.events.reads >= kept.events.posted {
+        return Err(StepFault::NotPossible);
+    }
+    let block = block_at(memory, event_address(header, kept.events.reads));
+    if !same_words(&block, event) {
+        return Err(StepFault::NotPossible);
+    }
+    kept.events.reads += 1;
+    Ok(Seen::Row)
 }

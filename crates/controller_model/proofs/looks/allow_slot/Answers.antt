@@ -1,4 +1,4 @@
-use Rattle.std.proofs.Common.{◌≡◌, ◌<◌, length, refl, arith}
+use Rattle.std.proofs.Common.{◌<◌, length, refl, arith}
 use Rattle.controller_model.proofs.SlotLemmas.{slots_allow}
 use Rattle.controller_model.proofs.looks.allow_slot.Goals as goal
 

@@ -1,5 +1,4 @@
-use Rattle.std.proofs.Common.{◌≡◌, ℕ, Bool, ◌||◌, Option, refl, ap, sym, ◌∙◌, subst}
-use Rattle.commands.specs.declared.command.Command.{Command}
+use Rattle.std.proofs.Common.{◌≡◌, ℕ, Bool, ◌||◌, refl, ap, sym, ◌∙◌, subst}
 use Rattle.commands.specs.Command.{command_of}
 use Rattle.controller_model.specs.Looks.{command_begun, may_scribble}
 use Rattle.controller_model.specs.Following.{FollowsSlots, addressed, is_it}

@@ -1,6 +1,5 @@
-use Rattle.std.proofs.Common.{◌≡◌, ◌<◌, ◌∙◌, Some, length, slice_get, ap, sym, arith, is_some}
+use Rattle.std.proofs.Common.{◌≡◌, ◌<◌, ◌∙◌, length, ap, sym, arith, is_some}
 use Rattle.std.proofs.lemmas.Bool.{false≢true}
-use Rattle.trb.specs.declared.block.Block.{Block}
 use Rattle.trb.specs.Block.{block_at}
 use Rattle.trb.specs.declared.ring_kind.RingKind.TheVariants.{Xfer}
 use Rattle.traces.specs.Header.{shape_of, shape_or}

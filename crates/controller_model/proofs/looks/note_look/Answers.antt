@@ -1,4 +1,4 @@
-use Rattle.std.proofs.Common.{◌≡◌, not, ◌||◌, ap, sym, ◌∙◌}
+use Rattle.std.proofs.Common.{◌≡◌, not, ◌||◌, sym, ◌∙◌}
 use Rattle.segments.specs.Places.{is_inside}
 use Rattle.traces.specs.Header.{shape_of}
 use Rattle.controller_model.specs.Looks.{seen_by_look}

@@ -1,4 +1,4 @@
-use Rattle.std.proofs.Common.{◌≡◌, ℕ, sym, subst}
+use Rattle.std.proofs.Common.{ℕ, sym, subst}
 use Rattle.world_state.specs.World.{World}
 use Rattle.controller_model.specs.Looks.{taken_on, command_begun}
 use Rattle.controller_model.specs.Following.{Follows}

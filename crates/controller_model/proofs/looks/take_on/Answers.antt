@@ -1,4 +1,4 @@
-use Rattle.std.proofs.Common.{◌≡◌, ◌<◌, length, arith}
+use Rattle.std.proofs.Common.{◌<◌, length, arith}
 use Rattle.controller_model.specs.Looks.{taken_on}
 use Rattle.controller_model.specs.Following.{ring_held}
 use Rattle.controller_model.proofs.RingLemmas.{read_at, follows_change}

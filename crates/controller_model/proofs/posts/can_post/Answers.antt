@@ -1,4 +1,4 @@
-use Rattle.std.proofs.Common.{◌≡◌, ◌∙◌, ◌==◌, if◌then◌else◌, ap, sym, arith}
+use Rattle.std.proofs.Common.{◌≡◌, ◌∙◌, if◌then◌else◌, ap, sym}
 use Rattle.segments.specs.Places.{cycle_of}
 use Rattle.controller_model.proofs.HistoryLemmas.{as_bit}
 use Rattle.controller_model.proofs.PostLemmas.{can_post_is}
