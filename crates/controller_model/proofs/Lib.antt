@@ -15,3 +15,5 @@ pub mod PostLemmas
 pub mod EndpointLemmas
 pub mod BellLemmas
 pub mod ReadLemmas
+pub mod RegisterLemmas
+pub mod EventPlaces

@@ -1,5 +1,5 @@
 -- What rows do to what is kept
-use Rattle.std.proofs.Common.{◌≡◌, ℕ, ◌+◌, ◌<◌, ◌≤◌, ◌^◌, ◌∙◌, ap, sym, List, arith}
+use Rattle.std.proofs.Common.{subst, ◌≡◌, ℕ, ◌+◌, ◌<◌, ◌≤◌, ◌^◌, ◌∙◌, ap, sym, List, arith}
 use Rattle.std.proofs.Common.{◌==◌}
 use Rattle.std.proofs.lemmas.Bool.{cond-false, ne_eqb}
 use Rattle.traces.specs.declared.header.Header.{Header}
@@ -38,3 +38,7 @@ follows_stored_block h rows words new k stamps w a step b end aligned now made f
       ∙ cond-false (q == a + 4) (word b 1) _ (ne_eqb q (a + 4) (λ e. omega arith)) ∙ cond-false (q == a) (word b 0) (words q) (ne_eqb q a (λ e. omega arith))
       ∙ f.beyond q far;
 }
+
+-- what stands for a world stands for an equal one
+pub follows_along : (h : Header) (rows : List Row) (words : ℕ → ℕ) (k : Kept) (u v : World) → u ≡ v → Follows h rows words k v → Follows h rows words k u
+follows_along h rows words k u v same f = let P : World → Type 0 = λ x. Follows h rows words k x in subst P (sym same) f

@@ -13,8 +13,9 @@ use Rattle.commands.specs.declared.state.EndpointState.{EndpointState}
 use Rattle.traces.specs.declared.header.Header.{Header}
 use Rattle.traces.specs.declared.row.Row.{Row}
 use Rattle.traces.specs.declared.register.Register.{Register}
-use Rattle.traces.specs.declared.register.Register.TheVariants.{Crcr, Dcbaap, Config}
-use Rattle.traces.specs.Register.{register_or_zero}
+use Rattle.traces.specs.declared.register.Register.TheVariants.{Usbcmd, Usbsts, Dnctrl, Crcr, Dcbaap, Config, Iman, Imod, Erstsz, Erstba, Erdp}
+use Rattle.traces.specs.Register.{register_or_zero, base_address, ring_cycle_state}
+use Rattle.guest_memory.specs.Memory.{put}
 use Rattle.traces.specs.Header.{shape_of, ring_with}
 use Rattle.world_state.specs.World.{World, RingEvent, Took, UnderWay}
 use Rattle.world_state.specs.Takes.{next_take}
@@ -131,3 +132,24 @@ addressed _ = None
 abbrev pub is_it : ℕ → Option ℕ → Bool
 is_it t None = false
 is_it t (Some s) = t == s
+
+-- the registers with one more write
+abbrev pub noted : Registers → Register → ℕ → Registers
+noted k Crcr v = record k { crcr = v }
+noted k Dcbaap v = record k { dcbaap = v }
+noted k Config v = record k { config = v }
+noted k Usbcmd v = k
+noted k Usbsts v = k
+noted k Dnctrl v = k
+noted k Iman v = k
+noted k Imod v = k
+noted k Erstsz v = k
+noted k Erstba v = k
+noted k Erdp v = k
+
+-- a ring's pointer and cycle state are those of a value of CRCR
+abbrev pub pointed : World → ℕ → ℕ → World
+pointed w r crcr = record w {
+  pointer_of = put w.pointer_of r (base_address crcr);
+  cycle_state = put w.cycle_state r (ring_cycle_state crcr);
+}
