@@ -1,16 +1,15 @@
 -- Worked replays with their endings, written by tools/worked_examples.py from worked cases
-use Rattle.std.specs.Prelude.{◌≡◌, ℕ, List, [], ◌∷◌, Option, Some, None, length, refl}
-use Rattle.trb.specs.declared.block.Block.{Block}
+use Rattle.std.specs.Prelude.{◌≡◌, List, [], ◌∷◌, refl}
 use Rattle.trb.specs.declared.ring_kind.RingKind.TheVariants.{Cmd, Evt, Xfer}
-use Rattle.contexts.specs.declared.size.ContextSize.TheVariants.{Bytes32, Bytes64}
+use Rattle.contexts.specs.declared.size.ContextSize.TheVariants.{Bytes32}
 use Rattle.traces.specs.declared.header.Header.{Header}
 use Rattle.traces.specs.declared.row.Row.{Row}
 use Rattle.traces.specs.declared.row.Row.TheVariants.{Sub, Write, Reg, Bell, Read}
 use Rattle.traces.specs.declared.register.Register.TheVariants.{Usbcmd, Crcr, Dcbaap, Config, Erstsz, Erstba, Erdp}
 use Rattle.traces.specs.declared.step.Step.{Step}
-use Rattle.traces.specs.declared.step.Step.TheVariants.{NextRow, Look, Report, Finish, Other, Scribble}
-use Rattle.world_state.specs.declared.harm.Harm.TheVariants.{TakenOutOfOrder, TakenOtherWords, WaitsInsideDescriptor, LooksOutside, PostsOverUnread, InputContextChanged}
-use Rattle.controller_model.specs.Steps.{ending_of, Ending, NoHarm, NotPossible, Harmful}
+use Rattle.traces.specs.declared.step.Step.TheVariants.{NextRow, Look, Report, Finish, Other}
+use Rattle.world_state.specs.declared.harm.Harm.TheVariants.{TakenOtherWords, WaitsInsideDescriptor}
+use Rattle.controller_model.specs.Steps.{ending_of, NoHarm, NotPossible, Harmful}
 use Rattle.controller_model.specs.OnLiterals.{model_on_literals}
 
 abbrev pub event_ring_fills_header : Header

@@ -1,5 +1,5 @@
 -- What a row of the trace does in the world: xHCI 4.7, 4.9.3, 4.9.4, 5.4, 5.6
-use Rattle.std.specs.Prelude.{ℕ, ◌+◌, ◌==◌, ◌&&◌, ◌||◌, ◌++◌, if◌then◌else◌, true, not, List, [], ◌∷◌, length, nat_lt, Option, Some, None, unwrap_or}
+use Rattle.std.specs.Prelude.{ℕ, ◌+◌, ◌==◌, ◌&&◌, ◌||◌, ◌++◌, if◌then◌else◌, true, not, List, [], ◌∷◌, length, nat_lt, Option, Some, None}
 use Rattle.guest_memory.specs.Memory.{put, put_pair}
 use Rattle.trb.specs.declared.block.Block.{Block}
 use Rattle.trb.specs.Block.{same_words}

@@ -4,4 +4,10 @@ pub mod Posts
 pub mod Bindings
 pub mod Finishes
 pub mod Steps
+pub mod Showing
 pub mod OnLiterals
+pub mod Held
+pub mod Faults
+pub mod Declarations
+pub mod Histories
+pub mod Following

@@ -1,0 +1,64 @@
+-- What the doorbell of the host controller does
+use Rattle.std.proofs.Common.{◌≡◌, ◌≢◌, ℕ, ◌<◌, ◌==◌, ◌&&◌, ◌∙◌, ap, sym, subst, true, false, Bool, List, [], ◌∷◌, Some, None, find, is_some, length, inl, inr, arith}
+use Rattle.std.proofs.lemmas.Bool.{cases_Bool, cond-true, cond-false, eq-eqb, ne_eqb}
+use Rattle.std.proofs.lemmas.Option.{slice_get_within}
+use Rattle.traces.specs.declared.ring.Ring.{Ring}
+use Rattle.traces.specs.declared.header.Header.{Header}
+use Rattle.traces.specs.Header.{command_id, command_ring, ring_with, is_command_kind, id_or_none}
+use Rattle.world_state.specs.World.{World}
+use Rattle.controller_model.specs.DriverRows.{activated, bell_row, endpoint_bell}
+use Rattle.controller_model.specs.declared.kept.RingState.{RingState}
+use Rattle.controller_model.specs.Following.{RingHeld, FollowsRing, FollowsRings}
+
+-- the world has the same of each ring
+pub follows_same : (h : Header) (before after : ℕ → RingHeld) (rings : List RingState) → length rings ≡ 256 → ((q : ℕ) → q < 256 → after q ≡ before q) →
+    FollowsRings h before rings → FollowsRings h after rings
+follows_same h before after rings many same f = record {
+  each = λ q y at.
+      let inside = slice_get_within rings q y at in
+      let P : RingHeld → Type 0 = λ held. FollowsRing h q held y in
+      subst P (sym (same q (omega (arith, inside, many)))) (f.each q y at);
+}
+
+-- a ring that a test finds is found by its ID
+found_by_id : (test : Ring → Bool) (rings : List Ring) (x : Ring) → find test rings ≡ Some x → is_some (find (λ r. r.id == x.id) rings) ≡ true
+found_by_id test [] x e = absurd (cc)
+found_by_id test (r ∷ rings) x e =
+    elim (cases_Bool (test r)) [
+      | inl passes ↦
+          let first : Some r ≡ Some x = sym (cond-true (test r) (Some r) (find test rings) passes) ∙ e in
+          let same : r ≡ x = cc in
+          ap (λ o. is_some o) (cond-true (r.id == x.id) (Some r) (find (λ q. q.id == x.id) rings) (eq-eqb r.id x.id (ap (λ (z : Ring). z.id) same)))
+      | inr fails ↦
+          let rest : find test rings ≡ Some x = sym (cond-false (test r) (Some r) (find test rings) fails) ∙ e in
+          let there = found_by_id test rings x rest in
+          elim (cases_Bool (r.id == x.id)) [
+            | inl here ↦ ap (λ o. is_some o) (cond-true (r.id == x.id) (Some r) (find (λ q. q.id == x.id) rings) here)
+            | inr other ↦ ap (λ o. is_some o) (cond-false (r.id == x.id) (Some r) (find (λ q. q.id == x.id) rings) other) ∙ there
+          ]
+    ]
+
+pub command_ring_known : (h : Header) (x : Ring) → Some x ≡ command_ring h → is_some (ring_with h x.id) ≡ true
+unfolding command_ring
+command_ring_known h x e = found_by_id (λ r. is_command_kind r.shape.kind) h.rings x (sym e)
+
+pub command_id-some : (h : Header) (x : Ring) → Some x ≡ command_ring h → command_id h ≡ x.id
+unfolding command_id
+command_id-some h x e = ap id_or_none (sym e)
+
+pub command_id-none : (h : Header) → None ≡ command_ring h → command_id h ≡ 256
+unfolding command_id
+command_id-none h e = ap id_or_none (sym e)
+
+module _ (h : Header) (w : World) (s t : ℕ) where
+  pub bell_endpoint : s ≢ 0 → bell_row h w s t ≡ endpoint_bell h w s t (w.ring_of s t)
+  unfolding bell_row
+  bell_endpoint some = cond-false (s == 0) _ _ (ne_eqb s 0 some)
+
+  pub bell_nothing : s ≡ 0 → (t == 0 && w.started) ≡ false → bell_row h w s t ≡ w
+  unfolding bell_row
+  bell_nothing none idle = cond-true (s == 0) _ _ (eq-eqb s 0 none) ∙ cond-false (t == 0 && w.started) (activated h w (command_id h)) w idle
+
+  pub bell_commands : s ≡ 0 → (t == 0 && w.started) ≡ true → bell_row h w s t ≡ activated h w (command_id h)
+  unfolding bell_row
+  bell_commands none starts = cond-true (s == 0) _ _ (eq-eqb s 0 none) ∙ cond-true (t == 0 && w.started) (activated h w (command_id h)) w starts

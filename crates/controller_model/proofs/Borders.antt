@@ -1,0 +1,26 @@
+-- Where descriptors begin and end once one more is declared
+use Rattle.std.proofs.Common.{◌≡◌, ℕ, ◌+◌, ◌<◌, ◌==◌, ◌||◌, ◌++◌, [], ◌∷◌, List, true, false, refl, sym, arith, add-zero}
+use Rattle.std.proofs.Math.Bool.{or_assoc, or-true}
+use Rattle.std.proofs.lemmas.Bool.{eq-eqb, ne_eqb}
+use Rattle.segments.specs.Descriptors.{is_border}
+use Rattle.controller_model.specs.Declarations.{blocks_of}
+
+pub is_border-append : (lengths : List ℕ) (start n q : ℕ) →
+    is_border (lengths ++ n ∷ []) start q ≡ (is_border lengths start q || start + blocks_of lengths + n == q)
+unfolding is_border
+is_border-append [] start n q = rw add-zero refl
+is_border-append (m ∷ lengths) start n q =
+    let rest : is_border (lengths ++ n ∷ []) (start + m) q ≡ (is_border lengths (start + m) q || start + m + blocks_of lengths + n == q) = is_border-append lengths (start + m) n q in
+    let same : start + m + blocks_of lengths + n ≡ start + (m + blocks_of lengths) + n = omega arith in
+    rw (rest, same) (sym (or_assoc (start == q) (is_border lengths (start + m) q) (start + (m + blocks_of lengths) + n == q)))
+
+pub is_border-past : (lengths : List ℕ) (start q : ℕ) → start + blocks_of lengths < q → is_border lengths start q ≡ false
+unfolding is_border
+is_border-past [] start q past = ne_eqb start q (λ e. omega arith)
+is_border-past (m ∷ lengths) start q past =
+    rw (is_border-past lengths (start + m) q (omega arith), ne_eqb start q (λ e. omega arith)) refl
+
+pub is_border-end : (lengths : List ℕ) (start q : ℕ) → start + blocks_of lengths ≡ q → is_border lengths start q ≡ true
+unfolding is_border
+is_border-end [] start q e = eq-eqb start q (omega arith)
+is_border-end (m ∷ lengths) start q e = rw (is_border-end lengths (start + m) q (omega arith)) (or-true (start == q))

@@ -1,0 +1,135 @@
+-- What is declared by position once one more descriptor is declared
+use Rattle.std.proofs.Common.{◌≡◌, ℕ, zero, suc, ◌+◌, ◌-◌, ◌<◌, ◌==◌, ◌||◌, ◌++◌, [], ◌∷◌, List, Option, Some, None, length, true, false, refl, sym, ap, ◌∙◌, arith, inl, inr, slice_get, option_map, length-append, append_assoc, subst, take, get_or}
+use Rattle.std.proofs.lemmas.Bool.{eq-eqb, ne_eqb, cases_lt, cases_eq}
+use Rattle.std.proofs.lemmas.Option.{slice_get_within}
+use Rattle.std.proofs.lemmas.Grind.{take_at_read}
+use Rattle.std.proofs.lemmas.List.{length-take-le}
+use Rattle.trb.specs.declared.block.Block.{Block}
+use Rattle.segments.specs.Descriptors.{DeclaredBlock, declared_at, is_border}
+use Rattle.controller_model.specs.declared.declared.Declared.{Declared}
+use Rattle.controller_model.specs.declared.declared.Declarations.{Declarations}
+use Rattle.controller_model.specs.Declarations.{Declares, as_declared, entries, blocks_of}
+use Rattle.controller_model.proofs.Borders.{is_border-append, is_border-past, is_border-end}
+
+slice_get-left : {X : Type 0} (xs ys : List X) (p : ℕ) → p < length xs → slice_get (xs ++ ys) p ≡ slice_get xs p
+slice_get-left [] ys p h = absurd (omega arith)
+slice_get-left (x ∷ xs) ys zero h = refl
+slice_get-left (x ∷ xs) ys (suc p) h = slice_get-left xs ys p (omega arith)
+
+slice_get-right : {X : Type 0} (xs ys : List X) (k : ℕ) → slice_get (xs ++ ys) (length xs + k) ≡ slice_get ys k
+slice_get-right [] ys k = ap (λ n. slice_get ys n) (let e : 0 + k ≡ k = omega arith in e)
+slice_get-right (x ∷ xs) ys k =
+    ap (λ n. slice_get (x ∷ (xs ++ ys)) n) (let e : length (x ∷ xs) + k ≡ suc (length xs + k) = omega arith in e) ∙ slice_get-right xs ys k
+
+abbrev entry : ℕ → ℕ → Block → Declared
+entry k last b = record { block = b; begins = k == 0; ends = k == last }
+
+slice_get-entries : (j last : ℕ) (bs : List Block) (k : ℕ) → slice_get (entries j last bs) k ≡ option_map (entry (j + k) last) (slice_get bs k)
+slice_get-entries j last [] k = refl
+slice_get-entries j last (b ∷ bs) zero = ap (λ n. Some (entry n last b)) (let e : j ≡ j + 0 = omega arith in e)
+slice_get-entries j last (b ∷ bs) (suc k) =
+    slice_get-entries (j + 1) last bs k ∙ ap (λ n. option_map (entry n last) (slice_get bs k)) (let e : j + 1 + k ≡ j + suc k = omega arith in e)
+
+pub entries-append : (j last : ℕ) (xs ys : List Block) → entries j last (xs ++ ys) ≡ entries j last xs ++ entries (j + length xs) last ys
+entries-append j last [] ys = ap (λ n. entries n last ys) (let e : j ≡ j + 0 = omega arith in e)
+entries-append j last (x ∷ xs) ys =
+    ap (λ es. entry j last x ∷ es) (entries-append (j + 1) last xs ys
+    ∙ ap (λ n. entries (j + 1) last xs ++ entries n last ys) (let e : j + 1 + length xs ≡ j + length (x ∷ xs) = omega arith in e))
+
+pub length-entries : (j last : ℕ) (bs : List Block) → length (entries j last bs) ≡ length bs
+length-entries j last [] = refl
+length-entries j last (b ∷ bs) = ap suc (length-entries (j + 1) last bs)
+
+blocks_of-append : (lengths : List ℕ) (n : ℕ) → blocks_of (lengths ++ n ∷ []) ≡ blocks_of lengths + n
+blocks_of-append [] n = omega arith
+blocks_of-append (m ∷ lengths) n = omega (arith, blocks_of-append lengths n)
+
+-- the positions before the new descriptor
+before : (d : Declarations) (queue bs : List Block) (lengths : List ℕ) (new : List Declared) → 0 < length bs → Declares d queue lengths → (p : ℕ) → p < length queue →
+    option_map as_declared (slice_get (d.blocks.items ++ new) p) ≡ declared_at (queue ++ bs) (lengths ++ length bs ∷ []) p
+unfolding declared_at
+before d queue bs lengths new some old p h =
+    let within : p < length d.blocks.items = omega (arith, old.many) in
+    let begins : is_border (lengths ++ length bs ∷ []) 0 p ≡ is_border lengths 0 p = kept lengths (length bs) p (omega (arith, old.whole)) in
+    let ends : is_border (lengths ++ length bs ∷ []) 0 (p + 1) ≡ is_border lengths 0 (p + 1) = kept lengths (length bs) (p + 1) (omega (arith, old.whole)) in
+    rw (slice_get-left d.blocks.items new p within, slice_get-left queue bs p h, begins, ends) (old.at p)
+  where
+    or_no : (b : _) → (b || false) ≡ b
+    or_no true = refl
+    or_no false = refl
+
+    kept : (lengths : List ℕ) (n q : ℕ) → q < blocks_of lengths + n → is_border (lengths ++ n ∷ []) 0 q ≡ is_border lengths 0 q
+    kept lengths n q h =
+        is_border-append lengths 0 n q ∙ ap (λ b. is_border lengths 0 q || b) (ne_eqb (0 + blocks_of lengths + n) q (λ e. omega arith)) ∙ or_no (is_border lengths 0 q)
+
+begins_at : (lengths : List ℕ) (n k : ℕ) → k < n → (0 + k == 0) ≡ is_border (lengths ++ n ∷ []) 0 (blocks_of lengths + k)
+begins_at lengths n k h =
+    elim (cases_eq k 0) [
+      | inl first ↦
+          eq-eqb (0 + k) 0 (omega arith) ∙ sym (is_border-append lengths 0 n (blocks_of lengths + k)
+          ∙ ap (λ b. b || 0 + blocks_of lengths + n == blocks_of lengths + k) (is_border-end lengths 0 (blocks_of lengths + k) (omega arith)))
+      | inr later ↦
+          ne_eqb (0 + k) 0 (λ e. later (omega arith)) ∙ sym (is_border-append lengths 0 n (blocks_of lengths + k)
+          ∙ (λ i. is_border-past lengths 0 (blocks_of lengths + k) (omega (arith, later)) i || ne_eqb (0 + blocks_of lengths + n) (blocks_of lengths + k) (λ e. omega arith) i))
+    ]
+
+ends_at : (lengths : List ℕ) (n k : ℕ) → k < n → (0 + k == n - 1) ≡ is_border (lengths ++ n ∷ []) 0 (blocks_of lengths + k + 1)
+ends_at lengths n k h =
+    elim (cases_eq (k + 1) n) [
+      | inl last ↦
+          eq-eqb (0 + k) (n - 1) (omega arith) ∙ sym (is_border-append lengths 0 n (blocks_of lengths + k + 1)
+          ∙ (λ i. is_border-past lengths 0 (blocks_of lengths + k + 1) (omega arith) i || eq-eqb (0 + blocks_of lengths + n) (blocks_of lengths + k + 1) (omega arith) i))
+      | inr earlier ↦
+          ne_eqb (0 + k) (n - 1) (λ e. earlier (omega arith)) ∙ sym (is_border-append lengths 0 n (blocks_of lengths + k + 1)
+          ∙ (λ i. is_border-past lengths 0 (blocks_of lengths + k + 1) (omega arith) i || ne_eqb (0 + blocks_of lengths + n) (blocks_of lengths + k + 1) (λ e. earlier (omega arith)) i))
+    ]
+
+-- the positions of the new descriptor
+behind : (bs queue : List Block) (lengths : List ℕ) (k : ℕ) → blocks_of lengths ≡ length queue →
+    option_map as_declared (slice_get (entries 0 (length bs - 1) bs) k) ≡ declared_at (queue ++ bs) (lengths ++ length bs ∷ []) (length queue + k)
+unfolding declared_at
+behind bs queue lengths k whole =
+    rw (slice_get-entries 0 (length bs - 1) bs k, slice_get-right queue bs k) (each (slice_get bs k) (λ b at. slice_get_within bs k b at))
+  where
+    each : (o : Option Block) → ((b : Block) → o ≡ Some b → k < length bs) →
+        option_map as_declared (option_map (entry (0 + k) (length bs - 1)) o)
+        ≡ option_map (λ b. let d : DeclaredBlock = record { block = b; begins = is_border (lengths ++ length bs ∷ []) 0 (length queue + k); ends = is_border (lengths ++ length bs ∷ []) 0 (length queue + k + 1) } in d) o
+    each None within = refl
+    each (Some b) within =
+        let h : k < length bs = within b refl in
+        let begins = rw whole at (begins_at lengths (length bs) k h) in
+        let ends = rw whole at (ends_at lengths (length bs) k h) in
+        (λ i. Some (record { block = b; begins = begins i; ends = ends i }))
+
+-- the positions of the new descriptor, behind those of the older ones
+behind_old : (old : List Declared) (bs queue : List Block) (lengths : List ℕ) (k : ℕ) → length old ≡ length queue → blocks_of lengths ≡ length queue →
+    option_map as_declared (slice_get (old ++ entries 0 (length bs - 1) bs) (length queue + k)) ≡ declared_at (queue ++ bs) (lengths ++ length bs ∷ []) (length queue + k)
+behind_old old bs queue lengths k many whole =
+    ap (λ n. option_map as_declared (slice_get (old ++ entries 0 (length bs - 1) bs) (n + k))) (sym many)
+    ∙ ap (λ o. option_map as_declared o) (slice_get-right old (entries 0 (length bs - 1) bs) k)
+    ∙ behind bs queue lengths k whole
+
+pub declares_more : (d e : Declarations) (queue bs : List Block) (lengths : List ℕ) → 0 < length bs →
+    e.blocks.items ≡ d.blocks.items ++ entries 0 (length bs - 1) bs → Declares d queue lengths → Declares e (queue ++ bs) (lengths ++ length bs ∷ [])
+declares_more d e queue bs lengths some made old = record {
+  at = λ p. rw made (elim (cases_lt p (length queue)) [
+    | inl h ↦ before d queue bs lengths (entries 0 (length bs - 1) bs) some old p h
+    | inr h ↦
+        let P : ℕ → Type 0 = λ q. option_map as_declared (slice_get (d.blocks.items ++ entries 0 (length bs - 1) bs) q) ≡ declared_at (queue ++ bs) (lengths ++ length bs ∷ []) q in
+        let same : length queue + (p - length queue) ≡ p = omega arith in
+        subst P same (behind_old d.blocks.items bs queue lengths (p - length queue) old.many old.whole)
+  ]);
+  many = ap length made ∙ length-append d.blocks.items (entries 0 (length bs - 1) bs) ∙ (λ i. old.many i + length-entries 0 (length bs - 1) bs i) ∙ sym (length-append queue bs);
+  whole = blocks_of-append lengths (length bs) ∙ ap (λ n. n + length bs) old.whole ∙ sym (length-append queue bs);
+}
+
+-- one more block of the new descriptor
+pub entries_push : (old : List Declared) (now : List Declared) (bs : List Block) (i last : ℕ) (b : Block) → i < length bs →
+    now ≡ old ++ entries 0 last (take i bs) → now ++ entry i last (get_or bs i b) ∷ [] ≡ old ++ entries 0 last (take (i + 1) bs)
+entries_push old now bs i last b h made =
+    ap (λ xs. xs ++ entry i last (get_or bs i b) ∷ []) made
+    ∙ append_assoc old (entries 0 last (take i bs)) (entry i last (get_or bs i b) ∷ [])
+    ∙ ap (λ xs. old ++ xs) (sym (
+    ap (λ xs. entries 0 last xs) ((take_at_read bs i b h).1)
+    ∙ entries-append 0 last (take i bs) (get_or bs i b ∷ [])
+    ∙ ap (λ n. entries 0 last (take i bs) ++ entry n last (get_or bs i b) ∷ []) (let e : 0 + length (take i bs) ≡ i = omega (arith, length-take-le i bs (omega arith)) in e)))

@@ -1,0 +1,68 @@
+-- One endpoint is changed, and what a doorbell does
+use Rattle.std.proofs.Common.{◌≡◌, ◌≢◌, ℕ, ◌+◌, ◌*◌, ◌<◌, ◌==◌, ◌&&◌, ◌||◌, ◌∙◌, ap, sym, subst, refl, true, false, Bool, List, Option, Some, None, length, slice_get, get_or, set, inl, inr, arith}
+use Rattle.std.proofs.lemmas.Bool.{cases_eq, cond-true, cond-false, eq-eqb, ne_eqb}
+use Rattle.guest_memory.specs.Memory.{put_pair}
+use Rattle.commands.specs.declared.state.EndpointState.{EndpointState}
+use Rattle.commands.specs.declared.state.EndpointState.TheVariants.{Running}
+use Rattle.commands.specs.States.{is_running, is_stopped}
+use Rattle.traces.specs.declared.header.Header.{Header}
+use Rattle.world_state.specs.World.{World}
+use Rattle.controller_model.specs.DriverRows.{activated, endpoint_bell}
+use Rattle.controller_model.specs.declared.kept.Endpoint.{Endpoint}
+use Rattle.controller_model.specs.Following.{FollowsEndpoints}
+use Rattle.controller_model.proofs.RingLemmas.{read_at, slice_get-set_same, slice_get-set_other}
+
+pub put_pair_same : {A : Type 0} (f : ℕ → ℕ → A) (s i : ℕ) (x : A) → put_pair f s i x s i ≡ x
+put_pair_same f s i x = cond-true (s == s && i == i) x (f s i) (λ k. eq-eqb s s refl k && eq-eqb i i refl k)
+
+pub put_pair_slot : {A : Type 0} (f : ℕ → ℕ → A) (s i t j : ℕ) (x : A) → t ≢ s → put_pair f s i x t j ≡ f t j
+put_pair_slot f s i t j x apart = cond-false (t == s && j == i) x (f t j) (ap (λ b. b && j == i) (ne_eqb t s apart))
+
+pub put_pair_index : {A : Type 0} (f : ℕ → ℕ → A) (s i t j : ℕ) (x : A) → j ≢ i → put_pair f s i x t j ≡ f t j
+put_pair_index f s i t j x apart = cond-false (t == s && j == i) x (f t j) (ap (λ b. t == s && b) (ne_eqb j i apart) ∙ and_false (t == s))
+  where
+    and_false : (b : Bool) → (b && false) ≡ false
+    and_false true = refl
+    and_false false = refl
+
+-- the state of an endpoint is replaced
+pub endpoints_state : (h : Header) (endpoints : List Endpoint) (state : ℕ → ℕ → EndpointState) (ring_of : ℕ → ℕ → Option ℕ) (n s i : ℕ) (x new : Endpoint) →
+    n ≡ s * 32 + i → s < 256 → i < 32 → length endpoints ≡ 256 * 32 → x ≡ get_or endpoints n x → new.ring ≡ x.ring →
+    FollowsEndpoints h endpoints state ring_of → FollowsEndpoints h (set endpoints n new) (put_pair state s i new.state) ring_of
+endpoints_state h endpoints state ring_of n s i x new index slot below many value kept f = record {
+  each = λ t j y within at. elim (cases_eq t s) [
+    | inr apart ↦
+        let old = f.each t j y within (sym (slice_get-set_other endpoints n (t * 32 + j) new (λ e. apart (omega arith))) ∙ at) in
+        (put_pair_slot state s i t j new.state apart ∙ old.0, old.1)
+    | inl same ↦ elim (cases_eq j i) [
+      | inr apart ↦
+          let old = f.each t j y within (sym (slice_get-set_other endpoints n (t * 32 + j) new (λ e. apart (omega arith))) ∙ at) in
+          (put_pair_index state s i t j new.state apart ∙ old.0, old.1)
+      | inl here ↦
+          let place : t * 32 + j ≡ n = omega arith in
+          let P : ℕ → Type 0 = λ k. slice_get (set endpoints n new) k ≡ Some y in
+          let is : new ≡ y = slice_get-set_same endpoints n new y (subst P place at) in
+          let old = f.each s i x below (read_at endpoints n (s * 32 + i) x index (omega arith) value) in (
+            (λ k. put_pair state s i new.state (same k) (here k)) ∙ put_pair_same state s i new.state ∙ ap (λ (z : Endpoint). z.state) is,
+            (λ k. ring_of (same k) (here k)) ∙ old.1 ∙ sym kept ∙ ap (λ (z : Endpoint). z.ring) is,
+          )
+    ]
+  ];
+  no_more = f.no_more;
+  known = f.known;
+}
+
+module _ (h : Header) (w : World) (s t : ℕ) where
+  pub bell_none : w.ring_of s t ≡ None → endpoint_bell h w s t (w.ring_of s t) ≡ w
+  unfolding endpoint_bell
+  bell_none e = ap (λ o. endpoint_bell h w s t o) e
+
+  pub bell_idle : (r : ℕ) → w.ring_of s t ≡ Some r → (is_running (w.endpoint_state s t) || is_stopped (w.endpoint_state s t)) ≡ false →
+      endpoint_bell h w s t (w.ring_of s t) ≡ w
+  unfolding endpoint_bell
+  bell_idle r e idle = ap (λ o. endpoint_bell h w s t o) e ∙ cond-false (is_running (w.endpoint_state s t) || is_stopped (w.endpoint_state s t)) _ w idle
+
+  pub bell_rings : (r : ℕ) → w.ring_of s t ≡ Some r → (is_running (w.endpoint_state s t) || is_stopped (w.endpoint_state s t)) ≡ true →
+      endpoint_bell h w s t (w.ring_of s t) ≡ record (activated h w r) { endpoint_state = put_pair w.endpoint_state s t Running }
+  unfolding endpoint_bell
+  bell_rings r e runs = ap (λ o. endpoint_bell h w s t o) e ∙ cond-true (is_running (w.endpoint_state s t) || is_stopped (w.endpoint_state s t)) _ w runs

@@ -1,0 +1,106 @@
+-- One more thing that happens on a ring
+use Rattle.std.proofs.Common.{◌≡◌, ℕ, suc, ◌+◌, ◌-◌, ◌<◌, ◌≤◌, ◌==◌, ◌||◌, ◌++◌, if◌then◌else◌, not, [], ◌∷◌, List, Option, length, drop, true, false, refl, sym, ap, ◌∙◌, arith, length-append, inl, inr}
+use Rattle.std.proofs.lemmas.List.{drop-append-le, drop-drop, drop_all, length-drop}
+use Rattle.std.proofs.lemmas.Bool.{false≢true, cases_eq, eq-eqb, ne_eqb, cond-true, cond-false}
+use Rattle.trb.specs.declared.block.Block.{Block}
+use Rattle.segments.specs.ShapeValue.{Shape}
+use Rattle.segments.specs.Places.{address_of, cycle_of}
+use Rattle.segments.specs.Descriptors.{DeclaredBlock}
+use Rattle.world_state.specs.World.{RingEvent, Took, Placed}
+use Rattle.world_state.specs.Takes.{takes_of, next_take, was_placed, first_at, is_as_declared}
+use Rattle.world_state.specs.Harms.{is_right_place, is_out_of_order, has_other_words, is_end, is_inside_descriptor}
+use Rattle.std.proofs.Common.{slice_index_or}
+use Rattle.traces.specs.declared.header.Header.{Header}
+use Rattle.controller_model.specs.Posts.{is_last}
+use Rattle.controller_model.specs.declared.history.History.{History}
+use Rattle.controller_model.specs.Histories.{Keeps}
+
+-- a bit by a test
+pub as_bit : (shape : Shape) (p : ℕ) → (if cycle_of shape p == 1 then 1 else 0) ≡ cycle_of shape p
+as_bit shape p =
+    elim (cases_eq (cycle_of shape p) 1) [
+      | inl one ↦ cond-true _ 1 0 (eq-eqb (cycle_of shape p) 1 one) ∙ sym one
+      | inr zero ↦ cond-false _ 1 0 (ne_eqb (cycle_of shape p) 1 zero) ∙ (let e : 0 ≡ cycle_of shape p = omega arith in e)
+    ]
+
+drop-more : {X : Type 0} (n : ℕ) (xs ys : List X) → n ≤ length xs → drop n (xs ++ ys) ≡ drop n xs ++ ys
+drop-more n xs ys h = drop-append-le n xs ys h
+
+-- a take: what it says of its position, and what is kept after it
+pub record Takes (shape : Shape) (h after : History) (a : ℕ) (b : Block) (d : Option DeclaredBlock) : Type 0 where
+  pub next : after.next ≡ h.next + 1
+  pub placed : after.was_placed ≡ false
+  pub inside : after.is_inside ≡ not (is_end d)
+  pub order : after.out_of_order ≡ (not (is_right_place h.was_placed d) || not (address_of shape h.next == a) || h.out_of_order)
+  pub words : after.other_words ≡ (not (is_as_declared shape d h.next b) || h.other_words)
+  pub unreported : after.unreported.items ≡ h.unreported.items ++ a ∷ []
+
+pub keeps_took : (shape : Shape) (events : List RingEvent) (reported : ℕ) (h after : History) (a : ℕ) (b : Block) (d : Option DeclaredBlock) →
+    Takes shape h after a b d → Keeps shape events reported h → Keeps shape (Took a b d ∷ events) reported after
+unfolding next_take was_placed is_inside_descriptor is_out_of_order has_other_words takes_of
+keeps_took shape events reported h after a b d t k = record {
+  next = ap (λ n. n + 1) k.next ∙ sym t.next;
+  placed = sym t.placed;
+  inside = sym t.inside;
+  order = (λ i. not (is_right_place (k.placed i) d) || not (address_of shape (k.next i) == a) || k.order i) ∙ sym t.order;
+  words = (λ i. not (is_as_declared shape d (k.next i) b) || k.words i) ∙ sym t.words;
+  unreported = drop-more reported (takes_of events) (a ∷ []) k.few ∙ ap (λ xs. xs ++ a ∷ []) k.unreported ∙ sym t.unreported;
+  few = omega (arith, k.few, length-append (takes_of events) (a ∷ []));
+}
+
+pub keeps_nothing : (shape : Shape) (h : History) → h.next ≡ 0 → h.was_placed ≡ false → h.is_inside ≡ false → h.out_of_order ≡ false → h.other_words ≡ false →
+    h.unreported.items ≡ [] → Keeps shape [] 0 h
+unfolding next_take was_placed is_inside_descriptor is_out_of_order has_other_words takes_of
+keeps_nothing shape h next placed inside order words unreported =
+    record { next = sym next; placed = sym placed; inside = sym inside; order = sym order; words = sym words; unreported = sym unreported; few = omega arith }
+
+-- the same, but for the takes that weren't reported
+pub record KeepsRest (h after : History) : Type 0 where
+  pub next : after.next ≡ h.next
+  pub placed : after.was_placed ≡ h.was_placed
+  pub inside : after.is_inside ≡ h.is_inside
+  pub order : after.out_of_order ≡ h.out_of_order
+  pub words : after.other_words ≡ h.other_words
+
+pub keeps_reported : (shape : Shape) (events : List RingEvent) (reported n : ℕ) (h after : History) → KeepsRest h after → n ≤ length h.unreported.items →
+    after.unreported.items ≡ drop n h.unreported.items → Keeps shape events reported h → Keeps shape events (reported + n) after
+keeps_reported shape events reported n h after same few rest k =
+    let left : length (drop reported (takes_of events)) ≡ length h.unreported.items = ap length k.unreported in
+    record {
+      next = k.next ∙ sym same.next;
+      placed = k.placed ∙ sym same.placed;
+      inside = k.inside ∙ sym same.inside;
+      order = k.order ∙ sym same.order;
+      words = k.words ∙ sym same.words;
+      unreported = sym (drop-drop n reported (takes_of events)) ∙ ap (λ xs. drop n xs) k.unreported ∙ sym rest;
+      few = omega (arith, left, few, k.few, length-drop reported (takes_of events));
+    }
+
+pub keeps_placed : (shape : Shape) (events : List RingEvent) (reported a : ℕ) (h after : History) → after.next ≡ first_at shape a h.next → after.was_placed ≡ true →
+    after.is_inside ≡ false → after.out_of_order ≡ h.out_of_order → after.other_words ≡ h.other_words → after.unreported.items ≡ [] →
+    Keeps shape events reported h → Keeps shape (Placed a ∷ events) (length (takes_of events)) after
+unfolding next_take was_placed is_inside_descriptor is_out_of_order has_other_words takes_of
+keeps_placed shape events reported a h after next placed inside order words none k = record {
+  next = ap (λ n. first_at shape a n) k.next ∙ sym next;
+  placed = sym placed;
+  inside = sym inside;
+  order = k.order ∙ sym order;
+  words = k.words ∙ sym words;
+  unreported = drop_all (length (takes_of events)) (takes_of events) (omega arith) ∙ sym none;
+  few = omega arith;
+}
+
+pub is_last-none : (h : Header) (a n : ℕ) (xs : List ℕ) → n ≡ length xs → (0 < n → false ≡ true) → false ≡ is_last h a xs
+unfolding is_last
+is_last-none h a n [] many none = refl
+is_last-none h a n (x ∷ xs) many none = absurd (false≢true (none (omega arith)))
+
+pub is_last-some : (h : Header) (a x n : ℕ) (xs : List ℕ) → n ≡ length xs → 0 < n → x ≡ slice_index_or xs (n - 1) x → (x == a) ≡ is_last h a xs
+unfolding is_last
+is_last-some h a x n [] many some at = absurd (omega arith)
+is_last-some h a x n (y ∷ []) many some at =
+    let first : slice_index_or (y ∷ []) (n - 1) x ≡ y = ap (λ k. slice_index_or (y ∷ []) k x) (let e : n - 1 ≡ 0 = omega arith in e) in
+    ap (λ z. z == a) (at ∙ first)
+is_last-some h a x n (y ∷ z ∷ zs) many some at =
+    let later : slice_index_or (y ∷ z ∷ zs) (n - 1) x ≡ slice_index_or (z ∷ zs) (n - 1 - 1) x = ap (λ k. slice_index_or (y ∷ z ∷ zs) k x) (let e : n - 1 ≡ suc (n - 1 - 1) = omega arith in e) in
+    is_last-some h a x (n - 1) (z ∷ zs) (omega arith) (omega arith) (at ∙ later)

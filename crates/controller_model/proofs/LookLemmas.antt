@@ -1,0 +1,41 @@
+-- What a look does to what is kept of a ring
+use Rattle.std.proofs.Common.{◌≡◌, ℕ, ◌+◌, ◌%◌, ◌^◌, ◌∷◌, ◌∙◌, Option, IsSome, true, if◌then◌else◌, ap, sym, subst}
+use Rattle.trb.specs.declared.block.Block.{Block}
+use Rattle.segments.specs.ShapeValue.{Shape}
+use Rattle.segments.specs.Descriptors.{DeclaredBlock, declared_at}
+use Rattle.traces.specs.declared.header.Header.{Header}
+use Rattle.traces.specs.Header.{shape_of, ring_with}
+use Rattle.world_state.specs.World.{Took}
+use Rattle.world_state.specs.Takes.{next_take}
+use Rattle.controller_model.specs.declared.kept.RingState.{RingState}
+use Rattle.controller_model.specs.declared.history.History.{History}
+use Rattle.controller_model.specs.Declarations.{Declares}
+use Rattle.controller_model.specs.Histories.{Keeps}
+use Rattle.controller_model.specs.Following.{RingHeld, FollowsRing, taken_held}
+
+-- what a take says of its position, in the world's terms
+took_as : (h : Header) (r : ℕ) (held : RingHeld) (shape : Shape) (x : RingState) (b : Block) (d : Option DeclaredBlock) (p : ℕ) (after : History) → shape ≡ shape_of h r →
+    p ≡ x.history.next → d ≡ declared_at held.queue held.lengths p → Keeps shape (Took x.pointer b d ∷ held.events) held.reported after →
+    FollowsRing h r held x →
+    Keeps (shape_of h r) (Took held.pointer b (declared_at held.queue held.lengths (next_take (shape_of h r) held.events)) ∷ held.events) held.reported after
+took_as h r held shape x b d p after same next told keeps f =
+    let P : Shape → Type 0 = λ s. Keeps s (Took x.pointer b d ∷ held.events) held.reported after in
+    let Q : ℕ → Type 0 = λ a. Keeps (shape_of h r) (Took a b d ∷ held.events) held.reported after in
+    let R : Option DeclaredBlock → Type 0 = λ o. Keeps (shape_of h r) (Took held.pointer b o ∷ held.events) held.reported after in
+    let there : d ≡ declared_at held.queue held.lengths (next_take (shape_of h r) held.events) =
+    told ∙ ap (λ n. declared_at held.queue held.lengths n) (next ∙ sym f.history.next) in
+    subst R there (subst Q (sym f.pointer) (subst P same keeps))
+
+pub take_follows : (h : Header) (r : ℕ) (held : RingHeld) (shape : Shape) (x after : RingState) (b : Block) (d : Option DeclaredBlock) (p : ℕ) → shape ≡ shape_of h r →
+    p ≡ x.history.next → d ≡ declared_at held.queue held.lengths p → Keeps shape (Took x.pointer b d ∷ held.events) held.reported after.history →
+    Declares after.declared held.queue held.lengths → after.pointer ≡ (x.pointer + 16) % 2 ^ 64 → held.cycle ≡ (if after.cycle then 1 else 0) →
+    held.is_active ≡ after.is_active → (after.is_active ≡ true → IsSome (ring_with h r)) →
+    FollowsRing h r held x → FollowsRing h r (taken_held (shape_of h r) held b) after
+take_follows h r held shape x after b d p same next told keeps declared pointer cycle active known f = record {
+  declared = declared;
+  history = took_as h r held shape x b d p after.history same next told keeps f;
+  pointer = ap (λ n. (n + 16) % 2 ^ 64) f.pointer ∙ sym pointer;
+  cycle = cycle;
+  active = active;
+  known = known;
+}

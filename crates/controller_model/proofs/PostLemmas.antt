@@ -1,0 +1,43 @@
+-- When an event may be posted
+use Rattle.std.proofs.Common.{◌≡◌, ℕ, ◌≤◌, ◌==◌, ◌&&◌, ◌∙◌, Bool, true, false, Some, None, ap, sym, arith}
+use Rattle.std.specs.Prelude.{nat_lt}
+use Rattle.std.proofs.lemmas.Bool.{cond-true, cond-false, lt-ltb}
+use Rattle.trb.specs.declared.block.Block.{Block}
+use Rattle.trb.specs.Block.{cycle, kind}
+use Rattle.trb.specs.Kind.{is_other_event}
+use Rattle.segments.specs.ShapeValue.{Shape}
+use Rattle.segments.specs.Places.{place_count, cycle_of}
+use Rattle.event_ring.specs.EventRing.{has_room}
+use Rattle.traces.specs.declared.header.Header.{Header}
+use Rattle.traces.specs.Header.{event_ring, event_shape, event_size, shape_or}
+use Rattle.trb.specs.declared.ring_kind.RingKind.TheVariants.{Evt}
+use Rattle.world_state.specs.World.{World}
+use Rattle.controller_model.specs.Posts.{can_post, posted, other_posted}
+
+pub no_ring : (h : Header) (w : World) (b : Block) → None ≡ event_ring h → can_post h w b ≡ false
+unfolding can_post event_size event_shape
+no_ring h w b none =
+    (λ i. nat_lt 0 (place_count (shape_or Evt (sym none i))) && w.started && has_room (place_count (shape_or Evt (sym none i))) w.posted w.dequeue
+    && cycle b == cycle_of (shape_or Evt (sym none i)) w.posted)
+
+pub can_post_is : (h : Header) (w : World) (b : Block) (shape : Shape) (p d : ℕ) (started turn room : Bool) → shape ≡ event_shape h → 2 ≤ place_count shape →
+    w.started ≡ started → w.posted ≡ p → w.dequeue ≡ d → room ≡ has_room (place_count shape) p d → turn ≡ (cycle b == cycle_of shape p) →
+    (started && room && turn) ≡ can_post h w b
+unfolding can_post event_size
+can_post_is h w b shape p d started turn room same some run at deq roomy agrees =
+    let there : true ≡ nat_lt 0 (place_count (event_shape h)) = sym (lt-ltb 0 (place_count shape) (omega arith)) ∙ ap (λ s. nat_lt 0 (place_count s)) same in
+    let fits : room ≡ has_room (place_count (event_shape h)) w.posted w.dequeue = roomy ∙ (λ i. has_room (place_count (same i)) (sym at i) (sym deq i)) in
+    let turned : turn ≡ (cycle b == cycle_of (event_shape h) w.posted) = agrees ∙ (λ i. cycle b == cycle_of (same i) (sym at i)) in
+    (λ i. there i && sym run i && fits i && turned i)
+
+pub other_not_now : (h : Header) (w : World) (b : Block) → can_post h w b ≡ false → other_posted h w b ≡ None
+unfolding other_posted
+other_not_now h w b e = cond-false (can_post h w b && is_other_event (kind b)) _ None (ap (λ t. t && is_other_event (kind b)) e)
+
+pub other_not_so : (h : Header) (w : World) (b : Block) → can_post h w b ≡ true → is_other_event (kind b) ≡ false → other_posted h w b ≡ None
+unfolding other_posted
+other_not_so h w b e differs = cond-false (can_post h w b && is_other_event (kind b)) _ None (λ i. e i && differs i)
+
+pub other_made : (h : Header) (w : World) (b : Block) → can_post h w b ≡ true → is_other_event (kind b) ≡ true → other_posted h w b ≡ Some (posted h w b)
+unfolding other_posted
+other_made h w b e so = cond-true (can_post h w b && is_other_event (kind b)) _ None (λ i. e i && so i)

@@ -1,0 +1,22 @@
+-- When the driver may read an event
+use Rattle.std.proofs.Common.{◌≡◌, ◌+◌, ◌<◌, ◌≤◌, ◌&&◌, true, false, Some, None, ap}
+use Rattle.std.specs.Prelude.{nat_lt}
+use Rattle.std.proofs.lemmas.Bool.{cond-true, cond-false, lt-ltb, le-ltb}
+use Rattle.trb.specs.declared.block.Block.{Block}
+use Rattle.trb.specs.Block.{same_words}
+use Rattle.traces.specs.declared.header.Header.{Header}
+use Rattle.world_state.specs.World.{World, event_at}
+use Rattle.controller_model.specs.DriverRows.{event_read}
+
+module _ (h : Header) (w : World) (e : Block) where
+  pub read_nothing : w.posted ≤ w.reads → event_read h w e ≡ None
+  unfolding event_read
+  read_nothing none = cond-false (nat_lt w.reads w.posted && same_words (event_at h w w.reads) e) _ None (ap (λ b. b && same_words (event_at h w w.reads) e) (le-ltb w.reads w.posted none))
+
+  pub read_other : w.reads < w.posted → same_words (event_at h w w.reads) e ≡ false → event_read h w e ≡ None
+  unfolding event_read
+  read_other some differs = cond-false (nat_lt w.reads w.posted && same_words (event_at h w w.reads) e) _ None (λ i. lt-ltb w.reads w.posted some i && differs i)
+
+  pub read_made : w.reads < w.posted → same_words (event_at h w w.reads) e ≡ true → event_read h w e ≡ Some (record w { reads = w.reads + 1 })
+  unfolding event_read
+  read_made some same = cond-true (nat_lt w.reads w.posted && same_words (event_at h w w.reads) e) _ None (λ i. lt-ltb w.reads w.posted some i && same i)

@@ -1,0 +1,83 @@
+-- What a written register does
+use Rattle.std.proofs.Common.{Bool, true, false, not, ◌&&◌, ◌||◌, ◌≡◌, ◌≢◌, ℕ, ◌%◌, ◌==◌, ◌∙◌, if◌then◌else◌, Option, ap, sym, refl, inl, inr, arith}
+use Rattle.std.proofs.lemmas.Bool.{cases_eq, cond-true, cond-false, eq-eqb, ne_eqb}
+use Rattle.traces.specs.declared.register.Register.{Register}
+use Rattle.traces.specs.declared.register.Register.TheVariants.{Usbcmd, Usbsts, Dnctrl, Crcr, Dcbaap, Config, Iman, Imod, Erstsz, Erstba, Erdp}
+use Rattle.traces.specs.Register.{with_register, base_address, ring_cycle_state, run_bit, reset_bit}
+use Rattle.traces.specs.declared.header.Header.{Header}
+use Rattle.controller_model.specs.DriverRows.{register_row, run_or_stop, started_with, valued}
+use Rattle.world_state.specs.World.{World}
+use Rattle.controller_model.specs.declared.kept.Registers.{Registers}
+use Rattle.controller_model.specs.Following.{FollowsRegisters, ring_held, noted, pointed}
+use Rattle.controller_model.proofs.RingLemmas.{put_same, put_other}
+
+pub registers_noted : (k : Registers) (values : Register → Option ℕ) (r : Register) (v : ℕ) → FollowsRegisters k values → FollowsRegisters (noted k r v) (with_register values r v)
+registers_noted k values Usbcmd v f = record { crcr = f.crcr; dcbaap = f.dcbaap; config = f.config }
+registers_noted k values Usbsts v f = record { crcr = f.crcr; dcbaap = f.dcbaap; config = f.config }
+registers_noted k values Dnctrl v f = record { crcr = f.crcr; dcbaap = f.dcbaap; config = f.config }
+registers_noted k values Crcr v f = record { crcr = refl; dcbaap = f.dcbaap; config = f.config }
+registers_noted k values Dcbaap v f = record { crcr = f.crcr; dcbaap = refl; config = f.config }
+registers_noted k values Config v f = record { crcr = f.crcr; dcbaap = f.dcbaap; config = refl }
+registers_noted k values Iman v f = record { crcr = f.crcr; dcbaap = f.dcbaap; config = f.config }
+registers_noted k values Imod v f = record { crcr = f.crcr; dcbaap = f.dcbaap; config = f.config }
+registers_noted k values Erstsz v f = record { crcr = f.crcr; dcbaap = f.dcbaap; config = f.config }
+registers_noted k values Erstba v f = record { crcr = f.crcr; dcbaap = f.dcbaap; config = f.config }
+registers_noted k values Erdp v f = record { crcr = f.crcr; dcbaap = f.dcbaap; config = f.config }
+
+pub pointed_here : (w : World) (r crcr : ℕ) → ring_held (pointed w r crcr) r ≡ record (ring_held w r) { pointer = base_address crcr; cycle = ring_cycle_state crcr }
+pointed_here w r crcr = (λ i. record (ring_held w r) {
+  pointer = put_same w.pointer_of r (base_address crcr) i;
+  cycle = put_same w.cycle_state r (ring_cycle_state crcr) i;
+})
+
+pub pointed_other : (w : World) (r crcr q : ℕ) → q ≢ r → ring_held (pointed w r crcr) q ≡ ring_held w q
+pointed_other w r crcr q apart = (λ i. record (ring_held w q) {
+  pointer = put_other w.pointer_of r q (base_address crcr) apart i;
+  cycle = put_other w.cycle_state r q (ring_cycle_state crcr) apart i;
+})
+
+-- the lowest bit by a test
+pub lowest_bit : (n : ℕ) → n % 2 ≡ (if n % 2 == 1 then 1 else 0)
+lowest_bit n =
+    elim (cases_eq (n % 2) 1) [
+      | inl one ↦ one ∙ sym (cond-true (n % 2 == 1) 1 0 (eq-eqb (n % 2) 1 one))
+      | inr zero ↦ (let e : n % 2 ≡ 0 = omega arith in e) ∙ sym (cond-false (n % 2 == 1) 1 0 (ne_eqb (n % 2) 1 zero))
+    ]
+
+stops_unless_runs : (a b : Bool) → (not a || b) ≡ not (a && not b)
+stops_unless_runs true true = refl
+stops_unless_runs true false = refl
+stops_unless_runs false true = refl
+stops_unless_runs false false = refl
+
+module _ (h : Header) (w : World) (v : ℕ) where
+  pub row_starts : w.started ≡ false → (run_bit v && not (reset_bit v)) ≡ true → register_row h w Usbcmd v ≡ started_with h (valued w Usbcmd v)
+  unfolding register_row run_or_stop valued
+  row_starts e runs = cond-true (not w.started) _ _ (ap not e) ∙ cond-true (run_bit v && not (reset_bit v)) _ _ runs
+
+  pub row_waits : w.started ≡ false → (run_bit v && not (reset_bit v)) ≡ false → register_row h w Usbcmd v ≡ valued w Usbcmd v
+  unfolding register_row run_or_stop valued
+  row_waits e idle = cond-true (not w.started) _ _ (ap not e) ∙ cond-false (run_bit v && not (reset_bit v)) _ _ idle
+
+  pub row_stops : w.started ≡ true → (run_bit v && not (reset_bit v)) ≡ false → register_row h w Usbcmd v ≡ record (valued w Usbcmd v) { stopped = true }
+  unfolding register_row run_or_stop valued
+  row_stops e idle = cond-false (not w.started) _ _ (ap not e) ∙ cond-true (not (run_bit v) || reset_bit v) _ _ (stops_unless_runs (run_bit v) (reset_bit v) ∙ ap not idle)
+
+  pub row_goes_on : w.started ≡ true → (run_bit v && not (reset_bit v)) ≡ true → register_row h w Usbcmd v ≡ valued w Usbcmd v
+  unfolding register_row run_or_stop valued
+  row_goes_on e runs = cond-false (not w.started) _ _ (ap not e) ∙ cond-false (not (run_bit v) || reset_bit v) _ _ (stops_unless_runs (run_bit v) (reset_bit v) ∙ ap not runs)
+
+-- the other registers are kept, and do no more
+pub other_register : (h : Header) (w : World) (r : Register) (v : ℕ) → r ≢ Usbcmd → r ≢ Erdp → register_row h w r v ≡ valued w r v
+unfolding register_row
+other_register h w Usbcmd v a b = absurd (a refl)
+other_register h w Erdp v a b = absurd (b refl)
+other_register h w Usbsts v a b = refl
+other_register h w Dnctrl v a b = refl
+other_register h w Crcr v a b = refl
+other_register h w Dcbaap v a b = refl
+other_register h w Config v a b = refl
+other_register h w Iman v a b = refl
+other_register h w Imod v a b = refl
+other_register h w Erstsz v a b = refl
+other_register h w Erstba v a b = refl

@@ -1,0 +1,44 @@
+-- What rows do to what is kept
+use Rattle.std.proofs.Common.{subst, ◌≡◌, ℕ, ◌+◌, ◌<◌, ◌≤◌, ◌^◌, ◌∙◌, ap, sym, List, arith}
+use Rattle.std.proofs.Common.{◌==◌}
+use Rattle.std.proofs.lemmas.Bool.{cond-false, ne_eqb}
+use Rattle.traces.specs.declared.header.Header.{Header}
+use Rattle.traces.specs.declared.row.Row.{Row}
+use Rattle.world_state.specs.World.{World, stored, stored_block}
+use Rattle.std.proofs.Common.{◌%◌}
+use Rattle.trb.specs.declared.block.Block.{Block}
+use Rattle.trb.specs.Block.{word}
+use Rattle.controller_model.specs.declared.kept.Kept.{Kept}
+use Rattle.controller_model.specs.declared.stamps.Stamps.{Stamps}
+use Rattle.controller_model.specs.Held.{held, held_by, held_stored, held_block}
+use Rattle.controller_model.specs.Following.{Follows}
+
+-- a word was stored: what memory then holds, and that none is beyond the last address
+pub record Stored (words : ℕ → ℕ) (stamps : Stamps) (w : World) : Type 0 where
+  pub held : held_by w ≡ held words stamps
+  pub beyond : (a : ℕ) → 2 ^ 64 ≤ a → words a ≡ 0
+
+pub follows_stored : (h : Header) (rows : List Row) (words new : ℕ → ℕ) (k : Kept) (stamps : Stamps) (w : World) (a x step : ℕ) → a < 2 ^ 64 →
+    step ≡ k.progress.steps + 1 → held new stamps ≡ held_stored (held words k.stamps) a x step → Follows h rows words k w → Stored new stamps (stored w a x)
+unfolding stored
+follows_stored h rows words new k stamps w a x step end now made f = record {
+  held = (λ i. held_stored (f.held i) a x (f.progress.steps i + 1)) ∙ ap (λ n. held_stored (held words k.stamps) a x n) (sym now) ∙ sym made;
+  beyond = λ q far. ap (λ y. y.memory q) made ∙ cond-false (q == a) x (words q) (ne_eqb q a (λ e. omega arith)) ∙ f.beyond q far;
+}
+
+-- four words were stored
+pub follows_stored_block : (h : Header) (rows : List Row) (words new : ℕ → ℕ) (k : Kept) (stamps : Stamps) (w : World) (a step : ℕ) (b : Block) → a < 2 ^ 64 → a % 16 ≡ 0 →
+    step ≡ k.progress.steps + 1 → held new stamps ≡ held_block (held words k.stamps) a b step → Follows h rows words k w → Stored new stamps (stored_block w a b)
+unfolding stored stored_block
+follows_stored_block h rows words new k stamps w a step b end aligned now made f = record {
+  held = (λ i. held_block (f.held i) a b (f.progress.steps i + 1)) ∙ ap (λ n. held_block (held words k.stamps) a b n) (sym now) ∙ sym made;
+  beyond = λ q far.
+      ap (λ y. y.memory q) made
+      ∙ cond-false (q == a + 12) (word b 3) _ (ne_eqb q (a + 12) (λ e. omega arith)) ∙ cond-false (q == a + 8) (word b 2) _ (ne_eqb q (a + 8) (λ e. omega arith))
+      ∙ cond-false (q == a + 4) (word b 1) _ (ne_eqb q (a + 4) (λ e. omega arith)) ∙ cond-false (q == a) (word b 0) (words q) (ne_eqb q a (λ e. omega arith))
+      ∙ f.beyond q far;
+}
+
+-- what stands for a world stands for an equal one
+pub follows_along : (h : Header) (rows : List Row) (words : ℕ → ℕ) (k : Kept) (u v : World) → u ≡ v → Follows h rows words k v → Follows h rows words k u
+follows_along h rows words k u v same f = let P : World → Type 0 = λ x. Follows h rows words k x in subst P (sym same) f

@@ -1,0 +1,31 @@
+-- One slot is changed
+use Rattle.std.proofs.Common.{◌≡◌, ℕ, ◌<◌, ◌==◌, ◌||◌, ◌∙◌, ap, sym, subst, refl, true, false, Bool, List, Some, length, slice_get, get_or, set, inl, inr}
+use Rattle.std.proofs.lemmas.Bool.{cases_eq, eq-eqb, ne_eqb}
+use Rattle.std.proofs.Math.Bool.{or-true}
+use Rattle.commands.specs.declared.state.SlotState.{SlotState}
+use Rattle.controller_model.specs.declared.kept.Slot.{Slot}
+use Rattle.controller_model.specs.Following.{FollowsSlots}
+use Rattle.controller_model.proofs.RingLemmas.{read_at, slice_get-set_same, slice_get-set_other}
+
+or_false : (b : Bool) → (b || false) ≡ b
+or_false true = refl
+or_false false = refl
+
+pub slots_allow : (slots : List Slot) (state : ℕ → SlotState) (scribbles : ℕ → Bool) (i s : ℕ) (x new : Slot) → i ≡ s → s < length slots → x ≡ get_or slots i x →
+    new.state ≡ x.state → new.scribbles ≡ true → FollowsSlots slots state scribbles → FollowsSlots (set slots i new) state (λ t. scribbles t || t == s)
+slots_allow slots state scribbles i s x new index inside value kept allowed f = record {
+  each = λ t y at. elim (cases_eq t s) [
+    | inl same ↦
+        let P : ℕ → Type 0 = λ n. slice_get (set slots i new) n ≡ Some y in
+        let is : new ≡ y = slice_get-set_same slots i new y (subst P (same ∙ sym index) at) in
+        let old = f.each s x (read_at slots i s x index inside value) in (
+          ap state same ∙ old.0 ∙ sym kept ∙ ap (λ (z : Slot). z.state) is,
+          ap (λ b. scribbles t || b) (eq-eqb t s same) ∙ or-true (scribbles t) ∙ sym allowed ∙ ap (λ (z : Slot). z.scribbles) is,
+        )
+    | inr apart ↦
+        let old = f.each t y (sym (slice_get-set_other slots i t new (λ e. apart (e ∙ index))) ∙ at) in (
+          old.0,
+          ap (λ b. scribbles t || b) (ne_eqb t s apart) ∙ or_false (scribbles t) ∙ old.1,
+        )
+  ];
+}

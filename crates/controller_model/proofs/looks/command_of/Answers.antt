@@ -1,0 +1,7 @@
+use Rattle.std.proofs.Common.{◌∙◌}
+use Rattle.commands.specs.Command.{command_of}
+use Rattle.controller_model.proofs.LookBranches.{read_is}
+use Rattle.controller_model.proofs.looks.command_of.Goals as goal
+
+pub returns : goal.returns
+returns c = c.ok.ensures.value ∙ read_is c.read.result (command_of c.args.block.now) c.read.ensures.command

@@ -1,0 +1,20 @@
+use Rattle.std.proofs.Common.{ℕ, sym, subst}
+use Rattle.world_state.specs.World.{World}
+use Rattle.controller_model.specs.Looks.{taken_on, command_begun}
+use Rattle.controller_model.specs.Following.{Follows}
+use Rattle.controller_model.proofs.LookBranches.{taken_command, taken_transfer}
+use Rattle.controller_model.proofs.looks.take_block.Goals as goal
+
+pub returns-then-is_command_ring : goal.returns-then-is_command_ring
+returns-then-is_command_ring c = λ rows words w same at f.
+    let taken = c.in_ok-take_on.ensures c.args.header.now rows words w same f in
+    let begun = c.begin.ensures c.args.header.now rows words (taken_on c.args.header.now w c.args.ring c.args.block.now) taken in
+    let P : ℕ → Type 0 = λ a. Follows c.args.header.now rows words c.begin.new.kept (command_begun c.args.header.now (taken_on c.args.header.now w c.args.ring c.args.block.now) a c.args.block.now) in
+    let Q : World → Type 0 = λ v. Follows c.args.header.now rows words c.begin.new.kept v in
+    subst Q (sym (taken_command c.args.header.now w c.args.ring c.args.block.now (sym c.if-is_command_ring.ensures))) (subst P (sym at) begun)
+
+pub returns : goal.returns
+returns c = λ rows words w same at f.
+    let Q : World → Type 0 = λ v. Follows c.args.header.now rows words c.take_on.new.kept v in
+    subst Q (sym (taken_transfer c.args.header.now w c.args.ring c.args.block.now (sym c.if-is_command_ring.ensures)))
+    (c.in_ok-take_on.ensures c.args.header.now rows words w same f)

@@ -1,0 +1,32 @@
+use Rattle.std.proofs.Common.{◌≡◌, ℕ, ◌+◌, ◌∙◌, ap, sym, subst, arith}
+use Rattle.std.proofs.lemmas.Grind.{common_steps}
+use Rattle.segments.specs.Places.{address_of}
+use Rattle.traces.specs.Header.{event_shape}
+use Rattle.world_state.specs.World.{stored, stored_block}
+use Rattle.controller_model.specs.Posts.{posted}
+use Rattle.controller_model.proofs.RowLemmas.{Stored, follows_stored_block}
+use Rattle.controller_model.proofs.posts.post.Goals as goal
+
+pub returns-clause-posted : goal.returns-clause-posted
+unfolding posted stored stored_block
+returns-clause-posted g c = λ h rows w same f.
+    let made =
+    follows_stored_block h rows (g.M.WordMemory.words c.args.memory.now) (g.M.WordMemory.words c.store_block.new.memory) c.args.kept.now c.store_block.new.stamps w
+    c.place-address.result c.args.step c.args.block.now c.place-address.ensures.below c.place-address.ensures.aligned c.requires c.in_ok-store_block.ensures.stored f in
+    let there : c.place-address.result ≡ address_of (event_shape h) w.posted =
+    c.place-address.ensures.same ∙ (λ i. address_of (same i) (sym f.events.posted i)) in
+    let P : ℕ → Type 0 = λ a. Stored (g.M.WordMemory.words c.store_block.new.memory) c.store_block.new.stamps (stored_block w a c.args.block.now) in
+    let now = subst P there made in
+    let next : c.in_ok-next.next ≡ c.args.kept.now.events.posted + 1 = grind (arith, common_steps, c.in_ok-next.ensures.value, c.checked_add.ensures) in
+    record {
+      progress = f.progress;
+      registers = f.registers;
+      held = now.held;
+      beyond = now.beyond;
+      rings = f.rings;
+      slots = f.slots;
+      endpoints = f.endpoints;
+      events = record { posted = ap (λ n. n + 1) f.events.posted ∙ sym next; reads = f.events.reads; dequeue = f.events.dequeue };
+      under_way = f.under_way;
+      looked = f.looked;
+    }

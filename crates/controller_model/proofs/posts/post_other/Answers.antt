@@ -1,0 +1,47 @@
+use Rattle.std.proofs.Common.{◌≡◌, ◌∙◌, ap, sym}
+use Rattle.trb.specs.declared.ring_kind.RingKind.TheVariants.{Evt}
+use Rattle.segments.specs.Places.{address_of}
+use Rattle.traces.specs.Header.{event_shape, shape_or}
+use Rattle.controller_model.specs.declared.seen.Seen.TheVariants.{Posted}
+use Rattle.controller_model.specs.Posts.{posted, other_posted}
+use Rattle.controller_model.specs.Following.{Follows}
+use Rattle.controller_model.proofs.LookBranches.{step_made, step_refused}
+use Rattle.controller_model.proofs.PostLemmas.{no_ring, other_not_now, other_not_so, other_made}
+use Rattle.controller_model.proofs.posts.post_other.Goals as goal
+
+pub returns-in-None-clause-step : goal.returns-in-None-clause-step
+returns-in-None-clause-step g c = λ rows w f.
+    step_refused (other_posted c.args.header.now w c.args.block.now) (Posted (address_of (event_shape c.args.header.now) w.posted))
+    (Follows c.args.header.now rows (g.M.WordMemory.words c.args.memory.now) c.args.kept.now)
+    (other_not_now c.args.header.now w c.args.block.now (no_ring c.args.header.now w c.args.block.now c.in-None.ensures))
+
+pub returns-then-not-can_post-clause-step : goal.returns-then-not-can_post-clause-step
+unfolding event_shape
+returns-then-not-can_post-clause-step g c = λ rows w f.
+    let same = ap (λ o. shape_or Evt o) c.in-Some.ensures in
+    let now = sym (c.can_post.ensures c.args.header.now rows (g.M.WordMemory.words c.args.memory.now) w same f) ∙ c.if-not-can_post.true in
+    step_refused (other_posted c.args.header.now w c.args.block.now) (Posted (address_of (event_shape c.args.header.now) w.posted))
+    (Follows c.args.header.now rows (g.M.WordMemory.words c.args.memory.now) c.args.kept.now)
+    (other_not_now c.args.header.now w c.args.block.now now)
+
+pub returns-then-not-is_other_event-clause-step : goal.returns-then-not-is_other_event-clause-step
+unfolding event_shape
+returns-then-not-is_other_event-clause-step g c = λ rows w f.
+    let same = ap (λ o. shape_or Evt o) c.in-Some.ensures in
+    let now = sym (c.can_post.ensures c.args.header.now rows (g.M.WordMemory.words c.args.memory.now) w same f) ∙ c.if-not-can_post.false in
+    step_refused (other_posted c.args.header.now w c.args.block.now) (Posted (address_of (event_shape c.args.header.now) w.posted))
+    (Follows c.args.header.now rows (g.M.WordMemory.words c.args.memory.now) c.args.kept.now)
+    (other_not_so c.args.header.now w c.args.block.now now (sym c.is_other_event.ensures ∙ c.if-not-is_other_event.true))
+
+pub returns-clause-step : goal.returns-clause-step
+unfolding event_shape
+returns-clause-step g c = λ rows w f.
+    let same = ap (λ o. shape_or Evt o) c.in-Some.ensures in
+    let now = sym (c.can_post.ensures c.args.header.now rows (g.M.WordMemory.words c.args.memory.now) w same f) ∙ c.if-not-can_post.false in
+    let there : c.in_ok-at.at ≡ address_of (event_shape c.args.header.now) w.posted =
+    c.in_ok-at.ensures.place ∙ (λ i. address_of (same i) (sym f.events.posted i)) in
+    step_made (other_posted c.args.header.now w c.args.block.now) (posted c.args.header.now w c.args.block.now)
+    (Posted c.in_ok-at.at) (Posted (address_of (event_shape c.args.header.now) w.posted))
+    (Follows c.args.header.now rows (g.M.WordMemory.words c.post.new.memory) c.post.new.kept)
+    (other_made c.args.header.now w c.args.block.now now (sym c.is_other_event.ensures ∙ c.if-not-is_other_event.false)) (ap Posted there)
+    (c.in_ok-at.ensures.posted c.args.header.now rows w same f)

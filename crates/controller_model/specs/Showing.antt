@@ -1,0 +1,51 @@
+-- What steps show, and what the replay of a schedule answers
+use Rattle.std.specs.Prelude.{ℕ, ◌==◌, if◌then◌else◌, not, List, [], ◌++◌, ◌∷◌, Option, Some, None, is_some, option_map, option_to_list}
+use Rattle.trb.specs.declared.block.Block.{Block}
+use Rattle.trb.specs.Block.{block_at, cycle, kind}
+use Rattle.trb.specs.Kind.{is_link}
+use Rattle.segments.specs.Places.{address_of}
+use Rattle.traces.specs.declared.header.Header.{Header}
+use Rattle.traces.specs.declared.row.Row.{Row}
+use Rattle.traces.specs.declared.step.Step.{Step}
+use Rattle.traces.specs.declared.step.Step.TheVariants.{NextRow, Look, Report, Finish, Other, Scribble}
+use Rattle.traces.specs.Header.{event_shape}
+use Rattle.world_state.specs.World.{World, opening}
+use Rattle.world_state.specs.Harms.{harm_of}
+use Rattle.controller_model.specs.declared.seen.Seen.{Seen}
+use Rattle.controller_model.specs.declared.seen.Seen.TheVariants as seen
+use Rattle.controller_model.specs.Steps.{stepped, Ending, ending_of}
+
+-- a look at a block: it waits where the Cycle bit isn't the ring's cycle state, else it follows a Link or takes the block
+unfoldable pub look_shows : World → ℕ → Block → Seen
+look_shows w r b =
+    if not (cycle b == w.cycle_state r) then seen.Waited
+    else if is_link (kind b) then seen.Crossed
+    else seen.Took r (w.pointer_of r) b
+
+module _ (h : Header) where
+  -- what a step shows, where it is possible
+  unfoldable pub shows : World → Step → Seen
+  shows w NextRow = seen.Row
+  shows w (Look r) = look_shows w r (block_at w.memory (w.pointer_of r))
+  shows w (Report b) = seen.Posted (address_of (event_shape h) w.posted)
+  shows w (Finish b) = seen.Posted (address_of (event_shape h) w.posted)
+  shows w (Other b) = seen.Posted (address_of (event_shape h) w.posted)
+  shows w (Scribble a x) = seen.Scribbled
+
+  unfoldable pub seen_by : World → Step → Option Seen
+  seen_by w s = option_map (λ v. shows w s) (stepped h w s)
+
+  -- what the steps show up to the first that isn't possible, or with the first after which there is harm
+  unfoldable pub seen_from : Option World → List Step → List Seen
+  seen_from None steps = []
+  seen_from (Some w) [] = []
+  seen_from (Some w) (s ∷ steps) =
+      if is_some (harm_of h w) then [] else option_to_list (seen_by w s) ++ seen_from (stepped h w s) steps
+
+  -- what the replay of a schedule beside these rows answers
+  pub record Replay : Type 0 where
+    pub seen : List Seen
+    pub ending : Ending h
+
+  unfoldable pub replayed : List Row → List Step → Replay
+  replayed rows steps = record { seen = seen_from (Some (opening rows)) steps; ending = ending_of h rows steps }

@@ -1,0 +1,87 @@
+ghost use Rattle.std.specs.Prelude.{◌≡◌, ℕ, ◌+◌, ◌*◌, ◌<◌, ◌||◌, ◌&&◌, ◌==◌, List, Option, Some, None, true, is_some, if◌then◌else◌};
+ghost use Rattle.commands.specs.States.{is_running, is_stopped};
+ghost use Rattle.commands.specs.declared.state.EndpointState.TheVariants.{Running};
+ghost use Rattle.guest_memory.specs.Memory.{put_pair};
+ghost use Rattle.traces.specs.declared.header.Header.{Header as HeaderValue};
+ghost use Rattle.traces.specs.declared.row.Row.{Row as RowValue};
+ghost use Rattle.traces.specs.Header.{ring_with};
+ghost use Rattle.world_state.specs.World.{World};
+ghost use Rattle.controller_model.specs.DriverRows.{activated, endpoint_bell, bell_row};
+ghost use Rattle.controller_model.specs.Following.{Follows};
+
+use crate::kept::Kept;
+use crate::looks::command_ring;
+use commands::EndpointState;
+use traces::Header;
+
+/// The controller may look at a ring from now on.
+fn activate(kept: &mut Kept, ring: u8)
+    ensures { (h : HeaderValue) (rows : List RowValue) (words : ℕ → ℕ) (w : World) → is_some (ring_with h ring) ≡ true → Follows h rows words kept.old w →
+        Follows h rows words kept.new (activated h w ring) }
+{
+    let state = &mut kept.rings[usize::from(ring)];
+    state.is_active = true;
+}
+
+/// Whether a doorbell does something at an endpoint in this state (xHCI 4.8.3).
+fn answers_bell(state: EndpointState) -> bool
+    ensures { result ≡ (is_running state || is_stopped state) }
+{
+    matches!(state, EndpointState::Running | EndpointState::Stopped)
+}
+
+/// An endpoint is Running from now on.
+fn run(kept: &mut Kept, slot: u8, index: u8)
+    requires { index < 32 }
+    ensures { (h : HeaderValue) (rows : List RowValue) (words : ℕ → ℕ) (w : World) → Follows h rows words kept.old w →
+        Follows h rows words kept.new (record w { endpoint_state = put_pair w.endpoint_state slot index Running }) }
+{
+    let endpoint = &mut kept.endpoints[usize::from(slot) * 32 + usize::from(index)];
+    endpoint.state = EndpointState::Running;
+}
+
+/// The doorbell of an endpoint: where it is Running or Stopped and has a ring, it is Running, and the ring active.
+pub(crate) fn ring_endpoint(kept: &mut Kept, slot: u8, target: u8)
+    ensures { (h : HeaderValue) (rows : List RowValue) (words : ℕ → ℕ) (w : World) → Follows h rows words kept.old w →
+        Follows h rows words kept.new (endpoint_bell h w slot target (w.ring_of slot target)) }
+{
+    if target >= 32 {
+        return;
+    }
+    let endpoint = kept.endpoints[usize::from(slot) * 32 + usize::from(target)];
+    let ring = match endpoint.ring {
+        None => return,
+        Some(ring) => ring,
+    };
+    if !answers_bell(endpoint.state) {
+        return;
+    }
+    activate(kept, ring);
+    run(kept, slot, target);
+}
+
+/// The driver rings a doorbell (xHCI 4.7, 5.6): that of the host controller makes the command ring active, once the
+/// controller runs.
+pub(crate) fn ring_bell(header: &Header, kept: &mut Kept, slot: u8, target: u8)
+    ensures { (rows : List RowValue) (words : ℕ → ℕ) (w : World) → Follows header.now rows words kept.old w →
+        Follows header.now rows words kept.new (bell_row header.now w slot target) }
+{
+    if slot != 0 {
+        ring_endpoint(kept, slot, target);
+        return;
+    }
+    if !starts_commands(kept, target) {
+        return;
+    }
+    match command_ring(header) {
+        None => {}
+        Some(ring) => activate(kept, ring.id),
+    }
+}
+
+/// Whether the host controller's doorbell with this target starts the command ring.
+fn starts_commands(kept: &Kept, target: u8) -> bool
+    ensures { result ≡ ((target == 0) && kept.now.progress.started) }
+{
+    target == 0 && kept.progress.started
+}

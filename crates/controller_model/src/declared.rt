@@ -1,0 +1,57 @@
+ghost use Rattle.std.specs.Prelude.{◌≡◌, ℕ, ◌+◌, ◌∷◌, [], ◌<◌, ◌++◌, length, sum, List, OnOk, OnErr, slice_get, option_map};
+ghost use Rattle.segments.specs.Descriptors.{declared_at};
+ghost use Rattle.trb.specs.declared.block.Block.{Block};
+ghost use Rattle.controller_model.specs.Declarations.{Declares, as_declared};
+
+use std::alloc::{AllocError, Global};
+use trb::Block;
+
+/// A declared block, and whether a descriptor begins and ends with it (xHCI 4.11.2).
+#[derive(Clone, Copy, Debug, PartialEq, Eq)]
+pub struct Declared {
+    pub(crate) block: Block,
+    pub(crate) begins: bool,
+    pub(crate) ends: bool,
+}
+
+/// The blocks that the driver declared on a ring, by position.
+#[derive(Drop)]
+pub struct Declarations {
+    blocks: Vec<Declared>,
+}
+
+impl Declarations {
+    /// Nothing is declared.
+    pub(crate) fn new(alloc: Global) -> Declarations
+        ensures { Declares result [] [] }
+    {
+        Declarations {
+            blocks: Vec::new(alloc),
+        }
+    }
+
+    /// What is declared at a position.
+    pub(crate) fn at(&self, position: u64) -> Option<Declared>
+        ensures { (queue : List Block) (lengths : List ℕ) → Declares self.now queue lengths →
+            option_map as_declared result ≡ declared_at queue lengths position }
+    {
+        self.blocks.get(usize::try_from(position).ok()?).copied()
+    }
+
+    /// Declares the blocks of one descriptor. Want of memory may leave a part of them.
+    pub(crate) fn declare(&mut self, blocks: &[Block]) -> Result<(), AllocError>
+        requires { 0 < length blocks.now }
+        ensures { OnOk result ((queue : List Block) (lengths : List ℕ) → Declares self.old queue lengths →
+            Declares self.new (queue ++ blocks.now) (lengths ++ length blocks.now ∷ [])) }
+    {
+        let last = blocks.len() - 1;
+        for (i, block) in blocks.iter().enumerate() {
+            self.blocks.push(Declared {
+                block: *block,
+                begins: i == 0,
+                ends: i == last,
+            })?;
+        }
+        Ok(())
+    }
+}

@@ -1,0 +1,240 @@
+ghost use Rattle.std.specs.Prelude.{◌≡◌, ℕ, ◌+◌, ◌-◌, ◌==◌, ◌∷◌, ◌&&◌, ◌^◌, [], List, Option, Some, None, length, OnOk, IsTrue, IfSome, false, ◌≤◌, ◌<◌, is_some, option_map, position};
+ghost use Rattle.trb.specs.Block.{same_words};
+ghost use Rattle.segments.specs.ShapeValue.{Shape};
+ghost use Rattle.segments.specs.Places.{is_crossing, link_address, place_count};
+ghost use Rattle.traces.specs.declared.header.Header.{Header};
+ghost use Rattle.world_state.specs.World.{RingEvent, Took, Placed};
+ghost use Rattle.world_state.specs.Takes.{takes_of, first_at, is_as_declared, is_place};
+ghost use Rattle.world_state.specs.Harms.{is_end, is_right_place};
+ghost use Rattle.controller_model.specs.Posts.{is_last};
+ghost use Rattle.controller_model.specs.Declarations.{as_declared};
+ghost use Rattle.controller_model.specs.Histories.{Keeps};
+
+use crate::declared::Declared;
+use segments::RingShape;
+use std::alloc::{AllocError, Global};
+use std::collections::VecDeque;
+use trb::Block;
+
+/// What happened on a ring, as far as it decides harms and later steps.
+#[derive(Drop)]
+pub struct History {
+    /// The position of the next take.
+    next: u64,
+    /// The pointer was set, and nothing was taken since.
+    was_placed: bool,
+    /// The last take isn't the last block of its descriptor, and the pointer wasn't set since.
+    is_inside: bool,
+    /// Some take was out of order, or of other words than the declared ones.
+    out_of_order: bool,
+    other_words: bool,
+    /// The addresses of the takes that weren't reported, the oldest first.
+    unreported: VecDeque<u64>,
+}
+
+/// Whether an address names the place of a position, by its block or by the Link before it.
+#[tactic(auto, unfolding(world_state::specs::Takes::is_place))]
+fn is_place(shape: &RingShape, address: u64, position: u64) -> bool
+    ensures { result ≡ is_place shape.now address position }
+{
+    shape.address(position) == address || leads_over(shape, address, position)
+}
+
+/// Whether a Link at this address is crossed on the way to a position.
+fn leads_over(shape: &RingShape, address: u64, position: u64) -> bool
+    ensures { result ≡ (is_crossing shape.now position && link_address shape.now position == address) }
+{
+    match shape.crossing(position) {
+        None => false,
+        Some(segment) => shape.link(segment) == address,
+    }
+}
+
+/// The least position from `from` on at the place that an address names; `from` where there is none.
+#[tactic(auto, unfolding(world_state::specs::Takes::first_at))]
+fn first_at(shape: &RingShape, address: u64, from: u64) -> u64
+    requires { from + place_count shape.now < 2 ^ 64 }
+    ensures { result ≡ first_at shape.now address from }
+{
+    let end = from + u64::from(shape.places());
+    for position in from..end {
+        if is_place(shape, address, position) {
+            return position;
+        }
+    }
+    from
+}
+
+/// Whether two blocks have the same words.
+pub(crate) fn same_words(a: &Block, b: &Block) -> bool
+    ensures { result ≡ same_words a.now b.now }
+{
+    a.w[0] == b.w[0] && a.w[1] == b.w[1] && a.w[2] == b.w[2] && a.w[3] == b.w[3]
+}
+
+/// Whether a block was declared that begins a descriptor where it has to.
+#[tactic(auto, unfolding(world_state::specs::Harms::is_right_place))]
+fn is_right_place(is_first: bool, declared: Option<Declared>) -> bool
+    ensures { result ≡ is_right_place is_first (option_map as_declared declared) }
+{
+    match declared {
+        None => false,
+        Some(declared) => !is_first || declared.begins,
+    }
+}
+
+/// Whether a block was declared that ends a descriptor.
+#[tactic(auto, unfolding(world_state::specs::Harms::is_end))]
+fn is_end(declared: Option<Declared>) -> bool
+    ensures { result ≡ is_end (option_map as_declared declared) }
+{
+    match declared {
+        None => false,
+        Some(declared) => declared.ends,
+    }
+}
+
+/// Whether the words are those declared at a position, with its Cycle bit.
+#[tactic(auto, using(crate::proofs::HistoryLemmas::as_bit), unfolding(world_state::specs::Takes::is_as_declared))]
+fn is_as_declared(
+    shape: &RingShape,
+    declared: Option<Declared>,
+    position: u64,
+    block: &Block,
+) -> bool
+    ensures { result ≡ is_as_declared shape.now (option_map as_declared declared) position block.now }
+{
+    match declared {
+        None => false,
+        Some(declared) => {
+            let wanted = declared.block.with_cycle(shape.cycle(position));
+            same_words(block, &wanted)
+        }
+    }
+}
+
+impl History {
+    /// Nothing happened.
+    pub(crate) fn new(alloc: Global) -> History
+        ensures { (shape : Shape) → Keeps shape [] 0 result }
+    {
+        History {
+            next: 0,
+            was_placed: false,
+            is_inside: false,
+            out_of_order: false,
+            other_words: false,
+            unreported: VecDeque::new(alloc),
+        }
+    }
+
+    /// The position of the next take.
+    pub(crate) fn next(&self) -> u64
+        ensures { result ≡ self.now.next }
+    {
+        self.next
+    }
+
+    /// A block is taken, with what is declared at its position.
+    pub(crate) fn take(
+        &mut self,
+        shape: &RingShape,
+        address: u64,
+        block: &Block,
+        declared: Option<Declared>,
+    ) -> Result<(), AllocError>
+        ensures { OnOk result ((events : List RingEvent) (reported : ℕ) → Keeps shape.now events reported self.old →
+            Keeps shape.now (Took address block.now (option_map as_declared declared) ∷ events) reported self.new) }
+    {
+        let is_right = is_right_place(self.was_placed, declared);
+        let is_there = shape.address(self.next) == address;
+        let is_same = is_as_declared(shape, declared, self.next, block);
+        let next = self.next.checked_add(1).ok_or(AllocError)?;
+        self.unreported.push_back(address)?;
+        self.out_of_order = !is_right | !is_there | self.out_of_order;
+        self.other_words = !is_same | self.other_words;
+        self.is_inside = !is_end(declared);
+        self.was_placed = false;
+        self.next = next;
+        Ok(())
+    }
+
+    /// The pointer is set to an address, with a shape that has a block there; all takes count as reported.
+    pub(crate) fn place(&mut self, shape: &RingShape, address: u64) -> Result<(), AllocError>
+        ensures { OnOk result ((events : List RingEvent) (reported : ℕ) → Keeps shape.now events reported self.old →
+            Keeps shape.now (Placed address ∷ events) (length (takes_of events)) self.new) }
+    {
+        self.next
+            .checked_add(u64::from(shape.places()))
+            .ok_or(AllocError)?;
+        self.next = first_at(shape, address, self.next);
+        self.was_placed = true;
+        self.is_inside = false;
+        self.unreported.clear();
+        Ok(())
+    }
+
+    /// The last take that wasn't reported lies at this address.
+    pub(crate) fn is_last(&self, address: u64) -> bool
+        ensures { (h : Header) → result ≡ is_last h address self.now.unreported.items }
+    {
+        match self.unreported.back() {
+            None => false,
+            Some(last) => *last == address,
+        }
+    }
+
+    /// All takes are reported.
+    pub(crate) fn report_all(&mut self)
+        ensures { (shape : Shape) (events : List RingEvent) (reported : ℕ) → Keeps shape events reported self.old →
+            Keeps shape events (reported + length self.old.unreported.items) self.new }
+    {
+        self.unreported.clear();
+    }
+
+    /// The first takes up to the one with this number are reported.
+    fn report_first(&mut self, count: usize)
+        requires { count ≤ length self.old.unreported.items }
+        ensures { (shape : Shape) (events : List RingEvent) (reported : ℕ) → Keeps shape events reported self.old →
+            Keeps shape events (reported + count) self.new }
+    {
+        for _ in 0..count {
+            let _ = self.unreported.pop_front();
+        }
+    }
+
+    /// All takes but the last are reported.
+    pub(crate) fn report_all_but_last(&mut self)
+        ensures { (shape : Shape) (events : List RingEvent) (reported : ℕ) → Keeps shape events reported self.old →
+            0 < length self.old.unreported.items →
+            Keeps shape events (reported + length self.old.unreported.items - 1) self.new }
+    {
+        let count = self.unreported.len();
+        if count > 0 {
+            self.report_first(count - 1);
+        }
+    }
+
+    /// Which of the takes that weren't reported is the oldest at this address.
+    fn position_of(&self, address: u64) -> Option<usize>
+        ensures { result ≡ position (λ a. a == address) self.now.unreported.items }
+    {
+        self.unreported.iter().position(|a| *a == address)
+    }
+
+    /// The oldest take at this address that wasn't reported is reported, with those before it; whether there is one.
+    pub(crate) fn report_up_to(&mut self, address: u64) -> bool
+        ensures found { result ≡ is_some (position (λ a. a == address) self.old.unreported.items) }
+        ensures reported { (shape : Shape) (events : List RingEvent) (reported n : ℕ) → Keeps shape events reported self.old →
+            position (λ a. a == address) self.old.unreported.items ≡ Some n → Keeps shape events (reported + n + 1) self.new }
+        ensures kept { result ≡ false → self.new ≡ self.old }
+    {
+        match self.position_of(address) {
+            None => false,
+            Some(n) => {
+                self.report_first(n + 1);
+                true
+            }
+        }
+    }
+}

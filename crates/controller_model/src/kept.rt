@@ -1,0 +1,93 @@
+ghost use Rattle.std.specs.Prelude.{◌≡◌, ◌*◌, ◌%◌, length};
+
+use crate::declared::Declarations;
+use crate::history::History;
+use crate::stamps::Stamps;
+use commands::{EndpointState, SlotState};
+use trb::Block;
+
+/// How far a run is.
+#[derive(Clone, Copy, Debug)]
+pub struct Progress {
+    /// The number of the next row, from 0.
+    pub(crate) next_row: usize,
+    /// How many steps were made.
+    pub(crate) steps: u64,
+    pub(crate) started: bool,
+    /// The controller was stopped or reset after the start.
+    pub(crate) stopped: bool,
+}
+
+/// The registers that steps rest on; 0 where one wasn't written.
+#[derive(Clone, Copy, Debug)]
+pub struct Registers {
+    pub(crate) crcr: u64,
+    pub(crate) dcbaap: u64,
+    pub(crate) config: u64,
+}
+
+/// A command or transfer ring.
+#[derive(Drop)]
+pub struct RingState {
+    pub(crate) declared: Declarations,
+    pub(crate) history: History,
+    /// The dequeue pointer, and the Consumer Cycle State (xHCI 4.9.2).
+    pub(crate) pointer: u64,
+    pub(crate) cycle: bool,
+    /// The controller may look at the ring.
+    pub(crate) is_active: bool,
+    ghost aligned: { pointer % 16 ≡ 0 },
+}
+
+/// A device slot.
+#[derive(Clone, Copy, Debug)]
+pub struct Slot {
+    pub(crate) state: SlotState,
+    /// The controller may write the slot's device context.
+    pub(crate) scribbles: bool,
+}
+
+/// An endpoint, and the ID of its ring.
+#[derive(Clone, Copy, Debug)]
+pub struct Endpoint {
+    pub(crate) state: EndpointState,
+    pub(crate) ring: Option<u8>,
+}
+
+/// How many events were posted and read, and the event position that ERDP names.
+#[derive(Clone, Copy, Debug)]
+pub struct Events {
+    pub(crate) posted: u64,
+    pub(crate) reads: u64,
+    pub(crate) dequeue: u64,
+}
+
+/// A command that was taken and isn't finished.
+#[derive(Clone, Copy, Debug)]
+pub struct Pending {
+    pub(crate) address: u64,
+    pub(crate) block: Block,
+    /// It is a Stop Endpoint whose Stopped event was posted.
+    pub(crate) has_stopped: bool,
+}
+
+/// What a world keeps beside its memory.
+#[derive(Drop)]
+pub struct Kept {
+    pub(crate) progress: Progress,
+    pub(crate) registers: Registers,
+    pub(crate) stamps: Stamps,
+    /// By ring ID.
+    pub(crate) rings: Vec<RingState>,
+    /// By slot.
+    pub(crate) slots: Vec<Slot>,
+    /// By slot and endpoint index (DCI), 32 endpoints a slot.
+    pub(crate) endpoints: Vec<Endpoint>,
+    pub(crate) events: Events,
+    pub(crate) under_way: Option<Pending>,
+    /// A look was outside a ring's segments.
+    pub(crate) looked_outside: bool,
+    ghost rings_many: { length rings.items ≡ 256 },
+    ghost slots_many: { length slots.items ≡ 256 },
+    ghost endpoints_many: { length endpoints.items ≡ 256 * 32 },
+}

@@ -1,0 +1,283 @@
+ghost use Rattle.std.specs.Prelude.{◌≡◌, ℕ, ◌+◌, ◌*◌, ◌-◌, ◌%◌, ◌^◌, ◌∷◌, ◌==◌, IsTrue, if◌then◌else◌, List, OnOk, OnErr, IfOk, length, Option, Some, None, is_some, not, Err, ◌||◌, ◌&&◌, option_map};
+ghost use Rattle.traces.specs.declared.header.Header.{Header as HeaderValue};
+ghost use Rattle.traces.specs.declared.row.Row.{Row as RowValue};
+ghost use Rattle.traces.specs.Header.{command_id, command_ring, is_command_kind, ring_with, shape_of};
+ghost use Rattle.std.specs.Option.{option_copied};
+ghost use Rattle.traces.specs.declared.ring.Ring.{Ring};
+ghost use Rattle.trb.specs.Block.{aligned, pointer};
+ghost use Rattle.trb.specs.Bits.{is_set};
+ghost use Rattle.trb.specs.Block.{block_at, word, kind, cycle as cycle_bit};
+ghost use Rattle.world_state.specs.World.{World, Took};
+ghost use Rattle.controller_model.specs.Following.{Follows, IsStep, RingHeld, FollowsRing, addressed, is_it, taken_held};
+ghost use Rattle.controller_model.specs.Showing.{look_shows};
+ghost use Rattle.commands.specs.Command.{command_of};
+ghost use Rattle.trb.specs.Kind.{is_link};
+ghost use Rattle.controller_model.specs.Looks.{looked, looked_at, taken, command_begun, crossed, taken_on, seen_by_look};
+ghost use Rattle.segments.specs.Places.{is_inside};
+
+use crate::fault::StepFault;
+use crate::kept::{Kept, Pending, RingState};
+use crate::seen::Seen;
+use crate::stamps::block_at;
+use commands::Command;
+use guest_memory::WordMemory;
+use segments::RingShape;
+use std::alloc::AllocError;
+use traces::{Header, Ring};
+use trb::{Block, BlockKind, RingKind};
+
+/// The ring with this ID.
+pub(crate) fn ring_with(header: &Header, id: u8) -> Option<&Ring>
+    ensures { option_copied result ≡ ring_with header.now id }
+{
+    header.rings.as_slice().iter().find(|ring| ring.id == id)
+}
+
+fn is_command_kind(kind: RingKind) -> bool
+    ensures { result ≡ is_command_kind kind }
+{
+    match kind {
+        RingKind::Cmd => true,
+        RingKind::Evt | RingKind::Xfer => false,
+    }
+}
+
+/// The command ring.
+#[tactic(auto, unfolding(traces::specs::Header::command_ring))]
+pub(crate) fn command_ring(header: &Header) -> Option<&Ring>
+    ensures { option_copied result ≡ command_ring header.now }
+{
+    header
+        .rings
+        .as_slice()
+        .iter()
+        .find(|ring| is_command_kind(ring.shape.kind()))
+}
+
+/// Whether an address on a 16-byte boundary is one of the ring's.
+pub(crate) fn is_inside(shape: &RingShape, address: u64) -> bool
+    requires { address % 16 ≡ 0 }
+    ensures { result ≡ is_inside shape.now address }
+{
+    shape.places() > 0 && shape.place_at(address).is_some()
+}
+
+/// The pointer follows a Link, and the cycle state flips with Toggle Cycle (xHCI 4.11.5.1).
+pub(crate) fn cross(state: &mut RingState, link: &Block)
+    ensures { (h : HeaderValue) (r : ℕ) (held : RingHeld) → FollowsRing h r held state.old →
+        FollowsRing h r (record held { pointer = aligned (pointer link.now); cycle = if is_set (word link.now 3) 1 then 1 - held.cycle else held.cycle }) state.new }
+{
+    state.pointer = link.pointer() / 16 * 16;
+    state.cycle = state.cycle != toggles(link);
+}
+
+/// Toggle Cycle (xHCI 6.4.4.1).
+fn toggles(link: &Block) -> bool
+    ensures { result ≡ is_set (word link.now 3) 1 }
+{
+    link.w[3] / 2 % 2 == 1
+}
+
+/// The block at the pointer is taken, with what is declared at its position now, and the pointer moves on by 16.
+fn take(state: &mut RingState, shape: &RingShape, block: &Block) -> Result<(), AllocError>
+    ensures { OnOk result ((h : HeaderValue) (r : ℕ) (held : RingHeld) → shape.now ≡ shape_of h r → FollowsRing h r held state.old →
+        FollowsRing h r (taken_held (shape_of h r) held block.now) state.new) }
+{
+    let declared = state.declared.at(state.history.next());
+    state.history.take(shape, state.pointer, block, declared)?;
+    state.pointer = state.pointer.wrapping_add(16);
+    Ok(())
+}
+
+/// The controller follows the Link at a ring's pointer.
+fn cross_on(kept: &mut Kept, ring: u8, link: &Block)
+    ensures { (h : HeaderValue) (rows : List RowValue) (words : ℕ → ℕ) (w : World) → Follows h rows words kept.old w →
+        Follows h rows words kept.new (crossed h w ring link.now) }
+{
+    let state = &mut kept.rings[usize::from(ring)];
+    cross(state, link);
+}
+
+/// The controller takes the block at a ring's pointer.
+fn take_on(kept: &mut Kept, shape: &RingShape, ring: u8, block: &Block) -> Result<(), AllocError>
+    ensures { OnOk result ((h : HeaderValue) (rows : List RowValue) (words : ℕ → ℕ) (w : World) → shape.now ≡ shape_of h ring →
+        Follows h rows words kept.old w → Follows h rows words kept.new (taken_on h w ring block.now)) }
+{
+    let state = &mut kept.rings[usize::from(ring)];
+    take(state, shape, block)?;
+    Ok(())
+}
+
+/// A look is noted where it is outside the ring's segments.
+fn note_look(kept: &mut Kept, shape: &RingShape, ring: u8, pointer: u64)
+    requires { pointer % 16 ≡ 0 }
+    ensures { (h : HeaderValue) (rows : List RowValue) (words : ℕ → ℕ) (w : World) → shape.now ≡ shape_of h ring → w.pointer_of ring ≡ pointer →
+        Follows h rows words kept.old w → Follows h rows words kept.new (seen_by_look h w ring) }
+{
+    let is_inside = is_inside(shape, pointer);
+    kept.looked_outside = kept.looked_outside | !is_inside;
+}
+
+/// Whether the Cycle bit of a block is the cycle state.
+pub(crate) fn agrees(block: &Block, cycle: bool) -> bool
+    ensures { (n : ℕ) → n ≡ (if cycle then 1 else 0) → result ≡ (cycle_bit block.now == n) }
+{
+    if cycle { block.cycle() } else { !block.cycle() }
+}
+
+/// Whether a block is a Link (xHCI 6.4.4.1).
+fn is_link(block: &Block) -> bool
+    ensures { result ≡ is_link (kind block.now) }
+{
+    matches!(block.kind(), BlockKind::Link)
+}
+
+/// Whether the ring with this ID is the command ring.
+#[tactic(auto, unfolding(traces::specs::Header::command_id))]
+fn is_command_ring(header: &Header, id: u8) -> bool
+    ensures { result ≡ (id == command_id header.now) }
+{
+    match command_ring(header) {
+        None => false,
+        Some(ring) => id == ring.id,
+    }
+}
+
+/// The command that a block says.
+pub(crate) fn command_of(block: &Block) -> Option<Command>
+    ensures { result ≡ command_of block.now }
+{
+    Command::read(block).ok()
+}
+
+/// The slot whose device context the controller may write from the take of a command on.
+fn addressed(command: Option<Command>) -> Option<u8>
+    ensures { result ≡ addressed command }
+{
+    match command {
+        Some(Command::AddressDevice { slot, .. }) => Some(slot),
+        _ => None,
+    }
+}
+
+/// The controller may write the slot's device context from now on.
+fn allow_slot(kept: &mut Kept, slot: u8)
+    ensures { (h : HeaderValue) (rows : List RowValue) (words : ℕ → ℕ) (w : World) → Follows h rows words kept.old w →
+        Follows h rows words kept.new (record w { scribbles = λ t. w.scribbles t || t == slot }) }
+{
+    let state = &mut kept.slots[usize::from(slot)];
+    state.scribbles = true;
+}
+
+/// The controller may write the device context of the slot, if there is one.
+fn allow(kept: &mut Kept, slot: Option<u8>)
+    ensures { (h : HeaderValue) (rows : List RowValue) (words : ℕ → ℕ) (w : World) → Follows h rows words kept.old w →
+        Follows h rows words kept.new (record w { scribbles = λ t. w.scribbles t || is_it t slot }) }
+{
+    match slot {
+        None => {}
+        Some(slot) => allow_slot(kept, slot),
+    }
+}
+
+/// A command that was taken at this address is under way.
+fn begin(kept: &mut Kept, address: u64, block: &Block)
+    ensures { (h : HeaderValue) (rows : List RowValue) (words : ℕ → ℕ) (w : World) → Follows h rows words kept.old w →
+        Follows h rows words kept.new (command_begun h w address block.now) }
+{
+    allow(kept, addressed(command_of(block)));
+    kept.under_way = Some(Pending {
+        address,
+        block: *block,
+        has_stopped: false,
+    });
+}
+
+/// The controller takes the block at a ring's pointer; one of the command ring is then under way.
+fn take_block(
+    header: &Header,
+    shape: &RingShape,
+    kept: &mut Kept,
+    ring: u8,
+    pointer: u64,
+    block: &Block,
+) -> Result<(), AllocError>
+    ensures { OnOk result ((rows : List RowValue) (words : ℕ → ℕ) (w : World) → shape.now ≡ shape_of header.now ring → w.pointer_of ring ≡ pointer →
+        Follows header.now rows words kept.old w → Follows header.now rows words kept.new (taken header.now w ring block.now)) }
+{
+    take_on(kept, shape, ring, block)?;
+    if is_command_ring(header, ring) {
+        begin(kept, pointer, block);
+        return Ok(());
+    }
+    Ok(())
+}
+
+/// Whether the ring is the command ring and a command is under way.
+fn is_busy(header: &Header, kept: &Kept, ring: u8) -> bool
+    ensures { result ≡ ((ring == command_id header.now) && is_some kept.now.under_way) }
+{
+    is_command_ring(header, ring) && kept.under_way.is_some()
+}
+
+/// A look at a block (xHCI 4.9.2): it waits, follows a Link or takes the block.
+fn look_at(
+    header: &Header,
+    shape: &RingShape,
+    kept: &mut Kept,
+    ring: u8,
+    pointer: u64,
+    cycle: bool,
+    block: &Block,
+) -> Result<Seen, StepFault>
+    requires { pointer % 16 ≡ 0 }
+    ensures step { (rows : List RowValue) (words : ℕ → ℕ) (w : World) → shape.now ≡ shape_of header.now ring → w.pointer_of ring ≡ pointer →
+        w.cycle_state ring ≡ (if cycle then 1 else 0) → Follows header.now rows words kept.old w →
+        IsStep result (looked_at header.now w ring block.now) (look_shows w ring block.now) (Follows header.now rows words kept.new) }
+    ensures refused { result ≡ Err StepFault.NotPossible → kept.new ≡ kept.old }
+{
+    if !agrees(block, cycle) {
+        note_look(kept, shape, ring, pointer);
+        return Ok(Seen::Waited);
+    }
+    if is_link(block) {
+        note_look(kept, shape, ring, pointer);
+        cross_on(kept, ring, block);
+        return Ok(Seen::Crossed);
+    }
+    if is_busy(header, kept, ring) {
+        return Err(StepFault::NotPossible);
+    }
+    note_look(kept, shape, ring, pointer);
+    take_block(header, shape, kept, ring, pointer, block)?;
+    Ok(Seen::Took {
+        ring,
+        at: pointer,
+        words: *block,
+    })
+}
+
+/// A look at a ring: one fetch of the 16 bytes at its pointer, where it is active (xHCI 4.9.2).
+pub(crate) fn look<M: WordMemory>(
+    header: &Header,
+    memory: &M,
+    kept: &mut Kept,
+    ring: u8,
+) -> Result<Seen, StepFault>
+    ensures step { (rows : List RowValue) (w : World) → Follows header.now rows (M.words memory.now) kept.old w →
+        IsStep result (looked header.now w ring) (look_shows w ring (block_at w.memory (w.pointer_of ring))) (Follows header.now rows (M.words memory.now) kept.new) }
+    ensures refused { result ≡ Err StepFault.NotPossible → kept.new ≡ kept.old }
+{
+    let state = &kept.rings[usize::from(ring)];
+    if !state.is_active {
+        return Err(StepFault::NotPossible);
+    }
+    let pointer = state.pointer;
+    let cycle = state.cycle;
+    let shape = match ring_with(header, ring) {
+        None => return Err(StepFault::NotPossible),
+        Some(ring) => &ring.shape,
+    };
+    let block = block_at(memory, pointer);
+    look_at(header, shape, kept, ring, pointer, cycle, &block)
+}
