@@ -28,3 +28,6 @@ pub mod ReportedRing
 pub mod ReportSuccess
 pub mod BrokenRing
 pub mod EndpointStates
+pub mod ReportError
+pub mod FloorMoves
+pub mod FinishKinds
