@@ -31,3 +31,5 @@ pub mod EndpointStates
 pub mod ReportError
 pub mod FloorMoves
 pub mod FinishKinds
+pub mod FinishNext
+pub mod FinishFails
