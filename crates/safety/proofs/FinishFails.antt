@@ -91,7 +91,7 @@ module _ (h : Header) (is : IsHeader h) (k : Known) (unread : List Block) (w v :
       let high = ceiling_given (shape_of h (command_id h)) (ring_shape h is (command_id h) ring).is k.memory (k.ring (command_id h)) (d.rings (command_id h) ring) in
       at_floor h is k d ring (omega (arith, below))
 
-  of_block : command_of f.taken.block ≡ command_of floor.block
+  pub of_block : command_of f.taken.block ≡ command_of floor.block
   of_block = ap (λ x. command_of x) (under.1.words floor.block floor.queued) ∙ command_of-with_cycle floor.block _ (cycle_of_bit (shape_of h (command_id h)) (next_command h k))
 
   pub here_is : (e : Command) → command_of floor.block ≡ Some e → command_at h k (next_command h k) ≡ Some e

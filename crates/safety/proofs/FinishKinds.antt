@@ -112,12 +112,12 @@ seen_after k _ = k.stop_seen
 abbrev pub next_known : Header → Known → (ℕ → ℕ → Bool) → ℕ → Known
 next_known h k seen n = record k { ring = put k.ring (command_id h) (floor_behind (shape_of h (command_id h)) (k.ring (command_id h)) (next_command h k)); stop_seen = seen; reads = n }
 
-stop_ended_is : (h : Header) (k : Known) (c : Command) → completions.stop_ended h k c ≡ (let m : Known = record k { stop_seen = seen_after k c } in m)
+pub stop_ended_is : (h : Header) (k : Known) (c : Command) → completions.stop_ended h k c ≡ (let m : Known = record k { stop_seen = seen_after k c } in m)
 unfolding completions.stop_ended
 stop_ended_is h k (StopEndpoint s i) = refl
 stop_ended_is h k _ = refl
 
-reached_is : (h : Header) (k : Known) (seen : ℕ → ℕ → Bool) (n : ℕ) →
+pub reached_is : (h : Header) (k : Known) (seen : ℕ → ℕ → Bool) (n : ℕ) →
     with_reads (on_ring h (let m : Known = record k { stop_seen = seen } in m) (command_id h) (Reaches (after (shape_of h (command_id h)) (next_command h k)))) n ≡ next_known h k seen n
 unfolding on_ring
 reached_is h k seen n = refl

@@ -33,3 +33,4 @@ pub mod FloorMoves
 pub mod FinishKinds
 pub mod FinishNext
 pub mod FinishFails
+pub mod FinishIdle
