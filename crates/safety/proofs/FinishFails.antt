@@ -1,14 +1,13 @@
 -- The controller finishes the command under way with another code than success: the run goes on
-use Rattle.std.specs.Prelude.{◌≡◌, ℕ, ◌+◌, ◌<◌, ◌==◌, ◌&&◌, ◌||◌, Bool, true, false, not, List, [], ◌∷◌, ◌++◌, nat_lt, Option, Some, None, is_some}
+use Rattle.std.specs.Prelude.{◌≡◌, ℕ, ◌+◌, ◌<◌, ◌==◌, Bool, true, false, not, List, [], ◌∷◌, ◌++◌, Option, Some, None, is_some}
 use Rattle.std.proofs.Common.{arith, refl, sym, ◌∙◌, ap, subst}
 use Rattle.std.proofs.lemmas.Bool.{false≢true, and_from, and_left, or_from, or_left, or_right, cond-false, not_from_true, not_from_false, lt-ltb, eq-eqb}
 use Rattle.trb.specs.declared.block.Block.{Block}
 use Rattle.trb.specs.declared.kind.BlockKind.{BlockKind}
 use Rattle.trb.specs.Block.{IsBlock, code, kind, pointer, slot}
-use Rattle.trb.specs.Kind.{is_transfer_event, is_command_completion, is_other_event}
+use Rattle.trb.specs.Kind.{is_transfer_event, is_command_completion}
 use Rattle.segments.specs.Places.{address_of}
 use Rattle.segments.specs.Ceiling.{ceiling}
-use Rattle.segments.specs.Spots.{number}
 use Rattle.segments.proofs.Positions.{cycle_of_bit}
 use Rattle.commands.specs.declared.command.Command.{Command}
 use Rattle.commands.specs.Command.{command_of, may_answer_slot}
@@ -127,9 +126,9 @@ module _ (h : Header) (is : IsHeader h) (k : Known) (unread : List Block) (w v :
       let learned_is : learned h k (Read b) ≡ m = learned_read h k b ∙ read in
       record {
         clean = event_clean h k w b g.stands g.read running p.can p.room
-        (or_left _ _ (or_right _ _ f.completion))
-        (completion_possible h k b f.completion (taken_now h k below) (f.named ∙ under.1.address) f.some_code (ap (λ o. can_finish k b o) here ∙ may))
-        (and_left (is_transfer_event (kind b)) (not (is_in_profile b)) (no_transfer (kind b) f.completion));
+            (or_left _ _ (or_right _ _ f.completion))
+            (completion_possible h k b f.completion (taken_now h k below) (f.named ∙ under.1.address) f.some_code (ap (λ o. can_finish k b o) here ∙ may))
+            (and_left (is_transfer_event (kind b)) (not (is_in_profile b)) (no_transfer (kind b) f.completion));
         agrees = subst (λ x. Agrees h x (unread ++ b ∷ []) (counted h v)) (sym learned_is) (subst (λ y. Agrees h m (unread ++ b ∷ []) (counted h y)) ends after_post);
       }
 

@@ -1,5 +1,5 @@
 -- The controller finishes a No Op or an Evaluate Context with success, which changes no state: the run goes on
-use Rattle.std.specs.Prelude.{◌≡◌, ℕ, ◌+◌, ◌==◌, ◌&&◌, ◌||◌, Bool, true, false, not, List, [], ◌∷◌, ◌++◌, Option, Some, None, is_some, option_map}
+use Rattle.std.specs.Prelude.{◌≡◌, ℕ, ◌+◌, ◌==◌, ◌&&◌, ◌||◌, true, false, not, List, [], ◌∷◌, ◌++◌, Some, None, is_some, option_map}
 use Rattle.std.proofs.Common.{refl, sym, ◌∙◌, ap, subst, inl, inr}
 use Rattle.std.proofs.lemmas.Bool.{cases_Bool, or_parts, and_from, cond-true, cond-false, not-false}
 use Rattle.std.proofs.lemmas.Option.{none-some, same_Some}
@@ -25,7 +25,7 @@ use Rattle.controller_model.specs.Bindings as bindings
 use Rattle.controller_model.specs.Finishes as finishes
 use Rattle.controller_model.specs.Steps.{counted}
 use Rattle.ring_knowledge.specs.Known.{Known}
-use Rattle.ring_knowledge.specs.Learned.{event_read, learned, known}
+use Rattle.ring_knowledge.specs.Learned.{event_read, known}
 use Rattle.ring_knowledge.specs.Rings.{command_at, next_command, on_ring}
 use Rattle.ring_knowledge.specs.Completions as completions
 use Rattle.ownership_rules.specs.Events.{can_finish, was_stop_seen}
@@ -34,7 +34,6 @@ use Rattle.safety.specs.Matches.{Agrees}
 use Rattle.safety.specs.Invariant.{Runs, reading}
 use Rattle.safety.proofs.WithReads.{with_reads}
 use Rattle.safety.proofs.EventRead.{clean_more, known_more}
-use Rattle.safety.proofs.LookKinds.{cond_is}
 use Rattle.safety.proofs.ReportSuccess.{ReportKeeps}
 use Rattle.safety.proofs.FinishKinds.{IsFinish, finish_is, completion_kind, let_go, seen_after, next_known, stop_ended_is, reached_is}
 use Rattle.safety.proofs.FinishFails.{floor, of_block, here_is, taken_is, answers_is, idle_at}
@@ -71,9 +70,10 @@ idle_ends h w v b u e idle is one at =
     elim (cases_Bool (finishes.passes_end h (named_context e) || not (can_succeed w.slot_state w.endpoint_state (register_or_zero w.register Config) (slot b) e))) [
       | inl stuck ↦ absurd (none-some v (sym (ap (λ o. option_map (λ x. finishes.ended h x b) o) (cond-true (finishes.passes_end h (named_context e) || not (can_succeed w.slot_state w.endpoint_state (register_or_zero w.register Config) (slot b) e)) None (bindings.effect h w (slot b) e) stuck)) ∙ succeeds))
       | inr goes ↦
-          let parts = or_parts _ _ goes in
-          (not-false (can_succeed w.slot_state w.endpoint_state (register_or_zero w.register Config) (slot b) e) parts.1,
-           same_Some (let_go (posted h w b)) v (sym (ap (λ o. option_map (λ x. finishes.ended h x b) o) (cond-false (finishes.passes_end h (named_context e) || not (can_succeed w.slot_state w.endpoint_state (register_or_zero w.register Config) (slot b) e)) None (bindings.effect h w (slot b) e) goes ∙ world_still h w (slot b) e idle)) ∙ succeeds))
+          let parts = or_parts _ _ goes in (
+            not-false (can_succeed w.slot_state w.endpoint_state (register_or_zero w.register Config) (slot b) e) parts.1,
+            same_Some (let_go (posted h w b)) v (sym (ap (λ o. option_map (λ x. finishes.ended h x b) o) (cond-false (finishes.passes_end h (named_context e) || not (can_succeed w.slot_state w.endpoint_state (register_or_zero w.register Config) (slot b) e)) None (bindings.effect h w (slot b) e) goes ∙ world_still h w (slot b) e idle)) ∙ succeeds),
+          )
     ]
 
 -- in what is known

@@ -1,56 +1,33 @@
 -- What a finish is, and what is known behind the completion of a command that had no effect
-use Rattle.std.specs.Prelude.{◌≡◌, ◌≢◌, ℕ, ◌+◌, ◌<◌, ◌≤◌, ◌==◌, ◌&&◌, ◌||◌, if◌then◌else◌, Bool, true, false, not, List, [], ◌∷◌, ◌++◌, nat_lt, Option, Some, None, is_some, option_map, slice_get}
-use Rattle.std.proofs.Common.{arith, refl, sym, ◌∙◌, ap, subst, inl, inr}
-use Rattle.std.proofs.lemmas.Bool.{cases_Bool, cases_eq, false≢true, and_parts, and_from, and_left, or_from, or_left, or_right, cond-true, cond-false, not-true, not_from_true, not_from_false, lt-ltb, eqb-true, eq-eqb, false_from_ne_true}
+use Rattle.std.specs.Prelude.{◌≡◌, ℕ, ◌==◌, ◌&&◌, if◌then◌else◌, Bool, true, false, not, Option, Some, None}
+use Rattle.std.proofs.Common.{refl, sym, ◌∙◌, ap, inl, inr}
+use Rattle.std.proofs.lemmas.Bool.{false≢true, and_parts, cond-false, not-true, eqb-true, false_from_ne_true}
 use Rattle.std.proofs.lemmas.Option.{none-some, same_Some}
 use Rattle.guest_memory.specs.Memory.{put, put_pair}
 use Rattle.trb.specs.declared.block.Block.{Block}
 use Rattle.trb.specs.declared.kind.BlockKind.{BlockKind}
 use Rattle.trb.specs.declared.kind.BlockKind.TheVariants as kinds
-use Rattle.trb.specs.Block.{IsBlock, code, kind, pointer, slot, with_cycle}
-use Rattle.trb.specs.Kind.{is_transfer_event, is_command_completion, is_other_event}
-use Rattle.segments.specs.declared.spot.Spot.{Spot}
-use Rattle.segments.specs.Spots.{after, number}
-use Rattle.segments.specs.Places.{address_of, cycle_of}
-use Rattle.segments.specs.RingView.{RingView, Reaches, floor_number, is_due}
-use Rattle.segments.specs.Ceiling.{ceiling}
-use Rattle.segments.proofs.Search.{cases_option}
-use Rattle.segments.proofs.Positions.{cycle_of_bit}
-use Rattle.segments.proofs.Giving.{due_is, due_from}
+use Rattle.trb.specs.Block.{code, kind, pointer, slot}
+use Rattle.trb.specs.Kind.{is_command_completion}
+use Rattle.segments.specs.Spots.{after}
+use Rattle.segments.specs.RingView.{Reaches}
 use Rattle.commands.specs.declared.command.Command.{Command}
 use Rattle.commands.specs.declared.command.Command.TheVariants.{NoOp, EnableSlot, DisableSlot, AddressDevice, ConfigureEndpoint, EvaluateContext, ResetEndpoint, StopEndpoint, SetTrDequeue, ResetDevice}
 use Rattle.commands.specs.Command.{command_of, is_stop_of, may_answer_slot}
 use Rattle.traces.specs.declared.header.Header.{Header}
-use Rattle.traces.specs.declared.row.Row.{Row}
-use Rattle.traces.specs.declared.row.Row.TheVariants.{Read}
-use Rattle.traces.specs.Header.{IsHeader, shape_of, command_id}
+use Rattle.traces.specs.Header.{shape_of, command_id}
 use Rattle.world_state.specs.World.{World, UnderWay}
-use Rattle.world_state.specs.World as of_world
 use Rattle.controller_model.specs.Posts.{can_post, posted}
 use Rattle.controller_model.specs.Finishes as finishes
-use Rattle.controller_model.specs.Steps.{counted}
 use Rattle.ring_knowledge.specs.Known.{Known}
-use Rattle.ring_knowledge.specs.Learned.{event_read, learned, known}
+use Rattle.ring_knowledge.specs.Learned.{event_read}
 use Rattle.ring_knowledge.specs.Rings.{command_at, next_command, on_ring}
 use Rattle.ring_knowledge.specs.Completions as completions
-use Rattle.ownership_rules.specs.Events.{is_in_profile, is_impossible_by_kind, is_impossible_completion, is_stopping_now, may_be_taken, can_finish, was_stop_seen}
-use Rattle.ownership_rules.specs.Rules.{broken}
-use Rattle.safety.specs.Keeps.{IsDriverRing, DriverKeeps, IsUnfinished}
-use Rattle.safety.specs.Stands.{Stands, EventsStand}
-use Rattle.safety.specs.Matches.{state_of, RingMatches, BoundRing, EndpointRing, CommandMatches, UnderWayMatches, TakenCommand, Matches, Agrees}
-use Rattle.safety.specs.Invariant.{Runs, reading}
-use Rattle.safety.proofs.Headers.{ring_shape}
-use Rattle.safety.proofs.SameCommand.{command_of-with_cycle}
-use Rattle.safety.proofs.NoWait.{ceiling_given}
-use Rattle.safety.proofs.SafeContext.{AtFloor, at_floor, command_is_ring, command_at_is, next_is}
-use Rattle.safety.proofs.Counted.{agrees_counted}
+use Rattle.ownership_rules.specs.Events.{is_stopping_now, may_be_taken, was_stop_seen}
+use Rattle.safety.specs.Keeps.{DriverKeeps}
 use Rattle.safety.proofs.WithReads.{with_reads}
-use Rattle.safety.proofs.Posted.{PostKeeps, post_keeps}
-use Rattle.safety.proofs.EventRead.{learned_read, event_clean, clean_more, known_more}
-use Rattle.safety.proofs.LookKinds.{cond_is, put_at, put_off}
-use Rattle.safety.proofs.LookedRing.{number_after}
-use Rattle.safety.proofs.FloorMoves.{floor_behind, floor_moves}
-use Rattle.safety.proofs.ReportSuccess.{ReportKeeps}
+use Rattle.safety.proofs.LookKinds.{cond_is}
+use Rattle.safety.proofs.FloorMoves.{floor_behind}
 
 -- ---- what a finish is
 

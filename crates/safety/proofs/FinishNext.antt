@@ -1,11 +1,11 @@
 -- Behind the completion of a command that had no effect: the command ring's floor moves on, and no command is under way
-use Rattle.std.specs.Prelude.{◌≡◌, ◌≢◌, ℕ, ◌+◌, ◌<◌, ◌⊎◌, Bool, true, false, List, Option, Some, None, option_and_then, slice_get}
+use Rattle.std.specs.Prelude.{◌≡◌, ◌≢◌, ℕ, ◌+◌, Bool, true, false, List, option_and_then, slice_get}
 use Rattle.std.proofs.Common.{arith, refl, sym, ◌∙◌, ap, subst, inl, inr}
 use Rattle.std.proofs.lemmas.Bool.{cases_eq}
 use Rattle.trb.specs.declared.block.Block.{Block}
 use Rattle.segments.specs.declared.spot.Spot.{Spot}
 use Rattle.segments.specs.Spots.{after, number}
-use Rattle.segments.specs.RingView.{RingView, floor_number, is_due}
+use Rattle.segments.specs.RingView.{floor_number, is_due}
 use Rattle.segments.proofs.Giving.{due_is, due_from}
 use Rattle.commands.specs.declared.command.Command.{Command}
 use Rattle.commands.specs.Command.{command_of}
@@ -51,7 +51,13 @@ module _ (h : Header) (is : IsHeader h) (k : Known) (d : DriverKeeps h k) (on : 
 
     pub stands_next : (u : World) → Stands h k u → Stands h (next_known h k seen n) (let_go u)
     stands_next u s = record {
-      started = s.started; stopped = s.stopped; registers = s.registers; queues = λ q. s.queues q ∙ queue_same q; lengths = λ q. s.lengths q ∙ lengths_same q; dequeue = s.dequeue; quiet = s.quiet;
+      started = s.started;
+      stopped = s.stopped;
+      registers = s.registers;
+      queues = λ q. s.queues q ∙ queue_same q;
+      lengths = λ q. s.lengths q ∙ lengths_same q;
+      dequeue = s.dequeue;
+      quiet = s.quiet;
     }
 
     pub events_next : (u : World) (unread : List Block) → EventsStand h u unread → EventsStand h (let_go u) unread
@@ -93,7 +99,7 @@ module _ (h : Header) (is : IsHeader h) (k : Known) (d : DriverKeeps h k) (on : 
       command = λ started. record {
         spot = t;
         ring = subst (λ v. RingMatches (shape_of h (command_id h)) v (state_of u (command_id h)) t) (sym ring_here)
-        (floor_moves (shape_of h (command_id h)) (k.ring (command_id h)) (state_of u (command_id h)) t (next_command h k) (omega (arith, next_is h k)) (omega arith) r);
+            (floor_moves (shape_of h (command_id h)) (k.ring (command_id h)) (state_of u (command_id h)) t (next_command h k) (omega (arith, next_is h k)) (omega arith) r);
         under_way = (at ∙ sym next_number, none);
       };
       scribbles = y.scribbles;

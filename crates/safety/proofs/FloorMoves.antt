@@ -1,10 +1,10 @@
 -- A floor that moves on behind a block that the controller has passed: the ring's pointer stands as it did
-use Rattle.std.specs.Prelude.{◌≡◌, ℕ, ◌+◌, ◌<◌, ◌≤◌, true, List, [], ◌∷◌}
-use Rattle.std.proofs.Common.{arith, refl, sym, ◌∙◌, inl, inr}
+use Rattle.std.specs.Prelude.{◌≡◌, ℕ, ◌<◌, ◌≤◌, true, List, [], ◌∷◌}
+use Rattle.std.proofs.Common.{arith, refl, ◌∙◌, inl, inr}
 use Rattle.segments.specs.declared.spot.Spot.{Spot}
 use Rattle.segments.specs.declared.spot.Spot.TheVariants.{Data}
 use Rattle.segments.specs.ShapeValue.{Shape}
-use Rattle.segments.specs.Spots.{rank, number, after}
+use Rattle.segments.specs.Spots.{number, after}
 use Rattle.segments.specs.RingView.{RingView, floor_number}
 use Rattle.segments.specs.Ceiling.{ceiling, is_way_given, is_step_given}
 use Rattle.segments.proofs.Search.{cases_option}
@@ -29,8 +29,12 @@ ways_still shape v p q = refl
 ceiling_grows : (shape : Shape) (v : RingView) (p : ℕ) → floor_number v ≤ p → ceiling shape v ≤ ceiling shape (floor_behind shape v p)
 ceiling_grows shape v p from =
     elim (cases_option v.held) [
-      | inl none ↦ omega (arith, ceiling_open shape v none, ceiling_open shape (floor_behind shape v p) none,
-        given_count_grows shape v (floor_behind shape v p) (omega (arith, number_after shape p)) (steps_still shape v p))
+      | inl none ↦ omega (
+        arith,
+        ceiling_open shape v none,
+        ceiling_open shape (floor_behind shape v p) none,
+        given_count_grows shape v (floor_behind shape v p) (omega (arith, number_after shape p)) (steps_still shape v p),
+      )
       | inr held ↦ omega (arith, ceiling_held shape v held.0 held.1, ceiling_held shape (floor_behind shape v p) held.0 held.1)
     ]
 

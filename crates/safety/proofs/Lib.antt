@@ -34,3 +34,4 @@ pub mod FinishKinds
 pub mod FinishNext
 pub mod FinishFails
 pub mod FinishIdle
+pub mod StoppedRing

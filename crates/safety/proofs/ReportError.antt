@@ -1,17 +1,16 @@
 -- The controller reports that an endpoint has halted, or gone to Error: the run goes on
-use Rattle.std.specs.Prelude.{◌≡◌, ◌≢◌, ℕ, ◌+◌, ◌<◌, ◌==◌, ◌&&◌, ◌||◌, if◌then◌else◌, Bool, true, false, not, List, [], ◌∷◌, ◌++◌, length, nat_lt, drop, Option, Some, None}
+use Rattle.std.specs.Prelude.{◌≡◌, ◌≢◌, ℕ, ◌+◌, ◌<◌, ◌==◌, ◌&&◌, ◌||◌, if◌then◌else◌, Bool, true, false, not, List, [], ◌∷◌, ◌++◌, length, drop, Some, None}
 use Rattle.std.proofs.Common.{arith, refl, sym, ◌∙◌, ap, subst, inl, inr}
-use Rattle.std.proofs.lemmas.Bool.{cases_Bool, false≢true, and_parts, and_from, and_right, or_from, or_left, or_right, cond-true, cond-false, not_from_true, lt-ltb}
+use Rattle.std.proofs.lemmas.Bool.{cases_Bool, false≢true, and_parts, and_from, and_right, or_from, or_left, or_right, cond-true, cond-false, not_from_true}
 use Rattle.std.proofs.lemmas.Option.{none-some, same_Some}
 use Rattle.guest_memory.specs.Memory.{put, put_pair}
 use Rattle.trb.specs.declared.block.Block.{Block}
 use Rattle.trb.specs.Block.{IsBlock, code, endpoint, kind, pointer, slot}
 use Rattle.trb.specs.Kind.{is_transfer_event, is_command_completion, is_other_event}
-use Rattle.trb.specs.CompletionCode.{is_success, is_halting, is_trb_error, is_stopping, is_transfer_code}
-use Rattle.segments.specs.declared.spot.Spot.{Spot}
+use Rattle.trb.specs.CompletionCode.{is_success, is_halting, is_trb_error, is_transfer_code}
 use Rattle.segments.specs.declared.spot.Spot.TheVariants.{Data}
-use Rattle.segments.specs.Spots.{after, number}
-use Rattle.segments.specs.RingView.{RingView, Reaches, Holds}
+use Rattle.segments.specs.Spots.{after}
+use Rattle.segments.specs.RingView.{RingView, Holds}
 use Rattle.segments.specs.Ceiling.{ceiling, is_data_below, is_open}
 use Rattle.commands.specs.declared.state.EndpointState.{EndpointState}
 use Rattle.commands.specs.declared.state.EndpointState.TheVariants.{Disabled as Off, Halted, Error}
@@ -26,9 +25,8 @@ use Rattle.controller_model.specs.Posts.{posted, is_last, with_reported, report_
 use Rattle.controller_model.specs.Steps.{counted}
 use Rattle.ring_knowledge.specs.Known.{Known}
 use Rattle.ring_knowledge.specs.Learned.{event_read, learned, known}
-use Rattle.ring_knowledge.specs.Rings.{RingSpot, event_at, on_ring}
+use Rattle.ring_knowledge.specs.Rings.{event_at, on_ring}
 use Rattle.ring_knowledge.specs.Transfers.{passed, broken_off, transferred, transferred_at, transfer_read}
-use Rattle.ownership_rules.specs.Rules.{broken}
 use Rattle.ownership_rules.specs.Events.{is_in_profile, is_working, is_impossible_by_kind, is_impossible_transfer, can_report, can_report_at}
 use Rattle.safety.specs.Keeps.{DriverKeeps}
 use Rattle.safety.specs.Matches.{RingState, state_of, BoundRing, Agrees}
@@ -38,13 +36,12 @@ use Rattle.safety.proofs.Counted.{agrees_counted}
 use Rattle.safety.proofs.WithReads.{with_reads}
 use Rattle.safety.proofs.Posted.{PostKeeps, post_keeps}
 use Rattle.safety.proofs.EventRead.{learned_read, event_clean, clean_more, known_more}
-use Rattle.safety.proofs.OnlyRing.{OnlyRing, stands_only, events_only, late_only}
+use Rattle.safety.proofs.OnlyRing.{OnlyRing, stands_only, events_only}
 use Rattle.safety.proofs.LookKinds.{cond_is, put_at, put_off}
-use Rattle.safety.proofs.NoWait.{ceiling_open}
 use Rattle.safety.proofs.Learns.{LearnsRing, stands_learns, matches_learns}
 use Rattle.safety.proofs.EndpointStates.{known_states, world_states, stands_states, events_states, matches_states}
 use Rattle.safety.proofs.ReportedRing.{open_takes}
-use Rattle.safety.proofs.BrokenRing.{broken_at, last_is, LastTake, last_take, broken_matches, broken_unreported}
+use Rattle.safety.proofs.BrokenRing.{broken_at, last_is, last_take, broken_matches, broken_unreported}
 use Rattle.safety.proofs.ReportSuccess.{IsReport, report_is, ReportKeeps, transfer_kind, not_off, spot_named, in_profile_is, below_is}
 
 -- the ring at rest, its takes reported
@@ -76,8 +73,21 @@ only_ended : (u : World) (r c : ℕ) → OnlyRing u (ended_ring u r c) r (record
 only_ended u r c = record {
   here = state_ended (u.pointer_of r) (u.cycle_state r) _ false (u.events r) _ c (put_at u.is_active r false) (put_at u.reported r c);
   others = λ q other. state_ended (u.pointer_of q) (u.cycle_state q) _ (u.is_active q) (u.events q) _ (u.reported q) (put_off u.is_active r false q other) (put_off u.reported r c q other);
-  steps = refl; started = refl; stopped = refl; register = refl; memory = refl; changed = refl; written = refl;
-  queue = refl; lengths = refl; slot_state = refl; endpoint_state = refl; ring_of = refl; posted = refl; reads = refl; dequeue = refl;
+  steps = refl;
+  started = refl;
+  stopped = refl;
+  register = refl;
+  memory = refl;
+  changed = refl;
+  written = refl;
+  queue = refl;
+  lengths = refl;
+  slot_state = refl;
+  endpoint_state = refl;
+  ring_of = refl;
+  posted = refl;
+  reads = refl;
+  dequeue = refl;
 }
 
 -- what is known of the ring once the event is read
@@ -92,8 +102,21 @@ learns_held h k r p n =
     let y : RingView = record (f r) { held = Some (p + 1) } in
     record {
       here = put_at f r y ∙ ap (λ (z : RingView). let e : RingView = record z { held = Some (p + 1) } in e) (put_at k.ring r x);
-      others = λ q other. put_off f r y q other ∙ put_off k.ring r x q other; queue = refl; lengths = refl; started = refl; stopped = refl; register = refl; memory = refl;
-      soiled = refl; device = refl; dequeue = refl; was_bound = refl; slot_state = refl; endpoint_state = refl; ring_of = refl; stop_seen = refl;
+      others = λ q other. put_off f r y q other ∙ put_off k.ring r x q other;
+      queue = refl;
+      lengths = refl;
+      started = refl;
+      stopped = refl;
+      register = refl;
+      memory = refl;
+      soiled = refl;
+      device = refl;
+      dequeue = refl;
+      was_bound = refl;
+      slot_state = refl;
+      endpoint_state = refl;
+      ring_of = refl;
+      stop_seen = refl;
     }
 
 broken_is : (h : Header) (k : Known) (s i r p : ℕ) (state : EndpointState) → broken_off h k s i r (Data p) state ≡ known_states (held_behind h k r p) (put_pair k.endpoint_state s i state) k.must_move
@@ -138,7 +161,7 @@ module _ (h : Header) (k : Known) (b : Block) (transfer : is_transfer_event (kin
     code_is = or_left _ _ (or_left _ _ (or_right _ _ halting));
     may = may_break fails (or_left _ _ halting);
     read = λ r p at. broken_read r p at ∙ cond-false (is_success (code b)) _ _ fails ∙ cond-true (is_halting (code b)) _ _ halting
-    ∙ ap (λ (m : Known). let x : Known = record m { must_move = put_pair k.must_move (slot b) (endpoint b) true } in x) (broken_is h k (slot b) (endpoint b) r p Halted);
+        ∙ ap (λ (m : Known). let x : Known = record m { must_move = put_pair k.must_move (slot b) (endpoint b) true } in x) (broken_is h k (slot b) (endpoint b) r p Halted);
   }
 
   pub errs : is_success (code b) ≡ false → is_halting (code b) ≡ false → is_trb_error (code b) ≡ true → BreaksBy h k b Error k.must_move
@@ -147,7 +170,7 @@ module _ (h : Header) (k : Known) (b : Block) (transfer : is_transfer_event (kin
     code_is = or_left _ _ (or_right _ _ error);
     may = may_break fails (or_right _ _ error);
     read = λ r p at. broken_read r p at ∙ cond-false (is_success (code b)) _ _ fails ∙ cond-false (is_halting (code b)) _ _ quiet ∙ cond-true (is_trb_error (code b)) _ _ error
-    ∙ broken_is h k (slot b) (endpoint b) r p Error;
+        ∙ broken_is h k (slot b) (endpoint b) r p Error;
   }
 
 possible : (h : Header) (k : Known) (b : Block) (r p : ℕ) → is_transfer_event (kind b) ≡ true → event_at h k b ≡ Some (record { ring = r; spot = Data p }) →
@@ -211,9 +234,9 @@ module _ (h : Header) (is : IsHeader h) (k : Known) (unread : List Block) (w v :
       let runs : is_running (k.endpoint_state (slot b) (endpoint b)) ≡ true = ap is_running (sym (p.matches.endpoints (slot b) (endpoint b))) ∙ f.runs in
       record {
         clean = event_clean h k w b g.stands g.read running p.can p.room
-        (or_left (is_transfer_event (kind b) || is_command_completion (kind b)) (is_other_event (kind b)) (or_left (is_transfer_event (kind b)) (is_command_completion (kind b)) x.transfer))
-        (possible h k b r q x.transfer at (by.may r q below (works h k (slot b) (endpoint b) r runs open_ring)) (d.states.on (slot b) (endpoint b) r had))
-        (and_right (is_transfer_event (kind b)) (not (is_in_profile b)) (not_from_true (is_in_profile b) (in_profile_is b x.no_data by.code_is)));
+            (or_left (is_transfer_event (kind b) || is_command_completion (kind b)) (is_other_event (kind b)) (or_left (is_transfer_event (kind b)) (is_command_completion (kind b)) x.transfer))
+            (possible h k b r q x.transfer at (by.may r q below (works h k (slot b) (endpoint b) r runs open_ring)) (d.states.on (slot b) (endpoint b) r had))
+            (and_right (is_transfer_event (kind b)) (not (is_in_profile b)) (not_from_true (is_in_profile b) (in_profile_is b x.no_data by.code_is)));
         agrees = subst (λ n. Agrees h n (unread ++ b ∷ []) (counted h v)) (sym learned_is) (subst (λ y. Agrees h (known_states m e must) (unread ++ b ∷ []) (counted h y)) f.is after_z);
       }
 
@@ -245,7 +268,7 @@ report_error_runs h is past w v b block running run d fails breaks at =
     let x = report_is h w v b at in
     let keeps : ReportKeeps h k run.unread w v b = elim (cases_Bool (is_halting (code b))) [
       | inl halting ↦ error_keeps h is k run.unread w v b block running d run.agrees x Halted _ (halts h k b x.transfer fails halting)
-        (breaks_is h (posted h w b) v (slot b) (endpoint b) x.ring (pointer b) Halted (code_halts h (posted h w b) v (code b) (slot b) (endpoint b) x.ring (pointer b) fails halting x.by_code))
+          (breaks_is h (posted h w b) v (slot b) (endpoint b) x.ring (pointer b) Halted (code_halts h (posted h w b) v (code b) (slot b) (endpoint b) x.ring (pointer b) fails halting x.by_code))
       | inr quiet ↦
           let error = or_second (is_halting (code b)) (is_trb_error (code b)) quiet breaks in
           error_keeps h is k run.unread w v b block running d run.agrees x Error _ (errs h k b x.transfer fails quiet error)
