@@ -1,11 +1,10 @@
 -- Where an unfinished command's input context lies: in no ring, and clean
-use Rattle.std.specs.Prelude.{◌≡◌, ◌≢◌, ℕ, suc, zero, ◌+◌, ◌*◌, ◌/◌, ◌<◌, ◌≤◌, ◌&&◌, ◌||◌, Bool, true, false, nat_lt, Option, Some}
+use Rattle.std.specs.Prelude.{◌≡◌, ℕ, suc, zero, ◌+◌, ◌*◌, ◌/◌, ◌<◌, ◌≤◌, Bool, true, false, nat_lt, Some}
 use Rattle.std.specs.List.{list_any, range_with_len}
-use Rattle.std.proofs.Common.{arith, refl, sym, ◌∙◌, ap, inl, inr}
+use Rattle.std.proofs.Common.{arith, sym, ◌∙◌, ap, inl, inr}
 use Rattle.std.proofs.lemmas.Bool.{cases_eq, false_from_ne_true, false≢true, or_parts, and_parts, and_from, lt-ltb, leb-true, ltb-true}
 use Rattle.segments.specs.ShapeValue.{Shape}
-use Rattle.segments.specs.declared.segment.Segment.{Segment}
-use Rattle.segments.specs.Places.{is_in, is_inside, overlap, segment_has, touches}
+use Rattle.segments.specs.Places.{is_inside, overlap, segment_has, touches}
 use Rattle.commands.specs.declared.command.Command.{Command}
 use Rattle.commands.specs.Command.{named_context}
 use Rattle.contexts.specs.Contexts.{input_context_bytes}

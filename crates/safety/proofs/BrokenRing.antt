@@ -97,8 +97,8 @@ module _ (shape : Shape) (is : IsShape shape) (memory : ℕ → ℕ) (v : RingVi
       let long = length-drop s.reported (takes_of s.events) in
       record {
         takes = sym (drop-drop (length (open_takes s)) s.reported (takes_of s.events)) ∙ ap (λ x. drop (length (open_takes s)) x) u.takes
-        ∙ drop_range (address_of shape) (floor_number v) (number t - floor_number v) (length (open_takes s)) (omega arith)
-        ∙ ap (λ b. map (address_of shape) (range_with_len b (number t - floor_number v - length (open_takes s)))) start
-        ∙ ap (λ n. map (address_of shape) (range_with_len (number (after shape l.position)) n)) rest;
+            ∙ drop_range (address_of shape) (floor_number v) (number t - floor_number v) (length (open_takes s)) (omega arith)
+            ∙ ap (λ b. map (address_of shape) (range_with_len b (number t - floor_number v - length (open_takes s)))) start
+            ∙ ap (λ n. map (address_of shape) (range_with_len (number (after shape l.position)) n)) rest;
         most = omega (arith, u.most);
       }

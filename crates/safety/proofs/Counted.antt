@@ -1,6 +1,5 @@
 -- Behind a step, once it is counted
-use Rattle.std.specs.Prelude.{◌≡◌, ℕ, List}
-use Rattle.std.proofs.Common.{arith}
+use Rattle.std.specs.Prelude.{◌≡◌, List}
 use Rattle.trb.specs.declared.block.Block.{Block}
 use Rattle.traces.specs.declared.header.Header.{Header}
 use Rattle.world_state.specs.World.{World}

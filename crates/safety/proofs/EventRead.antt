@@ -1,12 +1,10 @@
 -- When a posted event is possible where it will be read, and what reading it adds
-use Rattle.std.specs.Prelude.{◌≡◌, ℕ, ◌+◌, ◌-◌, ◌<◌, ◌≤◌, ◌==◌, ◌&&◌, ◌||◌, Bool, true, false, not, List, [], ◌∷◌, ◌++◌, nat_lt, filter, map}
+use Rattle.std.specs.Prelude.{◌≡◌, ◌+◌, ◌-◌, ◌≤◌, ◌==◌, ◌&&◌, Bool, true, false, not, List, [], ◌∷◌, ◌++◌}
 use Rattle.std.proofs.Common.{arith, refl, sym, ◌∙◌, ap, subst}
-use Rattle.std.proofs.lemmas.Bool.{false≢true, cond-false, or_from, not_from_true, le-ltb, eq-eqb}
+use Rattle.std.proofs.lemmas.Bool.{cond-false, or_from, not_from_true, le-ltb, eq-eqb}
 use Rattle.trb.specs.declared.block.Block.{Block}
-use Rattle.trb.specs.declared.kind.BlockKind.{BlockKind}
 use Rattle.trb.specs.Block.{cycle, kind}
-use Rattle.trb.specs.Kind.{is_event, is_other_event, is_transfer_event}
-use Rattle.trb.specs.declared.kind.BlockKind.TheVariants as kinds
+use Rattle.trb.specs.Kind.{is_event, is_transfer_event}
 use Rattle.segments.specs.Places.{cycle_of}
 use Rattle.traces.specs.declared.header.Header.{Header}
 use Rattle.traces.specs.declared.row.Row.{Row}
@@ -15,7 +13,7 @@ use Rattle.traces.specs.Header.{event_shape, event_size}
 use Rattle.world_state.specs.World.{World}
 use Rattle.ring_knowledge.specs.Known.{Known}
 use Rattle.ring_knowledge.specs.Learned.{event_read, learned, known}
-use Rattle.ownership_rules.specs.Refusal.{Test, broken_of}
+use Rattle.ownership_rules.specs.Refusal.{broken_of}
 use Rattle.ownership_rules.specs.declared.refusal.Refusal.TheVariants.{AfterStop, ImpossibleEvent, NotInProfile}
 use Rattle.ownership_rules.specs.Rules.{broken}
 use Rattle.ownership_rules.specs.Rules as of_rules

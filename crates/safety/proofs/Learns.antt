@@ -1,9 +1,8 @@
 -- One ring about which more is known, and which has changed in the world: all else that is said of both stays
-use Rattle.std.specs.Prelude.{◌≡◌, ◌≢◌, ℕ, ◌+◌, ◌⊎◌, true, false, List, Option, Some, None, option_and_then, slice_get}
+use Rattle.std.specs.Prelude.{◌≡◌, ◌≢◌, ℕ, ◌+◌, false, Option, Some, None, option_and_then, slice_get}
 use Rattle.std.proofs.Common.{refl, sym, ◌∙◌, ap, subst, inl, inr}
 use Rattle.std.proofs.lemmas.Bool.{cases_eq, false≢true}
 use Rattle.std.proofs.lemmas.Option.{none-some}
-use Rattle.trb.specs.declared.block.Block.{Block}
 use Rattle.trb.specs.Block.{with_cycle}
 use Rattle.segments.specs.declared.spot.Spot.{Spot}
 use Rattle.segments.specs.Places.{address_of, cycle_of}
@@ -19,7 +18,7 @@ use Rattle.ring_knowledge.specs.Rings.{command_at, next_command}
 use Rattle.ownership_rules.specs.Events.{was_stop_seen}
 use Rattle.safety.specs.Keeps.{DriverKeeps, IsUnfinished}
 use Rattle.safety.specs.Stands.{Stands}
-use Rattle.safety.specs.Matches.{RingState, state_of, RingMatches, BoundRing, FreeRing, EndpointRing, UnderWayMatches, TakenCommand, IsUnchanged, Matches}
+use Rattle.safety.specs.Matches.{RingState, state_of, RingMatches, BoundRing, FreeRing, EndpointRing, UnderWayMatches, TakenCommand, Matches}
 use Rattle.safety.proofs.OnlyRing.{OnlyRing, unchanged_only}
 
 pub record LearnsRing (k m : Known) (r : ℕ) (x : RingView) : Type 0 where
@@ -60,7 +59,7 @@ module _ (h : Header) (k m : Known) (ring : m.ring (command_id h) ≡ k.ring (co
   taken_same u t = record {
     address = t.address ∙ ap (λ n. address_of (shape_of h (command_id h)) n) (sym next_same);
     words = λ d at. t.words d (ap (λ n. slice_get (k.ring (command_id h)).queue n) (sym next_same) ∙ ap (λ v. slice_get v.queue (next_command h m)) (sym ring) ∙ at)
-    ∙ ap (λ n. with_cycle d (cycle_of (shape_of h (command_id h)) n)) (sym next_same);
+        ∙ ap (λ n. with_cycle d (cycle_of (shape_of h (command_id h)) n)) (sym next_same);
     stopped = λ c at. t.stopped c (ap (λ n. command_at h k n) (sym next_same) ∙ sym (command_same (next_command h m)) ∙ at) ∙ sym (seen_same c);
   }
 
@@ -117,9 +116,9 @@ module _ (h : Header) (k m : Known) (r : ℕ) (x : RingView) (l : LearnsRing k m
           ring_of = λ q i. ap (λ f. f q i) o.ring_of ∙ y.ring_of q i ∙ ap (λ f. f q i) (sym l.ring_of);
           rings = λ q not_command. elim (cases_eq q r) [
             | inl same ↦ subst (λ p. EndpointRing h m v p) (sym same)
-            (inl (subst (λ f. BoundRing (shape_of h r) f (m.ring r) (state_of v r) r) (sym l.ring_of)
-            (subst (λ z. BoundRing (shape_of h r) k.ring_of z (state_of v r) r) (sym l.here)
-            (subst (λ z. BoundRing (shape_of h r) k.ring_of x z r) (sym o.here) bound))))
+                (inl (subst (λ f. BoundRing (shape_of h r) f (m.ring r) (state_of v r) r) (sym l.ring_of)
+                (subst (λ z. BoundRing (shape_of h r) k.ring_of z (state_of v r) r) (sym l.here)
+                (subst (λ z. BoundRing (shape_of h r) k.ring_of x z r) (sym o.here) bound))))
             | inr apart ↦ other_ring q apart (y.rings q not_command)
           ];
           fresh = λ q not_command unused. let before : k.was_bound q ≡ false = ap (λ f. f q) (sym l.was_bound) ∙ unused in elim (cases_eq q r) [
@@ -130,7 +129,7 @@ module _ (h : Header) (k m : Known) (r : ℕ) (x : RingView) (l : LearnsRing k m
           command = λ on. let c = y.command (sym l.started ∙ on) in record {
             spot = c.spot;
             ring = subst (λ z. RingMatches (shape_of h (command_id h)) z (state_of v (command_id h)) c.spot) (sym command_ring)
-            (subst (λ z. RingMatches (shape_of h (command_id h)) (k.ring (command_id h)) z c.spot) (sym command_state) c.ring);
+                (subst (λ z. RingMatches (shape_of h (command_id h)) (k.ring (command_id h)) z c.spot) (sym command_state) c.ring);
             under_way = subst (λ z. UnderWayMatches h m c.spot z) (sym under) (under_way_same h k m command_ring l.stop_seen c.spot u.under_way c.under_way);
           };
           scribbles = λ q may none. y.scribbles q (ap (λ f. f q) (sym scribbles) ∙ may) (ap (λ f. f q) (sym l.device) ∙ none);

@@ -44,3 +44,10 @@ pub mod ReportedRing
 pub mod ReportSuccess
 pub mod BrokenRing
 pub mod EndpointStates
+pub mod ReportError
+pub mod FloorMoves
+pub mod FinishKinds
+pub mod FinishNext
+pub mod FinishFails
+pub mod FinishIdle
+pub mod StoppedRing

@@ -1,42 +1,28 @@
 -- The controller looks at the block at a ring's pointer, and waits, follows a Link or takes it: the run goes on
-use Rattle.std.specs.Prelude.{◌≡◌, ◌≢◌, ℕ, ◌+◌, ◌==◌, ◌&&◌, ◌||◌, ◌⊎◌, if◌then◌else◌, Bool, true, false, not, List, Option, Some, None, is_some, slice_get}
+use Rattle.std.specs.Prelude.{◌≡◌, ◌≢◌, ℕ, ◌==◌, ◌||◌, true, false, not, List, Option}
 use Rattle.std.proofs.Common.{arith, refl, sym, ◌∙◌, ap, subst, inl, inr, add-zero}
-use Rattle.std.proofs.lemmas.Bool.{cases_Bool, cases_eq, false≢true, cond-true, cond-false, eq-eqb, ne_eqb, and_cases, or_from, or_cases, not_from_true, eqb-true}
-use Rattle.std.proofs.lemmas.Option.{none-some, same_Some}
+use Rattle.std.proofs.lemmas.Bool.{cond-false, ne_eqb, or_from, not_from_true}
 use Rattle.trb.specs.declared.block.Block.{Block}
-use Rattle.trb.specs.Block.{block_at, with_cycle}
 use Rattle.segments.specs.declared.spot.Spot.{Spot}
-use Rattle.segments.specs.declared.spot.Spot.TheVariants.{Data, Link}
-use Rattle.segments.specs.Places.{address_of, cycle_of, is_inside}
-use Rattle.segments.specs.Spots.{number, after, spot_address}
+use Rattle.segments.specs.declared.spot.Spot.TheVariants.{Data}
+use Rattle.segments.specs.Places.{is_inside}
+use Rattle.segments.specs.Spots.{after, spot_address}
 use Rattle.segments.specs.Descriptors.{DeclaredBlock, declared_at}
 use Rattle.world_state.specs.Takes.{next_take}
-use Rattle.segments.proofs.Positions.{cycle_of_bit}
-use Rattle.commands.specs.declared.command.Command.{Command}
-use Rattle.commands.specs.declared.command.Command.TheVariants.{NoOp, EnableSlot, DisableSlot, AddressDevice, ConfigureEndpoint, EvaluateContext, ResetEndpoint, StopEndpoint, SetTrDequeue, ResetDevice}
-use Rattle.commands.specs.Command.{command_of}
 use Rattle.traces.specs.declared.header.Header.{Header}
-use Rattle.traces.specs.declared.row.Row.{Row}
 use Rattle.traces.specs.Header.{IsHeader, shape_of, command_id}
-use Rattle.world_state.specs.World.{World, UnderWay}
-use Rattle.controller_model.specs.Looks.{looked, seen_by_look, crossed, taken, taken_on, command_begun, may_scribble}
+use Rattle.world_state.specs.World.{World}
+use Rattle.controller_model.specs.Looks.{seen_by_look, crossed, taken, taken_on}
 use Rattle.controller_model.specs.Steps.{counted}
 use Rattle.ring_knowledge.specs.Known.{Known}
-use Rattle.ring_knowledge.specs.Learned.{known}
-use Rattle.ring_knowledge.specs.Rings.{command_at, next_command}
-use Rattle.ownership_rules.specs.Events.{was_stop_seen}
-use Rattle.safety.specs.Keeps.{IsDriverRing, IsUnfinished, DriverKeeps}
-use Rattle.safety.specs.Matches.{RingState, state_of, RingMatches, Unreported, BoundRing, CommandMatches, UnderWayMatches, TakenCommand, Matches, Agrees}
-use Rattle.safety.specs.Invariant.{Runs, reading}
+use Rattle.safety.specs.Keeps.{IsDriverRing, DriverKeeps}
+use Rattle.safety.specs.Matches.{RingState, state_of, RingMatches, Unreported, BoundRing, Matches, Agrees}
 use Rattle.safety.proofs.Headers.{transfer_driver, ring_shape}
 use Rattle.safety.proofs.RingMemory.{spot_lies}
-use Rattle.safety.proofs.SameCommand.{command_of-with_cycle}
-use Rattle.safety.proofs.SafeContext.{AtFloor, at_floor, command_is_ring, command_at_is, next_is}
-use Rattle.safety.proofs.Stored.{Late}
 use Rattle.safety.proofs.Counted.{agrees_counted}
-use Rattle.safety.proofs.OnlyRing.{OnlyRing, stands_only, events_only, late_only, read_only, matches_transfer, matches_command}
-use Rattle.safety.proofs.LookedRing.{crossed_unreported, taken_unreported, number_after}
-use Rattle.safety.proofs.LookKinds.{seen, Waits, Crosses, TakesBlock, LookEnds, looked_is, only_seen, only_crossed, only_taken, only_begun, behind_link, behind_block}
+use Rattle.safety.proofs.OnlyRing.{OnlyRing, stands_only, events_only, late_only, read_only, matches_transfer}
+use Rattle.safety.proofs.LookedRing.{crossed_unreported, taken_unreported}
+use Rattle.safety.proofs.LookKinds.{seen, LookEnds, only_seen, only_crossed, only_taken, behind_link, behind_block}
 use Rattle.safety.proofs.LookSpots.{CrossDone, cross_done, TakeDone, take_done}
 
 -- what a look leaves beside its ring

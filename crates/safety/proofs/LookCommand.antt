@@ -1,14 +1,14 @@
 -- The controller looks at the command ring: it waits, follows a Link, or takes the next command
 use Rattle.std.specs.Prelude.{◌≡◌, ◌≢◌, ℕ, ◌+◌, ◌==◌, ◌&&◌, ◌||◌, ◌⊎◌, Bool, true, false, not, List, Option, Some, None, is_some, slice_get}
 use Rattle.std.proofs.Common.{arith, refl, sym, ◌∙◌, ap, subst, inl, inr}
-use Rattle.std.proofs.lemmas.Bool.{cases_Bool, false≢true, cond-true, eq-eqb, and_cases, or_cases, eqb-true}
-use Rattle.std.proofs.lemmas.Option.{none-some, same_Some}
+use Rattle.std.proofs.lemmas.Bool.{false≢true, cond-true, eq-eqb, and_cases, or_cases, eqb-true}
+use Rattle.std.proofs.lemmas.Option.{same_Some}
 use Rattle.trb.specs.declared.block.Block.{Block}
-use Rattle.trb.specs.Block.{block_at, with_cycle}
+use Rattle.trb.specs.Block.{with_cycle}
 use Rattle.segments.specs.declared.spot.Spot.{Spot}
 use Rattle.segments.specs.declared.spot.Spot.TheVariants.{Data, Link}
 use Rattle.segments.specs.Places.{address_of, cycle_of, is_inside}
-use Rattle.segments.specs.Spots.{number, after}
+use Rattle.segments.specs.Spots.{after}
 use Rattle.segments.proofs.Positions.{cycle_of_bit}
 use Rattle.commands.specs.declared.command.Command.{Command}
 use Rattle.commands.specs.declared.command.Command.TheVariants.{NoOp, EnableSlot, DisableSlot, AddressDevice, ConfigureEndpoint, EvaluateContext, ResetEndpoint, StopEndpoint, SetTrDequeue, ResetDevice}
@@ -19,19 +19,17 @@ use Rattle.world_state.specs.World.{World, UnderWay}
 use Rattle.controller_model.specs.Looks.{seen_by_look, crossed, taken, taken_on, command_begun, may_scribble}
 use Rattle.controller_model.specs.Steps.{counted}
 use Rattle.ring_knowledge.specs.Known.{Known}
-use Rattle.ring_knowledge.specs.Rings.{command_at, next_command}
+use Rattle.ring_knowledge.specs.Rings.{next_command}
 use Rattle.ownership_rules.specs.Events.{was_stop_seen}
 use Rattle.safety.specs.Keeps.{IsDriverRing, IsUnfinished, DriverKeeps}
-use Rattle.safety.specs.Matches.{RingState, state_of, RingMatches, CommandMatches, UnderWayMatches, TakenCommand, Matches, Agrees}
-use Rattle.safety.proofs.Headers.{ring_shape}
+use Rattle.safety.specs.Matches.{RingState, state_of, RingMatches, CommandMatches, UnderWayMatches, TakenCommand, Agrees}
 use Rattle.safety.proofs.SameCommand.{command_of-with_cycle}
-use Rattle.safety.proofs.NoWait.{ceiling_open}
 use Rattle.safety.proofs.SafeContext.{AtFloor, at_floor, command_is_ring, command_at_is}
 use Rattle.safety.proofs.OnlyRing.{OnlyRing, matches_command}
 use Rattle.safety.proofs.LookedRing.{number_after}
-use Rattle.safety.proofs.LookKinds.{seen, Waits, Crosses, TakesBlock, LookEnds, only_seen, only_crossed, only_taken, only_begun, behind_link, behind_block}
+use Rattle.safety.proofs.LookKinds.{seen, LookEnds, only_seen, only_crossed, only_taken, only_begun, behind_link, behind_block}
 use Rattle.safety.proofs.LookSpots.{CrossDone, cross_done, TakeDone, take_done}
-use Rattle.safety.proofs.Look.{LookRest, seen_rest, crossed_rest, inside_still, agrees_only}
+use Rattle.safety.proofs.Look.{seen_rest, crossed_rest, inside_still, agrees_only}
 
 same_spot_number : (h : Header) (k : Known) (n : ℕ) (o : Option UnderWay) → UnderWayMatches h k (Link n) o → UnderWayMatches h k (Data n) o
 same_spot_number h k n None u = u
@@ -174,8 +172,8 @@ module _ (h : Header) (is : IsHeader h) (k : Known) (unread : List Block) (w : W
     taken_command = record {
       address = pointer_here ∙ ap (λ n. address_of (shape_of h (command_id h)) n) here;
       words = λ b at.
-      let same : x.block.block ≡ b = same_Some x.block.block b (sym x.block.queued ∙ ap (λ n. slice_get (k.ring (command_id h)).queue n) here ∙ at) in
-      x.found ∙ x.block.stands ∙ ap (λ n. with_cycle x.block.block (cycle_of (shape_of h (command_id h)) n)) here ∙ ap (λ e. with_cycle e (cycle_of (shape_of h (command_id h)) (next_command h k))) same;
+          let same : x.block.block ≡ b = same_Some x.block.block b (sym x.block.queued ∙ ap (λ n. slice_get (k.ring (command_id h)).queue n) here ∙ at) in
+          x.found ∙ x.block.stands ∙ ap (λ n. with_cycle x.block.block (cycle_of (shape_of h (command_id h)) n)) here ∙ ap (λ e. with_cycle e (cycle_of (shape_of h (command_id h)) (next_command h k))) same;
       stopped = λ e at. sym (not_seen k e none_before.1);
     }
 
@@ -190,7 +188,7 @@ module _ (h : Header) (is : IsHeader h) (k : Known) (unread : List Block) (w : W
           due = floor.due;
           given = floor.given;
           command = command_at_is h k (next_command h k) floor.block floor.queued
-          ∙ sym (command_of-with_cycle floor.block _ (cycle_of_bit (shape_of h (command_id h)) (next_command h k))) ∙ ap (λ b. command_of b) (sym words) ∙ at;
+              ∙ sym (command_of-with_cycle floor.block _ (cycle_of_bit (shape_of h (command_id h)) (next_command h k))) ∙ ap (λ b. command_of b) (sym words) ∙ at;
         }
 
     may_still : (q : ℕ) → (begun h w).scribbles q ≡ true → k.device q ≢ None

@@ -1,8 +1,8 @@
 -- The three ways in which a look ends, and what each changes
-use Rattle.std.specs.Prelude.{◌≡◌, ◌≢◌, ℕ, ◌+◌, ◌-◌, ◌%◌, ◌^◌, ◌==◌, ◌&&◌, ◌||◌, ◌⊎◌, if◌then◌else◌, Bool, true, false, not, List, ◌∷◌, Option, Some, None, is_some}
-use Rattle.std.proofs.Common.{refl, sym, ◌∙◌, ap, inl, inr, cond}
-use Rattle.std.proofs.lemmas.Bool.{cases_Bool, cond-true, cond-false, eq-eqb, ne_eqb, not-true, not-false, eqb-true, eqb-false}
-use Rattle.std.proofs.lemmas.Option.{cond_some, same_Some}
+use Rattle.std.specs.Prelude.{◌≡◌, ◌≢◌, ℕ, ◌+◌, ◌-◌, ◌%◌, ◌^◌, ◌==◌, ◌&&◌, ◌⊎◌, if◌then◌else◌, Bool, true, false, not, List, ◌∷◌, Some, None, is_some}
+use Rattle.std.proofs.Common.{refl, ◌∙◌, ap, inl, inr, cond}
+use Rattle.std.proofs.lemmas.Bool.{cond-true, cond-false, eq-eqb, ne_eqb, not-false, eqb-true}
+use Rattle.std.proofs.lemmas.Option.{same_Some}
 use Rattle.guest_memory.specs.Memory.{put}
 use Rattle.trb.specs.declared.block.Block.{Block}
 use Rattle.trb.specs.Bits.{is_set}
@@ -91,8 +91,23 @@ module _ (h : Header) (w : World) (r : ℕ) where
   pub only_seen : OnlyRing w (seen_by_look h w r) r (state_of w r)
   unfolding seen_by_look
   only_seen = record {
-    here = refl; others = λ q other. refl; steps = refl; started = refl; stopped = refl; register = refl; memory = refl; changed = refl; written = refl;
-    queue = refl; lengths = refl; slot_state = refl; endpoint_state = refl; ring_of = refl; posted = refl; reads = refl; dequeue = refl;
+    here = refl;
+    others = λ q other. refl;
+    steps = refl;
+    started = refl;
+    stopped = refl;
+    register = refl;
+    memory = refl;
+    changed = refl;
+    written = refl;
+    queue = refl;
+    lengths = refl;
+    slot_state = refl;
+    endpoint_state = refl;
+    ring_of = refl;
+    posted = refl;
+    reads = refl;
+    dequeue = refl;
   }
 
   -- the pointer and the cycle state behind a Link
@@ -103,12 +118,25 @@ module _ (h : Header) (w : World) (r : ℕ) where
   unfolding seen_by_look crossed
   only_crossed b = record {
     here = state_eq _ _ _ _ (w.is_active r) (w.events r) (w.events r) (w.reported r) (put_at w.pointer_of r (aligned (pointer b)))
-    (chosen_at (is_set (word b 3) 1) (put w.cycle_state r (1 - w.cycle_state r)) w.cycle_state r ∙ ap (λ n. if is_set (word b 3) 1 then n else w.cycle_state r) (put_at w.cycle_state r (1 - w.cycle_state r))) refl;
+        (chosen_at (is_set (word b 3) 1) (put w.cycle_state r (1 - w.cycle_state r)) w.cycle_state r ∙ ap (λ n. if is_set (word b 3) 1 then n else w.cycle_state r) (put_at w.cycle_state r (1 - w.cycle_state r))) refl;
     others = λ q other. state_eq _ _ _ _ (w.is_active q) (w.events q) (w.events q) (w.reported q) (put_off w.pointer_of r (aligned (pointer b)) q other)
-    (chosen_at (is_set (word b 3) 1) (put w.cycle_state r (1 - w.cycle_state r)) w.cycle_state q ∙ ap (λ n. if is_set (word b 3) 1 then n else w.cycle_state q) (put_off w.cycle_state r (1 - w.cycle_state r) q other)
-    ∙ both_same (is_set (word b 3) 1) (w.cycle_state q)) refl;
-    steps = refl; started = refl; stopped = refl; register = refl; memory = refl; changed = refl; written = refl;
-    queue = refl; lengths = refl; slot_state = refl; endpoint_state = refl; ring_of = refl; posted = refl; reads = refl; dequeue = refl;
+        (chosen_at (is_set (word b 3) 1) (put w.cycle_state r (1 - w.cycle_state r)) w.cycle_state q ∙ ap (λ n. if is_set (word b 3) 1 then n else w.cycle_state q) (put_off w.cycle_state r (1 - w.cycle_state r) q other)
+        ∙ both_same (is_set (word b 3) 1) (w.cycle_state q)) refl;
+    steps = refl;
+    started = refl;
+    stopped = refl;
+    register = refl;
+    memory = refl;
+    changed = refl;
+    written = refl;
+    queue = refl;
+    lengths = refl;
+    slot_state = refl;
+    endpoint_state = refl;
+    ring_of = refl;
+    posted = refl;
+    reads = refl;
+    dequeue = refl;
   }
     where
       both_same : (t : Bool) (n : ℕ) → (if t then n else n) ≡ n
@@ -127,13 +155,41 @@ module _ (h : Header) (w : World) (r : ℕ) where
   only_taken b = record {
     here = state_eq _ _ _ _ (w.is_active r) _ _ (w.reported r) (put_at w.pointer_of r ((w.pointer_of r + 16) % 2 ^ 64)) refl (put_at w.events r _);
     others = λ q other. state_eq _ _ _ _ (w.is_active q) _ _ (w.reported q) (put_off w.pointer_of r ((w.pointer_of r + 16) % 2 ^ 64) q other) refl (put_off w.events r _ q other);
-    steps = refl; started = refl; stopped = refl; register = refl; memory = refl; changed = refl; written = refl;
-    queue = refl; lengths = refl; slot_state = refl; endpoint_state = refl; ring_of = refl; posted = refl; reads = refl; dequeue = refl;
+    steps = refl;
+    started = refl;
+    stopped = refl;
+    register = refl;
+    memory = refl;
+    changed = refl;
+    written = refl;
+    queue = refl;
+    lengths = refl;
+    slot_state = refl;
+    endpoint_state = refl;
+    ring_of = refl;
+    posted = refl;
+    reads = refl;
+    dequeue = refl;
   }
 
   pub only_begun : (u : World) (s : RingState) (a : ℕ) (b : Block) → OnlyRing w u r s → OnlyRing w (command_begun h u a b) r s
   unfolding command_begun
   only_begun u s a b o = record {
-    here = o.here; others = o.others; steps = o.steps; started = o.started; stopped = o.stopped; register = o.register; memory = o.memory; changed = o.changed; written = o.written;
-    queue = o.queue; lengths = o.lengths; slot_state = o.slot_state; endpoint_state = o.endpoint_state; ring_of = o.ring_of; posted = o.posted; reads = o.reads; dequeue = o.dequeue;
+    here = o.here;
+    others = o.others;
+    steps = o.steps;
+    started = o.started;
+    stopped = o.stopped;
+    register = o.register;
+    memory = o.memory;
+    changed = o.changed;
+    written = o.written;
+    queue = o.queue;
+    lengths = o.lengths;
+    slot_state = o.slot_state;
+    endpoint_state = o.endpoint_state;
+    ring_of = o.ring_of;
+    posted = o.posted;
+    reads = o.reads;
+    dequeue = o.dequeue;
   }

@@ -1,6 +1,6 @@
 -- Behind a look the run goes on
-use Rattle.std.specs.Prelude.{◌≡◌, ◌≢◌, ℕ, true, false, List, Some}
-use Rattle.std.proofs.Common.{sym, ◌∙◌, ap, subst, inl, inr}
+use Rattle.std.specs.Prelude.{◌≡◌, ◌≢◌, ℕ, List, Some}
+use Rattle.std.proofs.Common.{sym, ◌∙◌, ap, inl, inr}
 use Rattle.std.proofs.lemmas.Bool.{cases_Bool, cases_eq, false≢true}
 use Rattle.trb.specs.declared.block.Block.{Block}
 use Rattle.traces.specs.declared.header.Header.{Header}
@@ -14,7 +14,7 @@ use Rattle.ring_knowledge.specs.Learned.{known}
 use Rattle.safety.specs.Keeps.{DriverKeeps}
 use Rattle.safety.specs.Matches.{Agrees}
 use Rattle.safety.specs.Invariant.{Runs, reading}
-use Rattle.safety.proofs.LookKinds.{LookEnds, looked_is}
+use Rattle.safety.proofs.LookKinds.{looked_is}
 use Rattle.safety.proofs.Look.{transfer_looks}
 use Rattle.safety.proofs.LookCommand.{command_looks}
 

@@ -1,9 +1,8 @@
 -- A look at a ring of a rule-keeping driver: what it finds, and where the pointer stands behind it
-use Rattle.std.specs.Prelude.{◌≡◌, ℕ, ◌+◌, ◌-◌, ◌%◌, ◌^◌, ◌<◌, ◌≤◌, if◌then◌else◌, true, false, not, List, ◌∷◌, Some, None}
+use Rattle.std.specs.Prelude.{◌≡◌, ℕ, ◌+◌, ◌-◌, ◌%◌, ◌^◌, ◌<◌, ◌≤◌, if◌then◌else◌, true, false, ◌∷◌}
 use Rattle.std.proofs.Common.{arith, refl, sym, ◌∙◌, ap, subst, inl, inr}
 use Rattle.std.proofs.lemmas.Bool.{cases_Bool, false≢true}
 use Rattle.std.proofs.Math.Nat.{mod-eq_of_lt}
-use Rattle.trb.specs.declared.block.Block.{Block}
 use Rattle.trb.specs.Bits.{is_set}
 use Rattle.trb.specs.Block.{aligned, block_at, cycle, kind, pointer, word}
 use Rattle.trb.specs.Kind.{is_link}
@@ -23,7 +22,7 @@ use Rattle.world_state.specs.Takes.{next_take}
 use Rattle.ring_knowledge.specs.Known.{Known}
 use Rattle.safety.specs.Keeps.{IsDriverRing, DriverKeeps}
 use Rattle.safety.specs.Stands.{Stands}
-use Rattle.safety.specs.Matches.{RingMatches, RingState, state_of}
+use Rattle.safety.specs.Matches.{RingMatches, state_of}
 use Rattle.safety.proofs.Headers.{ring_shape}
 use Rattle.safety.proofs.AtSpots.{Takeable, Crossable, takeable, crossable, waits_at_block, waits_at_link}
 use Rattle.safety.proofs.NoWait.{ceiling_open}
@@ -82,8 +81,8 @@ module _ (h : Header) (is : IsHeader h) (k : Known) (w : World) (d : DriverKeeps
         number = q;
         was = refl;
         matches = crossed_matches (shape_of h r) (ring_shape h is r ring).is k.memory (k.ring r) (state_of w r) q m c _ _
-        (ap (λ b. aligned (pointer b)) b ∙ leads.target)
-        (ap (λ t. if t then 1 - w.cycle_state r else w.cycle_state r) (ap (λ b. is_set (word b 3) 1) b ∙ leads.toggles_is));
+            (ap (λ b. aligned (pointer b)) b ∙ leads.target)
+            (ap (λ t. if t then 1 - w.cycle_state r else w.cycle_state r) (ap (λ b. is_set (word b 3) 1) b ∙ leads.toggles_is));
       }
 
   -- behind a block that is taken
@@ -119,6 +118,6 @@ module _ (h : Header) (is : IsHeader h) (k : Known) (w : World) (d : DriverKeeps
         block = t;
         found = block_found h is k w d s r (Data q) ring m;
         matches = subst (λ o. RingMatches (shape_of h r) (k.ring r) (record (state_of w r) { pointer = (w.pointer_of r + 16) % 2 ^ 64; events = Took (w.pointer_of r) (seen w r) o ∷ w.events r }) (after (shape_of h r) q))
-        (sym (declared_same q m.next))
-        (taken_matches (shape_of h r) allowed.is allowed.other k.memory (k.ring r) (state_of w r) q m t _ (seen w r) (behind_ends q m.pointer) (block_found h is k w d s r (Data q) ring m) high);
+            (sym (declared_same q m.next))
+            (taken_matches (shape_of h r) allowed.is allowed.other k.memory (k.ring r) (state_of w r) q m t _ (seen w r) (behind_ends q m.pointer) (block_found h is k w d s r (Data q) ring m) high);
       }

@@ -1,5 +1,5 @@
 -- One ring behind a look: a Link that is followed, a block that is taken
-use Rattle.std.specs.Prelude.{◌≡◌, ℕ, suc, zero, ◌+◌, ◌-◌, ◌*◌, ◌<◌, ◌≤◌, ◌==◌, ◌&&◌, ◌||◌, ◌⊎◌, if◌then◌else◌, Bool, true, false, not, List, [], ◌∷◌, ◌++◌, length, drop, map, Option, Some, None}
+use Rattle.std.specs.Prelude.{◌≡◌, ℕ, suc, zero, ◌+◌, ◌-◌, ◌≤◌, ◌==◌, if◌then◌else◌, Bool, true, false, not, List, [], ◌∷◌, ◌++◌, length, drop, map, Option, Some}
 use Rattle.std.specs.List.{range_with_len}
 use Rattle.std.proofs.Common.{arith, refl, sym, ◌∙◌, ap, inl, inr, length-append}
 use Rattle.std.proofs.lemmas.Bool.{cases_Bool, false≢true, cond-true, cond-false, or_parts, or_from, or_left, or_right, not_from_true, not_from_false, not-false, eqb-true, eq-eqb, and_from}
@@ -9,18 +9,17 @@ use Rattle.trb.specs.declared.block.Block.{Block}
 use Rattle.trb.specs.Bits.{is_set}
 use Rattle.trb.specs.Block.{aligned, block_at, kind, pointer, same_words, with_cycle, word}
 use Rattle.trb.specs.Kind.{is_link}
-use Rattle.segments.specs.declared.spot.Spot.{Spot}
 use Rattle.segments.specs.declared.spot.Spot.TheVariants.{Data, Link}
 use Rattle.segments.specs.ShapeValue.{Shape}
-use Rattle.segments.specs.Places.{address_of, cycle_of, is_crossing, link_crossed, link_target, toggles}
-use Rattle.segments.specs.Spots.{rank, number, after, next, spot_address, spot_cycle}
+use Rattle.segments.specs.Places.{address_of, cycle_of, is_crossing, link_target, toggles}
+use Rattle.segments.specs.Spots.{number, after}
 use Rattle.segments.specs.Shape.{IsShape}
 use Rattle.segments.specs.Descriptors.{DeclaredBlock, declared_at, is_border}
 use Rattle.segments.specs.RingView.{RingView, floor_number}
 use Rattle.segments.specs.Ceiling.{ceiling, is_way_given}
 use Rattle.segments.specs.Givings.{is_wrong_link, same}
 use Rattle.segments.proofs.Crossings.{cycle_of-crossed, link_target-crossed}
-use Rattle.segments.proofs.SpotOrder.{rank_most, next_is_spot, next_later, spot_address-after, spot_cycle-after, rank_least}
+use Rattle.segments.proofs.SpotOrder.{next_is_spot, next_later, spot_address-after, spot_cycle-after, rank_least}
 use Rattle.world_state.specs.World.{RingEvent, Took, Placed}
 use Rattle.world_state.specs.Takes.{takes_of, next_take, was_placed, is_as_declared}
 use Rattle.world_state.specs.Harms.{is_right_place, is_out_of_order, has_other_words}
@@ -169,10 +168,10 @@ module _ (shape : Shape) (is : IsShape shape) (other : shape.kind ≡ Evt → �
         next = next_behind shape s.pointer b (declared_at v.queue v.lengths q) s.events ∙ ap (λ n. n + 1) m.next ∙ sym at;
         newest = (omega arith, ap (λ n. declared_at v.queue v.lengths n) (sym last));
         in_order = ap (λ o. is_out_of_order shape (Took s.pointer b o ∷ s.events)) here
-        ∙ order_kept shape s.pointer b (Some d) s.events (right_place (was_placed s.events) d (placed_begins v q s.events m.newest))
-        (ap (λ n. address_of shape n) m.next ∙ sym m.pointer) m.in_order;
+            ∙ order_kept shape s.pointer b (Some d) s.events (right_place (was_placed s.events) d (placed_begins v q s.events m.newest))
+            (ap (λ n. address_of shape n) m.next ∙ sym m.pointer) m.in_order;
         as_declared = ap (λ o. has_other_words shape (Took s.pointer b o ∷ s.events)) here
-        ∙ words_kept shape s.pointer b d s.events (found ∙ t.stands ∙ ap (λ n. with_cycle t.block (cycle_of shape n)) (sym m.next)) m.as_declared;
+            ∙ words_kept shape s.pointer b d s.events (found ∙ t.stands ∙ ap (λ n. with_cycle t.block (cycle_of shape n)) (sym m.next)) m.as_declared;
       }
 
   pub taken_unreported : RingMatches shape v s (Data q) → Unreported shape v s (Data q) → (p : ℕ) (b : Block) (d : Option DeclaredBlock) →
@@ -184,8 +183,8 @@ module _ (shape : Shape) (is : IsShape shape) (other : shape.kind ≡ Evt → �
       let grown : length (takes_of (Took s.pointer b d ∷ s.events)) ≡ length (takes_of s.events) + 1 = ap length (takes_more s.pointer b d s.events) ∙ length-append (takes_of s.events) (s.pointer ∷ []) in
       record {
         takes = ap (λ l. drop s.reported l) (takes_more s.pointer b d s.events) ∙ drop_more s.reported (takes_of s.events) s.pointer u.most
-        ∙ ap (λ l. l ++ s.pointer ∷ []) u.takes ∙ ap (λ a. map (address_of shape) (range_with_len (floor_number v) (q - floor_number v)) ++ a ∷ []) m.pointer
-        ∙ sym (map-range_with_len_more (address_of shape) (floor_number v) (q - floor_number v) q (omega arith))
-        ∙ ap (λ n. map (address_of shape) (range_with_len (floor_number v) n)) (sym more);
+            ∙ ap (λ l. l ++ s.pointer ∷ []) u.takes ∙ ap (λ a. map (address_of shape) (range_with_len (floor_number v) (q - floor_number v)) ++ a ∷ []) m.pointer
+            ∙ sym (map-range_with_len_more (address_of shape) (floor_number v) (q - floor_number v) q (omega arith))
+            ∙ ap (λ n. map (address_of shape) (range_with_len (floor_number v) n)) (sym more);
         most = omega (arith, u.most);
       }

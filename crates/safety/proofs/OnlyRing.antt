@@ -1,22 +1,17 @@
 -- A world in which one ring alone has changed: all else that is said of it stays
-use Rattle.std.specs.Prelude.{◌≡◌, ◌≢◌, ℕ, ◌+◌, ◌⊎◌, ◌*◌, true, false, List, length, Option, Some, None}
-use Rattle.std.proofs.Common.{arith, refl, sym, ◌∙◌, ap, subst, inl, inr}
+use Rattle.std.specs.Prelude.{◌≡◌, ◌≢◌, ℕ, ◌+◌, ◌*◌, true, false, List, length, Option, Some, None}
+use Rattle.std.proofs.Common.{arith, sym, ◌∙◌, ap, subst, inl, inr}
 use Rattle.std.proofs.lemmas.Bool.{cases_eq, false≢true}
 use Rattle.std.proofs.lemmas.Option.{none-some}
 use Rattle.trb.specs.declared.block.Block.{Block}
 use Rattle.trb.specs.Block.{block_at}
 use Rattle.segments.specs.Places.{address_of}
-use Rattle.commands.specs.declared.command.Command.{Command}
-use Rattle.commands.specs.declared.state.SlotState.{SlotState}
-use Rattle.commands.specs.declared.state.EndpointState.{EndpointState}
 use Rattle.commands.specs.Command.{named_context}
 use Rattle.traces.specs.declared.header.Header.{Header}
-use Rattle.traces.specs.declared.register.Register.{Register}
-use Rattle.traces.specs.Header.{shape_of, command_id, event_shape, event_size}
-use Rattle.event_ring.specs.EventRing.{AreInOrder}
+use Rattle.traces.specs.Header.{shape_of, command_id, event_shape}
 use Rattle.world_state.specs.World.{World, event_at}
 use Rattle.ring_knowledge.specs.Known.{Known}
-use Rattle.safety.specs.Keeps.{DriverKeeps, IsUnfinished}
+use Rattle.safety.specs.Keeps.{DriverKeeps}
 use Rattle.safety.specs.Stands.{Stands, EventsStand}
 use Rattle.safety.specs.Matches.{RingState, state_of, RingMatches, BoundRing, FreeRing, EndpointRing, CommandMatches, UnderWayMatches, IsUnchanged, Matches}
 use Rattle.safety.proofs.Stored.{Late}

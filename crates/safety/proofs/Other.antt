@@ -1,13 +1,13 @@
 -- An event of the controller itself is posted: the run goes on
-use Rattle.std.specs.Prelude.{◌≡◌, ℕ, ◌+◌, ◌&&◌, ◌||◌, if◌then◌else◌, true, false, not, List, [], ◌∷◌, ◌++◌, Option, Some, None}
-use Rattle.std.proofs.Common.{arith, refl, sym, ◌∙◌, ap, subst}
+use Rattle.std.specs.Prelude.{◌≡◌, ◌+◌, ◌&&◌, ◌||◌, true, false, not, List, [], ◌∷◌, ◌++◌, Some}
+use Rattle.std.proofs.Common.{refl, sym, ◌∙◌, ap, subst}
 use Rattle.std.proofs.lemmas.Bool.{false≢true, and_parts, and_left, or_right}
 use Rattle.std.proofs.lemmas.Option.{cond_some}
 use Rattle.trb.specs.declared.block.Block.{Block}
 use Rattle.trb.specs.declared.kind.BlockKind.{BlockKind}
 use Rattle.trb.specs.declared.kind.BlockKind.TheVariants as kinds
 use Rattle.trb.specs.Block.{IsBlock, kind}
-use Rattle.trb.specs.Kind.{is_event, is_transfer_event, is_command_completion, is_other_event}
+use Rattle.trb.specs.Kind.{is_transfer_event, is_command_completion, is_other_event}
 use Rattle.traces.specs.declared.header.Header.{Header}
 use Rattle.traces.specs.declared.row.Row.{Row}
 use Rattle.traces.specs.declared.row.Row.TheVariants.{Read}
@@ -23,7 +23,7 @@ use Rattle.safety.specs.Matches.{Agrees}
 use Rattle.safety.specs.Invariant.{Runs, reading}
 use Rattle.safety.proofs.Counted.{agrees_counted}
 use Rattle.safety.proofs.WithReads.{with_reads, stands_with_reads, matches_with_reads}
-use Rattle.safety.proofs.Posted.{PostKeeps, post_keeps}
+use Rattle.safety.proofs.Posted.{post_keeps}
 use Rattle.safety.proofs.EventRead.{learned_read, event_clean, clean_more, known_more}
 
 -- what such an event says
@@ -74,5 +74,5 @@ other_runs h is past w v b block running r d at =
       clean = clean_more h r.unread past b r.clean none;
       on = r.on;
       agrees = subst (λ m. Agrees h m (r.unread ++ b ∷ []) (counted h v)) (sym (known_more h r.unread past b ∙ learned_same h is k r.unread w b block d r.agrees p.0 p.1))
-      (subst (λ u. Agrees h (with_reads k (k.reads + 1)) (r.unread ++ b ∷ []) (counted h u)) p.2 (agrees_other h is k r.unread w b block d r.agrees p.0 p.1));
+          (subst (λ u. Agrees h (with_reads k (k.reads + 1)) (r.unread ++ b ∷ []) (counted h u)) p.2 (agrees_other h is k r.unread w b block d r.agrees p.0 p.1));
     }

@@ -1,8 +1,7 @@
 -- Behind a post: the event lies behind the unread ones, and nothing else that the driver or the controller did has changed
 use Rattle.std.specs.Prelude.{◌≡◌, ℕ, suc, zero, ◌+◌, ◌<◌, ◌≤◌, ◌⊎◌, true, List, [], ◌∷◌, ◌++◌, length, Some, slice_get}
-use Rattle.std.proofs.Common.{arith, refl, sym, ◌∙◌, ap, inl, inr, length-append}
-use Rattle.std.proofs.lemmas.Bool.{cases_lt}
-use Rattle.std.proofs.lemmas.Option.{same_Some, none-some, slice_get_within}
+use Rattle.std.proofs.Common.{arith, refl, ◌∙◌, ap, inl, inr, length-append}
+use Rattle.std.proofs.lemmas.Option.{same_Some, none-some}
 use Rattle.trb.specs.declared.block.Block.{Block}
 use Rattle.trb.specs.Block.{IsBlock, block_at}
 use Rattle.segments.specs.Places.{place_count, address_of}

@@ -1,30 +1,24 @@
 -- An event that is posted: it lies behind the unread ones, and nothing else that the driver or the controller did changes
-use Rattle.std.specs.Prelude.{◌≡◌, ◌≢◌, ℕ, ◌+◌, ◌*◌, ◌/◌, ◌%◌, ◌<◌, ◌≤◌, ◌==◌, ◌&&◌, true, false, List, [], ◌∷◌, ◌++◌, length, nat_lt, Some, slice_get, slice_index}
-use Rattle.std.proofs.Common.{arith, refl, sym, ◌∙◌, ap, inl, inr, add-zero, get_or, length-append}
-use Rattle.std.proofs.lemmas.Bool.{cases_lt, and_parts, ltb-true, eqb-true, false≢true}
-use Rattle.std.proofs.lemmas.Option.{same_Some}
+use Rattle.std.specs.Prelude.{◌≡◌, ◌≢◌, ℕ, ◌+◌, ◌%◌, ◌<◌, ◌==◌, ◌&&◌, true, List, [], ◌∷◌, length, nat_lt, slice_index}
+use Rattle.std.proofs.Common.{arith, refl, sym, ◌∙◌, ap, inr, add-zero}
+use Rattle.std.proofs.lemmas.Bool.{and_parts, ltb-true, eqb-true}
 use Rattle.trb.specs.declared.block.Block.{Block}
 use Rattle.trb.specs.Block.{IsBlock, block_at, cycle, word}
-use Rattle.segments.specs.ShapeValue.{Shape}
 use Rattle.segments.specs.Places.{place_count, address_of, cycle_of, is_inside}
-use Rattle.segments.specs.Shape.{IsShape}
-use Rattle.segments.proofs.ShapeFacts.{shape_facts}
 use Rattle.segments.proofs.Positions.{address_aligned, place_count_pos, same_in_lap, same_place_of}
 use Rattle.segments.proofs.Elsewhere.{address_inside}
 use Rattle.segments.proofs.InsideLemmas.{touches-word}
 use Rattle.event_ring.specs.EventRing.{has_room}
-use Rattle.event_ring.proofs.CountLemmas.{posted_in_order}
 use Rattle.traces.specs.declared.header.Header.{Header}
-use Rattle.traces.specs.Header.{IsHeader, event_shape, event_size}
+use Rattle.traces.specs.Header.{event_shape, event_size}
 use Rattle.contexts.specs.Contexts.{input_context_bytes}
-use Rattle.world_state.specs.World.{World, stored, stored_block, event_at}
-use Rattle.controller_model.specs.Posts.{can_post, posted}
+use Rattle.world_state.specs.World.{World, stored, stored_block}
+use Rattle.controller_model.specs.Posts.{can_post}
 use Rattle.ring_knowledge.specs.Known.{Known}
 use Rattle.safety.specs.Keeps.{DriverKeeps}
-use Rattle.safety.specs.Stands.{Stands, EventsStand, touches_events}
-use Rattle.safety.specs.Matches.{Matches, Agrees}
-use Rattle.safety.proofs.Headers.{EventRing, event_ring_is}
-use Rattle.safety.proofs.RingMemory.{same_block_at}
+use Rattle.safety.specs.Stands.{Stands, touches_events}
+use Rattle.safety.specs.Matches.{Matches}
+use Rattle.safety.proofs.Headers.{EventRing}
 use Rattle.safety.proofs.Stored.{Late, IsInNoContext, late_stored, matches_stored, stands_stored, memory_stored, memory_here}
 use Rattle.safety.proofs.Areas.{byte_apart, context_lies, ring_untouched}
 

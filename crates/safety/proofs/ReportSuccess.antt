@@ -1,19 +1,19 @@
 -- The controller reports that a take has succeeded: the run goes on
-use Rattle.std.specs.Prelude.{◌≡◌, ◌≢◌, ℕ, ◌+◌, ◌<◌, ◌==◌, ◌&&◌, ◌||◌, Bool, true, false, not, List, [], ◌∷◌, ◌++◌, nat_lt, drop, Option, Some, None, position, option_map}
+use Rattle.std.specs.Prelude.{◌≡◌, ◌≢◌, ℕ, ◌+◌, ◌<◌, ◌==◌, ◌&&◌, ◌||◌, Bool, true, false, not, List, [], ◌∷◌, ◌++◌, drop, Option, Some, None, position, option_map}
 use Rattle.std.proofs.Common.{arith, refl, sym, ◌∙◌, ap, subst, inl, inr}
-use Rattle.std.proofs.lemmas.Bool.{cases_Bool, false≢true, and_parts, and_from, and_left, and_right, or_from, or_left, cond-true, not-true, not_from_true, not_from_false, lt-ltb}
-use Rattle.std.proofs.lemmas.Option.{none-some, same_Some, cond_some}
+use Rattle.std.proofs.lemmas.Bool.{false≢true, and_parts, and_from, and_right, or_from, or_left, cond-true, not-true, not_from_true, not_from_false, lt-ltb}
+use Rattle.std.proofs.lemmas.Option.{none-some, same_Some}
 use Rattle.trb.specs.declared.block.Block.{Block}
 use Rattle.trb.specs.declared.kind.BlockKind.{BlockKind}
 use Rattle.trb.specs.declared.kind.BlockKind.TheVariants as kinds
 use Rattle.trb.specs.Bits.{is_set}
 use Rattle.trb.specs.Block.{IsBlock, code, endpoint, kind, pointer, slot, word}
-use Rattle.trb.specs.Kind.{is_event, is_transfer_event, is_command_completion, is_other_event}
+use Rattle.trb.specs.Kind.{is_transfer_event, is_command_completion, is_other_event}
 use Rattle.trb.specs.CompletionCode.{is_success, is_halting, is_trb_error, is_stopping, is_transfer_code}
 use Rattle.segments.specs.declared.spot.Spot.{Spot}
 use Rattle.segments.specs.declared.spot.Spot.TheVariants.{Data}
 use Rattle.segments.specs.Spots.{after, number}
-use Rattle.segments.specs.RingView.{RingView, Reaches, floor_number}
+use Rattle.segments.specs.RingView.{floor_number}
 use Rattle.segments.specs.Ceiling.{ceiling, named, is_data_below}
 use Rattle.commands.specs.declared.state.EndpointState.{EndpointState}
 use Rattle.commands.specs.declared.state.EndpointState.TheVariants.{Disabled as Off, Running, Halted, Stopped, Error}
@@ -24,7 +24,6 @@ use Rattle.traces.specs.declared.row.Row.TheVariants.{Read}
 use Rattle.traces.specs.Header.{IsHeader, shape_of, command_id}
 use Rattle.world_state.specs.World.{World, RingEvent}
 use Rattle.world_state.specs.Takes.{takes_of, unreported}
-use Rattle.world_state.specs.World as of_world
 use Rattle.controller_model.specs.Posts.{can_post, posted, with_reported, report_success, report_code, reported_on, reported}
 use Rattle.controller_model.specs.Steps.{counted}
 use Rattle.ring_knowledge.specs.Known.{Known}
@@ -38,13 +37,13 @@ use Rattle.safety.specs.Matches.{RingState, state_of, BoundRing, Agrees}
 use Rattle.safety.specs.Invariant.{Runs, reading}
 use Rattle.safety.proofs.Headers.{transfer_driver, transfer_not_command, ring_shape}
 use Rattle.safety.proofs.Counted.{agrees_counted}
-use Rattle.safety.proofs.WithReads.{with_reads, stands_with_reads, matches_with_reads}
+use Rattle.safety.proofs.WithReads.{with_reads}
 use Rattle.safety.proofs.Posted.{PostKeeps, post_keeps}
 use Rattle.safety.proofs.EventRead.{learned_read, event_clean, clean_more, known_more}
 use Rattle.safety.proofs.OnlyRing.{OnlyRing, stands_only, events_only, late_only}
 use Rattle.safety.proofs.LookKinds.{cond_is, put_at, put_off}
 use Rattle.safety.proofs.Learns.{LearnsRing, stands_learns, matches_learns}
-use Rattle.safety.proofs.ReportedRing.{Reported, open_takes, reported_is, reported_matches, reported_unreported}
+use Rattle.safety.proofs.ReportedRing.{open_takes, reported_is, reported_matches, reported_unreported}
 
 pub transfer_kind : (t : BlockKind) → is_transfer_event t ≡ true → t ≡ kinds.TransferEvent
 transfer_kind kinds.TransferEvent h = refl
@@ -104,8 +103,21 @@ unfolding with_reported
 only_reported h u r n = record {
   here = state_reported (u.pointer_of r) (u.cycle_state r) (u.is_active r) (u.events r) _ n (put_at u.reported r n);
   others = λ q other. state_reported (u.pointer_of q) (u.cycle_state q) (u.is_active q) (u.events q) _ (u.reported q) (put_off u.reported r n q other);
-  steps = refl; started = refl; stopped = refl; register = refl; memory = refl; changed = refl; written = refl;
-  queue = refl; lengths = refl; slot_state = refl; endpoint_state = refl; ring_of = refl; posted = refl; reads = refl; dequeue = refl;
+  steps = refl;
+  started = refl;
+  stopped = refl;
+  register = refl;
+  memory = refl;
+  changed = refl;
+  written = refl;
+  queue = refl;
+  lengths = refl;
+  slot_state = refl;
+  endpoint_state = refl;
+  ring_of = refl;
+  posted = refl;
+  reads = refl;
+  dequeue = refl;
 }
 
 reported_under : (h : Header) (u : World) (r n : ℕ) → (with_reported h u r n).under_way ≡ u.under_way
@@ -124,8 +136,22 @@ reported_inside h u r n = refl
 learns_passed : (h : Header) (k : Known) (r n : ℕ) (t : Spot) → LearnsRing k (with_reads (passed h k r t) n) r (record (k.ring r) { floor = after (shape_of h r) (number t) })
 unfolding passed on_ring
 learns_passed h k r n t = record {
-  here = put_at k.ring r _; others = λ q other. put_off k.ring r _ q other; queue = refl; lengths = refl; started = refl; stopped = refl; register = refl; memory = refl;
-  soiled = refl; device = refl; dequeue = refl; was_bound = refl; slot_state = refl; endpoint_state = refl; ring_of = refl; stop_seen = refl;
+  here = put_at k.ring r _;
+  others = λ q other. put_off k.ring r _ q other;
+  queue = refl;
+  lengths = refl;
+  started = refl;
+  stopped = refl;
+  register = refl;
+  memory = refl;
+  soiled = refl;
+  device = refl;
+  dequeue = refl;
+  was_bound = refl;
+  slot_state = refl;
+  endpoint_state = refl;
+  ring_of = refl;
+  stop_seen = refl;
 }
 
 pub spot_named : (h : Header) (k : Known) (b : Block) (r : ℕ) (t : Spot) → k.ring_of (slot b) (endpoint b) ≡ Some r → named (shape_of h r) (k.ring r) (pointer b) ≡ Some t →
@@ -214,9 +240,9 @@ module _ (h : Header) (is : IsHeader h) (k : Known) (unread : List Block) (w v :
       let learned_is : learned h k (Read b) ≡ m = learned_read h k b ∙ ap (λ n. with_reads n (k.reads + 1)) (success_read h k b r (Data q) x.transfer success at) in
       record {
         clean = event_clean h k w b g.stands g.read running p.can p.room
-        (or_left (is_transfer_event (kind b) || is_command_completion (kind b)) (is_other_event (kind b)) (or_left (is_transfer_event (kind b)) (is_command_completion (kind b)) x.transfer))
-        (success_possible h k b r q x.transfer success at (omega (arith, named_take.within, bound.matches.below)) (d.states.on (slot b) (endpoint b) r had))
-        (and_right (is_transfer_event (kind b)) (not (is_in_profile b)) (not_from_true (is_in_profile b) (in_profile_is b x.no_data (success_code (code b) success))));
+            (or_left (is_transfer_event (kind b) || is_command_completion (kind b)) (is_other_event (kind b)) (or_left (is_transfer_event (kind b)) (is_command_completion (kind b)) x.transfer))
+            (success_possible h k b r q x.transfer success at (omega (arith, named_take.within, bound.matches.below)) (d.states.on (slot b) (endpoint b) r had))
+            (and_right (is_transfer_event (kind b)) (not (is_in_profile b)) (not_from_true (is_in_profile b) (in_profile_is b x.no_data (success_code (code b) success))));
         agrees = subst (λ n. Agrees h n (unread ++ b ∷ []) (counted h v)) (sym learned_is) (subst (λ y. Agrees h m (unread ++ b ∷ []) (counted h y)) f.2 after_z);
       }
 

@@ -1,5 +1,5 @@
 -- A take that is reported: what the event names, and the ring behind it
-use Rattle.std.specs.Prelude.{◌≡◌, ℕ, suc, zero, ◌+◌, ◌-◌, ◌*◌, ◌<◌, ◌≤◌, ◌==◌, true, List, [], ◌∷◌, length, drop, map, Some, position}
+use Rattle.std.specs.Prelude.{◌≡◌, ℕ, suc, zero, ◌+◌, ◌-◌, ◌<◌, ◌≤◌, ◌==◌, true, List, [], ◌∷◌, length, drop, map, Some, position}
 use Rattle.std.specs.List.{range_with_len}
 use Rattle.std.proofs.Common.{arith, refl, sym, ◌∙◌, ap, inl, inr, get_or, length-drop}
 use Rattle.std.proofs.lemmas.Bool.{eqb-true}
@@ -34,6 +34,7 @@ drop_range f F n zero h = ap (λ a. map f (range_with_len a n)) (sym (none F)) �
   where
     none : (a : ℕ) → a + 0 ≡ a
     none a = omega arith
+
     all : (a : ℕ) → a - 0 ≡ a
     all a = omega arith
 drop_range f F zero (suc m) h = absurd (omega arith)
@@ -42,6 +43,7 @@ drop_range f F (suc n) (suc m) h =
   where
     on : (a b : ℕ) → a + 1 + b ≡ a + suc b
     on a b = omega arith
+
     less : (a b : ℕ) → a - b ≡ suc a - suc b
     less a b = omega arith
 
@@ -103,8 +105,12 @@ module _ (shape : Shape) (is : IsShape shape) (memory : ℕ → ℕ) (v : RingVi
   ceiling_grows : (p : ℕ) → floor_number v ≤ p → ceiling shape v ≤ ceiling shape (moved_to p)
   ceiling_grows p from =
       elim (cases_option v.held) [
-        | inl none ↦ omega (arith, ceiling_open shape v none, ceiling_open shape (moved_to p) none,
-          given_count_grows shape v (moved_to p) (omega (arith, number_after shape p)) (steps_still p))
+        | inl none ↦ omega (
+          arith,
+          ceiling_open shape v none,
+          ceiling_open shape (moved_to p) none,
+          given_count_grows shape v (moved_to p) (omega (arith, number_after shape p)) (steps_still p),
+        )
         | inr held ↦ omega (arith, ceiling_held shape v held.0 held.1, ceiling_held shape (moved_to p) held.0 held.1)
       ]
 
@@ -143,8 +149,8 @@ module _ (shape : Shape) (is : IsShape shape) (memory : ℕ → ℕ) (v : RingVi
       let all = length-drop s.reported (takes_of s.events) in
       record {
         takes = ap (λ c. drop c (takes_of s.events)) sum ∙ sym (drop-drop (n + 1) s.reported (takes_of s.events)) ∙ ap (λ l. drop (n + 1) l) u.takes
-        ∙ drop_range (address_of shape) (floor_number v) (number t - floor_number v) (n + 1) (omega (arith, r.within))
-        ∙ ap (λ b. map (address_of shape) (range_with_len b (number t - floor_number v - (n + 1)))) start
-        ∙ ap (λ l. map (address_of shape) (range_with_len (number (after shape p)) l)) rest;
+            ∙ drop_range (address_of shape) (floor_number v) (number t - floor_number v) (n + 1) (omega (arith, r.within))
+            ∙ ap (λ b. map (address_of shape) (range_with_len b (number t - floor_number v - (n + 1)))) start
+            ∙ ap (λ l. map (address_of shape) (range_with_len (number (after shape p)) l)) rest;
         most = omega (arith, count, r.within);
       }

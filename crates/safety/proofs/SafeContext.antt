@@ -94,7 +94,7 @@ module _ (h : Header) (is : IsHeader h) (k : Known) (d : DriverKeeps h k) where
         queued = slice_get-get_or (k.ring (command_id h)).queue (next_command h k) none (omega arith);
         due = due_from (shape_of h (command_id h)) (k.ring (command_id h)).floor (next_command h k) (omega (arith, next_is h k)) (omega (arith, next_is h k));
         given = (step_is (shape_of h (command_id h)) (k.ring (command_id h)) (next_command h k)
-        (given_below (shape_of h (command_id h)) (k.ring (command_id h)) (next_command h k) below)).0;
+            (given_below (shape_of h (command_id h)) (k.ring (command_id h)) (next_command h k) below)).0;
       }
 
   unchanged_of : (w : World) → Matches h k w → (u : UnderWay) (t : Spot) (f : AtFloor h k) → UnderWayMatches h k t (Some u) → (o : Option Command) → command_of f.block ≡ o →

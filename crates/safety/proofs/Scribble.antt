@@ -1,16 +1,12 @@
 -- The controller writes a word of a device context that it may write: the run goes on
-use Rattle.std.specs.Prelude.{◌≡◌, ◌≢◌, ℕ, ◌+◌, ◌*◌, ◌/◌, ◌%◌, ◌^◌, ◌<◌, ◌≤◌, ◌==◌, ◌&&◌, ◌⊎◌, if◌then◌else◌, Bool, true, false, List, [], nat_lt, nat_le, Option, Some, None, slice_get, unwrap_or}
+use Rattle.std.specs.Prelude.{◌≡◌, ◌≢◌, ℕ, ◌+◌, ◌*◌, ◌<◌, ◌≤◌, true, false, List, nat_lt, nat_le, Option, Some, None, slice_get, unwrap_or}
 use Rattle.std.specs.List.{list_any, range_with_len}
 use Rattle.std.proofs.Common.{arith, refl, sym, ◌∙◌, ap, subst, inl, inr, add-zero}
 use Rattle.std.proofs.lemmas.Bool.{cases_lt, lt-ltb, false≢true, false_from_ne_true, and_parts, and_from, leb-true, ltb-true}
 use Rattle.std.proofs.lemmas.Option.{cond_some, slice_get_within}
 use Rattle.trb.specs.declared.block.Block.{Block}
-use Rattle.trb.specs.Block.{block_at}
-use Rattle.guest_memory.specs.Memory.{long_at}
 use Rattle.segments.specs.Places.{address_of, is_in, is_inside, overlap, touches}
-use Rattle.segments.specs.Shape.{IsShape}
 use Rattle.segments.specs.ShapeValue.{Shape}
-use Rattle.segments.proofs.Search.{cases_option}
 use Rattle.segments.proofs.Elsewhere.{address_inside}
 use Rattle.contexts.specs.Contexts.{device_context, device_context_bytes, slot_entry}
 use Rattle.traces.specs.declared.header.Header.{Header}
@@ -26,7 +22,7 @@ use Rattle.ring_knowledge.specs.Learned.{known}
 use Rattle.ring_knowledge.specs.Writes.{device_named, entry_of}
 use Rattle.ownership_rules.proofs.Among.{any_of, some_of}
 use Rattle.safety.specs.Keeps.{DeviceKeeps, DriverKeeps}
-use Rattle.safety.specs.Stands.{Stands, EventsStand, touches_events}
+use Rattle.safety.specs.Stands.{EventsStand, touches_events}
 use Rattle.safety.specs.Matches.{Agrees}
 use Rattle.safety.specs.Invariant.{Runs, reading}
 use Rattle.safety.proofs.Headers.{EventRing, event_ring_is, no_events}
@@ -165,5 +161,5 @@ scribble_runs h is past w v a x r d at =
       clean = r.clean;
       on = r.on;
       agrees = subst (λ u. Agrees h (known h (reading r.unread past)) r.unread (counted h u)) s.1
-      (agrees_stored h is (known h (reading r.unread past)) r.unread w d r.agrees a x s.0);
+          (agrees_stored h is (known h (reading r.unread past)) r.unread w d r.agrees a x s.0);
     }

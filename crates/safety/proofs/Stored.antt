@@ -1,6 +1,6 @@
 -- A word that the controller writes: what stands in the world and what the controller did stay
-use Rattle.std.specs.Prelude.{◌≡◌, ◌≢◌, ℕ, ◌+◌, ◌*◌, ◌/◌, ◌<◌, ◌≤◌, ◌==◌, ◌⊎◌, if◌then◌else◌, true, false, Option, Some, None}
-use Rattle.std.proofs.Common.{arith, refl, sym, ◌∙◌, ap, subst, inl, inr}
+use Rattle.std.specs.Prelude.{◌≡◌, ◌≢◌, ℕ, ◌+◌, ◌*◌, ◌/◌, ◌<◌, ◌≤◌, ◌==◌, ◌⊎◌, true, Option, Some, None}
+use Rattle.std.proofs.Common.{arith, refl, sym, ◌∙◌, ap, inl, inr}
 use Rattle.std.proofs.lemmas.Bool.{cases_Bool, cases_eq, false≢true, cond-true, cond-false}
 use Rattle.guest_memory.specs.Memory.{put}
 use Rattle.segments.proofs.MemoryWords.{put_here, put_elsewhere}

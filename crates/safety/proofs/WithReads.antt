@@ -1,6 +1,6 @@
 -- Other events counted as read, with nothing else that they say
-use Rattle.std.specs.Prelude.{◌≡◌, ℕ, ◌+◌, List, [], ◌∷◌, ◌++◌, Option, Some, None}
-use Rattle.std.proofs.Common.{refl, sym, ◌∙◌, ap}
+use Rattle.std.specs.Prelude.{◌≡◌, ℕ, List, [], ◌∷◌, ◌++◌, Option, Some, None}
+use Rattle.std.proofs.Common.{refl, sym, ◌∙◌}
 use Rattle.trb.specs.declared.block.Block.{Block}
 use Rattle.segments.specs.declared.spot.Spot.{Spot}
 use Rattle.commands.specs.declared.command.Command.{Command}

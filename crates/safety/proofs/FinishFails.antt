@@ -1,0 +1,156 @@
+-- The controller finishes the command under way with another code than success: the run goes on
+use Rattle.std.specs.Prelude.{◌≡◌, ℕ, ◌+◌, ◌<◌, ◌==◌, Bool, true, false, not, List, [], ◌∷◌, ◌++◌, Option, Some, None, is_some}
+use Rattle.std.proofs.Common.{arith, refl, sym, ◌∙◌, ap, subst}
+use Rattle.std.proofs.lemmas.Bool.{false≢true, and_from, and_left, or_from, or_left, or_right, cond-false, not_from_true, not_from_false, lt-ltb, eq-eqb}
+use Rattle.trb.specs.declared.block.Block.{Block}
+use Rattle.trb.specs.declared.kind.BlockKind.{BlockKind}
+use Rattle.trb.specs.Block.{IsBlock, code, kind, pointer, slot}
+use Rattle.trb.specs.Kind.{is_transfer_event, is_command_completion}
+use Rattle.segments.specs.Places.{address_of}
+use Rattle.segments.specs.Ceiling.{ceiling}
+use Rattle.segments.proofs.Positions.{cycle_of_bit}
+use Rattle.commands.specs.declared.command.Command.{Command}
+use Rattle.commands.specs.Command.{command_of, may_answer_slot}
+use Rattle.traces.specs.declared.header.Header.{Header}
+use Rattle.traces.specs.declared.row.Row.{Row}
+use Rattle.traces.specs.declared.row.Row.TheVariants.{Read}
+use Rattle.traces.specs.Header.{IsHeader, shape_of, command_id}
+use Rattle.world_state.specs.World.{World, UnderWay}
+use Rattle.world_state.specs.World as of_world
+use Rattle.controller_model.specs.Posts.{posted}
+use Rattle.controller_model.specs.Finishes as finishes
+use Rattle.controller_model.specs.Steps.{counted}
+use Rattle.ring_knowledge.specs.Known.{Known}
+use Rattle.ring_knowledge.specs.Learned.{event_read, learned, known}
+use Rattle.ring_knowledge.specs.Rings.{command_at, next_command}
+use Rattle.ownership_rules.specs.Events.{is_in_profile, is_impossible_by_kind, is_impossible_completion, may_be_taken, can_finish, was_stop_seen}
+use Rattle.safety.specs.Keeps.{DriverKeeps}
+use Rattle.safety.specs.Matches.{CommandMatches, UnderWayMatches, Agrees}
+use Rattle.safety.specs.Invariant.{Runs, reading}
+use Rattle.safety.proofs.Headers.{ring_shape}
+use Rattle.safety.proofs.SameCommand.{command_of-with_cycle}
+use Rattle.safety.proofs.NoWait.{ceiling_given}
+use Rattle.safety.proofs.SafeContext.{AtFloor, at_floor, command_is_ring, command_at_is}
+use Rattle.safety.proofs.Counted.{agrees_counted}
+use Rattle.safety.proofs.WithReads.{with_reads}
+use Rattle.safety.proofs.Posted.{PostKeeps, post_keeps}
+use Rattle.safety.proofs.EventRead.{learned_read, event_clean, clean_more, known_more}
+use Rattle.safety.proofs.ReportSuccess.{ReportKeeps}
+use Rattle.safety.proofs.FinishKinds.{IsFinish, finish_is, failure_is, completion_kind, let_go, seen_after, next_known, failed_read, none_waits, none_after}
+use Rattle.safety.proofs.FinishNext.{stands_next, events_next, matches_next}
+
+posted_under_way : (h : Header) (w : World) (b : Block) → (posted h w b).under_way ≡ w.under_way
+unfolding posted of_world.stored_block of_world.stored
+posted_under_way h w b = refl
+
+some_command : (o : Option Command) → is_some o ≡ true → (c : Command) × (o ≡ Some c)
+some_command None h = absurd (false≢true h)
+some_command (Some c) h = (c, refl)
+
+taken_now : (h : Header) (k : Known) → next_command h k < ceiling (shape_of h (command_id h)) (k.ring (command_id h)) → may_be_taken h k ≡ true
+unfolding may_be_taken
+taken_now h k below = lt-ltb (next_command h k) (ceiling (shape_of h (command_id h)) (k.ring (command_id h))) below
+
+can_fail : (k : Known) (b : Block) (c : Command) → may_answer_slot (Some c) (slot b) ≡ true → (code b == 1) ≡ false → was_stop_seen k c ≡ false → can_finish k b (Some c) ≡ true
+unfolding can_finish
+can_fail k b c answers fails fresh = and_from _ _ answers (cond-false (code b == 1) _ _ fails ∙ not_from_false (was_stop_seen k c) fresh)
+
+pub completion_possible : (h : Header) (k : Known) (b : Block) → is_command_completion (kind b) ≡ true → may_be_taken h k ≡ true → pointer b ≡ address_of (shape_of h (command_id h)) (next_command h k) →
+    (code b == 0) ≡ false → can_finish k b (command_at h k (next_command h k)) ≡ true → is_impossible_by_kind h k (kind b) b ≡ false
+unfolding is_impossible_by_kind is_impossible_completion
+completion_possible h k b completion taken at some_code may =
+    ap (λ n. is_impossible_by_kind h k n b) (completion_kind (kind b) completion)
+    ∙ or_from _ _ (or_from _ _ (or_from _ _ (not_from_true (may_be_taken h k) taken)
+    (not_from_true (pointer b == address_of (shape_of h (command_id h)) (next_command h k)) (eq-eqb (pointer b) (address_of (shape_of h (command_id h)) (next_command h k)) at))) some_code)
+    (not_from_true (can_finish k b (command_at h k (next_command h k))) may)
+
+no_transfer : (t : BlockKind) → is_command_completion t ≡ true → is_transfer_event t ≡ false
+no_transfer t h = ap is_transfer_event (completion_kind t h)
+
+module _ (h : Header) (is : IsHeader h) (k : Known) (unread : List Block) (w v : World) (b : Block) (block : IsBlock b) (running : w.stopped ≡ false) (d : DriverKeeps h k) (g : Agrees h k unread w)
+    (f : IsFinish h w v b) where
+  p : PostKeeps h k unread w b
+  p = post_keeps h is k unread w b block d g f.can
+
+  on : k.started ≡ true
+  on = sym g.stands.started ∙ p.can.started
+
+  c : CommandMatches h k w
+  c = g.matches.command on
+
+  under : UnderWayMatches h k c.spot (Some f.taken)
+  under = subst (λ o. UnderWayMatches h k c.spot o) f.under_way c.under_way
+
+  below : next_command h k < ceiling (shape_of h (command_id h)) (k.ring (command_id h))
+  below = omega (arith, under.0, c.ring.below)
+
+  pub floor : AtFloor h k
+  floor =
+      let ring = command_is_ring h k d on in
+      let high = ceiling_given (shape_of h (command_id h)) (ring_shape h is (command_id h) ring).is k.memory (k.ring (command_id h)) (d.rings (command_id h) ring) in
+      at_floor h is k d ring (omega (arith, below))
+
+  pub of_block : command_of f.taken.block ≡ command_of floor.block
+  of_block = ap (λ x. command_of x) (under.1.words floor.block floor.queued) ∙ command_of-with_cycle floor.block _ (cycle_of_bit (shape_of h (command_id h)) (next_command h k))
+
+  pub here_is : (e : Command) → command_of floor.block ≡ Some e → command_at h k (next_command h k) ≡ Some e
+  here_is e is_e = command_at_is h k (next_command h k) floor.block floor.queued ∙ is_e
+
+  pub taken_is : (e : Command) → command_of floor.block ≡ Some e → command_of f.taken.block ≡ Some e
+  taken_is e is_e = of_block ∙ is_e
+
+  pub stopped_is : (e : Command) → command_of floor.block ≡ Some e → f.taken.has_stopped ≡ was_stop_seen k e
+  stopped_is e is_e = under.1.stopped e (here_is e is_e)
+
+  pub answers_is : (e : Command) → command_of floor.block ≡ Some e → may_answer_slot (Some e) (slot b) ≡ true
+  answers_is e is_e = ap (λ o. may_answer_slot o (slot b)) (sym (of_block ∙ is_e)) ∙ f.slot_named
+
+  pub a_command : (e : Command) × (command_of floor.block ≡ Some e)
+  a_command = some_command (command_of floor.block) (d.command_ring.commands (next_command h k) floor.block floor.queued)
+
+  -- a completion that changes nothing but the command ring's floor
+  pub idle_at : (e : Command) → command_of floor.block ≡ Some e → was_stop_seen k e ≡ false → can_finish k b (Some e) ≡ true →
+      with_reads (event_read h k (kind b) b) (k.reads + 1) ≡ next_known h k (seen_after k e) (k.reads + 1) → let_go (posted h w b) ≡ v → ReportKeeps h k unread w v b
+  idle_at e is_e fresh may read ends =
+      let here = here_is e is_e in
+      let none = none_after k e (none_waits h k d e here fresh) in
+      let seen : ℕ → ℕ → Bool = seen_after k e in
+      let n : ℕ = k.reads + 1 in
+      let m : Known = next_known h k seen n in
+      let u : World = posted h w b in
+      let now = p.matches.command on in
+      let under_now : UnderWayMatches h k now.spot (Some f.taken) = subst (λ o. UnderWayMatches h k now.spot o) (posted_under_way h w b ∙ f.under_way) now.under_way in
+      let after_post : Agrees h m (unread ++ b ∷ []) (counted h (let_go u)) =
+      agrees_counted h m (unread ++ b ∷ []) (let_go u) (stands_next h is k d on seen n u p.stands) (events_next h is k d on seen n u (unread ++ b ∷ []) p.events)
+      (matches_next h is k d on seen n u p.matches now.spot now.ring under_now.0 none) p.posted_is p.late in
+      let learned_is : learned h k (Read b) ≡ m = learned_read h k b ∙ read in
+      record {
+        clean = event_clean h k w b g.stands g.read running p.can p.room
+            (or_left _ _ (or_right _ _ f.completion))
+            (completion_possible h k b f.completion (taken_now h k below) (f.named ∙ under.1.address) f.some_code (ap (λ o. can_finish k b o) here ∙ may))
+            (and_left (is_transfer_event (kind b)) (not (is_in_profile b)) (no_transfer (kind b) f.completion));
+        agrees = subst (λ x. Agrees h x (unread ++ b ∷ []) (counted h v)) (sym learned_is) (subst (λ y. Agrees h m (unread ++ b ∷ []) (counted h y)) ends after_post);
+      }
+
+  -- another code than success
+  fails_at : (code b == 1) ≡ false → (e : Command) → command_of floor.block ≡ Some e → ReportKeeps h k unread w v b
+  fails_at fails e is_e =
+      let ends = failure_is h w v b f.taken fails f.ends in
+      let fresh : was_stop_seen k e ≡ false = sym (stopped_is e is_e) ∙ ends.0 in
+      idle_at e is_e fresh (can_fail k b e (answers_is e is_e) fails fresh) (failed_read h k b e (k.reads + 1) f.completion (here_is e is_e) fails) ends.1
+
+  failure_keeps : (code b == 1) ≡ false → ReportKeeps h k unread w v b
+  failure_keeps fails = fails_at fails a_command.0 a_command.1
+
+-- the run goes on behind the completion of a command that fails
+pub finish_failure_runs : (h : Header) → IsHeader h → (past : List Row) (w v : World) (b : Block) → IsBlock b → w.stopped ≡ false → (run : Runs h past w) →
+    DriverKeeps h (known h (reading run.unread past)) → (code b == 1) ≡ false → finishes.finished h w b ≡ Some v → Runs h past (counted h v)
+finish_failure_runs h is past w v b block running run d fails at =
+    let k : Known = known h (reading run.unread past) in
+    let keeps = failure_keeps h is k run.unread w v b block running d run.agrees (finish_is h w v b at) fails in
+    record {
+      unread = run.unread ++ b ∷ [];
+      clean = clean_more h run.unread past b run.clean keeps.clean;
+      on = run.on;
+      agrees = subst (λ m. Agrees h m (run.unread ++ b ∷ []) (counted h v)) (sym (known_more h run.unread past b)) keeps.agrees;
+    }

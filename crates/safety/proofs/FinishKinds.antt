@@ -1,0 +1,156 @@
+-- What a finish is, and what is known behind the completion of a command that had no effect
+use Rattle.std.specs.Prelude.{◌≡◌, ℕ, ◌==◌, ◌&&◌, if◌then◌else◌, Bool, true, false, not, Option, Some, None}
+use Rattle.std.proofs.Common.{refl, sym, ◌∙◌, ap, inl, inr}
+use Rattle.std.proofs.lemmas.Bool.{false≢true, and_parts, cond-false, not-true, eqb-true, false_from_ne_true}
+use Rattle.std.proofs.lemmas.Option.{none-some, same_Some}
+use Rattle.guest_memory.specs.Memory.{put, put_pair}
+use Rattle.trb.specs.declared.block.Block.{Block}
+use Rattle.trb.specs.declared.kind.BlockKind.{BlockKind}
+use Rattle.trb.specs.declared.kind.BlockKind.TheVariants as kinds
+use Rattle.trb.specs.Block.{code, kind, pointer, slot}
+use Rattle.trb.specs.Kind.{is_command_completion}
+use Rattle.segments.specs.Spots.{after}
+use Rattle.segments.specs.RingView.{Reaches}
+use Rattle.commands.specs.declared.command.Command.{Command}
+use Rattle.commands.specs.declared.command.Command.TheVariants.{NoOp, EnableSlot, DisableSlot, AddressDevice, ConfigureEndpoint, EvaluateContext, ResetEndpoint, StopEndpoint, SetTrDequeue, ResetDevice}
+use Rattle.commands.specs.Command.{command_of, is_stop_of, may_answer_slot}
+use Rattle.traces.specs.declared.header.Header.{Header}
+use Rattle.traces.specs.Header.{shape_of, command_id}
+use Rattle.world_state.specs.World.{World, UnderWay}
+use Rattle.controller_model.specs.Posts.{can_post, posted}
+use Rattle.controller_model.specs.Finishes as finishes
+use Rattle.ring_knowledge.specs.Known.{Known}
+use Rattle.ring_knowledge.specs.Learned.{event_read}
+use Rattle.ring_knowledge.specs.Rings.{command_at, next_command, on_ring}
+use Rattle.ring_knowledge.specs.Completions as completions
+use Rattle.ownership_rules.specs.Events.{is_stopping_now, may_be_taken, was_stop_seen}
+use Rattle.safety.specs.Keeps.{DriverKeeps}
+use Rattle.safety.proofs.WithReads.{with_reads}
+use Rattle.safety.proofs.LookKinds.{cond_is}
+use Rattle.safety.proofs.FloorMoves.{floor_behind}
+
+-- ---- what a finish is
+
+pub record IsFinish (h : Header) (w v : World) (b : Block) : Type 0 where
+  pub can : can_post h w b ≡ true
+  pub completion : is_command_completion (kind b) ≡ true
+  pub some_code : (code b == 0) ≡ false
+  pub taken : UnderWay
+  pub under_way : w.under_way ≡ Some taken
+  pub named : pointer b ≡ taken.address
+  pub slot_named : may_answer_slot (command_of taken.block) (slot b) ≡ true
+  pub ends : finishes.ended_with h w b taken ≡ Some v
+
+finished_on : (h : Header) (w v : World) (b : Block) (o : Option UnderWay) → finishes.finished_as h w b o ≡ Some v →
+    (u : UnderWay) × (o ≡ Some u) × (pointer b ≡ u.address) × (may_answer_slot (command_of u.block) (slot b) ≡ true) × (finishes.ended_with h w b u ≡ Some v)
+unfolding finishes.finished_as
+finished_on h w v b None at = absurd (none-some v at)
+finished_on h w v b (Some u) at =
+    elim (cond_is (pointer b == u.address && may_answer_slot (command_of u.block) (slot b)) (finishes.ended_with h w b u) None (Some v) at) [
+      | inl on ↦ let p = and_parts (pointer b == u.address) (may_answer_slot (command_of u.block) (slot b)) on.0 in (u, refl, eqb-true (pointer b) u.address p.0, p.1, on.1)
+      | inr off ↦ absurd (none-some v off.1)
+    ]
+
+pub finish_is : (h : Header) (w v : World) (b : Block) → finishes.finished h w b ≡ Some v → IsFinish h w v b
+unfolding finishes.finished
+finish_is h w v b at =
+    elim (cond_is (can_post h w b && is_command_completion (kind b) && not (code b == 0)) (finishes.finished_as h w b w.under_way) None (Some v) at) [
+      | inl on ↦
+          let p = and_parts (can_post h w b && is_command_completion (kind b)) (not (code b == 0)) on.0 in
+          let q = and_parts (can_post h w b) (is_command_completion (kind b)) p.0 in
+          let f = finished_on h w v b w.under_way on.1 in
+          record { can = q.0; completion = q.1; some_code = not-true (code b == 0) p.1; taken = f.0; under_way = f.1; named = f.2; slot_named = f.3; ends = f.4 }
+      | inr off ↦ absurd (none-some v off.1)
+    ]
+
+-- the world behind the completion of a command that had no effect
+abbrev pub let_go : World → World
+let_go u = record u { under_way = None }
+
+pub failure_is : (h : Header) (w v : World) (b : Block) (u : UnderWay) → (code b == 1) ≡ false → finishes.ended_with h w b u ≡ Some v → (u.has_stopped ≡ false) × (let_go (posted h w b) ≡ v)
+unfolding finishes.ended_with finishes.ended
+failure_is h w v b u fails at =
+    elim (cond_is u.has_stopped None (Some (let_go (posted h w b))) (Some v) (sym (cond-false (code b == 1) _ _ fails) ∙ at)) [
+      | inl stopped ↦ absurd (none-some v stopped.1)
+      | inr on ↦ (on.0, same_Some (let_go (posted h w b)) v on.1)
+    ]
+
+pub completion_kind : (t : BlockKind) → is_command_completion t ≡ true → t ≡ kinds.CommandCompletion
+completion_kind kinds.CommandCompletion h = refl
+completion_kind _ h = absurd (false≢true h)
+
+-- ---- what is known behind it
+
+-- which Stopped events still wait for the end of their Stop Endpoint
+abbrev pub seen_after : Known → Command → ℕ → ℕ → Bool
+seen_after k (StopEndpoint s i) = put_pair k.stop_seen s i false
+seen_after k _ = k.stop_seen
+
+abbrev pub next_known : Header → Known → (ℕ → ℕ → Bool) → ℕ → Known
+next_known h k seen n = record k { ring = put k.ring (command_id h) (floor_behind (shape_of h (command_id h)) (k.ring (command_id h)) (next_command h k)); stop_seen = seen; reads = n }
+
+pub stop_ended_is : (h : Header) (k : Known) (c : Command) → completions.stop_ended h k c ≡ (let m : Known = record k { stop_seen = seen_after k c } in m)
+unfolding completions.stop_ended
+stop_ended_is h k (StopEndpoint s i) = refl
+stop_ended_is h k _ = refl
+
+pub reached_is : (h : Header) (k : Known) (seen : ℕ → ℕ → Bool) (n : ℕ) →
+    with_reads (on_ring h (let m : Known = record k { stop_seen = seen } in m) (command_id h) (Reaches (after (shape_of h (command_id h)) (next_command h k)))) n ≡ next_known h k seen n
+unfolding on_ring
+reached_is h k seen n = refl
+
+pub failed_read : (h : Header) (k : Known) (b : Block) (c : Command) (n : ℕ) → is_command_completion (kind b) ≡ true → command_at h k (next_command h k) ≡ Some c → (code b == 1) ≡ false →
+    with_reads (event_read h k (kind b) b) n ≡ next_known h k (seen_after k c) n
+unfolding event_read completions.completed completions.finished
+failed_read h k b c n completion at fails =
+    ap (λ t. with_reads (event_read h k t b) n) (completion_kind (kind b) completion)
+    ∙ ap (λ o. with_reads (on_ring h (completions.finished h k b o) (command_id h) (Reaches (after (shape_of h (command_id h)) (next_command h k)))) n) at
+    ∙ ap (λ m. with_reads (on_ring h (completions.stop_ended h m c) (command_id h) (Reaches (after (shape_of h (command_id h)) (next_command h k)))) n) (cond-false (code b == 1) _ k fails)
+    ∙ ap (λ m. with_reads (on_ring h m (command_id h) (Reaches (after (shape_of h (command_id h)) (next_command h k)))) n) (stop_ended_is h k c)
+    ∙ reached_is h k (seen_after k c) n
+
+-- ---- no Stopped event waits where the command under way isn't the Stop Endpoint of one
+
+stop_of_is : (k : Known) (s i : ℕ) (c : Command) → is_stop_of s i (Some c) ≡ true → was_stop_seen k c ≡ k.stop_seen s i
+unfolding was_stop_seen
+stop_of_is k s i (StopEndpoint t j) at =
+    let p = and_parts (s == t) (i == j) at in
+    ap (λ x. k.stop_seen x j) (sym (eqb-true s t p.0)) ∙ ap (λ x. k.stop_seen s x) (sym (eqb-true i j p.1))
+stop_of_is k s i NoOp at = absurd (false≢true at)
+stop_of_is k s i EnableSlot at = absurd (false≢true at)
+stop_of_is k s i (DisableSlot t) at = absurd (false≢true at)
+stop_of_is k s i (AddressDevice t bsr c) at = absurd (false≢true at)
+stop_of_is k s i (ConfigureEndpoint t dc c) at = absurd (false≢true at)
+stop_of_is k s i (EvaluateContext t c) at = absurd (false≢true at)
+stop_of_is k s i (ResetEndpoint t j) at = absurd (false≢true at)
+stop_of_is k s i (SetTrDequeue t j p c) at = absurd (false≢true at)
+stop_of_is k s i (ResetDevice t) at = absurd (false≢true at)
+
+stopping_of : (h : Header) (k : Known) (s i : ℕ) → is_stopping_now h k s i ≡ true → is_stop_of s i (command_at h k (next_command h k)) ≡ true
+unfolding is_stopping_now
+stopping_of h k s i at = (and_parts (may_be_taken h k) (is_stop_of s i (command_at h k (next_command h k))) at).1
+
+pub none_waits : (h : Header) (k : Known) (d : DriverKeeps h k) (c : Command) → command_at h k (next_command h k) ≡ Some c → was_stop_seen k c ≡ false → (s i : ℕ) → k.stop_seen s i ≡ false
+none_waits h k d c at fresh s i =
+    false_from_ne_true (k.stop_seen s i) (λ seen.
+    let stop : is_stop_of s i (Some c) ≡ true = ap (λ o. is_stop_of s i o) (sym at) ∙ stopping_of h k s i (d.states.seen_command s i seen) in
+    false≢true (sym fresh ∙ stop_of_is k s i c stop ∙ seen))
+
+put_false : (f : ℕ → ℕ → Bool) (a b s i : ℕ) → f s i ≡ false → put_pair f a b false s i ≡ false
+put_false f a b s i none = either (s == a && i == b) (f s i) none
+  where
+    either : (t x : Bool) → x ≡ false → (if t then false else x) ≡ false
+    either true x e = refl
+    either false x e = e
+
+pub none_after : (k : Known) (c : Command) → ((s i : ℕ) → k.stop_seen s i ≡ false) → (s i : ℕ) → seen_after k c s i ≡ false
+none_after k (StopEndpoint t j) none s i = put_false k.stop_seen t j s i (none s i)
+none_after k NoOp none s i = none s i
+none_after k EnableSlot none s i = none s i
+none_after k (DisableSlot t) none s i = none s i
+none_after k (AddressDevice t bsr c) none s i = none s i
+none_after k (ConfigureEndpoint t dc c) none s i = none s i
+none_after k (EvaluateContext t c) none s i = none s i
+none_after k (ResetEndpoint t j) none s i = none s i
+none_after k (SetTrDequeue t j p c) none s i = none s i
+none_after k (ResetDevice t) none s i = none s i

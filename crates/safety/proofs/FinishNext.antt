@@ -1,0 +1,108 @@
+-- Behind the completion of a command that had no effect: the command ring's floor moves on, and no command is under way
+use Rattle.std.specs.Prelude.{◌≡◌, ◌≢◌, ℕ, ◌+◌, Bool, true, false, List, option_and_then, slice_get}
+use Rattle.std.proofs.Common.{arith, refl, sym, ◌∙◌, ap, subst, inl, inr}
+use Rattle.std.proofs.lemmas.Bool.{cases_eq}
+use Rattle.trb.specs.declared.block.Block.{Block}
+use Rattle.segments.specs.declared.spot.Spot.{Spot}
+use Rattle.segments.specs.Spots.{after, number}
+use Rattle.segments.specs.RingView.{floor_number, is_due}
+use Rattle.segments.proofs.Giving.{due_is, due_from}
+use Rattle.commands.specs.declared.command.Command.{Command}
+use Rattle.commands.specs.Command.{command_of}
+use Rattle.traces.specs.declared.header.Header.{Header}
+use Rattle.traces.specs.Header.{IsHeader, shape_of, command_id}
+use Rattle.world_state.specs.World.{World}
+use Rattle.world_state.specs.World as of_world
+use Rattle.ring_knowledge.specs.Known.{Known}
+use Rattle.ring_knowledge.specs.Rings.{command_at, next_command}
+use Rattle.safety.specs.Keeps.{IsDriverRing, DriverKeeps, IsUnfinished}
+use Rattle.safety.specs.Stands.{Stands, EventsStand}
+use Rattle.safety.specs.Matches.{state_of, RingMatches, BoundRing, EndpointRing, Matches}
+use Rattle.safety.proofs.SafeContext.{command_is_ring, next_is}
+use Rattle.safety.proofs.LookKinds.{put_at, put_off}
+use Rattle.safety.proofs.LookedRing.{number_after}
+use Rattle.safety.proofs.FloorMoves.{floor_behind, floor_moves}
+use Rattle.safety.proofs.FinishKinds.{let_go, next_known}
+
+module _ (h : Header) (is : IsHeader h) (k : Known) (d : DriverKeeps h k) (on : k.started ≡ true) where
+  ring : IsDriverRing h (command_id h)
+  ring = command_is_ring h k d on
+
+  module _ (seen : ℕ → ℕ → Bool) (n : ℕ) where
+    ring_same : (q : ℕ) → q ≢ command_id h → (next_known h k seen n).ring q ≡ k.ring q
+    ring_same q other = put_off k.ring (command_id h) (floor_behind (shape_of h (command_id h)) (k.ring (command_id h)) (next_command h k)) q other
+
+    ring_here : (next_known h k seen n).ring (command_id h) ≡ floor_behind (shape_of h (command_id h)) (k.ring (command_id h)) (next_command h k)
+    ring_here = put_at k.ring (command_id h) (floor_behind (shape_of h (command_id h)) (k.ring (command_id h)) (next_command h k))
+
+    queue_same : (q : ℕ) → (k.ring q).queue ≡ ((next_known h k seen n).ring q).queue
+    queue_same q =
+        elim (cases_eq q (command_id h)) [
+          | inl same ↦ ap (λ p. (k.ring p).queue) same ∙ ap (λ v. v.queue) (sym ring_here) ∙ ap (λ p. ((next_known h k seen n).ring p).queue) (sym same)
+          | inr other ↦ ap (λ v. v.queue) (sym (ring_same q other))
+        ]
+
+    lengths_same : (q : ℕ) → (k.ring q).lengths ≡ ((next_known h k seen n).ring q).lengths
+    lengths_same q =
+        elim (cases_eq q (command_id h)) [
+          | inl same ↦ ap (λ p. (k.ring p).lengths) same ∙ ap (λ v. v.lengths) (sym ring_here) ∙ ap (λ p. ((next_known h k seen n).ring p).lengths) (sym same)
+          | inr other ↦ ap (λ v. v.lengths) (sym (ring_same q other))
+        ]
+
+    pub stands_next : (u : World) → Stands h k u → Stands h (next_known h k seen n) (let_go u)
+    stands_next u s = record {
+      started = s.started;
+      stopped = s.stopped;
+      registers = s.registers;
+      queues = λ q. s.queues q ∙ queue_same q;
+      lengths = λ q. s.lengths q ∙ lengths_same q;
+      dequeue = s.dequeue;
+      quiet = s.quiet;
+    }
+
+    pub events_next : (u : World) (unread : List Block) → EventsStand h u unread → EventsStand h (let_go u) unread
+    unfolding of_world.event_at
+    events_next u unread v = record { order = v.order; count = v.count; places = v.places; started = v.started; ring = v.ring }
+
+    next_number : next_command h (next_known h k seen n) ≡ next_command h k + 1
+    next_number = next_is h (next_known h k seen n) ∙ ap (λ v. floor_number v) ring_here ∙ number_after (shape_of h (command_id h)) (next_command h k)
+
+    command_kept : (p : ℕ) → command_at h (next_known h k seen n) p ≡ command_at h k p
+    unfolding command_at
+    command_kept p = ap (λ l. option_and_then command_of (slice_get l p)) (sym (queue_same (command_id h)))
+
+    -- what is unfinished was before
+    unfinished_before : (p : ℕ) (c : Command) → IsUnfinished h (next_known h k seen n) p c → IsUnfinished h k p c
+    unfinished_before p c u =
+        let given : (k.ring (command_id h)).given p ≡ true = ap (λ v. v.given p) (sym ring_here) ∙ u.given in
+        let due = due_is (shape_of h (command_id h)) (after (shape_of h (command_id h)) (next_command h k)) p (ap (λ v. is_due (shape_of h (command_id h)) v.floor p) (sym ring_here) ∙ u.due) in
+        let within = (d.rings (command_id h) ring).given_within p given in
+        record {
+          due = due_from (shape_of h (command_id h)) (k.ring (command_id h)).floor p (omega (arith, due.0, number_after (shape_of h (command_id h)) (next_command h k), next_is h k)) within;
+          given = given;
+          command = sym (command_kept p) ∙ u.command;
+        }
+
+    other_ring : (u : World) (q : ℕ) → q ≢ command_id h → EndpointRing h k u q → EndpointRing h (next_known h k seen n) (let_go u) q
+    other_ring u q other (inl bound) = inl (subst (λ v. BoundRing (shape_of h q) k.ring_of v (state_of u q) q) (sym (ring_same q other)) bound)
+    other_ring u q other (inr free) = inr free
+
+    pub matches_next : (u : World) → Matches h k u → (t : Spot) → RingMatches (shape_of h (command_id h)) (k.ring (command_id h)) (state_of u (command_id h)) t →
+        number t ≡ next_command h k + 1 → ((s i : ℕ) → seen s i ≡ false) → Matches h (next_known h k seen n) (let_go u)
+    matches_next u y t r at none = record {
+      slots = y.slots;
+      endpoints = y.endpoints;
+      ring_of = y.ring_of;
+      rings = λ q other. other_ring u q other (y.rings q other);
+      fresh = y.fresh;
+      before = λ off. let b = y.before off in record { inactive = b.inactive; no_events = b.no_events; none = refl };
+      command = λ started. record {
+        spot = t;
+        ring = subst (λ v. RingMatches (shape_of h (command_id h)) v (state_of u (command_id h)) t) (sym ring_here)
+            (floor_moves (shape_of h (command_id h)) (k.ring (command_id h)) (state_of u (command_id h)) t (next_command h k) (omega (arith, next_is h k)) (omega arith) r);
+        under_way = (at ∙ sym next_number, none);
+      };
+      scribbles = y.scribbles;
+      contexts = λ p c f. y.contexts p c (unfinished_before p c f);
+      inside = y.inside;
+    }

@@ -1,0 +1,60 @@
+-- A floor that moves on behind a block that the controller has passed: the ring's pointer stands as it did
+use Rattle.std.specs.Prelude.{◌≡◌, ℕ, ◌<◌, ◌≤◌, true, List, [], ◌∷◌}
+use Rattle.std.proofs.Common.{arith, refl, ◌∙◌, inl, inr}
+use Rattle.segments.specs.declared.spot.Spot.{Spot}
+use Rattle.segments.specs.declared.spot.Spot.TheVariants.{Data}
+use Rattle.segments.specs.ShapeValue.{Shape}
+use Rattle.segments.specs.Spots.{number, after}
+use Rattle.segments.specs.RingView.{RingView, floor_number}
+use Rattle.segments.specs.Ceiling.{ceiling, is_way_given, is_step_given}
+use Rattle.segments.proofs.Search.{cases_option}
+use Rattle.segments.proofs.SpotOrder.{rank_least, next_least}
+use Rattle.segments.proofs.GivenCount.{given_count_grows}
+use Rattle.world_state.specs.World.{RingEvent, Took, Placed}
+use Rattle.safety.specs.Matches.{Newest, RingState, RingMatches}
+use Rattle.safety.proofs.NoWait.{ceiling_open, ceiling_held}
+use Rattle.safety.proofs.LookedRing.{number_after}
+
+abbrev pub floor_behind : Shape → RingView → ℕ → RingView
+floor_behind shape v p = record v { floor = after shape p }
+
+steps_still : (shape : Shape) (v : RingView) (p q : ℕ) → is_step_given shape v q ≡ true → is_step_given shape (floor_behind shape v p) q ≡ true
+unfolding is_step_given is_way_given
+steps_still shape v p q given = given
+
+ways_still : (shape : Shape) (v : RingView) (p q : ℕ) → is_way_given shape (floor_behind shape v p) q ≡ is_way_given shape v q
+unfolding is_way_given
+ways_still shape v p q = refl
+
+ceiling_grows : (shape : Shape) (v : RingView) (p : ℕ) → floor_number v ≤ p → ceiling shape v ≤ ceiling shape (floor_behind shape v p)
+ceiling_grows shape v p from =
+    elim (cases_option v.held) [
+      | inl none ↦ omega (
+        arith,
+        ceiling_open shape v none,
+        ceiling_open shape (floor_behind shape v p) none,
+        given_count_grows shape v (floor_behind shape v p) (omega (arith, number_after shape p)) (steps_still shape v p),
+      )
+      | inr held ↦ omega (arith, ceiling_held shape v held.0 held.1, ceiling_held shape (floor_behind shape v p) held.0 held.1)
+    ]
+
+newest_still : (shape : Shape) (v : RingView) (p n : ℕ) (events : List RingEvent) → Newest v n events → Newest (floor_behind shape v p) n events
+newest_still shape v p n [] newest = newest
+newest_still shape v p n (Placed a ∷ older) newest = newest
+newest_still shape v p n (Took a b d ∷ older) newest = newest
+
+pub floor_moves : (shape : Shape) (v : RingView) (s : RingState) (t : Spot) (p : ℕ) → floor_number v ≤ p → p < number t → RingMatches shape v s t → RingMatches shape (floor_behind shape v p) s t
+floor_moves shape v s t p from below m =
+    record {
+      is_spot = m.is_spot;
+      pointer = m.pointer;
+      cycle = m.cycle;
+      reached = let high = rank_least t in next_least shape (Data p) t m.is_spot (omega arith);
+      below = omega (arith, m.below, ceiling_grows shape v p from);
+      way = λ q e. ways_still shape v p q ∙ m.way q e;
+      opened = m.opened;
+      next = m.next;
+      newest = newest_still shape v p (number t) s.events m.newest;
+      in_order = m.in_order;
+      as_declared = m.as_declared;
+    }

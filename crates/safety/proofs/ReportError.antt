@@ -1,0 +1,282 @@
+-- The controller reports that an endpoint has halted, or gone to Error: the run goes on
+use Rattle.std.specs.Prelude.{◌≡◌, ◌≢◌, ℕ, ◌+◌, ◌<◌, ◌==◌, ◌&&◌, ◌||◌, if◌then◌else◌, Bool, true, false, not, List, [], ◌∷◌, ◌++◌, length, drop, Some, None}
+use Rattle.std.proofs.Common.{arith, refl, sym, ◌∙◌, ap, subst, inl, inr}
+use Rattle.std.proofs.lemmas.Bool.{cases_Bool, false≢true, and_parts, and_from, and_right, or_from, or_left, or_right, cond-true, cond-false, not_from_true}
+use Rattle.std.proofs.lemmas.Option.{none-some, same_Some}
+use Rattle.guest_memory.specs.Memory.{put, put_pair}
+use Rattle.trb.specs.declared.block.Block.{Block}
+use Rattle.trb.specs.Block.{IsBlock, code, endpoint, kind, pointer, slot}
+use Rattle.trb.specs.Kind.{is_transfer_event, is_command_completion, is_other_event}
+use Rattle.trb.specs.CompletionCode.{is_success, is_halting, is_trb_error, is_transfer_code}
+use Rattle.segments.specs.declared.spot.Spot.TheVariants.{Data}
+use Rattle.segments.specs.Spots.{after}
+use Rattle.segments.specs.RingView.{RingView, Holds}
+use Rattle.segments.specs.Ceiling.{ceiling, is_data_below, is_open}
+use Rattle.commands.specs.declared.state.EndpointState.{EndpointState}
+use Rattle.commands.specs.declared.state.EndpointState.TheVariants.{Disabled as Off, Halted, Error}
+use Rattle.commands.specs.States.{is_off, is_running}
+use Rattle.traces.specs.declared.header.Header.{Header}
+use Rattle.traces.specs.declared.row.Row.{Row}
+use Rattle.traces.specs.declared.row.Row.TheVariants.{Read}
+use Rattle.traces.specs.Header.{IsHeader, shape_of, command_id}
+use Rattle.world_state.specs.World.{World, RingEvent}
+use Rattle.world_state.specs.Takes.{takes_of, unreported}
+use Rattle.controller_model.specs.Posts.{posted, is_last, with_reported, report_error, report_code, reported}
+use Rattle.controller_model.specs.Steps.{counted}
+use Rattle.ring_knowledge.specs.Known.{Known}
+use Rattle.ring_knowledge.specs.Learned.{event_read, learned, known}
+use Rattle.ring_knowledge.specs.Rings.{event_at, on_ring}
+use Rattle.ring_knowledge.specs.Transfers.{passed, broken_off, transferred, transferred_at, transfer_read}
+use Rattle.ownership_rules.specs.Events.{is_in_profile, is_working, is_impossible_by_kind, is_impossible_transfer, can_report, can_report_at}
+use Rattle.safety.specs.Keeps.{DriverKeeps}
+use Rattle.safety.specs.Matches.{RingState, state_of, BoundRing, Agrees}
+use Rattle.safety.specs.Invariant.{Runs, reading}
+use Rattle.safety.proofs.Headers.{transfer_driver, transfer_not_command, ring_shape}
+use Rattle.safety.proofs.Counted.{agrees_counted}
+use Rattle.safety.proofs.WithReads.{with_reads}
+use Rattle.safety.proofs.Posted.{PostKeeps, post_keeps}
+use Rattle.safety.proofs.EventRead.{learned_read, event_clean, clean_more, known_more}
+use Rattle.safety.proofs.OnlyRing.{OnlyRing, stands_only, events_only}
+use Rattle.safety.proofs.LookKinds.{cond_is, put_at, put_off}
+use Rattle.safety.proofs.Learns.{LearnsRing, stands_learns, matches_learns}
+use Rattle.safety.proofs.EndpointStates.{known_states, world_states, stands_states, events_states, matches_states}
+use Rattle.safety.proofs.ReportedRing.{open_takes}
+use Rattle.safety.proofs.BrokenRing.{broken_at, last_is, last_take, broken_matches, broken_unreported}
+use Rattle.safety.proofs.ReportSuccess.{IsReport, report_is, ReportKeeps, transfer_kind, not_off, spot_named, in_profile_is, below_is}
+
+-- the ring at rest, its takes reported
+abbrev pub ended_ring : World → ℕ → ℕ → World
+ended_ring u r c = record u { reported = put u.reported r c; is_active = put u.is_active r false }
+
+pub record Breaks (h : Header) (u v : World) (s i r a : ℕ) (state : EndpointState) : Type 0 where
+  pub runs : is_running (u.endpoint_state s i) ≡ true
+  pub active : u.is_active r ≡ true
+  pub last : is_last h a (open_takes (state_of u r)) ≡ true
+  pub is : world_states (ended_ring u r (u.reported r + length (open_takes (state_of u r)))) (put_pair u.endpoint_state s i state) ≡ v
+
+breaks_is : (h : Header) (u v : World) (s i r a : ℕ) (state : EndpointState) → report_error h u s i r a state ≡ Some v → Breaks h u v s i r a state
+unfolding report_error with_reported unreported
+breaks_is h u v s i r a state at =
+    elim (cond_is (is_running (u.endpoint_state s i) && u.is_active r && is_last h a (drop (u.reported r) (takes_of (u.events r)))) _ None (Some v) at) [
+      | inl on ↦
+          let p = and_parts (is_running (u.endpoint_state s i) && u.is_active r) (is_last h a (drop (u.reported r) (takes_of (u.events r)))) on.0 in
+          let q = and_parts (is_running (u.endpoint_state s i)) (u.is_active r) p.0 in
+          record { runs = q.0; active = q.1; last = p.1; is = same_Some _ v on.1 }
+      | inr off ↦ absurd (none-some v off.1)
+    ]
+
+state_ended : (p c : ℕ) (a b : Bool) (e : List RingEvent) (m n : ℕ) → a ≡ b → m ≡ n →
+    ◌≡◌ {A = RingState} (record { pointer = p; cycle = c; active = a; events = e; reported = m }) (record { pointer = p; cycle = c; active = b; events = e; reported = n })
+state_ended p c a b e m n x y = cc
+
+only_ended : (u : World) (r c : ℕ) → OnlyRing u (ended_ring u r c) r (record (state_of u r) { active = false; reported = c })
+only_ended u r c = record {
+  here = state_ended (u.pointer_of r) (u.cycle_state r) _ false (u.events r) _ c (put_at u.is_active r false) (put_at u.reported r c);
+  others = λ q other. state_ended (u.pointer_of q) (u.cycle_state q) _ (u.is_active q) (u.events q) _ (u.reported q) (put_off u.is_active r false q other) (put_off u.reported r c q other);
+  steps = refl;
+  started = refl;
+  stopped = refl;
+  register = refl;
+  memory = refl;
+  changed = refl;
+  written = refl;
+  queue = refl;
+  lengths = refl;
+  slot_state = refl;
+  endpoint_state = refl;
+  ring_of = refl;
+  posted = refl;
+  reads = refl;
+  dequeue = refl;
+}
+
+-- what is known of the ring once the event is read
+pub held_behind : (h : Header) → Known → ℕ → ℕ → Known
+held_behind h k r p = on_ring h (passed h k r (Data p)) r (Holds (p + 1))
+
+learns_held : (h : Header) (k : Known) (r p n : ℕ) → LearnsRing k (with_reads (held_behind h k r p) n) r (broken_at (shape_of h r) (k.ring r) p)
+unfolding held_behind passed on_ring
+learns_held h k r p n =
+    let x : RingView = record (k.ring r) { floor = after (shape_of h r) p } in
+    let f : ℕ → RingView = put k.ring r x in
+    let y : RingView = record (f r) { held = Some (p + 1) } in
+    record {
+      here = put_at f r y ∙ ap (λ (z : RingView). let e : RingView = record z { held = Some (p + 1) } in e) (put_at k.ring r x);
+      others = λ q other. put_off f r y q other ∙ put_off k.ring r x q other;
+      queue = refl;
+      lengths = refl;
+      started = refl;
+      stopped = refl;
+      register = refl;
+      memory = refl;
+      soiled = refl;
+      device = refl;
+      dequeue = refl;
+      was_bound = refl;
+      slot_state = refl;
+      endpoint_state = refl;
+      ring_of = refl;
+      stop_seen = refl;
+    }
+
+broken_is : (h : Header) (k : Known) (s i r p : ℕ) (state : EndpointState) → broken_off h k s i r (Data p) state ≡ known_states (held_behind h k r p) (put_pair k.endpoint_state s i state) k.must_move
+unfolding broken_off held_behind passed on_ring
+broken_is h k s i r p state = refl
+
+pair_same : (f g : ℕ → ℕ → EndpointState) (s i : ℕ) (x : EndpointState) → ((t j : ℕ) → f t j ≡ g t j) → (t j : ℕ) → put_pair f s i x t j ≡ put_pair g s i x t j
+pair_same f g s i x same t j = ap (λ y. if t == s && j == i then x else y) (same t j)
+
+open_is : (v : RingView) → v.held ≡ None → is_open v ≡ true
+unfolding is_open
+open_is v none = rw none refl
+
+works : (h : Header) (k : Known) (s i r : ℕ) → is_running (k.endpoint_state s i) ≡ true → (k.ring r).held ≡ None → is_working k s i r ≡ true
+unfolding is_working
+works h k s i r runs none = and_from (is_running (k.endpoint_state s i)) (is_open (k.ring r)) runs (open_is (k.ring r) none)
+
+-- what the rules and what is known say of the event's code
+pub record BreaksBy (h : Header) (k : Known) (b : Block) (state : EndpointState) (must : ℕ → ℕ → Bool) : Type 0 where
+  pub code_is : is_transfer_code (code b) ≡ true
+  pub may : (r p : ℕ) → p < ceiling (shape_of h r) (k.ring r) → is_working k (slot b) (endpoint b) r ≡ true → can_report_at h k b (Some (record { ring = r; spot = Data p })) ≡ true
+  pub read : (r p : ℕ) → event_at h k b ≡ Some (record { ring = r; spot = Data p }) →
+      event_read h k (kind b) b ≡ known_states (held_behind h k r p) (put_pair k.endpoint_state (slot b) (endpoint b) state) must
+
+module _ (h : Header) (k : Known) (b : Block) (transfer : is_transfer_event (kind b) ≡ true) where
+  broken_read : (r p : ℕ) → event_at h k b ≡ Some (record { ring = r; spot = Data p }) → event_read h k (kind b) b ≡ transferred h k (code b) (slot b) (endpoint b) r (Data p)
+  unfolding event_read transfer_read transferred_at
+  broken_read r p at = ap (λ n. event_read h k n b) (transfer_kind (kind b) transfer) ∙ ap (λ o. transferred_at h k b o) at
+
+  works_and_below : (r p : ℕ) → p < ceiling (shape_of h r) (k.ring r) → is_working k (slot b) (endpoint b) r ≡ true →
+      (is_data_below (ceiling (shape_of h r) (k.ring r)) (Data p) && is_working k (slot b) (endpoint b) r) ≡ true
+  works_and_below r p below works = and_from _ _ (below_is (ceiling (shape_of h r) (k.ring r)) p below) works
+
+  may_break : is_success (code b) ≡ false → (is_halting (code b) || is_trb_error (code b)) ≡ true → (r p : ℕ) → p < ceiling (shape_of h r) (k.ring r) → is_working k (slot b) (endpoint b) r ≡ true →
+      can_report_at h k b (Some (record { ring = r; spot = Data p })) ≡ true
+  unfolding can_report_at can_report
+  may_break fails breaks r p below works = cond-false (is_success (code b)) _ _ fails ∙ cond-true (is_halting (code b) || is_trb_error (code b)) _ _ breaks ∙ works_and_below r p below works
+
+  pub halts : is_success (code b) ≡ false → is_halting (code b) ≡ true → BreaksBy h k b Halted (put_pair k.must_move (slot b) (endpoint b) true)
+  unfolding transferred
+  halts fails halting = record {
+    code_is = or_left _ _ (or_left _ _ (or_right _ _ halting));
+    may = may_break fails (or_left _ _ halting);
+    read = λ r p at. broken_read r p at ∙ cond-false (is_success (code b)) _ _ fails ∙ cond-true (is_halting (code b)) _ _ halting
+        ∙ ap (λ (m : Known). let x : Known = record m { must_move = put_pair k.must_move (slot b) (endpoint b) true } in x) (broken_is h k (slot b) (endpoint b) r p Halted);
+  }
+
+  pub errs : is_success (code b) ≡ false → is_halting (code b) ≡ false → is_trb_error (code b) ≡ true → BreaksBy h k b Error k.must_move
+  unfolding transferred
+  errs fails quiet error = record {
+    code_is = or_left _ _ (or_right _ _ error);
+    may = may_break fails (or_right _ _ error);
+    read = λ r p at. broken_read r p at ∙ cond-false (is_success (code b)) _ _ fails ∙ cond-false (is_halting (code b)) _ _ quiet ∙ cond-true (is_trb_error (code b)) _ _ error
+        ∙ broken_is h k (slot b) (endpoint b) r p Error;
+  }
+
+possible : (h : Header) (k : Known) (b : Block) (r p : ℕ) → is_transfer_event (kind b) ≡ true → event_at h k b ≡ Some (record { ring = r; spot = Data p }) →
+    can_report_at h k b (Some (record { ring = r; spot = Data p })) ≡ true → k.endpoint_state (slot b) (endpoint b) ≢ Off → is_impossible_by_kind h k (kind b) b ≡ false
+unfolding is_impossible_by_kind is_impossible_transfer
+possible h k b r p transfer at may on =
+    ap (λ n. is_impossible_by_kind h k n b) (transfer_kind (kind b) transfer)
+    ∙ and_right (is_in_profile b) (is_off (k.endpoint_state (slot b) (endpoint b)) || not (can_report_at h k b (event_at h k b)))
+    (or_from (is_off (k.endpoint_state (slot b) (endpoint b))) (not (can_report_at h k b (event_at h k b))) (not_off (k.endpoint_state (slot b) (endpoint b)) on)
+    (not_from_true (can_report_at h k b (event_at h k b)) (ap (λ o. can_report_at h k b o) at ∙ may)))
+
+module _ (h : Header) (is : IsHeader h) (k : Known) (unread : List Block) (w v : World) (b : Block) (block : IsBlock b) (running : w.stopped ≡ false) (d : DriverKeeps h k) (g : Agrees h k unread w)
+    (x : IsReport h w v b) (state : EndpointState) (must : ℕ → ℕ → Bool) (by : BreaksBy h k b state must) (f : Breaks h (posted h w b) v (slot b) (endpoint b) x.ring (pointer b) state) where
+  p : PostKeeps h k unread w b
+  p = post_keeps h is k unread w b block d g x.can
+
+  had : k.ring_of (slot b) (endpoint b) ≡ Some x.ring
+  had = sym (g.matches.ring_of (slot b) (endpoint b)) ∙ x.had
+
+  other : x.ring ≢ command_id h
+  other = transfer_not_command h is x.ring (d.states.transfer (slot b) (endpoint b) x.ring had)
+
+  on_bound : BoundRing (shape_of h x.ring) k.ring_of (k.ring x.ring) (state_of (posted h w b) x.ring) x.ring → ReportKeeps h k unread w v b
+  on_bound bound =
+      let r : ℕ = x.ring in
+      let u : World = posted h w b in
+      let driver = transfer_driver h r (d.states.transfer (slot b) (endpoint b) r had) in
+      let allowed = (ring_shape h is r driver).is in
+      let keeps = d.rings r driver in
+      let s : RingState = state_of u r in
+      let end = last_is h (pointer b) (open_takes s) f.last in
+      let l = last_take (shape_of h r) allowed k.memory (k.ring r) keeps s bound.spot bound.matches bound.takes (pointer b) end.0 end.1 end.2 in
+      let q : ℕ = l.position in
+      let at = spot_named h k b r (Data q) had l.named_is in
+      let c : ℕ = u.reported r + length (open_takes s) in
+      let learns = learns_held h k r q (k.reads + 1) in
+      let o = only_ended u r c in
+      let next : BoundRing (shape_of h r) k.ring_of (broken_at (shape_of h r) (k.ring r) q) (record s { active = false; reported = c }) r =
+      record {
+        slot = bound.slot;
+        index = bound.index;
+        bound = bound.bound;
+        spot = bound.spot;
+        matches = broken_matches (shape_of h r) allowed k.memory (k.ring r) keeps s bound.spot bound.matches bound.takes (pointer b) c l;
+        takes = broken_unreported (shape_of h r) allowed k.memory (k.ring r) keeps s bound.spot bound.matches bound.takes (pointer b) l;
+      } in
+      let z : World = ended_ring u r c in
+      let m : Known = with_reads (held_behind h k r q) (k.reads + 1) in
+      let e : ℕ → ℕ → EndpointState = put_pair k.endpoint_state (slot b) (endpoint b) state in
+      let y : ℕ → ℕ → EndpointState = put_pair u.endpoint_state (slot b) (endpoint b) state in
+      let states = pair_same u.endpoint_state k.endpoint_state (slot b) (endpoint b) state p.matches.endpoints in
+      let after_z : Agrees h (known_states m e must) (unread ++ b ∷ []) (counted h (world_states z y)) =
+      agrees_counted h (known_states m e must) (unread ++ b ∷ []) (world_states z y)
+      (stands_states h m z e y must (stands_learns h k m r _ learns z (stands_only h k u z r _ o p.stands)))
+      (events_states h m z e y must (unread ++ b ∷ []) (events_only h k u z r _ o (unread ++ b ∷ []) p.events))
+      (matches_states h m z e y must states (matches_learns h k m r _ learns u z _ o d p.matches other next refl refl refl))
+      p.posted_is p.late in
+      let learned_is : learned h k (Read b) ≡ known_states m e must = learned_read h k b ∙ ap (λ n. with_reads n (k.reads + 1)) (by.read r q at) in
+      let open_ring = bound.matches.opened f.active in
+      let below : q < ceiling (shape_of h r) (k.ring r) = omega (arith, l.last, bound.matches.below) in
+      let runs : is_running (k.endpoint_state (slot b) (endpoint b)) ≡ true = ap is_running (sym (p.matches.endpoints (slot b) (endpoint b))) ∙ f.runs in
+      record {
+        clean = event_clean h k w b g.stands g.read running p.can p.room
+            (or_left (is_transfer_event (kind b) || is_command_completion (kind b)) (is_other_event (kind b)) (or_left (is_transfer_event (kind b)) (is_command_completion (kind b)) x.transfer))
+            (possible h k b r q x.transfer at (by.may r q below (works h k (slot b) (endpoint b) r runs open_ring)) (d.states.on (slot b) (endpoint b) r had))
+            (and_right (is_transfer_event (kind b)) (not (is_in_profile b)) (not_from_true (is_in_profile b) (in_profile_is b x.no_data by.code_is)));
+        agrees = subst (λ n. Agrees h n (unread ++ b ∷ []) (counted h v)) (sym learned_is) (subst (λ y. Agrees h (known_states m e must) (unread ++ b ∷ []) (counted h y)) f.is after_z);
+      }
+
+  pub error_keeps : ReportKeeps h k unread w v b
+  error_keeps =
+      elim (p.matches.rings x.ring other) [
+        | inl bound ↦ on_bound bound
+        | inr free ↦ absurd (free.none (slot b) (endpoint b) had)
+      ]
+
+or_second : (a b : Bool) → a ≡ false → (a || b) ≡ true → b ≡ true
+or_second true b off one = absurd (false≢true (sym off))
+or_second false b off one = one
+
+-- which report it is, by the event's code
+code_halts : (h : Header) (u v : World) (c s i r a : ℕ) → is_success c ≡ false → is_halting c ≡ true → report_code h u c s i r a ≡ Some v → report_error h u s i r a Halted ≡ Some v
+unfolding report_code
+code_halts h u v c s i r a fails halting at = sym (cond-false (is_success c) _ _ fails ∙ cond-true (is_halting c) _ _ halting) ∙ at
+
+code_errs : (h : Header) (u v : World) (c s i r a : ℕ) → is_success c ≡ false → is_halting c ≡ false → is_trb_error c ≡ true → report_code h u c s i r a ≡ Some v → report_error h u s i r a Error ≡ Some v
+unfolding report_code
+code_errs h u v c s i r a fails quiet error at = sym (cond-false (is_success c) _ _ fails ∙ cond-false (is_halting c) _ _ quiet ∙ cond-true (is_trb_error c) _ _ error) ∙ at
+
+-- the run goes on behind the report of an error
+pub report_error_runs : (h : Header) → IsHeader h → (past : List Row) (w v : World) (b : Block) → IsBlock b → w.stopped ≡ false → (run : Runs h past w) →
+    DriverKeeps h (known h (reading run.unread past)) → is_success (code b) ≡ false → (is_halting (code b) || is_trb_error (code b)) ≡ true → reported h w b ≡ Some v → Runs h past (counted h v)
+report_error_runs h is past w v b block running run d fails breaks at =
+    let k : Known = known h (reading run.unread past) in
+    let x = report_is h w v b at in
+    let keeps : ReportKeeps h k run.unread w v b = elim (cases_Bool (is_halting (code b))) [
+      | inl halting ↦ error_keeps h is k run.unread w v b block running d run.agrees x Halted _ (halts h k b x.transfer fails halting)
+          (breaks_is h (posted h w b) v (slot b) (endpoint b) x.ring (pointer b) Halted (code_halts h (posted h w b) v (code b) (slot b) (endpoint b) x.ring (pointer b) fails halting x.by_code))
+      | inr quiet ↦
+          let error = or_second (is_halting (code b)) (is_trb_error (code b)) quiet breaks in
+          error_keeps h is k run.unread w v b block running d run.agrees x Error _ (errs h k b x.transfer fails quiet error)
+          (breaks_is h (posted h w b) v (slot b) (endpoint b) x.ring (pointer b) Error (code_errs h (posted h w b) v (code b) (slot b) (endpoint b) x.ring (pointer b) fails quiet error x.by_code))
+    ] in
+    record {
+      unread = run.unread ++ b ∷ [];
+      clean = clean_more h run.unread past b run.clean keeps.clean;
+      on = run.on;
+      agrees = subst (λ m. Agrees h m (run.unread ++ b ∷ []) (counted h v)) (sym (known_more h run.unread past b)) keeps.agrees;
+    }
