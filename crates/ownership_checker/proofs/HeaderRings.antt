@@ -1,6 +1,6 @@
 -- Each ring of a header is found by its ID and its kind
 use Rattle.std.proofs.Common.{◌≡◌, ◌≢◌, ◌<◌, List, [], ◌∷◌, ◌++◌, Bool, true, false, Option, Some, None, refl, ap, sym, ◌∙◌, arith, inl, inr, subst}
-use Rattle.std.specs.Prelude.{◌==◌, ◌&&◌, ◌||◌, nat_lt, filter, find}
+use Rattle.std.specs.Prelude.{◌==◌, ◌&&◌, nat_lt, filter, find}
 use Rattle.std.specs.List.{list_any, list_all, flat_map}
 use Rattle.std.proofs.lemmas.Bool.{cases_Bool, and_parts, false≢true, ltb-true}
 use Rattle.segments.specs.Shape.{IsShape, is_shape}

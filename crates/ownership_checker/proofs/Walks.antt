@@ -1,6 +1,6 @@
 -- After any rows of an accepted trace the walk through each ring reads what was declared
-use Rattle.std.specs.Prelude.{◌≡◌, ℕ, ◌≤◌, Bool, true, false, List, [], ◌∷◌, ◌++◌, length, take, drop, reverse, Result, Ok, Err, IfOk, OnOk}
-use Rattle.std.proofs.Common.{sym, ◌∙◌, ap, refl, subst}
+use Rattle.std.specs.Prelude.{◌≡◌, ℕ, true, List, [], ◌∷◌, ◌++◌, take, drop, reverse, Result, Ok, Err, IfOk, OnOk}
+use Rattle.std.proofs.Common.{sym, ◌∙◌, ap, subst}
 use Rattle.std.proofs.lemmas.Bool.{false≢true}
 use Rattle.std.proofs.lemmas.List.{reverse-append, take-append-drop}
 use Rattle.trb.specs.declared.ring_kind.RingKind.{RingKind}

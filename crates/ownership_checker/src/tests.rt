@@ -171,9 +171,11 @@ fn faults_say_what_is_wrong(rt: HostRuntime) -> Result<(), AllocError> {
         row: 8,
         refusal: Refusal::LinkFault,
     };
-    assert_eq!(rt; format!(in rt.alloc(); "{refused}")?.as_str(), "row 8: LinkFault");
-    assert_eq!(
-        rt;
+    assert_eq!(rt;
+        format!(in rt.alloc(); "{refused}")?.as_str(),
+        "row 8: LinkFault"
+    );
+    assert_eq!(rt;
         format!(in rt.alloc(); "{}", CheckFault::Memory)?.as_str(),
         "memory is wanted",
     );

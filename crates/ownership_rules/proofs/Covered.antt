@@ -1,22 +1,21 @@
 -- A word is under lease at a row exactly where a lease of the trace covers it there: one that began before the row, and wasn't
 -- over before it
-use Rattle.std.specs.Prelude.{◌≡◌, ◌≢◌, ℕ, ◌+◌, ◌-◌, ◌<◌, ◌≤◌, ◌==◌, ◌&&◌, ◌||◌, if◌then◌else◌, Bool, true, false, not, List, [], ◌∷◌, ◌++◌, length, filter, map, nat_lt, nat_le, reverse}
+use Rattle.std.specs.Prelude.{◌≡◌, ℕ, ◌+◌, ◌-◌, ◌<◌, ◌≤◌, ◌&&◌, ◌||◌, Bool, true, false, not, List, [], ◌∷◌, ◌++◌, length, filter, map, nat_lt, nat_le, reverse}
 use Rattle.std.specs.List.{list_any}
 use mathlib.Core.List.{reverse_aux}
-use Rattle.std.proofs.Common.{arith, sym, ◌∙◌, ap, subst, refl, inl, inr, cond}
-use Rattle.std.proofs.lemmas.Bool.{cases_Bool, cases_lt, false≢true, and_parts, and_from, cond-true, cond-false}
+use Rattle.std.proofs.Common.{arith, sym, ◌∙◌, ap, refl, inl, inr}
+use Rattle.std.proofs.lemmas.Bool.{cases_Bool}
 use Rattle.std.proofs.lemmas.Bool.Decides.{nat_tests}
 use Rattle.std.proofs.lemmas.List.Folds.{list_any-append}
-use Rattle.segments.specs.Places.{overlap, address_of, link_address}
+use Rattle.segments.specs.Places.{overlap}
 use Rattle.traces.specs.declared.header.Header.{Header}
 use Rattle.traces.specs.declared.row.Row.{Row}
-use Rattle.traces.specs.Header.{shape_of}
 use Rattle.ring_knowledge.specs.declared.lease.Lease.{Lease}
 use Rattle.ring_knowledge.specs.Known.{Known, nothing}
 use Rattle.ring_knowledge.specs.Learned.{learned, known}
 use Rattle.ownership_rules.specs.OpenLeases.{Leased, Block, Link, Range, covers, is_among, is_leased, lease_bytes, lease_start, open_leases}
 use Rattle.ownership_rules.specs.Leases.{as_lease, begun, comes_before, covers_at, end_from, in_order, leases, leases_from, with_ends, with_lease, without_end, words_bytes, words_from}
-use Rattle.ownership_rules.proofs.Among.{IsIn, any_of, both_ways, from_filter, in_among, new_or_old, some_of}
+use Rattle.ownership_rules.proofs.Among.{IsIn, from_filter, new_or_old}
 use Rattle.ownership_rules.proofs.ProperLeases.{IsProper, AreProper, open_are_proper}
 
 -- the order doesn't matter
@@ -156,11 +155,11 @@ module _ (h : Header) (a m : ℕ) where
   back_a_row k n row rows before =
       let passes = still (learned h k row) (n + 1) rows in
       let new = some_yet (learned h k row) n (n + 1) rows (filter (λ l. not (is_among (open_leases h k) l)) (open_leases h (learned h k row)))
-          (λ l at. open_are_proper h (learned h k row) l (from_filter (λ l. not (is_among (open_leases h k) l)) (open_leases h (learned h k row)) l at).0) before in
+      (λ l at. open_are_proper h (learned h k row) l (from_filter (λ l. not (is_among (open_leases h k) l)) (open_leases h (learned h k row)) l at).0) before in
       let old : list_any (still k n (row ∷ rows)) (open_leases h k) ≡ list_any (λ l. is_among (open_leases h (learned h k row)) l && still (learned h k row) (n + 1) rows l) (open_leases h k) =
-          agree (still k n (row ∷ rows)) (λ l. is_among (open_leases h (learned h k row)) l && still (learned h k row) (n + 1) rows l) (open_leases h k)
-          (λ l at. ap (λ b. covers h a 4 l && b) (end_on k n row rows l before)
-          ∙ swap (covers h a 4 l) (is_among (open_leases h (learned h k row)) l) (nat_le m (end_from h (learned h k row) (n + 1) rows l))) in
+      agree (still k n (row ∷ rows)) (λ l. is_among (open_leases h (learned h k row)) l && still (learned h k row) (n + 1) rows l) (open_leases h k)
+      (λ l at. ap (λ b. covers h a 4 l && b) (end_on k n row rows l before)
+      ∙ swap (covers h a 4 l) (is_among (open_leases h (learned h k row)) l) (nat_le m (end_from h (learned h k row) (n + 1) rows l))) in
       rw (new, old) (new_or_old passes (open_leases h k) (open_leases h (learned h k row)))
     where
       swap : (x y z : Bool) → (x && (y && z)) ≡ (y && (x && z))
@@ -193,7 +192,7 @@ module _ (h : Header) (a : ℕ) where
       let step = back_a_row h a m k n row tail (omega arith) in
       let all = list_any-append (covers_at h m a) (with_ends h k' n (n + 1) tail (begun h k row)) (leases_from h k' (n + 1) tail) in
       let rest_is : (list_any (covers_at h m a) (leases_from h k' (n + 1) tail) || list_any (still h a m k' (n + 1) tail) (open_leases h k')) ≡ is_leased h (after_rows h k' before) a =
-          rw at at (covered_from k' (n + 1) before rest (omega arith)) in
+      rw at at (covered_from k' (n + 1) before rest (omega arith)) in
       shuffle
       (list_any (covers_at h m a) (leases_from h k n (row ∷ tail)))
       (list_any (covers_at h m a) (with_ends h k' n (n + 1) tail (begun h k row)))

@@ -1,9 +1,9 @@
 -- Open leases have words of their own: a Link's crossing has a position before it
-use Rattle.std.specs.Prelude.{◌≡◌, ◌≢◌, ℕ, ◌+◌, ◌-◌, ◌<◌, ◌≤◌, ◌==◌, ◌&&◌, ◌⊎◌, Bool, true, false, List, [], ◌∷◌, ◌++◌, filter, map, Option, Some, None}
-use Rattle.std.specs.List.{list_any, flat_map}
-use Rattle.std.proofs.Common.{arith, sym, ◌∙◌, ap, subst, refl, inl, inr}
-use Rattle.std.proofs.lemmas.Bool.{false≢true, and_parts}
-use Rattle.segments.specs.Places.{is_crossing, link_address}
+use Rattle.std.specs.Prelude.{ℕ, ◌<◌, ◌&&◌, List, [], ◌∷◌, ◌++◌, filter, map, Option, Some, None}
+use Rattle.std.specs.List.{flat_map}
+use Rattle.std.proofs.Common.{sym, subst, refl, inl, inr}
+use Rattle.std.proofs.lemmas.Bool.{and_parts}
+use Rattle.segments.specs.Places.{is_crossing}
 use Rattle.segments.specs.RingView.{leased_crossings, leased_positions, due_crossings}
 use Rattle.segments.proofs.Crossings.{crossing_positive}
 use Rattle.commands.specs.declared.command.Command.{Command}
@@ -11,7 +11,7 @@ use Rattle.commands.specs.Command.{named_context}
 use Rattle.traces.specs.declared.header.Header.{Header}
 use Rattle.traces.specs.declared.ring.Ring.{Ring}
 use Rattle.traces.specs.declared.register.Register.TheVariants.{Erstba}
-use Rattle.traces.specs.Header.{driver_rings, event_shape, shape_of}
+use Rattle.traces.specs.Header.{driver_rings, event_shape}
 use Rattle.ring_knowledge.specs.Known.{Known}
 use Rattle.ring_knowledge.specs.Rings as rings
 use Rattle.ownership_rules.specs.OpenLeases

@@ -1,6 +1,5 @@
 -- The leases of worked traces, written by tools/worked_examples.py from worked cases
-use Rattle.std.specs.Prelude.{◌≡◌, List, [], ◌∷◌, length, refl}
-use Rattle.ring_knowledge.specs.declared.lease.Lease.{Lease}
+use Rattle.std.specs.Prelude.{◌≡◌, [], ◌∷◌, refl}
 use Rattle.ownership_rules.specs.Leases.{leases}
 use Rattle.ownership_rules.specs.OnLiterals.{rules_on_literals}
 use Rattle.ownership_rules.proofs.WorkedTraces as traces

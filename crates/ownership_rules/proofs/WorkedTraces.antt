@@ -1,14 +1,13 @@
 -- Worked traces with their verdicts, written by tools/worked_examples.py from worked cases
-use Rattle.std.specs.Prelude.{◌≡◌, ℕ, List, [], ◌∷◌, Option, Some, None, length, refl}
-use Rattle.trb.specs.declared.block.Block.{Block}
+use Rattle.std.specs.Prelude.{◌≡◌, List, [], ◌∷◌, Some, None, refl}
 use Rattle.trb.specs.declared.ring_kind.RingKind.TheVariants.{Cmd, Evt, Xfer}
-use Rattle.contexts.specs.declared.size.ContextSize.TheVariants.{Bytes32, Bytes64}
+use Rattle.contexts.specs.declared.size.ContextSize.TheVariants.{Bytes32}
 use Rattle.traces.specs.declared.header.Header.{Header}
 use Rattle.traces.specs.declared.row.Row.{Row}
 use Rattle.traces.specs.declared.row.Row.TheVariants.{Sub, Write, Reg, Bell, Read}
 use Rattle.traces.specs.declared.register.Register.TheVariants.{Usbcmd, Crcr, Dcbaap, Config, Erstsz, Erstba, Erdp}
 use Rattle.ring_knowledge.specs.Known.{nothing}
-use Rattle.ownership_rules.specs.declared.refusal.Refusal.TheVariants.{WriteToOwned, NotAsSubmitted, NotDeclared, NotWhole, LinkFault, RingFull, BadDescriptor, BadRegister, BadDoorbell, BadCommand, Busy, ImpossibleEvent, BadErdp, NotInProfile, AfterStop, BadMove}
+use Rattle.ownership_rules.specs.declared.refusal.Refusal.TheVariants.{WriteToOwned, NotAsSubmitted, NotDeclared, NotWhole, RingFull, BadDoorbell, Busy, ImpossibleEvent, BadErdp, NotInProfile, BadMove}
 use Rattle.ownership_rules.specs.Rules.{verdict_from}
 use Rattle.ownership_rules.specs.OnLiterals.{rules_on_literals}
 

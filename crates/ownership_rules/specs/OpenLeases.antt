@@ -1,5 +1,5 @@
 -- Which words are under lease: the controller may read or change them at any moment: xHCI 4.9.2, 4.9.4, 4.6.5, 6.1
-use Rattle.std.specs.Prelude.{ℕ, ◌+◌, ◌*◌, ◌==◌, ◌&&◌, Bool, false, List, [], ◌∷◌, ◌++◌, map, Option, Some, None}
+use Rattle.std.specs.Prelude.{ℕ, ◌*◌, ◌==◌, ◌&&◌, Bool, false, List, [], ◌∷◌, ◌++◌, map, Option, Some, None}
 use Rattle.std.specs.List.{list_any, flat_map, range_with_len}
 use Rattle.segments.specs.Places.{overlap, address_of, link_address}
 use Rattle.segments.specs.RingView.{leased_positions, leased_crossings}
@@ -39,6 +39,7 @@ same_use a b = number_of a == number_of b && about a == about b where
   number_of (InputContext p) = 2
   number_of (SlotEntry s) = 3
   number_of (DeviceContext s) = 4
+
   about : Use → ℕ
   about EventSegment = 0
   about SegmentTable = 0

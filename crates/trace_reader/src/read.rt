@@ -8,11 +8,11 @@ ghost use Rattle.trace_reader.specs.Valid.{IsTrace};
 ghost use Rattle.traces.specs.Limits.{most_lines};
 ghost use Rattle.trace_reader.specs.Values.{SaysRing, SaysRow};
 
+use crate::clashes::clashes_with_one;
 use crate::entry::{Entry, RingEntry};
 use crate::fault::{LineError, LineFault, ReadFault};
 use crate::line::{entry_in, is_version, size_of};
 use crate::so_far::TraceSoFar;
-use crate::clashes::clashes_with_one;
 use contexts::ContextSize;
 use line_text::{Line, first_line};
 use segments::RingShape;
