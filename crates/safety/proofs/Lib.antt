@@ -35,3 +35,4 @@ pub mod FinishNext
 pub mod FinishFails
 pub mod FinishIdle
 pub mod StoppedRing
+pub mod StopKinds
