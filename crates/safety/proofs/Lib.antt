@@ -36,3 +36,4 @@ pub mod FinishFails
 pub mod FinishIdle
 pub mod StoppedRing
 pub mod StopKinds
+pub mod StopRead

@@ -134,6 +134,10 @@ module _ (h : Header) (k : Known) (seen : ℕ → ℕ → Bool) (s i : ℕ) (may
   unfolding of_rings.next_command of_rings.command_at
   taken_stopped x t stop = record { address = t.address; words = t.words; stopped = λ c at. sym (stop_seen_is k s i c seen may (stop c at)) }
 
+  pub next_seen : next_command h with_seen ≡ next_command h k
+  unfolding of_rings.next_command
+  next_seen = refl
+
   pub stands_seen : (w : World) (o : Option UnderWay) → Stands h k w → Stands h with_seen (let v : World = record w { under_way = o } in v)
   stands_seen w o s = record { started = s.started; stopped = s.stopped; registers = s.registers; queues = s.queues; lengths = s.lengths; dequeue = s.dequeue; quiet = s.quiet }
 
