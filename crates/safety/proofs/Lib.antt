@@ -37,3 +37,4 @@ pub mod FinishIdle
 pub mod StoppedRing
 pub mod StopKinds
 pub mod StopRead
+pub mod ReportStop
