@@ -38,3 +38,4 @@ pub mod StoppedRing
 pub mod StopKinds
 pub mod StopRead
 pub mod ReportStop
+pub mod ReportRuns

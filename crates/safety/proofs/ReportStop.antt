@@ -1,21 +1,18 @@
 -- The controller reports that an endpoint has stopped: the run goes on
-use Rattle.std.specs.Prelude.{◌≡◌, ◌≢◌, ℕ, ◌+◌, ◌-◌, ◌<◌, ◌≤◌, ◌==◌, ◌&&◌, ◌||◌, ◌⊎◌, if◌then◌else◌, Bool, true, false, not, List, [], ◌∷◌, ◌++◌, length, Option, Some, None, is_some}
+use Rattle.std.specs.Prelude.{◌≡◌, ◌≢◌, ℕ, ◌+◌, ◌-◌, ◌<◌, ◌==◌, ◌&&◌, ◌||◌, Bool, true, false, not, List, [], ◌∷◌, ◌++◌, length, Option, Some, None}
 use Rattle.std.proofs.Common.{arith, refl, sym, ◌∙◌, ap, subst, inl, inr}
 use Rattle.std.proofs.lemmas.Bool.{false≢true, and_right, and_from, or_left, cond-false, cond-true, not_from_true, eq-eqb, lt-ltb}
-use Rattle.std.proofs.lemmas.Option.{none-some, same_Some}
 use Rattle.guest_memory.specs.Memory.{put_pair}
 use Rattle.trb.specs.declared.block.Block.{Block}
 use Rattle.trb.specs.Block.{IsBlock, code, endpoint, kind, pointer, slot}
 use Rattle.trb.specs.Kind.{is_transfer_event, is_command_completion, is_other_event}
 use Rattle.segments.specs.declared.spot.Spot.{Spot}
-use Rattle.segments.specs.declared.spot.Spot.TheVariants.{Data, Link}
+use Rattle.segments.specs.declared.spot.Spot.TheVariants.{Data}
 use Rattle.segments.specs.ShapeValue.{Shape}
-use Rattle.segments.specs.Spots.{number, rank}
 use Rattle.segments.specs.RingView.{RingView, Reaches, Holds, floor_number}
-use Rattle.segments.specs.Ceiling.{ceiling, given_count, is_stop_spot, is_way_given, named, stopped_number}
+use Rattle.segments.specs.Ceiling.{ceiling, given_count, is_stop_spot, named, stopped_number}
 use Rattle.segments.proofs.Positions.{cycle_of_bit}
 use Rattle.segments.proofs.SpotOrder.{rank_least}
-use Rattle.commands.specs.declared.command.Command.{Command}
 use Rattle.commands.specs.Command.{command_of, is_stop_of}
 use Rattle.commands.specs.States.{is_running}
 use Rattle.traces.specs.declared.header.Header.{Header}
@@ -24,7 +21,7 @@ use Rattle.traces.specs.declared.row.Row.TheVariants.{Read}
 use Rattle.traces.specs.Header.{IsHeader, shape_of, command_id}
 use Rattle.world_state.specs.World.{World, UnderWay}
 use Rattle.world_state.specs.World as of_world
-use Rattle.controller_model.specs.Posts.{is_stop_under_way, with_stopped, stopped_with, posted, report_code, report_stop, reported}
+use Rattle.controller_model.specs.Posts.{is_stop_under_way, with_stopped, posted, report_code, report_stop, reported}
 use Rattle.controller_model.specs.Steps.{counted}
 use Rattle.ring_knowledge.specs.Known.{Known}
 use Rattle.ring_knowledge.specs.Learned.{learned, known}
@@ -36,15 +33,15 @@ use Rattle.safety.specs.Invariant.{Runs, reading}
 use Rattle.safety.proofs.Headers.{transfer_driver, transfer_not_command, ring_shape}
 use Rattle.safety.proofs.SameCommand.{command_of-with_cycle}
 use Rattle.safety.proofs.NoWait.{ceiling_given}
-use Rattle.safety.proofs.SafeContext.{AtFloor, at_floor, command_is_ring, command_at_is}
+use Rattle.safety.proofs.SafeContext.{at_floor, command_is_ring, command_at_is}
 use Rattle.safety.proofs.Counted.{agrees_counted}
 use Rattle.safety.proofs.WithReads.{with_reads}
 use Rattle.safety.proofs.Posted.{PostKeeps, post_keeps}
 use Rattle.safety.proofs.EventRead.{learned_read, event_clean, clean_more, known_more}
-use Rattle.safety.proofs.OnlyRing.{OnlyRing, stands_only, events_only, late_only}
+use Rattle.safety.proofs.OnlyRing.{stands_only, events_only}
 use Rattle.safety.proofs.Learns.{next_same, command_same, stands_learns, matches_learns}
 use Rattle.safety.proofs.ReportedRing.{open_takes, low, count}
-use Rattle.safety.proofs.BrokenRing.{last_is, last_take, LastTake}
+use Rattle.safety.proofs.BrokenRing.{last_is, last_take}
 use Rattle.safety.proofs.StoppedRing.{stopped_view, pointer_named, stopped_high, stopped_matches, stopped_unreported}
 use Rattle.safety.proofs.ReportSuccess.{IsReport, report_is, ReportKeeps, spot_named, in_profile_is}
 use Rattle.safety.proofs.ReportError.{ended_ring, only_ended, works}
@@ -186,20 +183,21 @@ module _ (h : Header) (is : IsHeader h) (k : Known) (unread : List Block) (w v :
       (events_seen h m seen (slot b) (endpoint b) may z (with_stopped h u.under_way) (unread ++ b ∷ []) (events_only h k u z r _ o (unread ++ b ∷ []) p.events))
       (matches_seen h m seen (slot b) (endpoint b) may z (with_stopped h u.under_way) matches_z (λ t under.
       let known_under : UnderWayMatches h m t (Some y.0) = subst (λ o. UnderWayMatches h m t o) y.1 under in
-      subst (λ o. UnderWayMatches h (with_seen h m seen (slot b) (endpoint b) may) t o) (sym (ap (λ o. with_stopped h o) y.1 ∙ with_stopped_some h y.0))
-      (known_under.0 ∙ ap (λ n. n + 1) (sym (next_seen h m seen (slot b) (endpoint b) may)),
-       taken_stopped h m seen (slot b) (endpoint b) may y.0 known_under.1 (λ c is_c. ap (λ o. is_stop_of (slot b) (endpoint b) o) (sym is_c ∙ first) ∙ stop.1))) (learns.started ∙ on))
+      subst (λ o. UnderWayMatches h (with_seen h m seen (slot b) (endpoint b) may) t o) (sym (ap (λ o. with_stopped h o) y.1 ∙ with_stopped_some h y.0)) (
+        known_under.0 ∙ ap (λ n. n + 1) (sym (next_seen h m seen (slot b) (endpoint b) may)),
+        taken_stopped h m seen (slot b) (endpoint b) may y.0 known_under.1 (λ c is_c. ap (λ o. is_stop_of (slot b) (endpoint b) o) (sym is_c ∙ first) ∙ stop.1),
+      )) (learns.started ∙ on))
       p.posted_is p.late in
       let learned_is : learned h k (Read b) ≡ with_seen h m seen (slot b) (endpoint b) may = learned_read h k b ∙ ap (λ n. with_reads n (k.reads + 1)) (stop_read h k b r q.spot x.transfer s at) in
       let open_ring = bound.matches.opened f.active in
       let runs : is_running (k.endpoint_state (slot b) (endpoint b)) ≡ true = ap is_running (sym (p.matches.endpoints (slot b) (endpoint b))) ∙ f.runs in
       record {
         clean = event_clean h k w b g.stands g.read running p.can p.room
-        (or_left (is_transfer_event (kind b) || is_command_completion (kind b)) (is_other_event (kind b)) (or_left (is_transfer_event (kind b)) (is_command_completion (kind b)) x.transfer))
-        (stop_possible h k b r q.spot x.transfer s at (works h k (slot b) (endpoint b) r runs open_ring) (taken_now h k stop.0) stop.1 q.may (d.states.on (slot b) (endpoint b) r had))
-        (and_right (is_transfer_event (kind b)) (not (is_in_profile b)) (not_from_true (is_in_profile b) (in_profile_is b x.no_data (stop_transfer_code (code b) s))));
+            (or_left (is_transfer_event (kind b) || is_command_completion (kind b)) (is_other_event (kind b)) (or_left (is_transfer_event (kind b)) (is_command_completion (kind b)) x.transfer))
+            (stop_possible h k b r q.spot x.transfer s at (works h k (slot b) (endpoint b) r runs open_ring) (taken_now h k stop.0) stop.1 q.may (d.states.on (slot b) (endpoint b) r had))
+            (and_right (is_transfer_event (kind b)) (not (is_in_profile b)) (not_from_true (is_in_profile b) (in_profile_is b x.no_data (stop_transfer_code (code b) s))));
         agrees = subst (λ n. Agrees h n (unread ++ b ∷ []) (counted h v)) (sym learned_is)
-        (subst (λ e. Agrees h (with_seen h m seen (slot b) (endpoint b) may) (unread ++ b ∷ []) (counted h e)) q.is after_z);
+            (subst (λ e. Agrees h (with_seen h m seen (slot b) (endpoint b) may) (unread ++ b ∷ []) (counted h e)) q.is after_z);
       }
 
   stop_keeps : ReportKeeps h k unread w v b

@@ -1,9 +1,9 @@
 -- What the report of a stop is, and what is known of the ring and of its Stop Endpoint behind it
-use Rattle.std.specs.Prelude.{◌≡◌, ◌≢◌, ℕ, ◌+◌, ◌-◌, ◌<◌, ◌≤◌, ◌==◌, ◌&&◌, ◌||◌, ◌⊎◌, if◌then◌else◌, Bool, true, false, not, List, [], ◌∷◌, ◌++◌, length, min, nat_lt, nat_le, drop, Option, Some, None}
-use Rattle.std.proofs.Common.{arith, refl, sym, ◌∙◌, ap, subst, inl, inr}
-use Rattle.std.proofs.lemmas.Bool.{false≢true, and_parts, and_from, cond-true, cond-false, not-false, eqb-true, eq-eqb, cases_lt, lt-ltb, le-leb, or_left, or_right}
+use Rattle.std.specs.Prelude.{◌≡◌, ℕ, ◌+◌, ◌-◌, ◌≤◌, ◌==◌, ◌&&◌, ◌||◌, ◌⊎◌, Bool, true, not, List, length, nat_lt, nat_le, drop, Option, Some, None}
+use Rattle.std.proofs.Common.{arith, refl, sym, ◌∙◌, ap, inl, inr}
+use Rattle.std.proofs.lemmas.Bool.{false≢true, and_parts, and_from, not-false, eqb-true, eq-eqb, cases_lt, lt-ltb, le-leb, or_left, or_right}
 use Rattle.std.proofs.lemmas.Option.{none-some, same_Some}
-use Rattle.guest_memory.specs.Memory.{put, put_pair}
+use Rattle.guest_memory.specs.Memory.{put}
 use Rattle.trb.specs.declared.block.Block.{Block}
 use Rattle.segments.specs.declared.spot.Spot.{Spot}
 use Rattle.segments.specs.declared.spot.Spot.TheVariants.{Data, Link}
@@ -13,10 +13,9 @@ use Rattle.segments.specs.RingView.{RingView, Reaches, Holds}
 use Rattle.segments.specs.Ceiling.{given_count, is_way_given, is_stop_spot}
 use Rattle.commands.specs.declared.command.Command.{Command}
 use Rattle.commands.specs.declared.command.Command.TheVariants.{NoOp, EnableSlot, DisableSlot, AddressDevice, ConfigureEndpoint, EvaluateContext, ResetEndpoint, StopEndpoint, SetTrDequeue, ResetDevice}
-use Rattle.commands.specs.Command.{command_of, is_stop_of}
+use Rattle.commands.specs.Command.{is_stop_of}
 use Rattle.commands.specs.States.{is_running}
 use Rattle.traces.specs.declared.header.Header.{Header}
-use Rattle.traces.specs.Header.{shape_of, command_id}
 use Rattle.world_state.specs.World.{World, UnderWay}
 use Rattle.world_state.specs.World as of_world
 use Rattle.world_state.specs.Takes.{takes_of, unreported}
@@ -29,7 +28,7 @@ use Rattle.safety.specs.Stands.{Stands, EventsStand}
 use Rattle.safety.specs.Matches.{state_of, UnderWayMatches, TakenCommand, Matches}
 use Rattle.safety.proofs.WithReads.{with_reads}
 use Rattle.safety.proofs.LookKinds.{cond_is, put_at, put_off}
-use Rattle.safety.proofs.Learns.{LearnsRing, unfinished_same}
+use Rattle.safety.proofs.Learns.{LearnsRing}
 use Rattle.safety.proofs.ReportedRing.{open_takes}
 use Rattle.safety.proofs.ReportError.{ended_ring}
 use Rattle.safety.proofs.StoppedRing.{stopped_view}
@@ -86,8 +85,20 @@ learns_stopped h k r n c t =
     record {
       here = put_at f r y ∙ ap (λ (z : RingView). let e : RingView = record z { floor = t } in e) (put_at k.ring r x);
       others = λ q other. put_off f r y q other ∙ put_off k.ring r x q other;
-      queue = refl; lengths = refl; started = refl; stopped = refl; register = refl; memory = refl; soiled = refl; device = refl; dequeue = refl;
-      was_bound = refl; slot_state = refl; endpoint_state = refl; ring_of = refl; stop_seen = refl;
+      queue = refl;
+      lengths = refl;
+      started = refl;
+      stopped = refl;
+      register = refl;
+      memory = refl;
+      soiled = refl;
+      device = refl;
+      dequeue = refl;
+      was_bound = refl;
+      slot_state = refl;
+      endpoint_state = refl;
+      ring_of = refl;
+      stop_seen = refl;
     }
 
 -- the spot named is one where a controller may have stopped

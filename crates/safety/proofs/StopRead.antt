@@ -1,6 +1,6 @@
 -- When a Stopped event is possible where it will be read, and what reading it adds
-use Rattle.std.specs.Prelude.{◌≡◌, ◌≢◌, ℕ, ◌+◌, ◌&&◌, ◌||◌, Bool, true, false, not, Some}
-use Rattle.std.proofs.Common.{refl, sym, ◌∙◌, ap}
+use Rattle.std.specs.Prelude.{◌≡◌, ◌≢◌, ℕ, ◌||◌, true, false, not, Some}
+use Rattle.std.proofs.Common.{◌∙◌, ap}
 use Rattle.std.proofs.lemmas.Bool.{and_from, and_right, or_from, or_right, cond-true, cond-false, not_from_true}
 use Rattle.guest_memory.specs.Memory.{put_pair}
 use Rattle.trb.specs.declared.block.Block.{Block}
@@ -14,7 +14,7 @@ use Rattle.commands.specs.declared.state.EndpointState.TheVariants.{Disabled as 
 use Rattle.commands.specs.Command.{is_stop_of}
 use Rattle.commands.specs.States.{is_off}
 use Rattle.traces.specs.declared.header.Header.{Header}
-use Rattle.traces.specs.Header.{shape_of, command_id}
+use Rattle.traces.specs.Header.{shape_of}
 use Rattle.ring_knowledge.specs.Known.{Known}
 use Rattle.ring_knowledge.specs.Learned.{event_read}
 use Rattle.ring_knowledge.specs.Rings.{event_at, command_at, next_command, on_ring}
