@@ -47,7 +47,7 @@ some_command : (o : Option Command) → is_some o ≡ true → (c : Command) × 
 some_command None h = absurd (false≢true h)
 some_command (Some c) h = (c, refl)
 
-taken_now : (h : Header) (k : Known) → next_command h k < ceiling (shape_of h (command_id h)) (k.ring (command_id h)) → may_be_taken h k ≡ true
+pub taken_now : (h : Header) (k : Known) → next_command h k < ceiling (shape_of h (command_id h)) (k.ring (command_id h)) → may_be_taken h k ≡ true
 unfolding may_be_taken
 taken_now h k below = lt-ltb (next_command h k) (ceiling (shape_of h (command_id h)) (k.ring (command_id h))) below
 

@@ -42,11 +42,11 @@ pub record LearnsRing (k m : Known) (r : ℕ) (x : RingView) : Type 0 where
 -- ---- the command under way, where the command ring is known as before
 
 module _ (h : Header) (k m : Known) (ring : m.ring (command_id h) ≡ k.ring (command_id h)) (stop_seen : m.stop_seen ≡ k.stop_seen) where
-  next_same : next_command h m ≡ next_command h k
+  pub next_same : next_command h m ≡ next_command h k
   unfolding next_command
   next_same = ap (λ v. floor_number v) ring
 
-  command_same : (p : ℕ) → command_at h m p ≡ command_at h k p
+  pub command_same : (p : ℕ) → command_at h m p ≡ command_at h k p
   unfolding command_at
   command_same p = ap (λ v. option_and_then command_of (slice_get v.queue p)) ring
 

@@ -51,3 +51,7 @@ pub mod FinishNext
 pub mod FinishFails
 pub mod FinishIdle
 pub mod StoppedRing
+pub mod StopKinds
+pub mod StopRead
+pub mod ReportStop
+pub mod ReportRuns

@@ -69,7 +69,7 @@ state_ended : (p c : ℕ) (a b : Bool) (e : List RingEvent) (m n : ℕ) → a �
     ◌≡◌ {A = RingState} (record { pointer = p; cycle = c; active = a; events = e; reported = m }) (record { pointer = p; cycle = c; active = b; events = e; reported = n })
 state_ended p c a b e m n x y = cc
 
-only_ended : (u : World) (r c : ℕ) → OnlyRing u (ended_ring u r c) r (record (state_of u r) { active = false; reported = c })
+pub only_ended : (u : World) (r c : ℕ) → OnlyRing u (ended_ring u r c) r (record (state_of u r) { active = false; reported = c })
 only_ended u r c = record {
   here = state_ended (u.pointer_of r) (u.cycle_state r) _ false (u.events r) _ c (put_at u.is_active r false) (put_at u.reported r c);
   others = λ q other. state_ended (u.pointer_of q) (u.cycle_state q) _ (u.is_active q) (u.events q) _ (u.reported q) (put_off u.is_active r false q other) (put_off u.reported r c q other);
@@ -130,7 +130,7 @@ open_is : (v : RingView) → v.held ≡ None → is_open v ≡ true
 unfolding is_open
 open_is v none = rw none refl
 
-works : (h : Header) (k : Known) (s i r : ℕ) → is_running (k.endpoint_state s i) ≡ true → (k.ring r).held ≡ None → is_working k s i r ≡ true
+pub works : (h : Header) (k : Known) (s i r : ℕ) → is_running (k.endpoint_state s i) ≡ true → (k.ring r).held ≡ None → is_working k s i r ≡ true
 unfolding is_working
 works h k s i r runs none = and_from (is_running (k.endpoint_state s i)) (is_open (k.ring r)) runs (open_is (k.ring r) none)
 

@@ -1,17 +1,17 @@
 -- A ring whose endpoint was stopped at a spot: what the event names, and the ring behind it
-use Rattle.std.specs.Prelude.{◌≡◌, ◌≢◌, ℕ, ◌+◌, ◌-◌, ◌*◌, ◌<◌, ◌≤◌, ◌==◌, ◌&&◌, ◌||◌, ◌⊎◌, true, false, List, [], ◌∷◌, length, drop, map, min, nat_le, nat_lt, Some}
+use Rattle.std.specs.Prelude.{◌≡◌, ℕ, ◌+◌, ◌-◌, ◌≤◌, ◌⊎◌, false, List, [], ◌∷◌, drop, map, min, Some}
 use Rattle.std.specs.List.{range_with_len}
 use Rattle.std.proofs.Common.{arith, refl, sym, ◌∙◌, ap, inl, inr, length-drop}
-use Rattle.std.proofs.lemmas.Bool.{cases_lt, false≢true, lt-ltb, le-leb, eq-eqb, and_from, or_left, or_right}
+use Rattle.std.proofs.lemmas.Bool.{false≢true}
 use Rattle.std.proofs.lemmas.List.{drop-drop}
 use Rattle.segments.specs.declared.spot.Spot.{Spot}
 use Rattle.segments.specs.declared.spot.Spot.TheVariants.{Data, Link}
 use Rattle.segments.specs.ShapeValue.{Shape}
-use Rattle.segments.specs.Places.{address_of, place_count}
-use Rattle.segments.specs.Spots.{rank, number, spot_address}
+use Rattle.segments.specs.Places.{address_of}
+use Rattle.segments.specs.Spots.{rank, number}
 use Rattle.segments.specs.Shape.{IsShape}
 use Rattle.segments.specs.RingView.{RingView, declared, floor_number}
-use Rattle.segments.specs.Ceiling.{given_count, is_way_given, is_stop_spot, named, stopped_number}
+use Rattle.segments.specs.Ceiling.{given_count, is_way_given, named, stopped_number}
 use Rattle.segments.specs.RingKeeps.{RingKeeps}
 use Rattle.segments.proofs.SpotOrder.{rank_least, rank_most}
 use Rattle.segments.proofs.NamedSpots.{named_spot-near}
@@ -20,7 +20,7 @@ use Rattle.world_state.specs.World.{RingEvent, Took, Placed}
 use Rattle.world_state.specs.Takes.{takes_of}
 use Rattle.safety.specs.Matches.{Newest, RingState, RingMatches, Unreported}
 use Rattle.safety.proofs.NoWait.{ceiling_given, ceiling_held}
-use Rattle.safety.proofs.ReportedRing.{open_takes, drop_range, low, count}
+use Rattle.safety.proofs.ReportedRing.{drop_range, low, count}
 
 -- stopped with the floor at a spot, and held at a number
 abbrev pub stopped_view : RingView → Spot → ℕ → RingView
@@ -86,8 +86,8 @@ module _ (shape : Shape) (is : IsShape shape) (memory : ℕ → ℕ) (v : RingVi
       let long = length-drop s.reported (takes_of s.events) in
       record {
         takes = sym (drop-drop e s.reported (takes_of s.events)) ∙ ap (λ x. drop e x) u.takes
-        ∙ drop_range (address_of shape) (floor_number v) (number t - floor_number v) e (omega arith)
-        ∙ ap (λ b. map (address_of shape) (range_with_len b (number t - floor_number v - e))) at
-        ∙ ap (λ n. map (address_of shape) (range_with_len (number f) n)) rest;
+            ∙ drop_range (address_of shape) (floor_number v) (number t - floor_number v) e (omega arith)
+            ∙ ap (λ b. map (address_of shape) (range_with_len b (number t - floor_number v - e))) at
+            ∙ ap (λ n. map (address_of shape) (range_with_len (number f) n)) rest;
         most = omega (arith, u.most);
       }

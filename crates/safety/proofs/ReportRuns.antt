@@ -1,0 +1,42 @@
+-- Whatever the controller reports of a take, the run goes on
+use Rattle.std.specs.Prelude.{◌≡◌, ℕ, false, List, Some}
+use Rattle.std.proofs.Common.{sym, ◌∙◌, inl, inr}
+use Rattle.std.proofs.lemmas.Bool.{cases_Bool, cond-false, or_left, or_right}
+use Rattle.std.proofs.lemmas.Option.{none-some}
+use Rattle.trb.specs.declared.block.Block.{Block}
+use Rattle.trb.specs.Block.{IsBlock, code, endpoint, pointer, slot}
+use Rattle.trb.specs.CompletionCode.{is_success, is_halting, is_trb_error, is_stopping}
+use Rattle.traces.specs.declared.header.Header.{Header}
+use Rattle.traces.specs.declared.row.Row.{Row}
+use Rattle.traces.specs.Header.{IsHeader}
+use Rattle.world_state.specs.World.{World}
+use Rattle.controller_model.specs.Posts.{posted, report_code, reported}
+use Rattle.controller_model.specs.Steps.{counted}
+use Rattle.ring_knowledge.specs.Learned.{known}
+use Rattle.safety.specs.Keeps.{DriverKeeps}
+use Rattle.safety.specs.Invariant.{Runs, reading}
+use Rattle.safety.proofs.ReportSuccess.{report_is, report_success_runs}
+use Rattle.safety.proofs.ReportError.{report_error_runs}
+use Rattle.safety.proofs.ReportStop.{report_stop_runs}
+
+no_report : (h : Header) (u v : World) (c s i r a : ℕ) → is_success c ≡ false → is_halting c ≡ false → is_trb_error c ≡ false → is_stopping c ≡ false → report_code h u c s i r a ≡ Some v → ⊥
+unfolding report_code
+no_report h u v c s i r a success halting error stopping at =
+    none-some v (sym (cond-false _ _ _ success ∙ cond-false _ _ _ halting ∙ cond-false _ _ _ error ∙ cond-false _ _ _ stopping) ∙ at)
+
+pub report_runs : (h : Header) → IsHeader h → (past : List Row) (w v : World) (b : Block) → IsBlock b → w.stopped ≡ false → (run : Runs h past w) →
+    DriverKeeps h (known h (reading run.unread past)) → reported h w b ≡ Some v → Runs h past (counted h v)
+report_runs h is past w v b block running run d at =
+    elim (cases_Bool (is_success (code b))) [
+      | inl success ↦ report_success_runs h is past w v b block running run d success at
+      | inr fails ↦ elim (cases_Bool (is_halting (code b))) [
+        | inl halting ↦ report_error_runs h is past w v b block running run d fails (or_left _ _ halting) at
+        | inr quiet ↦ elim (cases_Bool (is_trb_error (code b))) [
+          | inl error ↦ report_error_runs h is past w v b block running run d fails (or_right _ _ error) at
+          | inr right ↦ elim (cases_Bool (is_stopping (code b))) [
+            | inl stopping ↦ report_stop_runs h is past w v b block running run d (record { success = fails; halting = quiet; error = right; stopping = stopping }) at
+            | inr going ↦ absurd (no_report h (posted h w b) v (code b) (slot b) (endpoint b) (report_is h w v b at).ring (pointer b) fails quiet right going (report_is h w v b at).by_code)
+          ]
+        ]
+      ]
+    ]

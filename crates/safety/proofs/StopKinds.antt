@@ -1,0 +1,173 @@
+-- What the report of a stop is, and what is known of the ring and of its Stop Endpoint behind it
+use Rattle.std.specs.Prelude.{◌≡◌, ℕ, ◌+◌, ◌-◌, ◌≤◌, ◌==◌, ◌&&◌, ◌||◌, ◌⊎◌, Bool, true, not, List, length, nat_lt, nat_le, drop, Option, Some, None}
+use Rattle.std.proofs.Common.{arith, refl, sym, ◌∙◌, ap, inl, inr}
+use Rattle.std.proofs.lemmas.Bool.{false≢true, and_parts, and_from, not-false, eqb-true, eq-eqb, cases_lt, lt-ltb, le-leb, or_left, or_right}
+use Rattle.std.proofs.lemmas.Option.{none-some, same_Some}
+use Rattle.guest_memory.specs.Memory.{put}
+use Rattle.trb.specs.declared.block.Block.{Block}
+use Rattle.segments.specs.declared.spot.Spot.{Spot}
+use Rattle.segments.specs.declared.spot.Spot.TheVariants.{Data, Link}
+use Rattle.segments.specs.ShapeValue.{Shape}
+use Rattle.segments.specs.Spots.{number}
+use Rattle.segments.specs.RingView.{RingView, Reaches, Holds}
+use Rattle.segments.specs.Ceiling.{given_count, is_way_given, is_stop_spot}
+use Rattle.commands.specs.declared.command.Command.{Command}
+use Rattle.commands.specs.declared.command.Command.TheVariants.{NoOp, EnableSlot, DisableSlot, AddressDevice, ConfigureEndpoint, EvaluateContext, ResetEndpoint, StopEndpoint, SetTrDequeue, ResetDevice}
+use Rattle.commands.specs.Command.{is_stop_of}
+use Rattle.commands.specs.States.{is_running}
+use Rattle.traces.specs.declared.header.Header.{Header}
+use Rattle.world_state.specs.World.{World, UnderWay}
+use Rattle.world_state.specs.World as of_world
+use Rattle.world_state.specs.Takes.{takes_of, unreported}
+use Rattle.controller_model.specs.Posts.{is_last, is_stop_under_way, with_stopped, with_reported, stopped_with, report_stop}
+use Rattle.ring_knowledge.specs.Known.{Known}
+use Rattle.ring_knowledge.specs.Rings.{command_at, next_command, on_ring}
+use Rattle.ring_knowledge.specs.Rings as of_rings
+use Rattle.ownership_rules.specs.Events.{was_stop_seen}
+use Rattle.safety.specs.Stands.{Stands, EventsStand}
+use Rattle.safety.specs.Matches.{state_of, UnderWayMatches, TakenCommand, Matches}
+use Rattle.safety.proofs.WithReads.{with_reads}
+use Rattle.safety.proofs.LookKinds.{cond_is, put_at, put_off}
+use Rattle.safety.proofs.Learns.{LearnsRing}
+use Rattle.safety.proofs.ReportedRing.{open_takes}
+use Rattle.safety.proofs.ReportError.{ended_ring}
+use Rattle.safety.proofs.StoppedRing.{stopped_view}
+
+-- ---- what such a report is
+
+-- the world behind it, with this many takes reported
+abbrev pub stopped_world : Header → World → ℕ → ℕ → World
+stopped_world h u r c = record (ended_ring u r c) { under_way = with_stopped h u.under_way }
+
+pub stopped_world_is : (h : Header) (u : World) (r c : ℕ) → stopped_with h u r c ≡ stopped_world h u r c
+unfolding stopped_with with_reported
+stopped_world_is h u r c = refl
+
+pub record IsStop (h : Header) (u v : World) (s i r a : ℕ) : Type 0 where
+  pub under : is_stop_under_way h s i u.under_way ≡ true
+  pub runs : is_running (u.endpoint_state s i) ≡ true
+  pub active : u.is_active r ≡ true
+  -- it names the last take, which stays unreported, or the pointer
+  pub names : ((is_last h a (open_takes (state_of u r)) ≡ true) × (stopped_with h u r (u.reported r + length (open_takes (state_of u r)) - 1) ≡ v))
+      ⊎ ((a ≡ u.pointer_of r) × (stopped_with h u r (u.reported r + length (open_takes (state_of u r))) ≡ v))
+
+pub stop_is : (h : Header) (u v : World) (s i r a : ℕ) → report_stop h u s i r a ≡ Some v → IsStop h u v s i r a
+unfolding report_stop unreported
+stop_is h u v s i r a at =
+    elim (cond_is (not (is_stop_under_way h s i u.under_way && is_running (u.endpoint_state s i) && u.is_active r)) None _ (Some v) at) [
+      | inl off ↦ absurd (none-some v off.1)
+      | inr on ↦
+          let may = not-false (is_stop_under_way h s i u.under_way && is_running (u.endpoint_state s i) && u.is_active r) on.0 in
+          let p = and_parts (is_stop_under_way h s i u.under_way && is_running (u.endpoint_state s i)) (u.is_active r) may in
+          let q = and_parts (is_stop_under_way h s i u.under_way) (is_running (u.endpoint_state s i)) p.0 in
+          record {
+            under = q.0;
+            runs = q.1;
+            active = p.1;
+            names = elim (cond_is (is_last h a (drop (u.reported r) (takes_of (u.events r)))) _ _ (Some v) on.1) [
+              | inl last ↦ inl (last.0, same_Some _ v last.1)
+              | inr more ↦ elim (cond_is (a == u.pointer_of r) _ None (Some v) more.1) [
+                | inl here ↦ inr (eqb-true a (u.pointer_of r) here.0, same_Some _ v here.1)
+                | inr elsewhere ↦ absurd (none-some v elsewhere.1)
+              ]
+            ];
+          }
+    ]
+
+-- ---- what is known of the ring once the event is read
+
+pub learns_stopped : (h : Header) (k : Known) (r n c : ℕ) (t : Spot) → LearnsRing k (with_reads (on_ring h (on_ring h k r (Holds n)) r (Reaches t)) c) r (stopped_view (k.ring r) t n)
+unfolding on_ring
+learns_stopped h k r n c t =
+    let x : RingView = record (k.ring r) { held = Some n } in
+    let f : ℕ → RingView = put k.ring r x in
+    let y : RingView = record (f r) { floor = t } in
+    record {
+      here = put_at f r y ∙ ap (λ (z : RingView). let e : RingView = record z { floor = t } in e) (put_at k.ring r x);
+      others = λ q other. put_off f r y q other ∙ put_off k.ring r x q other;
+      queue = refl;
+      lengths = refl;
+      started = refl;
+      stopped = refl;
+      register = refl;
+      memory = refl;
+      soiled = refl;
+      device = refl;
+      dequeue = refl;
+      was_bound = refl;
+      slot_state = refl;
+      endpoint_state = refl;
+      ring_of = refl;
+      stop_seen = refl;
+    }
+
+-- the spot named is one where a controller may have stopped
+stop_data : (shape : Shape) (v : RingView) (p : ℕ) → is_stop_spot shape v (Data p) ≡ (nat_lt p (given_count shape v) || (p == given_count shape v && is_way_given shape v p))
+unfolding is_stop_spot
+stop_data shape v p = refl
+
+stop_link : (shape : Shape) (v : RingView) (p : ℕ) → is_stop_spot shape v (Link p) ≡ nat_le p (given_count shape v)
+unfolding is_stop_spot
+stop_link shape v p = refl
+
+pub may_stop_at : (shape : Shape) (v : RingView) (t : Spot) → number t ≤ given_count shape v → ((q : ℕ) → t ≡ Data q → is_way_given shape v q ≡ true) → is_stop_spot shape v t ≡ true
+may_stop_at shape v (Link p) below way = stop_link shape v p ∙ le-leb p (given_count shape v) below
+may_stop_at shape v (Data p) below way =
+    elim (cases_lt p (given_count shape v)) [
+      | inl less ↦ stop_data shape v p ∙ or_left _ _ (lt-ltb p (given_count shape v) less)
+      | inr top ↦ stop_data shape v p ∙ or_right _ _ (and_from _ _ (eq-eqb p (given_count shape v) (omega arith)) (way p refl))
+    ]
+
+-- ---- the Stop Endpoint under way
+
+stop_seen_is : (k : Known) (s i : ℕ) (c : Command) (seen : ℕ → ℕ → Bool) → seen s i ≡ true → is_stop_of s i (Some c) ≡ true →
+    was_stop_seen (let m : Known = record k { stop_seen = seen } in m) c ≡ true
+unfolding was_stop_seen
+stop_seen_is k s i (StopEndpoint t j) seen may at =
+    let p = and_parts (s == t) (i == j) at in
+    ap (λ x. seen x j) (sym (eqb-true s t p.0)) ∙ ap (λ x. seen s x) (sym (eqb-true i j p.1)) ∙ may
+stop_seen_is k s i NoOp seen may at = absurd (false≢true at)
+stop_seen_is k s i EnableSlot seen may at = absurd (false≢true at)
+stop_seen_is k s i (DisableSlot t) seen may at = absurd (false≢true at)
+stop_seen_is k s i (AddressDevice t bsr c) seen may at = absurd (false≢true at)
+stop_seen_is k s i (ConfigureEndpoint t dc c) seen may at = absurd (false≢true at)
+stop_seen_is k s i (EvaluateContext t c) seen may at = absurd (false≢true at)
+stop_seen_is k s i (ResetEndpoint t j) seen may at = absurd (false≢true at)
+stop_seen_is k s i (SetTrDequeue t j p c) seen may at = absurd (false≢true at)
+stop_seen_is k s i (ResetDevice t) seen may at = absurd (false≢true at)
+
+module _ (h : Header) (k : Known) (seen : ℕ → ℕ → Bool) (s i : ℕ) (may : seen s i ≡ true) where
+  abbrev pub with_seen : Known
+  with_seen = record k { stop_seen = seen }
+
+  pub taken_stopped : (x : UnderWay) → TakenCommand h k x → ((c : Command) → command_at h k (next_command h k) ≡ Some c → is_stop_of s i (Some c) ≡ true) →
+      TakenCommand h with_seen (let y : UnderWay = record x { has_stopped = true } in y)
+  unfolding of_rings.next_command of_rings.command_at
+  taken_stopped x t stop = record { address = t.address; words = t.words; stopped = λ c at. sym (stop_seen_is k s i c seen may (stop c at)) }
+
+  pub next_seen : next_command h with_seen ≡ next_command h k
+  unfolding of_rings.next_command
+  next_seen = refl
+
+  pub stands_seen : (w : World) (o : Option UnderWay) → Stands h k w → Stands h with_seen (let v : World = record w { under_way = o } in v)
+  stands_seen w o s = record { started = s.started; stopped = s.stopped; registers = s.registers; queues = s.queues; lengths = s.lengths; dequeue = s.dequeue; quiet = s.quiet }
+
+  pub events_seen : (w : World) (o : Option UnderWay) (unread : List Block) → EventsStand h w unread → EventsStand h (let v : World = record w { under_way = o } in v) unread
+  unfolding of_world.event_at
+  events_seen w o unread v = record { order = v.order; count = v.count; places = v.places; started = v.started; ring = v.ring }
+
+  pub matches_seen : (w : World) (o : Option UnderWay) → Matches h k w → ((t : Spot) → UnderWayMatches h k t w.under_way → UnderWayMatches h with_seen t o) → k.started ≡ true →
+      Matches h with_seen (let v : World = record w { under_way = o } in v)
+  unfolding of_rings.command_at
+  matches_seen w o m under on = record {
+    slots = m.slots;
+    endpoints = m.endpoints;
+    ring_of = m.ring_of;
+    rings = m.rings;
+    fresh = m.fresh;
+    before = λ off. absurd (false≢true (sym off ∙ on));
+    command = λ started. let c = m.command on in record { spot = c.spot; ring = c.ring; under_way = under c.spot c.under_way };
+    scribbles = m.scribbles;
+    contexts = λ p c u. m.contexts p c (record { due = u.due; given = u.given; command = u.command });
+    inside = m.inside;
+  }

@@ -1,0 +1,59 @@
+-- When a Stopped event is possible where it will be read, and what reading it adds
+use Rattle.std.specs.Prelude.{◌≡◌, ◌≢◌, ℕ, ◌||◌, true, false, not, Some}
+use Rattle.std.proofs.Common.{◌∙◌, ap}
+use Rattle.std.proofs.lemmas.Bool.{and_from, and_right, or_from, or_right, cond-true, cond-false, not_from_true}
+use Rattle.guest_memory.specs.Memory.{put_pair}
+use Rattle.trb.specs.declared.block.Block.{Block}
+use Rattle.trb.specs.Block.{code, endpoint, kind, slot}
+use Rattle.trb.specs.Kind.{is_transfer_event}
+use Rattle.trb.specs.CompletionCode.{is_success, is_halting, is_trb_error, is_stopping, is_transfer_code}
+use Rattle.segments.specs.declared.spot.Spot.{Spot}
+use Rattle.segments.specs.RingView.{Reaches, Holds}
+use Rattle.segments.specs.Ceiling.{is_stop_spot, stopped_number}
+use Rattle.commands.specs.declared.state.EndpointState.TheVariants.{Disabled as Off}
+use Rattle.commands.specs.Command.{is_stop_of}
+use Rattle.commands.specs.States.{is_off}
+use Rattle.traces.specs.declared.header.Header.{Header}
+use Rattle.traces.specs.Header.{shape_of}
+use Rattle.ring_knowledge.specs.Known.{Known}
+use Rattle.ring_knowledge.specs.Learned.{event_read}
+use Rattle.ring_knowledge.specs.Rings.{event_at, command_at, next_command, on_ring}
+use Rattle.ring_knowledge.specs.Transfers.{stopped_at, transferred, transferred_at, transfer_read}
+use Rattle.ownership_rules.specs.Events.{is_in_profile, is_working, is_stopping_now, may_be_taken, is_impossible_by_kind, is_impossible_transfer, can_report, can_report_at}
+use Rattle.safety.proofs.ReportSuccess.{transfer_kind, not_off}
+
+-- the code is that of a Stopped event alone
+pub record StopCode (c : ℕ) : Type 0 where
+  pub success : is_success c ≡ false
+  pub halting : is_halting c ≡ false
+  pub error : is_trb_error c ≡ false
+  pub stopping : is_stopping c ≡ true
+
+pub stop_transfer_code : (c : ℕ) → StopCode c → is_transfer_code c ≡ true
+stop_transfer_code c s = or_right _ _ s.stopping
+
+module _ (h : Header) (k : Known) (b : Block) (r : ℕ) (t : Spot) (transfer : is_transfer_event (kind b) ≡ true) (s : StopCode (code b)) (at : event_at h k b ≡ Some (record { ring = r; spot = t })) where
+  pub stop_read : event_read h k (kind b) b ≡ (let m : Known = record (on_ring h (on_ring h k r (Holds (stopped_number (shape_of h r) (k.ring r) t))) r (Reaches t)) { stop_seen = put_pair k.stop_seen (slot b) (endpoint b) true } in m)
+  unfolding event_read transfer_read transferred_at transferred stopped_at
+  stop_read =
+      ap (λ n. event_read h k n b) (transfer_kind (kind b) transfer) ∙ ap (λ o. transferred_at h k b o) at
+      ∙ cond-false (is_success (code b)) _ _ s.success ∙ cond-false (is_halting (code b)) _ _ s.halting ∙ cond-false (is_trb_error (code b)) _ _ s.error ∙ cond-true (is_stopping (code b)) _ k s.stopping
+
+  stops_now : may_be_taken h k ≡ true → is_stop_of (slot b) (endpoint b) (command_at h k (next_command h k)) ≡ true → is_stopping_now h k (slot b) (endpoint b) ≡ true
+  unfolding is_stopping_now
+  stops_now may stop = and_from _ _ may stop
+
+  may_stop : is_working k (slot b) (endpoint b) r ≡ true → is_stopping_now h k (slot b) (endpoint b) ≡ true → is_stop_spot (shape_of h r) (k.ring r) t ≡ true →
+      can_report_at h k b (Some (record { ring = r; spot = t })) ≡ true
+  unfolding can_report_at can_report
+  may_stop working now spot =
+      cond-false (is_success (code b)) _ _ s.success ∙ cond-false (is_halting (code b) || is_trb_error (code b)) _ _ (or_from _ _ s.halting s.error) ∙ and_from _ _ (and_from _ _ working now) spot
+
+  pub stop_possible : is_working k (slot b) (endpoint b) r ≡ true → may_be_taken h k ≡ true → is_stop_of (slot b) (endpoint b) (command_at h k (next_command h k)) ≡ true →
+      is_stop_spot (shape_of h r) (k.ring r) t ≡ true → k.endpoint_state (slot b) (endpoint b) ≢ Off → is_impossible_by_kind h k (kind b) b ≡ false
+  unfolding is_impossible_by_kind is_impossible_transfer
+  stop_possible working may stop spot on =
+      ap (λ n. is_impossible_by_kind h k n b) (transfer_kind (kind b) transfer)
+      ∙ and_right (is_in_profile b) (is_off (k.endpoint_state (slot b) (endpoint b)) || not (can_report_at h k b (event_at h k b)))
+      (or_from (is_off (k.endpoint_state (slot b) (endpoint b))) (not (can_report_at h k b (event_at h k b))) (not_off (k.endpoint_state (slot b) (endpoint b)) on)
+      (not_from_true (can_report_at h k b (event_at h k b)) (ap (λ o. can_report_at h k b o) at ∙ may_stop working (stops_now may stop) spot)))
