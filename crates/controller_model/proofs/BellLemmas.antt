@@ -21,7 +21,7 @@ follows_same h before after rings many same f = record {
 }
 
 -- a ring that a test finds is found by its ID
-found_by_id : (test : Ring → Bool) (rings : List Ring) (x : Ring) → find test rings ≡ Some x → is_some (find (λ r. r.id == x.id) rings) ≡ true
+pub found_by_id : (test : Ring → Bool) (rings : List Ring) (x : Ring) → find test rings ≡ Some x → is_some (find (λ r. r.id == x.id) rings) ≡ true
 found_by_id test [] x e = absurd (cc)
 found_by_id test (r ∷ rings) x e =
     elim (cases_Bool (test r)) [

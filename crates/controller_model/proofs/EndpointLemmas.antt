@@ -1,11 +1,12 @@
 -- One endpoint is changed, and what a doorbell does
-use Rattle.std.proofs.Common.{◌≡◌, ◌≢◌, ℕ, ◌+◌, ◌*◌, ◌<◌, ◌==◌, ◌&&◌, ◌||◌, ◌∙◌, ap, sym, subst, refl, true, false, Bool, List, Option, Some, None, length, slice_get, get_or, set, inl, inr, arith}
+use Rattle.std.proofs.Common.{IsSome, ◌≡◌, ◌≢◌, ℕ, ◌+◌, ◌*◌, ◌<◌, ◌==◌, ◌&&◌, ◌||◌, ◌∙◌, ap, sym, subst, refl, true, false, Bool, List, Option, Some, None, length, slice_get, get_or, set, inl, inr, arith}
 use Rattle.std.proofs.lemmas.Bool.{cases_eq, cond-true, cond-false, eq-eqb, ne_eqb}
 use Rattle.guest_memory.specs.Memory.{put_pair}
 use Rattle.commands.specs.declared.state.EndpointState.{EndpointState}
 use Rattle.commands.specs.declared.state.EndpointState.TheVariants.{Running}
 use Rattle.commands.specs.States.{is_running, is_stopped}
 use Rattle.traces.specs.declared.header.Header.{Header}
+use Rattle.traces.specs.Header.{ring_with}
 use Rattle.world_state.specs.World.{World}
 use Rattle.controller_model.specs.DriverRows.{activated, endpoint_bell}
 use Rattle.controller_model.specs.declared.kept.Endpoint.{Endpoint}
@@ -50,6 +51,38 @@ endpoints_state h endpoints state ring_of n s i x new index slot below many valu
   ];
   no_more = f.no_more;
   known = f.known;
+}
+
+-- the state of an endpoint and its ring are replaced
+pub endpoints_set : (h : Header) (endpoints : List Endpoint) (state : ℕ → ℕ → EndpointState) (ring_of : ℕ → ℕ → Option ℕ) (n s i : ℕ) (new : Endpoint) →
+    n ≡ s * 32 + i → i < 32 → ((r : ℕ) → new.ring ≡ Some r → (r < 256) × IsSome (ring_with h r)) →
+    FollowsEndpoints h endpoints state ring_of → FollowsEndpoints h (set endpoints n new) (put_pair state s i new.state) (put_pair ring_of s i new.ring)
+endpoints_set h endpoints state ring_of n s i new index below ring f = record {
+  each = λ t j y within at. elim (cases_eq t s) [
+    | inr apart ↦
+        let old = f.each t j y within (sym (slice_get-set_other endpoints n (t * 32 + j) new (λ e. apart (omega arith))) ∙ at) in
+        (put_pair_slot state s i t j new.state apart ∙ old.0, put_pair_slot ring_of s i t j new.ring apart ∙ old.1)
+    | inl same ↦ elim (cases_eq j i) [
+      | inr apart ↦
+          let old = f.each t j y within (sym (slice_get-set_other endpoints n (t * 32 + j) new (λ e. apart (omega arith))) ∙ at) in
+          (put_pair_index state s i t j new.state apart ∙ old.0, put_pair_index ring_of s i t j new.ring apart ∙ old.1)
+      | inl here ↦
+          let place : t * 32 + j ≡ n = omega arith in
+          let P : ℕ → Type 0 = λ k. slice_get (set endpoints n new) k ≡ Some y in
+          let is : new ≡ y = slice_get-set_same endpoints n new y (subst P place at) in (
+            (λ k. put_pair state s i new.state (same k) (here k)) ∙ put_pair_same state s i new.state ∙ ap (λ (z : Endpoint). z.state) is,
+            (λ k. put_pair ring_of s i new.ring (same k) (here k)) ∙ put_pair_same ring_of s i new.ring ∙ ap (λ (z : Endpoint). z.ring) is,
+          )
+    ]
+  ];
+  no_more = λ t j many. put_pair_index ring_of s i t j new.ring (λ e. omega arith) ∙ f.no_more t j many;
+  known = λ t j r has. elim (cases_eq t s) [
+    | inr apart ↦ f.known t j r (sym (put_pair_slot ring_of s i t j new.ring apart) ∙ has)
+    | inl same ↦ elim (cases_eq j i) [
+      | inr apart ↦ f.known t j r (sym (put_pair_index ring_of s i t j new.ring apart) ∙ has)
+      | inl here ↦ ring r (sym (put_pair_same ring_of s i new.ring) ∙ (λ k. put_pair ring_of s i new.ring (sym same k) (sym here k)) ∙ has)
+    ]
+  ];
 }
 
 module _ (h : Header) (w : World) (s t : ℕ) where

@@ -11,7 +11,7 @@ use Rattle.controller_model.specs.declared.kept.RingState.{RingState}
 use Rattle.controller_model.specs.declared.history.History.{History}
 use Rattle.controller_model.specs.Declarations.{Declares}
 use Rattle.controller_model.specs.Histories.{Keeps}
-use Rattle.controller_model.specs.Following.{RingHeld, FollowsRing, taken_held}
+use Rattle.controller_model.specs.Following.{RingHeld, FollowsRing, FollowsHolder, taken_held}
 
 -- what a take says of its position, in the world's terms
 took_as : (h : Header) (r : ℕ) (held : RingHeld) (shape : Shape) (x : RingState) (b : Block) (d : Option DeclaredBlock) (p : ℕ) (after : History) → shape ≡ shape_of h r →
@@ -30,12 +30,13 @@ pub take_follows : (h : Header) (r : ℕ) (held : RingHeld) (shape : Shape) (x a
     p ≡ x.history.next → d ≡ declared_at held.queue held.lengths p → Keeps shape (Took x.pointer b d ∷ held.events) held.reported after.history →
     Declares after.declared held.queue held.lengths → after.pointer ≡ (x.pointer + 16) % 2 ^ 64 → held.cycle ≡ (if after.cycle then 1 else 0) →
     held.is_active ≡ after.is_active → (after.is_active ≡ true → IsSome (ring_with h r)) →
-    FollowsRing h r held x → FollowsRing h r (taken_held (shape_of h r) held b) after
-take_follows h r held shape x after b d p same next told keeps declared pointer cycle active known f = record {
+    FollowsHolder held.had_by after.holder → FollowsRing h r held x → FollowsRing h r (taken_held (shape_of h r) held b) after
+take_follows h r held shape x after b d p same next told keeps declared pointer cycle active known holder f = record {
   declared = declared;
   history = took_as h r held shape x b d p after.history same next told keeps f;
   pointer = ap (λ n. (n + 16) % 2 ^ 64) f.pointer ∙ sym pointer;
   cycle = cycle;
   active = active;
   known = known;
+  holder = holder;
 }

@@ -1,5 +1,5 @@
 -- What single changes of the world do to what it has of each ring
-use Rattle.std.proofs.Common.{◌≡◌, ◌≢◌, ℕ, ◌+◌, ◌∷◌, [], ◌++◌, Bool, true, List, length, refl}
+use Rattle.std.proofs.Common.{◌≡◌, ◌≢◌, ℕ, ◌+◌, ◌∷◌, [], ◌++◌, Bool, true, List, Some, length, refl}
 use Rattle.std.proofs.Common.{◌-◌, ◌%◌, ◌^◌, if◌then◌else◌, false, ap, ◌∙◌}
 use Rattle.guest_memory.specs.Memory.{put}
 use Rattle.trb.specs.Block.{aligned, pointer, word}
@@ -13,6 +13,8 @@ use Rattle.trb.specs.declared.block.Block.{Block}
 use Rattle.traces.specs.declared.header.Header.{Header}
 use Rattle.world_state.specs.World.{World, Took}
 use Rattle.controller_model.specs.DriverRows.{declared, activated}
+use Rattle.controller_model.specs.Bindings.{inactive}
+use Rattle.controller_model.specs.Posts.{with_reported}
 use Rattle.controller_model.specs.Following.{ring_held}
 use Rattle.controller_model.proofs.RingLemmas.{put_same, put_other}
 
@@ -34,6 +36,22 @@ activated_here h w r = (λ i. record (ring_held w r) { is_active = put_same w.is
 pub activated_other : (h : Header) (w : World) (r q : ℕ) → q ≢ r → ring_held (activated h w r) q ≡ ring_held w q
 unfolding activated
 activated_other h w r q apart = (λ i. record (ring_held w q) { is_active = put_other w.is_active r q true apart i })
+
+pub inactive_here : (w : World) (r : ℕ) → ring_held (inactive w (Some r)) r ≡ record (ring_held w r) { is_active = false }
+unfolding inactive
+inactive_here w r = (λ i. record (ring_held w r) { is_active = put_same w.is_active r false i })
+
+pub inactive_other : (w : World) (r q : ℕ) → q ≢ r → ring_held (inactive w (Some r)) q ≡ ring_held w q
+unfolding inactive
+inactive_other w r q apart = (λ i. record (ring_held w q) { is_active = put_other w.is_active r q false apart i })
+
+pub reported_here : (h : Header) (w : World) (r n : ℕ) → ring_held (with_reported h w r n) r ≡ record (ring_held w r) { reported = n }
+unfolding with_reported
+reported_here h w r n = (λ i. record (ring_held w r) { reported = put_same w.reported r n i })
+
+pub reported_other : (h : Header) (w : World) (r n q : ℕ) → q ≢ r → ring_held (with_reported h w r n) q ≡ ring_held w q
+unfolding with_reported
+reported_other h w r n q apart = (λ i. record (ring_held w q) { reported = put_other w.reported r q n apart i })
 
 at_place : {A : Type 0} (t : Bool) (f g : ℕ → A) (n : ℕ) → (if t then f else g) n ≡ (if t then f n else g n)
 at_place true f g n = refl

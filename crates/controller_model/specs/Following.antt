@@ -1,8 +1,8 @@
 -- How what the program keeps stands for the world
 use Rattle.std.specs.Prelude.{◌≡◌, ℕ, ◌+◌, ◌*◌, ◌%◌, ◌<◌, ◌≤◌, ◌^◌, if◌then◌else◌, Bool, true, List, ◌∷◌, Option, Some, None, IsSome, drop, slice_get, option_map}
-use Rattle.std.specs.Prelude.{◌==◌, false, Result, Ok, Err}
+use Rattle.std.specs.Prelude.{◌==◌, ◌&&◌, not, length, map, filter, ◌-◌, nat_le, false, Result, Ok, Err}
 use Rattle.commands.specs.declared.command.Command.{Command}
-use Rattle.commands.specs.declared.command.Command.TheVariants.{AddressDevice}
+use Rattle.commands.specs.declared.command.Command.TheVariants.{AddressDevice, ConfigureEndpoint, ResetEndpoint, StopEndpoint, SetTrDequeue}
 use Rattle.controller_model.specs.declared.seen.Seen.{Seen}
 use Rattle.controller_model.specs.declared.fault.StepFault.{StepFault}
 use Rattle.controller_model.specs.declared.fault.StepFault.TheVariants.{NotPossible, Spent, Memory}
@@ -10,24 +10,35 @@ use Rattle.trb.specs.declared.block.Block.{Block}
 use Rattle.segments.specs.ShapeValue.{Shape}
 use Rattle.commands.specs.declared.state.SlotState.{SlotState}
 use Rattle.commands.specs.declared.state.EndpointState.{EndpointState}
+use Rattle.commands.specs.declared.state.EndpointState.TheVariants.{Disabled as Off}
 use Rattle.traces.specs.declared.header.Header.{Header}
 use Rattle.traces.specs.declared.row.Row.{Row}
 use Rattle.traces.specs.declared.register.Register.{Register}
 use Rattle.traces.specs.declared.register.Register.TheVariants.{Usbcmd, Usbsts, Dnctrl, Crcr, Dcbaap, Config, Iman, Imod, Erstsz, Erstba, Erdp}
 use Rattle.traces.specs.Register.{register_or_zero, base_address, ring_cycle_state}
-use Rattle.guest_memory.specs.Memory.{put}
-use Rattle.traces.specs.Header.{shape_of, ring_with}
-use Rattle.world_state.specs.World.{World, RingEvent, Took, UnderWay}
-use Rattle.world_state.specs.Takes.{next_take}
+use Rattle.guest_memory.specs.Memory.{put, put_pair}
+use Rattle.traces.specs.Header.{shape_of, ring_with, is_ring}
+use Rattle.world_state.specs.World.{World, RingEvent, Took, Placed, UnderWay}
+use Rattle.world_state.specs.Takes.{next_take, takes_of}
 use Rattle.segments.specs.Descriptors.{declared_at}
 use Rattle.controller_model.specs.declared.kept.Kept.{Kept}
 use Rattle.controller_model.specs.declared.kept.Progress.{Progress}
 use Rattle.controller_model.specs.declared.kept.Registers.{Registers}
 use Rattle.controller_model.specs.declared.kept.RingState.{RingState}
+use Rattle.controller_model.specs.declared.kept.Holder.{Holder}
+use Rattle.controller_model.specs.declared.disabling.Named.{Named}
+use Rattle.controller_model.specs.declared.disabling.Named.TheVariants.{All, AboveControl, Dropped}
+use Rattle.commands.specs.Changes.{Change, is_above_control, placed_by_context}
+use Rattle.contexts.specs.Contexts.{has_flag, input_add_flag, input_context_bytes}
+use Rattle.contexts.specs.declared.size.ContextSize.{ContextSize}
+use Rattle.std.specs.List.{range_with_len}
 use Rattle.controller_model.specs.declared.kept.Slot.{Slot}
 use Rattle.controller_model.specs.declared.kept.Endpoint.{Endpoint}
 use Rattle.controller_model.specs.declared.kept.Events.{Events}
 use Rattle.controller_model.specs.declared.kept.Pending.{Pending}
+use Rattle.trb.specs.Block.{code, slot, endpoint, pointer as pointer_of}
+use Rattle.controller_model.specs.Posts.{report_code}
+use Rattle.controller_model.specs.Bindings.{is_had_by_another}
 use Rattle.controller_model.specs.Held.{held, held_by}
 use Rattle.controller_model.specs.Declarations.{Declares}
 use Rattle.controller_model.specs.Histories.{Keeps}
@@ -41,6 +52,8 @@ pub record RingHeld : Type 0 where
   pub is_active : Bool
   pub events : List RingEvent
   pub reported : ℕ
+  -- by slot and index: the endpoint has it
+  pub had_by : ℕ → ℕ → Bool
 
 abbrev pub ring_held : World → ℕ → RingHeld
 ring_held w r = record {
@@ -51,7 +64,19 @@ ring_held w r = record {
   is_active = w.is_active r;
   events = w.events r;
   reported = w.reported r;
+  had_by = λ s i. is_ring r (w.ring_of s i);
 }
+
+-- the endpoints that there are: of slots 1 to 255, with the indices 1 to 31
+pub record IsEndpoint (s i : ℕ) : Type 0 where
+  pub some_slot : 0 < s
+  pub slot_below : s < 256
+  pub some_index : 0 < i
+  pub index_below : i < 32
+
+abbrev pub is_holder : Option Holder → ℕ → ℕ → Bool
+is_holder None s i = false
+is_holder (Some e) s i = s == e.slot && i == e.index
 
 -- a ring whose block is taken
 abbrev pub taken_held : Shape → RingHeld → Block → RingHeld
@@ -59,6 +84,11 @@ taken_held shape held b = record held {
   events = Took held.pointer b (declared_at held.queue held.lengths (next_take shape held.events)) ∷ held.events;
   pointer = (held.pointer + 16) % 2 ^ 64;
 }
+
+-- the endpoint that has a ring, if one has it
+pub record FollowsHolder (had_by : ℕ → ℕ → Bool) (o : Option Holder) : Type 0 where
+  pub each : (s i : ℕ) → IsEndpoint s i → had_by s i ≡ is_holder o s i
+  pub is_one : (e : Holder) → o ≡ Some e → IsEndpoint e.slot e.index
 
 pub record FollowsRing (h : Header) (r : ℕ) (held : RingHeld) (x : RingState) : Type 0 where
   pub declared : Declares x.declared held.queue held.lengths
@@ -68,6 +98,7 @@ pub record FollowsRing (h : Header) (r : ℕ) (held : RingHeld) (x : RingState) 
   pub active : held.is_active ≡ x.is_active
   -- an active ring is one of the header
   pub known : x.is_active ≡ true → IsSome (ring_with h r)
+  pub holder : FollowsHolder held.had_by x.holder
 
 pub record FollowsRings (h : Header) (held : ℕ → RingHeld) (rings : List RingState) : Type 0 where
   pub each : (r : ℕ) (x : RingState) → slice_get rings r ≡ Some x → FollowsRing h r (held r) x
@@ -124,6 +155,18 @@ IsStep (Err NotPossible) (Some w) shown P = ⊥
 IsStep (Err Memory) o shown P = Unit {0}
 IsStep (Err Spent) o shown P = ⊥
 
+-- a change that the definitions allow as told: what is kept then stands for a world of which P holds
+abbrev pub IsChange : Bool → Option World → (World → Type 0) → Type 0
+IsChange true None P = ⊥
+IsChange true (Some w) P = P w
+IsChange false None P = Unit {0}
+IsChange false (Some w) P = ⊥
+
+-- how far the run is and its events are as they were
+pub record KeepsRun (before after : Kept) : Type 0 where
+  pub progress : after.progress ≡ before.progress
+  pub events : after.events ≡ before.events
+
 -- the slot whose device context the controller may write from the take of a command on
 abbrev pub addressed : Option Command → Option ℕ
 addressed (Some (AddressDevice s bsr c)) = Some s
@@ -153,3 +196,77 @@ pointed w r crcr = record w {
   pointer_of = put w.pointer_of r (base_address crcr);
   cycle_state = put w.cycle_state r (ring_cycle_state crcr);
 }
+
+-- what a Transfer Event says of an endpoint's ring, if it has one, before it is posted
+abbrev pub told : Header → World → Block → Option ℕ → Option World
+told h w b None = None
+told h w b (Some r) = report_code h w (code b) (slot b) (endpoint b) r (pointer_of b)
+
+-- slot 0 and index 0 are no endpoint's
+abbrev pub is_endpoint : ℕ → ℕ → Bool
+is_endpoint s i = not (s == 0) && not (i == 0)
+
+-- someone has a ring who is not this endpoint
+abbrev pub is_other : Option Holder → ℕ → ℕ → Bool
+is_other None s i = false
+is_other (Some e) s i = not (e.slot == s && e.index == i)
+
+-- an endpoint has ring r no more, and that is inactive
+abbrev pub released : World → ℕ → ℕ → ℕ → World
+released w s i r = record w { is_active = put w.is_active r false; ring_of = put_pair w.ring_of s i None }
+
+abbrev pub freed : World → ℕ → ℕ → Option ℕ → World
+freed w s i None = w
+freed w s i (Some r) = released w s i r
+
+-- an endpoint that has no ring gets ring r
+abbrev pub bound : World → ℕ → ℕ → ℕ → ℕ → Bool → EndpointState → World
+bound w s i r a c state = record w {
+  is_active = put w.is_active r false;
+  endpoint_state = put_pair w.endpoint_state s i state;
+  ring_of = put_pair w.ring_of s i (Some r);
+  pointer_of = put w.pointer_of r a;
+  cycle_state = put w.cycle_state r (if c then 1 else 0);
+  events = put w.events r (Placed a ∷ w.events r);
+  reported = put w.reported r (length (takes_of (w.events r)));
+}
+
+-- an endpoint may get a ring that no other one has
+abbrev pub may_get : World → ℕ → ℕ → Option ℕ → Bool
+may_get w s i None = false
+may_get w s i (Some r) = not (is_had_by_another w s i r)
+
+-- an endpoint is disabled, and has no ring
+abbrev pub turned_off : World → ℕ → ℕ → World
+turned_off w s i = record w { endpoint_state = put_pair w.endpoint_state s i Off; ring_of = put_pair w.ring_of s i None }
+
+-- the endpoints that a command disables
+abbrev pub named_by : Named → ℕ → Bool
+named_by All i = true
+named_by AboveControl i = is_above_control i
+named_by (Dropped flags) i = nat_le 2 i && has_flag flags i
+
+-- addresses and indices as a block has them: contexts and pointers on 16-byte boundaries, indices below 32
+abbrev pub IsWell : Command → Type 0
+IsWell (AddressDevice s bsr c) = c % 16 ≡ 0
+IsWell (ConfigureEndpoint s dc c) = c % 16 ≡ 0
+IsWell (ResetEndpoint s i) = i < 32
+IsWell (StopEndpoint s i) = i < 32
+IsWell (SetTrDequeue s i p c) = (i < 32) × (p % 16 ≡ 0)
+IsWell _ = Unit {0}
+
+-- the input context that is read ends at or below 2^64
+abbrev pub HasRoom : ContextSize → Command → Type 0
+HasRoom size (AddressDevice s bsr c) = c + input_context_bytes size ≤ 2 ^ 64
+HasRoom size (ConfigureEndpoint s false c) = c + input_context_bytes size ≤ 2 ^ 64
+HasRoom size _ = Unit {0}
+
+-- the endpoints from index i on get the rings that the input context at c adds
+abbrev pub places_from : ContextSize → (ℕ → ℕ) → ℕ → ℕ → ℕ → List Change
+places_from size memory s c i = map (placed_by_context size memory s c) (filter (input_add_flag memory c) (range_with_len i (32 - i)))
+
+-- some world of which both hold
+pub record GoesOn (P Q : World → Type 0) : Type 0 where
+  pub world : World
+  pub first : P world
+  pub second : Q world

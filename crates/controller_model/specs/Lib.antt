@@ -11,3 +11,4 @@ pub mod Faults
 pub mod Declarations
 pub mod Histories
 pub mod Following
+pub mod Trials

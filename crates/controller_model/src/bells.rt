@@ -1,7 +1,5 @@
 ghost use Rattle.std.specs.Prelude.{◌≡◌, ℕ, ◌+◌, ◌*◌, ◌<◌, ◌||◌, ◌&&◌, ◌==◌, List, Option, Some, None, true, is_some, if◌then◌else◌};
 ghost use Rattle.commands.specs.States.{is_running, is_stopped};
-ghost use Rattle.commands.specs.declared.state.EndpointState.TheVariants.{Running};
-ghost use Rattle.guest_memory.specs.Memory.{put_pair};
 ghost use Rattle.traces.specs.declared.header.Header.{Header as HeaderValue};
 ghost use Rattle.traces.specs.declared.row.Row.{Row as RowValue};
 ghost use Rattle.traces.specs.Header.{ring_with};
@@ -9,6 +7,7 @@ ghost use Rattle.world_state.specs.World.{World};
 ghost use Rattle.controller_model.specs.DriverRows.{activated, endpoint_bell, bell_row};
 ghost use Rattle.controller_model.specs.Following.{Follows};
 
+use crate::endpoints::{endpoint_of, set_state};
 use crate::kept::Kept;
 use crate::looks::command_ring;
 use commands::EndpointState;
@@ -30,16 +29,6 @@ fn answers_bell(state: EndpointState) -> bool
     matches!(state, EndpointState::Running | EndpointState::Stopped)
 }
 
-/// An endpoint is Running from now on.
-fn run(kept: &mut Kept, slot: u8, index: u8)
-    requires { index < 32 }
-    ensures { (h : HeaderValue) (rows : List RowValue) (words : ℕ → ℕ) (w : World) → Follows h rows words kept.old w →
-        Follows h rows words kept.new (record w { endpoint_state = put_pair w.endpoint_state slot index Running }) }
-{
-    let endpoint = &mut kept.endpoints[usize::from(slot) * 32 + usize::from(index)];
-    endpoint.state = EndpointState::Running;
-}
-
 /// The doorbell of an endpoint: where it is Running or Stopped and has a ring, it is Running, and the ring active.
 pub(crate) fn ring_endpoint(kept: &mut Kept, slot: u8, target: u8)
     ensures { (h : HeaderValue) (rows : List RowValue) (words : ℕ → ℕ) (w : World) → Follows h rows words kept.old w →
@@ -48,7 +37,7 @@ pub(crate) fn ring_endpoint(kept: &mut Kept, slot: u8, target: u8)
     if target >= 32 {
         return;
     }
-    let endpoint = kept.endpoints[usize::from(slot) * 32 + usize::from(target)];
+    let endpoint = endpoint_of(kept, slot, target);
     let ring = match endpoint.ring {
         None => return,
         Some(ring) => ring,
@@ -57,7 +46,7 @@ pub(crate) fn ring_endpoint(kept: &mut Kept, slot: u8, target: u8)
         return;
     }
     activate(kept, ring);
-    run(kept, slot, target);
+    set_state(kept, slot, target, EndpointState::Running);
 }
 
 /// The driver rings a doorbell (xHCI 4.7, 5.6): that of the host controller makes the command ring active, once the

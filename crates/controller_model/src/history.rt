@@ -1,4 +1,4 @@
-ghost use Rattle.std.specs.Prelude.{◌≡◌, ℕ, ◌+◌, ◌-◌, ◌==◌, ◌∷◌, ◌&&◌, ◌^◌, [], List, Option, Some, None, length, OnOk, IsTrue, IfSome, false, ◌≤◌, ◌<◌, is_some, option_map, position};
+ghost use Rattle.std.specs.Prelude.{◌≡◌, ℕ, ◌+◌, ◌-◌, ◌==◌, ◌∷◌, ◌&&◌, ◌^◌, [], List, Option, Some, None, length, OnOk, IsTrue, IfSome, false, ◌≤◌, ◌<◌, option_map, position};
 ghost use Rattle.trb.specs.Block.{same_words};
 ghost use Rattle.segments.specs.ShapeValue.{Shape};
 ghost use Rattle.segments.specs.Places.{is_crossing, link_address, place_count};
@@ -135,6 +135,27 @@ impl History {
         self.next
     }
 
+    /// The last take isn't the last block of its descriptor, and the pointer wasn't set since.
+    pub(crate) fn is_inside(&self) -> bool
+        ensures { result ≡ self.now.is_inside }
+    {
+        self.is_inside
+    }
+
+    /// Some take was out of order.
+    pub(crate) fn is_out_of_order(&self) -> bool
+        ensures { result ≡ self.now.out_of_order }
+    {
+        self.out_of_order
+    }
+
+    /// Some take was of other words than the declared ones.
+    pub(crate) fn has_other_words(&self) -> bool
+        ensures { result ≡ self.now.other_words }
+    {
+        self.other_words
+    }
+
     /// A block is taken, with what is declared at its position.
     pub(crate) fn take(
         &mut self,
@@ -184,57 +205,29 @@ impl History {
         }
     }
 
-    /// All takes are reported.
-    pub(crate) fn report_all(&mut self)
-        ensures { (shape : Shape) (events : List RingEvent) (reported : ℕ) → Keeps shape events reported self.old →
-            Keeps shape events (reported + length self.old.unreported.items) self.new }
-    {
-        self.unreported.clear();
-    }
-
-    /// The first takes up to the one with this number are reported.
-    fn report_first(&mut self, count: usize)
-        requires { count ≤ length self.old.unreported.items }
-        ensures { (shape : Shape) (events : List RingEvent) (reported : ℕ) → Keeps shape events reported self.old →
-            Keeps shape events (reported + count) self.new }
+    /// So many takes more are reported, the oldest first.
+    pub(crate) fn report_first(&mut self, count: usize)
+        ensures { (shape : Shape) (events : List RingEvent) (reported : ℕ) → count ≤ length self.old.unreported.items →
+            Keeps shape events reported self.old → Keeps shape events (reported + count) self.new }
     {
         for _ in 0..count {
             let _ = self.unreported.pop_front();
         }
     }
 
-    /// All takes but the last are reported.
-    pub(crate) fn report_all_but_last(&mut self)
-        ensures { (shape : Shape) (events : List RingEvent) (reported : ℕ) → Keeps shape events reported self.old →
-            0 < length self.old.unreported.items →
-            Keeps shape events (reported + length self.old.unreported.items - 1) self.new }
+    /// How many takes weren't reported.
+    pub(crate) fn unreported(&self) -> usize
+        ensures { result ≡ length self.now.unreported.items }
     {
-        let count = self.unreported.len();
-        if count > 0 {
-            self.report_first(count - 1);
-        }
+        self.unreported.len()
     }
 
     /// Which of the takes that weren't reported is the oldest at this address.
-    fn position_of(&self, address: u64) -> Option<usize>
-        ensures { result ≡ position (λ a. a == address) self.now.unreported.items }
+    pub(crate) fn position_of(&self, address: u64) -> Option<usize>
+        ensures value { result ≡ position (λ a. a == address) self.now.unreported.items }
+        ensures below { IfSome result (λ n. n < length self.now.unreported.items) }
+        ensures end { IfSome result (λ n. n + 1 < 2 ^ 64) }
     {
         self.unreported.iter().position(|a| *a == address)
-    }
-
-    /// The oldest take at this address that wasn't reported is reported, with those before it; whether there is one.
-    pub(crate) fn report_up_to(&mut self, address: u64) -> bool
-        ensures found { result ≡ is_some (position (λ a. a == address) self.old.unreported.items) }
-        ensures reported { (shape : Shape) (events : List RingEvent) (reported n : ℕ) → Keeps shape events reported self.old →
-            position (λ a. a == address) self.old.unreported.items ≡ Some n → Keeps shape events (reported + n + 1) self.new }
-        ensures kept { result ≡ false → self.new ≡ self.old }
-    {
-        match self.position_of(address) {
-            None => false,
-            Some(n) => {
-                self.report_first(n + 1);
-                true
-            }
-        }
     }
 }

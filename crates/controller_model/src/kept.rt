@@ -26,6 +26,13 @@ pub struct Registers {
     pub(crate) config: u64,
 }
 
+/// An endpoint by its slot and index (DCI).
+#[derive(Clone, Copy, Debug, PartialEq, Eq)]
+pub struct Holder {
+    pub(crate) slot: u8,
+    pub(crate) index: u8,
+}
+
 /// A command or transfer ring.
 #[derive(Drop)]
 pub struct RingState {
@@ -36,6 +43,8 @@ pub struct RingState {
     pub(crate) cycle: bool,
     /// The controller may look at the ring.
     pub(crate) is_active: bool,
+    /// The endpoint that has the ring, of slots 1 to 255 and indices 1 to 31.
+    pub(crate) holder: Option<Holder>,
     ghost aligned: { pointer % 16 ≡ 0 },
 }
 

@@ -17,8 +17,8 @@ ghost use Rattle.segments.specs.Places.{is_inside};
 
 use crate::fault::StepFault;
 use crate::kept::{Kept, Pending, RingState};
+use crate::memory::block_at;
 use crate::seen::Seen;
-use crate::stamps::block_at;
 use commands::Command;
 use guest_memory::WordMemory;
 use segments::RingShape;

@@ -17,8 +17,8 @@ use crate::fault::StepFault;
 use crate::history::same_words;
 use crate::kept::Kept;
 use crate::looks::agrees;
+use crate::memory::{block_at, store_block};
 use crate::seen::Seen;
-use crate::stamps::{block_at, store_block};
 use guest_memory::WordMemory;
 use segments::RingShape;
 use std::alloc::AllocError;
@@ -123,6 +123,7 @@ pub(crate) fn post_other<M: WordMemory>(
     ensures step { (rows : List RowValue) (w : World) → Follows header.now rows (M.words memory.old) kept.old w →
         IsStep result (other_posted header.now w block.now) (Posted (address_of (event_shape header.now) w.posted)) (Follows header.now rows (M.words memory.new) kept.new) }
     ensures refused { result ≡ Err StepFault.NotPossible → kept.new ≡ kept.old }
+    ensures memory { result ≡ Err StepFault.NotPossible → M.words memory.new ≡ M.words memory.old }
 {
     let shape = match event_ring(header) {
         None => return Err(StepFault::NotPossible),

@@ -6,7 +6,7 @@ ghost use Rattle.controller_model.specs.DriverRows.{declared, register_row, bell
 ghost use Rattle.controller_model.specs.Following.{Follows};
 
 use crate::kept::Kept;
-use crate::stamps::store;
+use crate::memory::store;
 use guest_memory::{Addr, WordMemory};
 use std::alloc::AllocError;
 use traces::{Header, Register};

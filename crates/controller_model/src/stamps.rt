@@ -1,21 +1,25 @@
-ghost use Rattle.std.specs.Prelude.{◌≡◌, ℕ, ◌+◌, ◌==◌, ◌<◌, ◌^◌, ◌%◌, not, IfOk, OnOk, if◌then◌else◌};
-ghost use Rattle.guest_memory.specs.Memory.{put};
-ghost use Rattle.trb.specs.Block.{block_at};
-ghost use Rattle.controller_model.specs.Held.{changed_at, written_at, held, held_stored, held_block};
+ghost use Rattle.std.specs.Prelude.{◌≡◌, ℕ, ◌≤◌, ◌^◌, None};
+ghost use Rattle.std.specs.BTreeMap.{get};
+ghost use Rattle.std.specs.Ordering.{nat_cmp};
 
-use guest_memory::{Addr, WordMemory};
 use std::alloc::{AllocError, Global};
 use std::collections::BTreeMap;
-use trb::Block;
 
 /// For each word of memory the numbers of the steps in which it was last changed, and last written; 0 where it never was.
 #[derive(Drop)]
 pub struct Stamps {
     changed: BTreeMap<u64, u64>,
     written: BTreeMap<u64, u64>,
+    ghost changed_below: { (a : ℕ) → 2 ^ 64 ≤ a → get nat_cmp changed a ≡ None },
+    ghost written_below: { (a : ℕ) → 2 ^ 64 ≤ a → get nat_cmp written a ≡ None },
 }
 
 impl Stamps {
+    ghost use Rattle.std.specs.Prelude.{◌+◌, ◌*◌, ◌<◌, if◌then◌else◌, nat_lt, OnOk};
+    ghost use Rattle.std.specs.List.{list_any, range_with_len};
+    ghost use Rattle.guest_memory.specs.Memory.{put};
+    ghost use Rattle.controller_model.specs.Held.{changed_at, written_at};
+
     /// No word was written.
     pub(crate) fn new(alloc: Global) -> Stamps
         ensures changed { (a : ℕ) → changed_at result a ≡ 0 }
@@ -41,8 +45,41 @@ impl Stamps {
         self.written.get(&at).copied().unwrap_or(0)
     }
 
+    /// The step in which the word so many bytes behind an address was last changed; no word lies beyond the last address.
+    fn changed_behind(&self, address: u64, offset: u64) -> u64
+        ensures { result ≡ changed_at self.now (address + offset) }
+    {
+        match address.checked_add(offset) {
+            None => 0,
+            Some(at) => self.changed(at),
+        }
+    }
+
+    /// The step in which the word so many bytes behind an address was last written.
+    pub(crate) fn written_behind(&self, address: u64, offset: u64) -> u64
+        ensures { result ≡ written_at self.now (address + offset) }
+    {
+        match address.checked_add(offset) {
+            None => 0,
+            Some(at) => self.written(at),
+        }
+    }
+
+    /// Whether one of so many words from an address on was changed after a step.
+    pub(crate) fn is_changed_since(&self, step: u64, address: u64, words: u64) -> bool
+        requires { words < 2 ^ 32 }
+        ensures { result ≡ list_any (λ i. nat_lt step (changed_at self.now (address + 4 * i))) (range_with_len 0 words) }
+    {
+        for i in 0..words {
+            if self.changed_behind(address, 4 * i) > step {
+                return true;
+            }
+        }
+        false
+    }
+
     /// Notes that a word is written in this step, and whether it is changed.
-    fn note(&mut self, at: u64, is_changed: bool, step: u64) -> Result<(), AllocError>
+    pub(crate) fn note(&mut self, at: u64, is_changed: bool, step: u64) -> Result<(), AllocError>
         ensures changed { OnOk result ((a : ℕ) → changed_at self.new a ≡ (if is_changed then put (changed_at self.old) at step a else changed_at self.old a)) }
         ensures written { OnOk result ((a : ℕ) → written_at self.new a ≡ put (written_at self.old) at step a) }
     {
@@ -52,67 +89,4 @@ impl Stamps {
         self.written.insert(at, step)?;
         Ok(())
     }
-}
-
-/// Writes a word of memory in this step; whether it changes the word.
-pub(crate) fn store<M: WordMemory>(
-    memory: &mut M,
-    stamps: &mut Stamps,
-    at: Addr,
-    word: u32,
-    step: u64,
-) -> Result<bool, AllocError>
-    ensures changes { IfOk result (λ b. b ≡ not (M.words memory.old at == word)) }
-    ensures below { at < 2 ^ 64 }
-    ensures stored { OnOk result (held (M.words memory.new) stamps.new ≡ held_stored (held (M.words memory.old) stamps.old) at word step) }
-{
-    let is_changed = memory.word(at) != word;
-    memory.set(at, word)?;
-    stamps.note(at.get(), is_changed, step)?;
-    Ok(is_changed)
-}
-
-/// The address of a word of the block at this address.
-fn word_at(address: u64, offset: u64) -> Addr
-    requires block { address % 16 ≡ 0 }
-    requires end { address < 2 ^ 64 }
-    requires word { offset % 4 ≡ 0 }
-    requires inside { offset < 16 }
-    ensures { result ≡ address + offset }
-{
-    Addr::new(address + offset).unwrap()
-}
-
-/// The block at an address.
-pub(crate) fn block_at<M: WordMemory>(memory: &M, address: u64) -> Block
-    requires { address % 16 ≡ 0 }
-    ensures { result ≡ block_at (M.words memory.now) address }
-{
-    Block {
-        w: [
-            memory.word(word_at(address, 0)),
-            memory.word(word_at(address, 4)),
-            memory.word(word_at(address, 8)),
-            memory.word(word_at(address, 12)),
-        ],
-    }
-}
-
-/// Writes a block of memory in this step.
-pub(crate) fn store_block<M: WordMemory>(
-    memory: &mut M,
-    stamps: &mut Stamps,
-    address: u64,
-    block: Block,
-    step: u64,
-) -> Result<(), AllocError>
-    requires { address % 16 ≡ 0 }
-    ensures stored { OnOk result (held (M.words memory.new) stamps.new ≡ held_block (held (M.words memory.old) stamps.old) address block step) }
-{
-    let [first, second, third, fourth] = block.w;
-    store(memory, stamps, word_at(address, 0), first, step)?;
-    store(memory, stamps, word_at(address, 4), second, step)?;
-    store(memory, stamps, word_at(address, 8), third, step)?;
-    store(memory, stamps, word_at(address, 12), fourth, step)?;
-    Ok(())
 }

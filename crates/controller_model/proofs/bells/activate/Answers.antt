@@ -25,6 +25,7 @@ returns c = λ h rows words w there f.
             cycle = old.cycle;
             active = refl;
             known = λ on. there;
+            holder = old.holder;
           });
       slots = f.slots;
       endpoints = f.endpoints;

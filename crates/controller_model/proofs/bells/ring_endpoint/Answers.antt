@@ -1,9 +1,9 @@
-use Rattle.std.proofs.Common.{◌≡◌, ◌<◌, ◌+◌, ◌*◌, ◌||◌, ◌∙◌, length, ap, sym, subst, arith}
+use Rattle.std.proofs.Common.{◌||◌, ◌∙◌, ap, sym, subst}
 use Rattle.commands.specs.States.{is_running, is_stopped}
 use Rattle.world_state.specs.World.{World}
+use Rattle.controller_model.specs.Bindings.{in_state}
 use Rattle.controller_model.specs.DriverRows.{activated}
 use Rattle.controller_model.specs.Following.{Follows}
-use Rattle.controller_model.proofs.RingLemmas.{read_at}
 use Rattle.controller_model.proofs.EndpointLemmas.{bell_none, bell_idle, bell_rings}
 use Rattle.controller_model.proofs.bells.ring_endpoint.Goals as goal
 
@@ -14,32 +14,23 @@ returns-then-target-ge32 c = λ h rows words w f.
 
 pub returns-in-None : goal.returns-in-None
 returns-in-None c = λ h rows words w f.
-    let place : c.from.result * 32 + c.from-2.result ≡ c.args.slot * 32 + c.args.target = omega (arith, c.from.ensures, c.from-2.ensures) in
-    let inside : c.args.slot * 32 + c.args.target < length c.args.kept.now.endpoints.items = omega (arith, c.args.kept.now.endpoints_many, c.ranges.slot, c.if-target-ge32.false) in
-    let is = f.endpoints.each c.args.slot c.args.target c.index-endpoint.result.now c.if-target-ge32.false
-    (read_at c.args.kept.now.endpoints.items (c.from.result * 32 + c.from-2.result) (c.args.slot * 32 + c.args.target) c.index-endpoint.result.now place inside c.index-endpoint.ensures) in
+    let is = c.endpoint_of-endpoint.ensures h rows words w f in
     let P : World → Type 0 = λ v. Follows h rows words c.args.kept.now v in
     subst P (sym (bell_none h w c.args.slot c.args.target (is.1 ∙ c.in-None.is))) f
 
 pub returns-then-not-answers_bell : goal.returns-then-not-answers_bell
 returns-then-not-answers_bell c = λ h rows words w f.
-    let place : c.from.result * 32 + c.from-2.result ≡ c.args.slot * 32 + c.args.target = omega (arith, c.from.ensures, c.from-2.ensures) in
-    let inside : c.args.slot * 32 + c.args.target < length c.args.kept.now.endpoints.items = omega (arith, c.args.kept.now.endpoints_many, c.ranges.slot, c.if-target-ge32.false) in
-    let is = f.endpoints.each c.args.slot c.args.target c.index-endpoint.result.now c.if-target-ge32.false
-    (read_at c.args.kept.now.endpoints.items (c.from.result * 32 + c.from-2.result) (c.args.slot * 32 + c.args.target) c.index-endpoint.result.now place inside c.index-endpoint.ensures) in
+    let is = c.endpoint_of-endpoint.ensures h rows words w f in
     let idle = ap (λ s. is_running s || is_stopped s) is.0 ∙ sym c.answers_bell.ensures ∙ c.if-not-answers_bell.true in
     let P : World → Type 0 = λ v. Follows h rows words c.args.kept.now v in
     subst P (sym (bell_idle h w c.args.slot c.args.target c.in-Some.ring (is.1 ∙ c.in-Some.is) idle)) f
 
 pub returns : goal.returns
-unfolding activated
+unfolding activated in_state
 returns c = λ h rows words w f.
-    let place : c.from.result * 32 + c.from-2.result ≡ c.args.slot * 32 + c.args.target = omega (arith, c.from.ensures, c.from-2.ensures) in
-    let inside : c.args.slot * 32 + c.args.target < length c.args.kept.now.endpoints.items = omega (arith, c.args.kept.now.endpoints_many, c.ranges.slot, c.if-target-ge32.false) in
-    let is = f.endpoints.each c.args.slot c.args.target c.index-endpoint.result.now c.if-target-ge32.false
-    (read_at c.args.kept.now.endpoints.items (c.from.result * 32 + c.from-2.result) (c.args.slot * 32 + c.args.target) c.index-endpoint.result.now place inside c.index-endpoint.ensures) in
+    let is = c.endpoint_of-endpoint.ensures h rows words w f in
     let runs = ap (λ s. is_running s || is_stopped s) is.0 ∙ sym c.answers_bell.ensures ∙ c.if-not-answers_bell.false in
     let named = is.1 ∙ c.in-Some.is in
     let on = c.activate.ensures h rows words w (f.endpoints.known c.args.slot c.args.target c.in-Some.ring named).1 f in
-    let P : World → Type 0 = λ v. Follows h rows words c.run.new.kept v in
-    subst P (sym (bell_rings h w c.args.slot c.args.target c.in-Some.ring named runs)) (c.run.ensures h rows words (activated h w c.in-Some.ring) on)
+    let P : World → Type 0 = λ v. Follows h rows words c.set_state.new.kept v in
+    subst P (sym (bell_rings h w c.args.slot c.args.target c.in-Some.ring named runs)) (c.set_state.ensures.change h rows words (activated h w c.in-Some.ring) on)

@@ -23,6 +23,7 @@ returns c = λ h rows words w f.
             cycle = lowest_bit c.args.kept.now.registers.crcr;
             active = old.active;
             known = old.known;
+            holder = old.holder;
           });
       slots = f.slots;
       endpoints = f.endpoints;

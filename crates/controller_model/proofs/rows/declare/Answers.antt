@@ -25,6 +25,7 @@ returns c = λ h rows words w f.
             cycle = old.cycle;
             active = old.active;
             known = old.known;
+            holder = old.holder;
           });
       slots = f.slots;
       endpoints = f.endpoints;

@@ -1,0 +1,66 @@
+-- The endpoints that an input context adds, one after another
+use Rattle.std.proofs.Common.{◌≡◌, ℕ, suc, ◌+◌, ◌-◌, ◌<◌, ◌∙◌, true, false, List, [], ◌∷◌, Option, Some, None, map, filter, refl, ap, arith}
+use Rattle.std.specs.Prelude.{option_and_then}
+use Rattle.std.specs.List.{range_with_len}
+use Rattle.std.proofs.lemmas.Bool.{cond-true, cond-false}
+use Rattle.contexts.specs.declared.size.ContextSize.{ContextSize}
+use Rattle.contexts.specs.Contexts.{context_cycle, context_pointer, input_add_flag}
+use Rattle.commands.specs.declared.command.Command.{Command}
+use Rattle.commands.specs.declared.state.EndpointState.TheVariants.{Running}
+use Rattle.commands.specs.Changes.{Change, placed_by_context}
+use Rattle.traces.specs.declared.header.Header.{Header}
+use Rattle.traces.specs.Header.{ring_having}
+use Rattle.world_state.specs.World.{World}
+use Rattle.controller_model.specs.Bindings.{changed_by, changed_by_all, placed_on}
+use Rattle.controller_model.specs.Following.{places_from}
+
+module _ (size : ContextSize) (memory : ℕ → ℕ) (s a i : ℕ) where
+  range_is : i < 32 → range_with_len i (32 - i) ≡ i ∷ range_with_len (i + 1) (32 - (i + 1))
+  range_is below = ap (λ n. range_with_len i n) (let e : 32 - i ≡ suc (32 - (i + 1)) = omega arith in e)
+
+  pub adds_next : i < 32 → input_add_flag memory a i ≡ true → places_from size memory s a i ≡ placed_by_context size memory s a i ∷ places_from size memory s a (i + 1)
+  adds_next below e =
+      ap (λ xs. map (placed_by_context size memory s a) (filter (input_add_flag memory a) xs)) (range_is below)
+      ∙ ap (λ xs. map (placed_by_context size memory s a) xs)
+      (cond-true (input_add_flag memory a i) (i ∷ filter (input_add_flag memory a) (range_with_len (i + 1) (32 - (i + 1)))) (filter (input_add_flag memory a) (range_with_len (i + 1) (32 - (i + 1)))) e)
+
+  pub adds_later : i < 32 → input_add_flag memory a i ≡ false → places_from size memory s a i ≡ places_from size memory s a (i + 1)
+  adds_later below e =
+      ap (λ xs. map (placed_by_context size memory s a) (filter (input_add_flag memory a) xs)) (range_is below)
+      ∙ ap (λ xs. map (placed_by_context size memory s a) xs)
+      (cond-false (input_add_flag memory a i) (i ∷ filter (input_add_flag memory a) (range_with_len (i + 1) (32 - (i + 1)))) (filter (input_add_flag memory a) (range_with_len (i + 1) (32 - (i + 1)))) e)
+
+pub adds_end : (size : ContextSize) (memory : ℕ → ℕ) (s a i : ℕ) → i ≡ 32 → places_from size memory s a i ≡ []
+adds_end size memory s a i e =
+    ap (λ n. map (placed_by_context size memory s a) (filter (input_add_flag memory a) (range_with_len i n))) (let none : 32 - i ≡ 0 = omega arith in none)
+
+module _ (h : Header) (c : Command) where
+  -- where the rest succeeds, the next one did
+  pub record Next (o : Option World) (rest : List Change) (final : World) : Type 0 where
+    pub world : World
+    pub made : o ≡ Some world
+    pub goes_on : changed_by_all h c world rest ≡ Some final
+
+  pub next_of : (o : Option World) (rest : List Change) (final : World) → option_and_then (λ v. changed_by_all h c v rest) o ≡ Some final → Next o rest final
+  next_of None rest final e = absurd (cc)
+  next_of (Some v) rest final e = record { world = v; made = refl; goes_on = e }
+
+  pub first_of : (w final : World) (s i a : ℕ) (size : ContextSize) (memory : ℕ → ℕ) (rest : List Change) →
+      changed_by_all h c w (placed_by_context size memory s a i ∷ rest) ≡ Some final →
+      Next (placed_on w s i (context_pointer size memory a i) (context_cycle size memory a i) Running (ring_having h (context_pointer size memory a i))) rest final
+  unfolding changed_by_all changed_by
+  first_of w final s i a size memory rest e = next_of _ rest final e
+
+  pub all_made : (w final : World) → changed_by_all h c w [] ≡ Some final → w ≡ final
+  unfolding changed_by_all
+  all_made w final e = cc
+
+  pub added_as : (w : World) (s i a : ℕ) (size : ContextSize) (memory : ℕ → ℕ) (rest : List Change) (o : Option World) →
+      placed_on w s i (context_pointer size memory a i) (context_cycle size memory a i) Running (ring_having h (context_pointer size memory a i)) ≡ o →
+      changed_by_all h c w (placed_by_context size memory s a i ∷ rest) ≡ option_and_then (λ v. changed_by_all h c v rest) o
+  unfolding changed_by_all changed_by
+  added_as w s i a size memory rest o is = ap (λ p. option_and_then (λ v. changed_by_all h c v rest) p) is
+
+  pub none_left : (w : World) → changed_by_all h c w [] ≡ Some w
+  unfolding changed_by_all
+  none_left w = refl

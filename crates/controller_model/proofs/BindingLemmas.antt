@@ -1,0 +1,64 @@
+-- When an endpoint gets a ring
+use Rattle.std.proofs.Common.{◌≡◌, ℕ, ◌==◌, ◌&&◌, ◌∙◌, Bool, true, false, not, List, Option, Some, None, find, is_some, sym, ap, refl}
+use Rattle.std.proofs.lemmas.Bool.{cond-true, cond-false}
+use Rattle.commands.specs.declared.state.EndpointState.{EndpointState}
+use Rattle.segments.specs.Places.{is_inside}
+use Rattle.traces.specs.declared.ring.Ring.{Ring}
+use Rattle.traces.specs.declared.header.Header.{Header}
+use Rattle.traces.specs.Header.{id_of, is_transfer_kind, ring_having, ring_with}
+use Rattle.world_state.specs.World.{World}
+use Rattle.controller_model.specs.Bindings.{is_had_by_another, placed, placed_on}
+use Rattle.controller_model.specs.Following.{may_get}
+use Rattle.controller_model.proofs.BellLemmas.{found_by_id}
+
+id_known : (test : Ring → Bool) (rings : List Ring) (r : ℕ) (o : Option Ring) → find test rings ≡ o → id_of o ≡ Some r → is_some (find (λ x. x.id == r) rings) ≡ true
+id_known test rings r None e d = absurd (cc)
+id_known test rings r (Some x) e d =
+    let same : x.id ≡ r = cc in
+    ap (λ n. is_some (find (λ y. y.id == n) rings)) (sym same) ∙ found_by_id test rings x e
+
+-- a ring that has a block somewhere is one of the header
+pub having_known : (h : Header) (a r : ℕ) → ring_having h a ≡ Some r → is_some (ring_with h r) ≡ true
+unfolding ring_having
+having_known h a r e = id_known (λ x. is_transfer_kind x.shape.kind && is_inside x.shape a) h.rings r (find (λ x. is_transfer_kind x.shape.kind && is_inside x.shape a) h.rings) refl e
+
+module _ (w : World) (s i a : ℕ) (c : Bool) (state : EndpointState) where
+  pub placed_none : (o : Option ℕ) (v : World) → o ≡ None → placed_on w s i a c state o ≡ Some v → ⊥
+  unfolding placed_on
+  placed_none None v none e = absurd (cc)
+  placed_none (Some r) v none e = absurd (cc)
+
+  pub record Got (r : ℕ) (v : World) : Type 0 where
+    pub free : is_had_by_another w s i r ≡ false
+    pub is : placed w s i r a c state ≡ v
+
+  got : (r : ℕ) (v : World) (b : Bool) → is_had_by_another w s i r ≡ b → placed_on w s i a c state (Some r) ≡ Some v → Got r v
+  unfolding placed_on
+  got r v true has e = let none : None ≡ Some v = sym (cond-true (is_had_by_another w s i r) None _ has) ∙ e in absurd (cc)
+  got r v false has e =
+      let made : Some (placed w s i r a c state) ≡ Some v = sym (cond-false (is_had_by_another w s i r) None _ has) ∙ e in
+      record { free = has; is = cc }
+
+  pub placed_some : (o : Option ℕ) (r : ℕ) (v : World) → o ≡ Some r → placed_on w s i a c state o ≡ Some v → Got r v
+  placed_some o r v some e = got r v (is_had_by_another w s i r) refl (ap (λ p. placed_on w s i a c state p) (sym some) ∙ e)
+
+  pub may_get_is : (o : Option ℕ) → is_some (placed_on w s i a c state o) ≡ may_get w s i o
+  unfolding placed_on
+  may_get_is None = refl
+  may_get_is (Some r) = by (is_had_by_another w s i r) refl
+    where
+      by : (b : Bool) → is_had_by_another w s i r ≡ b → is_some (placed_on w s i a c state (Some r)) ≡ not (is_had_by_another w s i r)
+      by true has = ap is_some (cond-true (is_had_by_another w s i r) None (Some (placed w s i r a c state)) has) ∙ sym (ap not has)
+      by false has = ap is_some (cond-false (is_had_by_another w s i r) None (Some (placed w s i r a c state)) has) ∙ sym (ap not has)
+
+  pub placed_free : (r : ℕ) → is_had_by_another w s i r ≡ false → placed_on w s i a c state (Some r) ≡ Some (placed w s i r a c state)
+  unfolding placed_on
+  placed_free r free = cond-false (is_had_by_another w s i r) None (Some (placed w s i r a c state)) free
+
+  pub placed_had : (r : ℕ) → is_had_by_another w s i r ≡ true → placed_on w s i a c state (Some r) ≡ None
+  unfolding placed_on
+  placed_had r has = cond-true (is_had_by_another w s i r) None (Some (placed w s i r a c state)) has
+
+  pub placed_nowhere : placed_on w s i a c state None ≡ None
+  unfolding placed_on
+  placed_nowhere = refl

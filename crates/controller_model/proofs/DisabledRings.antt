@@ -1,0 +1,94 @@
+-- What is kept of rings while endpoints are disabled
+use Rattle.std.proofs.Common.{◌≡◌, ℕ, ◌<◌, ◌==◌, ◌&&◌, ◌∙◌, if◌then◌else◌, not, Bool, true, false, List, Option, Some, None, refl, sym, ap, subst, arith}
+use Rattle.guest_memory.specs.Memory.{put_pair}
+use Rattle.traces.specs.declared.header.Header.{Header}
+use Rattle.traces.specs.Header.{is_ring}
+use Rattle.world_state.specs.World.{World}
+use Rattle.controller_model.specs.declared.kept.Holder.{Holder}
+use Rattle.controller_model.specs.declared.kept.RingState.{RingState}
+use Rattle.controller_model.specs.Bindings.{disabled, has_one_of}
+use Rattle.controller_model.specs.declared.kept.Kept.{Kept}
+use Rattle.traces.specs.declared.row.Row.{Row}
+use Rattle.commands.specs.declared.state.EndpointState.TheVariants.{Disabled as Off}
+use Rattle.controller_model.proofs.HadByAnother.{any_same_in}
+use Rattle.controller_model.specs.Following.{Follows, FollowsHolder, FollowsRings, IsEndpoint, ring_held, turned_off}
+use Rattle.controller_model.proofs.HolderLemmas.{here, elsewhere, place_of, put_pair_here, put_pair_there, put_pair_map}
+
+holder_still : (had : ℕ → ℕ → Bool) (o : Option Holder) (s i : ℕ) → (IsEndpoint s i → had s i ≡ false) → FollowsHolder had o → FollowsHolder (put_pair had s i false) o
+holder_still had o s i nothing f = record {
+  each = λ t j one. elim (place_of s i t j) [
+    | elsewhere apart ↦ put_pair_there had s i t j false apart ∙ f.each t j one
+    | here same at ↦
+        let P : ℕ → Type 0 = λ n. IsEndpoint n j in
+        let Q : ℕ → Type 0 = λ n. IsEndpoint s n in
+        put_pair_here had s i t j false same at ∙ sym (nothing (subst Q at (subst P same one))) ∙ (λ k. had (sym same k) (sym at k)) ∙ f.each t j one
+  ];
+  is_one = f.is_one;
+}
+
+-- an endpoint that has no ring is disabled
+pub rings_off : (h : Header) (w : World) (s i : ℕ) (rings : List RingState) → ((r : ℕ) → IsEndpoint s i → is_ring r (w.ring_of s i) ≡ false) →
+    FollowsRings h (ring_held w) rings → FollowsRings h (ring_held (turned_off w s i)) rings
+rings_off h w s i rings nothing f = record {
+  each = λ r x at.
+      let old = f.each r x at in
+      let had = λ (t j : ℕ). is_ring r (w.ring_of t j) in
+      let P : (ℕ → ℕ → Bool) → Type 0 = λ test. FollowsHolder test x.holder in
+      record {
+        declared = old.declared;
+        history = old.history;
+        pointer = old.pointer;
+        cycle = old.cycle;
+        active = old.active;
+        known = old.known;
+        holder = subst P (sym (put_pair_map (is_ring r) w.ring_of s i None)) (holder_still had x.holder s i (nothing r) old.holder);
+      };
+}
+
+-- only the endpoints below 32 matter
+pub disabled_below : (h : Header) (rows : List Row) (words : ℕ → ℕ) (before k : Kept) (w : World) (s : ℕ) (p q : ℕ → Bool) → ((i : ℕ) → i < 32 → p i ≡ q i) →
+    Follows h rows words before w → Follows h rows words k (disabled w s p) → Follows h rows words k (disabled w s q)
+unfolding disabled has_one_of
+disabled_below h rows words before k w s p q same first f = record {
+  progress = f.progress;
+  registers = f.registers;
+  held = f.held;
+  beyond = f.beyond;
+  rings = record {
+    each = λ r x at.
+        let old = f.rings.each r x at in
+        record {
+          declared = old.declared;
+          history = old.history;
+          pointer = old.pointer;
+          cycle = old.cycle;
+          active = ap (λ b. w.is_active r && not b) (any_same_in _ _ 1 31 (λ i low high. ap (λ b. b && is_ring r (w.ring_of s i)) (sym (same i (omega arith))))) ∙ old.active;
+          known = old.known;
+          holder = record {
+            each = λ t j one. ap (λ b. is_ring r (if t == s && b then None else w.ring_of t j)) (sym (same j one.index_below)) ∙ old.holder.each t j one;
+            is_one = old.holder.is_one;
+          };
+        };
+  };
+  slots = f.slots;
+  endpoints = record {
+    each = λ t j x below at.
+        let old = f.endpoints.each t j x below at in (
+          ap (λ b. if t == s && b then Off else w.endpoint_state t j) (sym (same j below)) ∙ old.0,
+          ap (λ b. if t == s && b then None else w.ring_of t j) (sym (same j below)) ∙ old.1,
+        );
+    no_more = λ t j many. still (t == s && q j) (w.ring_of t j) (first.endpoints.no_more t j many);
+    known = λ t j r has. first.endpoints.known t j r (had (t == s && q j) (w.ring_of t j) r has);
+  };
+  events = f.events;
+  under_way = f.under_way;
+  looked = f.looked;
+}
+  where
+    still : (b : Bool) (o : Option ℕ) → o ≡ None → (if b then None else o) ≡ None
+    still true o none = refl
+    still false o none = none
+
+    had : (b : Bool) (o : Option ℕ) (r : ℕ) → (if b then None else o) ≡ Some r → o ≡ Some r
+    had true o r e = absurd (cc)
+    had false o r e = e

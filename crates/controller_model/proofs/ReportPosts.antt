@@ -1,0 +1,84 @@
+-- What a Transfer Event says doesn't rest on its own post
+use Rattle.std.proofs.Common.{◌≡◌, ℕ, ◌+◌, ◌==◌, ◌&&◌, ◌∙◌, if◌then◌else◌, not, Bool, true, false, Option, Some, None, position, option_map, ap, refl}
+use Rattle.std.proofs.lemmas.Bool.{cond-true, cond-false}
+use Rattle.trb.specs.declared.block.Block.{Block}
+use Rattle.trb.specs.Bits.{is_set}
+use Rattle.trb.specs.Block.{code, endpoint, kind, pointer, slot, word}
+use Rattle.trb.specs.CompletionCode.{is_success, is_halting, is_trb_error, is_stopping}
+use Rattle.trb.specs.Kind.{is_transfer_event}
+use Rattle.commands.specs.declared.state.EndpointState.{EndpointState}
+use Rattle.commands.specs.declared.state.EndpointState.TheVariants.{Halted, Error}
+use Rattle.commands.specs.States.{is_running}
+use Rattle.traces.specs.declared.header.Header.{Header}
+use Rattle.world_state.specs.World.{World, stored, stored_block}
+use Rattle.world_state.specs.Takes.{unreported}
+use Rattle.controller_model.specs.Posts.{can_post, is_last, is_stop_under_way, posted, report_code, report_error, report_stop, report_success, reported, reported_on, stopped_with, with_reported}
+use Rattle.controller_model.specs.Following.{told}
+
+map_twice : {A B C : Type 0} (f : B → C) (g : A → B) (o : Option A) → option_map (λ n. f (g n)) o ≡ option_map f (option_map g o)
+map_twice f g None = refl
+map_twice f g (Some x) = refl
+
+map_choice : {A B : Type 0} (f : A → B) (t : Bool) (x y : Option A) (x' y' : Option B) → x' ≡ option_map f x → y' ≡ option_map f y →
+    (if t then x' else y') ≡ option_map f (if t then x else y)
+map_choice f true x y x' y' e d = e
+map_choice f false x y x' y' e d = d
+
+module _ (h : Header) (w : World) (b : Block) (r a : ℕ) where
+  success_posted : report_success h (posted h w b) r a ≡ option_map (λ v. posted h v b) (report_success h w r a)
+  unfolding report_success with_reported posted stored stored_block unreported
+  success_posted =
+      map_twice (λ v. posted h v b) (λ n. with_reported h w r (w.reported r + n + 1)) (position (λ x. x == a) (unreported w r))
+
+  module _ (s i : ℕ) where
+    error_posted : (state : EndpointState) → report_error h (posted h w b) s i r a state ≡ option_map (λ v. posted h v b) (report_error h w s i r a state)
+    unfolding report_error with_reported posted stored stored_block unreported
+    error_posted state =
+        map_choice (λ v. posted h v b) (is_running (w.endpoint_state s i) && w.is_active r && is_last h a (unreported w r)) _ None _ None refl refl
+
+    stop_posted : report_stop h (posted h w b) s i r a ≡ option_map (λ v. posted h v b) (report_stop h w s i r a)
+    unfolding report_stop stopped_with with_reported posted stored stored_block unreported
+    stop_posted =
+        map_choice (λ v. posted h v b) (not (is_stop_under_way h s i w.under_way && is_running (w.endpoint_state s i) && w.is_active r)) None _ None _ refl
+        (map_choice (λ v. posted h v b) (is_last h a (unreported w r)) _ _ _ _ refl
+        (map_choice (λ v. posted h v b) (a == w.pointer_of r) _ None _ None refl refl))
+
+    code_posted : (c : ℕ) → report_code h (posted h w b) c s i r a ≡ option_map (λ v. posted h v b) (report_code h w c s i r a)
+    unfolding report_code
+    code_posted c =
+        map_choice (λ v. posted h v b) (is_success c) _ _ _ _ success_posted
+        (map_choice (λ v. posted h v b) (is_halting c) _ _ _ _ (error_posted Halted)
+        (map_choice (λ v. posted h v b) (is_trb_error c) _ _ _ _ (error_posted Error)
+        (map_choice (λ v. posted h v b) (is_stopping c) _ None _ None stop_posted refl)))
+
+module _ (h : Header) (w : World) (b : Block) where
+  told_posted : (o : Option ℕ) → reported_on h w b o ≡ option_map (λ v. posted h v b) (told h w b o)
+  unfolding reported_on
+  told_posted None = refl
+  told_posted (Some r) = code_posted h w b r (pointer b) (slot b) (endpoint b) (code b)
+
+  is_report : Bool
+  is_report = is_transfer_event (kind b) && not (is_set (word b 3) 2)
+
+  three : (x y z : Bool) → (x && y && z) ≡ (x && (y && z))
+  three true y z = refl
+  three false y z = refl
+
+  tests : (can_post h w b && is_transfer_event (kind b) && not (is_set (word b 3) 2)) ≡ (can_post h w b && is_report)
+  unfolding is_report
+  tests = three (can_post h w b) (is_transfer_event (kind b)) (not (is_set (word b 3) 2))
+
+  pub report_not_now : can_post h w b ≡ false → reported h w b ≡ None
+  unfolding reported is_report
+  report_not_now e = cond-false (can_post h w b && is_transfer_event (kind b) && not (is_set (word b 3) 2)) _ None (tests ∙ ap (λ t. t && is_report) e)
+
+  pub report_not_so : can_post h w b ≡ true → (is_transfer_event (kind b) && not (is_set (word b 3) 2)) ≡ false → reported h w b ≡ None
+  unfolding reported is_report
+  report_not_so e differs = cond-false (can_post h w b && is_transfer_event (kind b) && not (is_set (word b 3) 2)) _ None (tests ∙ (λ k. e k && differs k))
+
+  pub report_told : can_post h w b ≡ true → (is_transfer_event (kind b) && not (is_set (word b 3) 2)) ≡ true → (o : Option World) → told h w b (w.ring_of (slot b) (endpoint b)) ≡ o →
+      reported h w b ≡ option_map (λ v. posted h v b) o
+  unfolding reported is_report
+  report_told e so o said =
+      cond-true (can_post h w b && is_transfer_event (kind b) && not (is_set (word b 3) 2)) _ None (tests ∙ (λ k. e k && so k))
+      ∙ told_posted (w.ring_of (slot b) (endpoint b)) ∙ ap (λ v. option_map (λ v. posted h v b) v) said

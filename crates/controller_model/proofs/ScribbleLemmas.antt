@@ -1,0 +1,36 @@
+-- Whether a number of a range passes a test, and when the controller may write a word
+use Rattle.std.proofs.Common.{◌≡◌, ℕ, zero, suc, ◌+◌, ◌<◌, ◌≤◌, ◌||◌, ◌∙◌, Bool, true, false, Option, Some, None, ap, refl, arith, inl, inr}
+use Rattle.std.specs.List.{list_any, range_with_len}
+use Rattle.std.proofs.lemmas.Bool.{cases_lt, cond-true, cond-false}
+use Rattle.traces.specs.declared.header.Header.{Header}
+use Rattle.world_state.specs.World.{World, stored}
+use Rattle.controller_model.specs.Steps.{scribbled, is_scribbled}
+
+or_true : (b : Bool) → (b || true) ≡ true
+or_true true = refl
+or_true false = refl
+
+pub any_in_range : (test : ℕ → Bool) (from n q : ℕ) → from ≤ q → q < from + n → test q ≡ true → list_any test (range_with_len from n) ≡ true
+any_in_range test from zero q low high passes = absurd (omega arith)
+any_in_range test from (suc n) q low high passes =
+    elim (cases_lt from q) [
+      | inl before ↦ ap (λ b. test from || b) (any_in_range test (from + 1) n q (omega arith) (omega arith) passes) ∙ or_true (test from)
+      | inr here ↦
+          let same : from ≡ q = omega arith in
+          ap (λ b. b || list_any test (range_with_len (from + 1) n)) (ap test same ∙ passes)
+    ]
+
+pub none_in_range : (test : ℕ → Bool) (from n : ℕ) → ((p : ℕ) → from ≤ p → p < from + n → test p ≡ false) → list_any test (range_with_len from n) ≡ false
+none_in_range test from zero fails = refl
+none_in_range test from (suc n) fails =
+    ap (λ b. b || list_any test (range_with_len (from + 1) n)) (fails from (omega arith) (omega arith))
+    ∙ none_in_range test (from + 1) n (λ p l h. fails p (omega arith) (omega arith))
+
+module _ (h : Header) (w : World) (a x : ℕ) where
+  pub scribbled_not : list_any (is_scribbled h w a) (range_with_len 0 256) ≡ false → scribbled h w a x ≡ None
+  unfolding scribbled
+  scribbled_not e = cond-false (list_any (is_scribbled h w a) (range_with_len 0 256)) (Some (stored w a x)) None e
+
+  pub scribbled_so : list_any (is_scribbled h w a) (range_with_len 0 256) ≡ true → scribbled h w a x ≡ Some (stored w a x)
+  unfolding scribbled
+  scribbled_so e = cond-true (list_any (is_scribbled h w a) (range_with_len 0 256)) (Some (stored w a x)) None e

@@ -1,0 +1,36 @@
+use Rattle.std.proofs.Common.{ℕ, ◌≡◌, ◌==◌, ◌&&◌, ◌∙◌, sym, subst, refl, arith}
+use Rattle.std.specs.Prelude.{nat_lt}
+use Rattle.world_state.specs.World.{World}
+use Rattle.controller_model.specs.Bindings.{disabled}
+use Rattle.controller_model.specs.Following.{Follows, named_by}
+use Rattle.controller_model.proofs.DisabledRings.{disabled_below}
+use Rattle.controller_model.proofs.DisabledWorlds.{disabled_same, disabled_none, disabled_twice, one_more, none_below, all_below}
+use Rattle.controller_model.proofs.disabling.disable.Goals as goal
+
+pub loop-index-init : goal.loop-index-init
+loop-index-init c = record {
+  change = λ h rows words w f.
+      let P : World → Type 0 = λ v. Follows h rows words c.args.kept.now v in
+      subst P (sym (disabled_same w c.args.slot _ _ (none_below (named_by c.args.named)) ∙ disabled_none w c.args.slot)) f;
+  rest = record { progress = refl; events = refl };
+}
+
+pub loop-index-preserved : goal.loop-index-preserved
+loop-index-preserved c = record {
+  change = λ h rows words w f.
+      let p = λ (i : ℕ). named_by c.args.named i && nat_lt i c.loop-index.index in
+      let now = c.disable_named.ensures.change h rows words (disabled w c.args.slot p) (c.loop-index.invariant.change h rows words w f) in
+      let P : World → Type 0 = λ v. Follows h rows words c.disable_named.new.kept v in
+      subst P (disabled_twice w c.args.slot p (λ i. named_by c.args.named i && i == c.loop-index.index)
+      ∙ disabled_same w c.args.slot _ _ (one_more (named_by c.args.named) c.loop-index.index)) now;
+  rest = record {
+    progress = c.disable_named.ensures.rest.progress ∙ c.loop-index.invariant.rest.progress;
+    events = c.disable_named.ensures.rest.events ∙ c.loop-index.invariant.rest.events;
+  };
+}
+
+pub returns-clause-change : goal.returns-clause-change
+returns-clause-change c = λ h rows words w f.
+    let end : c.loop-index.index ≡ 32 = omega (arith, c.loop-index.auto.index-end, c.loop-index-test.false) in
+    disabled_below h rows words c.args.kept.now c.loop-index.kept w c.args.slot _ (named_by c.args.named)
+    (λ i below. all_below (named_by c.args.named) c.loop-index.index i (omega (arith, below, end))) f (c.loop-index.invariant.change h rows words w f)

@@ -1,0 +1,16 @@
+use Rattle.std.proofs.Common.{ℕ, ◌&&◌, List}
+use Rattle.std.specs.Prelude.{nat_lt}
+use Rattle.traces.specs.declared.header.Header.{Header}
+use Rattle.traces.specs.declared.row.Row.{Row}
+use Rattle.world_state.specs.World.{World}
+use Rattle.controller_model.specs.Bindings.{disabled}
+use Rattle.controller_model.specs.Following.{Follows, KeepsRun, named_by}
+use Rattle.controller_model.proofs.disabling.disable.Given as goal
+
+-- those below the index are disabled
+abbrev pub invariant-loop-index : goal.invariant-loop-index
+invariant-loop-index l = record {
+  change : (h : Header) (rows : List Row) (words : ℕ → ℕ) (w : World) → Follows h rows words l.initial.kept w →
+      Follows h rows words l.kept (disabled w l.slot (λ i. named_by l.named i && nat_lt i l.index));
+  rest : KeepsRun l.initial.kept l.kept;
+}

@@ -1,0 +1,23 @@
+use Rattle.std.proofs.Common.{◌<◌, refl, sym, subst, ap, arith}
+use Rattle.traces.specs.Header.{is_ring}
+use Rattle.world_state.specs.World.{World}
+use Rattle.controller_model.specs.Following.{Follows, freed}
+use Rattle.controller_model.proofs.BindingSteps.{freed_has}
+use Rattle.controller_model.proofs.DisabledWorlds.{disabled_first, disabled_later}
+use Rattle.controller_model.proofs.disabling.disable_one.Goals as goal
+
+pub returns-then-index-eq0-clause-change : goal.returns-then-index-eq0-clause-change
+returns-then-index-eq0-clause-change c = λ h rows words w f.
+    let P : World → Type 0 = λ v. Follows h rows words c.turn_off.new.kept v in
+    subst P (sym (disabled_first w c.args.slot c.args.index c.if-index-eq0.true))
+    (c.turn_off.ensures.change h rows words w (λ r one. absurd (omega (arith, one.some_index, c.if-index-eq0.true))) f)
+
+pub returns-clause-change : goal.returns-clause-change
+returns-clause-change c = λ h rows words w f.
+    let some : 0 < c.args.index = omega (arith, c.if-index-eq0.false) in
+    let o = w.ring_of c.args.slot c.args.index in
+    let u = freed w c.args.slot c.args.index o in
+    let now = c.free.ensures.change h rows words w f in
+    let P : World → Type 0 = λ v. Follows h rows words c.turn_off-2.new.kept v in
+    subst P (sym (disabled_later w c.args.slot c.args.index o refl some c.requires))
+    (c.turn_off-2.ensures.change h rows words u (λ r one. ap (is_ring r) (freed_has w c.args.slot c.args.index o refl)) now)

@@ -1,0 +1,25 @@
+use Rattle.std.proofs.Common.{◌∙◌, ap, sym, subst, arith}
+use Rattle.world_state.specs.World.{World}
+use Rattle.controller_model.specs.Bindings.{changed_by_all}
+use Rattle.controller_model.specs.Following.{Follows}
+use Rattle.controller_model.proofs.AddedLemmas.{adds_end, all_made}
+use Rattle.controller_model.proofs.effects.place_all.Goals as goal
+
+pub loop-index-preserved : goal.loop-index-preserved
+loop-index-preserved g c = record {
+  change = λ rows words d w final made f.
+      let so = c.loop-index.invariant.change rows words d w final made f in
+      c.in_ok-place_added.ensures.change rows words d so.world final so.second so.first;
+  rest = record {
+    progress = c.place_added.ensures.rest.progress ∙ c.loop-index.invariant.rest.progress;
+    events = c.place_added.ensures.rest.events ∙ c.loop-index.invariant.rest.events;
+  };
+}
+
+pub returns-clause-change : goal.returns-clause-change
+returns-clause-change g c = λ rows words d w final made f.
+    let so = c.loop-index.invariant.change rows words d w final made f in
+    let end = adds_end c.args.header.now.context_size (g.M.WordMemory.words c.args.memory.now) c.args.slot c.args.context c.loop-index.index
+    (omega (arith, c.loop-index.auto.index-end, c.loop-index-test.false)) in
+    let P : World → Type 0 = λ v. Follows c.args.header.now rows words c.loop-index.kept v in
+    subst P (all_made c.args.header.now d so.world final (sym (ap (λ xs. changed_by_all c.args.header.now d so.world xs) end) ∙ so.second)) so.first

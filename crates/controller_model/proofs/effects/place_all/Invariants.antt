@@ -1,0 +1,16 @@
+use Rattle.std.proofs.Common.{◌≡◌, ℕ, List, Some}
+use Rattle.commands.specs.declared.command.Command.{Command}
+use Rattle.traces.specs.declared.row.Row.{Row}
+use Rattle.world_state.specs.World.{World}
+use Rattle.controller_model.specs.Bindings.{changed_by_all}
+use Rattle.controller_model.specs.Following.{Follows, GoesOn, KeepsRun, places_from}
+use Rattle.controller_model.proofs.effects.place_all.Given as goal
+
+-- the endpoints below the index have their rings
+abbrev pub invariant-loop-index : goal.invariant-loop-index
+invariant-loop-index g l = record {
+  change : (rows : List Row) (words : ℕ → ℕ) (c : Command) (w final : World) →
+      changed_by_all l.header c w (places_from l.header.context_size (g.M.WordMemory.words l.memory) l.slot l.context 2) ≡ Some final → Follows l.header rows words l.initial.kept w →
+      GoesOn (Follows l.header rows words l.kept) (λ v. changed_by_all l.header c v (places_from l.header.context_size (g.M.WordMemory.words l.memory) l.slot l.context l.index) ≡ Some final);
+  rest : KeepsRun l.initial.kept l.kept;
+}

@@ -1,0 +1,11 @@
+use Rattle.std.proofs.Common.{◌∙◌}
+use Rattle.commands.specs.declared.state.EndpointState.TheVariants.{Running}
+use Rattle.traces.specs.Header.{ring_having}
+use Rattle.controller_model.specs.Bindings.{placed_on}
+use Rattle.controller_model.proofs.effects.place_by_context.Goals as goal
+
+pub returns-clause-change : goal.returns-clause-change
+returns-clause-change g c = λ rows words w v made f.
+    c.in_ok-place.ensures.change rows words w v
+    ((λ k. placed_on w c.args.slot c.args.index (c.context_of-endpoint.ensures.pointer k) (c.context_of-endpoint.ensures.cycle k) Running
+    (ring_having c.args.header.now (c.context_of-endpoint.ensures.pointer k))) ∙ made) f

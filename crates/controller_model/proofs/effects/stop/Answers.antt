@@ -1,0 +1,23 @@
+use Rattle.std.proofs.Common.{ℕ, Option, ◌∙◌, sym, subst}
+use Rattle.commands.specs.declared.state.EndpointState.TheVariants.{Stopped}
+use Rattle.controller_model.specs.Bindings.{in_state, inactive}
+use Rattle.controller_model.specs.Following.{Follows}
+use Rattle.controller_model.proofs.effects.stop.Goals as goal
+
+pub returns-in-None-clause-change : goal.returns-in-None-clause-change
+unfolding in_state inactive
+returns-in-None-clause-change c = λ h rows words w f.
+    let u = in_state w c.args.slot c.args.index Stopped in
+    let now = c.set_state.ensures.change h rows words w f in
+    let has = (c.endpoint_of.ensures h rows words u now).1 ∙ c.in-None.is in
+    let P : Option ℕ → Type 0 = λ o. Follows h rows words c.set_state.new.kept (inactive u o) in
+    subst P (sym has) now
+
+pub returns-in-Some-clause-change : goal.returns-in-Some-clause-change
+unfolding in_state inactive
+returns-in-Some-clause-change c = λ h rows words w f.
+    let u = in_state w c.args.slot c.args.index Stopped in
+    let now = c.set_state.ensures.change h rows words w f in
+    let has = (c.endpoint_of.ensures h rows words u now).1 ∙ c.in-Some.is in
+    let P : Option ℕ → Type 0 = λ o. Follows h rows words c.deactivate.new.kept (inactive u o) in
+    subst P (sym has) (c.deactivate.ensures.change h rows words u now)

@@ -1,0 +1,16 @@
+use Rattle.std.proofs.Common.{◌≡◌, refl}
+use Rattle.traces.specs.Header.{shape_of}
+use Rattle.world_state.specs.World.{opening}
+use Rattle.controller_model.proofs.opening.ring.Goals as goal
+
+pub returns : goal.returns
+unfolding opening
+returns c = λ h rows r. record {
+  declared = c.new.ensures;
+  history = c.new-2.ensures (shape_of h r);
+  pointer = refl;
+  cycle = refl;
+  active = refl;
+  known = λ e. absurd (cc);
+  holder = record { each = λ s i e. refl; is_one = λ e o. absurd (cc) };
+}

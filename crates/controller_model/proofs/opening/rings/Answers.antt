@@ -1,0 +1,17 @@
+use Rattle.std.proofs.Common.{◌≡◌, ℕ, ◌+◌, ◌∷◌, [], ◌++◌, All, List, ap, length, length-append, sym, subst, arith}
+use Rattle.std.proofs.lemmas.List.Elements.{All-push}
+use Rattle.traces.specs.declared.header.Header.{Header as HeaderValue}
+use Rattle.traces.specs.declared.row.Row.{Row as RowValue}
+use Rattle.world_state.specs.World.{opening}
+use Rattle.controller_model.specs.declared.kept.RingState.{RingState}
+use Rattle.controller_model.specs.Following.{FollowsRing, ring_held}
+use Rattle.controller_model.proofs.opening.rings.Goals as goal
+
+pub loop-id-preserved : goal.loop-id-preserved
+loop-id-preserved c =
+    let P : RingState → Type 0 = λ x. (h : HeaderValue) (rows : List RowValue) (r : ℕ) → FollowsRing h r (ring_held (opening rows) r) x in
+    let Q : List RingState → Type 0 = λ xs. All P xs in
+    record {
+      many = omega (arith, ap length c.in_ok-push.ensures.items, length-append c.loop-id.rings.items (c.ring.result ∷ []), c.loop-id.invariant.many);
+      each = subst Q (sym c.in_ok-push.ensures.items) (All-push P c.loop-id.rings.items c.ring.result c.loop-id.invariant.each c.ring.ensures);
+    }

@@ -1,0 +1,8 @@
+use Rattle.std.proofs.Common.{◌&&◌, ◌∙◌, ap, sym}
+use Rattle.commands.specs.States.{is_running}
+use Rattle.controller_model.proofs.reports.works.Goals as goal
+
+pub returns : goal.returns
+returns c = λ h rows words w f.
+    let running = c.is_running-is_running.ensures ∙ sym (ap is_running (c.endpoint_of.ensures h rows words w f).0) in
+    (λ i. running i && sym (c.ring_state.ensures h rows words w f).active i)

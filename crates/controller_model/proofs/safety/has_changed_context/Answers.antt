@@ -1,0 +1,23 @@
+use Rattle.std.proofs.Common.{◌≡◌, ◌+◌, ◌*◌, ◌/◌, ◌∙◌, ap, sym}
+use Rattle.controller_model.specs.Held.{changed_at}
+use Rattle.controller_model.proofs.SafetyLemmas.{context_idle, context_of_none, context_unnamed, context_named}
+use Rattle.controller_model.proofs.safety.has_changed_context.Goals as goal
+
+pub returns-in-None : goal.returns-in-None
+returns-in-None c = λ rows words w f. context_idle c.args.header.now w c.args.kept.now.under_way f.under_way c.in-None.is
+
+pub returns-in-None-command_of : goal.returns-in-None-command_of
+returns-in-None-command_of c = λ rows words w f.
+    context_of_none c.args.header.now w c.args.kept.now.under_way f.under_way c.in-Some.pending c.in-Some.is c.in-None-command_of.ensures
+
+pub returns-in-None-input_context : goal.returns-in-None-input_context
+returns-in-None-input_context c = λ rows words w f.
+    context_unnamed c.args.header.now w c.args.kept.now.under_way f.under_way c.in-Some.pending c.in-Some.is c.in-Some-command_of.command c.in-Some-command_of.ensures
+    c.in-None-input_context.ensures
+
+pub returns : goal.returns
+returns c = λ rows words w f.
+    c.is_changed_since.ensures
+    ∙ context_named c.args.header.now w c.args.kept.now.under_way f.under_way c.in-Some.pending c.in-Some.is c.in-Some-command_of.command c.in-Some-input_context.context
+    c.written_behind-given.result _ (changed_at c.args.kept.now.stamps) c.in-Some-command_of.ensures c.in-Some-input_context.ensures
+    (c.written_behind-given.ensures ∙ sym (ap (λ y. y.written (c.in-Some.pending.address + 12)) f.held)) (ap (λ n. 33 * n / 4) c.bytes.ensures) (sym (ap (λ y. y.changed) f.held))

@@ -1,0 +1,50 @@
+use Rattle.std.proofs.Common.{◌≡◌, ◌<◌, ◌∙◌, ◌&&◌, Some, ap, get_or, length, slice_get, sym, refl, take, arith}
+use Rattle.std.specs.List.{list_any}
+use Rattle.traces.specs.Header.{shape_of, some_ring}
+use Rattle.world_state.specs.Harms.{has_other_words, is_inside_descriptor, is_out_of_order, waits}
+use Rattle.controller_model.proofs.RingLemmas.{read_at}
+use Rattle.controller_model.proofs.SafetyLemmas.{any_more, take_past}
+use Rattle.controller_model.proofs.safety.ring_harms.Goals as goal
+
+pub loop-ring-preserved : goal.loop-ring-preserved
+loop-ring-preserved g c =
+    let items = c.as_slice-ring-items.ensures in
+    let inside : c.loop-ring.ring-index < length c.args.header.now.rings = omega (arith, ap length items) in
+    let at : c.ring-item.result ≡ get_or c.args.header.now.rings c.loop-ring.ring-index c.ring-item.result =
+    c.ring-item.is ∙ ap (λ xs. get_or xs c.loop-ring.ring-index c.ring-item.result) items in
+    let below : c.ring-item.result.id < length c.args.kept.now.rings.items = omega (arith, c.args.kept.now.rings_many) in
+    let there : slice_get c.args.kept.now.rings.items c.ring-item.result.id ≡ Some c.index-state.result.now =
+    read_at c.args.kept.now.rings.items c.from.result c.ring-item.result.id c.index-state.result.now c.from.ensures below c.index-state.ensures in
+    record {
+      items = c.loop-ring.invariant.items;
+      order = λ rows w f.
+          let old = f.rings.each c.ring-item.result.id c.index-state.result.now there in
+          any_more (λ ring. is_out_of_order (shape_of c.args.header.now ring.id) (w.events ring.id)) c.args.header.now.rings c.loop-ring.ring-index c.ring-item.result _ _ inside at
+          (c.loop-ring.invariant.order rows w f) (c.is_out_of_order.ensures ∙ sym old.history.order);
+      words = λ rows w f.
+          let old = f.rings.each c.ring-item.result.id c.index-state.result.now there in
+          any_more (λ ring. has_other_words (shape_of c.args.header.now ring.id) (w.events ring.id)) c.args.header.now.rings c.loop-ring.ring-index c.ring-item.result _ _ inside at
+          (c.loop-ring.invariant.words rows w f) (c.has_other_words.ensures ∙ sym old.history.words);
+      waiting = λ rows w f.
+          let old = f.rings.each c.ring-item.result.id c.index-state.result.now there in
+          any_more (λ ring. waits w ring.id && is_inside_descriptor (w.events ring.id)) c.args.header.now.rings c.loop-ring.ring-index c.ring-item.result _ _ inside at
+          (c.loop-ring.invariant.waiting rows w f) (c.waits_inside.ensures c.args.header.now c.ring-item.result.id w old (sym (ap (λ y. y.memory) f.held)));
+    }
+
+pub returns-clause-order : goal.returns-clause-order
+unfolding some_ring
+returns-clause-order g c = λ rows w f.
+    c.loop-ring.invariant.order rows w f
+    ∙ ap (λ xs. list_any (λ ring. is_out_of_order (shape_of c.args.header.now ring.id) (w.events ring.id)) xs) (take_past c.args.header.now.rings c.loop-ring.ring-index (omega (arith, ap length c.as_slice-ring-items.ensures)))
+
+pub returns-clause-words : goal.returns-clause-words
+unfolding some_ring
+returns-clause-words g c = λ rows w f.
+    c.loop-ring.invariant.words rows w f
+    ∙ ap (λ xs. list_any (λ ring. has_other_words (shape_of c.args.header.now ring.id) (w.events ring.id)) xs) (take_past c.args.header.now.rings c.loop-ring.ring-index (omega (arith, ap length c.as_slice-ring-items.ensures)))
+
+pub returns-clause-waits : goal.returns-clause-waits
+unfolding some_ring
+returns-clause-waits g c = λ rows w f.
+    c.loop-ring.invariant.waiting rows w f
+    ∙ ap (λ xs. list_any (λ ring. waits w ring.id && is_inside_descriptor (w.events ring.id)) xs) (take_past c.args.header.now.rings c.loop-ring.ring-index (omega (arith, ap length c.as_slice-ring-items.ensures)))

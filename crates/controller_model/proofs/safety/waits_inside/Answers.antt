@@ -1,0 +1,11 @@
+use Rattle.std.proofs.Common.{◌∙◌, sym}
+use Rattle.controller_model.proofs.SafetyLemmas.{waits_idle, waits_so}
+use Rattle.controller_model.proofs.safety.waits_inside.Goals as goal
+
+pub returns-then-not-state : goal.returns-then-not-state
+returns-then-not-state g c = λ h r w f same. waits_idle h r w c.args.state.now f c.if-not-state.true
+
+pub returns : goal.returns
+returns g c = λ h r w f same.
+    waits_so h r w c.args.state.now f (g.M.WordMemory.words c.args.memory.now) c.block_at.result c.agrees.result same c.if-not-state.false
+    (sym c.is_inside.ensures ∙ c.if-not-is_inside.false) c.block_at.ensures (c.agrees.ensures (w.cycle_state r) f.cycle)

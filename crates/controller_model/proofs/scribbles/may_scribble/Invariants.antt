@@ -1,0 +1,11 @@
+use Rattle.std.proofs.Common.{◌≡◌, ℕ, ◌<◌, List, false}
+use Rattle.traces.specs.declared.row.Row.{Row as RowValue}
+use Rattle.world_state.specs.World.{World}
+use Rattle.controller_model.specs.Steps.{is_scribbled}
+use Rattle.controller_model.specs.Following.{Follows}
+use Rattle.controller_model.proofs.scribbles.may_scribble.Given as goal
+
+-- the word belongs to no device context of a slot so far
+abbrev pub invariant-loop-slot : goal.invariant-loop-slot
+invariant-loop-slot g l =
+    (rows : List RowValue) (w : World) → Follows l.header rows (g.M.WordMemory.words l.memory) l.kept w → (s : ℕ) → s < l.slot → is_scribbled l.header w l.at s ≡ false

@@ -1,0 +1,15 @@
+use Rattle.std.proofs.Common.{ℕ, List}
+use Rattle.commands.specs.declared.command.Command.{Command}
+use Rattle.traces.specs.declared.row.Row.{Row}
+use Rattle.world_state.specs.World.{World}
+use Rattle.controller_model.specs.Bindings.{changed_by_all}
+use Rattle.controller_model.specs.Following.{Follows, places_from}
+use Rattle.controller_model.specs.Trials.{GoesOnAs, Sees}
+use Rattle.controller_model.proofs.trials.can_add_all.Given as goal
+
+-- the endpoints below the index would have their rings
+abbrev pub invariant-loop-index : goal.invariant-loop-index
+invariant-loop-index g l =
+    (rows : List Row) (words : ℕ → ℕ) (c : Command) (w v : World) → Follows l.header rows words l.kept w → Sees l.initial.rings l.slot w v →
+    GoesOnAs l.rings l.slot w (changed_by_all l.header c v (places_from l.header.context_size (g.M.WordMemory.words l.memory) l.slot l.context 2))
+    (λ u. changed_by_all l.header c u (places_from l.header.context_size (g.M.WordMemory.words l.memory) l.slot l.context l.index))

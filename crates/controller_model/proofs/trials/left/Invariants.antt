@@ -1,0 +1,15 @@
+use Rattle.std.proofs.Common.{◌≡◌, ℕ, ◌<◌, if◌then◌else◌, List, None, length}
+use Rattle.traces.specs.declared.header.Header.{Header}
+use Rattle.traces.specs.declared.row.Row.{Row}
+use Rattle.world_state.specs.World.{World}
+use Rattle.controller_model.specs.Following.{Follows, named_by}
+use Rattle.controller_model.specs.Trials.{own_ring}
+use Rattle.controller_model.proofs.trials.left.Given as goal
+
+-- the rings below the index are those that are left
+abbrev pub invariant-loop-index : goal.invariant-loop-index
+invariant-loop-index l = record {
+  many : length l.rings ≡ 32;
+  left : (h : Header) (rows : List Row) (words : ℕ → ℕ) (w : World) → Follows h rows words l.kept w →
+      (j : ℕ) → j < l.index → own_ring l.rings j ≡ (if named_by l.named j then None else w.ring_of l.slot j);
+}

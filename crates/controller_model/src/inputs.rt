@@ -1,0 +1,39 @@
+ghost use Rattle.std.specs.Prelude.{◌≡◌, ℕ, ◌+◌, ◌<◌, ◌%◌, ◌≤◌, ◌^◌};
+ghost use Rattle.contexts.specs.Contexts.{context_cycle, context_pointer, input_add_flag, input_context_bytes};
+
+use contexts::{ContextSize, EndpointContext, InputContext};
+use guest_memory::WordMemory;
+
+/// Whether the input context adds an endpoint (xHCI 6.2.5.1).
+pub(crate) fn adds<M: WordMemory>(memory: &M, size: ContextSize, context: u64, index: u8) -> bool
+    requires aligned { context % 16 ≡ 0 }
+    requires end { context + input_context_bytes size ≤ 2 ^ 64 }
+    requires last { index < 32 }
+    ensures { result ≡ input_add_flag (M.words memory.now) context index }
+{
+    match InputContext::at(memory, context, size) {
+        None => unreachable!(),
+        Some(input) => input.adds(index),
+    }
+}
+
+/// What the input context says of an endpoint (xHCI 6.2.3).
+pub(crate) fn context_of<M: WordMemory>(
+    memory: &M,
+    size: ContextSize,
+    context: u64,
+    index: u8,
+) -> EndpointContext
+    requires aligned { context % 16 ≡ 0 }
+    requires end { context + input_context_bytes size ≤ 2 ^ 64 }
+    requires first { 1 ≤ index }
+    requires last { index < 32 }
+    ensures pointer { result.pointer ≡ context_pointer size (M.words memory.now) context index }
+    ensures cycle { result.dcs ≡ context_cycle size (M.words memory.now) context index }
+    ensures aligned { result.pointer % 16 ≡ 0 }
+{
+    match InputContext::at(memory, context, size) {
+        None => unreachable!(),
+        Some(input) => input.endpoint(index),
+    }
+}

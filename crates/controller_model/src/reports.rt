@@ -1,0 +1,300 @@
+ghost use Rattle.std.specs.Prelude.{◌≡◌, ℕ, ◌+◌, ◌-◌, ◌==◌, ◌&&◌, ◌<◌, ◌≤◌, ◌^◌, not, false, length, position, List, IfSome, Err, Option};
+ghost use Rattle.trb.specs.Bits.{is_set};
+ghost use Rattle.trb.specs.Block.{code, endpoint, kind, pointer, slot, word};
+ghost use Rattle.trb.specs.CompletionCode.{is_success, is_halting, is_trb_error, is_stopping};
+ghost use Rattle.trb.specs.Kind.{is_transfer_event};
+ghost use Rattle.commands.specs.Command.{is_stop_of};
+ghost use Rattle.commands.specs.States.{is_running};
+ghost use Rattle.segments.specs.Places.{address_of};
+ghost use Rattle.traces.specs.declared.header.Header.{Header as HeaderValue};
+ghost use Rattle.traces.specs.declared.row.Row.{Row};
+ghost use Rattle.traces.specs.Header.{event_shape};
+ghost use Rattle.world_state.specs.World.{World};
+ghost use Rattle.world_state.specs.Takes.{unreported};
+ghost use Rattle.controller_model.specs.declared.seen.Seen.TheVariants.{Posted};
+ghost use Rattle.controller_model.specs.Posts.{is_last, is_stop_under_way, report_code, report_error, report_stop, report_success, reported, stopped_with, with_reported, with_stopped};
+ghost use Rattle.controller_model.specs.Following.{Follows, IsChange, IsStep, KeepsRun, told};
+
+use crate::endpoints::{endpoint_of, set_state};
+use crate::fault::StepFault;
+use crate::kept::Kept;
+use crate::looks::command_of;
+use crate::posts::{can_post, event_ring, post};
+use crate::rings::{deactivate, ring_state};
+use crate::seen::Seen;
+use commands::{Command, EndpointState};
+use guest_memory::WordMemory;
+use traces::Header;
+use trb::{Block, BlockKind};
+
+/// So many more takes of a ring are reported, the oldest first.
+fn report_takes(kept: &mut Kept, ring: u8, count: usize)
+    ensures change { (h : HeaderValue) (rows : List Row) (words : ℕ → ℕ) (w : World) → count ≤ length (unreported w ring) → Follows h rows words kept.old w →
+        Follows h rows words kept.new (with_reported h w ring (w.reported ring + count)) }
+    ensures rest { KeepsRun kept.old kept.new }
+{
+    let state = &mut kept.rings[usize::from(ring)];
+    state.history.report_first(count);
+}
+
+/// How many takes of a ring weren't reported.
+fn unreported(kept: &Kept, ring: u8) -> usize
+    ensures { (h : HeaderValue) (rows : List Row) (words : ℕ → ℕ) (w : World) → Follows h rows words kept.now w → result ≡ length (unreported w ring) }
+{
+    ring_state(kept, ring).history.unreported()
+}
+
+/// Whether the last take of a ring wasn't reported, and lies at this address.
+fn is_last(kept: &Kept, ring: u8, address: u64) -> bool
+    ensures { (h : HeaderValue) (rows : List Row) (words : ℕ → ℕ) (w : World) → Follows h rows words kept.now w →
+        result ≡ is_last h address (unreported w ring) }
+{
+    ring_state(kept, ring).history.is_last(address)
+}
+
+/// Which of a ring's takes that weren't reported is the oldest at this address.
+fn take_at(kept: &Kept, ring: u8, address: u64) -> Option<usize>
+    ensures value { (h : HeaderValue) (rows : List Row) (words : ℕ → ℕ) (w : World) → Follows h rows words kept.now w →
+        result ≡ position (λ b. b == address) (unreported w ring) }
+    ensures below { (h : HeaderValue) (rows : List Row) (words : ℕ → ℕ) (w : World) → Follows h rows words kept.now w →
+        IfSome result (λ n. n < length (unreported w ring)) }
+    ensures end { IfSome result (λ n. n + 1 < 2 ^ 64) }
+{
+    ring_state(kept, ring).history.position_of(address)
+}
+
+/// Whether an endpoint is Running, and a ring active.
+fn works(kept: &Kept, slot: u8, index: u8, ring: u8) -> bool
+    requires { index < 32 }
+    ensures { (h : HeaderValue) (rows : List Row) (words : ℕ → ℕ) (w : World) → Follows h rows words kept.now w →
+        result ≡ (is_running (w.endpoint_state slot index) && w.is_active ring) }
+{
+    let is_running = is_running(endpoint_of(kept, slot, index).state);
+    is_running & ring_state(kept, ring).is_active
+}
+
+fn is_running(state: EndpointState) -> bool
+    ensures { result ≡ is_running state }
+{
+    matches!(state, EndpointState::Running)
+}
+
+/// Success: the oldest take with this address that wasn't reported is reported, with those before it (xHCI 4.10.2).
+fn report_success(kept: &mut Kept, ring: u8, address: u64) -> bool
+    ensures change { (h : HeaderValue) (rows : List Row) (words : ℕ → ℕ) (w : World) → Follows h rows words kept.old w →
+        IsChange result (report_success h w ring address) (Follows h rows words kept.new) }
+    ensures refused { result ≡ false → kept.new ≡ kept.old }
+    ensures rest { KeepsRun kept.old kept.new }
+{
+    match take_at(kept, ring, address) {
+        None => false,
+        Some(n) => {
+            report_takes(kept, ring, n + 1);
+            true
+        }
+    }
+}
+
+/// An error at the last take, which wasn't reported: all are reported, the endpoint is in this state, and its ring inactive
+/// (xHCI 4.10.2.1).
+fn report_error(
+    kept: &mut Kept,
+    slot: u8,
+    index: u8,
+    ring: u8,
+    address: u64,
+    state: EndpointState,
+) -> bool
+    requires { index < 32 }
+    ensures change { (h : HeaderValue) (rows : List Row) (words : ℕ → ℕ) (w : World) → Follows h rows words kept.old w →
+        IsChange result (report_error h w slot index ring address state) (Follows h rows words kept.new) }
+    ensures refused { result ≡ false → kept.new ≡ kept.old }
+    ensures rest { KeepsRun kept.old kept.new }
+{
+    if !works(kept, slot, index, ring) {
+        return false;
+    }
+    if !is_last(kept, ring, address) {
+        return false;
+    }
+    let count = unreported(kept, ring);
+    report_takes(kept, ring, count);
+    deactivate(kept, ring);
+    set_state(kept, slot, index, state);
+    true
+}
+
+fn is_stop_of(command: Option<Command>, slot: u8, index: u8) -> bool
+    ensures { result ≡ is_stop_of slot index command }
+{
+    match command {
+        Some(
+            Command::StopEndpoint {
+                slot: stopped,
+                endpoint,
+            },
+        ) => slot == stopped && index == endpoint,
+        _ => false,
+    }
+}
+
+/// Whether a Stop Endpoint for this endpoint is under way.
+#[tactic(auto, unfolding(crate::specs::Posts::is_stop_under_way))]
+fn is_stop_under_way(kept: &Kept, slot: u8, index: u8) -> bool
+    ensures { (h : HeaderValue) (rows : List Row) (words : ℕ → ℕ) (w : World) → Follows h rows words kept.now w →
+        result ≡ is_stop_under_way h slot index w.under_way }
+{
+    match kept.under_way {
+        None => false,
+        Some(pending) => is_stop_of(command_of(&pending.block), slot, index),
+    }
+}
+
+/// The Stopped event of the Stop Endpoint under way was posted.
+fn note_stopped(kept: &mut Kept)
+    ensures change { (h : HeaderValue) (rows : List Row) (words : ℕ → ℕ) (w : World) → Follows h rows words kept.old w →
+        Follows h rows words kept.new (record w { under_way = with_stopped h w.under_way }) }
+    ensures rest { KeepsRun kept.old kept.new }
+{
+    if let Some(pending) = &mut kept.under_way {
+        pending.has_stopped = true;
+    }
+}
+
+/// The endpoint's ring is stopped, and so many more takes of it are reported.
+fn stop_after(kept: &mut Kept, ring: u8, count: usize)
+    ensures change { (h : HeaderValue) (rows : List Row) (words : ℕ → ℕ) (w : World) → count ≤ length (unreported w ring) → Follows h rows words kept.old w →
+        Follows h rows words kept.new (stopped_with h w ring (w.reported ring + count)) }
+    ensures rest { KeepsRun kept.old kept.new }
+{
+    report_takes(kept, ring, count);
+    deactivate(kept, ring);
+    note_stopped(kept);
+}
+
+/// A Stop Endpoint stops the endpoint: at the last take, where that wasn't reported, which then still may be, or at the
+/// dequeue pointer (xHCI 4.6.9).
+fn report_stop(kept: &mut Kept, slot: u8, index: u8, ring: u8, address: u64) -> bool
+    requires { index < 32 }
+    ensures change { (h : HeaderValue) (rows : List Row) (words : ℕ → ℕ) (w : World) → Follows h rows words kept.old w →
+        IsChange result (report_stop h w slot index ring address) (Follows h rows words kept.new) }
+    ensures refused { result ≡ false → kept.new ≡ kept.old }
+    ensures rest { KeepsRun kept.old kept.new }
+{
+    if !is_stop_under_way(kept, slot, index) {
+        return false;
+    }
+    if !works(kept, slot, index, ring) {
+        return false;
+    }
+    let count = unreported(kept, ring);
+    if is_last(kept, ring, address) {
+        stop_after(kept, ring, count.saturating_sub(1));
+        return true;
+    }
+    if address != ring_state(kept, ring).pointer {
+        return false;
+    }
+    stop_after(kept, ring, count);
+    true
+}
+
+fn is_success(code: u8) -> bool
+    ensures { result ≡ is_success code }
+{
+    code == 1 || code == 13
+}
+
+fn is_halting(code: u8) -> bool
+    ensures { result ≡ is_halting code }
+{
+    code == 3 || code == 4 || code == 6 || code == 36
+}
+
+fn is_trb_error(code: u8) -> bool
+    ensures { result ≡ is_trb_error code }
+{
+    code == 5
+}
+
+fn is_stopping(code: u8) -> bool
+    ensures { result ≡ is_stopping code }
+{
+    code == 26 || code == 27 || code == 28
+}
+
+/// What a Transfer Event with this completion code says of an endpoint and its ring (xHCI 6.4.5).
+fn report_code(kept: &mut Kept, code: u8, slot: u8, index: u8, ring: u8, address: u64) -> bool
+    requires { index < 32 }
+    ensures change { (h : HeaderValue) (rows : List Row) (words : ℕ → ℕ) (w : World) → Follows h rows words kept.old w →
+        IsChange result (report_code h w code slot index ring address) (Follows h rows words kept.new) }
+    ensures refused { result ≡ false → kept.new ≡ kept.old }
+    ensures rest { KeepsRun kept.old kept.new }
+{
+    if is_success(code) {
+        return report_success(kept, ring, address);
+    }
+    if is_halting(code) {
+        return report_error(kept, slot, index, ring, address, EndpointState::Halted);
+    }
+    if is_trb_error(code) {
+        return report_error(kept, slot, index, ring, address, EndpointState::Error);
+    }
+    if is_stopping(code) {
+        return report_stop(kept, slot, index, ring, address);
+    }
+    false
+}
+
+/// Whether the words are those of a Transfer Event without Event Data (xHCI 6.4.2.1).
+fn is_report(block: &Block) -> bool
+    ensures { result ≡ (is_transfer_event (kind block.now) && not (is_set (word block.now 3) 2)) }
+{
+    matches!(block.kind(), BlockKind::TransferEvent) && block.w[3] / 4 % 2 != 1
+}
+
+/// What a Transfer Event says, at the endpoint that it names, where that has a ring.
+fn report_on(kept: &mut Kept, block: &Block) -> bool
+    ensures change { (h : HeaderValue) (rows : List Row) (words : ℕ → ℕ) (w : World) → Follows h rows words kept.old w →
+        IsChange result (told h w block.now (w.ring_of (slot block.now) (endpoint block.now))) (Follows h rows words kept.new) }
+    ensures refused { result ≡ false → kept.new ≡ kept.old }
+    ensures rest { KeepsRun kept.old kept.new }
+{
+    let slot = block.slot();
+    let index = block.endpoint();
+    match endpoint_of(kept, slot, index).ring {
+        None => false,
+        Some(ring) => report_code(kept, block.code(), slot, index, ring, block.pointer()),
+    }
+}
+
+/// The controller posts a Transfer Event (xHCI 4.10.2, 6.4.2.1).
+pub(crate) fn report<M: WordMemory>(
+    header: &Header,
+    memory: &mut M,
+    kept: &mut Kept,
+    block: &Block,
+    step: u64,
+) -> Result<Seen, StepFault>
+    requires { step ≡ kept.old.progress.steps + 1 }
+    ensures step { (rows : List Row) (w : World) → Follows header.now rows (M.words memory.old) kept.old w →
+        IsStep result (reported header.now w block.now) (Posted (address_of (event_shape header.now) w.posted)) (Follows header.now rows (M.words memory.new) kept.new) }
+    ensures refused { result ≡ Err StepFault.NotPossible → kept.new ≡ kept.old }
+    ensures memory { result ≡ Err StepFault.NotPossible → M.words memory.new ≡ M.words memory.old }
+{
+    let shape = match event_ring(header) {
+        None => return Err(StepFault::NotPossible),
+        Some(ring) => &ring.shape,
+    };
+    if !can_post(shape, kept, block) {
+        return Err(StepFault::NotPossible);
+    }
+    if !is_report(block) {
+        return Err(StepFault::NotPossible);
+    }
+    if !report_on(kept, block) {
+        return Err(StepFault::NotPossible);
+    }
+    let at = post(shape, memory, kept, block, step)?;
+    Ok(Seen::Posted { at })
+}

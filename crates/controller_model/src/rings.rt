@@ -1,0 +1,26 @@
+ghost use Rattle.std.specs.Prelude.{◌≡◌, ℕ, Some, List};
+ghost use Rattle.traces.specs.declared.header.Header.{Header};
+ghost use Rattle.traces.specs.declared.row.Row.{Row};
+ghost use Rattle.world_state.specs.World.{World};
+ghost use Rattle.controller_model.specs.Bindings.{inactive};
+ghost use Rattle.controller_model.specs.Following.{Follows, FollowsRing, KeepsRun, ring_held};
+
+use crate::kept::{Kept, RingState};
+
+/// What is kept of a ring.
+pub(crate) fn ring_state(kept: &Kept, ring: u8) -> &RingState
+    ensures { (h : Header) (rows : List Row) (words : ℕ → ℕ) (w : World) → Follows h rows words kept.now w →
+        FollowsRing h ring (ring_held w ring) result.now }
+{
+    &kept.rings[usize::from(ring)]
+}
+
+/// The controller looks at a ring no more.
+pub(crate) fn deactivate(kept: &mut Kept, ring: u8)
+    ensures change { (h : Header) (rows : List Row) (words : ℕ → ℕ) (w : World) → Follows h rows words kept.old w →
+        Follows h rows words kept.new (inactive w (Some ring)) }
+    ensures rest { KeepsRun kept.old kept.new }
+{
+    let state = &mut kept.rings[usize::from(ring)];
+    state.is_active = false;
+}

@@ -1,0 +1,122 @@
+ghost use Rattle.std.specs.Prelude.{◌≡◌, ℕ, ◌&&◌, ◌==◌, ◌-◌, ◌<◌, List, Option, not, nat_le, nat_lt};
+ghost use Rattle.traces.specs.declared.header.Header.{Header as HeaderValue};
+ghost use Rattle.traces.specs.declared.row.Row.{Row as RowValue};
+ghost use Rattle.traces.specs.Header.{event_size, shape_of, some_ring};
+ghost use Rattle.world_state.specs.World.{World};
+ghost use Rattle.world_state.specs.Harms.{harm_of, has_changed_context, has_other_words, is_inside_descriptor, is_out_of_order, waits};
+ghost use Rattle.controller_model.specs.Following.{Follows, FollowsRing, ring_held};
+
+use crate::kept::{Kept, RingState};
+use crate::looks::{agrees, command_of};
+use crate::memory::block_at;
+use crate::posts::event_ring;
+use guest_memory::WordMemory;
+use traces::Header;
+use world_state::Harm;
+
+/// Which harms the takes and the waiting of some ring show.
+#[derive(Clone, Copy)]
+struct RingHarms {
+    out_of_order: bool,
+    other_words: bool,
+    waits_inside: bool,
+}
+
+/// The harms of all rings.
+fn ring_harms<M: WordMemory>(header: &Header, memory: &M, kept: &Kept) -> RingHarms
+    ensures order { (rows : List RowValue) (w : World) → Follows header.now rows (M.words memory.now) kept.now w →
+        result.out_of_order ≡ some_ring header.now (λ r. is_out_of_order (shape_of header.now r) (w.events r)) }
+    ensures words { (rows : List RowValue) (w : World) → Follows header.now rows (M.words memory.now) kept.now w →
+        result.other_words ≡ some_ring header.now (λ r. has_other_words (shape_of header.now r) (w.events r)) }
+    ensures waits { (rows : List RowValue) (w : World) → Follows header.now rows (M.words memory.now) kept.now w →
+        result.waits_inside ≡ some_ring header.now (λ r. waits w r && is_inside_descriptor (w.events r)) }
+{
+    let mut harms = RingHarms {
+        out_of_order: false,
+        other_words: false,
+        waits_inside: false,
+    };
+    for ring in header.rings.as_slice() {
+        let state = &kept.rings[usize::from(ring.id)];
+        harms.out_of_order |= state.history.is_out_of_order();
+        harms.other_words |= state.history.has_other_words();
+        harms.waits_inside |= waits_inside(memory, state);
+    }
+    harms
+}
+
+/// Whether a ring is active and within a descriptor, and the block at its pointer shows the other cycle.
+fn waits_inside<M: WordMemory>(memory: &M, state: &RingState) -> bool
+    ensures { (h : HeaderValue) (r : ℕ) (w : World) → FollowsRing h r (ring_held w r) state.now → M.words memory.now ≡ w.memory →
+        result ≡ (waits w r && is_inside_descriptor (w.events r)) }
+{
+    if !state.is_active {
+        return false;
+    }
+    if !state.history.is_inside() {
+        return false;
+    }
+    !agrees(&block_at(memory, state.pointer), state.cycle)
+}
+
+/// Whether the controller posted over an unread event (xHCI 4.9.4).
+fn posts_over_unread(header: &Header, kept: &Kept) -> bool
+    ensures { (rows : List RowValue) (words : ℕ → ℕ) (w : World) → Follows header.now rows words kept.now w →
+        result ≡ (nat_lt 0 (event_size header.now) && nat_le (event_size header.now) (w.posted - w.reads)) }
+{
+    match event_ring(header) {
+        None => false,
+        Some(ring) => {
+            let places = u64::from(ring.shape.places());
+            kept.events.posted.saturating_sub(kept.events.reads) >= places
+        }
+    }
+}
+
+/// Whether the input context of the command under way was changed since its control word was last written (xHCI 4.6, 6.2.5).
+fn has_changed_context(header: &Header, kept: &Kept) -> bool
+    ensures { (rows : List RowValue) (words : ℕ → ℕ) (w : World) → Follows header.now rows words kept.now w →
+        result ≡ has_changed_context header.now w w.under_way }
+{
+    let pending = match kept.under_way {
+        None => return false,
+        Some(pending) => pending,
+    };
+    let command = match command_of(&pending.block) {
+        None => return false,
+        Some(command) => command,
+    };
+    let context = match command.input_context() {
+        None => return false,
+        Some(context) => context,
+    };
+    let given = kept.stamps.written_behind(pending.address, 12);
+    kept.stamps
+        .is_changed_since(given, context, 33 * header.context_size.bytes() / 4)
+}
+
+/// The least harm of a world.
+pub(crate) fn harm_of<M: WordMemory>(header: &Header, memory: &M, kept: &Kept) -> Option<Harm>
+    ensures { (rows : List RowValue) (w : World) → Follows header.now rows (M.words memory.now) kept.now w → result ≡ harm_of header.now w }
+{
+    let rings = ring_harms(header, memory, kept);
+    if rings.out_of_order {
+        return Some(Harm::TakenOutOfOrder);
+    }
+    if rings.other_words {
+        return Some(Harm::TakenOtherWords);
+    }
+    if rings.waits_inside {
+        return Some(Harm::WaitsInsideDescriptor);
+    }
+    if kept.looked_outside {
+        return Some(Harm::LooksOutside);
+    }
+    if posts_over_unread(header, kept) {
+        return Some(Harm::PostsOverUnread);
+    }
+    if has_changed_context(header, kept) {
+        return Some(Harm::InputContextChanged);
+    }
+    None
+}
