@@ -7,6 +7,7 @@ crates/ownership_rules/proofs/, each replay with its ending to crates/controller
 import os, sys
 
 KINDS = {'cmd': 'Cmd', 'evt': 'Evt', 'xfer': 'Xfer'}
+HARMS = [None, 'TakenOutOfOrder', 'TakenOtherWords', 'WaitsInsideDescriptor', 'LooksOutside', 'PostsOverUnread', 'InputContextChanged']
 
 
 def block(words):
@@ -86,7 +87,6 @@ use Rattle.world_state.specs.declared.harm.Harm.TheVariants.{TakenOutOfOrder, Ta
 use Rattle.controller_model.specs.Steps.{ending_of, Ending, NoHarm, NotPossible, Harmful}
 use Rattle.controller_model.specs.OnLiterals.{model_on_literals}
 '''
-    harms = [None, 'TakenOutOfOrder', 'TakenOtherWords', 'WaitsInsideDescriptor', 'LooksOutside', 'PostsOverUnread', 'InputContextChanged']
     counts = [0, 0, 0]
     for case in sorted(os.listdir(cases)):
         read = lambda f: open(os.path.join(cases, case, f)).read()
@@ -120,7 +120,7 @@ use Rattle.controller_model.specs.OnLiterals.{model_on_literals}
         if command == 'replay' or (command == 'schedule' and out[0] == 'xsched 1'):
             schedule = read('schedule').strip('\n').split('\n') if command == 'replay' else out[:-1]
             last = out[-2].split()
-            ending = 'NoHarm' if command == 'schedule' or last[0] == 'no' else 'NotPossible %d' % int(last[1][:-1]) if last[2] == 'not' else 'Harmful %d %s' % (int(last[1][:-1]), harms[int(last[3])])
+            ending = 'NoHarm' if command == 'schedule' or last[0] == 'no' else 'NotPossible %d' % int(last[1][:-1]) if last[2] == 'not' else 'Harmful %d %s' % (int(last[1][:-1]), HARMS[int(last[3])])
             steps = [step(l.split()) for l in schedule[1:]]
             replays += text + f'\nabbrev pub {name}_steps : List Step\n{name}_steps =\n    ' + '\n    ∷ '.join(steps + ['[]']) + '\n'
             replays += f'\npub {name} : ending_of {name}_header {name}_rows {name}_steps ≡ {ending}\nunfolding model_on_literals\n{name} = refl\n'
@@ -132,4 +132,5 @@ use Rattle.controller_model.specs.OnLiterals.{model_on_literals}
     print('%d verdicts, %d lists of leases, %d replays' % tuple(counts))
 
 
-main()
+if __name__ == '__main__':
+    main()
