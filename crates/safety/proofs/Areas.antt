@@ -51,7 +51,7 @@ pub record ContextLies (h : Header) (k : Known) (n : ℕ) : Type 0 where
   pub rings : touches_ring h n (input_context_bytes h.context_size) ≡ false
   pub clean : is_soiled k n (input_context_bytes h.context_size) ≡ false
 
-bad_context_parts : (h : Header) (k : Known) (n : ℕ) → has_bad_context h k (Some n) ≡ false → ContextLies h k n
+pub bad_context_parts : (h : Header) (k : Known) (n : ℕ) → has_bad_context h k (Some n) ≡ false → ContextLies h k n
 unfolding has_bad_context is_bad_area
 bad_context_parts h k n none =
     let parts = or_parts _ _ none in
@@ -59,7 +59,7 @@ bad_context_parts h k n none =
     let ends = or_parts _ _ area.0 in
     record { rings = ends.1; clean = parts.1 }
 
-bad_command_context : (h : Header) (k : Known) (c : Command) → is_bad_command h k c ≡ false → has_bad_context h k (named_context c) ≡ false
+pub bad_command_context : (h : Header) (k : Known) (c : Command) → is_bad_command h k c ≡ false → has_bad_context h k (named_context c) ≡ false
 unfolding is_bad_command
 bad_command_context h k c none =
     let parts = or_parts _ _ none in

@@ -1,9 +1,8 @@
 -- Any history keeps endpoints on transfer rings that were bound, and the command ring is none of them
 use Rattle.std.specs.Prelude.{◌≡◌, ℕ, ◌+◌, ◌==◌, ◌&&◌, ◌||◌, not, if◌then◌else◌, Bool, true, List, [], ◌∷◌, Option, None, Some, option_and_then}
-use Rattle.std.specs.Option.{option_map}
 use Rattle.std.proofs.Common.{refl, sym, ◌∙◌, ap}
 use Rattle.std.proofs.lemmas.Bool.{cond_both}
-use Rattle.std.proofs.lemmas.Option.{none-some, same_Some}
+use Rattle.std.proofs.lemmas.Option.{none-some}
 use Rattle.guest_memory.specs.Memory.{put_pair}
 use Rattle.trb.specs.declared.block.Block.{Block}
 use Rattle.trb.specs.declared.kind.BlockKind.{BlockKind}
@@ -13,7 +12,7 @@ use Rattle.trb.specs.CompletionCode.{is_success, is_halting, is_trb_error, is_st
 use Rattle.segments.specs.declared.spot.Spot.{Spot}
 use Rattle.segments.specs.Spots.{number, after}
 use Rattle.segments.specs.RingView.{Declares, Reaches, Holds, Opens}
-use Rattle.segments.specs.Ceiling.{named, stopped_number}
+use Rattle.segments.specs.Ceiling.{stopped_number}
 use Rattle.commands.specs.declared.command.Command.{Command}
 use Rattle.commands.specs.declared.command.Command.TheVariants.{StopEndpoint}
 use Rattle.commands.specs.declared.state.EndpointState.{EndpointState}
@@ -35,6 +34,7 @@ use Rattle.ring_knowledge.specs.Completions.{succeeded, stop_ended, finished, co
 use Rattle.ring_knowledge.specs.Learned.{event_read, learned, known}
 use Rattle.safety.specs.EndpointsKeep.{EndpointsKeep}
 use Rattle.safety.proofs.RingIds.{command_not_transfer}
+use Rattle.safety.proofs.TransferFrames.{spot_ring}
 use Rattle.safety.proofs.Endpoints.{MayBeInUse, Leaves, leaves_keeps, same_leaves, both_leave, on_ring_leaves, in_use_leaves, endpoint_in_use, on_bound, changes_keep, changes_elsewhere}
 
 module _ (h : Header) (is : IsHeader h) where
@@ -138,16 +138,6 @@ module _ (h : Header) (is : IsHeader h) where
       (λ _. broken_keeps k s i r t Error keeps used)
       (λ _. cond_both (is_stopping c) (stopped_at h k s i r t) k (EndpointsKeep h) (λ _. stopped_keeps k s i r t keeps used) (λ _. keeps))))
 
-  -- the ring of a named spot is the endpoint's
-  spot_ring : (k : Known) (a : ℕ) (o : Option ℕ) (at : RingSpot) → spot_on h k a o ≡ Some at → o ≡ Some at.ring
-  unfolding spot_on
-  spot_ring k a None at e = absurd (none-some at e)
-  spot_ring k a (Some r) at e = by (named (shape_of h r) (k.ring r) a) e
-    where
-      by : (m : Option Spot) → option_map (λ t. let x : RingSpot = record { ring = r; spot = t } in x) m ≡ Some at → Some r ≡ Some at.ring
-      by None e = absurd (none-some at e)
-      by (Some t) e = ap (λ (x : RingSpot). Some x.ring) (same_Some (record { ring = r; spot = t }) at e)
-
   transfer_keeps : (k : Known) (b : Block) → EndpointsKeep h k → EndpointsKeep h (transfer_read h k b)
   unfolding transfer_read transferred_at event_at
   transfer_keeps k b keeps = by (spot_on h k (pointer b) (k.ring_of (slot b) (endpoint b))) refl
@@ -156,7 +146,7 @@ module _ (h : Header) (is : IsHeader h) where
       by None found = keeps
       by (Some at) found =
           transferred_keeps k (code b) (slot b) (endpoint b) at.ring at.spot keeps
-          (endpoint_in_use h k keeps (slot b) (endpoint b) at.ring (spot_ring k (pointer b) (k.ring_of (slot b) (endpoint b)) at found))
+          (endpoint_in_use h k keeps (slot b) (endpoint b) at.ring (spot_ring h k (pointer b) (k.ring_of (slot b) (endpoint b)) at found))
 
   -- ---- a completion
 
@@ -202,7 +192,7 @@ module _ (h : Header) (is : IsHeader h) where
   event_keeps k b CommandCompletion keeps = completion_keeps k b keeps
   event_keeps k b _ keeps = keeps
 
-  row_keeps : (k : Known) (row : Row) → EndpointsKeep h k → EndpointsKeep h (learned h k row)
+  pub row_keeps : (k : Known) (row : Row) → EndpointsKeep h k → EndpointsKeep h (learned h k row)
   unfolding learned
   row_keeps k (Sub r blocks) keeps = declared_keeps k r blocks keeps
   row_keeps k (Write a w) keeps = written_keeps k a w keeps

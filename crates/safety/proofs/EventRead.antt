@@ -1,9 +1,10 @@
 -- When a posted event is possible where it will be read, and what reading it adds
-use Rattle.std.specs.Prelude.{◌≡◌, ◌+◌, ◌-◌, ◌≤◌, ◌==◌, ◌&&◌, Bool, true, false, not, List, [], ◌∷◌, ◌++◌}
+use Rattle.std.specs.Prelude.{◌≡◌, ◌+◌, ◌-◌, ◌≤◌, ◌==◌, ◌&&◌, Bool, true, false, not, List, [], ◌∷◌, ◌++◌, All}
 use Rattle.std.proofs.Common.{arith, refl, sym, ◌∙◌, ap, subst}
 use Rattle.std.proofs.lemmas.Bool.{cond-false, or_from, not_from_true, le-ltb, eq-eqb}
 use Rattle.trb.specs.declared.block.Block.{Block}
-use Rattle.trb.specs.Block.{cycle, kind}
+use Rattle.std.proofs.lemmas.List.Elements.{All-append, All-cons, All-nil}
+use Rattle.trb.specs.Block.{IsBlock, cycle, kind}
 use Rattle.trb.specs.Kind.{is_event, is_transfer_event}
 use Rattle.segments.specs.Places.{cycle_of}
 use Rattle.traces.specs.declared.header.Header.{Header}
@@ -44,7 +45,7 @@ not_impossible h k b on room same event possible =
     (not_from_true (cycle b == cycle_of (event_shape h) k.reads) (eq-eqb (cycle b) (cycle_of (event_shape h) k.reads) same)))
     (not_from_true (is_event (kind b)) event)) possible
 
-event_broken : (h : Header) (k : Known) (b : Block) → k.stopped ≡ false → is_impossible h k b ≡ false → (is_transfer_event (kind b) && not (is_in_profile b)) ≡ false → broken h k (Read b) ≡ []
+pub event_broken : (h : Header) (k : Known) (b : Block) → k.stopped ≡ false → is_impossible h k b ≡ false → (is_transfer_event (kind b) && not (is_in_profile b)) ≡ false → broken h k (Read b) ≡ []
 unfolding broken of_rules.tests of_events.event_tests
 event_broken h k b on possible in_profile =
     cond-false k.stopped (AfterStop ∷ []) (broken_of ((ImpossibleEvent, is_impossible h k b) ∷ (NotInProfile, is_transfer_event (kind b) && not (is_in_profile b)) ∷ [])) on
@@ -65,3 +66,6 @@ clean_more h unread past b clean none = subst (λ rows. IsClean h rows) (sym (re
 pub known_more : (h : Header) (unread : List Block) (past : List Row) (b : Block) → known h (reading (unread ++ b ∷ []) past) ≡ learned h (known h (reading unread past)) (Read b)
 unfolding known
 known_more h unread past b = ap (λ rows. known h rows) (reading_more unread past b)
+
+pub blocks_more : (unread : List Block) (b : Block) → All IsBlock unread → IsBlock b → All IsBlock (unread ++ b ∷ [])
+blocks_more unread b blocks block = All-append IsBlock unread (b ∷ []) blocks (All-cons IsBlock b [] block (All-nil IsBlock))

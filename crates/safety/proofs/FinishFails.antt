@@ -1,7 +1,7 @@
 -- The controller finishes the command under way with another code than success: the run goes on
 use Rattle.std.specs.Prelude.{◌≡◌, ℕ, ◌+◌, ◌<◌, ◌==◌, Bool, true, false, not, List, [], ◌∷◌, ◌++◌, Option, Some, None, is_some}
 use Rattle.std.proofs.Common.{arith, refl, sym, ◌∙◌, ap, subst}
-use Rattle.std.proofs.lemmas.Bool.{false≢true, and_from, and_left, or_from, or_left, or_right, cond-false, not_from_true, not_from_false, lt-ltb, eq-eqb}
+use Rattle.std.proofs.lemmas.Bool.{false≢true, and_from, and_left, or_from, or_left, or_right, cond-true, cond-false, not_from_true, not_from_false, lt-ltb, eq-eqb}
 use Rattle.trb.specs.declared.block.Block.{Block}
 use Rattle.trb.specs.declared.kind.BlockKind.{BlockKind}
 use Rattle.trb.specs.Block.{IsBlock, code, kind, pointer, slot}
@@ -11,10 +11,13 @@ use Rattle.segments.specs.Ceiling.{ceiling}
 use Rattle.segments.proofs.Positions.{cycle_of_bit}
 use Rattle.commands.specs.declared.command.Command.{Command}
 use Rattle.commands.specs.Command.{command_of, may_answer_slot}
+use Rattle.commands.specs.States.{can_succeed}
 use Rattle.traces.specs.declared.header.Header.{Header}
 use Rattle.traces.specs.declared.row.Row.{Row}
 use Rattle.traces.specs.declared.row.Row.TheVariants.{Read}
+use Rattle.traces.specs.declared.register.Register.TheVariants.{Config}
 use Rattle.traces.specs.Header.{IsHeader, shape_of, command_id}
+use Rattle.traces.specs.Register.{register_or_zero}
 use Rattle.world_state.specs.World.{World, UnderWay}
 use Rattle.world_state.specs.World as of_world
 use Rattle.controller_model.specs.Posts.{posted}
@@ -34,12 +37,12 @@ use Rattle.safety.proofs.SafeContext.{AtFloor, at_floor, command_is_ring, comman
 use Rattle.safety.proofs.Counted.{agrees_counted}
 use Rattle.safety.proofs.WithReads.{with_reads}
 use Rattle.safety.proofs.Posted.{PostKeeps, post_keeps}
-use Rattle.safety.proofs.EventRead.{learned_read, event_clean, clean_more, known_more}
+use Rattle.safety.proofs.EventRead.{learned_read, event_clean, clean_more, known_more, blocks_more}
 use Rattle.safety.proofs.ReportSuccess.{ReportKeeps}
 use Rattle.safety.proofs.FinishKinds.{IsFinish, finish_is, failure_is, completion_kind, let_go, seen_after, next_known, failed_read, none_waits, none_after}
 use Rattle.safety.proofs.FinishNext.{stands_next, events_next, matches_next}
 
-posted_under_way : (h : Header) (w : World) (b : Block) → (posted h w b).under_way ≡ w.under_way
+pub posted_under_way : (h : Header) (w : World) (b : Block) → (posted h w b).under_way ≡ w.under_way
 unfolding posted of_world.stored_block of_world.stored
 posted_under_way h w b = refl
 
@@ -55,6 +58,11 @@ can_fail : (k : Known) (b : Block) (c : Command) → may_answer_slot (Some c) (s
 unfolding can_finish
 can_fail k b c answers fails fresh = and_from _ _ answers (cond-false (code b == 1) _ _ fails ∙ not_from_false (was_stop_seen k c) fresh)
 
+pub can_end : (k : Known) (b : Block) (e : Command) → may_answer_slot (Some e) (slot b) ≡ true → (code b == 1) ≡ true →
+    can_succeed k.slot_state k.endpoint_state (register_or_zero k.register Config) (slot b) e ≡ true → can_finish k b (Some e) ≡ true
+unfolding can_finish
+can_end k b e answers one can = and_from _ _ answers (cond-true (code b == 1) _ _ one ∙ can)
+
 pub completion_possible : (h : Header) (k : Known) (b : Block) → is_command_completion (kind b) ≡ true → may_be_taken h k ≡ true → pointer b ≡ address_of (shape_of h (command_id h)) (next_command h k) →
     (code b == 0) ≡ false → can_finish k b (command_at h k (next_command h k)) ≡ true → is_impossible_by_kind h k (kind b) b ≡ false
 unfolding is_impossible_by_kind is_impossible_completion
@@ -64,7 +72,7 @@ completion_possible h k b completion taken at some_code may =
     (not_from_true (pointer b == address_of (shape_of h (command_id h)) (next_command h k)) (eq-eqb (pointer b) (address_of (shape_of h (command_id h)) (next_command h k)) at))) some_code)
     (not_from_true (can_finish k b (command_at h k (next_command h k))) may)
 
-no_transfer : (t : BlockKind) → is_command_completion t ≡ true → is_transfer_event t ≡ false
+pub no_transfer : (t : BlockKind) → is_command_completion t ≡ true → is_transfer_event t ≡ false
 no_transfer t h = ap is_transfer_event (completion_kind t h)
 
 module _ (h : Header) (is : IsHeader h) (k : Known) (unread : List Block) (w v : World) (b : Block) (block : IsBlock b) (running : w.stopped ≡ false) (d : DriverKeeps h k) (g : Agrees h k unread w)
@@ -151,6 +159,7 @@ finish_failure_runs h is past w v b block running run d fails at =
     record {
       unread = run.unread ++ b ∷ [];
       clean = clean_more h run.unread past b run.clean keeps.clean;
+      blocks = blocks_more run.unread b run.blocks block;
       on = run.on;
       agrees = subst (λ m. Agrees h m (run.unread ++ b ∷ []) (counted h v)) (sym (known_more h run.unread past b)) keeps.agrees;
     }

@@ -126,7 +126,7 @@ stop_of_is k s i (ResetEndpoint t j) at = absurd (false≢true at)
 stop_of_is k s i (SetTrDequeue t j p c) at = absurd (false≢true at)
 stop_of_is k s i (ResetDevice t) at = absurd (false≢true at)
 
-stopping_of : (h : Header) (k : Known) (s i : ℕ) → is_stopping_now h k s i ≡ true → is_stop_of s i (command_at h k (next_command h k)) ≡ true
+pub stopping_of : (h : Header) (k : Known) (s i : ℕ) → is_stopping_now h k s i ≡ true → is_stop_of s i (command_at h k (next_command h k)) ≡ true
 unfolding is_stopping_now
 stopping_of h k s i at = (and_parts (may_be_taken h k) (is_stop_of s i (command_at h k (next_command h k))) at).1
 
@@ -136,7 +136,7 @@ none_waits h k d c at fresh s i =
     let stop : is_stop_of s i (Some c) ≡ true = ap (λ o. is_stop_of s i o) (sym at) ∙ stopping_of h k s i (d.states.seen_command s i seen) in
     false≢true (sym fresh ∙ stop_of_is k s i c stop ∙ seen))
 
-put_false : (f : ℕ → ℕ → Bool) (a b s i : ℕ) → f s i ≡ false → put_pair f a b false s i ≡ false
+pub put_false : (f : ℕ → ℕ → Bool) (a b s i : ℕ) → f s i ≡ false → put_pair f a b false s i ≡ false
 put_false f a b s i none = either (s == a && i == b) (f s i) none
   where
     either : (t x : Bool) → x ≡ false → (if t then false else x) ≡ false

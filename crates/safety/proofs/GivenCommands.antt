@@ -26,7 +26,7 @@ use Rattle.ownership_rules.specs.Rules.{tests, broken}
 use Rattle.safety.specs.Placings.{AreFree, MovesOn, StillHolds}
 use Rattle.safety.proofs.TestsPassed.{AllFail, tests_fail, each_fails}
 
-ring_is : (r : ℕ) (o : Option ℕ) → is_ring r o ≡ true → o ≡ Some r
+pub ring_is : (r : ℕ) (o : Option ℕ) → is_ring r o ≡ true → o ≡ Some r
 ring_is r None h = absurd (false≢true h)
 ring_is r (Some q) h = ap (λ n. Some n) (eqb-true q r h)
 
@@ -36,22 +36,22 @@ range_above least a (suc n) low =
     All-cons (λ i. nat_le least i ≡ true) a (range_with_len (a + 1) n) (le-leb least a low) (range_above least (a + 1) n (omega arith))
 
 -- what a context adds lies above the default control endpoint
-added_above : (memory : ℕ → ℕ) (n : ℕ) → All (λ i. nat_le 2 i ≡ true) (added_endpoints memory n)
+pub added_above : (memory : ℕ → ℕ) (n : ℕ) → All (λ i. nat_le 2 i ≡ true) (added_endpoints memory n)
 unfolding added_endpoints
 added_above memory n = All-filter (input_add_flag memory n) (λ i. nat_le 2 i ≡ true) (range_with_len 2 30) (range_above 2 2 30 (omega arith))
 
 module _ (h : Header) (k : Known) where
   -- a ring that is unused was never bound
-  unused_is : (o : Option ℕ) → is_unused_ring h k o ≡ true → (r : ℕ) × (o ≡ Some r) × (k.was_bound r ≡ false)
+  pub unused_is : (o : Option ℕ) → is_unused_ring h k o ≡ true → (r : ℕ) × (o ≡ Some r) × (k.was_bound r ≡ false)
   unfolding is_unused_ring is_used
   unused_is None e = absurd (false≢true e)
   unused_is (Some r) e = (r, refl, (or_parts (k.was_bound r) (list_any (binds_ring h k r) (unfinished h k)) (not-true (k.was_bound r || list_any (binds_ring h k r) (unfinished h k)) e)).0)
 
-  record GoodBindings (c : Command) : Type 0 where
+  pub record GoodBindings (c : Command) : Type 0 where
     pub unused : All (λ b. is_unused_ring h k (ring_bound h b) ≡ true) (binds h k c)
     pub repeats : has_repeats (map (ring_bound h) (binds h k c)) ≡ false
 
-  good_bindings : (c : Command) → is_bad_binding h k c ≡ false → GoodBindings c
+  pub good_bindings : (c : Command) → is_bad_binding h k c ≡ false → GoodBindings c
   unfolding is_bad_binding
   good_bindings c good =
       let parts = or_parts (list_any (λ b. not (is_unused_ring h k (ring_bound h b)) || not b.cycle) (binds h k c)) (has_repeats (map (ring_bound h) (binds h k c))) good in
@@ -63,7 +63,7 @@ module _ (h : Header) (k : Known) where
         repeats = parts.1;
       }
 
-  never_bound : (c : Command) → GoodBindings c → (r : ℕ) → binds_ring h k r c ≡ true → k.was_bound r ≡ false
+  pub never_bound : (c : Command) → GoodBindings c → (r : ℕ) → binds_ring h k r c ≡ true → k.was_bound r ≡ false
   unfolding binds_ring
   never_bound c good r bound =
       let any = Any-from_list_any (λ b. is_ring r (ring_bound h b)) (binds h k c) bound in
@@ -85,13 +85,13 @@ module _ (h : Header) (k : Known) where
         | inr drops ↦ or_right (is_off (k.endpoint_state s i)) (is_dropped k.memory n i) (and_from (nat_le 2 i) (input_drop_flag k.memory n i) above drops)
       ]
 
-  content_good : (c : Command) → commands.is_bad_command h k c ≡ false → commands.has_bad_content h k c ≡ false
+  pub content_good : (c : Command) → commands.is_bad_command h k c ≡ false → commands.has_bad_content h k c ≡ false
   unfolding commands.is_bad_command
   content_good c good =
       (or_parts (commands.names_disabled_slot k (named_slot c) || commands.names_disabled_endpoint k (named_endpoint c) || commands.has_bad_context h k (named_context c))
       (commands.has_bad_content h k c) good).1
 
-  are_free : (c : Command) → commands.has_bad_content h k c ≡ false → AreFree h k c
+  pub are_free : (c : Command) → commands.has_bad_content h k c ≡ false → AreFree h k c
   unfolding commands.has_bad_content
   are_free (ConfigureEndpoint s false n) good =
       let each = each_fails (commands.is_bad_added h k s n) (added_endpoints k.memory n) good in
@@ -108,7 +108,7 @@ module _ (h : Header) (k : Known) where
   are_free (ResetDevice s) good = tt
 
   -- where the pointer stands
-  stays : (b : Binding) (o : Option ℕ) (r : ℕ) → is_bad_stay h k o b ≡ false → o ≡ Some r →
+  pub stays : (b : Binding) (o : Option ℕ) (r : ℕ) → is_bad_stay h k o b ≡ false → o ≡ Some r →
       is_move (shape_of h r) (k.ring r) b.pointer b.cycle (floor_number (k.ring r)) (floor_number (k.ring r)) ≡ true
   unfolding is_bad_stay
   stays b o r good at =
@@ -136,7 +136,7 @@ module _ (h : Header) (k : Known) where
   moves_on (StopEndpoint s i) good = tt
   moves_on (ResetDevice s) good = tt
 
-  fails_of : (test : Command → Bool) (o : Option Command) (c : Command) → holds_of test o ≡ false → o ≡ Some c → test c ≡ false
+  pub fails_of : (test : Command → Bool) (o : Option Command) (c : Command) → holds_of test o ≡ false → o ≡ Some c → test c ≡ false
   unfolding holds_of
   fails_of test o c none at = ap (holds_of test) (sym at) ∙ none
 

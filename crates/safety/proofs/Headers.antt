@@ -1,5 +1,5 @@
 -- The rings of a header: allowed, and apart from the event ring
-use Rattle.std.specs.Prelude.{◌≡◌, ℕ, ◌==◌, ◌%◌, ◌<◌, ◌&&◌, ◌⊎◌, Bool, true, false, not, List, [], ◌∷◌, nat_lt, Option, Some, None, find}
+use Rattle.std.specs.Prelude.{◌≡◌, ℕ, ◌==◌, ◌%◌, ◌<◌, ◌≤◌, ◌&&◌, ◌⊎◌, Bool, true, false, not, List, [], ◌∷◌, nat_lt, Option, Some, None, find}
 use Rattle.std.specs.List.{list_all, list_any}
 use Rattle.std.proofs.Common.{arith, refl, sym, ◌∙◌, ap, subst, inl, inr}
 use Rattle.std.proofs.lemmas.Bool.{cases_Bool, eq-eqb, eqb-true, ltb-true, false≢true, cond-true, cond-false, and_parts, or_parts, not-true, not_from_true, false_from_ne_true}
@@ -38,7 +38,7 @@ each_passes p (y ∷ ys) x all at =
     elim at [ inl here ↦ ap p here ∙ parts.0 | inr later ↦ each_passes p ys x parts.1 later ]
 
 -- of two rings that may stand together one doesn't clash with the other
-together : (rings : List Ring) (r q : Ring) → may_stand_together rings ≡ true → IsIn r rings → IsIn q rings →
+pub together : (rings : List Ring) (r q : Ring) → may_stand_together rings ≡ true → IsIn r rings → IsIn q rings →
     (r ≡ q) ⊎ (clash r q ≡ false) ⊎ (clash q r ≡ false)
 together [] r q may a b = absurd a
 together (y ∷ ys) r q may a b =
@@ -55,7 +55,7 @@ together (y ∷ ys) r q may a b =
       ]
     ]
 
-clash_apart : (r q : Ring) (x : ℕ) → clash r q ≡ false → is_inside r.shape x ≡ true → is_inside q.shape x ≡ true → ⊥
+pub clash_apart : (r q : Ring) (x : ℕ) → clash r q ≡ false → is_inside r.shape x ≡ true → is_inside q.shape x ≡ true → ⊥
 clash_apart r q x none a b =
     let p1 = or_parts _ _ none in
     let p2 = or_parts _ _ p1.0 in
@@ -97,7 +97,7 @@ module _ (h : Header) where
   shape_is r ring found = ap (λ o. shape_or Xfer o) found
 
   module _ (is : IsHeader h) where
-    header_parts : (list_all (λ r. nat_lt r.id 256 && is_shape r.shape) h.rings ≡ true) × (may_stand_together h.rings ≡ true)
+    pub header_parts : (list_all (λ r. nat_lt r.id 256 && is_shape r.shape) h.rings ≡ true) × (may_stand_together h.rings ≡ true)
     header_parts = and_parts (list_all (λ r. nat_lt r.id 256 && is_shape r.shape) h.rings) (may_stand_together h.rings) is
 
     ring_allowed : (r : Ring) → IsIn r h.rings → IsShape r.shape
@@ -173,11 +173,18 @@ module _ (h : Header) where
               absurd (omega (arith, size_is))
         ]
 
-    command_found : (c : Ring) → command_ring h ≡ Some c → IsIn c h.rings × (is_command_kind c.shape.kind ≡ true)
+    -- an event ring has two blocks at least
+    pub event_ring_size : (e : Ring) → event_ring h ≡ Some e → 2 ≤ event_size h
+    event_ring_size e at =
+        let several = (shape_facts e.shape (ring_allowed e (event_found e at).0)).several in
+        let same : place_count (event_shape h) ≡ place_count e.shape = ap (λ s. place_count s) (events_of (Some e) at) in
+        omega (arith, size_is)
+
+    pub command_found : (c : Ring) → command_ring h ≡ Some c → IsIn c h.rings × (is_command_kind c.shape.kind ≡ true)
     unfolding command_ring
     command_found c at = found_in (λ r. is_command_kind r.shape.kind) h.rings c at
 
-    command_named : (o : Option Ring) → command_ring h ≡ o → command_id h ≡ id_or_none o
+    pub command_named : (o : Option Ring) → command_ring h ≡ o → command_id h ≡ id_or_none o
     unfolding command_id
     command_named o at = ap id_or_none at
 

@@ -45,4 +45,4 @@ module _ (h : Header) (is : IsHeader h) (k : Known) (unread : List Block) (w : W
 pub look_runs : (h : Header) → IsHeader h → (past : List Row) (w v : World) (r : ℕ) → (run : Runs h past w) → DriverKeeps h (known h (reading run.unread past)) →
     looked h w r ≡ Some v → Runs h past (counted h v)
 look_runs h is past w v r run d at =
-    record { unread = run.unread; clean = run.clean; on = run.on; agrees = look_agrees h is (known h (reading run.unread past)) run.unread w d run.agrees v r at }
+    record { unread = run.unread; clean = run.clean; blocks = run.blocks; on = run.on; agrees = look_agrees h is (known h (reading run.unread past)) run.unread w d run.agrees v r at }

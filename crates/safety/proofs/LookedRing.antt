@@ -51,11 +51,11 @@ leads_on shape i b right =
       toggles_is = same_is (is_set (word b 3) 1) (toggles shape i) (not-false (same (is_set (word b 3) 1) (toggles shape i)) p.1);
     }
 
-way_crossed : (shape : Shape) (v : RingView) (q : ℕ) → v.crossed q ≡ true → is_way_given shape v q ≡ true
+pub way_crossed : (shape : Shape) (v : RingView) (q : ℕ) → v.crossed q ≡ true → is_way_given shape v q ≡ true
 unfolding is_way_given
 way_crossed shape v q given = or_right (not (is_crossing shape q)) (v.crossed q) given
 
-way_plain : (shape : Shape) (v : RingView) (q : ℕ) → is_crossing shape q ≡ false → is_way_given shape v q ≡ true
+pub way_plain : (shape : Shape) (v : RingView) (q : ℕ) → is_crossing shape q ≡ false → is_way_given shape v q ≡ true
 unfolding is_way_given
 way_plain shape v q none = or_left (not (is_crossing shape q)) (v.crossed q) (not_from_false (is_crossing shape q) none)
 

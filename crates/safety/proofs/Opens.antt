@@ -2,7 +2,9 @@
 use Rattle.std.specs.Prelude.{◌≡◌, ℕ, ◌≤◌, false, List, []}
 use Rattle.std.proofs.Common.{arith, refl, inr}
 use Rattle.std.proofs.lemmas.Bool.{false≢true}
+use Rattle.std.proofs.lemmas.List.Elements.{All-nil}
 use Rattle.std.proofs.lemmas.Option.{none-some}
+use Rattle.trb.specs.Block.{IsBlock}
 use Rattle.traces.specs.declared.header.Header.{Header}
 use Rattle.traces.specs.declared.row.Row.{Row}
 use Rattle.world_state.specs.World.{opening}
@@ -66,4 +68,4 @@ module _ (h : Header) (rows : List Row) where
   -- a run begins so
   pub opens : Runs h [] (opening rows)
   unfolding known
-  opens = record { unread = []; clean = tt; on = on; agrees = record { stands = stands; events = events; matches = matches; read = read; stamps = stamps } }
+  opens = record { unread = []; clean = tt; blocks = All-nil IsBlock; on = on; agrees = record { stands = stands; events = events; matches = matches; read = read; stamps = stamps } }

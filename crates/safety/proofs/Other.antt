@@ -24,7 +24,7 @@ use Rattle.safety.specs.Invariant.{Runs, reading}
 use Rattle.safety.proofs.Counted.{agrees_counted}
 use Rattle.safety.proofs.WithReads.{with_reads, stands_with_reads, matches_with_reads}
 use Rattle.safety.proofs.Posted.{post_keeps}
-use Rattle.safety.proofs.EventRead.{learned_read, event_clean, clean_more, known_more}
+use Rattle.safety.proofs.EventRead.{learned_read, event_clean, clean_more, known_more, blocks_more}
 
 -- what such an event says
 pub record SaysNothing (h : Header) (k : Known) (b : Block) (t : BlockKind) : Type 0 where
@@ -72,6 +72,7 @@ other_runs h is past w v b block running r d at =
     record {
       unread = r.unread ++ b ∷ [];
       clean = clean_more h r.unread past b r.clean none;
+      blocks = blocks_more r.unread b r.blocks block;
       on = r.on;
       agrees = subst (λ m. Agrees h m (r.unread ++ b ∷ []) (counted h v)) (sym (known_more h r.unread past b ∙ learned_same h is k r.unread w b block d r.agrees p.0 p.1))
           (subst (λ u. Agrees h (with_reads k (k.reads + 1)) (r.unread ++ b ∷ []) (counted h u)) p.2 (agrees_other h is k r.unread w b block d r.agrees p.0 p.1));

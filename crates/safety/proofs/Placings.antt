@@ -109,16 +109,16 @@ module _ (h : Header) (is : IsHeader h) where
   -- ---- Configure Endpoint
 
   -- the ring that the context of index i names, in the input context at address a
-  abbrev ring_at : (ℕ → ℕ) → ℕ → ℕ → Option ℕ
+  abbrev pub ring_at : (ℕ → ℕ) → ℕ → ℕ → Option ℕ
   ring_at memory a i = ring_beginning_at h (context_pointer h.context_size memory a i)
 
   -- the endpoint of slot s at index i is off, and the ring that it gets was never bound
-  record Ready (l : Known) (memory : ℕ → ℕ) (s a i : ℕ) : Type 0 where
+  pub record Ready (l : Known) (memory : ℕ → ℕ) (s a i : ℕ) : Type 0 where
     pub off : is_off (l.endpoint_state s i) ≡ true
     pub unbound : (r : ℕ) → ring_at memory a i ≡ Some r → l.was_bound r ≡ false
     pub named : is_some (ring_at memory a i) ≡ true
 
-  the_some : (o : Option ℕ) → is_some o ≡ true → (r : ℕ) × (o ≡ Some r)
+  pub the_some : (o : Option ℕ) → is_some o ≡ true → (r : ℕ) × (o ≡ Some r)
   the_some None none = absurd (false≢true none)
   the_some (Some r) some = (r, refl)
 
@@ -130,7 +130,7 @@ module _ (h : Header) (is : IsHeader h) where
   unfolding bound_to
   bound_was l s i r = refl
 
-  pointed_is : (l : Known) (s i p r : ℕ) (cycle : Bool) → is_off (l.endpoint_state s i) ≡ true → ring_beginning_at h p ≡ Some r → pointed h l s i p cycle ≡ bound_to h l s i (Some r)
+  pub pointed_is : (l : Known) (s i p r : ℕ) (cycle : Bool) → is_off (l.endpoint_state s i) ≡ true → ring_beginning_at h p ≡ Some r → pointed h l s i p cycle ≡ bound_to h l s i (Some r)
   unfolding pointed
   pointed_is l s i p r cycle off at =
       cond-true (is_off (l.endpoint_state s i)) (bound_to h l s i (ring_beginning_at h p)) (moved h l (l.ring_of s i) p cycle) off ∙ ap (λ o. bound_to h l s i o) at
@@ -144,7 +144,7 @@ module _ (h : Header) (is : IsHeader h) where
   placed_was c l s i p cycle = refl
 
   -- another index stays ready
-  ready_next : (c : Command) (l : Known) (memory : ℕ → ℕ) (s a i r j : ℕ) → is_off (l.endpoint_state s i) ≡ true → ring_at memory a i ≡ Some r → Ready l memory s a j →
+  pub ready_next : (c : Command) (l : Known) (memory : ℕ → ℕ) (s a i r j : ℕ) → is_off (l.endpoint_state s i) ≡ true → ring_at memory a i ≡ Some r → Ready l memory s a j →
       is_ring r (ring_at memory a j) ≡ false → Ready (changed_by h c l (placed_by_context h.context_size memory s a i)) memory s a j
   ready_next c l memory s a i r j off at ready apart =
       let p : ℕ = context_pointer h.context_size memory a i in
@@ -191,12 +191,12 @@ module _ (h : Header) (is : IsHeader h) where
             (λ x d inside. ready_next c l memory s a i r (get_or rest x d) here.off some.1 (later x d inside) (others x d inside)) parts.1,
       )
 
-  map_map : {X Y Z : Type 0} (g : Y → Z) (f : X → Y) (xs : List X) → map g (map f xs) ≡ map (λ x. g (f x)) xs
+  pub map_map : {X Y Z : Type 0} (g : Y → Z) (f : X → Y) (xs : List X) → map g (map f xs) ≡ map (λ x. g (f x)) xs
   map_map g f [] = refl
   map_map g f (x ∷ rest) = ap (λ ys. g (f x) ∷ ys) (map_map g f rest)
 
   -- behind the drops
-  abbrev dropped : Command → Known → ℕ → ℕ → Known
+  abbrev pub dropped : Command → Known → ℕ → ℕ → Known
   dropped c k s a = changed_by h c (changed_by h c k (SlotGoesOn s)) (Disables s (is_dropped k.memory a))
 
   dropped_state : (c : Command) (k : Known) (s a i : ℕ) → (dropped c k s a).endpoint_state s i ≡ (if s == s && is_dropped k.memory a i then Off else k.endpoint_state s i)
@@ -212,7 +212,7 @@ module _ (h : Header) (is : IsHeader h) where
   off_then true false state s at free = ap is_off (cond-false (s == s && false) Off state (and_right (s == s) false refl)) ∙ at
   off_then false false state s at free = absurd (false≢true free)
 
-  all_ready : (k : Known) (s a : ℕ) → StillHolds h k (ConfigureEndpoint s false a) →
+  pub all_ready : (k : Known) (s a : ℕ) → StillHolds h k (ConfigureEndpoint s false a) →
       All (Ready (dropped (ConfigureEndpoint s false a) k s a) k.memory s a) (added_endpoints k.memory a)
   unfolding binds_ring binds binding_in ring_bound
   all_ready k s a still x d inside =

@@ -24,7 +24,7 @@ use Rattle.safety.proofs.Areas.{byte_apart, context_lies, ring_untouched}
 
 -- ---- four words
 
-four_of : (l : List ℕ) → length l ≡ 4 → slice_index l 0 ∷ slice_index l 1 ∷ slice_index l 2 ∷ slice_index l 3 ∷ [] ≡ l
+pub four_of : (l : List ℕ) → length l ≡ 4 → slice_index l 0 ∷ slice_index l 1 ∷ slice_index l 2 ∷ slice_index l 3 ∷ [] ≡ l
 four_of [] h = absurd (omega arith)
 four_of (a ∷ []) h = absurd (omega arith)
 four_of (a ∷ b ∷ []) h = absurd (omega arith)

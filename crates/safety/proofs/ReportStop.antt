@@ -37,7 +37,7 @@ use Rattle.safety.proofs.SafeContext.{at_floor, command_is_ring, command_at_is}
 use Rattle.safety.proofs.Counted.{agrees_counted}
 use Rattle.safety.proofs.WithReads.{with_reads}
 use Rattle.safety.proofs.Posted.{PostKeeps, post_keeps}
-use Rattle.safety.proofs.EventRead.{learned_read, event_clean, clean_more, known_more}
+use Rattle.safety.proofs.EventRead.{learned_read, event_clean, clean_more, known_more, blocks_more}
 use Rattle.safety.proofs.OnlyRing.{stands_only, events_only}
 use Rattle.safety.proofs.Learns.{next_same, command_same, stands_learns, matches_learns}
 use Rattle.safety.proofs.ReportedRing.{open_takes, low, count}
@@ -218,6 +218,7 @@ report_stop_runs h is past w v b block running run d s at =
     record {
       unread = run.unread ++ b ∷ [];
       clean = clean_more h run.unread past b run.clean keeps.clean;
+      blocks = blocks_more run.unread b run.blocks block;
       on = run.on;
       agrees = subst (λ m. Agrees h m (run.unread ++ b ∷ []) (counted h v)) (sym (known_more h run.unread past b)) keeps.agrees;
     }

@@ -39,7 +39,7 @@ use Rattle.safety.proofs.Headers.{transfer_driver, transfer_not_command, ring_sh
 use Rattle.safety.proofs.Counted.{agrees_counted}
 use Rattle.safety.proofs.WithReads.{with_reads}
 use Rattle.safety.proofs.Posted.{PostKeeps, post_keeps}
-use Rattle.safety.proofs.EventRead.{learned_read, event_clean, clean_more, known_more}
+use Rattle.safety.proofs.EventRead.{learned_read, event_clean, clean_more, known_more, blocks_more}
 use Rattle.safety.proofs.OnlyRing.{OnlyRing, stands_only, events_only, late_only}
 use Rattle.safety.proofs.LookKinds.{cond_is, put_at, put_off}
 use Rattle.safety.proofs.Learns.{LearnsRing, stands_learns, matches_learns}
@@ -262,6 +262,7 @@ report_success_runs h is past w v b block running run d success at =
     record {
       unread = run.unread ++ b ∷ [];
       clean = clean_more h run.unread past b run.clean keeps.clean;
+      blocks = blocks_more run.unread b run.blocks block;
       on = run.on;
       agrees = subst (λ m. Agrees h m (run.unread ++ b ∷ []) (counted h v)) (sym (known_more h run.unread past b)) keeps.agrees;
     }

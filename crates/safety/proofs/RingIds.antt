@@ -34,7 +34,7 @@ other_ids x r e =
     (or_parts (x.id == r.id) (list_any (λ s. touches r.shape s.base (16 * s.count)) x.shape.segments) second.0).0
 
 -- what any test finds is found by its ID
-found_again : (test : Ring → Bool) (rs : List Ring) (r : Ring) → may_stand_together rs ≡ true → find test rs ≡ Some r → find (λ q. q.id == r.id) rs ≡ Some r
+pub found_again : (test : Ring → Bool) (rs : List Ring) (r : Ring) → may_stand_together rs ≡ true → find test rs ≡ Some r → find (λ q. q.id == r.id) rs ≡ Some r
 found_again test [] r together found = absurd (none-some r found)
 found_again test (x ∷ rest) r together found =
     let parts = and_parts (not (list_any (clash x) rest)) (may_stand_together rest) together in
@@ -49,7 +49,7 @@ found_again test (x ∷ rest) r together found =
     ]
 
 module _ (h : Header) (is : IsHeader h) where
-  together : may_stand_together h.rings ≡ true
+  pub together : may_stand_together h.rings ≡ true
   together = (and_parts (list_all (λ q. nat_lt q.id 256 && is_shape q.shape) h.rings) (may_stand_together h.rings) is).1
 
   allowed : list_all (λ q. nat_lt q.id 256 && is_shape q.shape) h.rings ≡ true
@@ -74,13 +74,17 @@ module _ (h : Header) (is : IsHeader h) where
   two_kinds Evt c t = false≢true c
   two_kinds Xfer c t = false≢true c
 
-  no_ring : (o : Option Ring) → ring_with h 256 ≡ o → is_transfer_ring o ≡ true → ⊥
-  no_ring None found transfer = false≢true transfer
-  no_ring (Some q) found transfer =
+  -- no ring has the ID of none
+  pub none_has_256 : (q : Ring) → ring_with h 256 ≡ Some q → ⊥
+  none_has_256 q found =
       let same : q.id ≡ 256 = eqb-true q.id 256 (found_passes (λ q. q.id == 256) h.rings q found) in
       let below : q.id < 256 =
       ltb-true q.id 256 (and_parts (nat_lt q.id 256) (is_shape q.shape) (found_allowed (λ q. q.id == 256) (λ q. nat_lt q.id 256 && is_shape q.shape) h.rings q found allowed)).0 in
       omega arith
+
+  no_ring : (o : Option Ring) → ring_with h 256 ≡ o → is_transfer_ring o ≡ true → ⊥
+  no_ring None found transfer = false≢true transfer
+  no_ring (Some q) found transfer = none_has_256 q found
 
   not_transfer : (o : Option Ring) → find (λ q. is_command_kind q.shape.kind) h.rings ≡ o → IsTransferRing h (id_or_none o) → ⊥
   not_transfer None found transfer = no_ring (ring_with h 256) refl transfer

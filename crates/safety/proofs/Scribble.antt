@@ -159,6 +159,7 @@ scribble_runs h is past w v a x r d at =
     record {
       unread = r.unread;
       clean = r.clean;
+      blocks = r.blocks;
       on = r.on;
       agrees = subst (λ u. Agrees h (known h (reading r.unread past)) r.unread (counted h u)) s.1
           (agrees_stored h is (known h (reading r.unread past)) r.unread w d r.agrees a x s.0);

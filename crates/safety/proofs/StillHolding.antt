@@ -117,11 +117,11 @@ module _ (h : Header) where
 
   -- ---- behind a declaration
 
-  ceiling_declares : (shape : Shape) (v : RingView) (blocks : List Block) → ceiling shape (changed shape v (Declares blocks)) ≡ ceiling shape v
+  pub ceiling_declares : (shape : Shape) (v : RingView) (blocks : List Block) → ceiling shape (changed shape v (Declares blocks)) ≡ ceiling shape v
   unfolding ceiling
   ceiling_declares shape v blocks = ap (λ n. unwrap_or v.held n) (sym (given_count-declares shape v blocks))
 
-  moves_declares : (shape : Shape) (v : RingView) (blocks : List Block) → MovesStay shape v (changed shape v (Declares blocks))
+  pub moves_declares : (shape : Shape) (v : RingView) (blocks : List Block) → MovesStay shape v (changed shape v (Declares blocks))
   moves_declares shape v blocks =
       record {
         standing = λ p cycle moves. move-declares shape v p cycle (floor_number v) (floor_number v) (floor_number v) (floor_number v) (omega arith) (omega arith) moves blocks;
@@ -130,7 +130,7 @@ module _ (h : Header) where
             (omega (arith, ceiling_declares shape v blocks)) (omega (arith, length-append v.queue blocks)) moves blocks;
       }
 
-  moves_stand : (shape : Shape) (v : RingView) → MovesStay shape v v
+  pub moves_stand : (shape : Shape) (v : RingView) → MovesStay shape v v
   moves_stand shape v = record { standing = λ p cycle moves. moves; ahead = λ p cycle moves. moves }
 
   declares_same : (k : Known) (r : ℕ) (blocks : List Block) → SameEndpoints k (on_ring h k r (Declares blocks))

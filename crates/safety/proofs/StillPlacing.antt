@@ -17,7 +17,7 @@ use Rattle.safety.proofs.Placings.{still_places}
 use Rattle.safety.proofs.Histories.{row_keeps}
 
 module _ (h : Header) (is : IsHeader h) where
-  still_reads : (k : Known) (row : Row) → RingsKeep h k → EndpointsKeep h k → StillReads h k row → MayRead h k row
+  pub still_reads : (k : Known) (row : Row) → RingsKeep h k → EndpointsKeep h k → StillReads h k row → MayRead h k row
   still_reads k (Sub r blocks) rings endpoints still = tt
   still_reads k (Write a w) rings endpoints still = tt
   still_reads k (Reg r x) rings endpoints still = tt

@@ -62,7 +62,7 @@ module _ (h : Header) where
         | inr other ↦ omega (arith, put_elsewhere w.written a (w.steps + 1) b other)
       ]
 
-  unchanged_stored : (w : World) (a x at : ℕ) (o : Option ℕ) → Late w → ((n i : ℕ) → o ≡ Some n → i < input_context_bytes h.context_size / 4 → n + 4 * i ≢ a) →
+  pub unchanged_stored : (w : World) (a x at : ℕ) (o : Option ℕ) → Late w → ((n i : ℕ) → o ≡ Some n → i < input_context_bytes h.context_size / 4 → n + 4 * i ≢ a) →
       IsUnchanged h w at o → IsUnchanged h (stored w a x) at o
   unchanged_stored w a x at None late apart same = tt
   unchanged_stored w a x at (Some n) late apart same = λ i l.

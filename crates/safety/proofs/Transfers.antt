@@ -30,11 +30,24 @@ use Rattle.safety.proofs.RingsOfHeader.{shape_allowed}
 use Rattle.safety.proofs.DriverRows.{same_keeps, on_ring_keeps, on_ring_twice_keeps}
 
 -- what each branch of a chain of two tests says
-chain : (b c x y z : Bool) → (if b then x else if c then y else z) ≡ true →
+pub chain : (b c x y z : Bool) → (if b then x else if c then y else z) ≡ true →
     (b ≡ true → x ≡ true) × (b ≡ false → c ≡ true → y ≡ true) × (b ≡ false → c ≡ false → z ≡ true)
 chain true c x y z h = (λ _. h, λ e. absurd (false≢true (sym e)), λ e. absurd (false≢true (sym e)))
 chain false true x y z h = (λ e. absurd (false≢true e), λ _ _. h, λ _ e. absurd (false≢true (sym e)))
 chain false false x y z h = (λ e. absurd (false≢true e), λ _ e. absurd (false≢true e), λ _ _. h)
+
+-- the spot that an event names is named on its ring
+pub spot_is : (h : Header) (k : Known) (a : ℕ) (o : Option ℕ) (at : RingSpot) → spot_on h k a o ≡ Some at → named (shape_of h at.ring) (k.ring at.ring) a ≡ Some at.spot
+unfolding spot_on
+spot_is h k a None at e = absurd (none-some at e)
+spot_is h k a (Some r) at e = by (named (shape_of h r) (k.ring r) a) refl e
+  where
+    by : (m : Option Spot) → named (shape_of h r) (k.ring r) a ≡ m → option_map (λ t. let x : RingSpot = record { ring = r; spot = t } in x) m ≡ Some at →
+        named (shape_of h at.ring) (k.ring at.ring) a ≡ Some at.spot
+    by None found e = absurd (none-some at e)
+    by (Some t) found e =
+        let same : ◌≡◌ {A = RingSpot} (record { ring = r; spot = t }) at = same_Some (record { ring = r; spot = t }) at e in
+        subst (λ (x : RingSpot). named (shape_of h x.ring) (k.ring x.ring) a ≡ Some x.spot) same found
 
 module _ (h : Header) (is : IsHeader h) (k : Known) (keeps : RingsKeep h k) where
   -- the block at the spot is finished
@@ -100,26 +113,13 @@ module _ (h : Header) (is : IsHeader h) (k : Known) (keeps : RingsKeep h k) wher
       (cases.2 other (or_from (is_halting c) (is_trb_error c) not_halting not_error))).1 in
       cond_both (is_stopping c) (stopped_at h k s i r t) k (RingsKeep h) (λ _. stopped_keeps s i r t ahead given) (λ _. keeps))))
 
-  -- the spot that an event names is named on its ring
-  spot_is : (a : ℕ) (o : Option ℕ) (at : RingSpot) → spot_on h k a o ≡ Some at → named (shape_of h at.ring) (k.ring at.ring) a ≡ Some at.spot
-  unfolding spot_on
-  spot_is a None at e = absurd (none-some at e)
-  spot_is a (Some r) at e = by (named (shape_of h r) (k.ring r) a) refl e
-    where
-      by : (m : Option Spot) → named (shape_of h r) (k.ring r) a ≡ m → option_map (λ t. let x : RingSpot = record { ring = r; spot = t } in x) m ≡ Some at →
-          named (shape_of h at.ring) (k.ring at.ring) a ≡ Some at.spot
-      by None found e = absurd (none-some at e)
-      by (Some t) found e =
-          let same : ◌≡◌ {A = RingSpot} (record { ring = r; spot = t }) at = same_Some (record { ring = r; spot = t }) at e in
-          subst (λ (x : RingSpot). named (shape_of h x.ring) (k.ring x.ring) a ≡ Some x.spot) same found
-
   reported_keeps : (b : Block) (o : Option RingSpot) → event_at h k b ≡ o → can_report_at h k b o ≡ true → RingsKeep h (transferred_at h k b o)
   unfolding transferred_at can_report_at event_at
   reported_keeps b None found can = absurd (false≢true can)
   reported_keeps b (Some at) found can =
       transferred_keeps (code b) (slot b) (endpoint b) at.ring at.spot
       (λ driver. named_ahead (shape_of h at.ring) k.memory (k.ring at.ring) (keeps at.ring driver) (pointer b) at.spot
-      (spot_is (pointer b) (k.ring_of (slot b) (endpoint b)) at found)) can
+      (spot_is h k (pointer b) (k.ring_of (slot b) (endpoint b)) at found)) can
 
   pub transfer_keeps : (b : Block) → is_impossible_transfer h k b ≡ false → is_in_profile b ≡ true → RingsKeep h (transfer_read h k b)
   unfolding transfer_read is_impossible_transfer

@@ -1,6 +1,7 @@
 -- The invariant of a run: the unread events, read on top of the rows so far, lead to knowledge that agrees with the world
-use Rattle.std.specs.Prelude.{◌≡◌, ◌⊎◌, true, false, List, [], ◌∷◌}
+use Rattle.std.specs.Prelude.{◌≡◌, ◌⊎◌, true, false, List, [], ◌∷◌, All}
 use Rattle.trb.specs.declared.block.Block.{Block}
+use Rattle.trb.specs.Block.{IsBlock}
 use Rattle.traces.specs.declared.header.Header.{Header}
 use Rattle.traces.specs.declared.row.Row.{Row}
 use Rattle.traces.specs.declared.row.Row.TheVariants.{Read}
@@ -20,6 +21,7 @@ module _ (h : Header) where
     pub unread : List Block
     -- each unread event is possible where it will be read
     pub clean : IsClean h (reading unread past)
+    pub blocks : All IsBlock unread
     pub on : (known h past).stopped ≡ false
     pub agrees : Agrees h (known h (reading unread past)) unread w
 

@@ -13,7 +13,7 @@ use Rattle.commands.specs.declared.state.EndpointState.TheVariants.{Disabled as 
 use Rattle.commands.specs.Command.{command_of, named_slot, same_slot}
 use Rattle.contexts.specs.Contexts.{device_context_bytes, context_pointer, context_cycle}
 use Rattle.traces.specs.declared.header.Header.{Header}
-use Rattle.traces.specs.declared.register.Register.TheVariants.{Crcr, Dcbaap, Erstba}
+use Rattle.traces.specs.declared.register.Register.TheVariants.{Crcr, Dcbaap, Erstsz, Erstba}
 use Rattle.traces.specs.declared.ring.Ring.{Ring}
 use Rattle.traces.specs.Header.{ring_with, shape_of, command_id, event_shape, event_size, touches_ring, is_driver_kind, is_transfer_kind}
 use Rattle.traces.specs.Register.{base_address, ring_cycle_state}
@@ -143,6 +143,9 @@ module _ (h : Header) where
     pub unstarted : k.started ≡ false → Unstarted k
     pub crcr : (v : ℕ) → k.register Crcr ≡ Some v → CommandRingNamed v
     pub crcr_written : k.started ≡ true → is_some (k.register Crcr) ≡ true
+    -- there is an event ring before the start: without one an event that is read would have no room
+    pub sized : is_some (k.register Erstsz) ≡ true → 0 < event_size h
+    pub erstsz_written : k.started ≡ true → is_some (k.register Erstsz) ≡ true
     pub dequeued : k.dequeue ≤ k.reads
     pub read_room : 0 < k.reads → k.reads + 1 ≤ k.dequeue + event_size h
     pub devices : (s d : ℕ) → k.device s ≡ Some d → DeviceKeeps k s d

@@ -3,7 +3,9 @@ pub mod EndpointsKeep
 pub mod Placings
 pub mod KeptHistories
 pub mod Keeps
+pub mod KeptStep
 pub mod Stands
 pub mod Matches
 pub mod Invariant
 pub mod Headline
+pub mod Beneath

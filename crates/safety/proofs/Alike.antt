@@ -1,0 +1,151 @@
+-- Two knowledges of which an event says the same: what it reads and what it changes is alike, but that in one more may be given,
+-- and rings may be held at greater numbers
+use Rattle.std.specs.Prelude.{◌≡◌, ℕ, ◌≤◌, ◌==◌, ◌&&◌, true, not, nat_lt, Option, None, Some, unwrap_or, is_none}
+use Rattle.std.proofs.Common.{arith, refl, sym, ap, subst, inl, inr}
+use Rattle.std.proofs.lemmas.Bool.{cases_eq, false≢true, and_parts, and_from, or_cases, or_left, or_right, ltb-true, lt-ltb, leb-true, le-leb, eqb-true, eq-eqb}
+use Rattle.segments.specs.declared.spot.Spot.{Spot}
+use Rattle.segments.specs.declared.spot.Spot.TheVariants.{Data, Link}
+use Rattle.segments.specs.ShapeValue.{Shape}
+use Rattle.segments.specs.Places.{is_crossing}
+use Rattle.segments.specs.Spots.{number}
+use Rattle.segments.specs.RingView.{RingView, RingChange, Reaches, Holds, changed, floor_number}
+use Rattle.segments.specs.Ceiling.{given_count, ceiling, is_way_given, is_open, is_data_below, is_stop_spot, stopped_number}
+use Rattle.segments.proofs.StepFacts.{GivesMore, step_more}
+use Rattle.segments.proofs.GivenCount.{given_count_grows}
+use Rattle.traces.specs.declared.header.Header.{Header}
+use Rattle.traces.specs.Header.{shape_of}
+use Rattle.ring_knowledge.specs.Known.{Known}
+use Rattle.ring_knowledge.specs.Rings.{on_ring}
+use Rattle.safety.specs.Beneath.{IsHeldMore}
+use Rattle.safety.proofs.DriverRows.{ring_here, ring_elsewhere}
+
+pub record RingAlike (v w : RingView) : Type 0 where
+  pub floor : w.floor ≡ v.floor
+  pub held : IsHeldMore v.held w.held
+  pub more : GivesMore v w
+
+-- P are the slots whose device contexts are alike
+pub record Alike (P : ℕ → Type 0) (k l : Known) : Type 0 where
+  pub rings : (r : ℕ) → RingAlike (k.ring r) (l.ring r)
+  pub was_bound : l.was_bound ≡ k.was_bound
+  pub slot_state : l.slot_state ≡ k.slot_state
+  pub endpoint_state : l.endpoint_state ≡ k.endpoint_state
+  pub ring_of : l.ring_of ≡ k.ring_of
+  pub must_move : l.must_move ≡ k.must_move
+  pub stop_seen : l.stop_seen ≡ k.stop_seen
+  pub device : (s : ℕ) → P s → l.device s ≡ k.device s
+
+-- ---- one ring
+
+same_held : (o : Option ℕ) → IsHeldMore o o
+same_held None = tt
+same_held (Some m) = omega arith
+
+pub held_same : (o p : Option ℕ) → p ≡ o → IsHeldMore o p
+held_same o p same = subst (λ x. IsHeldMore o x) (sym same) (same_held o)
+
+held_ceiling : (a b : ℕ) (o p : Option ℕ) → a ≤ b → IsHeldMore o p → unwrap_or o a ≤ unwrap_or p b
+held_ceiling a b None None less more = less
+held_ceiling a b (Some m) (Some n) less more = more
+held_ceiling a b None (Some n) less more = absurd more
+held_ceiling a b (Some m) None less more = absurd more
+
+module _ (shape : Shape) (v w : RingView) (a : RingAlike v w) where
+  pub count_more : given_count shape v ≤ given_count shape w
+  count_more = given_count_grows shape v w (let e : floor_number w ≡ floor_number v = ap number a.floor in omega arith) (step_more shape v w a.more)
+
+  pub ceiling_more : ceiling shape v ≤ ceiling shape w
+  unfolding ceiling
+  ceiling_more = held_ceiling (given_count shape v) (given_count shape w) v.held w.held count_more a.held
+
+  pub open_alike : is_open v ≡ true → is_open w ≡ true
+  unfolding is_open
+  open_alike = by v.held w.held a.held
+    where
+      by : (o p : Option ℕ) → IsHeldMore o p → is_none o ≡ true → is_none p ≡ true
+      by None None more none = refl
+      by (Some m) p more none = absurd (false≢true none)
+      by None (Some n) more none = absurd more
+
+  pub below_more : (t : Spot) → is_data_below (ceiling shape v) t ≡ true → is_data_below (ceiling shape w) t ≡ true
+  unfolding is_data_below
+  below_more (Data p) below = lt-ltb p (ceiling shape w) (omega (arith, ltb-true p (ceiling shape v) below, ceiling_more))
+  below_more (Link q) below = below
+
+  way_more : (q : ℕ) → is_way_given shape v q ≡ true → is_way_given shape w q ≡ true
+  unfolding is_way_given
+  way_more q given =
+      elim (or_cases (not (is_crossing shape q)) (v.crossed q) given) [
+        | inl none ↦ or_left (not (is_crossing shape q)) (w.crossed q) none
+        | inr crossed ↦ or_right (not (is_crossing shape q)) (w.crossed q) (a.more.crossed q crossed)
+      ]
+
+  pub stop_more : (t : Spot) → is_stop_spot shape v t ≡ true → is_stop_spot shape w t ≡ true
+  unfolding is_stop_spot
+  stop_more (Data p) stops =
+      elim (or_cases (nat_lt p (given_count shape v)) (p == given_count shape v && is_way_given shape v p) stops) [
+        | inl below ↦
+            or_left (nat_lt p (given_count shape w)) (p == given_count shape w && is_way_given shape w p)
+            (lt-ltb p (given_count shape w) (omega (arith, ltb-true p (given_count shape v) below, count_more)))
+        | inr there ↦
+            let parts = and_parts (p == given_count shape v) (is_way_given shape v p) there in
+            let at : p ≡ given_count shape v = eqb-true p (given_count shape v) parts.0 in
+            elim (cases_eq p (given_count shape w)) [
+              | inl same ↦
+                  or_right (nat_lt p (given_count shape w)) (p == given_count shape w && is_way_given shape w p)
+                  (and_from (p == given_count shape w) (is_way_given shape w p) (eq-eqb p (given_count shape w) same) (way_more p parts.1))
+              | inr other ↦
+                  or_left (nat_lt p (given_count shape w)) (p == given_count shape w && is_way_given shape w p)
+                  (lt-ltb p (given_count shape w) (omega (arith, count_more)))
+            ]
+      ]
+  stop_more (Link q) stops = le-leb q (given_count shape w) (omega (arith, leb-true q (given_count shape v) stops, count_more))
+
+  pub stopped_more : (t : Spot) → stopped_number shape v t ≤ stopped_number shape w t
+  unfolding stopped_number
+  stopped_more (Data p) = omega (arith, count_more)
+  stopped_more (Link q) = omega arith
+
+  -- the pointer reaches a spot, or the ring is held
+  pub reaches_alike : (t : Spot) → RingAlike (changed shape v (Reaches t)) (changed shape w (Reaches t))
+  reaches_alike t = record { floor = refl; held = a.held; more = record { given = a.more.given; crossed = a.more.crossed } }
+
+  pub holds_alike : (m n : ℕ) → m ≤ n → RingAlike (changed shape v (Holds m)) (changed shape w (Holds n))
+  holds_alike m n more = record { floor = a.floor; held = more; more = record { given = a.more.given; crossed = a.more.crossed } }
+
+-- ---- what is known
+
+module _ (h : Header) (P : ℕ → Type 0) (k l : Known) (a : Alike P k l) where
+  on_ring_rings : (r : ℕ) (c d : RingChange) → RingAlike (changed (shape_of h r) (k.ring r) c) (changed (shape_of h r) (l.ring r) d) →
+      (q : ℕ) → RingAlike ((on_ring h k r c).ring q) ((on_ring h l r d).ring q)
+  on_ring_rings r c d here q =
+      elim (cases_eq q r) [
+        | inl same ↦
+            subst (λ n. RingAlike ((on_ring h k r c).ring n) ((on_ring h l r d).ring n)) (sym same)
+            (subst (λ v. RingAlike v ((on_ring h l r d).ring r)) (sym (ring_here h k r c))
+            (subst (λ v. RingAlike (changed (shape_of h r) (k.ring r) c) v) (sym (ring_here h l r d)) here))
+        | inr other ↦
+            subst (λ v. RingAlike v ((on_ring h l r d).ring q)) (sym (ring_elsewhere h k r q c other))
+            (subst (λ v. RingAlike (k.ring q) v) (sym (ring_elsewhere h l r q d other)) (a.rings q))
+      ]
+
+  pub on_ring_alike : (r : ℕ) (c d : RingChange) → RingAlike (changed (shape_of h r) (k.ring r) c) (changed (shape_of h r) (l.ring r) d) →
+      Alike P (on_ring h k r c) (on_ring h l r d)
+  unfolding on_ring
+  on_ring_alike r c d here =
+      record {
+        rings = on_ring_rings r c d here;
+        was_bound = a.was_bound;
+        slot_state = a.slot_state;
+        endpoint_state = a.endpoint_state;
+        ring_of = a.ring_of;
+        must_move = a.must_move;
+        stop_seen = a.stop_seen;
+        device = a.device;
+      }
+
+  pub reached_alike : (r : ℕ) (t : Spot) → Alike P (on_ring h k r (Reaches t)) (on_ring h l r (Reaches t))
+  reached_alike r t = on_ring_alike r (Reaches t) (Reaches t) (reaches_alike (shape_of h r) (k.ring r) (l.ring r) (a.rings r) t)
+
+  pub held_alike : (r m n : ℕ) → m ≤ n → Alike P (on_ring h k r (Holds m)) (on_ring h l r (Holds n))
+  held_alike r m n more = on_ring_alike r (Holds m) (Holds n) (holds_alike (shape_of h r) (k.ring r) (l.ring r) (a.rings r) m n more)

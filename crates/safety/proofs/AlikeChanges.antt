@@ -1,0 +1,147 @@
+-- What the success of a command changes, at two knowledges that are alike: it leaves both alike
+use Rattle.std.specs.Prelude.{◌≡◌, ℕ, ◌==◌, ◌&&◌, if◌then◌else◌, Bool, true, false, List, [], ◌∷◌, Option, None, Some}
+use Rattle.std.proofs.Common.{arith, refl, sym, ap, subst}
+use Rattle.guest_memory.specs.Memory.{put, put_pair}
+use Rattle.segments.specs.declared.spot.Spot.{Spot}
+use Rattle.segments.specs.declared.spot.Spot.TheVariants.{Data}
+use Rattle.segments.specs.Spots.{number}
+use Rattle.segments.specs.RingView.{Reaches}
+use Rattle.segments.specs.Ceiling.{ceiling}
+use Rattle.segments.specs.Moves.{target}
+use Rattle.commands.specs.declared.command.Command.{Command}
+use Rattle.commands.specs.declared.state.EndpointState.{EndpointState}
+use Rattle.commands.specs.declared.state.EndpointState.TheVariants.{Disabled as Off, Stopped}
+use Rattle.commands.specs.States.{is_off}
+use Rattle.commands.specs.Changes.{Change, SlotGoesOn, DeviceLeft, Disables, Places, Stops, Resets, slot_gone_on}
+use Rattle.traces.specs.declared.header.Header.{Header}
+use Rattle.traces.specs.Header.{shape_of, ring_beginning_at}
+use Rattle.ring_knowledge.specs.Known.{Known}
+use Rattle.ring_knowledge.specs.Rings.{on_ring}
+use Rattle.ring_knowledge.specs.Completions.{set_to, bound_to, moved_to, moved, pointed, disabled, in_state, held_at_ceiling, changed_by, changed_by_all}
+use Rattle.safety.proofs.Alike.{Alike, ceiling_more, reached_alike, held_alike}
+use Rattle.safety.proofs.AlikeTransfers.{state_put, move_put}
+
+pub both_sides_if : {A : Type 0} (R : A → A → Type 0) (b : Bool) (x y u v : A) → (b ≡ true → R x u) → (b ≡ false → R y v) → R (if b then x else y) (if b then u else v)
+both_sides_if R true x y u v here there = here refl
+both_sides_if R false x y u v here there = there refl
+
+module _ (h : Header) where
+  -- where a ring is moved, its target is the same
+  abbrev pub TargetIs : Known → Known → Change → Type 0
+  TargetIs k l (Places s i p cycle state) =
+      is_off (k.endpoint_state s i) ≡ false → (r : ℕ) → k.ring_of s i ≡ Some r → target (shape_of h r) (l.ring r) p cycle ≡ target (shape_of h r) (k.ring r) p cycle
+  TargetIs k l (SlotGoesOn s) = Unit {0}
+  TargetIs k l (DeviceLeft s) = Unit {0}
+  TargetIs k l (Disables s which) = Unit {0}
+  TargetIs k l (Stops s i) = Unit {0}
+  TargetIs k l (Resets s i) = Unit {0}
+
+  abbrev pub TargetsAre : Command → Known → Known → List Change → Type 0
+  TargetsAre c k l [] = Unit {0}
+  TargetsAre c k l (change ∷ rest) = TargetIs k l change × TargetsAre c (changed_by h c k change) (changed_by h c l change) rest
+
+  module _ (P : ℕ → Type 0) where
+    set_alike : (k l : Known) → Alike P k l → (r : ℕ) (t : Spot) → Alike P (set_to h k r t) (set_to h l r t)
+    unfolding set_to
+    set_alike k l a r t =
+        held_alike h P (on_ring h k r (Reaches t)) (on_ring h l r (Reaches t)) (reached_alike h P k l a r t) r (number t) (number t) (omega arith)
+
+    bound_with : (m n : Known) → Alike P m n → (s i r : ℕ) (f g : ℕ → ℕ → Option ℕ) (x y : ℕ → Bool) → g ≡ f → y ≡ x →
+        Alike P (let u : Known = record m { ring_of = put_pair f s i (Some r); was_bound = put x r true } in u)
+        (let v : Known = record n { ring_of = put_pair g s i (Some r); was_bound = put y r true } in v)
+    bound_with m n a s i r f g x y one two =
+        record {
+          rings = a.rings;
+          was_bound = ap (λ b. put b r true) two;
+          slot_state = a.slot_state;
+          endpoint_state = a.endpoint_state;
+          ring_of = ap (λ b. put_pair b s i (Some r)) one;
+          must_move = a.must_move;
+          stop_seen = a.stop_seen;
+          device = a.device;
+        }
+
+    bound_alike : (k l : Known) → Alike P k l → (s i : ℕ) (o : Option ℕ) → Alike P (bound_to h k s i o) (bound_to h l s i o)
+    unfolding bound_to
+    bound_alike k l a s i None = a
+    bound_alike k l a s i (Some r) =
+        bound_with (set_to h k r (Data 0)) (set_to h l r (Data 0)) (set_alike k l a r (Data 0)) s i r k.ring_of l.ring_of k.was_bound l.was_bound a.ring_of a.was_bound
+
+    target_alike : (k l : Known) → Alike P k l → (r : ℕ) (o : Option Spot) → Alike P (moved_to h k r o) (moved_to h l r o)
+    unfolding moved_to
+    target_alike k l a r None = a
+    target_alike k l a r (Some t) = set_alike k l a r t
+
+    moved_alike : (k l : Known) → Alike P k l → (o : Option ℕ) (p : ℕ) (cycle : Bool) →
+        ((r : ℕ) → o ≡ Some r → target (shape_of h r) (l.ring r) p cycle ≡ target (shape_of h r) (k.ring r) p cycle) → Alike P (moved h k o p cycle) (moved h l o p cycle)
+    unfolding moved
+    moved_alike k l a None p cycle same = a
+    moved_alike k l a (Some r) p cycle same =
+        subst (λ o. Alike P (moved_to h k r (target (shape_of h r) (k.ring r) p cycle)) (moved_to h l r o)) (sym (same r refl))
+        (target_alike k l a r (target (shape_of h r) (k.ring r) p cycle))
+
+    pointed_alike : (k l : Known) → Alike P k l → (s i p : ℕ) (cycle : Bool) (state : EndpointState) → TargetIs k l (Places s i p cycle state) →
+        Alike P (pointed h k s i p cycle) (pointed h l s i p cycle)
+    unfolding pointed
+    pointed_alike k l a s i p cycle state same =
+        subst (λ (f : ℕ → ℕ → EndpointState). Alike P (pointed h k s i p cycle) (if is_off (f s i) then bound_to h l s i (ring_beginning_at h p) else moved h l (l.ring_of s i) p cycle)) (sym a.endpoint_state)
+        (subst (λ (f : ℕ → ℕ → Option ℕ). Alike P (pointed h k s i p cycle) (if is_off (k.endpoint_state s i) then bound_to h l s i (ring_beginning_at h p) else moved h l (f s i) p cycle)) (sym a.ring_of)
+        (both_sides_if (Alike P) (is_off (k.endpoint_state s i)) (bound_to h k s i (ring_beginning_at h p)) (moved h k (k.ring_of s i) p cycle)
+        (bound_to h l s i (ring_beginning_at h p)) (moved h l (k.ring_of s i) p cycle)
+        (λ off. bound_alike k l a s i (ring_beginning_at h p)) (λ on. moved_alike k l a (k.ring_of s i) p cycle (same on))))
+
+    ceiling_alike : (k l : Known) → Alike P k l → (o : Option ℕ) → Alike P (held_at_ceiling h k o) (held_at_ceiling h l o)
+    unfolding held_at_ceiling
+    ceiling_alike k l a None = a
+    ceiling_alike k l a (Some r) =
+        held_alike h P k l a r (ceiling (shape_of h r) (k.ring r)) (ceiling (shape_of h r) (l.ring r)) (ceiling_more (shape_of h r) (k.ring r) (l.ring r) (a.rings r))
+
+    pub change_alike : (c : Command) (k l : Known) → Alike P k l → (change : Change) → TargetIs k l change → Alike P (changed_by h c k change) (changed_by h c l change)
+    unfolding changed_by disabled in_state
+    change_alike c k l a (SlotGoesOn s) same =
+        record {
+          rings = a.rings;
+          was_bound = a.was_bound;
+          slot_state = ap (λ f. slot_gone_on c f s) a.slot_state;
+          endpoint_state = a.endpoint_state;
+          ring_of = a.ring_of;
+          must_move = a.must_move;
+          stop_seen = a.stop_seen;
+          device = a.device;
+        }
+    change_alike c k l a (DeviceLeft s) same =
+        record {
+          rings = a.rings;
+          was_bound = a.was_bound;
+          slot_state = a.slot_state;
+          endpoint_state = a.endpoint_state;
+          ring_of = a.ring_of;
+          must_move = a.must_move;
+          stop_seen = a.stop_seen;
+          device = λ t p. ap (λ d. if t == s then None else d) (a.device t p);
+        }
+    change_alike c k l a (Disables s which) same =
+        record {
+          rings = a.rings;
+          was_bound = a.was_bound;
+          slot_state = a.slot_state;
+          endpoint_state = ap {B = ℕ → ℕ → EndpointState} (λ (f : ℕ → ℕ → EndpointState) (t i : ℕ). if t == s && which i then Off else f t i) a.endpoint_state;
+          ring_of = ap {B = ℕ → ℕ → Option ℕ} (λ (f : ℕ → ℕ → Option ℕ) (t i : ℕ). if t == s && which i then None else f t i) a.ring_of;
+          must_move = a.must_move;
+          stop_seen = a.stop_seen;
+          device = a.device;
+        }
+    change_alike c k l a (Places s i p cycle state) same =
+        let x : Known = pointed h k s i p cycle in
+        let y : Known = pointed h l s i p cycle in
+        move_put P (in_state h x s i state) (in_state h y s i state) s i l.must_move k.must_move false a.must_move
+        (state_put P x y s i state (pointed_alike k l a s i p cycle state same))
+    change_alike c k l a (Stops s i) same =
+        subst (λ (f : ℕ → ℕ → Option ℕ). Alike P (changed_by h c k (Stops s i)) (held_at_ceiling h (in_state h l s i Stopped) (f s i))) (sym a.ring_of)
+        (ceiling_alike (in_state h k s i Stopped) (in_state h l s i Stopped) (state_put P k l s i Stopped a) (k.ring_of s i))
+    change_alike c k l a (Resets s i) same = state_put P k l s i Stopped a
+
+    pub changes_alike : (c : Command) (k l : Known) → Alike P k l → (all : List Change) → TargetsAre c k l all → Alike P (changed_by_all h c k all) (changed_by_all h c l all)
+    unfolding changed_by_all
+    changes_alike c k l a [] same = a
+    changes_alike c k l a (change ∷ rest) same = changes_alike c (changed_by h c k change) (changed_by h c l change) (change_alike c k l a change same.0) rest same.1

@@ -1,0 +1,128 @@
+-- A Command Completion Event that is possible at one of two knowledges that are alike: it is possible at the other, and leaves both alike
+use Rattle.std.specs.Prelude.{◌≡◌, ℕ, ◌==◌, ◌||◌, if◌then◌else◌, true, false, not, List, Option, None, Some}
+use Rattle.std.proofs.Common.{arith, refl, sym, ◌∙◌, ap, subst, inl, inr}
+use Rattle.std.proofs.lemmas.Bool.{false≢true, and_parts, and_from, or_parts, or_from, not-false, not_from_true, ltb-true, lt-ltb}
+use Rattle.trb.specs.declared.block.Block.{Block}
+use Rattle.trb.specs.Block.{pointer, code, slot}
+use Rattle.segments.specs.declared.spot.Spot.{Spot}
+use Rattle.segments.specs.Places.{address_of}
+use Rattle.segments.specs.Spots.{number, after}
+use Rattle.segments.specs.RingView.{Reaches}
+use Rattle.segments.specs.Ceiling.{ceiling}
+use Rattle.segments.proofs.Search.{cases_option}
+use Rattle.commands.specs.declared.command.Command.{Command}
+use Rattle.commands.specs.declared.command.Command.TheVariants.{StopEndpoint}
+use Rattle.commands.specs.Command.{may_answer_slot, is_stop_of}
+use Rattle.commands.specs.States.{can_succeed}
+use Rattle.commands.specs.Changes.{Change, changes}
+use Rattle.traces.specs.declared.header.Header.{Header}
+use Rattle.traces.specs.declared.register.Register.TheVariants.{Config}
+use Rattle.traces.specs.Header.{shape_of, command_id}
+use Rattle.traces.specs.Register.{register_or_zero}
+use Rattle.ring_knowledge.specs.Known.{Known}
+use Rattle.ring_knowledge.specs.Rings.{on_ring, command_at, next_command}
+use Rattle.ring_knowledge.specs.Completions.{changed_by_all, succeeded, stop_ended, finished, completed}
+use Rattle.ownership_rules.specs.Events.{was_stop_seen, can_finish, may_be_taken, is_stopping_now, is_impossible_completion}
+use Rattle.safety.proofs.Alike.{Alike, ceiling_more, reached_alike}
+use Rattle.safety.proofs.AlikeTransfers.{both_sides, seen_put}
+use Rattle.safety.proofs.AlikeChanges.{TargetsAre, changes_alike}
+
+-- the next command, where it may be finished, is the same and does the same
+pub record CommandAlike (h : Header) (k l : Known) : Type 0 where
+  pub command : (c : Command) → may_be_taken h k ≡ true → command_at h k (next_command h k) ≡ Some c → command_at h l (next_command h k) ≡ Some c
+  pub does : (n : ℕ) (c : Command) → may_be_taken h k ≡ true → command_at h k (next_command h k) ≡ Some c →
+      changes h.context_size l.memory n c ≡ changes h.context_size k.memory n c
+  pub targets : (n : ℕ) (c : Command) → may_be_taken h k ≡ true → command_at h k (next_command h k) ≡ Some c → TargetsAre h c k l (changes h.context_size k.memory n c)
+
+module _ (h : Header) (P : ℕ → Type 0) (k l : Known) (a : Alike P k l) where
+  pub next_alike : next_command h l ≡ next_command h k
+  unfolding next_command
+  next_alike = ap number (a.rings (command_id h)).floor
+
+  pub taken_alike : may_be_taken h k ≡ true → may_be_taken h l ≡ true
+  unfolding may_be_taken
+  taken_alike may =
+      let r : ℕ = command_id h in
+      lt-ltb (next_command h l) (ceiling (shape_of h r) (l.ring r))
+      (omega (arith, next_alike, ltb-true (next_command h k) (ceiling (shape_of h r) (k.ring r)) may, ceiling_more (shape_of h r) (k.ring r) (l.ring r) (a.rings r)))
+
+  seen_alike : (c : Command) → was_stop_seen l c ≡ was_stop_seen k c
+  unfolding was_stop_seen
+  seen_alike (StopEndpoint s i) = ap (λ f. f s i) a.stop_seen
+  seen_alike _ = refl
+
+  stop_alike : (m n : Known) → Alike P m n → (c : Command) → Alike P (stop_ended h m c) (stop_ended h n c)
+  unfolding stop_ended
+  stop_alike m n b (StopEndpoint s i) = seen_put P m n s i false b
+  stop_alike m n b _ = b
+
+  module _ (same : CommandAlike h k l) where
+    pub stopping_alike : (s i : ℕ) → is_stopping_now h k s i ≡ true → is_stopping_now h l s i ≡ true
+    unfolding is_stopping_now
+    stopping_alike s i stopping =
+        let parts = and_parts (may_be_taken h k) (is_stop_of s i (command_at h k (next_command h k))) stopping in
+        elim (cases_option (command_at h k (next_command h k))) [
+          | inl none ↦ absurd (false≢true (sym (ap (is_stop_of s i) none) ∙ parts.1))
+          | inr some ↦
+              and_from (may_be_taken h l) (is_stop_of s i (command_at h l (next_command h l))) (taken_alike parts.0)
+              (ap (λ n. is_stop_of s i (command_at h l n)) next_alike ∙ ap (is_stop_of s i) (same.command some.0 parts.0 some.1 ∙ sym some.1) ∙ parts.1)
+        ]
+
+    finish_alike : (b : Block) (c : Command) → may_be_taken h k ≡ true → command_at h k (next_command h k) ≡ Some c → Alike P (finished h k b (Some c)) (finished h l b (Some c))
+    unfolding finished succeeded
+    finish_alike b c may at =
+        let mine : List Change = changes h.context_size k.memory (slot b) c in
+        let theirs : List Change = changes h.context_size l.memory (slot b) c in
+        let success : Alike P (changed_by_all h c k mine) (changed_by_all h c l theirs) =
+        subst (λ x. Alike P (changed_by_all h c k mine) (changed_by_all h c l x)) (sym (same.does (slot b) c may at)) (changes_alike h P c k l a mine (same.targets (slot b) c may at)) in
+        stop_alike (if code b == 1 then changed_by_all h c k mine else k) (if code b == 1 then changed_by_all h c l theirs else l)
+        (both_sides (Alike P) (code b == 1) (changed_by_all h c k mine) k (changed_by_all h c l theirs) l success a) c
+
+    completed_alike : (b : Block) (c : Command) → may_be_taken h k ≡ true → command_at h k (next_command h k) ≡ Some c → Alike P (completed h k b) (completed h l b)
+    unfolding completed
+    completed_alike b c may at =
+        let r : ℕ = command_id h in
+        let after_is : ℕ → Spot = λ n. after (shape_of h r) n in
+        subst (λ n. Alike P (completed h k b) (on_ring h (finished h l b (command_at h l n)) r (Reaches (after_is n)))) (sym next_alike)
+        (subst (λ o. Alike P (completed h k b) (on_ring h (finished h l b o) r (Reaches (after_is (next_command h k))))) (sym (same.command c may at))
+        (subst (λ o. Alike P (on_ring h (finished h k b o) r (Reaches (after_is (next_command h k)))) (on_ring h (finished h l b (Some c)) r (Reaches (after_is (next_command h k))))) (sym at)
+        (reached_alike h P (finished h k b (Some c)) (finished h l b (Some c)) (finish_alike b c may at) r (after_is (next_command h k)))))
+
+    module _ (config : register_or_zero l.register Config ≡ register_or_zero k.register Config) where
+      some_finish : (b : Block) (c : Command) → can_finish k b (Some c) ≡ true → can_finish l b (Some c) ≡ true
+      unfolding can_finish
+      some_finish b c can =
+          let parts = and_parts (may_answer_slot (Some c) (slot b))
+          (if code b == 1 then can_succeed k.slot_state k.endpoint_state (register_or_zero k.register Config) (slot b) c else not (was_stop_seen k c)) can in
+          and_from (may_answer_slot (Some c) (slot b))
+          (if code b == 1 then can_succeed l.slot_state l.endpoint_state (register_or_zero l.register Config) (slot b) c else not (was_stop_seen l c)) parts.0
+          (ap (λ x. if code b == 1 then can_succeed x l.endpoint_state (register_or_zero l.register Config) (slot b) c else not (was_stop_seen l c)) a.slot_state
+          ∙ ap (λ x. if code b == 1 then can_succeed k.slot_state x (register_or_zero l.register Config) (slot b) c else not (was_stop_seen l c)) a.endpoint_state
+          ∙ ap (λ x. if code b == 1 then can_succeed k.slot_state k.endpoint_state x (slot b) c else not (was_stop_seen l c)) config
+          ∙ ap (λ x. if code b == 1 then can_succeed k.slot_state k.endpoint_state (register_or_zero k.register Config) (slot b) c else not x) (seen_alike c)
+          ∙ parts.1)
+
+      can_alike : (b : Block) → (o : Option Command) → command_at h k (next_command h k) ≡ o → can_finish k b o ≡ true → (c : Command) × (command_at h k (next_command h k) ≡ Some c) × (can_finish l b (Some c) ≡ true)
+      unfolding can_finish
+      can_alike b None at can = absurd (false≢true can)
+      can_alike b (Some c) at can = (c, at, some_finish b c can)
+
+      pub completion_alike : (b : Block) → is_impossible_completion h k b ≡ false → (is_impossible_completion h l b ≡ false) × Alike P (completed h k b) (completed h l b)
+      unfolding is_impossible_completion
+      completion_alike b possible =
+          let r : ℕ = command_id h in
+          let m : ℕ = next_command h k in
+          let n : ℕ = next_command h l in
+          let three = or_parts (not (may_be_taken h k) || not (pointer b == address_of (shape_of h r) m) || code b == 0) (not (can_finish k b (command_at h k m))) possible in
+          let two = or_parts (not (may_be_taken h k) || not (pointer b == address_of (shape_of h r) m)) (code b == 0) three.0 in
+          let one = or_parts (not (may_be_taken h k)) (not (pointer b == address_of (shape_of h r) m)) two.0 in
+          let may : may_be_taken h k ≡ true = not-false (may_be_taken h k) one.0 in
+          let can = can_alike b (command_at h k m) refl (not-false (can_finish k b (command_at h k m)) three.1) in
+          let found : command_at h l n ≡ Some can.0 = ap (λ x. command_at h l x) next_alike ∙ same.command can.0 may can.1 in (
+            or_from (not (may_be_taken h l) || not (pointer b == address_of (shape_of h r) n) || code b == 0) (not (can_finish l b (command_at h l n)))
+                (or_from (not (may_be_taken h l) || not (pointer b == address_of (shape_of h r) n)) (code b == 0)
+                (or_from (not (may_be_taken h l)) (not (pointer b == address_of (shape_of h r) n)) (not_from_true (may_be_taken h l) (taken_alike may))
+                (ap (λ x. not (pointer b == address_of (shape_of h r) x)) next_alike ∙ one.1)) two.1)
+                (not_from_true (can_finish l b (command_at h l n)) (ap (λ o. can_finish l b o) found ∙ can.2)),
+            completed_alike b can.0 may can.1,
+          )

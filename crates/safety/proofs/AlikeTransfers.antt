@@ -1,0 +1,184 @@
+-- A Transfer Event that is possible at one of two knowledges that are alike: it is possible at the other, and leaves both alike
+use Rattle.std.specs.Prelude.{◌≡◌, ℕ, ◌+◌, ◌&&◌, ◌||◌, if◌then◌else◌, Bool, true, false, not, Option, None, Some}
+use Rattle.std.specs.Option.{option_map}
+use Rattle.std.proofs.Common.{arith, refl, sym, ◌∙◌, ap, subst, inl, inr}
+use Rattle.std.proofs.lemmas.Bool.{false≢true, and_parts, and_from, or_parts, and_cases, or_from, not-false, not_from_true}
+use Rattle.std.proofs.lemmas.Option.{none-some}
+use Rattle.guest_memory.specs.Memory.{put_pair}
+use Rattle.trb.specs.declared.block.Block.{Block}
+use Rattle.trb.specs.Block.{pointer, code, slot, endpoint}
+use Rattle.trb.specs.CompletionCode.{is_success, is_halting, is_trb_error, is_stopping}
+use Rattle.segments.specs.declared.spot.Spot.{Spot}
+use Rattle.segments.specs.Spots.{number, after}
+use Rattle.segments.specs.RingView.{Reaches, Holds}
+use Rattle.segments.specs.Ceiling.{ceiling, named, is_data_below, is_open, is_stop_spot, stopped_number}
+use Rattle.segments.proofs.Search.{cases_option}
+use Rattle.commands.specs.declared.state.EndpointState.{EndpointState}
+use Rattle.commands.specs.declared.state.EndpointState.TheVariants.{Halted, Error}
+use Rattle.commands.specs.States.{is_off, is_running}
+use Rattle.traces.specs.declared.header.Header.{Header}
+use Rattle.traces.specs.Header.{shape_of}
+use Rattle.ring_knowledge.specs.Known.{Known}
+use Rattle.ring_knowledge.specs.Rings.{RingSpot, on_ring, spot_on, event_at}
+use Rattle.ring_knowledge.specs.Transfers.{passed, broken_off, stopped_at, transferred, transferred_at, transfer_read}
+use Rattle.ownership_rules.specs.Events.{is_in_profile, is_working, is_stopping_now, can_report, can_report_at, is_impossible_transfer}
+use Rattle.safety.proofs.Alike.{Alike, below_more, open_alike, stop_more, stopped_more, reached_alike, held_alike}
+
+pub both_sides : {A : Type 0} (R : A → A → Type 0) (b : Bool) (x y u v : A) → R x u → R y v → R (if b then x else y) (if b then u else v)
+both_sides R true x y u v here there = here
+both_sides R false x y u v here there = there
+
+-- from one chain of two tests to another
+pub chain_from : (b c x y z u v w : Bool) → (x ≡ true → u ≡ true) → (y ≡ true → v ≡ true) → (z ≡ true → w ≡ true) →
+    (if b then x else if c then y else z) ≡ true → (if b then u else if c then v else w) ≡ true
+chain_from true c x y z u v w one two three h = one h
+chain_from false true x y z u v w one two three h = two h
+chain_from false false x y z u v w one two three h = three h
+
+pub state_put : (P : ℕ → Type 0) (m n : Known) (s i : ℕ) (state : EndpointState) → Alike P m n →
+    Alike P (let x : Known = record m { endpoint_state = put_pair m.endpoint_state s i state } in x) (let x : Known = record n { endpoint_state = put_pair n.endpoint_state s i state } in x)
+state_put P m n s i state b =
+    record {
+      rings = b.rings;
+      was_bound = b.was_bound;
+      slot_state = b.slot_state;
+      endpoint_state = ap (λ f. put_pair f s i state) b.endpoint_state;
+      ring_of = b.ring_of;
+      must_move = b.must_move;
+      stop_seen = b.stop_seen;
+      device = b.device;
+    }
+
+pub move_put : (P : ℕ → Type 0) (m n : Known) (s i : ℕ) (f g : ℕ → ℕ → Bool) (must : Bool) → f ≡ g → Alike P m n →
+    Alike P (let x : Known = record m { must_move = put_pair g s i must } in x) (let x : Known = record n { must_move = put_pair f s i must } in x)
+move_put P m n s i f g must same b =
+    record {
+      rings = b.rings;
+      was_bound = b.was_bound;
+      slot_state = b.slot_state;
+      endpoint_state = b.endpoint_state;
+      ring_of = b.ring_of;
+      must_move = ap (λ x. put_pair x s i must) same;
+      stop_seen = b.stop_seen;
+      device = b.device;
+    }
+
+pub seen_put : (P : ℕ → Type 0) (m n : Known) (s i : ℕ) (seen : Bool) → Alike P m n →
+    Alike P (let x : Known = record m { stop_seen = put_pair m.stop_seen s i seen } in x) (let x : Known = record n { stop_seen = put_pair n.stop_seen s i seen } in x)
+seen_put P m n s i seen b =
+    record {
+      rings = b.rings;
+      was_bound = b.was_bound;
+      slot_state = b.slot_state;
+      endpoint_state = b.endpoint_state;
+      ring_of = b.ring_of;
+      must_move = b.must_move;
+      stop_seen = ap (λ x. put_pair x s i seen) b.stop_seen;
+      device = b.device;
+    }
+
+module _ (h : Header) (P : ℕ → Type 0) (k l : Known) (a : Alike P k l) where
+  -- ---- what is read
+
+  passed_alike : (r : ℕ) (t : Spot) → Alike P (passed h k r t) (passed h l r t)
+  unfolding passed
+  passed_alike r t = reached_alike h P k l a r (after (shape_of h r) (number t))
+
+  broken_alike : (s i r : ℕ) (t : Spot) (state : EndpointState) → Alike P (broken_off h k s i r t state) (broken_off h l s i r t state)
+  unfolding broken_off passed on_ring
+  broken_alike s i r t state =
+      state_put P (on_ring h (passed h k r t) r (Holds (number t + 1))) (on_ring h (passed h l r t) r (Holds (number t + 1))) s i state
+      (held_alike h P (passed h k r t) (passed h l r t) (passed_alike r t) r (number t + 1) (number t + 1) (omega arith))
+
+  stopped_alike : (s i r : ℕ) (t : Spot) → Alike P (stopped_at h k s i r t) (stopped_at h l s i r t)
+  unfolding stopped_at on_ring
+  stopped_alike s i r t =
+      let m : ℕ = stopped_number (shape_of h r) (k.ring r) t in
+      let n : ℕ = stopped_number (shape_of h r) (l.ring r) t in
+      let x : Known = on_ring h k r (Holds m) in
+      let y : Known = on_ring h l r (Holds n) in
+      let held : Alike P x y = held_alike h P k l a r m n (stopped_more (shape_of h r) (k.ring r) (l.ring r) (a.rings r) t) in
+      seen_put P (on_ring h x r (Reaches t)) (on_ring h y r (Reaches t)) s i true (reached_alike h P x y held r t)
+
+  pub transferred_alike : (c s i r : ℕ) (t : Spot) → Alike P (transferred h k c s i r t) (transferred h l c s i r t)
+  unfolding transferred
+  transferred_alike c s i r t =
+      both_sides (Alike P) (is_success c) _ _ _ _ (passed_alike r t)
+      (both_sides (Alike P) (is_halting c) _ _ _ _
+      (move_put P (broken_off h k s i r t Halted) (broken_off h l s i r t Halted) s i l.must_move k.must_move true a.must_move (broken_alike s i r t Halted))
+      (both_sides (Alike P) (is_trb_error c) _ _ _ _ (broken_alike s i r t Error) (both_sides (Alike P) (is_stopping c) _ _ _ _ (stopped_alike s i r t) a)))
+
+  -- ---- what is possible
+
+  working_alike : (s i r : ℕ) → is_working k s i r ≡ true → is_working l s i r ≡ true
+  unfolding is_working
+  working_alike s i r works =
+      let parts = and_parts (is_running (k.endpoint_state s i)) (is_open (k.ring r)) works in
+      and_from (is_running (l.endpoint_state s i)) (is_open (l.ring r)) (ap (λ f. is_running (f s i)) a.endpoint_state ∙ parts.0)
+      (open_alike (shape_of h r) (k.ring r) (l.ring r) (a.rings r) parts.1)
+
+  module _ (stopping : (s i : ℕ) → is_stopping_now h k s i ≡ true → is_stopping_now h l s i ≡ true) where
+    report_alike : (c s i r : ℕ) (t : Spot) → can_report h k c s i r t ≡ true → can_report h l c s i r t ≡ true
+    unfolding can_report
+    report_alike c s i r t can =
+        let low : Bool = is_data_below (ceiling (shape_of h r) (k.ring r)) t in
+        let high : Bool = is_data_below (ceiling (shape_of h r) (l.ring r)) t in
+        let below : low ≡ true → high ≡ true = below_more (shape_of h r) (k.ring r) (l.ring r) (a.rings r) t in
+        chain_from (is_success c) (is_halting c || is_trb_error c) low (low && is_working k s i r) (is_working k s i r && is_stopping_now h k s i && is_stop_spot (shape_of h r) (k.ring r) t)
+        high (high && is_working l s i r) (is_working l s i r && is_stopping_now h l s i && is_stop_spot (shape_of h r) (l.ring r) t) below
+        (λ x. let p = and_parts low (is_working k s i r) x in and_from high (is_working l s i r) (below p.0) (working_alike s i r p.1))
+        (λ x.
+        let p = and_parts (is_working k s i r && is_stopping_now h k s i) (is_stop_spot (shape_of h r) (k.ring r) t) x in
+        let q = and_parts (is_working k s i r) (is_stopping_now h k s i) p.0 in
+        and_from (is_working l s i r && is_stopping_now h l s i) (is_stop_spot (shape_of h r) (l.ring r) t)
+        (and_from (is_working l s i r) (is_stopping_now h l s i) (working_alike s i r q.0) (stopping s i q.1))
+        (stop_more (shape_of h r) (k.ring r) (l.ring r) (a.rings r) t p.1)) can
+
+    report_at : (b : Block) (o p : Option RingSpot) → ((at : RingSpot) → o ≡ Some at → p ≡ Some at) → can_report_at h k b o ≡ true →
+        (can_report_at h l b p ≡ true) × Alike P (transferred_at h k b o) (transferred_at h l b p)
+    unfolding can_report_at transferred_at
+    report_at b None p same can = absurd (false≢true can)
+    report_at b (Some at) p same can =
+        let e : p ≡ Some at = same at refl in (
+          ap (λ x. can_report_at h l b x) e ∙ report_alike (code b) (slot b) (endpoint b) at.ring at.spot can,
+          subst (λ x. Alike P (transferred h k (code b) (slot b) (endpoint b) at.ring at.spot) (transferred_at h l b x)) (sym e)
+              (transferred_alike (code b) (slot b) (endpoint b) at.ring at.spot),
+        )
+
+    -- each spot that is named on an endpoint's ring is so at the other too
+    module _ (names : (s i r p : ℕ) (t : Spot) → k.ring_of s i ≡ Some r → named (shape_of h r) (k.ring r) p ≡ Some t → named (shape_of h r) (l.ring r) p ≡ Some t) where
+      spot_alike : (s i p : ℕ) (o : Option ℕ) → k.ring_of s i ≡ o → (at : RingSpot) → spot_on h k p o ≡ Some at → spot_on h l p o ≡ Some at
+      unfolding spot_on
+      spot_alike s i p None has at e = absurd (none-some at e)
+      spot_alike s i p (Some r) has at e =
+          let make : Spot → RingSpot = λ t. let x : RingSpot = record { ring = r; spot = t } in x in
+          elim (cases_option (named (shape_of h r) (k.ring r) p)) [
+            | inl none ↦ absurd (none-some at (sym (ap (option_map make) none) ∙ e))
+            | inr some ↦ ap (option_map make) (names s i r p some.0 has some.1 ∙ sym some.1) ∙ e
+          ]
+
+      event_alike : (b : Block) (at : RingSpot) → event_at h k b ≡ Some at → event_at h l b ≡ Some at
+      unfolding event_at
+      event_alike b at e =
+          ap (λ f. spot_on h l (pointer b) (f (slot b) (endpoint b))) a.ring_of
+          ∙ spot_alike (slot b) (endpoint b) (pointer b) (k.ring_of (slot b) (endpoint b)) refl at e
+
+      pub transfer_alike : (b : Block) → is_impossible_transfer h k b ≡ false → is_in_profile b ≡ true →
+          (is_impossible_transfer h l b ≡ false) × Alike P (transfer_read h k b) (transfer_read h l b)
+      unfolding transfer_read is_impossible_transfer
+      transfer_alike b possible inside =
+          elim (and_cases (is_in_profile b) (is_off (k.endpoint_state (slot b) (endpoint b)) || not (can_report_at h k b (event_at h k b))) possible) [
+            | inl outside ↦ absurd (false≢true (sym outside ∙ inside))
+            | inr none ↦
+                let parts = or_parts (is_off (k.endpoint_state (slot b) (endpoint b))) (not (can_report_at h k b (event_at h k b))) none in
+                let reported = report_at b (event_at h k b) (event_at h l b) (event_alike b) (not-false (can_report_at h k b (event_at h k b)) parts.1) in (
+                  and_right (is_in_profile b) (is_off (l.endpoint_state (slot b) (endpoint b)) || not (can_report_at h l b (event_at h l b)))
+                      (or_from (is_off (l.endpoint_state (slot b) (endpoint b))) (not (can_report_at h l b (event_at h l b)))
+                      (ap (λ f. is_off (f (slot b) (endpoint b))) a.endpoint_state ∙ parts.0) (not_from_true (can_report_at h l b (event_at h l b)) reported.0)),
+                  reported.1,
+                )
+          ]
+        where
+          and_right : (x y : Bool) → y ≡ false → (x && y) ≡ false
+          and_right true y e = e
+          and_right false y e = refl

@@ -1,0 +1,135 @@
+-- Areas and ranges under lease that have no byte in common
+use Rattle.std.specs.Prelude.{◌≡◌, ◌≢◌, ℕ, ◌+◌, ◌*◌, ◌/◌, ◌^◌, ◌<◌, ◌≤◌, ◌⊎◌, ◌||◌, Bool, false, List, [], ◌∷◌, nat_lt, nat_le, Option, None, Some}
+use Rattle.std.specs.List.{list_any, flat_map}
+use Rattle.std.proofs.Common.{arith, refl, sym, ◌∙◌, inl, inr}
+use Rattle.std.proofs.lemmas.Bool.{cases_lt, and_left, and_right, or_parts, or_from, and_parts, and_cases, false≢true, false_from_ne_true, lt-ltb, le-ltb, ltb-true, leb-true}
+use Rattle.std.proofs.lemmas.List.Folds.{list_any-append}
+use Rattle.segments.specs.Places.{is_in, overlap}
+use Rattle.contexts.specs.Contexts.{device_context_bytes, input_context_bytes}
+use Rattle.commands.specs.declared.command.Command.{Command}
+use Rattle.commands.specs.Command.{named_context}
+use Rattle.event_ring.specs.EventRing.{table_bytes}
+use Rattle.traces.specs.Header.{event_shape}
+use Rattle.traces.specs.Register.{base_address}
+use Rattle.traces.specs.declared.register.Register.TheVariants.{Erstba}
+use Rattle.traces.specs.declared.header.Header.{Header}
+use Rattle.traces.specs.Header.{touches_ring}
+use Rattle.ring_knowledge.specs.Known.{Known}
+use Rattle.ring_knowledge.specs.Writes.{entry_of}
+use Rattle.ownership_rules.specs.OpenLeases.{Range, SegmentTable, Use, InputContext, SlotEntry, DeviceContext, slots, covers, lease_start, lease_bytes, range_of_device, device_ranges, open_ranges, open_leases, is_leased}
+use Rattle.ownership_rules.specs.Areas.{is_bad_area, is_in_range_lease, is_soiled}
+use Rattle.safety.specs.Keeps.{IsUnfinished}
+use Rattle.safety.proofs.SafeContext.{none_in_range}
+use Rattle.safety.proofs.UnfinishedLists.{fails_in, context_leased, device_listed, device_leased, entry_leased, table_leased}
+
+-- ---- two ranges of bytes
+
+pub not_overlap : (a m b n : ℕ) → overlap a m b n ≡ false → (b + n ≤ a) ⊎ (a + m ≤ b)
+not_overlap a m b n none =
+    elim (and_cases (nat_lt a (b + n)) (nat_lt b (a + m)) none) [
+      | inl first ↦ inl (above a (b + n) first)
+      | inr second ↦ inr (above b (a + m) second)
+    ]
+  where
+    above : (x y : ℕ) → nat_lt x y ≡ false → y ≤ x
+    above x y none = elim (cases_lt x y) [ inl low ↦ absurd (false≢true (sym none ∙ lt-ltb x y low)) | inr high ↦ high ]
+
+pub overlap_from : (a m b n : ℕ) → (b + n ≤ a) ⊎ (a + m ≤ b) → overlap a m b n ≡ false
+overlap_from a m b n (inl high) = and_left (nat_lt a (b + n)) (nat_lt b (a + m)) (le-ltb a (b + n) high)
+overlap_from a m b n (inr low) = and_right (nat_lt a (b + n)) (nat_lt b (a + m)) (le-ltb b (a + m) low)
+
+pub overlap_turned : (a m b n : ℕ) → overlap a m b n ≡ false → overlap b n a m ≡ false
+overlap_turned a m b n none =
+    elim (not_overlap a m b n none) [
+      | inl high ↦ overlap_from b n a m (inr high)
+      | inr low ↦ overlap_from b n a m (inl low)
+    ]
+
+-- a byte of one isn't in the other
+pub not_in_other : (a m b n x : ℕ) → overlap a m b n ≡ false → b ≤ x → x < b + n → is_in x a m ≡ false
+not_in_other a m b n x none low high =
+    false_from_ne_true (is_in x a m) (λ within.
+    let parts = and_parts (nat_le a x) (nat_lt x (a + m)) within in
+    let from = leb-true a x parts.0 in
+    let to = ltb-true x (a + m) parts.1 in
+    elim (not_overlap a m b n none) [ inl above ↦ absurd (omega arith) | inr below ↦ absurd (omega arith) ])
+
+-- a word that has no byte of a range
+pub word_elsewhere : (a b n x : ℕ) → overlap a 4 b n ≡ false → b ≤ x → x < b + n → x ≢ a
+word_elsewhere a b n x none low high same =
+    elim (not_overlap a 4 b n none) [ inl above ↦ absurd (omega arith) | inr below ↦ absurd (omega arith) ]
+
+none_flat : {X Y : Type 0} (p : Y → Bool) (f : X → List Y) (xs : List X) → ((x : X) → list_any p (f x) ≡ false) → list_any p (flat_map f xs) ≡ false
+none_flat p f [] each = refl
+none_flat p f (x ∷ xs) each = list_any-append p (f x) (flat_map f xs) ∙ or_from (list_any p (f x)) (list_any p (flat_map f xs)) (each x) (none_flat p f xs each)
+
+pub is_soiled_from : (k : Known) (from len : ℕ) → ((i : ℕ) → i < len / 4 → k.soiled (from + 4 * i) ≡ false) → is_soiled k from len ≡ false
+unfolding is_soiled
+is_soiled_from k from len each = none_in_range (λ i. k.soiled (from + 4 * i)) 0 (len / 4) (λ i low high. each i (omega arith))
+
+pub clean_same : (k l : Known) (from len : ℕ) → l.soiled ≡ k.soiled → is_soiled l from len ≡ is_soiled k from len
+unfolding is_soiled
+clean_same k l from len same = rw same refl
+
+module _ (h : Header) where
+  -- ---- the area rule
+
+  pub record AreaParts (k : Known) (from len : ℕ) : Type 0 where
+    pub ends : nat_lt (2 ^ 64) (from + len) ≡ false
+    pub rings : touches_ring h from len ≡ false
+    pub devices : list_any (covers h from len) (device_ranges h k) ≡ false
+
+  pub area_parts : (k : Known) (from len : ℕ) → is_bad_area h k from len ≡ false → AreaParts k from len
+  unfolding is_bad_area
+  area_parts k from len good =
+      let two = or_parts (nat_lt (2 ^ 64) (from + len) || touches_ring h from len) (list_any (covers h from len) (device_ranges h k)) good in
+      let one = or_parts (nat_lt (2 ^ 64) (from + len)) (touches_ring h from len) two.0 in
+      record { ends = one.0; rings = one.1; devices = two.1 }
+
+  pub area_from : (k : Known) (from len : ℕ) → AreaParts k from len → is_bad_area h k from len ≡ false
+  unfolding is_bad_area
+  area_from k from len p =
+      or_from (nat_lt (2 ^ 64) (from + len) || touches_ring h from len) (list_any (covers h from len) (device_ranges h k))
+      (or_from (nat_lt (2 ^ 64) (from + len)) (touches_ring h from len) p.ends p.rings) p.devices
+
+  covers_range : (from len n a : ℕ) (u : Use) → covers h from len (Range n a u) ≡ overlap from len a n
+  unfolding covers lease_start lease_bytes
+  covers_range from len n a u = refl
+
+  pub device_apart : (k : Known) (from len t e : ℕ) → AreaParts k from len → 0 < t → t < 256 → k.device t ≡ Some e → overlap from len e (device_context_bytes h.context_size) ≡ false
+  device_apart k from len t e p low high at =
+      sym (covers_range from len (device_context_bytes h.context_size) e (DeviceContext t)) ∙ fails_in (covers h from len) (device_ranges h k) _ p.devices (device_listed h k t e low high at)
+
+  pub devices_apart : (k : Known) (from len : ℕ) → ((t e : ℕ) → k.device t ≡ Some e → overlap from len e (device_context_bytes h.context_size) ≡ false) →
+      list_any (covers h from len) (device_ranges h k) ≡ false
+  unfolding device_ranges range_of_device
+  devices_apart k from len each = none_flat (covers h from len) (λ s. range_of_device h s (k.device s)) slots (λ s. by s (k.device s) refl)
+    where
+      by : (s : ℕ) (o : Option ℕ) → k.device s ≡ o → list_any (covers h from len) (range_of_device h s o) ≡ false
+      by s None at = refl
+      by s (Some e) at = or_from (covers h from len (Range (device_context_bytes h.context_size) e (DeviceContext s))) false (covers_range from len (device_context_bytes h.context_size) e (DeviceContext s) ∙ each s e at) refl
+
+  -- ---- ranges under lease
+
+  -- an area that is in no range under lease
+  module _ (k : Known) (from len : ℕ) (free : list_any (covers h from len) (open_ranges h k) ≡ false) where
+    pub context_free : (p n : ℕ) (c : Command) → IsUnfinished h k p c → named_context c ≡ Some n → overlap from len n (input_context_bytes h.context_size) ≡ false
+    context_free p n c u is = sym (covers_range from len (input_context_bytes h.context_size) n (InputContext p)) ∙ fails_in (covers h from len) (open_ranges h k) _ free (context_leased h k p n c u is)
+
+    pub device_free : (t e : ℕ) → 0 < t → t < 256 → k.device t ≡ Some e → overlap from len e (device_context_bytes h.context_size) ≡ false
+    device_free t e low high at = sym (covers_range from len (device_context_bytes h.context_size) e (DeviceContext t)) ∙ fails_in (covers h from len) (open_ranges h k) _ free (device_leased h k t e low high at)
+
+    pub entry_free : (t e : ℕ) → 0 < t → t < 256 → k.device t ≡ Some e → overlap from len (entry_of k t) 8 ≡ false
+    entry_free t e low high at = sym (covers_range from len 8 (entry_of k t) (SlotEntry t)) ∙ fails_in (covers h from len) (open_ranges h k) _ free (entry_leased h k t e low high at)
+
+    pub table_free : (v : ℕ) → k.register Erstba ≡ Some v → overlap from len (base_address v) (table_bytes (event_shape h)) ≡ false
+    table_free v at = sym (covers_range from len (table_bytes (event_shape h)) (base_address v) SegmentTable) ∙ fails_in (covers h from len) (open_ranges h k) _ free (table_leased h k v at)
+
+  pub lease_free : (k : Known) (from len : ℕ) → is_in_range_lease h k from len ≡ false → list_any (covers h from len) (open_ranges h k) ≡ false
+  unfolding is_in_range_lease
+  lease_free k from len free = free
+
+  -- a word that isn't under lease
+  pub word_free : (k : Known) (a : ℕ) → is_leased h k a ≡ false → list_any (covers h a 4) (open_ranges h k) ≡ false
+  unfolding is_leased open_leases
+  word_free k a free = (or_parts _ _ (sym (list_any-append (covers h a 4) _ (open_ranges h k)) ∙ free)).1

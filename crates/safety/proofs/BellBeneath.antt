@@ -1,0 +1,201 @@
+-- The command ring's first doorbell beneath an event that isn't read yet: the two may change places
+use Rattle.std.specs.Prelude.{◌≡◌, ℕ, ◌-◌, ◌==◌, ◌&&◌, ◌||◌, if◌then◌else◌, Bool, true, false, not, [], ◌∷◌, Some, is_none, nat_lt}
+use Rattle.std.proofs.Common.{arith, refl, sym, ◌∙◌, ap, subst, inl, inr}
+use Rattle.std.proofs.Math.Path.{fun_ext}
+use Rattle.std.proofs.lemmas.Bool.{cases_eq, false≢true, and_parts, or_parts, or_from, not-false, not_from_true, cond-true, cond-false, ltb-true}
+use Rattle.trb.specs.declared.block.Block.{Block}
+use Rattle.trb.specs.declared.kind.BlockKind.{BlockKind}
+use Rattle.trb.specs.declared.kind.BlockKind.TheVariants.{TransferEvent, CommandCompletion}
+use Rattle.trb.specs.Block.{kind, cycle}
+use Rattle.trb.specs.Kind.{is_event, is_transfer_event, is_command_completion}
+use Rattle.segments.specs.Places.{cycle_of}
+use Rattle.segments.specs.RingView.{Opens}
+use Rattle.segments.specs.Ceiling.{ceiling, is_open}
+use Rattle.segments.proofs.Named.{ceiling_held}
+use Rattle.commands.specs.Command.{is_stop_of}
+use Rattle.traces.specs.declared.header.Header.{Header}
+use Rattle.traces.specs.declared.row.Row.TheVariants.{Bell, Read}
+use Rattle.traces.specs.Header.{IsHeader, shape_of, command_id, event_shape, event_size}
+use Rattle.ring_knowledge.specs.Known.{Known}
+use Rattle.ring_knowledge.specs.Rings.{on_ring, command_at, next_command}
+use Rattle.ring_knowledge.specs.Registers.{endpoint_rung, rung}
+use Rattle.ring_knowledge.specs.Learned.{event_read, learned}
+use Rattle.ownership_rules.specs.Events.{is_in_profile, may_be_taken, is_stopping_now, is_past_room, is_impossible_by_kind, is_impossible, event_tests}
+use Rattle.ownership_rules.specs.Doorbells.{is_bad_bell, is_bad_doorbell, doorbell_tests}
+use Rattle.ownership_rules.specs.Rules.{tests, broken}
+use Rattle.ownership_rules.specs.Refusal.{broken_of}
+use Rattle.ownership_rules.specs.declared.refusal.Refusal.TheVariants.{AfterStop, BadDoorbell}
+use Rattle.safety.specs.Keeps.{DriverKeeps}
+use Rattle.safety.specs.Beneath.{HeldMore, is_open_if, Square}
+use Rattle.safety.proofs.TestsPassed.{AllFail, clean_tests, tests_fail}
+use Rattle.safety.proofs.EventRead.{event_broken}
+use Rattle.safety.proofs.CleanRows.{EventFacts, event_facts, BellFacts, bell_facts}
+use Rattle.safety.proofs.KeptRings.{completion_facts}
+use Rattle.safety.proofs.DriverRings.{endpoints_of}
+use Rattle.safety.proofs.TransferFrames.{transfer_command}
+use Rattle.safety.proofs.DriverRows.{ring_here, ring_elsewhere}
+use Rattle.safety.proofs.SameDriver.{SameDriver, on_ring_same, both_drivers}
+use Rattle.safety.proofs.Alike.{held_same}
+use Rattle.safety.proofs.HeldFurther.{SameStates, held_more, counted, read_same, read_both, flip_driver}
+use Rattle.safety.proofs.Woken.{Woken}
+use Rattle.safety.proofs.WokenTransfers.{transfer_woken}
+
+-- the same events may be read, and leave the ring woken
+pub record ReadWoken (h : Header) (r : ℕ) (S : ℕ → ℕ → Bool) (k l : Known) (e : Block) : Type 0 where
+  pub possible : broken h l (Read e) ≡ []
+  pub after : Woken h r S (learned h k (Read e)) (learned h l (Read e))
+
+module _ (h : Header) (r : ℕ) (S : ℕ → ℕ → Bool) where
+  -- the event's own kind apart, it reads what the driver did
+  pub read_woken : (k l : Known) (e : Block) → SameDriver k l → broken h k (Read e) ≡ [] →
+      (is_impossible_by_kind h l (kind e) e ≡ false) × Woken h r S (event_read h k (kind e) e) (event_read h l (kind e) e) → ReadWoken h r S k l e
+  unfolding tests event_tests is_impossible learned is_past_room
+  read_woken k l b d clean here =
+      let fails : AllFail (event_tests h k b) = tests_fail h k (Read b) clean in
+      let four = or_parts (not k.started || is_past_room h k || not (cycle b == cycle_of (event_shape h) k.reads) || not (is_event (kind b))) (is_impossible_by_kind h k (kind b) b) fails.0 in
+      let three = or_parts (not k.started || is_past_room h k || not (cycle b == cycle_of (event_shape h) k.reads)) (not (is_event (kind b))) four.0 in
+      let two = or_parts (not k.started || is_past_room h k) (not (cycle b == cycle_of (event_shape h) k.reads)) three.0 in
+      let one = or_parts (not k.started) (is_past_room h k) two.0 in
+      let y = here.1 in
+      record {
+        possible = event_broken h l b (d.stopped ∙ (clean_tests h k (Read b) clean).0)
+            (or_from (not l.started || is_past_room h l || not (cycle b == cycle_of (event_shape h) l.reads) || not (is_event (kind b))) (is_impossible_by_kind h l (kind b) b)
+            (or_from (not l.started || is_past_room h l || not (cycle b == cycle_of (event_shape h) l.reads)) (not (is_event (kind b)))
+            (or_from (not l.started || is_past_room h l) (not (cycle b == cycle_of (event_shape h) l.reads))
+            (or_from (not l.started) (is_past_room h l) (ap not d.started ∙ one.0)
+            (ap (λ n. nat_lt (event_size h - 2) (n - l.dequeue)) d.reads ∙ ap (λ n. nat_lt (event_size h - 2) (k.reads - n)) d.dequeue ∙ one.1))
+            (ap (λ n. not (cycle b == cycle_of (event_shape h) n)) d.reads ∙ two.1)) three.1) here.0) fails.1.0;
+        after = record {
+          own = y.own;
+          rings = y.rings;
+          awake = y.awake;
+          state = y.state;
+          was_bound = y.was_bound;
+          slot_state = y.slot_state;
+          ring_of = y.ring_of;
+          must_move = y.must_move;
+          stop_seen = y.stop_seen;
+          device = y.device;
+        };
+      }
+
+module _ (h : Header) where
+  -- no endpoint
+  abbrev none_of : ℕ → ℕ → Bool
+  none_of s i = false
+
+  abbrev command_rung : Known → Known
+  command_rung k = on_ring h k (command_id h) Opens
+
+  command_woken : (k : Known) → Woken h (command_id h) none_of k (command_rung k)
+  unfolding on_ring
+  command_woken k = record {
+    own = ring_here h k (command_id h) Opens;
+    rings = λ q other. ring_elsewhere h k (command_id h) q Opens other;
+    awake = λ s i in_it. absurd (false≢true in_it);
+    state = λ s i out. refl;
+    was_bound = refl;
+    slot_state = refl;
+    ring_of = refl;
+    must_move = refl;
+    stop_seen = refl;
+    device = refl;
+  }
+
+  -- the states of the one, behind the ring's doorbell, are those of the other
+  states_woken : (k l : Known) → Woken h (command_id h) none_of k l → SameStates (command_rung k) l
+  unfolding on_ring
+  states_woken k l w = record {
+    was_bound = w.was_bound;
+    slot_state = w.slot_state;
+    endpoint_state = fun_ext (λ s. fun_ext (λ i. w.state s i refl));
+    ring_of = w.ring_of;
+    must_move = w.must_move;
+    stop_seen = w.stop_seen;
+    device = w.device;
+  }
+
+  view_woken : (k l : Known) → Woken h (command_id h) none_of k l → (q : ℕ) → l.ring q ≡ (command_rung k).ring q
+  view_woken k l w q =
+      elim (cases_eq q (command_id h)) [
+        | inl same ↦ subst (λ n. l.ring n ≡ (command_rung k).ring n) (sym same) (w.own ∙ sym (ring_here h k (command_id h) Opens))
+        | inr other ↦ w.rings q other ∙ sym (ring_elsewhere h k (command_id h) q Opens other)
+      ]
+
+  bell_command : (k : Known) (s t : ℕ) → (s == 0) ≡ true → learned h k (Bell s t) ≡ command_rung k
+  unfolding learned rung
+  bell_command k s t first = cond-true (s == 0) (command_rung k) (endpoint_rung h k s t (k.ring_of s t)) first
+
+  bell_clean : (k : Known) (s t : ℕ) → k.stopped ≡ false → k.started ≡ true → (if s == 0 then not (t == 0) else is_bad_bell h k s t) ≡ false → broken h k (Bell s t) ≡ []
+  unfolding broken tests doorbell_tests is_bad_doorbell
+  bell_clean k s t on started good =
+      cond-false k.stopped (AfterStop ∷ []) (broken_of (doorbell_tests h k s t)) on
+      ∙ one_fails (not k.started || (if s == 0 then not (t == 0) else is_bad_bell h k s t))
+      (or_from (not k.started) (if s == 0 then not (t == 0) else is_bad_bell h k s t) (not_from_true k.started started) good)
+    where
+      one_fails : (b : Bool) → b ≡ false → broken_of ((BadDoorbell, b) ∷ []) ≡ []
+      one_fails b out = rw out refl
+
+  module _ (is : IsHeader h) (k : Known) (d : DriverKeeps h k) (first : (k.ring (command_id h)).held ≡ Some 0) where
+    -- no command was taken yet
+    none_taken : may_be_taken h k ≡ true → ⊥
+    unfolding may_be_taken
+    none_taken may =
+        let below = ltb-true (next_command h k) (ceiling (shape_of h (command_id h)) (k.ring (command_id h))) may in
+        omega (arith, below, ceiling_held (shape_of h (command_id h)) (k.ring (command_id h)) 0 first)
+
+    none_stops : (s i : ℕ) → is_stopping_now h k s i ≡ true → is_stopping_now h (command_rung k) s i ≡ true
+    unfolding is_stopping_now
+    none_stops s i stops = absurd (none_taken (and_parts (may_be_taken h k) (is_stop_of s i (command_at h k (next_command h k))) stops).0)
+
+    held_first : is_open (k.ring (command_id h)) ≡ false
+    unfolding is_open
+    held_first = ap is_none first
+
+    kind_woken : (e : Block) → broken h k (Read e) ≡ [] → (n : BlockKind) → kind e ≡ n → is_impossible_by_kind h k n e ≡ false → (is_transfer_event n && not (is_in_profile e)) ≡ false →
+        (is_impossible_by_kind h (command_rung k) n e ≡ false) × Woken h (command_id h) none_of (event_read h k n e) (event_read h (command_rung k) n e)
+    unfolding is_impossible_by_kind event_read
+    kind_woken e may TransferEvent at possible inside =
+        transfer_woken h (command_id h) none_of k (command_rung k) (command_woken k) held_first
+        (omega (arith, ceiling_held (shape_of h (command_id h)) (k.ring (command_id h)) 0 first)) (λ s i in_it. absurd (false≢true in_it)) none_stops
+        (on_ring_same h k (command_id h) Opens tt) e possible (not-false (is_in_profile e) inside)
+    kind_woken e may CommandCompletion at possible inside =
+        absurd (let below = (completion_facts h k e (ap is_command_completion at) (event_facts h k e may).possible).below in omega (arith, below, ceiling_held (shape_of h (command_id h)) (k.ring (command_id h)) 0 first))
+    kind_woken e may _ at possible inside = (refl, command_woken k)
+
+    -- an event leaves the command ring as it is
+    ring_kind : (e : Block) → broken h k (Read e) ≡ [] → (n : BlockKind) → kind e ≡ n → is_impossible_by_kind h k n e ≡ false → (event_read h k n e).ring (command_id h) ≡ k.ring (command_id h)
+    unfolding event_read is_impossible_by_kind
+    ring_kind e may TransferEvent at possible = transfer_command h is k (endpoints_of h k d.states) e
+    ring_kind e may CommandCompletion at possible =
+        absurd (let below = (completion_facts h k e (ap is_command_completion at) (event_facts h k e may).possible).below in omega (arith, below, ceiling_held (shape_of h (command_id h)) (k.ring (command_id h)) 0 first))
+    ring_kind e may _ at possible = refl
+
+    ring_still : (e : Block) → broken h k (Read e) ≡ [] → (learned h k (Read e)).ring (command_id h) ≡ k.ring (command_id h)
+    unfolding learned
+    ring_still e may = ring_kind e may (kind e) refl (event_facts h k e may).possible
+
+    pub command_square : (s t : ℕ) (e : Block) → (s == 0) ≡ true → broken h k (Bell s t) ≡ [] → broken h k (Read e) ≡ [] → Square h k (Bell s t) e
+    command_square s t e slot clean may =
+        let facts : EventFacts h k e = event_facts h k e may in
+        let bell : BellFacts h k s t = bell_facts h k s t clean in
+        let l : Known = command_rung k in
+        let k_read : Known = learned h k (Read e) in
+        let l_read : Known = learned h l (Read e) in
+        let same : SameDriver (counted h k) k_read = read_same h k e in
+        let driver : SameDriver k l = on_ring_same h k (command_id h) Opens tt in
+        let read : ReadWoken h (command_id h) none_of k l e = read_woken h (command_id h) none_of k l e driver may (kind_woken e may (kind e) refl facts.possible facts.inside) in
+        let view : (q : ℕ) → l_read.ring q ≡ (command_rung k_read).ring q = view_woken k_read l_read read.after in
+        let good : (if s == 0 then not (t == 0) else is_bad_bell h k_read s t) ≡ false =
+        cond-true (s == 0) (not (t == 0)) (is_bad_bell h k_read s t) slot ∙ sym (cond-true (s == 0) (not (t == 0)) (is_bad_bell h k s t) slot) ∙ bell.good in
+        record {
+          event = subst (λ x. broken h x (Read e) ≡ []) (sym (bell_command k s t slot)) read.possible;
+          row = bell_clean k_read s t (same.stopped ∙ (clean_tests h k (Read e) may).0) (same.started ∙ facts.started) good;
+          after = subst (λ x. HeldMore x (learned h (learned h k (Bell s t)) (Read e))) (sym (bell_command k_read s t slot))
+              (subst (λ x. HeldMore (command_rung k_read) (learned h x (Read e))) (sym (bell_command k s t slot))
+              (held_more (command_rung k_read) l_read
+              (both_drivers (command_rung k_read) k_read l_read (flip_driver k_read (command_rung k_read) (on_ring_same h k_read (command_id h) Opens tt)) (read_both h k l e driver))
+              (states_woken k_read l_read read.after) (λ q. ap (λ v. v.floor) (view q))
+              (λ q. held_same ((command_rung k_read).ring q).held (l_read.ring q).held (ap (λ v. v.held) (view q)))));
+          awake = cond-true (s == 0) (is_open (k_read.ring (command_id h))) (is_open_if k_read (k_read.ring_of s t)) slot ∙ ap is_open (ring_still e may) ∙ held_first;
+        }

@@ -1,0 +1,54 @@
+-- What a register write, a doorbell or an event that breaks no rule says
+use Rattle.std.specs.Prelude.{◌≡◌, ℕ, ◌==◌, ◌&&◌, ◌||◌, if◌then◌else◌, not, true, false, []}
+use Rattle.std.proofs.lemmas.Bool.{or_parts, not-false}
+use Rattle.trb.specs.declared.block.Block.{Block}
+use Rattle.trb.specs.Block.{kind, cycle}
+use Rattle.trb.specs.Kind.{is_transfer_event, is_event}
+use Rattle.segments.specs.Places.{cycle_of}
+use Rattle.traces.specs.declared.header.Header.{Header}
+use Rattle.traces.specs.declared.register.Register.{Register}
+use Rattle.traces.specs.declared.row.Row.TheVariants.{Reg, Bell, Read}
+use Rattle.traces.specs.Header.{event_shape}
+use Rattle.ring_knowledge.specs.Known.{Known}
+use Rattle.ownership_rules.specs.Registers.{is_bad_register, is_bad_erdp, register_tests}
+use Rattle.ownership_rules.specs.Doorbells.{is_bad_bell, is_bad_doorbell, doorbell_tests}
+use Rattle.ownership_rules.specs.Events.{is_in_profile, is_impossible_by_kind, is_past_room, is_impossible, event_tests}
+use Rattle.ownership_rules.specs.Rules.{tests, broken}
+use Rattle.safety.proofs.TestsPassed.{AllFail, tests_fail}
+
+pub record RegisterFacts (h : Header) (k : Known) (r : Register) (v : ℕ) : Type 0 where
+  pub good : is_bad_register h k r v ≡ false
+  pub erdp : is_bad_erdp h k r v ≡ false
+
+pub record BellFacts (h : Header) (k : Known) (s t : ℕ) : Type 0 where
+  pub started : k.started ≡ true
+  pub good : (if s == 0 then not (t == 0) else is_bad_bell h k s t) ≡ false
+
+pub record EventFacts (h : Header) (k : Known) (b : Block) : Type 0 where
+  pub started : k.started ≡ true
+  pub room : is_past_room h k ≡ false
+  pub possible : is_impossible_by_kind h k (kind b) b ≡ false
+  pub inside : (is_transfer_event (kind b) && not (is_in_profile b)) ≡ false
+
+pub register_facts : (h : Header) (k : Known) (r : Register) (v : ℕ) → broken h k (Reg r v) ≡ [] → RegisterFacts h k r v
+unfolding tests register_tests
+register_facts h k r v clean =
+    let fails : AllFail (register_tests h k r v) = tests_fail h k (Reg r v) clean in
+    record { good = fails.0; erdp = fails.1.0 }
+
+pub bell_facts : (h : Header) (k : Known) (s t : ℕ) → broken h k (Bell s t) ≡ [] → BellFacts h k s t
+unfolding tests doorbell_tests is_bad_doorbell
+bell_facts h k s t clean =
+    let fails : AllFail (doorbell_tests h k s t) = tests_fail h k (Bell s t) clean in
+    let parts = or_parts (not k.started) (if s == 0 then not (t == 0) else is_bad_bell h k s t) fails.0 in
+    record { started = not-false k.started parts.0; good = parts.1 }
+
+pub event_facts : (h : Header) (k : Known) (b : Block) → broken h k (Read b) ≡ [] → EventFacts h k b
+unfolding tests event_tests is_impossible
+event_facts h k b clean =
+    let fails : AllFail (event_tests h k b) = tests_fail h k (Read b) clean in
+    let four = or_parts (not k.started || is_past_room h k || not (cycle b == cycle_of (event_shape h) k.reads) || not (is_event (kind b))) (is_impossible_by_kind h k (kind b) b) fails.0 in
+    let three = or_parts (not k.started || is_past_room h k || not (cycle b == cycle_of (event_shape h) k.reads)) (not (is_event (kind b))) four.0 in
+    let two = or_parts (not k.started || is_past_room h k) (not (cycle b == cycle_of (event_shape h) k.reads)) three.0 in
+    let one = or_parts (not k.started) (is_past_room h k) two.0 in
+    record { started = not-false k.started one.0; room = one.1; possible = four.1; inside = fails.1.0 }

@@ -1,0 +1,295 @@
+-- A write that gives a command and an event that isn't read yet: the event stays possible, the command is unfinished behind it, and what
+-- is known is the same both ways but for the numbers at which rings are held
+use Rattle.std.specs.Prelude.{◌≡◌, ◌≢◌, ℕ, ◌⊎◌, Bool, false, true, [], Option, None, Some, option_and_then, slice_get}
+use Rattle.std.proofs.Common.{arith, refl, sym, ◌∙◌, ap, subst, inl, inr}
+use Rattle.std.proofs.Math.Path.{fun_ext}
+use Rattle.std.proofs.lemmas.Bool.{or_right}
+use Rattle.std.proofs.lemmas.Option.{none-some, same_Some}
+use Rattle.trb.specs.declared.block.Block.{Block}
+use Rattle.segments.specs.Places.{is_inside}
+use Rattle.segments.specs.RingView.{RingView, Writes, changed, is_due, gives, positions_given}
+use Rattle.segments.proofs.Search.{cases_option}
+use Rattle.segments.proofs.Giving.{gives_is}
+use Rattle.segments.proofs.Elsewhere.{address_inside}
+use Rattle.segments.proofs.DueLists.{position_given_is}
+use Rattle.commands.specs.declared.command.Command.{Command}
+use Rattle.commands.specs.declared.command.Command.TheVariants.{NoOp, EnableSlot, DisableSlot, AddressDevice, ConfigureEndpoint, EvaluateContext, ResetEndpoint, StopEndpoint, SetTrDequeue, ResetDevice}
+use Rattle.traces.specs.declared.header.Header.{Header}
+use Rattle.traces.specs.declared.row.Row.TheVariants.{Write, Read}
+use Rattle.traces.specs.Header.{IsHeader, shape_of, command_id}
+use Rattle.ring_knowledge.specs.Known.{Known}
+use Rattle.ring_knowledge.specs.Rings.{command_at}
+use Rattle.ring_knowledge.specs.Writes.{with_device, with_word, written, taken_device, device_named, no_device, command_given}
+use Rattle.ring_knowledge.specs.Learned.{learned}
+use Rattle.ownership_rules.specs.Rules.{broken}
+use Rattle.safety.specs.Beneath.{IsHeldMore, HeldMore}
+use Rattle.safety.specs.Keeps.{IsDriverRing, IsUnfinished, CommandKeeps, DriverKeeps}
+use Rattle.safety.proofs.TestsPassed.{clean_tests}
+use Rattle.safety.proofs.CleanRows.{event_facts}
+use Rattle.safety.proofs.Headers.{ring_shape}
+use Rattle.safety.proofs.CommandRing.{due_has_ring}
+use Rattle.safety.proofs.EndpointPut.{at_number}
+use Rattle.safety.proofs.KeptClean.{taking}
+use Rattle.safety.proofs.DevicesWritten.{contains_first, and_then_parts}
+use Rattle.safety.proofs.WrittenKnown.{taken, written_ring, written_device}
+use Rattle.safety.proofs.DriverHistories.{kept_driver}
+use Rattle.safety.proofs.RowBeneath.{read_on}
+use Rattle.safety.proofs.SameDriver.{SameGiven, SameDriver, both_drivers}
+use Rattle.safety.proofs.Alike.{Alike}
+use Rattle.safety.proofs.AlikeEvents.{ReadAlike}
+use Rattle.safety.proofs.HeldFurther.{EverySlot, SameStates, held_more, counted, read_same, command_same}
+use Rattle.safety.proofs.EventBehind.{event_behind}
+use Rattle.safety.proofs.DevicesLeft.{devices_left}
+use Rattle.safety.proofs.WriteEvents.{word_read}
+use Rattle.safety.proofs.WriteBehind.{command_behind}
+use Rattle.safety.proofs.WriteBeneath.{word_driver}
+use Rattle.safety.proofs.HeldTwice.{held_twice}
+use Rattle.safety.proofs.DeviceBeneath.{Untaken, device_read, device_driver, devices_same, beyond}
+
+module _ (h : Header) (is : IsHeader h) (k : Known) (d : DriverKeeps h k) (a w : ℕ) (e : Block) (clean : broken h k (Write a w) ≡ []) (may : broken h k (Read e) ≡ []) where
+  abbrev l : Known
+  l = learned h k (Read e)
+
+  abbrev word : Known
+  word = with_word h k a w
+
+  abbrev m : Known
+  m = learned h k (Write a w)
+
+  abbrev beneath : Known
+  beneath = learned h m (Read e)
+
+  word_first : ReadAlike h EverySlot k word e
+  word_first = word_read h k a w is d clean (event_facts h k e may).started e may
+
+  device_then : ReadAlike h (Untaken (taken h k a w)) word m e
+  unfolding learned written
+  device_then = device_read h word (taken h k a w) e word_first.possible
+
+  pub command_event : broken h m (Read e) ≡ []
+  command_event = device_then.possible
+
+  -- ---- behind the event the rules are kept
+
+  pub written_keeps : DriverKeeps h m
+  written_keeps = kept_driver h is k (Write a w) d clean (clean_tests h m (Read e) command_event).0
+
+  pub beneath_keeps : DriverKeeps h beneath
+  beneath_keeps = kept_driver h is m (Read e) written_keeps command_event (read_on h m e ∙ (clean_tests h m (Read e) command_event).0)
+
+  -- ---- what the two have in common
+
+  pub floors_alike : (r : ℕ) → (beneath.ring r).floor ≡ (l.ring r).floor
+  floors_alike r = (device_then.after.rings r).floor ∙ (word_first.after.rings r).floor
+
+  ring_after : (r : ℕ) → m.ring r ≡ word.ring r
+  unfolding with_word
+  ring_after r = written_ring h k a w r
+
+  pub untaken_devices : (t : ℕ) → Untaken (taken h k a w) t → beneath.device t ≡ l.device t
+  untaken_devices t apart = device_then.after.device t apart ∙ word_first.after.device t tt
+
+  pub alike_there : Alike (Untaken (taken h k a w)) l beneath
+  alike_there =
+      let one = word_first.after in
+      let two = device_then.after in
+      record {
+        rings = λ r. record {
+          floor = (two.rings r).floor ∙ (one.rings r).floor;
+          held = held_twice (l.ring r).held ((learned h word (Read e)).ring r).held (beneath.ring r).held (one.rings r).held (two.rings r).held;
+          more = record { given = λ p g. (two.rings r).more.given p ((one.rings r).more.given p g); crossed = λ q g. (two.rings r).more.crossed q ((one.rings r).more.crossed q g) };
+        };
+        was_bound = two.was_bound ∙ one.was_bound;
+        slot_state = two.slot_state ∙ one.slot_state;
+        endpoint_state = two.endpoint_state ∙ one.endpoint_state;
+        ring_of = two.ring_of ∙ one.ring_of;
+        must_move = two.must_move ∙ one.must_move;
+        stop_seen = two.stop_seen ∙ one.stop_seen;
+        device = untaken_devices;
+      }
+
+  -- a ring is given what the write gives of it behind the event
+  pub rings_there : (r : ℕ) → SameGiven (changed (shape_of h r) (l.ring r) (Writes a w)) (beneath.ring r)
+  unfolding with_word
+  rings_there r =
+      let read = (read_same h m e).rings r in
+      let both = (word_driver h is k d a w e clean may).rings r in
+      let view : m.ring r ≡ word.ring r = ring_after r in
+      record {
+        queue = read.queue ∙ ap (λ (v : RingView). v.queue) view ∙ both.queue;
+        lengths = read.lengths ∙ ap (λ (v : RingView). v.lengths) view ∙ both.lengths;
+        given = read.given ∙ ap {B = ℕ → Bool} (λ (v : RingView). v.given) view ∙ both.given;
+        crossed = read.crossed ∙ ap {B = ℕ → Bool} (λ (v : RingView). v.crossed) view ∙ both.crossed;
+      }
+
+  -- ---- the command that is given
+
+  module _ (c : Command) (given : command_given h k a w ≡ Some c) where
+    behind_given : command_given h l a w ≡ Some c
+    behind_given = command_behind h is k d a w e clean may ∙ given
+
+    pub record GivenThere : Type 0 where
+      pub position : ℕ
+      pub ring : IsDriverRing h (command_id h)
+      pub inside : is_inside (shape_of h (command_id h)) a ≡ true
+      pub fresh : (l.ring (command_id h)).given position ≡ false
+      pub unfinished : IsUnfinished h beneath position c
+
+    pub given_there : GivenThere
+    unfolding command_given command_at with_word
+    given_there =
+        let first = and_then_parts (command_at h l) (slice_get (positions_given (shape_of h (command_id h)) (l.ring (command_id h)) a w) 0) c behind_given in
+        let contained = contains_first (positions_given (shape_of h (command_id h)) (l.ring (command_id h)) a w) first.0 first.1 in
+        let gives_here = position_given_is (shape_of h (command_id h)) (l.ring (command_id h)) a w first.0 contained in
+        let writes = gives_is (shape_of h (command_id h)) (l.ring (command_id h)).floor first.0 a w gives_here.1 in
+        let ring = due_has_ring h is (l.ring (command_id h)).floor first.0 writes.due in
+        let both = word_driver h is k d a w e clean may in
+        let read = read_same h m e in
+        let view : m.ring (command_id h) ≡ word.ring (command_id h) = ring_after (command_id h) in
+        let given_word : (word.ring (command_id h)).given first.0 ≡ true =
+        ap (λ f. f first.0) (both.rings (command_id h)).given
+        ∙ or_right ((l.ring (command_id h)).given first.0) (gives (shape_of h (command_id h)) (l.ring (command_id h)).floor first.0 a w) gives_here.1 in
+        let queue : (beneath.ring (command_id h)).queue ≡ (l.ring (command_id h)).queue =
+        (read.rings (command_id h)).queue ∙ ap (λ (v : RingView). v.queue) view ∙ (both.rings (command_id h)).queue in
+        record {
+          position = first.0;
+          ring = ring;
+          inside = ap (λ y. is_inside (shape_of h (command_id h)) y) writes.at ∙ address_inside (shape_of h (command_id h)) (ring_shape h is (command_id h) ring).is first.0 12 (omega arith);
+          fresh = gives_here.0;
+          unfinished = record {
+            due = ap (λ t. is_due (shape_of h (command_id h)) t first.0) (floors_alike (command_id h)) ∙ writes.due;
+            given = ap (λ f. f first.0) (read.rings (command_id h)).given ∙ ap (λ (v : RingView). v.given first.0) view ∙ given_word;
+            command = command_same h l beneath first.0 queue ∙ first.2;
+          };
+        }
+
+    pub given_keeps : CommandKeeps h beneath given_there.position c
+    given_keeps = beneath_keeps.unfinished given_there.position c given_there.unfinished
+
+    -- ---- the device context
+
+    -- the slot of an Address Device has one behind the event
+    there_taken : (f : ℕ × ℕ) → taken h k a w ≡ Some f → beneath.device f.0 ≡ Some f.1
+    there_taken f at =
+        let t = taking h k a w f clean at in
+        let same : c ≡ AddressDevice f.0 t.takes.bsr t.takes.context = same_Some c t.command (sym given ∙ t.given) ∙ t.takes.command in
+        elim (cases_option (beneath.device f.0)) [
+          | inl none ↦ absurd (given_keeps.device f.0 t.takes.context t.takes.bsr same none)
+          | inr some ↦
+              let was : m.device f.0 ≡ Some some.0 = devices_left h m e f.0 some.0 some.1 in
+              let now : m.device f.0 ≡ Some f.1 =
+              ap (λ g. g f.0) (written_device h k a w f at) ∙ at_number (λ (v : Option ℕ). v ≡ Some f.1) k.device f.0 (Some f.1) f.0 (λ here. refl) (λ other. absurd (other refl)) in
+              some.1 ∙ sym was ∙ now
+        ]
+
+    -- one that was there is there still
+    device_kept : (s n x : ℕ) (bsr : Bool) → c ≡ AddressDevice s bsr n → k.device s ≡ Some x → l.device s ≢ None
+    unfolding taken_device no_device
+    device_kept s n x bsr same at none =
+        let idle : taken h k a w ≡ None =
+        ap (λ o. option_and_then (taken_device k) o) (given ∙ ap (λ y. Some y) same) ∙ ap (λ o. no_device o s (device_named k s)) at in
+        given_keeps.device s n bsr same (untaken_devices s (λ f some. absurd (none-some f (sym idle ∙ some))) ∙ none)
+
+    pub device_alike : (s n : ℕ) (bsr : Bool) → c ≡ AddressDevice s bsr n → ((k.device s ≡ None) × (l.device s ≡ None)) ⊎ ((k.device s ≢ None) × (l.device s ≢ None))
+    device_alike s n bsr same =
+        elim (cases_option (k.device s)) [
+          | inl none ↦ elim (cases_option (l.device s)) [
+            | inl also ↦ inl (none, also)
+            | inr some ↦ absurd (none-some some.0 (sym none ∙ devices_left h k e s some.0 some.1))
+          ]
+          | inr some ↦ inr (λ none. none-some some.0 (sym none ∙ some.1), device_kept s n some.0 bsr same some.1)
+        ]
+
+    device_same : (s x y : ℕ) (o u : Option ℕ) → ((o ≡ None) × (u ≡ None)) ⊎ ((o ≢ None) × (u ≢ None)) → x ≡ y → no_device u s x ≡ no_device o s y
+    unfolding no_device
+    device_same s x y None None both same = ap (λ z. Some (s, z)) same
+    device_same s x y (Some p) (Some q) both same = refl
+    device_same s x y None (Some q) both same = elim both [ inl none ↦ absurd (none-some q (sym none.1)) | inr some ↦ absurd (some.0 refl) ]
+    device_same s x y (Some p) None both same = elim both [ inl none ↦ absurd (none-some p (sym none.0)) | inr some ↦ absurd (some.1 refl) ]
+
+    names_same : (s : ℕ) → device_named l s ≡ device_named k s
+    unfolding device_named
+    names_same s = let driver = (event_behind h is k d e may).driver in let memory = driver.memory in let register = driver.register in cc
+
+    taken_by : (x : Command) → c ≡ x → taken_device l x ≡ taken_device k x
+    unfolding taken_device
+    taken_by (AddressDevice s bsr n) at = device_same s (device_named l s) (device_named k s) (k.device s) (l.device s) (device_alike s n bsr at) (names_same s)
+    taken_by NoOp at = refl
+    taken_by EnableSlot at = refl
+    taken_by (DisableSlot s) at = refl
+    taken_by (ConfigureEndpoint s dc n) at = refl
+    taken_by (EvaluateContext s n) at = refl
+    taken_by (ResetEndpoint s i) at = refl
+    taken_by (StopEndpoint s i) at = refl
+    taken_by (SetTrDequeue s i p cycle) at = refl
+    taken_by (ResetDevice s) at = refl
+
+    taken_same : taken h l a w ≡ taken h k a w
+    taken_same =
+        ap (λ o. option_and_then (taken_device l) o) behind_given ∙ taken_by c refl ∙ ap (λ o. option_and_then (taken_device k) o) (sym given)
+
+    -- ---- what is known
+
+    abbrev behind : Known
+    behind = with_device h (with_word h l a w) (taken h k a w)
+
+    common : SameDriver behind beneath
+    unfolding learned written
+    common =
+        both_drivers behind (counted h m) beneath (device_driver h (with_word h l a w) word (taken h k a w) (word_driver h is k d a w e clean may)) (read_same h m e)
+
+    untaken_word : (t : ℕ) → Untaken (taken h k a w) t → beneath.device t ≡ (with_word h l a w).device t
+    unfolding with_word
+    untaken_word t apart = untaken_devices t apart
+
+    states_by : (o : Option (ℕ × ℕ)) (x : Known) → ((t : ℕ) → x.device t ≡ (with_device h (with_word h l a w) o).device t) → SameStates l (record x { device = l.device }) →
+        SameStates (with_device h (with_word h l a w) o) x
+    unfolding with_device with_word
+    states_by None x device s = record {
+      was_bound = s.was_bound;
+      slot_state = s.slot_state;
+      endpoint_state = s.endpoint_state;
+      ring_of = s.ring_of;
+      must_move = s.must_move;
+      stop_seen = s.stop_seen;
+      device = fun_ext device;
+    }
+    states_by (Some f) x device s = record {
+      was_bound = s.was_bound;
+      slot_state = s.slot_state;
+      endpoint_state = s.endpoint_state;
+      ring_of = s.ring_of;
+      must_move = s.must_move;
+      stop_seen = s.stop_seen;
+      device = fun_ext device;
+    }
+
+    floor_is : (x : Known) (r : ℕ) → x.ring ≡ (with_word h l a w).ring → (x.ring r).floor ≡ (l.ring r).floor
+    unfolding with_word
+    floor_is x r same = ap (λ f. (f r).floor) same
+
+    held_is : (x : Known) (r : ℕ) → x.ring ≡ (with_word h l a w).ring → (x.ring r).held ≡ (l.ring r).held
+    unfolding with_word
+    held_is x r same = ap (λ f. (f r).held) same
+
+    command_held : HeldMore behind beneath
+    command_held =
+        let ring : behind.ring ≡ (with_word h l a w).ring = (beyond h (with_word h l a w) (taken h k a w)).ring in
+        held_more behind beneath common
+        (states_by (taken h k a w) beneath (devices_same h (with_word h l a w) (taken h k a w) beneath.device untaken_word there_taken)
+        (record {
+          was_bound = device_then.after.was_bound ∙ word_first.after.was_bound;
+          slot_state = device_then.after.slot_state ∙ word_first.after.slot_state;
+          endpoint_state = device_then.after.endpoint_state ∙ word_first.after.endpoint_state;
+          ring_of = device_then.after.ring_of ∙ word_first.after.ring_of;
+          must_move = device_then.after.must_move ∙ word_first.after.must_move;
+          stop_seen = device_then.after.stop_seen ∙ word_first.after.stop_seen;
+          device = refl;
+        }))
+        (λ r. floors_alike r ∙ sym (floor_is behind r ring))
+        (λ r. subst (λ o. IsHeldMore o (beneath.ring r).held) (sym (held_is behind r ring)) (held_twice (l.ring r).held ((learned h word (Read e)).ring r).held (beneath.ring r).held (word_first.after.rings r).held (device_then.after.rings r).held))
+
+    -- the same both ways, but for where rings are held
+    pub command_after : HeldMore (learned h l (Write a w)) beneath
+    unfolding learned written
+    command_after = subst (λ o. HeldMore (with_device h (with_word h l a w) o) beneath) (sym taken_same) command_held

@@ -1,0 +1,66 @@
+-- Behind an event that is read before it, a command that a write gives has the same input context, and may move the same rings
+use Rattle.std.specs.Prelude.{◌≡◌, ℕ, false, Bool, Option, Some, None, []}
+use Rattle.std.proofs.Common.{refl, ◌∙◌, ap, subst}
+use Rattle.std.proofs.lemmas.Bool.{or_parts, or_from}
+use Rattle.trb.specs.declared.block.Block.{Block}
+use Rattle.commands.specs.declared.command.Command.{Command}
+use Rattle.commands.specs.declared.command.Command.TheVariants.{SetTrDequeue}
+use Rattle.contexts.specs.Contexts.{input_context_bytes}
+use Rattle.traces.specs.declared.header.Header.{Header}
+use Rattle.traces.specs.declared.row.Row.TheVariants.{Write, Read}
+use Rattle.traces.specs.Header.{IsHeader}
+use Rattle.ring_knowledge.specs.Known.{Known}
+use Rattle.ring_knowledge.specs.Writes.{command_given}
+use Rattle.ring_knowledge.specs.Learned.{learned}
+use Rattle.ownership_rules.specs.Commands as commands
+use Rattle.ownership_rules.specs.Areas.{is_bad_area, is_soiled}
+use Rattle.ownership_rules.specs.OpenLeases.{covers, device_ranges}
+use Rattle.ownership_rules.specs.Moves.{is_bad_dequeue, is_bad_move}
+use Rattle.ownership_rules.specs.Rules.{broken}
+use Rattle.safety.specs.Keeps.{DriverKeeps, MovesIf}
+use Rattle.safety.proofs.AreaFacts.{AreaParts, area_parts, area_from, clean_same}
+use Rattle.safety.proofs.WriteBeside.{context_parts, context_from}
+use Rattle.safety.proofs.LeasesBehind.{Behind, devices_fewer, none_fewer}
+use Rattle.safety.proofs.EventBehind.{event_behind}
+use Rattle.safety.proofs.GivenBehind.{between, own_between}
+
+module _ (h : Header) (is : IsHeader h) (k : Known) (d : DriverKeeps h k) (e : Block) (may : broken h k (Read e) ≡ []) where
+  abbrev l : Known
+  l = learned h k (Read e)
+
+  b : Behind h k l
+  b = event_behind h is k d e may
+
+  pub area_behind : (from len : ℕ) → is_bad_area h k from len ≡ false → is_bad_area h l from len ≡ false
+  area_behind from len good =
+      let p : AreaParts h k from len = area_parts h k from len good in
+      area_from h l from len
+      (record { ends = p.ends; rings = p.rings; devices = none_fewer (covers h from len) (device_ranges h k) (device_ranges h l) (devices_fewer h is k l b) p.devices })
+
+  pub clean_behind : (from len : ℕ) → is_soiled k from len ≡ false → is_soiled l from len ≡ false
+  clean_behind from len good = clean_same k l from len b.driver.soiled ∙ good
+
+  pub context_behind : (n : ℕ) → commands.has_bad_context h k (Some n) ≡ false → commands.has_bad_context h l (Some n) ≡ false
+  context_behind n good =
+      let p = context_parts h k n good in
+      context_from h l n (area_behind n (input_context_bytes h.context_size) p.area) (clean_behind n (input_context_bytes h.context_size) p.clean)
+
+  module _ (a w : ℕ) (clean : broken h k (Write a w) ≡ []) (c : Command) (given : command_given h k a w ≡ Some c) where
+    abbrev x : Known
+    x = between h is k d a w e clean may c given
+
+    dequeue_same : (o : Option ℕ) (p : ℕ) (cycle : Bool) → is_bad_dequeue h l o p cycle ≡ is_bad_dequeue h x o p cycle
+    unfolding is_bad_dequeue
+    dequeue_same None p cycle = refl
+    dequeue_same (Some r) p cycle = refl
+
+    set_by : (s i p : ℕ) (cycle : Bool) → is_bad_move h x (SetTrDequeue s i p cycle) ≡ false → is_bad_move h l (SetTrDequeue s i p cycle) ≡ false
+    unfolding is_bad_move
+    set_by s i p cycle good =
+        let parts = or_parts _ (is_bad_dequeue h x (l.ring_of s i) p cycle) good in
+        or_from _ (is_bad_dequeue h l (l.ring_of s i) p cycle) parts.0 (dequeue_same (l.ring_of s i) p cycle ∙ parts.1)
+
+    -- a Set TR Dequeue may move the ring as before
+    pub set_behind : (s i p : ℕ) (cycle : Bool) → c ≡ SetTrDequeue s i p cycle → is_bad_move h l c ≡ false
+    set_behind s i p cycle at =
+        ap (λ f. is_bad_move h l f) at ∙ set_by s i p cycle (subst (λ f. MovesIf h x f) at (own_between h is k d a w e clean may c given).moves_on)

@@ -1,0 +1,67 @@
+-- Behind an event that is read before it, a command that a write gives may move its rings as before
+use Rattle.std.specs.Prelude.{◌≡◌, ℕ, ◌==◌, ◌&&◌, not, Bool, false, Some, []}
+use Rattle.std.proofs.Common.{refl, sym, ◌∙◌, ap, subst, inl, inr}
+use Rattle.std.proofs.lemmas.Bool.{or_from, and_parts, false≢true, false_from_ne_true, not_from_true, eq-eqb}
+use Rattle.trb.specs.declared.block.Block.{Block}
+use Rattle.segments.specs.RingView.{declared, floor_number}
+use Rattle.segments.specs.Moves.{is_move}
+use Rattle.segments.proofs.Search.{cases_option}
+use Rattle.commands.specs.declared.command.Command.{Command}
+use Rattle.commands.specs.declared.command.Command.TheVariants.{NoOp, EnableSlot, DisableSlot, AddressDevice, ConfigureEndpoint, EvaluateContext, ResetEndpoint, StopEndpoint, SetTrDequeue, ResetDevice}
+use Rattle.commands.specs.States.{is_off}
+use Rattle.contexts.specs.Contexts.{context_pointer, context_cycle}
+use Rattle.traces.specs.declared.header.Header.{Header}
+use Rattle.traces.specs.declared.row.Row.TheVariants.{Write, Read}
+use Rattle.traces.specs.Header.{IsHeader, shape_of}
+use Rattle.ring_knowledge.specs.Known.{Known}
+use Rattle.ring_knowledge.specs.Writes.{command_given}
+use Rattle.ring_knowledge.specs.Learned.{learned}
+use Rattle.ownership_rules.specs.Moves.{binding_in, is_bad_stay, is_bad_move}
+use Rattle.ownership_rules.specs.Rules.{broken}
+use Rattle.safety.specs.Keeps.{DriverKeeps, StaysIf}
+use Rattle.safety.proofs.TestsPassed.{clean_tests}
+use Rattle.safety.proofs.DriverHistories.{kept_driver}
+use Rattle.safety.proofs.RowBeneath.{read_on}
+use Rattle.safety.proofs.GivenBehind.{between, own_between}
+use Rattle.safety.proofs.CommandContext.{set_behind}
+use Rattle.safety.proofs.CommandStays.{left_behind}
+
+module _ (h : Header) (is : IsHeader h) (k : Known) (d : DriverKeeps h k) (a w : ℕ) (e : Block) (clean : broken h k (Write a w) ≡ []) (may : broken h k (Read e) ≡ [])
+    (c : Command) (given : command_given h k a w ≡ Some c) where
+  abbrev l : Known
+  l = learned h k (Read e)
+
+  pub behind_keeps : DriverKeeps h l
+  behind_keeps = kept_driver h is k (Read e) d may (read_on h k e ∙ (clean_tests h k (Read e) may).0)
+
+  stay_behind : (s n r : ℕ) (bsr : Bool) → c ≡ AddressDevice s bsr n → l.ring_of s 1 ≡ Some r → is_bad_stay h l (Some r) (binding_in h l n 1) ≡ false
+  unfolding is_bad_stay binding_in
+  stay_behind s n r bsr same at =
+      let left = left_behind h is k d a w e clean may c given s n r bsr same at in
+      let stays = subst (λ f. StaysIf h (between h is k d a w e clean may c given) f) same (own_between h is k d a w e clean may c given).stays r at in
+      let move : ℕ → Bool = λ q. is_move (shape_of h r) (l.ring r) (context_pointer h.context_size l.memory n 1) (context_cycle h.context_size l.memory n 1) q q in
+      or_from (not (declared (l.ring r) == floor_number (l.ring r))) (not (move (declared (l.ring r))))
+      (not_from_true (declared (l.ring r) == floor_number (l.ring r)) (eq-eqb (declared (l.ring r)) (floor_number (l.ring r)) left))
+      (not_from_true (move (declared (l.ring r))) (ap move left ∙ stays.here))
+
+  by : (f : Command) → c ≡ f → is_bad_move h l f ≡ false
+  unfolding is_bad_move
+  by (SetTrDequeue s i p cycle) at = ap (λ f. is_bad_move h l f) (sym at) ∙ set_behind h is k d e may a w clean c given s i p cycle at
+  by (AddressDevice s bsr n) at =
+      false_from_ne_true (not (is_off (l.endpoint_state s 1)) && is_bad_stay h l (l.ring_of s 1) (binding_in h l n 1)) (λ both.
+      let parts = and_parts (not (is_off (l.endpoint_state s 1))) (is_bad_stay h l (l.ring_of s 1) (binding_in h l n 1)) both in
+      elim (cases_option (l.ring_of s 1)) [
+        | inl none ↦ false≢true (sym (ap (λ t. not (is_off t)) (behind_keeps.states.off s 1 none)) ∙ parts.0)
+        | inr r ↦ false≢true (sym (ap (λ o. is_bad_stay h l o (binding_in h l n 1)) r.1 ∙ stay_behind s n r.0 bsr at r.1) ∙ parts.1)
+      ])
+  by NoOp at = refl
+  by EnableSlot at = refl
+  by (DisableSlot s) at = refl
+  by (ConfigureEndpoint s dc n) at = refl
+  by (EvaluateContext s n) at = refl
+  by (ResetEndpoint s i) at = refl
+  by (StopEndpoint s i) at = refl
+  by (ResetDevice s) at = refl
+
+  pub moves_behind : is_bad_move h l c ≡ false
+  moves_behind = by c refl

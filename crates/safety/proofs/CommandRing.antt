@@ -1,0 +1,45 @@
+-- Where a command may be unfinished the header has a command ring
+use Rattle.std.specs.Prelude.{◌≡◌, ℕ, true, Option, Some, None, find}
+use Rattle.std.proofs.Common.{arith, refl, ap, inl, inr}
+use Rattle.trb.specs.declared.ring_kind.RingKind.{RingKind}
+use Rattle.trb.specs.declared.ring_kind.RingKind.TheVariants.{Cmd, Evt, Xfer}
+use Rattle.segments.specs.declared.spot.Spot.{Spot}
+use Rattle.segments.specs.Places.{place_count}
+use Rattle.segments.specs.RingView.{is_due}
+use Rattle.segments.proofs.Giving.{due_is}
+use Rattle.segments.proofs.Search.{cases_option}
+use Rattle.traces.specs.declared.header.Header.{Header}
+use Rattle.traces.specs.declared.ring.Ring.{Ring}
+use Rattle.traces.specs.Header.{IsHeader, ring_with, shape_of, shape_or, command_ring, command_id, id_or_none, is_command_kind, is_driver_kind}
+use Rattle.std.proofs.lemmas.Bool.{false≢true}
+use Rattle.safety.specs.Keeps.{IsDriverRing}
+use Rattle.safety.proofs.RingsOfHeader.{found_passes}
+use Rattle.safety.proofs.RingIds.{found_again, together, none_has_256}
+
+command_driver : (kind : RingKind) → is_command_kind kind ≡ true → is_driver_kind kind ≡ true
+command_driver Cmd c = refl
+command_driver Evt c = absurd (false≢true c)
+command_driver Xfer c = absurd (false≢true c)
+
+module _ (h : Header) (is : IsHeader h) where
+  no_places : place_count (shape_of h 256) ≡ 0
+  unfolding shape_of
+  no_places =
+      elim (cases_option (ring_with h 256)) [
+        | inl none ↦ ap (λ o. place_count (shape_or Xfer o)) none
+        | inr some ↦ absurd (none_has_256 h is some.0 some.1)
+      ]
+
+  due_by : (o : Option Ring) → find (λ q. is_command_kind q.shape.kind) h.rings ≡ o → (floor : Spot) (p : ℕ) → is_due (shape_of h (id_or_none o)) floor p ≡ true → IsDriverRing h (id_or_none o)
+  due_by None none floor p due = let within = due_is (shape_of h 256) floor p due in absurd (omega (arith, within.0, within.1, no_places))
+  due_by (Some c) found floor p due =
+      record {
+        ring = c;
+        found = found_again (λ q. is_command_kind q.shape.kind) h.rings c (together h is) found;
+        kind = command_driver c.shape.kind (found_passes (λ q. is_command_kind q.shape.kind) h.rings c found);
+      }
+
+  -- a position of the command ring that is due is one of a ring
+  pub due_has_ring : (floor : Spot) (p : ℕ) → is_due (shape_of h (command_id h)) floor p ≡ true → IsDriverRing h (command_id h)
+  unfolding command_id command_ring
+  due_has_ring floor p due = due_by (find (λ q. is_command_kind q.shape.kind) h.rings) refl floor p due

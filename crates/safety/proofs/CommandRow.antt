@@ -1,0 +1,139 @@
+-- Behind an event that is read before it, a write that gives a command breaks no rule: what is tested of its bindings and its slot
+use Rattle.std.specs.Prelude.{◌≡◌, ℕ, ◌||◌, not, true, false, List, [], ◌∷◌, map, All, Some, is_some}
+use Rattle.std.specs.List.{list_any}
+use Rattle.std.proofs.Common.{refl, sym, ◌∙◌, ap, subst, inl, inr}
+use Rattle.std.proofs.lemmas.Bool.{or_from, not_from_true, not_from_false, false≢true, false_from_ne_true, eq-eqb}
+use Rattle.std.proofs.lemmas.List.Elements.{All-head, All-tail}
+use Rattle.segments.proofs.Search.{cases_option}
+use Rattle.trb.specs.declared.block.Block.{Block}
+use Rattle.segments.specs.RingView.{is_due}
+use Rattle.commands.specs.declared.command.Command.{Command}
+use Rattle.commands.specs.declared.command.Command.TheVariants.{NoOp, EnableSlot, DisableSlot, AddressDevice, ConfigureEndpoint, EvaluateContext, ResetEndpoint, StopEndpoint, SetTrDequeue, ResetDevice}
+use Rattle.commands.specs.Command.{name_one_slot}
+use Rattle.traces.specs.declared.header.Header.{Header}
+use Rattle.traces.specs.declared.row.Row.TheVariants.{Write, Read}
+use Rattle.traces.specs.Header.{IsHeader, shape_of, command_id, is_ring}
+use Rattle.ring_knowledge.specs.Known.{Known}
+use Rattle.ring_knowledge.specs.Rings.{unfinished}
+use Rattle.ring_knowledge.specs.Writes.{command_given}
+use Rattle.ring_knowledge.specs.Learned.{learned}
+use Rattle.ownership_rules.specs.Commands as commands
+use Rattle.ownership_rules.specs.Moves.{Binding, binding_in, binds, ring_bound, binds_ring, has_repeats, is_used, is_unused_ring, is_bad_binding}
+use Rattle.ownership_rules.specs.Rules.{broken}
+use Rattle.ownership_rules.proofs.Among.{IsIn, some_of, any_of}
+use Rattle.safety.specs.Keeps.{IsUnfinished, CommandKeeps, DriverKeeps}
+use Rattle.safety.proofs.LeasesBehind.{none_fewer}
+use Rattle.safety.proofs.WriteBeside.{beside_old}
+use Rattle.safety.proofs.CommandsBeside.{binds_ring_beside}
+use Rattle.safety.proofs.HeldFurther.{command_same}
+use Rattle.safety.proofs.UnfinishedBehind.{listed_unfinished, listed_before}
+use Rattle.safety.proofs.CommandBeneath.{rings_there, floors_alike, alike_there}
+use Rattle.safety.proofs.GivenBehind.{between, there, kept, keeps, facts, beside, beside_given, own_between}
+
+each_in : {X : Type 0} (P : X → Type 0) (xs : List X) (x : X) → All P xs → IsIn x xs → P x
+each_in P [] x all at = absurd at
+each_in P (y ∷ xs) x all at = elim at [ inl here ↦ subst P (sym here) (All-head P y xs all) | inr later ↦ each_in P xs x (All-tail P y xs all) later ]
+
+module _ (h : Header) (is : IsHeader h) (k : Known) (d : DriverKeeps h k) (a w : ℕ) (e : Block) (clean : broken h k (Write a w) ≡ []) (may : broken h k (Read e) ≡ [])
+    (c : Command) (given : command_given h k a w ≡ Some c) where
+  abbrev l : Known
+  l = learned h k (Read e)
+
+  abbrev beneath : Known
+  beneath = learned h (learned h k (Write a w)) (Read e)
+
+  abbrev x : Known
+  x = between h is k d a w e clean may c given
+
+  -- the slot isn't busy
+  pub idle_behind : commands.is_busy h l c ≡ false
+  unfolding commands.is_busy
+  idle_behind = none_fewer (name_one_slot c) (unfinished h k) (unfinished h l) (listed_before h is k d e may) (facts h is k d a w e clean may c given).busy
+
+  pub profile_behind : commands.has_left_out_endpoint h l c ≡ false
+  unfolding commands.has_left_out_endpoint commands.is_left_out_endpoint commands.type_in commands.streams_in
+  profile_behind = by c (own_between h is k d a w e clean may c given).in_profile
+    where
+      by : (f : Command) → commands.has_left_out_endpoint h x f ≡ false → commands.has_left_out_endpoint h l f ≡ false
+      by (AddressDevice s bsr n) good = good
+      by (ConfigureEndpoint s false n) good = good
+      by (ConfigureEndpoint s true n) good = refl
+      by NoOp good = refl
+      by EnableSlot good = refl
+      by (DisableSlot s) good = refl
+      by (EvaluateContext s n) good = refl
+      by (ResetEndpoint s i) good = refl
+      by (StopEndpoint s i) good = refl
+      by (SetTrDequeue s i p cycle) good = refl
+      by (ResetDevice s) good = refl
+
+  -- what is bound is read neither of device contexts nor of soiled words
+  binds_same : (f : Command) → binds h l f ≡ binds h x f
+  unfolding binds binding_in
+  binds_same (AddressDevice s bsr n) = refl
+  binds_same (ConfigureEndpoint s false n) = refl
+  binds_same (ConfigureEndpoint s true n) = refl
+  binds_same NoOp = refl
+  binds_same EnableSlot = refl
+  binds_same (DisableSlot s) = refl
+  binds_same (EvaluateContext s n) = refl
+  binds_same (ResetEndpoint s i) = refl
+  binds_same (StopEndpoint s i) = refl
+  binds_same (SetTrDequeue s i p cycle) = refl
+  binds_same (ResetDevice s) = refl
+
+  binds_ring_same : (r : ℕ) (f : Command) → binds_ring h l r f ≡ binds_ring h x r f
+  unfolding binds_ring
+  binds_ring_same r f = ap (λ bs. list_any (λ b. is_ring r (ring_bound h b)) bs) (binds_same f)
+
+  -- what is unfinished behind the event is unfinished there
+  stays_there : (q : ℕ) (f : Command) → IsUnfinished h l q f → IsUnfinished h beneath q f
+  stays_there q f u =
+      record {
+        due = ap (λ t. is_due (shape_of h (command_id h)) t q) (floors_alike h is k d a w e clean may (command_id h)) ∙ u.due;
+        given = ((alike_there h is k d a w e clean may).rings (command_id h)).more.given q u.given;
+        command = command_same h l beneath q (rings_there h is k d a w e clean may (command_id h)).queue ∙ u.command;
+      }
+
+  -- no other command that is unfinished names a ring that this one binds
+  unnamed : (r : ℕ) → binds_ring h x r c ≡ true → list_any (binds_ring h l r) (unfinished h l) ≡ false
+  unnamed r bound =
+      false_from_ne_true (list_any (binds_ring h l r) (unfinished h l)) (λ some.
+      let found = some_of (binds_ring h l r) (unfinished h l) some in
+      let f : Command = found.0 in
+      let now = listed_unfinished h l found.0 found.1 in
+      let before = listed_unfinished h k found.0 (listed_before h is k d e may found.0 found.1) in
+      let u : IsUnfinished h beneath now.0 found.0 = stays_there now.0 found.0 now.1 in
+      let own : CommandKeeps h beneath (there h is k d a w e clean may c given).position c = kept h is k d a w e clean may c given in
+      let old : CommandKeeps h beneath now.0 found.0 = (keeps h is k d a w e clean may c given).unfinished now.0 found.0 u in
+      let beside_f = beside h is k d a w e clean may c given now.0 found.0 old (beside_old h is k d a w clean before.0 found.0 before.1) in
+      let apart : binds_ring h beneath r found.0 ≡ false =
+      own.unshared r now.0 found.0 (sym (binds_ring_beside h beneath x c (beside_given h is k d a w e clean may c given) r) ∙ bound) u
+      (λ same. false≢true (sym (there h is k d a w e clean may c given).fresh ∙ ap (λ p. (l.ring (command_id h)).given p) (sym same) ∙ now.1.given)) in
+      false≢true (sym apart ∙ sym (binds_ring_beside h beneath x found.0 beside_f r) ∙ sym (binds_ring_same r found.0) ∙ found.2))
+
+  unused_behind : (r : ℕ) → binds_ring h x r c ≡ true → is_used h l r ≡ false
+  unfolding is_used
+  unused_behind r bound = or_from (l.was_bound r) (list_any (binds_ring h l r) (unfinished h l)) ((own_between h is k d a w e clean may c given).unbound r bound) (unnamed r bound)
+
+  unused : (b : Binding) → IsIn b (binds h x c) → is_some (ring_bound h b) ≡ true → not (is_unused_ring h l (ring_bound h b)) ≡ false
+  unfolding binds_ring is_unused_ring
+  unused b at some =
+      elim (cases_option (ring_bound h b)) [
+        | inl none ↦ absurd (false≢true (sym (ap (λ o. is_some o) none) ∙ some))
+        | inr r ↦
+            ap (λ o. not (is_unused_ring h l o)) r.1
+            ∙ not_from_true (not (is_used h l r.0)) (not_from_false (is_used h l r.0) (unused_behind r.0
+            (any_of (λ b. is_ring r.0 (ring_bound h b)) (binds h x c) b at (ap (λ o. is_ring r.0 o) r.1 ∙ eq-eqb r.0 r.0 refl))))
+      ]
+
+  pub bindings_behind : is_bad_binding h l c ≡ false
+  unfolding is_bad_binding
+  bindings_behind =
+      ap (λ bs. list_any (λ b. not (is_unused_ring h l (ring_bound h b)) || not b.cycle) bs || has_repeats (map (ring_bound h) bs)) (binds_same c)
+      ∙ or_from (list_any (λ b. not (is_unused_ring h l (ring_bound h b)) || not b.cycle) (binds h x c)) (has_repeats (map (ring_bound h) (binds h x c)))
+      (false_from_ne_true (list_any (λ b. not (is_unused_ring h l (ring_bound h b)) || not b.cycle) (binds h x c)) (λ some.
+      let found = some_of (λ b. not (is_unused_ring h l (ring_bound h b)) || not b.cycle) (binds h x c) some in
+      let good = each_in (λ b. (is_some (ring_bound h b) ≡ true) × (b.cycle ≡ true)) (binds h x c) found.0 (own_between h is k d a w e clean may c given).binds_rings found.1 in
+      false≢true (sym (or_from (not (is_unused_ring h l (ring_bound h found.0))) (not found.0.cycle) (unused found.0 found.1 good.0) (not_from_true found.0.cycle good.1)) ∙ found.2)))
+      (own_between h is k d a w e clean may c given).repeats

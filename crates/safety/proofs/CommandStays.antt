@@ -1,0 +1,56 @@
+-- Behind an event that is read before it, a second Address Device that a write gives finds nothing left on its ring
+use Rattle.std.specs.Prelude.{◌≡◌, ℕ, Bool, length, Some, []}
+use Rattle.std.proofs.Common.{arith, sym, ◌∙◌, ap, inl, inr}
+use Rattle.std.proofs.lemmas.Bool.{cases_lt}
+use Rattle.trb.specs.declared.block.Block.{Block}
+use Rattle.segments.specs.RingView.{RingView, declared, floor_number}
+use Rattle.commands.specs.declared.command.Command.{Command}
+use Rattle.commands.specs.declared.command.Command.TheVariants.{AddressDevice}
+use Rattle.commands.specs.Command.{named_slot}
+use Rattle.traces.specs.declared.header.Header.{Header}
+use Rattle.traces.specs.declared.row.Row.TheVariants.{Write, Read}
+use Rattle.traces.specs.Header.{IsHeader}
+use Rattle.ring_knowledge.specs.Known.{Known}
+use Rattle.ring_knowledge.specs.Writes.{command_given}
+use Rattle.ring_knowledge.specs.Learned.{learned}
+use Rattle.ownership_rules.specs.Rules.{broken}
+use Rattle.safety.specs.Keeps.{DriverKeeps}
+use Rattle.safety.proofs.RowFrames.{write_leaves}
+use Rattle.safety.proofs.EventBehind.{event_behind}
+use Rattle.safety.proofs.UnfinishedBehind.{rings_behind}
+use Rattle.safety.proofs.CommandBeneath.{written_keeps, command_event, alike_there}
+use Rattle.safety.proofs.GivenBehind.{there, facts}
+
+module _ (h : Header) (is : IsHeader h) (k : Known) (d : DriverKeeps h k) (a w : ℕ) (e : Block) (clean : broken h k (Write a w) ≡ []) (may : broken h k (Read e) ≡ [])
+    (c : Command) (given : command_given h k a w ≡ Some c) where
+  abbrev l : Known
+  l = learned h k (Read e)
+
+  abbrev m : Known
+  m = learned h k (Write a w)
+
+  -- the rings of the command's slot are those that it had
+  pub slot_rings : (t i : ℕ) → named_slot c ≡ Some t → l.ring_of t i ≡ k.ring_of t i
+  slot_rings t i named =
+      let at = there h is k d a w e clean may c given in
+      sym (ap (λ f. f t i) (alike_there h is k d a w e clean may).ring_of)
+      ∙ rings_behind h is m (written_keeps h is k d a w e clean may) e (command_event h is k d a w e clean may) at.position c t i at.unfinished named
+      ∙ ap (λ f. f t i) (write_leaves h k a w).slots.ring_of
+
+  -- nothing was left on the ring of a second Address Device
+  pub left_before : (s n r : ℕ) (bsr : Bool) → c ≡ AddressDevice s bsr n → l.ring_of s 1 ≡ Some r → declared (k.ring r) ≡ floor_number (k.ring r)
+  left_before s n r bsr same at = (facts h is k d a w e clean may c given).nothing_left s n r bsr same (sym (slot_rings s 1 (ap named_slot same)) ∙ at)
+
+  -- nor is anything behind the event
+  pub left_behind : (s n r : ℕ) (bsr : Bool) → c ≡ AddressDevice s bsr n → l.ring_of s 1 ≡ Some r → declared (l.ring r) ≡ floor_number (l.ring r)
+  left_behind s n r bsr same at =
+      let left = left_before s n r bsr same at in
+      elim ((event_behind h is k d e may).rings r) [
+        | inl still ↦ ap (λ (v : RingView). declared v) still ∙ left ∙ sym (ap (λ (v : RingView). floor_number v) still)
+        | inr on ↦
+            let queue : declared (l.ring r) ≡ declared (k.ring r) = ap (λ q. length q) on.1.same.queue in
+            elim (cases_lt (declared (l.ring r)) (floor_number (l.ring r))) [
+              | inl above ↦ let below = on.1.behind.given_declared (declared (l.ring r)) (on.1.behind.passed (declared (l.ring r)) above) in absurd (omega arith)
+              | inr low ↦ omega (arith, left, queue, low, on.1.on)
+            ]
+      ]

@@ -1,0 +1,42 @@
+-- Behind an event that is read before it, a write that gives a good command breaks no rule
+use Rattle.std.specs.Prelude.{◌≡◌, ℕ, ◌∷◌, Bool, false, [], Some}
+use Rattle.std.proofs.Common.{◌∙◌, ap}
+use Rattle.std.proofs.lemmas.Bool.{cond-false, or_from}
+use Rattle.trb.specs.declared.block.Block.{Block}
+use Rattle.commands.specs.declared.command.Command.{Command}
+use Rattle.traces.specs.declared.header.Header.{Header}
+use Rattle.traces.specs.declared.row.Row.TheVariants.{Write, Read}
+use Rattle.traces.specs.Header.{IsHeader}
+use Rattle.ring_knowledge.specs.Known.{Known}
+use Rattle.ring_knowledge.specs.Writes.{command_given}
+use Rattle.ring_knowledge.specs.Learned.{learned}
+use Rattle.ownership_rules.specs.Commands as commands
+use Rattle.ownership_rules.specs.Refusal.{broken_of}
+use Rattle.ownership_rules.specs.declared.refusal.Refusal.TheVariants.{AfterStop}
+use Rattle.ownership_rules.specs.Writes.{some_command, holds_of, write_tests}
+use Rattle.ownership_rules.specs.Rules.{tests, broken}
+use Rattle.safety.specs.Keeps.{DriverKeeps}
+use Rattle.safety.proofs.TestsPassed.{clean_tests}
+use Rattle.safety.proofs.RowBeneath.{read_on}
+use Rattle.safety.proofs.WriteBehind.{RingRules, rules_behind, command_behind, broken_none}
+use Rattle.safety.proofs.CommandRow.{idle_behind, profile_behind, bindings_behind}
+use Rattle.safety.proofs.CommandMoves.{moves_behind}
+
+module _ (h : Header) (is : IsHeader h) (k : Known) (d : DriverKeeps h k) (a w : ℕ) (e : Block) (clean : broken h k (Write a w) ≡ []) (may : broken h k (Read e) ≡ [])
+    (c : Command) (given : command_given h k a w ≡ Some c) where
+  abbrev l : Known
+  l = learned h k (Read e)
+
+  of_given : (test : Command → Bool) → test c ≡ false → some_command h l a w test ≡ false
+  unfolding some_command holds_of
+  of_given test fails = ap (holds_of test) (command_behind h is k d a w e clean may ∙ given) ∙ fails
+
+  pub row_behind : commands.is_bad_command h l c ≡ false → broken h l (Write a w) ≡ []
+  unfolding broken tests write_tests
+  row_behind good =
+      let rules : RingRules h is k d a w e clean may l = rules_behind h is k d a w e clean may in
+      cond-false l.stopped (AfterStop ∷ []) (broken_of (write_tests h l a w)) (read_on h k e ∙ (clean_tests h k (Read e) may).0)
+      ∙ broken_none (write_tests h l a w) (
+        rules.free,
+        (rules.declared_as, (rules.declared, (rules.whole, (rules.leads, (of_given _ good, (or_from _ _ (of_given _ (idle_behind h is k d a w e clean may c given)) rules.unmoved, (or_from _ _ (of_given _ (profile_behind h is k d a w e clean may c given)) rules.inside, (of_given _ (or_from _ _ (bindings_behind h is k d a w e clean may c given) (moves_behind h is k d a w e clean may c given)), tt)))))))),
+      )

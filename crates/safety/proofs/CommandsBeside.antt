@@ -1,0 +1,152 @@
+-- What the rules say of a command holds still where nothing that the command reads has changed
+use Rattle.std.specs.Prelude.{◌≡◌, ◌≢◌, ℕ, ◌<◌, ◌==◌, ◌&&◌, ◌||◌, not, if◌then◌else◌, Bool, false, [], ◌∷◌, map, Option, None, Some, is_none}
+use Rattle.std.specs.List.{list_any}
+use Rattle.std.proofs.Common.{arith, refl, ◌∙◌, ap}
+use Rattle.std.proofs.lemmas.Bool.{or_parts, or_from, and_left}
+use Rattle.commands.specs.declared.command.Command.{Command}
+use Rattle.commands.specs.declared.command.Command.TheVariants.{AddressDevice, ConfigureEndpoint, ResetEndpoint, StopEndpoint, SetTrDequeue}
+use Rattle.commands.specs.Command.{named_slot, named_endpoint, named_context}
+use Rattle.commands.specs.States.{is_disabled, is_off}
+use Rattle.contexts.specs.Contexts.{added_endpoints, input_add_flag}
+use Rattle.traces.specs.declared.header.Header.{Header}
+use Rattle.traces.specs.Header.{is_ring}
+use Rattle.ring_knowledge.specs.Known.{Known}
+use Rattle.ownership_rules.specs.Commands as commands
+use Rattle.ownership_rules.specs.Moves.{binding_in, binds, ring_bound, binds_ring}
+use Rattle.safety.proofs.ContextReads.{AgreeIn, any_same, map_same, added_indices, added_same, add_flag_same, drop_flag_same, type_same, streams_same, pointer_same, cycle_same}
+
+none_is : (o : Option ℕ) → o ≢ None → is_none o ≡ false
+none_is None some = absurd (some refl)
+none_is (Some d) some = refl
+
+no_context : (h : Header) (l : Known) → commands.has_bad_context h l None ≡ false
+unfolding commands.has_bad_context
+no_context h l = refl
+
+module _ (h : Header) where
+  -- what is known at l is, as far as the command reads it, what was known at k
+  pub record Beside (k l : Known) (c : Command) : Type 0 where
+    pub memory : (n : ℕ) → named_context c ≡ Some n → AgreeIn h.context_size k.memory l.memory n
+    pub context : (n : ℕ) → named_context c ≡ Some n → commands.has_bad_context h l (Some n) ≡ false
+    pub slot : (s : ℕ) → named_slot c ≡ Some s → is_disabled (k.slot_state s) ≡ false → is_disabled (l.slot_state s) ≡ false
+    pub off : (s i : ℕ) → named_slot c ≡ Some s → is_off (l.endpoint_state s i) ≡ is_off (k.endpoint_state s i)
+    pub device : (s n : ℕ) (bsr : Bool) → c ≡ AddressDevice s bsr n → l.device s ≢ None
+
+  -- ---- single parts
+
+  module _ (k l : Known) (n : ℕ) (same : AgreeIn h.context_size k.memory l.memory n) where
+    types : (i : ℕ) → i < 32 → commands.type_in h l n i ≡ commands.type_in h k n i
+    unfolding commands.type_in
+    types i low = type_same h.context_size k.memory l.memory n same i low
+
+    streams : (i : ℕ) → i < 32 → commands.streams_in h l n i ≡ commands.streams_in h k n i
+    unfolding commands.streams_in
+    streams i low = streams_same h.context_size k.memory l.memory n same i low
+
+    left_out : (i : ℕ) → i < 32 → commands.is_left_out_endpoint h l n i ≡ commands.is_left_out_endpoint h k n i
+    unfolding commands.is_left_out_endpoint
+    left_out i low = let t = types i low in let s = streams i low in cc
+
+    binding : (i : ℕ) → i < 32 → binding_in h l n i ≡ binding_in h k n i
+    unfolding binding_in
+    binding i low =
+        let p = pointer_same h.context_size k.memory l.memory n same i low in
+        let c = cycle_same h.context_size k.memory l.memory n same i low in
+        cc
+
+    bad_added : (s i : ℕ) → i < 32 → is_off (l.endpoint_state s i) ≡ is_off (k.endpoint_state s i) → commands.is_bad_added h l s n i ≡ commands.is_bad_added h k s n i
+    unfolding commands.is_bad_added
+    bad_added s i low off =
+        let t = types i low in
+        let d = drop_flag_same h.context_size k.memory l.memory n same i in
+        cc
+
+  -- ---- the rules
+
+  module _ (k l : Known) where
+    profile_beside : (c : Command) → Beside k l c → commands.has_left_out_endpoint h l c ≡ commands.has_left_out_endpoint h k c
+    unfolding commands.has_left_out_endpoint
+    profile_beside (AddressDevice s bsr n) b = left_out k l n (b.memory n refl) 1 (omega arith)
+    profile_beside (ConfigureEndpoint s false n) b =
+        let same = b.memory n refl in
+        ap (λ xs. list_any (commands.is_left_out_endpoint h l n) xs) (added_same h.context_size k.memory l.memory n same)
+        ∙ any_same (commands.is_left_out_endpoint h l n) (commands.is_left_out_endpoint h k n) (added_endpoints k.memory n) (added_indices k.memory n) (left_out k l n same)
+    profile_beside _ b = refl
+
+    pub binds_beside : (c : Command) → Beside k l c → binds h l c ≡ binds h k c
+    unfolding binds
+    binds_beside (AddressDevice s bsr n) b =
+        ap (λ t. if t then binding_in h l n 1 ∷ [] else []) (b.off s 1 refl)
+        ∙ ap (λ x. if is_off (k.endpoint_state s 1) then x ∷ [] else []) (binding k l n (b.memory n refl) 1 (omega arith))
+    binds_beside (ConfigureEndpoint s false n) b =
+        let same = b.memory n refl in
+        ap (λ xs. map (binding_in h l n) xs) (added_same h.context_size k.memory l.memory n same)
+        ∙ map_same (binding_in h l n) (binding_in h k n) (added_endpoints k.memory n) (added_indices k.memory n) (binding k l n same)
+    binds_beside _ b = refl
+
+    pub binds_ring_beside : (c : Command) → Beside k l c → (r : ℕ) → binds_ring h l r c ≡ binds_ring h k r c
+    unfolding binds_ring
+    binds_ring_beside c b r = ap (λ bs. list_any (λ x. is_ring r (ring_bound h x)) bs) (binds_beside c b)
+
+    slot_beside : (c : Command) → Beside k l c → commands.names_disabled_slot k (named_slot c) ≡ false → commands.names_disabled_slot l (named_slot c) ≡ false
+    unfolding commands.names_disabled_slot
+    slot_beside c b good = by (named_slot c) refl good
+      where
+        by : (o : Option ℕ) → named_slot c ≡ o → commands.names_disabled_slot k o ≡ false → commands.names_disabled_slot l o ≡ false
+        by None at good = refl
+        by (Some s) at good = b.slot s at good
+
+    endpoint_beside : (c : Command) → Beside k l c → commands.names_disabled_endpoint l (named_endpoint c) ≡ commands.names_disabled_endpoint k (named_endpoint c)
+    unfolding commands.names_disabled_endpoint
+    endpoint_beside (ResetEndpoint s i) b = ap (λ t. i == 0 || t) (b.off s i refl)
+    endpoint_beside (StopEndpoint s i) b = ap (λ t. i == 0 || t) (b.off s i refl)
+    endpoint_beside (SetTrDequeue s i p cycle) b = ap (λ t. i == 0 || t) (b.off s i refl)
+    endpoint_beside _ b = refl
+
+    context_beside : (c : Command) → Beside k l c → commands.has_bad_context h l (named_context c) ≡ false
+    context_beside c b = by (named_context c) refl
+      where
+        by : (o : Option ℕ) → named_context c ≡ o → commands.has_bad_context h l o ≡ false
+        by None at = no_context h l
+        by (Some n) at = b.context n at
+
+    -- a device context that is under lease isn't taken again
+    leased_device : (s n : ℕ) → l.device s ≢ None → commands.takes_bad_device h l s n ≡ false
+    unfolding commands.takes_bad_device
+    leased_device s n some = and_left _ _ (none_is (l.device s) some)
+
+    content_beside : (c : Command) → Beside k l c → commands.has_bad_content h k c ≡ false → commands.has_bad_content h l c ≡ false
+    unfolding commands.has_bad_content
+    content_beside (AddressDevice s bsr n) b good =
+        let same = b.memory n refl in
+        let parts = or_parts (not (input_add_flag k.memory n 0 && input_add_flag k.memory n 1) || commands.type_in h k n 1 == 0) (commands.takes_bad_device h k s n) good in
+        let a = or_parts (not (input_add_flag k.memory n 0 && input_add_flag k.memory n 1)) (commands.type_in h k n 1 == 0) parts.0 in
+        let zero_same = add_flag_same h.context_size k.memory l.memory n same 0 in
+        let one_same = add_flag_same h.context_size k.memory l.memory n same 1 in
+        or_from (not (input_add_flag l.memory n 0 && input_add_flag l.memory n 1) || commands.type_in h l n 1 == 0) (commands.takes_bad_device h l s n)
+        (or_from (not (input_add_flag l.memory n 0 && input_add_flag l.memory n 1)) (commands.type_in h l n 1 == 0)
+        (ap (λ t. not (t && input_add_flag l.memory n 1)) zero_same ∙ ap (λ t. not (input_add_flag k.memory n 0 && t)) one_same ∙ a.0)
+        (ap (λ t. t == 0) (types k l n same 1 (omega arith)) ∙ a.1))
+        (leased_device s n (b.device s n bsr refl))
+    content_beside (ConfigureEndpoint s false n) b good =
+        let same = b.memory n refl in
+        ap (λ xs. list_any (commands.is_bad_added h l s n) xs) (added_same h.context_size k.memory l.memory n same)
+        ∙ any_same (commands.is_bad_added h l s n) (commands.is_bad_added h k s n) (added_endpoints k.memory n) (added_indices k.memory n)
+        (λ i low. bad_added k l n same s i low (b.off s i refl))
+        ∙ good
+    content_beside _ b good = refl
+
+    pub good_beside : (c : Command) → Beside k l c → commands.is_bad_command h k c ≡ false → commands.is_bad_command h l c ≡ false
+    unfolding commands.is_bad_command
+    good_beside c b good =
+        let three = or_parts _ (commands.has_bad_content h k c) good in
+        let two = or_parts _ (commands.has_bad_context h k (named_context c)) three.0 in
+        let one = or_parts (commands.names_disabled_slot k (named_slot c)) (commands.names_disabled_endpoint k (named_endpoint c)) two.0 in
+        or_from _ (commands.has_bad_content h l c)
+        (or_from _ (commands.has_bad_context h l (named_context c))
+        (or_from (commands.names_disabled_slot l (named_slot c)) (commands.names_disabled_endpoint l (named_endpoint c)) (slot_beside c b one.0) (endpoint_beside c b ∙ one.1))
+        (context_beside c b))
+        (content_beside c b three.1)
+
+    pub in_profile_beside : (c : Command) → Beside k l c → commands.has_left_out_endpoint h k c ≡ false → commands.has_left_out_endpoint h l c ≡ false
+    in_profile_beside c b good = profile_beside c b ∙ good

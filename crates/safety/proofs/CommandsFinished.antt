@@ -1,0 +1,138 @@
+-- A completion keeps what is kept of the commands that stay unfinished
+use Rattle.std.specs.Prelude.{◌≡◌, ◌≢◌, ℕ, true, false, Some, option_and_then, slice_get}
+use Rattle.std.proofs.Common.{arith, sym, ◌∙◌, ap, subst}
+use Rattle.std.proofs.lemmas.List.Folds.{Any-from_list_any}
+use Rattle.std.proofs.lemmas.Bool.{false≢true}
+use Rattle.trb.specs.declared.block.Block.{Block}
+use Rattle.segments.specs.declared.spot.Spot.{Spot}
+use Rattle.segments.specs.Spots.{after}
+use Rattle.segments.specs.RingView.{RingView, Reaches, changed, is_due}
+use Rattle.segments.proofs.Giving.{due_is, due_from}
+use Rattle.segments.proofs.ReachedSpots.{number-after}
+use Rattle.commands.specs.declared.command.Command.{Command}
+use Rattle.commands.specs.Command.{command_of, named_slot}
+use Rattle.commands.specs.States.{is_disabled, is_off, is_at_rest}
+use Rattle.traces.specs.declared.header.Header.{Header}
+use Rattle.traces.specs.Header.{IsHeader, shape_of, command_id, is_ring}
+use Rattle.ring_knowledge.specs.Known.{Known}
+use Rattle.ring_knowledge.specs.Rings.{command_at, next_command}
+use Rattle.ring_knowledge.specs.Completions.{finished, completed}
+use Rattle.contexts.specs.Contexts.{input_context_bytes}
+use Rattle.ownership_rules.specs.Commands as commands
+use Rattle.ownership_rules.specs.Moves.{Binding, binds, ring_bound, binds_ring}
+use Rattle.safety.specs.EndpointsKeep as endpoints
+use Rattle.safety.proofs.RingIds.{beginning_transfer, command_not_transfer}
+use Rattle.safety.proofs.GivenCommands.{ring_is}
+use Rattle.safety.specs.Keeps.{IsDriverRing, IsUnfinished, CommandKeeps, DriverKeeps}
+use Rattle.safety.proofs.Headers.{transfer_not_command}
+use Rattle.safety.proofs.DriverRows.{ring_here}
+use Rattle.safety.proofs.DriverRings.{endpoints_of}
+use Rattle.safety.proofs.EndpointHistories.{finish_elsewhere}
+use Rattle.safety.proofs.SafeContext.{next_is}
+use Rattle.safety.proofs.SameDriver.{SameDriver}
+use Rattle.safety.proofs.AreaFacts.{clean_same, area_parts, area_from, device_apart, devices_apart}
+use Rattle.safety.proofs.WriteBeside.{ContextParts, context_parts, context_from}
+use Rattle.safety.proofs.OtherSlots.{OtherSlots}
+use Rattle.safety.proofs.SlotCommands.{OfCommand, Has, Binds, Commands}
+use Rattle.safety.proofs.CommandsBeside.{Beside}
+use Rattle.safety.proofs.CommandsStay.{Standing, MovesAhead, RingsBeside}
+use Rattle.safety.proofs.CommandsSame.{context_good}
+
+bound_transfer : (h : Header) → IsHeader h → (k : Known) (r : ℕ) (c : Command) → binds_ring h k r c ≡ true → endpoints.IsTransferRing h r
+unfolding binds_ring ring_bound
+bound_transfer h is k r c bound =
+    let any = Any-from_list_any (λ b. is_ring r (ring_bound h b)) (binds h k c) bound in
+    let b : Binding = any.1 in
+    beginning_transfer h is b.pointer r (ring_is r (ring_bound h b) any.4)
+
+-- ---- a command of another slot than the one that changed
+
+module _ (h : Header) (is : IsHeader h) (k : Known) (d : DriverKeeps h k) (q : ℕ) (e : Command) (ends : IsUnfinished h k q e) (s : ℕ) (l : Known) (driver : SameDriver k l)
+    (o : OtherSlots k l s (OfCommand h k s e)) (p : ℕ) (c : Command) (u : IsUnfinished h k p c) (other : p ≢ q) (apart : (t : ℕ) → named_slot c ≡ Some t → t ≢ s) where
+  keeps : CommandKeeps h k p c
+  keeps = d.unfinished p c u
+
+  -- the ring of an endpoint of the other slot isn't one that the command ended with
+  not_its_ring : (t i r : ℕ) → named_slot c ≡ Some t → k.ring_of t i ≡ Some r → OfCommand h k s e r → ⊥
+  not_its_ring t i r named has (Has j at) = apart t named (d.states.one_endpoint t i s j r has at).0
+  not_its_ring t i r named has (Binds bound) = false≢true (sym ((d.unfinished q e ends).unbound r bound) ∙ d.states.was_bound t i r has)
+  not_its_ring t i r named has (Commands same) = transfer_not_command h is r (d.states.transfer t i r has) same
+
+  ring_same : (t i r : ℕ) → named_slot c ≡ Some t → k.ring_of t i ≡ Some r → l.ring r ≡ k.ring r
+  ring_same t i r named has = o.rings r (not_its_ring t i r named has)
+
+  -- nor is one that the command binds
+  not_bound_by_it : (r : ℕ) → binds_ring h k r c ≡ true → k.was_bound r ≡ false → OfCommand h k s e r → ⊥
+  not_bound_by_it r bound never (Has j at) = false≢true (sym never ∙ d.states.was_bound s j r at)
+  not_bound_by_it r bound never (Binds also) = false≢true (sym (keeps.unshared r q e bound ends (λ same. other (sym same))) ∙ also)
+  not_bound_by_it r bound never (Commands same) = command_not_transfer h is (subst (λ x. endpoints.IsTransferRing h x) same (bound_transfer h is k r c bound))
+
+  pub rings_finished : RingsBeside h k l c
+  rings_finished = record {
+    ring_of = λ t i named. o.ring_of t i (apart t named);
+    rest = λ t i x cycle at rests. ap is_at_rest (o.states t i (apart t (ap named_slot at))) ∙ rests;
+    ahead = λ t i x r cycle at has rests.
+        subst (λ v. MovesAhead (shape_of h r) (k.ring r) v) (sym (ring_same t i r (ap named_slot at) has)) (λ a b moves. moves);
+    standing = λ t n r bsr at has.
+        subst (λ v. Standing (shape_of h r) (k.ring r) v) (sym (ring_same t 1 r (ap named_slot at) has)) (record { here = λ a b moves. moves; nothing = λ none. none });
+    unbound = λ r bound never. o.was_bound r (not_bound_by_it r bound never) ∙ never;
+  }
+
+  context_finished : (n : ℕ) → commands.has_bad_context h k (Some n) ≡ false → commands.has_bad_context h l (Some n) ≡ false
+  context_finished n good =
+      let parts : ContextParts h k n = context_parts h k n good in
+      let areas = area_parts h k n (input_context_bytes h.context_size) parts.area in
+      context_from h l n
+      (area_from h l n (input_context_bytes h.context_size)
+      (record {
+        ends = areas.ends;
+        rings = areas.rings;
+        devices = devices_apart h l n (input_context_bytes h.context_size)
+            (λ t f at. let before = o.fewer t f at in let slot = (d.devices t f before).slot in device_apart h k n (input_context_bytes h.context_size) t f areas slot.0 slot.1 before);
+      }))
+      (clean_same k l n (input_context_bytes h.context_size) driver.soiled ∙ parts.clean)
+
+  pub beside_finished : Beside h k l c
+  beside_finished = record {
+    memory = λ n at x low high. ap (λ f. f x) driver.memory;
+    context = λ n at. context_finished n (ap (λ x. commands.has_bad_context h k x) (sym at) ∙ context_good h k c keeps.good);
+    slot = λ t named on. ap is_disabled (o.slot_state t (apart t named)) ∙ on;
+    off = λ t i named. ap is_off (o.states t i (apart t named));
+    device = λ t n bsr at none. keeps.device t n bsr at (sym (o.device t (apart t (ap named_slot at))) ∙ none);
+  }
+
+-- ---- which commands stay unfinished
+
+module _ (h : Header) (is : IsHeader h) (k : Known) (d : DriverKeeps h k) (b : Block) where
+  abbrev m : Known
+  m = finished h k b (command_at h k (next_command h k))
+
+  abbrev l : Known
+  l = completed h k b
+
+  abbrev beyond : Spot
+  beyond = after (shape_of h (command_id h)) (next_command h k)
+
+  command_view : l.ring (command_id h) ≡ changed (shape_of h (command_id h)) (k.ring (command_id h)) (Reaches beyond)
+  unfolding completed
+  command_view =
+      ring_here h m (command_id h) (Reaches beyond)
+      ∙ ap (λ v. changed (shape_of h (command_id h)) v (Reaches beyond)) (finish_elsewhere h is k b (command_at h k (next_command h k)) (endpoints_of h k d.states))
+
+  -- what is unfinished was before, and isn't the command that ended
+  pub unfinished_before : IsDriverRing h (command_id h) → (p : ℕ) (c : Command) → IsUnfinished h l p c → IsUnfinished h k p c × (p ≢ next_command h k)
+  unfolding command_at
+  unfinished_before ring p c u =
+      let shape = shape_of h (command_id h) in
+      let given : (k.ring (command_id h)).given p ≡ true = ap (λ (v : RingView). v.given p) (sym command_view) ∙ u.given in
+      let due = due_is (shape_of h (command_id h)) beyond p (ap (λ (v : RingView). is_due (shape_of h (command_id h)) v.floor p) (sym command_view) ∙ u.due) in
+      let within = (d.rings (command_id h) ring).given_within p given in
+      let high = number-after (shape_of h (command_id h)) (next_command h k) in
+      let low = next_is h k in (
+        record {
+          due = due_from (shape_of h (command_id h)) (k.ring (command_id h)).floor p (omega (arith, due.0, high, low)) within;
+          given = given;
+          command = ap (λ (v : RingView). option_and_then command_of (slice_get v.queue p)) (sym command_view) ∙ u.command;
+        },
+        λ same. absurd (omega (arith, due.0, high, same)),
+      )

@@ -1,0 +1,151 @@
+-- A doorbell keeps what is kept of unfinished commands: none of them touches the endpoint
+use Rattle.std.specs.Prelude.{◌≡◌, ◌≢◌, ℕ, ◌==◌, ◌&&◌, not, if◌then◌else◌, Bool, true, false, [], Option, None, Some}
+use Rattle.std.proofs.Common.{refl, sym, ◌∙◌, ap, subst, inl, inr}
+use Rattle.std.proofs.lemmas.Bool.{cases_eq, cond_both, cond-false, or_parts, or_left, and_from, eq-eqb, false≢true}
+use Rattle.guest_memory.specs.Memory.{put_pair}
+use Rattle.segments.specs.RingView.{Opens}
+use Rattle.segments.specs.Spots.{number}
+use Rattle.commands.specs.declared.command.Command.{Command}
+use Rattle.commands.specs.declared.command.Command.TheVariants.{SetTrDequeue}
+use Rattle.commands.specs.declared.state.EndpointState.{EndpointState}
+use Rattle.commands.specs.declared.state.EndpointState.TheVariants.{Disabled as Off, Running, Halted, Stopped, Error}
+use Rattle.commands.specs.States.{is_off, is_stopped, is_at_rest}
+use Rattle.commands.specs.Changes.{changes}
+use Rattle.traces.specs.declared.header.Header.{Header}
+use Rattle.traces.specs.declared.row.Row.TheVariants.{Bell}
+use Rattle.traces.specs.Header.{IsHeader, shape_of, command_id}
+use Rattle.ring_knowledge.specs.Known.{Known}
+use Rattle.ring_knowledge.specs.Rings.{on_ring}
+use Rattle.ring_knowledge.specs.Registers.{endpoint_rung, rung}
+use Rattle.ownership_rules.specs.Doorbells.{touches_endpoint, is_touched, is_bad_bell, is_bad_doorbell, doorbell_tests}
+use Rattle.ownership_rules.specs.Rules.{tests, broken}
+use Rattle.safety.specs.Keeps.{IsUnfinished, CommandKeeps, DriverKeeps}
+use Rattle.safety.proofs.TestsPassed.{AllFail, tests_fail}
+use Rattle.safety.proofs.DriverRows.{ring_here, ring_elsewhere}
+use Rattle.safety.proofs.Headers.{transfer_not_command}
+use Rattle.safety.proofs.SameDriver.{SameGiven, SameDriver, on_ring_same}
+use Rattle.safety.proofs.EndpointPut.{at_pair}
+use Rattle.safety.proofs.UnfinishedLists.{unfinished_fails}
+use Rattle.safety.proofs.MovesSame.{standing_same, unfinished_view}
+use Rattle.safety.proofs.CommandsStay.{MovesAhead}
+use Rattle.safety.proofs.CommandsSame.{SameStates, RingsStay, ring_stays, same_stay}
+
+stopped_on : (e : EndpointState) → is_stopped e ≡ true → false ≡ is_off e
+stopped_on Off stopped = absurd (false≢true stopped)
+stopped_on Running stopped = refl
+stopped_on Halted stopped = refl
+stopped_on Stopped stopped = refl
+stopped_on Error stopped = refl
+
+opened_states : (h : Header) (k : Known) (r : ℕ) → SameStates k (on_ring h k r Opens)
+unfolding on_ring
+opened_states h k r = record { memory = refl; soiled = refl; device = refl; slot_state = refl; off = λ s i. refl; ring_of = refl; was_bound = refl }
+
+opened_endpoints : (h : Header) (k : Known) (r : ℕ) → (on_ring h k r Opens).endpoint_state ≡ k.endpoint_state
+unfolding on_ring
+opened_endpoints h k r = refl
+
+module _ (h : Header) (is : IsHeader h) (k : Known) (d : DriverKeeps h k) where
+  -- a ring of the driver whose pointer doesn't change
+  opened_floor : (r q : ℕ) → ((on_ring h k r Opens).ring q).floor ≡ (k.ring q).floor
+  opened_floor r q =
+      elim (cases_eq q r) [
+        | inl same ↦ ap (λ n. ((on_ring h k r Opens).ring n).floor) same ∙ ap (λ v. v.floor) (ring_here h k r Opens) ∙ ap (λ n. (k.ring n).floor) (sym same)
+        | inr other ↦ ap (λ v. v.floor) (ring_elsewhere h k r q Opens other)
+      ]
+
+  -- ---- the command ring's
+
+  commands_rung : (p : ℕ) (c : Command) → IsUnfinished h (on_ring h k (command_id h) Opens) p c → CommandKeeps h (on_ring h k (command_id h) Opens) p c
+  commands_rung =
+      let l : Known = on_ring h k (command_id h) Opens in
+      let driver : SameDriver k l = on_ring_same h k (command_id h) Opens tt in
+      same_stay h k l (opened_states h k (command_id h)) d.unfinished
+      (unfinished_view h k l (driver.rings (command_id h)) (opened_floor (command_id h) (command_id h)))
+      (λ p c u. ring_stays h k l c (opened_endpoints h k (command_id h)) (λ s i r at.
+      ring_elsewhere h k (command_id h) r Opens (λ same. transfer_not_command h is r (d.states.transfer s i r at) same)))
+
+  -- ---- an endpoint's
+
+  -- an unfinished Set TR Dequeue touches its endpoint
+  set_touches : (s t i p q : ℕ) (cycle : Bool) (u : ℕ) → is_touched h k s t ≡ false → IsUnfinished h k u (SetTrDequeue q i p cycle) → q ≡ s → i ≡ t → ⊥
+  unfolding is_touched touches_endpoint changes
+  set_touches s t i p q cycle u untouched unfinished_at same_slot same_index =
+      let none = unfinished_fails h k (touches_endpoint h k s t) u (SetTrDequeue q i p cycle) untouched unfinished_at in
+      false≢true (sym none ∙ or_left (s == q && t == i) false (and_from (s == q) (t == i) (eq-eqb s q (sym same_slot)) (eq-eqb t i (sym same_index))))
+
+  module _ (s t r : ℕ) (has : k.ring_of s t ≡ Some r) (untouched : is_touched h k s t ≡ false) where
+    opened : Known
+    opened = on_ring h k r Opens
+
+    l : Known
+    l = endpoint_rung h k s t (Some r)
+
+    rung_states : SameStates k l
+    unfolding l endpoint_rung on_ring
+    rung_states =
+        record {
+          memory = refl;
+          soiled = refl;
+          device = refl;
+          slot_state = refl;
+          off = λ q i.
+              cond_both (is_stopped (k.endpoint_state s t)) (put_pair k.endpoint_state s t Running) k.endpoint_state (λ f. is_off (f q i) ≡ is_off (k.endpoint_state q i))
+              (λ stopped. at_pair (λ e. is_off e ≡ is_off (k.endpoint_state q i)) k.endpoint_state s t Running q i
+              (λ a b. stopped_on (k.endpoint_state s t) stopped ∙ ap (λ n. is_off (k.endpoint_state n t)) (sym a) ∙ ap (λ n. is_off (k.endpoint_state q n)) (sym b)) (λ other. refl))
+              (λ on. refl);
+          ring_of = refl;
+          was_bound = refl;
+        }
+
+    ring_is : l.ring ≡ opened.ring
+    unfolding l opened endpoint_rung
+    ring_is = refl
+
+    state_elsewhere : (q i : ℕ) → (q ≡ s → i ≡ t → ⊥) → l.endpoint_state q i ≡ k.endpoint_state q i
+    unfolding l endpoint_rung on_ring
+    state_elsewhere q i other =
+        cond_both (is_stopped (k.endpoint_state s t)) (put_pair k.endpoint_state s t Running) k.endpoint_state (λ f. f q i ≡ k.endpoint_state q i)
+        (λ stopped. at_pair (λ e. e ≡ k.endpoint_state q i) k.endpoint_state s t Running q i (λ a b. absurd (other a b)) (λ apart. refl)) (λ on. refl)
+
+    given_same : (q : ℕ) → SameGiven (k.ring q) (l.ring q)
+    unfolding opened
+    given_same q = subst (λ f. SameGiven (k.ring q) (f q)) (sym ring_is) ((on_ring_same h k r Opens tt).rings q)
+
+    floor_same : (q : ℕ) → (l.ring q).floor ≡ (k.ring q).floor
+    unfolding opened
+    floor_same q = ap (λ f. (f q).floor) ring_is ∙ opened_floor r q
+
+    rung_stay : (u : ℕ) (c : Command) → IsUnfinished h k u c → RingsStay h k l c
+    unfolding opened
+    rung_stay u c unfinished_at =
+        record {
+          rest = λ q i p cycle at rests.
+              ap is_at_rest (state_elsewhere q i (set_touches s t i p q cycle u untouched (subst (λ x. IsUnfinished h k u x) at unfinished_at))) ∙ rests;
+          ahead = λ q i p x cycle at there rests.
+              let other : x ≢ r = λ same.
+              let one = d.states.one_endpoint q i s t r (there ∙ ap (λ n. Some n) same) has in
+              set_touches s t i p q cycle u untouched (subst (λ x. IsUnfinished h k u x) at unfinished_at) one.0 one.1 in
+              subst (λ v. MovesAhead (shape_of h x) (k.ring x) v) (sym (ap (λ f. f x) ring_is ∙ ring_elsewhere h k r x Opens other)) (λ a b moves. moves);
+          standing = λ q n x bsr at there. standing_same (shape_of h x) (k.ring x) (l.ring x) (given_same x) (ap (λ f. number f) (floor_same x));
+        }
+
+    endpoint_commands : (p : ℕ) (c : Command) → IsUnfinished h l p c → CommandKeeps h l p c
+    endpoint_commands =
+        let before = unfinished_view h k l (given_same (command_id h)) (floor_same (command_id h)) in
+        same_stay h k l rung_states d.unfinished before (λ p c u. rung_stay p c (before p c u))
+
+  by_ring : (s t : ℕ) (o : Option ℕ) → k.ring_of s t ≡ o → is_touched h k s t ≡ false → (p : ℕ) (c : Command) → IsUnfinished h (endpoint_rung h k s t o) p c →
+      CommandKeeps h (endpoint_rung h k s t o) p c
+  unfolding endpoint_rung l
+  by_ring s t None has untouched = d.unfinished
+  by_ring s t (Some r) has untouched = endpoint_commands s t r has untouched
+
+  pub rung_commands : (s t : ℕ) → broken h k (Bell s t) ≡ [] → (p : ℕ) (c : Command) → IsUnfinished h (rung h k s t) p c → CommandKeeps h (rung h k s t) p c
+  unfolding rung tests doorbell_tests is_bad_doorbell is_bad_bell
+  rung_commands s t clean =
+      let fails : AllFail (doorbell_tests h k s t) = tests_fail h k (Bell s t) clean in
+      let rule : (if s == 0 then not (t == 0) else is_bad_bell h k s t) ≡ false = (or_parts (not k.started) _ fails.0).1 in
+      cond_both (s == 0) (on_ring h k (command_id h) Opens) (endpoint_rung h k s t (k.ring_of s t)) (λ l. (p : ℕ) (c : Command) → IsUnfinished h l p c → CommandKeeps h l p c)
+      (λ zero. commands_rung)
+      (λ slot. by_ring s t (k.ring_of s t) refl (or_parts _ (is_touched h k s t) (sym (cond-false (s == 0) (not (t == 0)) (is_bad_bell h k s t) slot) ∙ rule)).1)

@@ -1,0 +1,154 @@
+-- What is kept of unfinished commands is kept where nothing that they read has changed
+use Rattle.std.specs.Prelude.{◌≡◌, ◌≢◌, ℕ, ◌≤◌, not, Bool, true, false, map, All, Option, None, Some, is_some}
+use Rattle.std.proofs.Common.{arith, refl, sym, ◌∙◌, ap, subst}
+use Rattle.std.proofs.lemmas.Bool.{or_parts, or_from, not-false, not_from_true}
+use Rattle.segments.specs.ShapeValue.{Shape}
+use Rattle.segments.specs.RingView.{RingView, declared, floor_number}
+use Rattle.segments.specs.Ceiling.{ceiling}
+use Rattle.segments.specs.Moves.{is_move}
+use Rattle.commands.specs.declared.command.Command.{Command}
+use Rattle.commands.specs.declared.command.Command.TheVariants.{NoOp, EnableSlot, DisableSlot, AddressDevice, ConfigureEndpoint, EvaluateContext, ResetEndpoint, StopEndpoint, SetTrDequeue, ResetDevice}
+use Rattle.commands.specs.Command.{named_slot, same_slot}
+use Rattle.commands.specs.States.{is_at_rest}
+use Rattle.contexts.specs.Contexts.{context_pointer, context_cycle}
+use Rattle.traces.specs.declared.header.Header.{Header}
+use Rattle.traces.specs.Header.{shape_of}
+use Rattle.ring_knowledge.specs.Known.{Known}
+use Rattle.ownership_rules.specs.Commands as commands
+use Rattle.ownership_rules.specs.Moves.{binds, ring_bound, binds_ring, has_repeats, is_bad_dequeue, is_bad_move}
+use Rattle.safety.specs.Keeps.{IsUnfinished, Stays, StaysIf, MovesIf, CommandKeeps}
+use Rattle.safety.proofs.ContextReads.{pointer_same, cycle_same}
+use Rattle.safety.proofs.CommandsBeside.{Beside, good_beside, in_profile_beside, binds_beside, binds_ring_beside}
+
+-- the pointer of a ring on which nothing is given stands there still, and nothing is given still
+pub record Standing (shape : Shape) (v w : RingView) : Type 0 where
+  pub here : (p : ℕ) (cycle : Bool) → is_move shape v p cycle (floor_number v) (floor_number v) ≡ true → is_move shape w p cycle (floor_number w) (floor_number w) ≡ true
+  pub nothing : ((p : ℕ) → floor_number v ≤ p → v.given p ≡ false) → (p : ℕ) → floor_number w ≤ p → w.given p ≡ false
+
+-- a spot to which the ring may be moved is one still
+abbrev pub MovesAhead : Shape → RingView → RingView → Type 0
+MovesAhead shape v w = (p : ℕ) (cycle : Bool) → is_move shape v p cycle (ceiling shape v) (declared v) ≡ true → is_move shape w p cycle (ceiling shape w) (declared w) ≡ true
+
+module _ (h : Header) where
+  -- what is kept of one command, but for its device context
+  pub record OwnKeeps (k : Known) (c : Command) : Type 0 where
+    pub good : commands.is_bad_command h k c ≡ false
+    pub in_profile : commands.has_left_out_endpoint h k c ≡ false
+    pub binds_rings : All (λ b. (is_some (ring_bound h b) ≡ true) × (b.cycle ≡ true)) (binds h k c)
+    pub repeats : has_repeats (map (ring_bound h) (binds h k c)) ≡ false
+    pub unbound : (r : ℕ) → binds_ring h k r c ≡ true → k.was_bound r ≡ false
+    pub moves_on : MovesIf h k c
+    pub stays : StaysIf h k c
+
+  -- what is kept of two commands
+  pub record PairKeeps (k : Known) (c d : Command) : Type 0 where
+    pub alone : same_slot (named_slot d) (named_slot c) ≡ false
+    pub unshared : (r : ℕ) → binds_ring h k r c ≡ true → binds_ring h k r d ≡ false
+
+  pub own_keeps : (k : Known) (p : ℕ) (c : Command) → CommandKeeps h k p c → OwnKeeps k c
+  own_keeps k p c keeps =
+      record { good = keeps.good; in_profile = keeps.in_profile; binds_rings = keeps.binds; repeats = keeps.repeats; unbound = keeps.unbound; moves_on = keeps.moves_on; stays = keeps.stays }
+
+  pub pair_keeps : (k : Known) (p q : ℕ) (c d : Command) → CommandKeeps h k p c → IsUnfinished h k q d → q ≢ p → PairKeeps k c d
+  pair_keeps k p q c d keeps u other = record { alone = keeps.alone q d u other; unshared = λ r bound. keeps.unshared r q d bound u other }
+
+  -- the rings that a command names, and the endpoints that have them
+  pub record RingsBeside (k l : Known) (c : Command) : Type 0 where
+    pub ring_of : (s i : ℕ) → named_slot c ≡ Some s → l.ring_of s i ≡ k.ring_of s i
+    pub rest : (s i p : ℕ) (cycle : Bool) → c ≡ SetTrDequeue s i p cycle → is_at_rest (k.endpoint_state s i) ≡ true → is_at_rest (l.endpoint_state s i) ≡ true
+    pub ahead : (s i p r : ℕ) (cycle : Bool) → c ≡ SetTrDequeue s i p cycle → k.ring_of s i ≡ Some r → is_at_rest (k.endpoint_state s i) ≡ true → MovesAhead (shape_of h r) (k.ring r) (l.ring r)
+    pub standing : (s n r : ℕ) (bsr : Bool) → c ≡ AddressDevice s bsr n → k.ring_of s 1 ≡ Some r → Standing (shape_of h r) (k.ring r) (l.ring r)
+    pub unbound : (r : ℕ) → binds_ring h k r c ≡ true → k.was_bound r ≡ false → l.was_bound r ≡ false
+
+  module _ (k l : Known) where
+    dequeue_beside : (o : Option ℕ) (p : ℕ) (cycle : Bool) → ((r : ℕ) → o ≡ Some r → MovesAhead (shape_of h r) (k.ring r) (l.ring r)) →
+        is_bad_dequeue h k o p cycle ≡ false → is_bad_dequeue h l o p cycle ≡ false
+    unfolding is_bad_dequeue
+    dequeue_beside None p cycle ahead good = good
+    dequeue_beside (Some r) p cycle ahead good =
+        not_from_true (is_move (shape_of h r) (l.ring r) p cycle (ceiling (shape_of h r) (l.ring r)) (declared (l.ring r)))
+        (ahead r refl p cycle (not-false (is_move (shape_of h r) (k.ring r) p cycle (ceiling (shape_of h r) (k.ring r)) (declared (k.ring r))) good))
+
+    set_beside : (s i p : ℕ) (cycle : Bool) → RingsBeside k l (SetTrDequeue s i p cycle) → is_bad_move h k (SetTrDequeue s i p cycle) ≡ false → is_bad_move h l (SetTrDequeue s i p cycle) ≡ false
+    unfolding is_bad_move
+    set_beside s i p cycle b good =
+        let parts = or_parts (not (is_at_rest (k.endpoint_state s i))) (is_bad_dequeue h k (k.ring_of s i) p cycle) good in
+        let rests : is_at_rest (k.endpoint_state s i) ≡ true = not-false (is_at_rest (k.endpoint_state s i)) parts.0 in
+        or_from (not (is_at_rest (l.endpoint_state s i))) (is_bad_dequeue h l (l.ring_of s i) p cycle)
+        (not_from_true (is_at_rest (l.endpoint_state s i)) (b.rest s i p cycle refl rests))
+        (ap (λ o. is_bad_dequeue h l o p cycle) (b.ring_of s i refl)
+        ∙ dequeue_beside (k.ring_of s i) p cycle (λ r at. b.ahead s i p r cycle refl at rests) parts.1)
+
+    moves_beside : (c : Command) → RingsBeside k l c → MovesIf h k c → MovesIf h l c
+    unfolding is_bad_move
+    moves_beside (SetTrDequeue s i p cycle) b good = set_beside s i p cycle b good
+    moves_beside (AddressDevice s bsr n) b good = tt
+    moves_beside NoOp b good = refl
+    moves_beside EnableSlot b good = refl
+    moves_beside (DisableSlot s) b good = refl
+    moves_beside (ConfigureEndpoint s dc n) b good = refl
+    moves_beside (EvaluateContext s n) b good = refl
+    moves_beside (ResetEndpoint s i) b good = refl
+    moves_beside (StopEndpoint s i) b good = refl
+    moves_beside (ResetDevice s) b good = refl
+
+    stays_beside : (c : Command) → Beside h k l c → RingsBeside k l c → StaysIf h k c → StaysIf h l c
+    stays_beside (AddressDevice s bsr n) m b stays =
+        λ r at.
+        let before : k.ring_of s 1 ≡ Some r = sym (b.ring_of s 1 refl) ∙ at in
+        let old : Stays h k r n = stays r before in
+        let stands : Standing (shape_of h r) (k.ring r) (l.ring r) = b.standing s n r bsr refl before in
+        let same = m.memory n refl in
+        record {
+          here =
+              ap (λ x. is_move (shape_of h r) (l.ring r) x (context_cycle h.context_size l.memory n 1) (floor_number (l.ring r)) (floor_number (l.ring r)))
+              (pointer_same h.context_size k.memory l.memory n same 1 (omega arith))
+              ∙ ap (λ x. is_move (shape_of h r) (l.ring r) (context_pointer h.context_size k.memory n 1) x (floor_number (l.ring r)) (floor_number (l.ring r)))
+              (cycle_same h.context_size k.memory l.memory n same 1 (omega arith))
+              ∙ stands.here (context_pointer h.context_size k.memory n 1) (context_cycle h.context_size k.memory n 1) old.here;
+          nothing = stands.nothing old.nothing;
+        }
+    stays_beside NoOp m b stays = tt
+    stays_beside EnableSlot m b stays = tt
+    stays_beside (DisableSlot s) m b stays = tt
+    stays_beside (ConfigureEndpoint s dc n) m b stays = tt
+    stays_beside (EvaluateContext s n) m b stays = tt
+    stays_beside (ResetEndpoint s i) m b stays = tt
+    stays_beside (StopEndpoint s i) m b stays = tt
+    stays_beside (SetTrDequeue s i p cycle) m b stays = tt
+    stays_beside (ResetDevice s) m b stays = tt
+
+    pub own_beside : (c : Command) → Beside h k l c → RingsBeside k l c → OwnKeeps k c → OwnKeeps l c
+    own_beside c m b own =
+        let one : binds h l c ≡ binds h k c = binds_beside h k l c m in
+        record {
+          good = good_beside h k l c m own.good;
+          in_profile = in_profile_beside h k l c m own.in_profile;
+          binds_rings = subst (λ bs. All (λ b. (is_some (ring_bound h b) ≡ true) × (b.cycle ≡ true)) bs) (sym one) own.binds_rings;
+          repeats = ap (λ bs. has_repeats (map (ring_bound h) bs)) one ∙ own.repeats;
+          unbound = λ r bound. let before = sym (binds_ring_beside h k l c m r) ∙ bound in b.unbound r before (own.unbound r before);
+          moves_on = moves_beside c b own.moves_on;
+          stays = stays_beside c m b own.stays;
+        }
+
+    -- what is known at l changes nothing that its unfinished commands read
+    pub commands_stay : ((p : ℕ) (c : Command) → IsUnfinished h l p c → OwnKeeps k c) →
+        ((p q : ℕ) (c d : Command) → IsUnfinished h l p c → IsUnfinished h l q d → q ≢ p → PairKeeps k c d) →
+        ((p : ℕ) (c : Command) → IsUnfinished h l p c → Beside h k l c) → ((p : ℕ) (c : Command) → IsUnfinished h l p c → RingsBeside k l c) →
+        (p : ℕ) (c : Command) → IsUnfinished h l p c → CommandKeeps h l p c
+    commands_stay own pair beside rings p c u =
+        let m : Beside h k l c = beside p c u in
+        let kept : OwnKeeps l c = own_beside c m (rings p c u) (own p c u) in
+        record {
+          alone = λ q d v other. (pair p q c d u v other).alone;
+          good = kept.good;
+          in_profile = kept.in_profile;
+          device = m.device;
+          binds = kept.binds_rings;
+          repeats = kept.repeats;
+          unbound = kept.unbound;
+          unshared = λ r q d bound v other.
+              binds_ring_beside h k l d (beside q d v) r ∙ (pair p q c d u v other).unshared r (sym (binds_ring_beside h k l c m r) ∙ bound);
+          moves_on = kept.moves_on;
+          stays = kept.stays;
+        }

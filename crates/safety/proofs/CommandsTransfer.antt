@@ -1,0 +1,218 @@
+-- A Transfer Event keeps what is kept of unfinished commands
+use Rattle.std.specs.Prelude.{◌≡◌, ◌≢◌, ℕ, ◌==◌, ◌&&◌, ◌||◌, not, Bool, true, false, nat_lt, Option, None, Some}
+use Rattle.std.proofs.Common.{arith, refl, sym, ◌∙◌, ap, subst, inl, inr}
+use Rattle.std.proofs.lemmas.Bool.{cases_Bool, cases_eq, and_parts, and_cases, or_parts, not-false, false≢true, eqb-true, eq-eqb, ltb-true}
+use Rattle.trb.specs.declared.block.Block.{Block}
+use Rattle.trb.specs.Block.{code, slot, endpoint, pointer}
+use Rattle.trb.specs.CompletionCode.{is_success, is_halting, is_trb_error}
+use Rattle.segments.specs.declared.spot.Spot.{Spot}
+use Rattle.segments.specs.Spots.{number}
+use Rattle.segments.specs.Ceiling.{ceiling, is_data_below, is_stop_spot}
+use Rattle.segments.proofs.Search.{cases_option}
+use Rattle.segments.proofs.GivenCount.{given_below}
+use Rattle.segments.proofs.StepFacts.{step_is}
+use Rattle.segments.proofs.Named.{ceiling_within, below_is, IsAhead, named_ahead}
+use Rattle.commands.specs.declared.command.Command.{Command}
+use Rattle.commands.specs.declared.command.Command.TheVariants.{NoOp, EnableSlot, DisableSlot, AddressDevice, ConfigureEndpoint, EvaluateContext, ResetEndpoint, StopEndpoint, SetTrDequeue, ResetDevice}
+use Rattle.commands.specs.Command.{is_stop_of}
+use Rattle.commands.specs.declared.state.EndpointState.{EndpointState}
+use Rattle.commands.specs.declared.state.EndpointState.TheVariants.{Disabled as Off, Running, Halted, Stopped, Error}
+use Rattle.commands.specs.States.{is_off, is_running, is_at_rest}
+use Rattle.traces.specs.declared.header.Header.{Header}
+use Rattle.traces.specs.Header.{IsHeader, shape_of, command_id}
+use Rattle.ring_knowledge.specs.Known.{Known}
+use Rattle.ring_knowledge.specs.Rings.{RingSpot, event_at, command_at, next_command}
+use Rattle.ring_knowledge.specs.Transfers.{transferred, transferred_at, transfer_read}
+use Rattle.ownership_rules.specs.Events.{is_in_profile, is_working, may_be_taken, is_stopping_now, can_report, can_report_at, is_impossible_transfer}
+use Rattle.safety.specs.Keeps.{IsDriverRing, IsUnfinished, Stays, DriverKeeps}
+use Rattle.safety.proofs.Headers.{ring_shape, transfer_driver, transfer_not_command}
+use Rattle.safety.proofs.NoWait.{ceiling_given}
+use Rattle.safety.proofs.SafeContext.{AtFloor, at_floor}
+use Rattle.safety.proofs.Transfers.{chain, spot_is}
+use Rattle.safety.proofs.TransferFrames.{spot_ring}
+use Rattle.safety.proofs.CommandRing.{due_has_ring}
+use Rattle.safety.proofs.SameDriver.{SameDriver, transfer_same}
+use Rattle.safety.proofs.TransferLeaves.{TransferLeaves, transferred_leaves}
+use Rattle.safety.proofs.MovesSame.{ahead_held, unfinished_view}
+use Rattle.safety.proofs.CommandsStay.{Standing, MovesAhead}
+use Rattle.safety.proofs.CommandsSame.{SameStates, RingsStay, same_stay}
+use Rattle.safety.specs.KeptStep.{CommandsKeep}
+
+stop_is : (s i : ℕ) (o : Option Command) → is_stop_of s i o ≡ true → o ≡ Some (StopEndpoint s i)
+stop_is s i None h = absurd (false≢true h)
+stop_is s i (Some (StopEndpoint t j)) h =
+    let p = and_parts (s == t) (i == j) h in
+    let a = eqb-true s t p.0 in
+    let b = eqb-true i j p.1 in
+    cc
+stop_is s i (Some NoOp) h = absurd (false≢true h)
+stop_is s i (Some EnableSlot) h = absurd (false≢true h)
+stop_is s i (Some (DisableSlot t)) h = absurd (false≢true h)
+stop_is s i (Some (AddressDevice t bsr c)) h = absurd (false≢true h)
+stop_is s i (Some (ConfigureEndpoint t dc c)) h = absurd (false≢true h)
+stop_is s i (Some (EvaluateContext t c)) h = absurd (false≢true h)
+stop_is s i (Some (ResetEndpoint t j)) h = absurd (false≢true h)
+stop_is s i (Some (SetTrDequeue t j p c)) h = absurd (false≢true h)
+stop_is s i (Some (ResetDevice t)) h = absurd (false≢true h)
+
+pub rest_not_running : (e : EndpointState) → is_at_rest e ≡ true → is_running e ≡ false
+rest_not_running Off rests = absurd (false≢true rests)
+rest_not_running Running rests = absurd (false≢true rests)
+rest_not_running Halted rests = absurd (false≢true rests)
+rest_not_running Stopped rests = refl
+rest_not_running Error rests = refl
+
+address_not_stop : (s t i n : ℕ) (bsr : Bool) → ◌≡◌ {A = Option Command} (Some (AddressDevice s bsr n)) (Some (StopEndpoint t i)) → ⊥
+address_not_stop s t i n bsr same = false≢true (sym (ap is_address same))
+  where
+    is_address : Option Command → Bool
+    is_address (Some (AddressDevice s bsr n)) = true
+    is_address _ = false
+
+module _ (h : Header) (is : IsHeader h) (k : Known) (d : DriverKeeps h k) where
+  -- the command that stops an endpoint now is unfinished
+  stopping_unfinished : (u : ℕ) (c : Command) (s i : ℕ) → IsUnfinished h k u c → is_stopping_now h k s i ≡ true → IsUnfinished h k (next_command h k) (StopEndpoint s i)
+  unfolding is_stopping_now may_be_taken
+  stopping_unfinished u c s i other stopping =
+      let parts = and_parts (nat_lt (next_command h k) (ceiling (shape_of h (command_id h)) (k.ring (command_id h)))) (is_stop_of s i (command_at h k (next_command h k))) stopping in
+      let below = ltb-true (next_command h k) (ceiling (shape_of h (command_id h)) (k.ring (command_id h))) parts.0 in
+      let ring : IsDriverRing h (command_id h) = due_has_ring h is (k.ring (command_id h)).floor u other.due in
+      let high = ceiling_given (shape_of h (command_id h)) (ring_shape h is (command_id h) ring).is k.memory (k.ring (command_id h)) (d.rings (command_id h) ring) in
+      let floor : AtFloor h k = at_floor h is k d ring (omega arith) in
+      record { due = floor.due; given = floor.given; command = stop_is s i (command_at h k (next_command h k)) parts.1 }
+
+  -- while a second Address Device is unfinished nothing is reported of its endpoint
+  module _ (u s n r : ℕ) (bsr : Bool) (unfinished_at : IsUnfinished h k u (AddressDevice s bsr n)) (has : k.ring_of s 1 ≡ Some r) (t : Spot) (ahead : IsAhead (shape_of h r) (k.ring r) t) where
+    none_below : is_data_below (ceiling (shape_of h r) (k.ring r)) t ≡ true → ⊥
+    none_below below =
+        let driver : IsDriverRing h r = transfer_driver h r (d.states.transfer s 1 r has) in
+        let within = ceiling_within (shape_of h r) (ring_shape h is r driver).is k.memory (k.ring r) (d.rings r driver) in
+        let low = below_is (ceiling (shape_of h r) (k.ring r)) t below in
+        let given = (step_is (shape_of h r) (k.ring r) (number t) (given_below (shape_of h r) (k.ring r) (number t) (omega (arith, within.1)))).0 in
+        let stays : Stays h k r n = (d.unfinished u (AddressDevice s bsr n) unfinished_at).stays r has in
+        false≢true (sym (stays.nothing (number t) ahead.from) ∙ given)
+
+    none_stops : is_stopping_now h k s 1 ≡ true → ⊥
+    none_stops stopping =
+        let other = stopping_unfinished u (AddressDevice s bsr n) s 1 unfinished_at stopping in
+        elim (cases_eq (next_command h k) u) [
+          | inl same ↦ address_not_stop s s 1 n bsr (sym unfinished_at.command ∙ ap (λ p. command_at h k p) (sym same) ∙ other.command)
+          | inr apart ↦
+              false≢true (sym ((d.unfinished u (AddressDevice s bsr n) unfinished_at).alone (next_command h k) (StopEndpoint s 1) other apart) ∙ eq-eqb s s refl)
+        ]
+
+    pub no_report : (c : ℕ) → can_report h k c s 1 r t ≡ true → ⊥
+    unfolding can_report
+    no_report c can =
+        let below : Bool = is_data_below (ceiling (shape_of h r) (k.ring r)) t in
+        let stops : Bool = is_working k s 1 r && is_stopping_now h k s 1 && is_stop_spot (shape_of h r) (k.ring r) t in
+        let cases = chain (is_success c) (is_halting c || is_trb_error c) below (below && is_working k s 1 r) stops can in
+        elim (cases_Bool (is_success c)) [
+          | inl success ↦ none_below (cases.0 success)
+          | inr other ↦ elim (cases_Bool (is_halting c || is_trb_error c)) [
+            | inl broken ↦ none_below (and_parts below (is_working k s 1 r) (cases.1 other broken)).0
+            | inr stopped ↦
+                none_stops (and_parts (is_working k s 1 r) (is_stopping_now h k s 1)
+                (and_parts (is_working k s 1 r && is_stopping_now h k s 1) (is_stop_spot (shape_of h r) (k.ring r) t) (cases.2 other stopped)).0).1
+          ]
+        ]
+
+  -- ---- an event for the endpoint of slot s at index i, on its ring
+
+  module _ (c s i r : ℕ) (t : Spot) (has : k.ring_of s i ≡ Some r) (on : is_off (k.endpoint_state s i) ≡ false) (ahead : IsAhead (shape_of h r) (k.ring r) t)
+      (can : can_report h k c s i r t ≡ true) (l : Known) (driver : SameDriver k l) (leaves : TransferLeaves k l s i r) where
+    states : SameStates k l
+    states = record {
+      memory = driver.memory;
+      soiled = driver.soiled;
+      device = leaves.device;
+      slot_state = leaves.slot_state;
+      off = λ q j.
+          elim (cases_eq q s) [
+            | inl same ↦ elim (cases_eq j i) [
+              | inl here ↦
+                  let now = leaves.on on in
+                  ap (λ a. is_off (l.endpoint_state a j)) same ∙ ap (λ b. is_off (l.endpoint_state s b)) here ∙ now ∙ sym on ∙ ap (λ b. is_off (k.endpoint_state s b)) (sym here)
+                  ∙ ap (λ a. is_off (k.endpoint_state a j)) (sym same)
+              | inr other ↦ ap is_off (leaves.states q j (λ a b. other b))
+            ]
+            | inr other ↦ ap is_off (leaves.states q j (λ a b. other a))
+          ];
+      ring_of = leaves.ring_of;
+      was_bound = leaves.was_bound;
+    }
+
+    -- the endpoint of a ring
+    same_endpoint : (q j x : ℕ) → k.ring_of q j ≡ Some x → x ≡ r → (q ≡ s) × (j ≡ i)
+    same_endpoint q j x there same = d.states.one_endpoint q j s i r (there ∙ ap (λ n. Some n) same) has
+
+    rest_stays : (q j : ℕ) → is_at_rest (k.endpoint_state q j) ≡ true → is_at_rest (l.endpoint_state q j) ≡ true
+    rest_stays q j rests =
+        elim (cases_eq q s) [
+          | inl same ↦ elim (cases_eq j i) [
+            | inl here ↦
+                let at : k.endpoint_state q j ≡ k.endpoint_state s i = ap (λ a. k.endpoint_state a j) same ∙ ap (λ b. k.endpoint_state s b) here in
+                ap (λ f. is_at_rest (f q j)) (leaves.rests (rest_not_running (k.endpoint_state s i) (ap is_at_rest (sym at) ∙ rests))).0 ∙ rests
+            | inr other ↦ ap is_at_rest (leaves.states q j (λ a b. other b)) ∙ rests
+          ]
+          | inr other ↦ ap is_at_rest (leaves.states q j (λ a b. other a)) ∙ rests
+        ]
+
+    -- the ring of an endpoint at rest is held, and held where it was
+    ahead_at_rest : is_at_rest (k.endpoint_state s i) ≡ true → MovesAhead (shape_of h r) (k.ring r) (l.ring r)
+    ahead_at_rest rests =
+        let idle = rest_not_running (k.endpoint_state s i) rests in
+        elim (cases_option (k.ring r).held) [
+          | inl none ↦ absurd (false≢true (sym idle ∙ ap is_running (d.states.open_runs s i r has none)))
+          | inr held ↦ ahead_held (shape_of h r) (k.ring r) (l.ring r) (driver.rings r) held.0 held.1 ((leaves.rests idle).1 ∙ held.1)
+        ]
+
+    stay : (u : ℕ) (e : Command) → IsUnfinished h k u e → RingsStay h k l e
+    stay u e unfinished_at = record {
+      rest = λ q j p cycle at rests. rest_stays q j rests;
+      ahead = λ q j p x cycle at there rests.
+          elim (cases_eq x r) [
+            | inl same ↦
+                let one = same_endpoint q j x there same in
+                subst (λ y. MovesAhead (shape_of h y) (k.ring y) (l.ring y)) (sym same)
+                (ahead_at_rest (ap (λ a. is_at_rest (k.endpoint_state a i)) (sym one.0) ∙ ap (λ b. is_at_rest (k.endpoint_state q b)) (sym one.1) ∙ rests))
+            | inr other ↦ subst (λ v. MovesAhead (shape_of h x) (k.ring x) v) (sym (leaves.others x other)) (λ a b moves. moves)
+          ];
+      standing = λ q n x bsr at there.
+          elim (cases_eq x r) [
+            | inl same ↦
+                let one = same_endpoint q 1 x there same in
+                let mine : k.ring_of s 1 ≡ Some r = ap (λ b. k.ring_of s b) one.1 ∙ has in
+                let here = subst (λ a. IsUnfinished h k u (AddressDevice a bsr n)) one.0 (subst (λ y. IsUnfinished h k u y) at unfinished_at) in
+                absurd (no_report u s n r bsr here mine t ahead c (ap (λ b. can_report h k c s b r t) one.1 ∙ can))
+            | inr other ↦ subst (λ v. Standing (shape_of h x) (k.ring x) v) (sym (leaves.others x other)) (record { here = λ a b moves. moves; nothing = λ none. none })
+          ];
+    }
+
+    reported_commands : CommandsKeep h l
+    reported_commands =
+        let other : command_id h ≢ r = λ same. transfer_not_command h is r (d.states.transfer s i r has) (sym same) in
+        let before = unfinished_view h k l (driver.rings (command_id h)) (ap (λ v. v.floor) (leaves.others (command_id h) other)) in
+        same_stay h k l states d.unfinished before (λ p c u. stay p c (before p c u))
+
+  at_commands : (b : Block) (o : Option RingSpot) → event_at h k b ≡ o → is_off (k.endpoint_state (slot b) (endpoint b)) ≡ false → can_report_at h k b o ≡ true →
+      SameDriver k (transferred_at h k b o) → CommandsKeep h (transferred_at h k b o)
+  unfolding transferred_at can_report_at event_at
+  at_commands b None found on can driver = absurd (false≢true can)
+  at_commands b (Some at) found on can driver =
+      let has = spot_ring h k (pointer b) (k.ring_of (slot b) (endpoint b)) at found in
+      let ring : IsDriverRing h at.ring = transfer_driver h at.ring (d.states.transfer (slot b) (endpoint b) at.ring has) in
+      let ahead = named_ahead (shape_of h at.ring) k.memory (k.ring at.ring) (d.rings at.ring ring) (pointer b) at.spot
+      (spot_is h k (pointer b) (k.ring_of (slot b) (endpoint b)) at found) in
+      reported_commands (code b) (slot b) (endpoint b) at.ring at.spot has on ahead can (transferred h k (code b) (slot b) (endpoint b) at.ring at.spot) driver
+      (transferred_leaves h k (slot b) (endpoint b) at.ring (code b) at.spot can)
+
+  pub transfer_commands : (b : Block) → is_impossible_transfer h k b ≡ false → is_in_profile b ≡ true → CommandsKeep h (transfer_read h k b)
+  unfolding transfer_read is_impossible_transfer
+  transfer_commands b possible inside =
+      elim (and_cases (is_in_profile b) (is_off (k.endpoint_state (slot b) (endpoint b)) || not (can_report_at h k b (event_at h k b))) possible) [
+        | inl outside ↦ absurd (false≢true (sym outside ∙ inside))
+        | inr none ↦
+            let parts = or_parts (is_off (k.endpoint_state (slot b) (endpoint b))) (not (can_report_at h k b (event_at h k b))) none in
+            at_commands b (event_at h k b) refl parts.0 (not-false (can_report_at h k b (event_at h k b)) parts.1) (transfer_same h k b)
+      ]

@@ -1,0 +1,195 @@
+-- A write keeps what is kept of unfinished commands, and of the command that it gives holds what was tested
+use Rattle.std.specs.Prelude.{◌≡◌, ◌≢◌, ℕ, ◌<◌, ◌==◌, not, Bool, true, false, [], Option, None, Some}
+use Rattle.std.specs.List.{list_any}
+use Rattle.std.proofs.Common.{arith, refl, sym, ◌∙◌, ap, subst, inl, inr}
+use Rattle.std.proofs.lemmas.Bool.{or_parts, or_from, and_from, cases_lt, le-leb, not_from_false, eq-eqb, eqb-true, false≢true, false_from_ne_true}
+use Rattle.std.proofs.lemmas.List.Elements.{All-contains}
+use Rattle.segments.specs.ShapeValue.{Shape}
+use Rattle.segments.specs.RingView.{RingView, Writes, changed, declared, floor_number, gives, positions_given}
+use Rattle.segments.specs.Ceiling.{ceiling}
+use Rattle.segments.specs.Givings.{is_not_declared}
+use Rattle.segments.specs.RingKeeps.{MayWrite}
+use Rattle.segments.proofs.Search.{cases_option}
+use Rattle.segments.proofs.Giving.{gives_is}
+use Rattle.segments.proofs.DueLists.{position_given}
+use Rattle.segments.proofs.OneGiving.{gives_one}
+use Rattle.segments.proofs.MovesStay.{move-writes}
+use Rattle.segments.proofs.Named.{ceiling_held}
+use Rattle.commands.specs.declared.command.Command.{Command}
+use Rattle.commands.specs.declared.command.Command.TheVariants.{AddressDevice}
+use Rattle.commands.specs.declared.state.EndpointState.{EndpointState}
+use Rattle.commands.specs.declared.state.EndpointState.TheVariants.{Disabled as Off}
+use Rattle.commands.specs.Command.{named_slot, same_slot, name_one_slot}
+use Rattle.commands.specs.States.{is_off, is_at_rest, is_running}
+use Rattle.traces.specs.declared.header.Header.{Header}
+use Rattle.traces.specs.declared.row.Row.TheVariants.{Write}
+use Rattle.traces.specs.Header.{IsHeader, shape_of, command_id, is_ring}
+use Rattle.ring_knowledge.specs.Known.{Known}
+use Rattle.ring_knowledge.specs.Rings.{unfinished}
+use Rattle.ownership_rules.specs.Commands as commands
+use Rattle.ownership_rules.specs.Moves.{binds_ring, is_used, moves_ring, is_being_moved}
+use Rattle.ownership_rules.specs.Writes.{write_tests}
+use Rattle.ownership_rules.specs.Rules.{tests, broken}
+use Rattle.safety.specs.Keeps.{IsDriverRing, IsUnfinished, DriverKeeps}
+use Rattle.safety.proofs.TestsPassed.{AllFail, tests_fail}
+use Rattle.safety.proofs.RingsOfHeader.{has_ring}
+use Rattle.safety.proofs.Headers.{ring_shape, transfer_driver}
+use Rattle.safety.proofs.DriverRings.{driver_test}
+use Rattle.safety.proofs.Writing.{none_given, may_write}
+use Rattle.safety.proofs.RowFrames.{write_leaves}
+use Rattle.safety.proofs.UnfinishedLists.{unfinished_fails}
+use Rattle.safety.proofs.GivenRules.{GivenFacts, given_facts}
+use Rattle.safety.proofs.WrittenKnown.{after_write, written_ring, GivesCommand, unfinished_written}
+use Rattle.safety.proofs.WriteBeside.{beside_old, beside_new}
+use Rattle.safety.proofs.CommandsTransfer.{rest_not_running}
+use Rattle.safety.proofs.CommandsBeside.{Beside}
+use Rattle.safety.proofs.CommandsStay.{Standing, MovesAhead, OwnKeeps, PairKeeps, RingsBeside, own_keeps, pair_keeps, commands_stay}
+use Rattle.safety.specs.KeptStep.{CommandsKeep}
+
+-- ---- one ring
+
+standing_written : (shape : Shape) (v : RingView) (a w : ℕ) → ((p : ℕ) → v.given p ≡ false → gives shape v.floor p a w ≡ true → ⊥) → Standing shape v (changed shape v (Writes a w))
+standing_written shape v a w none =
+    record {
+      here = λ p cycle moves. move-writes shape v p cycle (floor_number v) (floor_number v) (floor_number v) (floor_number v) (omega arith) (omega arith) moves a w;
+      nothing = λ nothing p low.
+          or_from (v.given p) (gives shape v.floor p a w) (nothing p low) (false_from_ne_true (gives shape v.floor p a w) (λ now. none p (nothing p low) now));
+    }
+
+ahead_written : (shape : Shape) (v : RingView) (a w m : ℕ) → v.held ≡ Some m → MovesAhead shape v (changed shape v (Writes a w))
+ahead_written shape v a w m at p cycle moves =
+    move-writes shape v p cycle (ceiling shape v) (declared v) (ceiling shape (changed shape v (Writes a w))) (declared v)
+    (omega (arith, ceiling_held shape v m at, ceiling_held shape (changed shape v (Writes a w)) m at)) (omega arith) moves a w
+
+declared_is : (v : RingView) (p : ℕ) → is_not_declared v p ≡ false → p < declared v
+unfolding is_not_declared
+declared_is v p fails =
+    elim (cases_lt p (declared v)) [
+      | inl low ↦ low
+      | inr high ↦ absurd (false≢true (sym fails ∙ le-leb (declared v) p high))
+    ]
+
+slots_turned : (x y : Option ℕ) → same_slot x y ≡ false → same_slot y x ≡ false
+slots_turned None None none = refl
+slots_turned None (Some t) none = refl
+slots_turned (Some s) None none = refl
+slots_turned (Some s) (Some t) none = false_from_ne_true (t == s) (λ same. false≢true (sym none ∙ eq-eqb s t (sym (eqb-true t s same))))
+
+on_is : (e : EndpointState) → e ≢ Off → is_off e ≡ false
+on_is e on = false_from_ne_true (is_off e) (λ off. on (off_is e off))
+  where
+    off_is : (e : EndpointState) → is_off e ≡ true → e ≡ Off
+    off_is Off off = refl
+    off_is _ off = absurd (false≢true off)
+
+module _ (h : Header) (is : IsHeader h) (k : Known) (d : DriverKeeps h k) (a w : ℕ) (clean : broken h k (Write a w) ≡ []) where
+  abbrev l : Known
+  l = after_write h k a w
+
+  -- ---- the rings that commands name
+
+  -- no block is given on a ring that an unfinished Address Device moves
+  none_moved : (u s n r : ℕ) (bsr : Bool) → IsUnfinished h k u (AddressDevice s bsr n) → k.ring_of s 1 ≡ Some r → (p : ℕ) → (k.ring r).given p ≡ false →
+      gives (shape_of h r) (k.ring r).floor p a w ≡ true → ⊥
+  unfolding tests write_tests is_being_moved moves_ring
+  none_moved u s n r bsr at has p fresh now =
+      let fails : AllFail (write_tests h k a w) = tests_fail h k (Write a w) clean in
+      let driver : IsDriverRing h r = transfer_driver h r (d.states.transfer s 1 r has) in
+      let each = none_given h k a w r (has_ring h r (driver_test h r driver)) (λ r p. is_being_moved h k r) (or_parts _ _ fails.1.1.1.1.1.1.0).1 in
+      let idle : is_being_moved h k r ≡ false =
+      All-contains (λ p. is_being_moved h k r ≡ false) (positions_given (shape_of h r) (k.ring r) a w) p each (position_given (shape_of h r) (k.ring r) a w p fresh now) in
+      let none = unfinished_fails h k (moves_ring h k r) u (AddressDevice s bsr n) idle at in
+      false≢true (sym none ∙ and_from (not (is_off (k.endpoint_state s 1))) (is_ring r (k.ring_of s 1)) (not_from_false (is_off (k.endpoint_state s 1)) (on_is (k.endpoint_state s 1) (d.states.on s 1 r has)))
+      (ap (λ o. is_ring r o) has ∙ eq-eqb r r refl))
+
+  -- nor on one of which all that is declared was passed
+  none_declared : (s r : ℕ) → k.ring_of s 1 ≡ Some r → declared (k.ring r) ≡ floor_number (k.ring r) → (p : ℕ) → (k.ring r).given p ≡ false →
+      gives (shape_of h r) (k.ring r).floor p a w ≡ true → ⊥
+  none_declared s r has end p fresh now =
+      let driver : IsDriverRing h r = transfer_driver h r (d.states.transfer s 1 r has) in
+      let may : MayWrite (shape_of h r) k.memory (k.ring r) a w = may_write h k a w clean r (driver_test h r driver) in
+      let below = declared_is (k.ring r) p
+      (All-contains (λ p. is_not_declared (k.ring r) p ≡ false) (positions_given (shape_of h r) (k.ring r) a w) p may.declared (position_given (shape_of h r) (k.ring r) a w p fresh now)) in
+      let from = (gives_is (shape_of h r) (k.ring r).floor p a w now).from in
+      omega arith
+
+  rings_with : (c : Command) → ((s n r : ℕ) (bsr : Bool) → c ≡ AddressDevice s bsr n → k.ring_of s 1 ≡ Some r → (p : ℕ) → (k.ring r).given p ≡ false →
+      gives (shape_of h r) (k.ring r).floor p a w ≡ true → ⊥) → RingsBeside h k l c
+  rings_with c none =
+      let leaves = write_leaves h k a w in
+      record {
+        ring_of = λ s i at. ap (λ f. f s i) leaves.slots.ring_of;
+        rest = λ s i p cycle at rests. ap (λ f. is_at_rest (f s i)) leaves.endpoint_state ∙ rests;
+        ahead = λ s i p r cycle at has rests.
+            elim (cases_option (k.ring r).held) [
+              | inl none ↦ absurd (false≢true (sym (rest_not_running (k.endpoint_state s i) rests) ∙ ap is_running (d.states.open_runs s i r has none)))
+              | inr held ↦ subst (λ v. MovesAhead (shape_of h r) (k.ring r) v) (sym (written_ring h k a w r)) (ahead_written (shape_of h r) (k.ring r) a w held.0 held.1)
+            ];
+        standing = λ s n r bsr at has.
+            subst (λ v. Standing (shape_of h r) (k.ring r) v) (sym (written_ring h k a w r)) (standing_written (shape_of h r) (k.ring r) a w (none s n r bsr at has));
+        unbound = λ r bound never. ap (λ f. f r) leaves.slots.was_bound ∙ never;
+      }
+
+  rings_old : (u : ℕ) (c : Command) → IsUnfinished h k u c → RingsBeside h k l c
+  rings_old u c at = rings_with c (λ s n r bsr same has. none_moved u s n r bsr (subst (λ x. IsUnfinished h k u x) same at) has)
+
+  rings_new : (c : Command) → GivenFacts h k c → RingsBeside h k l c
+  rings_new c facts = rings_with c (λ s n r bsr same has. none_declared s r has (facts.nothing_left s n r bsr same has))
+
+  -- ---- one command, and two
+
+  facts_of : (p : ℕ) (c : Command) → GivesCommand h k a w p c → GivenFacts h k c
+  facts_of p c g = given_facts h k is d a w c clean g.command
+
+  own : (p : ℕ) (c : Command) → IsUnfinished h l p c → OwnKeeps h k c
+  own p c u =
+      elim (unfinished_written h k a w is p c u) [
+        | inl old ↦ own_keeps h k p c (d.unfinished p c old)
+        | inr new ↦ (facts_of p c new).own
+      ]
+
+  -- the slot of a command that is given is no unfinished command's
+  not_busy : (p q : ℕ) (c e : Command) → GivesCommand h k a w p c → IsUnfinished h k q e → same_slot (named_slot c) (named_slot e) ≡ false
+  unfolding commands.is_busy
+  not_busy p q c e g u = unfinished_fails h k (name_one_slot c) q e (facts_of p c g).busy u
+
+  not_bound : (p q r : ℕ) (c e : Command) → GivesCommand h k a w p c → IsUnfinished h k q e → binds_ring h k r c ≡ true → binds_ring h k r e ≡ false
+  unfolding is_used
+  not_bound p q r c e g u bound = unfinished_fails h k (binds_ring h k r) q e (or_parts (k.was_bound r) (list_any (binds_ring h k r) (unfinished h k)) ((facts_of p c g).unused r bound)).1 u
+
+  pair : (p q : ℕ) (c e : Command) → IsUnfinished h l p c → IsUnfinished h l q e → q ≢ p → PairKeeps h k c e
+  pair p q c e u v other =
+      elim (unfinished_written h k a w is p c u) [
+        | inl old ↦ elim (unfinished_written h k a w is q e v) [
+          | inl older ↦ pair_keeps h k p q c e (d.unfinished p c old) older other
+          | inr new ↦ record {
+            alone = not_busy q p e c new old;
+            unshared = λ r bound. false_from_ne_true (binds_ring h k r e) (λ also. false≢true (sym (not_bound q p r e c new old also) ∙ bound));
+          }
+        ]
+        | inr new ↦ elim (unfinished_written h k a w is q e v) [
+          | inl old ↦ record {
+            alone = slots_turned (named_slot c) (named_slot e) (not_busy p q c e new old);
+            unshared = λ r bound. not_bound p q r c e new old bound;
+          }
+          | inr newer ↦
+              absurd (other (gives_one (shape_of h (command_id h)) (ring_shape h is (command_id h) new.ring).is (k.ring (command_id h)).floor a w q p newer.gives new.gives))
+        ]
+      ]
+
+  beside : (p : ℕ) (c : Command) → IsUnfinished h l p c → Beside h k l c
+  beside p c u =
+      elim (unfinished_written h k a w is p c u) [
+        | inl old ↦ beside_old h is k d a w clean p c old
+        | inr new ↦ beside_new h is k d a w clean p c new (facts_of p c new).own.good
+      ]
+
+  rings : (p : ℕ) (c : Command) → IsUnfinished h l p c → RingsBeside h k l c
+  rings p c u =
+      elim (unfinished_written h k a w is p c u) [
+        | inl old ↦ rings_old p c old
+        | inr new ↦ rings_new c (facts_of p c new)
+      ]
+
+  pub written_commands : CommandsKeep h (after_write h k a w)
+  written_commands = commands_stay h k l own pair beside rings

@@ -1,0 +1,49 @@
+-- What is kept of device contexts under lease is kept where none is added, and no word and no base address changes
+use Rattle.std.specs.Prelude.{◌≡◌, ℕ, Some, is_some}
+use Rattle.std.proofs.Common.{refl, sym, ◌∙◌, ap}
+use Rattle.segments.specs.Places.{overlap}
+use Rattle.contexts.specs.Contexts.{device_context_bytes}
+use Rattle.traces.specs.declared.header.Header.{Header}
+use Rattle.traces.specs.declared.register.Register.TheVariants.{Dcbaap, Erstba}
+use Rattle.traces.specs.Header.{touches_ring}
+use Rattle.ring_knowledge.specs.Known.{Known}
+use Rattle.ring_knowledge.specs.Writes.{device_named, entry_of}
+use Rattle.ownership_rules.specs.Areas.{is_soiled}
+use Rattle.safety.specs.Keeps.{DeviceKeeps}
+use Rattle.safety.specs.KeptStep.{DevicesKeep}
+use Rattle.safety.proofs.AreaFacts.{clean_same}
+
+pub record SameForDevices (k l : Known) : Type 0 where
+  pub memory : l.memory ≡ k.memory
+  pub soiled : l.soiled ≡ k.soiled
+  pub dcbaap : l.register Dcbaap ≡ k.register Dcbaap
+  pub erstba : l.register Erstba ≡ k.register Erstba
+  pub fewer : (s d : ℕ) → l.device s ≡ Some d → k.device s ≡ Some d
+
+pub entry_same : (k l : Known) (s : ℕ) → l.register Dcbaap ≡ k.register Dcbaap → entry_of l s ≡ entry_of k s
+unfolding entry_of
+entry_same k l s same = rw same refl
+
+named_same : (k l : Known) (s : ℕ) → l.register Dcbaap ≡ k.register Dcbaap → l.memory ≡ k.memory → device_named l s ≡ device_named k s
+unfolding device_named
+named_same k l s same memory = rw same (rw memory refl)
+
+module _ (h : Header) (k l : Known) (same : SameForDevices k l) where
+  pub devices_same : DevicesKeep h k → DevicesKeep h l
+  devices_same keeps s d at =
+      let was : DeviceKeeps h k s d = keeps s d (same.fewer s d at) in
+      let entry : (t : ℕ) → entry_of l t ≡ entry_of k t = λ t. entry_same k l t same.dcbaap in
+      record {
+        slot = was.slot;
+        aligned = was.aligned;
+        ends = was.ends;
+        rings = was.rings;
+        soiled = λ a inside. ap (λ f. f a) same.soiled ∙ was.soiled a inside;
+        written = ap is_some same.dcbaap ∙ was.written;
+        entry = named_same k l s same.dcbaap same.memory ∙ was.entry;
+        entry_clean = ap (λ e. is_soiled l e 8) (entry s) ∙ clean_same k l (entry_of k s) 8 same.soiled ∙ was.entry_clean;
+        entry_rings = ap (λ e. touches_ring h e 8) (entry s) ∙ was.entry_rings;
+        others = λ t e there other. was.others t e (same.fewer t e there) other;
+        entries = λ t e there. ap (λ x. overlap d (device_context_bytes h.context_size) x 8) (entry t) ∙ was.entries t e (same.fewer t e there);
+        table = λ v there. was.table v (sym same.erstba ∙ there);
+      }

@@ -1,0 +1,125 @@
+-- An event takes no device context: where one is leased behind it, it was
+use Rattle.std.specs.Prelude.{◌≡◌, ℕ, ◌==◌, if◌then◌else◌, Bool, true, false, List, [], ◌∷◌, Option, None, Some}
+use Rattle.std.proofs.lemmas.Bool.{cond_both}
+use Rattle.std.proofs.lemmas.Option.{none-some}
+use Rattle.guest_memory.specs.Memory.{put_pair}
+use Rattle.trb.specs.declared.block.Block.{Block}
+use Rattle.trb.specs.declared.kind.BlockKind.{BlockKind}
+use Rattle.trb.specs.declared.kind.BlockKind.TheVariants.{TransferEvent, CommandCompletion}
+use Rattle.trb.specs.Block.{kind, code, slot, endpoint}
+use Rattle.trb.specs.CompletionCode.{is_success, is_halting, is_trb_error, is_stopping}
+use Rattle.segments.specs.declared.spot.Spot.{Spot}
+use Rattle.segments.specs.Moves.{target}
+use Rattle.commands.specs.declared.command.Command.{Command}
+use Rattle.commands.specs.declared.command.Command.TheVariants.{StopEndpoint}
+use Rattle.commands.specs.declared.state.EndpointState.TheVariants.{Halted, Error, Stopped}
+use Rattle.commands.specs.States.{is_off}
+use Rattle.commands.specs.Changes.{Change, SlotGoesOn, DeviceLeft, Disables, Places, Stops, Resets, changes}
+use Rattle.traces.specs.declared.header.Header.{Header}
+use Rattle.traces.specs.declared.row.Row.TheVariants.{Read}
+use Rattle.traces.specs.Header.{shape_of, ring_beginning_at}
+use Rattle.ring_knowledge.specs.Known.{Known}
+use Rattle.ring_knowledge.specs.Rings.{RingSpot, on_ring, event_at, command_at, next_command}
+use Rattle.ring_knowledge.specs.Transfers.{passed, broken_off, stopped_at, transferred, transferred_at, transfer_read}
+use Rattle.ring_knowledge.specs.Completions.{set_to, bound_to, moved_to, moved, pointed, disabled, in_state, held_at_ceiling, changed_by, changed_by_all, succeeded, stop_ended, finished, completed}
+use Rattle.ring_knowledge.specs.Learned.{event_read, learned}
+
+abbrev pub DevicesLeft : Known → Known → Type 0
+DevicesLeft k l = (s x : ℕ) → l.device s ≡ Some x → k.device s ≡ Some x
+
+none_left : (k : Known) → DevicesLeft k k
+none_left k s x at = at
+
+module _ (h : Header) where
+  -- ---- a Transfer Event
+
+  transferred_left : (k : Known) (c s i r : ℕ) (t : Spot) → DevicesLeft k (transferred h k c s i r t)
+  unfolding transferred passed broken_off stopped_at on_ring
+  transferred_left k c s i r t =
+      let halts : Known = record (broken_off h k s i r t Halted) { must_move = put_pair k.must_move s i true } in
+      let fails : Known = broken_off h k s i r t Error in
+      let stopped : Known = if is_stopping c then stopped_at h k s i r t else k in
+      cond_both (is_success c) (passed h k r t) (if is_halting c then halts else if is_trb_error c then fails else stopped) (DevicesLeft k) (λ _ s x at. at)
+      (λ _. cond_both (is_halting c) halts (if is_trb_error c then fails else stopped) (DevicesLeft k) (λ _ s x at. at)
+      (λ _. cond_both (is_trb_error c) fails stopped (DevicesLeft k) (λ _ s x at. at)
+      (λ _. cond_both (is_stopping c) (stopped_at h k s i r t) k (DevicesLeft k) (λ _ s x at. at) (λ _ s x at. at))))
+
+  at_left : (k : Known) (b : Block) (o : Option RingSpot) → DevicesLeft k (transferred_at h k b o)
+  unfolding transferred_at
+  at_left k b None = none_left k
+  at_left k b (Some at) = transferred_left k (code b) (slot b) (endpoint b) at.ring at.spot
+
+  -- ---- a completion
+
+  bound_left : (k : Known) (s i : ℕ) (o : Option ℕ) → DevicesLeft k (bound_to h k s i o)
+  unfolding bound_to set_to on_ring
+  bound_left k s i None = none_left k
+  bound_left k s i (Some r) = λ t x at. at
+
+  target_left : (k : Known) (r : ℕ) (o : Option Spot) → DevicesLeft k (moved_to h k r o)
+  unfolding moved_to set_to on_ring
+  target_left k r None = none_left k
+  target_left k r (Some t) = λ s x at. at
+
+  moved_left : (k : Known) (o : Option ℕ) (p : ℕ) (cycle : Bool) → DevicesLeft k (moved h k o p cycle)
+  unfolding moved
+  moved_left k None p cycle = none_left k
+  moved_left k (Some r) p cycle = target_left k r (target (shape_of h r) (k.ring r) p cycle)
+
+  pointed_left : (k : Known) (s i p : ℕ) (cycle : Bool) → DevicesLeft k (pointed h k s i p cycle)
+  unfolding pointed
+  pointed_left k s i p cycle =
+      cond_both (is_off (k.endpoint_state s i)) (bound_to h k s i (ring_beginning_at h p)) (moved h k (k.ring_of s i) p cycle) (DevicesLeft k)
+      (λ _. bound_left k s i (ring_beginning_at h p)) (λ _. moved_left k (k.ring_of s i) p cycle)
+
+  held_left : (k : Known) (o : Option ℕ) → DevicesLeft k (held_at_ceiling h k o)
+  unfolding held_at_ceiling on_ring
+  held_left k None = none_left k
+  held_left k (Some r) = λ s x at. at
+
+  put_left : (b : Bool) (o : Option ℕ) (x : ℕ) → (if b then None else o) ≡ Some x → o ≡ Some x
+  put_left true o x at = absurd (none-some x at)
+  put_left false o x at = at
+
+  change_left : (c : Command) (k : Known) (change : Change) → DevicesLeft k (changed_by h c k change)
+  unfolding changed_by disabled in_state
+  change_left c k (SlotGoesOn s) = none_left k
+  change_left c k (DeviceLeft s) = λ t x at. put_left (t == s) (k.device t) x at
+  change_left c k (Disables s which) = none_left k
+  change_left c k (Places s i p cycle state) = pointed_left k s i p cycle
+  change_left c k (Stops s i) = held_left (in_state h k s i Stopped) (k.ring_of s i)
+  change_left c k (Resets s i) = none_left k
+
+  changes_left : (c : Command) (k : Known) (all : List Change) → DevicesLeft k (changed_by_all h c k all)
+  unfolding changed_by_all
+  changes_left c k [] = none_left k
+  changes_left c k (change ∷ rest) = λ s x at. change_left c k change s x (changes_left c (changed_by h c k change) rest s x at)
+
+  stop_left : (k : Known) (c : Command) → DevicesLeft k (stop_ended h k c)
+  unfolding stop_ended
+  stop_left k (StopEndpoint s i) = none_left k
+  stop_left k _ = none_left k
+
+  finish_left : (k : Known) (b : Block) (o : Option Command) → DevicesLeft k (finished h k b o)
+  unfolding finished succeeded
+  finish_left k b None = none_left k
+  finish_left k b (Some c) =
+      let all : List Change = changes h.context_size k.memory (slot b) c in
+      let l : Known = if code b == 1 then changed_by_all h c k all else k in
+      λ s x at. cond_both (code b == 1) (changed_by_all h c k all) k (DevicesLeft k) (λ _. changes_left c k all) (λ _. none_left k) s x (stop_left l c s x at)
+
+  completed_left : (k : Known) (b : Block) → DevicesLeft k (completed h k b)
+  unfolding completed on_ring
+  completed_left k b = finish_left k b (command_at h k (next_command h k))
+
+  -- ---- any event
+
+  kind_left : (k : Known) (b : Block) (n : BlockKind) → DevicesLeft k (event_read h k n b)
+  unfolding event_read transfer_read
+  kind_left k b TransferEvent = at_left k b (event_at h k b)
+  kind_left k b CommandCompletion = completed_left k b
+  kind_left k b _ = none_left k
+
+  pub devices_left : (k : Known) (e : Block) → DevicesLeft k (learned h k (Read e))
+  unfolding learned
+  devices_left k e = kind_left k e (kind e)

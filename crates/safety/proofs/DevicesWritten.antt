@@ -1,0 +1,220 @@
+-- A write keeps what is kept of device contexts under lease, and of the one that it takes holds what was tested
+use Rattle.std.specs.Prelude.{◌≡◌, ◌≢◌, ℕ, ◌+◌, ◌*◌, ◌^◌, ◌<◌, ◌≤◌, ◌==◌, ◌&&◌, ◌⊎◌, not, true, false, List, [], Contains, nat_le, nat_lt, Option, Some, None, is_some, option_and_then, slice_get, unwrap_or}
+use Rattle.std.proofs.Common.{arith, refl, sym, ◌∙◌, ap, subst, inl, inr}
+use Rattle.std.proofs.lemmas.Bool.{cases_lt, and_left, and_from, and_parts, or_from, or_left, or_right, false≢true, lt-ltb, le-leb, leb-true, ltb-true, not_from_false, ne_eqb}
+use Rattle.std.proofs.lemmas.Option.{none-some, same_Some, slice_get_within, get_or_from_slice_get}
+use Rattle.trb.specs.declared.block.Block.{Block}
+use Rattle.segments.specs.Places.{is_in, is_inside, overlap}
+use Rattle.segments.specs.RingView.{positions_given}
+use Rattle.segments.proofs.Search.{cases_option}
+use Rattle.segments.proofs.Elsewhere.{address_inside}
+use Rattle.segments.proofs.Giving.{gives_is}
+use Rattle.segments.proofs.DueLists.{position_given_is}
+use Rattle.segments.proofs.MemoryWords.{put_elsewhere}
+use Rattle.commands.specs.declared.command.Command.{Command}
+use Rattle.commands.specs.Command.{command_of, named_slot}
+use Rattle.contexts.specs.Contexts.{device_context, device_context_bytes, slot_entry}
+use Rattle.traces.specs.declared.header.Header.{Header}
+use Rattle.traces.specs.declared.register.Register.TheVariants.{Dcbaap, Erstba}
+use Rattle.traces.specs.declared.row.Row.TheVariants.{Write}
+use Rattle.traces.specs.Header.{IsHeader, shape_of, command_id, touches_ring}
+use Rattle.traces.specs.Register.{register_or_zero}
+use Rattle.ring_knowledge.specs.Known.{Known}
+use Rattle.ring_knowledge.specs.Rings.{command_at}
+use Rattle.ring_knowledge.specs.Writes.{device_named, entry_of, command_given}
+use Rattle.ownership_rules.specs.Areas.{is_soiled}
+use Rattle.ownership_rules.specs.Rules.{broken}
+use Rattle.safety.specs.Keeps.{IsDriverRing, DeviceKeeps, DriverKeeps}
+use Rattle.safety.proofs.Headers.{ring_shape}
+use Rattle.safety.proofs.CommandRing.{due_has_ring}
+use Rattle.safety.proofs.Areas.{clean_word}
+use Rattle.safety.proofs.AreaFacts.{area_parts, not_in_other, overlap_turned, word_elsewhere, is_soiled_from, device_apart, device_free, entry_free, table_free, lease_free, word_free}
+use Rattle.safety.proofs.EndpointPut.{at_number}
+use Rattle.safety.proofs.KeptClean.{taking, not_in_area}
+use Rattle.safety.proofs.RowFrames.{write_leaves}
+use Rattle.safety.proofs.WrittenKnown.{command_slot_low, after_write, taken, written_memory, written_device, written_device_none, written_soiled, written_soiled_none}
+use Rattle.safety.proofs.WriteBeside.{is_free, rules_of}
+use Rattle.safety.proofs.DeviceFrames.{entry_same}
+use Rattle.safety.specs.KeptStep.{DevicesKeep}
+
+named_from : (k l : Known) (s : ℕ) → l.register Dcbaap ≡ k.register Dcbaap → ((x : ℕ) → entry_of k s ≤ x → x < entry_of k s + 8 → l.memory x ≡ k.memory x) → device_named l s ≡ device_named k s
+unfolding device_named entry_of
+named_from k l s same words =
+    let e : ℕ = slot_entry (register_or_zero k.register Dcbaap) s in
+    let one : l.memory e ≡ k.memory e = words e (omega arith) (omega arith) in
+    let two : l.memory (e + 4) ≡ k.memory (e + 4) = words (e + 4) (omega arith) (omega arith) in
+    ap (λ o. device_context l.memory (unwrap_or o 0) s) same ∙ ap (λ x. x + 2 ^ 32 * l.memory (e + 4)) one ∙ ap (λ x. k.memory e + 2 ^ 32 * x) two
+
+below_end : (n m : ℕ) → nat_lt m n ≡ false → n ≤ m
+below_end n m fails = elim (cases_lt m n) [ inl low ↦ absurd (false≢true (sym fails ∙ lt-ltb m n low)) | inr high ↦ high ]
+
+in_bytes : (x d len : ℕ) → is_in x d len ≡ true → (d ≤ x) × (x < d + len)
+in_bytes x d len inside = let p = and_parts (nat_le d x) (nat_lt x (d + len)) inside in (leb-true d x p.0, ltb-true x (d + len) p.1)
+
+pub contains_first : (xs : List ℕ) (p : ℕ) → slice_get xs 0 ≡ Some p → Contains xs p
+contains_first xs p at = (0, slice_get_within xs 0 p at, get_or_from_slice_get xs 0 p p at)
+
+pub and_then_parts : {X Y : Type 0} (f : X → Option Y) (o : Option X) (y : Y) → option_and_then f o ≡ Some y → (x : X) × (o ≡ Some x) × (f x ≡ Some y)
+and_then_parts f None y at = absurd (none-some y at)
+and_then_parts f (Some x) y at = (x, refl, at)
+
+module _ (h : Header) (is : IsHeader h) (k : Known) (d : DriverKeeps h k) (a w : ℕ) (clean : broken h k (Write a w) ≡ []) where
+  abbrev l : Known
+  l = after_write h k a w
+
+  dcbaap : l.register Dcbaap ≡ k.register Dcbaap
+  dcbaap = ap (λ f. f Dcbaap) (write_leaves h k a w).registers.register
+
+  entry_is : (s : ℕ) → entry_of l s ≡ entry_of k s
+  entry_is s = entry_same k l s dcbaap
+
+  word_same : (x : ℕ) → x ≢ a → l.memory x ≡ k.memory x
+  word_same x other = ap (λ f. f x) (written_memory h k a w) ∙ put_elsewhere k.memory a w x other
+
+  -- a clean area that the device context that is taken leaves free
+  clean_after : (from len : ℕ) → is_soiled k from len ≡ false → ((e : ℕ × ℕ) → taken h k a w ≡ Some e → overlap e.1 (device_context_bytes h.context_size) from len ≡ false) → is_soiled l from len ≡ false
+  clean_after from len none apart =
+      is_soiled_from l from len (λ i low.
+      let kept = and_left (k.soiled (from + 4 * i)) (not (from + 4 * i == a)) (clean_word k from len i none low) in
+      elim (cases_option (taken h k a w)) [
+        | inl idle ↦ written_soiled_none h k a w idle (from + 4 * i) ∙ kept
+        | inr some ↦
+            written_soiled h k a w some.0 some.1 (from + 4 * i)
+            ∙ or_from (is_in (from + 4 * i) some.0.1 (device_context_bytes h.context_size)) (k.soiled (from + 4 * i) && not (from + 4 * i == a))
+            (not_in_other some.0.1 (device_context_bytes h.context_size) from len (from + 4 * i) (apart some.0 some.1) (omega arith) (omega arith)) kept
+      ])
+
+  -- device contexts behind the write: the one that is taken, or one from before
+  device_before : (s c : ℕ) → l.device s ≡ Some c → ((e : ℕ × ℕ) × (taken h k a w ≡ Some e) × (s ≡ e.0) × (c ≡ e.1)) ⊎ (k.device s ≡ Some c)
+  device_before s c at =
+      elim (cases_option (taken h k a w)) [
+        | inl none ↦ inr (ap (λ f. f s) (sym (written_device_none h k a w none)) ∙ at)
+        | inr some ↦
+            let e : ℕ × ℕ = some.0 in
+            at_number (λ (o : Option ℕ). o ≡ Some c → ((e : ℕ × ℕ) × (taken h k a w ≡ Some e) × (s ≡ e.0) × (c ≡ e.1)) ⊎ (k.device s ≡ Some c)) k.device e.0 (Some e.1) s
+            (λ same here. inl (e, some.1, same, sym (same_Some e.1 c here))) (λ other before. inr before) (ap (λ g. g s) (sym (written_device h k a w e some.1)) ∙ at)
+      ]
+
+  -- ---- one from before
+
+  taken_free : (e : ℕ × ℕ) (at : taken h k a w ≡ Some e) (s c : ℕ) → k.device s ≡ Some c → overlap e.1 (device_context_bytes h.context_size) c (device_context_bytes h.context_size) ≡ false
+  taken_free e at s c was =
+      let slot = (d.devices s c was).slot in
+      device_free h k e.1 (device_context_bytes h.context_size) (lease_free h k e.1 (device_context_bytes h.context_size) (rules_of h is k d a w clean e at).free) s c slot.0 slot.1 was
+
+  taken_entry : (e : ℕ × ℕ) (at : taken h k a w ≡ Some e) (s c : ℕ) → k.device s ≡ Some c → overlap e.1 (device_context_bytes h.context_size) (entry_of k s) 8 ≡ false
+  taken_entry e at s c was =
+      let slot = (d.devices s c was).slot in
+      entry_free h k e.1 (device_context_bytes h.context_size) (lease_free h k e.1 (device_context_bytes h.context_size) (rules_of h is k d a w clean e at).free) s c slot.0 slot.1 was
+
+  still_soiled : (x : ℕ) → x ≢ a → k.soiled x ≡ true → l.soiled x ≡ true
+  still_soiled x other soiled =
+      let kept = and_from (k.soiled x) (not (x == a)) soiled (not_from_false (x == a) (ne_eqb x a other)) in
+      elim (cases_option (taken h k a w)) [
+        | inl none ↦ written_soiled_none h k a w none x ∙ kept
+        | inr some ↦ written_soiled h k a w some.0 some.1 x ∙ or_right (is_in x some.0.1 (device_context_bytes h.context_size)) (k.soiled x && not (x == a)) kept
+      ]
+
+  old_device : (s c : ℕ) → k.device s ≡ Some c → DeviceKeeps h l s c
+  old_device s c at =
+      let was : DeviceKeeps h k s c = d.devices s c at in
+      let free = word_free h k a (is_free h is k d a w clean) in
+      record {
+        slot = was.slot;
+        aligned = was.aligned;
+        ends = was.ends;
+        rings = was.rings;
+        soiled = λ x inside.
+            let within = in_bytes x c (device_context_bytes h.context_size) inside in
+            still_soiled x (word_elsewhere a c (device_context_bytes h.context_size) x (device_free h k a 4 free s c was.slot.0 was.slot.1 at) within.0 within.1) (was.soiled x inside);
+        written = ap is_some dcbaap ∙ was.written;
+        entry = named_from k l s dcbaap (λ x low high. word_same x (word_elsewhere a (entry_of k s) 8 x (entry_free h k a 4 free s c was.slot.0 was.slot.1 at) low high)) ∙ was.entry;
+        entry_clean = ap (λ e. is_soiled l e 8) (entry_is s) ∙ clean_after (entry_of k s) 8 was.entry_clean (λ e some. taken_entry e some s c at);
+        entry_rings = ap (λ e. touches_ring h e 8) (entry_is s) ∙ was.entry_rings;
+        others = λ t e there other.
+            elim (device_before t e there) [
+              | inl now ↦
+                  overlap_turned e (device_context_bytes h.context_size) c (device_context_bytes h.context_size)
+                  (ap (λ x. overlap x (device_context_bytes h.context_size) c (device_context_bytes h.context_size)) now.3 ∙ taken_free now.0 now.1 s c at)
+              | inr before ↦ was.others t e before other
+            ];
+        entries = λ t e there.
+            ap (λ x. overlap c (device_context_bytes h.context_size) x 8) (entry_is t)
+            ∙ elim (device_before t e there) [
+              | inl now ↦
+                  let rules = rules_of h is k d a w clean now.0 now.1 in
+                  ap (λ n. overlap c (device_context_bytes h.context_size) (entry_of k n) 8) now.2
+                  ∙ overlap_turned (entry_of k now.0.0) 8 c (device_context_bytes h.context_size)
+                  (device_apart h k (entry_of k now.0.0) 8 s c (area_parts h k (entry_of k now.0.0) 8 rules.entry_area) was.slot.0 was.slot.1 at)
+              | inr before ↦ was.entries t e before
+            ];
+        table = λ v there. was.table v (ap (λ f. f Erstba) (sym (write_leaves h k a w).registers.register) ∙ there);
+      }
+
+  -- ---- the one that is taken
+
+  -- the word that gives a command lies in the command ring
+  record GivesInRing (c : Command) : Type 0 where
+    pub block : Block
+    pub says : command_of block ≡ Some c
+    pub ring : IsDriverRing h (command_id h)
+    pub inside : is_inside (shape_of h (command_id h)) a ≡ true
+
+  in_ring : (c : Command) → command_given h k a w ≡ Some c → GivesInRing c
+  unfolding command_given command_at
+  in_ring c given =
+      let first = and_then_parts (command_at h k) (slice_get (positions_given (shape_of h (command_id h)) (k.ring (command_id h)) a w) 0) c given in
+      let block = and_then_parts (λ x. command_of x) (slice_get (k.ring (command_id h)).queue first.0) c first.2 in
+      let contained = contains_first (positions_given (shape_of h (command_id h)) (k.ring (command_id h)) a w) first.0 first.1 in
+      let writes = gives_is (shape_of h (command_id h)) (k.ring (command_id h)).floor first.0 a w (position_given_is (shape_of h (command_id h)) (k.ring (command_id h)) a w first.0 contained).1 in
+      let ring = due_has_ring h is (k.ring (command_id h)).floor first.0 writes.due in
+      record {
+        block = block.0;
+        says = block.2;
+        ring = ring;
+        inside = ap (λ y. is_inside (shape_of h (command_id h)) y) writes.at ∙ address_inside (shape_of h (command_id h)) (ring_shape h is (command_id h) ring).is first.0 12 (omega arith);
+      }
+
+  new_device : (e : ℕ × ℕ) → taken h k a w ≡ Some e → DeviceKeeps h l e.0 e.1
+  new_device e at =
+      let rules = rules_of h is k d a w clean e at in
+      let t = taking h k a w e clean at in
+      let gives = in_ring t.command t.given in
+      let area = area_parts h k e.1 (device_context_bytes h.context_size) rules.area in
+      let entry = area_parts h k (entry_of k e.0) 8 rules.entry_area in
+      let free = lease_free h k e.1 (device_context_bytes h.context_size) rules.free in
+      let word : (x : ℕ) → entry_of k e.0 ≤ x → x < entry_of k e.0 + 8 → x ≢ a = λ x low high same.
+      false≢true (sym (not_in_area h (command_id h) a (entry_of k e.0) 8 gives.ring gives.inside entry.rings)
+      ∙ and_from (nat_le (entry_of k e.0) a) (nat_lt a (entry_of k e.0 + 8)) (le-leb (entry_of k e.0) a (omega arith)) (lt-ltb a (entry_of k e.0 + 8) (omega arith))) in
+      record {
+        slot = (rules.some, command_slot_low gives.block t.command e.0 gives.says (ap named_slot t.takes.command));
+        aligned = rules.aligned;
+        ends = below_end (e.1 + device_context_bytes h.context_size) (2 ^ 64) area.ends;
+        rings = area.rings;
+        soiled = λ x inside. written_soiled h k a w e at x ∙ or_left (is_in x e.1 (device_context_bytes h.context_size)) (k.soiled x && not (x == a)) inside;
+        written = ap is_some dcbaap ∙ rules.written;
+        entry = named_from k l e.0 dcbaap (λ x low high. word_same x (word x low high)) ∙ t.takes.named;
+        entry_clean = ap (λ y. is_soiled l y 8) (entry_is e.0)
+            ∙ clean_after (entry_of k e.0) 8 rules.entry_clean (λ f some. ap (λ (x : ℕ × ℕ). overlap x.1 (device_context_bytes h.context_size) (entry_of k e.0) 8) (same_Some f e (sym some ∙ at)) ∙ rules.entry_apart);
+        entry_rings = ap (λ y. touches_ring h y 8) (entry_is e.0) ∙ entry.rings;
+        others = λ s c there other.
+            elim (device_before s c there) [
+              | inl now ↦ absurd (other (now.2 ∙ ap (λ (x : ℕ × ℕ). x.0) (same_Some now.0 e (sym now.1 ∙ at))))
+              | inr before ↦ taken_free e at s c before
+            ];
+        entries = λ s c there.
+            ap (λ x. overlap e.1 (device_context_bytes h.context_size) x 8) (entry_is s)
+            ∙ elim (device_before s c there) [
+              | inl now ↦
+                  ap (λ n. overlap e.1 (device_context_bytes h.context_size) (entry_of k n) 8) (now.2 ∙ ap (λ (x : ℕ × ℕ). x.0) (same_Some now.0 e (sym now.1 ∙ at))) ∙ rules.entry_apart
+              | inr before ↦ taken_entry e at s c before
+            ];
+        table = λ v there. table_free h k e.1 (device_context_bytes h.context_size) free v (ap (λ f. f Erstba) (sym (write_leaves h k a w).registers.register) ∙ there);
+      }
+
+  pub written_devices : DevicesKeep h (after_write h k a w)
+  written_devices s c at =
+      elim (device_before s c at) [
+        | inl now ↦ subst (λ n. DeviceKeeps h l n c) (sym now.2) (subst (λ x. DeviceKeeps h l now.0.0 x) (sym now.3) (new_device now.0 now.1))
+        | inr before ↦ old_device s c before
+      ]

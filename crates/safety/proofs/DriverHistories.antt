@@ -1,0 +1,67 @@
+-- A clean history keeps what a driver keeps
+use Rattle.std.specs.Prelude.{◌≡◌, false, List, [], ◌∷◌}
+use Rattle.std.proofs.Common.{◌∙◌}
+use Rattle.trb.specs.declared.block.Block.{Block}
+use Rattle.trb.specs.Block.{kind}
+use Rattle.traces.specs.declared.header.Header.{Header}
+use Rattle.traces.specs.declared.row.Row.{Row}
+use Rattle.traces.specs.Header.{IsHeader}
+use Rattle.traces.specs.declared.row.Row.TheVariants.{Read}
+use Rattle.world_state.specs.World.{World}
+use Rattle.ring_knowledge.specs.Known.{Known}
+use Rattle.ring_knowledge.specs.Learned.{learned, known}
+use Rattle.ownership_rules.specs.Clean.{IsClean}
+use Rattle.safety.specs.Keeps.{DriverKeeps}
+use Rattle.safety.specs.KeptStep.{KeptByRows}
+use Rattle.safety.specs.Invariant.{reading, Runs}
+use Rattle.safety.proofs.SameDriver.{event_same}
+use Rattle.safety.proofs.TestsPassed.{clean_tests}
+use Rattle.safety.proofs.KeptCommandRing.{kept_crcr, kept_crcr_written, kept_sized, kept_erstsz_written}
+use Rattle.safety.proofs.KeptCounts.{kept_dequeued, kept_read_room, kept_unstarted}
+use Rattle.safety.proofs.KeptClean.{kept_clean}
+use Rattle.safety.proofs.KeptRings.{kept_rings}
+use Rattle.safety.proofs.KeptCommands.{kept_command_ring}
+use Rattle.safety.proofs.KeptStates.{kept_states}
+use Rattle.safety.proofs.KeptDevices.{kept_devices}
+use Rattle.safety.proofs.KeptUnfinished.{kept_unfinished}
+use Rattle.safety.proofs.NothingKept.{nothing_kept}
+
+module _ (h : Header) where
+  pub kept_driver : KeptByRows h (DriverKeeps h)
+  kept_driver is k row d clean on = record {
+    rings = kept_rings h is k row d clean on;
+    clean = kept_clean h is k row d clean on;
+    command_ring = kept_command_ring h is k row d clean on;
+    states = kept_states h is k row d clean on;
+    unstarted = kept_unstarted h is k row d clean on;
+    crcr = kept_crcr h is k row d clean on;
+    crcr_written = kept_crcr_written h is k row d clean on;
+    sized = kept_sized h is k row d clean on;
+    erstsz_written = kept_erstsz_written h is k row d clean on;
+    dequeued = kept_dequeued h is k row d clean on;
+    read_room = kept_read_room h is k row d clean on;
+    devices = kept_devices h is k row d clean on;
+    unfinished = kept_unfinished h is k row d clean on;
+  }
+
+  -- of a history that isn't stopped
+  pub driver_keeps : IsHeader h → (past : List Row) → IsClean h past → (known h past).stopped ≡ false → DriverKeeps h (known h past)
+  unfolding known
+  driver_keeps is [] clean on = nothing_kept h is
+  driver_keeps is (row ∷ past) clean on =
+      let before : (known h past).stopped ≡ false = (clean_tests h (known h past) row clean.1).0 in
+      kept_driver is (known h past) row (driver_keeps is past clean.0 before) clean.1 on
+
+  -- ---- in a run, of what is known when the unread events are read too
+
+  read_stopped : (k : Known) (b : Block) → (learned h k (Read b)).stopped ≡ k.stopped
+  unfolding learned
+  read_stopped k b = (event_same h k (kind b) b).stopped
+
+  still_on : (unread : List Block) (past : List Row) → (known h past).stopped ≡ false → (known h (reading unread past)).stopped ≡ false
+  unfolding known
+  still_on [] past on = on
+  still_on (e ∷ unread) past on = still_on unread (Read e ∷ past) (read_stopped (known h past) e ∙ on)
+
+  pub run_keeps : IsHeader h → (past : List Row) (w : World) (r : Runs h past w) → DriverKeeps h (known h (reading r.unread past))
+  run_keeps is past w r = driver_keeps is (reading r.unread past) r.clean (still_on r.unread past r.on)

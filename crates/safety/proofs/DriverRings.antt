@@ -1,0 +1,45 @@
+-- The rings and endpoints of what a driver keeps, as the laws of rings take them
+use Rattle.std.specs.Prelude.{◌≡◌, ℕ, true, Option, Some, None}
+use Rattle.std.proofs.Common.{refl, ◌∙◌, ap}
+use Rattle.std.proofs.lemmas.Bool.{false≢true}
+use Rattle.traces.specs.declared.header.Header.{Header}
+use Rattle.traces.specs.declared.ring.Ring.{Ring}
+use Rattle.traces.specs.Header.{ring_with, is_driver_kind, is_transfer_kind}
+use Rattle.ring_knowledge.specs.Known.{Known}
+use Rattle.ownership_rules.specs.Declarations.{is_driver_ring}
+use Rattle.safety.specs.Keeps as keeps
+use Rattle.safety.specs.RingsKeep as rings
+use Rattle.safety.specs.EndpointsKeep as endpoints
+
+driver_found : (o : Option Ring) → is_driver_ring o ≡ true → (r : Ring) × (o ≡ Some r) × (is_driver_kind r.shape.kind ≡ true)
+unfolding is_driver_ring
+driver_found None h = absurd (false≢true h)
+driver_found (Some r) h = (r, refl, h)
+
+transfer_found : (o : Option Ring) → endpoints.is_transfer_ring o ≡ true → (r : Ring) × (o ≡ Some r) × (is_transfer_kind r.shape.kind ≡ true)
+transfer_found None h = absurd (false≢true h)
+transfer_found (Some r) h = (r, refl, h)
+
+module _ (h : Header) where
+  pub driver_test : (r : ℕ) → keeps.IsDriverRing h r → rings.IsDriverRing h r
+  unfolding is_driver_ring
+  driver_test r ring = ap is_driver_ring ring.found ∙ ring.kind
+
+  pub driver_ring : (r : ℕ) → rings.IsDriverRing h r → keeps.IsDriverRing h r
+  driver_ring r is = let found = driver_found (ring_with h r) is in record { ring = found.0; found = found.1; kind = found.2 }
+
+  pub transfer_test : (r : ℕ) → keeps.IsTransferRing h r → endpoints.IsTransferRing h r
+  transfer_test r ring = ap endpoints.is_transfer_ring ring.found ∙ ring.kind
+
+  pub transfer_ring : (r : ℕ) → endpoints.IsTransferRing h r → keeps.IsTransferRing h r
+  transfer_ring r is = let found = transfer_found (ring_with h r) is in record { ring = found.0; found = found.1; kind = found.2 }
+
+  pub rings_of : (k : Known) → keeps.DriverKeeps h k → rings.RingsKeep h k
+  rings_of k d r is = d.rings r (driver_ring r is)
+
+  pub endpoints_of : (k : Known) → keeps.StatesKeep h k → endpoints.EndpointsKeep h k
+  endpoints_of k s = record {
+    transfer = λ t i r at. transfer_test r (s.transfer t i r at);
+    was_bound = s.was_bound;
+    never_bound = λ r is. s.never_bound r (transfer_ring r is);
+  }

@@ -1,0 +1,97 @@
+-- The doorbell of an endpoint whose ring is held wakes it; a Transfer Event that was possible before is so behind it, and leaves it woken
+use Rattle.std.specs.Prelude.{◌≡◌, ◌≢◌, ℕ, ◌==◌, ◌&&◌, ◌||◌, true, false, Some, nat_lt, slice_get, option_and_then}
+use Rattle.std.proofs.Common.{refl, sym, ◌∙◌, ap, inl, inr}
+use Rattle.std.proofs.lemmas.Bool.{false≢true, and_parts, cond-false, or_cases, cond_both, eqb-true}
+use Rattle.guest_memory.specs.Memory.{put_pair}
+use Rattle.segments.specs.RingView.{Opens}
+use Rattle.commands.specs.declared.state.EndpointState.TheVariants.{Running}
+use Rattle.commands.specs.States.{is_running, is_stopped}
+use Rattle.traces.specs.declared.header.Header.{Header}
+use Rattle.ring_knowledge.specs.Known.{Known}
+use Rattle.ring_knowledge.specs.Rings.{on_ring}
+use Rattle.ring_knowledge.specs.Registers.{endpoint_rung}
+use Rattle.safety.proofs.DriverRows.{ring_here, ring_elsewhere}
+use Rattle.safety.proofs.Headers.{ring_shape, transfer_driver, transfer_not_command}
+use Rattle.safety.specs.Keeps.{DriverKeeps}
+use Rattle.safety.proofs.WokenTransfers.{transfer_woken}
+use Rattle.segments.specs.RingView.{floor_number}
+use Rattle.segments.specs.Ceiling.{ceiling, is_open}
+use Rattle.segments.proofs.Named.{ceiling_within}
+use Rattle.trb.specs.declared.block.Block.{Block}
+use Rattle.commands.specs.Command.{command_of, is_stop_of}
+use Rattle.traces.specs.Header.{IsHeader, shape_of, command_id}
+use Rattle.ring_knowledge.specs.Rings.{command_at, next_command}
+use Rattle.ring_knowledge.specs.Transfers.{transfer_read}
+use Rattle.ownership_rules.specs.Events.{is_in_profile, may_be_taken, is_stopping_now, is_impossible_transfer}
+use Rattle.safety.proofs.EndpointPut.{at_pair}
+use Rattle.safety.proofs.SameDriver.{SameDriver, on_ring_same}
+use Rattle.safety.proofs.StatesRung.{running_is}
+use Rattle.safety.proofs.Woken.{Woken}
+use Rattle.safety.proofs.WokenChanges.{one_of}
+
+module _ (h : Header) (k : Known) (s t r : ℕ) (has : k.ring_of s t ≡ Some r) (may : (is_running (k.endpoint_state s t) || is_stopped (k.endpoint_state s t)) ≡ true) where
+  abbrev woken : Known
+  woken = endpoint_rung h k s t (Some r)
+
+  rung_here : woken.endpoint_state s t ≡ Running
+  unfolding endpoint_rung
+  rung_here =
+      cond_both (is_stopped (k.endpoint_state s t)) (put_pair k.endpoint_state s t Running) k.endpoint_state (λ f. f s t ≡ Running)
+      (λ stopped. at_pair (λ e. e ≡ Running) k.endpoint_state s t Running s t (λ a b. refl) (λ other. absurd (other refl refl)))
+      (λ on.
+      elim (or_cases (is_running (k.endpoint_state s t)) (is_stopped (k.endpoint_state s t)) may) [
+        | inl runs ↦ running_is (k.endpoint_state s t) runs
+        | inr stopped ↦ absurd (false≢true (sym on ∙ stopped))
+      ])
+
+  rung_elsewhere : (u j : ℕ) → one_of s t u j ≡ false → woken.endpoint_state u j ≡ k.endpoint_state u j
+  unfolding endpoint_rung
+  rung_elsewhere u j other =
+      cond_both (is_stopped (k.endpoint_state s t)) (put_pair k.endpoint_state s t Running) k.endpoint_state (λ f. f u j ≡ k.endpoint_state u j)
+      (λ stopped. cond-false (u == s && j == t) Running (k.endpoint_state u j) other) (λ on. refl)
+
+  rung_awake : (u j : ℕ) → one_of s t u j ≡ true → woken.endpoint_state u j ≡ Running
+  rung_awake u j same =
+      let parts = and_parts (u == s) (j == t) same in
+      ap (λ n. woken.endpoint_state n j) (eqb-true u s parts.0) ∙ ap (λ n. woken.endpoint_state s n) (eqb-true j t parts.1) ∙ rung_here
+
+  pub rung_woken : Woken h r (one_of s t) k woken
+  unfolding endpoint_rung on_ring
+  rung_woken = record {
+    own = ring_here h k r Opens;
+    rings = λ q other. ring_elsewhere h k r q Opens other;
+    awake = rung_awake;
+    state = rung_elsewhere;
+    was_bound = refl;
+    slot_state = refl;
+    ring_of = refl;
+    must_move = refl;
+    stop_seen = refl;
+    device = refl;
+  }
+
+  pub rung_driver : SameDriver k woken
+  unfolding endpoint_rung
+  rung_driver =
+      let d : SameDriver k (on_ring h k r Opens) = on_ring_same h k r Opens tt in
+      record { started = d.started; stopped = d.stopped; register = d.register; memory = d.memory; soiled = d.soiled; reads = d.reads; dequeue = d.dequeue; rings = d.rings }
+
+  -- ---- a Transfer Event
+
+  module _ (is : IsHeader h) (d : DriverKeeps h k) (held : is_open (k.ring r) ≡ false) where
+    not_command : command_id h ≢ r
+    not_command same = transfer_not_command h is r (d.states.transfer s t r has) (sym same)
+
+    stops_still : (u j : ℕ) → is_stopping_now h k u j ≡ true → is_stopping_now h woken u j ≡ true
+    unfolding is_stopping_now may_be_taken next_command command_at
+    stops_still u j stops =
+        let c : ℕ = command_id h in
+        ap (λ v. nat_lt (floor_number v) (ceiling (shape_of h c) v) && is_stop_of u j (option_and_then command_of (slice_get v.queue (floor_number v)))) (rung_woken.rings c not_command) ∙ stops
+
+    pub transfer_rung : (e : Block) → is_impossible_transfer h k e ≡ false → is_in_profile e ≡ true →
+        (is_impossible_transfer h woken e ≡ false) × Woken h r (one_of s t) (transfer_read h k e) (transfer_read h woken e)
+    transfer_rung e possible inside =
+        transfer_woken h r (one_of s t) k woken rung_woken held
+        (ceiling_within (shape_of h r) (ring_shape h is r (transfer_driver h r (d.states.transfer s t r has))).is k.memory (k.ring r) (d.rings r (transfer_driver h r (d.states.transfer s t r has)))).1
+        (λ u j same. let parts = and_parts (u == s) (j == t) same in ap (λ n. k.ring_of n j) (eqb-true u s parts.0) ∙ ap (λ n. k.ring_of s n) (eqb-true j t parts.1) ∙ has)
+        stops_still rung_driver e possible inside

@@ -1,0 +1,193 @@
+-- The controller finishes an Address Device with success: the run goes on
+use Rattle.std.specs.Prelude.{◌≡◌, ℕ, ◌<◌, ◌≤◌, ◌==◌, Bool, true, false, List, [], ◌∷◌, All, Some, is_some}
+use Rattle.std.specs.List.{list_any}
+use Rattle.std.proofs.Common.{arith, refl, sym, ◌∙◌, ap, subst, inl, inr}
+use Rattle.std.proofs.lemmas.Bool.{cases_Bool, cases_lt, or_left, cond-true, eq-eqb, false≢true}
+use Rattle.std.proofs.lemmas.List.Elements.{All-head}
+use Rattle.trb.specs.declared.block.Block.{Block}
+use Rattle.trb.specs.Block.{IsBlock, code, slot}
+use Rattle.segments.specs.ShapeValue.{Shape}
+use Rattle.segments.specs.Shape.{IsShape}
+use Rattle.segments.specs.RingView.{RingView, floor_number}
+use Rattle.segments.specs.Ceiling.{given_count}
+use Rattle.segments.specs.RingKeeps.{RingKeeps}
+use Rattle.segments.proofs.Search.{cases_option}
+use Rattle.segments.proofs.GivenCount.{given_below}
+use Rattle.segments.proofs.StepFacts.{step_is}
+use Rattle.segments.proofs.Reaching.{floor_given, given_count_declared}
+use Rattle.segments.proofs.Named.{ceiling_within}
+use Rattle.commands.specs.declared.command.Command.{Command}
+use Rattle.commands.specs.declared.command.Command.TheVariants.{AddressDevice}
+use Rattle.commands.specs.declared.state.EndpointState.TheVariants.{Running}
+use Rattle.commands.specs.Command.{command_of}
+use Rattle.commands.specs.Changes.{SlotGoesOn, Places, changes}
+use Rattle.commands.specs.States.{is_off}
+use Rattle.contexts.specs.Contexts.{context_pointer, context_cycle}
+use Rattle.traces.specs.declared.header.Header.{Header}
+use Rattle.traces.specs.declared.row.Row.{Row}
+use Rattle.traces.specs.Header.{IsHeader, shape_of, is_ring, ring_beginning_at}
+use Rattle.world_state.specs.World.{World, UnderWay}
+use Rattle.controller_model.specs.Bindings as bindings
+use Rattle.controller_model.specs.Finishes as finishes
+use Rattle.controller_model.specs.Steps.{counted}
+use Rattle.ring_knowledge.specs.Known.{Known}
+use Rattle.ring_knowledge.specs.Learned.{known}
+use Rattle.ring_knowledge.specs.Rings.{next_command}
+use Rattle.ring_knowledge.specs.Completions as completions
+use Rattle.ownership_rules.specs.Moves.{binding_in, binds, ring_bound, binds_ring}
+use Rattle.safety.specs.Keeps.{DriverKeeps, CommandKeeps, Stays}
+use Rattle.safety.specs.Stands.{Stands}
+use Rattle.safety.specs.Invariant.{Runs, reading}
+use Rattle.safety.proofs.Headers.{ring_shape, transfer_driver}
+use Rattle.safety.proofs.Areas.{bad_context_parts, bad_command_context}
+use Rattle.safety.proofs.ContextWords.{same_context, address_same}
+use Rattle.safety.proofs.EndpointsOff.{slot_above, off_none}
+use Rattle.safety.proofs.PlaceKeeps.{MayBind, MayMove, bind_keeps, move_keeps}
+use Rattle.safety.proofs.SlotChanges.{slot_keeps}
+use Rattle.safety.proofs.NumberedChanges.{command_numbered}
+use Rattle.safety.proofs.FinishChanges.{StatesMatch, ChangeKeeps, states_match}
+use Rattle.safety.proofs.NumberedHistories.{are_numbered}
+use Rattle.safety.proofs.FinishSuccess.{EffectKeeps}
+use Rattle.safety.proofs.FinishGiven.{ListKeeps, nothing_keeps, change_then, finish_given_runs}
+
+-- ---- a ring on which nothing from the floor on is given
+
+nothing_ahead : (shape : Shape) → IsShape shape → (memory : ℕ → ℕ) (v : RingView) → RingKeeps shape memory v → ((p : ℕ) → floor_number v ≤ p → v.given p ≡ false) → given_count shape v ≤ floor_number v
+nothing_ahead shape is memory v k nothing =
+    elim (cases_lt (floor_number v) (given_count shape v)) [
+      | inl more ↦ absurd (false≢true (sym (nothing (floor_number v) (omega arith)) ∙ (step_is shape v (floor_number v) (given_below shape v (floor_number v) more)).0))
+      | inr within ↦ within
+    ]
+
+module _ (h : Header) (is : IsHeader h) (k : Known) (d : DriverKeeps h k) (s n : ℕ) (bsr : Bool) (given : CommandKeeps h k (next_command h k) (AddressDevice s bsr n)) where
+  abbrev p : ℕ
+  p = context_pointer h.context_size k.memory n 1
+
+  abbrev cycle : Bool
+  cycle = context_cycle h.context_size k.memory n 1
+
+  -- where endpoint 1 is off
+  binds_it : is_off (k.endpoint_state s 1) ≡ true → binds h k (AddressDevice s bsr n) ≡ binding_in h k n 1 ∷ []
+  unfolding binds
+  binds_it off = cond-true (is_off (k.endpoint_state s 1)) (binding_in h k n 1 ∷ []) [] off
+
+  named_it : is_off (k.endpoint_state s 1) ≡ true → (is_some (ring_beginning_at h p) ≡ true) × (cycle ≡ true)
+  unfolding ring_bound binding_in
+  named_it off =
+      All-head (λ b. (is_some (ring_bound h b) ≡ true) × (b.cycle ≡ true)) (binding_in h k n 1) []
+      (subst (λ bs. All (λ b. (is_some (ring_bound h b) ≡ true) × (b.cycle ≡ true)) bs) (binds_it off) given.binds)
+
+  unbound_it : is_off (k.endpoint_state s 1) ≡ true → (r : ℕ) → ring_beginning_at h p ≡ Some r → k.was_bound r ≡ false
+  unfolding binds_ring ring_bound binding_in
+  unbound_it off r at =
+      given.unbound r (ap (λ bs. list_any (λ b. is_ring r (ring_bound h b)) bs) (binds_it off) ∙ or_left (is_ring r (ring_beginning_at h p)) false (ap (is_ring r) at ∙ eq-eqb r r refl))
+
+  first_binds : is_off (k.endpoint_state s 1) ≡ true → MayBind h k s 1 p cycle
+  first_binds off =
+      let named = named_it off in
+      elim (cases_option (ring_beginning_at h p)) [
+        | inl none ↦ absurd (false≢true (ap (λ o. is_some o) (sym none) ∙ named.0))
+        | inr some ↦ record { off = off; none = off_none h k d s 1 off; ring = some.0; named = some.1; unbound = unbound_it off some.0 some.1; first_lap = named.1 }
+      ]
+
+  -- where it isn't
+  moves_at : is_off (k.endpoint_state s 1) ≡ false → (r : ℕ) → k.ring_of s 1 ≡ Some r → MayMove h k s 1 p cycle
+  moves_at on r had =
+      let transfer = d.states.transfer s 1 r had in
+      let driver = transfer_driver h r transfer in
+      let allowed = (ring_shape h is r driver).is in
+      let keeps = d.rings r driver in
+      let stays : Stays h k r n = given.stays r had in
+      let within = ceiling_within (shape_of h r) allowed k.memory (k.ring r) keeps in
+      let none = nothing_ahead (shape_of h r) allowed k.memory (k.ring r) keeps stays.nothing in
+      record {
+        on = on;
+        ring = r;
+        had = had;
+        transfer = transfer;
+        was_bound = d.states.was_bound s 1 r had;
+        keeps = keeps;
+        least = floor_number (k.ring r);
+        most = floor_number (k.ring r);
+        low = omega (arith, within.1);
+        floor = omega arith;
+        high = omega (arith, floor_given (shape_of h r) allowed k.memory (k.ring r) keeps, given_count_declared (shape_of h r) allowed k.memory (k.ring r) keeps);
+        moves = stays.here;
+      }
+
+  second_moves : is_off (k.endpoint_state s 1) ≡ false → MayMove h k s 1 p cycle
+  second_moves on =
+      elim (cases_option (k.ring_of s 1)) [
+        | inl none ↦ absurd (false≢true (sym on ∙ ap is_off (d.states.off s 1 none)))
+        | inr some ↦ moves_at on some.0 some.1
+      ]
+
+  -- ---- behind the change of the slot's state
+
+  abbrev c : Command
+  c = AddressDevice s bsr n
+
+  slot_binds : MayBind h k s 1 p cycle → MayBind h (completions.changed_by h c k (SlotGoesOn s)) s 1 p cycle
+  unfolding completions.changed_by
+  slot_binds b = record { off = b.off; none = b.none; ring = b.ring; named = b.named; unbound = b.unbound; first_lap = b.first_lap }
+
+  slot_moves : MayMove h k s 1 p cycle → MayMove h (completions.changed_by h c k (SlotGoesOn s)) s 1 p cycle
+  unfolding completions.changed_by
+  slot_moves m = record {
+    on = m.on;
+    ring = m.ring;
+    had = m.had;
+    transfer = m.transfer;
+    was_bound = m.was_bound;
+    keeps = m.keeps;
+    least = m.least;
+    most = m.most;
+    low = m.low;
+    floor = m.floor;
+    high = m.high;
+    moves = m.moves;
+  }
+
+  slot_was : (z j q : ℕ) → (completions.changed_by h c k (SlotGoesOn s)).ring_of z j ≡ Some q → (completions.changed_by h c k (SlotGoesOn s)).was_bound q ≡ true
+  unfolding completions.changed_by
+  slot_was z j q at = d.states.was_bound z j q at
+
+  place_keeps : (u v : World) → StatesMatch h (completions.changed_by h c k (SlotGoesOn s)) u → s < 256 → bindings.changed_by h c u (Places s 1 p cycle Running) ≡ Some v →
+      ChangeKeeps h (completions.changed_by h c k (SlotGoesOn s)) (completions.changed_by h c (completions.changed_by h c k (SlotGoesOn s)) (Places s 1 p cycle Running)) u v
+  place_keeps u v m low at =
+      let l : Known = completions.changed_by h c k (SlotGoesOn s) in
+      let numbered : (0 < s) × (s < 256) × (0 < 1) × (1 < 32) = (slot_above h k d c s given.good refl, low, omega arith, omega arith) in
+      elim (cases_Bool (is_off (k.endpoint_state s 1))) [
+        | inl off ↦ bind_keeps h is c l u v s 1 p cycle Running m numbered at slot_was (slot_binds (first_binds off))
+        | inr on ↦ move_keeps h is c l u v s 1 p cycle Running m numbered at (slot_moves (second_moves on))
+      ]
+
+  list_keeps : (w : World) → StatesMatch h k w → s < 256 → ListKeeps h c k w (SlotGoesOn s ∷ Places s 1 p cycle Running ∷ [])
+  list_keeps w m low =
+      let l : Known = completions.changed_by h c k (SlotGoesOn s) in
+      change_then h c k w (SlotGoesOn s) (Places s 1 p cycle Running ∷ []) (λ v at. slot_keeps h c k w m s v at)
+      (λ u at there. change_then h c l u (Places s 1 p cycle Running) [] (λ v placed. place_keeps u v there low placed)
+      (λ v placed states. nothing_keeps h c (completions.changed_by h c l (Places s 1 p cycle Running)) v states))
+
+  address_changes : (m : ℕ) → changes h.context_size k.memory m c ≡ SlotGoesOn s ∷ Places s 1 p cycle Running ∷ []
+  unfolding changes
+  address_changes m = refl
+
+  pub address_keeps : (w : World) (m : ℕ) → Stands h k w → StatesMatch h k w → s < 256 → EffectKeeps h k w m c
+  unfolding bindings.effect completions.succeeded
+  address_keeps w m stands states low x at =
+      let lies = bad_context_parts h k n (bad_command_context h k c given.good) in
+      let world_list : changes h.context_size w.memory m c ≡ SlotGoesOn s ∷ Places s 1 p cycle Running ∷ [] =
+      address_same h.context_size w.memory k.memory m s n bsr (same_context h is k w n stands lies) ∙ address_changes m in
+      subst (λ list. ChangeKeeps h k (completions.changed_by_all h c k list) w x) (sym (address_changes m))
+      (list_keeps w states low x (ap (λ list. bindings.changed_by_all h c w list) (sym world_list) ∙ at))
+
+-- the run goes on behind the success of an Address Device
+pub finish_address_runs : (h : Header) → IsHeader h → (past : List Row) (w v : World) (b : Block) → IsBlock b → w.stopped ≡ false → (run : Runs h past w) →
+    DriverKeeps h (known h (reading run.unread past)) → (u : UnderWay) → w.under_way ≡ Some u →
+    (s n : ℕ) (bsr : Bool) → command_of u.block ≡ Some (AddressDevice s bsr n) → (code b == 1) ≡ true →
+    finishes.finished h w b ≡ Some v → Runs h past (counted h v)
+finish_address_runs h is past w v b block running run d u at_u s n bsr is_u one at =
+    let k : Known = known h (reading run.unread past) in
+    finish_given_runs h is past w v b block running run d u at_u (AddressDevice s bsr n) is_u one
+    (λ given. address_keeps h is k d s n bsr given w (slot b) run.agrees.stands (states_match h is k w d (are_numbered h (reading run.unread past)) run.agrees.matches) (command_numbered u.block (AddressDevice s bsr n) is_u)) at

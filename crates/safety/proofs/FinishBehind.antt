@@ -1,0 +1,106 @@
+-- Behind the success of a command: its changes are made, the event is posted, and the command ring's floor moves on
+use Rattle.std.specs.Prelude.{◌≡◌, ◌≢◌, ℕ, Bool, true, List, option_and_then, slice_get}
+use Rattle.std.proofs.Common.{sym, ◌∙◌, ap, subst, inl, inr}
+use Rattle.std.proofs.lemmas.Bool.{cases_eq, false≢true}
+use Rattle.trb.specs.declared.block.Block.{Block}
+use Rattle.segments.specs.RingView.{floor_number, is_due}
+use Rattle.commands.specs.declared.command.Command.{Command}
+use Rattle.commands.specs.Command.{command_of}
+use Rattle.traces.specs.declared.header.Header.{Header}
+use Rattle.traces.specs.Header.{shape_of, command_id}
+use Rattle.world_state.specs.World.{World}
+use Rattle.world_state.specs.World as of_world
+use Rattle.ring_knowledge.specs.Known.{Known}
+use Rattle.ring_knowledge.specs.Rings.{command_at, next_command}
+use Rattle.safety.specs.Keeps.{IsUnfinished}
+use Rattle.safety.specs.Stands.{Stands, EventsStand}
+use Rattle.safety.specs.Matches.{state_of, RingMatches, BoundRing, EndpointRing, Matches}
+use Rattle.safety.proofs.SafeContext.{next_is}
+use Rattle.safety.proofs.LookKinds.{put_at, put_off}
+use Rattle.safety.proofs.FloorMoves.{floor_behind}
+use Rattle.safety.proofs.FinishKinds.{let_go, next_known}
+use Rattle.safety.proofs.FinishChanges.{known_changed, world_changed, ChangeKeeps}
+
+-- k and w are as before the changes, u is w with the event posted
+module _ (h : Header) (k m : Known) (w v : World) (c : ChangeKeeps h k m w v) (seen : ℕ → ℕ → Bool) (n : ℕ) where
+  abbrev later : Known
+  later = next_known h (known_changed k m) seen n
+
+  abbrev before : Known
+  before = next_known h k seen n
+
+  floors_same : floor_behind (shape_of h (command_id h)) (m.ring (command_id h)) (next_command h (known_changed k m)) ≡ floor_behind (shape_of h (command_id h)) (k.ring (command_id h)) (next_command h k)
+  floors_same =
+      ap (λ p. floor_behind (shape_of h (command_id h)) (m.ring (command_id h)) p)
+      (next_is h (known_changed k m) ∙ ap (λ x. floor_number x) c.rest.command_known ∙ sym (next_is h k))
+      ∙ ap (λ x. floor_behind (shape_of h (command_id h)) x (next_command h k)) c.rest.command_known
+
+  command_ring : later.ring (command_id h) ≡ before.ring (command_id h)
+  command_ring =
+      put_at m.ring (command_id h) _ ∙ floors_same ∙ sym (put_at k.ring (command_id h) _)
+
+  ring_same : (q : ℕ) → q ≢ command_id h → later.ring q ≡ m.ring q
+  ring_same q other = put_off m.ring (command_id h) _ q other
+
+  queue_before : (q : ℕ) → (before.ring q).queue ≡ (later.ring q).queue
+  queue_before q =
+      elim (cases_eq q (command_id h)) [
+        | inl same ↦ ap (λ p. (before.ring p).queue) same ∙ ap (λ x. x.queue) (sym command_ring) ∙ ap (λ p. (later.ring p).queue) (sym same)
+        | inr other ↦ ap (λ x. x.queue) (put_off k.ring (command_id h) _ q other) ∙ sym (c.rest.queues q) ∙ ap (λ x. x.queue) (sym (ring_same q other))
+      ]
+
+  lengths_before : (q : ℕ) → (before.ring q).lengths ≡ (later.ring q).lengths
+  lengths_before q =
+      elim (cases_eq q (command_id h)) [
+        | inl same ↦ ap (λ p. (before.ring p).lengths) same ∙ ap (λ x. x.lengths) (sym command_ring) ∙ ap (λ p. (later.ring p).lengths) (sym same)
+        | inr other ↦ ap (λ x. x.lengths) (put_off k.ring (command_id h) _ q other) ∙ sym (c.rest.lengths q) ∙ ap (λ x. x.lengths) (sym (ring_same q other))
+      ]
+
+  pub stands_changed : (u : World) → Stands h before (let_go u) → Stands h later (let_go (world_changed u v))
+  stands_changed u s = record {
+    started = s.started;
+    stopped = s.stopped;
+    registers = s.registers;
+    queues = λ q. s.queues q ∙ queue_before q;
+    lengths = λ q. s.lengths q ∙ lengths_before q;
+    dequeue = s.dequeue;
+    quiet = s.quiet;
+  }
+
+  pub events_changed : (u : World) (unread : List Block) → EventsStand h (let_go u) unread → EventsStand h (let_go (world_changed u v)) unread
+  unfolding of_world.event_at
+  events_changed u unread e = record { order = e.order; count = e.count; places = e.places; started = e.started; ring = e.ring }
+
+  command_kept : (p : ℕ) → command_at h later p ≡ command_at h before p
+  unfolding command_at
+  command_kept p = ap (λ x. option_and_then command_of (slice_get x.queue p)) command_ring
+
+  unfinished_before : (p : ℕ) (e : Command) → IsUnfinished h later p e → IsUnfinished h before p e
+  unfinished_before p e u = record {
+    due = ap (λ x. is_due (shape_of h (command_id h)) x.floor p) (sym command_ring) ∙ u.due;
+    given = ap (λ x. x.given p) (sym command_ring) ∙ u.given;
+    command = sym (command_kept p) ∙ u.command;
+  }
+
+  endpoint_ring : (u : World) (q : ℕ) → q ≢ command_id h → EndpointRing h m v q → EndpointRing h later (let_go (world_changed u v)) q
+  endpoint_ring u q other (inl bound) = inl (subst (λ x. BoundRing (shape_of h q) m.ring_of x (state_of v q) q) (sym (ring_same q other)) bound)
+  endpoint_ring u q other (inr free) = inr free
+
+  pub matches_changed : (u : World) → k.started ≡ true → state_of u (command_id h) ≡ state_of w (command_id h) → Matches h before (let_go u) → Matches h later (let_go (world_changed u v))
+  matches_changed u on same y = record {
+    slots = c.states.slots;
+    endpoints = c.states.endpoints;
+    ring_of = c.states.ring_of;
+    rings = λ q other. endpoint_ring u q other (c.states.rings q other);
+    fresh = c.states.fresh;
+    before = λ off. absurd (false≢true (sym off ∙ on));
+    command = λ started. let x = y.command on in record {
+      spot = x.spot;
+      ring = subst (λ s. RingMatches (shape_of h (command_id h)) (later.ring (command_id h)) s x.spot) (same ∙ sym c.rest.command_world)
+          (subst (λ r. RingMatches (shape_of h (command_id h)) r (state_of u (command_id h)) x.spot) (sym command_ring) x.ring);
+      under_way = (x.under_way.0 ∙ next_is h before ∙ ap (λ r. floor_number r) (sym command_ring) ∙ sym (next_is h later), x.under_way.1);
+    };
+    scribbles = c.states.scribbles;
+    contexts = λ p e f. y.contexts p e (unfinished_before p e f);
+    inside = y.inside;
+  }

@@ -1,0 +1,111 @@
+-- What the changes of a command's success keep: that states, endpoints and their rings are known as they are in the world
+use Rattle.std.specs.Prelude.{◌≡◌, ◌≢◌, ℕ, ◌<◌, true, false, [], Some, None}
+use Rattle.std.proofs.Common.{arith, refl, sym, ◌∙◌, ap, inl, inr}
+use Rattle.std.proofs.lemmas.Option.{none-some}
+use Rattle.traces.specs.declared.header.Header.{Header}
+use Rattle.traces.specs.Header.{IsHeader, command_id}
+use Rattle.world_state.specs.World.{World}
+use Rattle.ring_knowledge.specs.Known.{Known}
+use Rattle.safety.specs.Keeps.{DriverKeeps}
+use Rattle.safety.specs.Matches.{state_of, EndpointRing, Matches}
+use Rattle.safety.proofs.Headers.{transfer_not_command}
+
+-- the endpoints that have rings have numbers of slots and endpoints: 8 and 5 bits
+abbrev pub AreNumbered : Known → Type 0
+AreNumbered k = (s i r : ℕ) → k.ring_of s i ≡ Some r → (s < 256) × (i < 32)
+
+-- the parts of what is known, and of the world, that a success changes: with those of another
+abbrev pub known_changed : Known → Known → Known
+known_changed k m = record k {
+  ring = m.ring;
+  was_bound = m.was_bound;
+  slot_state = m.slot_state;
+  endpoint_state = m.endpoint_state;
+  ring_of = m.ring_of;
+  must_move = m.must_move;
+  device = m.device;
+}
+
+abbrev pub world_changed : World → World → World
+world_changed w v = record w {
+  slot_state = v.slot_state;
+  endpoint_state = v.endpoint_state;
+  ring_of = v.ring_of;
+  scribbles = v.scribbles;
+  pointer_of = v.pointer_of;
+  cycle_state = v.cycle_state;
+  is_active = v.is_active;
+  events = v.events;
+  reported = v.reported;
+}
+
+module _ (h : Header) where
+  -- what is known of states, endpoints and their rings is so in the world; each of these rings is one endpoint's alone
+  pub record StatesMatch (k : Known) (w : World) : Type 0 where
+    pub slots : (s : ℕ) → w.slot_state s ≡ k.slot_state s
+    pub endpoints : (s i : ℕ) → w.endpoint_state s i ≡ k.endpoint_state s i
+    pub ring_of : (s i : ℕ) → w.ring_of s i ≡ k.ring_of s i
+    pub rings : (r : ℕ) → r ≢ command_id h → EndpointRing h k w r
+    pub fresh : (r : ℕ) → r ≢ command_id h → k.was_bound r ≡ false → w.events r ≡ []
+    pub scribbles : (s : ℕ) → w.scribbles s ≡ true → k.device s ≢ None
+    pub apart : (s i r : ℕ) → k.ring_of s i ≡ Some r → r ≢ command_id h
+    pub one_endpoint : (s i t j r : ℕ) → k.ring_of s i ≡ Some r → k.ring_of t j ≡ Some r → (s ≡ t) × (i ≡ j)
+    pub within : (s i r : ℕ) → k.ring_of s i ≡ Some r → (0 < s) × (s < 256) × (0 < i) × (i < 32)
+
+  -- m and v are k and w, but for states and for the rings of endpoints
+  pub record LeavesRest (k m : Known) (w v : World) : Type 0 where
+    pub known : m ≡ known_changed k m
+    pub world : v ≡ world_changed w v
+    pub queues : (r : ℕ) → (m.ring r).queue ≡ (k.ring r).queue
+    pub lengths : (r : ℕ) → (m.ring r).lengths ≡ (k.ring r).lengths
+    pub command_known : m.ring (command_id h) ≡ k.ring (command_id h)
+    pub command_world : state_of v (command_id h) ≡ state_of w (command_id h)
+
+  pub record ChangeKeeps (k m : Known) (w v : World) : Type 0 where
+    pub states : StatesMatch m v
+    pub rest : LeavesRest k m w v
+
+  -- no change, and one after the other
+  pub none_keeps : (k : Known) (w : World) → StatesMatch k w → ChangeKeeps k k w w
+  none_keeps k w s = record {
+    states = s;
+    rest = record { known = refl; world = refl; queues = λ r. refl; lengths = λ r. refl; command_known = refl; command_world = refl };
+  }
+
+  pub both_keep : (k l m : Known) (w u v : World) → LeavesRest k l w u → ChangeKeeps l m u v → ChangeKeeps k m w v
+  both_keep k l m w u v one two =
+      let rest = two.rest in
+      record {
+        states = two.states;
+        rest = record {
+          known = rest.known ∙ ap (λ x. known_changed x m) one.known;
+          world = rest.world ∙ ap (λ x. world_changed x v) one.world;
+          queues = λ r. rest.queues r ∙ one.queues r;
+          lengths = λ r. rest.lengths r ∙ one.lengths r;
+          command_known = rest.command_known ∙ one.command_known;
+          command_world = rest.command_world ∙ one.command_world;
+        };
+      }
+
+  -- before the first change
+  pub states_match : IsHeader h → (k : Known) (w : World) → DriverKeeps h k → AreNumbered k → Matches h k w → StatesMatch k w
+  states_match is k w d numbered m = record {
+    slots = m.slots;
+    endpoints = m.endpoints;
+    ring_of = m.ring_of;
+    rings = m.rings;
+    fresh = m.fresh;
+    scribbles = m.scribbles;
+    apart = λ s i r at. transfer_not_command h is r (d.states.transfer s i r at);
+    one_endpoint = d.states.one_endpoint;
+    within = λ s i r at.
+        let high = numbered s i r at in (
+          some_number s (λ none. none-some r (sym (d.states.no_endpoint s i (inl none)) ∙ at)),
+          high.0,
+          some_number i (λ none. none-some r (sym (d.states.no_endpoint s i (inr none)) ∙ at)),
+          high.1,
+        );
+  }
+    where
+      some_number : (n : ℕ) → n ≢ 0 → 0 < n
+      some_number n other = omega (arith, other)

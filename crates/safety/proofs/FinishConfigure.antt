@@ -1,0 +1,158 @@
+-- The controller finishes a Configure Endpoint with success: the run goes on
+use Rattle.std.specs.Prelude.{◌≡◌, ℕ, ◌<◌, ◌≤◌, ◌==◌, ◌&&◌, ◌||◌, if◌then◌else◌, Bool, true, false, List, ◌∷◌, map, length, All, Some, None, is_some}
+use Rattle.std.proofs.Common.{arith, refl, sym, ◌∙◌, ap, subst, inl, inr, get_or}
+use Rattle.std.proofs.lemmas.Bool.{cases_Bool, and_from, and_right, cond-true, cond-false, eq-eqb, leb-true, false≢true}
+use Rattle.std.proofs.lemmas.Option.{none-some}
+use Rattle.std.proofs.lemmas.List.{length-map, get_or-map}
+use Rattle.std.proofs.lemmas.List.Elements.{All-weaker}
+use Rattle.trb.specs.declared.block.Block.{Block}
+use Rattle.trb.specs.Block.{IsBlock, code, slot}
+use Rattle.commands.specs.declared.command.Command.{Command}
+use Rattle.commands.specs.declared.command.Command.TheVariants.{ConfigureEndpoint}
+use Rattle.commands.specs.Command.{command_of}
+use Rattle.commands.specs.Changes.{Change, SlotGoesOn, Disables, changes, placed_by_context}
+use Rattle.commands.specs.States.{is_off}
+use Rattle.contexts.specs.Contexts.{added_endpoints, is_dropped, context_cycle}
+use Rattle.traces.specs.declared.header.Header.{Header}
+use Rattle.traces.specs.declared.row.Row.{Row}
+use Rattle.traces.specs.Header.{IsHeader}
+use Rattle.world_state.specs.World.{World, UnderWay}
+use Rattle.controller_model.specs.Bindings as bindings
+use Rattle.controller_model.specs.Finishes as finishes
+use Rattle.controller_model.specs.Steps.{counted}
+use Rattle.ring_knowledge.specs.Known.{Known}
+use Rattle.ring_knowledge.specs.Learned.{known}
+use Rattle.ring_knowledge.specs.Rings.{next_command}
+use Rattle.ring_knowledge.specs.Completions as completions
+use Rattle.ownership_rules.specs.Moves.{binding_in, binds, ring_bound, has_repeats}
+use Rattle.safety.specs.Keeps.{DriverKeeps, CommandKeeps}
+use Rattle.safety.specs.Placings.{StillHolds}
+use Rattle.safety.specs.Stands.{Stands}
+use Rattle.safety.specs.Invariant.{Runs, reading}
+use Rattle.safety.proofs.LookKinds.{cond_is}
+use Rattle.safety.proofs.Areas.{bad_context_parts, bad_command_context}
+use Rattle.safety.proofs.GivenCommands.{added_above, content_good, are_free}
+use Rattle.safety.proofs.Placings.{Ready, the_some, map_map, dropped, all_ready}
+use Rattle.safety.proofs.ContextWords.{same_context, added_below, configure_same}
+use Rattle.safety.proofs.EndpointsOff.{slot_above, off_none}
+use Rattle.safety.proofs.SlotChanges.{slot_keeps}
+use Rattle.safety.proofs.DisableChange.{disable_keeps}
+use Rattle.safety.proofs.PlaceEach.{WereBound, MayAdd, each_keeps}
+use Rattle.safety.proofs.NumberedChanges.{command_numbered}
+use Rattle.safety.proofs.NumberedHistories.{are_numbered}
+use Rattle.safety.proofs.FinishChanges.{StatesMatch, ChangeKeeps, states_match}
+use Rattle.safety.proofs.FinishSuccess.{EffectKeeps}
+use Rattle.safety.proofs.FinishGiven.{ListKeeps, change_then, finish_given_runs}
+
+module _ (h : Header) (is : IsHeader h) (k : Known) (d : DriverKeeps h k) (s a : ℕ) (given : CommandKeeps h k (next_command h k) (ConfigureEndpoint s false a)) where
+  abbrev c : Command
+  c = ConfigureEndpoint s false a
+
+  still : StillHolds h k c
+  still = record {
+    named = All-weaker (λ b. (is_some (ring_bound h b) ≡ true) × (b.cycle ≡ true)) (λ b. is_some (ring_bound h b) ≡ true) (λ b both. both.0) (binds h k c) given.binds;
+    repeats = given.repeats;
+    unbound = given.unbound;
+    free = are_free h k c (content_good h k c given.good);
+    moves_on = tt;
+  }
+
+  -- behind the drops
+  abbrev l : Known
+  l = dropped h is c k s a
+
+  dropped_ring : (z j : ℕ) → l.ring_of z j ≡ (if z == s && is_dropped k.memory a j then None else k.ring_of z j)
+  unfolding completions.changed_by completions.disabled
+  dropped_ring z j = refl
+
+  dropped_was : l.was_bound ≡ k.was_bound
+  unfolding completions.changed_by completions.disabled
+  dropped_was = refl
+
+  were_bound : WereBound l
+  were_bound z j q at =
+      elim (cond_is (z == s && is_dropped k.memory a j) None (k.ring_of z j) (Some q) (sym (dropped_ring z j) ∙ at)) [
+        | inl gone ↦ absurd (none-some q gone.1)
+        | inr had ↦ ap (λ (f : ℕ → Bool). f q) dropped_was ∙ d.states.was_bound z j q had.1
+      ]
+
+  -- what is added was dropped or off, so it has no ring
+  none_left : (i : ℕ) → (is_off (k.endpoint_state s i) || is_dropped k.memory a i) ≡ true → l.ring_of s i ≡ None
+  none_left i free =
+      elim (cases_Bool (is_dropped k.memory a i)) [
+        | inl gone ↦ dropped_ring s i ∙ cond-true (s == s && is_dropped k.memory a i) None (k.ring_of s i) (and_from (s == s) (is_dropped k.memory a i) (eq-eqb s s refl) gone)
+        | inr stays ↦
+            dropped_ring s i ∙ cond-false (s == s && is_dropped k.memory a i) None (k.ring_of s i) (and_right (s == s) (is_dropped k.memory a i) stays)
+            ∙ off_none h k d s i (first (is_off (k.endpoint_state s i)) (is_dropped k.memory a i) stays free)
+      ]
+    where
+      first : (x y : Bool) → y ≡ false → (x || y) ≡ true → x ≡ true
+      first true y none some = refl
+      first false y none some = absurd (false≢true (sym none ∙ some))
+
+  -- each is bound with cycle state 1
+  first_lap : (x e : ℕ) → x < length (added_endpoints k.memory a) → context_cycle h.context_size k.memory a (get_or (added_endpoints k.memory a) x e) ≡ true
+  unfolding binds binding_in
+  first_lap x e inside =
+      let added : List ℕ = added_endpoints k.memory a in
+      let mapped : x < length (map (binding_in h k a) added) = omega (arith, length-map added (binding_in h k a)) in
+      let at = get_or-map (binding_in h k a) added x e (binding_in h k a e) inside in
+      ap (λ b. b.cycle) (sym at) ∙ (given.binds x (binding_in h k a e) mapped).1
+
+  ready_adds : (i : ℕ) → Ready h is l k.memory s a i → l.ring_of s i ≡ None → context_cycle h.context_size k.memory a i ≡ true → MayAdd h l k.memory s a i
+  ready_adds i ready none lap =
+      let some = the_some h is _ ready.named in
+      record { off = ready.off; none = none; ring = some.0; named = some.1; unbound = ready.unbound some.0 some.1; first_lap = lap }
+
+  may_add : All (MayAdd h l k.memory s a) (added_endpoints k.memory a)
+  may_add x e inside =
+      let i : ℕ = get_or (added_endpoints k.memory a) x e in
+      ready_adds i (all_ready h is k s a still x e inside) (none_left i (still.free x e inside)) (first_lap x e inside)
+
+  numbered : All (λ i. (0 < i) × (i < 32)) (added_endpoints k.memory a)
+  numbered x e inside =
+      let i : ℕ = get_or (added_endpoints k.memory a) x e in
+      let least : 2 ≤ i = leb-true 2 i (added_above k.memory a x e inside) in
+      (omega arith, added_below k.memory a x e inside)
+
+  apart : has_repeats (map (λ i. ring_bound h (binding_in h k a i)) (added_endpoints k.memory a)) ≡ false
+  unfolding binds
+  apart = ap has_repeats (sym (map_map h is (ring_bound h) (binding_in h k a) (added_endpoints k.memory a))) ∙ given.repeats
+
+  each : (w : World) → StatesMatch h l w → s < 256 → ListKeeps h c l w (map (placed_by_context h.context_size k.memory s a) (added_endpoints k.memory a))
+  unfolding ring_bound binding_in
+  each w m low = each_keeps h k.memory s a is c (slot_above h k d c s given.good refl) low (added_endpoints k.memory a) l w m were_bound may_add numbered apart
+
+  abbrev all : List Change
+  all = SlotGoesOn s ∷ Disables s (is_dropped k.memory a) ∷ map (placed_by_context h.context_size k.memory s a) (added_endpoints k.memory a)
+
+  list_keeps : (w : World) → StatesMatch h k w → s < 256 → ListKeeps h c k w all
+  list_keeps w m low =
+      let n : Known = completions.changed_by h c k (SlotGoesOn s) in
+      let adds : List Change = map (placed_by_context h.context_size k.memory s a) (added_endpoints k.memory a) in
+      change_then h c k w (SlotGoesOn s) (Disables s (is_dropped k.memory a) ∷ adds) (λ v at. slot_keeps h c k w m s v at)
+      (λ u at there. change_then h c n u (Disables s (is_dropped k.memory a)) adds (λ v drops. disable_keeps h c n u there s (is_dropped k.memory a) v drops)
+      (λ v drops states. each v states low))
+
+  configure_changes : (n : ℕ) → changes h.context_size k.memory n c ≡ all
+  unfolding changes
+  configure_changes n = refl
+
+  pub configure_keeps : (w : World) (n : ℕ) → Stands h k w → StatesMatch h k w → s < 256 → EffectKeeps h k w n c
+  unfolding bindings.effect completions.succeeded
+  configure_keeps w n stands states low x at =
+      let lies = bad_context_parts h k a (bad_command_context h k c given.good) in
+      let world_list : changes h.context_size w.memory n c ≡ all = configure_same h.context_size w.memory k.memory n s a (same_context h is k w a stands lies) ∙ configure_changes n in
+      subst (λ list. ChangeKeeps h k (completions.changed_by_all h c k list) w x) (sym (configure_changes n))
+      (list_keeps w states low x (ap (λ list. bindings.changed_by_all h c w list) (sym world_list) ∙ at))
+
+-- the run goes on behind the success of a Configure Endpoint; of one that deconfigures the law of commands that place nothing says it
+pub finish_configure_runs : (h : Header) → IsHeader h → (past : List Row) (w v : World) (b : Block) → IsBlock b → w.stopped ≡ false → (run : Runs h past w) →
+    DriverKeeps h (known h (reading run.unread past)) → (u : UnderWay) → w.under_way ≡ Some u →
+    (s a : ℕ) → command_of u.block ≡ Some (ConfigureEndpoint s false a) → (code b == 1) ≡ true →
+    finishes.finished h w b ≡ Some v → Runs h past (counted h v)
+finish_configure_runs h is past w v b block running run d u at_u s a is_u one at =
+    let k : Known = known h (reading run.unread past) in
+    finish_given_runs h is past w v b block running run d u at_u (ConfigureEndpoint s false a) is_u one
+    (λ given. configure_keeps h is k d s a given w (slot b) run.agrees.stands (states_match h is k w d (are_numbered h (reading run.unread past)) run.agrees.matches)
+    (command_numbered u.block (ConfigureEndpoint s false a) is_u)) at

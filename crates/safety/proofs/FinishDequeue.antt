@@ -1,0 +1,88 @@
+-- The controller finishes a Set TR Dequeue with success: the run goes on
+use Rattle.std.specs.Prelude.{◌≡◌, ℕ, ◌==◌, not, Bool, true, false, List, [], Option, Some, None}
+use Rattle.std.proofs.Common.{arith, refl, sym}
+use Rattle.std.proofs.lemmas.Bool.{or_parts, not-false, false≢true}
+use Rattle.trb.specs.declared.block.Block.{Block}
+use Rattle.trb.specs.Block.{IsBlock, code, slot}
+use Rattle.segments.specs.RingView.{declared}
+use Rattle.segments.specs.Ceiling.{ceiling}
+use Rattle.segments.specs.Moves.{is_move}
+use Rattle.segments.proofs.Named.{ceiling_within}
+use Rattle.commands.specs.declared.command.Command.{Command}
+use Rattle.commands.specs.declared.command.Command.TheVariants.{SetTrDequeue}
+use Rattle.commands.specs.declared.state.EndpointState.{EndpointState}
+use Rattle.commands.specs.declared.state.EndpointState.TheVariants.{Disabled as Off, Stopped}
+use Rattle.commands.specs.Command.{command_of}
+use Rattle.commands.specs.Changes.{Places, changes}
+use Rattle.commands.specs.States.{is_off, is_at_rest}
+use Rattle.traces.specs.declared.header.Header.{Header}
+use Rattle.traces.specs.declared.row.Row.{Row}
+use Rattle.traces.specs.Header.{IsHeader, shape_of}
+use Rattle.world_state.specs.World.{World, UnderWay}
+use Rattle.controller_model.specs.Bindings as bindings
+use Rattle.controller_model.specs.Finishes as finishes
+use Rattle.controller_model.specs.Steps.{counted}
+use Rattle.ring_knowledge.specs.Known.{Known}
+use Rattle.ring_knowledge.specs.Learned.{known}
+use Rattle.ring_knowledge.specs.Rings.{next_command}
+use Rattle.ring_knowledge.specs.Completions as completions
+use Rattle.ownership_rules.specs.Moves.{is_bad_dequeue, is_bad_move}
+use Rattle.safety.specs.Keeps.{DriverKeeps, CommandKeeps}
+use Rattle.safety.specs.Invariant.{Runs, reading}
+use Rattle.safety.proofs.Headers.{ring_shape, transfer_driver}
+use Rattle.safety.proofs.PlaceKeeps.{MayMove, move_keeps}
+use Rattle.safety.proofs.FinishChanges.{StatesMatch, states_match}
+use Rattle.safety.proofs.NumberedHistories.{are_numbered}
+use Rattle.safety.proofs.FinishSuccess.{EffectKeeps}
+use Rattle.safety.proofs.FinishGiven.{nothing_keeps, change_then, finish_given_runs}
+
+rest_on : (state : EndpointState) → is_at_rest state ≡ true → is_off state ≡ false
+rest_on Off rest = absurd (false≢true rest)
+rest_on _ rest = refl
+
+module _ (h : Header) (is : IsHeader h) (k : Known) (d : DriverKeeps h k) (s i p : ℕ) (cycle : Bool) where
+  moves_of : (o : Option ℕ) → k.ring_of s i ≡ o → is_bad_dequeue h k o p cycle ≡ false → is_off (k.endpoint_state s i) ≡ false → MayMove h k s i p cycle
+  unfolding is_bad_dequeue
+  moves_of None had good on = absurd (false≢true (sym good))
+  moves_of (Some r) had good on =
+      let transfer = d.states.transfer s i r had in
+      let driver = transfer_driver h r transfer in
+      let within = ceiling_within (shape_of h r) (ring_shape h is r driver).is k.memory (k.ring r) (d.rings r driver) in
+      record {
+        on = on;
+        ring = r;
+        had = had;
+        transfer = transfer;
+        was_bound = d.states.was_bound s i r had;
+        keeps = d.rings r driver;
+        least = ceiling (shape_of h r) (k.ring r);
+        most = declared (k.ring r);
+        low = omega arith;
+        floor = within.0;
+        high = omega arith;
+        moves = not-false (is_move (shape_of h r) (k.ring r) p cycle (ceiling (shape_of h r) (k.ring r)) (declared (k.ring r))) good;
+      }
+
+  may_move : is_bad_move h k (SetTrDequeue s i p cycle) ≡ false → MayMove h k s i p cycle
+  unfolding is_bad_move
+  may_move good =
+      let parts = or_parts (not (is_at_rest (k.endpoint_state s i))) (is_bad_dequeue h k (k.ring_of s i) p cycle) good in
+      moves_of (k.ring_of s i) refl parts.1 (rest_on (k.endpoint_state s i) (not-false (is_at_rest (k.endpoint_state s i)) parts.0))
+
+  pub dequeue_keeps : (w : World) (n : ℕ) → StatesMatch h k w → CommandKeeps h k (next_command h k) (SetTrDequeue s i p cycle) → EffectKeeps h k w n (SetTrDequeue s i p cycle)
+  unfolding bindings.effect completions.succeeded changes
+  dequeue_keeps w n m given =
+      let c : Command = SetTrDequeue s i p cycle in
+      let may : MayMove h k s i p cycle = may_move given.moves_on in
+      change_then h c k w (Places s i p cycle Stopped) [] (λ v at. move_keeps h is c k w v s i p cycle Stopped m (m.within s i may.ring may.had) at may)
+      (λ v at states. nothing_keeps h c (completions.changed_by h c k (Places s i p cycle Stopped)) v states)
+
+-- the run goes on behind the success of a Set TR Dequeue
+pub finish_dequeue_runs : (h : Header) → IsHeader h → (past : List Row) (w v : World) (b : Block) → IsBlock b → w.stopped ≡ false → (run : Runs h past w) →
+    DriverKeeps h (known h (reading run.unread past)) → (u : UnderWay) → w.under_way ≡ Some u →
+    (s i p : ℕ) (cycle : Bool) → command_of u.block ≡ Some (SetTrDequeue s i p cycle) → (code b == 1) ≡ true →
+    finishes.finished h w b ≡ Some v → Runs h past (counted h v)
+finish_dequeue_runs h is past w v b block running run d u at_u s i p cycle is_u one at =
+    let k : Known = known h (reading run.unread past) in
+    finish_given_runs h is past w v b block running run d u at_u (SetTrDequeue s i p cycle) is_u one
+    (dequeue_keeps h is k d s i p cycle w (slot b) (states_match h is k w d (are_numbered h (reading run.unread past)) run.agrees.matches)) at

@@ -1,0 +1,65 @@
+-- The command that succeeds is one that was given: what was tested of it then holds still
+use Rattle.std.specs.Prelude.{◌≡◌, ◌==◌, true, false, List, [], ◌∷◌, Some}
+use Rattle.std.proofs.Common.{sym, ◌∙◌, ap, subst}
+use Rattle.std.proofs.lemmas.Option.{same_Some}
+use Rattle.trb.specs.declared.block.Block.{Block}
+use Rattle.trb.specs.Block.{IsBlock, code, slot}
+use Rattle.commands.specs.declared.command.Command.{Command}
+use Rattle.commands.specs.Command.{command_of}
+use Rattle.commands.specs.Changes.{Change}
+use Rattle.traces.specs.declared.header.Header.{Header}
+use Rattle.traces.specs.declared.row.Row.{Row}
+use Rattle.traces.specs.Header.{IsHeader}
+use Rattle.world_state.specs.World.{World, UnderWay}
+use Rattle.controller_model.specs.Bindings as bindings
+use Rattle.controller_model.specs.Finishes as finishes
+use Rattle.controller_model.specs.Steps.{counted}
+use Rattle.ring_knowledge.specs.Known.{Known}
+use Rattle.ring_knowledge.specs.Learned.{known}
+use Rattle.ring_knowledge.specs.Rings.{next_command}
+use Rattle.ring_knowledge.specs.Completions as completions
+use Rattle.safety.specs.Keeps.{DriverKeeps, CommandKeeps}
+use Rattle.safety.specs.Invariant.{Runs, reading}
+use Rattle.safety.proofs.FinishKinds.{finish_is}
+use Rattle.safety.proofs.FinishFails.{floor, of_block, here_is}
+use Rattle.safety.proofs.FinishChanges.{StatesMatch, ChangeKeeps, none_keeps, both_keep}
+use Rattle.safety.proofs.FinishSuccess.{EffectKeeps, finish_success_runs}
+use Rattle.safety.proofs.FinishSlots.{some_then}
+
+-- ---- changes one after the other
+
+-- these changes keep that states agree
+abbrev pub ListKeeps : Header → Command → Known → World → List Change → Type 0
+ListKeeps h c k w list = (x : World) → bindings.changed_by_all h c w list ≡ Some x → ChangeKeeps h k (completions.changed_by_all h c k list) w x
+
+pub nothing_keeps : (h : Header) (c : Command) (k : Known) (w : World) → StatesMatch h k w → ListKeeps h c k w []
+unfolding bindings.changed_by_all completions.changed_by_all
+nothing_keeps h c k w m x at = subst (λ v. ChangeKeeps h k k w v) (same_Some w x at) (none_keeps h k w m)
+
+pub change_then : (h : Header) (c : Command) (k : Known) (w : World) (change : Change) (rest : List Change) →
+    ((v : World) → bindings.changed_by h c w change ≡ Some v → ChangeKeeps h k (completions.changed_by h c k change) w v) →
+    ((v : World) → bindings.changed_by h c w change ≡ Some v → StatesMatch h (completions.changed_by h c k change) v → ListKeeps h c (completions.changed_by h c k change) v rest) →
+    ListKeeps h c k w (change ∷ rest)
+unfolding bindings.changed_by_all completions.changed_by_all
+change_then h c k w change rest first later x at =
+    let l : Known = completions.changed_by h c k change in
+    let v = some_then (λ y. bindings.changed_by_all h c y rest) (bindings.changed_by h c w change) x at in
+    let one : ChangeKeeps h k l w v.0 = first v.0 v.1 in
+    both_keep h k l (completions.changed_by_all h c l rest) w v.0 x one.rest (later v.0 v.1 one.states x v.2)
+
+-- ---- the command under way
+
+-- the run goes on behind the success of a command, where what was tested of it makes its changes keep that states agree
+pub finish_given_runs : (h : Header) → IsHeader h → (past : List Row) (w v : World) (b : Block) → IsBlock b → w.stopped ≡ false → (run : Runs h past w) →
+    DriverKeeps h (known h (reading run.unread past)) → (u : UnderWay) → w.under_way ≡ Some u → (e : Command) → command_of u.block ≡ Some e → (code b == 1) ≡ true →
+    (CommandKeeps h (known h (reading run.unread past)) (next_command h (known h (reading run.unread past))) e → EffectKeeps h (known h (reading run.unread past)) w (slot b) e) →
+    finishes.finished h w b ≡ Some v → Runs h past (counted h v)
+finish_given_runs h is past w v b block running run d u at_u e is_u one effect at =
+    let k : Known = known h (reading run.unread past) in
+    let f = finish_is h w v b at in
+    let same : f.taken ≡ u = same_Some f.taken u (sym f.under_way ∙ at_u) in
+    let is_e = sym (of_block h is k run.unread w v b block running d run.agrees f) ∙ ap (λ (x : UnderWay). command_of x.block) same ∙ is_u in
+    let here = floor h is k run.unread w v b block running d run.agrees f in
+    let keeps : CommandKeeps h k (next_command h k) e =
+    d.unfinished (next_command h k) e (record { due = here.due; given = here.given; command = here_is h is k run.unread w v b block running d run.agrees f e is_e }) in
+    finish_success_runs h is past w v b block running run d u at_u e is_u one (effect keeps) at

@@ -1,0 +1,61 @@
+-- However the controller finishes the command under way, the run goes on
+use Rattle.std.specs.Prelude.{◌≡◌, ◌==◌, true, false, List, Option, None, Some, option_map}
+use Rattle.std.proofs.Common.{refl, sym, ◌∙◌, ap, inl, inr}
+use Rattle.std.proofs.lemmas.Bool.{cases_Bool, cond-true}
+use Rattle.std.proofs.lemmas.Option.{none-some}
+use Rattle.trb.specs.declared.block.Block.{Block}
+use Rattle.trb.specs.Block.{IsBlock, code, slot}
+use Rattle.commands.specs.declared.command.Command.{Command}
+use Rattle.commands.specs.declared.command.Command.TheVariants.{NoOp, EnableSlot, DisableSlot, AddressDevice, ConfigureEndpoint, EvaluateContext, ResetEndpoint, StopEndpoint, SetTrDequeue, ResetDevice}
+use Rattle.commands.specs.Command.{command_of}
+use Rattle.traces.specs.declared.header.Header.{Header}
+use Rattle.traces.specs.declared.row.Row.{Row}
+use Rattle.traces.specs.Header.{IsHeader}
+use Rattle.world_state.specs.World.{World, UnderWay}
+use Rattle.controller_model.specs.Finishes as finishes
+use Rattle.controller_model.specs.Steps.{counted}
+use Rattle.ring_knowledge.specs.Learned.{known}
+use Rattle.safety.specs.Keeps.{DriverKeeps}
+use Rattle.safety.specs.Invariant.{Runs, reading}
+use Rattle.safety.proofs.FinishKinds.{IsFinish, finish_is}
+use Rattle.safety.proofs.FinishFails.{finish_failure_runs}
+use Rattle.safety.proofs.FinishSlots.{finish_slots_runs}
+use Rattle.safety.proofs.FinishDequeue.{finish_dequeue_runs}
+use Rattle.safety.proofs.FinishAddress.{finish_address_runs}
+use Rattle.safety.proofs.FinishConfigure.{finish_configure_runs}
+
+-- a block that is no command of the profile never succeeds
+no_success : (h : Header) (w v : World) (b : Block) (u : UnderWay) → command_of u.block ≡ None → (code b == 1) ≡ true → finishes.ended_with h w b u ≡ Some v → ⊥
+unfolding finishes.ended_with finishes.succeeded
+no_success h w v b u none one at =
+    none-some v (sym (ap (λ o. option_map (λ x. finishes.ended h x b) (finishes.succeeded h w (slot b) o)) none) ∙ sym (cond-true (code b == 1) _ _ one) ∙ at)
+
+module _ (h : Header) (is : IsHeader h) (past : List Row) (w v : World) (b : Block) (block : IsBlock b) (running : w.stopped ≡ false) (run : Runs h past w)
+    (d : DriverKeeps h (known h (reading run.unread past))) (one : (code b == 1) ≡ true) (at : finishes.finished h w b ≡ Some v) where
+  success_runs : (u : UnderWay) → w.under_way ≡ Some u → (e : Command) → command_of u.block ≡ Some e → Runs h past (counted h v)
+  success_runs u at_u NoOp is_u = finish_slots_runs h is past w v b block running run d u at_u NoOp is_u tt one at
+  success_runs u at_u EnableSlot is_u = finish_slots_runs h is past w v b block running run d u at_u EnableSlot is_u tt one at
+  success_runs u at_u (DisableSlot s) is_u = finish_slots_runs h is past w v b block running run d u at_u (DisableSlot s) is_u tt one at
+  success_runs u at_u (AddressDevice s bsr n) is_u = finish_address_runs h is past w v b block running run d u at_u s n bsr is_u one at
+  success_runs u at_u (ConfigureEndpoint s false n) is_u = finish_configure_runs h is past w v b block running run d u at_u s n is_u one at
+  success_runs u at_u (ConfigureEndpoint s true n) is_u = finish_slots_runs h is past w v b block running run d u at_u (ConfigureEndpoint s true n) is_u tt one at
+  success_runs u at_u (EvaluateContext s n) is_u = finish_slots_runs h is past w v b block running run d u at_u (EvaluateContext s n) is_u tt one at
+  success_runs u at_u (ResetEndpoint s i) is_u = finish_slots_runs h is past w v b block running run d u at_u (ResetEndpoint s i) is_u tt one at
+  success_runs u at_u (StopEndpoint s i) is_u = finish_slots_runs h is past w v b block running run d u at_u (StopEndpoint s i) is_u tt one at
+  success_runs u at_u (SetTrDequeue s i p cycle) is_u = finish_dequeue_runs h is past w v b block running run d u at_u s i p cycle is_u one at
+  success_runs u at_u (ResetDevice s) is_u = finish_slots_runs h is past w v b block running run d u at_u (ResetDevice s) is_u tt one at
+
+  taken_runs : (f : IsFinish h w v b) (o : Option Command) → command_of f.taken.block ≡ o → Runs h past (counted h v)
+  taken_runs f None none = absurd (no_success h w v b f.taken none one f.ends)
+  taken_runs f (Some e) is_e = success_runs f.taken f.under_way e is_e
+
+  any_success_runs : Runs h past (counted h v)
+  any_success_runs = let f = finish_is h w v b at in taken_runs f (command_of f.taken.block) refl
+
+pub finish_runs : (h : Header) → IsHeader h → (past : List Row) (w v : World) (b : Block) → IsBlock b → w.stopped ≡ false → (run : Runs h past w) →
+    DriverKeeps h (known h (reading run.unread past)) → finishes.finished h w b ≡ Some v → Runs h past (counted h v)
+finish_runs h is past w v b block running run d at =
+    elim (cases_Bool (code b == 1)) [
+      | inl one ↦ any_success_runs h is past w v b block running run d one at
+      | inr fails ↦ finish_failure_runs h is past w v b block running run d fails at
+    ]

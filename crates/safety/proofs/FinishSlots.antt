@@ -1,0 +1,110 @@
+-- The controller finishes with success a command that places no endpoint on a ring: the run goes on
+use Rattle.std.specs.Prelude.{◌≡◌, ℕ, ◌==◌, true, false, List, [], ◌∷◌, Option, Some, None, option_and_then}
+use Rattle.std.proofs.Common.{refl, ◌∙◌, ap, subst}
+use Rattle.std.proofs.lemmas.Option.{none-some, same_Some}
+use Rattle.trb.specs.declared.block.Block.{Block}
+use Rattle.trb.specs.Block.{IsBlock, code, slot}
+use Rattle.commands.specs.declared.command.Command.{Command}
+use Rattle.commands.specs.declared.command.Command.TheVariants.{NoOp, EnableSlot, DisableSlot, AddressDevice, ConfigureEndpoint, EvaluateContext, ResetEndpoint, StopEndpoint, SetTrDequeue, ResetDevice}
+use Rattle.commands.specs.Command.{command_of}
+use Rattle.commands.specs.Changes.{Change, SlotGoesOn, DeviceLeft, Disables, Places, Stops, Resets, changes}
+use Rattle.contexts.specs.declared.size.ContextSize.{ContextSize}
+use Rattle.traces.specs.declared.header.Header.{Header}
+use Rattle.traces.specs.declared.row.Row.{Row}
+use Rattle.traces.specs.Header.{IsHeader}
+use Rattle.world_state.specs.World.{World, UnderWay}
+use Rattle.controller_model.specs.Bindings as bindings
+use Rattle.controller_model.specs.Finishes as finishes
+use Rattle.controller_model.specs.Steps.{counted}
+use Rattle.ring_knowledge.specs.Known.{Known}
+use Rattle.ring_knowledge.specs.Learned.{known}
+use Rattle.ring_knowledge.specs.Completions as completions
+use Rattle.safety.specs.Keeps.{DriverKeeps}
+use Rattle.safety.specs.Invariant.{Runs, reading}
+use Rattle.safety.proofs.FinishChanges.{StatesMatch, ChangeKeeps, none_keeps, both_keep, states_match}
+use Rattle.safety.proofs.FinishSuccess.{EffectKeeps, finish_success_runs}
+use Rattle.safety.proofs.SlotChanges.{slot_keeps, device_keeps, reset_keeps}
+use Rattle.safety.proofs.StopChange.{stop_keeps}
+use Rattle.safety.proofs.DisableChange.{disable_keeps}
+use Rattle.safety.proofs.NumberedHistories.{are_numbered}
+
+-- ---- changes that place nothing
+
+abbrev pub IsNoPlacing : Change → Type 0
+IsNoPlacing (Places s i p cycle state) = ⊥
+IsNoPlacing _ = Unit {0}
+
+abbrev pub AreNoPlacings : List Change → Type 0
+AreNoPlacings [] = Unit {0}
+AreNoPlacings (change ∷ rest) = IsNoPlacing change × AreNoPlacings rest
+
+pub some_then : {A B : Type 0} (f : A → Option B) (o : Option A) (y : B) → option_and_then f o ≡ Some y → (x : A) × (o ≡ Some x) × (f x ≡ Some y)
+some_then f None y at = absurd (none-some y at)
+some_then f (Some x) y at = (x, refl, at)
+
+module _ (h : Header) (c : Command) where
+  pub change_keeps : (change : Change) → IsNoPlacing change → (k : Known) (w v : World) → StatesMatch h k w → bindings.changed_by h c w change ≡ Some v → ChangeKeeps h k (completions.changed_by h c k change) w v
+  change_keeps (SlotGoesOn s) none k w v m at = slot_keeps h c k w m s v at
+  change_keeps (DeviceLeft s) none k w v m at = device_keeps h c k w m s v at
+  change_keeps (Disables s which) none k w v m at = disable_keeps h c k w m s which v at
+  change_keeps (Places s i p cycle state) none k w v m at = absurd none
+  change_keeps (Stops s i) none k w v m at = stop_keeps h c k w m s i v at
+  change_keeps (Resets s i) none k w v m at = reset_keeps h c k w m s i v at
+
+  pub changes_keep : (l : List Change) → AreNoPlacings l → (k : Known) (w v : World) → StatesMatch h k w → bindings.changed_by_all h c w l ≡ Some v → ChangeKeeps h k (completions.changed_by_all h c k l) w v
+  unfolding bindings.changed_by_all completions.changed_by_all
+  changes_keep [] none k w v m at = subst (λ x. ChangeKeeps h k k w x) (same_Some w v at) (none_keeps h k w m)
+  changes_keep (change ∷ rest) none k w v m at =
+      let u = some_then (λ x. bindings.changed_by_all h c x rest) (bindings.changed_by h c w change) v at in
+      let one = change_keeps change none.0 k w u.0 m u.1 in
+      both_keep h k (completions.changed_by h c k change) (completions.changed_by_all h c (completions.changed_by h c k change) rest) w u.0 v one.rest
+      (changes_keep rest none.1 (completions.changed_by h c k change) u.0 v one.states u.2)
+
+-- ---- commands whose success places nothing
+
+abbrev pub PlacesNone : Command → Type 0
+PlacesNone (AddressDevice s bsr n) = ⊥
+PlacesNone (ConfigureEndpoint s false n) = ⊥
+PlacesNone (SetTrDequeue s i p cycle) = ⊥
+PlacesNone _ = Unit {0}
+
+no_placings : (size : ContextSize) (memory : ℕ → ℕ) (n : ℕ) (e : Command) → PlacesNone e → AreNoPlacings (changes size memory n e)
+unfolding changes
+no_placings size memory n NoOp none = tt
+no_placings size memory n EnableSlot none = (tt, tt)
+no_placings size memory n (DisableSlot s) none = (tt, (tt, (tt, tt)))
+no_placings size memory n (ConfigureEndpoint s true c) none = (tt, (tt, tt))
+no_placings size memory n (EvaluateContext s c) none = tt
+no_placings size memory n (ResetEndpoint s i) none = (tt, tt)
+no_placings size memory n (StopEndpoint s i) none = (tt, tt)
+no_placings size memory n (ResetDevice s) none = (tt, (tt, tt))
+no_placings size memory n _ none = absurd none
+
+-- it reads no memory
+same_changes : (size : ContextSize) (f g : ℕ → ℕ) (n : ℕ) (e : Command) → PlacesNone e → changes size f n e ≡ changes size g n e
+unfolding changes
+same_changes size f g n NoOp none = refl
+same_changes size f g n EnableSlot none = refl
+same_changes size f g n (DisableSlot s) none = refl
+same_changes size f g n (ConfigureEndpoint s true c) none = refl
+same_changes size f g n (EvaluateContext s c) none = refl
+same_changes size f g n (ResetEndpoint s i) none = refl
+same_changes size f g n (StopEndpoint s i) none = refl
+same_changes size f g n (ResetDevice s) none = refl
+same_changes size f g n _ none = absurd none
+
+effect_keeps : (h : Header) (k : Known) (w : World) (n : ℕ) (e : Command) → PlacesNone e → StatesMatch h k w → EffectKeeps h k w n e
+unfolding bindings.effect completions.succeeded
+effect_keeps h k w n e none m x at =
+    changes_keep h e (changes h.context_size k.memory n e) (no_placings h.context_size k.memory n e none) k w x m
+    (ap (λ l. bindings.changed_by_all h e w l) (same_changes h.context_size k.memory w.memory n e none) ∙ at)
+
+-- the run goes on behind the success of such a command: No Op, Enable Slot, Disable Slot, Evaluate Context, Reset Endpoint, Stop
+-- Endpoint, Reset Device, and a Configure Endpoint that deconfigures
+pub finish_slots_runs : (h : Header) → IsHeader h → (past : List Row) (w v : World) (b : Block) → IsBlock b → w.stopped ≡ false → (run : Runs h past w) →
+    DriverKeeps h (known h (reading run.unread past)) → (u : UnderWay) → w.under_way ≡ Some u → (e : Command) → command_of u.block ≡ Some e → PlacesNone e → (code b == 1) ≡ true →
+    finishes.finished h w b ≡ Some v → Runs h past (counted h v)
+finish_slots_runs h is past w v b block running run d u at_u e is_u none one at =
+    let k : Known = known h (reading run.unread past) in
+    let states = states_match h is k w d (are_numbered h (reading run.unread past)) run.agrees.matches in
+    finish_success_runs h is past w v b block running run d u at_u e is_u one (effect_keeps h k w (slot b) e none states) at

@@ -1,0 +1,196 @@
+-- The controller finishes the command under way with success: where its changes keep that states agree, the run goes on
+use Rattle.std.specs.Prelude.{◌≡◌, ℕ, ◌+◌, ◌<◌, ◌⊎◌, ◌==◌, ◌&&◌, ◌||◌, Bool, true, false, not, List, [], ◌∷◌, ◌++◌, Option, Some, None, is_some, option_map, unwrap_or}
+use Rattle.std.proofs.Common.{arith, refl, sym, ◌∙◌, ap, subst, inl, inr}
+use Rattle.std.proofs.lemmas.Bool.{cases_Bool, and_left, or_left, or_right, or_parts, cond-true, not-false}
+use Rattle.std.proofs.lemmas.Option.{none-some, same_Some}
+use Rattle.trb.specs.declared.block.Block.{Block}
+use Rattle.trb.specs.Block.{IsBlock, code, kind, slot}
+use Rattle.trb.specs.Kind.{is_transfer_event, is_command_completion}
+use Rattle.segments.specs.RingView.{Reaches, floor_number}
+use Rattle.segments.specs.Spots.{after}
+use Rattle.segments.specs.Ceiling.{ceiling}
+use Rattle.commands.specs.declared.command.Command.{Command}
+use Rattle.commands.specs.declared.command.Command.TheVariants.{StopEndpoint}
+use Rattle.commands.specs.declared.state.EndpointState.{EndpointState}
+use Rattle.commands.specs.Command.{command_of, is_stop_of, named_slot, named_endpoint, named_context}
+use Rattle.commands.specs.States.{can_succeed, slot_success, endpoint_success, slot_meant, endpoint_meant, is_slot_enabled}
+use Rattle.traces.specs.declared.header.Header.{Header}
+use Rattle.traces.specs.declared.row.Row.{Row}
+use Rattle.traces.specs.declared.row.Row.TheVariants.{Read}
+use Rattle.traces.specs.declared.register.Register.TheVariants.{Config}
+use Rattle.traces.specs.Header.{IsHeader, shape_of, command_id}
+use Rattle.traces.specs.Register.{register_or_zero}
+use Rattle.world_state.specs.World.{World, UnderWay}
+use Rattle.world_state.specs.World as of_world
+use Rattle.controller_model.specs.Posts.{posted}
+use Rattle.controller_model.specs.Bindings as bindings
+use Rattle.controller_model.specs.Finishes as finishes
+use Rattle.controller_model.specs.Steps.{counted}
+use Rattle.ring_knowledge.specs.Known.{Known}
+use Rattle.ring_knowledge.specs.Learned.{event_read, learned, known}
+use Rattle.ring_knowledge.specs.Rings.{command_at, next_command, on_ring}
+use Rattle.ring_knowledge.specs.Completions as completions
+use Rattle.ownership_rules.specs.Events.{is_in_profile, can_finish, was_stop_seen}
+use Rattle.safety.specs.Keeps.{DriverKeeps}
+use Rattle.safety.specs.Matches.{state_of, UnderWayMatches, Agrees}
+use Rattle.safety.specs.Invariant.{Runs, reading}
+use Rattle.safety.proofs.SafeContext.{next_is}
+use Rattle.safety.proofs.Counted.{agrees_counted}
+use Rattle.safety.proofs.WithReads.{with_reads}
+use Rattle.safety.proofs.Posted.{post_keeps}
+use Rattle.safety.proofs.EventRead.{learned_read, event_clean, clean_more, known_more, blocks_more}
+use Rattle.safety.proofs.ReportSuccess.{ReportKeeps}
+use Rattle.safety.proofs.LookKinds.{cond_is}
+use Rattle.safety.proofs.FinishKinds.{IsFinish, finish_is, completion_kind, let_go, seen_after, next_known, stop_ended_is, reached_is, stopping_of, put_false, none_waits, none_after}
+use Rattle.safety.proofs.FinishNext.{stands_next, events_next, matches_next}
+use Rattle.safety.proofs.FinishFails.{no_transfer, posted_under_way, taken_now, can_end, completion_possible, floor, of_block, here_is, taken_is, answers_is}
+use Rattle.safety.proofs.FinishChanges.{known_changed, world_changed, LeavesRest, ChangeKeeps}
+use Rattle.safety.proofs.FinishBehind.{stands_changed, events_changed, matches_changed}
+
+-- ---- in the world
+
+some_mapped : {A B : Type 0} (f : A → B) (o : Option A) (y : B) → option_map f o ≡ Some y → (x : A) × (o ≡ Some x) × (f x ≡ y)
+some_mapped f None y at = absurd (none-some y at)
+some_mapped f (Some x) y at = (x, refl, same_Some (f x) y at)
+
+pub record IsSuccess (h : Header) (w v : World) (b : Block) (e : Command) : Type 0 where
+  pub can : can_succeed w.slot_state w.endpoint_state (register_or_zero w.register Config) (slot b) e ≡ true
+  pub ends_low : finishes.passes_end h (named_context e) ≡ false
+  pub made : World
+  pub effect_is : bindings.effect h w (slot b) e ≡ Some made
+  pub ends : let_go (posted h made b) ≡ v
+
+success_is : (h : Header) (w v : World) (b : Block) (u : UnderWay) (e : Command) → command_of u.block ≡ Some e → (code b == 1) ≡ true → finishes.ended_with h w b u ≡ Some v → IsSuccess h w v b e
+unfolding finishes.ended_with finishes.ended finishes.succeeded
+success_is h w v b u e is one at =
+    let x = some_mapped (λ y. finishes.ended h y b) (finishes.succeeded h w (slot b) (Some e)) v
+    (ap (λ o. option_map (λ y. finishes.ended h y b) (finishes.succeeded h w (slot b) o)) (sym is) ∙ sym (cond-true (code b == 1) _ _ one) ∙ at) in
+    elim (cond_is (finishes.passes_end h (named_context e) || not (can_succeed w.slot_state w.endpoint_state (register_or_zero w.register Config) (slot b) e)) None (bindings.effect h w (slot b) e) (Some x.0) x.1) [
+      | inl stuck ↦ absurd (none-some x.0 stuck.1)
+      | inr goes ↦
+          let parts = or_parts (finishes.passes_end h (named_context e)) (not (can_succeed w.slot_state w.endpoint_state (register_or_zero w.register Config) (slot b) e)) goes.0 in
+          record { can = not-false (can_succeed w.slot_state w.endpoint_state (register_or_zero w.register Config) (slot b) e) parts.1; ends_low = parts.0; made = x.0; effect_is = goes.1; ends = x.2 }
+    ]
+
+posted_changed : (h : Header) (w x : World) (b : Block) → posted h (world_changed w x) b ≡ world_changed (posted h w b) x
+unfolding posted of_world.stored_block of_world.stored
+posted_changed h w x b = refl
+
+posted_ring : (h : Header) (w : World) (b : Block) (r : ℕ) → state_of (posted h w b) r ≡ state_of w r
+unfolding posted of_world.stored_block of_world.stored
+posted_ring h w b r = refl
+
+-- ---- in what is known
+
+same_seen : (k m : Known) (e : Command) → seen_after (known_changed k m) e ≡ seen_after k e
+same_seen k m (StopEndpoint s i) = refl
+same_seen k m _ = refl
+
+success_read : (h : Header) (k : Known) (w x : World) (b : Block) (e : Command) (n : ℕ) → is_command_completion (kind b) ≡ true → command_at h k (next_command h k) ≡ Some e → (code b == 1) ≡ true →
+    LeavesRest h k (completions.succeeded h k (slot b) e) w x →
+    with_reads (event_read h k (kind b) b) n ≡ next_known h (known_changed k (completions.succeeded h k (slot b) e)) (seen_after k e) n
+unfolding event_read completions.completed completions.finished
+success_read h k w x b e n completion at one rest =
+    let m : Known = completions.succeeded h k (slot b) e in
+    let same : next_command h k ≡ next_command h m = next_is h k ∙ ap (λ r. floor_number r) (sym rest.command_known) ∙ sym (next_is h m) in
+    let ended : Known = record m { stop_seen = seen_after m e } in
+    ap (λ t. with_reads (event_read h k t b) n) (completion_kind (kind b) completion)
+    ∙ ap (λ o. with_reads (on_ring h (completions.finished h k b o) (command_id h) (Reaches (after (shape_of h (command_id h)) (next_command h k)))) n) at
+    ∙ ap (λ y. with_reads (on_ring h (completions.stop_ended h y e) (command_id h) (Reaches (after (shape_of h (command_id h)) (next_command h k)))) n) (cond-true (code b == 1) m k one)
+    ∙ ap (λ y. with_reads (on_ring h y (command_id h) (Reaches (after (shape_of h (command_id h)) (next_command h k)))) n) (stop_ended_is h m e)
+    ∙ ap (λ p. with_reads (on_ring h ended (command_id h) (Reaches (after (shape_of h (command_id h)) p))) n) same
+    ∙ reached_is h m (seen_after m e) n
+    ∙ ap (λ y. next_known h y (seen_after y e) n) rest.known
+    ∙ ap (λ seen. next_known h (known_changed k m) seen n) (same_seen k m e)
+
+unseen : (k : Known) (e : Command) → (was_stop_seen k e ≡ false) ⊎ ((t : ℕ) × (j : ℕ) × (e ≡ StopEndpoint t j))
+unfolding was_stop_seen
+unseen k (StopEndpoint t j) = inr (t, j, refl)
+unseen k _ = inl refl
+
+none_left_of_stop : (h : Header) (k : Known) (d : DriverKeeps h k) (t j : ℕ) → command_at h k (next_command h k) ≡ Some (StopEndpoint t j) → (s i : ℕ) → seen_after k (StopEndpoint t j) s i ≡ false
+none_left_of_stop h k d t j at s i =
+    elim (cases_Bool (k.stop_seen s i)) [
+      | inl seen ↦ cond-true (s == t && i == j) false (k.stop_seen s i) (ap (λ o. is_stop_of s i o) (sym at) ∙ stopping_of h k s i (d.states.seen_command s i seen))
+      | inr not_seen ↦ put_false k.stop_seen t j s i not_seen
+    ]
+
+-- behind it no Stopped event waits
+none_left : (h : Header) (k : Known) (d : DriverKeeps h k) (e : Command) → command_at h k (next_command h k) ≡ Some e → (s i : ℕ) → seen_after k e s i ≡ false
+none_left h k d e at =
+    elim (unseen k e) [
+      | inl fresh ↦ none_after k e (none_waits h k d e at fresh)
+      | inr stop ↦ subst (λ c. (s i : ℕ) → seen_after k c s i ≡ false) (sym stop.2) (none_left_of_stop h k d stop.0 stop.1 (at ∙ ap (λ c. Some c) stop.2))
+    ]
+
+-- ---- what it succeeds in is known
+
+same_meant : (f g : ℕ → ℕ → EndpointState) (o : Option (ℕ × ℕ)) → ((s i : ℕ) → f s i ≡ g s i) → endpoint_meant f o ≡ endpoint_meant g o
+same_meant f g None same = refl
+same_meant f g (Some at) same = same at.0 at.1
+
+same_success : (k : Known) (w : World) (n x y : ℕ) (e : Command) → ((s : ℕ) → w.slot_state s ≡ k.slot_state s) → ((s i : ℕ) → w.endpoint_state s i ≡ k.endpoint_state s i) → x ≡ y →
+    can_succeed w.slot_state w.endpoint_state x n e ≡ can_succeed k.slot_state k.endpoint_state y n e
+unfolding can_succeed
+same_success k w n x y e slots endpoints config =
+    ap (λ z. is_some (slot_success e z) && is_some (endpoint_success e (endpoint_meant w.endpoint_state (named_endpoint e))) && is_slot_enabled x n e) (slots (slot_meant n (named_slot e)))
+    ∙ ap (λ z. is_some (slot_success e (k.slot_state (slot_meant n (named_slot e)))) && is_some (endpoint_success e z) && is_slot_enabled x n e) (same_meant w.endpoint_state k.endpoint_state (named_endpoint e) endpoints)
+    ∙ ap (λ z. is_some (slot_success e (k.slot_state (slot_meant n (named_slot e)))) && is_some (endpoint_success e (endpoint_meant k.endpoint_state (named_endpoint e))) && is_slot_enabled z n e) config
+
+-- the changes of the success of e keep that states agree
+abbrev pub EffectKeeps : Header → Known → World → ℕ → Command → Type 0
+EffectKeeps h k w n e = (x : World) → bindings.effect h w n e ≡ Some x → ChangeKeeps h k (completions.succeeded h k n e) w x
+
+module _ (h : Header) (is : IsHeader h) (k : Known) (unread : List Block) (w v : World) (b : Block) (block : IsBlock b) (running : w.stopped ≡ false) (d : DriverKeeps h k) (g : Agrees h k unread w)
+    (f : IsFinish h w v b) (one : (code b == 1) ≡ true) (e : Command) (is_e : command_of (floor h is k unread w v b block running d g f).block ≡ Some e) where
+  success_keeps : EffectKeeps h k w (slot b) e → ReportKeeps h k unread w v b
+  success_keeps keeps =
+      let p = post_keeps h is k unread w b block d g f.can in
+      let on : k.started ≡ true = sym g.stands.started ∙ p.can.started in
+      let here = here_is h is k unread w v b block running d g f e is_e in
+      let s = success_is h w v b f.taken e (taken_is h is k unread w v b block running d g f e is_e) one f.ends in
+      let c = keeps s.made s.effect_is in
+      let m : Known = completions.succeeded h k (slot b) e in
+      let seen : ℕ → ℕ → Bool = seen_after k e in
+      let n : ℕ = k.reads + 1 in
+      let u : World = posted h w b in
+      let now = p.matches.command on in
+      let under : UnderWayMatches h k now.spot (Some f.taken) = subst (λ o. UnderWayMatches h k now.spot o) (posted_under_way h w b ∙ f.under_way) now.under_way in
+      let below : next_command h k < ceiling (shape_of h (command_id h)) (k.ring (command_id h)) = omega (arith, under.0, now.ring.below) in
+      let next = matches_next h is k d on seen n u p.matches now.spot now.ring under.0 (none_left h k d e here) in
+      let l : Known = next_known h (known_changed k m) seen n in
+      let y : World = let_go (world_changed u s.made) in
+      let after_post : Agrees h l (unread ++ b ∷ []) (counted h y) =
+      agrees_counted h l (unread ++ b ∷ []) y
+      (stands_changed h k m w s.made c seen n u (stands_next h is k d on seen n u p.stands))
+      (events_changed h k m w s.made c seen n u (unread ++ b ∷ []) (events_next h is k d on seen n u (unread ++ b ∷ []) p.events))
+      (matches_changed h k m w s.made c seen n u on (posted_ring h w b (command_id h)) next) p.posted_is p.late in
+      let learned_is : learned h k (Read b) ≡ l = learned_read h k b ∙ success_read h k w s.made b e n f.completion here one c.rest in
+      let ends : y ≡ v = ap let_go (sym (ap (λ z. posted h z b) c.rest.world ∙ posted_changed h w s.made b)) ∙ s.ends in
+      let may = sym (same_success k w (slot b) (register_or_zero w.register Config) (register_or_zero k.register Config) e g.matches.slots g.matches.endpoints (ap (λ o. unwrap_or o 0) (g.stands.registers Config))) ∙ s.can in
+      record {
+        clean = event_clean h k w b g.stands g.read running p.can p.room
+            (or_left _ _ (or_right _ _ f.completion))
+            (completion_possible h k b f.completion (taken_now h k below) (f.named ∙ under.1.address) f.some_code
+            (ap (λ o. can_finish k b o) here ∙ can_end k b e (answers_is h is k unread w v b block running d g f e is_e) one may))
+            (and_left (is_transfer_event (kind b)) (not (is_in_profile b)) (no_transfer (kind b) f.completion));
+        agrees = subst (λ z. Agrees h z (unread ++ b ∷ []) (counted h v)) (sym learned_is) (subst (λ z. Agrees h l (unread ++ b ∷ []) (counted h z)) ends after_post);
+      }
+
+-- the run goes on behind the success of such a command
+pub finish_success_runs : (h : Header) → IsHeader h → (past : List Row) (w v : World) (b : Block) → IsBlock b → w.stopped ≡ false → (run : Runs h past w) →
+    DriverKeeps h (known h (reading run.unread past)) → (u : UnderWay) → w.under_way ≡ Some u → (e : Command) → command_of u.block ≡ Some e → (code b == 1) ≡ true →
+    EffectKeeps h (known h (reading run.unread past)) w (slot b) e → finishes.finished h w b ≡ Some v → Runs h past (counted h v)
+finish_success_runs h is past w v b block running run d u at_u e is_u one effect at =
+    let k : Known = known h (reading run.unread past) in
+    let f = finish_is h w v b at in
+    let same : f.taken ≡ u = same_Some f.taken u (sym f.under_way ∙ at_u) in
+    let is_e = sym (of_block h is k run.unread w v b block running d run.agrees f) ∙ ap (λ (x : UnderWay). command_of x.block) same ∙ is_u in
+    let keeps = success_keeps h is k run.unread w v b block running d run.agrees f one e is_e effect in
+    record {
+      unread = run.unread ++ b ∷ [];
+      clean = clean_more h run.unread past b run.clean keeps.clean;
+      blocks = blocks_more run.unread b run.blocks block;
+      on = run.on;
+      agrees = subst (λ m. Agrees h m (run.unread ++ b ∷ []) (counted h v)) (sym (known_more h run.unread past b)) keeps.agrees;
+    }

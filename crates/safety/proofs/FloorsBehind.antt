@@ -1,0 +1,211 @@
+-- An event moves no floor back, and concerns no ring but those of the driver
+use Rattle.std.specs.Prelude.{◌≡◌, ℕ, ◌+◌, ◌≤◌, ◌⊎◌, ◌==◌, if◌then◌else◌, Bool, true, List, [], ◌∷◌, Option, None, Some}
+use Rattle.std.proofs.Common.{arith, refl, sym, ◌∙◌, ap, subst, inl, inr}
+use Rattle.std.proofs.lemmas.Bool.{cases_eq, cond_both, eqb-true}
+use Rattle.guest_memory.specs.Memory.{put_pair}
+use Rattle.trb.specs.declared.block.Block.{Block}
+use Rattle.trb.specs.Block.{pointer, code, slot, endpoint}
+use Rattle.trb.specs.CompletionCode.{is_success, is_halting, is_trb_error, is_stopping}
+use Rattle.segments.specs.declared.spot.Spot.{Spot}
+use Rattle.segments.specs.declared.spot.Spot.TheVariants.{Data}
+use Rattle.segments.specs.Spots.{number, after}
+use Rattle.segments.specs.RingView.{RingView, RingChange, Reaches, Holds, changed, floor_number}
+use Rattle.segments.specs.Ceiling.{ceiling, stopped_number}
+use Rattle.segments.specs.Moves.{target}
+use Rattle.segments.proofs.Named.{IsAhead, named_ahead, target_ahead}
+use Rattle.segments.proofs.ReachedSpots.{number-after}
+use Rattle.commands.specs.declared.command.Command.{Command}
+use Rattle.commands.specs.declared.command.Command.TheVariants.{StopEndpoint}
+use Rattle.commands.specs.declared.state.EndpointState.{EndpointState}
+use Rattle.commands.specs.declared.state.EndpointState.TheVariants.{Halted, Error, Stopped}
+use Rattle.commands.specs.States.{is_off}
+use Rattle.commands.specs.Changes.{Change, SlotGoesOn, DeviceLeft, Disables, Places, Stops, Resets, changes}
+use Rattle.traces.specs.declared.header.Header.{Header}
+use Rattle.traces.specs.Header.{IsHeader, shape_of, command_id, ring_beginning_at}
+use Rattle.ring_knowledge.specs.Known.{Known}
+use Rattle.ring_knowledge.specs.Rings.{RingSpot, on_ring, event_at, command_at, next_command}
+use Rattle.ring_knowledge.specs.Transfers.{passed, broken_off, stopped_at, transferred, transferred_at, transfer_read}
+use Rattle.ring_knowledge.specs.Completions.{set_to, bound_to, moved_to, moved, pointed, disabled, in_state, held_at_ceiling, changed_by, changed_by_all, succeeded, stop_ended, finished, completed}
+use Rattle.safety.specs.EndpointsKeep.{EndpointsKeep, IsTransferRing}
+use Rattle.safety.specs.RingsKeep.{IsDriverRing, RingsKeep}
+use Rattle.safety.specs.Placings.{MayPoint, MayChange, MayChangeAll, MayFinish}
+use Rattle.safety.proofs.DriverRows.{ring_here, ring_elsewhere}
+use Rattle.safety.proofs.RingIds.{beginning_transfer}
+use Rattle.safety.proofs.Headers.{transfer_driver}
+use Rattle.safety.proofs.DriverRings.{driver_test, transfer_ring}
+use Rattle.safety.proofs.Endpoints.{change_keeps}
+use Rattle.safety.proofs.Transfers.{spot_is}
+use Rattle.safety.proofs.TransferFrames.{event_ring_of}
+use Rattle.safety.proofs.EndpointHistories.{finish_elsewhere}
+
+module _ (h : Header) where
+  -- a driver's ring whose floor isn't behind where it was
+  pub record MovesOn (v w : RingView) (r : ℕ) : Type 0 where
+    pub driver : IsDriverRing h r
+    pub on : floor_number v ≤ floor_number w
+
+  abbrev pub FloorsOn : Known → Known → Type 0
+  FloorsOn k l = (r : ℕ) → (l.ring r ≡ k.ring r) ⊎ MovesOn (k.ring r) (l.ring r) r
+
+  pub floors_same : (k l : Known) → l.ring ≡ k.ring → FloorsOn k l
+  floors_same k l same r = inl (ap (λ f. f r) same)
+
+  pub floors_both : (k l m : Known) → FloorsOn k l → FloorsOn l m → FloorsOn k m
+  floors_both k l m first second r =
+      elim (first r) [
+        | inl same ↦ elim (second r) [
+          | inl again ↦ inl (again ∙ same)
+          | inr on ↦ inr (record { driver = on.driver; on = omega (arith, ap (λ (v : RingView). floor_number v) same, on.on) })
+        ]
+        | inr on ↦ elim (second r) [
+          | inl again ↦ inr (record { driver = on.driver; on = omega (arith, ap (λ (v : RingView). floor_number v) again, on.on) })
+          | inr further ↦ inr (record { driver = on.driver; on = omega (arith, on.on, further.on) })
+        ]
+      ]
+
+  floors_ring : (k : Known) (r : ℕ) (change : RingChange) → IsDriverRing h r → floor_number (k.ring r) ≤ floor_number (changed (shape_of h r) (k.ring r) change) → FloorsOn k (on_ring h k r change)
+  floors_ring k r change driver on q =
+      elim (cases_eq q r) [
+        | inl here ↦
+            inr (subst (λ n. MovesOn (k.ring n) ((on_ring h k r change).ring n) n) (sym here)
+            (record { driver = driver; on = omega (arith, ap (λ (v : RingView). floor_number v) (ring_here h k r change), on) }))
+        | inr other ↦ inl (ring_elsewhere h k r q change other)
+      ]
+
+  floors_held : (k : Known) (r n : ℕ) → IsDriverRing h r → FloorsOn k (on_ring h k r (Holds n))
+  floors_held k r n driver = floors_ring k r (Holds n) driver (omega arith)
+
+  floors_reached : (k : Known) (r : ℕ) (t : Spot) → IsDriverRing h r → floor_number (k.ring r) ≤ number t → FloorsOn k (on_ring h k r (Reaches t))
+  floors_reached k r t driver on = floors_ring k r (Reaches t) driver on
+
+  -- ---- a Transfer Event
+
+  module _ (k : Known) (r : ℕ) (driver : IsDriverRing h r) (t : Spot) (on : floor_number (k.ring r) ≤ number t) where
+    passed_on : FloorsOn k (passed h k r t)
+    unfolding passed
+    passed_on = floors_reached k r (after (shape_of h r) (number t)) driver (omega (arith, on, number-after (shape_of h r) (number t)))
+
+    broken_on : (s i : ℕ) (state : EndpointState) → FloorsOn k (broken_off h k s i r t state)
+    unfolding broken_off
+    broken_on s i state = floors_both k (passed h k r t) (on_ring h (passed h k r t) r (Holds (number t + 1))) passed_on (floors_held (passed h k r t) r (number t + 1) driver)
+
+    stopped_on : (s i : ℕ) → FloorsOn k (stopped_at h k s i r t)
+    unfolding stopped_at
+    stopped_on s i =
+        let n : ℕ = stopped_number (shape_of h r) (k.ring r) t in
+        let m : Known = on_ring h k r (Holds (stopped_number (shape_of h r) (k.ring r) t)) in
+        floors_both k m (on_ring h m r (Reaches t)) (floors_held k r (stopped_number (shape_of h r) (k.ring r) t) driver)
+        (floors_reached m r t driver (omega (arith, ap (λ (v : RingView). floor_number v) (ring_here h k r (Holds (stopped_number (shape_of h r) (k.ring r) t))), on)))
+
+    transferred_on : (c s i : ℕ) → FloorsOn k (transferred h k c s i r t)
+    unfolding transferred
+    transferred_on c s i =
+        let halts : Known = record (broken_off h k s i r t Halted) { must_move = put_pair k.must_move s i true } in
+        let fails : Known = broken_off h k s i r t Error in
+        let stopped : Known = if is_stopping c then stopped_at h k s i r t else k in
+        cond_both (is_success c) (passed h k r t) (if is_halting c then halts else if is_trb_error c then fails else stopped) (FloorsOn k)
+        (λ _. passed_on)
+        (λ _. cond_both (is_halting c) halts (if is_trb_error c then fails else stopped) (FloorsOn k)
+        (λ _. broken_on s i Halted)
+        (λ _. cond_both (is_trb_error c) fails stopped (FloorsOn k)
+        (λ _. broken_on s i Error)
+        (λ _. cond_both (is_stopping c) (stopped_at h k s i r t) k (FloorsOn k) (λ _. stopped_on s i) (λ _. floors_same k k refl))))
+
+  transfer_is_driver : (r : ℕ) → IsTransferRing h r → IsDriverRing h r
+  transfer_is_driver r t = driver_test h r (transfer_driver h r (transfer_ring h r t))
+
+  module _ (is : IsHeader h) (k : Known) (rings : RingsKeep h k) (endpoints : EndpointsKeep h k) where
+    at_on : (b : Block) (o : Option RingSpot) → event_at h k b ≡ o → FloorsOn k (transferred_at h k b o)
+    unfolding transferred_at event_at
+    at_on b None found = floors_same k k refl
+    at_on b (Some at) found =
+        let driver : IsDriverRing h at.ring = transfer_is_driver at.ring (endpoints.transfer (slot b) (endpoint b) at.ring (event_ring_of h k b at found)) in
+        let ahead : IsAhead (shape_of h at.ring) (k.ring at.ring) at.spot =
+        named_ahead (shape_of h at.ring) k.memory (k.ring at.ring) (rings at.ring driver) (pointer b) at.spot (spot_is h k (pointer b) (k.ring_of (slot b) (endpoint b)) at found) in
+        transferred_on k at.ring driver at.spot ahead.from (code b) (slot b) (endpoint b)
+
+    pub transfer_on : (b : Block) → FloorsOn k (transfer_read h k b)
+    unfolding transfer_read
+    transfer_on b = at_on b (event_at h k b) refl
+
+  -- ---- the success of a command
+
+  module _ (is : IsHeader h) where
+    set_on : (k : Known) (r : ℕ) (t : Spot) → IsDriverRing h r → floor_number (k.ring r) ≤ number t → FloorsOn k (set_to h k r t)
+    unfolding set_to
+    set_on k r t driver on =
+        let m : Known = on_ring h k r (Reaches t) in
+        floors_both k m (on_ring h m r (Holds (number t))) (floors_reached k r t driver on) (floors_held m r (number t) driver)
+
+    bound_on : (k : Known) (s i p : ℕ) (o : Option ℕ) → ring_beginning_at h p ≡ o → ((r : ℕ) → o ≡ Some r → floor_number (k.ring r) ≡ 0) → FloorsOn k (bound_to h k s i o)
+    unfolding bound_to
+    bound_on k s i p None at new = floors_same k k refl
+    bound_on k s i p (Some r) at new = set_on k r (Data 0) (transfer_is_driver r (beginning_transfer h is p r at)) (omega (arith, new r refl))
+
+    target_on : (k : Known) (r : ℕ) (o : Option Spot) → IsDriverRing h r → ((t : Spot) → o ≡ Some t → floor_number (k.ring r) ≤ number t) → FloorsOn k (moved_to h k r o)
+    unfolding moved_to
+    target_on k r None driver on = floors_same k k refl
+    target_on k r (Some t) driver on = set_on k r t driver (on t refl)
+
+    moved_on : (k : Known) → EndpointsKeep h k → (s i p : ℕ) (cycle : Bool) (o : Option ℕ) → k.ring_of s i ≡ o → FloorsOn k (moved h k o p cycle)
+    unfolding moved
+    moved_on k endpoints s i p cycle None at = floors_same k k refl
+    moved_on k endpoints s i p cycle (Some r) at =
+        target_on k r (target (shape_of h r) (k.ring r) p cycle) (transfer_is_driver r (endpoints.transfer s i r at)) (λ t named. (target_ahead (shape_of h r) (k.ring r) p cycle t named).from)
+
+    pointed_on : (k : Known) → EndpointsKeep h k → (s i p : ℕ) (cycle : Bool) → MayPoint h k s i p cycle → FloorsOn k (pointed h k s i p cycle)
+    unfolding pointed
+    pointed_on k endpoints s i p cycle may =
+        cond_both (is_off (k.endpoint_state s i)) (bound_to h k s i (ring_beginning_at h p)) (moved h k (k.ring_of s i) p cycle) (FloorsOn k)
+        (λ off. bound_on k s i p (ring_beginning_at h p) refl (may.binds off)) (λ on. moved_on k endpoints s i p cycle (k.ring_of s i) refl)
+
+    ceiling_on : (k : Known) → EndpointsKeep h k → (s i : ℕ) (o : Option ℕ) → k.ring_of s i ≡ o → FloorsOn k (held_at_ceiling h k o)
+    unfolding held_at_ceiling
+    ceiling_on k endpoints s i None at = floors_same k k refl
+    ceiling_on k endpoints s i (Some r) at = floors_held k r (ceiling (shape_of h r) (k.ring r)) (transfer_is_driver r (endpoints.transfer s i r at))
+
+    change_on : (c : Command) (k : Known) (change : Change) → EndpointsKeep h k → MayChange h k change → FloorsOn k (changed_by h c k change)
+    unfolding changed_by disabled in_state
+    change_on c k (SlotGoesOn s) endpoints may = floors_same k (changed_by h c k (SlotGoesOn s)) refl
+    change_on c k (DeviceLeft s) endpoints may = floors_same k (changed_by h c k (DeviceLeft s)) refl
+    change_on c k (Disables s which) endpoints may = floors_same k (changed_by h c k (Disables s which)) refl
+    change_on c k (Places s i p cycle state) endpoints may = pointed_on k endpoints s i p cycle may
+    change_on c k (Stops s i) endpoints may =
+        ceiling_on (in_state h k s i Stopped) (record { transfer = endpoints.transfer; was_bound = endpoints.was_bound; never_bound = endpoints.never_bound }) s i (k.ring_of s i) refl
+    change_on c k (Resets s i) endpoints may = floors_same k (changed_by h c k (Resets s i)) refl
+
+    changes_on : (c : Command) (k : Known) (all : List Change) → EndpointsKeep h k → MayChangeAll h c k all → FloorsOn k (changed_by_all h c k all)
+    unfolding changed_by_all
+    changes_on c k [] endpoints may = floors_same k k refl
+    changes_on c k (change ∷ rest) endpoints may =
+        let m : Known = changed_by h c k change in
+        floors_both k m (changed_by_all h c m rest) (change_on c k change endpoints may.0) (changes_on c m rest (change_keeps h is c k change endpoints) may.1)
+
+    ended_on : (k m : Known) (c : Command) → FloorsOn k m → FloorsOn k (stop_ended h m c)
+    unfolding stop_ended
+    ended_on k m (StopEndpoint s i) on = on
+    ended_on k m _ on = on
+
+    finish_on : (k : Known) (b : Block) (o : Option Command) → EndpointsKeep h k → ((c : Command) → o ≡ Some c → code b ≡ 1 → MayChangeAll h c k (changes h.context_size k.memory (slot b) c)) →
+        FloorsOn k (finished h k b o)
+    unfolding finished succeeded
+    finish_on k b None endpoints may = floors_same k k refl
+    finish_on k b (Some c) endpoints may =
+        let all : List Change = changes h.context_size k.memory (slot b) c in
+        ended_on k (if code b == 1 then succeeded h k (slot b) c else k) c
+        (cond_both (code b == 1) (succeeded h k (slot b) c) k (FloorsOn k)
+        (λ success. changes_on c k (changes h.context_size k.memory (slot b) c) endpoints (may c refl (eqb-true (code b) 1 success))) (λ _. floors_same k k refl))
+
+    at_floor : (k : Known) → next_command h k ≡ floor_number (k.ring (command_id h))
+    unfolding next_command
+    at_floor k = refl
+
+    pub completion_on : (k : Known) (b : Block) → EndpointsKeep h k → IsDriverRing h (command_id h) → MayFinish h k b → FloorsOn k (completed h k b)
+    unfolding completed
+    completion_on k b endpoints driver may =
+        let m : Known = finished h k b (command_at h k (next_command h k)) in
+        let t : Spot = after (shape_of h (command_id h)) (next_command h k) in
+        let still : m.ring (command_id h) ≡ k.ring (command_id h) = finish_elsewhere h is k b (command_at h k (next_command h k)) endpoints in
+        floors_both k m (on_ring h m (command_id h) (Reaches t)) (finish_on k b (command_at h k (next_command h k)) endpoints may)
+        (floors_reached m (command_id h) t driver
+        (omega (arith, ap (λ (v : RingView). floor_number v) still, number-after (shape_of h (command_id h)) (next_command h k), at_floor k)))

@@ -1,0 +1,220 @@
+-- An event that may be read moves no floor back
+use Rattle.std.specs.Prelude.{◌≡◌, ℕ, ◌+◌, ◌≤◌, ◌==◌, if◌then◌else◌, Bool, true, List, [], ◌∷◌, Option, None, Some}
+use Rattle.std.proofs.Common.{arith, refl, sym, ◌∙◌, ap, subst, inl, inr}
+use Rattle.std.specs.Option.{option_map}
+use Rattle.std.proofs.lemmas.Bool.{cond_both, eqb-true}
+use Rattle.std.proofs.lemmas.Option.{none-some, same_Some}
+use Rattle.segments.proofs.Search.{cases_option}
+use Rattle.guest_memory.specs.Memory.{put_pair}
+use Rattle.trb.specs.declared.block.Block.{Block}
+use Rattle.trb.specs.declared.kind.BlockKind.{BlockKind}
+use Rattle.trb.specs.declared.kind.BlockKind.TheVariants.{TransferEvent, CommandCompletion}
+use Rattle.trb.specs.Block.{kind, code, slot, endpoint, pointer}
+use Rattle.trb.specs.Kind.{is_command_completion}
+use Rattle.trb.specs.CompletionCode.{is_success, is_halting, is_trb_error, is_stopping}
+use Rattle.segments.specs.declared.spot.Spot.{Spot}
+use Rattle.segments.specs.declared.spot.Spot.TheVariants.{Data}
+use Rattle.segments.specs.Spots.{number, after}
+use Rattle.segments.specs.RingView.{Reaches, Holds, floor_number}
+use Rattle.segments.specs.Ceiling.{ceiling, named, stopped_number}
+use Rattle.segments.specs.Moves.{target}
+use Rattle.segments.proofs.ReachedSpots.{number-after}
+use Rattle.segments.proofs.Named.{IsAhead, named_ahead, target_ahead}
+use Rattle.commands.specs.declared.command.Command.{Command}
+use Rattle.commands.specs.declared.command.Command.TheVariants.{StopEndpoint}
+use Rattle.commands.specs.declared.state.EndpointState.{EndpointState}
+use Rattle.commands.specs.declared.state.EndpointState.TheVariants.{Halted, Error, Stopped}
+use Rattle.commands.specs.States.{is_off}
+use Rattle.commands.specs.Changes.{Change, SlotGoesOn, DeviceLeft, Disables, Places, Stops, Resets, changes}
+use Rattle.traces.specs.declared.header.Header.{Header}
+use Rattle.traces.specs.declared.row.Row.TheVariants.{Read}
+use Rattle.traces.specs.Header.{IsHeader, shape_of, command_id, ring_beginning_at}
+use Rattle.ring_knowledge.specs.Known.{Known}
+use Rattle.ring_knowledge.specs.Rings.{RingSpot, on_ring, spot_on, event_at, command_at, next_command}
+use Rattle.ring_knowledge.specs.Transfers.{passed, broken_off, stopped_at, transferred, transferred_at, transfer_read}
+use Rattle.ring_knowledge.specs.Completions.{set_to, bound_to, moved_to, moved, pointed, disabled, in_state, held_at_ceiling, changed_by, changed_by_all, succeeded, stop_ended, finished, completed}
+use Rattle.ring_knowledge.specs.Learned.{event_read, learned}
+use Rattle.ownership_rules.specs.Rules.{broken}
+use Rattle.safety.specs.Keeps.{DriverKeeps}
+use Rattle.safety.specs.EndpointsKeep.{EndpointsKeep}
+use Rattle.safety.specs.Placings.{MayPoint, MayChange, MayChangeAll}
+use Rattle.safety.proofs.Headers.{transfer_driver}
+use Rattle.safety.proofs.DriverRings.{rings_of, endpoints_of}
+use Rattle.safety.proofs.EndpointHistories.{finish_elsewhere}
+use Rattle.safety.proofs.SameDriver.{view_after}
+use Rattle.safety.proofs.Placings.{still_places}
+use Rattle.safety.proofs.CleanRows.{EventFacts, event_facts}
+use Rattle.safety.proofs.KeptRings.{CompletionFacts, completion_facts, next_unfinished, command_holds}
+
+abbrev pub FloorsGrow : Known → Known → Type 0
+FloorsGrow k l = (r : ℕ) → floor_number (k.ring r) ≤ floor_number (l.ring r)
+
+grow_none : (k : Known) → FloorsGrow k k
+grow_none k r = omega arith
+
+grow_twice : (k l m : Known) → FloorsGrow k l → FloorsGrow l m → FloorsGrow k m
+grow_twice k l m a b r = omega (arith, a r, b r)
+
+module _ (h : Header) where
+  reach_grows : (k : Known) (r : ℕ) (t : Spot) → floor_number (k.ring r) ≤ number t → FloorsGrow k (on_ring h k r (Reaches t))
+  reach_grows k r t ahead q =
+      view_after h (λ v. floor_number (k.ring q) ≤ floor_number v) k r (Reaches t) q
+      (λ same. let e : floor_number (k.ring q) ≡ floor_number (k.ring r) = ap (λ n. floor_number (k.ring n)) same in omega arith) (λ _. omega arith)
+
+  hold_grows : (k : Known) (r n : ℕ) → FloorsGrow k (on_ring h k r (Holds n))
+  hold_grows k r n q =
+      view_after h (λ v. floor_number (k.ring q) ≤ floor_number v) k r (Holds n) q
+      (λ same. let e : floor_number (k.ring q) ≡ floor_number (k.ring r) = ap (λ n. floor_number (k.ring n)) same in omega arith) (λ _. omega arith)
+
+  -- ---- a Transfer Event
+
+  module _ (k : Known) (r : ℕ) (t : Spot) (ahead : floor_number (k.ring r) ≤ number t) where
+    passed_grows : FloorsGrow k (passed h k r t)
+    unfolding passed
+    passed_grows = reach_grows k r (after (shape_of h r) (number t)) (omega (arith, number-after (shape_of h r) (number t)))
+
+    broken_grows : (s i : ℕ) (state : EndpointState) → FloorsGrow k (broken_off h k s i r t state)
+    unfolding broken_off
+    broken_grows s i state = grow_twice k (passed h k r t) (on_ring h (passed h k r t) r (Holds (number t + 1))) passed_grows (hold_grows (passed h k r t) r (number t + 1))
+
+    stopped_grows : (s i : ℕ) → FloorsGrow k (stopped_at h k s i r t)
+    unfolding stopped_at
+    stopped_grows s i =
+        let n : ℕ = stopped_number (shape_of h r) (k.ring r) t in
+        let l : Known = on_ring h k r (Holds n) in
+        grow_twice k l (on_ring h l r (Reaches t)) (hold_grows k r n)
+        (reach_grows l r t
+        (view_after h (λ v. floor_number v ≤ number t) k r (Holds n) r (λ _. ahead) (λ other. absurd (other refl))))
+
+    transferred_grows : (c s i : ℕ) → FloorsGrow k (transferred h k c s i r t)
+    unfolding transferred
+    transferred_grows c s i =
+        let halts : Known = record (broken_off h k s i r t Halted) { must_move = put_pair k.must_move s i true } in
+        let fails : Known = broken_off h k s i r t Error in
+        let stopped : Known = if is_stopping c then stopped_at h k s i r t else k in
+        cond_both (is_success c) (passed h k r t) (if is_halting c then halts else if is_trb_error c then fails else stopped) (FloorsGrow k)
+        (λ _. passed_grows)
+        (λ _. cond_both (is_halting c) halts (if is_trb_error c then fails else stopped) (FloorsGrow k) (λ _. broken_grows s i Halted)
+        (λ _. cond_both (is_trb_error c) fails stopped (FloorsGrow k) (λ _. broken_grows s i Error)
+        (λ _. cond_both (is_stopping c) (stopped_at h k s i r t) k (FloorsGrow k) (λ _. stopped_grows s i) (λ _. grow_none k))))
+
+  -- the spot that an event names lies on the ring of its endpoint
+  found_on : (k : Known) (p : ℕ) (o : Option ℕ) (at : RingSpot) → spot_on h k p o ≡ Some at → (o ≡ Some at.ring) × (named (shape_of h at.ring) (k.ring at.ring) p ≡ Some at.spot)
+  unfolding spot_on
+  found_on k p None at e = absurd (none-some at e)
+  found_on k p (Some r) at e =
+      let make : Spot → RingSpot = λ t. let x : RingSpot = record { ring = r; spot = t } in x in
+      elim (cases_option (named (shape_of h r) (k.ring r) p)) [
+        | inl none ↦ absurd (none-some at (sym (ap (option_map make) none) ∙ e))
+        | inr some ↦
+            let same : make some.0 ≡ at = same_Some (make some.0) at (sym (ap (option_map make) some.1) ∙ e) in
+            subst (λ (x : RingSpot). (◌≡◌ {A = Option ℕ} (Some r) (Some x.ring)) × (named (shape_of h x.ring) (k.ring x.ring) p ≡ Some x.spot)) same (refl, some.1)
+      ]
+
+  at_grows : (k : Known) (d : DriverKeeps h k) (b : Block) (o : Option RingSpot) → event_at h k b ≡ o → FloorsGrow k (transferred_at h k b o)
+  unfolding transferred_at event_at
+  at_grows k d b None found = grow_none k
+  at_grows k d b (Some at) found =
+      let is = found_on k (pointer b) (k.ring_of (slot b) (endpoint b)) at found in
+      let ring = d.rings at.ring (transfer_driver h at.ring (d.states.transfer (slot b) (endpoint b) at.ring is.0)) in
+      let ahead : IsAhead (shape_of h at.ring) (k.ring at.ring) at.spot = named_ahead (shape_of h at.ring) k.memory (k.ring at.ring) ring (pointer b) at.spot is.1 in
+      transferred_grows k at.ring at.spot ahead.from (code b) (slot b) (endpoint b)
+
+  -- ---- a completion
+
+  set_grows : (k : Known) (r : ℕ) (t : Spot) → floor_number (k.ring r) ≤ number t → FloorsGrow k (set_to h k r t)
+  unfolding set_to
+  set_grows k r t ahead =
+      let l : Known = on_ring h k r (Reaches t) in grow_twice k l (on_ring h l r (Holds (number t))) (reach_grows k r t ahead) (hold_grows l r (number t))
+
+  bound_grows : (k : Known) (s i : ℕ) (o : Option ℕ) → ((r : ℕ) → o ≡ Some r → floor_number (k.ring r) ≡ 0) → FloorsGrow k (bound_to h k s i o)
+  unfolding bound_to
+  bound_grows k s i None new = grow_none k
+  bound_grows k s i (Some r) new = set_grows k r (Data 0) (omega (arith, new r refl))
+
+  target_grows : (k : Known) (r : ℕ) (o : Option Spot) → ((t : Spot) → o ≡ Some t → floor_number (k.ring r) ≤ number t) → FloorsGrow k (moved_to h k r o)
+  unfolding moved_to
+  target_grows k r None ahead = grow_none k
+  target_grows k r (Some t) ahead = set_grows k r t (ahead t refl)
+
+  moved_grows : (k : Known) (o : Option ℕ) (p : ℕ) (cycle : Bool) → FloorsGrow k (moved h k o p cycle)
+  unfolding moved
+  moved_grows k None p cycle = grow_none k
+  moved_grows k (Some r) p cycle = target_grows k r (target (shape_of h r) (k.ring r) p cycle) (λ t at. (target_ahead (shape_of h r) (k.ring r) p cycle t at).from)
+
+  pointed_grows : (k : Known) (s i p : ℕ) (cycle : Bool) → MayPoint h k s i p cycle → FloorsGrow k (pointed h k s i p cycle)
+  unfolding pointed
+  pointed_grows k s i p cycle may =
+      cond_both (is_off (k.endpoint_state s i)) (bound_to h k s i (ring_beginning_at h p)) (moved h k (k.ring_of s i) p cycle) (FloorsGrow k)
+      (λ off. bound_grows k s i (ring_beginning_at h p) (may.binds off)) (λ on. moved_grows k (k.ring_of s i) p cycle)
+
+  held_grows : (k : Known) (o : Option ℕ) → FloorsGrow k (held_at_ceiling h k o)
+  unfolding held_at_ceiling
+  held_grows k None = grow_none k
+  held_grows k (Some r) = hold_grows k r (ceiling (shape_of h r) (k.ring r))
+
+  change_grows : (c : Command) (k : Known) (change : Change) → MayChange h k change → FloorsGrow k (changed_by h c k change)
+  unfolding changed_by disabled in_state
+  change_grows c k (SlotGoesOn s) may = λ r. omega arith
+  change_grows c k (DeviceLeft s) may = λ r. omega arith
+  change_grows c k (Disables s which) may = λ r. omega arith
+  change_grows c k (Places s i p cycle state) may = pointed_grows k s i p cycle may
+  change_grows c k (Stops s i) may = held_grows (in_state h k s i Stopped) (k.ring_of s i)
+  change_grows c k (Resets s i) may = λ r. omega arith
+
+  changes_grow : (c : Command) (k : Known) (all : List Change) → MayChangeAll h c k all → FloorsGrow k (changed_by_all h c k all)
+  unfolding changed_by_all
+  changes_grow c k [] may = grow_none k
+  changes_grow c k (change ∷ rest) may =
+      let l : Known = changed_by h c k change in grow_twice k l (changed_by_all h c l rest) (change_grows c k change may.0) (changes_grow c l rest may.1)
+
+  stop_grows : (k : Known) (c : Command) → FloorsGrow k (stop_ended h k c)
+  unfolding stop_ended
+  stop_grows k (StopEndpoint s i) = λ r. omega arith
+  stop_grows k _ = grow_none k
+
+  finish_grows : (k : Known) (b : Block) (o : Option Command) →
+      ((c : Command) → o ≡ Some c → code b ≡ 1 → MayChangeAll h c k (changes h.context_size k.memory (slot b) c)) → FloorsGrow k (finished h k b o)
+  unfolding finished succeeded
+  finish_grows k b None may = grow_none k
+  finish_grows k b (Some c) may =
+      let all : List Change = changes h.context_size k.memory (slot b) c in
+      let l : Known = if code b == 1 then changed_by_all h c k all else k in
+      grow_twice k l (stop_ended h l c)
+      (cond_both (code b == 1) (changed_by_all h c k all) k (FloorsGrow k) (λ success. changes_grow c k all (may c refl (eqb-true (code b) 1 success))) (λ _. grow_none k)) (stop_grows l c)
+
+  floor_next : (k : Known) → next_command h k ≡ floor_number (k.ring (command_id h))
+  unfolding next_command
+  floor_next k = refl
+
+  completion_grows : (k : Known) (b : Block) → EndpointsKeep h k → IsHeader h →
+      ((c : Command) → command_at h k (next_command h k) ≡ Some c → code b ≡ 1 → MayChangeAll h c k (changes h.context_size k.memory (slot b) c)) → FloorsGrow k (completed h k b)
+  unfolding completed
+  completion_grows k b endpoints is may =
+      let l : Known = finished h k b (command_at h k (next_command h k)) in
+      let same : l.ring (command_id h) ≡ k.ring (command_id h) = finish_elsewhere h is k b (command_at h k (next_command h k)) endpoints in
+      let low : floor_number (l.ring (command_id h)) ≡ floor_number (k.ring (command_id h)) = ap (λ v. floor_number v) same in
+      grow_twice k l (on_ring h l (command_id h) (Reaches (after (shape_of h (command_id h)) (next_command h k)))) (finish_grows k b (command_at h k (next_command h k)) may)
+      (reach_grows l (command_id h) (after (shape_of h (command_id h)) (next_command h k)) (omega (arith, number-after (shape_of h (command_id h)) (next_command h k), floor_next k)))
+
+  -- ---- any event
+
+  kind_grows : IsHeader h → (k : Known) (d : DriverKeeps h k) (b : Block) (n : BlockKind) →
+      (n ≡ CommandCompletion → (c : Command) → command_at h k (next_command h k) ≡ Some c → code b ≡ 1 → MayChangeAll h c k (changes h.context_size k.memory (slot b) c)) → FloorsGrow k (event_read h k n b)
+  unfolding event_read transfer_read
+  kind_grows is k d b TransferEvent may = at_grows k d b (event_at h k b) refl
+  kind_grows is k d b CommandCompletion may = completion_grows k b (endpoints_of h k d.states) is (may refl)
+  kind_grows is k d b _ may = grow_none k
+
+  -- what the next command places, where its completion may be read
+  pub may_change : IsHeader h → (k : Known) (d : DriverKeeps h k) (b : Block) → broken h k (Read b) ≡ [] → is_command_completion (kind b) ≡ true →
+      (c : Command) → command_at h k (next_command h k) ≡ Some c → MayChangeAll h c k (changes h.context_size k.memory (slot b) c)
+  may_change is k d b clean completion c at =
+      let facts : EventFacts h k b = event_facts h k b clean in
+      let finish : CompletionFacts h k b = completion_facts h k b completion facts.possible in
+      still_places h is k (rings_of h k d) (endpoints_of h k d.states) (slot b) c
+      (command_holds h k (next_command h k) c (d.unfinished (next_command h k) c (next_unfinished h is k d facts.started finish.below c at)))
+
+  pub floors_grow : IsHeader h → (k : Known) (d : DriverKeeps h k) (e : Block) → broken h k (Read e) ≡ [] → FloorsGrow k (learned h k (Read e))
+  unfolding learned
+  floors_grow is k d e clean = kind_grows is k d e (kind e) (λ n c at success. may_change is k d e clean (ap is_command_completion n) c at)

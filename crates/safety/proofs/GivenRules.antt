@@ -1,0 +1,141 @@
+-- What the rules say of a command that a write gives
+use Rattle.std.specs.Prelude.{◌≡◌, ℕ, ◌==◌, ◌||◌, not, Bool, true, false, [], map, All, Option, None, Some, is_some}
+use Rattle.std.specs.List.{list_any}
+use Rattle.std.proofs.Common.{arith, refl, sym, ◌∙◌, ap, subst, inl, inr}
+use Rattle.std.proofs.lemmas.Bool.{and_cases, or_parts, not-false, not-true, eqb-true, false≢true, false_from_ne_true}
+use Rattle.std.proofs.lemmas.List.Elements.{All-get_or, All-weaker}
+use Rattle.std.proofs.lemmas.List.Folds.{Any-from_list_any}
+use Rattle.segments.specs.RingView.{declared, floor_number}
+use Rattle.segments.specs.Moves.{is_move}
+use Rattle.commands.specs.declared.command.Command.{Command}
+use Rattle.commands.specs.declared.command.Command.TheVariants.{NoOp, EnableSlot, DisableSlot, AddressDevice, ConfigureEndpoint, EvaluateContext, ResetEndpoint, StopEndpoint, SetTrDequeue, ResetDevice}
+use Rattle.commands.specs.declared.state.EndpointState.{EndpointState}
+use Rattle.commands.specs.declared.state.EndpointState.TheVariants.{Disabled as Off}
+use Rattle.commands.specs.States.{is_off}
+use Rattle.traces.specs.declared.header.Header.{Header}
+use Rattle.traces.specs.declared.row.Row.TheVariants.{Write}
+use Rattle.traces.specs.Header.{IsHeader, shape_of, is_ring}
+use Rattle.ring_knowledge.specs.Known.{Known}
+use Rattle.ring_knowledge.specs.Writes.{command_given}
+use Rattle.ownership_rules.specs.Commands as commands
+use Rattle.ownership_rules.specs.Moves.{Binding, binding_in, binds, ring_bound, binds_ring, is_used, is_unused_ring, has_repeats, is_bad_binding, is_bad_stay, is_bad_move}
+use Rattle.ownership_rules.specs.Writes.{some_command, write_tests}
+use Rattle.ownership_rules.specs.Rules.{tests, broken}
+use Rattle.safety.specs.Keeps.{StaysIf, MovesIf, DriverKeeps}
+use Rattle.safety.proofs.TestsPassed.{AllFail, tests_fail, each_fails}
+use Rattle.safety.proofs.Headers.{transfer_driver}
+use Rattle.safety.proofs.GivenCommands.{ring_is, GoodBindings, good_bindings, never_bound, content_good, stays, fails_of}
+use Rattle.safety.proofs.CommandsStay.{OwnKeeps}
+
+is_off_only : (e : EndpointState) → is_off e ≡ true → e ≡ Off
+is_off_only Off off = refl
+is_off_only _ off = absurd (false≢true off)
+
+module _ (h : Header) (k : Known) where
+  pub record GivenFacts (c : Command) : Type 0 where
+    pub own : OwnKeeps h k c
+    pub content : commands.has_bad_content h k c ≡ false
+    pub busy : commands.is_busy h k c ≡ false
+    pub unused : (r : ℕ) → binds_ring h k r c ≡ true → is_used h k r ≡ false
+    -- nothing waits on the ring of a second Address Device
+    pub nothing_left : (s n r : ℕ) (bsr : Bool) → c ≡ AddressDevice s bsr n → k.ring_of s 1 ≡ Some r → declared (k.ring r) ≡ floor_number (k.ring r)
+
+  binds_well : (c : Command) → is_bad_binding h k c ≡ false → All (λ b. (is_some (ring_bound h b) ≡ true) × (b.cycle ≡ true)) (binds h k c)
+  unfolding is_bad_binding is_unused_ring
+  binds_well c good =
+      let parts = or_parts (list_any (λ b. not (is_unused_ring h k (ring_bound h b)) || not b.cycle) (binds h k c)) (has_repeats (map (ring_bound h) (binds h k c))) good in
+      All-weaker (λ b. (not (is_unused_ring h k (ring_bound h b)) || not b.cycle) ≡ false) (λ b. (is_some (ring_bound h b) ≡ true) × (b.cycle ≡ true))
+      (λ b fails. let two = or_parts (not (is_unused_ring h k (ring_bound h b))) (not b.cycle) fails in
+      (some_unused (ring_bound h b) (not-false (is_unused_ring h k (ring_bound h b)) two.0), not-false b.cycle two.1))
+      (binds h k c) (each_fails (λ b. not (is_unused_ring h k (ring_bound h b)) || not b.cycle) (binds h k c) parts.0)
+    where
+      some_unused : (o : Option ℕ) → is_unused_ring h k o ≡ true → is_some o ≡ true
+      some_unused None unused = absurd (false≢true unused)
+      some_unused (Some r) unused = refl
+
+  rings_unused : (c : Command) → GoodBindings h k c → (r : ℕ) → binds_ring h k r c ≡ true → is_used h k r ≡ false
+  unfolding binds_ring is_unused_ring
+  rings_unused c good r bound =
+      let any = Any-from_list_any (λ b. is_ring r (ring_bound h b)) (binds h k c) bound in
+      let b : Binding = any.1 in
+      let unused : is_unused_ring h k (ring_bound h b) ≡ true =
+      subst (λ (x : Binding). is_unused_ring h k (ring_bound h x) ≡ true) any.3 (All-get_or (λ x. is_unused_ring h k (ring_bound h x) ≡ true) (binds h k c) any.0 b any.2 good.unused) in
+      not-true (is_used h k r) (ap (λ o. is_unused_ring h k o) (sym (ring_is r (ring_bound h b) any.4)) ∙ unused)
+
+  moves_if : (c : Command) → is_bad_move h k c ≡ false → MovesIf h k c
+  moves_if (AddressDevice s bsr n) good = tt
+  moves_if NoOp good = good
+  moves_if EnableSlot good = good
+  moves_if (DisableSlot s) good = good
+  moves_if (ConfigureEndpoint s dc n) good = good
+  moves_if (EvaluateContext s n) good = good
+  moves_if (ResetEndpoint s i) good = good
+  moves_if (StopEndpoint s i) good = good
+  moves_if (SetTrDequeue s i p cycle) good = good
+  moves_if (ResetDevice s) good = good
+
+  module _ (is : IsHeader h) (d : DriverKeeps h k) where
+    stand_rule : (s n r : ℕ) (bsr : Bool) → is_bad_move h k (AddressDevice s bsr n) ≡ false → k.ring_of s 1 ≡ Some r → is_bad_stay h k (Some r) (binding_in h k n 1) ≡ false
+    unfolding is_bad_move
+    stand_rule s n r bsr good at =
+        elim (and_cases (not (is_off (k.endpoint_state s 1))) (is_bad_stay h k (k.ring_of s 1) (binding_in h k n 1)) good) [
+          | inl off ↦ absurd (d.states.on s 1 r at (is_off_only (k.endpoint_state s 1) (not-false (is_off (k.endpoint_state s 1)) off)))
+          | inr stand ↦ ap (λ o. is_bad_stay h k o (binding_in h k n 1)) (sym at) ∙ stand
+        ]
+
+    none_left : (s n r : ℕ) (bsr : Bool) → is_bad_move h k (AddressDevice s bsr n) ≡ false → k.ring_of s 1 ≡ Some r → declared (k.ring r) ≡ floor_number (k.ring r)
+    unfolding is_bad_stay
+    none_left s n r bsr good at =
+        let move : ℕ → Bool = λ m. is_move (shape_of h r) (k.ring r) (binding_in h k n 1).pointer (binding_in h k n 1).cycle m m in
+        let parts = or_parts (not (declared (k.ring r) == floor_number (k.ring r))) (not (move (declared (k.ring r)))) (stand_rule s n r bsr good at) in
+        eqb-true (declared (k.ring r)) (floor_number (k.ring r)) (not-false (declared (k.ring r) == floor_number (k.ring r)) parts.0)
+
+    stays_if : (c : Command) → is_bad_move h k c ≡ false → StaysIf h k c
+    unfolding binding_in
+    stays_if (AddressDevice s bsr n) good =
+        λ r at.
+        let end = none_left s n r bsr good at in
+        record {
+          here = stays h k (binding_in h k n 1) (Some r) r (stand_rule s n r bsr good at) refl;
+          nothing = λ p low.
+              false_from_ne_true ((k.ring r).given p)
+              (λ given. let below = (d.rings r (transfer_driver h r (d.states.transfer s 1 r at))).given_declared p given in absurd (omega arith));
+        }
+    stays_if NoOp good = tt
+    stays_if EnableSlot good = tt
+    stays_if (DisableSlot s) good = tt
+    stays_if (ConfigureEndpoint s dc n) good = tt
+    stays_if (EvaluateContext s n) good = tt
+    stays_if (ResetEndpoint s i) good = tt
+    stays_if (StopEndpoint s i) good = tt
+    stays_if (SetTrDequeue s i p cycle) good = tt
+    stays_if (ResetDevice s) good = tt
+
+    left_if : (c : Command) → is_bad_move h k c ≡ false → (s n r : ℕ) (bsr : Bool) → c ≡ AddressDevice s bsr n → k.ring_of s 1 ≡ Some r → declared (k.ring r) ≡ floor_number (k.ring r)
+    left_if c good s n r bsr at has = none_left s n r bsr (ap (λ x. is_bad_move h k x) (sym at) ∙ good) has
+
+    pub given_facts : (a w : ℕ) (c : Command) → broken h k (Write a w) ≡ [] → command_given h k a w ≡ Some c → GivenFacts c
+    unfolding tests write_tests some_command
+    given_facts a w c clean given =
+        let fails : AllFail (write_tests h k a w) = tests_fail h k (Write a w) clean in
+        let good = fails_of h k (commands.is_bad_command h k) (command_given h k a w) c fails.1.1.1.1.1.0 given in
+        let busy = fails_of h k (commands.is_busy h k) (command_given h k a w) c (or_parts _ _ fails.1.1.1.1.1.1.0).0 given in
+        let inside = fails_of h k (commands.has_left_out_endpoint h k) (command_given h k a w) c (or_parts _ _ fails.1.1.1.1.1.1.1.0).0 given in
+        let places = fails_of h k (λ c. is_bad_binding h k c || is_bad_move h k c) (command_given h k a w) c fails.1.1.1.1.1.1.1.1.0 given in
+        let parts = or_parts (is_bad_binding h k c) (is_bad_move h k c) places in
+        let bindings : GoodBindings h k c = good_bindings h k c parts.0 in
+        record {
+          own = record {
+            good = good;
+            in_profile = inside;
+            binds_rings = binds_well c parts.0;
+            repeats = bindings.repeats;
+            unbound = never_bound h k c bindings;
+            moves_on = moves_if c parts.1;
+            stays = stays_if c parts.1;
+          };
+          content = content_good h k c good;
+          busy = busy;
+          unused = rings_unused c bindings;
+          nothing_left = left_if c parts.1;
+        }

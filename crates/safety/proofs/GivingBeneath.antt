@@ -1,0 +1,136 @@
+-- What a write gives of a ring it gives also behind an event: what is due only there is a lap behind what is leased, and what was
+-- due only before is passed, hence given
+use Rattle.std.specs.Prelude.{◌≡◌, ℕ, ◌+◌, ◌-◌, ◌<◌, ◌≤◌, ◌⊎◌, ◌||◌, Bool, true, false, nat_lt}
+use Rattle.std.proofs.Common.{arith, refl, sym, ◌∙◌, ap, inl, inr}
+use Rattle.std.proofs.lemmas.Bool.{cases_lt, cases_eq, false≢true, and_from, lt-ltb}
+use Rattle.std.proofs.lemmas.List.Elements.{All-contains}
+use Rattle.segments.specs.ShapeValue.{Shape}
+use Rattle.segments.specs.Shape.{IsShape}
+use Rattle.segments.specs.Places.{place_count, address_of, is_crossing, link_address, overlap}
+use Rattle.segments.specs.declared.spot.Spot.TheVariants.{Link}
+use Rattle.segments.specs.Spots.{rank}
+use Rattle.segments.specs.RingView.{RingView, floor_number, gives, gives_crossing, leased_positions, leased_crossings}
+use Rattle.segments.specs.RingKeeps.{RingKeeps, MayWrite}
+use Rattle.segments.proofs.Positions.{address_of-lap}
+use Rattle.segments.proofs.Crossings.{is_crossing-lap, link_address-lap}
+use Rattle.segments.proofs.SpotOrder.{rank_least}
+use Rattle.segments.proofs.Reaching.{crossed_due}
+use Rattle.segments.proofs.Giving.{IsCrossingDue, due_from, gives_is, gives_from, crossing_due_from, gives_crossing_is, gives_crossing_from}
+use Rattle.segments.proofs.DueLists.{leased_position, leased_crossing}
+use Rattle.ownership_rules.proofs.Among.{both_ways}
+use Rattle.safety.proofs.SameDriver.{SameGiven}
+
+-- the control word of a block has a byte in common with it
+control_touches : (a b : ℕ) → a ≡ b + 12 → overlap a 4 b 16 ≡ true
+control_touches a b at = and_from (nat_lt a (b + 16)) (nat_lt b (a + 4)) (lt-ltb a (b + 16) (omega arith)) (lt-ltb b (a + 4) (omega arith))
+
+-- u is the ring behind the event, v before it
+pub record RingBehind (shape : Shape) (memory : ℕ → ℕ) (v u : RingView) : Type 0 where
+  pub is : IsShape shape
+  pub before : RingKeeps shape memory v
+  pub behind : RingKeeps shape memory u
+  pub same : SameGiven v u
+  pub on : floor_number v ≤ floor_number u
+
+module _ (shape : Shape) (memory : ℕ → ℕ) (v u : RingView) (b : RingBehind shape memory v u) (a x : ℕ) where
+  given_there : (p : ℕ) → u.given p ≡ true → v.given p ≡ true
+  given_there p g = ap (λ f. f p) (sym b.same.given) ∙ g
+
+  crossed_there : (q : ℕ) → u.crossed q ≡ true → v.crossed q ≡ true
+  crossed_there q g = ap (λ f. f q) (sym b.same.crossed) ∙ g
+
+  -- ---- what was due and isn't given is still due
+
+  pub gives_behind : (p : ℕ) → v.given p ≡ false → gives shape v.floor p a x ≡ true → gives shape u.floor p a x ≡ true
+  gives_behind p fresh gives_now =
+      let g = gives_is shape v.floor p a x gives_now in
+      elim (cases_lt p (floor_number u)) [
+        | inl passed ↦ absurd (false≢true (sym fresh ∙ given_there p (b.behind.passed p passed)))
+        | inr from ↦ ap (λ y. gives shape u.floor p y x) g.at ∙ gives_from shape u.floor p x (due_from shape u.floor p from (omega (arith, g.within, b.on))) g.cycle
+      ]
+
+  crossing_behind : (q : ℕ) → IsCrossingDue shape v.floor q → v.crossed q ≡ false → IsCrossingDue shape u.floor q
+  crossing_behind q due fresh =
+      elim (cases_lt (rank (Link q)) (rank u.floor)) [
+        | inl passed ↦ absurd (false≢true (sym fresh ∙ crossed_there q (b.behind.passed_links q due.crossing passed)))
+        | inr from ↦
+            record {
+              crossing = due.crossing;
+              from = omega (arith, rank_least u.floor);
+              within = elim due.within [
+                | inl below ↦ inl (omega (arith, b.on))
+                | inr first ↦ elim (cases_eq (floor_number u) 0) [
+                  | inl still ↦ inr (first.0, still)
+                  | inr moved ↦ inl (omega arith)
+                ]
+              ];
+            }
+      ]
+
+  pub crosses_behind : (q : ℕ) → v.crossed q ≡ false → gives_crossing shape v.floor q a x ≡ true → gives_crossing shape u.floor q a x ≡ true
+  crosses_behind q fresh gives_now =
+      let g = gives_crossing_is shape v.floor q a x gives_now in
+      ap (λ y. gives_crossing shape u.floor q y x) g.at ∙ gives_crossing_from shape u.floor q x (crossing_due_from shape u.floor q (crossing_behind q g.due fresh)) g.cycle
+
+  -- ---- what is due and writes no leased word was due
+
+  module _ (may : MayWrite shape memory v a x) where
+    position_near : (p : ℕ) → p < floor_number u + place_count shape → a ≡ address_of shape p + 12 → p < floor_number v + place_count shape
+    position_near p within at =
+        elim (cases_lt p (floor_number v + place_count shape)) [
+          | inl near ↦ near
+          | inr far ↦
+              let q : ℕ = p - place_count shape in
+              let lap : p - place_count shape + place_count shape ≡ p = omega arith in
+              let place : address_of shape p ≡ address_of shape (p - place_count shape) = ap (λ n. address_of shape n) (sym lap) ∙ address_of-lap shape (p - place_count shape) in
+              let given : v.given (p - place_count shape) ≡ true = given_there (p - place_count shape) (b.behind.passed (p - place_count shape) (omega arith)) in
+              let due = due_from shape v.floor (p - place_count shape) (omega arith) (b.before.given_within (p - place_count shape) given) in
+              let free = All-contains (λ p. overlap a 4 (address_of shape p) 16 ≡ false) (leased_positions shape v) (p - place_count shape) may.blocks (leased_position shape v (p - place_count shape) due given) in
+              absurd (false≢true (sym free ∙ control_touches a (address_of shape (p - place_count shape)) (omega arith)))
+        ]
+
+    pub gives_before : (p : ℕ) → gives shape u.floor p a x ≡ true → gives shape v.floor p a x ≡ true
+    gives_before p gives_now =
+        let g = gives_is shape u.floor p a x gives_now in
+        ap (λ y. gives shape v.floor p y x) g.at ∙ gives_from shape v.floor p x (due_from shape v.floor p (omega (arith, g.from, b.on)) (position_near p g.within g.at)) g.cycle
+
+    link_near : (q : ℕ) → IsCrossingDue shape u.floor q → a ≡ link_address shape q + 12 → (q < floor_number v + place_count shape) ⊎ ((q ≡ place_count shape) × (floor_number v ≡ 0))
+    link_near q due at =
+        elim (cases_lt q (floor_number v + place_count shape)) [
+          | inl near ↦ inl near
+          | inr far ↦ elim (cases_eq q (place_count shape)) [
+            | inl first ↦ inr (first, omega arith)
+            | inr more ↦
+                let below : q < floor_number u + place_count shape = elim due.within [ inl below ↦ below | inr end ↦ absurd (more end.0) ] in
+                let some : 0 < q - place_count shape = omega arith in
+                let lap : q - place_count shape + place_count shape ≡ q = omega arith in
+                let crossing : is_crossing shape (q - place_count shape) ≡ true =
+                sym (is_crossing-lap shape (q - place_count shape) some) ∙ ap (λ n. is_crossing shape n) lap ∙ due.crossing in
+                let place : link_address shape q ≡ link_address shape (q - place_count shape) =
+                ap (λ n. link_address shape n) (sym lap) ∙ link_address-lap shape (q - place_count shape) some in
+                let given : v.crossed (q - place_count shape) ≡ true =
+                crossed_there (q - place_count shape) (b.behind.passed_links (q - place_count shape) crossing (omega (arith, rank_least u.floor))) in
+                let was_due = crossed_due shape b.is memory v b.before (q - place_count shape) (omega arith) given in
+                let free = All-contains (λ q. overlap a 4 (link_address shape q) 16 ≡ false) (leased_crossings shape v) (q - place_count shape) may.links
+                (leased_crossing shape v (q - place_count shape) was_due given) in
+                absurd (false≢true (sym free ∙ control_touches a (link_address shape (q - place_count shape)) (omega arith)))
+          ]
+        ]
+
+    pub crosses_before : (q : ℕ) → gives_crossing shape u.floor q a x ≡ true → gives_crossing shape v.floor q a x ≡ true
+    crosses_before q gives_now =
+        let g = gives_crossing_is shape u.floor q a x gives_now in
+        let due : IsCrossingDue shape v.floor q = record { crossing = g.due.crossing; from = omega (arith, g.due.from, b.on); within = link_near q g.due g.at } in
+        ap (λ y. gives_crossing shape v.floor q y x) g.at ∙ gives_crossing_from shape v.floor q x (crossing_due_from shape v.floor q due) g.cycle
+
+    -- ---- so the write gives the same
+
+    same_or : (f g : Bool) (given_v given_u : Bool) → given_u ≡ given_v → (given_v ≡ false → f ≡ true → g ≡ true) → (g ≡ true → f ≡ true) → (given_v || f) ≡ (given_u || g)
+    same_or f g true given_u same there back = sym (ap (λ y. y || g) same)
+    same_or f g false given_u same there back = both_ways f g (there refl) back ∙ sym (ap (λ y. y || g) same)
+
+    pub given_same : (p : ℕ) → (v.given p || gives shape v.floor p a x) ≡ (u.given p || gives shape u.floor p a x)
+    given_same p = same_or (gives shape v.floor p a x) (gives shape u.floor p a x) (v.given p) (u.given p) (ap (λ f. f p) b.same.given) (gives_behind p) (gives_before p)
+
+    pub crossed_same : (q : ℕ) → (v.crossed q || gives_crossing shape v.floor q a x) ≡ (u.crossed q || gives_crossing shape u.floor q a x)
+    crossed_same q = same_or (gives_crossing shape v.floor q a x) (gives_crossing shape u.floor q a x) (v.crossed q) (u.crossed q) (ap (λ f. f q) b.same.crossed) (crosses_behind q) (crosses_before q)

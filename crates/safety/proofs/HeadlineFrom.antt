@@ -1,0 +1,246 @@
+-- The headline, from what a clean history keeps and a law for the driver's rows: each world of a run beside clean rows is safe
+use Rattle.std.specs.Prelude.{◌≡◌, false, List, [], ◌∷◌, ◌++◌, Option, Some, None, All, reverse, option_map, option_and_then}
+use Rattle.std.proofs.Common.{refl, sym, ◌∙◌, ap, subst, inl, inr}
+use Rattle.std.proofs.lemmas.Bool.{cases_Bool, cond-false, cond-true, false≢true}
+use Rattle.std.proofs.lemmas.List.{append_assoc, append-nil, reverse-append}
+use Rattle.std.proofs.lemmas.List.Elements.{All-cons, All-head, All-nil, All-tail}
+use Rattle.std.proofs.lemmas.Option.{none-some, same_Some}
+use Rattle.trb.specs.declared.block.Block.{Block}
+use Rattle.trb.specs.Block.{IsBlock}
+use Rattle.traces.specs.declared.header.Header.{Header}
+use Rattle.traces.specs.declared.row.Row.{Row}
+use Rattle.traces.specs.declared.row.Row.TheVariants.{Sub, Write, Reg, Bell, Read}
+use Rattle.traces.specs.declared.step.Step.{Step}
+use Rattle.traces.specs.declared.step.Step.TheVariants.{NextRow, Look, Report, Finish, Other, Scribble}
+use Rattle.traces.specs.Header.{IsHeader}
+use Rattle.traces.specs.Rows.{IsRow, IsStep}
+use Rattle.world_state.specs.World.{World, opening}
+use Rattle.world_state.specs.World as of_world
+use Rattle.world_state.specs.Harms.{IsSafe}
+use Rattle.controller_model.specs.DriverRows as driver
+use Rattle.controller_model.specs.Looks as looks
+use Rattle.controller_model.specs.Posts as posts
+use Rattle.controller_model.specs.Finishes as finishes
+use Rattle.controller_model.specs.Steps as steps
+use Rattle.ring_knowledge.specs.Known.{Known}
+use Rattle.ring_knowledge.specs.Learned.{learned, known}
+use Rattle.ownership_rules.specs.Rules.{broken}
+use Rattle.ownership_rules.specs.Clean.{IsClean}
+use Rattle.safety.specs.Headline.{IsHarmless}
+use Rattle.safety.specs.Keeps.{DriverKeeps}
+use Rattle.safety.specs.KeptHistories.{IsDriverRow}
+use Rattle.safety.specs.Matches.{Agrees}
+use Rattle.safety.specs.Invariant.{Runs, Holds, reading}
+use Rattle.safety.proofs.FinishRuns.{finish_runs}
+use Rattle.safety.proofs.LookRuns.{look_runs}
+use Rattle.safety.proofs.Opens.{opens}
+use Rattle.safety.proofs.Other.{other_runs}
+use Rattle.safety.proofs.ReadRow.{read_on, read_runs}
+use Rattle.safety.proofs.ReportRuns.{report_runs}
+use Rattle.safety.proofs.RowsLeft.{RowsLeft, looked_left, other_left, reported_left, finished_left, scribbled_left, row_left}
+use Rattle.safety.proofs.Safe.{safe}
+use Rattle.safety.proofs.Scribble.{scribble_runs}
+use Rattle.safety.proofs.StopRow.{stop_ends}
+use Rattle.safety.proofs.TestsPassed.{clean_tests}
+
+-- ---- what is owed
+
+-- what a clean history keeps
+abbrev pub HistoryLaw : Header → Type 0
+HistoryLaw h = (past : List Row) → All IsRow past → IsClean h past → (known h past).stopped ≡ false → DriverKeeps h (known h past)
+
+-- a row of the driver that doesn't stop the controller, whatever is unread
+abbrev pub RowLaw : Header → Type 0
+RowLaw h =
+    (past : List Row) (row : Row) (w v : World) → All IsRow past → IsRow row → IsDriverRow row → Runs h past w → broken h (known h past) row ≡ [] →
+    (learned h (known h past) row).stopped ≡ false → driver.row_done h w row ≡ Some v → Runs h (row ∷ past) (steps.counted h v)
+
+-- ---- small facts
+
+some_then : {A B : Type 0} (f : A → Option B) (o : Option A) (y : B) → option_and_then f o ≡ Some y → (x : A) × (o ≡ Some x) × (f x ≡ Some y)
+some_then f None y at = absurd (none-some y at)
+some_then f (Some x) y at = (x, refl, at)
+
+some_of : {A B : Type 0} (f : A → B) (o : Option A) (y : B) → option_map f o ≡ Some y → (x : A) × (o ≡ Some x) × (f x ≡ y)
+some_of f None y at = absurd (none-some y at)
+some_of f (Some x) y at = (x, refl, same_Some (f x) y at)
+
+later_clean : (h : Header) (xs ys : List Row) → IsClean h (xs ++ ys) → IsClean h ys
+later_clean h [] ys clean = clean
+later_clean h (x ∷ xs) ys clean = later_clean h xs ys clean.0
+
+module _ (h : Header) where
+  pub reading_on : (unread : List Block) (past : List Row) → (known h past).stopped ≡ false → (known h (reading unread past)).stopped ≡ false
+  unfolding known
+  reading_on [] past on = on
+  reading_on (e ∷ unread) past on = reading_on unread (Read e ∷ past) (read_on h (known h past) e on)
+
+  pub reading_rows : (unread : List Block) (past : List Row) → All IsBlock unread → All IsRow past → All IsRow (reading unread past)
+  reading_rows [] past blocks rows = rows
+  reading_rows (e ∷ unread) past blocks rows =
+      reading_rows unread (Read e ∷ past) (All-tail IsBlock e unread blocks) (All-cons IsRow (Read e) past (All-head IsBlock e unread blocks) rows)
+
+  -- nothing that is kept speaks of the rows still to come
+  agrees_rest : (k : Known) (unread : List Block) (w : World) (rest : List Row) → Agrees h k unread w → Agrees h k unread (record w { rows = rest })
+  unfolding of_world.event_at
+  agrees_rest k unread w rest g =
+      let s = g.stands in
+      let e = g.events in
+      let m = g.matches in
+      record {
+        stands = record { started = s.started; stopped = s.stopped; registers = s.registers; queues = s.queues; lengths = s.lengths; dequeue = s.dequeue; quiet = s.quiet };
+        events = record { order = e.order; count = e.count; places = e.places; started = e.started; ring = e.ring };
+        matches = record {
+          slots = m.slots;
+          endpoints = m.endpoints;
+          ring_of = m.ring_of;
+          rings = m.rings;
+          fresh = m.fresh;
+          before = λ off. let b = m.before off in record { inactive = b.inactive; no_events = b.no_events; none = b.none };
+          command = λ on. let c = m.command on in record { spot = c.spot; ring = c.ring; under_way = c.under_way };
+          scribbles = m.scribbles;
+          contexts = m.contexts;
+          inside = m.inside;
+        };
+        read = g.read;
+        stamps = g.stamps;
+      }
+
+  runs_rest : (past : List Row) (w : World) (rest : List Row) → Runs h past w → Runs h past (record w { rows = rest })
+  runs_rest past w rest run =
+      record { unread = run.unread; clean = run.clean; blocks = run.blocks; on = run.on; agrees = agrees_rest (known h (reading run.unread past)) run.unread w rest run.agrees }
+
+  -- a run has come to world w, with `past` the rows that were made, the newest first
+  record CameTo (past : List Row) (w : World) : Type 0 where
+    made : All IsRow past
+    left : All IsRow w.rows
+    clean : IsClean h (reverse w.rows ++ past)
+    holds : Holds h past w
+
+  -- the same with one row more
+  one_more : (row : Row) (rest past : List Row) → reverse (row ∷ rest) ++ past ≡ reverse rest ++ (row ∷ past)
+  one_more row rest past = ap (λ l. l ++ past) (reverse-append (row ∷ []) rest) ∙ append_assoc (reverse rest) (row ∷ []) past
+
+  module _ (is : IsHeader h) (keeps : HistoryLaw h) (row_law : RowLaw h) where
+    later_keeps : (past : List Row) (w : World) → All IsRow past → (run : Runs h past w) → DriverKeeps h (known h (reading run.unread past))
+    later_keeps past w rows run =
+        keeps (reading run.unread past) (reading_rows run.unread past run.blocks rows) run.clean (reading_on run.unread past run.on)
+
+    -- ---- a row of the trace
+
+    driver_row : (past : List Row) (row : Row) (w v : World) → All IsRow past → IsRow row → IsDriverRow row → Runs h past w → IsClean h (row ∷ past) →
+        driver.row_done h w row ≡ Some v → Holds h (row ∷ past) (steps.counted h v)
+    driver_row past row w v rows is_row of_driver run clean at =
+        elim (cases_Bool (learned h (known h past) row).stopped) [
+          | inl stopped ↦ inr (stop_ends h is past row w v run (later_keeps past w rows run) clean stopped at)
+          | inr on ↦ inl (row_law past row w v rows is_row of_driver run clean.1 on at)
+        ]
+
+    row_holds : (past : List Row) (row : Row) (w v : World) → All IsRow past → IsRow row → Runs h past w → IsClean h (row ∷ past) →
+        driver.row_done h w row ≡ Some v → Holds h (row ∷ past) (steps.counted h v)
+    unfolding driver.row_done
+    row_holds past (Read e) w v rows is_row run clean at = inl (read_runs h past e w v is_row run at)
+    row_holds past (Sub r blocks) w v rows is_row run clean at = driver_row past (Sub r blocks) w v rows is_row tt run clean at
+    row_holds past (Write a x) w v rows is_row run clean at = driver_row past (Write a x) w v rows is_row tt run clean at
+    row_holds past (Reg r x) w v rows is_row run clean at = driver_row past (Reg r x) w v rows is_row tt run clean at
+    row_holds past (Bell s t) w v rows is_row run clean at = driver_row past (Bell s t) w v rows is_row tt run clean at
+
+    -- ---- a controller's step: the same rows stay
+
+    stays : (past : List Row) (w u : World) (o : Option World) → CameTo past w → o ≡ Some u → RowsLeft w o → (Runs h past w → Runs h past (steps.counted h u)) → w.stopped ≡ false →
+        CameTo past (steps.counted h u)
+    unfolding steps.counted
+    stays past w u o c at left goes running =
+        let rows : u.rows ≡ w.rows = left.left u at in
+        record {
+          made = c.made;
+          left = subst (λ l. All IsRow l) (sym rows) c.left;
+          clean = subst (λ l. IsClean h (reverse l ++ past)) (sym rows) c.clean;
+          holds = elim c.holds [
+            | inl run ↦ inl (goes run)
+            | inr over ↦ absurd (false≢true (sym running ∙ over.also))
+          ];
+        }
+
+    -- ---- a row
+
+    next : (past : List Row) (w u : World) (rows : List Row) → w.rows ≡ rows → CameTo past w → driver.next_row h w rows ≡ Some u →
+        (row : Row) × CameTo (row ∷ past) (steps.counted h u)
+    unfolding driver.next_row steps.counted
+    next past w u [] rows c at = absurd (none-some u at)
+    next past w u (row ∷ rest) rows c at =
+        let clean : IsClean h (reverse rest ++ (row ∷ past)) = subst (λ l. IsClean h l) (one_more row rest past) (subst (λ l. IsClean h (reverse l ++ past)) rows c.clean) in
+        let here : IsClean h (row ∷ past) = later_clean h (reverse rest) (row ∷ past) clean in
+        let left : All IsRow (row ∷ rest) = subst (λ l. All IsRow l) rows c.left in
+        let is_row : IsRow row = All-head IsRow row rest left in
+        let same : u.rows ≡ rest = (row_left h (record w { rows = rest }) row).left u at in (
+          row,
+          record {
+            made = All-cons IsRow row past is_row c.made;
+            left = subst (λ l. All IsRow l) (sym same) (All-tail IsRow row rest left);
+            clean = subst (λ l. IsClean h (reverse l ++ (row ∷ past))) (sym same) clean;
+            holds = elim c.holds [
+              | inl run ↦ row_holds past row (record w { rows = rest }) u c.made is_row (runs_rest past w rest run) here at
+              | inr over ↦ absurd (false≢true (sym (clean_tests h (known h past) row here.1).0 ∙ over.stopped))
+            ];
+          },
+        )
+
+    running_is : (w u : World) (o : Option World) → steps.while_running h w o ≡ Some u → (w.stopped ≡ false) × (o ≡ Some u)
+    unfolding steps.while_running
+    running_is w u o at =
+        elim (cases_Bool w.stopped) [
+          | inl stopped ↦ absurd (none-some u (sym (cond-true w.stopped None o stopped) ∙ at))
+          | inr on ↦ (on, sym (cond-false w.stopped None o on) ∙ at)
+        ]
+
+    step_made : (past : List Row) (w u : World) (s : Step) → IsStep s → CameTo past w → steps.made h w s ≡ Some u → (later : List Row) × CameTo later (steps.counted h u)
+    unfolding steps.made
+    step_made past w u NextRow is_step c at = let n = next past w u w.rows refl c at in (n.0 ∷ past, n.1)
+    step_made past w u (Look r) is_step c at =
+        let g = running_is w u (looks.looked h w r) at in
+        (past, stays past w u (looks.looked h w r) c g.1 (looked_left h w r) (λ run. look_runs h is past w u r run (later_keeps past w c.made run) g.1) g.0)
+    step_made past w u (Report b) is_step c at =
+        let g = running_is w u (posts.reported h w b) at in
+        (past, stays past w u (posts.reported h w b) c g.1 (reported_left h w b) (λ run. report_runs h is past w u b is_step g.0 run (later_keeps past w c.made run) g.1) g.0)
+    step_made past w u (Finish b) is_step c at =
+        let g = running_is w u (finishes.finished h w b) at in
+        (past, stays past w u (finishes.finished h w b) c g.1 (finished_left h w b) (λ run. finish_runs h is past w u b is_step g.0 run (later_keeps past w c.made run) g.1) g.0)
+    step_made past w u (Other b) is_step c at =
+        let g = running_is w u (posts.other_posted h w b) at in
+        (past, stays past w u (posts.other_posted h w b) c g.1 (other_left h w b) (λ run. other_runs h is past w u b is_step g.0 run (later_keeps past w c.made run) g.1) g.0)
+    step_made past w u (Scribble a x) is_step c at =
+        let g = running_is w u (steps.scribbled h w a x) at in
+        (past, stays past w u (steps.scribbled h w a x) c g.1 (scribbled_left h w a x) (λ run. scribble_runs h is past w u a x run (later_keeps past w c.made run) g.1) g.0)
+
+    -- ---- whole runs
+
+    first : (rows : List Row) → All IsRow rows → IsClean h (reverse rows) → CameTo [] (opening rows)
+    unfolding opening
+    first rows are clean = record {
+      made = All-nil IsRow;
+      left = are;
+      clean = subst (λ l. IsClean h l) (sym (append-nil (reverse rows))) clean;
+      holds = inl (opens h rows);
+    }
+
+    came : (rows : List Row) → All IsRow rows → IsClean h (reverse rows) → (made : List Step) (w : World) → All IsStep made → steps.reached h rows made ≡ Some w →
+        (past : List Row) × CameTo past w
+    unfolding steps.reached steps.stepped
+    came rows are clean [] w all at = ([], subst (λ v. CameTo [] v) (same_Some (opening rows) w at) (first rows are clean))
+    came rows are clean (s ∷ older) w all at =
+        let before = some_then (λ v. steps.stepped h v s) (steps.reached h rows older) w at in
+        let came_before = came rows are clean older before.0 (All-tail IsStep s older all) before.1 in
+        let step = some_of (steps.counted h) (steps.made h before.0 s) w before.2 in
+        let after = step_made came_before.0 before.0 step.0 s (All-head IsStep s older all) came_before.1 step.1 in
+        (after.0, subst (λ v. CameTo after.0 v) step.2 after.1)
+
+    safe_there : (past : List Row) (w : World) → CameTo past w → IsSafe h w
+    safe_there past w c =
+        elim c.holds [
+          | inl run ↦ safe h is past w run (later_keeps past w c.made run)
+          | inr over ↦ over.safe
+        ]
+
+    pub headline_from : (rows : List Row) → All IsRow rows → IsClean h (reverse rows) → IsHarmless h rows
+    headline_from rows are clean made w all at = let c = came rows are clean made w all at in safe_there c.0 w c.1

@@ -1,0 +1,33 @@
+-- Held at greater numbers, and again at greater ones
+use Rattle.std.specs.Prelude.{ℕ, Option, None, Some}
+use Rattle.std.proofs.Common.{arith, refl, ◌∙◌, ap}
+use Rattle.segments.specs.RingView.{RingView}
+use Rattle.ring_knowledge.specs.Known.{Known}
+use Rattle.safety.specs.Beneath.{IsHeldMore, RingHeldMore, HeldMore}
+
+held_same : (o : Option ℕ) → IsHeldMore o o
+held_same None = tt
+held_same (Some m) = omega arith
+
+pub held_twice : (a b c : Option ℕ) → IsHeldMore a b → IsHeldMore b c → IsHeldMore a c
+held_twice None None None x y = tt
+held_twice (Some l) (Some m) (Some n) x y = omega (arith, x, y)
+held_twice None None (Some n) x y = absurd y
+held_twice (Some l) (Some m) None x y = absurd y
+held_twice None (Some m) c x y = absurd x
+held_twice (Some l) None c x y = absurd x
+
+pub held_more_same : (k : Known) → HeldMore k k
+held_more_same k = record { rest = refl; rings = λ r. record { rest = refl; held = held_same (k.ring r).held } }
+
+ring_twice : (u v w : RingView) → RingHeldMore u v → RingHeldMore v w → RingHeldMore u w
+ring_twice u v w x y = record { rest = ap (λ z. with_held z w.held) x.rest ∙ y.rest; held = held_twice u.held v.held w.held x.held y.held }
+  where
+    with_held : RingView → Option ℕ → RingView
+    with_held z o = record z { held = o }
+
+pub held_more_twice : (k l m : Known) → HeldMore k l → HeldMore l m → HeldMore k m
+held_more_twice k l m x y = record { rest = ap (λ z. with_rings z m.ring) x.rest ∙ y.rest; rings = λ r. ring_twice (k.ring r) (l.ring r) (m.ring r) (x.rings r) (y.rings r) }
+  where
+    with_rings : Known → (ℕ → RingView) → Known
+    with_rings z f = record z { ring = f }

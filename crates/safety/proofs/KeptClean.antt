@@ -1,0 +1,136 @@
+-- No word of a ring is soiled, behind each row
+use Rattle.std.specs.Prelude.{◌≡◌, ℕ, ◌+◌, ◌==◌, ◌&&◌, not, Bool, true, false, [], Option, None, Some, is_none, option_and_then}
+use Rattle.std.proofs.Common.{refl, sym, ◌∙◌, ap, inl, inr}
+use Rattle.std.proofs.lemmas.Bool.{and_parts, and_left, or_from, or_parts, and_cases, false_from_ne_true, false≢true, leb-true, ltb-true}
+use Rattle.std.proofs.lemmas.Option.{none-some, same_Some}
+use Rattle.trb.specs.declared.block.Block.{Block}
+use Rattle.trb.specs.Block.{kind}
+use Rattle.segments.specs.Places.{is_in, is_inside}
+use Rattle.commands.specs.declared.command.Command.{Command}
+use Rattle.commands.specs.declared.command.Command.TheVariants.{NoOp, EnableSlot, DisableSlot, AddressDevice, ConfigureEndpoint, EvaluateContext, ResetEndpoint, StopEndpoint, SetTrDequeue, ResetDevice}
+use Rattle.contexts.specs.Contexts.{device_context_bytes}
+use Rattle.traces.specs.declared.header.Header.{Header}
+use Rattle.traces.specs.declared.row.Row.TheVariants.{Sub, Write, Reg, Bell, Read}
+use Rattle.traces.specs.Header.{shape_of, touches_ring}
+use Rattle.ring_knowledge.specs.Known.{Known}
+use Rattle.ring_knowledge.specs.Writes.{device_named, no_device, taken_device, command_given, with_device, with_word, written}
+use Rattle.ring_knowledge.specs.Learned.{learned}
+use Rattle.ownership_rules.specs.Areas.{is_bad_area}
+use Rattle.ownership_rules.specs.Commands as commands
+use Rattle.ownership_rules.specs.Writes.{some_command, write_tests}
+use Rattle.ownership_rules.specs.Rules.{tests, broken}
+use Rattle.safety.specs.Keeps.{IsDriverRing}
+use Rattle.safety.specs.KeptStep.{KeptByRows}
+use Rattle.safety.proofs.Headers.{found_in, shape_is}
+use Rattle.safety.proofs.TestsPassed.{AllFail, tests_fail}
+use Rattle.safety.proofs.GivenCommands.{content_good, fails_of}
+use Rattle.safety.proofs.Areas.{byte_apart, ring_untouched}
+use Rattle.safety.proofs.SameDriver.{event_same}
+use Rattle.safety.proofs.RowFrames.{declaration_leaves, register_leaves, bell_leaves}
+
+-- the slot and the address of a device context that comes under lease
+pub record TakesDevice (k : Known) (s d : ℕ) (c : Command) : Type 0 where
+  pub bsr : Bool
+  pub context : ℕ
+  pub command : c ≡ AddressDevice s bsr context
+  pub fresh : k.device s ≡ None
+  pub named : device_named k s ≡ d
+
+none_before : (o : Option ℕ) (s x : ℕ) (e : ℕ × ℕ) → no_device o s x ≡ Some e → (o ≡ None) × (s ≡ e.0) × (x ≡ e.1)
+unfolding no_device
+none_before None s x e at = let same = same_Some (s, x) e at in (refl, ap (λ (p : ℕ × ℕ). p.0) same, ap (λ (p : ℕ × ℕ). p.1) same)
+none_before (Some y) s x e at = absurd (none-some e at)
+
+takes_is : (k : Known) (c : Command) (e : ℕ × ℕ) → taken_device k c ≡ Some e → TakesDevice k e.0 e.1 c
+unfolding taken_device
+takes_is k (AddressDevice s bsr n) e at =
+    let is = none_before (k.device s) s (device_named k s) e at in
+    record { bsr = bsr; context = n; command = ap (λ t. AddressDevice t bsr n) is.1; fresh = ap k.device (sym is.1) ∙ is.0; named = ap (device_named k) (sym is.1) ∙ is.2 }
+takes_is k NoOp e at = absurd (none-some e at)
+takes_is k EnableSlot e at = absurd (none-some e at)
+takes_is k (DisableSlot s) e at = absurd (none-some e at)
+takes_is k (ConfigureEndpoint s dc n) e at = absurd (none-some e at)
+takes_is k (EvaluateContext s n) e at = absurd (none-some e at)
+takes_is k (ResetEndpoint s i) e at = absurd (none-some e at)
+takes_is k (StopEndpoint s i) e at = absurd (none-some e at)
+takes_is k (SetTrDequeue s i p cycle) e at = absurd (none-some e at)
+takes_is k (ResetDevice s) e at = absurd (none-some e at)
+
+given_some : (k : Known) (o : Option Command) (e : ℕ × ℕ) → option_and_then (taken_device k) o ≡ Some e → (c : Command) × (o ≡ Some c) × (taken_device k c ≡ Some e)
+given_some k None e at = absurd (none-some e at)
+given_some k (Some c) e at = (c, refl, at)
+
+-- what a write that breaks no rule takes under lease
+pub record CleanTaking (h : Header) (k : Known) (a w s d : ℕ) : Type 0 where
+  pub command : Command
+  pub given : command_given h k a w ≡ Some command
+  pub good : commands.is_bad_command h k command ≡ false
+  pub takes : TakesDevice k s d command
+
+module _ (h : Header) where
+  pub given_good : (k : Known) (a w : ℕ) (c : Command) → broken h k (Write a w) ≡ [] → command_given h k a w ≡ Some c → commands.is_bad_command h k c ≡ false
+  unfolding tests write_tests some_command
+  given_good k a w c clean given =
+      let fails : AllFail (write_tests h k a w) = tests_fail h k (Write a w) clean in
+      fails_of h k (commands.is_bad_command h k) (command_given h k a w) c fails.1.1.1.1.1.0 given
+
+  pub taking : (k : Known) (a w : ℕ) (e : ℕ × ℕ) → broken h k (Write a w) ≡ [] → option_and_then (taken_device k) (command_given h k a w) ≡ Some e → CleanTaking h k a w e.0 e.1
+  taking k a w e clean at =
+      let given = given_some k (command_given h k a w) e at in
+      record { command = given.0; given = given.1; good = given_good k a w given.0 clean given.1; takes = takes_is k given.0 e given.2 }
+
+  -- the device context touches no ring
+  taken_area : (k : Known) (s n d : ℕ) (bsr : Bool) → commands.has_bad_content h k (AddressDevice s bsr n) ≡ false → k.device s ≡ None → device_named k s ≡ d →
+      touches_ring h d (device_context_bytes h.context_size) ≡ false
+  unfolding commands.has_bad_content commands.takes_bad_device commands.is_bad_device is_bad_area
+  taken_area k s n d bsr good fresh named =
+      let takes = (or_parts _ (commands.takes_bad_device h k s n) good).1 in
+      elim (and_cases (is_none (k.device s)) _ takes) [
+        | inl other ↦ absurd (false≢true (sym other ∙ ap (λ o. is_none o) fresh))
+        | inr apart ↦
+            let device = (or_parts _ (commands.is_bad_device h k s n (device_named k s)) apart).1 in
+            let five = (or_parts _ _ device).0 in
+            let four = (or_parts _ _ five).0 in
+            let three = (or_parts _ _ four).0 in
+            let area = (or_parts _ (is_bad_area h k (device_named k s) (device_context_bytes h.context_size)) three).1 in
+            let ends = (or_parts _ _ area).0 in
+            ap (λ x. touches_ring h x (device_context_bytes h.context_size)) (sym named) ∙ (or_parts _ _ ends).1
+      ]
+
+  pub taking_apart : (k : Known) (a w s d : ℕ) → CleanTaking h k a w s d → touches_ring h d (device_context_bytes h.context_size) ≡ false
+  taking_apart k a w s d t =
+      taken_area k s t.takes.context d t.takes.bsr (ap (λ c. commands.has_bad_content h k c) (sym t.takes.command) ∙ content_good h k t.command t.good) t.takes.fresh t.takes.named
+
+  -- a byte of a ring is in no area that touches none
+  pub not_in_area : (r a d len : ℕ) → IsDriverRing h r → is_inside (shape_of h r) a ≡ true → touches_ring h d len ≡ false → is_in a d len ≡ false
+  not_in_area r a d len ring inside apart =
+      false_from_ne_true (is_in a d len) (λ within.
+      let found = found_in (λ q. q.id == r) h.rings ring.ring ring.found in
+      let parts = and_parts _ _ within in
+      byte_apart ring.ring.shape d len a (ring_untouched h d len apart ring.ring found.0) (ap (λ s. is_inside s a) (sym (shape_is h r ring.ring ring.found)) ∙ inside)
+      (leb-true d a parts.0) (ltb-true a (d + len) parts.1))
+
+  soiled_by : (k : Known) (a w x : ℕ) (o : Option (ℕ × ℕ)) → ((e : ℕ × ℕ) → o ≡ Some e → is_in x e.1 (device_context_bytes h.context_size) ≡ false) → k.soiled x ≡ false →
+      (with_device h (with_word h k a w) o).soiled x ≡ false
+  unfolding with_device with_word
+  soiled_by k a w x None apart clean = and_left (k.soiled x) (not (x == a)) clean
+  soiled_by k a w x (Some e) apart clean =
+      or_from (is_in x e.1 (device_context_bytes h.context_size)) (k.soiled x && not (x == a)) (apart e refl) (and_left (k.soiled x) (not (x == a)) clean)
+
+  clean_written : (k : Known) (a w x : ℕ) → ((e : ℕ × ℕ) → option_and_then (taken_device k) (command_given h k a w) ≡ Some e → is_in x e.1 (device_context_bytes h.context_size) ≡ false) →
+      k.soiled x ≡ false → (learned h k (Write a w)).soiled x ≡ false
+  unfolding learned written
+  clean_written k a w x apart clean = soiled_by k a w x (option_and_then (taken_device k) (command_given h k a w)) apart clean
+
+  read_soiled : (k : Known) (b : Block) → (learned h k (Read b)).soiled ≡ k.soiled
+  unfolding learned
+  read_soiled k b = (event_same h k (kind b) b).soiled
+
+  pub kept_clean : KeptByRows h (λ k. (r a : ℕ) → IsDriverRing h r → is_inside (shape_of h r) a ≡ true → k.soiled a ≡ false)
+  kept_clean is k (Sub q blocks) d clean on r a ring inside = ap (λ f. f a) (declaration_leaves h k q blocks).memory.soiled ∙ d.clean r a ring inside
+  kept_clean is k (Write at w) d clean on r a ring inside =
+      clean_written k at w a
+      (λ e takes. not_in_area r a e.1 (device_context_bytes h.context_size) ring inside (taking_apart k at w e.0 e.1 (taking k at w e clean takes))) (d.clean r a ring inside)
+  kept_clean is k (Reg q x) d clean on r a ring inside = ap (λ f. f a) (register_leaves h k q x).memory.soiled ∙ d.clean r a ring inside
+  kept_clean is k (Bell s t) d clean on r a ring inside = ap (λ f. f a) (bell_leaves h k s t).memory.soiled ∙ d.clean r a ring inside
+  kept_clean is k (Read b) d clean on r a ring inside = ap (λ f. f a) (read_soiled k b) ∙ d.clean r a ring inside

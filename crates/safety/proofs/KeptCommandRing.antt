@@ -1,0 +1,134 @@
+-- What CRCR and ERSTSZ say is kept by each row
+use Rattle.std.specs.Prelude.{◌≡◌, ℕ, ◌<◌, ◌==◌, ◌||◌, not, true, false, Option, None, Some, is_some, is_none}
+use Rattle.std.proofs.Common.{arith, refl, sym, ◌∙◌, ap, inl, inr}
+use Rattle.std.proofs.lemmas.Bool.{or_parts, not-false, false≢true, eqb-true}
+use Rattle.std.proofs.lemmas.Option.{same_Some}
+use Rattle.trb.specs.declared.block.Block.{Block}
+use Rattle.trb.specs.Block.{kind}
+use Rattle.segments.specs.ShapeValue.{Shape}
+use Rattle.segments.specs.Places.{address_of}
+use Rattle.traces.specs.declared.header.Header.{Header}
+use Rattle.traces.specs.declared.ring.Ring.{Ring}
+use Rattle.traces.specs.declared.register.Register.{Register}
+use Rattle.traces.specs.declared.register.Register.TheVariants.{Crcr, Erstsz}
+use Rattle.traces.specs.declared.row.Row.TheVariants.{Sub, Write, Reg, Bell, Read}
+use Rattle.traces.specs.Header.{IsHeader, is_command_kind, ring_with, shape_of, command_ring, command_id, event_ring, event_size}
+use Rattle.traces.specs.Register.{with_register, base_address, ring_cycle_state, command_stop, command_abort}
+use Rattle.ring_knowledge.specs.Known.{Known}
+use Rattle.ring_knowledge.specs.Learned.{learned}
+use Rattle.ownership_rules.specs.Registers.{is_written, is_no_first_block, is_bad_crcr, is_bad_size, is_bad_register}
+use Rattle.safety.specs.Keeps.{IsDriverRing, CommandRingNamed}
+use Rattle.safety.specs.KeptStep.{KeptByRows}
+use Rattle.safety.proofs.Headers.{shape_is, command_found, command_named, event_ring_size}
+use Rattle.safety.proofs.RingIds.{found_again, together}
+use Rattle.safety.proofs.SameDriver.{event_same}
+use Rattle.safety.proofs.RowFrames.{declaration_leaves, write_leaves, bell_leaves}
+use Rattle.safety.proofs.CleanRows.{register_facts}
+use Rattle.safety.proofs.KeptRegisters.{command_drives, written_stays, registered, register_starts, starts_written}
+
+module _ (h : Header) where
+  read_leaves : (k : Known) (b : Block) → ((learned h k (Read b)).register ≡ k.register) × ((learned h k (Read b)).started ≡ k.started)
+  unfolding learned
+  read_leaves k b = let same = event_same h k (kind b) b in (same.register, same.started)
+
+  module _ (is : IsHeader h) where
+    -- the command ring is found by its ID
+    pub command_with : (c : Ring) → command_ring h ≡ Some c → ring_with h (command_id h) ≡ Some c
+    unfolding command_ring
+    command_with c at = ap (λ n. ring_with h n) (command_named h is (Some c) at) ∙ found_again (λ q. is_command_kind q.shape.kind) h.rings c (together h is) at
+
+    pub command_driver : (c : Ring) → command_ring h ≡ Some c → IsDriverRing h (command_id h)
+    command_driver c at = record { ring = c; found = command_with c at; kind = command_drives c.shape.kind (command_found h is c at).1 }
+
+    first_block : (v : ℕ) (o : Option Ring) → command_ring h ≡ o → is_no_first_block v o ≡ false → (IsDriverRing h (command_id h)) × (base_address v ≡ address_of (shape_of h (command_id h)) 0)
+    unfolding is_no_first_block
+    first_block v None at first = absurd (false≢true (sym first))
+    first_block v (Some c) at first = (
+      command_driver c at,
+      eqb-true (base_address v) (address_of c.shape 0) (not-false (base_address v == address_of c.shape 0) first)
+          ∙ ap (λ (s : Shape). address_of s 0) (sym (shape_is h (command_id h) c (command_with c at))),
+    )
+
+    named_by : (v : ℕ) → is_bad_crcr h v ≡ false → CommandRingNamed h v
+    unfolding is_bad_crcr
+    named_by v good =
+        let three = or_parts (is_no_first_block v (command_ring h) || not (ring_cycle_state v == 1) || command_stop v) (command_abort v) good in
+        let two = or_parts (is_no_first_block v (command_ring h) || not (ring_cycle_state v == 1)) (command_stop v) three.0 in
+        let one = or_parts (is_no_first_block v (command_ring h)) (not (ring_cycle_state v == 1)) two.0 in
+        let first = first_block v (command_ring h) refl one.0 in
+        record { is_ring = first.0; base = first.1; cycle = eqb-true (ring_cycle_state v) 1 (not-false (ring_cycle_state v == 1) one.1) }
+
+    crcr_by : (k : Known) (r : Register) (v : ℕ) → ((x : ℕ) → k.register Crcr ≡ Some x → CommandRingNamed h x) → is_bad_register h k r v ≡ false →
+        (x : ℕ) → with_register k.register r v Crcr ≡ Some x → CommandRingNamed h x
+    unfolding is_bad_register
+    crcr_by k Crcr v named good x at = named_by x (ap (is_bad_crcr h) (sym (same_Some v x at)) ∙ (or_parts k.started (is_bad_crcr h v) good).1)
+    crcr_by k r v named good x at = named x at
+
+    some_ring : (o : Option Ring) → event_ring h ≡ o → is_none o ≡ false → 0 < event_size h
+    some_ring None at some = absurd (false≢true (sym some))
+    some_ring (Some e) at some = omega (arith, event_ring_size h is e at)
+
+    size_by : (v : ℕ) → is_bad_size h v ≡ false → 0 < event_size h
+    unfolding is_bad_size
+    size_by v good = some_ring (event_ring h) refl (or_parts _ _ good).0
+
+    sized_by : (k : Known) (r : Register) (v : ℕ) → (is_some (k.register Erstsz) ≡ true → 0 < event_size h) → is_bad_register h k r v ≡ false →
+        is_some (with_register k.register r v Erstsz) ≡ true → 0 < event_size h
+    unfolding is_bad_register
+    sized_by k Erstsz v sized good at = size_by v (or_parts (k.started || is_written k Erstsz) (is_bad_size h v) good).1
+    sized_by k r v sized good at = sized at
+
+  -- CRCR names the command ring
+  pub kept_crcr : KeptByRows h (λ k. (v : ℕ) → k.register Crcr ≡ Some v → CommandRingNamed h v)
+  kept_crcr is k (Sub r blocks) d clean on v at = d.crcr v (ap (λ f. f Crcr) (sym (declaration_leaves h k r blocks).registers.register) ∙ at)
+  kept_crcr is k (Write a w) d clean on v at = d.crcr v (ap (λ f. f Crcr) (sym (write_leaves h k a w).registers.register) ∙ at)
+  kept_crcr is k (Reg r x) d clean on v at = crcr_by is k r x d.crcr (register_facts h k r x clean).good v (ap (λ f. f Crcr) (sym (registered h k r x)) ∙ at)
+  kept_crcr is k (Bell s t) d clean on v at = d.crcr v (ap (λ f. f Crcr) (sym (bell_leaves h k s t).registers.register) ∙ at)
+  kept_crcr is k (Read b) d clean on v at = d.crcr v (ap (λ f. f Crcr) (sym (read_leaves k b).0) ∙ at)
+
+  same_written : (k l : Known) (q : Register) → l.register ≡ k.register → is_some (k.register q) ≡ true → is_some (l.register q) ≡ true
+  same_written k l q same written = ap (λ f. is_some (f q)) same ∙ written
+
+  register_written_before : (k : Known) (r : Register) (x : ℕ) (q : Register) → is_some (k.register q) ≡ true → is_some ((learned h k (Reg r x)).register q) ≡ true
+  register_written_before k r x q written = ap (λ f. is_some (f q)) (registered h k r x) ∙ written_stays k.register r x q written
+
+  -- and was written before the start
+  pub kept_crcr_written : KeptByRows h (λ k. k.started ≡ true → is_some (k.register Crcr) ≡ true)
+  kept_crcr_written is k (Sub r blocks) d clean on started =
+      let same = (declaration_leaves h k r blocks).registers in same_written k (learned h k (Sub r blocks)) Crcr same.register (d.crcr_written (sym same.started ∙ started))
+  kept_crcr_written is k (Write a w) d clean on started =
+      let same = (write_leaves h k a w).registers in same_written k (learned h k (Write a w)) Crcr same.register (d.crcr_written (sym same.started ∙ started))
+  kept_crcr_written is k (Reg r x) d clean on started =
+      register_written_before k r x Crcr
+      (elim (register_starts h k r x started) [
+        | inl before ↦ d.crcr_written before
+        | inr starts ↦ (starts_written h k r x (register_facts h k r x clean).good starts).0
+      ])
+  kept_crcr_written is k (Bell s t) d clean on started =
+      let same = (bell_leaves h k s t).registers in same_written k (learned h k (Bell s t)) Crcr same.register (d.crcr_written (sym same.started ∙ started))
+  kept_crcr_written is k (Read b) d clean on started =
+      let same = read_leaves k b in same_written k (learned h k (Read b)) Crcr same.0 (d.crcr_written (sym same.1 ∙ started))
+
+  pub kept_erstsz_written : KeptByRows h (λ k. k.started ≡ true → is_some (k.register Erstsz) ≡ true)
+  kept_erstsz_written is k (Sub r blocks) d clean on started =
+      let same = (declaration_leaves h k r blocks).registers in same_written k (learned h k (Sub r blocks)) Erstsz same.register (d.erstsz_written (sym same.started ∙ started))
+  kept_erstsz_written is k (Write a w) d clean on started =
+      let same = (write_leaves h k a w).registers in same_written k (learned h k (Write a w)) Erstsz same.register (d.erstsz_written (sym same.started ∙ started))
+  kept_erstsz_written is k (Reg r x) d clean on started =
+      register_written_before k r x Erstsz
+      (elim (register_starts h k r x started) [
+        | inl before ↦ d.erstsz_written before
+        | inr starts ↦ (starts_written h k r x (register_facts h k r x clean).good starts).1
+      ])
+  kept_erstsz_written is k (Bell s t) d clean on started =
+      let same = (bell_leaves h k s t).registers in same_written k (learned h k (Bell s t)) Erstsz same.register (d.erstsz_written (sym same.started ∙ started))
+  kept_erstsz_written is k (Read b) d clean on started =
+      let same = read_leaves k b in same_written k (learned h k (Read b)) Erstsz same.0 (d.erstsz_written (sym same.1 ∙ started))
+
+  -- ERSTSZ is that of an event ring
+  pub kept_sized : KeptByRows h (λ k. is_some (k.register Erstsz) ≡ true → 0 < event_size h)
+  kept_sized is k (Sub r blocks) d clean on at = d.sized (ap (λ f. is_some (f Erstsz)) (sym (declaration_leaves h k r blocks).registers.register) ∙ at)
+  kept_sized is k (Write a w) d clean on at = d.sized (ap (λ f. is_some (f Erstsz)) (sym (write_leaves h k a w).registers.register) ∙ at)
+  kept_sized is k (Reg r x) d clean on at = sized_by is k r x d.sized (register_facts h k r x clean).good (ap (λ f. is_some (f Erstsz)) (sym (registered h k r x)) ∙ at)
+  kept_sized is k (Bell s t) d clean on at = d.sized (ap (λ f. is_some (f Erstsz)) (sym (bell_leaves h k s t).registers.register) ∙ at)
+  kept_sized is k (Read b) d clean on at = d.sized (ap (λ f. is_some (f Erstsz)) (sym (read_leaves k b).0) ∙ at)

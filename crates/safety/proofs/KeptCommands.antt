@@ -1,0 +1,227 @@
+-- The command ring holds commands, each alone in its descriptor, and is open from its first doorbell on: kept by each row
+use Rattle.std.specs.Prelude.{◌≡◌, ℕ, ◌-◌, ◌<◌, ◌⊎◌, ◌==◌, ◌&&◌, ◌||◌, not, nat_lt, true, false, List, [], ◌++◌, length, All, Option, None, Some, is_some, slice_get}
+use Rattle.std.specs.List.{list_any, list_all}
+use Rattle.std.proofs.Common.{arith, refl, sym, ◌∙◌, ap, subst, inl, inr, get_or, length-append}
+use Rattle.std.proofs.lemmas.Bool.{cases_lt, cond_both, cond-false, and_cases, and_parts, or_parts, not-false, false≢true, eqb-true, ltb-true}
+use Rattle.std.proofs.lemmas.Option.{slice_get_within, get_or_from_slice_get}
+use Rattle.std.proofs.lemmas.List.{get_or-append_right}
+use Rattle.std.proofs.lemmas.List.Elements.{All-push, All-get_or}
+use Rattle.trb.specs.declared.block.Block.{Block}
+use Rattle.trb.specs.declared.kind.BlockKind.{BlockKind}
+use Rattle.trb.specs.declared.kind.BlockKind.TheVariants as kinds
+use Rattle.trb.specs.declared.ring_kind.RingKind.{RingKind}
+use Rattle.trb.specs.declared.ring_kind.RingKind.TheVariants.{Cmd, Evt, Xfer}
+use Rattle.trb.specs.Block.{kind}
+use Rattle.trb.specs.Kind.{is_command, is_left_out_command, is_command_completion}
+use Rattle.trb.specs.Descriptor.{is_badly_formed, is_no_command, is_command_left_out, has_left_out_field, is_bad_descriptor, is_left_out}
+use Rattle.segments.specs.declared.spot.Spot.TheVariants.{Data}
+use Rattle.segments.specs.ShapeValue.{Shape}
+use Rattle.segments.specs.Shape.{is_shape}
+use Rattle.segments.specs.RingView.{RingView, Declares, Opens, Reaches, changed}
+use Rattle.segments.specs.Spots.{after}
+use Rattle.segments.specs.Ceiling.{ceiling}
+use Rattle.segments.proofs.Search.{cases_option}
+use Rattle.segments.proofs.Declaring.{slice_get-append}
+use Rattle.segments.proofs.Named.{ceiling_held}
+use Rattle.commands.specs.Command.{command_of, command_by_kind}
+use Rattle.traces.specs.declared.header.Header.{Header}
+use Rattle.traces.specs.declared.row.Row.TheVariants.{Sub, Write, Reg, Bell, Read}
+use Rattle.traces.specs.Header.{IsHeader, may_stand_together, is_command_kind, ring_with, shape_of, command_ring, command_id}
+use Rattle.ring_knowledge.specs.Known.{Known}
+use Rattle.ring_knowledge.specs.Rings.{on_ring, command_at, next_command}
+use Rattle.ring_knowledge.specs.Registers.{endpoint_rung, rung}
+use Rattle.ring_knowledge.specs.Completions.{finished, completed}
+use Rattle.ring_knowledge.specs.Learned.{event_read, learned}
+use Rattle.ownership_rules.specs.Declarations.{is_driver_ring, declaration_tests}
+use Rattle.ownership_rules.specs.Rules.{tests, broken}
+use Rattle.safety.specs.Keeps.{CommandRingKeeps}
+use Rattle.safety.specs.KeptStep.{KeptByRows}
+use Rattle.safety.specs.RingsKeep.{IsDriverRing}
+use Rattle.safety.specs.EndpointsKeep.{EndpointsKeep}
+use Rattle.safety.proofs.TestsPassed.{AllFail, tests_fail, each_fails}
+use Rattle.safety.proofs.RingsOfHeader.{HasRing, has_ring, found_allowed}
+use Rattle.safety.proofs.Headers.{command_found, command_named, shape_is}
+use Rattle.safety.proofs.RingIds.{command_not_transfer}
+use Rattle.safety.proofs.DriverRows.{ring_here, ring_elsewhere}
+use Rattle.safety.proofs.EndpointHistories.{finish_elsewhere}
+use Rattle.safety.proofs.KeptCommandRing.{command_with}
+use Rattle.safety.proofs.KeptRings.{completion_facts}
+use Rattle.safety.proofs.DriverRings.{endpoints_of}
+use Rattle.safety.proofs.SameDriver.{SameGiven, view_after}
+use Rattle.safety.proofs.RowFrames.{register_leaves, written_view}
+use Rattle.safety.proofs.TransferFrames.{transfer_command}
+use Rattle.safety.proofs.CleanRows.{event_facts}
+
+-- ---- the blocks of a declaration
+
+read_by_kind : (t : BlockKind) (b : Block) → is_command t ≡ true → is_some (command_by_kind t b) ≡ true
+read_by_kind kinds.EnableSlot b h = refl
+read_by_kind kinds.DisableSlot b h = refl
+read_by_kind kinds.AddressDevice b h = refl
+read_by_kind kinds.ConfigureEndpoint b h = refl
+read_by_kind kinds.EvaluateContext b h = refl
+read_by_kind kinds.ResetEndpoint b h = refl
+read_by_kind kinds.StopEndpoint b h = refl
+read_by_kind kinds.SetTrDequeue b h = refl
+read_by_kind kinds.ResetDevice b h = refl
+read_by_kind kinds.NoOpCommand b h = refl
+read_by_kind _ b h = absurd (false≢true h)
+
+is_read : (b : Block) → is_no_command b ≡ false → is_command_left_out b ≡ false → is_some (command_of b) ≡ true
+is_read b good inside =
+    let kept = (or_parts (is_left_out_command (kind b)) (has_left_out_field (kind b) b) inside).0 in
+    let is : is_command (kind b) ≡ true =
+    elim (and_cases (not (is_command (kind b))) (not (is_left_out_command (kind b))) good) [
+      | inl is ↦ not-false (is_command (kind b)) is
+      | inr left ↦ absurd (false≢true (sym kept ∙ not-false (is_left_out_command (kind b)) left))
+    ] in
+    ap (λ o. is_some o) (cond-false (is_command_left_out b) None (command_by_kind (kind b) b) inside) ∙ read_by_kind (kind b) b is
+
+command_blocks : (t : RingKind) (blocks : List Block) → t ≡ Cmd → is_bad_descriptor t blocks ≡ false → is_left_out t blocks ≡ false →
+    (length blocks ≡ 1) × All (λ b. is_some (command_of b) ≡ true) blocks
+command_blocks Cmd blocks is good inside =
+    let two = or_parts (is_badly_formed blocks || not (length blocks == 1)) (list_any is_no_command blocks) good in
+    let one = or_parts (is_badly_formed blocks) (not (length blocks == 1)) two.0 in
+    let commands = each_fails is_no_command blocks two.1 in
+    let kept = each_fails is_command_left_out blocks inside in
+    (eqb-true (length blocks) 1 (not-false (length blocks == 1) one.1), λ i d within. is_read (get_or blocks i d) (commands i d within) (kept i d within))
+command_blocks Xfer blocks is good inside = cc
+command_blocks Evt blocks is good inside = absurd (false≢true (sym good))
+
+-- what is declared then is what was declared, or is declared now
+declared_then : (P : Block → Type 0) (xs ys : List Block) (p : ℕ) (d : Block) → ((p : ℕ) (d : Block) → slice_get xs p ≡ Some d → P d) → All P ys → slice_get (xs ++ ys) p ≡ Some d → P d
+declared_then P xs ys p d old new at =
+    elim (cases_lt p (length xs)) [
+      | inl was ↦ old p d (sym (slice_get-append xs ys p was) ∙ at)
+      | inr is ↦
+          let inside = slice_get_within (xs ++ ys) p d at in
+          let there : get_or ys (p - length xs) d ≡ d = sym (get_or-append_right xs ys (length xs) p d refl is) ∙ get_or_from_slice_get (xs ++ ys) p d d at in
+          subst P there (All-get_or P ys (p - length xs) d (omega (arith, length-append xs ys)) new)
+    ]
+
+-- ---- what is said of the command ring's view
+
+pub record ViewOfCommands (v : RingView) : Type 0 where
+  pub commands : (p : ℕ) (d : Block) → slice_get v.queue p ≡ Some d → is_some (command_of d) ≡ true
+  pub alone : All (λ n. n ≡ 1) v.lengths
+  pub held : (v.held ≡ None) ⊎ ((v.held ≡ Some 0) × (v.floor ≡ Data 0))
+
+view_declares : (shape : Shape) (v : RingView) (blocks : List Block) → (length blocks ≡ 1) × All (λ b. is_some (command_of b) ≡ true) blocks → ViewOfCommands v →
+    ViewOfCommands (changed shape v (Declares blocks))
+view_declares shape v blocks good keeps = record {
+  commands = λ p d at. declared_then (λ b. is_some (command_of b) ≡ true) v.queue blocks p d keeps.commands good.1 at;
+  alone = All-push (λ n. n ≡ 1) v.lengths (length blocks) keeps.alone good.0;
+  held = keeps.held;
+}
+
+given_same : (v w : RingView) → SameGiven v w → ((w.held ≡ None) ⊎ ((w.held ≡ Some 0) × (w.floor ≡ Data 0))) → ViewOfCommands v → ViewOfCommands w
+given_same v w same held keeps = record {
+  commands = λ p d at. keeps.commands p d (ap (λ q. slice_get q p) (sym same.queue) ∙ at);
+  alone = subst (λ (ns : List ℕ). All (λ n. n ≡ 1) ns) (sym same.lengths) keeps.alone;
+  held = held;
+}
+
+command_is : (t : RingKind) → is_command_kind t ≡ true → t ≡ Cmd
+command_is Cmd h = refl
+command_is Evt h = absurd (false≢true h)
+command_is Xfer h = absurd (false≢true h)
+
+module _ (h : Header) where
+  pub view_of : (k : Known) → CommandRingKeeps h k → ViewOfCommands (k.ring (command_id h))
+  view_of k keeps = record { commands = keeps.commands; alone = keeps.alone; held = keeps.held }
+
+  pub from_view : (k : Known) → ViewOfCommands (k.ring (command_id h)) → CommandRingKeeps h k
+  from_view k view = record { commands = view.commands; alone = view.alone; held = view.held }
+
+  -- a command ring that is declared is one
+  command_kind : IsHeader h → IsDriverRing h (command_id h) → (shape_of h (command_id h)).kind ≡ Cmd
+  command_kind is driver =
+      elim (cases_option (command_ring h)) [
+        | inl none ↦
+            let has : HasRing h (command_id h) = has_ring h (command_id h) driver in
+            let named : command_id h ≡ 256 = command_named h is None none in
+            let all = (and_parts (list_all (λ q. nat_lt q.id 256 && is_shape q.shape) h.rings) (may_stand_together h.rings) is).0 in
+            let allowed = found_allowed (λ q. q.id == command_id h) (λ q. nat_lt q.id 256 && is_shape q.shape) h.rings has.ring has.found all in
+            let low : has.ring.id < 256 = ltb-true has.ring.id 256 (and_parts (nat_lt has.ring.id 256) (is_shape has.ring.shape) allowed).0 in
+            absurd (omega (arith, has.id))
+        | inr found ↦
+            ap (λ (s : Shape). s.kind) (shape_is h (command_id h) found.0 (command_with h is found.0 found.1)) ∙ command_is found.0.shape.kind (command_found h is found.0 found.1).1
+      ]
+
+  declared_blocks : IsHeader h → (k : Known) (r : ℕ) (blocks : List Block) → broken h k (Sub r blocks) ≡ [] → command_id h ≡ r →
+      (length blocks ≡ 1) × All (λ b. is_some (command_of b) ≡ true) blocks
+  unfolding tests declaration_tests
+  declared_blocks is k r blocks clean same =
+      let fails : AllFail (declaration_tests h k r blocks) = tests_fail h k (Sub r blocks) clean in
+      let driver : IsDriverRing h (command_id h) = ap (λ n. is_driver_ring (ring_with h n)) same ∙ not-false (is_driver_ring (ring_with h r)) fails.0 in
+      command_blocks (shape_of h r).kind blocks (ap (λ n. (shape_of h n).kind) (sym same) ∙ command_kind is driver) fails.1.1.0 fails.1.1.1.0
+
+  declared_view : IsHeader h → (k : Known) (r : ℕ) (blocks : List Block) → broken h k (Sub r blocks) ≡ [] → ViewOfCommands (k.ring (command_id h)) →
+      ViewOfCommands ((learned h k (Sub r blocks)).ring (command_id h))
+  unfolding learned
+  declared_view is k r blocks clean keeps =
+      view_after h ViewOfCommands k r (Declares blocks) (command_id h)
+      (λ same. view_declares (shape_of h r) (k.ring r) blocks (declared_blocks is k r blocks clean same) (subst (λ n. ViewOfCommands (k.ring n)) same keeps)) (λ other. keeps)
+
+  -- ---- a doorbell
+
+  opened_view : (k : Known) → ViewOfCommands (k.ring (command_id h)) → ViewOfCommands ((on_ring h k (command_id h) Opens).ring (command_id h))
+  opened_view k keeps =
+      subst ViewOfCommands (sym (ring_here h k (command_id h) Opens)) (record { commands = keeps.commands; alone = keeps.alone; held = inl refl })
+
+  endpoint_view : IsHeader h → (k : Known) → EndpointsKeep h k → (s t : ℕ) (o : Option ℕ) → k.ring_of s t ≡ o → (endpoint_rung h k s t o).ring (command_id h) ≡ k.ring (command_id h)
+  unfolding endpoint_rung
+  endpoint_view is k keeps s t None at = refl
+  endpoint_view is k keeps s t (Some r) at =
+      ring_elsewhere h k r (command_id h) Opens (λ same. command_not_transfer h is (keeps.transfer s t (command_id h) (at ∙ ap (λ n. Some n) (sym same))))
+
+  rung_view : IsHeader h → (k : Known) → EndpointsKeep h k → (s t : ℕ) → ViewOfCommands (k.ring (command_id h)) → ViewOfCommands ((learned h k (Bell s t)).ring (command_id h))
+  unfolding learned rung
+  rung_view is k keeps s t view =
+      cond_both (s == 0) (on_ring h k (command_id h) Opens) (endpoint_rung h k s t (k.ring_of s t)) (λ l. ViewOfCommands (l.ring (command_id h)))
+      (λ _. opened_view k view) (λ _. subst ViewOfCommands (sym (endpoint_view is k keeps s t (k.ring_of s t) refl)) view)
+
+  -- ---- an event
+
+  -- the next command can be finished where the ring is open alone
+  pub open_now : (k : Known) → ViewOfCommands (k.ring (command_id h)) → next_command h k < ceiling (shape_of h (command_id h)) (k.ring (command_id h)) → (k.ring (command_id h)).held ≡ None
+  open_now k view below =
+      elim view.held [
+        | inl opened ↦ opened
+        | inr start ↦ absurd (omega (arith, ceiling_held (shape_of h (command_id h)) (k.ring (command_id h)) 0 start.0, below))
+      ]
+
+  pub completed_view : IsHeader h → (k : Known) → EndpointsKeep h k → (b : Block) →
+      (completed h k b).ring (command_id h) ≡ changed (shape_of h (command_id h)) (k.ring (command_id h)) (Reaches (after (shape_of h (command_id h)) (next_command h k)))
+  unfolding completed
+  completed_view is k keeps b =
+      let l : Known = finished h k b (command_at h k (next_command h k)) in
+      let t = after (shape_of h (command_id h)) (next_command h k) in
+      ring_here h l (command_id h) (Reaches t) ∙ ap (λ v. changed (shape_of h (command_id h)) v (Reaches t)) (finish_elsewhere h is k b (command_at h k (next_command h k)) keeps)
+
+  held_after : IsHeader h → (k : Known) → EndpointsKeep h k → (b : Block) (t : BlockKind) → ViewOfCommands (k.ring (command_id h)) →
+      (is_command_completion t ≡ true → (k.ring (command_id h)).held ≡ None) → ViewOfCommands ((event_read h k t b).ring (command_id h))
+  unfolding event_read
+  held_after is k keeps b kinds.TransferEvent view opened = subst ViewOfCommands (sym (transfer_command h is k keeps b)) view
+  held_after is k keeps b kinds.CommandCompletion view opened =
+      subst ViewOfCommands (sym (completed_view is k keeps b)) (record { commands = view.commands; alone = view.alone; held = inl (opened refl) })
+  held_after is k keeps b _ view opened = view
+
+  read_view : (k : Known) (b : Block) → (learned h k (Read b)).ring ≡ (event_read h k (kind b) b).ring
+  unfolding learned
+  read_view k b = refl
+
+  written_still : (k : Known) (a w : ℕ) → ViewOfCommands (k.ring (command_id h)) → ViewOfCommands ((learned h k (Write a w)).ring (command_id h))
+  written_still k a w view = subst ViewOfCommands (sym (written_view h k a w (command_id h))) (record { commands = view.commands; alone = view.alone; held = view.held })
+
+  pub kept_command_ring : KeptByRows h (CommandRingKeeps h)
+  kept_command_ring is k (Sub r blocks) d clean on = from_view (learned h k (Sub r blocks)) (declared_view is k r blocks clean (view_of k d.command_ring))
+  kept_command_ring is k (Write a w) d clean on = from_view (learned h k (Write a w)) (written_still k a w (view_of k d.command_ring))
+  kept_command_ring is k (Reg r x) d clean on =
+      from_view (learned h k (Reg r x)) (subst (λ (f : ℕ → RingView). ViewOfCommands (f (command_id h))) (sym (register_leaves h k r x).ring) (view_of k d.command_ring))
+  kept_command_ring is k (Bell s t) d clean on = from_view (learned h k (Bell s t)) (rung_view is k (endpoints_of h k d.states) s t (view_of k d.command_ring))
+  kept_command_ring is k (Read b) d clean on =
+      from_view (learned h k (Read b))
+      (subst (λ (f : ℕ → RingView). ViewOfCommands (f (command_id h))) (sym (read_view k b))
+      (held_after is k (endpoints_of h k d.states) b (kind b) (view_of k d.command_ring)
+      (λ completion. open_now k (view_of k d.command_ring) (completion_facts h k b completion (event_facts h k b clean).possible).below)))

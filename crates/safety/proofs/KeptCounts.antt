@@ -1,0 +1,142 @@
+-- How many events were read and where ERDP stands, behind each row
+use Rattle.std.specs.Prelude.{◌≡◌, ℕ, ◌+◌, ◌-◌, ◌<◌, ◌≤◌, ◌&&◌, ◌||◌, not, if◌then◌else◌, true, false}
+use Rattle.std.proofs.Common.{arith, refl, sym, ◌∙◌, ap}
+use Rattle.std.proofs.lemmas.Bool.{cond_both, cond-false, not-false, ltb-false, false≢true}
+use Rattle.trb.specs.declared.block.Block.{Block}
+use Rattle.trb.specs.Block.{kind}
+use Rattle.segments.proofs.ShapeFacts.{shape_facts}
+use Rattle.segments.specs.Places.{place_count}
+use Rattle.event_ring.specs.EventRing.{erdp_address}
+use Rattle.traces.specs.declared.header.Header.{Header}
+use Rattle.traces.specs.declared.register.Register.{Register}
+use Rattle.traces.specs.declared.register.Register.TheVariants.{Erdp, Usbcmd}
+use Rattle.traces.specs.declared.row.Row.TheVariants.{Sub, Write, Reg, Bell, Read}
+use Rattle.traces.specs.Header.{event_shape, event_size}
+use Rattle.traces.specs.Register.{run_bit, reset_bit}
+use Rattle.ring_knowledge.specs.Known.{Known}
+use Rattle.ring_knowledge.specs.Registers.{run_or_stop, valued, register_written}
+use Rattle.ring_knowledge.specs.Learned.{learned}
+use Rattle.ownership_rules.specs.Registers.{may_pass, is_bad_erdp}
+use Rattle.ownership_rules.specs.Events.{is_past_room}
+use Rattle.safety.specs.Keeps.{Unstarted}
+use Rattle.safety.specs.KeptStep.{KeptByRows}
+use Rattle.safety.proofs.Headers.{EventRing, event_ring_is}
+use Rattle.safety.proofs.ErdpMoves.{position_within}
+use Rattle.safety.proofs.SameDriver.{event_same}
+use Rattle.safety.proofs.RowFrames.{SameSlots, SamePointer, declaration_leaves, write_leaves, register_leaves, bell_leaves}
+use Rattle.safety.proofs.CleanRows.{register_facts, bell_facts, event_facts}
+
+module _ (h : Header) where
+  -- ---- a register write
+
+  run_counts : (k : Known) (x : ℕ) → ((run_or_stop k x).dequeue ≡ k.dequeue) × ((run_or_stop k x).started ≡ false → k.started ≡ false)
+  unfolding run_or_stop
+  run_counts k x =
+      let on : Known = record k { started = true } in
+      let off : Known = record k { stopped = true } in
+      cond_both (not k.started) (if run_bit x && not (reset_bit x) then on else k) (if not (run_bit x) || reset_bit x then off else k)
+      (λ l. (l.dequeue ≡ k.dequeue) × (l.started ≡ false → k.started ≡ false))
+      (λ _. cond_both (run_bit x && not (reset_bit x)) on k (λ l. (l.dequeue ≡ k.dequeue) × (l.started ≡ false → k.started ≡ false))
+      (λ _. (refl, λ e. absurd (false≢true (sym e)))) (λ _. (refl, λ e. e)))
+      (λ _. cond_both (not (run_bit x) || reset_bit x) off k (λ l. (l.dequeue ≡ k.dequeue) × (l.started ≡ false → k.started ≡ false)) (λ _. (refl, λ e. e)) (λ _. (refl, λ e. e)))
+
+  -- the pointer goes on, no further than what may be passed
+  pub record Dequeues (k l : Known) : Type 0 where
+    pub from : k.dequeue ≤ l.dequeue
+    pub to : l.dequeue ≤ k.dequeue + may_pass k
+    pub before : l.started ≡ false → k.started ≡ false
+
+  dequeues_by : (k : Known) (r : Register) (x : ℕ) → is_bad_erdp h k r x ≡ false → Dequeues k (register_written h k r x)
+  unfolding register_written valued is_bad_erdp
+  dequeues_by k Usbcmd x good =
+      let counts = run_counts (valued k Usbcmd x) x in record { from = omega (arith, counts.0); to = omega (arith, counts.0); before = counts.1 }
+  dequeues_by k Erdp x good =
+      let within = position_within (event_shape h) k.dequeue (may_pass k) (erdp_address x) (not-false _ good) in record { from = within.0; to = within.1; before = λ e. e }
+  dequeues_by k r x good = record { from = omega arith; to = omega arith; before = λ e. e }
+
+  pub dequeues : (k : Known) (r : Register) (x : ℕ) → is_bad_erdp h k r x ≡ false → Dequeues k (learned h k (Reg r x))
+  unfolding learned
+  dequeues k r x good = dequeues_by k r x good
+
+  passable : (k : Known) → k.dequeue ≤ k.reads → k.dequeue + may_pass k ≤ k.reads
+  unfolding may_pass
+  passable k low =
+      cond_both k.started (k.reads - k.dequeue) 0 (λ n. k.dequeue + n ≤ k.reads) (λ _. omega arith) (λ _. omega arith)
+
+  -- ---- an event
+
+  pub read_counts : (k : Known) (b : Block) → ((learned h k (Read b)).reads ≡ k.reads + 1) × ((learned h k (Read b)).dequeue ≡ k.dequeue) × ((learned h k (Read b)).started ≡ k.started)
+  unfolding learned
+  read_counts k b = let same = event_same h k (kind b) b in (refl, same.dequeue, same.started)
+
+  room_is : (k : Known) → is_past_room h k ≡ false → k.reads - k.dequeue ≤ event_size h - 2
+  unfolding is_past_room
+  room_is k room = ltb-false (event_size h - 2) (k.reads - k.dequeue) room
+
+  size_is : event_size h ≡ place_count (event_shape h)
+  unfolding event_size
+  size_is = refl
+
+  -- ERDP names no event that wasn't read
+  pub kept_dequeued : KeptByRows h (λ k. k.dequeue ≤ k.reads)
+  kept_dequeued is k (Sub r blocks) d clean on = let same = (declaration_leaves h k r blocks).registers in omega (arith, d.dequeued, same.dequeue, same.reads)
+  kept_dequeued is k (Write a w) d clean on = let same = (write_leaves h k a w).registers in omega (arith, d.dequeued, same.dequeue, same.reads)
+  kept_dequeued is k (Reg r x) d clean on =
+      let moves = dequeues k r x (register_facts h k r x clean).erdp in
+      let same = register_leaves h k r x in
+      omega (arith, moves.to, passable k d.dequeued, same.reads)
+  kept_dequeued is k (Bell s t) d clean on = let same = (bell_leaves h k s t).registers in omega (arith, d.dequeued, same.dequeue, same.reads)
+  kept_dequeued is k (Read b) d clean on = let same = read_counts k b in omega (arith, d.dequeued, same.0, same.1)
+
+  -- the events read lie within the ring from there
+  pub kept_read_room : KeptByRows h (λ k. 0 < k.reads → k.reads + 1 ≤ k.dequeue + event_size h)
+  kept_read_room is k (Sub r blocks) d clean on = let same = (declaration_leaves h k r blocks).registers in λ some. omega (arith, d.read_room (omega (arith, same.reads)), same.dequeue, same.reads)
+  kept_read_room is k (Write a w) d clean on = let same = (write_leaves h k a w).registers in λ some. omega (arith, d.read_room (omega (arith, same.reads)), same.dequeue, same.reads)
+  kept_read_room is k (Reg r x) d clean on =
+      let moves = dequeues k r x (register_facts h k r x clean).erdp in
+      let same = register_leaves h k r x in
+      λ some. omega (arith, d.read_room (omega (arith, same.reads)), moves.from, same.reads)
+  kept_read_room is k (Bell s t) d clean on = let same = (bell_leaves h k s t).registers in λ some. omega (arith, d.read_room (omega (arith, same.reads)), same.dequeue, same.reads)
+  kept_read_room is k (Read b) d clean on =
+      let same = read_counts k b in
+      let facts = event_facts h k b clean in
+      let some : 0 < event_size h = d.sized (d.erstsz_written facts.started) in
+      let ring : EventRing h = event_ring_is h is some in
+      let several = (shape_facts (event_shape h) ring.is).several in
+      λ _. omega (arith, room_is k facts.room, d.dequeued, same.0, same.1, size_is)
+
+  -- ---- before the start
+
+  unstarted_still : (k l : Known) → l.reads ≡ k.reads → l.dequeue ≡ k.dequeue → SameSlots k l → ((r : ℕ) → SamePointer (k.ring r) (l.ring r)) → Unstarted h k → Unstarted h l
+  unstarted_still k l reads dequeue slots pointers u = record {
+    reads = reads ∙ u.reads;
+    dequeue = dequeue ∙ u.dequeue;
+    slots = λ s. ap (λ f. f s) slots.slot_state ∙ u.slots s;
+    rings = λ s i. ap (λ f. f s i) slots.ring_of ∙ u.rings s i;
+    floors = λ r. (pointers r).floor ∙ u.floors r;
+    held = λ r. (pointers r).held ∙ u.held r;
+    bound = λ r. ap (λ f. f r) slots.was_bound ∙ u.bound r;
+    seen = λ s i. ap (λ f. f s i) slots.stop_seen ∙ u.seen s i;
+  }
+
+  none_passed : (k : Known) → k.started ≡ false → may_pass k ≡ 0
+  unfolding may_pass
+  none_passed k waits = cond-false k.started (k.reads - k.dequeue) 0 waits
+
+  pub kept_unstarted : KeptByRows h (λ k. k.started ≡ false → Unstarted h k)
+  kept_unstarted is k (Sub r blocks) d clean on before =
+      let same = declaration_leaves h k r blocks in
+      unstarted_still k (learned h k (Sub r blocks)) same.registers.reads same.registers.dequeue same.slots same.pointers (d.unstarted (sym same.registers.started ∙ before))
+  kept_unstarted is k (Write a w) d clean on before =
+      let same = write_leaves h k a w in
+      unstarted_still k (learned h k (Write a w)) same.registers.reads same.registers.dequeue same.slots same.pointers (d.unstarted (sym same.registers.started ∙ before))
+  kept_unstarted is k (Reg r x) d clean on before =
+      let same = register_leaves h k r x in
+      let moves = dequeues k r x (register_facts h k r x clean).erdp in
+      let waits : k.started ≡ false = moves.before before in
+      unstarted_still k (learned h k (Reg r x)) same.reads (omega (arith, moves.from, moves.to, none_passed k waits)) same.slots
+      (λ q. record { floor = ap (λ f. (f q).floor) same.ring; held = ap (λ f. (f q).held) same.ring }) (d.unstarted waits)
+  kept_unstarted is k (Bell s t) d clean on before =
+      absurd (false≢true (sym before ∙ (bell_leaves h k s t).registers.started ∙ (bell_facts h k s t clean).started))
+  kept_unstarted is k (Read b) d clean on before =
+      absurd (false≢true (sym before ∙ (read_counts k b).2 ∙ (event_facts h k b clean).started))

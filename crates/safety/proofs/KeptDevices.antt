@@ -1,0 +1,108 @@
+-- What is kept of device contexts under lease is kept by each row
+use Rattle.std.specs.Prelude.{◌≡◌, ℕ, true, false, Some}
+use Rattle.std.proofs.Common.{refl, sym, ◌∙◌, ap, subst, inl, inr}
+use Rattle.std.proofs.lemmas.Bool.{cases_Bool, or_parts, false≢true}
+use Rattle.std.proofs.lemmas.Option.{none-some}
+use Rattle.trb.specs.declared.block.Block.{Block}
+use Rattle.trb.specs.declared.kind.BlockKind.{BlockKind}
+use Rattle.trb.specs.declared.kind.BlockKind.TheVariants.{TransferEvent, CommandCompletion}
+use Rattle.trb.specs.Block.{kind}
+use Rattle.traces.specs.declared.header.Header.{Header}
+use Rattle.traces.specs.declared.register.Register.{Register}
+use Rattle.traces.specs.declared.register.Register.TheVariants.{Dcbaap, Erstba}
+use Rattle.traces.specs.declared.row.Row.TheVariants.{Sub, Write, Reg, Bell, Read}
+use Rattle.traces.specs.Header.{IsHeader}
+use Rattle.traces.specs.Register.{with_register}
+use Rattle.ring_knowledge.specs.Known.{Known}
+use Rattle.ring_knowledge.specs.Learned.{event_read, learned}
+use Rattle.ring_knowledge.specs.Completions.{completed}
+use Rattle.ownership_rules.specs.Events.{is_impossible_by_kind}
+use Rattle.ownership_rules.specs.Registers.{is_bad_register}
+use Rattle.safety.specs.Keeps.{DriverKeeps}
+use Rattle.safety.specs.KeptStep.{DevicesKeep, KeptByRows}
+use Rattle.safety.proofs.EventRead.{learned_read}
+use Rattle.safety.proofs.WithReads.{with_reads}
+use Rattle.safety.proofs.CleanRows.{EventFacts, event_facts, register_facts}
+use Rattle.safety.proofs.KeptRegisters.{registered}
+use Rattle.safety.proofs.RowFrames.{declaration_leaves, register_leaves, bell_leaves}
+use Rattle.safety.proofs.SameDriver.{SameDriver, transfer_same, completion_same}
+use Rattle.safety.proofs.TransferFrames.{transfer_slots}
+use Rattle.safety.proofs.CommandsCompleted.{completion_devices}
+use Rattle.safety.proofs.DeviceFrames.{devices_same}
+use Rattle.safety.proofs.DevicesWritten.{written_devices}
+
+module _ (h : Header) where
+  -- ---- registers: once a device context is taken the base addresses stand
+
+  base_stands : (k : Known) (r : Register) (x : ℕ) → k.started ≡ true → is_bad_register h k r x ≡ false →
+      (with_register k.register r x Dcbaap ≡ k.register Dcbaap) × (with_register k.register r x Erstba ≡ k.register Erstba)
+  unfolding is_bad_register
+  base_stands k Dcbaap x on good = absurd (false≢true (sym good ∙ on))
+  base_stands k Erstba x on good = absurd (false≢true (sym (or_parts k.started _ (or_parts _ _ (or_parts _ _ good).0).0).0 ∙ on))
+  base_stands k _ x on good = (refl, refl)
+
+  register_devices : (k : Known) (r : Register) (x : ℕ) → DriverKeeps h k → is_bad_register h k r x ≡ false → DevicesKeep h (learned h k (Reg r x))
+  register_devices k r x d good s c at =
+      let leaves = register_leaves h k r x in
+      let was = ap (λ f. f s) (sym leaves.memory.device) ∙ at in
+      elim (cases_Bool k.started) [
+        | inl on ↦
+            let base = base_stands k r x on good in
+            devices_same h k (learned h k (Reg r x))
+            (record {
+              memory = leaves.memory.memory;
+              soiled = leaves.memory.soiled;
+              dcbaap = ap (λ f. f Dcbaap) (registered h k r x) ∙ base.0;
+              erstba = ap (λ f. f Erstba) (registered h k r x) ∙ base.1;
+              fewer = λ t e there. ap (λ f. f t) (sym leaves.memory.device) ∙ there;
+            }) d.devices s c at
+        | inr off ↦ absurd (none-some c (sym (d.states.no_device s ((d.unstarted off).slots s)) ∙ was))
+      ]
+
+  -- ---- events
+
+  event_devices : (k l : Known) → SameDriver k l → ((t c : ℕ) → l.device t ≡ Some c → k.device t ≡ Some c) → DevicesKeep h k → DevicesKeep h l
+  event_devices k l driver fewer =
+      devices_same h k l
+      (record { memory = driver.memory; soiled = driver.soiled; dcbaap = ap (λ f. f Dcbaap) driver.register; erstba = ap (λ f. f Erstba) driver.register; fewer = fewer })
+
+  kind_devices : IsHeader h → (k : Known) (b : Block) (n : BlockKind) → DriverKeeps h k → k.started ≡ true → is_impossible_by_kind h k n b ≡ false → DevicesKeep h (event_read h k n b)
+  unfolding event_read is_impossible_by_kind
+  kind_devices is k b TransferEvent d on possible =
+      event_devices k _ (transfer_same h k b) (λ t c at. ap (λ f. f t) (sym (transfer_slots h k b).device) ∙ at) d.devices
+  kind_devices is k b CommandCompletion d on possible = event_devices k (completed h k b) (completion_same h k b) (completion_devices h is k d b on possible) d.devices
+  kind_devices is k b _ d on possible = d.devices
+
+  reads_devices : (k : Known) (n : ℕ) → DevicesKeep h k → DevicesKeep h (with_reads k n)
+  reads_devices k n keeps =
+      devices_same h k (with_reads k n) (record { memory = refl; soiled = refl; dcbaap = refl; erstba = refl; fewer = λ t c at. at }) keeps
+
+  -- ---- any row
+
+  pub kept_devices : KeptByRows h (DevicesKeep h)
+  kept_devices is k (Sub r blocks) d clean on =
+      let leaves = declaration_leaves h k r blocks in
+      devices_same h k (learned h k (Sub r blocks))
+      (record {
+        memory = leaves.memory.memory;
+        soiled = leaves.memory.soiled;
+        dcbaap = ap (λ f. f Dcbaap) leaves.registers.register;
+        erstba = ap (λ f. f Erstba) leaves.registers.register;
+        fewer = λ t c at. ap (λ f. f t) (sym leaves.memory.device) ∙ at;
+      }) d.devices
+  kept_devices is k (Write a w) d clean on = written_devices h is k d a w clean
+  kept_devices is k (Reg r x) d clean on = register_devices k r x d (register_facts h k r x clean).good
+  kept_devices is k (Bell s t) d clean on =
+      let leaves = bell_leaves h k s t in
+      devices_same h k (learned h k (Bell s t))
+      (record {
+        memory = leaves.memory.memory;
+        soiled = leaves.memory.soiled;
+        dcbaap = ap (λ f. f Dcbaap) leaves.registers.register;
+        erstba = ap (λ f. f Erstba) leaves.registers.register;
+        fewer = λ u c at. ap (λ f. f u) (sym leaves.memory.device) ∙ at;
+      }) d.devices
+  kept_devices is k (Read b) d clean on =
+      let facts : EventFacts h k b = event_facts h k b clean in
+      subst (DevicesKeep h) (sym (learned_read h k b))
+      (reads_devices (event_read h k (kind b) b) _ (kind_devices is k b (kind b) d facts.started facts.possible))

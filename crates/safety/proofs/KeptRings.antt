@@ -1,0 +1,107 @@
+-- What the rules keep of each ring is kept by each row: of a command that succeeds holds still what was tested when it was given
+use Rattle.std.specs.Prelude.{◌≡◌, ℕ, ◌<◌, ◌==◌, not, true, false, [], Some, is_some}
+use Rattle.std.proofs.Common.{arith, sym, ◌∙◌, ap}
+use Rattle.std.proofs.lemmas.Bool.{or_parts, not-false, ltb-true}
+use Rattle.std.proofs.lemmas.List.Elements.{All-weaker}
+use Rattle.trb.specs.declared.block.Block.{Block}
+use Rattle.trb.specs.Block.{kind, pointer, code}
+use Rattle.trb.specs.Kind.{is_command_completion}
+use Rattle.segments.specs.Places.{address_of}
+use Rattle.segments.specs.Ceiling.{ceiling}
+use Rattle.segments.specs.RingKeeps.{RingKeeps}
+use Rattle.commands.specs.declared.command.Command.{Command}
+use Rattle.commands.specs.declared.command.Command.TheVariants.{NoOp, EnableSlot, DisableSlot, AddressDevice, ConfigureEndpoint, EvaluateContext, ResetEndpoint, StopEndpoint, SetTrDequeue, ResetDevice}
+use Rattle.traces.specs.declared.header.Header.{Header}
+use Rattle.traces.specs.declared.row.Row.{Row}
+use Rattle.traces.specs.declared.row.Row.TheVariants.{Sub, Write, Reg, Bell, Read}
+use Rattle.traces.specs.Header.{IsHeader, shape_of, command_id}
+use Rattle.ring_knowledge.specs.Known.{Known}
+use Rattle.ring_knowledge.specs.Rings.{command_at, next_command}
+use Rattle.ownership_rules.specs.Events.{may_be_taken, can_finish, is_impossible_completion, is_impossible_by_kind}
+use Rattle.ownership_rules.specs.Rules.{broken}
+use Rattle.ownership_rules.specs.Moves as moves
+use Rattle.safety.specs.Keeps.{IsDriverRing, IsUnfinished, CommandKeeps, MovesIf, StaysIf, DriverKeeps}
+use Rattle.safety.specs.KeptStep.{KeptByRows}
+use Rattle.safety.specs.KeptHistories.{StillReads}
+use Rattle.safety.specs.Placings.{MovesOn, StillHolds}
+use Rattle.safety.specs.RingsKeep.{RingsKeep}
+use Rattle.safety.proofs.Headers.{ring_shape}
+use Rattle.safety.proofs.GivenCommands.{content_good, are_free}
+use Rattle.safety.proofs.NoWait.{ceiling_given}
+use Rattle.safety.proofs.SafeContext.{AtFloor, at_floor, command_is_ring}
+use Rattle.safety.proofs.FinishKinds.{completion_kind}
+use Rattle.safety.proofs.StillPlacing.{still_reads}
+use Rattle.safety.proofs.Histories.{row_keeps}
+use Rattle.safety.proofs.DriverRings.{driver_test, rings_of, endpoints_of}
+use Rattle.safety.proofs.CleanRows.{EventFacts, event_facts}
+
+-- what an event that finishes a command says
+pub record CompletionFacts (h : Header) (k : Known) (b : Block) : Type 0 where
+  pub below : next_command h k < ceiling (shape_of h (command_id h)) (k.ring (command_id h))
+  pub finishes : can_finish k b (command_at h k (next_command h k)) ≡ true
+
+module _ (h : Header) where
+  by_completion : (k : Known) (b : Block) → is_impossible_completion h k b ≡ false → CompletionFacts h k b
+  unfolding is_impossible_completion may_be_taken
+  by_completion k b possible =
+      let three = or_parts _ (not (can_finish k b (command_at h k (next_command h k)))) possible in
+      let two = or_parts _ (code b == 0) three.0 in
+      let one = or_parts (not (may_be_taken h k)) (not (pointer b == address_of (shape_of h (command_id h)) (next_command h k))) two.0 in
+      record {
+        below = ltb-true (next_command h k) (ceiling (shape_of h (command_id h)) (k.ring (command_id h))) (not-false _ one.0);
+        finishes = not-false (can_finish k b (command_at h k (next_command h k))) three.1;
+      }
+
+  pub completion_facts : (k : Known) (b : Block) → is_command_completion (kind b) ≡ true → is_impossible_by_kind h k (kind b) b ≡ false → CompletionFacts h k b
+  unfolding is_impossible_by_kind
+  completion_facts k b completion possible = by_completion k b (ap (λ n. is_impossible_by_kind h k n b) (sym (completion_kind (kind b) completion)) ∙ possible)
+
+  module _ (is : IsHeader h) (k : Known) (d : DriverKeeps h k) where
+    -- the next command is given and unfinished
+    pub next_at_floor : k.started ≡ true → next_command h k < ceiling (shape_of h (command_id h)) (k.ring (command_id h)) → AtFloor h k
+    next_at_floor started below =
+        let ring : IsDriverRing h (command_id h) = command_is_ring h k d started in
+        let low = ceiling_given (shape_of h (command_id h)) (ring_shape h is (command_id h) ring).is k.memory (k.ring (command_id h)) (d.rings (command_id h) ring) in
+        at_floor h is k d ring (omega arith)
+
+    pub next_unfinished : k.started ≡ true → next_command h k < ceiling (shape_of h (command_id h)) (k.ring (command_id h)) → (c : Command) → command_at h k (next_command h k) ≡ Some c →
+        IsUnfinished h k (next_command h k) c
+    next_unfinished started below c at = let floor = next_at_floor started below in record { due = floor.due; given = floor.given; command = at }
+
+  moves_still : (k : Known) (c : Command) → MovesIf h k c → StaysIf h k c → MovesOn h k c
+  moves_still k (SetTrDequeue s i p cycle) moves stays = moves
+  moves_still k (AddressDevice s bsr n) moves stays = λ on r at. (stays r at).here
+  moves_still k NoOp moves stays = tt
+  moves_still k EnableSlot moves stays = tt
+  moves_still k (DisableSlot s) moves stays = tt
+  moves_still k (ConfigureEndpoint s dc n) moves stays = tt
+  moves_still k (EvaluateContext s n) moves stays = tt
+  moves_still k (ResetEndpoint s i) moves stays = tt
+  moves_still k (StopEndpoint s i) moves stays = tt
+  moves_still k (ResetDevice s) moves stays = tt
+
+  -- so what was tested of an unfinished command holds still
+  pub command_holds : (k : Known) (p : ℕ) (c : Command) → CommandKeeps h k p c → StillHolds h k c
+  command_holds k p c keeps = record {
+    named = All-weaker (λ b. (is_some (moves.ring_bound h b) ≡ true) × (b.cycle ≡ true)) (λ b. is_some (moves.ring_bound h b) ≡ true) (λ b both. both.0) (moves.binds h k c) keeps.binds;
+    repeats = keeps.repeats;
+    unbound = keeps.unbound;
+    free = are_free h k c (content_good h k c keeps.good);
+    moves_on = moves_still k c keeps.moves_on keeps.stays;
+  }
+
+  pub still_of : IsHeader h → (k : Known) (row : Row) → DriverKeeps h k → broken h k row ≡ [] → StillReads h k row
+  still_of is k (Sub r blocks) d clean = tt
+  still_of is k (Write a w) d clean = tt
+  still_of is k (Reg r x) d clean = tt
+  still_of is k (Bell s t) d clean = tt
+  still_of is k (Read b) d clean = λ completion c at success.
+      let facts : EventFacts h k b = event_facts h k b clean in
+      let finish : CompletionFacts h k b = completion_facts k b completion facts.possible in
+      command_holds k (next_command h k) c (d.unfinished (next_command h k) c (next_unfinished is k d facts.started finish.below c at))
+
+  -- the next row keeps the rings
+  pub kept_rings : KeptByRows h (λ k. (r : ℕ) → IsDriverRing h r → RingKeeps (shape_of h r) k.memory (k.ring r))
+  kept_rings is k row d clean on r ring =
+      let rings : RingsKeep h k = rings_of h k d in
+      row_keeps h is k row rings (endpoints_of h k d.states) clean (still_reads h is k row rings (endpoints_of h k d.states) (still_of is k row d clean)) r (driver_test h r ring)

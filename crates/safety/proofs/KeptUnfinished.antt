@@ -1,0 +1,44 @@
+-- What is kept of unfinished commands is kept by each row
+use Rattle.std.specs.Prelude.{◌≡◌, ◌&&◌, not, true, false}
+use Rattle.std.proofs.Common.{subst, sym}
+use Rattle.std.proofs.lemmas.Bool.{not-false}
+use Rattle.trb.specs.declared.block.Block.{Block}
+use Rattle.trb.specs.declared.kind.BlockKind.{BlockKind}
+use Rattle.trb.specs.declared.kind.BlockKind.TheVariants.{TransferEvent, CommandCompletion}
+use Rattle.trb.specs.Block.{kind}
+use Rattle.trb.specs.Kind.{is_transfer_event}
+use Rattle.traces.specs.declared.header.Header.{Header}
+use Rattle.traces.specs.declared.row.Row.TheVariants.{Sub, Write, Reg, Bell, Read}
+use Rattle.traces.specs.Header.{IsHeader}
+use Rattle.ring_knowledge.specs.Known.{Known}
+use Rattle.ring_knowledge.specs.Learned.{event_read, learned}
+use Rattle.ownership_rules.specs.Events.{is_in_profile, is_impossible_by_kind}
+use Rattle.safety.specs.Keeps.{DriverKeeps}
+use Rattle.safety.specs.KeptStep.{CommandsKeep, KeptByRows}
+use Rattle.safety.proofs.EventRead.{learned_read}
+use Rattle.safety.proofs.CleanRows.{EventFacts, event_facts}
+use Rattle.safety.proofs.CommandsRegister.{register_commands, reads_commands}
+use Rattle.safety.proofs.CommandsDeclared.{declared_commands}
+use Rattle.safety.proofs.CommandsWritten.{written_commands}
+use Rattle.safety.proofs.CommandsRung.{rung_commands}
+use Rattle.safety.proofs.CommandsTransfer.{transfer_commands}
+use Rattle.safety.proofs.CommandsCompleted.{completion_commands}
+
+module _ (h : Header) where
+  event_commands : IsHeader h → (k : Known) (b : Block) (n : BlockKind) → DriverKeeps h k → k.started ≡ true → is_impossible_by_kind h k n b ≡ false →
+      (is_transfer_event n && not (is_in_profile b)) ≡ false → CommandsKeep h (event_read h k n b)
+  unfolding event_read is_impossible_by_kind
+  event_commands is k b TransferEvent d on possible inside = transfer_commands h is k d b possible (not-false (is_in_profile b) inside)
+  event_commands is k b CommandCompletion d on possible inside = completion_commands h is k d b on possible
+  event_commands is k b _ d on possible inside = d.unfinished
+
+  pub kept_unfinished : KeptByRows h (CommandsKeep h)
+  unfolding learned
+  kept_unfinished is k (Sub r blocks) d clean on = declared_commands h is k d r blocks
+  kept_unfinished is k (Write a w) d clean on = written_commands h is k d a w clean
+  kept_unfinished is k (Reg r x) d clean on = register_commands h k r x d.unfinished
+  kept_unfinished is k (Bell s t) d clean on = rung_commands h is k d s t clean
+  kept_unfinished is k (Read b) d clean on =
+      let facts : EventFacts h k b = event_facts h k b clean in
+      subst (CommandsKeep h) (sym (learned_read h k b))
+      (reads_commands h (event_read h k (kind b) b) _ (event_commands is k b (kind b) d facts.started facts.possible facts.inside))

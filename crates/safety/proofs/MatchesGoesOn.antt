@@ -1,0 +1,80 @@
+-- Where more is known of rings whose pointers stay, and the controller did nothing, what it did is still what is known of it
+use Rattle.std.specs.Prelude.{◌≡◌, ◌≢◌, ℕ, None, Some}
+use Rattle.std.proofs.Common.{refl, sym, ◌∙◌, ap, subst, inl, inr}
+use Rattle.segments.specs.Places.{address_of}
+use Rattle.segments.specs.Spots.{number}
+use Rattle.commands.specs.declared.command.Command.{Command}
+use Rattle.commands.specs.Command.{named_context}
+use Rattle.traces.specs.declared.header.Header.{Header}
+use Rattle.traces.specs.Header.{shape_of, command_id}
+use Rattle.world_state.specs.World.{World, UnderWay}
+use Rattle.ring_knowledge.specs.Known.{Known}
+use Rattle.safety.specs.Keeps.{IsUnfinished}
+use Rattle.safety.specs.Matches.{Newest, state_of, RingMatches, BoundRing, FreeRing, EndpointRing, UnderWayMatches, CommandMatches, IsUnchanged, Matches}
+use Rattle.safety.proofs.RingGoesOn.{RingGoesOn, bound_on, matches_on}
+use Rattle.safety.proofs.UnderWayGoesOn.{NextStays, under_way_on}
+
+-- the states of endpoints and slots are the same, and each ring goes on
+pub record KnownGoesOn (h : Header) (k m : Known) : Type 0 where
+  pub started : m.started ≡ k.started
+  pub slot_state : m.slot_state ≡ k.slot_state
+  pub endpoint_state : m.endpoint_state ≡ k.endpoint_state
+  pub ring_of : m.ring_of ≡ k.ring_of
+  pub was_bound : m.was_bound ≡ k.was_bound
+  pub stop_seen : m.stop_seen ≡ k.stop_seen
+  pub device : (s : ℕ) → k.device s ≢ None → m.device s ≢ None
+  pub rings : (r : ℕ) → RingGoesOn (shape_of h r) (k.ring r) (m.ring r)
+
+-- nothing that the controller does has changed
+pub record SameController (w v : World) : Type 0 where
+  pub slot_state : v.slot_state ≡ w.slot_state
+  pub endpoint_state : v.endpoint_state ≡ w.endpoint_state
+  pub ring_of : v.ring_of ≡ w.ring_of
+  pub scribbles : v.scribbles ≡ w.scribbles
+  pub under_way : v.under_way ≡ w.under_way
+  pub inside : v.looked_outside ≡ w.looked_outside
+  pub states : (r : ℕ) → state_of v r ≡ state_of w r
+
+pub same_controller : (w : World) → SameController w w
+same_controller w = record { slot_state = refl; endpoint_state = refl; ring_of = refl; scribbles = refl; under_way = refl; inside = refl; states = λ r. refl }
+
+module _ (h : Header) (k m : Known) (w v : World) (g : KnownGoesOn h k m) (c : SameController w v) where
+  -- the newest take of each ring is still the one declared there
+  abbrev pub NewestStay : Type 0
+  NewestStay = (r n : ℕ) → Newest (k.ring r) n (w.events r) → Newest (m.ring r) n (w.events r)
+
+  endpoint_ring : NewestStay → (r : ℕ) → EndpointRing h k w r → EndpointRing h m v r
+  endpoint_ring newest r (inl bound) =
+      inl (subst (λ f. BoundRing (shape_of h r) f (m.ring r) (state_of v r) r) (sym g.ring_of)
+      (subst (λ s. BoundRing (shape_of h r) k.ring_of (m.ring r) s r) (sym (c.states r))
+      (bound_on (shape_of h r) (k.ring r) (m.ring r) (g.rings r) (state_of w r) k.ring_of r (newest r) bound)))
+  endpoint_ring newest r (inr free) =
+      inr (subst (λ f. FreeRing (shape_of h r) f (state_of v r) r) (sym g.ring_of) (subst (λ s. FreeRing (shape_of h r) k.ring_of s r) (sym (c.states r)) free))
+
+  command_matches : NewestStay → ((u : UnderWay) → w.under_way ≡ Some u → NextStays h k m (g.rings (command_id h)).floor g.stop_seen) → CommandMatches h k w → CommandMatches h m v
+  command_matches newest next y = record {
+    spot = y.spot;
+    ring = subst (λ s. RingMatches (shape_of h (command_id h)) (m.ring (command_id h)) s y.spot) (sym (c.states (command_id h)))
+        (matches_on (shape_of h (command_id h)) (k.ring (command_id h)) (m.ring (command_id h)) (g.rings (command_id h)) (state_of w (command_id h)) y.spot (newest (command_id h) (number y.spot)) y.ring);
+    under_way = subst (λ o. UnderWayMatches h m y.spot o) (sym c.under_way)
+        (under_way_on h k m (g.rings (command_id h)).floor g.stop_seen y.spot w.under_way next y.under_way);
+  }
+
+  pub matches_go_on : NewestStay → ((u : UnderWay) → w.under_way ≡ Some u → NextStays h k m (g.rings (command_id h)).floor g.stop_seen) →
+      ((p : ℕ) (d : Command) → IsUnfinished h m p d → IsUnchanged h v (address_of (shape_of h (command_id h)) p) (named_context d)) → Matches h k w → Matches h m v
+  matches_go_on newest next contexts y = record {
+    slots = λ s. ap (λ f. f s) c.slot_state ∙ y.slots s ∙ ap (λ f. f s) (sym g.slot_state);
+    endpoints = λ s i. ap (λ f. f s i) c.endpoint_state ∙ y.endpoints s i ∙ ap (λ f. f s i) (sym g.endpoint_state);
+    ring_of = λ s i. ap (λ f. f s i) c.ring_of ∙ y.ring_of s i ∙ ap (λ f. f s i) (sym g.ring_of);
+    rings = λ r other. endpoint_ring newest r (y.rings r other);
+    fresh = λ r other unused. ap (λ s. s.events) (c.states r) ∙ y.fresh r other (ap (λ f. f r) (sym g.was_bound) ∙ unused);
+    before = λ off. let b = y.before (sym g.started ∙ off) in record {
+      inactive = ap (λ s. s.active) (c.states (command_id h)) ∙ b.inactive;
+      no_events = ap (λ s. s.events) (c.states (command_id h)) ∙ b.no_events;
+      none = c.under_way ∙ b.none;
+    };
+    command = λ on. command_matches newest next (y.command (sym g.started ∙ on));
+    scribbles = λ s may. g.device s (y.scribbles s (ap (λ f. f s) (sym c.scribbles) ∙ may));
+    contexts = contexts;
+    inside = c.inside ∙ y.inside;
+  }

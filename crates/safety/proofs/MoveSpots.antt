@@ -1,0 +1,137 @@
+-- The spot to which a ring may be moved is the one that its pointer and cycle state name
+use Rattle.std.specs.Prelude.{◌≡◌, ℕ, suc, zero, ◌+◌, ◌-◌, ◌*◌, ◌<◌, ◌≤◌, ◌==◌, ◌&&◌, if◌then◌else◌, Bool, true, false, List, [], ◌∷◌, Some, find}
+use Rattle.std.specs.List.{range_with_len, flat_map}
+use Rattle.std.proofs.Common.{arith, sym, ◌∙◌, ap, subst, inl, inr}
+use Rattle.std.proofs.lemmas.Bool.{cases_Bool, cases_lt, cases_eq, and_parts, eqb-true, cond-true, cond-false, false≢true}
+use Rattle.std.proofs.lemmas.List.Elements.{All-get_or}
+use Rattle.std.proofs.lemmas.List.Folds.{Any-from_list_any}
+use Rattle.segments.specs.declared.spot.Spot.{Spot}
+use Rattle.segments.specs.declared.spot.Spot.TheVariants.{Data, Link}
+use Rattle.segments.specs.ShapeValue.{Shape}
+use Rattle.segments.specs.Spots.{IsSpot, is_spot, rank, number, spot_address, spot_cycle}
+use Rattle.segments.specs.Shape.{IsShape}
+use Rattle.segments.specs.RingView.{RingView, declared, floor_number}
+use Rattle.segments.specs.Ceiling.{is_way_given}
+use Rattle.segments.specs.Descriptors.{is_border}
+use Rattle.segments.specs.Moves.{is_target, spots_between, target, is_reached, may_move_to, is_move}
+use Rattle.segments.specs.RingKeeps.{RingKeeps}
+use Rattle.segments.proofs.SpotOrder.{rank_least, rank_most, same_spot}
+use Rattle.segments.proofs.Named.{found_is}
+use Rattle.segments.proofs.MoveTargets.{between}
+use Rattle.segments.proofs.ReachedSpots.{move_reached}
+use Rattle.safety.proofs.LookedRing.{way_crossed, way_plain}
+
+-- among the spots of a range of numbers one that passes is found, if there is one
+found_between : (test : Spot → Bool) (a n : ℕ) (u : Spot) → a ≤ number u → number u < a + n → test u ≡ true →
+    (t : Spot) × (find test (flat_map (λ q. Link q ∷ Data q ∷ []) (range_with_len a n)) ≡ Some t)
+found_between test a zero u low high passes = absurd (omega arith)
+found_between test a (suc n) u low high passes =
+    let rest : List Spot = flat_map (λ q. Link q ∷ Data q ∷ []) (range_with_len (a + 1) n) in
+    elim (cases_Bool (test (Link a))) [
+      | inl link ↦ (Link a, cond-true (test (Link a)) (Some (Link a)) (find test (Data a ∷ rest)) link)
+      | inr no_link ↦
+          elim (cases_Bool (test (Data a))) [
+            | inl data_at ↦
+                (Data a, cond-false (test (Link a)) (Some (Link a)) (find test (Data a ∷ rest)) no_link ∙ cond-true (test (Data a)) (Some (Data a)) (find test rest) data_at)
+            | inr no_data ↦
+                let later = found_between test (a + 1) n u (above u low passes no_link no_data) (omega arith) passes in (
+                  later.0,
+                  cond-false (test (Link a)) (Some (Link a)) (find test (Data a ∷ rest)) no_link
+                      ∙ cond-false (test (Data a)) (Some (Data a)) (find test rest) no_data ∙ later.1,
+                )
+          ]
+    ]
+  where
+    above : (u : Spot) → a ≤ number u → test u ≡ true → test (Link a) ≡ false → test (Data a) ≡ false → a + 1 ≤ number u
+    above (Link q) low passes link data_at =
+        elim (cases_eq a q) [ inl same ↦ absurd (false≢true (sym link ∙ ap (λ n. test (Link n)) same ∙ passes)) | inr other ↦ omega arith ]
+    above (Data q) low passes link data_at =
+        elim (cases_eq a q) [ inl same ↦ absurd (false≢true (sym data_at ∙ ap (λ n. test (Data n)) same ∙ passes)) | inr other ↦ omega arith ]
+
+-- the spot to which a ring may be moved
+pub record MoveSpot (shape : Shape) (v : RingView) (address : ℕ) (cycle : Bool) (least most : ℕ) : Type 0 where
+  pub spot : Spot
+  pub named : target shape v address cycle ≡ Some spot
+  pub is_spot : IsSpot shape spot
+  pub at : spot_address shape spot ≡ address
+  pub cycle_is : spot_cycle shape spot ≡ (if cycle then 1 else 0)
+  pub from : least ≤ number spot
+  pub to : number spot ≤ most
+  pub border : is_border v.lengths 0 (number spot) ≡ true
+  pub way : (q : ℕ) → spot ≡ Data q → is_way_given shape v q ≡ true
+
+-- a pointer and a cycle state stand at a spot
+record IsTarget (shape : Shape) (address : ℕ) (cycle : Bool) (t : Spot) : Type 0 where
+  pub spot : IsSpot shape t
+  pub at : spot_address shape t ≡ address
+  pub cycle_is : spot_cycle shape t ≡ (if cycle then 1 else 0)
+
+target_is : (shape : Shape) (address : ℕ) (cycle : Bool) (t : Spot) → is_target shape address cycle t ≡ true → IsTarget shape address cycle t
+unfolding is_target
+target_is shape address cycle t is =
+    let parts = and_parts (is_spot shape t && spot_address shape t == address) (spot_cycle shape t == (if cycle then 1 else 0)) is in
+    let first = and_parts (is_spot shape t) (spot_address shape t == address) parts.0 in
+    record { spot = first.0; at = eqb-true (spot_address shape t) address first.1; cycle_is = eqb-true (spot_cycle shape t) (if cycle then 1 else 0) parts.1 }
+
+-- the way to a block up to which all is given is given
+way_reached : (shape : Shape) (v : RingView) (t : Spot) → IsSpot shape t → floor_number v ≤ number t → is_reached shape v t ≡ true → (q : ℕ) → t ≡ Data q → is_way_given shape v q ≡ true
+way_reached shape v t is later reached q e =
+    let may = move_reached shape v t is later reached in
+    elim (cases_Bool (is_spot shape (Link q))) [
+      | inl crossing ↦ let at : rank t ≡ 2 * q + 1 = ap rank e in way_crossed shape v q (may.passed_links q crossing (omega arith))
+      | inr none ↦ way_plain shape v q none
+    ]
+
+module _ (shape : Shape) (is : IsShape shape) (memory : ℕ → ℕ) (v : RingView) (k : RingKeeps shape memory v) where
+  -- two spots at one address from the floor's number up to what is declared are one
+  one_at : (s t : Spot) → IsSpot shape s → IsSpot shape t → floor_number v ≤ number s → floor_number v ≤ number t → number s ≤ declared v → number t ≤ declared v →
+      spot_address shape s ≡ spot_address shape t → s ≡ t
+  one_at s t a b from_s from_t to_s to_t same =
+      elim (cases_lt (rank s) (rank t)) [
+        | inl lower ↦ same_spot shape is s t a b (omega arith) (omega (arith, rank_least s, rank_most t, k.room)) same
+        | inr upper ↦ sym (same_spot shape is t s b a upper (omega (arith, rank_least t, rank_most s, k.room)) (sym same))
+      ]
+
+  -- the spot that passes is the one that is found
+  module _ (address : ℕ) (cycle : Bool) (u : Spot) (here : IsTarget shape address cycle u) (from : floor_number v ≤ number u) (to : number u ≤ declared v) where
+    found_spot : (t : Spot) → target shape v address cycle ≡ Some t → t ≡ u
+    unfolding target
+    found_spot t at =
+        let also = found_is (is_target shape address cycle) (λ x. (floor_number v ≤ number x) × (number x ≤ declared v)) (spots_between (floor_number v) (declared v)) t at
+        (between (floor_number v) (declared v)) in
+        let there : IsTarget shape address cycle t = target_is shape address cycle t also.0 in
+        one_at t u there.spot here.spot also.1.0 from also.1.1 to (there.at ∙ sym here.at)
+
+    some_spot : is_target shape address cycle u ≡ true → (t : Spot) × (target shape v address cycle ≡ Some t)
+    unfolding target spots_between
+    some_spot passes = found_between (is_target shape address cycle) (floor_number v) (declared v + 1 - floor_number v) u from (omega arith) passes
+
+    named_spot : is_target shape address cycle u ≡ true → target shape v address cycle ≡ Some u
+    named_spot passes =
+        let found = some_spot passes in
+        found.1 ∙ ap (λ x. Some x) (found_spot found.0 found.1)
+
+  -- where a move passes its test, its spot is the one that is named
+  pub move_spot : (address : ℕ) (cycle : Bool) (least most : ℕ) → floor_number v ≤ least → most ≤ declared v → is_move shape v address cycle least most ≡ true →
+      MoveSpot shape v address cycle least most
+  unfolding is_move may_move_to
+  move_spot address cycle least most low high moves =
+      let any = Any-from_list_any (λ u. is_target shape address cycle u && may_move_to shape v u) (spots_between least most) moves in
+      let u : Spot = any.1 in
+      let passes = and_parts (is_target shape address cycle u) (may_move_to shape v u) any.4 in
+      let may = and_parts (is_border v.lengths 0 (number u)) (is_reached shape v u) passes.1 in
+      let bounds : (least ≤ number u) × (number u ≤ most) =
+      subst (λ (x : Spot). (least ≤ number x) × (number x ≤ most)) any.3
+      (All-get_or (λ x. (least ≤ number x) × (number x ≤ most)) (spots_between least most) any.0 u any.2 (between least most)) in
+      let here : IsTarget shape address cycle u = target_is shape address cycle u passes.0 in
+      record {
+        spot = u;
+        named = named_spot address cycle u here (omega arith) (omega arith) passes.0;
+        is_spot = here.spot;
+        at = here.at;
+        cycle_is = here.cycle_is;
+        from = bounds.0;
+        to = bounds.1;
+        border = may.0;
+        way = way_reached shape v u here.spot (omega arith) may.1;
+      }

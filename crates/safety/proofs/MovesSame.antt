@@ -1,0 +1,55 @@
+-- A ring on which nothing more is declared or given may be moved where it could be before
+use Rattle.std.specs.Prelude.{◌≡◌, ℕ, ◌≤◌, Bool, true, length, Some, option_and_then, slice_get}
+use Rattle.std.proofs.Common.{arith, sym, ◌∙◌, ap}
+use Rattle.segments.specs.ShapeValue.{Shape}
+use Rattle.segments.specs.RingView.{RingView, declared, floor_number, is_due}
+use Rattle.segments.specs.Ceiling.{ceiling}
+use Rattle.segments.specs.Descriptors.{is_border}
+use Rattle.segments.specs.Moves.{is_move}
+use Rattle.segments.proofs.StepFacts.{GivesMore}
+use Rattle.segments.proofs.MovesStay.{move_more}
+use Rattle.segments.proofs.Named.{ceiling_held}
+use Rattle.commands.specs.declared.command.Command.{Command}
+use Rattle.commands.specs.Command.{command_of}
+use Rattle.traces.specs.declared.header.Header.{Header}
+use Rattle.traces.specs.Header.{shape_of, command_id}
+use Rattle.ring_knowledge.specs.Known.{Known}
+use Rattle.ring_knowledge.specs.Rings.{command_at}
+use Rattle.safety.specs.Keeps.{IsUnfinished}
+use Rattle.safety.proofs.CommandsStay.{Standing, MovesAhead}
+use Rattle.safety.proofs.SameDriver.{SameGiven}
+
+module _ (shape : Shape) (v w : RingView) (same : SameGiven v w) where
+  move_same : (p : ℕ) (cycle : Bool) (least most low high : ℕ) → low ≤ least → most ≤ high → is_move shape v p cycle least most ≡ true → is_move shape w p cycle low high ≡ true
+  move_same p cycle least most low high below above moves =
+      let more : GivesMore v w = record { given = λ p g. ap (λ f. f p) same.given ∙ g; crossed = λ q g. ap (λ f. f q) same.crossed ∙ g } in
+      move_more shape v w more (λ q border. ap (λ xs. is_border xs 0 q) same.lengths ∙ border) p cycle least most low high below above moves
+
+  declared_same : declared w ≡ declared v
+  declared_same = ap (λ q. length q) same.queue
+
+  -- the floor is where it was
+  pub standing_same : floor_number w ≡ floor_number v → Standing shape v w
+  standing_same floor =
+      record {
+        here = λ p cycle moves. move_same p cycle (floor_number v) (floor_number v) (floor_number w) (floor_number w) (omega arith) (omega arith) moves;
+        nothing = λ none p low. ap (λ f. f p) same.given ∙ none p (omega arith);
+      }
+
+  -- the ring is held where it was
+  pub ahead_held : (m : ℕ) → v.held ≡ Some m → w.held ≡ Some m → MovesAhead shape v w
+  ahead_held m at still p cycle moves =
+      move_same p cycle (ceiling shape v) (declared v) (ceiling shape w) (declared w) (omega (arith, ceiling_held shape v m at, ceiling_held shape w m still))
+      (omega (arith, declared_same)) moves
+
+module _ (h : Header) (k l : Known) where
+  -- the same commands are unfinished where the command ring shows the same of them
+  pub unfinished_view : let v : RingView = k.ring (command_id h) in let w : RingView = l.ring (command_id h) in
+      SameGiven v w → w.floor ≡ v.floor → (p : ℕ) (c : Command) → IsUnfinished h l p c → IsUnfinished h k p c
+  unfolding command_at
+  unfinished_view same floor p c u =
+      record {
+        due = ap (λ t. is_due (shape_of h (command_id h)) t p) (sym floor) ∙ u.due;
+        given = ap (λ f. f p) (sym same.given) ∙ u.given;
+        command = ap (λ q. option_and_then command_of (slice_get q p)) (sym same.queue) ∙ u.command;
+      }

@@ -1,0 +1,88 @@
+-- The ring that a pointer names: one that begins there, or has it inside, is the only one
+use Rattle.std.specs.Prelude.{◌≡◌, ℕ, ◌+◌, ◌==◌, ◌&&◌, true, Option, None, Some, find}
+use Rattle.std.proofs.Common.{arith, refl, sym, ◌∙◌, ap, inl, inr}
+use Rattle.std.proofs.lemmas.Bool.{and_parts, eqb-true}
+use Rattle.std.proofs.lemmas.Option.{none-some, same_Some}
+use Rattle.segments.specs.declared.spot.Spot.{Spot}
+use Rattle.segments.specs.declared.spot.Spot.TheVariants.{Data, Link}
+use Rattle.segments.specs.ShapeValue.{Shape}
+use Rattle.segments.specs.Places.{address_of, is_inside, link_address}
+use Rattle.segments.specs.Spots.{IsSpot, spot_address}
+use Rattle.segments.specs.Shape.{IsShape}
+use Rattle.segments.proofs.Elsewhere.{address_inside, link_address_inside}
+use Rattle.traces.specs.declared.header.Header.{Header}
+use Rattle.traces.specs.declared.ring.Ring.{Ring}
+use Rattle.traces.specs.Header.{IsHeader, ring_with, shape_of, id_of, is_transfer_kind, ring_beginning_at, ring_having}
+use Rattle.safety.specs.Keeps.{IsTransferRing}
+use Rattle.safety.proofs.Headers.{found_in, together, clash_apart, header_parts, shape_is, ring_shape, transfer_driver}
+use Rattle.safety.proofs.RingIds.{found_again}
+
+-- the address of a spot is inside its ring
+pub spot_inside : (shape : Shape) → IsShape shape → (t : Spot) → IsSpot shape t → is_inside shape (spot_address shape t) ≡ true
+spot_inside shape is (Data q) spot = ap (λ a. is_inside shape a) (add_none (address_of shape q)) ∙ address_inside shape is q 0 (omega arith)
+  where
+    add_none : (a : ℕ) → a ≡ a + 0
+    add_none a = omega arith
+spot_inside shape is (Link q) spot = ap (λ a. is_inside shape a) (add_none (link_address shape q)) ∙ link_address_inside shape is q 0 spot (omega arith)
+  where
+    add_none : (a : ℕ) → a ≡ a + 0
+    add_none a = omega arith
+
+id_is : (o : Option Ring) (r : ℕ) → id_of o ≡ Some r → (q : Ring) × (o ≡ Some q) × (q.id ≡ r)
+id_is None r at = absurd (none-some r at)
+id_is (Some q) r at = (q, refl, same_Some q.id r at)
+
+module _ (h : Header) (is : IsHeader h) where
+  having_found : (p r : ℕ) → ring_having h p ≡ Some r → (q : Ring) × (find (λ r. is_transfer_kind r.shape.kind && is_inside r.shape p) h.rings ≡ Some q) × (q.id ≡ r)
+  unfolding ring_having
+  having_found p r at = id_is (find (λ r. is_transfer_kind r.shape.kind && is_inside r.shape p) h.rings) r at
+
+  beginning_found : (p r : ℕ) → ring_beginning_at h p ≡ Some r → (q : Ring) × (find (λ r. is_transfer_kind r.shape.kind && address_of r.shape 0 == p) h.rings ≡ Some q) × (q.id ≡ r)
+  unfolding ring_beginning_at
+  beginning_found p r at = id_is (find (λ r. is_transfer_kind r.shape.kind && address_of r.shape 0 == p) h.rings) r at
+
+  -- a transfer ring that has an address inside is the one that is found by it
+  pub having_is : (p r q : ℕ) → IsTransferRing h r → is_inside (shape_of h r) p ≡ true → ring_having h p ≡ Some q → q ≡ r
+  having_is p r q transfer inside at =
+      let found = having_found p q at in
+      let there = found_in (λ x. is_transfer_kind x.shape.kind && is_inside x.shape p) h.rings found.0 found.1 in
+      let has : is_inside found.0.shape p ≡ true = (and_parts (is_transfer_kind found.0.shape.kind) (is_inside found.0.shape p) there.1).1 in
+      let mine = found_in (λ x. x.id == r) h.rings transfer.ring transfer.found in
+      let id : transfer.ring.id ≡ r = eqb-true transfer.ring.id r mine.1 in
+      let own : is_inside transfer.ring.shape p ≡ true = ap (λ s. is_inside s p) (sym (shape_is h r transfer.ring transfer.found)) ∙ inside in
+      elim (together h.rings found.0 transfer.ring (header_parts h is).1 there.0 mine.0) [
+        | inl same ↦ sym found.2 ∙ ap (λ (x : Ring). x.id) same ∙ id
+        | inr apart ↦ absurd (elim apart [
+          | inl one ↦ clash_apart found.0 transfer.ring p one has own
+          | inr other ↦ clash_apart transfer.ring found.0 p other own has
+        ])
+      ]
+
+  -- the ring that begins at an address
+  pub record Beginning (p r : ℕ) : Type 0 where
+    pub transfer : IsTransferRing h r
+    pub at : address_of (shape_of h r) 0 ≡ p
+
+  pub beginning_is : (p r : ℕ) → ring_beginning_at h p ≡ Some r → Beginning p r
+  beginning_is p r at =
+      let found = beginning_found p r at in
+      let there = found_in (λ x. is_transfer_kind x.shape.kind && address_of x.shape 0 == p) h.rings found.0 found.1 in
+      let parts = and_parts (is_transfer_kind found.0.shape.kind) (address_of found.0.shape 0 == p) there.1 in
+      let by_id : ring_with h r ≡ Some found.0 =
+      ap (λ n. ring_with h n) (sym found.2) ∙ found_again (λ x. is_transfer_kind x.shape.kind && address_of x.shape 0 == p) h.rings found.0 (header_parts h is).1 found.1 in
+      record {
+        transfer = record { ring = found.0; found = by_id; kind = parts.0 };
+        at = ap (λ s. address_of s 0) (shape_is h r found.0 by_id) ∙ eqb-true (address_of found.0.shape 0) p parts.1;
+      }
+
+  -- it is the one that has the address inside
+  pub beginning_having : (p r q : ℕ) → ring_beginning_at h p ≡ Some r → ring_having h p ≡ Some q → q ≡ r
+  beginning_having p r q begins at =
+      let b : Beginning p r = beginning_is p r begins in
+      let inside = spot_inside (shape_of h r) (ring_shape h is r (transfer_driver h r b.transfer)).is (Data 0) refl in
+      having_is p r q b.transfer (ap (λ a. is_inside (shape_of h r) a) (sym b.at) ∙ inside) at
+
+  pub moved_having : (p r q : ℕ) (t : Spot) → IsTransferRing h r → IsSpot (shape_of h r) t → spot_address (shape_of h r) t ≡ p → ring_having h p ≡ Some q → q ≡ r
+  moved_having p r q t transfer spot at found =
+      let inside = spot_inside (shape_of h r) (ring_shape h is r (transfer_driver h r transfer)).is t spot in
+      having_is p r q transfer (ap (λ a. is_inside (shape_of h r) a) (sym at) ∙ inside) found

@@ -1,0 +1,156 @@
+-- The endpoints that a command names have numbers of slots and endpoints, and so has each endpoint that a success gives a ring
+use Rattle.std.specs.Prelude.{◌≡◌, ℕ, suc, zero, ◌+◌, ◌<◌, ◌≤◌, ◌==◌, ◌&&◌, if◌then◌else◌, Bool, true, false, List, [], ◌∷◌, map, filter, Option, None, Some}
+use Rattle.std.specs.List.{range_with_len}
+use Rattle.std.proofs.Common.{arith, refl, sym, ◌∙◌, ap, subst, inl, inr}
+use Rattle.std.proofs.lemmas.Bool.{cond_both, eqb-true, and_parts}
+use Rattle.std.proofs.lemmas.Option.{none-some, same_Some}
+use Rattle.trb.specs.declared.block.Block.{Block}
+use Rattle.trb.specs.declared.kind.BlockKind.{BlockKind}
+use Rattle.trb.specs.declared.kind.BlockKind.TheVariants as kinds
+use Rattle.trb.specs.Block.{kind, slot, endpoint}
+use Rattle.trb.specs.Descriptor.{is_command_left_out}
+use Rattle.segments.specs.declared.spot.Spot.{Spot}
+use Rattle.segments.specs.Moves.{target}
+use Rattle.commands.specs.declared.command.Command.{Command}
+use Rattle.commands.specs.declared.command.Command.TheVariants.{NoOp, EnableSlot, DisableSlot, AddressDevice, ConfigureEndpoint, EvaluateContext, ResetEndpoint, StopEndpoint, SetTrDequeue, ResetDevice}
+use Rattle.commands.specs.declared.state.EndpointState.TheVariants.{Stopped}
+use Rattle.commands.specs.States.{is_off}
+use Rattle.commands.specs.Command.{command_by_kind, command_of}
+use Rattle.commands.specs.Changes.{Change, SlotGoesOn, DeviceLeft, Disables, Places, Stops, Resets, changes, placed_by_context}
+use Rattle.contexts.specs.declared.size.ContextSize.{ContextSize}
+use Rattle.contexts.specs.Contexts.{input_add_flag, added_endpoints}
+use Rattle.traces.specs.declared.header.Header.{Header}
+use Rattle.traces.specs.Header.{shape_of, ring_beginning_at}
+use Rattle.ring_knowledge.specs.Known.{Known}
+use Rattle.ring_knowledge.specs.Rings.{on_ring}
+use Rattle.ring_knowledge.specs.Completions.{set_to, bound_to, moved_to, moved, pointed, disabled, in_state, held_at_ceiling, changed_by, changed_by_all}
+use Rattle.safety.proofs.LookKinds.{cond_is}
+use Rattle.safety.proofs.FinishChanges.{AreNumbered}
+
+-- ---- what commands name
+
+abbrev pub IsNumbered : Command → Type 0
+IsNumbered (AddressDevice s bsr n) = s < 256
+IsNumbered (ConfigureEndpoint s dc n) = s < 256
+IsNumbered (SetTrDequeue s i p cycle) = (s < 256) × (i < 32)
+IsNumbered _ = Unit {0}
+
+slot_number : (b : Block) → slot b < 256
+slot_number b = omega arith
+
+endpoint_number : (b : Block) → endpoint b < 32
+endpoint_number b = omega arith
+
+by_kind_numbered : (t : BlockKind) (b : Block) (c : Command) → command_by_kind t b ≡ Some c → IsNumbered c
+by_kind_numbered kinds.NoOpCommand b c at = subst IsNumbered (same_Some _ c at) tt
+by_kind_numbered kinds.EnableSlot b c at = subst IsNumbered (same_Some _ c at) tt
+by_kind_numbered kinds.DisableSlot b c at = subst IsNumbered (same_Some _ c at) tt
+by_kind_numbered kinds.AddressDevice b c at = subst IsNumbered (same_Some _ c at) (slot_number b)
+by_kind_numbered kinds.ConfigureEndpoint b c at = subst IsNumbered (same_Some _ c at) (slot_number b)
+by_kind_numbered kinds.EvaluateContext b c at = subst IsNumbered (same_Some _ c at) tt
+by_kind_numbered kinds.ResetEndpoint b c at = subst IsNumbered (same_Some _ c at) tt
+by_kind_numbered kinds.StopEndpoint b c at = subst IsNumbered (same_Some _ c at) tt
+by_kind_numbered kinds.SetTrDequeue b c at = subst IsNumbered (same_Some _ c at) (slot_number b, endpoint_number b)
+by_kind_numbered kinds.ResetDevice b c at = subst IsNumbered (same_Some _ c at) tt
+by_kind_numbered _ b c at = absurd (none-some c at)
+
+pub command_numbered : (b : Block) (c : Command) → command_of b ≡ Some c → IsNumbered c
+command_numbered b c at =
+    elim (cond_is (is_command_left_out b) None (command_by_kind (kind b) b) (Some c) at) [
+      | inl left ↦ absurd (none-some c left.1)
+      | inr in_profile ↦ by_kind_numbered (kind b) b c in_profile.1
+    ]
+
+-- ---- what they place
+
+abbrev pub PlacesNumbered : Change → Type 0
+PlacesNumbered (Places s i p cycle state) = (s < 256) × (i < 32)
+PlacesNumbered _ = Unit {0}
+
+abbrev pub AllNumbered : List Change → Type 0
+AllNumbered [] = Unit {0}
+AllNumbered (change ∷ rest) = PlacesNumbered change × AllNumbered rest
+
+added_numbered : (size : ContextSize) (memory : ℕ → ℕ) (s n : ℕ) (added : ℕ → Bool) → s < 256 → (a len : ℕ) → a + len ≤ 32 → AllNumbered (map (placed_by_context size memory s n) (filter added (range_with_len a len)))
+added_numbered size memory s n added low a zero high = tt
+added_numbered size memory s n added low a (suc len) high = chosen (added a) (added_numbered size memory s n added low (a + 1) len (omega arith))
+  where
+    chosen : (b : Bool) → AllNumbered (map (placed_by_context size memory s n) (filter added (range_with_len (a + 1) len))) →
+        AllNumbered (map (placed_by_context size memory s n) (if b then a ∷ filter added (range_with_len (a + 1) len) else filter added (range_with_len (a + 1) len)))
+    chosen true rest = ((low, omega arith), rest)
+    chosen false rest = rest
+
+pub changes_numbered : (size : ContextSize) (memory : ℕ → ℕ) (n : ℕ) (c : Command) → IsNumbered c → AllNumbered (changes size memory n c)
+unfolding changes added_endpoints
+changes_numbered size memory n NoOp c = tt
+changes_numbered size memory n EnableSlot c = (tt, tt)
+changes_numbered size memory n (DisableSlot s) c = (tt, (tt, (tt, tt)))
+changes_numbered size memory n (AddressDevice s bsr a) c = (tt, ((c, omega arith), tt))
+changes_numbered size memory n (ConfigureEndpoint s false a) c = (tt, (tt, added_numbered size memory s a (input_add_flag memory a) c 2 30 (omega arith)))
+changes_numbered size memory n (ConfigureEndpoint s true a) c = (tt, (tt, tt))
+changes_numbered size memory n (EvaluateContext s a) c = tt
+changes_numbered size memory n (ResetEndpoint s i) c = (tt, tt)
+changes_numbered size memory n (StopEndpoint s i) c = (tt, tt)
+changes_numbered size memory n (SetTrDequeue s i p cycle) c = (c, tt)
+changes_numbered size memory n (ResetDevice s) c = (tt, (tt, tt))
+
+-- ---- what is known behind it
+
+module _ (h : Header) where
+  set_ring_of : (k : Known) (r : ℕ) (t : Spot) → (set_to h k r t).ring_of ≡ k.ring_of
+  unfolding set_to on_ring
+  set_ring_of k r t = refl
+
+  moved_ring_of : (k : Known) (o : Option ℕ) (p : ℕ) (cycle : Bool) → (moved h k o p cycle).ring_of ≡ k.ring_of
+  unfolding moved moved_to
+  moved_ring_of k None p cycle = refl
+  moved_ring_of k (Some r) p cycle = by (target (shape_of h r) (k.ring r) p cycle)
+    where
+      by : (o : Option Spot) → (moved_to h k r o).ring_of ≡ k.ring_of
+      by None = refl
+      by (Some t) = set_ring_of k r t
+
+  pub same_numbered : (k l : Known) → l.ring_of ≡ k.ring_of → AreNumbered k → AreNumbered l
+  same_numbered k l same all s i r at = all s i r (ap (λ (f : ℕ → ℕ → Option ℕ). f s i) (sym same) ∙ at)
+
+  bound_numbered : (k : Known) → AreNumbered k → (s i : ℕ) (o : Option ℕ) → (s < 256) × (i < 32) → AreNumbered (bound_to h k s i o)
+  unfolding bound_to
+  bound_numbered k all s i None fits = all
+  bound_numbered k all s i (Some r) fits =
+      λ t j q at.
+      elim (cond_is (t == s && j == i) (Some r) (k.ring_of t j) (Some q) at) [
+        | inl here ↦
+            let p = and_parts (t == s) (j == i) here.0 in
+            (subst (λ n. n < 256) (sym (eqb-true t s p.0)) fits.0, subst (λ n. n < 32) (sym (eqb-true j i p.1)) fits.1)
+        | inr other ↦ all t j q other.1
+      ]
+
+  pointed_numbered : (k : Known) → AreNumbered k → (s i p : ℕ) (cycle : Bool) → (s < 256) × (i < 32) → AreNumbered (pointed h k s i p cycle)
+  unfolding pointed
+  pointed_numbered k all s i p cycle fits =
+      cond_both (is_off (k.endpoint_state s i)) (bound_to h k s i (ring_beginning_at h p)) (moved h k (k.ring_of s i) p cycle) AreNumbered
+      (λ off. bound_numbered k all s i (ring_beginning_at h p) fits)
+      (λ on. same_numbered k (moved h k (k.ring_of s i) p cycle) (moved_ring_of k (k.ring_of s i) p cycle) all)
+
+  held_ring_of : (k : Known) (o : Option ℕ) → (held_at_ceiling h k o).ring_of ≡ k.ring_of
+  unfolding held_at_ceiling on_ring
+  held_ring_of k None = refl
+  held_ring_of k (Some r) = refl
+
+  change_numbered : (c : Command) (k : Known) (change : Change) → AreNumbered k → PlacesNumbered change → AreNumbered (changed_by h c k change)
+  unfolding changed_by disabled in_state
+  change_numbered c k (SlotGoesOn s) all fits = same_numbered k (changed_by h c k (SlotGoesOn s)) refl all
+  change_numbered c k (DeviceLeft s) all fits = same_numbered k (changed_by h c k (DeviceLeft s)) refl all
+  change_numbered c k (Disables s which) all fits =
+      λ t j q at. elim (cond_is (t == s && which j) None (k.ring_of t j) (Some q) at) [ inl gone ↦ absurd (none-some q gone.1) | inr still ↦ all t j q still.1 ]
+  change_numbered c k (Places s i p cycle state) all fits =
+      same_numbered (pointed h k s i p cycle) (changed_by h c k (Places s i p cycle state)) refl (pointed_numbered k all s i p cycle fits)
+  change_numbered c k (Stops s i) all fits =
+      let l : Known = in_state h k s i Stopped in
+      same_numbered k (held_at_ceiling h l (k.ring_of s i)) (held_ring_of l (k.ring_of s i)) all
+  change_numbered c k (Resets s i) all fits = same_numbered k (in_state h k s i Stopped) refl all
+
+  pub all_numbered : (c : Command) (k : Known) (l : List Change) → AreNumbered k → AllNumbered l → AreNumbered (changed_by_all h c k l)
+  unfolding changed_by_all
+  all_numbered c k [] all fits = all
+  all_numbered c k (change ∷ rest) all fits = all_numbered c (changed_by h c k change) rest (change_numbered c k change all fits.0) fits.1

@@ -1,0 +1,48 @@
+-- A word of one ring gives nothing of another
+use Rattle.std.specs.Prelude.{◌≡◌, ◌≢◌, ℕ, ◌==◌, true}
+use Rattle.std.proofs.Common.{arith, sym, ◌∙◌, ap, inl, inr}
+use Rattle.std.proofs.lemmas.Bool.{or_cases, eqb-true}
+use Rattle.segments.specs.Places.{is_inside}
+use Rattle.segments.specs.RingView.{RingView, Writes, changed, gives, gives_crossing}
+use Rattle.segments.proofs.Giving.{gives_is, gives_crossing_is}
+use Rattle.segments.proofs.StepFacts.{GivesMore}
+use Rattle.segments.proofs.Elsewhere.{address_inside, link_address_inside}
+use Rattle.traces.specs.declared.header.Header.{Header}
+use Rattle.traces.specs.declared.ring.Ring.{Ring}
+use Rattle.traces.specs.Header.{IsHeader, shape_of}
+use Rattle.safety.specs.Keeps.{IsDriverRing}
+use Rattle.safety.proofs.Headers.{found_in, together, clash_apart, shape_is, header_parts, ring_shape}
+
+module _ (h : Header) (is : IsHeader h) (r c : ℕ) (d : IsDriverRing h r) (g : IsDriverRing h c) (other : r ≢ c) where
+  pub not_in_both : (x : ℕ) → is_inside (shape_of h r) x ≡ true → is_inside (shape_of h c) x ≡ true → ⊥
+  not_in_both x here there =
+      let mine = found_in (λ q. q.id == r) h.rings d.ring d.found in
+      let yours = found_in (λ q. q.id == c) h.rings g.ring g.found in
+      let one : is_inside d.ring.shape x ≡ true = ap (λ s. is_inside s x) (sym (shape_is h r d.ring d.found)) ∙ here in
+      let two : is_inside g.ring.shape x ≡ true = ap (λ s. is_inside s x) (sym (shape_is h c g.ring g.found)) ∙ there in
+      elim (together h.rings d.ring g.ring (header_parts h is).1 mine.0 yours.0) [
+        | inl same ↦ other (sym (eqb-true d.ring.id r mine.1) ∙ ap (λ (q : Ring). q.id) same ∙ eqb-true g.ring.id c yours.1)
+        | inr apart ↦ elim apart [
+          | inl first ↦ clash_apart d.ring g.ring x first one two
+          | inr second ↦ clash_apart g.ring d.ring x second two one
+        ]
+      ]
+
+  pub written_elsewhere : (v : RingView) (a w : ℕ) → is_inside (shape_of h c) a ≡ true → GivesMore (changed (shape_of h r) v (Writes a w)) v
+  written_elsewhere v a w inside = record {
+    given = λ p now.
+        elim (or_cases (v.given p) (gives (shape_of h r) v.floor p a w) now) [
+          | inl was ↦ was
+          | inr new ↦
+              absurd (not_in_both a
+              (ap (λ y. is_inside (shape_of h r) y) (gives_is (shape_of h r) v.floor p a w new).at ∙ address_inside (shape_of h r) (ring_shape h is r d).is p 12 (omega arith)) inside)
+        ];
+    crossed = λ q now.
+        elim (or_cases (v.crossed q) (gives_crossing (shape_of h r) v.floor q a w) now) [
+          | inl was ↦ was
+          | inr new ↦
+              let writes = gives_crossing_is (shape_of h r) v.floor q a w new in
+              absurd (not_in_both a
+              (ap (λ y. is_inside (shape_of h r) y) writes.at ∙ link_address_inside (shape_of h r) (ring_shape h is r d).is q 12 writes.due.crossing (omega arith)) inside)
+        ];
+  }

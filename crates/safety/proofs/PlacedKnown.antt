@@ -1,0 +1,102 @@
+-- What is known of an endpoint whose ring a command placed: it is bound anew, or moved
+use Rattle.std.specs.Prelude.{◌≡◌, ◌≢◌, ℕ, ◌==◌, ◌&&◌, Bool, true, false, Some}
+use Rattle.std.proofs.Common.{refl, sym, ◌∙◌, ap, subst, inl, inr}
+use Rattle.std.proofs.lemmas.Bool.{cases_Bool, and_parts, eqb-true, cond-true, cond-false}
+use Rattle.guest_memory.specs.Memory.{put, put_pair}
+use Rattle.segments.specs.declared.spot.Spot.{Spot}
+use Rattle.segments.specs.declared.spot.Spot.TheVariants.{Data}
+use Rattle.segments.specs.RingView.{RingView}
+use Rattle.segments.specs.Spots.{number}
+use Rattle.segments.specs.Moves.{target}
+use Rattle.commands.specs.declared.command.Command.{Command}
+use Rattle.commands.specs.declared.state.EndpointState.{EndpointState}
+use Rattle.commands.specs.Changes.{Places}
+use Rattle.commands.specs.States.{is_off}
+use Rattle.traces.specs.declared.header.Header.{Header}
+use Rattle.traces.specs.Header.{IsHeader, shape_of, ring_beginning_at}
+use Rattle.ring_knowledge.specs.Known.{Known}
+use Rattle.ring_knowledge.specs.Rings.{on_ring}
+use Rattle.ring_knowledge.specs.Completions.{set_to, bound_to, moved_to, moved, pointed, in_state, changed_by}
+use Rattle.safety.proofs.LookKinds.{put_at, put_off}
+use Rattle.safety.proofs.Placings.{pointed_is}
+use Rattle.safety.proofs.PlacedRing.{set_view}
+use Rattle.safety.proofs.Placing.{PlacedTo}
+
+-- with an endpoint in a state, and these endpoints whose ring must be moved
+abbrev pub in_place : Header → Known → ℕ → ℕ → EndpointState → (ℕ → ℕ → Bool) → Known
+in_place h k s i state must = record (in_state h k s i state) { must_move = must }
+
+module _ (h : Header) (k : Known) (s i r : ℕ) (t : Spot) where
+  set_here : (set_to h k r t).ring r ≡ set_view (k.ring r) t
+  unfolding set_to on_ring
+  set_here =
+      let first : RingView = record (k.ring r) { floor = t } in
+      put_at (put k.ring r first) r (record (put k.ring r first r) { held = Some (number t) })
+      ∙ ap (λ (v : RingView). let x : RingView = record v { held = Some (number t) } in x) (put_at k.ring r first)
+
+  set_elsewhere : (q : ℕ) → q ≢ r → (set_to h k r t).ring q ≡ k.ring q
+  unfolding set_to on_ring
+  set_elsewhere q other =
+      let first : RingView = record (k.ring r) { floor = t } in
+      put_off (put k.ring r first) r (record (put k.ring r first r) { held = Some (number t) }) q other ∙ put_off k.ring r first q other
+
+  -- the pair has the ring already
+  had_still : k.ring_of s i ≡ Some r → (x j : ℕ) → k.ring_of x j ≡ put_pair k.ring_of s i (Some r) x j
+  had_still had x j =
+      elim (cases_Bool (x == s && j == i)) [
+        | inl here ↦
+            let parts = and_parts (x == s) (j == i) here in
+            ap (λ n. k.ring_of n j) (eqb-true x s parts.0) ∙ ap (λ n. k.ring_of s n) (eqb-true j i parts.1) ∙ had ∙ sym (cond-true (x == s && j == i) (Some r) (k.ring_of x j) here)
+        | inr there ↦ sym (cond-false (x == s && j == i) (Some r) (k.ring_of x j) there)
+      ]
+
+  -- a ring that was bound is moved
+  moved_placed : (state : EndpointState) (must : ℕ → ℕ → Bool) → k.ring_of s i ≡ Some r → k.was_bound r ≡ true → PlacedTo k (in_place h (set_to h k r t) s i state must) s i r t state
+  unfolding set_to on_ring in_state
+  moved_placed state must had was = record {
+    here = set_here;
+    others = set_elsewhere;
+    ring_of = had_still had;
+    bound = was;
+    was = λ q other. refl;
+    endpoint_state = refl;
+    slot_state = refl;
+    device = refl;
+    rest = refl;
+  }
+
+module _ (h : Header) (k : Known) (s i r : ℕ) where
+  -- a ring is bound
+  bound_placed : (state : EndpointState) (must : ℕ → ℕ → Bool) → PlacedTo k (in_place h (bound_to h k s i (Some r)) s i state must) s i r (Data 0) state
+  unfolding bound_to set_to on_ring in_state
+  bound_placed state must = record {
+    here = set_here h k s i r (Data 0);
+    others = set_elsewhere h k s i r (Data 0);
+    ring_of = λ x j. refl;
+    bound = put_at k.was_bound r true;
+    was = λ q other. put_off k.was_bound r true q other;
+    endpoint_state = refl;
+    slot_state = refl;
+    device = refl;
+    rest = refl;
+  }
+
+module _ (h : Header) (c : Command) (k : Known) (s i p : ℕ) (cycle : Bool) (state : EndpointState) where
+  places_is : changed_by h c k (Places s i p cycle state) ≡ in_place h (pointed h k s i p cycle) s i state (put_pair k.must_move s i false)
+  unfolding changed_by
+  places_is = refl
+
+  moved_is : (r : ℕ) (t : Spot) → is_off (k.endpoint_state s i) ≡ false → k.ring_of s i ≡ Some r → target (shape_of h r) (k.ring r) p cycle ≡ Some t → pointed h k s i p cycle ≡ set_to h k r t
+  unfolding pointed moved moved_to
+  moved_is r t on had named =
+      cond-false (is_off (k.endpoint_state s i)) (bound_to h k s i (ring_beginning_at h p)) (moved h k (k.ring_of s i) p cycle) on
+      ∙ ap (λ o. moved h k o p cycle) had ∙ ap (λ o. moved_to h k r o) named
+
+  pub binds_placed : IsHeader h → (r : ℕ) → is_off (k.endpoint_state s i) ≡ true → ring_beginning_at h p ≡ Some r → PlacedTo k (changed_by h c k (Places s i p cycle state)) s i r (Data 0) state
+  binds_placed is r off at =
+      subst (λ l. PlacedTo k l s i r (Data 0) state) (sym (places_is ∙ ap (λ l. in_place h l s i state (put_pair k.must_move s i false)) (pointed_is h is k s i p r cycle off at))) (bound_placed h k s i r state (put_pair k.must_move s i false))
+
+  pub moves_placed : (r : ℕ) (t : Spot) → is_off (k.endpoint_state s i) ≡ false → k.ring_of s i ≡ Some r → k.was_bound r ≡ true → target (shape_of h r) (k.ring r) p cycle ≡ Some t →
+      PlacedTo k (changed_by h c k (Places s i p cycle state)) s i r t state
+  moves_placed r t on had was named =
+      subst (λ l. PlacedTo k l s i r t state) (sym (places_is ∙ ap (λ l. in_place h l s i state (put_pair k.must_move s i false)) (moved_is r t on had named))) (moved_placed h k s i r t state (put_pair k.must_move s i false) had was)

@@ -1,0 +1,162 @@
+-- One endpoint's ring is placed in the world as it is in what is known: both match still
+use Rattle.std.specs.Prelude.{◌≡◌, ◌≢◌, ℕ, ◌<◌, ◌⊎◌, ◌==◌, ◌&&◌, if◌then◌else◌, Bool, true, Option, Some}
+use Rattle.std.proofs.Common.{arith, refl, sym, ◌∙◌, ap, subst, inl, inr}
+use Rattle.std.proofs.lemmas.Bool.{cases_Bool, cases_eq, and_parts, eqb-true, eq-eqb, and_from, cond-true, cond-false, false≢true}
+use Rattle.std.proofs.lemmas.Option.{same_Some}
+use Rattle.guest_memory.specs.Memory.{put_pair}
+use Rattle.segments.specs.declared.spot.Spot.{Spot}
+use Rattle.commands.specs.declared.state.EndpointState.{EndpointState}
+use Rattle.commands.specs.declared.state.SlotState.{SlotState}
+use Rattle.segments.specs.RingView.{RingView}
+use Rattle.traces.specs.declared.header.Header.{Header}
+use Rattle.traces.specs.Header.{shape_of, command_id}
+use Rattle.world_state.specs.World.{World}
+use Rattle.ring_knowledge.specs.Known.{Known}
+use Rattle.safety.specs.Matches.{RingState, state_of, RingMatches, Unreported, BoundRing, FreeRing, EndpointRing}
+use Rattle.safety.proofs.SlotChanges.{same_put_pair}
+use Rattle.safety.proofs.FinishChanges.{known_changed, StatesMatch, LeavesRest, ChangeKeeps}
+use Rattle.safety.proofs.PlacedRing.{set_view, placed_state}
+use Rattle.safety.proofs.PlacedWorld.{placed_world, placed_here, placed_elsewhere}
+
+-- what is known once ring r of an endpoint was placed at a spot
+pub record PlacedTo (k l : Known) (s i r : ℕ) (t : Spot) (state : EndpointState) : Type 0 where
+  pub here : l.ring r ≡ set_view (k.ring r) t
+  pub others : (q : ℕ) → q ≢ r → l.ring q ≡ k.ring q
+  pub ring_of : (x j : ℕ) → l.ring_of x j ≡ put_pair k.ring_of s i (Some r) x j
+  pub bound : l.was_bound r ≡ true
+  pub was : (q : ℕ) → q ≢ r → l.was_bound q ≡ k.was_bound q
+  pub endpoint_state : l.endpoint_state ≡ put_pair k.endpoint_state s i state
+  pub slot_state : l.slot_state ≡ k.slot_state
+  pub device : l.device ≡ k.device
+  pub rest : l ≡ known_changed k l
+
+pair_here : {A : Type 0} (f : ℕ → ℕ → A) (s i : ℕ) (y : A) → put_pair f s i y s i ≡ y
+pair_here f s i y = cond-true (s == s && i == i) y (f s i) (and_from (s == s) (i == i) (eq-eqb s s refl) (eq-eqb i i refl))
+
+module _ (h : Header) (k l : Known) (w : World) (s i r a : ℕ) (c : Bool) (state : EndpointState) (active : ℕ → Bool) (t : Spot) (x : PlacedTo k l s i r t state)
+    (not_command : r ≢ command_id h) (had : (q : ℕ) → k.ring_of s i ≡ Some q → q ≡ r) (still : (q : ℕ) → q ≢ r → active q ≡ w.is_active q)
+    (only : (y j : ℕ) → k.ring_of y j ≡ Some r → (y ≡ s) × (j ≡ i)) (numbered : (0 < s) × (s < 256) × (0 < i) × (i < 32)) where
+  abbrev v : World
+  v = placed_world w s i r a c state active
+
+  -- another ring's endpoint has it still
+  kept : (y j q : ℕ) → q ≢ r → k.ring_of y j ≡ Some q → l.ring_of y j ≡ Some q
+  kept y j q other at =
+      elim (cases_Bool (y == s && j == i)) [
+        | inl here ↦
+            let parts = and_parts (y == s) (j == i) here in
+            absurd (other (had q (ap (λ n. k.ring_of n i) (sym (eqb-true y s parts.0)) ∙ ap (λ n. k.ring_of y n) (sym (eqb-true j i parts.1)) ∙ at)))
+        | inr there ↦ x.ring_of y j ∙ cond-false (y == s && j == i) (Some r) (k.ring_of y j) there ∙ at
+      ]
+
+  none_still : (q : ℕ) → q ≢ r → ((y j : ℕ) → k.ring_of y j ≢ Some q) → (y j : ℕ) → l.ring_of y j ≢ Some q
+  none_still q other none y j at =
+      elim (cases_Bool (y == s && j == i)) [
+        | inl here ↦ other (sym (same_Some r q (sym (x.ring_of y j ∙ cond-true (y == s && j == i) (Some r) (k.ring_of y j) here) ∙ at)))
+        | inr there ↦ none y j (sym (x.ring_of y j ∙ cond-false (y == s && j == i) (Some r) (k.ring_of y j) there) ∙ at)
+      ]
+
+  other_ring : (q : ℕ) → q ≢ r → EndpointRing h k w q → EndpointRing h l v q
+  other_ring q other (inl b) =
+      let here : state_of v q ≡ state_of w q = placed_elsewhere w s i r a c state active q other (still q other) in
+      inl (record {
+        slot = b.slot;
+        index = b.index;
+        bound = kept b.slot b.index q other b.bound;
+        spot = b.spot;
+        matches = subst (λ z. RingMatches (shape_of h q) z (state_of v q) b.spot) (sym (x.others q other))
+            (subst (λ z. RingMatches (shape_of h q) (k.ring q) z b.spot) (sym here) b.matches);
+        takes = subst (λ z. Unreported (shape_of h q) z (state_of v q) b.spot) (sym (x.others q other))
+            (subst (λ z. Unreported (shape_of h q) (k.ring q) z b.spot) (sym here) b.takes);
+      })
+  other_ring q other (inr f) =
+      let here : state_of v q ≡ state_of w q = placed_elsewhere w s i r a c state active q other (still q other) in
+      inr (subst (λ z. FreeRing (shape_of h q) l.ring_of z q) (sym here) (record { none = none_still q other f.none; rests = f.rests }))
+
+  -- the ring that is placed
+  this_ring : RingMatches (shape_of h r) (set_view (k.ring r) t) (placed_state (state_of w r) a (if c then 1 else 0)) t →
+      Unreported (shape_of h r) (set_view (k.ring r) t) (placed_state (state_of w r) a (if c then 1 else 0)) t → BoundRing (shape_of h r) l.ring_of (l.ring r) (state_of v r) r
+  this_ring m u =
+      let here : state_of v r ≡ placed_state (state_of w r) a (if c then 1 else 0) = placed_here w s i r a c state active in
+      record {
+        slot = s;
+        index = i;
+        bound = x.ring_of s i ∙ pair_here k.ring_of s i (Some r);
+        spot = t;
+        matches = subst (λ z. RingMatches (shape_of h r) z (state_of v r) t) (sym x.here)
+            (subst (λ z. RingMatches (shape_of h r) (set_view (k.ring r) t) z t) (sym here) m);
+        takes = subst (λ z. Unreported (shape_of h r) z (state_of v r) t) (sym x.here)
+            (subst (λ z. Unreported (shape_of h r) (set_view (k.ring r) t) z t) (sym here) u);
+      }
+
+  -- whose an endpoint's ring is: the one placed, or the one it had
+  whose : (y j q : ℕ) → l.ring_of y j ≡ Some q → ((y ≡ s) × (j ≡ i) × (q ≡ r)) ⊎ (k.ring_of y j ≡ Some q)
+  whose y j q at =
+      elim (cases_Bool (y == s && j == i)) [
+        | inl here ↦
+            let parts = and_parts (y == s) (j == i) here in
+            inl (eqb-true y s parts.0, eqb-true j i parts.1, sym (same_Some r q (sym (x.ring_of y j ∙ cond-true (y == s && j == i) (Some r) (k.ring_of y j) here) ∙ at)))
+        | inr there ↦ inr (sym (x.ring_of y j ∙ cond-false (y == s && j == i) (Some r) (k.ring_of y j) there) ∙ at)
+      ]
+
+  one_still : ((y j z n q : ℕ) → k.ring_of y j ≡ Some q → k.ring_of z n ≡ Some q → (y ≡ z) × (j ≡ n)) → (y j z n q : ℕ) → l.ring_of y j ≡ Some q → l.ring_of z n ≡ Some q → (y ≡ z) × (j ≡ n)
+  one_still one y j z n q a b =
+      elim (whose y j q a) [
+        | inl here ↦
+            elim (whose z n q b) [
+              | inl also ↦ (here.0 ∙ sym also.0, here.1 ∙ sym also.1)
+              | inr there ↦ let own = only z n (there ∙ ap (λ p. Some p) here.2) in (here.0 ∙ sym own.0, here.1 ∙ sym own.1)
+            ]
+        | inr there ↦
+            elim (whose z n q b) [
+              | inl also ↦ let own = only y j (there ∙ ap (λ p. Some p) also.2) in (own.0 ∙ sym also.0, own.1 ∙ sym also.1)
+              | inr both ↦ one y j z n q there both
+            ]
+      ]
+
+  queue_still : (q : ℕ) → (l.ring q).queue ≡ (k.ring q).queue
+  queue_still q =
+      elim (cases_eq q r) [
+        | inl same ↦ ap (λ n. (l.ring n).queue) same ∙ ap (λ (z : RingView). z.queue) x.here ∙ ap (λ n. (k.ring n).queue) (sym same)
+        | inr apart ↦ ap (λ (z : RingView). z.queue) (x.others q apart)
+      ]
+
+  lengths_still : (q : ℕ) → (l.ring q).lengths ≡ (k.ring q).lengths
+  lengths_still q =
+      elim (cases_eq q r) [
+        | inl same ↦ ap (λ n. (l.ring n).lengths) same ∙ ap (λ (z : RingView). z.lengths) x.here ∙ ap (λ n. (k.ring n).lengths) (sym same)
+        | inr apart ↦ ap (λ (z : RingView). z.lengths) (x.others q apart)
+      ]
+
+  leaves_rest : LeavesRest h k l w v
+  leaves_rest = record {
+    known = x.rest;
+    world = refl;
+    queues = queue_still;
+    lengths = lengths_still;
+    command_known = x.others (command_id h) (λ e. not_command (sym e));
+    command_world = placed_elsewhere w s i r a c state active (command_id h) (λ e. not_command (sym e)) (still (command_id h) (λ e. not_command (sym e)));
+  }
+
+  pub placed_keeps : RingMatches (shape_of h r) (set_view (k.ring r) t) (placed_state (state_of w r) a (if c then 1 else 0)) t →
+      Unreported (shape_of h r) (set_view (k.ring r) t) (placed_state (state_of w r) a (if c then 1 else 0)) t → StatesMatch h k w → ChangeKeeps h k l w v
+  placed_keeps m u y = record {
+    states = record {
+      slots = λ q. y.slots q ∙ ap (λ (f : ℕ → SlotState). f q) (sym x.slot_state);
+      endpoints = λ q j. same_put_pair w.endpoint_state k.endpoint_state s i state y.endpoints q j ∙ ap (λ (f : ℕ → ℕ → EndpointState). f q j) (sym x.endpoint_state);
+      ring_of = λ q j. same_put_pair w.ring_of k.ring_of s i (Some r) y.ring_of q j ∙ sym (x.ring_of q j);
+      rings = λ q other. elim (cases_eq q r) [
+        | inl same ↦ subst (λ n. EndpointRing h l v n) (sym same) (inl (this_ring m u))
+        | inr apart ↦ other_ring q apart (y.rings q other)
+      ];
+      fresh = λ q other unused. elim (cases_eq q r) [
+        | inl same ↦ absurd (false≢true (sym unused ∙ ap l.was_bound same ∙ x.bound))
+        | inr apart ↦ ap (λ (z : RingState). z.events) (placed_elsewhere w s i r a c state active q apart (still q apart)) ∙ y.fresh q other (sym (x.was q apart) ∙ unused)
+      ];
+      scribbles = λ q may none. y.scribbles q may (ap (λ (f : ℕ → Option ℕ). f q) (sym x.device) ∙ none);
+      apart = λ z j q at. elim (whose z j q at) [ inl here ↦ (λ same. not_command (sym here.2 ∙ same)) | inr there ↦ y.apart z j q there ];
+      one_endpoint = one_still y.one_endpoint;
+      within = λ z j q at. elim (whose z j q at) [ inl here ↦ (omega (arith, here.0), omega (arith, here.0), omega (arith, here.1), omega (arith, here.1)) | inr there ↦ y.within z j q there ];
+    };
+    rest = leaves_rest;
+  }

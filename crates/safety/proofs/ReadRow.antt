@@ -1,0 +1,121 @@
+-- The driver reads an event: it is the oldest unread one, and the run goes on
+use Rattle.std.specs.Prelude.{◌≡◌, ℕ, ◌+◌, ◌<◌, ◌==◌, ◌&&◌, true, false, List, [], ◌∷◌, nat_lt, Some, All, slice_get}
+use native.Mathlib.Numerals.{unary_clauses}
+use Rattle.std.proofs.Common.{arith, refl, sym, ◌∙◌, ap, subst}
+use Rattle.std.proofs.lemmas.Bool.{and_parts, eqb-true, ltb-true}
+use Rattle.std.proofs.lemmas.List.Elements.{All-head, All-tail}
+use Rattle.std.proofs.lemmas.Option.{cond_some}
+use Rattle.trb.specs.declared.block.Block.{Block}
+use Rattle.trb.specs.Block.{IsBlock, kind, same_words, word}
+use Rattle.traces.specs.declared.header.Header.{Header}
+use Rattle.traces.specs.declared.row.Row.{Row}
+use Rattle.traces.specs.declared.row.Row.TheVariants.{Read}
+use Rattle.world_state.specs.World.{World, event_at}
+use Rattle.world_state.specs.World as of_world
+use Rattle.controller_model.specs.DriverRows as driver
+use Rattle.controller_model.specs.Steps.{counted}
+use Rattle.ring_knowledge.specs.Known.{Known}
+use Rattle.ring_knowledge.specs.Learned.{learned, known}
+use Rattle.ownership_rules.specs.Clean.{IsClean}
+use Rattle.safety.specs.Stands.{EventsStand}
+use Rattle.safety.specs.Matches.{Agrees}
+use Rattle.safety.specs.Invariant.{Runs, reading}
+use Rattle.safety.proofs.Counted.{agrees_counted}
+use Rattle.safety.proofs.EventRead.{learned_read}
+use Rattle.safety.proofs.Posting.{four_of}
+use Rattle.safety.proofs.SameDriver.{event_same}
+
+-- blocks with the same four words are the same
+same_block : (a b : Block) → IsBlock a → IsBlock b → same_words a b ≡ true → a ≡ b
+same_block a b is_a is_b same =
+    let three = and_parts (word a 0 == word b 0 && word a 1 == word b 1 && word a 2 == word b 2) (word a 3 == word b 3) same in
+    let two = and_parts (word a 0 == word b 0 && word a 1 == word b 1) (word a 2 == word b 2) three.0 in
+    let one = and_parts (word a 0 == word b 0) (word a 1 == word b 1) two.0 in
+    let w0 : word a 0 ≡ word b 0 = eqb-true (word a 0) (word b 0) one.0 in
+    let w1 : word a 1 ≡ word b 1 = eqb-true (word a 1) (word b 1) one.1 in
+    let w2 : word a 2 ≡ word b 2 = eqb-true (word a 2) (word b 2) two.1 in
+    let w3 : word a 3 ≡ word b 3 = eqb-true (word a 3) (word b 3) three.1 in
+    ap (λ l. let x : Block = record { w = l } in x)
+    (sym (four_of a.w is_a.0)
+    ∙ ap (λ x. x ∷ word a 1 ∷ word a 2 ∷ word a 3 ∷ []) w0
+    ∙ ap (λ x. word b 0 ∷ x ∷ word a 2 ∷ word a 3 ∷ []) w1
+    ∙ ap (λ x. word b 0 ∷ word b 1 ∷ x ∷ word a 3 ∷ []) w2
+    ∙ ap (λ x. word b 0 ∷ word b 1 ∷ word b 2 ∷ x ∷ []) w3
+    ∙ four_of b.w is_b.0)
+
+module _ (h : Header) where
+  read_is : (w v : World) (e : Block) → driver.event_read h w e ≡ Some v →
+      (w.reads < w.posted) × (same_words (event_at h w w.reads) e ≡ true) × ((let x : World = record w { reads = w.reads + 1 } in x) ≡ v)
+  unfolding driver.event_read
+  read_is w v e at =
+      let c = cond_some (nat_lt w.reads w.posted && same_words (event_at h w w.reads) e) (record w { reads = w.reads + 1 }) v at in
+      let p = and_parts (nat_lt w.reads w.posted) (same_words (event_at h w w.reads) e) c.0 in
+      (ltb-true w.reads w.posted p.0, p.1, c.1)
+
+  -- the one behind the first
+  get_next : (u : Block) (rest : List Block) (i : ℕ) → slice_get (u ∷ rest) (i + 1) ≡ slice_get rest i
+  get_next u rest i = simp unary_clauses refl
+
+  abbrev one_read : World → World
+  one_read w = record w { reads = w.reads + 1 }
+
+  agrees_read : (k : Known) (u : Block) (rest : List Block) (w : World) → w.reads < w.posted → Agrees h k (u ∷ rest) w → Agrees h k rest (counted h (one_read w))
+  unfolding of_world.event_at
+  agrees_read k u rest w unread g =
+      let s = g.stands in
+      let e = g.events in
+      let m = g.matches in
+      agrees_counted h k rest (one_read w)
+      (record { started = s.started; stopped = s.stopped; registers = s.registers; queues = s.queues; lengths = s.lengths; dequeue = s.dequeue; quiet = s.quiet })
+      (record {
+        order = record { dequeued = omega (arith, e.order.dequeued); read = omega (arith, unread); room = e.order.room };
+        count = omega (arith, e.count);
+        places = λ i x at. subst (λ n. event_at h w n ≡ x) (let sum : w.reads + (i + 1) ≡ w.reads + 1 + i = omega arith in sum) (e.places (i + 1) x (get_next u rest i ∙ at));
+        started = e.started;
+        ring = e.ring;
+      })
+      (record {
+        slots = m.slots;
+        endpoints = m.endpoints;
+        ring_of = m.ring_of;
+        rings = m.rings;
+        fresh = m.fresh;
+        before = λ off. let b = m.before off in record { inactive = b.inactive; no_events = b.no_events; none = b.none };
+        command = λ on. let c = m.command on in record { spot = c.spot; ring = c.ring; under_way = c.under_way };
+        scribbles = m.scribbles;
+        contexts = m.contexts;
+        inside = m.inside;
+      })
+      g.read (λ a. omega (arith, g.stamps a))
+
+  -- reading an event stops nothing
+  pub read_on : (k : Known) (b : Block) → k.stopped ≡ false → (learned h k (Read b)).stopped ≡ false
+  read_on k b on = ap (λ m. m.stopped) (learned_read h k b) ∙ (event_same h k (kind b) b).stopped ∙ on
+
+  none_unread : (w : World) → w.reads < w.posted → EventsStand h w [] → ⊥
+  none_unread w some e = absurd (let c : w.posted ≡ w.reads + 0 = e.count in omega arith)
+
+  read_oldest : (past : List Row) (e : Block) (w v : World) → IsBlock e →
+      (w.reads < w.posted) × (same_words (event_at h w w.reads) e ≡ true) × ((let x : World = record w { reads = w.reads + 1 } in x) ≡ v) →
+      (unread : List Block) → IsClean h (reading unread past) → All IsBlock unread → (known h past).stopped ≡ false → Agrees h (known h (reading unread past)) unread w →
+      Runs h (Read e ∷ past) (counted h v)
+  unfolding known
+  read_oldest past e w v block x [] clean blocks on g = absurd (none_unread w x.0 g.events)
+  read_oldest past e w v block x (u ∷ rest) clean blocks on g =
+      let is_u : IsBlock u = All-head IsBlock u rest blocks in
+      let here : event_at h w (w.reads + 0) ≡ u = g.events.places 0 u refl in
+      let at : event_at h w w.reads ≡ u = subst (λ n. event_at h w n ≡ u) (let z : w.reads + 0 ≡ w.reads = omega arith in z) here in
+      let same : u ≡ e = same_block u e is_u block (subst (λ b. same_words b e ≡ true) at x.1) in
+      subst (λ b. Runs h (Read b ∷ past) (counted h v)) same
+      (subst (λ z. Runs h (Read u ∷ past) (counted h z)) x.2
+      (record {
+        unread = rest;
+        clean = clean;
+        blocks = All-tail IsBlock u rest blocks;
+        on = read_on (known h past) u on;
+        agrees = agrees_read (known h (reading rest (Read u ∷ past))) u rest w x.0 g;
+      }))
+
+  -- the run goes on behind the row that reads an event
+  pub read_runs : (past : List Row) (e : Block) (w v : World) → IsBlock e → (run : Runs h past w) → driver.event_read h w e ≡ Some v → Runs h (Read e ∷ past) (counted h v)
+  read_runs past e w v block run at = read_oldest past e w v block (read_is w v e at) run.unread run.clean run.blocks run.on run.agrees

@@ -1,0 +1,95 @@
+-- A ring of which more is known while its pointer stays: what is said of it in the world stays
+use Rattle.std.specs.Prelude.{◌≡◌, ℕ, ◌≤◌, ◌-◌, ◌||◌, not, Bool, true, false, List, [], ◌∷◌, map, Option, None, Some}
+use Rattle.std.specs.List.{range_with_len}
+use Rattle.std.proofs.Common.{arith, refl, sym, ◌∙◌, ap, subst}
+use Rattle.segments.specs.ShapeValue.{Shape}
+use Rattle.segments.specs.declared.spot.Spot.{Spot}
+use Rattle.segments.specs.Places.{address_of, is_crossing}
+use Rattle.segments.specs.Spots.{number, rank}
+use Rattle.segments.specs.Descriptors.{is_border, declared_at}
+use Rattle.segments.specs.RingView.{RingView, floor_number}
+use Rattle.segments.specs.Ceiling.{ceiling, is_way_given, is_step_given}
+use Rattle.segments.proofs.GivenCount.{given_count_same}
+use Rattle.world_state.specs.World.{RingEvent, Took, Placed}
+use Rattle.safety.specs.Matches.{Newest, RingState, RingMatches, Unreported, BoundRing}
+use Rattle.safety.specs.Beneath.{IsHeldMore}
+use Rattle.safety.proofs.NoWait.{ceiling_open, ceiling_held}
+
+-- the floor is the same, and no less is given
+pub record RingGoesOn (shape : Shape) (v x : RingView) : Type 0 where
+  pub floor : x.floor ≡ v.floor
+  pub ceiling : ceiling shape v ≤ ceiling shape x
+  pub crossed : (q : ℕ) → v.crossed q ≡ true → x.crossed q ≡ true
+  pub held : v.held ≡ None → x.held ≡ None
+
+pub newest_same : (v x : RingView) → x.queue ≡ v.queue → x.lengths ≡ v.lengths → (n : ℕ) (events : List RingEvent) → Newest v n events → Newest x n events
+newest_same v x queue lengths n [] y = ap (λ l. is_border l 0 n) lengths ∙ y
+newest_same v x queue lengths n (Placed a ∷ older) y = ap (λ l. is_border l 0 n) lengths ∙ y
+newest_same v x queue lengths n (Took a b d ∷ older) y = (y.0, y.1 ∙ same (sym queue) (sym lengths))
+  where
+    same : v.queue ≡ x.queue → v.lengths ≡ x.lengths → declared_at v.queue v.lengths (n - 1) ≡ declared_at x.queue x.lengths (n - 1)
+    same p q = rw (p, q) refl
+
+way_stays : (shape : Shape) (v x : RingView) → ((q : ℕ) → v.crossed q ≡ true → x.crossed q ≡ true) → (q : ℕ) → is_way_given shape v q ≡ true → is_way_given shape x q ≡ true
+unfolding is_way_given
+way_stays shape v x crossed q way = by (is_crossing shape q) (v.crossed q) (x.crossed q) (crossed q) way
+  where
+    by : (c a b : Bool) → (a ≡ true → b ≡ true) → (not c || a) ≡ true → (not c || b) ≡ true
+    by true a b more h = more h
+    by false a b more h = refl
+
+module _ (shape : Shape) (v x : RingView) (g : RingGoesOn shape v x) (s : RingState) where
+  pub matches_on : (t : Spot) → (Newest v (number t) s.events → Newest x (number t) s.events) → RingMatches shape v s t → RingMatches shape x s t
+  matches_on t newest m = record {
+    is_spot = m.is_spot;
+    pointer = m.pointer;
+    cycle = m.cycle;
+    reached = omega (arith, m.reached, ap rank g.floor);
+    below = omega (arith, m.below, g.ceiling);
+    way = λ q at. way_stays shape v x g.crossed q (m.way q at);
+    opened = λ on. g.held (m.opened on);
+    next = m.next;
+    newest = newest m.newest;
+    in_order = m.in_order;
+    as_declared = m.as_declared;
+  }
+
+  pub unreported_on : (t : Spot) → Unreported shape v s t → Unreported shape x s t
+  unreported_on t u = record { takes = u.takes ∙ same (sym g.floor); most = u.most }
+    where
+      same : v.floor ≡ x.floor → map (address_of shape) (range_with_len (floor_number v) (number t - floor_number v)) ≡ map (address_of shape) (range_with_len (floor_number x) (number t - floor_number x))
+      same e = ap (λ f. map (address_of shape) (range_with_len (number f) (number t - number f))) e
+
+  pub bound_on : (ring_of : ℕ → ℕ → Option ℕ) (r : ℕ) → ((n : ℕ) → Newest v n s.events → Newest x n s.events) → BoundRing shape ring_of v s r → BoundRing shape ring_of x s r
+  bound_on ring_of r newest b = record {
+    slot = b.slot;
+    index = b.index;
+    bound = b.bound;
+    spot = b.spot;
+    matches = matches_on b.spot (newest (number b.spot)) b.matches;
+    takes = unreported_on b.spot b.takes;
+  }
+
+-- held at a greater number
+steps_same : (shape : Shape) (v : RingView) (o : Option ℕ) (q : ℕ) → is_step_given shape v q ≡ is_step_given shape (record v { held = o }) q
+unfolding is_step_given is_way_given
+steps_same shape v o q = refl
+
+held_ceiling : (shape : Shape) (v : RingView) (a o : Option ℕ) → v.held ≡ a → IsHeldMore a o → ceiling shape v ≤ ceiling shape (record v { held = o })
+held_ceiling shape v None None at more =
+    omega (arith, ceiling_open shape v at, ceiling_open shape (record v { held = None }) refl, given_count_same shape v (record v { held = None }) refl (steps_same shape v None))
+held_ceiling shape v (Some m) (Some n) at more = omega (arith, more, ceiling_held shape v m at, ceiling_held shape (record v { held = Some n }) n refl)
+held_ceiling shape v None (Some n) at more = absurd more
+held_ceiling shape v (Some m) None at more = absurd more
+
+still_open : (o : Option ℕ) → IsHeldMore None o → o ≡ None
+still_open None more = refl
+still_open (Some n) more = absurd more
+
+pub held_goes_on : (shape : Shape) (v : RingView) (o : Option ℕ) → IsHeldMore v.held o → RingGoesOn shape v (record v { held = o })
+held_goes_on shape v o more = record {
+  floor = refl;
+  ceiling = held_ceiling shape v v.held o refl more;
+  crossed = λ q c. c;
+  held = λ none. still_open o (subst (λ a. IsHeldMore a o) none more);
+}

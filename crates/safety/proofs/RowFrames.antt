@@ -1,0 +1,193 @@
+-- What each row of the driver leaves as it is
+use Rattle.std.specs.Prelude.{◌≡◌, ℕ, ◌==◌, ◌&&◌, ◌||◌, not, true, if◌then◌else◌, List, Option, None, Some, option_and_then}
+use Rattle.std.proofs.Common.{refl, sym, subst}
+use Rattle.std.proofs.lemmas.Bool.{cond_both}
+use Rattle.trb.specs.declared.block.Block.{Block}
+use Rattle.segments.specs.RingView.{RingView, Declares, Opens, Writes, changed}
+use Rattle.traces.specs.declared.header.Header.{Header}
+use Rattle.traces.specs.declared.register.Register.{Register}
+use Rattle.traces.specs.declared.register.Register.TheVariants.{Erdp, Usbcmd}
+use Rattle.traces.specs.declared.row.Row.TheVariants.{Sub, Write, Reg, Bell}
+use Rattle.traces.specs.Header.{shape_of, command_id}
+use Rattle.traces.specs.Register.{run_bit, reset_bit}
+use Rattle.ring_knowledge.specs.Known.{Known}
+use Rattle.ring_knowledge.specs.Rings.{on_ring}
+use Rattle.ring_knowledge.specs.Writes.{with_device, with_word, written, command_given, taken_device}
+use Rattle.ring_knowledge.specs.Registers.{run_or_stop, valued, register_written, endpoint_rung, rung}
+use Rattle.ring_knowledge.specs.Learned.{learned}
+use Rattle.safety.proofs.SameDriver.{view_after}
+
+pub record SameRegisters (k l : Known) : Type 0 where
+  pub started : l.started ≡ k.started
+  pub stopped : l.stopped ≡ k.stopped
+  pub register : l.register ≡ k.register
+  pub reads : l.reads ≡ k.reads
+  pub dequeue : l.dequeue ≡ k.dequeue
+
+pub record SameMemory (k l : Known) : Type 0 where
+  pub memory : l.memory ≡ k.memory
+  pub soiled : l.soiled ≡ k.soiled
+  pub device : l.device ≡ k.device
+
+-- slots, and which ring an endpoint has
+pub record SameSlots (k l : Known) : Type 0 where
+  pub slot_state : l.slot_state ≡ k.slot_state
+  pub ring_of : l.ring_of ≡ k.ring_of
+  pub was_bound : l.was_bound ≡ k.was_bound
+  pub stop_seen : l.stop_seen ≡ k.stop_seen
+
+-- how far a controller may be on a ring
+pub record SamePointer (v w : RingView) : Type 0 where
+  pub floor : w.floor ≡ v.floor
+  pub held : w.held ≡ v.held
+
+pub same_pointer : (v : RingView) → SamePointer v v
+same_pointer v = record { floor = refl; held = refl }
+
+pub record DeclarationLeaves (k l : Known) : Type 0 where
+  pub registers : SameRegisters k l
+  pub memory : SameMemory k l
+  pub slots : SameSlots k l
+  pub endpoint_state : l.endpoint_state ≡ k.endpoint_state
+  pub pointers : (r : ℕ) → SamePointer (k.ring r) (l.ring r)
+
+pub record WriteLeaves (k l : Known) : Type 0 where
+  pub registers : SameRegisters k l
+  pub slots : SameSlots k l
+  pub endpoint_state : l.endpoint_state ≡ k.endpoint_state
+  pub pointers : (r : ℕ) → SamePointer (k.ring r) (l.ring r)
+
+pub record RegisterLeaves (k l : Known) : Type 0 where
+  pub reads : l.reads ≡ k.reads
+  pub memory : SameMemory k l
+  pub slots : SameSlots k l
+  pub endpoint_state : l.endpoint_state ≡ k.endpoint_state
+  pub ring : l.ring ≡ k.ring
+
+pub record BellLeaves (k l : Known) : Type 0 where
+  pub registers : SameRegisters k l
+  pub memory : SameMemory k l
+  pub slots : SameSlots k l
+
+module _ (h : Header) where
+  pub declaration_leaves : (k : Known) (r : ℕ) (blocks : List Block) → DeclarationLeaves k (learned h k (Sub r blocks))
+  unfolding learned on_ring
+  declaration_leaves k r blocks = record {
+    registers = record { started = refl; stopped = refl; register = refl; reads = refl; dequeue = refl };
+    memory = record { memory = refl; soiled = refl; device = refl };
+    slots = record { slot_state = refl; ring_of = refl; was_bound = refl; stop_seen = refl };
+    endpoint_state = refl;
+    pointers = λ q.
+        view_after h (SamePointer (k.ring q)) k r (Declares blocks) q
+        (λ same. subst (λ n. SamePointer (k.ring n) (changed (shape_of h r) (k.ring r) (Declares blocks))) (sym same) (record { floor = refl; held = refl }))
+        (λ other. same_pointer (k.ring q));
+  }
+
+  word_leaves : (k : Known) (a w : ℕ) → WriteLeaves k (with_word h k a w)
+  unfolding with_word
+  word_leaves k a w = record {
+    registers = record { started = refl; stopped = refl; register = refl; reads = refl; dequeue = refl };
+    slots = record { slot_state = refl; ring_of = refl; was_bound = refl; stop_seen = refl };
+    endpoint_state = refl;
+    pointers = λ q. record { floor = refl; held = refl };
+  }
+
+  device_leaves : (k l : Known) (taken : Option (ℕ × ℕ)) → WriteLeaves k l → WriteLeaves k (with_device h l taken)
+  unfolding with_device
+  device_leaves k l None leaves = leaves
+  device_leaves k l (Some e) leaves = record {
+    registers = record { started = leaves.registers.started; stopped = leaves.registers.stopped; register = leaves.registers.register; reads = leaves.registers.reads; dequeue = leaves.registers.dequeue };
+    slots = record { slot_state = leaves.slots.slot_state; ring_of = leaves.slots.ring_of; was_bound = leaves.slots.was_bound; stop_seen = leaves.slots.stop_seen };
+    endpoint_state = leaves.endpoint_state;
+    pointers = leaves.pointers;
+  }
+
+  pub write_leaves : (k : Known) (a w : ℕ) → WriteLeaves k (learned h k (Write a w))
+  unfolding learned written
+  write_leaves k a w = device_leaves k (with_word h k a w) (option_and_then (taken_device k) (command_given h k a w)) (word_leaves k a w)
+
+  view_by : (k : Known) (a w : ℕ) (taken : Option (ℕ × ℕ)) (r : ℕ) → (with_device h (with_word h k a w) taken).ring r ≡ changed (shape_of h r) (k.ring r) (Writes a w)
+  unfolding with_device with_word
+  view_by k a w None r = refl
+  view_by k a w (Some e) r = refl
+
+  -- what it changes of a ring
+  pub written_view : (k : Known) (a w r : ℕ) → (learned h k (Write a w)).ring r ≡ changed (shape_of h r) (k.ring r) (Writes a w)
+  unfolding learned written
+  written_view k a w r = view_by k a w (option_and_then (taken_device k) (command_given h k a w)) r
+
+  run_leaves : (k l : Known) (x : ℕ) → RegisterLeaves k l → RegisterLeaves k (run_or_stop l x)
+  unfolding run_or_stop
+  run_leaves k l x leaves =
+      let on : Known = record l { started = true } in
+      let off : Known = record l { stopped = true } in
+      let starts : RegisterLeaves k on = record {
+        reads = leaves.reads;
+        memory = record { memory = leaves.memory.memory; soiled = leaves.memory.soiled; device = leaves.memory.device };
+        slots = record { slot_state = leaves.slots.slot_state; ring_of = leaves.slots.ring_of; was_bound = leaves.slots.was_bound; stop_seen = leaves.slots.stop_seen };
+        endpoint_state = leaves.endpoint_state;
+        ring = leaves.ring;
+      } in
+      let stops : RegisterLeaves k off = record {
+        reads = leaves.reads;
+        memory = record { memory = leaves.memory.memory; soiled = leaves.memory.soiled; device = leaves.memory.device };
+        slots = record { slot_state = leaves.slots.slot_state; ring_of = leaves.slots.ring_of; was_bound = leaves.slots.was_bound; stop_seen = leaves.slots.stop_seen };
+        endpoint_state = leaves.endpoint_state;
+        ring = leaves.ring;
+      } in
+      cond_both (not l.started) (if run_bit x && not (reset_bit x) then on else l) (if not (run_bit x) || reset_bit x then off else l) (RegisterLeaves k)
+      (λ _. cond_both (run_bit x && not (reset_bit x)) on l (RegisterLeaves k) (λ _. starts) (λ _. leaves))
+      (λ _. cond_both (not (run_bit x) || reset_bit x) off l (RegisterLeaves k) (λ _. stops) (λ _. leaves))
+
+  value_leaves : (k : Known) (r : Register) (x : ℕ) → RegisterLeaves k (valued k r x)
+  unfolding valued
+  value_leaves k r x = record {
+    reads = refl;
+    memory = record { memory = refl; soiled = refl; device = refl };
+    slots = record { slot_state = refl; ring_of = refl; was_bound = refl; stop_seen = refl };
+    endpoint_state = refl;
+    ring = refl;
+  }
+
+  register_leaves_by : (k : Known) (r : Register) (x : ℕ) → RegisterLeaves k (register_written h k r x)
+  unfolding register_written valued
+  register_leaves_by k Usbcmd x = run_leaves k (valued k Usbcmd x) x (value_leaves k Usbcmd x)
+  register_leaves_by k Erdp x = record {
+    reads = refl;
+    memory = record { memory = refl; soiled = refl; device = refl };
+    slots = record { slot_state = refl; ring_of = refl; was_bound = refl; stop_seen = refl };
+    endpoint_state = refl;
+    ring = refl;
+  }
+  register_leaves_by k r x = value_leaves k r x
+
+  pub register_leaves : (k : Known) (r : Register) (x : ℕ) → RegisterLeaves k (learned h k (Reg r x))
+  unfolding learned
+  register_leaves k r x = register_leaves_by k r x
+
+  open_leaves : (k : Known) (r : ℕ) → BellLeaves k (on_ring h k r Opens)
+  unfolding on_ring
+  open_leaves k r = record {
+    registers = record { started = refl; stopped = refl; register = refl; reads = refl; dequeue = refl };
+    memory = record { memory = refl; soiled = refl; device = refl };
+    slots = record { slot_state = refl; ring_of = refl; was_bound = refl; stop_seen = refl };
+  }
+
+  rung_leaves : (k : Known) (s t : ℕ) (o : Option ℕ) → BellLeaves k (endpoint_rung h k s t o)
+  unfolding endpoint_rung on_ring
+  rung_leaves k s t None = record {
+    registers = record { started = refl; stopped = refl; register = refl; reads = refl; dequeue = refl };
+    memory = record { memory = refl; soiled = refl; device = refl };
+    slots = record { slot_state = refl; ring_of = refl; was_bound = refl; stop_seen = refl };
+  }
+  rung_leaves k s t (Some r) = record {
+    registers = record { started = refl; stopped = refl; register = refl; reads = refl; dequeue = refl };
+    memory = record { memory = refl; soiled = refl; device = refl };
+    slots = record { slot_state = refl; ring_of = refl; was_bound = refl; stop_seen = refl };
+  }
+
+  pub bell_leaves : (k : Known) (s t : ℕ) → BellLeaves k (learned h k (Bell s t))
+  unfolding learned rung
+  bell_leaves k s t =
+      cond_both (s == 0) (on_ring h k (command_id h) Opens) (endpoint_rung h k s t (k.ring_of s t)) (BellLeaves k)
+      (λ _. open_leaves k (command_id h)) (λ _. rung_leaves k s t (k.ring_of s t))

@@ -1,0 +1,165 @@
+-- The doorbell of a ring that is open: nothing is learned, and where all events are read the world agrees with what is known as before
+use Rattle.std.specs.Prelude.{◌≡◌, ℕ, ◌==◌, ◌||◌, not, nat_lt, true, false, List, [], Option, None, Some, is_none}
+use Rattle.std.proofs.Common.{refl, sym, ◌∙◌, ap, subst, inl, inr}
+use Rattle.std.proofs.lemmas.Bool.{cases_Bool, cases_eq, cond-true, cond-false, or_parts, not-false, false≢true}
+use Rattle.guest_memory.specs.Memory.{put, put_pair}
+use Rattle.trb.specs.declared.block.Block.{Block}
+use Rattle.segments.specs.RingView.{RingView, Opens, changed}
+use Rattle.segments.specs.Ceiling.{is_open}
+use Rattle.commands.specs.declared.state.EndpointState.{EndpointState}
+use Rattle.commands.specs.declared.state.EndpointState.TheVariants.{Disabled as Off, Running, Halted, Error}
+use Rattle.commands.specs.States.{is_running, is_stopped}
+use Rattle.traces.specs.declared.header.Header.{Header}
+use Rattle.traces.specs.declared.row.Row.TheVariants.{Bell}
+use Rattle.traces.specs.Header.{IsHeader, shape_of, command_id}
+use Rattle.world_state.specs.World.{World}
+use Rattle.controller_model.specs.DriverRows as driver
+use Rattle.controller_model.specs.Steps.{counted}
+use Rattle.ring_knowledge.specs.Known.{Known}
+use Rattle.ring_knowledge.specs.Learned.{learned}
+use Rattle.ring_knowledge.specs.Rings.{on_ring}
+use Rattle.ring_knowledge.specs.Registers.{endpoint_rung, rung}
+use Rattle.ownership_rules.specs.Doorbells.{is_bad_bell, is_touched}
+use Rattle.ownership_rules.specs.Rules.{broken}
+use Rattle.safety.specs.Keeps.{DriverKeeps}
+use Rattle.safety.specs.Matches.{Agrees}
+use Rattle.safety.specs.Beneath.{is_open_if, is_idle, MayRing}
+use Rattle.safety.proofs.CleanRows.{BellFacts, bell_facts}
+use Rattle.safety.proofs.RowRegister.{agrees_once_counted}
+use Rattle.safety.proofs.LookKinds.{put_at, put_off}
+use Rattle.safety.proofs.RowRings.{endpoint_agrees, command_agrees}
+
+none_is : (o : Option ℕ) → is_none o ≡ true → o ≡ None
+none_is None is = refl
+none_is (Some n) is = absurd (false≢true is)
+
+pub open_held : (v : RingView) → is_open v ≡ true → v.held ≡ None
+unfolding is_open
+open_held v is = none_is v.held is
+
+-- opening an open ring
+same_view : (v : RingView) (o : Option ℕ) → v.held ≡ o → ◌≡◌ {A = RingView} (record v { held = o }) v
+same_view v o same = ap (λ a. with_held v a) (sym same)
+  where
+    with_held : RingView → Option ℕ → RingView
+    with_held z a = record z { held = a }
+
+rings_same : (h : Header) (k : Known) (r : ℕ) → (k.ring r).held ≡ None → (q : ℕ) → put k.ring r (changed (shape_of h r) (k.ring r) Opens) q ≡ k.ring q
+rings_same h k r none q =
+    elim (cases_eq q r) [
+      | inl same ↦
+          ap (λ n. put k.ring r (changed (shape_of h r) (k.ring r) Opens) n) same ∙ put_at k.ring r (changed (shape_of h r) (k.ring r) Opens) ∙ same_view (k.ring r) None none ∙ ap (λ n. k.ring n) (sym same)
+      | inr other ↦ put_off k.ring r (changed (shape_of h r) (k.ring r) Opens) q other
+    ]
+
+pub opens_same : (h : Header) (k : Known) (r : ℕ) → (k.ring r).held ≡ None → on_ring h k r Opens ≡ k
+unfolding on_ring
+opens_same h k r none = ap (λ f. with_rings k f) (λ i q. rings_same h k r none q i)
+  where
+    with_rings : Known → (ℕ → RingView) → Known
+    with_rings z f = record z { ring = f }
+
+not_stopped : (e : EndpointState) → e ≡ Running → is_stopped e ≡ false
+not_stopped e runs = ap is_stopped runs
+
+rung_same : (h : Header) (k : Known) (s t r : ℕ) → (k.ring r).held ≡ None → k.endpoint_state s t ≡ Running → endpoint_rung h k s t (Some r) ≡ k
+unfolding endpoint_rung
+rung_same h k s t r none runs =
+    ap (λ e. with_states (on_ring h k r Opens) e) (cond-false (is_stopped (k.endpoint_state s t)) (put_pair k.endpoint_state s t Running) k.endpoint_state (not_stopped (k.endpoint_state s t) runs))
+    ∙ ap (λ z. with_states z k.endpoint_state) (opens_same h k r none)
+  where
+    with_states : Known → (ℕ → ℕ → EndpointState) → Known
+    with_states z e = record z { endpoint_state = e }
+
+-- no doorbell changes an endpoint that has halted or failed
+record AtRest (e : EndpointState) : Type 0 where
+  waits : (is_running e || is_stopped e) ≡ false
+
+halted_rests : (e : EndpointState) → e ≡ Halted → AtRest e
+halted_rests e is = subst (λ x. AtRest x) (sym is) (record { waits = refl })
+
+failed_rests : (e : EndpointState) → e ≡ Error → AtRest e
+failed_rests e is = subst (λ x. AtRest x) (sym is) (record { waits = refl })
+
+off_rests : (e : EndpointState) → e ≡ Off → AtRest e
+off_rests e is = subst (λ x. AtRest x) (sym is) (record { waits = refl })
+
+module _ (h : Header) (k : Known) (d : DriverKeeps h k) (s t : ℕ) where
+  ring_open : (o : Option ℕ) (r : ℕ) → o ≡ Some r → is_open_if k o ≡ true → (k.ring r).held ≡ None
+  ring_open o r at is = open_held (k.ring r) (sym (ap (λ x. is_open_if k x) at) ∙ is)
+
+  -- nothing is learned
+  endpoint_idle : (o : Option ℕ) → k.ring_of s t ≡ o → is_open_if k o ≡ true → endpoint_rung h k s t o ≡ k
+  unfolding endpoint_rung
+  endpoint_idle None at is = refl
+  endpoint_idle (Some r) at is = let none = open_held (k.ring r) is in rung_same h k s t r none (d.states.open_runs s t r at none)
+
+  pub idle : is_idle h k (Bell s t) ≡ true → learned h k (Bell s t) ≡ k
+  unfolding learned rung
+  idle is =
+      elim (cases_Bool (s == 0)) [
+        | inl command ↦
+            cond-true (s == 0) (on_ring h k (command_id h) Opens) (endpoint_rung h k s t (k.ring_of s t)) command
+            ∙ opens_same h k (command_id h) (open_held (k.ring (command_id h)) (sym (cond-true (s == 0) (is_open (k.ring (command_id h))) (is_open_if k (k.ring_of s t)) command) ∙ is))
+        | inr endpoint ↦
+            cond-false (s == 0) (on_ring h k (command_id h) Opens) (endpoint_rung h k s t (k.ring_of s t)) endpoint
+            ∙ endpoint_idle (k.ring_of s t) refl (sym (cond-false (s == 0) (is_open (k.ring (command_id h))) (is_open_if k (k.ring_of s t)) endpoint) ∙ is)
+      ]
+
+  bell_untouched : is_bad_bell h k s t ≡ false → is_touched h k s t ≡ false
+  unfolding is_bad_bell
+  bell_untouched good = (or_parts _ (is_touched h k s t) good).1
+
+  bell_state : is_bad_bell h k s t ≡ false → (is_running (k.endpoint_state s t) || is_stopped (k.endpoint_state s t)) ≡ true
+  unfolding is_bad_bell
+  bell_state good =
+      let four = or_parts _ (is_touched h k s t) good in
+      let three = or_parts _ (k.must_move s t) four.0 in
+      let two = or_parts (t == 0 || nat_lt 31 t) (not (is_running (k.endpoint_state s t) || is_stopped (k.endpoint_state s t))) three.0 in
+      not-false _ two.1
+
+  -- the endpoint may be rung, and works
+  may_ring_by : (o : Option ℕ) → k.ring_of s t ≡ o → is_open_if k o ≡ true → is_bad_bell h k s t ≡ false → MayRing h k s t
+  may_ring_by None at is good = absurd (false≢true (sym (off_rests (k.endpoint_state s t) (d.states.off s t at)).waits ∙ bell_state good))
+  may_ring_by (Some r) at is good =
+      let none = open_held (k.ring r) is in
+      record { untouched = bell_untouched good; state = inl (d.states.open_runs s t r at none, λ q has. ring_open (k.ring_of s t) q has (ap (λ o. is_open_if k o) at ∙ is)) }
+
+  pub rings : is_idle h k (Bell s t) ≡ true → broken h k (Bell s t) ≡ [] → (s == 0) ≡ false → MayRing h k s t
+  rings is clean endpoint =
+      let facts : BellFacts h k s t = bell_facts h k s t clean in
+      may_ring_by (k.ring_of s t) refl (sym (cond-false (s == 0) (is_open (k.ring (command_id h))) (is_open_if k (k.ring_of s t)) endpoint) ∙ is)
+      (sym (cond-false (s == 0) (not (t == 0)) (is_bad_bell h k s t) endpoint) ∙ facts.good)
+
+-- ---- where all events are read
+
+module _ (h : Header) (is : IsHeader h) (k : Known) (unread : List Block) (w : World) (d : DriverKeeps h k) (g : Agrees h k unread w) where
+  rests : (s t : ℕ) (o : Option ℕ) → AtRest (k.endpoint_state s t) → Agrees h k unread (counted h (driver.endpoint_bell h w s t o))
+  unfolding driver.endpoint_bell driver.activated
+  rests s t None rest = agrees_once_counted h k unread w g
+  rests s t (Some r) rest =
+      subst (λ v. Agrees h k unread (counted h v))
+      (sym (cond-false (is_running (w.endpoint_state s t) || is_stopped (w.endpoint_state s t)) (let v : World = record (driver.activated h w r) { endpoint_state = put_pair w.endpoint_state s t Running } in v) w
+      (ap (λ e. is_running e || is_stopped e) (g.matches.endpoints s t) ∙ rest.waits))) (agrees_once_counted h k unread w g)
+
+  works : (s t : ℕ) (o : Option ℕ) → k.ring_of s t ≡ o → k.endpoint_state s t ≡ Running → ((r : ℕ) → k.ring_of s t ≡ Some r → (k.ring r).held ≡ None) →
+      Agrees h k unread (counted h (driver.endpoint_bell h w s t o))
+  unfolding driver.endpoint_bell
+  works s t None at runs none = agrees_once_counted h k unread w g
+  works s t (Some r) at runs none =
+      subst (λ m. Agrees h m unread (counted h (driver.endpoint_bell h w s t (Some r)))) (rung_same h k s t r (none r at) runs)
+      (endpoint_agrees h is k unread w d g s t (Some r) at (ap (λ e. is_running e || is_stopped e) runs))
+
+  pub rung_agrees : (s t : ℕ) → (s == 0) ≡ false → MayRing h k s t → Agrees h k unread (counted h (driver.bell_row h w s t))
+  unfolding driver.bell_row
+  rung_agrees s t endpoint may =
+      subst (λ v. Agrees h k unread (counted h v))
+      (sym (cond-false (s == 0) _ (driver.endpoint_bell h w s t (w.ring_of s t)) endpoint ∙ ap (λ o. driver.endpoint_bell h w s t o) (g.matches.ring_of s t)))
+      (elim may.state [
+        | inl on ↦ works s t (k.ring_of s t) refl on.0 on.1
+        | inr down ↦ rests s t (k.ring_of s t) (elim down [ inl halted ↦ halted_rests (k.endpoint_state s t) halted | inr failed ↦ failed_rests (k.endpoint_state s t) failed ])
+      ])
+
+  pub command_rung : is_open (k.ring (command_id h)) ≡ true → k.started ≡ true → Agrees h k unread (counted h (driver.activated h w (command_id h)))
+  command_rung opened on =
+      subst (λ m. Agrees h m unread (counted h (driver.activated h w (command_id h)))) (opens_same h k (command_id h) (open_held (k.ring (command_id h)) opened)) (command_agrees h is k unread w d g on)

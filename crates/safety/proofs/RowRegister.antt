@@ -1,0 +1,163 @@
+-- A write of a register where all events are read: what is known agrees with the world
+use Rattle.std.specs.Prelude.{◌≡◌, ℕ, suc, zero, ◌%◌, length, slice_index, nat_lt, ◌+◌, ◌*◌, ◌<◌, ◌≤◌, ◌==◌, if◌then◌else◌, Bool, true, List, [], ◌∷◌, Option, None, Some, option_and_then, slice_get}
+use Rattle.std.proofs.Common.{arith, refl, sym, ◌∙◌, ap, subst}
+use Rattle.std.specs.List.{list_any, range_with_len}
+use Rattle.std.proofs.Math.Nat.{mod-lt}
+use Rattle.ownership_rules.proofs.Among.{some_of}
+use Rattle.std.proofs.lemmas.Bool.{and_parts, ltb-true, or_left, or_right, cond-true}
+use Rattle.trb.specs.declared.block.Block.{Block}
+use Rattle.commands.specs.declared.command.Command.{Command}
+use Rattle.commands.specs.Command.{command_of, named_context}
+use Rattle.segments.specs.ShapeValue.{Shape}
+use Rattle.segments.specs.RingView.{is_due}
+use Rattle.traces.specs.declared.header.Header.{Header}
+use Rattle.traces.specs.declared.register.Register.{Register}
+use Rattle.traces.specs.Header.{shape_of, command_id, event_shape, event_size}
+use Rattle.traces.specs.Register.{with_register, same_register}
+use Rattle.segments.specs.Places.{address_of, place_count, data_places}
+use Rattle.event_ring.specs.EventRing.{AreInOrder, position_from, is_reached_within, is_event_place}
+use Rattle.world_state.specs.World.{World, UnderWay}
+use Rattle.world_state.specs.World as of_world
+use Rattle.controller_model.specs.DriverRows as driver
+use Rattle.controller_model.specs.Steps.{counted}
+use Rattle.ring_knowledge.specs.Known.{Known}
+use Rattle.ring_knowledge.specs.Rings as of_rings
+use Rattle.ring_knowledge.specs.Registers as registers
+use Rattle.safety.specs.Keeps.{IsUnfinished}
+use Rattle.safety.specs.Matches.{IsUnchanged, Matches, Agrees}
+use Rattle.safety.proofs.RingGoesOn.{RingGoesOn, newest_same}
+use Rattle.safety.proofs.DriverGoesOn.{goes_same}
+use Rattle.safety.proofs.ErdpMoves.{position_within}
+use Rattle.safety.proofs.Counted.{agrees_counted}
+use Rattle.safety.proofs.MatchesGoesOn.{KnownGoesOn, SameController, matches_go_on}
+
+pub agrees_once_counted : (h : Header) (k : Known) (unread : List Block) (w : World) → Agrees h k unread w → Agrees h k unread (counted h w)
+agrees_once_counted h k unread w g = agrees_counted h k unread w g.stands g.events g.matches g.read (λ a. omega (arith, g.stamps a))
+
+-- the same rings are known
+pub record SameRings (k m : Known) : Type 0 where
+  pub rings : m.ring ≡ k.ring
+  pub started : m.started ≡ k.started
+  pub slot_state : m.slot_state ≡ k.slot_state
+  pub endpoint_state : m.endpoint_state ≡ k.endpoint_state
+  pub ring_of : m.ring_of ≡ k.ring_of
+  pub was_bound : m.was_bound ≡ k.was_bound
+  pub stop_seen : m.stop_seen ≡ k.stop_seen
+  pub device : m.device ≡ k.device
+
+module _ (h : Header) (k m : Known) (w v : World) (s : SameRings k m) (c : SameController w v) where
+  same_goes_on : KnownGoesOn h k m
+  same_goes_on = record {
+    started = s.started;
+    slot_state = s.slot_state;
+    endpoint_state = s.endpoint_state;
+    ring_of = s.ring_of;
+    was_bound = s.was_bound;
+    stop_seen = s.stop_seen;
+    device = λ q some none. some (ap (λ f. f q) (sym s.device) ∙ none);
+    rings = λ r. subst (λ f. RingGoesOn (shape_of h r) (k.ring r) (f r)) (sym s.rings) (goes_same (shape_of h r) (k.ring r));
+  }
+
+  same_before : (p : ℕ) (d : Command) → IsUnfinished h m p d → IsUnfinished h k p d
+  unfolding of_rings.command_at
+  same_before p d u = record {
+    due = ap (λ f. is_due (shape_of h (command_id h)) (f (command_id h)).floor p) (sym s.rings) ∙ u.due;
+    given = ap (λ f. (f (command_id h)).given p) (sym s.rings) ∙ u.given;
+    command = ap (λ f. option_and_then command_of (slice_get (f (command_id h)).queue p)) (sym s.rings) ∙ u.command;
+  }
+
+  still_unchanged : v.changed ≡ w.changed → v.written ≡ w.written → (at : ℕ) (o : Option ℕ) → IsUnchanged h w at o → IsUnchanged h v at o
+  still_unchanged changed written at None same = tt
+  still_unchanged changed written at (Some n) same = λ i l. let low = same i l in omega (arith, ap (λ f. f (n + 4 * i)) changed, ap (λ f. f (at + 12)) written)
+
+  pub same_matches : v.changed ≡ w.changed → v.written ≡ w.written → Matches h k w → Matches h m v
+  same_matches changed written y =
+      matches_go_on h k m w v same_goes_on c
+      (λ r n. newest_same (k.ring r) (m.ring r) (ap (λ f. (f r).queue) s.rings) (ap (λ f. (f r).lengths) s.rings) n (w.events r))
+      (λ u at. ap (λ f. slice_get (f (command_id h)).queue (of_rings.next_command h k)) s.rings)
+      (λ p d u. still_unchanged changed written (address_of (shape_of h (command_id h)) p) (named_context d) (y.contexts p d (same_before p d u))) y
+
+module _ (h : Header) (k : Known) (unread : List Block) (w : World) (g : Agrees h k unread w) where
+  -- a value that changes nothing else
+  with_same : (r q : Register) (x : ℕ) → with_register w.register r x q ≡ with_register k.register r x q
+  with_same r q x = ap (λ o. if same_register q r then Some x else o) (g.stands.registers q)
+
+  valued_matches : (r : Register) (x : ℕ) → Matches h (registers.valued k r x) (driver.valued w r x)
+  unfolding registers.valued driver.valued
+  valued_matches r x =
+      same_matches h k (registers.valued k r x) w (driver.valued w r x)
+      (record { rings = refl; started = refl; slot_state = refl; endpoint_state = refl; ring_of = refl; was_bound = refl; stop_seen = refl; device = refl })
+      (record { slot_state = refl; endpoint_state = refl; ring_of = refl; scribbles = refl; under_way = refl; inside = refl; states = λ q. refl }) refl refl g.matches
+
+  pub valued_agrees : (r : Register) (x : ℕ) → Agrees h (registers.valued k r x) unread (driver.valued w r x)
+  unfolding registers.valued driver.valued of_world.event_at
+  valued_agrees r x =
+      let s = g.stands in
+      let e = g.events in
+      record {
+        stands = record { started = s.started; stopped = s.stopped; registers = λ q. with_same r q x; queues = s.queues; lengths = s.lengths; dequeue = s.dequeue; quiet = s.quiet };
+        events = record { order = e.order; count = e.count; places = e.places; started = e.started; ring = e.ring };
+        matches = valued_matches r x;
+        read = g.read;
+        stamps = g.stamps;
+      }
+
+-- ---- ERDP
+
+-- the address is reached in the world as it is now
+pub record ErdpReached (h : Header) (w : World) (a : ℕ) : Type 0 where
+  pub more : ℕ
+  pub reached : is_reached_within (event_shape h) w.dequeue more a ≡ true
+  pub within : w.dequeue + more ≤ w.reads
+
+any_index : (test : ℕ → Bool) (xs : List ℕ) (i : ℕ) → i < length xs → test (slice_index xs i) ≡ true → list_any test xs ≡ true
+any_index test [] i low at = absurd (omega arith)
+any_index test (x ∷ xs) zero low at = or_left (test x) (list_any test xs) at
+any_index test (x ∷ xs) (suc i) low at = or_right (test x) (list_any test xs) (any_index test xs i (omega arith) at)
+
+event_place : (shape : Shape) (p more a : ℕ) → is_reached_within shape p more a ≡ true → is_event_place shape a ≡ true
+event_place shape p more a reached =
+    let parts = and_parts (nat_lt 0 (place_count shape)) (list_any (λ q. address_of shape q == a) (range_with_len p (more + 1))) reached in
+    let found = some_of (λ q. address_of shape q == a) (range_with_len p (more + 1)) parts.1 in
+    any_index (λ x. x == a) (data_places shape) (found.0 % place_count shape) (mod-lt found.0 (ltb-true 0 (place_count shape) parts.0)) found.2
+
+module _ (h : Header) (k : Known) (unread : List Block) (w : World) (g : Agrees h k unread w) (a : ℕ) (may : ErdpReached h w a) where
+  moved_known : Known
+  moved_known = record k { dequeue = position_from (event_shape h) k.dequeue a }
+
+  moved_world : World
+  moved_world = record w { dequeue = position_from (event_shape h) w.dequeue a }
+
+  order : AreInOrder (event_size h) (record { posted = w.posted; reads = w.reads; dequeue = position_from (event_shape h) w.dequeue a })
+  order =
+      let within = position_within (event_shape h) w.dequeue may.more a may.reached in
+      record {
+        dequeued = omega (arith, within.1, may.within);
+        read = g.events.order.read;
+        room = λ some. let room = g.events.order.room some in omega (arith, within.0);
+      }
+
+  moved_matches : Matches h moved_known moved_world
+  unfolding moved_known moved_world
+  moved_matches =
+      same_matches h k moved_known w moved_world
+      (record { rings = refl; started = refl; slot_state = refl; endpoint_state = refl; ring_of = refl; was_bound = refl; stop_seen = refl; device = refl })
+      (record { slot_state = refl; endpoint_state = refl; ring_of = refl; scribbles = refl; under_way = refl; inside = refl; states = λ q. refl }) refl refl g.matches
+
+  moved_agrees : Agrees h moved_known unread moved_world
+  unfolding moved_known moved_world of_world.event_at
+  moved_agrees =
+      let s = g.stands in
+      let e = g.events in
+      record {
+        stands = record { started = s.started; stopped = s.stopped; registers = s.registers; queues = s.queues; lengths = s.lengths; dequeue = ap (λ n. position_from (event_shape h) n a) s.dequeue; quiet = s.quiet };
+        events = record { order = order; count = e.count; places = e.places; started = e.started; ring = e.ring };
+        matches = moved_matches;
+        read = g.read;
+        stamps = g.stamps;
+      }
+
+  pub erdp_agrees : Agrees h (record k { dequeue = position_from (event_shape h) k.dequeue a }) unread (driver.with_dequeue h w a)
+  unfolding moved_known moved_world driver.with_dequeue
+  erdp_agrees =
+      subst (λ v. Agrees h moved_known unread v) (sym (cond-true (is_event_place (event_shape h) a) moved_world w (event_place (event_shape h) w.dequeue may.more a may.reached))) moved_agrees

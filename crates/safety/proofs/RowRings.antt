@@ -1,0 +1,251 @@
+-- A doorbell where all events are read: what is known agrees with the world
+use Rattle.std.specs.Prelude.{◌≡◌, ℕ, ◌==◌, ◌&&◌, ◌||◌, if◌then◌else◌, not, nat_lt, true, false, List, [], Option, None, Some, option_and_then, slice_get}
+use Rattle.std.proofs.Common.{arith, refl, sym, ◌∙◌, ap, subst, inl, inr}
+use Rattle.std.proofs.lemmas.Bool.{cases_Bool, cond_both, cond-true, cond-false, and_from, or_parts, or_cases, not-false, false≢true}
+use Rattle.guest_memory.specs.Memory.{put_pair}
+use Rattle.trb.specs.declared.block.Block.{Block}
+use Rattle.segments.specs.RingView.{RingView, Opens, changed, is_due}
+use Rattle.commands.specs.declared.command.Command.{Command}
+use Rattle.commands.specs.Command.{command_of}
+use Rattle.commands.specs.declared.state.EndpointState.{EndpointState}
+use Rattle.commands.specs.declared.state.EndpointState.TheVariants.{Running}
+use Rattle.commands.specs.States.{is_running, is_stopped}
+use Rattle.traces.specs.declared.header.Header.{Header}
+use Rattle.traces.specs.declared.row.Row.TheVariants.{Bell}
+use Rattle.traces.specs.Header.{IsHeader, shape_of, command_id}
+use Rattle.world_state.specs.World.{World}
+use Rattle.controller_model.specs.DriverRows as driver
+use Rattle.controller_model.specs.Steps.{counted}
+use Rattle.ring_knowledge.specs.Known.{Known}
+use Rattle.ring_knowledge.specs.Learned.{learned}
+use Rattle.ring_knowledge.specs.Rings.{on_ring, command_at, next_command}
+use Rattle.ring_knowledge.specs.Registers.{endpoint_rung, rung}
+use Rattle.ownership_rules.specs.Doorbells.{is_bad_bell, is_touched}
+use Rattle.ownership_rules.specs.Rules.{broken}
+use Rattle.safety.specs.Keeps.{IsDriverRing, IsUnfinished, DriverKeeps}
+use Rattle.safety.specs.Stands.{Stands, EventsStand}
+use Rattle.safety.specs.Matches.{state_of, RingMatches, BoundRing, UnderWayMatches, CommandMatches, Matches, Agrees}
+use Rattle.safety.proofs.Headers.{transfer_driver, transfer_not_command, ring_shape}
+use Rattle.safety.proofs.SafeContext.{command_is_ring}
+use Rattle.safety.proofs.CleanRows.{BellFacts, bell_facts}
+use Rattle.safety.proofs.StatesRung.{running_is}
+use Rattle.safety.proofs.EndpointPut.{at_pair}
+use Rattle.safety.proofs.Stored.{Late}
+use Rattle.safety.proofs.Counted.{agrees_counted}
+use Rattle.safety.proofs.RingActivated.{activated_ring, only_activated, activated_rest, learns_opened, opened_reads, active_matches, active_bound}
+use Rattle.safety.proofs.OnlyRing.{stands_only, events_only, late_only, read_only, matches_command}
+use Rattle.safety.proofs.Learns.{stands_learns, matches_learns}
+use Rattle.safety.proofs.EndpointStates.{known_states, world_states, stands_states, events_states, matches_states}
+use Rattle.safety.proofs.RingGoesOn.{RingGoesOn, bound_on, newest_same}
+use Rattle.safety.proofs.DriverGoesOn.{goes_same, opens_goes_on}
+use Rattle.safety.proofs.MatchesGoesOn.{KnownGoesOn, same_controller, matches_go_on}
+use Rattle.safety.proofs.SameDriver.{view_after}
+
+module _ (h : Header) (is : IsHeader h) (k : Known) (unread : List Block) (w : World) (d : DriverKeeps h k) (g : Agrees h k unread w) where
+  goes : (r : ℕ) → IsDriverRing h r → RingGoesOn (shape_of h r) (k.ring r) (changed (shape_of h r) (k.ring r) Opens)
+  goes r ring = opens_goes_on (shape_of h r) (ring_shape h is r ring).is k.memory (k.ring r) (d.rings r ring)
+
+  -- ---- an endpoint's ring
+
+  bound_opened : (s t r : ℕ) → k.ring_of s t ≡ Some r → BoundRing (shape_of h r) k.ring_of (changed (shape_of h r) (k.ring r) Opens) (activated_ring w r) r
+  bound_opened s t r at =
+      let transfer = d.states.transfer s t r at in
+      elim (g.matches.rings r (λ same. transfer_not_command h is r transfer same)) [
+        | inl bound ↦
+            active_bound h r k.ring_of (changed (shape_of h r) (k.ring r) Opens) (state_of w r) refl
+            (bound_on (shape_of h r) (k.ring r) (changed (shape_of h r) (k.ring r) Opens) (goes r (transfer_driver h r transfer)) (state_of w r) k.ring_of r
+            (λ n. newest_same (k.ring r) (changed (shape_of h r) (k.ring r) Opens) refl refl n (w.events r)) bound)
+        | inr free ↦ absurd (free.none s t at)
+      ]
+
+  endpoint_opened : (s t r : ℕ) → k.ring_of s t ≡ Some r → Matches h (on_ring h k r Opens) (driver.activated h w r)
+  endpoint_opened s t r at =
+      let rest = activated_rest h w r in
+      matches_learns h k (on_ring h k r Opens) r (changed (shape_of h r) (k.ring r) Opens) (learns_opened h k r) w (driver.activated h w r) (activated_ring w r) (only_activated h w r) d g.matches
+      (λ same. transfer_not_command h is r (d.states.transfer s t r at) same) (bound_opened s t r at) rest.under_way rest.scribbles rest.inside
+
+  states_rung : (s t r : ℕ) → (is_running (k.endpoint_state s t) || is_stopped (k.endpoint_state s t)) ≡ true → (q j : ℕ) →
+      put_pair w.endpoint_state s t Running q j ≡ (if is_stopped (k.endpoint_state s t) then put_pair k.endpoint_state s t Running else k.endpoint_state) q j
+  states_rung s t r may q j =
+      at_pair (λ e. e ≡ (if is_stopped (k.endpoint_state s t) then put_pair k.endpoint_state s t Running else k.endpoint_state) q j) w.endpoint_state s t Running q j
+      (λ a b. here a b)
+      (λ other. cond_both (is_stopped (k.endpoint_state s t)) (put_pair k.endpoint_state s t Running) k.endpoint_state (λ f. w.endpoint_state q j ≡ f q j)
+      (λ stopped. at_pair (λ e. w.endpoint_state q j ≡ e) k.endpoint_state s t Running q j (λ a b. absurd (other a b)) (λ apart. g.matches.endpoints q j))
+      (λ on. g.matches.endpoints q j))
+    where
+      here : q ≡ s → j ≡ t → Running ≡ (if is_stopped (k.endpoint_state s t) then put_pair k.endpoint_state s t Running else k.endpoint_state) q j
+      here a b =
+          cond_both (is_stopped (k.endpoint_state s t)) (put_pair k.endpoint_state s t Running) k.endpoint_state (λ f. Running ≡ f q j)
+          (λ stopped. at_pair (λ e. Running ≡ e) k.endpoint_state s t Running q j (λ x y. refl) (λ other. absurd (other a b)))
+          (λ on. elim (or_cases (is_running (k.endpoint_state s t)) (is_stopped (k.endpoint_state s t)) may) [
+            | inl runs ↦ sym (ap (λ n. k.endpoint_state n j) a ∙ ap (λ n. k.endpoint_state s n) b ∙ running_is (k.endpoint_state s t) runs)
+            | inr stopped ↦ absurd (false≢true (sym on ∙ stopped))
+          ])
+
+  -- ---- the row
+
+  late : Late w
+  late a = omega (arith, g.stamps a)
+
+  record Parts (r : ℕ) (e f : ℕ → ℕ → EndpointState) : Type 0 where
+    stands : Stands h (known_states (on_ring h k r Opens) e (on_ring h k r Opens).must_move) (world_states (driver.activated h w r) f)
+    events : EventsStand h (world_states (driver.activated h w r) f) unread
+    matches : Matches h (known_states (on_ring h k r Opens) e (on_ring h k r Opens).must_move) (world_states (driver.activated h w r) f)
+    read : (driver.activated h w r).posted ≡ (on_ring h k r Opens).reads
+    late : Late (driver.activated h w r)
+
+  opened_agrees : (r : ℕ) → Matches h (on_ring h k r Opens) (driver.activated h w r) → (e f : ℕ → ℕ → EndpointState) → ((q j : ℕ) → f q j ≡ e q j) → Parts r e f
+  opened_agrees r m e f same =
+      let v : World = driver.activated h w r in
+      let l : Known = on_ring h k r Opens in
+      let o = only_activated h w r in
+      record {
+        stands = stands_states h l v e f l.must_move
+            (stands_learns h k l r (changed (shape_of h r) (k.ring r) Opens) (learns_opened h k r) v (stands_only h k w v r (activated_ring w r) o g.stands));
+        events = events_states h l v e f l.must_move unread (events_only h k w v r (activated_ring w r) o unread g.events);
+        matches = matches_states h l v e f l.must_move same m;
+        read = read_only h k w v r (activated_ring w r) o g.read ∙ sym (opened_reads h k r);
+        late = late_only h k w v r (activated_ring w r) o late;
+      }
+
+  parts_agree : (r : ℕ) (e f : ℕ → ℕ → EndpointState) → Parts r e f →
+      Agrees h (known_states (on_ring h k r Opens) e (on_ring h k r Opens).must_move) unread (counted h (world_states (driver.activated h w r) f))
+  parts_agree r e f p =
+      agrees_counted h (known_states (on_ring h k r Opens) e (on_ring h k r Opens).must_move) unread (world_states (driver.activated h w r) f) p.stands p.events p.matches p.read p.late
+
+  states_of : ℕ → ℕ → ℕ → ℕ → EndpointState
+  states_of s t = if is_stopped (k.endpoint_state s t) then put_pair k.endpoint_state s t Running else k.endpoint_state
+
+  bell_is : (s t r : ℕ) → (is_running (k.endpoint_state s t) || is_stopped (k.endpoint_state s t)) ≡ true →
+      driver.endpoint_bell h w s t (Some r) ≡ world_states (driver.activated h w r) (put_pair w.endpoint_state s t Running)
+  unfolding driver.endpoint_bell
+  bell_is s t r may =
+      cond-true (is_running (w.endpoint_state s t) || is_stopped (w.endpoint_state s t)) (world_states (driver.activated h w r) (put_pair w.endpoint_state s t Running)) w
+      (ap (λ e. is_running e || is_stopped e) (g.matches.endpoints s t) ∙ may)
+
+  rung_is : (s t r : ℕ) → endpoint_rung h k s t (Some r) ≡ known_states (on_ring h k r Opens) (states_of s t) (on_ring h k r Opens).must_move
+  unfolding endpoint_rung states_of on_ring
+  rung_is s t r = refl
+
+  rung_same : (s t r : ℕ) → (is_running (k.endpoint_state s t) || is_stopped (k.endpoint_state s t)) ≡ true → (q j : ℕ) → put_pair w.endpoint_state s t Running q j ≡ states_of s t q j
+  unfolding states_of
+  rung_same s t r may = states_rung s t r may
+
+  pub endpoint_agrees : (s t : ℕ) (o : Option ℕ) → k.ring_of s t ≡ o → (is_running (k.endpoint_state s t) || is_stopped (k.endpoint_state s t)) ≡ true →
+      Agrees h (endpoint_rung h k s t o) unread (counted h (driver.endpoint_bell h w s t o))
+  unfolding endpoint_rung driver.endpoint_bell
+  endpoint_agrees s t None at may = agrees_counted h k unread w g.stands g.events g.matches g.read late
+  endpoint_agrees s t (Some r) at may =
+      subst (λ m. Agrees h m unread (counted h (driver.endpoint_bell h w s t (Some r)))) (sym (rung_is s t r))
+      (subst (λ v. Agrees h (known_states (on_ring h k r Opens) (states_of s t) (on_ring h k r Opens).must_move) unread (counted h v)) (sym (bell_is s t r may))
+      (parts_agree r (states_of s t) (put_pair w.endpoint_state s t Running)
+      (opened_agrees r (endpoint_opened s t r at) (states_of s t) (put_pair w.endpoint_state s t Running) (rung_same s t r may))))
+
+  -- ---- the command ring
+
+  command_goes : k.started ≡ true → KnownGoesOn h k (on_ring h k (command_id h) Opens)
+  command_goes on =
+      let l = learns_opened h k (command_id h) in
+      record {
+        started = l.started;
+        slot_state = l.slot_state;
+        endpoint_state = l.endpoint_state;
+        ring_of = l.ring_of;
+        was_bound = l.was_bound;
+        stop_seen = l.stop_seen;
+        device = λ s some none. some (ap (λ f. f s) (sym l.device) ∙ none);
+        rings = λ q. view_after h (λ x. RingGoesOn (shape_of h q) (k.ring q) x) k (command_id h) Opens q
+            (λ same. subst (λ n. RingGoesOn (shape_of h n) (k.ring n) (changed (shape_of h (command_id h)) (k.ring (command_id h)) Opens)) (sym same) (goes (command_id h) (command_is_ring h k d on)))
+            (λ other. goes_same (shape_of h q) (k.ring q));
+      }
+
+  -- what is declared and given, and where the floor is, stays
+  record StaysBut (v x : RingView) : Type 0 where
+    queue : x.queue ≡ v.queue
+    lengths : x.lengths ≡ v.lengths
+    given : x.given ≡ v.given
+    floor : x.floor ≡ v.floor
+
+  command_stays : (q : ℕ) → StaysBut (k.ring q) ((on_ring h k (command_id h) Opens).ring q)
+  command_stays q =
+      view_after h (λ x. StaysBut (k.ring q) x) k (command_id h) Opens q
+      (λ same. subst (λ n. StaysBut (k.ring n) (changed (shape_of h (command_id h)) (k.ring (command_id h)) Opens)) (sym same) (record { queue = refl; lengths = refl; given = refl; floor = refl }))
+      (λ other. record { queue = refl; lengths = refl; given = refl; floor = refl })
+
+  command_before : (p : ℕ) (c : Command) → IsUnfinished h (on_ring h k (command_id h) Opens) p c → IsUnfinished h k p c
+  unfolding command_at
+  command_before p c u =
+      let same = command_stays (command_id h) in
+      record {
+        due = ap (λ t. is_due (shape_of h (command_id h)) t p) (sym same.floor) ∙ u.due;
+        given = ap (λ f. f p) (sym same.given) ∙ u.given;
+        command = ap (λ q. option_and_then command_of (slice_get q p)) (sym same.queue) ∙ u.command;
+      }
+
+  command_known : k.started ≡ true → Matches h (on_ring h k (command_id h) Opens) w
+  command_known on =
+      matches_go_on h k (on_ring h k (command_id h) Opens) w w (command_goes on) (same_controller w)
+      (λ q n. newest_same (k.ring q) ((on_ring h k (command_id h) Opens).ring q) (command_stays q).queue (command_stays q).lengths n (w.events q))
+      (λ u at. ap (λ q. slice_get q (next_command h k)) (command_stays (command_id h)).queue)
+      (λ p c u. g.matches.contexts p c (command_before p c u)) g.matches
+
+  command_opened : k.started ≡ true → Matches h (on_ring h k (command_id h) Opens) (driver.activated h w (command_id h))
+  command_opened on =
+      let m : Known = on_ring h k (command_id h) Opens in
+      let v : World = driver.activated h w (command_id h) in
+      let l = learns_opened h k (command_id h) in
+      let y : Matches h m w = command_known on in
+      let started : m.started ≡ true = l.started ∙ on in
+      let c : CommandMatches h m w = y.command started in
+      let o = only_activated h w (command_id h) in
+      let rest = activated_rest h w (command_id h) in
+      matches_command h m w v (command_id h) (activated_ring w (command_id h)) o y refl started
+      (record {
+        spot = c.spot;
+        ring = subst (λ s. RingMatches (shape_of h (command_id h)) (m.ring (command_id h)) s c.spot) (sym o.here)
+            (active_matches h (command_id h) (m.ring (command_id h)) (state_of w (command_id h)) c.spot (ap (λ x. x.held) l.here) c.ring);
+        under_way = subst (λ x. UnderWayMatches h m c.spot x) (sym rest.under_way) c.under_way;
+      })
+      (λ s may. y.scribbles s (ap (λ f. f s) (sym rest.scribbles) ∙ may)) (rest.inside ∙ y.inside)
+
+  pub command_agrees : k.started ≡ true → Agrees h (on_ring h k (command_id h) Opens) unread (counted h (driver.activated h w (command_id h)))
+  command_agrees on =
+      let l = learns_opened h k (command_id h) in
+      let o = only_activated h w (command_id h) in
+      let v : World = driver.activated h w (command_id h) in
+      agrees_counted h (on_ring h k (command_id h) Opens) unread v
+      (stands_learns h k (on_ring h k (command_id h) Opens) (command_id h) (changed (shape_of h (command_id h)) (k.ring (command_id h)) Opens) l v (stands_only h k w v (command_id h) (activated_ring w (command_id h)) o g.stands))
+      (events_only h k w v (command_id h) (activated_ring w (command_id h)) o unread g.events) (command_opened on)
+      (read_only h k w v (command_id h) (activated_ring w (command_id h)) o g.read ∙ sym (opened_reads h k (command_id h))) (late_only h k w v (command_id h) (activated_ring w (command_id h)) o late)
+
+  -- ---- the row
+
+  good_state : (s t : ℕ) → is_bad_bell h k s t ≡ false → (is_running (k.endpoint_state s t) || is_stopped (k.endpoint_state s t)) ≡ true
+  unfolding is_bad_bell
+  good_state s t good =
+      let four = or_parts _ (is_touched h k s t) good in
+      let three = or_parts _ (k.must_move s t) four.0 in
+      let two = or_parts (t == 0 || nat_lt 31 t) (not (is_running (k.endpoint_state s t) || is_stopped (k.endpoint_state s t))) three.0 in
+      not-false _ two.1
+
+  pub rings_agree : (s t : ℕ) → broken h k (Bell s t) ≡ [] → Agrees h (learned h k (Bell s t)) unread (counted h (driver.bell_row h w s t))
+  unfolding learned rung driver.bell_row
+  rings_agree s t clean =
+      let facts : BellFacts h k s t = bell_facts h k s t clean in
+      elim (cases_Bool (s == 0)) [
+        | inl command ↦
+            let zero : (t == 0) ≡ true = not-false (t == 0) (sym (cond-true (s == 0) (not (t == 0)) (is_bad_bell h k s t) command) ∙ facts.good) in
+            let both : (t == 0 && w.started) ≡ true = and_from (t == 0) w.started zero (g.stands.started ∙ facts.started) in
+            subst (λ m. Agrees h m unread (counted h (driver.bell_row h w s t))) (sym (cond-true (s == 0) (on_ring h k (command_id h) Opens) (endpoint_rung h k s t (k.ring_of s t)) command))
+            (subst (λ v. Agrees h (on_ring h k (command_id h) Opens) unread (counted h v))
+            (sym (cond-true (s == 0) (if t == 0 && w.started then driver.activated h w (command_id h) else w) (driver.endpoint_bell h w s t (w.ring_of s t)) command
+            ∙ cond-true (t == 0 && w.started) (driver.activated h w (command_id h)) w both))
+            (command_agrees facts.started))
+        | inr endpoint ↦
+            let may = good_state s t (sym (cond-false (s == 0) (not (t == 0)) (is_bad_bell h k s t) endpoint) ∙ facts.good) in
+            subst (λ m. Agrees h m unread (counted h (driver.bell_row h w s t))) (sym (cond-false (s == 0) (on_ring h k (command_id h) Opens) (endpoint_rung h k s t (k.ring_of s t)) endpoint))
+            (subst (λ v. Agrees h (endpoint_rung h k s t (k.ring_of s t)) unread (counted h v))
+            (sym (cond-false (s == 0) (if t == 0 && w.started then driver.activated h w (command_id h) else w) (driver.endpoint_bell h w s t (w.ring_of s t)) endpoint
+            ∙ ap (λ o. driver.endpoint_bell h w s t o) (g.matches.ring_of s t)))
+            (endpoint_agrees s t (k.ring_of s t) refl may))
+      ]

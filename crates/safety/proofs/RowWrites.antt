@@ -1,0 +1,259 @@
+-- A write of memory where all events are read: what is known agrees with the world
+use Rattle.std.specs.Prelude.{◌≡◌, ◌≢◌, ℕ, ◌+◌, ◌*◌, ◌/◌, ◌<◌, ◌⊎◌, ◌==◌, ◌&&◌, ◌||◌, not, nat_lt, Bool, true, false, List, [], ◌++◌, Option, None, Some, option_and_then, slice_get}
+use Rattle.std.specs.List.{list_any, flat_map}
+use Rattle.std.proofs.Common.{arith, refl, sym, ◌∙◌, ap, subst, inl, inr, add-zero}
+use Rattle.std.proofs.lemmas.Bool.{cases_eq, or_parts, or_cases, and_from, lt-ltb, false≢true, ne_eqb, not_from_false}
+use Rattle.std.proofs.lemmas.List.Folds.{list_any-append}
+use Rattle.std.proofs.lemmas.Option.{slice_get_within}
+use Rattle.guest_memory.specs.Memory.{put}
+use Rattle.trb.specs.declared.block.Block.{Block}
+use Rattle.segments.specs.Places.{address_of, is_in, is_inside}
+use Rattle.segments.specs.RingView.{Writes, changed, is_due, gives}
+use Rattle.segments.proofs.MemoryWords.{put_here, put_elsewhere}
+use Rattle.segments.proofs.Giving.{gives_is}
+use Rattle.segments.proofs.Elsewhere.{address_inside}
+use Rattle.commands.specs.declared.command.Command.{Command}
+use Rattle.commands.specs.Command.{command_of, named_context}
+use Rattle.contexts.specs.Contexts.{device_context_bytes, input_context_bytes}
+use Rattle.traces.specs.declared.header.Header.{Header}
+use Rattle.traces.specs.declared.row.Row.TheVariants.{Write}
+use Rattle.traces.specs.declared.register.Register.TheVariants.{Erstba}
+use Rattle.traces.specs.Header.{IsHeader, shape_of, command_id, event_shape, driver_rings}
+use Rattle.world_state.specs.World.{World, UnderWay, event_at, stored}
+use Rattle.world_state.specs.World as of_world
+use Rattle.controller_model.specs.Steps.{counted}
+use Rattle.ring_knowledge.specs.Known.{Known}
+use Rattle.ring_knowledge.specs.Learned.{learned}
+use Rattle.ring_knowledge.specs.Rings.{command_at, next_command}
+use Rattle.ring_knowledge.specs.Writes.{with_device, with_word, written, command_given, taken_device}
+use Rattle.ownership_rules.specs.OpenLeases.{Leased, Range, InputContext, covers, lease_start, lease_bytes, segment_ranges, table_range, context_ranges, entry_ranges, device_ranges, open_on, open_ranges, open_leases, is_leased}
+use Rattle.ownership_rules.specs.Writes.{write_tests}
+use Rattle.ownership_rules.specs.Rules.{tests, broken}
+use Rattle.ownership_rules.proofs.Among.{IsIn}
+use Rattle.safety.specs.Keeps.{IsUnfinished, DriverKeeps}
+use Rattle.safety.specs.Stands.{Stands, EventsStand, touches_events}
+use Rattle.safety.specs.Matches.{IsUnchanged, Matches, Agrees}
+use Rattle.safety.proofs.TestsPassed.{AllFail, tests_fail, any_of_map}
+use Rattle.safety.proofs.UnfinishedLists.{fails_in, in_ranges, context_leased}
+use Rattle.safety.proofs.Headers.{EventRing, event_ring_is}
+use Rattle.safety.proofs.Areas.{byte_apart}
+use Rattle.safety.proofs.RingMemory.{same_block_at}
+use Rattle.safety.proofs.EndpointPut.{at_number}
+use Rattle.safety.proofs.RowFrames.{WriteLeaves, write_leaves}
+use Rattle.safety.proofs.Stored.{Late, late_stored, memory_stored, unchanged_stored}
+use Rattle.safety.proofs.Counted.{agrees_counted}
+use Rattle.safety.proofs.RingGoesOn.{RingGoesOn, newest_same}
+use Rattle.safety.proofs.DriverGoesOn.{writes_goes_on}
+use Rattle.safety.proofs.MatchesGoesOn.{KnownGoesOn, SameController, matches_go_on}
+
+none_of_both : {X : Type 0} (test : X → Bool) (xs ys : List X) → list_any test (xs ++ ys) ≡ false → (list_any test xs ≡ false) × (list_any test ys ≡ false)
+none_of_both test xs ys none = or_parts (list_any test xs) (list_any test ys) (sym (list_any-append test xs ys) ∙ none)
+
+-- ---- what the write adds
+
+device_rings : (h : Header) (l : Known) (taken : Option (ℕ × ℕ)) → (with_device h l taken).ring ≡ l.ring
+unfolding with_device
+device_rings h l None = refl
+device_rings h l (Some e) = refl
+
+written_rings : (h : Header) (k : Known) (a x r : ℕ) → (learned h k (Write a x)).ring r ≡ changed (shape_of h r) (k.ring r) (Writes a x)
+unfolding learned written with_word
+written_rings h k a x r = ap (λ f. f r) (device_rings h (with_word h k a x) (option_and_then (taken_device k) (command_given h k a x)))
+
+device_memory : (h : Header) (l : Known) (taken : Option (ℕ × ℕ)) → (with_device h l taken).memory ≡ l.memory
+unfolding with_device
+device_memory h l None = refl
+device_memory h l (Some e) = refl
+
+written_memory : (h : Header) (k : Known) (a x b : ℕ) → (learned h k (Write a x)).memory b ≡ put k.memory a x b
+unfolding learned written with_word
+written_memory h k a x b = ap (λ f. f b) (device_memory h (with_word h k a x) (option_and_then (taken_device k) (command_given h k a x)))
+
+device_soiled : (h : Header) (l : Known) (taken : Option (ℕ × ℕ)) (b : ℕ) → (with_device h l taken).soiled b ≡ false → l.soiled b ≡ false
+unfolding with_device
+device_soiled h l None b none = none
+device_soiled h l (Some e) b none = (or_parts (is_in b e.1 (device_context_bytes h.context_size)) (l.soiled b) none).1
+
+-- a word that isn't soiled then is the one that is written, or wasn't soiled
+written_soiled : (h : Header) (k : Known) (a x b : ℕ) → (learned h k (Write a x)).soiled b ≡ false → b ≢ a → k.soiled b ≡ false
+unfolding learned written with_word
+written_soiled h k a x b none other =
+    by (k.soiled b) (b == a) (ne_eqb b a other) (device_soiled h (with_word h k a x) (option_and_then (taken_device k) (command_given h k a x)) b none)
+  where
+    by : (s t : Bool) → t ≡ false → (s && not t) ≡ false → s ≡ false
+    by true t off none = absurd (false≢true (sym none ∙ not_from_false t off))
+    by false t off none = refl
+
+device_kept : (h : Header) (l : Known) (taken : Option (ℕ × ℕ)) (s : ℕ) → l.device s ≢ None → (with_device h l taken).device s ≢ None
+unfolding with_device
+device_kept h l None s some = some
+device_kept h l (Some e) s some = at_number (λ o. o ≢ None) l.device e.0 (Some e.1) s (λ here none. cc) (λ there. some)
+
+written_device : (h : Header) (k : Known) (a x s : ℕ) → k.device s ≢ None → (learned h k (Write a x)).device s ≢ None
+unfolding learned written with_word
+written_device h k a x s some = device_kept h (with_word h k a x) (option_and_then (taken_device k) (command_given h k a x)) s some
+
+module _ (h : Header) (is : IsHeader h) (k : Known) (unread : List Block) (w : World) (a x : ℕ) (d : DriverKeeps h k) (g : Agrees h k unread w) (clean : broken h k (Write a x) ≡ []) where
+  free : is_leased h k a ≡ false
+  unfolding tests write_tests
+  free = let fails : AllFail (write_tests h k a x) = tests_fail h k (Write a x) clean in fails.0
+
+  m : Known
+  m = learned h k (Write a x)
+
+  v : World
+  v = stored w a x
+
+  late : Late w
+  late b = omega (arith, g.stamps b)
+
+  -- ---- what the word isn't
+
+  no_range : (l : Leased) → IsIn l (open_ranges h k) → covers h a 4 l ≡ false
+  unfolding is_leased
+  no_range l at = fails_in (covers h a 4) (open_leases h k) l free (in_ranges h k l at)
+
+  in_no_context : (p n i : ℕ) (c : Command) → IsUnfinished h k p c → named_context c ≡ Some n → i < input_context_bytes h.context_size / 4 → n + 4 * i ≢ a
+  unfolding covers lease_start lease_bytes
+  in_no_context p n i c u named low same =
+      let none : (nat_lt a (n + input_context_bytes h.context_size) && nat_lt n (a + 4)) ≡ false = no_range (Range (input_context_bytes h.context_size) n (InputContext p)) (context_leased h k p n c u named) in
+      false≢true (sym none ∙ and_from _ _ (lt-ltb a (n + input_context_bytes h.context_size) (omega arith)) (lt-ltb n (a + 4) (omega arith)))
+
+  segments_free : list_any (covers h a 4) (segment_ranges h) ≡ false
+  unfolding is_leased open_leases open_ranges
+  segments_free =
+      let ranges = (none_of_both (covers h a 4) (flat_map (open_on h k) (driver_rings h)) (open_ranges h k) free).1 in
+      let four = (none_of_both (covers h a 4) (segment_ranges h ++ table_range h (k.register Erstba) ++ context_ranges h k ++ entry_ranges k) (device_ranges h k) ranges).0 in
+      let three = (none_of_both (covers h a 4) (segment_ranges h ++ table_range h (k.register Erstba) ++ context_ranges h k) (entry_ranges k) four).0 in
+      let two = (none_of_both (covers h a 4) (segment_ranges h ++ table_range h (k.register Erstba)) (context_ranges h k) three).0 in
+      (none_of_both (covers h a 4) (segment_ranges h) (table_range h (k.register Erstba)) two).0
+
+  not_event : touches_events h a ≡ false
+  unfolding segment_ranges covers lease_start lease_bytes
+  not_event = sym (any_of_map (covers h a 4) _ (event_shape h).segments) ∙ segments_free
+
+  event_apart : (e : EventRing h) (p j : ℕ) → j < 16 → address_of (event_shape h) p + j ≢ a
+  event_apart e p j low same =
+      byte_apart (event_shape h) a 4 a not_event (ap (λ b. is_inside (event_shape h) b) (sym same) ∙ address_inside (event_shape h) e.is p j low) (omega arith) (omega arith)
+
+  event_stays : (e : EventRing h) (p : ℕ) → event_at h v p ≡ event_at h w p
+  unfolding event_at v
+  event_stays e p =
+      let at : ℕ = address_of (event_shape h) p in
+      same_block_at (stored w a x).memory w.memory at
+      (memory_stored w a x at (λ same. event_apart e p 0 (omega arith) (add-zero at ∙ same)))
+      (memory_stored w a x (at + 4) (event_apart e p 4 (omega arith)))
+      (memory_stored w a x (at + 8) (event_apart e p 8 (omega arith)))
+      (memory_stored w a x (at + 12) (event_apart e p 12 (omega arith)))
+
+  some_posted : (i : ℕ) (f : Block) → slice_get unread i ≡ Some f → 0 < w.posted
+  some_posted i f at = let within = slice_get_within unread i f at in omega (arith, g.events.count)
+
+  events : EventsStand h v unread
+  unfolding v of_world.stored
+  events =
+      let e = g.events in
+      record {
+        order = e.order;
+        count = e.count;
+        places = λ i f at. event_stays (event_ring_is h is (e.ring (some_posted i f at))) (w.reads + i) ∙ e.places i f at;
+        started = e.started;
+        ring = e.ring;
+      }
+
+  -- ---- what is known
+
+  goes_on : KnownGoesOn h k m
+  unfolding m
+  goes_on =
+      let l : WriteLeaves k m = write_leaves h k a x in
+      record {
+        started = l.registers.started;
+        slot_state = l.slots.slot_state;
+        endpoint_state = l.endpoint_state;
+        ring_of = l.slots.ring_of;
+        was_bound = l.slots.was_bound;
+        stop_seen = l.slots.stop_seen;
+        device = written_device h k a x;
+        rings = λ r. subst (λ y. RingGoesOn (shape_of h r) (k.ring r) y) (sym (written_rings h k a x r)) (writes_goes_on (shape_of h r) (k.ring r) a x);
+      }
+
+  controller : SameController w v
+  unfolding v of_world.stored
+  controller = record { slot_state = refl; endpoint_state = refl; ring_of = refl; scribbles = refl; under_way = refl; inside = refl; states = λ q. refl }
+
+  queue_same : (r : ℕ) → (m.ring r).queue ≡ (k.ring r).queue
+  unfolding m
+  queue_same r = ap (λ y. y.queue) (written_rings h k a x r)
+
+  lengths_same : (r : ℕ) → (m.ring r).lengths ≡ (k.ring r).lengths
+  unfolding m
+  lengths_same r = ap (λ y. y.lengths) (written_rings h k a x r)
+
+  -- a command that is unfinished then was so before, or is given by this write
+  was_or_now : (p : ℕ) (c : Command) → IsUnfinished h m p c → IsUnfinished h k p c ⊎ (a ≡ address_of (shape_of h (command_id h)) p + 12)
+  unfolding command_at m
+  was_or_now p c u =
+      let r : ℕ = command_id h in
+      let ring = written_rings h k a x r in
+      let due : is_due (shape_of h r) (k.ring r).floor p ≡ true = sym (ap (λ y. is_due (shape_of h r) y.floor p) ring) ∙ u.due in
+      let given : ((k.ring r).given p || gives (shape_of h r) (k.ring r).floor p a x) ≡ true = sym (ap (λ y. y.given p) ring) ∙ u.given in
+      elim (or_cases ((k.ring r).given p) (gives (shape_of h r) (k.ring r).floor p a x) given) [
+        | inl was ↦ inl (record { due = due; given = was; command = ap (λ q. option_and_then command_of (slice_get q p)) (sym (queue_same r)) ∙ u.command })
+        | inr now ↦ inr (gives_is (shape_of h r) (k.ring r).floor p a x now).at
+      ]
+
+  -- what is given now was changed before now
+  given_now : (at : ℕ) (o : Option ℕ) → a ≡ at + 12 → IsUnchanged h v at o
+  unfolding v of_world.stored
+  given_now at None same = tt
+  given_now at (Some n) same = λ i low.
+      let late_now = late_stored h w a x late (n + 4 * i) in
+      let here : put w.written a (w.steps + 1) (at + 12) ≡ w.steps + 1 = ap (λ b. put w.written a (w.steps + 1) b) (sym same) ∙ put_here w.written a (w.steps + 1) in
+      omega arith
+
+  contexts : (p : ℕ) (c : Command) → IsUnfinished h m p c → IsUnchanged h v (address_of (shape_of h (command_id h)) p) (named_context c)
+  unfolding v
+  contexts p c u =
+      elim (was_or_now p c u) [
+        | inl was ↦
+            unchanged_stored h w a x (address_of (shape_of h (command_id h)) p) (named_context c) late (λ n i named low. in_no_context p n i c was named low) (g.matches.contexts p c was)
+        | inr now ↦ given_now (address_of (shape_of h (command_id h)) p) (named_context c) now
+      ]
+
+  matches : Matches h m v
+  matches =
+      matches_go_on h k m w v goes_on controller (λ r n. newest_same (k.ring r) (m.ring r) (queue_same r) (lengths_same r) n (w.events r))
+      (λ u at. ap (λ q. slice_get q (next_command h k)) (queue_same (command_id h))) contexts g.matches
+
+  quiet : (b : ℕ) → m.soiled b ≡ false → touches_events h b ≡ false → v.memory b ≡ m.memory b
+  unfolding m v of_world.stored
+  quiet b none apart =
+      elim (cases_eq b a) [
+        | inl same ↦ ap (λ c. put w.memory a x c) same ∙ put_here w.memory a x ∙ sym (ap (λ c. put k.memory a x c) same ∙ put_here k.memory a x) ∙ sym (written_memory h k a x b)
+        | inr other ↦
+            put_elsewhere w.memory a x b other ∙ g.stands.quiet b (written_soiled h k a x b none other) apart ∙ sym (put_elsewhere k.memory a x b other) ∙ sym (written_memory h k a x b)
+      ]
+
+  stands : Stands h m v
+  unfolding m v of_world.stored
+  stands =
+      let s = g.stands in
+      let l : WriteLeaves k m = write_leaves h k a x in
+      record {
+        started = s.started ∙ sym l.registers.started;
+        stopped = s.stopped ∙ sym l.registers.stopped;
+        registers = λ q. s.registers q ∙ ap (λ f. f q) (sym l.registers.register);
+        queues = λ r. s.queues r ∙ sym (queue_same r);
+        lengths = λ r. s.lengths r ∙ sym (lengths_same r);
+        dequeue = s.dequeue ∙ sym l.registers.dequeue;
+        quiet = quiet;
+      }
+
+  read : v.posted ≡ m.reads
+  unfolding m v of_world.stored
+  read = let l : WriteLeaves k m = write_leaves h k a x in g.read ∙ sym l.registers.reads
+
+  pub writes_agree : Agrees h (learned h k (Write a x)) unread (counted h (stored w a x))
+  unfolding m v
+  writes_agree = agrees_counted h m unread v stands events matches read (late_stored h w a x late)

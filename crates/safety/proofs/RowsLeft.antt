@@ -1,0 +1,265 @@
+-- The rows still to come are those that no row was made of: no step of the controller touches them, and a row takes the first
+use Rattle.std.specs.Prelude.{◌≡◌, ℕ, ◌+◌, ◌==◌, ◌&&◌, if◌then◌else◌, Bool, true, false, not, List, [], ◌∷◌, Option, Some, None, option_map, option_and_then, is_some, position, ◌||◌, ◌-◌, length, nat_lt}
+use Rattle.std.specs.List.{list_any, range_with_len}
+use Rattle.std.proofs.Common.{refl, sym, ◌∙◌, ap}
+use Rattle.std.proofs.lemmas.Option.{none-some, same_Some}
+use Rattle.trb.specs.declared.block.Block.{Block}
+use Rattle.trb.specs.Bits.{is_set}
+use Rattle.trb.specs.Block.{block_at, code, cycle, endpoint, kind, pointer, same_words, slot, word}
+use Rattle.trb.specs.CompletionCode.{is_success, is_halting, is_trb_error, is_stopping}
+use Rattle.trb.specs.Kind.{is_command_completion, is_link, is_other_event, is_transfer_event}
+use Rattle.guest_memory.specs.Memory.{put, put_pair}
+use Rattle.commands.specs.declared.command.Command.{Command}
+use Rattle.commands.specs.declared.state.EndpointState.{EndpointState}
+use Rattle.commands.specs.declared.state.EndpointState.TheVariants.{Running, Stopped, Halted, Error}
+use Rattle.commands.specs.Command.{command_of, may_answer_slot, named_context}
+use Rattle.commands.specs.States.{can_succeed, is_running, is_stopped}
+use Rattle.commands.specs.Changes.{Change, SlotGoesOn, DeviceLeft, Disables, Places, Stops, Resets, changes, slot_gone_on}
+use Rattle.event_ring.specs.EventRing.{position_from, erdp_address, is_event_place}
+use Rattle.traces.specs.declared.header.Header.{Header}
+use Rattle.traces.specs.declared.row.Row.{Row}
+use Rattle.traces.specs.declared.row.Row.TheVariants.{Sub, Write, Reg, Bell, Read}
+use Rattle.traces.specs.declared.register.Register.{Register}
+use Rattle.traces.specs.declared.register.Register.TheVariants.{Usbcmd, Usbsts, Dnctrl, Crcr, Dcbaap, Config, Iman, Imod, Erstsz, Erstba, Erdp}
+use Rattle.traces.specs.Header.{command_id, event_shape, ring_having}
+use Rattle.traces.specs.Register.{register_or_zero, run_bit, reset_bit}
+use Rattle.world_state.specs.World.{World, UnderWay, event_at}
+use Rattle.world_state.specs.World as of_world
+use Rattle.world_state.specs.Takes.{unreported}
+use Rattle.controller_model.specs.DriverRows as driver
+use Rattle.controller_model.specs.Looks as looks
+use Rattle.controller_model.specs.Posts as posts
+use Rattle.controller_model.specs.Finishes as finishes
+use Rattle.controller_model.specs.Bindings as bindings
+use Rattle.controller_model.specs.Steps as steps
+
+-- the world that a step leads to, if it leads to one, has the rows of w still to come
+pub record RowsLeft (w : World) (o : Option World) : Type 0 where
+  pub left : (v : World) → o ≡ Some v → v.rows ≡ w.rows
+
+-- .. and one world has those of another
+record SameRows (w v : World) : Type 0 where
+  same : v.rows ≡ w.rows
+
+nowhere : (w : World) → RowsLeft w None
+nowhere w = record { left = λ v at. absurd (none-some v at) }
+
+to : (w v : World) → v.rows ≡ w.rows → RowsLeft w (Some v)
+to w v same = record { left = λ u at. ap (λ x. x.rows) (sym (same_Some v u at)) ∙ same }
+
+either : (w : World) (b : Bool) (x y : Option World) → RowsLeft w x → RowsLeft w y → RowsLeft w (if b then x else y)
+either w true x y p q = p
+either w false x y p q = q
+
+one_of : (w : World) (b : Bool) (u v : World) → SameRows w u → SameRows w v → SameRows w (if b then u else v)
+one_of w true u v p q = p
+one_of w false u v p q = q
+
+kept : (w v : World) → v.rows ≡ w.rows → SameRows w v
+kept w v same = record { same = same }
+
+behind : (w : World) (f : World → Option World) (o : Option World) → RowsLeft w o → ((v : World) → v.rows ≡ w.rows → RowsLeft w (f v)) → RowsLeft w (option_and_then f o)
+behind w f None left next = nowhere w
+behind w f (Some v) left next = next v (left.left v refl)
+
+over : {A : Type 0} (w : World) (f : A → World) (o : Option A) → ((x : A) → (f x).rows ≡ w.rows) → RowsLeft w (option_map f o)
+over w f None next = nowhere w
+over w f (Some x) next = to w (f x) (next x)
+
+after : (w : World) (f : World → World) (o : Option World) → RowsLeft w o → ((v : World) → (f v).rows ≡ v.rows) → RowsLeft w (option_map f o)
+after w f None left next = nowhere w
+after w f (Some v) left next = to w (f v) (next v ∙ left.left v refl)
+
+from_start : (u w : World) (o : Option World) → u.rows ≡ w.rows → RowsLeft u o → RowsLeft w o
+from_start u w o same left = record { left = λ v at. left.left v at ∙ same }
+
+-- by a test, to one world or another, or nowhere
+to_if : (w : World) (b : Bool) (u : World) (o : Option World) → u.rows ≡ w.rows → RowsLeft w o → RowsLeft w (if b then Some u else o)
+to_if w b u o same left = either w b (Some u) o (to w u same) left
+
+only_if : (w : World) (b : Bool) (o : Option World) → RowsLeft w o → RowsLeft w (if b then o else None)
+only_if w b o left = either w b o None left (nowhere w)
+
+module _ (h : Header) where
+  taken_left : (w : World) (r : ℕ) (b : Block) → (looks.taken h w r b).rows ≡ w.rows
+  unfolding looks.taken looks.taken_on looks.command_begun
+  taken_left w r b =
+      (one_of w (r == command_id h) (looks.command_begun h (looks.taken_on h w r b) (w.pointer_of r) b) (looks.taken_on h w r b)
+      (kept w (looks.command_begun h (looks.taken_on h w r b) (w.pointer_of r) b) refl) (kept w (looks.taken_on h w r b) refl)).same
+
+  looked_at_left : (w : World) (r : ℕ) (b : Block) → RowsLeft w (looks.looked_at h w r b)
+  unfolding looks.looked_at looks.seen_by_look looks.crossed
+  looked_at_left w r b =
+      let seen : World = looks.seen_by_look h w r in
+      to_if w (not (cycle b == w.cycle_state r)) seen
+      (if is_link (kind b) then Some (looks.crossed h seen r b) else if r == command_id h && is_some w.under_way then None else Some (looks.taken h seen r b)) refl
+      (to_if w (is_link (kind b)) (looks.crossed h seen r b) (if r == command_id h && is_some w.under_way then None else Some (looks.taken h seen r b)) refl
+      (either w (r == command_id h && is_some w.under_way) None (Some (looks.taken h seen r b)) (nowhere w) (to w (looks.taken h seen r b) (taken_left seen r b))))
+
+  pub looked_left : (w : World) (r : ℕ) → RowsLeft w (looks.looked h w r)
+  unfolding looks.looked
+  looked_left w r = only_if w (w.is_active r) (looks.looked_at h w r (block_at w.memory (w.pointer_of r))) (looked_at_left w r (block_at w.memory (w.pointer_of r)))
+
+  posted_left : (w : World) (b : Block) → (posts.posted h w b).rows ≡ w.rows
+  unfolding posts.posted of_world.stored of_world.stored_block
+  posted_left w b = refl
+
+  pub other_left : (w : World) (b : Block) → RowsLeft w (posts.other_posted h w b)
+  unfolding posts.other_posted
+  other_left w b = only_if w (posts.can_post h w b && is_other_event (kind b)) (Some (posts.posted h w b)) (to w (posts.posted h w b) (posted_left w b))
+
+  success_left : (w : World) (r a : ℕ) → RowsLeft w (posts.report_success h w r a)
+  unfolding posts.report_success posts.with_reported
+  success_left w r a = over w (λ n. posts.with_reported h w r (w.reported r + n + 1)) (position (λ b. b == a) (unreported w r)) (λ n. refl)
+
+  error_left : (w : World) (s i r a : ℕ) (state : EndpointState) → RowsLeft w (posts.report_error h w s i r a state)
+  unfolding posts.report_error posts.with_reported
+  error_left w s i r a state =
+      let v : World = record (posts.with_reported h w r (w.reported r + length (unreported w r))) {
+        is_active = put w.is_active r false;
+        endpoint_state = put_pair w.endpoint_state s i state;
+      } in
+      only_if w (is_running (w.endpoint_state s i) && w.is_active r && posts.is_last h a (unreported w r)) (Some v) (to w v refl)
+
+  stop_left : (w : World) (s i r a : ℕ) → RowsLeft w (posts.report_stop h w s i r a)
+  unfolding posts.report_stop posts.stopped_with posts.with_reported
+  stop_left w s i r a =
+      let one : World = posts.stopped_with h w r (w.reported r + length (unreported w r) - 1) in
+      let two : World = posts.stopped_with h w r (w.reported r + length (unreported w r)) in
+      either w (not (posts.is_stop_under_way h s i w.under_way && is_running (w.endpoint_state s i) && w.is_active r)) None
+      (if posts.is_last h a (unreported w r) then Some one else if a == w.pointer_of r then Some two else None) (nowhere w)
+      (to_if w (posts.is_last h a (unreported w r)) one (if a == w.pointer_of r then Some two else None) refl (only_if w (a == w.pointer_of r) (Some two) (to w two refl)))
+
+  report_left : (w : World) (c s i r a : ℕ) → RowsLeft w (posts.report_code h w c s i r a)
+  unfolding posts.report_code
+  report_left w c s i r a =
+      let stop : Option World = if is_stopping c then posts.report_stop h w s i r a else None in
+      let error : Option World = if is_trb_error c then posts.report_error h w s i r a Error else stop in
+      let halt : Option World = if is_halting c then posts.report_error h w s i r a Halted else error in
+      either w (is_success c) (posts.report_success h w r a) halt (success_left w r a)
+      (either w (is_halting c) (posts.report_error h w s i r a Halted) error (error_left w s i r a Halted)
+      (either w (is_trb_error c) (posts.report_error h w s i r a Error) stop (error_left w s i r a Error)
+      (only_if w (is_stopping c) (posts.report_stop h w s i r a) (stop_left w s i r a))))
+
+  reported_on_left : (w : World) (b : Block) (o : Option ℕ) → RowsLeft w (posts.reported_on h w b o)
+  unfolding posts.reported_on
+  reported_on_left w b None = nowhere w
+  reported_on_left w b (Some r) =
+      from_start (posts.posted h w b) w (posts.report_code h (posts.posted h w b) (code b) (slot b) (endpoint b) r (pointer b)) (posted_left w b)
+      (report_left (posts.posted h w b) (code b) (slot b) (endpoint b) r (pointer b))
+
+  pub reported_left : (w : World) (b : Block) → RowsLeft w (posts.reported h w b)
+  unfolding posts.reported
+  reported_left w b =
+      only_if w (posts.can_post h w b && is_transfer_event (kind b) && not (is_set (word b 3) 2)) (posts.reported_on h w b (w.ring_of (slot b) (endpoint b)))
+      (reported_on_left w b (w.ring_of (slot b) (endpoint b)))
+
+  inactive_left : (w : World) (o : Option ℕ) → (bindings.inactive w o).rows ≡ w.rows
+  unfolding bindings.inactive
+  inactive_left w None = refl
+  inactive_left w (Some r) = refl
+
+  placed_left : (w : World) (s i a : ℕ) (cycle : Bool) (state : EndpointState) (o : Option ℕ) → RowsLeft w (bindings.placed_on w s i a cycle state o)
+  unfolding bindings.placed_on bindings.placed
+  placed_left w s i a cycle state None = nowhere w
+  placed_left w s i a cycle state (Some r) =
+      either w (bindings.is_had_by_another w s i r) None (Some (bindings.placed w s i r a cycle state)) (nowhere w)
+      (to w (bindings.placed w s i r a cycle state) (inactive_left (bindings.inactive w (w.ring_of s i)) (Some r) ∙ inactive_left w (w.ring_of s i)))
+
+  changed_left : (c : Command) (w : World) (change : Change) → RowsLeft w (bindings.changed_by h c w change)
+  unfolding bindings.changed_by bindings.disabled bindings.in_state
+  changed_left c w (SlotGoesOn s) = to w (record w { slot_state = slot_gone_on c w.slot_state s }) refl
+  changed_left c w (DeviceLeft s) = to w (record w { scribbles = put w.scribbles s false }) refl
+  changed_left c w (Disables s which) = to w (bindings.disabled w s which) refl
+  changed_left c w (Places s i p cycle state) = placed_left w s i p cycle state (ring_having h p)
+  changed_left c w (Stops s i) =
+      to w (bindings.inactive (bindings.in_state w s i Stopped) (w.ring_of s i)) (inactive_left (bindings.in_state w s i Stopped) (w.ring_of s i))
+  changed_left c w (Resets s i) = to w (bindings.in_state w s i Stopped) refl
+
+  all_left : (c : Command) (l : List Change) (w : World) → RowsLeft w (bindings.changed_by_all h c w l)
+  unfolding bindings.changed_by_all
+  all_left c [] w = to w w refl
+  all_left c (change ∷ rest) w =
+      behind w (λ v. bindings.changed_by_all h c v rest) (bindings.changed_by h c w change) (changed_left c w change)
+      (λ v same. from_start v w (bindings.changed_by_all h c v rest) same (all_left c rest v))
+
+  succeeded_left : (w : World) (n : ℕ) (o : Option Command) → RowsLeft w (finishes.succeeded h w n o)
+  unfolding finishes.succeeded bindings.effect
+  succeeded_left w n None = nowhere w
+  succeeded_left w n (Some c) =
+      either w (finishes.passes_end h (named_context c) || not (can_succeed w.slot_state w.endpoint_state (register_or_zero w.register Config) n c)) None
+      (bindings.changed_by_all h c w (changes h.context_size w.memory n c)) (nowhere w) (all_left c (changes h.context_size w.memory n c) w)
+
+  finished_as_left : (w : World) (b : Block) (o : Option UnderWay) → RowsLeft w (finishes.finished_as h w b o)
+  unfolding finishes.finished_as finishes.ended_with finishes.ended
+  finished_as_left w b None = nowhere w
+  finished_as_left w b (Some u) =
+      let did : Option World = option_map (λ v. finishes.ended h v b) (finishes.succeeded h w (slot b) (command_of u.block)) in
+      let failed : Option World = if u.has_stopped then None else Some (finishes.ended h w b) in
+      only_if w (pointer b == u.address && may_answer_slot (command_of u.block) (slot b)) (finishes.ended_with h w b u)
+      (either w (code b == 1) did failed
+      (after w (λ v. finishes.ended h v b) (finishes.succeeded h w (slot b) (command_of u.block)) (succeeded_left w (slot b) (command_of u.block)) (λ v. posted_left v b))
+      (either w u.has_stopped None (Some (finishes.ended h w b)) (nowhere w) (to w (finishes.ended h w b) (posted_left w b))))
+
+  pub finished_left : (w : World) (b : Block) → RowsLeft w (finishes.finished h w b)
+  unfolding finishes.finished
+  finished_left w b =
+      only_if w (posts.can_post h w b && is_command_completion (kind b) && not (code b == 0)) (finishes.finished_as h w b w.under_way) (finished_as_left w b w.under_way)
+
+  pub scribbled_left : (w : World) (a x : ℕ) → RowsLeft w (steps.scribbled h w a x)
+  unfolding steps.scribbled of_world.stored
+  scribbled_left w a x = only_if w (list_any (steps.is_scribbled h w a) (range_with_len 0 256)) (Some (of_world.stored w a x)) (to w (of_world.stored w a x) refl)
+
+  -- ---- a row
+
+  run_left : (w : World) (v : ℕ) → (driver.run_or_stop h w v).rows ≡ w.rows
+  unfolding driver.run_or_stop driver.started_with
+  run_left w v =
+      let begun : World = driver.started_with h w in
+      let ended : World = record w { stopped = true } in
+      let first : World = if run_bit v && not (reset_bit v) then begun else w in
+      let later : World = if not (run_bit v) || reset_bit v then ended else w in
+      (one_of w (not w.started) first later (one_of w (run_bit v && not (reset_bit v)) begun w (kept w begun refl) (kept w w refl))
+      (one_of w (not (run_bit v) || reset_bit v) ended w (kept w ended refl) (kept w w refl))).same
+
+  register_left : (w : World) (r : Register) (v : ℕ) → (driver.register_row h w r v).rows ≡ w.rows
+  unfolding driver.register_row driver.with_dequeue driver.valued
+  register_left w Usbcmd v = run_left (driver.valued w Usbcmd v) v
+  register_left w Erdp v =
+      let u : World = driver.valued w Erdp v in
+      let moved : World = record u { dequeue = position_from (event_shape h) u.dequeue (erdp_address v) } in
+      (one_of w (is_event_place (event_shape h) (erdp_address v)) moved u (kept w moved refl) (kept w u refl)).same
+  register_left w Usbsts v = refl
+  register_left w Dnctrl v = refl
+  register_left w Crcr v = refl
+  register_left w Dcbaap v = refl
+  register_left w Config v = refl
+  register_left w Iman v = refl
+  register_left w Imod v = refl
+  register_left w Erstsz v = refl
+  register_left w Erstba v = refl
+
+  bell_on_left : (w : World) (s t : ℕ) (o : Option ℕ) → (driver.endpoint_bell h w s t o).rows ≡ w.rows
+  unfolding driver.endpoint_bell driver.activated
+  bell_on_left w s t None = refl
+  bell_on_left w s t (Some r) =
+      let on : World = record (driver.activated h w r) { endpoint_state = put_pair w.endpoint_state s t Running } in
+      (one_of w (is_running (w.endpoint_state s t) || is_stopped (w.endpoint_state s t)) on w (kept w on refl) (kept w w refl)).same
+
+  bell_left : (w : World) (s t : ℕ) → (driver.bell_row h w s t).rows ≡ w.rows
+  unfolding driver.bell_row driver.activated
+  bell_left w s t =
+      let on : World = driver.activated h w (command_id h) in
+      let first : World = if t == 0 && w.started then on else w in
+      (one_of w (s == 0) first (driver.endpoint_bell h w s t (w.ring_of s t)) (one_of w (t == 0 && w.started) on w (kept w on refl) (kept w w refl))
+      (kept w (driver.endpoint_bell h w s t (w.ring_of s t)) (bell_on_left w s t (w.ring_of s t)))).same
+
+  pub row_left : (w : World) (row : Row) → RowsLeft w (driver.row_done h w row)
+  unfolding driver.row_done driver.declared of_world.stored driver.event_read
+  row_left w (Sub r blocks) = to w (driver.declared h w r blocks) refl
+  row_left w (Write a x) = to w (of_world.stored w a x) refl
+  row_left w (Reg r v) = to w (driver.register_row h w r v) (register_left w r v)
+  row_left w (Bell s t) = to w (driver.bell_row h w s t) (bell_left w s t)
+  row_left w (Read e) =
+      let read : World = record w { reads = w.reads + 1 } in
+      only_if w (nat_lt w.reads w.posted && same_words (event_at h w w.reads) e) (Some read) (to w read refl)

@@ -1,0 +1,251 @@
+-- What events leave as it is: registers, memory, and what is declared and given of each ring
+use Rattle.std.specs.Prelude.{◌≡◌, ◌≢◌, ℕ, ◌+◌, ◌==◌, if◌then◌else◌, Bool, true, List, [], ◌∷◌, Option, None, Some}
+use Rattle.std.proofs.Common.{refl, sym, ◌∙◌, ap, subst, inl, inr}
+use Rattle.std.proofs.lemmas.Bool.{cases_eq, cond_both}
+use Rattle.guest_memory.specs.Memory.{put_pair}
+use Rattle.trb.specs.declared.block.Block.{Block}
+use Rattle.trb.specs.declared.kind.BlockKind.{BlockKind}
+use Rattle.trb.specs.declared.kind.BlockKind.TheVariants.{TransferEvent, CommandCompletion}
+use Rattle.trb.specs.Block.{code, slot, endpoint}
+use Rattle.trb.specs.CompletionCode.{is_success, is_halting, is_trb_error, is_stopping}
+use Rattle.segments.specs.declared.spot.Spot.{Spot}
+use Rattle.segments.specs.declared.spot.Spot.TheVariants.{Data}
+use Rattle.segments.specs.Spots.{number, after}
+use Rattle.segments.specs.RingView.{RingView, RingChange, Reaches, Opens, Holds, changed}
+use Rattle.segments.specs.Ceiling.{ceiling, stopped_number}
+use Rattle.segments.specs.Moves.{target}
+use Rattle.commands.specs.declared.command.Command.{Command}
+use Rattle.commands.specs.declared.command.Command.TheVariants.{StopEndpoint}
+use Rattle.commands.specs.declared.state.EndpointState.{EndpointState}
+use Rattle.commands.specs.declared.state.EndpointState.TheVariants.{Halted, Error, Stopped}
+use Rattle.commands.specs.States.{is_off}
+use Rattle.commands.specs.Changes.{Change, SlotGoesOn, DeviceLeft, Disables, Places, Stops, Resets, changes}
+use Rattle.traces.specs.declared.header.Header.{Header}
+use Rattle.traces.specs.Header.{shape_of, command_id, ring_beginning_at}
+use Rattle.ring_knowledge.specs.Known.{Known}
+use Rattle.ring_knowledge.specs.Rings.{RingSpot, on_ring, event_at, command_at, next_command}
+use Rattle.ring_knowledge.specs.Transfers.{passed, broken_off, stopped_at, transferred, transferred_at, transfer_read}
+use Rattle.ring_knowledge.specs.Completions.{set_to, bound_to, moved_to, moved, pointed, disabled, in_state, held_at_ceiling, changed_by, changed_by_all, succeeded, stop_ended, finished, completed}
+use Rattle.ring_knowledge.specs.Learned.{event_read}
+use Rattle.safety.proofs.DriverRows.{ring_here, ring_elsewhere}
+
+-- what is declared and given of a ring
+pub record SameGiven (v w : RingView) : Type 0 where
+  pub queue : w.queue ≡ v.queue
+  pub lengths : w.lengths ≡ v.lengths
+  pub given : w.given ≡ v.given
+  pub crossed : w.crossed ≡ v.crossed
+
+pub record SameDriver (k l : Known) : Type 0 where
+  pub started : l.started ≡ k.started
+  pub stopped : l.stopped ≡ k.stopped
+  pub register : l.register ≡ k.register
+  pub memory : l.memory ≡ k.memory
+  pub soiled : l.soiled ≡ k.soiled
+  pub reads : l.reads ≡ k.reads
+  pub dequeue : l.dequeue ≡ k.dequeue
+  pub rings : (r : ℕ) → SameGiven (k.ring r) (l.ring r)
+
+same_given : (v : RingView) → SameGiven v v
+same_given v = record { queue = refl; lengths = refl; given = refl; crossed = refl }
+
+both_given : (u v w : RingView) → SameGiven u v → SameGiven v w → SameGiven u w
+both_given u v w a b = record { queue = b.queue ∙ a.queue; lengths = b.lengths ∙ a.lengths; given = b.given ∙ a.given; crossed = b.crossed ∙ a.crossed }
+
+pub same_driver : (k : Known) → SameDriver k k
+same_driver k =
+    record { started = refl; stopped = refl; register = refl; memory = refl; soiled = refl; reads = refl; dequeue = refl; rings = λ r. same_given (k.ring r) }
+
+pub both_drivers : (k l m : Known) → SameDriver k l → SameDriver l m → SameDriver k m
+both_drivers k l m a b = record {
+  started = b.started ∙ a.started;
+  stopped = b.stopped ∙ a.stopped;
+  register = b.register ∙ a.register;
+  memory = b.memory ∙ a.memory;
+  soiled = b.soiled ∙ a.soiled;
+  reads = b.reads ∙ a.reads;
+  dequeue = b.dequeue ∙ a.dequeue;
+  rings = λ r. both_given (k.ring r) (l.ring r) (m.ring r) (a.rings r) (b.rings r);
+}
+
+-- where all these are as they were, other fields may differ
+abbrev same_rest : (k l : Known) → k.ring ≡ l.ring → (r : ℕ) → SameGiven (k.ring r) (l.ring r)
+same_rest k l rings r = subst (λ (f : ℕ → RingView). SameGiven (k.ring r) (f r)) rings (same_given (k.ring r))
+
+-- the pointer of a ring, or where it is held
+abbrev pub IsPointerChange : RingChange → Type 0
+IsPointerChange (Reaches t) = Unit {0}
+IsPointerChange Opens = Unit {0}
+IsPointerChange (Holds n) = Unit {0}
+IsPointerChange _ = ⊥
+
+module _ (h : Header) where
+  -- what holds of the view of a ring behind something that happens on some ring
+  pub view_after : (P : RingView → Type 0) (k : Known) (r : ℕ) (change : RingChange) (q : ℕ) → (q ≡ r → P (changed (shape_of h r) (k.ring r) change)) → (q ≢ r → P (k.ring q)) →
+      P ((on_ring h k r change).ring q)
+  view_after P k r change q here there =
+      elim (cases_eq q r) [
+        | inl same ↦ subst P (sym (ap (λ n. (on_ring h k r change).ring n) same ∙ ring_here h k r change)) (here same)
+        | inr other ↦ subst P (sym (ring_elsewhere h k r q change other)) (there other)
+      ]
+
+  pointer_same : (r : ℕ) (v : RingView) (change : RingChange) → IsPointerChange change → SameGiven v (changed (shape_of h r) v change)
+  pointer_same r v (Reaches t) is = record { queue = refl; lengths = refl; given = refl; crossed = refl }
+  pointer_same r v Opens is = record { queue = refl; lengths = refl; given = refl; crossed = refl }
+  pointer_same r v (Holds n) is = record { queue = refl; lengths = refl; given = refl; crossed = refl }
+  pointer_same r v _ is = absurd is
+
+  on_rings : (k : Known) (r : ℕ) (change : RingChange) → IsPointerChange change → (q : ℕ) → SameGiven (k.ring q) ((on_ring h k r change).ring q)
+  on_rings k r change is q =
+      view_after (SameGiven (k.ring q)) k r change q
+      (λ same. subst (λ n. SameGiven (k.ring n) (changed (shape_of h r) (k.ring r) change)) (sym same) (pointer_same r (k.ring r) change is)) (λ other. same_given (k.ring q))
+
+  pub on_ring_same : (k : Known) (r : ℕ) (change : RingChange) → IsPointerChange change → SameDriver k (on_ring h k r change)
+  unfolding on_ring
+  on_ring_same k r change is =
+      record { started = refl; stopped = refl; register = refl; memory = refl; soiled = refl; reads = refl; dequeue = refl; rings = on_rings k r change is }
+
+  -- ---- a Transfer Event
+
+  passed_same : (k : Known) (r : ℕ) (t : Spot) → SameDriver k (passed h k r t)
+  unfolding passed
+  passed_same k r t = on_ring_same k r (Reaches (after (shape_of h r) (number t))) tt
+
+  broken_same : (k : Known) (s i r : ℕ) (t : Spot) (state : EndpointState) → SameDriver k (broken_off h k s i r t state)
+  unfolding broken_off
+  broken_same k s i r t state =
+      let l : Known = passed h k r t in
+      let m : Known = on_ring h l r (Holds (number t + 1)) in
+      let same : SameDriver k m = both_drivers k l m (passed_same k r t) (on_ring_same l r (Holds (number t + 1)) tt) in
+      both_drivers k m (broken_off h k s i r t state) same
+      (record { started = refl; stopped = refl; register = refl; memory = refl; soiled = refl; reads = refl; dequeue = refl; rings = λ q. same_given (m.ring q) })
+
+  stopped_same : (k : Known) (s i r : ℕ) (t : Spot) → SameDriver k (stopped_at h k s i r t)
+  unfolding stopped_at
+  stopped_same k s i r t =
+      let n : ℕ = stopped_number (shape_of h r) (k.ring r) t in
+      let l : Known = on_ring h k r (Holds n) in
+      let m : Known = on_ring h l r (Reaches t) in
+      both_drivers k m (stopped_at h k s i r t) (both_drivers k l m (on_ring_same k r (Holds n) tt) (on_ring_same l r (Reaches t) tt))
+      (record { started = refl; stopped = refl; register = refl; memory = refl; soiled = refl; reads = refl; dequeue = refl; rings = λ q. same_given (m.ring q) })
+
+  transferred_same : (k : Known) (c s i r : ℕ) (t : Spot) → SameDriver k (transferred h k c s i r t)
+  unfolding transferred
+  transferred_same k c s i r t =
+      let broken : Known = broken_off h k s i r t Halted in
+      let halts : Known = record broken { must_move = put_pair k.must_move s i true } in
+      let fails : Known = broken_off h k s i r t Error in
+      let stopped : Known = if is_stopping c then stopped_at h k s i r t else k in
+      cond_both (is_success c) (passed h k r t) (if is_halting c then halts else if is_trb_error c then fails else stopped) (SameDriver k)
+      (λ _. passed_same k r t)
+      (λ _. cond_both (is_halting c) halts (if is_trb_error c then fails else stopped) (SameDriver k)
+      (λ _. both_drivers k broken halts (broken_same k s i r t Halted)
+      (record { started = refl; stopped = refl; register = refl; memory = refl; soiled = refl; reads = refl; dequeue = refl; rings = λ q. same_given (broken.ring q) }))
+      (λ _. cond_both (is_trb_error c) fails stopped (SameDriver k)
+      (λ _. broken_same k s i r t Error)
+      (λ _. cond_both (is_stopping c) (stopped_at h k s i r t) k (SameDriver k) (λ _. stopped_same k s i r t) (λ _. same_driver k))))
+
+  at_same : (k : Known) (b : Block) (o : Option RingSpot) → SameDriver k (transferred_at h k b o)
+  unfolding transferred_at
+  at_same k b None = same_driver k
+  at_same k b (Some at) = transferred_same k (code b) (slot b) (endpoint b) at.ring at.spot
+
+  pub transfer_same : (k : Known) (b : Block) → SameDriver k (transfer_read h k b)
+  unfolding transfer_read
+  transfer_same k b = at_same k b (event_at h k b)
+
+  -- ---- a completion
+
+  set_same : (k : Known) (r : ℕ) (t : Spot) → SameDriver k (set_to h k r t)
+  unfolding set_to
+  set_same k r t =
+      let l : Known = on_ring h k r (Reaches t) in
+      both_drivers k l (on_ring h l r (Holds (number t))) (on_ring_same k r (Reaches t) tt) (on_ring_same l r (Holds (number t)) tt)
+
+  bound_same : (k : Known) (s i : ℕ) (o : Option ℕ) → SameDriver k (bound_to h k s i o)
+  unfolding bound_to
+  bound_same k s i None = same_driver k
+  bound_same k s i (Some r) =
+      let l : Known = set_to h k r (Data 0) in
+      both_drivers k l (bound_to h k s i (Some r)) (set_same k r (Data 0))
+      (record { started = refl; stopped = refl; register = refl; memory = refl; soiled = refl; reads = refl; dequeue = refl; rings = λ q. same_given (l.ring q) })
+
+  target_same : (k : Known) (r : ℕ) (o : Option Spot) → SameDriver k (moved_to h k r o)
+  unfolding moved_to
+  target_same k r None = same_driver k
+  target_same k r (Some t) = set_same k r t
+
+  moved_same : (k : Known) (o : Option ℕ) (p : ℕ) (cycle : Bool) → SameDriver k (moved h k o p cycle)
+  unfolding moved
+  moved_same k None p cycle = same_driver k
+  moved_same k (Some r) p cycle = target_same k r (target (shape_of h r) (k.ring r) p cycle)
+
+  pointed_same : (k : Known) (s i p : ℕ) (cycle : Bool) → SameDriver k (pointed h k s i p cycle)
+  unfolding pointed
+  pointed_same k s i p cycle =
+      cond_both (is_off (k.endpoint_state s i)) (bound_to h k s i (ring_beginning_at h p)) (moved h k (k.ring_of s i) p cycle) (SameDriver k)
+      (λ _. bound_same k s i (ring_beginning_at h p)) (λ _. moved_same k (k.ring_of s i) p cycle)
+
+  state_same : (k : Known) (s i : ℕ) (state : EndpointState) → SameDriver k (in_state h k s i state)
+  unfolding in_state
+  state_same k s i state =
+      record { started = refl; stopped = refl; register = refl; memory = refl; soiled = refl; reads = refl; dequeue = refl; rings = λ q. same_given (k.ring q) }
+
+  held_same : (k : Known) (o : Option ℕ) → SameDriver k (held_at_ceiling h k o)
+  unfolding held_at_ceiling
+  held_same k None = same_driver k
+  held_same k (Some r) = on_ring_same k r (Holds (ceiling (shape_of h r) (k.ring r))) tt
+
+  pub change_same : (c : Command) (k : Known) (change : Change) → SameDriver k (changed_by h c k change)
+  unfolding changed_by disabled in_state
+  change_same c k (SlotGoesOn s) =
+      record { started = refl; stopped = refl; register = refl; memory = refl; soiled = refl; reads = refl; dequeue = refl; rings = λ q. same_given (k.ring q) }
+  change_same c k (DeviceLeft s) =
+      record { started = refl; stopped = refl; register = refl; memory = refl; soiled = refl; reads = refl; dequeue = refl; rings = λ q. same_given (k.ring q) }
+  change_same c k (Disables s which) =
+      record { started = refl; stopped = refl; register = refl; memory = refl; soiled = refl; reads = refl; dequeue = refl; rings = λ q. same_given (k.ring q) }
+  change_same c k (Places s i p cycle state) =
+      let l : Known = pointed h k s i p cycle in
+      both_drivers k l (changed_by h c k (Places s i p cycle state)) (pointed_same k s i p cycle)
+      (record { started = refl; stopped = refl; register = refl; memory = refl; soiled = refl; reads = refl; dequeue = refl; rings = λ q. same_given (l.ring q) })
+  change_same c k (Stops s i) =
+      let l : Known = in_state h k s i Stopped in
+      both_drivers k l (held_at_ceiling h l (k.ring_of s i)) (state_same k s i Stopped) (held_same l (k.ring_of s i))
+  change_same c k (Resets s i) = state_same k s i Stopped
+
+  pub changes_same : (c : Command) (k : Known) (all : List Change) → SameDriver k (changed_by_all h c k all)
+  unfolding changed_by_all
+  changes_same c k [] = same_driver k
+  changes_same c k (change ∷ rest) =
+      let l : Known = changed_by h c k change in
+      both_drivers k l (changed_by_all h c l rest) (change_same c k change) (changes_same c l rest)
+
+  pub stop_same : (k : Known) (c : Command) → SameDriver k (stop_ended h k c)
+  unfolding stop_ended
+  stop_same k (StopEndpoint s i) =
+      record { started = refl; stopped = refl; register = refl; memory = refl; soiled = refl; reads = refl; dequeue = refl; rings = λ q. same_given (k.ring q) }
+  stop_same k _ = same_driver k
+
+  finish_same : (k : Known) (b : Block) (o : Option Command) → SameDriver k (finished h k b o)
+  unfolding finished succeeded
+  finish_same k b None = same_driver k
+  finish_same k b (Some c) =
+      let all : List Change = changes h.context_size k.memory (slot b) c in
+      let l : Known = if code b == 1 then changed_by_all h c k all else k in
+      both_drivers k l (stop_ended h l c)
+      (cond_both (code b == 1) (changed_by_all h c k all) k (SameDriver k) (λ _. changes_same c k all) (λ _. same_driver k)) (stop_same l c)
+
+  pub completion_same : (k : Known) (b : Block) → SameDriver k (completed h k b)
+  unfolding completed
+  completion_same k b =
+      let l : Known = finished h k b (command_at h k (next_command h k)) in
+      let t : Spot = after (shape_of h (command_id h)) (next_command h k) in
+      both_drivers k l (on_ring h l (command_id h) (Reaches t)) (finish_same k b (command_at h k (next_command h k))) (on_ring_same l (command_id h) (Reaches t) tt)
+
+  -- ---- any event
+
+  pub event_same : (k : Known) (n : BlockKind) (b : Block) → SameDriver k (event_read h k n b)
+  unfolding event_read
+  event_same k TransferEvent b = transfer_same k b
+  event_same k CommandCompletion b = completion_same k b
+  event_same k _ b = same_driver k

@@ -1,0 +1,92 @@
+-- The changes of a success that touch no ring: a slot's state goes on, its device context is left, an endpoint is reset
+use Rattle.std.specs.Prelude.{◌≡◌, ℕ, ◌==◌, ◌&&◌, if◌then◌else◌, false, Some, None, unwrap_or}
+use Rattle.std.proofs.Common.{refl, sym, ◌∙◌, ap, subst, inl, inr}
+use Rattle.std.proofs.lemmas.Bool.{cases_eq, false≢true}
+use Rattle.std.proofs.lemmas.Option.{same_Some}
+use Rattle.guest_memory.specs.Memory.{put, put_pair}
+use Rattle.commands.specs.declared.command.Command.{Command}
+use Rattle.commands.specs.declared.state.EndpointState.{EndpointState}
+use Rattle.commands.specs.declared.state.EndpointState.TheVariants.{Stopped}
+use Rattle.commands.specs.States.{slot_success}
+use Rattle.commands.specs.Changes.{SlotGoesOn, DeviceLeft, Resets, slot_gone_on}
+use Rattle.traces.specs.declared.header.Header.{Header}
+use Rattle.world_state.specs.World.{World}
+use Rattle.controller_model.specs.Bindings as bindings
+use Rattle.ring_knowledge.specs.Known.{Known}
+use Rattle.ring_knowledge.specs.Completions as completions
+use Rattle.safety.proofs.LookKinds.{put_at, put_off}
+use Rattle.safety.proofs.FinishChanges.{StatesMatch, ChangeKeeps}
+
+pub same_put : {A : Type 0} (f g : ℕ → A) (s : ℕ) (x y : A) → ((t : ℕ) → f t ≡ g t) → x ≡ y → (t : ℕ) → put f s x t ≡ put g s y t
+same_put f g s x y same at t = ap (λ z. if t == s then z else f t) at ∙ ap (λ z. if t == s then y else z) (same t)
+
+pub same_put_pair : {A : Type 0} (f g : ℕ → ℕ → A) (s i : ℕ) (x : A) → ((t j : ℕ) → f t j ≡ g t j) → (t j : ℕ) → put_pair f s i x t j ≡ put_pair g s i x t j
+same_put_pair f g s i x same t j = ap (λ z. if t == s && j == i then x else z) (same t j)
+
+module _ (h : Header) (c : Command) (k : Known) (w : World) (m : StatesMatch h k w) where
+  slot_made : (s : ℕ) → ChangeKeeps h k (completions.changed_by h c k (SlotGoesOn s)) w (let v : World = record w { slot_state = slot_gone_on c w.slot_state s } in v)
+  unfolding completions.changed_by
+  slot_made s = record {
+    states = record {
+      slots = same_put w.slot_state k.slot_state s _ _ m.slots (ap (λ x. unwrap_or (slot_success c x) x) (m.slots s));
+      endpoints = m.endpoints;
+      ring_of = m.ring_of;
+      rings = m.rings;
+      fresh = m.fresh;
+      scribbles = m.scribbles;
+      apart = m.apart;
+      one_endpoint = m.one_endpoint;
+      within = m.within;
+    };
+    rest = record { known = refl; world = refl; queues = λ r. refl; lengths = λ r. refl; command_known = refl; command_world = refl };
+  }
+
+  device_made : (s : ℕ) → ChangeKeeps h k (completions.changed_by h c k (DeviceLeft s)) w (let v : World = record w { scribbles = put w.scribbles s false } in v)
+  unfolding completions.changed_by
+  device_made s = record {
+    states = record {
+      slots = m.slots;
+      endpoints = m.endpoints;
+      ring_of = m.ring_of;
+      rings = m.rings;
+      fresh = m.fresh;
+      scribbles = λ t may none. elim (cases_eq t s) [
+        | inl same ↦ absurd (false≢true (sym (put_at w.scribbles s false) ∙ ap (λ x. put w.scribbles s false x) (sym same) ∙ may))
+        | inr other ↦ m.scribbles t (sym (put_off w.scribbles s false t other) ∙ may) (sym (put_off k.device s None t other) ∙ none)
+      ];
+      apart = m.apart;
+      one_endpoint = m.one_endpoint;
+      within = m.within;
+    };
+    rest = record { known = refl; world = refl; queues = λ r. refl; lengths = λ r. refl; command_known = refl; command_world = refl };
+  }
+
+  -- an endpoint is in a new state
+  pub state_made : (s i : ℕ) (state : EndpointState) → ChangeKeeps h k (completions.in_state h k s i state) w (bindings.in_state w s i state)
+  unfolding completions.in_state bindings.in_state
+  state_made s i state = record {
+    states = record {
+      slots = m.slots;
+      endpoints = same_put_pair w.endpoint_state k.endpoint_state s i state m.endpoints;
+      ring_of = m.ring_of;
+      rings = m.rings;
+      fresh = m.fresh;
+      scribbles = m.scribbles;
+      apart = m.apart;
+      one_endpoint = m.one_endpoint;
+      within = m.within;
+    };
+    rest = record { known = refl; world = refl; queues = λ r. refl; lengths = λ r. refl; command_known = refl; command_world = refl };
+  }
+
+  pub slot_keeps : (s : ℕ) (v : World) → bindings.changed_by h c w (SlotGoesOn s) ≡ Some v → ChangeKeeps h k (completions.changed_by h c k (SlotGoesOn s)) w v
+  unfolding bindings.changed_by
+  slot_keeps s v at = subst (λ x. ChangeKeeps h k (completions.changed_by h c k (SlotGoesOn s)) w x) (same_Some _ v at) (slot_made s)
+
+  pub device_keeps : (s : ℕ) (v : World) → bindings.changed_by h c w (DeviceLeft s) ≡ Some v → ChangeKeeps h k (completions.changed_by h c k (DeviceLeft s)) w v
+  unfolding bindings.changed_by
+  device_keeps s v at = subst (λ x. ChangeKeeps h k (completions.changed_by h c k (DeviceLeft s)) w x) (same_Some _ v at) (device_made s)
+
+  pub reset_keeps : (s i : ℕ) (v : World) → bindings.changed_by h c w (Resets s i) ≡ Some v → ChangeKeeps h k (completions.changed_by h c k (Resets s i)) w v
+  unfolding bindings.changed_by completions.changed_by
+  reset_keeps s i v at = subst (λ x. ChangeKeeps h k (completions.in_state h k s i Stopped) w x) (same_Some _ v at) (state_made s i Stopped)

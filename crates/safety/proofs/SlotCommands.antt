@@ -1,0 +1,104 @@
+-- The success of an unfinished command changes its own slot alone, and binds only rings that it names
+use Rattle.std.specs.Prelude.{◌≡◌, ℕ, not, if◌then◌else◌, Bool, true, false, List, [], ◌∷◌, map, Some}
+use Rattle.std.specs.List.{list_any}
+use Rattle.std.proofs.Common.{refl, ◌∙◌, ap, inl, inr}
+use Rattle.std.proofs.lemmas.Bool.{or_parts, or_left, not-false, eq-eqb, false≢true}
+use Rattle.commands.specs.declared.command.Command.{Command}
+use Rattle.commands.specs.declared.command.Command.TheVariants.{NoOp, EnableSlot, DisableSlot, AddressDevice, ConfigureEndpoint, EvaluateContext, ResetEndpoint, StopEndpoint, SetTrDequeue, ResetDevice}
+use Rattle.commands.specs.declared.state.EndpointState.{EndpointState}
+use Rattle.commands.specs.declared.state.EndpointState.TheVariants.{Disabled as Off, Running, Halted, Stopped, Error}
+use Rattle.commands.specs.States.{is_off, is_at_rest}
+use Rattle.commands.specs.Changes.{changes, placed_by_context}
+use Rattle.contexts.specs.Contexts.{added_endpoints, context_pointer}
+use Rattle.traces.specs.declared.header.Header.{Header}
+use Rattle.traces.specs.Header.{command_id, is_ring, ring_beginning_at}
+use Rattle.ring_knowledge.specs.Known.{Known}
+use Rattle.ring_knowledge.specs.Completions.{changed_by, succeeded}
+use Rattle.ownership_rules.specs.Moves.{binding_in, binds, ring_bound, binds_ring, is_bad_dequeue, is_bad_move}
+use Rattle.ownership_rules.proofs.Among.{IsIn, any_of}
+use Rattle.safety.specs.Keeps.{MovesIf}
+use Rattle.safety.proofs.TestsPassed.{any_of_map}
+use Rattle.safety.proofs.OtherSlots.{OtherSlots, Within, AllOnly, changes_others}
+
+-- the slot that the success of a command changes; n is that of its completion
+abbrev pub changed_slot : Command → ℕ → ℕ
+changed_slot NoOp n = 0
+changed_slot EnableSlot n = n
+changed_slot (DisableSlot s) n = s
+changed_slot (AddressDevice s bsr c) n = s
+changed_slot (ConfigureEndpoint s dc c) n = s
+changed_slot (EvaluateContext s c) n = s
+changed_slot (ResetEndpoint s i) n = s
+changed_slot (StopEndpoint s i) n = s
+changed_slot (SetTrDequeue s i p cycle) n = s
+changed_slot (ResetDevice s) n = s
+
+rest_not_off : (e : EndpointState) → is_at_rest e ≡ true → is_off e ≡ true → ⊥
+rest_not_off Off rests off = false≢true rests
+rest_not_off Running rests off = false≢true rests
+rest_not_off Halted rests off = false≢true rests
+rest_not_off Stopped rests off = false≢true off
+rest_not_off Error rests off = false≢true off
+
+module _ (h : Header) (k : Known) where
+  -- the rings of slot s, those that a command binds, and the command ring
+  pub data OfCommand (s : ℕ) (e : Command) (r : ℕ) : Type 0 where
+    Has : (i : ℕ) → k.ring_of s i ≡ Some r → OfCommand s e r
+    Binds : binds_ring h k r e ≡ true → OfCommand s e r
+    Commands : r ≡ command_id h → OfCommand s e r
+
+  pub of_slot : (s : ℕ) (e : Command) → Within s (OfCommand s e) k
+  of_slot s e i r at = Has i at
+
+  address_binds : (s n r : ℕ) (bsr : Bool) → is_off (k.endpoint_state s 1) ≡ true → ring_beginning_at h (context_pointer h.context_size k.memory n 1) ≡ Some r →
+      binds_ring h k r (AddressDevice s bsr n) ≡ true
+  unfolding binds_ring binds binding_in ring_bound
+  address_binds s n r bsr off at =
+      ap (λ t. list_any (λ b. is_ring r (ring_bound h b)) (if t then binding_in h k n 1 ∷ [] else [])) off
+      ∙ or_left (is_ring r (ring_bound h (binding_in h k n 1))) false (ap (λ o. is_ring r o) at ∙ eq-eqb r r refl)
+
+  configure_binds : (s n i r : ℕ) → IsIn i (added_endpoints k.memory n) → ring_beginning_at h (context_pointer h.context_size k.memory n i) ≡ Some r →
+      binds_ring h k r (ConfigureEndpoint s false n) ≡ true
+  unfolding binds_ring binds binding_in ring_bound
+  configure_binds s n i r added at =
+      any_of_map (λ b. is_ring r (ring_bound h b)) (binding_in h k n) (added_endpoints k.memory n)
+      ∙ any_of (λ x. is_ring r (ring_bound h (binding_in h k n x))) (added_endpoints k.memory n) i added (ap (λ o. is_ring r o) at ∙ eq-eqb r r refl)
+
+  places_only : (s n : ℕ) (e : Command) (B : ℕ → Type 0) (l : Known) (xs : List ℕ) → ((i : ℕ) → IsIn i xs → (r : ℕ) → ring_beginning_at h (context_pointer h.context_size k.memory n i) ≡ Some r → B r) →
+      AllOnly s B h e l (map (placed_by_context h.context_size k.memory s n) xs)
+  places_only s n e B l [] named = tt
+  places_only s n e B l (i ∷ rest) named = (
+    (refl, λ off r at. named i (inl refl) r at),
+    places_only s n e B (changed_by h e l (placed_by_context h.context_size k.memory s n i)) rest (λ j there. named j (inr there)),
+  )
+
+  set_rests : (s i p : ℕ) (cycle : Bool) → is_bad_move h k (SetTrDequeue s i p cycle) ≡ false → is_at_rest (k.endpoint_state s i) ≡ true
+  unfolding is_bad_move
+  set_rests s i p cycle good = not-false (is_at_rest (k.endpoint_state s i)) (or_parts (not (is_at_rest (k.endpoint_state s i))) (is_bad_dequeue h k (k.ring_of s i) p cycle) good).0
+
+  -- each change is one of the slot
+  only_own : (n : ℕ) (e : Command) → MovesIf h k e → AllOnly (changed_slot e n) (OfCommand (changed_slot e n) e) h e k (changes h.context_size k.memory n e)
+  unfolding changes changed_by
+  only_own n NoOp moves = tt
+  only_own n EnableSlot moves = (refl, tt)
+  only_own n (DisableSlot s) moves = (refl, (refl, (refl, tt)))
+  only_own n (AddressDevice s bsr c) moves = (refl, ((refl, λ off r at. Binds (address_binds s c r bsr off at)), tt))
+  only_own n (ConfigureEndpoint s false c) moves = (
+    refl,
+    (
+      refl,
+      places_only s c (ConfigureEndpoint s false c) (OfCommand s (ConfigureEndpoint s false c)) _ (added_endpoints k.memory c)
+          (λ i there r at. Binds (configure_binds s c i r there at)),
+    ),
+  )
+  only_own n (ConfigureEndpoint s true c) moves = (refl, (refl, tt))
+  only_own n (EvaluateContext s c) moves = tt
+  only_own n (ResetEndpoint s i) moves = (refl, tt)
+  only_own n (StopEndpoint s i) moves = (refl, tt)
+  only_own n (SetTrDequeue s i p cycle) moves = ((refl, λ off r at. absurd (rest_not_off (k.endpoint_state s i) (set_rests s i p cycle moves) off)), tt)
+  only_own n (ResetDevice s) moves = (refl, (refl, tt))
+
+  pub success_others : (n : ℕ) (e : Command) → MovesIf h k e → OtherSlots k (succeeded h k n e) (changed_slot e n) (OfCommand (changed_slot e n) e)
+  unfolding succeeded
+  success_others n e moves =
+      changes_others (changed_slot e n) (OfCommand (changed_slot e n) e) h e k (changes h.context_size k.memory n e) (of_slot (changed_slot e n) e) (only_own n e moves)

@@ -1,0 +1,131 @@
+-- What the success of a command changes keeps what is kept of endpoints, change by change
+use Rattle.std.specs.Prelude.{◌≡◌, ◌≢◌, ℕ, ◌==◌, ◌&&◌, if◌then◌else◌, Bool, true, false, List, [], ◌∷◌, Option, None, Some}
+use Rattle.std.proofs.Common.{refl, sym, ◌∙◌, ap, inl, inr}
+use Rattle.std.proofs.lemmas.Option.{none-some}
+use Rattle.segments.specs.RingView.{Holds}
+use Rattle.segments.specs.Ceiling.{ceiling}
+use Rattle.commands.specs.declared.command.Command.{Command}
+use Rattle.commands.specs.declared.state.EndpointState.{EndpointState}
+use Rattle.commands.specs.declared.state.EndpointState.TheVariants.{Disabled as Off, Running, Stopped}
+use Rattle.commands.specs.Changes.{Change, SlotGoesOn, DeviceLeft, Disables, Places, Stops, Resets}
+use Rattle.traces.specs.declared.header.Header.{Header}
+use Rattle.traces.specs.Header.{IsHeader, shape_of}
+use Rattle.ring_knowledge.specs.Known.{Known}
+use Rattle.ring_knowledge.specs.Rings.{on_ring}
+use Rattle.ring_knowledge.specs.Completions.{disabled, in_state, held_at_ceiling, changed_by, changed_by_all}
+use Rattle.safety.specs.EndpointsKeep.{EndpointsKeep}
+use Rattle.safety.proofs.DriverRows.{ring_here, ring_elsewhere}
+use Rattle.safety.proofs.Endpoints.{change_keeps}
+use Rattle.safety.proofs.EndpointPut.{at_pair}
+use Rattle.safety.proofs.StatesParts.{EndpointsStand, endpoints_same}
+use Rattle.safety.proofs.StatesOneEndpoint.{OneEndpoint, one_stands}
+use Rattle.safety.proofs.StatesPlaced.{MayPlace, place_stands, some_ring}
+
+-- an endpoint that is there, and isn't Running
+pub record RestsThere (e : EndpointState) : Type 0 where
+  pub on : e ≢ Off
+  pub rests : e ≢ Running
+
+fewer : (b : Bool) (o : Option ℕ) (r : ℕ) → (if b then None else o) ≡ Some r → o ≡ Some r
+fewer true o r at = absurd (none-some r at)
+fewer false o r at = at
+
+none_left : (b : Bool) (o : Option ℕ) → o ≡ None → (if b then None else o) ≡ None
+none_left true o none = refl
+none_left false o none = none
+
+off_left : (b : Bool) (o : Option ℕ) (e : EndpointState) → (o ≡ None → e ≡ Off) → (if b then None else o) ≡ None → (if b then Off else e) ≡ Off
+off_left true o e off none = refl
+off_left false o e off none = off none
+
+state_left : (b : Bool) (o : Option ℕ) (e : EndpointState) (r : ℕ) → (if b then None else o) ≡ Some r → (if b then Off else e) ≡ e
+state_left true o e r at = absurd (none-some r at)
+state_left false o e r at = refl
+
+module _ (h : Header) where
+  -- what each change needs of the endpoint
+  abbrev pub Fits : Known → Change → Type 0
+  Fits k (Places s i p cycle state) = MayPlace h k s i p state
+  Fits k (Stops s i) = k.endpoint_state s i ≢ Off
+  Fits k (Resets s i) = RestsThere (k.endpoint_state s i)
+  Fits k (SlotGoesOn s) = Unit {0}
+  Fits k (DeviceLeft s) = Unit {0}
+  Fits k (Disables s which) = Unit {0}
+
+  abbrev pub FitAll : Command → Known → List Change → Type 0
+  FitAll c k [] = Unit {0}
+  FitAll c k (change ∷ rest) = Fits k change × FitAll c (changed_by h c k change) rest
+
+  -- ---- endpoints are disabled
+
+  disabled_stands : (k : Known) (s : ℕ) (which : ℕ → Bool) → EndpointsStand k → EndpointsStand (disabled h k s which)
+  unfolding disabled
+  disabled_stands k s which e = record {
+    no_endpoint = λ t i zero. none_left (t == s && which i) (k.ring_of t i) (e.no_endpoint t i zero);
+    off = λ t i none. off_left (t == s && which i) (k.ring_of t i) (k.endpoint_state t i) (e.off t i) none;
+    on = λ t i r at off.
+        e.on t i r (fewer (t == s && which i) (k.ring_of t i) r at) (sym (state_left (t == s && which i) (k.ring_of t i) (k.endpoint_state t i) r at) ∙ off);
+    one_endpoint = λ t i u j r a b. e.one_endpoint t i u j r (fewer (t == s && which i) (k.ring_of t i) r a) (fewer (u == s && which j) (k.ring_of u j) r b);
+    open_runs = λ t i r at none.
+        state_left (t == s && which i) (k.ring_of t i) (k.endpoint_state t i) r at ∙ e.open_runs t i r (fewer (t == s && which i) (k.ring_of t i) r at) none;
+  }
+
+  -- ---- an endpoint's state is set
+
+  module _ (k : Known) (s i r : ℕ) (state : EndpointState) (e : EndpointsStand k) (at : k.ring_of s i ≡ Some r) (on : state ≢ Off) where
+    state_one : ((k.ring r).held ≡ None → state ≡ Running) → OneEndpoint k (in_state h k s i state) s i r
+    unfolding in_state
+    state_one runs = record {
+      ring_of = refl;
+      bound = at;
+      on = at_pair (λ x. x ≢ Off) k.endpoint_state s i state s i (λ a b. on) (λ other. absurd (other refl refl));
+      others = λ t j other. at_pair (λ x. x ≡ k.endpoint_state t j) k.endpoint_state s i state t j (λ a b. absurd (other a b)) (λ apart. refl);
+      held = λ q other. refl;
+      runs = λ none. at_pair (λ x. x ≡ Running) k.endpoint_state s i state s i (λ a b. runs none) (λ other. absurd (other refl refl));
+    }
+
+    -- and its ring is held
+    held_one : (n : ℕ) → OneEndpoint k (on_ring h (in_state h k s i state) r (Holds n)) s i r
+    unfolding in_state on_ring
+    held_one n = record {
+      ring_of = refl;
+      bound = at;
+      on = at_pair (λ x. x ≢ Off) k.endpoint_state s i state s i (λ a b. on) (λ other. absurd (other refl refl));
+      others = λ t j other. at_pair (λ x. x ≡ k.endpoint_state t j) k.endpoint_state s i state t j (λ a b. absurd (other a b)) (λ apart. refl);
+      held = λ q other. ap (λ v. v.held) (ring_elsewhere h (in_state h k s i state) r q (Holds n) other);
+      runs = λ none. absurd (none-some n (sym none ∙ ap (λ v. v.held) (ring_here h (in_state h k s i state) r (Holds n))));
+    }
+
+  reset_stands : (k : Known) (s i : ℕ) → EndpointsStand k → RestsThere (k.endpoint_state s i) → EndpointsStand (in_state h k s i Stopped)
+  reset_stands k s i e fits =
+      elim (some_ring (k.ring_of s i)) [
+        | inl none ↦ absurd (fits.on (e.off s i none))
+        | inr has ↦
+            one_stands k (in_state h k s i Stopped) s i has.0 e
+            (state_one k s i has.0 Stopped e has.1 (λ off. cc) (λ opened. absurd (fits.rests (e.open_runs s i has.0 has.1 opened))))
+      ]
+
+  stop_stands_by : (k : Known) (s i : ℕ) (o : Option ℕ) → EndpointsStand k → k.endpoint_state s i ≢ Off → k.ring_of s i ≡ o → EndpointsStand (held_at_ceiling h (in_state h k s i Stopped) o)
+  unfolding held_at_ceiling
+  stop_stands_by k s i None e on at = absurd (on (e.off s i at))
+  stop_stands_by k s i (Some r) e on at =
+      let l : Known = in_state h k s i Stopped in
+      let n : ℕ = ceiling (shape_of h r) (l.ring r) in
+      one_stands k (on_ring h l r (Holds n)) s i r e (held_one k s i r Stopped e at (λ off. cc) n)
+
+  -- ---- any change, and one after the other
+
+  pub change_stands : (c : Command) (k : Known) (change : Change) → EndpointsKeep h k → EndpointsStand k → Fits k change → EndpointsStand (changed_by h c k change)
+  unfolding changed_by
+  change_stands c k (SlotGoesOn s) keeps e fits = endpoints_same k (changed_by h c k (SlotGoesOn s)) refl refl (λ r. refl) e
+  change_stands c k (DeviceLeft s) keeps e fits = endpoints_same k (changed_by h c k (DeviceLeft s)) refl refl (λ r. refl) e
+  change_stands c k (Disables s which) keeps e fits = disabled_stands k s which e
+  change_stands c k (Places s i p cycle state) keeps e fits = place_stands h c k s i p cycle state keeps e fits
+  change_stands c k (Stops s i) keeps e fits = stop_stands_by k s i (k.ring_of s i) e fits refl
+  change_stands c k (Resets s i) keeps e fits = reset_stands k s i e fits
+
+  pub changes_stand : IsHeader h → (c : Command) (k : Known) (all : List Change) → EndpointsKeep h k → EndpointsStand k → FitAll c k all → EndpointsStand (changed_by_all h c k all)
+  unfolding changed_by_all
+  changes_stand is c k [] keeps e fit = e
+  changes_stand is c k (change ∷ rest) keeps e fit =
+      changes_stand is c (changed_by h c k change) rest (change_keeps h is c k change keeps) (change_stands c k change keeps e fit.0) fit.1

@@ -1,0 +1,91 @@
+-- Only one endpoint and its ring change: what is kept of states is kept
+use Rattle.std.specs.Prelude.{◌≡◌, ◌≢◌, ℕ, ◌⊎◌, true, None, Some}
+use Rattle.std.proofs.Common.{sym, ◌∙◌, ap, subst, inl, inr}
+use Rattle.std.proofs.lemmas.Bool.{cases_eq}
+use Rattle.std.proofs.lemmas.Option.{same_Some, none-some}
+use Rattle.commands.specs.declared.state.EndpointState.TheVariants.{Disabled as Off, Running}
+use Rattle.traces.specs.declared.header.Header.{Header}
+use Rattle.ring_knowledge.specs.Known.{Known}
+use Rattle.safety.proofs.StatesParts.{EndpointsStand, StopsNext, SeenStand}
+
+-- that of slot s with index i, which has ring r
+pub record OneEndpoint (k l : Known) (s i r : ℕ) : Type 0 where
+  pub ring_of : l.ring_of ≡ k.ring_of
+  pub bound : k.ring_of s i ≡ Some r
+  pub on : l.endpoint_state s i ≢ Off
+  pub others : (t j : ℕ) → (t ≡ s → j ≡ i → ⊥) → l.endpoint_state t j ≡ k.endpoint_state t j
+  pub held : (q : ℕ) → q ≢ r → (l.ring q).held ≡ (k.ring q).held
+  pub runs : (l.ring r).held ≡ None → l.endpoint_state s i ≡ Running
+
+-- and no Stopped event but its own
+pub record OneSeen (h : Header) (k l : Known) (s i r : ℕ) : Type 0 where
+  pub others : (t j : ℕ) → (t ≡ s → j ≡ i → ⊥) → l.stop_seen t j ≡ k.stop_seen t j
+  pub here : l.stop_seen s i ≡ true → StopsNext h k s i × (l.endpoint_state s i ≡ Running) × ((l.ring r).held ≢ None)
+
+pub same_pair : (t j s i : ℕ) → ((t ≡ s) × (j ≡ i)) ⊎ (t ≡ s → j ≡ i → ⊥)
+same_pair t j s i =
+    elim (cases_eq t s) [
+      | inl a ↦ elim (cases_eq j i) [ inl b ↦ inl (a, b) | inr b ↦ inr (λ x y. b y) ]
+      | inr a ↦ inr (λ x y. a x)
+    ]
+
+module _ (k l : Known) (s i r : ℕ) (e : EndpointsStand k) (one : OneEndpoint k l s i r) where
+  was : (t j q : ℕ) → l.ring_of t j ≡ Some q → k.ring_of t j ≡ Some q
+  was t j q at = ap (λ f. f t j) (sym one.ring_of) ∙ at
+
+  -- another endpoint has another ring
+  other_ring : (t j q : ℕ) → (t ≡ s → j ≡ i → ⊥) → l.ring_of t j ≡ Some q → q ≢ r
+  other_ring t j q other at same =
+      let pair = e.one_endpoint t j s i q (was t j q at) (one.bound ∙ ap (λ n. Some n) (sym same)) in other pair.0 pair.1
+
+  pub one_stands : EndpointsStand l
+  one_stands = record {
+    no_endpoint = λ t j zero. ap (λ f. f t j) one.ring_of ∙ e.no_endpoint t j zero;
+    off = λ t j none.
+        elim (same_pair t j s i) [
+          | inl here ↦
+              absurd (none-some r (sym none ∙ ap (λ f. f t j) one.ring_of ∙ ap (λ n. k.ring_of n j) here.0 ∙ ap (λ n. k.ring_of s n) here.1 ∙ one.bound))
+          | inr other ↦ one.others t j other ∙ e.off t j (ap (λ f. f t j) (sym one.ring_of) ∙ none)
+        ];
+    on = λ t j q at off.
+        elim (same_pair t j s i) [
+          | inl here ↦ one.on (sym (ap (λ n. l.endpoint_state n j) here.0 ∙ ap (λ n. l.endpoint_state s n) here.1) ∙ off)
+          | inr other ↦ e.on t j q (was t j q at) (sym (one.others t j other) ∙ off)
+        ];
+    one_endpoint = λ t j u m q a b. e.one_endpoint t j u m q (was t j q a) (was u m q b);
+    open_runs = λ t j q at none.
+        elim (same_pair t j s i) [
+          | inl here ↦
+              let named : k.ring_of s i ≡ Some q = ap (λ n. k.ring_of s n) (sym here.1) ∙ ap (λ n. k.ring_of n j) (sym here.0) ∙ was t j q at in
+              let ring : r ≡ q = same_Some r q (sym one.bound ∙ named) in
+              ap (λ n. l.endpoint_state n j) here.0 ∙ ap (λ n. l.endpoint_state s n) here.1 ∙ one.runs (ap (λ n. (l.ring n).held) ring ∙ none)
+          | inr other ↦ one.others t j other ∙ e.open_runs t j q (was t j q at) (sym (one.held q (other_ring t j q other at)) ∙ none)
+        ];
+  }
+
+  pub one_seen : (h : Header) → SeenStand h k → OneSeen h k l s i r → ((t j : ℕ) → StopsNext h k t j → StopsNext h l t j) → SeenStand h l
+  one_seen h seen own stops = record {
+    command = λ t j is.
+        elim (same_pair t j s i) [
+          | inl here ↦
+              let own_seen = own.here (ap (λ n. l.stop_seen s n) (sym here.1) ∙ ap (λ n. l.stop_seen n j) (sym here.0) ∙ is) in
+              stops t j (subst (λ n. StopsNext h k n j) (sym here.0) (subst (λ n. StopsNext h k s n) (sym here.1) own_seen.0))
+          | inr other ↦ stops t j (seen.command t j (sym (own.others t j other) ∙ is))
+        ];
+    runs = λ t j is.
+        elim (same_pair t j s i) [
+          | inl here ↦
+              let own_seen = own.here (ap (λ n. l.stop_seen s n) (sym here.1) ∙ ap (λ n. l.stop_seen n j) (sym here.0) ∙ is) in
+              ap (λ n. l.endpoint_state n j) here.0 ∙ ap (λ n. l.endpoint_state s n) here.1 ∙ own_seen.1
+          | inr other ↦ one.others t j other ∙ seen.runs t j (sym (own.others t j other) ∙ is)
+        ];
+    held = λ t j q is at none.
+        elim (same_pair t j s i) [
+          | inl here ↦
+              let own_seen = own.here (ap (λ n. l.stop_seen s n) (sym here.1) ∙ ap (λ n. l.stop_seen n j) (sym here.0) ∙ is) in
+              let named : k.ring_of s i ≡ Some q = ap (λ n. k.ring_of s n) (sym here.1) ∙ ap (λ n. k.ring_of n j) (sym here.0) ∙ was t j q at in
+              let ring : r ≡ q = same_Some r q (sym one.bound ∙ named) in
+              own_seen.2 (ap (λ n. (l.ring n).held) ring ∙ none)
+          | inr other ↦ seen.held t j q (sym (own.others t j other) ∙ is) (was t j q at) (sym (one.held q (other_ring t j q other at)) ∙ none)
+        ];
+  }

@@ -1,0 +1,121 @@
+-- What is kept of states, in three parts: endpoints and their rings, slots, and Stopped events that were read
+use Rattle.std.specs.Prelude.{◌≡◌, ◌≢◌, ℕ, ◌<◌, ◌⊎◌, nat_lt, true, Option, None, Some}
+use Rattle.std.proofs.Common.{refl, sym, ◌∙◌, ap, subst}
+use Rattle.std.proofs.lemmas.Bool.{and_parts, and_from, ltb-true, lt-ltb, eqb-true, eq-eqb, false≢true}
+use Rattle.segments.specs.Ceiling.{ceiling}
+use Rattle.commands.specs.declared.command.Command.{Command}
+use Rattle.commands.specs.declared.command.Command.TheVariants.{StopEndpoint}
+use Rattle.commands.specs.declared.state.SlotState.{SlotState}
+use Rattle.commands.specs.declared.state.SlotState.TheVariants.{Disabled, Enabled, Configured}
+use Rattle.commands.specs.declared.state.EndpointState.TheVariants.{Disabled as Off, Running}
+use Rattle.commands.specs.Command.{is_stop_of}
+use Rattle.traces.specs.declared.header.Header.{Header}
+use Rattle.traces.specs.Header.{shape_of, command_id}
+use Rattle.ring_knowledge.specs.Known.{Known}
+use Rattle.ring_knowledge.specs.Rings.{command_at, next_command}
+use Rattle.ownership_rules.specs.Events.{may_be_taken, is_stopping_now}
+use Rattle.safety.specs.Keeps.{StatesKeep}
+use Rattle.safety.specs.EndpointsKeep.{EndpointsKeep}
+use Rattle.safety.proofs.DriverRings.{transfer_ring, transfer_test}
+
+pub record EndpointsStand (k : Known) : Type 0 where
+  pub no_endpoint : (s i : ℕ) → (s ≡ 0) ⊎ (i ≡ 0) → k.ring_of s i ≡ None
+  pub off : (s i : ℕ) → k.ring_of s i ≡ None → k.endpoint_state s i ≡ Off
+  pub on : (s i r : ℕ) → k.ring_of s i ≡ Some r → k.endpoint_state s i ≢ Off
+  pub one_endpoint : (s i t j r : ℕ) → k.ring_of s i ≡ Some r → k.ring_of t j ≡ Some r → (s ≡ t) × (i ≡ j)
+  pub open_runs : (s i r : ℕ) → k.ring_of s i ≡ Some r → (k.ring r).held ≡ None → k.endpoint_state s i ≡ Running
+
+-- one slot: its state, the rings of its endpoints, and its device context under lease
+pub record SlotStands (state : SlotState) (rings : ℕ → Option ℕ) (device : Option ℕ) : Type 0 where
+  pub slots : (i r : ℕ) → rings i ≡ Some r → (state ≢ Disabled) × (state ≢ Enabled) × ((i ≡ 1) ⊎ (state ≡ Configured))
+  pub first : (state ≡ Disabled) ⊎ (state ≡ Enabled) ⊎ (rings 1 ≢ None)
+  pub no_device : state ≡ Disabled → device ≡ None
+
+pub record SlotsStand (k : Known) : Type 0 where
+  pub no_slot : k.slot_state 0 ≡ Disabled
+  pub each : (s : ℕ) → SlotStands (k.slot_state s) (k.ring_of s) (k.device s)
+
+-- the next command is a Stop Endpoint, and may be finished
+pub record StopsNext (h : Header) (k : Known) (s i : ℕ) : Type 0 where
+  pub below : next_command h k < ceiling (shape_of h (command_id h)) (k.ring (command_id h))
+  pub command : command_at h k (next_command h k) ≡ Some (StopEndpoint s i)
+
+pub record SeenStand (h : Header) (k : Known) : Type 0 where
+  pub command : (s i : ℕ) → k.stop_seen s i ≡ true → StopsNext h k s i
+  pub runs : (s i : ℕ) → k.stop_seen s i ≡ true → k.endpoint_state s i ≡ Running
+  pub held : (s i r : ℕ) → k.stop_seen s i ≡ true → k.ring_of s i ≡ Some r → (k.ring r).held ≢ None
+
+stop_is : (s i : ℕ) (o : Option Command) → is_stop_of s i o ≡ true → o ≡ Some (StopEndpoint s i)
+stop_is s i (Some (StopEndpoint t j)) is =
+    let parts = and_parts _ _ is in
+    ap (λ n. Some (StopEndpoint n j)) (sym (eqb-true s t parts.0)) ∙ ap (λ n. Some (StopEndpoint s n)) (sym (eqb-true i j parts.1))
+stop_is s i _ is = absurd (false≢true is)
+
+module _ (h : Header) where
+  pub stops_is : (k : Known) (s i : ℕ) → is_stopping_now h k s i ≡ true → StopsNext h k s i
+  unfolding is_stopping_now may_be_taken
+  stops_is k s i is =
+      let parts = and_parts _ (is_stop_of s i (command_at h k (next_command h k))) is in
+      record { below = ltb-true _ _ parts.0; command = stop_is s i (command_at h k (next_command h k)) parts.1 }
+
+  pub stops_from : (k : Known) (s i : ℕ) → StopsNext h k s i → is_stopping_now h k s i ≡ true
+  unfolding is_stopping_now may_be_taken
+  stops_from k s i stops =
+      and_from (nat_lt (next_command h k) (ceiling (shape_of h (command_id h)) (k.ring (command_id h)))) (is_stop_of s i (command_at h k (next_command h k))) (lt-ltb _ _ stops.below)
+      (ap (λ o. is_stop_of s i o) stops.command ∙ and_from _ _ (eq-eqb s s refl) (eq-eqb i i refl))
+
+  pub endpoints_part : (k : Known) → StatesKeep h k → EndpointsStand k
+  endpoints_part k s = record { no_endpoint = s.no_endpoint; off = s.off; on = s.on; one_endpoint = s.one_endpoint; open_runs = s.open_runs }
+
+  pub slots_part : (k : Known) → StatesKeep h k → SlotsStand k
+  slots_part k s = record { no_slot = s.no_slot; each = λ t. record { slots = s.slots t; first = s.first t; no_device = s.no_device t } }
+
+  pub seen_part : (k : Known) → StatesKeep h k → SeenStand h k
+  seen_part k s = record { command = λ t i seen. stops_is k t i (s.seen_command t i seen); runs = s.seen_runs; held = s.seen_held }
+
+  pub from_parts : (k : Known) → EndpointsKeep h k → EndpointsStand k → SlotsStand k → SeenStand h k → StatesKeep h k
+  from_parts k bound endpoints slots seen = record {
+    no_slot = slots.no_slot;
+    no_endpoint = endpoints.no_endpoint;
+    off = endpoints.off;
+    on = endpoints.on;
+    transfer = λ s i r at. transfer_ring h r (bound.transfer s i r at);
+    was_bound = bound.was_bound;
+    one_endpoint = endpoints.one_endpoint;
+    open_runs = endpoints.open_runs;
+    never_bound = λ r is. bound.never_bound r (transfer_test h r is);
+    seen_command = λ s i is. stops_from k s i (seen.command s i is);
+    seen_runs = seen.runs;
+    seen_held = seen.held;
+    slots = λ s. (slots.each s).slots;
+    first = λ s. (slots.each s).first;
+    no_device = λ s. (slots.each s).no_device;
+  }
+
+-- ---- where all these are as they were
+
+pub endpoints_same : (k l : Known) → l.ring_of ≡ k.ring_of → l.endpoint_state ≡ k.endpoint_state → ((r : ℕ) → (l.ring r).held ≡ (k.ring r).held) → EndpointsStand k → EndpointsStand l
+endpoints_same k l rings states held e = record {
+  no_endpoint = λ s i zero. ap (λ f. f s i) rings ∙ e.no_endpoint s i zero;
+  off = λ s i none. ap (λ f. f s i) states ∙ e.off s i (ap (λ f. f s i) (sym rings) ∙ none);
+  on = λ s i r at is. e.on s i r (ap (λ f. f s i) (sym rings) ∙ at) (ap (λ f. f s i) (sym states) ∙ is);
+  one_endpoint = λ s i t j r one other. e.one_endpoint s i t j r (ap (λ f. f s i) (sym rings) ∙ one) (ap (λ f. f t j) (sym rings) ∙ other);
+  open_runs = λ s i r at none. ap (λ f. f s i) states ∙ e.open_runs s i r (ap (λ f. f s i) (sym rings) ∙ at) (sym (held r) ∙ none);
+}
+
+pub slots_same : (k l : Known) → l.slot_state ≡ k.slot_state → l.ring_of ≡ k.ring_of → l.device ≡ k.device → SlotsStand k → SlotsStand l
+slots_same k l slots rings device e = record {
+  no_slot = ap (λ f. f 0) slots ∙ e.no_slot;
+  each = λ s.
+      subst (λ (f : ℕ → SlotState). SlotStands (f s) (l.ring_of s) (l.device s)) (sym slots)
+      (subst (λ (f : ℕ → ℕ → Option ℕ). SlotStands (k.slot_state s) (f s) (l.device s)) (sym rings)
+      (subst (λ (f : ℕ → Option ℕ). SlotStands (k.slot_state s) (k.ring_of s) (f s)) (sym device) (e.each s)));
+}
+
+pub seen_same : (h : Header) (k l : Known) → l.stop_seen ≡ k.stop_seen → l.endpoint_state ≡ k.endpoint_state → l.ring_of ≡ k.ring_of → ((r : ℕ) → (l.ring r).held ≡ (k.ring r).held) →
+    ((s i : ℕ) → StopsNext h k s i → StopsNext h l s i) → SeenStand h k → SeenStand h l
+seen_same h k l seen states rings held stops e = record {
+  command = λ s i is. stops s i (e.command s i (ap (λ f. f s i) (sym seen) ∙ is));
+  runs = λ s i is. ap (λ f. f s i) states ∙ e.runs s i (ap (λ f. f s i) (sym seen) ∙ is);
+  held = λ s i r is at none. e.held s i r (ap (λ f. f s i) (sym seen) ∙ is) (ap (λ f. f s i) (sym rings) ∙ at) (sym (held r) ∙ none);
+}

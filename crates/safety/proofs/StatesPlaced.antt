@@ -1,0 +1,209 @@
+-- An endpoint that is placed on a ring: what is kept of endpoints is kept
+use Rattle.std.specs.Prelude.{◌≡◌, ◌≢◌, ℕ, ◌⊎◌, Bool, true, false, Option, None, Some}
+use Rattle.std.proofs.Common.{refl, sym, ◌∙◌, ap, subst, inl, inr}
+use Rattle.std.proofs.lemmas.Bool.{cond-true, cond-false, false≢true}
+use Rattle.std.proofs.lemmas.Option.{none-some, same_Some}
+use Rattle.guest_memory.specs.Memory.{put_pair}
+use Rattle.segments.specs.declared.spot.Spot.{Spot}
+use Rattle.segments.specs.declared.spot.Spot.TheVariants.{Data}
+use Rattle.segments.specs.Spots.{number}
+use Rattle.segments.specs.RingView.{Reaches, Holds}
+use Rattle.segments.specs.Moves.{target}
+use Rattle.commands.specs.declared.command.Command.{Command}
+use Rattle.commands.specs.declared.state.EndpointState.{EndpointState}
+use Rattle.commands.specs.declared.state.EndpointState.TheVariants.{Disabled as Off, Running}
+use Rattle.commands.specs.States.{is_off}
+use Rattle.commands.specs.Changes.{Places}
+use Rattle.traces.specs.declared.header.Header.{Header}
+use Rattle.traces.specs.Header.{shape_of, ring_beginning_at}
+use Rattle.ring_knowledge.specs.Known.{Known}
+use Rattle.ring_knowledge.specs.Rings.{on_ring}
+use Rattle.ring_knowledge.specs.Completions.{set_to, bound_to, moved_to, moved, pointed, in_state, changed_by}
+use Rattle.safety.specs.EndpointsKeep.{EndpointsKeep}
+use Rattle.safety.proofs.DriverRows.{ring_here, ring_elsewhere}
+use Rattle.safety.proofs.EndpointPut.{at_pair}
+use Rattle.safety.proofs.StatesParts.{EndpointsStand}
+use Rattle.safety.proofs.StatesOneEndpoint.{same_pair, one_stands}
+
+-- an endpoint that is off gets a ring that never was bound; any other one may stay what it is only where its ring is held
+pub record MayPlace (h : Header) (k : Known) (s i p : ℕ) (state : EndpointState) : Type 0 where
+  pub slot : s ≢ 0
+  pub index : i ≢ 0
+  pub on : state ≢ Off
+  pub binds : is_off (k.endpoint_state s i) ≡ true → (r : ℕ) × (ring_beginning_at h p ≡ Some r) × (k.was_bound r ≡ false)
+  pub runs : (r : ℕ) → k.ring_of s i ≡ Some r → (k.ring r).held ≡ None → state ≡ Running
+
+-- where the endpoint's ring points to, its state apart
+pub record IsBound (k m : Known) (s i r : ℕ) : Type 0 where
+  pub states : m.endpoint_state ≡ k.endpoint_state
+  pub ring_of : m.ring_of ≡ put_pair k.ring_of s i (Some r)
+  pub held : (m.ring r).held ≡ Some 0
+  pub others : (q : ℕ) → q ≢ r → (m.ring q).held ≡ (k.ring q).held
+
+pub record IsMoved (k m : Known) (r : ℕ) : Type 0 where
+  pub states : m.endpoint_state ≡ k.endpoint_state
+  pub ring_of : m.ring_of ≡ k.ring_of
+  pub held : (m.ring r).held ≡ None → (k.ring r).held ≡ None
+  pub others : (q : ℕ) → q ≢ r → (m.ring q).held ≡ (k.ring q).held
+
+pub off_is : (e : EndpointState) → is_off e ≡ true → e ≡ Off
+off_is Off is = refl
+off_is _ is = absurd (false≢true is)
+
+pub is_off_of : (e : EndpointState) → e ≡ Off → is_off e ≡ true
+is_off_of e off = ap is_off off
+
+pub on_is : (e : EndpointState) → e ≢ Off → is_off e ≡ false
+on_is Off on = absurd (on refl)
+on_is _ on = refl
+
+module _ (h : Header) where
+  set_here : (k : Known) (r : ℕ) (t : Spot) → ((set_to h k r t).ring r).held ≡ Some (number t)
+  unfolding set_to
+  set_here k r t = ap (λ v. v.held) (ring_here h (on_ring h k r (Reaches t)) r (Holds (number t)))
+
+  set_other : (k : Known) (r : ℕ) (t : Spot) (q : ℕ) → q ≢ r → ((set_to h k r t).ring q).held ≡ (k.ring q).held
+  unfolding set_to
+  set_other k r t q other =
+      ap (λ v. v.held) (ring_elsewhere h (on_ring h k r (Reaches t)) r q (Holds (number t)) other) ∙ ap (λ v. v.held) (ring_elsewhere h k r q (Reaches t) other)
+
+  set_rest : (k : Known) (r : ℕ) (t : Spot) → ((set_to h k r t).endpoint_state ≡ k.endpoint_state) × ((set_to h k r t).ring_of ≡ k.ring_of)
+  unfolding set_to on_ring
+  set_rest k r t = (refl, refl)
+
+  bound_is : (k : Known) (s i r : ℕ) → IsBound k (bound_to h k s i (Some r)) s i r
+  unfolding bound_to
+  bound_is k s i r = record { states = (set_rest k r (Data 0)).0; ring_of = refl; held = set_here k r (Data 0); others = set_other k r (Data 0) }
+
+  target_is : (k : Known) (r : ℕ) (o : Option Spot) → IsMoved k (moved_to h k r o) r
+  unfolding moved_to
+  target_is k r None = record { states = refl; ring_of = refl; held = λ none. none; others = λ q other. refl }
+  target_is k r (Some t) = record {
+    states = (set_rest k r t).0;
+    ring_of = (set_rest k r t).1;
+    held = λ none. absurd (none-some (number t) (sym none ∙ set_here k r t));
+    others = set_other k r t;
+  }
+
+  moved_is : (k : Known) (r p : ℕ) (cycle : Bool) → IsMoved k (moved h k (Some r) p cycle) r
+  unfolding moved
+  moved_is k r p cycle = target_is k r (target (shape_of h r) (k.ring r) p cycle)
+
+  pub pointed_off : (k : Known) (s i p r : ℕ) (cycle : Bool) → is_off (k.endpoint_state s i) ≡ true → ring_beginning_at h p ≡ Some r → IsBound k (pointed h k s i p cycle) s i r
+  unfolding pointed
+  pointed_off k s i p r cycle off at =
+      subst (λ m. IsBound k m s i r)
+      (sym (cond-true (is_off (k.endpoint_state s i)) (bound_to h k s i (ring_beginning_at h p)) (moved h k (k.ring_of s i) p cycle) off ∙ ap (λ o. bound_to h k s i o) at)) (bound_is k s i r)
+
+  pub pointed_on : (k : Known) (s i p r : ℕ) (cycle : Bool) → is_off (k.endpoint_state s i) ≡ false → k.ring_of s i ≡ Some r → IsMoved k (pointed h k s i p cycle) r
+  unfolding pointed
+  pointed_on k s i p r cycle on at =
+      subst (λ m. IsMoved k m r)
+      (sym (cond-false (is_off (k.endpoint_state s i)) (bound_to h k s i (ring_beginning_at h p)) (moved h k (k.ring_of s i) p cycle) on ∙ ap (λ o. moved h k o p cycle) at)) (moved_is k r p cycle)
+
+-- the endpoint's state is set then
+pub record IsPlaced (m l : Known) (s i : ℕ) (state : EndpointState) : Type 0 where
+  pub states : l.endpoint_state ≡ put_pair m.endpoint_state s i state
+  pub ring_of : l.ring_of ≡ m.ring_of
+  pub ring : l.ring ≡ m.ring
+
+pub placed_is : (h : Header) (c : Command) (k : Known) (s i p : ℕ) (cycle : Bool) (state : EndpointState) → IsPlaced (pointed h k s i p cycle) (changed_by h c k (Places s i p cycle state)) s i state
+unfolding changed_by in_state
+placed_is h c k s i p cycle state = record { states = refl; ring_of = refl; ring = refl }
+
+module _ (k m l : Known) (s i r : ℕ) (state : EndpointState) (e : EndpointsStand k) (placed : IsPlaced m l s i state) where
+  state_at : (t j : ℕ) → m.endpoint_state ≡ k.endpoint_state → (t ≡ s → j ≡ i → ⊥) → l.endpoint_state t j ≡ k.endpoint_state t j
+  state_at t j same other =
+      ap (λ f. f t j) placed.states ∙ at_pair (λ x. x ≡ m.endpoint_state t j) m.endpoint_state s i state t j (λ a b. absurd (other a b)) (λ apart. refl) ∙ ap (λ f. f t j) same
+
+  state_here : (t j : ℕ) → t ≡ s → j ≡ i → l.endpoint_state t j ≡ state
+  state_here t j a b = ap (λ f. f t j) placed.states ∙ at_pair (λ x. x ≡ state) m.endpoint_state s i state t j (λ x y. refl) (λ other. absurd (other a b))
+
+  held_at : (q : ℕ) → (l.ring q).held ≡ (m.ring q).held
+  held_at q = ap (λ f. (f q).held) placed.ring
+
+  -- ---- on the ring that it had
+
+  pub moved_stands : IsMoved k m r → k.ring_of s i ≡ Some r → state ≢ Off → ((k.ring r).held ≡ None → state ≡ Running) → EndpointsStand l
+  moved_stands moved at on runs =
+      one_stands k l s i r e
+      (record {
+        ring_of = placed.ring_of ∙ moved.ring_of;
+        bound = at;
+        on = λ off. on (sym (state_here s i refl refl) ∙ off);
+        others = λ t j other. state_at t j moved.states other;
+        held = λ q other. held_at q ∙ moved.others q other;
+        runs = λ none. state_here s i refl refl ∙ runs (moved.held (sym (held_at r) ∙ none));
+      })
+
+  -- ---- on a ring that never was bound
+
+  module _ (bound : IsBound k m s i r) (never : (t j : ℕ) → k.ring_of t j ≢ Some r) (slot : s ≢ 0) (index : i ≢ 0) (on : state ≢ Off) where
+    ring_other : (t j : ℕ) → (t ≡ s → j ≡ i → ⊥) → l.ring_of t j ≡ k.ring_of t j
+    ring_other t j other =
+        ap (λ f. f t j) (placed.ring_of ∙ bound.ring_of) ∙ at_pair (λ x. x ≡ k.ring_of t j) k.ring_of s i (Some r) t j (λ a b. absurd (other a b)) (λ apart. refl)
+
+    ring_here_is : (t j : ℕ) → t ≡ s → j ≡ i → l.ring_of t j ≡ Some r
+    ring_here_is t j a b = ap (λ f. f t j) (placed.ring_of ∙ bound.ring_of) ∙ at_pair (λ x. x ≡ Some r) k.ring_of s i (Some r) t j (λ x y. refl) (λ other. absurd (other a b))
+
+    -- another endpoint has another ring
+    apart : (t j q : ℕ) → (t ≡ s → j ≡ i → ⊥) → l.ring_of t j ≡ Some q → q ≢ r
+    apart t j q other at same = never t j (sym (ring_other t j other) ∙ at ∙ ap (λ n. Some n) same)
+
+    not_first : (t j : ℕ) → (t ≡ 0) ⊎ (j ≡ 0) → t ≡ s → j ≡ i → ⊥
+    not_first t j zero a b = elim zero [ inl first ↦ slot (sym a ∙ first) | inr second ↦ index (sym b ∙ second) ]
+
+    pub bound_stands : EndpointsStand l
+    bound_stands = record {
+      no_endpoint = λ t j zero. ring_other t j (not_first t j zero) ∙ e.no_endpoint t j zero;
+      off = λ t j none.
+          elim (same_pair t j s i) [
+            | inl here ↦ absurd (none-some r (sym none ∙ ring_here_is t j here.0 here.1))
+            | inr other ↦ state_at t j bound.states other ∙ e.off t j (sym (ring_other t j other) ∙ none)
+          ];
+      on = λ t j q at off.
+          elim (same_pair t j s i) [
+            | inl here ↦ on (sym (state_here t j here.0 here.1) ∙ off)
+            | inr other ↦ e.on t j q (sym (ring_other t j other) ∙ at) (sym (state_at t j bound.states other) ∙ off)
+          ];
+      one_endpoint = λ t j u n q a b.
+          elim (same_pair t j s i) [
+            | inl here ↦ elim (same_pair u n s i) [
+              | inl also ↦ (here.0 ∙ sym also.0, here.1 ∙ sym also.1)
+              | inr other ↦ absurd (apart u n q other b (same_Some q r (sym a ∙ ring_here_is t j here.0 here.1)))
+            ]
+            | inr first ↦ elim (same_pair u n s i) [
+              | inl here ↦ absurd (apart t j q first a (same_Some q r (sym b ∙ ring_here_is u n here.0 here.1)))
+              | inr second ↦ e.one_endpoint t j u n q (sym (ring_other t j first) ∙ a) (sym (ring_other u n second) ∙ b)
+            ]
+          ];
+      open_runs = λ t j q at none.
+          elim (same_pair t j s i) [
+            | inl here ↦
+                let ring : r ≡ q = same_Some r q (sym (ring_here_is t j here.0 here.1) ∙ at) in
+                absurd (none-some 0 (sym none ∙ ap (λ n. (l.ring n).held) (sym ring) ∙ held_at r ∙ bound.held))
+            | inr other ↦
+                state_at t j bound.states other
+                ∙ e.open_runs t j q (sym (ring_other t j other) ∙ at) (sym (held_at q ∙ bound.others q (apart t j q other at)) ∙ none)
+          ];
+    }
+
+pub some_ring : (o : Option ℕ) → (o ≡ None) ⊎ ((r : ℕ) × (o ≡ Some r))
+some_ring None = inl refl
+some_ring (Some r) = inr (r, refl)
+
+-- an endpoint is placed where it may
+pub place_stands : (h : Header) (c : Command) (k : Known) (s i p : ℕ) (cycle : Bool) (state : EndpointState) → EndpointsKeep h k → EndpointsStand k → MayPlace h k s i p state →
+    EndpointsStand (changed_by h c k (Places s i p cycle state))
+place_stands h c k s i p cycle state keeps e may =
+    let l : Known = changed_by h c k (Places s i p cycle state) in
+    let m : Known = pointed h k s i p cycle in
+    let placed : IsPlaced m l s i state = placed_is h c k s i p cycle state in
+    elim (some_ring (k.ring_of s i)) [
+      | inl none ↦
+          let off : is_off (k.endpoint_state s i) ≡ true = is_off_of (k.endpoint_state s i) (e.off s i none) in
+          let new = may.binds off in
+          bound_stands k m l s i new.0 state e placed (pointed_off h k s i p new.0 cycle off new.1)
+          (λ t j at. false≢true (sym new.2 ∙ keeps.was_bound t j new.0 at)) may.slot may.index may.on
+      | inr has ↦ moved_stands k m l s i has.0 state e placed (pointed_on h k s i p has.0 cycle (on_is (k.endpoint_state s i) (e.on s i has.0 has.1)) has.1) has.1 may.on (may.runs has.0 has.1)
+    ]

@@ -1,0 +1,191 @@
+-- A doorbell keeps what is known of states
+use Rattle.std.specs.Prelude.{◌≡◌, ◌≢◌, ℕ, ◌==◌, ◌&&◌, ◌||◌, not, nat_lt, true, false, [], Option, None, Some}
+use Rattle.std.proofs.Common.{arith, refl, sym, ◌∙◌, ap, subst, inl, inr}
+use Rattle.std.proofs.lemmas.Bool.{cond_both, cond-false, or_parts, or_cases, or_left, and_from, not-false, eq-eqb, false≢true}
+use Rattle.guest_memory.specs.Memory.{put_pair}
+use Rattle.segments.specs.ShapeValue.{Shape}
+use Rattle.segments.specs.RingView.{RingView, Opens, changed}
+use Rattle.segments.specs.Ceiling.{is_step_given, is_way_given}
+use Rattle.segments.proofs.GivenCount.{given_count_same}
+use Rattle.segments.proofs.Named.{ceiling_open}
+use Rattle.commands.specs.declared.command.Command.TheVariants.{StopEndpoint}
+use Rattle.commands.specs.declared.state.EndpointState.{EndpointState}
+use Rattle.commands.specs.declared.state.EndpointState.TheVariants.{Disabled as Off, Running}
+use Rattle.commands.specs.Changes.{changes}
+use Rattle.commands.specs.States.{is_running, is_stopped}
+use Rattle.traces.specs.declared.header.Header.{Header}
+use Rattle.traces.specs.declared.row.Row.TheVariants.{Bell}
+use Rattle.traces.specs.Header.{IsHeader, shape_of, command_id}
+use Rattle.ring_knowledge.specs.Known.{Known}
+use Rattle.ring_knowledge.specs.Rings.{on_ring, next_command}
+use Rattle.ring_knowledge.specs.Registers.{endpoint_rung, rung}
+use Rattle.ring_knowledge.specs.Learned.{learned}
+use Rattle.ownership_rules.specs.Doorbells.{touches_endpoint, is_touched, is_bad_bell}
+use Rattle.ownership_rules.specs.Rules.{broken}
+use Rattle.safety.specs.Keeps.{StatesKeep, DriverKeeps}
+use Rattle.safety.proofs.RingIds.{command_not_transfer}
+use Rattle.safety.proofs.DriverRows.{ring_here, ring_elsewhere}
+use Rattle.safety.proofs.EndpointHistories.{row_keeps}
+use Rattle.safety.proofs.EndpointPut.{at_pair}
+use Rattle.safety.proofs.UnfinishedLists.{unfinished_fails}
+use Rattle.safety.proofs.DriverRings.{endpoints_of}
+use Rattle.safety.proofs.RowFrames.{BellLeaves, bell_leaves}
+use Rattle.safety.proofs.CleanRows.{BellFacts, bell_facts}
+use Rattle.safety.proofs.KeptRings.{next_unfinished}
+use Rattle.safety.proofs.KeptCommands.{view_of, open_now}
+use Rattle.safety.proofs.StatesParts.{EndpointsStand, StopsNext, SeenStand, endpoints_part, slots_part, seen_part, from_parts, slots_same}
+use Rattle.safety.proofs.StatesDriver.{ViewGoesOn, view_same, stops_on}
+use Rattle.safety.proofs.StatesOneEndpoint.{OneEndpoint, OneSeen, one_stands, one_seen}
+
+pub running_is : (e : EndpointState) → is_running e ≡ true → e ≡ Running
+running_is Running is = refl
+running_is _ is = absurd (false≢true is)
+
+running_not_off : (e : EndpointState) → e ≡ Running → e ≢ Off
+running_not_off e runs off = cc
+
+-- an open ring that is opened
+opens_open : (shape : Shape) (v : RingView) → v.held ≡ None → ViewGoesOn shape v (changed shape v Opens)
+unfolding is_step_given is_way_given
+opens_open shape v none = record {
+  floor = refl;
+  ceiling = omega (arith, ceiling_open shape v none, ceiling_open shape (changed shape v Opens) refl, given_count_same shape v (changed shape v Opens) refl (λ p. refl));
+  queue = λ p d at. at;
+}
+
+module _ (h : Header) where
+  -- ---- the command ring's doorbell
+
+  opened : (k : Known) → (r : ℕ) → ((on_ring h k r Opens).ring_of ≡ k.ring_of) × ((on_ring h k r Opens).endpoint_state ≡ k.endpoint_state) × ((on_ring h k r Opens).slot_state ≡ k.slot_state)
+      × ((on_ring h k r Opens).device ≡ k.device) × ((on_ring h k r Opens).stop_seen ≡ k.stop_seen)
+  unfolding on_ring
+  opened k r = (refl, refl, refl, refl, refl)
+
+  module _ (is : IsHeader h) (k : Known) (d : DriverKeeps h k) where
+    not_command : (s i r : ℕ) → k.ring_of s i ≡ Some r → r ≢ command_id h
+    not_command s i r at same = command_not_transfer h is ((endpoints_of h k d.states).transfer s i (command_id h) (at ∙ ap (λ n. Some n) same))
+
+    command_endpoints : EndpointsStand (on_ring h k (command_id h) Opens)
+    command_endpoints =
+        let l : Known = on_ring h k (command_id h) Opens in
+        let same = opened k (command_id h) in
+        let e : EndpointsStand k = endpoints_part h k d.states in
+        record {
+          no_endpoint = λ s i zero. ap (λ f. f s i) same.0 ∙ e.no_endpoint s i zero;
+          off = λ s i none. ap (λ f. f s i) same.1 ∙ e.off s i (ap (λ f. f s i) (sym same.0) ∙ none);
+          on = λ s i r at off. e.on s i r (ap (λ f. f s i) (sym same.0) ∙ at) (ap (λ f. f s i) (sym same.1) ∙ off);
+          one_endpoint = λ s i t j r a b. e.one_endpoint s i t j r (ap (λ f. f s i) (sym same.0) ∙ a) (ap (λ f. f t j) (sym same.0) ∙ b);
+          open_runs = λ s i r at none.
+              let was : k.ring_of s i ≡ Some r = ap (λ f. f s i) (sym same.0) ∙ at in
+              ap (λ f. f s i) same.1 ∙ e.open_runs s i r was (ap (λ v. v.held) (sym (ring_elsewhere h k (command_id h) r Opens (not_command s i r was))) ∙ none);
+        }
+
+    command_seen : SeenStand h (on_ring h k (command_id h) Opens)
+    command_seen =
+        let l : Known = on_ring h k (command_id h) Opens in
+        let same = opened k (command_id h) in
+        let seen : SeenStand h k = seen_part h k d.states in
+        record {
+          command = λ s i is.
+              let stops : StopsNext h k s i = seen.command s i (ap (λ f. f s i) (sym same.4) ∙ is) in
+              stops_on h k l
+              (subst (λ v. ViewGoesOn (shape_of h (command_id h)) (k.ring (command_id h)) v) (sym (ring_here h k (command_id h) Opens))
+              (opens_open (shape_of h (command_id h)) (k.ring (command_id h)) (open_now h k (view_of h k d.command_ring) stops.below))) s i stops;
+          runs = λ s i is. ap (λ f. f s i) same.1 ∙ seen.runs s i (ap (λ f. f s i) (sym same.4) ∙ is);
+          held = λ s i r is at none.
+              let was : k.ring_of s i ≡ Some r = ap (λ f. f s i) (sym same.0) ∙ at in
+              seen.held s i r (ap (λ f. f s i) (sym same.4) ∙ is) was (ap (λ v. v.held) (sym (ring_elsewhere h k (command_id h) r Opens (not_command s i r was))) ∙ none);
+        }
+
+    -- ---- the doorbell of an endpoint
+
+    -- no Stopped event of it was read: its Stop Endpoint would be unfinished
+    pub stop_touches : (s i : ℕ) → touches_endpoint h k s i (StopEndpoint s i) ≡ true
+    unfolding touches_endpoint changes
+    stop_touches s i = or_left (s == s && i == i) false (and_from (s == s) (i == i) (eq-eqb s s refl) (eq-eqb i i refl))
+
+    no_stop : (s i : ℕ) → k.started ≡ true → is_touched h k s i ≡ false → k.stop_seen s i ≡ true → ⊥
+    unfolding is_touched
+    no_stop s i started none seen =
+        let stops : StopsNext h k s i = (seen_part h k d.states).command s i seen in
+        let u = next_unfinished h is k d started stops.below (StopEndpoint s i) stops.command in
+        false≢true (sym (unfinished_fails h k (touches_endpoint h k s i) (next_command h k) (StopEndpoint s i) none u) ∙ stop_touches s i)
+
+    rung_state : (s t r : ℕ) → (is_running (k.endpoint_state s t) || is_stopped (k.endpoint_state s t)) ≡ true → (endpoint_rung h k s t (Some r)).endpoint_state s t ≡ Running
+    unfolding endpoint_rung
+    rung_state s t r may =
+        cond_both (is_stopped (k.endpoint_state s t)) (put_pair k.endpoint_state s t Running) k.endpoint_state (λ f. f s t ≡ Running)
+        (λ stopped. at_pair (λ e. e ≡ Running) k.endpoint_state s t Running s t (λ a b. refl) (λ other. absurd (other refl refl)))
+        (λ on.
+        elim (or_cases (is_running (k.endpoint_state s t)) (is_stopped (k.endpoint_state s t)) may) [
+          | inl runs ↦ running_is (k.endpoint_state s t) runs
+          | inr stopped ↦ absurd (false≢true (sym on ∙ stopped))
+        ])
+
+    rung_others : (s t r q j : ℕ) → (q ≡ s → j ≡ t → ⊥) → (endpoint_rung h k s t (Some r)).endpoint_state q j ≡ k.endpoint_state q j
+    unfolding endpoint_rung
+    rung_others s t r q j other =
+        cond_both (is_stopped (k.endpoint_state s t)) (put_pair k.endpoint_state s t Running) k.endpoint_state (λ f. f q j ≡ k.endpoint_state q j)
+        (λ stopped. at_pair (λ e. e ≡ k.endpoint_state q j) k.endpoint_state s t Running q j (λ a b. absurd (other a b)) (λ apart. refl)) (λ on. refl)
+
+    rung_rest : (s t r : ℕ) → ((endpoint_rung h k s t (Some r)).ring_of ≡ k.ring_of) × ((endpoint_rung h k s t (Some r)).stop_seen ≡ k.stop_seen) × ((endpoint_rung h k s t (Some r)).ring ≡ (on_ring h k r Opens).ring)
+    unfolding endpoint_rung on_ring
+    rung_rest s t r = (refl, refl, refl)
+
+    -- the endpoint may be rung
+    record MayRing (s t : ℕ) : Type 0 where
+      pub state : (is_running (k.endpoint_state s t) || is_stopped (k.endpoint_state s t)) ≡ true
+      pub untouched : is_touched h k s t ≡ false
+
+    rung_one : (s t r : ℕ) → k.ring_of s t ≡ Some r → MayRing s t → OneEndpoint k (endpoint_rung h k s t (Some r)) s t r
+    rung_one s t r at may =
+        let l : Known = endpoint_rung h k s t (Some r) in
+        let rest = rung_rest s t r in
+        record {
+          ring_of = rest.0;
+          bound = at;
+          on = running_not_off (l.endpoint_state s t) (rung_state s t r may.state);
+          others = λ q j other. rung_others s t r q j other;
+          held = λ q other. ap (λ f. (f q).held) rest.2 ∙ ap (λ v. v.held) (ring_elsewhere h k r q Opens other);
+          runs = λ none. rung_state s t r may.state;
+        }
+
+    endpoint_stands : (s t : ℕ) (o : Option ℕ) → k.started ≡ true → k.ring_of s t ≡ o → MayRing s t → EndpointsStand (endpoint_rung h k s t o) × SeenStand h (endpoint_rung h k s t o)
+    unfolding endpoint_rung
+    endpoint_stands s t None started at may = (endpoints_part h k d.states, seen_part h k d.states)
+    endpoint_stands s t (Some r) started at may =
+        let l : Known = endpoint_rung h k s t (Some r) in
+        let rest = rung_rest s t r in
+        let e : EndpointsStand k = endpoints_part h k d.states in
+        let one : OneEndpoint k l s t r = rung_one s t r at may in
+        let command : l.ring (command_id h) ≡ k.ring (command_id h) =
+        ap (λ f. f (command_id h)) rest.2 ∙ ring_elsewhere h k r (command_id h) Opens (λ same. not_command s t r at (sym same)) in
+        let own : OneSeen h k l s t r =
+        record { others = λ q j other. ap (λ f. f q j) rest.1; here = λ seen. absurd (no_stop s t started may.untouched (ap (λ f. f s t) (sym rest.1) ∙ seen)) } in (
+          one_stands k l s t r e one,
+          one_seen k l s t r e one h (seen_part h k d.states) own (stops_on h k l (view_same (shape_of h (command_id h)) (k.ring (command_id h)) (l.ring (command_id h)) command)),
+        )
+
+    may_ring : (s t : ℕ) → is_bad_bell h k s t ≡ false → MayRing s t
+    unfolding is_bad_bell
+    may_ring s t good =
+        let four = or_parts _ (is_touched h k s t) good in
+        let three = or_parts _ (k.must_move s t) four.0 in
+        let two = or_parts (t == 0 || nat_lt 31 t) (not (is_running (k.endpoint_state s t) || is_stopped (k.endpoint_state s t))) three.0 in
+        record { state = not-false _ two.1; untouched = four.1 }
+
+    both_stand : (s t : ℕ) → broken h k (Bell s t) ≡ [] → EndpointsStand (learned h k (Bell s t)) × SeenStand h (learned h k (Bell s t))
+    unfolding learned rung
+    both_stand s t clean =
+        let facts : BellFacts h k s t = bell_facts h k s t clean in
+        cond_both (s == 0) (on_ring h k (command_id h) Opens) (endpoint_rung h k s t (k.ring_of s t)) (λ l. EndpointsStand l × SeenStand h l)
+        (λ first. (command_endpoints, command_seen))
+        (λ other. endpoint_stands s t (k.ring_of s t) facts.started refl (may_ring s t (sym (cond-false (s == 0) (not (t == 0)) (is_bad_bell h k s t) other) ∙ facts.good)))
+
+    pub states_rung : (s t : ℕ) → broken h k (Bell s t) ≡ [] → StatesKeep h (learned h k (Bell s t))
+    states_rung s t clean =
+        let l : Known = learned h k (Bell s t) in
+        let same : BellLeaves k l = bell_leaves h k s t in
+        let both = both_stand s t clean in
+        from_parts h l (row_keeps h is k (Bell s t) (endpoints_of h k d.states)) both.0
+        (slots_same k l same.slots.slot_state same.slots.ring_of same.memory.device (slots_part h k d.states)) both.1

@@ -1,0 +1,209 @@
+-- A Transfer Event keeps what is known of states
+use Rattle.std.specs.Prelude.{◌≡◌, ◌≢◌, ℕ, ◌+◌, ◌&&◌, ◌||◌, not, if◌then◌else◌, Bool, true, false, Option, None, Some, is_none}
+use Rattle.std.proofs.Common.{refl, sym, ◌∙◌, ap, inl, inr}
+use Rattle.std.proofs.lemmas.Bool.{cond_both, and_parts, and_cases, or_parts, or_left, or_right, or_from, not-false, false≢true}
+use Rattle.std.proofs.lemmas.Option.{none-some}
+use Rattle.guest_memory.specs.Memory.{put_pair}
+use Rattle.trb.specs.declared.block.Block.{Block}
+use Rattle.trb.specs.Block.{code, slot, endpoint}
+use Rattle.trb.specs.CompletionCode.{is_success, is_halting, is_trb_error, is_stopping}
+use Rattle.segments.specs.declared.spot.Spot.{Spot}
+use Rattle.segments.specs.Spots.{number, after}
+use Rattle.segments.specs.RingView.{Reaches, Holds}
+use Rattle.segments.specs.Ceiling.{ceiling, is_open, is_data_below, is_stop_spot, stopped_number}
+use Rattle.commands.specs.declared.state.EndpointState.{EndpointState}
+use Rattle.commands.specs.declared.state.EndpointState.TheVariants.{Disabled as Off, Running, Halted, Error}
+use Rattle.commands.specs.States.{is_off, is_running}
+use Rattle.traces.specs.declared.header.Header.{Header}
+use Rattle.traces.specs.Header.{IsHeader, shape_of, command_id}
+use Rattle.ring_knowledge.specs.Known.{Known}
+use Rattle.ring_knowledge.specs.Rings.{RingSpot, on_ring, event_at}
+use Rattle.ring_knowledge.specs.Transfers.{passed, broken_off, stopped_at, transferred, transferred_at, transfer_read}
+use Rattle.ownership_rules.specs.Events.{is_in_profile, is_working, is_stopping_now, can_report, can_report_at, is_impossible_transfer}
+use Rattle.safety.specs.Keeps.{DriverKeeps}
+use Rattle.safety.proofs.Transfers.{chain}
+use Rattle.safety.proofs.DriverRows.{ring_here, ring_elsewhere}
+use Rattle.safety.proofs.EndpointPut.{at_pair}
+use Rattle.safety.proofs.DriverRings.{endpoints_of}
+use Rattle.safety.proofs.TransferFrames.{LeavesSlots, event_ring_of, transfer_command, transfer_slots}
+use Rattle.safety.proofs.StatesParts.{EndpointsStand, SlotsStand, StopsNext, SeenStand, endpoints_part, slots_part, seen_part, stops_is, slots_same}
+use Rattle.safety.proofs.StatesDriver.{view_same, stops_on}
+use Rattle.safety.proofs.StatesOneEndpoint.{OneEndpoint, OneSeen, one_stands, one_seen}
+use Rattle.safety.proofs.StatesRung.{running_is}
+
+pub record PartsStand (h : Header) (k : Known) : Type 0 where
+  pub endpoints : EndpointsStand k
+  pub slots : SlotsStand k
+  pub seen : SeenStand h k
+
+-- the endpoint is Running, and its ring open
+record Works (k : Known) (s i r : ℕ) : Type 0 where
+  pub runs : k.endpoint_state s i ≡ Running
+  pub opened : (k.ring r).held ≡ None
+
+none_is : (o : Option ℕ) → is_none o ≡ true → o ≡ None
+none_is None is = refl
+none_is (Some n) is = absurd (false≢true is)
+
+works_is : (k : Known) (s i r : ℕ) → is_working k s i r ≡ true → Works k s i r
+unfolding is_working is_open
+works_is k s i r is =
+    let parts = and_parts (is_running (k.endpoint_state s i)) (is_none (k.ring r).held) is in
+    record { runs = running_is (k.endpoint_state s i) parts.0; opened = none_is (k.ring r).held parts.1 }
+
+module _ (h : Header) (k : Known) (e : EndpointsStand k) (seen : SeenStand h k) (s i r : ℕ) (bound : k.ring_of s i ≡ Some r) where
+  -- what the event changes
+  record OnlyThis (l : Known) : Type 0 where
+    pub one : OneEndpoint k l s i r
+    pub own : OneSeen h k l s i r
+
+  nothing_more : OnlyThis k
+  nothing_more = record {
+    one = record { ring_of = refl; bound = bound; on = e.on s i r bound; others = λ t j other. refl; held = λ q other. refl; runs = e.open_runs s i r bound };
+    own = record { others = λ t j other. refl; here = λ is. (seen.command s i is, seen.runs s i is, seen.held s i r is bound) };
+  }
+
+  passed_held : (t : Spot) → ((passed h k r t).ring r).held ≡ (k.ring r).held
+  unfolding passed
+  passed_held t = ap (λ v. v.held) (ring_here h k r (Reaches (after (shape_of h r) (number t))))
+
+  passed_other : (t : Spot) (q : ℕ) → q ≢ r → ((passed h k r t).ring q).held ≡ (k.ring q).held
+  unfolding passed
+  passed_other t q other = ap (λ v. v.held) (ring_elsewhere h k r q (Reaches (after (shape_of h r) (number t))) other)
+
+  passed_only : (t : Spot) → OnlyThis (passed h k r t)
+  unfolding passed on_ring
+  passed_only t = record {
+    one = record {
+      ring_of = refl;
+      bound = bound;
+      on = e.on s i r bound;
+      others = λ q j other. refl;
+      held = passed_other t;
+      runs = λ none. e.open_runs s i r bound (sym (passed_held t) ∙ none);
+    };
+    own = record {
+      others = λ q j other. refl;
+      here = λ is. (seen.command s i is, seen.runs s i is, λ none. seen.held s i r is bound (sym (passed_held t) ∙ none));
+    };
+  }
+
+  broken_held : (t : Spot) (state : EndpointState) → ((broken_off h k s i r t state).ring r).held ≡ Some (number t + 1)
+  unfolding broken_off
+  broken_held t state = ap (λ v. v.held) (ring_here h (passed h k r t) r (Holds (number t + 1)))
+
+  broken_other : (t : Spot) (state : EndpointState) (q : ℕ) → q ≢ r → ((broken_off h k s i r t state).ring q).held ≡ (k.ring q).held
+  unfolding broken_off
+  broken_other t state q other = ap (λ v. v.held) (ring_elsewhere h (passed h k r t) r q (Holds (number t + 1)) other) ∙ passed_other t q other
+
+  broken_only : (t : Spot) (state : EndpointState) → state ≢ Off → Works k s i r → OnlyThis (broken_off h k s i r t state)
+  unfolding broken_off passed on_ring
+  broken_only t state on works = record {
+    one = record {
+      ring_of = refl;
+      bound = bound;
+      on = at_pair (λ x. x ≢ Off) k.endpoint_state s i state s i (λ a b. on) (λ other. absurd (other refl refl));
+      others = λ q j other. at_pair (λ x. x ≡ k.endpoint_state q j) k.endpoint_state s i state q j (λ a b. absurd (other a b)) (λ apart. refl);
+      held = broken_other t state;
+      runs = λ none. absurd (none-some (number t + 1) (sym none ∙ broken_held t state));
+    };
+    own = record { others = λ q j other. refl; here = λ is. absurd (seen.held s i r is bound works.opened) };
+  }
+
+  stopped_held : (t : Spot) → ((stopped_at h k s i r t).ring r).held ≡ Some (stopped_number (shape_of h r) (k.ring r) t)
+  unfolding stopped_at
+  stopped_held t =
+      let n : ℕ = stopped_number (shape_of h r) (k.ring r) t in
+      ap (λ v. v.held) (ring_here h (on_ring h k r (Holds n)) r (Reaches t)) ∙ ap (λ v. v.held) (ring_here h k r (Holds n))
+
+  stopped_other : (t : Spot) (q : ℕ) → q ≢ r → ((stopped_at h k s i r t).ring q).held ≡ (k.ring q).held
+  unfolding stopped_at
+  stopped_other t q other =
+      let n : ℕ = stopped_number (shape_of h r) (k.ring r) t in
+      ap (λ v. v.held) (ring_elsewhere h (on_ring h k r (Holds n)) r q (Reaches t) other) ∙ ap (λ v. v.held) (ring_elsewhere h k r q (Holds n) other)
+
+  stopped_only : (t : Spot) → Works k s i r → StopsNext h k s i → OnlyThis (stopped_at h k s i r t)
+  unfolding stopped_at on_ring
+  stopped_only t works stops =
+      let n : ℕ = stopped_number (shape_of h r) (k.ring r) t in
+      record {
+        one = record {
+          ring_of = refl;
+          bound = bound;
+          on = e.on s i r bound;
+          others = λ q j other. refl;
+          held = stopped_other t;
+          runs = λ none. works.runs;
+        };
+        own = record {
+          others = λ q j other. at_pair (λ x. x ≡ k.stop_seen q j) k.stop_seen s i true q j (λ a b. absurd (other a b)) (λ apart. refl);
+          here = λ is. (stops, works.runs, λ none. none-some n (sym none ∙ stopped_held t));
+        };
+      }
+
+  must_only : (l : Known) (f : ℕ → ℕ → Bool) → OnlyThis l → OnlyThis (let m : Known = record l { must_move = f } in m)
+  must_only l f only = record {
+    one = record { ring_of = only.one.ring_of; bound = bound; on = only.one.on; others = only.one.others; held = only.one.held; runs = only.one.runs };
+    own = record { others = only.own.others; here = only.own.here };
+  }
+
+  transferred_only : (c : ℕ) (t : Spot) → can_report h k c s i r t ≡ true → OnlyThis (transferred h k c s i r t)
+  unfolding transferred can_report
+  transferred_only c t can =
+      let below : Bool = is_data_below (ceiling (shape_of h r) (k.ring r)) t in
+      let stops : Bool = is_working k s i r && is_stopping_now h k s i && is_stop_spot (shape_of h r) (k.ring r) t in
+      let cases = chain (is_success c) (is_halting c || is_trb_error c) below (below && is_working k s i r) stops can in
+      let broken : Known = broken_off h k s i r t Halted in
+      let halts : Known = record broken { must_move = put_pair k.must_move s i true } in
+      let fails : Known = broken_off h k s i r t Error in
+      let stopped : Known = if is_stopping c then stopped_at h k s i r t else k in
+      cond_both (is_success c) (passed h k r t) (if is_halting c then halts else if is_trb_error c then fails else stopped) OnlyThis
+      (λ success. passed_only t)
+      (λ other. cond_both (is_halting c) halts (if is_trb_error c then fails else stopped) OnlyThis
+      (λ halting.
+      let works = (and_parts below (is_working k s i r) (cases.1 other (or_left (is_halting c) (is_trb_error c) halting))).1 in
+      must_only broken (put_pair k.must_move s i true) (broken_only t Halted (λ off. cc) (works_is k s i r works)))
+      (λ not_halting. cond_both (is_trb_error c) fails stopped OnlyThis
+      (λ error.
+      let works = (and_parts below (is_working k s i r) (cases.1 other (or_right (is_halting c) (is_trb_error c) error))).1 in
+      broken_only t Error (λ off. cc) (works_is k s i r works))
+      (λ not_error.
+      let spot = and_parts (is_working k s i r && is_stopping_now h k s i) (is_stop_spot (shape_of h r) (k.ring r) t)
+      (cases.2 other (or_from (is_halting c) (is_trb_error c) not_halting not_error)) in
+      let both = and_parts (is_working k s i r) (is_stopping_now h k s i) spot.0 in
+      cond_both (is_stopping c) (stopped_at h k s i r t) k OnlyThis (λ _. stopped_only t (works_is k s i r both.0) (stops_is h k s i both.1)) (λ _. nothing_more))))
+
+  only_both : (l : Known) → l.ring (command_id h) ≡ k.ring (command_id h) → OnlyThis l → EndpointsStand l × SeenStand h l
+  only_both l command only = (
+    one_stands k l s i r e only.one,
+    one_seen k l s i r e only.one h seen only.own (stops_on h k l (view_same (shape_of h (command_id h)) (k.ring (command_id h)) (l.ring (command_id h)) command)),
+  )
+
+module _ (h : Header) (is : IsHeader h) (k : Known) (d : DriverKeeps h k) where
+  pub reported : (b : Block) → is_impossible_transfer h k b ≡ false → is_in_profile b ≡ true → can_report_at h k b (event_at h k b) ≡ true
+  unfolding is_impossible_transfer
+  reported b possible inside =
+      elim (and_cases (is_in_profile b) (is_off (k.endpoint_state (slot b) (endpoint b)) || not (can_report_at h k b (event_at h k b))) possible) [
+        | inl outside ↦ absurd (false≢true (sym outside ∙ inside))
+        | inr none ↦ not-false (can_report_at h k b (event_at h k b)) (or_parts (is_off (k.endpoint_state (slot b) (endpoint b))) (not (can_report_at h k b (event_at h k b))) none).1
+      ]
+
+  at_stands : (b : Block) (o : Option RingSpot) → event_at h k b ≡ o → can_report_at h k b o ≡ true → (transferred_at h k b o).ring (command_id h) ≡ k.ring (command_id h) →
+      EndpointsStand (transferred_at h k b o) × SeenStand h (transferred_at h k b o)
+  unfolding transferred_at can_report_at
+  at_stands b None found can command = (endpoints_part h k d.states, seen_part h k d.states)
+  at_stands b (Some at) found can command =
+      only_both h k (endpoints_part h k d.states) (seen_part h k d.states) (slot b) (endpoint b) at.ring (event_ring_of h k b at found)
+      (transferred h k (code b) (slot b) (endpoint b) at.ring at.spot) command
+      (transferred_only h k (endpoints_part h k d.states) (seen_part h k d.states) (slot b) (endpoint b) at.ring (event_ring_of h k b at found) (code b) at.spot can)
+
+  transfer_both : (b : Block) → is_impossible_transfer h k b ≡ false → is_in_profile b ≡ true → (transfer_read h k b).ring (command_id h) ≡ k.ring (command_id h) →
+      EndpointsStand (transfer_read h k b) × SeenStand h (transfer_read h k b)
+  unfolding transfer_read
+  transfer_both b possible inside command = at_stands b (event_at h k b) refl (reported b possible inside) command
+
+  pub transfer_stands : (b : Block) → is_impossible_transfer h k b ≡ false → is_in_profile b ≡ true → PartsStand h (transfer_read h k b)
+  transfer_stands b possible inside =
+      let both = transfer_both b possible inside (transfer_command h is k (endpoints_of h k d.states) b) in
+      let slots : LeavesSlots h k (transfer_read h k b) = transfer_slots h k b in
+      record { endpoints = both.0; slots = slots_same k (transfer_read h k b) slots.slot_state slots.ring_of slots.device (slots_part h k d.states); seen = both.1 }

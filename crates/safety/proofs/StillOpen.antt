@@ -1,0 +1,39 @@
+-- No event holds the command ring
+use Rattle.std.specs.Prelude.{◌≡◌, true, None}
+use Rattle.std.proofs.Common.{refl, ◌∙◌, ap}
+use Rattle.trb.specs.declared.block.Block.{Block}
+use Rattle.trb.specs.declared.kind.BlockKind.{BlockKind}
+use Rattle.trb.specs.declared.kind.BlockKind.TheVariants.{TransferEvent, CommandCompletion}
+use Rattle.trb.specs.Block.{kind}
+use Rattle.segments.specs.RingView.{RingView}
+use Rattle.segments.specs.Ceiling.{is_open}
+use Rattle.traces.specs.declared.header.Header.{Header}
+use Rattle.traces.specs.declared.row.Row.TheVariants.{Read}
+use Rattle.traces.specs.Header.{IsHeader, command_id}
+use Rattle.ring_knowledge.specs.Known.{Known}
+use Rattle.ring_knowledge.specs.Learned.{event_read, learned}
+use Rattle.safety.specs.Keeps.{DriverKeeps}
+use Rattle.safety.specs.EndpointsKeep.{EndpointsKeep}
+use Rattle.safety.proofs.DriverRings.{endpoints_of}
+use Rattle.safety.proofs.TransferFrames.{transfer_command}
+use Rattle.safety.proofs.KeptCommands.{completed_view}
+use Rattle.safety.proofs.RowIdle.{open_held}
+
+held_open : (v : RingView) → v.held ≡ None → is_open v ≡ true
+unfolding is_open
+held_open v none = rw none refl
+
+module _ (h : Header) (is : IsHeader h) (k : Known) (keeps : EndpointsKeep h k) (b : Block) where
+  event_held : (t : BlockKind) → (k.ring (command_id h)).held ≡ None → ((event_read h k t b).ring (command_id h)).held ≡ None
+  unfolding event_read
+  event_held TransferEvent none = ap (λ v. v.held) (transfer_command h is k keeps b) ∙ none
+  event_held CommandCompletion none = ap (λ v. v.held) (completed_view h is k keeps b) ∙ none
+  event_held _ none = none
+
+  read_held : (k.ring (command_id h)).held ≡ None → ((learned h k (Read b)).ring (command_id h)).held ≡ None
+  unfolding learned
+  read_held none = event_held (kind b) none
+
+-- behind an event it is open still
+pub still_open : (h : Header) → IsHeader h → (k : Known) (b : Block) → DriverKeeps h k → is_open (k.ring (command_id h)) ≡ true → is_open ((learned h k (Read b)).ring (command_id h)) ≡ true
+still_open h is k b d opened = held_open ((learned h k (Read b)).ring (command_id h)) (read_held h is k (endpoints_of h k d.states) b (open_held (k.ring (command_id h)) opened))

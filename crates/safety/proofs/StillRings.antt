@@ -1,0 +1,178 @@
+-- Behind an event an endpoint whose doorbell does nothing stays one
+use Rattle.std.specs.Prelude.{◌≡◌, ℕ, ◌==◌, ◌&&◌, ◌||◌, not, if◌then◌else◌, Bool, true, false, [], Option, None, Some}
+use Rattle.std.specs.List.{list_any}
+use Rattle.std.proofs.Common.{refl, sym, ◌∙◌, ap, subst, inl, inr}
+use Rattle.std.proofs.lemmas.Bool.{cases_Bool, cond_both, and_parts, or_from, eqb-true, eq-eqb, and_from, not-false, false≢true, false_from_ne_true}
+use Rattle.guest_memory.specs.Memory.{put_pair}
+use Rattle.trb.specs.declared.block.Block.{Block}
+use Rattle.trb.specs.declared.kind.BlockKind.{BlockKind}
+use Rattle.trb.specs.declared.kind.BlockKind.TheVariants.{TransferEvent, CommandCompletion}
+use Rattle.trb.specs.Block.{kind, code, slot, endpoint}
+use Rattle.trb.specs.Kind.{is_transfer_event, is_command_completion}
+use Rattle.trb.specs.CompletionCode.{is_success, is_halting, is_trb_error, is_stopping}
+use Rattle.segments.specs.declared.spot.Spot.{Spot}
+use Rattle.segments.specs.Spots.{number, after}
+use Rattle.segments.specs.Ceiling.{ceiling, is_data_below, is_stop_spot}
+use Rattle.commands.specs.declared.command.Command.{Command}
+use Rattle.commands.specs.declared.command.Command.TheVariants.{StopEndpoint}
+use Rattle.commands.specs.declared.state.EndpointState.{EndpointState}
+use Rattle.commands.specs.declared.state.EndpointState.TheVariants.{Halted, Error}
+use Rattle.commands.specs.Changes.{changes, touches}
+use Rattle.traces.specs.declared.header.Header.{Header}
+use Rattle.traces.specs.declared.row.Row.TheVariants.{Read}
+use Rattle.traces.specs.Header.{IsHeader, shape_of}
+use Rattle.ring_knowledge.specs.Known.{Known}
+use Rattle.ring_knowledge.specs.Rings.{RingSpot, on_ring, event_at, next_command, unfinished}
+use Rattle.ring_knowledge.specs.Transfers.{passed, broken_off, stopped_at, transferred, transferred_at, transfer_read}
+use Rattle.ring_knowledge.specs.Learned.{event_read, learned}
+use Rattle.ownership_rules.specs.Doorbells.{touches_endpoint, is_touched}
+use Rattle.ownership_rules.specs.Events.{is_in_profile, is_working, is_stopping_now, can_report, can_report_at, is_impossible_by_kind}
+use Rattle.ownership_rules.specs.Rules.{broken}
+use Rattle.ownership_rules.proofs.Among.{some_of, any_of}
+use Rattle.safety.specs.Keeps.{DriverKeeps}
+use Rattle.safety.specs.Beneath.{IsIdleEndpoint, MayRing}
+use Rattle.safety.proofs.CleanRows.{EventFacts, event_facts}
+use Rattle.safety.proofs.EndpointPut.{at_pair}
+use Rattle.safety.proofs.KeptRings.{completion_facts, next_unfinished}
+use Rattle.safety.proofs.SameDriver.{event_same}
+use Rattle.safety.proofs.StatesCompletion.{reached_held}
+use Rattle.safety.proofs.StatesParts.{StopsNext, stops_is}
+use Rattle.safety.proofs.StatesRung.{stop_touches}
+use Rattle.safety.proofs.StatesTransfer.{reported}
+use Rattle.safety.proofs.TransferFrames.{event_ring_of}
+use Rattle.safety.proofs.TransferLeaves.{TransferLeaves, transferred_leaves}
+use Rattle.safety.proofs.Transfers.{chain}
+use Rattle.safety.proofs.UnfinishedBehind.{listed_before}
+use Rattle.safety.proofs.UnfinishedLists.{unfinished_fails}
+use Rattle.safety.proofs.UntouchedHeld.{EndpointHolds}
+use Rattle.safety.proofs.UntouchedCompletion.{completion_holds}
+use Rattle.safety.proofs.RowRuns.{StillRingsLaw}
+
+module _ (h : Header) where
+  -- an endpoint that is left is idle still
+  idle_held : (k l : Known) (s i : ℕ) → EndpointHolds k l s i → IsIdleEndpoint h k s i → IsIdleEndpoint h l s i
+  idle_held k l s i holds idle =
+      elim idle [
+        | inl works ↦ inl (holds.state ∙ works.0, λ r at. let was : k.ring_of s i ≡ Some r = sym holds.ring_of ∙ at in holds.held r was ∙ works.1 r was)
+        | inr rests ↦ inr (elim rests [ inl halted ↦ inl (holds.state ∙ halted) | inr failed ↦ inr (holds.state ∙ failed) ])
+      ]
+
+  -- ---- a Transfer Event, for the endpoint of slot s at index i and its ring r
+
+  module _ (k : Known) (s i r : ℕ) where
+    passed_rest : (t : Spot) → ((passed h k r t).endpoint_state ≡ k.endpoint_state) × ((passed h k r t).ring_of ≡ k.ring_of)
+    unfolding passed on_ring
+    passed_rest t = (refl, refl)
+
+    passed_held : (t : Spot) (q : ℕ) → ((passed h k r t).ring q).held ≡ (k.ring q).held
+    unfolding passed
+    passed_held t q = reached_held h k r (after (shape_of h r) (number t)) q
+
+    passed_holds : (t : Spot) → EndpointHolds k (passed h k r t) s i
+    passed_holds t = let rest = passed_rest t in record { state = ap (λ f. f s i) rest.0; ring_of = ap (λ f. f s i) rest.1; held = λ q at. passed_held t q }
+
+    broken_state : (t : Spot) (state : EndpointState) → (broken_off h k s i r t state).endpoint_state s i ≡ state
+    unfolding broken_off
+    broken_state t state = at_pair (λ x. x ≡ state) k.endpoint_state s i state s i (λ a b. refl) (λ other. absurd (other refl refl))
+
+    -- on the endpoint itself, which isn't being stopped
+    transferred_idle : (c : ℕ) (t : Spot) → can_report h k c s i r t ≡ true → (is_stopping_now h k s i ≡ true → ⊥) → IsIdleEndpoint h k s i → IsIdleEndpoint h (transferred h k c s i r t) s i
+    unfolding transferred can_report
+    transferred_idle c t can never idle =
+        let below : Bool = is_data_below (ceiling (shape_of h r) (k.ring r)) t in
+        let stops : Bool = is_working k s i r && is_stopping_now h k s i && is_stop_spot (shape_of h r) (k.ring r) t in
+        let cases = chain (is_success c) (is_halting c || is_trb_error c) below (below && is_working k s i r) stops can in
+        let broken : Known = broken_off h k s i r t Halted in
+        let halts : Known = record broken { must_move = put_pair k.must_move s i true } in
+        let fails : Known = broken_off h k s i r t Error in
+        let stopped : Known = if is_stopping c then stopped_at h k s i r t else k in
+        cond_both (is_success c) (passed h k r t) (if is_halting c then halts else if is_trb_error c then fails else stopped) (λ l. IsIdleEndpoint h l s i)
+        (λ success. idle_held k (passed h k r t) s i (passed_holds t) idle)
+        (λ other. cond_both (is_halting c) halts (if is_trb_error c then fails else stopped) (λ l. IsIdleEndpoint h l s i)
+        (λ halting. inr (inl (broken_state t Halted)))
+        (λ not_halting. cond_both (is_trb_error c) fails stopped (λ l. IsIdleEndpoint h l s i)
+        (λ error. inr (inr (broken_state t Error)))
+        (λ not_error.
+        let spot = and_parts (is_working k s i r && is_stopping_now h k s i) (is_stop_spot (shape_of h r) (k.ring r) t)
+        (cases.2 other (or_from (is_halting c) (is_trb_error c) not_halting not_error)) in
+        absurd (never (and_parts (is_working k s i r) (is_stopping_now h k s i) spot.0).1))))
+
+  module _ (is : IsHeader h) (k : Known) (d : DriverKeeps h k) (s i : ℕ) where
+    -- no unfinished command stops it
+    not_stopping : k.started ≡ true → is_touched h k s i ≡ false → is_stopping_now h k s i ≡ true → ⊥
+    unfolding is_touched
+    not_stopping started none now =
+        let stops : StopsNext h k s i = stops_is h k s i now in
+        let u = next_unfinished h is k d started stops.below (StopEndpoint s i) stops.command in
+        false≢true (sym (unfinished_fails h k (touches_endpoint h k s i) (next_command h k) (StopEndpoint s i) none u) ∙ stop_touches h is k d s i)
+
+    -- an event for another endpoint
+    other_holds : (t j r : ℕ) (l : Known) → (s ≡ t → i ≡ j → ⊥) → k.ring_of t j ≡ Some r → TransferLeaves k l t j r → EndpointHolds k l s i
+    other_holds t j r l other bound leaves = record {
+      state = leaves.states s i other;
+      ring_of = ap (λ f. f s i) leaves.ring_of;
+      held = λ q at. ap (λ v. v.held) (leaves.others q (λ same. let both = d.states.one_endpoint s i t j r (at ∙ ap (λ n. Some n) same) bound in other both.0 both.1));
+    }
+
+    module _ (started : k.started ≡ true) (may : MayRing h k s i) where
+      on_ring_idle : (c t j r : ℕ) (spot : Spot) → k.ring_of t j ≡ Some r → can_report h k c t j r spot ≡ true → IsIdleEndpoint h (transferred h k c t j r spot) s i
+      on_ring_idle c t j r spot bound can =
+          elim (cases_Bool (s == t && i == j)) [
+            | inl same ↦
+                let parts = and_parts (s == t) (i == j) same in
+                let slots : s ≡ t = eqb-true s t parts.0 in
+                let indices : i ≡ j = eqb-true i j parts.1 in
+                let there : can_report h k c s i r spot ≡ true = ap (λ n. can_report h k c n i r spot) slots ∙ ap (λ n. can_report h k c t n r spot) indices ∙ can in
+                subst (λ n. IsIdleEndpoint h (transferred h k c n j r spot) s i) slots
+                (subst (λ n. IsIdleEndpoint h (transferred h k c s n r spot) s i) indices
+                (transferred_idle k s i r c spot there (not_stopping started may.untouched) may.state))
+            | inr other ↦
+                idle_held k (transferred h k c t j r spot) s i
+                (other_holds t j r (transferred h k c t j r spot) (λ a b. false≢true (sym other ∙ and_from (s == t) (i == j) (eq-eqb s t a) (eq-eqb i j b))) bound
+                (transferred_leaves h k t j r c spot can)) may.state
+          ]
+
+      at_idle : (b : Block) (o : Option RingSpot) → event_at h k b ≡ o → can_report_at h k b o ≡ true → IsIdleEndpoint h (transferred_at h k b o) s i
+      unfolding transferred_at can_report_at
+      at_idle b None found can = may.state
+      at_idle b (Some at) found can = on_ring_idle (code b) (slot b) (endpoint b) at.ring at.spot (event_ring_of h k b at found) can
+
+      -- ---- any event
+
+      event_idle : (b : Block) (n : BlockKind) → kind b ≡ n → is_impossible_by_kind h k n b ≡ false → (is_transfer_event n && not (is_in_profile b)) ≡ false → IsIdleEndpoint h (event_read h k n b) s i
+      unfolding event_read is_impossible_by_kind transfer_read
+      event_idle b TransferEvent at possible inside = at_idle b (event_at h k b) refl (reported h is k d b possible (not-false (is_in_profile b) inside))
+      event_idle b CommandCompletion at possible inside =
+          idle_held k (event_read h k CommandCompletion b) s i
+          (completion_holds h s i is k d b started (completion_facts h k b (ap is_command_completion at) (ap (λ m. is_impossible_by_kind h k m b) at ∙ possible)) may.untouched) may.state
+      event_idle b _ at possible inside = may.state
+
+  -- ---- what is unfinished
+
+  memory_same : (k : Known) (e : Block) → (learned h k (Read e)).memory ≡ k.memory
+  unfolding learned
+  memory_same k e = (event_same h k (kind e) e).memory
+
+  touches_same : (k : Known) (e : Block) (s i : ℕ) (c : Command) → touches_endpoint h (learned h k (Read e)) s i c ≡ touches_endpoint h k s i c
+  unfolding touches_endpoint
+  touches_same k e s i c = ap (λ m. list_any (touches s i) (changes h.context_size m 0 c)) (memory_same k e)
+
+  untouched_behind : IsHeader h → (k : Known) (d : DriverKeeps h k) (e : Block) → broken h k (Read e) ≡ [] → (s i : ℕ) → is_touched h k s i ≡ false → is_touched h (learned h k (Read e)) s i ≡ false
+  unfolding is_touched
+  untouched_behind is k d e clean s i none =
+      let l : Known = learned h k (Read e) in
+      false_from_ne_true (list_any (touches_endpoint h l s i) (unfinished h l)) (λ touched.
+      let found = some_of (touches_endpoint h l s i) (unfinished h l) touched in
+      false≢true (sym none ∙ any_of (touches_endpoint h k s i) (unfinished h k) found.0 (listed_before h is k d e clean found.0 found.1) (sym (touches_same k e s i found.0) ∙ found.2)))
+
+  read_idle : (k : Known) (e : Block) (s i : ℕ) → IsIdleEndpoint h (event_read h k (kind e) e) s i → IsIdleEndpoint h (learned h k (Read e)) s i
+  unfolding learned
+  read_idle k e s i idle = idle
+
+  pub still_rings : StillRingsLaw h
+  still_rings k s t e is d may clean =
+      let facts : EventFacts h k e = event_facts h k e clean in
+      record {
+        untouched = untouched_behind is k d e clean s t may.untouched;
+        state = read_idle k e s t (event_idle is k d s t facts.started may e (kind e) refl facts.possible facts.inside);
+      }

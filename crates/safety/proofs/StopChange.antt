@@ -1,0 +1,167 @@
+-- The change of a Stop Endpoint's success: the endpoint is Stopped, and its ring held at its ceiling and inactive
+use Rattle.std.specs.Prelude.{◌≡◌, ◌≢◌, ℕ, false, List, [], ◌∷◌, Option, Some, None}
+use Rattle.std.proofs.Common.{arith, refl, sym, ◌∙◌, ap, subst, inl, inr}
+use Rattle.std.proofs.lemmas.Bool.{cases_eq, false≢true}
+use Rattle.std.proofs.lemmas.Option.{same_Some}
+use Rattle.guest_memory.specs.Memory.{put}
+use Rattle.segments.specs.declared.spot.Spot.{Spot}
+use Rattle.segments.specs.ShapeValue.{Shape}
+use Rattle.segments.specs.RingView.{RingView}
+use Rattle.segments.specs.Ceiling.{ceiling, is_way_given}
+use Rattle.commands.specs.declared.command.Command.{Command}
+use Rattle.commands.specs.declared.state.EndpointState.TheVariants.{Stopped}
+use Rattle.commands.specs.Changes.{Stops}
+use Rattle.traces.specs.declared.header.Header.{Header}
+use Rattle.traces.specs.Header.{shape_of, command_id}
+use Rattle.world_state.specs.World.{World, RingEvent, Took, Placed}
+use Rattle.controller_model.specs.Bindings as bindings
+use Rattle.ring_knowledge.specs.Known.{Known}
+use Rattle.ring_knowledge.specs.Rings as of_rings
+use Rattle.ring_knowledge.specs.Completions as completions
+use Rattle.safety.specs.Matches.{Newest, RingState, state_of, RingMatches, BoundRing, FreeRing, EndpointRing}
+use Rattle.safety.proofs.NoWait.{ceiling_held}
+use Rattle.safety.proofs.LookKinds.{put_at, put_off}
+use Rattle.safety.proofs.FinishChanges.{StatesMatch, ChangeKeeps, none_keeps, both_keep}
+use Rattle.safety.proofs.SlotChanges.{state_made}
+
+-- ---- one ring
+
+-- held where it may have gone
+abbrev held_view : Shape → RingView → RingView
+held_view shape v = record v { held = Some (ceiling shape v) }
+
+abbrev resting : RingState → RingState
+resting s = record s { active = false }
+
+ways_still : (shape : Shape) (v : RingView) (q : ℕ) → is_way_given shape (held_view shape v) q ≡ is_way_given shape v q
+unfolding is_way_given
+ways_still shape v q = refl
+
+newest_still : (shape : Shape) (v : RingView) (n : ℕ) (events : List RingEvent) → Newest v n events → Newest (held_view shape v) n events
+newest_still shape v n [] newest = newest
+newest_still shape v n (Placed a ∷ older) newest = newest
+newest_still shape v n (Took a b d ∷ older) newest = newest
+
+held_matches : (shape : Shape) (v : RingView) (s : RingState) (t : Spot) → RingMatches shape v s t → RingMatches shape (held_view shape v) (resting s) t
+held_matches shape v s t m = record {
+  is_spot = m.is_spot;
+  pointer = m.pointer;
+  cycle = m.cycle;
+  reached = m.reached;
+  below = omega (arith, m.below, ceiling_held shape (held_view shape v) (ceiling shape v) refl);
+  way = λ q e. ways_still shape v q ∙ m.way q e;
+  opened = λ on. absurd (false≢true on);
+  next = m.next;
+  newest = newest_still shape v _ s.events m.newest;
+  in_order = m.in_order;
+  as_declared = m.as_declared;
+}
+
+held_ring : (shape : Shape) (ring_of : ℕ → ℕ → Option ℕ) (v : RingView) (s : RingState) (r : ℕ) → BoundRing shape ring_of v s r → BoundRing shape ring_of (held_view shape v) (resting s) r
+held_ring shape ring_of v s r b = record {
+  slot = b.slot;
+  index = b.index;
+  bound = b.bound;
+  spot = b.spot;
+  matches = held_matches shape v s b.spot b.matches;
+  takes = record { takes = b.takes.takes; most = b.takes.most };
+}
+
+-- ---- all rings
+
+module _ (h : Header) (k : Known) (w : World) (m : StatesMatch h k w) (s i r : ℕ) (had : k.ring_of s i ≡ Some r) where
+  abbrev held : Known
+  held = record k { ring = put k.ring r (held_view (shape_of h r) (k.ring r)) }
+
+  abbrev rested : World
+  rested = record w { is_active = put w.is_active r false }
+
+  apart : r ≢ command_id h
+  apart = m.apart s i r had
+
+  ring_here : held.ring r ≡ held_view (shape_of h r) (k.ring r)
+  ring_here = put_at k.ring r _
+
+  ring_elsewhere : (q : ℕ) → q ≢ r → held.ring q ≡ k.ring q
+  ring_elsewhere q other = put_off k.ring r _ q other
+
+  state_here : state_of rested r ≡ resting (state_of w r)
+  state_here = ap (λ x. let y : RingState = record (state_of w r) { active = x } in y) (put_at w.is_active r false)
+
+  state_elsewhere : (q : ℕ) → q ≢ r → state_of rested q ≡ state_of w q
+  state_elsewhere q other = ap (λ x. let y : RingState = record (state_of w q) { active = x } in y) (put_off w.is_active r false q other)
+
+  stopped_here : EndpointRing h k w r → EndpointRing h held rested r
+  stopped_here (inl bound) =
+      inl (subst (λ x. BoundRing (shape_of h r) k.ring_of x (state_of rested r) r) (sym ring_here)
+      (subst (λ x. BoundRing (shape_of h r) k.ring_of (held_view (shape_of h r) (k.ring r)) x r) (sym state_here) (held_ring (shape_of h r) k.ring_of (k.ring r) (state_of w r) r bound)))
+  stopped_here (inr free) = absurd (free.none s i had)
+
+  stopped_elsewhere : (q : ℕ) → q ≢ r → EndpointRing h k w q → EndpointRing h held rested q
+  stopped_elsewhere q other (inl bound) =
+      inl (subst (λ x. BoundRing (shape_of h q) k.ring_of x (state_of rested q) q) (sym (ring_elsewhere q other))
+      (subst (λ x. BoundRing (shape_of h q) k.ring_of (k.ring q) x q) (sym (state_elsewhere q other)) bound))
+  stopped_elsewhere q other (inr free) = inr (subst (λ x. FreeRing (shape_of h q) k.ring_of x q) (sym (state_elsewhere q other)) free)
+
+  stopped_ring : (q : ℕ) → q ≢ command_id h → EndpointRing h held rested q
+  stopped_ring q not_command =
+      elim (cases_eq q r) [
+        | inl same ↦ subst (λ x. EndpointRing h held rested x) (sym same) (stopped_here (m.rings r apart))
+        | inr other ↦ stopped_elsewhere q other (m.rings q not_command)
+      ]
+
+  queue_still : (q : ℕ) → (held.ring q).queue ≡ (k.ring q).queue
+  queue_still q =
+      elim (cases_eq q r) [
+        | inl same ↦ ap (λ p. (held.ring p).queue) same ∙ ap (λ x. x.queue) ring_here ∙ ap (λ p. (k.ring p).queue) (sym same)
+        | inr other ↦ ap (λ x. x.queue) (ring_elsewhere q other)
+      ]
+
+  lengths_still : (q : ℕ) → (held.ring q).lengths ≡ (k.ring q).lengths
+  lengths_still q =
+      elim (cases_eq q r) [
+        | inl same ↦ ap (λ p. (held.ring p).lengths) same ∙ ap (λ x. x.lengths) ring_here ∙ ap (λ p. (k.ring p).lengths) (sym same)
+        | inr other ↦ ap (λ x. x.lengths) (ring_elsewhere q other)
+      ]
+
+  held_keeps : ChangeKeeps h k held w rested
+  held_keeps = record {
+    states = record {
+      slots = m.slots;
+      endpoints = m.endpoints;
+      ring_of = m.ring_of;
+      rings = stopped_ring;
+      fresh = m.fresh;
+      scribbles = m.scribbles;
+      apart = m.apart;
+      one_endpoint = m.one_endpoint;
+      within = m.within;
+    };
+    rest = record {
+      known = refl;
+      world = refl;
+      queues = queue_still;
+      lengths = lengths_still;
+      command_known = ring_elsewhere (command_id h) (λ e. apart (sym e));
+      command_world = state_elsewhere (command_id h) (λ e. apart (sym e));
+    };
+  }
+
+-- the ring of an endpoint, if it has one
+module _ (h : Header) (k : Known) (w : World) (m : StatesMatch h k w) where
+  ring_stops : (s i : ℕ) (o : Option ℕ) → k.ring_of s i ≡ o → ChangeKeeps h k (completions.held_at_ceiling h k o) w (bindings.inactive w o)
+  unfolding completions.held_at_ceiling bindings.inactive of_rings.on_ring
+  ring_stops s i None at = none_keeps h k w m
+  ring_stops s i (Some r) at = held_keeps h k w m s i r at
+
+module _ (h : Header) (c : Command) (k : Known) (w : World) (m : StatesMatch h k w) where
+  pub stop_keeps : (s i : ℕ) (v : World) → bindings.changed_by h c w (Stops s i) ≡ Some v → ChangeKeeps h k (completions.changed_by h c k (Stops s i)) w v
+  unfolding bindings.changed_by completions.changed_by completions.in_state
+  stop_keeps s i v at =
+      let l : Known = completions.in_state h k s i Stopped in
+      let u : World = bindings.in_state w s i Stopped in
+      let one = state_made h c k w m s i Stopped in
+      let two = ring_stops h l u one.states s i (k.ring_of s i) refl in
+      subst (λ x. ChangeKeeps h k (completions.held_at_ceiling h l (k.ring_of s i)) w x) (same_Some _ v at)
+      (subst (λ o. ChangeKeeps h k (completions.held_at_ceiling h l (k.ring_of s i)) w (bindings.inactive u o)) (sym (m.ring_of s i))
+      (both_keep h k l (completions.held_at_ceiling h l (k.ring_of s i)) w u (bindings.inactive u (k.ring_of s i)) one.rest two))

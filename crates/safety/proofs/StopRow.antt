@@ -1,0 +1,133 @@
+-- The driver stops the controller: the run has ended, and its world is safe
+use Rattle.std.specs.Prelude.{◌≡◌, ℕ, ◌&&◌, ◌||◌, Bool, true, false, not, List, ◌∷◌, [], Some, if◌then◌else◌}
+use Rattle.std.proofs.Common.{refl, sym, ◌∙◌, ap, subst, inl, inr}
+use Rattle.std.proofs.lemmas.Bool.{cases_Bool, cond-false, cond-true, false≢true}
+use Rattle.std.proofs.lemmas.Option.{same_Some}
+use Rattle.trb.specs.declared.block.Block.{Block}
+use Rattle.trb.specs.Block.{kind}
+use Rattle.traces.specs.declared.header.Header.{Header}
+use Rattle.traces.specs.declared.row.Row.{Row}
+use Rattle.traces.specs.declared.row.Row.TheVariants.{Sub, Write, Reg, Bell, Read}
+use Rattle.traces.specs.declared.register.Register.{Register}
+use Rattle.traces.specs.declared.register.Register.TheVariants.{Usbcmd, Usbsts, Dnctrl, Crcr, Dcbaap, Config, Iman, Imod, Erstsz, Erstba, Erdp}
+use Rattle.traces.specs.Header.{IsHeader}
+use Rattle.traces.specs.Register.{run_bit, reset_bit}
+use Rattle.world_state.specs.World.{World}
+use Rattle.world_state.specs.Harms.{IsSafe}
+use Rattle.world_state.specs.Harms as of_harms
+use Rattle.controller_model.specs.DriverRows as driver
+use Rattle.controller_model.specs.Steps.{counted}
+use Rattle.ring_knowledge.specs.Known.{Known}
+use Rattle.ring_knowledge.specs.Learned.{learned, known}
+use Rattle.ring_knowledge.specs.Registers as registers
+use Rattle.ownership_rules.specs.Clean.{IsClean}
+use Rattle.safety.specs.Keeps.{DriverKeeps}
+use Rattle.safety.specs.Invariant.{Runs, Ended, reading}
+use Rattle.safety.proofs.EventRead.{learned_read}
+use Rattle.safety.proofs.ReadRow.{read_on}
+use Rattle.safety.proofs.RowFrames.{declaration_leaves, write_leaves, bell_leaves}
+use Rattle.safety.proofs.Safe.{safe}
+use Rattle.safety.proofs.SameDriver.{event_same}
+
+-- the value stops a controller that runs
+abbrev is_stop : ℕ → Bool
+is_stop x = not (run_bit x) || reset_bit x
+
+-- how a row can have stopped the controller
+record IsStopRow (k : Known) (row : Row) : Type 0 where
+  value : ℕ
+  row_is : row ≡ Reg Usbcmd value
+  started : k.started ≡ true
+  stop : is_stop value ≡ true
+
+module _ (h : Header) where
+  stopped_world : World → ℕ → World
+  stopped_world w x = record (driver.valued w Usbcmd x) { stopped = true }
+
+  world_stops : (w v : World) (x : ℕ) → w.started ≡ true → is_stop x ≡ true → driver.row_done h w (Reg Usbcmd x) ≡ Some v → stopped_world w x ≡ v
+  unfolding driver.row_done driver.register_row driver.run_or_stop driver.valued stopped_world
+  world_stops w v x on stop at =
+      let u : World = driver.valued w Usbcmd x in
+      let later : World = stopped_world w x in
+      let first : World = if run_bit x && not (reset_bit x) then driver.started_with h u else u in
+      let second : World = if is_stop x then later else u in
+      sym (cond-false (not w.started) first second (ap not on) ∙ cond-true (is_stop x) later u stop) ∙ same_Some _ v at
+
+  -- nothing that harms are told of changes
+  safe_stopped : (w : World) (x : ℕ) → IsSafe h w → IsSafe h (counted h (stopped_world w x))
+  unfolding of_harms.harm_of of_harms.harms of_harms.waits of_harms.has_changed_context of_harms.is_context_changed of_harms.is_changed_since counted driver.valued stopped_world
+  safe_stopped w x is = is
+
+  neither : (b : Bool) (p q : Known) → p.stopped ≡ false → q.stopped ≡ false → (if b then p else q).stopped ≡ false
+  neither true p q one two = one
+  neither false p q one two = two
+
+  run_stops : (k : Known) (x : ℕ) → k.stopped ≡ false → (registers.run_or_stop (registers.valued k Usbcmd x) x).stopped ≡ true → (k.started ≡ true) × (is_stop x ≡ true)
+  unfolding registers.run_or_stop registers.valued
+  run_stops k x on stopped =
+      let u : Known = registers.valued k Usbcmd x in
+      let begun : Known = record u { started = true } in
+      let ended : Known = record u { stopped = true } in
+      let first : Known = if run_bit x && not (reset_bit x) then begun else u in
+      let second : Known = if is_stop x then ended else u in
+      elim (cases_Bool k.started) [
+        | inl started ↦ elim (cases_Bool (is_stop x)) [
+          | inl stop ↦ (started, stop)
+          | inr goes ↦
+              let same : (if not k.started then first else second) ≡ u = cond-false (not k.started) first second (ap not started) ∙ cond-false (is_stop x) ended u goes in
+              absurd (false≢true (sym on ∙ sym (ap (λ m. m.stopped) same) ∙ stopped))
+        ]
+        | inr off ↦
+            let same : (if not k.started then first else second) ≡ first = cond-true (not k.started) first second (ap not off) in
+            absurd (false≢true (sym (neither (run_bit x && not (reset_bit x)) begun u on on) ∙ sym (ap (λ m. m.stopped) same) ∙ stopped))
+      ]
+
+  register_stop : (k : Known) (r : Register) (x : ℕ) → k.stopped ≡ false → (registers.register_written h k r x).stopped ≡ true → IsStopRow k (Reg r x)
+  unfolding registers.register_written registers.valued
+  register_stop k Usbcmd x on stopped = let s = run_stops k x on stopped in record { value = x; row_is = refl; started = s.0; stop = s.1 }
+  register_stop k Usbsts x on stopped = absurd (false≢true (sym on ∙ stopped))
+  register_stop k Dnctrl x on stopped = absurd (false≢true (sym on ∙ stopped))
+  register_stop k Crcr x on stopped = absurd (false≢true (sym on ∙ stopped))
+  register_stop k Dcbaap x on stopped = absurd (false≢true (sym on ∙ stopped))
+  register_stop k Config x on stopped = absurd (false≢true (sym on ∙ stopped))
+  register_stop k Iman x on stopped = absurd (false≢true (sym on ∙ stopped))
+  register_stop k Imod x on stopped = absurd (false≢true (sym on ∙ stopped))
+  register_stop k Erstsz x on stopped = absurd (false≢true (sym on ∙ stopped))
+  register_stop k Erstba x on stopped = absurd (false≢true (sym on ∙ stopped))
+  register_stop k Erdp x on stopped = absurd (false≢true (sym on ∙ stopped))
+
+  stop_row : (k : Known) (row : Row) → k.stopped ≡ false → (learned h k row).stopped ≡ true → IsStopRow k row
+  unfolding learned
+  stop_row k (Sub r blocks) on stopped = absurd (false≢true (sym ((declaration_leaves h k r blocks).registers.stopped ∙ on) ∙ stopped))
+  stop_row k (Write a x) on stopped = absurd (false≢true (sym ((write_leaves h k a x).registers.stopped ∙ on) ∙ stopped))
+  stop_row k (Bell s t) on stopped = absurd (false≢true (sym ((bell_leaves h k s t).registers.stopped ∙ on) ∙ stopped))
+  stop_row k (Read e) on stopped = absurd (false≢true (sym (read_on h k e on) ∙ stopped))
+  stop_row k (Reg r x) on stopped = register_stop k r x on stopped
+
+  -- reading events starts nothing
+  reading_started : (unread : List Block) (past : List Row) → (known h (reading unread past)).started ≡ (known h past).started
+  unfolding known
+  reading_started [] past = refl
+  reading_started (e ∷ unread) past =
+      reading_started unread (Read e ∷ past)
+      ∙ ap (λ m. m.started) (learned_read h (known h past) e)
+      ∙ (event_same h (known h past) (kind e) e).started
+
+  stops : (w : World) (x : ℕ) → (stopped_world w x).stopped ≡ true
+  unfolding stopped_world
+  stops w x = refl
+
+  -- the run has ended behind the row that stops the controller
+  pub stop_ends : IsHeader h → (past : List Row) (row : Row) (w v : World) → (run : Runs h past w) → DriverKeeps h (known h (reading run.unread past)) → IsClean h (row ∷ past) →
+      (learned h (known h past) row).stopped ≡ true → driver.row_done h w row ≡ Some v → Ended h (row ∷ past) (counted h v)
+  unfolding known counted
+  stop_ends is past row w v run d clean stopped at =
+      let s = stop_row (known h past) row run.on stopped in
+      let on : w.started ≡ true = run.agrees.stands.started ∙ reading_started run.unread past ∙ s.started in
+      let world : stopped_world w s.value ≡ v = world_stops w v s.value on s.stop (ap (λ x. driver.row_done h w x) (sym s.row_is) ∙ at) in
+      record {
+        clean = clean;
+        stopped = stopped;
+        also = sym (ap (λ x. x.stopped) world) ∙ stops w s.value;
+        safe = subst (λ x. IsSafe h (counted h x)) world (safe_stopped w s.value (safe h is past w run d));
+      }

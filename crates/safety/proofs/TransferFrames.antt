@@ -1,0 +1,114 @@
+-- What a Transfer Event leaves as it is: all rings but that of its endpoint, and all slots
+use Rattle.std.specs.Prelude.{◌≡◌, ◌≢◌, ℕ, ◌+◌, if◌then◌else◌, true, Option, None, Some}
+use Rattle.std.specs.Option.{option_map}
+use Rattle.std.proofs.Common.{refl, sym, ◌∙◌, ap}
+use Rattle.std.proofs.lemmas.Bool.{cond_both}
+use Rattle.std.proofs.lemmas.Option.{none-some, same_Some}
+use Rattle.guest_memory.specs.Memory.{put_pair}
+use Rattle.trb.specs.declared.block.Block.{Block}
+use Rattle.trb.specs.Block.{pointer, code, slot, endpoint}
+use Rattle.trb.specs.CompletionCode.{is_success, is_halting, is_trb_error, is_stopping}
+use Rattle.segments.specs.declared.spot.Spot.{Spot}
+use Rattle.segments.specs.Spots.{number, after}
+use Rattle.segments.specs.RingView.{Reaches, Holds}
+use Rattle.segments.specs.Ceiling.{named, stopped_number}
+use Rattle.commands.specs.declared.state.EndpointState.{EndpointState}
+use Rattle.commands.specs.declared.state.EndpointState.TheVariants.{Halted, Error}
+use Rattle.traces.specs.declared.header.Header.{Header}
+use Rattle.traces.specs.Header.{IsHeader, shape_of, command_id}
+use Rattle.ring_knowledge.specs.Known.{Known}
+use Rattle.ring_knowledge.specs.Rings.{RingSpot, on_ring, spot_on, event_at}
+use Rattle.ring_knowledge.specs.Transfers.{passed, broken_off, stopped_at, transferred, transferred_at, transfer_read}
+use Rattle.safety.specs.EndpointsKeep.{EndpointsKeep}
+use Rattle.safety.proofs.RingIds.{command_not_transfer}
+use Rattle.safety.proofs.DriverRows.{ring_elsewhere}
+
+module _ (h : Header) where
+  -- the ring of a named spot is the endpoint's
+  pub spot_ring : (k : Known) (a : ℕ) (o : Option ℕ) (at : RingSpot) → spot_on h k a o ≡ Some at → o ≡ Some at.ring
+  unfolding spot_on
+  spot_ring k a None at e = absurd (none-some at e)
+  spot_ring k a (Some r) at e = by (named (shape_of h r) (k.ring r) a) e
+    where
+      by : (m : Option Spot) → option_map (λ t. let x : RingSpot = record { ring = r; spot = t } in x) m ≡ Some at → Some r ≡ Some at.ring
+      by None e = absurd (none-some at e)
+      by (Some t) e = ap (λ (x : RingSpot). Some x.ring) (same_Some (record { ring = r; spot = t }) at e)
+
+  pub event_ring_of : (k : Known) (b : Block) (at : RingSpot) → event_at h k b ≡ Some at → k.ring_of (slot b) (endpoint b) ≡ Some at.ring
+  unfolding event_at
+  event_ring_of k b at e = spot_ring k (pointer b) (k.ring_of (slot b) (endpoint b)) at e
+
+  -- ---- another ring
+
+  module _ (k : Known) (q r : ℕ) (other : q ≢ r) where
+    passed_off : (t : Spot) → (passed h k r t).ring q ≡ k.ring q
+    unfolding passed
+    passed_off t = ring_elsewhere h k r q (Reaches (after (shape_of h r) (number t))) other
+
+    broken_is_off : (s i : ℕ) (t : Spot) (state : EndpointState) → (broken_off h k s i r t state).ring q ≡ k.ring q
+    unfolding broken_off
+    broken_is_off s i t state = ring_elsewhere h (passed h k r t) r q (Holds (number t + 1)) other ∙ passed_off t
+
+    stopped_off : (s i : ℕ) (t : Spot) → (stopped_at h k s i r t).ring q ≡ k.ring q
+    unfolding stopped_at
+    stopped_off s i t =
+        let l : Known = on_ring h k r (Holds (stopped_number (shape_of h r) (k.ring r) t)) in
+        ring_elsewhere h l r q (Reaches t) other ∙ ring_elsewhere h k r q (Holds (stopped_number (shape_of h r) (k.ring r) t)) other
+
+    transferred_off : (c s i : ℕ) (t : Spot) → (transferred h k c s i r t).ring q ≡ k.ring q
+    unfolding transferred
+    transferred_off c s i t =
+        let halts : Known = record (broken_off h k s i r t Halted) { must_move = put_pair k.must_move s i true } in
+        let fails : Known = broken_off h k s i r t Error in
+        let stopped : Known = if is_stopping c then stopped_at h k s i r t else k in
+        cond_both (is_success c) (passed h k r t) (if is_halting c then halts else if is_trb_error c then fails else stopped) (λ l. l.ring q ≡ k.ring q)
+        (λ _. passed_off t)
+        (λ _. cond_both (is_halting c) halts (if is_trb_error c then fails else stopped) (λ l. l.ring q ≡ k.ring q)
+        (λ _. broken_is_off s i t Halted)
+        (λ _. cond_both (is_trb_error c) fails stopped (λ l. l.ring q ≡ k.ring q)
+        (λ _. broken_is_off s i t Error)
+        (λ _. cond_both (is_stopping c) (stopped_at h k s i r t) k (λ l. l.ring q ≡ k.ring q) (λ _. stopped_off s i t) (λ _. refl))))
+
+  at_off : (k : Known) (b : Block) (q : ℕ) (o : Option RingSpot) → ((at : RingSpot) → o ≡ Some at → q ≢ at.ring) → (transferred_at h k b o).ring q ≡ k.ring q
+  unfolding transferred_at
+  at_off k b q None others = refl
+  at_off k b q (Some at) others = transferred_off k q at.ring (others at refl) (code b) (slot b) (endpoint b) at.spot
+
+  pub transfer_off : (k : Known) (b : Block) (q : ℕ) → k.ring_of (slot b) (endpoint b) ≢ Some q → (transfer_read h k b).ring q ≡ k.ring q
+  unfolding transfer_read
+  transfer_off k b q other = at_off k b q (event_at h k b) (λ at e same. other (event_ring_of k b at e ∙ ap (λ n. Some n) (sym same)))
+
+  pub transfer_command : IsHeader h → (k : Known) → EndpointsKeep h k → (b : Block) → (transfer_read h k b).ring (command_id h) ≡ k.ring (command_id h)
+  transfer_command is k keeps b = transfer_off k b (command_id h) (λ at. command_not_transfer h is (keeps.transfer (slot b) (endpoint b) (command_id h) at))
+
+  -- ---- slots
+
+  pub record LeavesSlots (k l : Known) : Type 0 where
+    pub slot_state : l.slot_state ≡ k.slot_state
+    pub ring_of : l.ring_of ≡ k.ring_of
+    pub was_bound : l.was_bound ≡ k.was_bound
+    pub device : l.device ≡ k.device
+
+  transferred_slots : (k : Known) (c s i r : ℕ) (t : Spot) → LeavesSlots k (transferred h k c s i r t)
+  unfolding transferred passed broken_off stopped_at on_ring
+  transferred_slots k c s i r t =
+      let halts : Known = record (broken_off h k s i r t Halted) { must_move = put_pair k.must_move s i true } in
+      let fails : Known = broken_off h k s i r t Error in
+      let stopped : Known = if is_stopping c then stopped_at h k s i r t else k in
+      cond_both (is_success c) (passed h k r t) (if is_halting c then halts else if is_trb_error c then fails else stopped) (LeavesSlots k)
+      (λ _. record { slot_state = refl; ring_of = refl; was_bound = refl; device = refl })
+      (λ _. cond_both (is_halting c) halts (if is_trb_error c then fails else stopped) (LeavesSlots k)
+      (λ _. record { slot_state = refl; ring_of = refl; was_bound = refl; device = refl })
+      (λ _. cond_both (is_trb_error c) fails stopped (LeavesSlots k)
+      (λ _. record { slot_state = refl; ring_of = refl; was_bound = refl; device = refl })
+      (λ _. cond_both (is_stopping c) (stopped_at h k s i r t) k (LeavesSlots k)
+      (λ _. record { slot_state = refl; ring_of = refl; was_bound = refl; device = refl }) (λ _. record { slot_state = refl; ring_of = refl; was_bound = refl; device = refl }))))
+
+  at_slots : (k : Known) (b : Block) (o : Option RingSpot) → LeavesSlots k (transferred_at h k b o)
+  unfolding transferred_at
+  at_slots k b None = record { slot_state = refl; ring_of = refl; was_bound = refl; device = refl }
+  at_slots k b (Some at) = transferred_slots k (code b) (slot b) (endpoint b) at.ring at.spot
+
+  pub transfer_slots : (k : Known) (b : Block) → LeavesSlots k (transfer_read h k b)
+  unfolding transfer_read
+  transfer_slots k b = at_slots k b (event_at h k b)

@@ -1,0 +1,47 @@
+-- Where the command ring's pointer stays and its next command is the same, so is what is said of the command under way
+use Rattle.std.specs.Prelude.{◌≡◌, ◌+◌, Option, None, Some, option_and_then, slice_get}
+use Rattle.std.proofs.Common.{refl, sym, ◌∙◌, ap}
+use Rattle.trb.specs.Block.{with_cycle}
+use Rattle.segments.specs.declared.spot.Spot.{Spot}
+use Rattle.segments.specs.Places.{address_of, cycle_of}
+use Rattle.segments.specs.Spots.{number}
+use Rattle.commands.specs.declared.command.Command.{Command}
+use Rattle.commands.specs.declared.command.Command.TheVariants.{StopEndpoint}
+use Rattle.commands.specs.Command.{command_of}
+use Rattle.traces.specs.declared.header.Header.{Header}
+use Rattle.traces.specs.Header.{shape_of, command_id}
+use Rattle.world_state.specs.World.{UnderWay}
+use Rattle.ring_knowledge.specs.Known.{Known}
+use Rattle.ring_knowledge.specs.Rings.{command_at, next_command}
+use Rattle.ownership_rules.specs.Events.{was_stop_seen}
+use Rattle.safety.specs.Matches.{UnderWayMatches, TakenCommand}
+
+module _ (h : Header) (k m : Known) (floor : (m.ring (command_id h)).floor ≡ (k.ring (command_id h)).floor) (stop_seen : m.stop_seen ≡ k.stop_seen) where
+  pub next_same : next_command h m ≡ next_command h k
+  unfolding next_command
+  next_same = ap (λ t. number t) floor
+
+  seen_same : (c : Command) → was_stop_seen m c ≡ was_stop_seen k c
+  unfolding was_stop_seen
+  seen_same (StopEndpoint s i) = ap (λ f. f s i) stop_seen
+  seen_same _ = refl
+
+  -- what is declared at the floor
+  abbrev pub NextStays : Type 0
+  NextStays = slice_get (m.ring (command_id h)).queue (next_command h k) ≡ slice_get (k.ring (command_id h)).queue (next_command h k)
+
+  command_same : NextStays → command_at h m (next_command h k) ≡ command_at h k (next_command h k)
+  unfolding command_at
+  command_same stays = ap (λ o. option_and_then command_of o) stays
+
+  taken_on : (u : UnderWay) → NextStays → TakenCommand h k u → TakenCommand h m u
+  taken_on u stays t = record {
+    address = t.address ∙ ap (λ n. address_of (shape_of h (command_id h)) n) (sym next_same);
+    words = λ d at. t.words d (sym stays ∙ ap (λ n. slice_get (m.ring (command_id h)).queue n) (sym next_same) ∙ at)
+        ∙ ap (λ n. with_cycle d (cycle_of (shape_of h (command_id h)) n)) (sym next_same);
+    stopped = λ c at. t.stopped c (sym (command_same stays) ∙ ap (λ n. command_at h m n) (sym next_same) ∙ at) ∙ sym (seen_same c);
+  }
+
+  pub under_way_on : (t : Spot) (o : Option UnderWay) → ((u : UnderWay) → o ≡ Some u → NextStays) → UnderWayMatches h k t o → UnderWayMatches h m t o
+  under_way_on t None stays under = (under.0 ∙ sym next_same, λ s i. ap (λ f. f s i) stop_seen ∙ under.1 s i)
+  under_way_on t (Some u) stays under = (under.0 ∙ ap (λ n. n + 1) (sym next_same), taken_on u (stays u refl) under.1)

@@ -1,0 +1,159 @@
+-- Behind an event the commands that stay unfinished were unfinished before, and their slots have the same rings
+use Rattle.std.specs.Prelude.{◌≡◌, ◌≢◌, ℕ, ◌==◌, if◌then◌else◌, not, true, List, [], ◌∷◌, Option, None, Some}
+use Rattle.std.specs.List.{filter_map, range_with_len, cons_option}
+use Rattle.std.proofs.Common.{refl, sym, ◌∙◌, ap, subst, inl, inr}
+use Rattle.std.proofs.lemmas.Bool.{cases_Bool, false≢true, and_parts, and_from, cond-true, cond-false}
+use Rattle.trb.specs.declared.block.Block.{Block}
+use Rattle.trb.specs.declared.kind.BlockKind.{BlockKind}
+use Rattle.trb.specs.declared.kind.BlockKind.TheVariants.{TransferEvent, CommandCompletion}
+use Rattle.trb.specs.Block.{kind, code, slot}
+use Rattle.segments.specs.Places.{place_count}
+use Rattle.segments.specs.RingView.{floor_number, due_positions}
+use Rattle.segments.proofs.Giving.{due_from}
+use Rattle.commands.specs.declared.command.Command.{Command}
+use Rattle.commands.specs.declared.command.Command.TheVariants.{AddressDevice}
+use Rattle.commands.specs.declared.state.EndpointState.{EndpointState}
+use Rattle.commands.specs.declared.state.EndpointState.TheVariants.{Disabled as Off}
+use Rattle.commands.specs.Command.{named_slot}
+use Rattle.commands.specs.States.{can_succeed, is_off}
+use Rattle.traces.specs.declared.header.Header.{Header}
+use Rattle.traces.specs.declared.row.Row.TheVariants.{Read}
+use Rattle.traces.specs.declared.register.Register.TheVariants.{Config}
+use Rattle.traces.specs.Header.{IsHeader, shape_of, command_id, is_ring}
+use Rattle.traces.specs.Register.{register_or_zero}
+use Rattle.ring_knowledge.specs.Known.{Known}
+use Rattle.ring_knowledge.specs.Rings.{command_at, next_command, unfinished_positions, unfinished}
+use Rattle.ring_knowledge.specs.Completions.{succeeded, completed}
+use Rattle.ring_knowledge.specs.Learned.{event_read, learned}
+use Rattle.ownership_rules.specs.Events.{was_stop_seen}
+use Rattle.ownership_rules.specs.Moves.{moves_ring, is_being_moved}
+use Rattle.ownership_rules.specs.Rules.{broken}
+use Rattle.ownership_rules.proofs.Among.{IsIn, some_of, any_of, from_filter}
+use Rattle.safety.specs.Keeps.{IsDriverRing, IsUnfinished, DriverKeeps}
+use Rattle.safety.proofs.CleanRows.{EventFacts, event_facts}
+use Rattle.safety.proofs.KeptRings.{CompletionFacts, completion_facts, next_unfinished}
+use Rattle.safety.proofs.SafeContext.{command_is_ring}
+use Rattle.safety.proofs.TransferFrames.{transfer_slots}
+use Rattle.safety.proofs.OtherSlots.{OtherSlots, same_others}
+use Rattle.safety.proofs.SlotCommands.{changed_slot, OfCommand, of_slot, success_others}
+use Rattle.safety.proofs.CommandsFinished.{unfinished_before}
+use Rattle.safety.proofs.CommandsCompleted.{finished_others, not_zero, other_slot, may_answer}
+use Rattle.safety.proofs.UnfinishedLists.{in_filter_map}
+use Rattle.safety.proofs.LeasesBehind.{Behind, from_range, unfinished_fewer}
+use Rattle.safety.proofs.EventBehind.{event_behind}
+use Rattle.safety.proofs.HeldFurther.{command_same}
+use Rattle.trb.specs.Kind.{is_command_completion}
+
+from_filter_map : {X Y : Type 0} (f : X → Option Y) (xs : List X) (y : Y) → IsIn y (filter_map f xs) → (x : X) × IsIn x xs × (f x ≡ Some y)
+from_filter_map f [] y at = absurd at
+from_filter_map {X} {Y} f (z ∷ xs) y at = by (f z) refl (λ rest. from_filter_map f xs y rest) at
+  where
+    by : (o : Option Y) → f z ≡ o → (IsIn y (filter_map f xs) → (x : X) × IsIn x xs × (f x ≡ Some y)) → IsIn y (cons_option o (filter_map f xs)) →
+        (x : X) × IsIn x (z ∷ xs) × (f x ≡ Some y)
+    by None is later at = let found = later at in (found.0, inr found.1, found.2)
+    by (Some u) is later at =
+        elim at [
+          | inl here ↦ (z, inl refl, is ∙ ap (λ v. Some v) (sym here))
+          | inr rest ↦ let found = later rest in (found.0, inr found.1, found.2)
+        ]
+
+module _ (h : Header) (k : Known) where
+  -- what stands in the list of unfinished commands is unfinished
+  pub listed_unfinished : (c : Command) → IsIn c (unfinished h k) → (p : ℕ) × IsUnfinished h k p c
+  unfolding unfinished unfinished_positions due_positions
+  listed_unfinished c at =
+      let found = from_filter_map (command_at h k) (unfinished_positions h k) c at in
+      let due = from_filter (k.ring (command_id h)).given (range_with_len (floor_number (k.ring (command_id h))) (place_count (shape_of h (command_id h)))) found.0 found.1 in
+      let range = from_range (floor_number (k.ring (command_id h))) (place_count (shape_of h (command_id h))) found.0 due.0 in (
+        found.0,
+        record { due = due_from (shape_of h (command_id h)) (k.ring (command_id h)).floor found.0 range.0 range.1; given = due.1; command = found.2 },
+      )
+
+module _ (h : Header) (is : IsHeader h) (k : Known) (d : DriverKeeps h k) where
+  -- ---- a completion
+
+  module _ (b : Block) (e : Command) (here : command_at h k (next_command h k) ≡ Some e) (ends : IsUnfinished h k (next_command h k) e) (ring : IsDriverRing h (command_id h)) where
+    staying : (s : ℕ) → OtherSlots k (completed h k b) s (OfCommand h k s e) →
+        ((p : ℕ) (c : Command) (t : ℕ) → IsUnfinished h k p c → p ≢ next_command h k → named_slot c ≡ Some t → t ≢ s) →
+        (p : ℕ) (c : Command) (t i : ℕ) → IsUnfinished h (completed h k b) p c → named_slot c ≡ Some t → (completed h k b).ring_of t i ≡ k.ring_of t i
+    staying s o apart p c t i u named =
+        let was = unfinished_before h is k d b ring p c u in
+        o.ring_of t i (apart p c t was.0 was.1 named)
+
+    by_code : (if code b == 1 then can_succeed k.slot_state k.endpoint_state (register_or_zero k.register Config) (slot b) e else not (was_stop_seen k e)) ≡ true →
+        (p : ℕ) (c : Command) (t i : ℕ) → IsUnfinished h (completed h k b) p c → named_slot c ≡ Some t → (completed h k b).ring_of t i ≡ k.ring_of t i
+    by_code may =
+        elim (cases_Bool (code b == 1)) [
+          | inl success ↦
+              let can = sym (cond-true (code b == 1) (can_succeed k.slot_state k.endpoint_state (register_or_zero k.register Config) (slot b) e) (not (was_stop_seen k e)) success) ∙ may in
+              let s : ℕ = changed_slot e (slot b) in
+              staying s
+              (finished_others h is k d b e here ends ring s (subst (λ x. OtherSlots k x s (OfCommand h k s e)) (sym (cond-true (code b == 1) (succeeded h k (slot b) e) k success))
+              (success_others h k (slot b) e (d.unfinished (next_command h k) e ends).moves_on)))
+              (λ p c t u other named. other_slot h is k d b e here ends ring e (slot b) p c t can u named ((d.unfinished p c u).alone (next_command h k) e ends (λ same. other (sym same))))
+          | inr fails ↦
+              staying 0
+              (finished_others h is k d b e here ends ring 0 (subst (λ x. OtherSlots k x 0 (OfCommand h k 0 e)) (sym (cond-false (code b == 1) (succeeded h k (slot b) e) k fails))
+              (same_others 0 (OfCommand h k 0 e) k (of_slot h k 0 e))))
+              (λ p c t u other named. not_zero h is k d b e here ends ring p c t u named)
+        ]
+
+  -- ---- any event
+
+  module _ (e : Block) (may : broken h k (Read e) ≡ []) where
+    facts : EventFacts h k e
+    facts = event_facts h k e may
+
+    rings_kind : (n : BlockKind) → kind e ≡ n → (p : ℕ) (c : Command) (t i : ℕ) → IsUnfinished h (event_read h k n e) p c → named_slot c ≡ Some t →
+        (event_read h k n e).ring_of t i ≡ k.ring_of t i
+    unfolding event_read
+    rings_kind TransferEvent at p c t i u named = ap (λ f. f t i) (transfer_slots h k e).ring_of
+    rings_kind CommandCompletion at p c t i u named =
+        let finish : CompletionFacts h k e = completion_facts h k e (ap is_command_completion at) facts.possible in
+        let answer = may_answer h is k d e (command_at h k (next_command h k)) finish.finishes in
+        by_code e answer.0 answer.1 (next_unfinished h is k d facts.started finish.below answer.0 answer.1) (command_is_ring h k d facts.started) answer.2 p c t i u named
+    rings_kind _ at p c t i u named = refl
+
+    unread : (p : ℕ) (c : Command) → IsUnfinished h (learned h k (Read e)) p c → IsUnfinished h (event_read h k (kind e) e) p c
+    unfolding learned command_at
+    unread p c u = record { due = u.due; given = u.given; command = u.command }
+
+    pub rings_behind : (p : ℕ) (c : Command) (t i : ℕ) → IsUnfinished h (learned h k (Read e)) p c → named_slot c ≡ Some t → (learned h k (Read e)).ring_of t i ≡ k.ring_of t i
+    unfolding learned
+    rings_behind p c t i u named = rings_kind (kind e) refl p c t i (unread p c u) named
+
+    abbrev l : Known
+    l = learned h k (Read e)
+
+    -- what is unfinished behind the event was unfinished before
+    pub listed_before : (c : Command) → IsIn c (unfinished h l) → IsIn c (unfinished h k)
+    unfolding unfinished
+    listed_before c at =
+        let found = from_filter_map (command_at h l) (unfinished_positions h l) c at in
+        let b : Behind h k l = event_behind h is k d e may in
+        in_filter_map (command_at h k) (unfinished_positions h k) found.0 c (unfinished_fewer h is k l b found.0 found.1)
+        (sym (command_same h k l found.0 (b.driver.rings (command_id h)).queue) ∙ found.2)
+
+    -- a ring that is being moved behind the event was before
+    moves_before : (r : ℕ) (c : Command) (p : ℕ) → IsUnfinished h l p c → moves_ring h l r c ≡ true → moves_ring h k r c ≡ true
+    unfolding moves_ring
+    moves_before r (AddressDevice s bsr n) p u moves =
+        let parts = and_parts (not (is_off (l.endpoint_state s 1))) (is_ring r (l.ring_of s 1)) moves in
+        let there : is_ring r (k.ring_of s 1) ≡ true = ap (λ o. is_ring r o) (sym (rings_behind p (AddressDevice s bsr n) s 1 u refl)) ∙ parts.1 in
+        and_from (not (is_off (k.endpoint_state s 1))) (is_ring r (k.ring_of s 1)) (on_there s r (k.ring_of s 1) refl there) there
+      where
+        not_off : (state : EndpointState) → state ≢ Off → not (is_off state) ≡ true
+        not_off Off on = absurd (on refl)
+        not_off _ on = refl
+
+        on_there : (s r : ℕ) (o : Option ℕ) → k.ring_of s 1 ≡ o → is_ring r o ≡ true → not (is_off (k.endpoint_state s 1)) ≡ true
+        on_there s r None at here = absurd (false≢true here)
+        on_there s r (Some q) at here = not_off (k.endpoint_state s 1) (d.states.on s 1 q at)
+    moves_before r _ p u moves = absurd (false≢true moves)
+
+    pub moved_before : (r : ℕ) → is_being_moved h l r ≡ true → is_being_moved h k r ≡ true
+    unfolding is_being_moved
+    moved_before r moving =
+        let found = some_of (moves_ring h l r) (unfinished h l) moving in
+        let u = listed_unfinished h l found.0 found.1 in
+        any_of (moves_ring h k r) (unfinished h k) found.0 (listed_before found.0 found.1) (moves_before r found.0 u.0 u.1 found.2)

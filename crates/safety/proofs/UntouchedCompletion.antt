@@ -1,0 +1,86 @@
+-- A Command Completion Event leaves an endpoint that no unfinished command touches
+use Rattle.std.specs.Prelude.{◌≡◌, ℕ, ◌==◌, if◌then◌else◌, true, false, Option, None, Some}
+use Rattle.std.specs.List.{list_any}
+use Rattle.std.proofs.Common.{refl, ◌∙◌, ap}
+use Rattle.std.proofs.lemmas.Bool.{cond_both}
+use Rattle.trb.specs.declared.block.Block.{Block}
+use Rattle.trb.specs.Block.{code, slot}
+use Rattle.segments.specs.declared.spot.Spot.{Spot}
+use Rattle.segments.specs.Spots.{after}
+use Rattle.segments.specs.RingView.{Reaches}
+use Rattle.contexts.specs.declared.size.ContextSize.{ContextSize}
+use Rattle.commands.specs.declared.command.Command.{Command}
+use Rattle.commands.specs.declared.command.Command.TheVariants.{NoOp, EnableSlot, DisableSlot, AddressDevice, ConfigureEndpoint, EvaluateContext, ResetEndpoint, StopEndpoint, SetTrDequeue, ResetDevice}
+use Rattle.commands.specs.Changes.{changes, touches}
+use Rattle.traces.specs.declared.header.Header.{Header}
+use Rattle.traces.specs.declared.register.Register.TheVariants.{Config}
+use Rattle.traces.specs.Header.{IsHeader, shape_of, command_id}
+use Rattle.traces.specs.Register.{register_or_zero}
+use Rattle.ring_knowledge.specs.Known.{Known}
+use Rattle.ring_knowledge.specs.Rings.{on_ring, command_at, next_command}
+use Rattle.ring_knowledge.specs.Completions.{succeeded, stop_ended, finished, completed}
+use Rattle.ownership_rules.specs.Doorbells.{touches_endpoint, is_touched}
+use Rattle.ownership_rules.specs.Events.{can_finish}
+use Rattle.safety.specs.Keeps.{IsUnfinished, CommandKeeps, DriverKeeps}
+use Rattle.safety.proofs.DriverRings.{endpoints_of}
+use Rattle.safety.proofs.KeptRings.{CompletionFacts, next_unfinished, command_holds}
+use Rattle.safety.proofs.StatesFit.{success_fits}
+use Rattle.safety.proofs.StatesParts.{endpoints_part}
+use Rattle.safety.proofs.StatesCompletion.{reached_fields, reached_held, can_be}
+use Rattle.safety.proofs.UnfinishedLists.{unfinished_fails}
+use Rattle.safety.proofs.UntouchedHeld.{EndpointHolds, same_holds, both_hold, changes_hold}
+
+-- which endpoints a command touches doesn't hang on the slot of its completion
+touches_any : (size : ContextSize) (memory : ℕ → ℕ) (n s i : ℕ) (c : Command) → list_any (touches s i) (changes size memory n c) ≡ list_any (touches s i) (changes size memory 0 c)
+unfolding changes
+touches_any size memory n s i NoOp = refl
+touches_any size memory n s i EnableSlot = refl
+touches_any size memory n s i (DisableSlot t) = refl
+touches_any size memory n s i (AddressDevice t bsr a) = refl
+touches_any size memory n s i (ConfigureEndpoint t false a) = refl
+touches_any size memory n s i (ConfigureEndpoint t true a) = refl
+touches_any size memory n s i (EvaluateContext t a) = refl
+touches_any size memory n s i (ResetEndpoint t j) = refl
+touches_any size memory n s i (StopEndpoint t j) = refl
+touches_any size memory n s i (SetTrDequeue t j p cycle) = refl
+touches_any size memory n s i (ResetDevice t) = refl
+
+module _ (h : Header) (s i : ℕ) where
+  -- neither the end of a Stop Endpoint nor the pointer of a ring changes a state or where a ring is held
+  stop_holds : (m : Known) (c : Command) → EndpointHolds m (stop_ended h m c) s i
+  unfolding stop_ended
+  stop_holds m (StopEndpoint t j) = record { state = refl; ring_of = refl; held = λ r at. refl }
+  stop_holds m _ = same_holds m s i
+
+  reached_holds : (m : Known) (r : ℕ) (t : Spot) → EndpointHolds m (on_ring h m r (Reaches t)) s i
+  reached_holds m r t =
+      let same = reached_fields h m r t in
+      record { state = ap (λ f. f s i) same.1; ring_of = ap (λ f. f s i) same.0; held = λ q at. reached_held h m r t q }
+
+  module _ (is : IsHeader h) (k : Known) (d : DriverKeeps h k) (b : Block) (started : k.started ≡ true) (facts : CompletionFacts h k b) (untouched : is_touched h k s i ≡ false) where
+    -- the command is unfinished, and so doesn't touch the endpoint
+    success_holds : (c : Command) → IsUnfinished h k (next_command h k) c → can_finish k b (Some c) ≡ true → (code b == 1) ≡ true → EndpointHolds k (succeeded h k (slot b) c) s i
+    unfolding succeeded touches_endpoint is_touched
+    success_holds c u can success =
+        let keeps : CommandKeeps h k (next_command h k) c = d.unfinished (next_command h k) c u in
+        changes_hold h s i is c k (changes h.context_size k.memory (slot b) c) (endpoints_of h k d.states) (endpoints_part h k d.states)
+        (success_fits h is k (register_or_zero k.register Config) (slot b) c d.states.no_slot (endpoints_part h k d.states) keeps.good (command_holds h k (next_command h k) c keeps)
+        (can_be h is k d b started facts c can success))
+        (touches_any h.context_size k.memory (slot b) s i c ∙ unfinished_fails h k (touches_endpoint h k s i) (next_command h k) c untouched u)
+
+    finished_holds : (o : Option Command) → command_at h k (next_command h k) ≡ o → can_finish k b o ≡ true → EndpointHolds k (finished h k b o) s i
+    unfolding finished
+    finished_holds None at can = same_holds k s i
+    finished_holds (Some c) at can =
+        let m : Known = if code b == 1 then succeeded h k (slot b) c else k in
+        both_hold k m (stop_ended h m c) s i
+        (cond_both (code b == 1) (succeeded h k (slot b) c) k (λ l. EndpointHolds k l s i)
+        (λ success. success_holds c (next_unfinished h is k d started facts.below c at) can success) (λ fails. same_holds k s i))
+        (stop_holds m c)
+
+    pub completion_holds : EndpointHolds k (completed h k b) s i
+    unfolding completed
+    completion_holds =
+        let l : Known = finished h k b (command_at h k (next_command h k)) in
+        let t : Spot = after (shape_of h (command_id h)) (next_command h k) in
+        both_hold k l (on_ring h l (command_id h) (Reaches t)) s i (finished_holds (command_at h k (next_command h k)) refl facts.finishes) (reached_holds l (command_id h) t)

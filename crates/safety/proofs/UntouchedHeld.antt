@@ -1,0 +1,93 @@
+-- The success of a command that doesn't touch an endpoint leaves its state, its ring, and where that ring is held
+use Rattle.std.specs.Prelude.{◌≡◌, ◌≢◌, ℕ, ◌==◌, ◌&&◌, Bool, false, List, [], ◌∷◌, Option, None, Some}
+use Rattle.std.specs.List.{list_any}
+use Rattle.std.proofs.Common.{refl, sym, ◌∙◌, ap, inl, inr}
+use Rattle.std.proofs.lemmas.Bool.{cases_Bool, false≢true, and_from, or_parts, eq-eqb}
+use Rattle.segments.specs.RingView.{Holds}
+use Rattle.segments.specs.Ceiling.{ceiling}
+use Rattle.commands.specs.declared.command.Command.{Command}
+use Rattle.commands.specs.declared.state.EndpointState.{EndpointState}
+use Rattle.commands.specs.declared.state.EndpointState.TheVariants.{Stopped}
+use Rattle.commands.specs.Changes.{Change, SlotGoesOn, DeviceLeft, Disables, Places, Stops, Resets, touches}
+use Rattle.commands.specs.States.{is_off}
+use Rattle.traces.specs.declared.header.Header.{Header}
+use Rattle.traces.specs.Header.{IsHeader, shape_of}
+use Rattle.ring_knowledge.specs.Known.{Known}
+use Rattle.ring_knowledge.specs.Completions.{pointed, disabled, in_state, held_at_ceiling, changed_by, changed_by_all}
+use Rattle.safety.specs.EndpointsKeep.{EndpointsKeep}
+use Rattle.safety.proofs.DriverRows.{ring_elsewhere}
+use Rattle.safety.proofs.Endpoints.{change_keeps}
+use Rattle.safety.proofs.StatesParts.{EndpointsStand}
+use Rattle.safety.proofs.StatesPlaced.{MayPlace, IsBound, IsMoved, IsPlaced, pointed_off, pointed_on, placed_is, is_off_of, some_ring}
+use Rattle.safety.proofs.StatesChanges.{Fits, FitAll, change_stands}
+use Rattle.safety.proofs.UntouchedStays.{EndpointStays, untouched_stays}
+
+-- the endpoint of slot s at index i is in its state, and its ring is held as before
+pub record EndpointHolds (k l : Known) (s i : ℕ) : Type 0 where
+  pub state : l.endpoint_state s i ≡ k.endpoint_state s i
+  pub ring_of : l.ring_of s i ≡ k.ring_of s i
+  pub held : (r : ℕ) → k.ring_of s i ≡ Some r → (l.ring r).held ≡ (k.ring r).held
+
+pub same_holds : (k : Known) (s i : ℕ) → EndpointHolds k k s i
+same_holds k s i = record { state = refl; ring_of = refl; held = λ r at. refl }
+
+pub both_hold : (k l m : Known) (s i : ℕ) → EndpointHolds k l s i → EndpointHolds l m s i → EndpointHolds k m s i
+both_hold k l m s i a b = record { state = b.state ∙ a.state; ring_of = b.ring_of ∙ a.ring_of; held = λ r at. b.held r (a.ring_of ∙ at) ∙ a.held r at }
+
+module _ (h : Header) (s i : ℕ) where
+  module _ (k : Known) (keeps : EndpointsKeep h k) (e : EndpointsStand k) (r : ℕ) (at : k.ring_of s i ≡ Some r) where
+    -- another endpoint has another ring
+    others_ring : (t j q : ℕ) → (s == t && i == j) ≡ false → k.ring_of t j ≡ Some q → r ≢ q
+    others_ring t j q apart there same =
+        let both = e.one_endpoint s i t j r at (there ∙ ap (λ n. Some n) (sym same)) in
+        false≢true (sym apart ∙ and_from (s == t) (i == j) (eq-eqb s t both.0) (eq-eqb i j both.1))
+
+    pointed_held : (t j p : ℕ) (cycle : Bool) (state : EndpointState) → MayPlace h k t j p state → (s == t && i == j) ≡ false → ((pointed h k t j p cycle).ring r).held ≡ (k.ring r).held
+    pointed_held t j p cycle state may apart =
+        elim (cases_Bool (is_off (k.endpoint_state t j))) [
+          | inl off ↦
+              let new = may.binds off in
+              let bound : IsBound k (pointed h k t j p cycle) t j new.0 = pointed_off h k t j p new.0 cycle off new.1 in
+              bound.others r (λ same. false≢true (sym new.2 ∙ ap k.was_bound (sym same) ∙ keeps.was_bound s i r at))
+          | inr on ↦
+              elim (some_ring (k.ring_of t j)) [
+                | inl none ↦ absurd (false≢true (sym on ∙ is_off_of (k.endpoint_state t j) (e.off t j none)))
+                | inr has ↦
+                    let moved : IsMoved k (pointed h k t j p cycle) has.0 = pointed_on h k t j p has.0 cycle on has.1 in
+                    moved.others r (others_ring t j has.0 apart has.1)
+              ]
+        ]
+
+    stopped_held : (t j : ℕ) (o : Option ℕ) → k.ring_of t j ≡ o → (s == t && i == j) ≡ false → ((held_at_ceiling h (in_state h k t j Stopped) o).ring r).held ≡ (k.ring r).held
+    unfolding held_at_ceiling in_state
+    stopped_held t j None there apart = refl
+    stopped_held t j (Some q) there apart =
+        let l : Known = in_state h k t j Stopped in
+        ap (λ v. v.held) (ring_elsewhere h l q r (Holds (ceiling (shape_of h q) (l.ring q))) (others_ring t j q apart there))
+
+    untouched_held : (c : Command) (change : Change) → Fits h k change → touches s i change ≡ false → ((changed_by h c k change).ring r).held ≡ (k.ring r).held
+    unfolding changed_by disabled in_state
+    untouched_held c (SlotGoesOn t) fits apart = refl
+    untouched_held c (DeviceLeft t) fits apart = refl
+    untouched_held c (Disables t which) fits apart = refl
+    untouched_held c (Places t j p cycle state) fits apart =
+        let placed : IsPlaced (pointed h k t j p cycle) (changed_by h c k (Places t j p cycle state)) t j state = placed_is h c k t j p cycle state in
+        ap (λ f. (f r).held) placed.ring ∙ pointed_held t j p cycle state fits apart
+    untouched_held c (Stops t j) fits apart = stopped_held t j (k.ring_of t j) refl apart
+    untouched_held c (Resets t j) fits apart = refl
+
+  untouched_holds : (c : Command) (k : Known) (change : Change) → EndpointsKeep h k → EndpointsStand k → Fits h k change → touches s i change ≡ false → EndpointHolds k (changed_by h c k change) s i
+  untouched_holds c k change keeps e fits apart =
+      let stays : EndpointStays k (changed_by h c k change) s i = untouched_stays h s i c k change apart in
+      record { state = stays.state; ring_of = stays.ring_of; held = λ r at. untouched_held k keeps e r at c change fits apart }
+
+  -- one change after the other
+  pub changes_hold : IsHeader h → (c : Command) (k : Known) (all : List Change) → EndpointsKeep h k → EndpointsStand k → FitAll h c k all → list_any (touches s i) all ≡ false →
+      EndpointHolds k (changed_by_all h c k all) s i
+  unfolding changed_by_all
+  changes_hold is c k [] keeps e fit apart = same_holds k s i
+  changes_hold is c k (change ∷ rest) keeps e fit apart =
+      let l : Known = changed_by h c k change in
+      let parts = or_parts (touches s i change) (list_any (touches s i) rest) apart in
+      both_hold k l (changed_by_all h c l rest) s i (untouched_holds c k change keeps e fit.0 parts.0)
+      (changes_hold is c l rest (change_keeps h is c k change keeps) (change_stands h c k change keeps e fit.0) fit.1 parts.1)

@@ -1,0 +1,204 @@
+-- What the success of a command changes, where it doesn't touch the endpoint that was woken: its ring stays woken
+use Rattle.std.specs.Prelude.{◌≡◌, ◌≢◌, ℕ, ◌==◌, ◌&&◌, if◌then◌else◌, Bool, true, false, List, [], ◌∷◌, Option, None, Some}
+use Rattle.std.specs.List.{list_any}
+use Rattle.std.proofs.Common.{refl, sym, ◌∙◌, ap, subst, inl, inr}
+use Rattle.std.proofs.lemmas.Bool.{false≢true, cases_Bool, or_parts, and_parts, and_from, cond-false, eq-eqb, eqb-true}
+use Rattle.std.proofs.lemmas.Option.{same_Some}
+use Rattle.guest_memory.specs.Memory.{put, put_pair}
+use Rattle.segments.specs.declared.spot.Spot.{Spot}
+use Rattle.segments.specs.declared.spot.Spot.TheVariants.{Data}
+use Rattle.segments.specs.Spots.{number}
+use Rattle.segments.specs.RingView.{Reaches, Holds}
+use Rattle.segments.specs.Ceiling.{ceiling}
+use Rattle.segments.specs.Moves.{target}
+use Rattle.commands.specs.declared.command.Command.{Command}
+use Rattle.commands.specs.declared.state.EndpointState.{EndpointState}
+use Rattle.commands.specs.declared.state.EndpointState.TheVariants.{Disabled as Off, Stopped}
+use Rattle.commands.specs.States.{is_off}
+use Rattle.commands.specs.Changes.{Change, SlotGoesOn, DeviceLeft, Disables, Places, Stops, Resets, slot_gone_on, touches}
+use Rattle.traces.specs.declared.header.Header.{Header}
+use Rattle.traces.specs.Header.{IsHeader, shape_of, ring_beginning_at}
+use Rattle.ring_knowledge.specs.Known.{Known}
+use Rattle.ring_knowledge.specs.Rings.{on_ring}
+use Rattle.ring_knowledge.specs.Completions.{set_to, bound_to, moved_to, moved, pointed, disabled, in_state, held_at_ceiling, changed_by, changed_by_all}
+use Rattle.safety.specs.EndpointsKeep.{EndpointsKeep}
+use Rattle.safety.proofs.AlikeChanges.{both_sides_if}
+use Rattle.safety.proofs.Endpoints.{change_keeps}
+use Rattle.safety.proofs.StatesParts.{EndpointsStand}
+use Rattle.safety.proofs.StatesPlaced.{MayPlace}
+use Rattle.safety.proofs.StatesChanges.{Fits, FitAll, change_stands}
+use Rattle.safety.proofs.UntouchedStays.{untouched_stays}
+use Rattle.safety.proofs.Woken.{Woken, woken_reach, woken_elsewhere, woken_state}
+
+-- the endpoint of slot s at index i alone
+abbrev pub one_of : ℕ → ℕ → ℕ → ℕ → Bool
+one_of s i t j = t == s && j == i
+
+module _ (h : Header) (r s i : ℕ) where
+  abbrev Awake : Known → Known → Type 0
+  Awake k l = Woken h r (one_of s i) k l
+
+  set_woken : (k l : Known) → Awake k l → (q : ℕ) (t : Spot) → q ≢ r → Awake (set_to h k q t) (set_to h l q t)
+  unfolding set_to
+  set_woken k l w q t other =
+      woken_elsewhere h r (one_of s i) (on_ring h k q (Reaches t)) (on_ring h l q (Reaches t)) (woken_reach h r (one_of s i) k l w q t) q (Holds (number t)) other
+
+  bound_with : (m n : Known) → Awake m n → (t j q : ℕ) (f g : ℕ → ℕ → Option ℕ) (x y : ℕ → Bool) → g ≡ f → y ≡ x →
+      Awake (let u : Known = record m { ring_of = put_pair f t j (Some q); was_bound = put x q true } in u)
+      (let v : Known = record n { ring_of = put_pair g t j (Some q); was_bound = put y q true } in v)
+  bound_with m n w t j q f g x y one two = record {
+    own = w.own;
+    rings = w.rings;
+    awake = w.awake;
+    state = w.state;
+    was_bound = ap (λ b. put b q true) two;
+    slot_state = w.slot_state;
+    ring_of = ap (λ b. put_pair b t j (Some q)) one;
+    must_move = w.must_move;
+    stop_seen = w.stop_seen;
+    device = w.device;
+  }
+
+  bound_woken : (k l : Known) → Awake k l → (t j : ℕ) (o : Option ℕ) → ((q : ℕ) → o ≡ Some q → q ≢ r) → Awake (bound_to h k t j o) (bound_to h l t j o)
+  unfolding bound_to
+  bound_woken k l w t j None others = w
+  bound_woken k l w t j (Some q) others =
+      bound_with (set_to h k q (Data 0)) (set_to h l q (Data 0)) (set_woken k l w q (Data 0) (others q refl)) t j q k.ring_of l.ring_of k.was_bound l.was_bound w.ring_of w.was_bound
+
+  target_woken : (k l : Known) → Awake k l → (q : ℕ) (o : Option Spot) → q ≢ r → Awake (moved_to h k q o) (moved_to h l q o)
+  unfolding moved_to
+  target_woken k l w q None other = w
+  target_woken k l w q (Some t) other = set_woken k l w q t other
+
+  moved_woken : (k l : Known) → Awake k l → (o : Option ℕ) (p : ℕ) (cycle : Bool) → ((q : ℕ) → o ≡ Some q → q ≢ r) → Awake (moved h k o p cycle) (moved h l o p cycle)
+  unfolding moved
+  moved_woken k l w None p cycle others = w
+  moved_woken k l w (Some q) p cycle others =
+      subst (λ v. Awake (moved_to h k q (target (shape_of h q) (k.ring q) p cycle)) (moved_to h l q (target (shape_of h q) v p cycle))) (sym (w.rings q (others q refl)))
+      (target_woken k l w q (target (shape_of h q) (k.ring q) p cycle) (others q refl))
+
+  ceiling_woken : (k l : Known) → Awake k l → (o : Option ℕ) → ((q : ℕ) → o ≡ Some q → q ≢ r) → Awake (held_at_ceiling h k o) (held_at_ceiling h l o)
+  unfolding held_at_ceiling
+  ceiling_woken k l w None others = w
+  ceiling_woken k l w (Some q) others =
+      subst (λ v. Awake (on_ring h k q (Holds (ceiling (shape_of h q) (k.ring q)))) (on_ring h l q (Holds (ceiling (shape_of h q) v)))) (sym (w.rings q (others q refl)))
+      (woken_elsewhere h r (one_of s i) k l w q (Holds (ceiling (shape_of h q) (k.ring q))) (others q refl))
+
+  -- ---- one change
+
+  -- the endpoint has the ring
+  pub record Owns (k : Known) : Type 0 where
+    pub keeps : EndpointsKeep h k
+    pub stands : EndpointsStand k
+    pub has : k.ring_of s i ≡ Some r
+
+  -- a ring of another endpoint is another one
+  other_ring : (k : Known) → Owns k → (t j : ℕ) → one_of s i t j ≡ false → (q : ℕ) → k.ring_of t j ≡ Some q → q ≢ r
+  other_ring k o t j apart q at same =
+      let is = o.stands.one_endpoint t j s i r (at ∙ ap (λ n. Some n) same) o.has in
+      false≢true (sym apart ∙ and_from (t == s) (j == i) (eq-eqb t s is.0) (eq-eqb j i is.1))
+
+  pub flipped : (t j : ℕ) → (s == t && i == j) ≡ false → one_of s i t j ≡ false
+  flipped t j apart =
+      elim (cases_Bool (one_of s i t j)) [
+        | inl same ↦
+            let parts = and_parts (t == s) (j == i) same in
+            absurd (false≢true (sym apart ∙ and_from (s == t) (i == j) (eq-eqb s t (sym (eqb-true t s parts.0))) (eq-eqb i j (sym (eqb-true j i parts.1)))))
+        | inr other ↦ other
+      ]
+
+  own_pair : (which : ℕ → Bool) (u t j : ℕ) → (s == u && which i) ≡ false → one_of s i t j ≡ true → (t == u && which j) ≡ false
+  own_pair which u t j apart same =
+      let parts = and_parts (t == s) (j == i) same in
+      ap (λ n. n == u && which j) (eqb-true t s parts.0) ∙ ap (λ n. s == u && which n) (eqb-true j i parts.1) ∙ apart
+
+  pointed_woken : (k l : Known) → Awake k l → Owns k → (t j p : ℕ) (cycle : Bool) (e : EndpointState) → one_of s i t j ≡ false → MayPlace h k t j p e →
+      Awake (pointed h k t j p cycle) (pointed h l t j p cycle)
+  unfolding pointed
+  pointed_woken k l w o t j p cycle e apart may =
+      subst (λ x. Awake (pointed h k t j p cycle) (if is_off x then bound_to h l t j (ring_beginning_at h p) else moved h l (l.ring_of t j) p cycle)) (sym (w.state t j apart))
+      (subst (λ (f : ℕ → ℕ → Option ℕ). Awake (pointed h k t j p cycle) (if is_off (k.endpoint_state t j) then bound_to h l t j (ring_beginning_at h p) else moved h l (f t j) p cycle)) (sym w.ring_of)
+      (both_sides_if Awake (is_off (k.endpoint_state t j)) (bound_to h k t j (ring_beginning_at h p)) (moved h k (k.ring_of t j) p cycle)
+      (bound_to h l t j (ring_beginning_at h p)) (moved h l (k.ring_of t j) p cycle)
+      (λ off. bound_woken k l w t j (ring_beginning_at h p) (λ q at same.
+      let new = may.binds off in
+      false≢true (sym new.2 ∙ ap k.was_bound (same_Some new.0 q (sym new.1 ∙ at) ∙ same) ∙ o.keeps.was_bound s i r o.has)))
+      (λ on. moved_woken k l w (k.ring_of t j) p cycle (other_ring k o t j apart))))
+
+  pub change_woken : (c : Command) (k l : Known) → Awake k l → Owns k → (change : Change) → touches s i change ≡ false → Fits h k change → Awake (changed_by h c k change) (changed_by h c l change)
+  unfolding changed_by disabled in_state
+  change_woken c k l w o (SlotGoesOn t) apart fits = record {
+    own = w.own;
+    rings = w.rings;
+    awake = w.awake;
+    state = w.state;
+    was_bound = w.was_bound;
+    slot_state = ap (λ f. slot_gone_on c f t) w.slot_state;
+    ring_of = w.ring_of;
+    must_move = w.must_move;
+    stop_seen = w.stop_seen;
+    device = w.device;
+  }
+  change_woken c k l w o (DeviceLeft t) apart fits = record {
+    own = w.own;
+    rings = w.rings;
+    awake = w.awake;
+    state = w.state;
+    was_bound = w.was_bound;
+    slot_state = w.slot_state;
+    ring_of = w.ring_of;
+    must_move = w.must_move;
+    stop_seen = w.stop_seen;
+    device = ap (λ f. put f t None) w.device;
+  }
+  change_woken c k l w o (Disables u which) apart fits = record {
+    own = w.own;
+    rings = w.rings;
+    awake = λ t j same. cond-false (t == u && which j) Off (l.endpoint_state t j) (own_pair which u t j apart same) ∙ w.awake t j same;
+    state = λ t j other. ap (λ x. if t == u && which j then Off else x) (w.state t j other);
+    was_bound = w.was_bound;
+    slot_state = w.slot_state;
+    ring_of = ap {B = ℕ → ℕ → Option ℕ} (λ (f : ℕ → ℕ → Option ℕ) (t j : ℕ). if t == u && which j then None else f t j) w.ring_of;
+    must_move = w.must_move;
+    stop_seen = w.stop_seen;
+    device = w.device;
+  }
+  change_woken c k l w o (Places t j p cycle e) apart fits =
+      let x : Known = pointed h k t j p cycle in
+      let y : Known = pointed h l t j p cycle in
+      let there : one_of s i t j ≡ false = flipped t j apart in
+      let a : Awake (in_state h x t j e) (in_state h y t j e) = woken_state h r (one_of s i) x y t j e there (pointed_woken k l w o t j p cycle e there fits) in
+      record {
+        own = a.own;
+        rings = a.rings;
+        awake = a.awake;
+        state = a.state;
+        was_bound = a.was_bound;
+        slot_state = a.slot_state;
+        ring_of = a.ring_of;
+        must_move = ap (λ f. put_pair f t j false) w.must_move;
+        stop_seen = a.stop_seen;
+        device = a.device;
+      }
+  change_woken c k l w o (Stops t j) apart fits =
+      let there : one_of s i t j ≡ false = flipped t j apart in
+      subst (λ (f : ℕ → ℕ → Option ℕ). Awake (changed_by h c k (Stops t j)) (held_at_ceiling h (in_state h l t j Stopped) (f t j))) (sym w.ring_of)
+      (ceiling_woken (in_state h k t j Stopped) (in_state h l t j Stopped) (woken_state h r (one_of s i) k l t j Stopped there w) (k.ring_of t j) (other_ring k o t j there))
+  change_woken c k l w o (Resets t j) apart fits = woken_state h r (one_of s i) k l t j Stopped (flipped t j apart) w
+
+  -- ---- all changes
+
+  owns_still : IsHeader h → (c : Command) (k : Known) → Owns k → (change : Change) → touches s i change ≡ false → Fits h k change → Owns (changed_by h c k change)
+  owns_still is c k o change apart fits = record {
+    keeps = change_keeps h is c k change o.keeps;
+    stands = change_stands h c k change o.keeps o.stands fits;
+    has = (untouched_stays h s i c k change apart).ring_of ∙ o.has;
+  }
+
+  pub changes_woken : IsHeader h → (c : Command) (k l : Known) → Awake k l → Owns k → (all : List Change) → list_any (touches s i) all ≡ false → FitAll h c k all →
+      Awake (changed_by_all h c k all) (changed_by_all h c l all)
+  unfolding changed_by_all
+  changes_woken is c k l w o [] apart fits = w
+  changes_woken is c k l w o (change ∷ rest) apart fits =
+      let parts = or_parts (touches s i change) (list_any (touches s i) rest) apart in
+      changes_woken is c (changed_by h c k change) (changed_by h c l change) (change_woken c k l w o change parts.0 fits.0) (owns_still is c k o change parts.0 fits.0) rest parts.1 fits.1

@@ -1,0 +1,134 @@
+-- A Command Completion Event that is possible where an endpoint's ring is held and no unfinished command touches it: it is so where the
+-- ring was woken, and leaves it woken
+use Rattle.std.specs.Prelude.{◌≡◌, ◌≢◌, ℕ, ◌==◌, ◌&&◌, if◌then◌else◌, Bool, true, false, not, List, Some, is_some, option_and_then, slice_get}
+use Rattle.std.specs.List.{list_any}
+use Rattle.std.proofs.Common.{refl, sym, ◌∙◌, ap, subst, inl, inr}
+use Rattle.std.proofs.lemmas.Bool.{cases_Bool, and_parts, and_from, or_parts, cond-true, cond-false}
+use Rattle.trb.specs.declared.block.Block.{Block}
+use Rattle.trb.specs.Block.{code, slot}
+use Rattle.segments.specs.Spots.{after}
+use Rattle.segments.specs.RingView.{RingView, Reaches, floor_number}
+use Rattle.contexts.specs.declared.size.ContextSize.{ContextSize}
+use Rattle.commands.specs.declared.command.Command.{Command}
+use Rattle.commands.specs.declared.command.Command.TheVariants.{NoOp, EnableSlot, DisableSlot, AddressDevice, ConfigureEndpoint, EvaluateContext, ResetEndpoint, StopEndpoint, SetTrDequeue, ResetDevice}
+use Rattle.commands.specs.Command.{command_of, may_answer_slot, named_slot, named_endpoint}
+use Rattle.commands.specs.States.{can_succeed, slot_meant, endpoint_meant, slot_success, endpoint_success, is_slot_enabled}
+use Rattle.commands.specs.Changes.{Change, changes, touches}
+use Rattle.traces.specs.declared.header.Header.{Header}
+use Rattle.traces.specs.declared.register.Register.TheVariants.{Config}
+use Rattle.traces.specs.Header.{IsHeader, shape_of, command_id}
+use Rattle.traces.specs.Register.{register_or_zero}
+use Rattle.ring_knowledge.specs.Known.{Known}
+use Rattle.ring_knowledge.specs.Rings.{on_ring, command_at, next_command}
+use Rattle.ring_knowledge.specs.Completions.{changed_by_all, succeeded, stop_ended, finished, completed}
+use Rattle.ownership_rules.specs.Doorbells.{touches_endpoint}
+use Rattle.ownership_rules.specs.Events.{was_stop_seen, can_finish}
+use Rattle.safety.proofs.AlikeChanges.{both_sides_if}
+use Rattle.safety.proofs.SameDriver.{SameDriver}
+use Rattle.safety.proofs.StatesChanges.{FitAll}
+use Rattle.safety.proofs.Woken.{Woken, woken_reach, woken_seen}
+use Rattle.safety.proofs.WokenChanges.{one_of, Owns, flipped, changes_woken}
+
+-- which endpoints a command touches doesn't depend on the slot of its completion
+any_slot : (size : ContextSize) (memory : ℕ → ℕ) (n s i : ℕ) (c : Command) → list_any (touches s i) (changes size memory n c) ≡ list_any (touches s i) (changes size memory 0 c)
+unfolding changes
+any_slot size memory n s i NoOp = refl
+any_slot size memory n s i EnableSlot = refl
+any_slot size memory n s i (DisableSlot t) = refl
+any_slot size memory n s i (AddressDevice t bsr a) = refl
+any_slot size memory n s i (ConfigureEndpoint t false a) = refl
+any_slot size memory n s i (ConfigureEndpoint t true a) = refl
+any_slot size memory n s i (EvaluateContext t a) = refl
+any_slot size memory n s i (ResetEndpoint t j) = refl
+any_slot size memory n s i (StopEndpoint t j) = refl
+any_slot size memory n s i (SetTrDequeue t j p cycle) = refl
+any_slot size memory n s i (ResetDevice t) = refl
+
+module _ (h : Header) (r s i : ℕ) (k l : Known) (w : Woken h r (one_of s i) k l) (d : SameDriver k l) where
+  pub untouched_list : (n : ℕ) (c : Command) → touches_endpoint h k s i c ≡ false → list_any (touches s i) (changes h.context_size k.memory n c) ≡ false
+  unfolding touches_endpoint
+  untouched_list n c apart = any_slot h.context_size k.memory n s i c ∙ apart
+
+  -- the endpoint that a command names is another one
+  endpoint_same : (c : Command) → touches_endpoint h k s i c ≡ false → is_some (endpoint_success c (endpoint_meant k.endpoint_state (named_endpoint c))) ≡ true →
+      is_some (endpoint_success c (endpoint_meant l.endpoint_state (named_endpoint c))) ≡ true
+  unfolding touches_endpoint changes
+  endpoint_same (ResetEndpoint t j) apart may =
+      ap (λ e. is_some (endpoint_success (ResetEndpoint t j) e)) (w.state t j (flipped h r s i t j (or_parts (s == t && i == j) false apart).0)) ∙ may
+  endpoint_same (StopEndpoint t j) apart may =
+      ap (λ e. is_some (endpoint_success (StopEndpoint t j) e)) (w.state t j (flipped h r s i t j (or_parts (s == t && i == j) false apart).0)) ∙ may
+  endpoint_same (SetTrDequeue t j p cycle) apart may =
+      ap (λ e. is_some (endpoint_success (SetTrDequeue t j p cycle) e)) (w.state t j (flipped h r s i t j (or_parts (s == t && i == j) false apart).0)) ∙ may
+  endpoint_same NoOp apart may = may
+  endpoint_same EnableSlot apart may = may
+  endpoint_same (DisableSlot t) apart may = may
+  endpoint_same (AddressDevice t bsr a) apart may = may
+  endpoint_same (ConfigureEndpoint t dc a) apart may = may
+  endpoint_same (EvaluateContext t a) apart may = may
+  endpoint_same (ResetDevice t) apart may = may
+
+  success_same : (n : ℕ) (c : Command) → touches_endpoint h k s i c ≡ false → can_succeed k.slot_state k.endpoint_state (register_or_zero k.register Config) n c ≡ true →
+      can_succeed l.slot_state l.endpoint_state (register_or_zero l.register Config) n c ≡ true
+  unfolding can_succeed
+  success_same n c apart may =
+      let config : ℕ = register_or_zero k.register Config in
+      let slot_may : Bool = is_some (slot_success c (k.slot_state (slot_meant n (named_slot c)))) in
+      let endpoint_may : Bool = is_some (endpoint_success c (endpoint_meant k.endpoint_state (named_endpoint c))) in
+      let outer = and_parts (slot_may && endpoint_may) (is_slot_enabled config n c) may in
+      let inner = and_parts slot_may endpoint_may outer.0 in
+      and_from (is_some (slot_success c (l.slot_state (slot_meant n (named_slot c)))) && is_some (endpoint_success c (endpoint_meant l.endpoint_state (named_endpoint c))))
+      (is_slot_enabled (register_or_zero l.register Config) n c)
+      (and_from (is_some (slot_success c (l.slot_state (slot_meant n (named_slot c))))) (is_some (endpoint_success c (endpoint_meant l.endpoint_state (named_endpoint c))))
+      (ap (λ f. is_some (slot_success c (f (slot_meant n (named_slot c))))) w.slot_state ∙ inner.0) (endpoint_same c apart inner.1))
+      (ap (λ f. is_slot_enabled (register_or_zero f Config) n c) d.register ∙ outer.1)
+
+  seen_same : (c : Command) → was_stop_seen l c ≡ was_stop_seen k c
+  unfolding was_stop_seen
+  seen_same (StopEndpoint t j) = ap (λ f. f t j) w.stop_seen
+  seen_same _ = refl
+
+  pub finish_same : (b : Block) (c : Command) → touches_endpoint h k s i c ≡ false → can_finish k b (Some c) ≡ true → can_finish l b (Some c) ≡ true
+  unfolding can_finish
+  finish_same b c apart may =
+      let mine : Bool = can_succeed k.slot_state k.endpoint_state (register_or_zero k.register Config) (slot b) c in
+      let theirs : Bool = can_succeed l.slot_state l.endpoint_state (register_or_zero l.register Config) (slot b) c in
+      let parts = and_parts (may_answer_slot (Some c) (slot b)) (if code b == 1 then mine else not (was_stop_seen k c)) may in
+      and_from (may_answer_slot (Some c) (slot b)) (if code b == 1 then theirs else not (was_stop_seen l c)) parts.0
+      (elim (cases_Bool (code b == 1)) [
+        | inl success ↦
+            cond-true (code b == 1) theirs (not (was_stop_seen l c)) success
+            ∙ success_same (slot b) c apart (sym (cond-true (code b == 1) mine (not (was_stop_seen k c)) success) ∙ parts.1)
+        | inr fails ↦
+            cond-false (code b == 1) theirs (not (was_stop_seen l c)) fails ∙ ap not (seen_same c)
+            ∙ (sym (cond-false (code b == 1) mine (not (was_stop_seen k c)) fails) ∙ parts.1)
+      ])
+
+  stop_woken : (m n : Known) → Woken h r (one_of s i) m n → (c : Command) → Woken h r (one_of s i) (stop_ended h m c) (stop_ended h n c)
+  unfolding stop_ended
+  stop_woken m n x (StopEndpoint t j) = woken_seen h r (one_of s i) m n t j false x
+  stop_woken m n x _ = x
+
+  module _ (is : IsHeader h) (o : Owns h r s i k) (b : Block) (c : Command) (apart : touches_endpoint h k s i c ≡ false)
+      (fits : (code b == 1) ≡ true → FitAll h c k (changes h.context_size k.memory (slot b) c)) where
+    finished_woken : Woken h r (one_of s i) (finished h k b (Some c)) (finished h l b (Some c))
+    unfolding finished succeeded
+    finished_woken =
+        let all : List Change = changes h.context_size k.memory (slot b) c in
+        let theirs : List Change = changes h.context_size l.memory (slot b) c in
+        stop_woken (if code b == 1 then changed_by_all h c k all else k) (if code b == 1 then changed_by_all h c l theirs else l)
+        (both_sides_if (Woken h r (one_of s i)) (code b == 1) (changed_by_all h c k all) k (changed_by_all h c l theirs) l
+        (λ success. subst (λ m. Woken h r (one_of s i) (changed_by_all h c k all) (changed_by_all h c l (changes h.context_size m (slot b) c))) (sym d.memory)
+        (changes_woken h r s i is c k l w o all (untouched_list (slot b) c apart) (fits success))) (λ fails. w)) c
+
+    pub completed_woken : command_id h ≢ r → command_at h k (next_command h k) ≡ Some c → Woken h r (one_of s i) (completed h k b) (completed h l b)
+    unfolding completed next_command command_at
+    completed_woken other at =
+        let q : ℕ = command_id h in
+        let n : ℕ = next_command h k in
+        subst (λ v. Woken h r (one_of s i) (completed h k b) (completed_as v)) (sym (w.rings q other))
+        (subst (λ x. Woken h r (one_of s i) (on_ring h (finished h k b x) q (Reaches (after (shape_of h q) n))) (on_ring h (finished h l b x) q (Reaches (after (shape_of h q) n)))) (sym at)
+        (woken_reach h r (one_of s i) (finished h k b (Some c)) (finished h l b (Some c)) finished_woken q (after (shape_of h q) n)))
+      where
+        completed_as : RingView → Known
+        completed_as v =
+            on_ring h (finished h l b (option_and_then command_of (slice_get v.queue (floor_number v)))) (command_id h) (Reaches (after (shape_of h (command_id h)) (floor_number v)))

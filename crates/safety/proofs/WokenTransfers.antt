@@ -1,0 +1,186 @@
+-- A Transfer Event that is possible where a ring is held: it is so where the ring was woken, and leaves it woken
+use Rattle.std.specs.Prelude.{◌≡◌, ◌≢◌, ℕ, ◌+◌, ◌≤◌, ◌&&◌, ◌||◌, if◌then◌else◌, Bool, true, false, not, Option, None, Some}
+use Rattle.std.proofs.Common.{arith, refl, sym, ◌∙◌, ap, subst, inl, inr}
+use Rattle.std.proofs.lemmas.Bool.{cases_Bool, cases_eq, false≢true, and_parts, and_from, or_parts, or_from, not-false, not_from_true, ltb-true, lt-ltb}
+use Rattle.std.proofs.lemmas.Option.{same_Some}
+use Rattle.std.specs.Option.{option_map}
+use Rattle.guest_memory.specs.Memory.{put_pair}
+use Rattle.trb.specs.declared.block.Block.{Block}
+use Rattle.trb.specs.Block.{pointer, code, slot, endpoint}
+use Rattle.trb.specs.CompletionCode.{is_success, is_halting, is_trb_error, is_stopping}
+use Rattle.segments.specs.declared.spot.Spot.{Spot}
+use Rattle.segments.specs.declared.spot.Spot.TheVariants.{Data, Link}
+use Rattle.segments.specs.ShapeValue.{Shape}
+use Rattle.segments.specs.Spots.{number, after}
+use Rattle.segments.specs.RingView.{RingView, Reaches, Opens, Holds, changed}
+use Rattle.segments.specs.Ceiling.{given_count, ceiling, is_data_below, is_open, is_stop_spot, is_step_given, is_way_given, stopped_number}
+use Rattle.segments.proofs.GivenCount.{given_count_same}
+use Rattle.segments.proofs.Named.{ceiling_open}
+use Rattle.commands.specs.declared.state.EndpointState.{EndpointState}
+use Rattle.commands.specs.declared.state.EndpointState.TheVariants.{Halted, Error}
+use Rattle.commands.specs.States.{is_off, is_running}
+use Rattle.traces.specs.declared.header.Header.{Header}
+use Rattle.traces.specs.Header.{shape_of}
+use Rattle.ring_knowledge.specs.Known.{Known}
+use Rattle.ring_knowledge.specs.Rings.{RingSpot, on_ring, spot_on, event_at}
+use Rattle.ring_knowledge.specs.Transfers.{passed, broken_off, stopped_at, transferred, transferred_at, transfer_read}
+use Rattle.ownership_rules.specs.Events.{is_in_profile, is_working, is_stopping_now, can_report, can_report_at, is_impossible_transfer}
+use Rattle.safety.proofs.AlikeTransfers.{both_sides, chain_from}
+use Rattle.safety.proofs.AlikeChanges.{both_sides_if}
+use Rattle.safety.proofs.SameDriver.{SameDriver}
+use Rattle.safety.proofs.HeldFurther.{named_same}
+use Rattle.safety.proofs.TransferFrames.{event_ring_of}
+use Rattle.safety.proofs.Woken.{Woken, woken_floor, woken_reach, woken_elsewhere, woken_state, woken_move, woken_seen}
+
+-- the ceiling of an opened ring is all that is given
+pub opened_ceiling : (shape : Shape) (v : RingView) → ceiling shape (changed shape v Opens) ≡ given_count shape v
+unfolding is_step_given is_way_given
+opened_ceiling shape v = ceiling_open shape (changed shape v Opens) refl ∙ sym (given_count_same shape v (changed shape v Opens) refl (λ p. refl))
+
+below_further : (m n : ℕ) (t : Spot) → m ≤ n → is_data_below m t ≡ true → is_data_below n t ≡ true
+unfolding is_data_below
+below_further m n (Data p) further below = lt-ltb p n (omega (arith, ltb-true p m below))
+below_further m n (Link q) further below = below
+
+-- an event that is no success comes from an endpoint that works
+works_there : (b c low works stops spot : Bool) → b ≡ false → (if b then low else if c then low && works else works && stops && spot) ≡ true → works ≡ true
+works_there true c low works stops spot out can = absurd (false≢true (sym out))
+works_there false true low works stops spot out can = (and_parts low works can).1
+works_there false false low works stops spot out can = (and_parts works stops (and_parts (works && stops) spot can).0).0
+
+module _ (h : Header) (r : ℕ) (S : ℕ → ℕ → Bool) (k l : Known) (w : Woken h r S k l) where
+  -- ---- what is read
+
+  passed_woken : (q : ℕ) (t : Spot) → Woken h r S (passed h k q t) (passed h l q t)
+  unfolding passed
+  passed_woken q t = woken_reach h r S k l w q (after (shape_of h q) (number t))
+
+  module _ (s i q : ℕ) (t : Spot) (other : q ≢ r) (apart : S s i ≡ false) where
+    broken_woken : (e : EndpointState) → Woken h r S (broken_off h k s i q t e) (broken_off h l s i q t e)
+    unfolding broken_off passed on_ring
+    broken_woken e =
+        woken_state h r S (on_ring h (passed h k q t) q (Holds (number t + 1))) (on_ring h (passed h l q t) q (Holds (number t + 1))) s i e apart
+        (woken_elsewhere h r S (passed h k q t) (passed h l q t) (passed_woken q t) q (Holds (number t + 1)) other)
+
+    stopped_woken : Woken h r S (stopped_at h k s i q t) (stopped_at h l s i q t)
+    unfolding stopped_at on_ring
+    stopped_woken =
+        let m : ℕ = stopped_number (shape_of h q) (k.ring q) t in
+        let x : Known = on_ring h k q (Holds m) in
+        let y : Known = on_ring h l q (Holds m) in
+        subst (λ v. Woken h r S (stopped_at h k s i q t) (let z : Known = record (on_ring h (on_ring h l q (Holds (stopped_number (shape_of h q) v t))) q (Reaches t)) { stop_seen = put_pair l.stop_seen s i true } in z))
+        (sym (w.rings q other))
+        (woken_seen h r S (on_ring h x q (Reaches t)) (on_ring h y q (Reaches t)) s i true
+        (woken_reach h r S x y (woken_elsewhere h r S k l w q (Holds m) other) q t))
+
+  transferred_woken : (c s i q : ℕ) (t : Spot) → (is_success c ≡ false → (q ≢ r) × (S s i ≡ false)) → Woken h r S (transferred h k c s i q t) (transferred h l c s i q t)
+  unfolding transferred broken_off on_ring passed
+  transferred_woken c s i q t apart =
+      both_sides_if (Woken h r S) (is_success c) _ _ _ _ (λ _. passed_woken q t)
+      (λ out. let x = apart out in
+      both_sides (Woken h r S) (is_halting c) _ _ _ _
+      (woken_move h r S (broken_off h k s i q t Halted) (broken_off h l s i q t Halted) s i true (broken_woken s i q t x.0 x.1 Halted))
+      (both_sides (Woken h r S) (is_trb_error c) _ _ _ _ (broken_woken s i q t x.0 x.1 Error) (both_sides (Woken h r S) (is_stopping c) _ _ _ _ (stopped_woken s i q t x.0 x.1) w)))
+
+  -- ---- what is possible
+
+  module _ (held : is_open (k.ring r) ≡ false) (within : ceiling (shape_of h r) (k.ring r) ≤ given_count (shape_of h r) (k.ring r))
+      (mine : (s i : ℕ) → S s i ≡ true → k.ring_of s i ≡ Some r) (stopping : (s i : ℕ) → is_stopping_now h k s i ≡ true → is_stopping_now h l s i ≡ true) where
+    below_woken : (q : ℕ) (t : Spot) → is_data_below (ceiling (shape_of h q) (k.ring q)) t ≡ true → is_data_below (ceiling (shape_of h q) (l.ring q)) t ≡ true
+    below_woken q t below =
+        elim (cases_eq q r) [
+          | inl same ↦
+              subst (λ n. is_data_below (ceiling (shape_of h n) (k.ring n)) t ≡ true → is_data_below (ceiling (shape_of h n) (l.ring n)) t ≡ true) (sym same)
+              (below_further (ceiling (shape_of h r) (k.ring r)) (ceiling (shape_of h r) (l.ring r)) t
+              (omega (arith, within, ap (λ v. ceiling (shape_of h r) v) w.own, opened_ceiling (shape_of h r) (k.ring r)))) below
+          | inr other ↦ ap (λ v. is_data_below (ceiling (shape_of h q) v) t) (w.rings q other) ∙ below
+        ]
+
+    -- an endpoint that works hasn't the ring that is held
+    works_apart : (s i q : ℕ) → k.ring_of s i ≡ Some q → is_working k s i q ≡ true → (q ≢ r) × (S s i ≡ false)
+    unfolding is_working
+    works_apart s i q has works =
+        let opened : is_open (k.ring q) ≡ true = (and_parts (is_running (k.endpoint_state s i)) (is_open (k.ring q)) works).1 in
+        let other : q ≢ r = λ same. false≢true (sym held ∙ ap (λ n. is_open (k.ring n)) (sym same) ∙ opened) in (
+          other,
+          elim (cases_Bool (S s i)) [ inl in_it ↦ absurd (other (same_Some q r (sym has ∙ mine s i in_it))) | inr out ↦ out ],
+        )
+
+    working_woken : (s i q : ℕ) → (q ≢ r) × (S s i ≡ false) → is_working k s i q ≡ true → is_working l s i q ≡ true
+    unfolding is_working
+    working_woken s i q apart works =
+        ap (λ e. is_running e && is_open (l.ring q)) (w.state s i apart.1) ∙ ap (λ v. is_running (k.endpoint_state s i) && is_open v) (w.rings q apart.0) ∙ works
+
+    report_woken : (c s i q : ℕ) (t : Spot) → k.ring_of s i ≡ Some q → can_report h k c s i q t ≡ true → can_report h l c s i q t ≡ true
+    unfolding can_report
+    report_woken c s i q t has can =
+        let low : Bool = is_data_below (ceiling (shape_of h q) (k.ring q)) t in
+        let high : Bool = is_data_below (ceiling (shape_of h q) (l.ring q)) t in
+        chain_from (is_success c) (is_halting c || is_trb_error c) low (low && is_working k s i q) (is_working k s i q && is_stopping_now h k s i && is_stop_spot (shape_of h q) (k.ring q) t)
+        high (high && is_working l s i q) (is_working l s i q && is_stopping_now h l s i && is_stop_spot (shape_of h q) (l.ring q) t) (below_woken q t)
+        (λ x.
+        let p = and_parts low (is_working k s i q) x in
+        and_from high (is_working l s i q) (below_woken q t p.0) (working_woken s i q (works_apart s i q has p.1) p.1))
+        (λ x.
+        let p = and_parts (is_working k s i q && is_stopping_now h k s i) (is_stop_spot (shape_of h q) (k.ring q) t) x in
+        let y = and_parts (is_working k s i q) (is_stopping_now h k s i) p.0 in
+        let apart = works_apart s i q has y.0 in
+        and_from (is_working l s i q && is_stopping_now h l s i) (is_stop_spot (shape_of h q) (l.ring q) t)
+        (and_from (is_working l s i q) (is_stopping_now h l s i) (working_woken s i q apart y.0) (stopping s i y.1))
+        (ap (λ v. is_stop_spot (shape_of h q) v t) (w.rings q apart.0) ∙ p.1)) can
+
+    report_apart : (c s i q : ℕ) (t : Spot) → k.ring_of s i ≡ Some q → can_report h k c s i q t ≡ true → is_success c ≡ false → (q ≢ r) × (S s i ≡ false)
+    unfolding can_report
+    report_apart c s i q t has can out =
+        works_apart s i q has
+        (works_there (is_success c) (is_halting c || is_trb_error c) (is_data_below (ceiling (shape_of h q) (k.ring q)) t) (is_working k s i q) (is_stopping_now h k s i)
+        (is_stop_spot (shape_of h q) (k.ring q) t) out can)
+
+    report_at : (b : Block) (o : Option RingSpot) → ((at : RingSpot) → o ≡ Some at → k.ring_of (slot b) (endpoint b) ≡ Some at.ring) → can_report_at h k b o ≡ true →
+        (can_report_at h l b o ≡ true) × Woken h r S (transferred_at h k b o) (transferred_at h l b o)
+    unfolding can_report_at transferred_at
+    report_at b None has can = absurd (false≢true can)
+    report_at b (Some at) has can = (
+      report_woken (code b) (slot b) (endpoint b) at.ring at.spot (has at refl) can,
+      transferred_woken (code b) (slot b) (endpoint b) at.ring at.spot (report_apart (code b) (slot b) (endpoint b) at.ring at.spot (has at refl) can),
+    )
+
+    off_woken : (s i : ℕ) → is_off (k.endpoint_state s i) ≡ false → is_off (l.endpoint_state s i) ≡ false
+    off_woken s i on =
+        elim (cases_Bool (S s i)) [
+          | inl in_it ↦ ap is_off (w.awake s i in_it)
+          | inr out ↦ ap is_off (w.state s i out) ∙ on
+        ]
+
+    module _ (d : SameDriver k l) where
+      spot_same : (p : ℕ) (o : Option ℕ) → spot_on h l p o ≡ spot_on h k p o
+      unfolding spot_on
+      spot_same p None = refl
+      spot_same p (Some q) =
+          ap (option_map (λ t. let x : RingSpot = record { ring = q; spot = t } in x)) (named_same h q p (k.ring q) (l.ring q) (woken_floor h r S k l w q) (d.rings q).queue)
+
+      event_same : (b : Block) → event_at h l b ≡ event_at h k b
+      unfolding event_at
+      event_same b = ap (λ f. spot_on h l (pointer b) (f (slot b) (endpoint b))) w.ring_of ∙ spot_same (pointer b) (k.ring_of (slot b) (endpoint b))
+
+      pub transfer_woken : (b : Block) → is_impossible_transfer h k b ≡ false → is_in_profile b ≡ true →
+          (is_impossible_transfer h l b ≡ false) × Woken h r S (transfer_read h k b) (transfer_read h l b)
+      unfolding transfer_read is_impossible_transfer
+      transfer_woken b possible inside =
+          let s : ℕ = slot b in
+          let i : ℕ = endpoint b in
+          let parts = or_parts (is_off (k.endpoint_state s i)) (not (can_report_at h k b (event_at h k b)))
+          (second (is_in_profile b) (is_off (k.endpoint_state s i) || not (can_report_at h k b (event_at h k b))) inside possible) in
+          let both = report_at b (event_at h k b) (event_ring_of h k b) (not-false (can_report_at h k b (event_at h k b)) parts.1) in (
+            and_right (is_in_profile b) (is_off (l.endpoint_state s i) || not (can_report_at h l b (event_at h l b)))
+                (or_from (is_off (l.endpoint_state s i)) (not (can_report_at h l b (event_at h l b))) (off_woken s i parts.0)
+                (not_from_true (can_report_at h l b (event_at h l b)) (ap (λ o. can_report_at h l b o) (event_same b) ∙ both.0))),
+            subst (λ o. Woken h r S (transferred_at h k b (event_at h k b)) (transferred_at h l b o)) (sym (event_same b)) both.1,
+          )
+        where
+          and_right : (x y : Bool) → y ≡ false → (x && y) ≡ false
+          and_right true y e = e
+          and_right false y e = refl
+
+          second : (x y : Bool) → x ≡ true → (x && y) ≡ false → y ≡ false
+          second x y in_it both = ap (λ b. b && y) (sym in_it) ∙ both

@@ -1,0 +1,111 @@
+-- A write that gives no command and an event that isn't read yet may change places
+use Rattle.std.specs.Prelude.{◌≡◌, ℕ, ◌==◌, ◌&&◌, not, Bool, [], None}
+use Rattle.std.proofs.Common.{refl, sym, ◌∙◌, ap, subst, inl, inr}
+use Rattle.std.proofs.Math.Path.{fun_ext}
+use Rattle.guest_memory.specs.Memory.{put}
+use Rattle.trb.specs.declared.block.Block.{Block}
+use Rattle.segments.specs.RingView.{RingView, Writes, changed}
+use Rattle.traces.specs.declared.header.Header.{Header}
+use Rattle.traces.specs.declared.row.Row.TheVariants.{Write, Read}
+use Rattle.traces.specs.Header.{IsHeader, shape_of}
+use Rattle.ring_knowledge.specs.Known.{Known}
+use Rattle.ring_knowledge.specs.Writes.{with_word, command_given}
+use Rattle.ring_knowledge.specs.Learned.{learned}
+use Rattle.ownership_rules.specs.Rules.{broken}
+use Rattle.safety.specs.Keeps.{DriverKeeps}
+use Rattle.safety.specs.Beneath.{HeldMore, Square}
+use Rattle.safety.proofs.CleanRows.{event_facts}
+use Rattle.safety.proofs.Writing.{may_write}
+use Rattle.safety.proofs.SameDriver.{SameGiven, SameDriver, both_drivers}
+use Rattle.safety.proofs.AlikeEvents.{ReadAlike}
+use Rattle.safety.proofs.HeldFurther.{EverySlot, SameStates, states_from, held_more, counted, read_same}
+use Rattle.safety.proofs.GivingBeneath.{given_same, crossed_same}
+use Rattle.safety.proofs.LeasesBehind.{Behind}
+use Rattle.safety.proofs.WriteEvents.{written_word, word_read}
+use Rattle.safety.proofs.WriteBehind.{command_behind, write_behind}
+use Rattle.safety.proofs.EventBehind.{event_behind}
+
+module _ (h : Header) (is : IsHeader h) (k : Known) (d : DriverKeeps h k) (a w : ℕ) (e : Block) (clean : broken h k (Write a w) ≡ [])
+    (may : broken h k (Read e) ≡ []) where
+  -- behind the event, then the word; the word, then behind the event
+  abbrev l : Known
+  l = learned h k (Read e)
+
+  abbrev m : Known
+  m = with_word h k a w
+
+  abbrev behind : Known
+  behind = with_word h l a w
+
+  abbrev beneath : Known
+  beneath = learned h m (Read e)
+
+  b : Behind h k l
+  b = event_behind h is k d e may
+
+  read : ReadAlike h EverySlot k m e
+  read = word_read h k a w is d clean (event_facts h k e may).started e may
+
+  ring_given : (r : ℕ) → SameGiven (changed (shape_of h r) (l.ring r) (Writes a w)) (changed (shape_of h r) (k.ring r) (Writes a w))
+  ring_given r =
+      elim (b.rings r) [
+        | inl same ↦ subst (λ (v : RingView). SameGiven (changed (shape_of h r) v (Writes a w)) (changed (shape_of h r) (k.ring r) (Writes a w))) (sym same)
+            (record { queue = refl; lengths = refl; given = refl; crossed = refl })
+        | inr on ↦
+            let writes = may_write h k a w clean r on.0 in
+            record {
+              queue = sym (b.driver.rings r).queue;
+              lengths = sym (b.driver.rings r).lengths;
+              given = fun_ext (given_same (shape_of h r) k.memory (k.ring r) (l.ring r) on.1 a w writes);
+              crossed = fun_ext (crossed_same (shape_of h r) k.memory (k.ring r) (l.ring r) on.1 a w writes);
+            }
+      ]
+
+  pub word_driver : SameDriver behind (counted h m)
+  unfolding with_word
+  word_driver = record {
+    started = sym b.driver.started;
+    stopped = sym b.driver.stopped;
+    register = sym b.driver.register;
+    memory = ap (λ f. put f a w) (sym b.driver.memory);
+    soiled = ap {B = ℕ → Bool} (λ f x. f x && not (x == a)) (sym b.driver.soiled);
+    reads = sym b.driver.reads;
+    dequeue = sym b.driver.dequeue;
+    rings = ring_given;
+  }
+
+  states : SameStates behind beneath
+  unfolding with_word
+  states =
+      let s : SameStates l beneath = states_from l beneath read.after in
+      record {
+        was_bound = s.was_bound;
+        slot_state = s.slot_state;
+        endpoint_state = s.endpoint_state;
+        ring_of = s.ring_of;
+        must_move = s.must_move;
+        stop_seen = s.stop_seen;
+        device = s.device;
+      }
+
+  word_after : HeldMore behind beneath
+  unfolding with_word
+  word_after =
+      held_more behind beneath (both_drivers behind (counted h m) beneath word_driver (read_same h m e)) states (λ r. (read.after.rings r).floor) (λ r. (read.after.rings r).held)
+
+module _ (h : Header) (is : IsHeader h) (k : Known) (d : DriverKeeps h k) (a w : ℕ) (e : Block) (clean : broken h k (Write a w) ≡ []) (none : command_given h k a w ≡ None)
+    (may : broken h k (Read e) ≡ []) where
+  pub write_square : Square h k (Write a w) e
+  write_square =
+      let l : Known = learned h k (Read e) in
+      let m : Known = with_word h k a w in
+      let behind : Known = with_word h l a w in
+      let then : learned h k (Write a w) ≡ m = written_word h k a w none in
+      let also : learned h l (Write a w) ≡ behind = written_word h l a w (command_behind h is k d a w e clean may ∙ none) in
+      record {
+        event = subst (λ x. broken h x (Read e) ≡ []) (sym then) (read h is k d a w e clean may).possible;
+        row = write_behind h is k d a w e clean may none;
+        after = subst (λ x. HeldMore x (learned h (learned h k (Write a w)) (Read e))) (sym also)
+            (subst (λ x. HeldMore behind (learned h x (Read e))) (sym then) (word_after h is k d a w e clean may));
+        awake = refl;
+      }

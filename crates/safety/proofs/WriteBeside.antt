@@ -1,0 +1,189 @@
+-- A write leaves what unfinished commands read of contexts and device contexts
+use Rattle.std.specs.Prelude.{◌≡◌, ◌≢◌, ℕ, ◌+◌, ◌*◌, ◌/◌, ◌<◌, ◌≤◌, ◌==◌, ◌&&◌, not, Bool, true, false, [], nat_le, nat_lt, Option, None, Some, option_and_then}
+use Rattle.std.proofs.Common.{arith, refl, sym, ◌∙◌, ap, inl, inr}
+use Rattle.std.proofs.lemmas.Bool.{or_parts, or_from, and_left, and_from, false≢true, lt-ltb, le-leb}
+use Rattle.std.proofs.lemmas.Option.{none-some, same_Some}
+use Rattle.segments.specs.Places.{is_in, is_inside, overlap}
+use Rattle.segments.proofs.Search.{cases_option}
+use Rattle.segments.proofs.Elsewhere.{address_inside}
+use Rattle.segments.proofs.Giving.{gives_is}
+use Rattle.segments.proofs.MemoryWords.{put_elsewhere}
+use Rattle.commands.specs.declared.command.Command.{Command}
+use Rattle.commands.specs.declared.command.Command.TheVariants.{AddressDevice}
+use Rattle.commands.specs.Command.{named_context}
+use Rattle.commands.specs.States.{is_disabled, is_off}
+use Rattle.contexts.specs.Contexts.{device_context_bytes, input_context_bytes}
+use Rattle.traces.specs.declared.header.Header.{Header}
+use Rattle.traces.specs.declared.row.Row.TheVariants.{Write}
+use Rattle.traces.specs.Header.{IsHeader, shape_of, command_id}
+use Rattle.ring_knowledge.specs.Known.{Known}
+use Rattle.ring_knowledge.specs.Learned.{learned}
+use Rattle.ring_knowledge.specs.Writes.{no_device, taken_device, device_named, command_given}
+use Rattle.ownership_rules.specs.Areas.{is_bad_area, is_soiled}
+use Rattle.ownership_rules.specs.Commands as commands
+use Rattle.ownership_rules.specs.Rules.{tests, broken}
+use Rattle.ownership_rules.specs.Writes.{write_tests}
+use Rattle.ownership_rules.specs.OpenLeases.{is_leased}
+use Rattle.safety.specs.Keeps.{IsUnfinished, CommandKeeps, DriverKeeps}
+use Rattle.safety.proofs.TestsPassed.{AllFail, tests_fail}
+use Rattle.safety.proofs.Headers.{ring_shape}
+use Rattle.safety.proofs.Areas.{clean_word}
+use Rattle.safety.proofs.AreaFacts.{AreaParts, area_parts, area_from, not_in_other, overlap_turned, word_elsewhere, is_soiled_from, device_apart, devices_apart, context_free, lease_free, word_free}
+use Rattle.safety.proofs.EndpointPut.{at_number}
+use Rattle.safety.proofs.KeptClean.{taking, not_in_area}
+use Rattle.safety.proofs.TakenDevices.{DeviceRules, taken_rules}
+use Rattle.safety.proofs.RowFrames.{write_leaves}
+use Rattle.safety.proofs.WrittenKnown.{taken, written_memory, written_device, written_device_none, written_soiled, written_soiled_none, GivesCommand}
+use Rattle.safety.proofs.ContextReads.{AgreeIn}
+use Rattle.safety.proofs.CommandsBeside.{Beside}
+use Rattle.safety.proofs.CommandsSame.{context_good}
+
+module _ (h : Header) (k : Known) where
+  pub record ContextParts (n : ℕ) : Type 0 where
+    pub area : is_bad_area h k n (input_context_bytes h.context_size) ≡ false
+    pub clean : is_soiled k n (input_context_bytes h.context_size) ≡ false
+
+  pub context_parts : (n : ℕ) → commands.has_bad_context h k (Some n) ≡ false → ContextParts n
+  unfolding commands.has_bad_context
+  context_parts n good =
+      let p = or_parts (is_bad_area h k n (input_context_bytes h.context_size)) (is_soiled k n (input_context_bytes h.context_size)) good in record { area = p.0; clean = p.1 }
+
+  pub context_from : (n : ℕ) → is_bad_area h k n (input_context_bytes h.context_size) ≡ false → is_soiled k n (input_context_bytes h.context_size) ≡ false →
+      commands.has_bad_context h k (Some n) ≡ false
+  unfolding commands.has_bad_context
+  context_from n area clean = or_from (is_bad_area h k n (input_context_bytes h.context_size)) (is_soiled k n (input_context_bytes h.context_size)) area clean
+
+module _ (h : Header) (is : IsHeader h) (k : Known) (d : DriverKeeps h k) (a w : ℕ) (clean : broken h k (Write a w) ≡ []) where
+  abbrev l : Known
+  l = learned h k (Write a w)
+
+  pub is_free : is_leased h k a ≡ false
+  unfolding tests write_tests
+  is_free = let fails : AllFail (write_tests h k a w) = tests_fail h k (Write a w) clean in fails.0
+
+  -- a device context that is taken
+  pub rules_of : (e : ℕ × ℕ) (at : taken h k a w ≡ Some e) → DeviceRules h k e.0 e.1 (taking h k a w e clean at).takes.context
+  rules_of e at = taken_rules h k d a w e.0 e.1 (taking h k a w e clean at)
+
+  -- ---- an input context apart from the word that is written and from the device context that is taken
+
+  module _ (n : ℕ) (good : commands.has_bad_context h k (Some n) ≡ false) (word : (x : ℕ) → n ≤ x → x < n + input_context_bytes h.context_size → x ≢ a)
+      (apart : (e : ℕ × ℕ) → taken h k a w ≡ Some e → overlap e.1 (device_context_bytes h.context_size) n (input_context_bytes h.context_size) ≡ false) where
+    agree : AgreeIn h.context_size k.memory l.memory n
+    agree x low high = ap (λ f. f x) (written_memory h k a w) ∙ put_elsewhere k.memory a w x (word x low high)
+
+    parts : ContextParts h k n
+    parts = context_parts h k n good
+
+    areas : AreaParts h k n (input_context_bytes h.context_size)
+    areas = area_parts h k n (input_context_bytes h.context_size) parts.area
+
+    old_apart : (t e : ℕ) → k.device t ≡ Some e → overlap n (input_context_bytes h.context_size) e (device_context_bytes h.context_size) ≡ false
+    old_apart t e at = let s = (d.devices t e at).slot in device_apart h k n (input_context_bytes h.context_size) t e areas s.0 s.1 at
+
+    now_apart : (t e : ℕ) → l.device t ≡ Some e → overlap n (input_context_bytes h.context_size) e (device_context_bytes h.context_size) ≡ false
+    now_apart t e at =
+        elim (cases_option (taken h k a w)) [
+          | inl none ↦ old_apart t e (ap (λ f. f t) (sym (written_device_none h k a w none)) ∙ at)
+          | inr some ↦
+              let f : ℕ × ℕ = some.0 in
+              at_number (λ (o : Option ℕ). o ≡ Some e → overlap n (input_context_bytes h.context_size) e (device_context_bytes h.context_size) ≡ false) k.device f.0 (Some f.1) t
+              (λ same here.
+              overlap_turned e (device_context_bytes h.context_size) n (input_context_bytes h.context_size)
+              (ap (λ x. overlap x (device_context_bytes h.context_size) n (input_context_bytes h.context_size)) (sym (same_Some f.1 e here)) ∙ apart f some.1))
+              (λ other before. old_apart t e before) (ap (λ g. g t) (sym (written_device h k a w f some.1)) ∙ at)
+        ]
+
+    now_clean : (i : ℕ) → i < input_context_bytes h.context_size / 4 → l.soiled (n + 4 * i) ≡ false
+    now_clean i low =
+        let x : ℕ = n + 4 * i in
+        let before : k.soiled (n + 4 * i) ≡ false = clean_word k n (input_context_bytes h.context_size) i parts.clean low in
+        let kept = and_left (k.soiled (n + 4 * i)) (not (n + 4 * i == a)) before in
+        elim (cases_option (taken h k a w)) [
+          | inl none ↦ written_soiled_none h k a w none (n + 4 * i) ∙ kept
+          | inr some ↦
+              written_soiled h k a w some.0 some.1 (n + 4 * i)
+              ∙ or_from (is_in (n + 4 * i) some.0.1 (device_context_bytes h.context_size)) (k.soiled (n + 4 * i) && not (n + 4 * i == a))
+              (not_in_other some.0.1 (device_context_bytes h.context_size) n (input_context_bytes h.context_size) (n + 4 * i) (apart some.0 some.1) (omega arith) (omega arith)) kept
+        ]
+
+    still_good : commands.has_bad_context h l (Some n) ≡ false
+    still_good =
+        context_from h l n
+        (area_from h l n (input_context_bytes h.context_size)
+        (record { ends = areas.ends; rings = areas.rings; devices = devices_apart h l n (input_context_bytes h.context_size) now_apart }))
+        (is_soiled_from l n (input_context_bytes h.context_size) now_clean)
+
+  -- ---- device contexts under lease stay there
+
+  pub device_stays : (s : ℕ) → k.device s ≢ None → l.device s ≢ None
+  device_stays s some none =
+      elim (cases_option (taken h k a w)) [
+        | inl idle ↦ some (ap (λ f. f s) (sym (written_device_none h k a w idle)) ∙ none)
+        | inr takes ↦
+            at_number (λ (o : Option ℕ). o ≡ None → ⊥) k.device takes.0.0 (Some takes.0.1) s (λ same here. none-some takes.0.1 (sym here)) (λ other before. some before)
+            (ap (λ g. g s) (sym (written_device h k a w takes.0 takes.1)) ∙ none)
+      ]
+
+  taken_is : (s n : ℕ) (bsr : Bool) → command_given h k a w ≡ Some (AddressDevice s bsr n) → k.device s ≡ None → taken h k a w ≡ Some (s, device_named k s)
+  unfolding taken_device no_device
+  taken_is s n bsr given none = ap (λ o. option_and_then (taken_device k) o) given ∙ ap (λ o. no_device o s (device_named k s)) none
+
+  pub device_now : (s n : ℕ) (bsr : Bool) → command_given h k a w ≡ Some (AddressDevice s bsr n) → l.device s ≢ None
+  device_now s n bsr given none =
+      elim (cases_option (k.device s)) [
+        | inl fresh ↦
+            let e : ℕ × ℕ = (s, device_named k s) in
+            at_number (λ (o : Option ℕ). o ≡ None → ⊥) k.device s (Some (device_named k s)) s (λ same here. none-some (device_named k s) (sym here)) (λ other before. other refl)
+            (ap (λ g. g s) (sym (written_device h k a w (s, device_named k s) (taken_is s n bsr given fresh))) ∙ none)
+        | inr some ↦ device_stays s (λ empty. none-some some.0 (sym empty ∙ some.1)) none
+      ]
+
+  -- ---- commands
+
+  beside_with : (c : Command) → ((n : ℕ) → named_context c ≡ Some n → (x : ℕ) → n ≤ x → x < n + input_context_bytes h.context_size → x ≢ a) →
+      ((n : ℕ) → named_context c ≡ Some n → (e : ℕ × ℕ) → taken h k a w ≡ Some e → overlap e.1 (device_context_bytes h.context_size) n (input_context_bytes h.context_size) ≡ false) →
+      commands.is_bad_command h k c ≡ false → ((s n : ℕ) (bsr : Bool) → c ≡ AddressDevice s bsr n → l.device s ≢ None) → Beside h k l c
+  beside_with c word apart good device =
+      let leaves = write_leaves h k a w in
+      let of : (n : ℕ) → named_context c ≡ Some n → commands.has_bad_context h k (Some n) ≡ false = λ n at. ap (λ o. commands.has_bad_context h k o) (sym at) ∙ context_good h k c good in
+      record {
+        memory = λ n at. agree n (of n at) (word n at) (apart n at);
+        context = λ n at. still_good n (of n at) (word n at) (apart n at);
+        slot = λ s at on. ap (λ f. is_disabled (f s)) leaves.slots.slot_state ∙ on;
+        off = λ s i at. ap (λ f. is_off (f s i)) leaves.endpoint_state;
+        device = device;
+      }
+
+  pub beside_old : (p : ℕ) (c : Command) → IsUnfinished h k p c → Beside h k l c
+  beside_old p c u =
+      let keeps : CommandKeeps h k p c = d.unfinished p c u in
+      beside_with c
+      (λ n at x low high. word_elsewhere a n (input_context_bytes h.context_size) x (context_free h k a 4 (word_free h k a is_free) p n c u at) low high)
+      (λ n at e some.
+      context_free h k e.1 (device_context_bytes h.context_size) (lease_free h k e.1 (device_context_bytes h.context_size) (rules_of e some).free) p n c u at)
+      keeps.good (λ s n bsr at. device_stays s (keeps.device s n bsr at))
+
+  -- the context of the command that is given
+  given_apart : (p : ℕ) (c : Command) → GivesCommand h k a w p c → (n : ℕ) → named_context c ≡ Some n → (e : ℕ × ℕ) → taken h k a w ≡ Some e →
+      overlap e.1 (device_context_bytes h.context_size) n (input_context_bytes h.context_size) ≡ false
+  given_apart p c g n at e some =
+      let t = taking h k a w e clean some in
+      let same : t.command ≡ c = same_Some t.command c (sym t.given ∙ g.command) in
+      let context : t.takes.context ≡ n = same_Some t.takes.context n (ap named_context (sym t.takes.command) ∙ ap named_context same ∙ at) in
+      ap (λ x. overlap e.1 (device_context_bytes h.context_size) x (input_context_bytes h.context_size)) (sym context) ∙ (rules_of e some).context_apart
+
+  given_word : (p : ℕ) (c : Command) → GivesCommand h k a w p c → commands.is_bad_command h k c ≡ false → (n : ℕ) → named_context c ≡ Some n → (x : ℕ) → n ≤ x →
+      x < n + input_context_bytes h.context_size → x ≢ a
+  given_word p c g good n at x low high same =
+      let shape = shape_of h (command_id h) in
+      let writes = gives_is (shape_of h (command_id h)) (k.ring (command_id h)).floor p a w g.gives in
+      let inside : is_inside (shape_of h (command_id h)) a ≡ true =
+      ap (λ y. is_inside (shape_of h (command_id h)) y) writes.at ∙ address_inside (shape_of h (command_id h)) (ring_shape h is (command_id h) g.ring).is p 12 (omega arith) in
+      let context = context_parts h k n (ap (λ o. commands.has_bad_context h k o) (sym at) ∙ context_good h k c good) in
+      let outside = not_in_area h (command_id h) a n (input_context_bytes h.context_size) g.ring inside (area_parts h k n (input_context_bytes h.context_size) context.area).rings in
+      false≢true (sym outside ∙ and_from (nat_le n a) (nat_lt a (n + input_context_bytes h.context_size)) (le-leb n a (omega arith)) (lt-ltb a (n + input_context_bytes h.context_size) (omega arith)))
+
+  pub beside_new : (p : ℕ) (c : Command) → GivesCommand h k a w p c → commands.is_bad_command h k c ≡ false → Beside h k l c
+  beside_new p c g good =
+      beside_with c (given_word p c g good) (given_apart p c g) good (λ s n bsr at. device_now s n bsr (g.command ∙ ap (λ x. Some x) at))

@@ -1,0 +1,162 @@
+-- What is known behind a write: the word, what it gives, and the device context that it takes
+use Rattle.std.specs.Prelude.{◌≡◌, ℕ, ◌<◌, ◌==◌, ◌&&◌, ◌||◌, ◌⊎◌, not, true, false, zero, suc, [], ◌∷◌, Contains, Option, None, Some, option_and_then, slice_get, unwrap_or}
+use Rattle.std.proofs.Common.{arith, refl, sym, ◌∙◌, ap, subst, inl, inr}
+use Rattle.std.proofs.lemmas.Bool.{cases_Bool, cond_both, or_cases, false≢true}
+use Rattle.std.proofs.lemmas.Nat.{mod_below}
+use Rattle.std.proofs.lemmas.Option.{none-some, same_Some}
+use Rattle.guest_memory.specs.Memory.{put}
+use Rattle.trb.specs.declared.block.Block.{Block}
+use Rattle.trb.specs.declared.kind.BlockKind.{BlockKind}
+use Rattle.trb.specs.declared.kind.BlockKind.TheVariants as kinds
+use Rattle.trb.specs.Block.{kind, slot}
+use Rattle.trb.specs.Descriptor.{is_command_left_out}
+use Rattle.segments.specs.Places.{is_in}
+use Rattle.segments.specs.RingView.{RingView, Writes, changed, is_due, gives, positions_given}
+use Rattle.segments.proofs.DueLists.{position_given}
+use Rattle.segments.proofs.OneGiving.{positions_given-one}
+use Rattle.commands.specs.declared.command.Command.{Command}
+use Rattle.commands.specs.Command.{command_of, command_by_kind, named_slot}
+use Rattle.contexts.specs.Contexts.{device_context_bytes}
+use Rattle.traces.specs.declared.header.Header.{Header}
+use Rattle.traces.specs.declared.row.Row.TheVariants.{Write}
+use Rattle.traces.specs.Header.{IsHeader, shape_of, command_id}
+use Rattle.ring_knowledge.specs.Known.{Known}
+use Rattle.ring_knowledge.specs.Learned.{learned}
+use Rattle.ring_knowledge.specs.Rings.{command_at}
+use Rattle.ring_knowledge.specs.Writes.{with_device, with_word, written, taken_device, command_given}
+use Rattle.safety.specs.Keeps.{IsDriverRing, IsUnfinished}
+use Rattle.safety.proofs.Headers.{ring_shape}
+use Rattle.safety.proofs.CommandRing.{due_has_ring}
+
+-- ---- a command names a slot below 256
+
+slot_or : Option Command → ℕ
+slot_or None = 0
+slot_or (Some c) = unwrap_or (named_slot c) 0
+
+slot_low : (b : Block) → slot b < 256
+slot_low b = mod_below _ 256 (omega arith)
+
+by_kind : (b : Block) (t : BlockKind) → slot_or (command_by_kind t b) < 256
+unfolding slot_or
+by_kind b kinds.DisableSlot = slot_low b
+by_kind b kinds.AddressDevice = slot_low b
+by_kind b kinds.ConfigureEndpoint = slot_low b
+by_kind b kinds.EvaluateContext = slot_low b
+by_kind b kinds.ResetEndpoint = slot_low b
+by_kind b kinds.StopEndpoint = slot_low b
+by_kind b kinds.SetTrDequeue = slot_low b
+by_kind b kinds.ResetDevice = slot_low b
+by_kind b _ = omega arith
+
+pub command_slot_low : (b : Block) (c : Command) (s : ℕ) → command_of b ≡ Some c → named_slot c ≡ Some s → s < 256
+unfolding slot_or
+command_slot_low b c s of is =
+    let low : slot_or (command_of b) < 256 =
+    cond_both (is_command_left_out b) None (command_by_kind (kind b) b) (λ o. slot_or o < 256) (λ out. omega arith) (λ here. by_kind b (kind b)) in
+    omega (arith, low, ap slot_or of, ap (λ o. unwrap_or o 0) is)
+
+module _ (h : Header) (k : Known) (a w : ℕ) where
+  abbrev pub after_write : Known
+  after_write = learned h k (Write a w)
+
+  -- the device context that the write takes, by its slot and its address
+  abbrev pub taken : Option (ℕ × ℕ)
+  taken = option_and_then (taken_device k) (command_given h k a w)
+
+  kept_by_device : (m : Known) (o : Option (ℕ × ℕ)) → ((with_device h m o).ring ≡ m.ring) × ((with_device h m o).memory ≡ m.memory)
+  unfolding with_device
+  kept_by_device m None = (refl, refl)
+  kept_by_device m (Some e) = (refl, refl)
+
+  pub written_ring : (q : ℕ) → after_write.ring q ≡ changed (shape_of h q) (k.ring q) (Writes a w)
+  unfolding learned written with_word
+  written_ring q = ap (λ f. f q) (kept_by_device (with_word h k a w) taken).0
+
+  pub written_memory : after_write.memory ≡ put k.memory a w
+  unfolding learned written with_word
+  written_memory = (kept_by_device (with_word h k a w) taken).1
+
+  device_by : (m : Known) (o : Option (ℕ × ℕ)) → o ≡ None → (with_device h m o).device ≡ m.device
+  unfolding with_device
+  device_by m None none = refl
+  device_by m (Some e) none = absurd (none-some e (sym none))
+
+  device_with : (m : Known) (o : Option (ℕ × ℕ)) (e : ℕ × ℕ) → o ≡ Some e → (with_device h m o).device ≡ put m.device e.0 (Some e.1)
+  unfolding with_device
+  device_with m None e some = absurd (none-some e some)
+  device_with m (Some f) e some = ap (λ (x : ℕ × ℕ). put m.device x.0 (Some x.1)) (same_Some f e some)
+
+  pub written_device_none : taken ≡ None → after_write.device ≡ k.device
+  unfolding learned written with_word
+  written_device_none none = device_by (with_word h k a w) taken none
+
+  pub written_device : (e : ℕ × ℕ) → taken ≡ Some e → after_write.device ≡ put k.device e.0 (Some e.1)
+  unfolding learned written with_word
+  written_device e some = device_with (with_word h k a w) taken e some
+
+  soiled_with : (m : Known) (o : Option (ℕ × ℕ)) (e : ℕ × ℕ) → o ≡ Some e → (x : ℕ) → (with_device h m o).soiled x ≡ (is_in x e.1 (device_context_bytes h.context_size) || m.soiled x)
+  unfolding with_device
+  soiled_with m None e some x = absurd (none-some e some)
+  soiled_with m (Some f) e some x = ap (λ (y : ℕ × ℕ). is_in x y.1 (device_context_bytes h.context_size) || m.soiled x) (same_Some f e some)
+
+  pub written_soiled : (e : ℕ × ℕ) → taken ≡ Some e → (x : ℕ) → after_write.soiled x ≡ (is_in x e.1 (device_context_bytes h.context_size) || (k.soiled x && not (x == a)))
+  unfolding learned written with_word
+  written_soiled e some x = soiled_with (with_word h k a w) taken e some x
+
+  soiled_none : (m : Known) (o : Option (ℕ × ℕ)) → o ≡ None → (with_device h m o).soiled ≡ m.soiled
+  unfolding with_device
+  soiled_none m None none = refl
+  soiled_none m (Some e) none = absurd (none-some e (sym none))
+
+  pub written_soiled_none : taken ≡ None → (x : ℕ) → after_write.soiled x ≡ (k.soiled x && not (x == a))
+  unfolding learned written with_word
+  written_soiled_none none x = ap (λ f. f x) (soiled_none (with_word h k a w) taken none)
+
+  -- ---- what is unfinished
+
+  -- the write gives position p of the command ring, with this command
+  pub record GivesCommand (p : ℕ) (c : Command) : Type 0 where
+    pub ring : IsDriverRing h (command_id h)
+    pub fresh : (k.ring (command_id h)).given p ≡ false
+    pub gives : gives (shape_of h (command_id h)) (k.ring (command_id h)).floor p a w ≡ true
+    pub command : command_given h k a w ≡ Some c
+
+  module _ (is : IsHeader h) where
+    one_given : (p : ℕ) (c : Command) → IsDriverRing h (command_id h) → Contains (positions_given (shape_of h (command_id h)) (k.ring (command_id h)) a w) p → command_at h k p ≡ Some c →
+        command_given h k a w ≡ Some c
+    unfolding command_given
+    one_given p c ring here at =
+        let v : RingView = k.ring (command_id h) in
+        elim (positions_given-one (shape_of h (command_id h)) (ring_shape h is (command_id h) ring).is (k.ring (command_id h)) a w) [
+          | inl none ↦ let empty = subst (λ xs. Contains xs p) none here in absurd (omega (arith, empty.1))
+          | inr one ↦
+              let only = subst (λ xs. Contains xs p) one.1 here in
+              ap (λ xs. option_and_then (command_at h k) (slice_get xs 0)) one.1 ∙ ap (λ n. command_at h k n) (first_is one.0 p only) ∙ at
+        ]
+      where
+        first_is : (q p : ℕ) → Contains (q ∷ []) p → q ≡ p
+        first_is q p (zero, low, at) = at
+        first_is q p (suc n, low, at) = absurd (omega arith)
+
+    pub unfinished_written : (p : ℕ) (c : Command) → IsUnfinished h after_write p c → IsUnfinished h k p c ⊎ GivesCommand p c
+    unfolding command_at
+    unfinished_written p c u =
+        let v : RingView = k.ring (command_id h) in
+        let same = written_ring (command_id h) in
+        let due = ap (λ (x : RingView). is_due (shape_of h (command_id h)) x.floor p) (sym same) ∙ u.due in
+        let command = ap (λ (x : RingView). option_and_then command_of (slice_get x.queue p)) (sym same) ∙ u.command in
+        let given = ap (λ (x : RingView). x.given p) (sym same) ∙ u.given in
+        elim (cases_Bool (v.given p)) [
+          | inl before ↦ inl (record { due = due; given = before; command = command })
+          | inr fresh ↦
+              let ring = due_has_ring h is (k.ring (command_id h)).floor p due in
+              let now : gives (shape_of h (command_id h)) (k.ring (command_id h)).floor p a w ≡ true =
+              elim (or_cases (v.given p) (gives (shape_of h (command_id h)) v.floor p a w) given) [ inl old ↦ absurd (false≢true (sym fresh ∙ old)) | inr new ↦ new ] in
+              inr (record {
+                ring = ring;
+                fresh = fresh;
+                gives = now;
+                command = one_given p c ring (position_given (shape_of h (command_id h)) (k.ring (command_id h)) a w p fresh now) command;
+              })
+        ]
