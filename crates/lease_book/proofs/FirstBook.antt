@@ -1,0 +1,95 @@
+-- Before the first row the event segments are under lease, and nothing else
+use Rattle.std.specs.Prelude.{◌≡◌, ℕ, ◌*◌, ◌&&◌, Bool, true, false, List, [], ◌∷◌, ◌++◌, filter, map}
+use Rattle.std.specs.List.{flat_map}
+use Rattle.std.proofs.Common.{subst, sym, ◌∙◌, ap, refl}
+use Rattle.std.proofs.lemmas.List.{append-nil}
+use Rattle.segments.specs.Places.{is_crossing}
+use Rattle.segments.specs.RingView.{due_crossings, due_positions, leased_crossings, leased_positions, new_ring}
+use Rattle.segments.specs.declared.segment.Segment.{Segment}
+use Rattle.traces.specs.declared.header.Header.{Header}
+use Rattle.traces.specs.declared.ring.Ring.{Ring}
+use Rattle.traces.specs.declared.register.Register.TheVariants.{Erstba}
+use Rattle.traces.specs.Header.{command_id, driver_rings, event_shape, shape_of}
+use Rattle.ring_knowledge.specs.Known.{nothing}
+use Rattle.ring_knowledge.specs.Rings as rings
+use Rattle.ownership_rules.specs.OpenLeases.{Leased, Block, Link, Range, EventSegment, context_ranges, device_ranges, entry_ranges, open_leases, open_on, open_ranges, range_of_command, range_of_device, range_of_entry, segment_ranges, slots, table_range}
+use Rattle.ownership_rules.specs.Leases.{as_lease, in_order, without_end}
+use Rattle.ownership_rules.proofs.Among.{IsIn}
+use Rattle.lease_book.specs.declared.indexes.IndexTables.{IndexTables}
+use Rattle.lease_book.specs.Lents.{begun_at, in_turn, lease_of, lents, with_begun}
+use Rattle.lease_book.specs.Books.{AllUnended, IsFound}
+use Rattle.lease_book.specs.Opening.{segment_lease}
+use Rattle.lease_book.proofs.Growing.{map_map, sorted}
+use Rattle.lease_book.proofs.Rows.{all_new, from_turn}
+use Rattle.lease_book.proofs.SameLeases.{flat_none}
+use Rattle.lease_book.proofs.Members.{from_map}
+use Rattle.lease_book.proofs.RangesAlone.{IsRange}
+use Rattle.lease_book.proofs.Unended.{all_anew}
+
+and_false : (b : Bool) → (b && false) ≡ false
+and_false true = refl
+and_false false = refl
+
+none_passes : {X : Type 0} (p : X → Bool) (xs : List X) → ((x : X) → p x ≡ false) → filter p xs ≡ []
+none_passes p [] none = refl
+none_passes p (x ∷ xs) none = rw (none x) (none_passes p xs none)
+
+module _ (h : Header) where
+  none_on : (r : Ring) → open_on h nothing r ≡ []
+  unfolding open_on nothing leased_positions leased_crossings
+  none_on r =
+      rw (
+        none_passes (λ p. false) (due_positions r.shape new_ring) (λ p. refl),
+        none_passes (λ q. is_crossing r.shape q && false) (due_crossings r.shape new_ring) (λ q. and_false (is_crossing r.shape q)),
+      ) refl
+
+  no_contexts : context_ranges h nothing ≡ []
+  unfolding context_ranges rings.unfinished_positions nothing
+  no_contexts =
+      ap (flat_map (λ p. range_of_command h p (rings.command_at h nothing p))) (none_passes (λ p. false) (due_positions (shape_of h (command_id h)) new_ring) (λ p. refl))
+
+  no_entries : entry_ranges nothing ≡ []
+  unfolding entry_ranges nothing range_of_entry
+  no_entries = flat_none (λ s. []) slots (λ s. refl)
+
+  no_devices : device_ranges h nothing ≡ []
+  unfolding device_ranges nothing range_of_device
+  no_devices = flat_none (λ s. []) slots (λ s. refl)
+
+  no_table : table_range h (nothing.register Erstba) ≡ []
+  unfolding nothing table_range
+  no_table = refl
+
+  ranges_at_first : open_ranges h nothing ≡ segment_ranges h
+  unfolding open_ranges
+  ranges_at_first = rw (no_table, no_contexts, no_entries, no_devices) (append-nil _ ∙ append-nil _ ∙ append-nil _ ∙ append-nil (segment_ranges h))
+
+  pub open_at_first : open_leases h nothing ≡ segment_ranges h
+  unfolding open_leases
+  open_at_first = ap (λ ls. ls ++ open_ranges h nothing) (flat_none (open_on h nothing) (driver_rings h) none_on) ∙ ranges_at_first
+
+  -- the book at first
+  pub first_list : (first : ℕ) → in_order (map segment_lease (event_shape h).segments) ≡ map lease_of (lents h first [])
+  unfolding lents with_begun segment_lease segment_ranges begun_at lease_of
+  first_list first =
+      ap in_order (sym (map_map (λ l. as_lease 0 without_end l) (λ (s : Segment). Range (16 * s.count) s.base EventSegment) (event_shape h).segments))
+      ∙ sorted 0 (λ l. without_end) (segment_ranges h)
+      ∙ ap (λ ls. map (λ l. as_lease 0 without_end l) (in_turn ls)) (sym open_at_first)
+      ∙ sym (map_map lease_of (begun_at 0) (in_turn (open_leases h nothing)))
+
+  segments_are : (l : Leased) → IsIn l (segment_ranges h) → IsRange l
+  unfolding segment_ranges
+  segments_are l at =
+      let found = from_map (λ (s : Segment). Range (16 * s.count) s.base EventSegment) (event_shape h).segments l at in
+      subst IsRange (sym found.2) tt
+
+  pub first_found : (first : ℕ) (blocks links : IndexTables) → AllUnended (IsFound h blocks links) 0 (lents h first [])
+  unfolding lents with_begun
+  first_found first blocks links =
+      all_anew (λ i l. IsRange l) (IsFound h blocks links) 0 (map (begun_at 0) (in_turn (open_leases h nothing))) found
+      (all_new IsRange 0 0 (in_turn (open_leases h nothing)) (λ l at. segments_are l (subst (IsIn l) open_at_first (from_turn (open_leases h nothing) l at))))
+    where
+      found : (i : ℕ) (l : Leased) → IsRange l → IsFound h blocks links i l
+      found i (Block r p) is = absurd is
+      found i (Link r q) is = absurd is
+      found i (Range n a e) is = tt

@@ -1,0 +1,78 @@
+-- No lease that is open shares its place with a position that isn't given
+use Rattle.std.specs.Prelude.{◌≡◌, ℕ, ◌+◌, ◌%◌, ◌<◌, ◌≤◌, ◌==◌, ◌&&◌, Bool, true, false, not, List, [], ◌∷◌, length}
+use Rattle.std.specs.List.{flat_map, list_any}
+use Rattle.std.proofs.Common.{sym, ◌∙◌, ap, refl, inl, inr, subst}
+use Rattle.std.proofs.lemmas.Bool.{cases_Bool, eqb-true, false≢true, and_parts}
+use Rattle.segments.specs.ShapeValue.{Shape}
+use Rattle.segments.specs.Places.{place_count}
+use Rattle.segments.specs.RingView.{floor_number}
+use Rattle.traces.specs.declared.header.Header.{Header}
+use Rattle.traces.specs.declared.ring.Ring.{Ring}
+use Rattle.traces.specs.declared.row.Row.{Row}
+use Rattle.traces.specs.Header.{driver_rings, shape_of}
+use Rattle.ring_knowledge.specs.Known.{Known}
+use Rattle.ring_knowledge.specs.Learned.{known}
+use Rattle.ring_knowledge.proofs.DueNumbers.{same_due}
+use Rattle.ownership_rules.specs.OpenLeases.{Leased, Block, Link, Range, is_among, open_leases, open_on, open_ranges}
+use Rattle.ownership_rules.specs.Leases.{without_end}
+use Rattle.ownership_rules.proofs.Among.{IsIn, among_is}
+use Rattle.lease_book.specs.Lents.{Lent, is_place_free, is_unended, lents, share_a_place}
+use Rattle.lease_book.specs.Books.{AllUnended}
+use Rattle.lease_book.proofs.Members.{InOn, block, link, from_flat_map, in_either, in_on}
+use Rattle.lease_book.proofs.RangesAlone.{IsRange, open_are_ranges}
+use Rattle.lease_book.proofs.Rows.{unended_open}
+use Rattle.lease_book.proofs.Writing.{AreShaped}
+
+pub none_shares : (P : Leased → Type 0) (S : Leased → Bool) (i : ℕ) (ts : List Lent) → ((l : Leased) → P l → S l ≡ false) → AllUnended (λ j l. P l) i ts →
+    list_any (λ t. is_unended t && S t.leased) ts ≡ false
+none_shares P S i [] apart all = refl
+none_shares P S i (t ∷ ts) apart all = elim (cases_Bool (is_unended t)) [
+  | inl unended ↦ rw (unended, apart t.leased (all.0 unended)) (none_shares P S (i + 1) ts apart all.1)
+  | inr over ↦ rw over (none_shares P S (i + 1) ts apart all.1)
+]
+
+module _ (h : Header) (shaped : AreShaped h) (k : Known) (q : Ring) (among : IsIn q (driver_rings h)) (p : ℕ)
+    (some : 0 < place_count q.shape) (low : floor_number (k.ring q.id) ≤ p) (high : p < floor_number (k.ring q.id) + place_count q.shape) (absent : (k.ring q.id).given p ≡ false) where
+  same_place : (s : Ring) → IsIn s (driver_rings h) → (m : ℕ) → q.id ≡ s.id → floor_number (k.ring s.id) ≤ m → m < floor_number (k.ring s.id) + place_count s.shape → (k.ring s.id).given m ≡ true →
+      p % place_count (shape_of h q.id) ≡ m % place_count (shape_of h s.id) → ⊥
+  same_place s at m ids least most given e =
+      let shapes : s.shape ≡ q.shape = sym (shaped s at) ∙ ap (shape_of h) (sym ids) ∙ shaped q among in
+      let from : floor_number (k.ring q.id) ≤ m = subst (λ (i : ℕ). floor_number (k.ring i) ≤ m) (sym ids) least in
+      let most' : m < floor_number (k.ring s.id) + place_count q.shape = subst (λ (x : Shape). m < floor_number (k.ring s.id) + place_count x) shapes most in
+      let to : m < floor_number (k.ring q.id) + place_count q.shape = subst (λ (i : ℕ). m < floor_number (k.ring i) + place_count q.shape) (sym ids) most' in
+      let there : (k.ring q.id).given m ≡ true = subst (λ (i : ℕ). (k.ring i).given m ≡ true) (sym ids) given in
+      let rests : p % place_count q.shape ≡ m % place_count q.shape =
+      ap (λ x. p % place_count x) (sym (shaped q among)) ∙ e ∙ ap (λ x. m % place_count x) (shaped s at ∙ shapes) in
+      let same : p ≡ m = same_due (floor_number (k.ring q.id)) (place_count q.shape) p m some low high from to rests in
+      false≢true (sym absent ∙ ap (k.ring q.id).given same ∙ there)
+
+  apart_on : (s : Ring) → IsIn s (driver_rings h) → (l : Leased) → InOn s (k.ring s.id) l → share_a_place h (Block q.id p) l ≡ false
+  apart_on s at _ (block m least most given) =
+      elim (cases_Bool (q.id == s.id && p % place_count (shape_of h q.id) == m % place_count (shape_of h s.id))) [
+        | inl shares ↦
+            let both = and_parts (q.id == s.id) (p % place_count (shape_of h q.id) == m % place_count (shape_of h s.id)) shares in
+            absurd (same_place s at m (eqb-true q.id s.id both.0) least most given (eqb-true _ _ both.1))
+        | inr differ ↦ differ
+      ]
+  apart_on s at _ (link c least most crossed) = refl
+
+  apart_range : (l : Leased) → IsRange l → share_a_place h (Block q.id p) l ≡ false
+  apart_range (Block s m) is = absurd is
+  apart_range (Link s m) is = absurd is
+  apart_range (Range n a e) is = refl
+
+  apart : (l : Leased) → is_among (open_leases h k) l ≡ true → share_a_place h (Block q.id p) l ≡ false
+  unfolding open_leases
+  apart l e = elim (in_either l (flat_map (open_on h k) (driver_rings h)) (open_ranges h k) (among_is _ l e)) [
+    | inl on ↦ let found = from_flat_map (open_on h k) (driver_rings h) l on in apart_on found.0 found.1 l (in_on h k found.0 l found.2)
+    | inr range ↦ apart_range l (open_are_ranges h k l range)
+  ]
+
+-- the place of a due position that isn't given is free
+pub block_free : (h : Header) → AreShaped h → (first : ℕ) (past : List Row) → first + length past ≤ without_end → (q : Ring) → IsIn q (driver_rings h) → (p : ℕ) → 0 < place_count q.shape →
+    floor_number ((known h past).ring q.id) ≤ p → p < floor_number ((known h past).ring q.id) + place_count q.shape → ((known h past).ring q.id).given p ≡ false →
+    is_place_free h (lents h first past) (Block q.id p) ≡ true
+unfolding is_place_free
+block_free h shaped first past room q among p some low high absent =
+    ap not (none_shares (λ l. is_among (open_leases h (known h past)) l ≡ true) (share_a_place h (Block q.id p)) 0 (lents h first past)
+    (λ l is_open. apart h shaped (known h past) q among p some low high absent l is_open) (unended_open h first past room))

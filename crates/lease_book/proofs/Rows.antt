@@ -1,0 +1,142 @@
+-- What is lent after one more row, by which leases are open after it
+use Rattle.std.specs.Prelude.{◌≡◌, ℕ, ◌+◌, ◌<◌, ◌≤◌, ◌==◌, ◌&&◌, Bool, true, false, not, List, [], ◌∷◌, ◌++◌, length, map, filter}
+use Rattle.std.proofs.Common.{arith, sym, ◌∙◌, ap, refl, inl, inr, cond}
+use Rattle.std.proofs.lemmas.Bool.{false≢true, and_parts}
+use Rattle.std.proofs.lemmas.Bool.Decides.{nat_tests}
+use Rattle.std.proofs.lemmas.List.{append-nil}
+use Rattle.traces.specs.declared.header.Header.{Header}
+use Rattle.traces.specs.declared.row.Row.{Row}
+use Rattle.ring_knowledge.specs.Known.{Known, nothing}
+use Rattle.ring_knowledge.specs.Learned.{learned, known}
+use Rattle.ownership_rules.specs.OpenLeases.{Leased, is_among, open_leases}
+use Rattle.ownership_rules.specs.Leases.{begun, without_end}
+use Rattle.ownership_rules.proofs.Among.{IsIn, from_filter, in_among}
+use Rattle.lease_book.specs.Lents.{Lent, is_unended, begun_at, precedes, with_leased, in_turn, ended_where, with_begun, grown, lents}
+use Rattle.lease_book.specs.Books.{AllUnended}
+use Rattle.lease_book.proofs.Passing.{ended_alike, none_over}
+
+-- what stands in order stood there before
+from_with : (l : Leased) (ls : List Leased) (m : Leased) → IsIn m (with_leased l ls) → IsIn m (l ∷ ls)
+unfolding with_leased
+from_with l [] m at = at
+from_with l (x ∷ rest) m at = by (precedes l x) at (from_with l rest m)
+  where
+    by : (b : Bool) → IsIn m (cond b (l ∷ x ∷ rest) (x ∷ with_leased l rest)) → (IsIn m (with_leased l rest) → IsIn m (l ∷ rest)) → IsIn m (l ∷ x ∷ rest)
+    by true here f = here
+    by false here f = elim here [
+      | inl first ↦ inr (inl first)
+      | inr later ↦ elim (f later) [ inl this ↦ inl this | inr after ↦ inr (inr after) ]
+    ]
+
+pub from_turn : (ls : List Leased) (m : Leased) → IsIn m (in_turn ls) → IsIn m ls
+unfolding in_turn
+from_turn [] m at = at
+from_turn (l ∷ rest) m at = elim (from_with l (in_turn rest) m at) [ inl here ↦ inl here | inr later ↦ inr (from_turn rest m later) ]
+
+module _ (P : Leased → Type 0) where
+  abbrev F : ℕ → Leased → Type 0
+  F i l = P l
+
+  pub all_new : (n i : ℕ) (ls : List Leased) → ((l : Leased) → IsIn l ls → P l) → AllUnended F i (map (begun_at n) ls)
+  unfolding begun_at
+  all_new n i [] f = tt
+  all_new n i (l ∷ ls) f = (λ u. f l (inl refl), all_new n (i + 1) ls (λ m at. f m (inr at)))
+
+  all_joined : (i : ℕ) (xs ys : List Lent) → AllUnended F i xs → ((j : ℕ) → AllUnended F j ys) → AllUnended F i (xs ++ ys)
+  all_joined i [] ys f g = g i
+  all_joined i (x ∷ xs) ys f g = (f.0, all_joined (i + 1) xs ys f.1 g)
+
+-- what isn't over behind a row is what the row ends not
+all_left : (over : Leased → Bool) (n i : ℕ) (ts : List Lent) → n < without_end → AllUnended (λ j l. over l ≡ false) i (map (ended_where over n) ts)
+unfolding ended_where is_unended
+all_left over n i [] early = tt
+all_left over n i (t ∷ ts) early = (one (is_unended t) (over t.leased) refl refl, all_left over n (i + 1) ts early)
+  where
+    late : (n == without_end) ≡ false
+    late = grind (arith, nat_tests, early)
+
+    one : (a b : Bool) → is_unended t ≡ a → over t.leased ≡ b → is_unended (cond (a && b) (record t { to = n }) t) ≡ true → over (cond (a && b) (record t { to = n }) t).leased ≡ false
+    one true true e f u = absurd (false≢true (sym late ∙ u))
+    one true false e f u = f
+    one false b e f u = absurd (false≢true (sym e ∙ u))
+
+-- what was there before isn't new
+pub none_new : (xs ys : List Leased) → ((l : Leased) → IsIn l ys → is_among xs l ≡ true) → filter (λ l. not (is_among xs l)) ys ≡ []
+none_new xs [] there = refl
+none_new xs (y ∷ ys) there = rw (there y (inl refl)) (none_new xs ys (λ l at. there l (inr at)))
+
+module _ (h : Header) where
+  abbrev IsOpen : Known → Leased → Type 0
+  IsOpen k l = is_among (open_leases h k) l ≡ true
+
+  not_over : (b : Bool) → not b ≡ false → b ≡ true
+  not_over true e = refl
+  not_over false e = absurd (false≢true (sym e))
+
+  weaker : (G H : Leased → Type 0) (i : ℕ) (ts : List Lent) → ((l : Leased) → G l → H l) → AllUnended (λ j l. G l) i ts → AllUnended (λ j l. H l) i ts
+  weaker G H i [] f all = tt
+  weaker G H i (t ∷ ts) f all = (λ u. f t.leased (all.0 u), weaker G H (i + 1) ts f all.1)
+
+  after_row : (k : Known) (row : Row) (n : ℕ) (ts : List Lent) → n < without_end → AllUnended (λ i l. IsOpen (learned h k row) l) 0 (grown h k row n ts)
+  unfolding grown with_begun begun
+  after_row k row n ts early =
+      let k' : Known = learned h k row in
+      let gone : Leased → Bool = λ l. not (is_among (open_leases h k') l) in
+      all_joined (IsOpen k') 0 (map (ended_where gone n) ts) (map (begun_at n) (in_turn (begun h k row)))
+      (weaker (λ l. gone l ≡ false) (IsOpen k') 0 (map (ended_where gone n) ts) (λ l e. not_over (is_among (open_leases h k') l) e) (all_left gone n 0 ts early))
+      (λ j. all_new (IsOpen k') n j (in_turn (begun h k row)) (λ l at. in_among (open_leases h k') l
+      (from_filter (λ m. not (is_among (open_leases h k) m)) (open_leases h k') l (from_turn (begun h k row) l at)).0))
+
+  -- what is lent and not over is open
+  pub unended_open : (first : ℕ) (past : List Row) → first + length past ≤ without_end → AllUnended (λ i l. IsOpen (known h past) l) 0 (lents h first past)
+  unfolding lents known with_begun
+  unended_open first [] room = all_new (IsOpen nothing) 0 0 (in_turn (open_leases h nothing)) (λ l at. in_among (open_leases h nothing) l (from_turn (open_leases h nothing) l at))
+  unended_open first (row ∷ past) room = after_row (known h past) row (first + length past) (lents h first past) (omega arith)
+
+  module _ (first : ℕ) (past : List Row) (row : Row) (room : first + length (row ∷ past) ≤ without_end) where
+    -- the row ends the leases of which the test holds, and begins these
+    pub grown_by : (over : Leased → Bool) (new : List Leased) →
+        ((l : Leased) → IsOpen (known h past) l → is_among (open_leases h (learned h (known h past) row)) l ≡ not (over l)) → in_turn (begun h (known h past) row) ≡ new →
+        lents h first (row ∷ past) ≡ with_begun (first + length past) (map (ended_where over (first + length past)) (lents h first past)) new
+    unfolding lents grown
+    grown_by over new left e =
+        ap (λ ts. with_begun (first + length past) ts (in_turn (begun h (known h past) row)))
+        (ended_alike (λ j l. IsOpen (known h past) l) (λ l. not (is_among (open_leases h (learned h (known h past) row)) l)) over (first + length past) 0 (lents h first past)
+        (λ j l is_open. ap not (left l is_open) ∙ twice (over l)) (unended_open first past (omega arith)))
+        ∙ ap (with_begun (first + length past) (map (ended_where over (first + length past)) (lents h first past))) e
+      where
+        twice : (b : Bool) → not (not b) ≡ b
+        twice true = refl
+        twice false = refl
+
+    -- nothing begins
+    pub only_ended : (over : Leased → Bool) →
+        ((l : Leased) → is_among (open_leases h (learned h (known h past) row)) l ≡ (is_among (open_leases h (known h past)) l && not (over l))) →
+        lents h first (row ∷ past) ≡ map (ended_where over (first + length past)) (lents h first past)
+    unfolding begun in_turn with_begun
+    only_ended over narrows =
+        grown_by over [] (λ l is_open. narrows l ∙ ap (λ b. b && not (over l)) is_open) (ap in_turn (none_new (open_leases h (known h past)) (open_leases h (learned h (known h past) row)) there))
+        ∙ append-nil _
+      where
+        there : (l : Leased) → IsIn l (open_leases h (learned h (known h past) row)) → IsOpen (known h past) l
+        there l at =
+            (and_parts (is_among (open_leases h (known h past)) l) (not (over l))
+            (sym (narrows l) ∙ in_among (open_leases h (learned h (known h past) row)) l at)).0
+
+    -- nothing begins or ends
+    pub nothing_new : ((l : Leased) → is_among (open_leases h (learned h (known h past) row)) l ≡ is_among (open_leases h (known h past)) l) →
+        lents h first (row ∷ past) ≡ lents h first past
+    nothing_new same =
+        only_ended (λ l. false) (λ l. same l ∙ sym (and_true (is_among (open_leases h (known h past)) l)))
+        ∙ none_over (λ l. false) (first + length past) (lents h first past) (λ l. refl)
+      where
+        and_true : (b : Bool) → (b && true) ≡ b
+        and_true true = refl
+        and_true false = refl
+
+    -- nothing ends
+    pub only_begun : (new : List Leased) → ((l : Leased) → IsOpen (known h past) l → IsOpen (learned h (known h past) row) l) → in_turn (begun h (known h past) row) ≡ new →
+        lents h first (row ∷ past) ≡ with_begun (first + length past) (lents h first past) new
+    only_begun new kept e =
+        grown_by (λ l. false) new kept e
+        ∙ ap (λ ts. with_begun (first + length past) ts new) (none_over (λ l. false) (first + length past) (lents h first past) (λ l. refl))

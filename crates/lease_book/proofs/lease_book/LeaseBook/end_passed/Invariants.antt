@@ -1,0 +1,11 @@
+use Rattle.std.proofs.Common.{◌≡◌, List, map}
+use Rattle.traces.specs.declared.header.Header.{Header}
+use Rattle.traces.specs.Header.{shape_of}
+use Rattle.lease_book.specs.Lents.{Lent, ended_where, is_passed}
+use Rattle.lease_book.specs.Books.{HoldsLents}
+use Rattle.lease_book.proofs.lease_book.LeaseBook.end_passed.Given as goal
+
+abbrev pub invariant-loop-number : goal.invariant-loop-number
+invariant-loop-number l =
+    (h : Header) (ts : List Lent) → shape_of h l.ring.id ≡ l.ring.shape → HoldsLents h ts l.fn.self →
+    HoldsLents h (map (ended_where (is_passed l.ring.id l.from l.number) l.row) ts) l.self
