@@ -1,29 +1,34 @@
--- Which leases begin at a row: at a write what it gives, at a declaration none
-use Rattle.std.proofs.Common.{◌≡◌, ℕ, ◌+◌, ◌<◌, ◌≤◌, List, [], ◌∷◌, ◌++◌, Bool, true, false, refl, ap, sym, ◌∙◌, arith, inl, inr, length, zero, suc}
+-- Which leases begin at a row: at a write what it gives, at the write of ERSTBA that of the segment table, at any other row none
+use Rattle.std.proofs.Common.{◌≡◌, ℕ, ◌+◌, ◌<◌, ◌≤◌, List, [], ◌∷◌, ◌++◌, Bool, true, false, Some, None, refl, ap, sym, ◌∙◌, arith, inl, inr, length, zero, suc}
 use Rattle.std.specs.Prelude.{◌==◌, ◌&&◌, ◌||◌, not, map, filter}
 use Rattle.std.specs.List.{flat_map, range_with_len}
 use Rattle.std.proofs.lemmas.Bool.{cases_Bool, eqb-true}
 use Rattle.std.proofs.lemmas.List.{append-nil, length-map}
-use Rattle.trb.specs.declared.block.Block.{Block as Trb}
 use Rattle.segments.specs.ShapeValue.{Shape}
 use Rattle.segments.specs.Places.{place_count, is_crossing}
 use Rattle.segments.specs.RingView.{RingView, Writes, changed, floor_number, gives, gives_crossing, is_crossing_due, positions_given, crossings_given, leased_positions, leased_crossings, due_positions, due_crossings}
 use Rattle.traces.specs.declared.ring.Ring.{Ring}
 use Rattle.traces.specs.declared.header.Header.{Header}
-use Rattle.traces.specs.declared.row.Row.TheVariants.{Sub, Write}
-use Rattle.traces.specs.Header.{IsHeader, is_driver_kind, is_command_kind, driver_rings}
+use Rattle.traces.specs.declared.row.Row.{Row}
+use Rattle.traces.specs.declared.row.Row.TheVariants.{Write}
+use Rattle.traces.specs.declared.register.Register.TheVariants.{Erstba}
+use Rattle.traces.specs.Register.{base_address}
+use Rattle.traces.specs.Header.{IsHeader, is_driver_kind, driver_rings, event_shape}
+use Rattle.event_ring.specs.EventRing.{table_bytes}
 use Rattle.ring_knowledge.specs.Known.{Known}
 use Rattle.ring_knowledge.specs.Learned.{learned}
-use Rattle.ring_knowledge.specs.Rings.{Given, Position, Crossing, given_of, given_by, on_ring}
-use Rattle.ring_knowledge.specs.Writes.{with_word}
-use Rattle.ownership_rules.specs.OpenLeases.{Leased, Block, Link, is_among, open_on, open_leases, segment_ranges}
+use Rattle.ring_knowledge.specs.Rings.{Given, Position, Crossing, given_of, given_by}
+use Rattle.ring_knowledge.specs.Writes.{with_word, command_given}
+use Rattle.ownership_rules.specs.OpenLeases.{Leased, Block, Link, Range, SegmentTable, is_among, open_on, open_leases, segment_ranges, table_range}
 use Rattle.ownership_rules.specs.Leases.{begun}
-use Rattle.ownership_checker.specs.Calm.{IsCalm}
+use Rattle.ownership_rules.specs.Writes.{holds_of}
+use Rattle.ownership_checker.specs.Profile.{is_other}
+use Rattle.ownership_checker.specs.NoSlots.{NoSlots}
 use Rattle.ownership_checker.proofs.ListTests.{and_left, filter_append, filter_map_is, filter_flat_map, filter_twice}
 use Rattle.ownership_checker.proofs.RingsApart.{IsAmong}
-use Rattle.ownership_checker.proofs.HeaderRings.{shape_there, drivers_of}
-use Rattle.ownership_checker.proofs.CalmLemmas.{written_is, calm_written, calm_declared}
-use Rattle.ownership_checker.proofs.OpenBefore.{open_is, none_new, block_was, link_was}
+use Rattle.ownership_checker.proofs.HeaderRings.{shape_there, drivers_of, nothing_from}
+use Rattle.ownership_checker.proofs.NoSlotsLemmas.{written_is}
+use Rattle.ownership_checker.proofs.OpenBefore.{open_is, ranges_of, none_new, no_table_before, block_was, link_was}
 
 -- the lease of what is given
 abbrev pub lease_of : Given → Leased
@@ -73,7 +78,19 @@ newly_crossed false false false only = refl
 gives_crossings : (shape : Shape) (v : RingView) (q a w : ℕ) → gives_crossing shape v.floor q a w ≡ true → is_crossing shape q ≡ true
 gives_crossings shape v q a w e = and_left _ _ (and_left _ _ (and_left _ _ (and_left (is_crossing_due shape v.floor q && _) _ e)))
 
-module _ (h : Header) (headed : IsHeader h) (k : Known) (calm : IsCalm h k) where
+filter_none : (f : ℕ → Bool) (from n : ℕ) → ((p : ℕ) → from ≤ p → p < from + n → f p ≡ false) → filter f (range_with_len from n) ≡ []
+filter_none f from zero none = refl
+filter_none f from (suc n) none = rw (none from (omega arith) (omega arith)) (filter_none f (from + 1) n (λ p low high. none p (omega arith) (omega arith)))
+
+not_fresh : (given among : Bool) → (given ≡ true → among ≡ true) → (given && not among) ≡ false
+not_fresh true among was = rw (was refl) refl
+not_fresh false among was = refl
+
+regroup : (xs ys zs : List Leased) → xs ++ (ys ++ zs) ≡ (xs ++ (ys ++ [])) ++ zs
+regroup [] ys zs = ap (λ ls. ls ++ zs) (sym (append-nil ys))
+regroup (x ∷ xs) ys zs = ap (λ ls. x ∷ ls) (regroup xs ys zs)
+
+module _ (h : Header) (headed : IsHeader h) (k : Known) (slots : NoSlots h k) where
   module _ (a w : ℕ) where
     abbrev IsNew : Leased → Bool
     IsNew l = not (is_among (open_leases h k) l)
@@ -91,7 +108,7 @@ module _ (h : Header) (headed : IsHeader h) (k : Known) (calm : IsCalm h k) wher
       new_blocks =
           filter_twice (λ p. IsNew (Block r.id p)) (changed r.shape (k.ring r.id) (Writes a w)).given (range_with_len (floor_number (k.ring r.id)) (place_count r.shape))
           ∙ filter_same _ _ (floor_number (k.ring r.id)) (place_count r.shape) (λ p low high.
-          ap (λ b. ((k.ring r.id).given p || gives r.shape (k.ring r.id).floor p a w) && not b) (block_was h headed k calm r among driver p low high)
+          ap (λ b. ((k.ring r.id).given p || gives r.shape (k.ring r.id).floor p a w) && not b) (block_was h headed k slots r among driver p low high)
           ∙ newly_given ((k.ring r.id).given p) (gives r.shape (k.ring r.id).floor p a w))
 
       new_links : filter (λ q. IsNew (Link r.id q)) (leased_crossings r.shape (changed r.shape (k.ring r.id) (Writes a w))) ≡ crossings_given r.shape (k.ring r.id) a w
@@ -99,7 +116,7 @@ module _ (h : Header) (headed : IsHeader h) (k : Known) (calm : IsCalm h k) wher
       new_links =
           filter_twice (λ q. IsNew (Link r.id q)) (λ q. is_crossing r.shape q && (changed r.shape (k.ring r.id) (Writes a w)).crossed q) (range_with_len (floor_number (k.ring r.id)) (place_count r.shape + 1))
           ∙ filter_same _ _ (floor_number (k.ring r.id)) (place_count r.shape + 1) (λ q low high.
-          ap (λ b. (is_crossing r.shape q && ((k.ring r.id).crossed q || gives_crossing r.shape (k.ring r.id).floor q a w)) && not b) (link_was h headed k calm r among driver q low high)
+          ap (λ b. (is_crossing r.shape q && ((k.ring r.id).crossed q || gives_crossing r.shape (k.ring r.id).floor q a w)) && not b) (link_was h headed k slots r among driver q low high)
           ∙ newly_crossed (is_crossing r.shape q) ((k.ring r.id).crossed q) (gives_crossing r.shape (k.ring r.id).floor q a w) (gives_crossings r.shape (k.ring r.id) q a w))
 
       new_on : filter IsNew (open_on h after r) ≡ map lease_of (given_of h k a w r.id)
@@ -119,40 +136,108 @@ module _ (h : Header) (headed : IsHeader h) (k : Known) (calm : IsCalm h k) wher
           ))
 
     -- at a write begin the leases of what it gives, and no others
-    pub begun_written : begun h k (Write a w) ≡ map lease_of (given_by h k a w)
-    unfolding begun given_by driver_rings
-    begun_written =
-        ap (λ ls. filter IsNew ls) (ap (λ l. open_leases h l) (written_is h k calm a w) ∙ open_is h headed after (calm_after))
-        ∙ filter_append IsNew (flat_map (open_on h after) (drivers_of h.rings)) (segment_ranges h)
-        ∙ rw (filter_flat_map IsNew (open_on h after) (drivers_of h.rings), no_new_segment)
-        (append-nil _
-        ∙ drivers_same (λ q. filter IsNew (open_on h after q)) (λ q. map lease_of (given_of h k a w q.id)) h.rings new_on
-        ∙ sym (map_flat_map lease_of (λ q. given_of h k a w q.id) (drivers_of h.rings)))
-      where
-        calm_after : IsCalm h after
-        calm_after = rw (← written_is h k calm a w) (calm_written h k calm a w)
+    module _ (idle : holds_of is_other (command_given h k a w) ≡ false) (slots_after : NoSlots h (with_word h k a w)) where
+      same_ranges : ranges_of h (with_word h k a w) ≡ ranges_of h k
+      unfolding with_word
+      same_ranges = refl
 
-        no_new_segment : filter IsNew (segment_ranges h) ≡ []
-        no_new_segment = ap (λ ls. filter (λ l. not (is_among ls l)) (segment_ranges h)) (open_is h headed k calm) ∙ none_new (flat_map (open_on h k) (driver_rings h)) (segment_ranges h)
+      no_new_range : filter IsNew (ranges_of h k) ≡ []
+      no_new_range = ap (λ ls. filter (λ l. not (is_among ls l)) (ranges_of h k)) (open_is h headed k slots) ∙ none_new (flat_map (open_on h k) (driver_rings h)) (ranges_of h k)
 
-    pub length-begun_written : length (begun h k (Write a w)) ≡ length (given_by h k a w)
-    length-begun_written = ap length begun_written ∙ length-map (given_by h k a w) lease_of
+      pub begun_written : begun h k (Write a w) ≡ map lease_of (given_by h k a w)
+      unfolding begun given_by driver_rings
+      begun_written =
+          ap (λ ls. filter IsNew ls) (ap (λ l. open_leases h l) (written_is h k a w idle) ∙ open_is h headed after slots_after ∙ ap (λ ls. flat_map (open_on h after) (driver_rings h) ++ ls) same_ranges)
+          ∙ filter_append IsNew (flat_map (open_on h after) (drivers_of h.rings)) (ranges_of h k)
+          ∙ rw (filter_flat_map IsNew (open_on h after) (drivers_of h.rings), no_new_range)
+          (append-nil _
+          ∙ drivers_same (λ q. filter IsNew (open_on h after q)) (λ q. map lease_of (given_of h k a w q.id)) h.rings new_on
+          ∙ sym (map_flat_map lease_of (λ q. given_of h k a w q.id) (drivers_of h.rings)))
 
-  -- at a declaration on a transfer ring begins none
-  module _ (r : Ring) (among : IsAmong r h.rings) (other : is_command_kind r.shape.kind ≡ false) (blocks : List Trb) where
-    open_same : (q : Ring) → open_on h (learned h k (Sub r.id blocks)) q ≡ open_on h k q
-    unfolding open_on learned on_ring leased_positions leased_crossings due_positions due_crossings
-    open_same q = elim (cases_Bool (q.id == r.id)) [
-      | inl same ↦ rw same (rw (eqb-true q.id r.id same) refl)
-      | inr apart ↦ rw apart refl
-    ]
+      pub length-begun_written : length (begun h k (Write a w)) ≡ length (given_by h k a w)
+      length-begun_written = ap length begun_written ∙ length-map (given_by h k a w) lease_of
 
-    pub begun_declared : begun h k (Sub r.id blocks) ≡ []
+  abbrev Fresh : Leased → Bool
+  Fresh l = not (is_among (open_leases h k) l)
+
+  no_fresh_range : filter Fresh (ranges_of h k) ≡ []
+  no_fresh_range = ap (λ ls. filter (λ l. not (is_among ls l)) (ranges_of h k)) (open_is h headed k slots) ∙ none_new (flat_map (open_on h k) (driver_rings h)) (ranges_of h k)
+
+  module _ (q : Ring) (among : IsAmong q h.rings) (driver : is_driver_kind q.shape.kind ≡ true) (from : ℕ) (later : floor_number (k.ring q.id) ≤ from) where
+    -- of later positions those that are given were under lease
+    pub still_blocks : ((p : ℕ) → from ≤ p → p < from + place_count q.shape → (k.ring q.id).given p ≡ true → p < floor_number (k.ring q.id) + place_count q.shape) →
+        filter (λ p. Fresh (Block q.id p)) (filter (k.ring q.id).given (range_with_len from (place_count q.shape))) ≡ []
+    still_blocks due =
+        filter_twice (λ p. Fresh (Block q.id p)) (k.ring q.id).given (range_with_len from (place_count q.shape))
+        ∙ filter_none ((λ p. (k.ring q.id).given p && Fresh (Block q.id p))) from (place_count q.shape) (λ p low high.
+        not_fresh ((k.ring q.id).given p) (is_among (open_leases h k) (Block q.id p)) (λ given.
+        block_was h headed k slots q among driver p (omega arith) (due p low high given) ∙ given))
+
+    pub still_links : ((p : ℕ) → from ≤ p → p < from + (place_count q.shape + 1) → (is_crossing q.shape p && (k.ring q.id).crossed p) ≡ true → p < floor_number (k.ring q.id) + (place_count q.shape + 1)) →
+        filter (λ p. Fresh (Link q.id p)) (filter (λ p. is_crossing q.shape p && (k.ring q.id).crossed p) (range_with_len from (place_count q.shape + 1))) ≡ []
+    still_links due =
+        filter_twice (λ p. Fresh (Link q.id p)) (λ p. is_crossing q.shape p && (k.ring q.id).crossed p) (range_with_len from (place_count q.shape + 1))
+        ∙ filter_none ((λ p. is_crossing q.shape p && (k.ring q.id).crossed p && Fresh (Link q.id p))) from (place_count q.shape + 1) (λ p low high.
+        not_fresh (is_crossing q.shape p && (k.ring q.id).crossed p) (is_among (open_leases h k) (Link q.id p)) (λ given.
+        link_was h headed k slots q among driver p (omega arith) (due p low high given) ∙ given))
+
+  -- what is under lease on a ring was so
+  each_open : (q : Ring) → IsAmong q h.rings → is_driver_kind q.shape.kind ≡ true → filter Fresh (open_on h k q) ≡ []
+  unfolding open_on leased_positions leased_crossings due_positions due_crossings
+  each_open q among driver =
+      filter_append Fresh (map (Block q.id) (leased_positions q.shape (k.ring q.id))) (map (Link q.id) (leased_crossings q.shape (k.ring q.id)))
+      ∙ rw (
+        filter_map_is Fresh (Block q.id) (leased_positions q.shape (k.ring q.id)),
+        filter_map_is Fresh (Link q.id) (leased_crossings q.shape (k.ring q.id)),
+        still_blocks q among driver (floor_number (k.ring q.id)) (omega arith) (λ p low high given. high),
+        still_links q among driver (floor_number (k.ring q.id)) (omega arith) (λ p low high given. high),
+      ) refl
+
+  module _ (row : Row) (slots_after : NoSlots h (learned h k row)) where
+    -- where on each ring the same is under lease behind a row
+    module _ (same_on : (q : Ring) → open_on h (learned h k row) q ≡ open_on h k q) where
+      same_rings : flat_map (open_on h (learned h k row)) (driver_rings h) ≡ flat_map (open_on h k) (driver_rings h)
+      unfolding driver_rings
+      same_rings = drivers_same (open_on h (learned h k row)) (open_on h k) h.rings (λ q among driver. same_on q)
+
+      pub begun_same : (learned h k row).register Erstba ≡ k.register Erstba → begun h k row ≡ []
+      unfolding begun
+      begun_same same =
+          ap (λ ls. filter Fresh ls)
+          (open_is h headed (learned h k row) slots_after
+          ∙ ap (λ o. flat_map (open_on h (learned h k row)) (driver_rings h) ++ (segment_ranges h ++ table_range h o)) same
+          ∙ ap (λ ls. ls ++ ranges_of h k) same_rings ∙ sym (open_is h headed k slots))
+          ∙ none_new [] (open_leases h k)
+
+      -- and the segment table comes under lease
+      pub begun_table : (v : ℕ) → k.register Erstba ≡ None → (learned h k row).register Erstba ≡ Some v → length (begun h k row) ≡ 1
+      unfolding begun table_range
+      begun_table v before after =
+          let table : Leased = Range (table_bytes (event_shape h)) (base_address v) SegmentTable in
+          let was : open_leases h k ≡ flat_map (open_on h k) (driver_rings h) ++ (segment_ranges h ++ []) =
+          open_is h headed k slots ∙ ap (λ o. flat_map (open_on h k) (driver_rings h) ++ (segment_ranges h ++ table_range h o)) before in
+          let is : open_leases h (learned h k row) ≡ open_leases h k ++ table ∷ [] =
+          open_is h headed (learned h k row) slots_after
+          ∙ ap (λ o. flat_map (open_on h (learned h k row)) (driver_rings h) ++ (segment_ranges h ++ table_range h o)) after
+          ∙ ap (λ ls. ls ++ (segment_ranges h ++ table ∷ [])) same_rings
+          ∙ regroup (flat_map (open_on h k) (driver_rings h)) (segment_ranges h) (table ∷ [])
+          ∙ ap (λ ls. ls ++ table ∷ []) (sym was) in
+          ap (λ ls. length (filter Fresh ls)) is
+          ∙ ap length (filter_append Fresh (open_leases h k) (table ∷ []))
+          ∙ rw (none_new [] (open_leases h k), no_table_before h headed k slots before (table_bytes (event_shape h)) (base_address v)) refl
+
+    -- where on each ring nothing more is under lease
+    pub begun_fewer : ((q : Ring) → IsAmong q h.rings → is_driver_kind q.shape.kind ≡ true → filter Fresh (open_on h (learned h k row) q) ≡ []) →
+        (learned h k row).register Erstba ≡ k.register Erstba → begun h k row ≡ []
     unfolding begun driver_rings
-    begun_declared =
-        let calm_after = calm_declared h k calm headed r among other blocks in
-        ap (λ ls. filter (λ l. not (is_among (open_leases h k) l)) ls)
-        (open_is h headed (learned h k (Sub r.id blocks)) calm_after
-        ∙ ap (λ ls. ls ++ segment_ranges h) (drivers_same (open_on h (learned h k (Sub r.id blocks))) (open_on h k) h.rings (λ q there driver. open_same q))
-        ∙ sym (open_is h headed k calm))
-        ∙ none_new [] (open_leases h k)
+    begun_fewer none same =
+        ap (λ ls. filter Fresh ls)
+        (open_is h headed (learned h k row) slots_after
+        ∙ ap (λ o. flat_map (open_on h (learned h k row)) (driver_rings h) ++ (segment_ranges h ++ table_range h o)) same)
+        ∙ filter_append Fresh (flat_map (open_on h (learned h k row)) (drivers_of h.rings)) (ranges_of h k)
+        ∙ rw (filter_flat_map Fresh (open_on h (learned h k row)) (drivers_of h.rings), no_fresh_range)
+        (append-nil _ ∙ nothing_from (λ q. filter Fresh (open_on h (learned h k row) q)) h.rings none)
+
+    -- a ring on which nothing has changed
+    pub none_fresh : (q : Ring) → IsAmong q h.rings → is_driver_kind q.shape.kind ≡ true → open_on h (learned h k row) q ≡ open_on h k q → filter Fresh (open_on h (learned h k row) q) ≡ []
+    none_fresh q among driver same = ap (λ ls. filter Fresh ls) same ∙ each_open q among driver

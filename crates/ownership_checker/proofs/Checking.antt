@@ -5,8 +5,9 @@ use Rattle.std.proofs.lemmas.Grind.{common_steps}
 use Rattle.std.proofs.lemmas.Option.{get_or_from_slice_get}
 use Rattle.traces.specs.declared.row.Row.{Row}
 use Rattle.traces.specs.declared.header.Header.{Header}
-use Rattle.traces.specs.Header.{event_shape}
-use Rattle.ring_knowledge.specs.declared.ring_record.RingRecord.{RingRecord}
+use Rattle.traces.specs.Header.{IsHeader, event_shape}
+use Rattle.ownership_checker.specs.Walks.{WalksRead}
+use Rattle.ownership_checker.proofs.Walks.{walks}
 use Rattle.ring_knowledge.specs.Known.{Known, nothing}
 use Rattle.ring_knowledge.specs.Learned.{learned, known}
 use Rattle.ownership_rules.specs.declared.refusal.Refusal.{Refusal}
@@ -18,11 +19,12 @@ use Rattle.ownership_checker.specs.LeaseCount.{begun_count}
 use Rattle.ownership_checker.specs.Profile.{is_outside, broken_within, verdict_within}
 use Rattle.ownership_checker.specs.declared.fault.StepFault.{StepFault}
 use Rattle.ownership_checker.specs.declared.fault.StepFault.TheVariants.{Refused}
-use Rattle.ownership_checker.specs.Verdicts.{AreTransferRows, IsAccepted, IsFirstOfAll}
-use Rattle.ownership_checker.specs.Tracking.{AreInside, Follows, IsRowStep, IsChecked, IsProgress, IfRefused}
+use Rattle.safety.specs.KeptHistories.{MayRead, MayReadAll}
+use Rattle.ownership_checker.specs.declared.kept.Kept.{Kept}
+use Rattle.ownership_checker.specs.Verdicts.{AreInside, IsAccepted, IsFirstOfAll}
+use Rattle.ownership_checker.specs.Tracking.{IsWithin, Follows, IsRowStep, IsChecked, IsProgress, IfRefused}
 use Rattle.ownership_checker.proofs.LeaseCounts.{length-leases}
 use Rattle.ownership_checker.proofs.DeclarationRules.{broken_inside}
-use Rattle.ownership_checker.proofs.AcceptedRows.{transfer_rows}
 
 -- one row more: the newest first
 one_more : (rows : List Row) (i : ℕ) (d : Row) → i < length rows → reverse (take (i + 1) rows) ≡ get_or rows i d ∷ reverse (take i rows)
@@ -48,7 +50,7 @@ within_first : (h : Header) (k : Known) (n : ℕ) (row : Row) (rest : List Row) 
 unfolding verdict_within
 within_first h k n row rest c e = first_is (broken_within h k row) n c (verdict_within h (learned h k row) (n + 1) rest) e
 
-within_next : (h : Header) (k : Known) (n : ℕ) (row : Row) (rest : List Row) → is_outside h row ≡ false → broken h k row ≡ [] →
+within_next : (h : Header) (k : Known) (n : ℕ) (row : Row) (rest : List Row) → is_outside h k row ≡ false → broken h k row ≡ [] →
     verdict_within h k n (row ∷ rest) ≡ verdict_within h (learned h k row) (n + 1) rest
 unfolding verdict_within broken_within first_or
 within_next h k n row rest inside e = rw (inside, e) refl
@@ -102,6 +104,7 @@ module _ (h : Header) (rows : List Row) (first : ℕ) where
         tracked = subst T (sym start) t;
         inside = subst (λ (xs : List Row). AreInside h xs) (sym (none_taken rows)) tt;
         clean = subst (λ (xs : List Row). IsClean h xs) (sym (none_taken rows)) tt;
+        placed = subst (λ (xs : List Row). MayReadAll h xs) (sym (none_taken rows)) tt;
         verdict =
             ap (λ n. verdict_from h nothing n rows) (sym (add-zero first))
             ∙ ap (λ k. verdict_from h k (first + 0) rows) (sym start)
@@ -117,7 +120,7 @@ module _ (h : Header) (rows : List Row) (first : ℕ) where
 
   -- one row more
   pub step_checked : (i begun_ n : ℕ) (T U : Known → Type 0) (row d : Row) → IsChecked h rows first i T begun_ → i < length rows → get_or rows i d ≡ row →
-      ((k : Known) → T k → (is_outside h row ≡ false) × (broken h k row ≡ []) × (U (learned h k row)) × (length (begun h k row) ≡ n)) → IsChecked h rows first (i + 1) U (begun_ + n)
+      ((k : Known) → T k → (is_outside h k row ≡ false) × (broken h k row ≡ []) × (U (learned h k row)) × (length (begun h k row) ≡ n) × MayRead h k row) → IsChecked h rows first (i + 1) U (begun_ + n)
   step_checked i begun_ n T U row d c below is_row step =
       let before = known h (reverse (take i rows)) in
       let done = step before c.tracked in
@@ -129,6 +132,7 @@ module _ (h : Header) (rows : List Row) (first : ℕ) where
         tracked = subst U (sym after) done.2;
         inside = subst (λ (xs : List Row). AreInside h xs) (sym past) (c.inside, done.0);
         clean = subst (λ (xs : List Row). IsClean h xs) (sym past) (c.clean, done.1);
+        placed = subst (λ (xs : List Row). MayReadAll h xs) (sym past) (c.placed, done.4);
         verdict =
             c.verdict ∙ ap (λ xs. verdict_from h before (first + i) xs) rest
             ∙ verdict_next h before (first + i) row (drop (i + 1) rows) done.1
@@ -164,62 +168,77 @@ module _ (h : Header) (rows : List Row) (first : ℕ) where
       let rest : drop i rows ≡ row ∷ drop (i + 1) rows = left rows i d below ∙ ap (λ x. x ∷ drop (i + 1) rows) is_row in
       let here : first + i - first ≡ i = omega arith in
       let this : same ≡ row = sym (get_or_from_slice_get rows i same d (ap (λ n. slice_get rows n) (sym here) ∙ found)) ∙ is_row in
-      let row_inside : is_outside h row ≡ false = ap (λ (x : Row). is_outside h x) (sym this) ∙ inside in
+      let row_inside : is_outside h before row ≡ false =
+      ap (λ (x : Row). is_outside h before x) (sym this) ∙ ap (λ n. is_outside h (known h (reverse (take n rows))) same) (sym here) ∙ inside in
       so_far.verdict ∙ ap (λ xs. verdict_from h before (first + i) xs) rest
       ∙ verdict_first h before (first + i) row (drop (i + 1) rows) c (ap first_of (sym (broken_inside h before row row_inside)) ∙ breaks before so_far.tracked)
 
   -- behind the last row
-  pub ended_checked : (i begun_ : ℕ) (T : Known → Type 0) → IsChecked h rows first i T begun_ → i ≡ length rows → IsAccepted h rows first begun_
-  ended_checked i begun_ T c all =
+  pub ended_checked : IsHeader h → (i begun_ : ℕ) (T : Known → Type 0) → IsChecked h rows first i T begun_ → i ≡ length rows → IsAccepted h rows first begun_
+  ended_checked headed i begun_ T c all =
       let whole : take i rows ≡ rows = ap (λ n. take n rows) all ∙ take_all rows in
       let empty : drop i rows ≡ [] = ap (λ n. drop n rows) all ∙ drop_all rows in
       let before = known h (reverse (take i rows)) in
       record {
-        on_transfers = subst (λ (xs : List Row). AreTransferRows h (reverse xs)) whole (transfer_rows h (reverse (take i rows)) c.inside c.clean);
+        inside = subst (λ (xs : List Row). AreInside h (reverse xs)) whole c.inside;
         clean = subst (λ (xs : List Row). IsClean h (reverse xs)) whole c.clean;
         verdict = c.verdict ∙ ap (λ xs. verdict_from h before (first + i) xs) empty ∙ verdict_end h before (first + i);
-        counted = length-leases h first rows ∙ c.counted ∙ ap (λ xs. begun_ + begun_count h before xs) empty ∙ counted_end h before begun_;
+        counted = length-leases h headed first rows ∙ c.counted ∙ ap (λ xs. begun_ + begun_count h before xs) empty ∙ counted_end h before begun_;
       }
+
+  pub ended_placed : (i begun_ : ℕ) (T : Known → Type 0) → IsChecked h rows first i T begun_ → i ≡ length rows → IsClean h (reverse rows) × MayReadAll h (reverse rows)
+  ended_placed i begun_ T c all =
+      let whole : take i rows ≡ rows = ap (λ n. take n rows) all ∙ take_all rows in (
+        subst (λ (xs : List Row). IsClean h (reverse xs)) whole c.clean,
+        subst (λ (xs : List Row). MayReadAll h (reverse xs)) whole c.placed,
+      )
 
   pub ended_within : (i begun_ : ℕ) (T : Known → Type 0) → IsChecked h rows first i T begun_ → i ≡ length rows → verdict_within h nothing first rows ≡ None
   ended_within i begun_ T c all =
       let before = known h (reverse (take i rows)) in
       c.within ∙ ap (λ xs. verdict_within h before (first + i) xs) (ap (λ n. drop n rows) all ∙ drop_all rows) ∙ within_end h before (first + i)
 
-  pub started : (rs : List RingRecord) (m : ℕ → ℕ) (begun_ : ℕ) → Follows h nothing rs m → begun_ ≡ length (event_shape h).segments → begun_ ≤ 64 → IsProgress h rows first 0 first begun_ rs m
-  started rs m begun_ f segments few_ = record {
+  pub started : (kept : Kept) (m : ℕ → ℕ) (begun_ : ℕ) → Follows h nothing kept m → IsWithin kept.events 0 → begun_ ≡ length (event_shape h).segments → begun_ ≤ 64 → IsProgress h rows first 0 first begun_ kept m
+  started kept m begun_ f unread segments few_ = record {
     numbered = sym (add-zero first);
     few = omega arith;
-    checked = subst (λ (n : ℕ). IsChecked h rows first 0 (λ k. Follows h k rs m) n) (sym segments) (start_checked (λ k. Follows h k rs m) f);
+    few_reads = unread;
+    checked = subst (λ (n : ℕ). IsChecked h rows first 0 (λ k. Follows h k kept m) n) (sym segments) (start_checked (λ k. Follows h k kept m) f);
   }
 
-  pub stepped : (i number begun_ n : ℕ) (rs ss : List RingRecord) (m o : ℕ → ℕ) (row d : Row) → IsProgress h rows first i number begun_ rs m → i < length rows → get_or rows i d ≡ row → n ≤ 1 →
-      ((k : Known) → Follows h k rs m → IsRowStep h k row ss o n) → IsProgress h rows first (i + 1) (number + 1) (begun_ + n) ss o
-  stepped i number begun_ n rs ss m o row d p below is_row one step =
+  pub stepped : (i number begun_ n : ℕ) (kept after : Kept) (m o : ℕ → ℕ) (row d : Row) → IsProgress h rows first i number begun_ kept m → i < length rows → get_or rows i d ≡ row → n ≤ 1 →
+      IsWithin after.events (i + 1) → ((k : Known) → Follows h k kept m → IsRowStep h k row after o n) → IsProgress h rows first (i + 1) (number + 1) (begun_ + n) after o
+  stepped i number begun_ n kept after m o row d p below is_row one reads_ step =
       let numbered_ = p.numbered in
       let few_ = p.few in
       record {
         numbered = omega arith;
         few = omega arith;
-        checked = step_checked i begun_ n (λ k. Follows h k rs m) (λ k. Follows h k ss o) row d p.checked below is_row
-            (λ k t. let done = step k t in (done.inside, done.clean, done.tracked, done.counted));
+        few_reads = reads_;
+        checked = step_checked i begun_ n (λ k. Follows h k kept m) (λ k. Follows h k after o) row d p.checked below is_row
+            (λ k t. let done = step k t in (done.inside, done.clean, done.tracked, done.counted, done.placed));
       }
 
-  module _ (i number begun_ : ℕ) (rs : List RingRecord) (m : ℕ → ℕ) (row d : Row) (c : Refusal) (e : StepFault) (is_refused : e ≡ Refused c) (p : IsProgress h rows first i number begun_ rs m)
+  module _ (i number begun_ : ℕ) (kept : Kept) (m : ℕ → ℕ) (row d : Row) (c : Refusal) (e : StepFault) (is_refused : e ≡ Refused c) (p : IsProgress h rows first i number begun_ kept m)
       (below : i < length rows) (is_row : get_or rows i d ≡ row)
-      (said : IfRefused e (λ x. (k : Known) → Follows h k rs m → first_of (broken_within h k row) ≡ Some x)) where
-    breaks : (k : Known) → Follows h k rs m → first_of (broken_within h k row) ≡ Some c
-    breaks = subst (λ (f : StepFault). IfRefused f (λ x. (k : Known) → Follows h k rs m → first_of (broken_within h k row) ≡ Some x)) is_refused said
+      (said : IfRefused e (λ x. (k : Known) → Follows h k kept m → first_of (broken_within h k row) ≡ Some x)) where
+    breaks : (k : Known) → Follows h k kept m → first_of (broken_within h k row) ≡ Some c
+    breaks = subst (λ (f : StepFault). IfRefused f (λ x. (k : Known) → Follows h k kept m → first_of (broken_within h k row) ≡ Some x)) is_refused said
 
     pub refused : verdict_within h nothing first rows ≡ Some (number, c)
-    refused = refused_checked i begun_ (λ k. Follows h k rs m) row d c p.checked below is_row breaks ∙ ap (λ n. Some (n, c)) (sym p.numbered)
+    refused = refused_checked i begun_ (λ k. Follows h k kept m) row d c p.checked below is_row breaks ∙ ap (λ n. Some (n, c)) (sym p.numbered)
 
     pub first_refused : IsFirstOfAll h first rows number c
     first_refused =
-        subst (λ (n : ℕ). IsFirstOfAll h first rows n c) (sym p.numbered) (first_checked i begun_ (λ k. Follows h k rs m) row d c p.checked below is_row breaks)
+        subst (λ (n : ℕ). IsFirstOfAll h first rows n c) (sym p.numbered) (first_checked i begun_ (λ k. Follows h k kept m) row d c p.checked below is_row breaks)
 
-  pub ended : (i number begun_ : ℕ) (rs : List RingRecord) (m : ℕ → ℕ) → IsProgress h rows first i number begun_ rs m → i ≡ length rows → IsAccepted h rows first begun_
-  ended i number begun_ rs m p all = ended_checked i begun_ (λ k. Follows h k rs m) p.checked all
+  module _ (i number begun_ : ℕ) (kept : Kept) (m : ℕ → ℕ) (p : IsProgress h rows first i number begun_ kept m) (all : i ≡ length rows) where
+    pub ended : IsHeader h → IsAccepted h rows first begun_
+    ended headed = ended_checked headed i begun_ (λ k. Follows h k kept m) p.checked all
 
-  pub none_refused : (i number begun_ : ℕ) (rs : List RingRecord) (m : ℕ → ℕ) → IsProgress h rows first i number begun_ rs m → i ≡ length rows → verdict_within h nothing first rows ≡ None
-  none_refused i number begun_ rs m p all = ended_within i begun_ (λ k. Follows h k rs m) p.checked all
+    pub none_refused : verdict_within h nothing first rows ≡ None
+    none_refused = ended_within i begun_ (λ k. Follows h k kept m) p.checked all
+
+    -- after any rows the walk through each ring reads what was declared
+    pub walked : IsHeader h → WalksRead h rows
+    walked headed = let kept_so = ended_placed i begun_ (λ k. Follows h k kept m) p.checked all in walks h headed rows kept_so.0 kept_so.1

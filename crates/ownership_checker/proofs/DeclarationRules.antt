@@ -8,13 +8,12 @@ use Rattle.traces.specs.declared.ring.Ring.{Ring}
 use Rattle.traces.specs.declared.header.Header.{Header}
 use Rattle.traces.specs.declared.row.Row.{Row}
 use Rattle.traces.specs.declared.row.Row.TheVariants.{Sub}
-use Rattle.traces.specs.Header.{IsHeader, is_driver_kind, is_event_kind, is_command_kind, ring_with, shape_of}
+use Rattle.traces.specs.Header.{IsHeader, is_driver_kind, is_event_kind, ring_with, shape_of}
 use Rattle.ring_knowledge.specs.Known.{Known}
-use Rattle.ownership_rules.specs.declared.refusal.Refusal.TheVariants.{NotDeclared, NotInProfile, AfterStop}
+use Rattle.ownership_rules.specs.declared.refusal.Refusal.TheVariants.{NotDeclared, AfterStop}
 use Rattle.ownership_rules.specs.Refusal.{first_of, first_broken, broken_of}
 use Rattle.ownership_rules.specs.Declarations.{declaration_tests, is_driver_ring}
 use Rattle.ownership_rules.specs.Rules.{broken, tests}
-use Rattle.ownership_checker.specs.Calm.{IsCalm}
 use Rattle.ownership_checker.specs.OneRing.{room_tests}
 use Rattle.ownership_checker.specs.Profile.{is_outside, broken_within}
 use Rattle.ownership_checker.proofs.FirstBroken.{first_broken-is}
@@ -26,10 +25,10 @@ no_driver Cmd e = absurd (cc)
 no_driver Evt e = refl
 no_driver Xfer e = absurd (cc)
 
-module _ (h : Header) (k : Known) (calm : IsCalm h k) (id : ℕ) (blocks : List Block) where
+module _ (h : Header) (k : Known) (on : k.stopped ≡ false) (id : ℕ) (blocks : List Block) where
   declared_is : first_of (broken h k (Sub id blocks)) ≡ first_broken (declaration_tests h k id blocks)
   unfolding broken tests
-  declared_is = ap (λ b. first_of (if b then AfterStop ∷ [] else broken_of (declaration_tests h k id blocks))) calm.running ∙ first_broken-is (declaration_tests h k id blocks)
+  declared_is = ap (λ b. first_of (if b then AfterStop ∷ [] else broken_of (declaration_tests h k id blocks))) on ∙ first_broken-is (declaration_tests h k id blocks)
 
   -- no ring has the ID
   pub declared_nowhere : ((q : Ring) → IsAmong q h.rings → (q.id == id) ≡ false) → first_of (broken h k (Sub id blocks)) ≡ Some NotDeclared
@@ -54,24 +53,12 @@ module _ (h : Header) (k : Known) (calm : IsCalm h k) (id : ℕ) (blocks : List 
         ∙ ap (λ b. first_broken ((NotDeclared, not b) ∷ room_tests (shape_of h r.id) (k.ring r.id) blocks)) driver
         ∙ ap (λ s. first_broken (room_tests s (k.ring r.id) blocks)) (shape_there h headed r among)
 
-    outside_is : is_outside h (Sub id blocks) ≡ is_command_kind r.shape.kind
-    unfolding is_outside
-    outside_is = ap (λ i. is_command_kind (shape_of h i).kind) (sym named) ∙ ap (λ s. is_command_kind s.kind) (shape_there h headed r among)
-
-    -- the command ring has: that is outside the profile
-    pub declared_on_commands : is_command_kind r.shape.kind ≡ true → first_of (broken_within h k (Sub id blocks)) ≡ Some NotInProfile
-    unfolding broken_within
-    declared_on_commands command = rw (outside_is ∙ command) refl
-
-    pub declared_inside : is_command_kind r.shape.kind ≡ false → is_outside h (Sub id blocks) ≡ false
-    declared_inside other = outside_is ∙ other
-
--- a declaration that names no ring is in the profile
-pub unnamed_inside : (h : Header) (id : ℕ) (blocks : List Block) → ((q : Ring) → IsAmong q h.rings → (q.id == id) ≡ false) → is_outside h (Sub id blocks) ≡ false
-unfolding is_outside shape_of
-unnamed_inside h id blocks none = rw (not_found (λ q. q.id == id) h.rings none) refl
-
 -- inside the profile the rules are all rules
-pub broken_inside : (h : Header) (k : Known) (row : Row) → is_outside h row ≡ false → broken_within h k row ≡ broken h k row
+pub broken_inside : (h : Header) (k : Known) (row : Row) → is_outside h k row ≡ false → broken_within h k row ≡ broken h k row
 unfolding broken_within
 broken_inside h k row inside = rw inside refl
+
+-- so of a declaration
+pub declared_inside : (h : Header) (k : Known) (id : ℕ) (blocks : List Block) → is_outside h k (Sub id blocks) ≡ false
+unfolding is_outside
+declared_inside h k id blocks = refl

@@ -1,20 +1,25 @@
 -- Before the first row, and what a search through the rings finds
 use Rattle.std.proofs.Common.{◌≡◌, ℕ, zero, suc, ◌+◌, ◌<◌, List, [], ◌∷◌, ◌++◌, Bool, true, false, Some, None, refl, ap, sym, ◌∙◌, inl, inr, length, get_or, subst, length-append}
-use Rattle.std.specs.Prelude.{◌⊎◌, slice_get, position}
+use Rattle.std.specs.Prelude.{◌⊎◌, slice_get, position, is_some}
 use Rattle.std.proofs.lemmas.Option.{slice_get_read}
 use Rattle.std.proofs.lemmas.List.Quantifiers.{position-Some}
 use Rattle.segments.proofs.Search.{position-None}
 use Rattle.segments.specs.RingView.{new_ring}
 use Rattle.traces.specs.declared.ring.Ring.{Ring}
 use Rattle.traces.specs.declared.header.Header.{Header}
-use Rattle.traces.specs.Header.{IsHeader, is_event_kind, event_shape, event_ring}
+use Rattle.traces.specs.Header.{IsHeader, is_event_kind, event_shape, event_ring, shape_or}
 use Rattle.ring_knowledge.specs.declared.ring_record.RingRecord.{RingRecord}
 use Rattle.ring_knowledge.specs.RingRecords.{FollowsRing}
 use Rattle.ring_knowledge.specs.Known.{nothing}
-use Rattle.ownership_checker.specs.Tracking.{AreFresh, IsFreshSo, Follows}
+use Rattle.ownership_checker.specs.Tracking.{AreFresh, IsFreshSo, Follows, FollowsEvents, FollowsPlace}
+use Rattle.event_ring.specs.EventPlaceValue.{EventState}
+use Rattle.event_ring.specs.EventRing.{EventCounts}
+use Rattle.trb.specs.declared.ring_kind.RingKind.TheVariants.{Evt}
+use Rattle.ring_knowledge.specs.RegisterRecords.{FollowsRegisters}
+use Rattle.ownership_checker.specs.declared.kept.Kept.{Kept}
 use Rattle.ownership_checker.proofs.RingsApart.{IsAmong, among_at, each_among}
-use Rattle.ownership_checker.proofs.HeaderRings.{not_found, event_here}
-use Rattle.ownership_checker.proofs.CalmLemmas.{calm_at_first}
+use Rattle.ownership_checker.proofs.HeaderRings.{not_found, event_found, event_here}
+use Rattle.ownership_checker.proofs.NoSlotsLemmas.{no_slots_at_first, set_up_at_first}
 use Rattle.ownership_checker.proofs.Tracked.{one_at}
 
 -- in a list with a new element at the end
@@ -45,18 +50,40 @@ fresh_push rings records ring i r so item below fresh = record {
 }
 
 -- before the first row
-pub follows_first : (h : Header) (rs : List RingRecord) → AreFresh h.rings rs → (m : ℕ → ℕ) → ((a : ℕ) → m a ≡ 0) → Follows h nothing rs m
+pub follows_first : (h : Header) (kept : Kept) → AreFresh h.rings kept.rings.items → FollowsRegisters nothing kept.registers → FollowsEvents h nothing kept.events →
+    (m : ℕ → ℕ) → ((a : ℕ) → m a ≡ 0) → Follows h nothing kept m
 unfolding nothing
-follows_first h rs fresh m blank = record {
-  calm = calm_at_first h;
+follows_first h kept fresh registers_ events_ m blank = record {
+  slots = no_slots_at_first h;
+  set_up = set_up_at_first h;
   words = λ a. sym (blank a);
   as_many = fresh.as_many;
   each = λ i q r at there driver. fresh.each i q r at there;
+  registers = registers_;
+  events = events_;
 }
 
 pub event_count : (h : Header) → IsHeader h → (i : ℕ) (r : Ring) → r ≡ get_or h.rings i r → i < length h.rings → is_event_kind r.shape.kind ≡ true → length r.shape.segments ≡ length (event_shape h).segments
 event_count h headed i r item below event =
     ap (λ s. length s.segments) (sym (event_here h headed r (among_at h.rings i r (slice_get_read h.rings (length h.rings) i r refl below item)) event))
+
+-- the event ring with nothing read
+pub place_first : (h : Header) → IsHeader h → (i : ℕ) (r : Ring) → r ≡ get_or h.rings i r → i < length h.rings → is_event_kind r.shape.kind ≡ true → (e : EventState) → e.shape ≡ r.shape →
+    e.counts ≡ record { posted = 0; reads = 0; dequeue = 0 } → FollowsPlace h nothing e
+unfolding nothing event_shape
+place_first h headed i r item below event e shape_ counts =
+    let among = among_at h.rings i r (slice_get_read h.rings (length h.rings) i r refl below item) in
+    let found = event_found h headed r among event in
+    record {
+      here = ap (λ o. is_some o) found;
+      shape = ap (λ o. shape_or Evt o) found ∙ sym shape_;
+      reads = ap (λ (c : EventCounts). c.reads) (sym counts);
+      dequeue = ap (λ (c : EventCounts). c.dequeue) (sym counts);
+    }
+
+pub no_event_ring : (h : Header) → ((i : ℕ) (d : Ring) → i < length h.rings → is_event_kind (get_or h.rings i d).shape.kind ≡ false) → event_ring h ≡ None
+unfolding event_ring
+no_event_ring h none = not_found (λ q. is_event_kind q.shape.kind) h.rings (each_among (λ q. is_event_kind q.shape.kind) h.rings none)
 
 pub no_events : (h : Header) → ((i : ℕ) (d : Ring) → i < length h.rings → is_event_kind (get_or h.rings i d).shape.kind ≡ false) → 0 ≡ length (event_shape h).segments
 unfolding event_shape event_ring

@@ -118,6 +118,10 @@ module _ (h : Header) (headed : IsHeader h) where
         by true n = absurd (n refl)
         by false n = refl
 
+    pub event_found : is_event_kind r.shape.kind ≡ true → event_ring h ≡ Some r
+    unfolding event_ring
+    event_found is = find_only (λ q. is_event_kind q.shape.kind) h.rings together r among is (λ q apart. not_event q is apart)
+
     pub event_here : is_event_kind r.shape.kind ≡ true → event_shape h ≡ r.shape
     unfolding event_shape event_ring
     event_here is = ap (λ o. shape_or Evt o) (find_only (λ q. is_event_kind q.shape.kind) h.rings together r among is (λ q apart. not_event q is apart))

@@ -2,21 +2,21 @@
 use Rattle.std.proofs.Common.{◌≡◌, ℕ, ◌+◌, List, [], ◌∷◌, ◌++◌, Bool, true, false, refl, ap, ◌∙◌, arith, length, cond, length-append}
 use Rattle.std.specs.Prelude.{◌&&◌, map}
 use Rattle.std.specs.List.{flat_map}
-use Rattle.std.proofs.lemmas.List.{length-map}
+use Rattle.std.proofs.lemmas.List.{length-map, append-nil}
 use Rattle.traces.specs.declared.row.Row.{Row}
 use Rattle.traces.specs.declared.ring.Ring.{Ring}
 use Rattle.traces.specs.declared.header.Header.{Header}
-use Rattle.traces.specs.Header.{driver_rings, event_shape}
+use Rattle.traces.specs.Header.{IsHeader, driver_rings, event_shape}
 use Rattle.segments.specs.RingView.{new_ring, leased_positions, leased_crossings, due_positions, due_crossings}
 use Rattle.segments.specs.Places.{is_crossing}
 use Rattle.ring_knowledge.specs.declared.lease.Lease.{Lease}
 use Rattle.ring_knowledge.specs.Known.{Known, nothing}
 use Rattle.ring_knowledge.specs.Learned.{learned}
-use Rattle.ownership_rules.specs.OpenLeases.{Leased, open_on, open_leases, open_ranges, segment_ranges}
+use Rattle.ownership_rules.specs.OpenLeases.{Leased, open_on, open_leases, open_ranges, segment_ranges, table_range}
 use Rattle.ownership_rules.specs.Leases.{with_lease, comes_before, in_order, as_lease, end_from, with_ends, begun, leases_from, leases}
 use Rattle.ownership_checker.specs.LeaseCount.{begun_count}
 use Rattle.ownership_checker.proofs.ListTests.{and_false, filter_nothing}
-use Rattle.ownership_checker.proofs.CalmLemmas.{calm_at_first, segments_alone}
+use Rattle.ownership_checker.proofs.NoSlotsLemmas.{no_slots_at_first, ranges_are}
 
 length-with_lease : (l : Lease) (ls : List Lease) → length (with_lease l ls) ≡ length ls + 1
 unfolding with_lease
@@ -57,16 +57,16 @@ none_at_first : (h : Header) (rs : List Ring) → flat_map (open_on h nothing) r
 none_at_first h [] = refl
 none_at_first h (r ∷ rs) = rw (none_on h r) (none_at_first h rs)
 
-open_at_first : (h : Header) → length (open_leases h nothing) ≡ length (event_shape h).segments
-unfolding open_leases segment_ranges
-open_at_first h =
+open_at_first : (h : Header) → IsHeader h → length (open_leases h nothing) ≡ length (event_shape h).segments
+unfolding open_leases segment_ranges table_range nothing
+open_at_first h headed =
     ap (λ ls. length (ls ++ open_ranges h nothing)) (none_at_first h (driver_rings h))
-    ∙ ap length (segments_alone h nothing (calm_at_first h))
+    ∙ ap length (ranges_are h headed nothing (no_slots_at_first h) ∙ append-nil _)
     ∙ length-map (event_shape h).segments _
 
-pub length-leases : (h : Header) (first : ℕ) (rows : List Row) → length (leases h first rows) ≡ length (event_shape h).segments + begun_count h nothing rows
+pub length-leases : (h : Header) → IsHeader h → (first : ℕ) (rows : List Row) → length (leases h first rows) ≡ length (event_shape h).segments + begun_count h nothing rows
 unfolding leases
-length-leases h first rows =
+length-leases h headed first rows =
     length-append (with_ends h nothing 0 first rows (open_leases h nothing)) (leases_from h nothing first rows)
-    ∙ ap (λ n. n + length (leases_from h nothing first rows)) (length-with_ends h nothing 0 first rows (open_leases h nothing) ∙ open_at_first h)
+    ∙ ap (λ n. n + length (leases_from h nothing first rows)) (length-with_ends h nothing 0 first rows (open_leases h nothing) ∙ open_at_first h headed)
     ∙ ap (λ n. length (event_shape h).segments + n) (length-leases_from h nothing first rows)

@@ -1,4 +1,4 @@
--- Of the rings of a header only the one that has a word can own it, or give something by its write
+-- Of the rings of a header only the one that has a word can own it, or give something by its write; the segment table can own it too
 use Rattle.std.proofs.Common.{◌≡◌, ℕ, ◌%◌, [], ◌++◌, Bool, true, false, Option, Some, None, refl, ap, sym, ◌∙◌, inl, inr}
 use Rattle.std.specs.Prelude.{◌||◌, map}
 use Rattle.std.specs.List.{list_any, flat_map}
@@ -10,17 +10,18 @@ use Rattle.segments.specs.RingView.{positions_given, crossings_given, leased_pos
 use Rattle.segments.proofs.InsideLemmas.{touches-word}
 use Rattle.traces.specs.declared.ring.Ring.{Ring}
 use Rattle.traces.specs.declared.header.Header.{Header}
+use Rattle.traces.specs.declared.register.Register.TheVariants.{Erstba}
 use Rattle.traces.specs.Header.{IsHeader, is_driver_kind, is_event_kind, shape_or, driver_rings, event_ring, event_shape}
 use Rattle.ring_knowledge.specs.Known.{Known}
 use Rattle.ring_knowledge.specs.Rings.{Position, Crossing, given_of, given_by}
 use Rattle.ownership_rules.specs.OpenLeases as leases
-use Rattle.ownership_checker.specs.Calm.{IsCalm}
+use Rattle.ownership_checker.specs.NoSlots.{NoSlots}
 use Rattle.ownership_checker.specs.OneRing.{is_owned}
 use Rattle.ownership_checker.proofs.ListTests.{false_unless, or_false, any_append, any_map, any_flat_map}
 use Rattle.ownership_checker.proofs.RingsApart.{IsAmong, Apart, same_or_apart}
 use Rattle.ownership_checker.proofs.HeaderRings.{together, shape_allowed, shape_there, event_here, find_some, one_driver, no_driver, all_from_one, nothing_from}
 use Rattle.ownership_checker.proofs.WordsInside.{not_owned, gives_no_position, gives_no_crossing}
-use Rattle.ownership_checker.proofs.CalmLemmas.{segments_alone}
+use Rattle.ownership_checker.proofs.NoSlotsLemmas.{ranges_are}
 
 no_driver_event : (kind : RingKind) → is_driver_kind kind ≡ true → is_event_kind kind ≡ true → ⊥
 no_driver_event Cmd d e = absurd (cc)
@@ -30,6 +31,10 @@ no_driver_event Xfer d e = absurd (cc)
 or_true : (b : Bool) → (b || true) ≡ true
 or_true true = refl
 or_true false = refl
+
+-- the segment table is under lease and has the word
+abbrev pub is_in_table : Header → Known → ℕ → Bool
+is_in_table h k a = list_any (leases.covers h a 4) (leases.table_range h (k.register Erstba))
 
 module _ (h : Header) (headed : IsHeader h) (k : Known) (a : ℕ) (aligned : a % 4 ≡ 0) where
   inside_is : (q : Ring) → IsAmong q h.rings → touches q.shape a 4 ≡ is_inside q.shape a
@@ -51,11 +56,21 @@ module _ (h : Header) (headed : IsHeader h) (k : Known) (a : ℕ) (aligned : a %
   unfolding leases.segment_ranges leases.covers leases.lease_start leases.lease_bytes
   segments_cover = any_map (leases.covers h a 4) _ (event_shape h).segments
 
-  leased_is : IsCalm h k → leases.is_leased h k a ≡ (list_any (λ q. list_any (leases.covers h a 4) (leases.open_on h k q)) (driver_rings h) || touches (event_shape h) a 4)
+  leased_is : NoSlots h k → leases.is_leased h k a
+      ≡ (list_any (λ q. list_any (leases.covers h a 4) (leases.open_on h k q)) (driver_rings h) || (touches (event_shape h) a 4 || is_in_table h k a))
   unfolding leases.is_leased leases.open_leases
-  leased_is calm =
+  leased_is slots =
       any_append (leases.covers h a 4) (flat_map (leases.open_on h k) (driver_rings h)) (leases.open_ranges h k)
-      ∙ rw (any_flat_map (leases.covers h a 4) (leases.open_on h k) (driver_rings h), segments_alone h k calm, segments_cover) refl
+      ∙ rw (
+        any_flat_map (leases.covers h a 4) (leases.open_on h k) (driver_rings h),
+        ranges_are h headed k slots,
+        any_append (leases.covers h a 4) (leases.segment_ranges h) (leases.table_range h (k.register Erstba)),
+        segments_cover,
+      ) refl
+
+  -- the segment table has it
+  pub leased_in_table : NoSlots h k → is_in_table h k a ≡ true → leases.is_leased h k a ≡ true
+  leased_in_table slots has = leased_is slots ∙ rw has (ap (λ b. list_any (λ q. list_any (leases.covers h a 4) (leases.open_on h k q)) (driver_rings h) || b) (or_true (touches (event_shape h) a 4)) ∙ or_true _)
 
   -- where a ring hasn't the word
   unowned : (q : Ring) → IsAmong q h.rings → is_inside q.shape a ≡ false → list_any (leases.covers h a 4) (leases.open_on h k q) ≡ false
@@ -88,20 +103,24 @@ module _ (h : Header) (headed : IsHeader h) (k : Known) (a : ℕ) (aligned : a %
     outside : (q : Ring) → IsAmong q h.rings → is_inside q.shape a ≡ false
     outside q among = sym (inside_is q among) ∙ none q among
 
-    pub leased_nowhere : IsCalm h k → leases.is_leased h k a ≡ false
+    pub leased_nowhere : NoSlots h k → is_in_table h k a ≡ false → leases.is_leased h k a ≡ false
     unfolding driver_rings
-    leased_nowhere calm =
-        leased_is calm
-        ∙ rw (no_driver (λ q. list_any (leases.covers h a 4) (leases.open_on h k q)) h.rings (λ q among driver. unowned q among (outside q among)), not_in_events (λ q among event. outside q among)) refl
+    leased_nowhere slots no_table =
+        leased_is slots
+        ∙ rw (
+          no_driver (λ q. list_any (leases.covers h a 4) (leases.open_on h k q)) h.rings (λ q among driver. unowned q among (outside q among)),
+          not_in_events (λ q among event. outside q among),
+          no_table,
+        ) refl
 
     pub given_nowhere : (w : ℕ) → given_by h k a w ≡ []
     unfolding given_by driver_rings
     given_nowhere w = nothing_from (λ q. given_of h k a w q.id) h.rings (λ q among driver. none_given w q among (outside q among))
 
   -- the event ring has it
-  pub leased_in_events : IsCalm h k → (e : Ring) → IsAmong e h.rings → is_event_kind e.shape.kind ≡ true → touches e.shape a 4 ≡ true → leases.is_leased h k a ≡ true
-  leased_in_events calm e among event touched =
-      leased_is calm ∙ rw (ap (λ s. touches s a 4) (event_here h headed e among event) ∙ touched) (or_true _)
+  pub leased_in_events : NoSlots h k → (e : Ring) → IsAmong e h.rings → is_event_kind e.shape.kind ≡ true → touches e.shape a 4 ≡ true → leases.is_leased h k a ≡ true
+  leased_in_events slots e among event touched =
+      leased_is slots ∙ rw (ap (λ s. touches s a 4) (event_here h headed e among event) ∙ touched) (or_true _)
 
   -- a command or transfer ring has it
   module _ (r : Ring) (among : IsAmong r h.rings) (driver : is_driver_kind r.shape.kind ≡ true) (has : touches r.shape a 4 ≡ true) where
@@ -117,13 +136,14 @@ module _ (h : Header) (headed : IsHeader h) (k : Known) (a : ℕ) (aligned : a %
       | inr apart ↦ others q there apart
     ])
 
-    pub leased_here : IsCalm h k → leases.is_leased h k a ≡ is_owned r.shape (k.ring r.id) a
+    pub leased_here : NoSlots h k → is_in_table h k a ≡ false → leases.is_leased h k a ≡ is_owned r.shape (k.ring r.id) a
     unfolding driver_rings
-    leased_here calm =
-        leased_is calm
+    leased_here slots no_table =
+        leased_is slots
         ∙ rw (
           one_driver (λ q. list_any (leases.covers h a 4) (leases.open_on h k q)) h.rings (together h headed) r among driver (λ q there apart. unowned q there (others q there apart)),
           no_event_segment,
+          no_table,
           owned_on r among,
         ) (or_false (is_owned r.shape (k.ring r.id) a))
 

@@ -1,41 +1,76 @@
--- What is said of a row, by its kind: a register, a doorbell or an event is outside the profile
-use Rattle.std.proofs.Common.{◌≡◌, ℕ, List, Some, Result, Ok, Err, refl, ap, sym, ◌∙◌, subst, inl, inr}
-use Rattle.std.specs.Prelude.{◌⊎◌, IfErr, IsErrAnd}
+-- What is said of a row, by its kind, and of any row after the stop
+use Rattle.std.proofs.Common.{◌≡◌, ℕ, List, [], ◌∷◌, Bool, true, false, Option, None, Some, ◌+◌, ◌≤◌, arith, Result, Ok, Err, refl, ap, sym, ◌∙◌, subst, inl, inr}
+use Rattle.std.specs.Prelude.{◌⊎◌, IfOk, IfErr, IsErrAnd, if◌then◌else◌, not, ◌&&◌}
 use Rattle.trb.specs.declared.block.Block.{Block}
 use Rattle.traces.specs.declared.row.Row.{Row}
-use Rattle.traces.specs.declared.row.Row.TheVariants.{Sub, Reg, Bell, Read}
+use Rattle.traces.specs.declared.row.Row.TheVariants.{Sub, Write, Reg, Bell, Read}
 use Rattle.traces.specs.declared.register.Register.{Register}
 use Rattle.traces.specs.declared.header.Header.{Header}
-use Rattle.ring_knowledge.specs.declared.ring_record.RingRecord.{RingRecord}
+use Rattle.ownership_checker.specs.declared.kept.Kept.{Kept}
+use Rattle.ownership_rules.specs.Rules.{broken}
 use Rattle.ring_knowledge.specs.Known.{Known}
-use Rattle.ownership_rules.specs.declared.refusal.Refusal.TheVariants.{NotInProfile}
+use Rattle.ownership_rules.specs.declared.refusal.Refusal.TheVariants.{NotInProfile, AfterStop}
 use Rattle.ownership_rules.specs.Refusal.{first_of}
 use Rattle.ownership_checker.specs.Profile.{is_outside, broken_within}
 use Rattle.ownership_checker.specs.declared.fault.StepFault.{StepFault}
 use Rattle.ownership_checker.specs.declared.fault.StepFault.TheVariants.{Refused, Memory}
-use Rattle.ownership_checker.specs.Tracking.{IfRefused, Follows, IsRowStep}
+use Rattle.ownership_checker.specs.Tracking.{IfRefused, Follows, IsRowStep, IsWithin}
+use Rattle.event_ring.specs.EventPlaceValue.{EventState}
 
-pub outside_refused : (h : Header) (k : Known) (row : Row) →
-    ((r : Register) × (v : ℕ) × (row ≡ Reg r v)) ⊎ (((s : ℕ) × (t : ℕ) × (row ≡ Bell s t)) ⊎ ((b : Block) × (row ≡ Read b))) → first_of (broken_within h k row) ≡ Some NotInProfile
+-- a row whose rules aren't checked yet
+pub outside_refused : (h : Header) (k : Known) (row : Row) → k.stopped ≡ false →
+    ((s : ℕ) × (t : ℕ) × (row ≡ Bell s t)) ⊎ ((b : Block) × (row ≡ Read b)) → first_of (broken_within h k row) ≡ Some NotInProfile
 unfolding broken_within is_outside
-outside_refused h k row (inl e) = rw e.2 refl
-outside_refused h k row (inr (inl e)) = rw e.2 refl
-outside_refused h k row (inr (inr e)) = rw e.1 refl
+outside_refused h k row on (inl e) = rw (e.2, on) refl
+outside_refused h k row on (inr e) = rw (e.1, on) refl
 
--- a declaration, as the row has it
-pub declared_step : (h : Header) (rs ns : List RingRecord) (memory : ℕ → ℕ) (row : Row) (id : ℕ) (blocks now : List Block) → row ≡ Sub id blocks → now ≡ blocks →
-    ((k : Known) (m : ℕ → ℕ) → Follows h k rs m → IsRowStep h k (Sub id now) ns m 0) → (k : Known) → Follows h k rs memory → IsRowStep h k row ns memory 0
-declared_step h rs ns memory row id blocks now is same checked = λ k f.
-    subst (λ (w : Row). IsRowStep h k w ns memory 0) (ap (λ bs. Sub id bs) same ∙ sym is) (checked k memory f)
+stopped_inside : (h : Header) (k : Known) (row : Row) → k.stopped ≡ true → is_outside h k row ≡ false
+unfolding is_outside
+stopped_inside h k (Sub r blocks) off = refl
+stopped_inside h k (Write a w) off = rw off refl
+stopped_inside h k (Reg r v) off = refl
+stopped_inside h k (Bell s t) off = rw off refl
+stopped_inside h k (Read b) off = rw off refl
 
-pub declared_refused : (h : Header) (rs : List RingRecord) (memory : ℕ → ℕ) (row : Row) (id : ℕ) (blocks now : List Block) (e : StepFault) (result : Result ℕ StepFault) → row ≡ Sub id blocks → now ≡ blocks →
-    IsErrAnd result (λ x. x ≡ e) → IfRefused e (λ c. (k : Known) (m : ℕ → ℕ) → Follows h k rs m → first_of (broken_within h k (Sub id now)) ≡ Some c) →
-    IfErr result (λ x. IfRefused x (λ c. (k : Known) → Follows h k rs memory → first_of (broken_within h k row) ≡ Some c))
-declared_refused h rs memory row id blocks now e (Ok x) is same passed said = absurd passed
-declared_refused h rs memory row id blocks now e (Err x) is same passed said =
-    subst (λ (y : StepFault). IfRefused y (λ c. (k : Known) → Follows h k rs memory → first_of (broken_within h k row) ≡ Some c)) (sym passed) (of_row e said)
+-- any row after the stop
+pub stopped_refused : (h : Header) (k : Known) (row : Row) → k.stopped ≡ true → first_of (broken_within h k row) ≡ Some AfterStop
+unfolding broken_within broken
+stopped_refused h k row off = rw (stopped_inside h k row off, off) refl
+
+module _ (h : Header) (kept : Kept) (memory : ℕ → ℕ) (on : (k : Known) → Follows h k kept memory → k.stopped ≡ false) (row other : Row) (is : row ≡ other) where
+  -- what is said of a row before the stop is said of it as it stands in the trace
+  pub row_ok : (after : Kept) (o : ℕ → ℕ) (result : Result ℕ StepFault) → IfOk result (λ n. (k : Known) → Follows h k kept memory → k.stopped ≡ false → IsRowStep h k other after o n) →
+      IfOk result (λ n. (k : Known) → Follows h k kept memory → IsRowStep h k row after o n)
+  row_ok after o (Ok n) said = λ k f. subst (λ (w : Row). IsRowStep h k w after o n) (sym is) (said k f (on k f))
+  row_ok after o (Err e) said = said
+
+  of_row : (e : StepFault) → IfRefused e (λ c. (k : Known) → Follows h k kept memory → k.stopped ≡ false → first_of (broken_within h k other) ≡ Some c) →
+      IfRefused e (λ c. (k : Known) → Follows h k kept memory → first_of (broken_within h k row) ≡ Some c)
+  of_row (Refused c) said = λ k f. subst (λ (w : Row). first_of (broken_within h k w) ≡ Some c) (sym is) (said k f (on k f))
+  of_row Memory said = said
+
+  pub row_bad : (result : Result ℕ StepFault) → IfErr result (λ e. IfRefused e (λ c. (k : Known) → Follows h k kept memory → k.stopped ≡ false → first_of (broken_within h k other) ≡ Some c)) →
+      IfErr result (λ e. IfRefused e (λ c. (k : Known) → Follows h k kept memory → first_of (broken_within h k row) ≡ Some c))
+  row_bad (Ok n) said = said
+  row_bad (Err e) said = of_row e said
+
+  -- a fault that was handed on
+  pub row_fault : (e : StepFault) (result : Result ℕ StepFault) → IsErrAnd result (λ x. x ≡ e) →
+      IfRefused e (λ c. (k : Known) (m : ℕ → ℕ) → Follows h k kept m → k.stopped ≡ false → first_of (broken_within h k other) ≡ Some c) →
+      IfErr result (λ x. IfRefused x (λ c. (k : Known) → Follows h k kept memory → first_of (broken_within h k row) ≡ Some c))
+  row_fault e (Ok x) passed said = absurd passed
+  row_fault e (Err x) passed said =
+      subst (λ (y : StepFault). IfRefused y (λ c. (k : Known) → Follows h k kept memory → first_of (broken_within h k row) ≡ Some c)) (sym passed) (of_row e (here e said))
+    where
+      here : (e : StepFault) → IfRefused e (λ c. (k : Known) (m : ℕ → ℕ) → Follows h k kept m → k.stopped ≡ false → first_of (broken_within h k other) ≡ Some c) →
+          IfRefused e (λ c. (k : Known) → Follows h k kept memory → k.stopped ≡ false → first_of (broken_within h k other) ≡ Some c)
+      here (Refused c) said = λ k f on. said k memory f on
+      here Memory said = said
+
+-- no more events are read
+pub within_more : (e after : Option EventState) → after ≡ e → (n : ℕ) → IsWithin e n → IsWithin after (n + 1)
+within_more e after same n few = subst (λ (x : Option EventState). IsWithin x (n + 1)) (sym same) (by e few)
   where
-    of_row : (e : StepFault) → IfRefused e (λ c. (k : Known) (m : ℕ → ℕ) → Follows h k rs m → first_of (broken_within h k (Sub id now)) ≡ Some c) →
-        IfRefused e (λ c. (k : Known) → Follows h k rs memory → first_of (broken_within h k row) ≡ Some c)
-    of_row (Refused c) said = λ k f. subst (λ (w : Row). first_of (broken_within h k w) ≡ Some c) (ap (λ bs. Sub id bs) same ∙ sym is) (said k memory f)
-    of_row Memory said = said
+    by : (x : Option EventState) → IsWithin x n → IsWithin x (n + 1)
+    by None few = tt
+    by (Some x) few = omega (arith, few)

@@ -24,12 +24,15 @@ three_rings = record {
       ∷ record { id = 2; shape = record { kind = Xfer; segments = record { base = 0x30000; count = 4 } ∷ [] } } ∷ [];
 }
 
--- a No Op with an interrupt, as a block of a transfer ring, and a No Op command
+-- a No Op with an interrupt, as a block of a transfer ring, a No Op command and an Enable Slot
 abbrev no_op : Block
 no_op = record { w = 0 ∷ 0 ∷ 0 ∷ 0x2020 ∷ [] }
 
 abbrev no_op_command : Block
 no_op_command = record { w = 0 ∷ 0 ∷ 0 ∷ 0x5c00 ∷ [] }
+
+abbrev enable_slot : Block
+enable_slot = record { w = 0 ∷ 0 ∷ 0 ∷ 0x2400 ∷ [] }
 
 -- the first row is line 6
 abbrev within : List Row → Option (ℕ × Refusal)
@@ -42,11 +45,11 @@ pub given_block : within (Sub 2 (no_op ∷ []) ∷ Write 0x3000c 0x2021 ∷ []) 
 unfolding profile_on_literals
 given_block = refl
 
-pub register : within (Sub 2 (no_op ∷ []) ∷ Reg Usbcmd 2 ∷ []) ≡ Some (7, NotInProfile)
+pub register : within (Sub 2 (no_op ∷ []) ∷ Reg Usbcmd 2 ∷ []) ≡ None
 unfolding profile_on_literals
 register = refl
 
--- of all rules the reset breaks none
+-- of all rules too the reset breaks none
 pub reset_breaks_nothing : full (Sub 2 (no_op ∷ []) ∷ Reg Usbcmd 2 ∷ []) ≡ None
 unfolding profile_on_literals
 reset_breaks_nothing = refl
@@ -55,9 +58,18 @@ pub doorbell : within (Bell 0 0 ∷ []) ≡ Some (6, NotInProfile)
 unfolding profile_on_literals
 doorbell = refl
 
-pub command : within (Sub 0 (no_op_command ∷ []) ∷ []) ≡ Some (6, NotInProfile)
+pub no_op_given : within (Sub 0 (no_op_command ∷ []) ∷ Write 0x1000c 0x5c01 ∷ []) ≡ None
 unfolding profile_on_literals
-command = refl
+no_op_given = refl
+
+-- a command other than No Op is outside where it is given, and not where it is declared
+pub command_declared : within (Sub 0 (enable_slot ∷ []) ∷ []) ≡ None
+unfolding profile_on_literals
+command_declared = refl
+
+pub command_given : within (Sub 0 (enable_slot ∷ []) ∷ Write 0x1000c 0x2401 ∷ []) ≡ Some (7, NotInProfile)
+unfolding profile_on_literals
+command_given = refl
 
 -- a declaration that names no ring, or the event ring, breaks the rule that it breaks
 pub unknown_ring : within (Sub 3 (no_op ∷ []) ∷ []) ≡ Some (6, NotDeclared)

@@ -1,4 +1,4 @@
--- While all is calm: which rules a write breaks
+-- While no slot is enabled: which rules a write breaks
 use Rattle.std.proofs.Common.{◌≡◌, ℕ, ◌%◌, List, [], ◌∷◌, Bool, true, false, Some, refl, ap, ◌∙◌}
 use Rattle.std.specs.Prelude.{◌||◌, map, if◌then◌else◌}
 use Rattle.std.specs.List.{list_any}
@@ -10,8 +10,11 @@ use Rattle.traces.specs.declared.header.Header.{Header}
 use Rattle.traces.specs.declared.row.Row.TheVariants.{Write}
 use Rattle.traces.specs.Header.{IsHeader, is_driver_kind, is_event_kind, shape_of}
 use Rattle.commands.specs.declared.command.Command.{Command}
+use Rattle.commands.specs.declared.command.Command.TheVariants.{NoOp, AddressDevice}
+use Rattle.commands.specs.Command.{name_one_slot}
 use Rattle.ring_knowledge.specs.Known.{Known}
-use Rattle.ring_knowledge.specs.Rings.{Given, Position, Crossing, given_by}
+use Rattle.ring_knowledge.specs.Rings.{Given, Position, Crossing, given_by, unfinished}
+use Rattle.ring_knowledge.specs.Writes.{command_given}
 use Rattle.ownership_rules.specs.declared.refusal.Refusal.TheVariants.{WriteToOwned, NotAsSubmitted, NotDeclared, NotWhole, LinkFault, BadCommand, Busy, NotInProfile, BadMove, AfterStop}
 use Rattle.ownership_rules.specs.Refusal.{Test, broken_of, first_of, first_broken}
 use Rattle.ownership_rules.specs.OpenLeases.{is_leased}
@@ -19,14 +22,15 @@ use Rattle.ownership_rules.specs.Commands as commands
 use Rattle.ownership_rules.specs.Moves as moves
 use Rattle.ownership_rules.specs.Writes.{write_tests, some_given, some_crossed, some_command, holds_of, on_position, on_crossing}
 use Rattle.ownership_rules.specs.Rules.{broken, tests}
-use Rattle.ownership_checker.specs.Calm.{IsCalm}
+use Rattle.ownership_checker.specs.NoSlots.{NoSlots}
+use Rattle.ownership_checker.specs.Profile.{is_other}
 use Rattle.ownership_checker.specs.OneRing.{is_owned, word_tests}
 use Rattle.ownership_checker.proofs.ListTests.{or_false, any_append, any_map, any_nowhere}
 use Rattle.ownership_checker.proofs.FirstBroken.{first_broken-is}
 use Rattle.ownership_checker.proofs.RingsApart.{IsAmong}
 use Rattle.ownership_checker.proofs.HeaderRings.{shape_there}
-use Rattle.ownership_checker.proofs.CalmLemmas.{none_unfinished, no_command_given}
-use Rattle.ownership_checker.proofs.OneRingHas.{leased_nowhere, given_nowhere, leased_in_events, leased_here, given_by_one}
+use Rattle.ownership_checker.proofs.NoSlotsLemmas.{passes_none}
+use Rattle.ownership_checker.proofs.OneRingHas.{is_in_table, leased_in_table, leased_nowhere, given_nowhere, leased_in_events, leased_here, given_by_one}
 
 -- the rules of commands are met
 abbrev pub left_over : Bool → Bool → Bool → Bool → Bool → Bool → List Test
@@ -41,14 +45,37 @@ none_broken : (owned other not_declared not_whole wrong interrupting command bus
     ≡ left_over owned other not_declared not_whole wrong interrupting
 none_broken owned other not_declared not_whole wrong interrupting command busy moved left_out binding a b c d e = rw (a, b, c, d, e) refl
 
-module _ (h : Header) (headed : IsHeader h) (k : Known) (calm : IsCalm h k) (a w : ℕ) where
-  no_command : (test : Command → Bool) → some_command h k a w test ≡ false
-  unfolding some_command holds_of
-  no_command test = rw (no_command_given h k calm a w) refl
+-- a No Op breaks no rule of commands
+module _ (h : Header) (k : Known) where
+  no_bad_command : commands.is_bad_command h k NoOp ≡ false
+  unfolding commands.is_bad_command commands.names_disabled_slot commands.names_disabled_endpoint commands.has_bad_context commands.has_bad_content
+  no_bad_command = refl
+
+  no_busy_command : commands.is_busy h k NoOp ≡ false
+  unfolding commands.is_busy
+  no_busy_command = any_nowhere (name_one_slot NoOp) (λ c. refl) (unfinished h k)
+
+  no_left_out_command : commands.has_left_out_endpoint h k NoOp ≡ false
+  unfolding commands.has_left_out_endpoint
+  no_left_out_command = refl
+
+  no_bad_move : (moves.is_bad_binding h k NoOp || moves.is_bad_move h k NoOp) ≡ false
+  unfolding moves.is_bad_binding moves.is_bad_move moves.binds moves.has_repeats
+  no_bad_move = refl
+
+module _ (h : Header) (headed : IsHeader h) (k : Known) (slots : NoSlots h k) (on : k.stopped ≡ false) (a w : ℕ) (idle : holds_of is_other (command_given h k a w) ≡ false) where
+  no_command : (test : Command → Bool) → test NoOp ≡ false → some_command h k a w test ≡ false
+  unfolding some_command
+  no_command test fails = passes_none test fails (command_given h k a w) idle
+
+  moves_none : (r : ℕ) (c : Command) → moves.moves_ring h k r c ≡ false
+  unfolding moves.moves_ring
+  moves_none r (AddressDevice s bsr c) = rw (slots.endpoints s 1) refl
+  moves_none r _ = refl
 
   not_moved : (g : Given) → on_position (λ r p. moves.is_being_moved h k r) g ≡ false
   unfolding on_position moves.is_being_moved
-  not_moved (Position r p) = rw (none_unfinished h k calm) refl
+  not_moved (Position r p) = any_nowhere (moves.moves_ring h k r) (moves_none r) (unfinished h k)
   not_moved (Crossing r q) = refl
 
   none_moved : some_given h k a w (λ r p. moves.is_being_moved h k r) ≡ false
@@ -68,28 +95,32 @@ module _ (h : Header) (headed : IsHeader h) (k : Known) (calm : IsCalm h k) (a w
   unfolding write_tests
   tests_are =
       none_broken _ _ _ _ _ _ _ _ _ _ _
-      (no_command (commands.is_bad_command h k))
-      (no_command (commands.is_busy h k))
+      (no_command (commands.is_bad_command h k) (no_bad_command h k))
+      (no_command (commands.is_busy h k) (no_busy_command h k))
       none_moved
-      (no_command (commands.has_left_out_endpoint h k))
-      (no_command (λ c. moves.is_bad_binding h k c || moves.is_bad_move h k c))
+      (no_command (commands.has_left_out_endpoint h k) (no_left_out_command h k))
+      (no_command (λ c. moves.is_bad_binding h k c || moves.is_bad_move h k c) (no_bad_move h k))
 
   broken_is : broken h k (Write a w) ≡ broken_of LeftOver
   unfolding broken tests
-  broken_is = ap (λ b. if b then AfterStop ∷ [] else broken_of (write_tests h k a w)) calm.running ∙ ap broken_of tests_are
+  broken_is = ap (λ b. if b then AfterStop ∷ [] else broken_of (write_tests h k a w)) on ∙ ap broken_of tests_are
 
   module _ (aligned : a % 4 ≡ 0) where
+    -- the segment table has the word
+    pub owned_by_table : is_in_table h k a ≡ true → first_of (broken h k (Write a w)) ≡ Some WriteToOwned
+    owned_by_table has = ap first_of broken_is ∙ first_broken-is LeftOver ∙ rw (leased_in_table h headed k a aligned slots has) refl
+
     -- no ring has the word
-    pub nothing_breaks : ((q : Ring) → IsAmong q h.rings → touches q.shape a 4 ≡ false) → broken h k (Write a w) ≡ []
+    pub nothing_breaks : ((q : Ring) → IsAmong q h.rings → touches q.shape a 4 ≡ false) → is_in_table h k a ≡ false → broken h k (Write a w) ≡ []
     unfolding some_given some_crossed
-    nothing_breaks none = broken_is ∙ rw (leased_nowhere h headed k a aligned none calm, given_nowhere h headed k a aligned none w) refl
+    nothing_breaks none no_table = broken_is ∙ rw (leased_nowhere h headed k a aligned none slots no_table, given_nowhere h headed k a aligned none w) refl
 
     -- an event segment has it
     pub owned_by_events : (e : Ring) → IsAmong e h.rings → is_event_kind e.shape.kind ≡ true → touches e.shape a 4 ≡ true → first_of (broken h k (Write a w)) ≡ Some WriteToOwned
-    owned_by_events e among event has = ap first_of broken_is ∙ first_broken-is LeftOver ∙ rw (leased_in_events h headed k a aligned calm e among event has) refl
+    owned_by_events e among event has = ap first_of broken_is ∙ first_broken-is LeftOver ∙ rw (leased_in_events h headed k a aligned slots e among event has) refl
 
     -- a command or transfer ring has it
-    module _ (r : Ring) (among : IsAmong r h.rings) (driver : is_driver_kind r.shape.kind ≡ true) (has : touches r.shape a 4 ≡ true) where
+    module _ (r : Ring) (among : IsAmong r h.rings) (driver : is_driver_kind r.shape.kind ≡ true) (has : touches r.shape a 4 ≡ true) (no_table : is_in_table h k a ≡ false) where
       given_is : (test : ℕ → ℕ → Bool) → some_given h k a w test ≡ list_any (test r.id) (positions_given r.shape (k.ring r.id) a w)
       unfolding some_given on_position
       given_is test =
@@ -128,7 +159,7 @@ module _ (h : Header) (headed : IsHeader h) (k : Known) (calm : IsCalm h k) (a w
 
       left_is : LeftOver ≡ OfRing
       left_is = rw (
-        leased_here h headed k a aligned r among driver has calm,
+        leased_here h headed k a aligned r among driver has slots no_table,
         given_is (λ s p. is_other_than_declared (shape_of h s) (k.ring s) k.memory a w p),
         given_is (λ s p. is_not_declared (k.ring s) p),
         given_is (λ s p. is_not_whole (shape_of h s) (k.ring s) p),

@@ -1,6 +1,6 @@
 pub mod Profile
 pub mod LeaseCount
-pub mod Calm
+pub mod NoSlots
 pub mod OneRing
 pub mod Verdicts
 pub mod Tracking

@@ -1,27 +1,35 @@
--- The verdict within what is checked for now: registers, doorbells, events and commands are outside
-use Rattle.std.specs.Prelude.{ℕ, ◌+◌, if◌then◌else◌, Bool, true, false, List, [], ◌∷◌, Option, None}
+-- The verdict within what is checked for now: doorbells, events, and writes that give a command other than No Op are outside
+use Rattle.std.specs.Prelude.{ℕ, ◌+◌, ◌&&◌, if◌then◌else◌, Bool, true, false, not, List, [], ◌∷◌, Option, None}
+use Rattle.commands.specs.declared.command.Command.{Command}
+use Rattle.commands.specs.declared.command.Command.TheVariants.{NoOp}
 use Rattle.traces.specs.declared.header.Header.{Header}
 use Rattle.traces.specs.declared.row.Row.{Row}
 use Rattle.traces.specs.declared.row.Row.TheVariants.{Sub, Write, Reg, Bell, Read}
-use Rattle.traces.specs.Header.{shape_of, is_command_kind}
 use Rattle.ring_knowledge.specs.Known.{Known}
 use Rattle.ring_knowledge.specs.Learned.{learned}
 use Rattle.ownership_rules.specs.declared.refusal.Refusal.{Refusal}
 use Rattle.ownership_rules.specs.declared.refusal.Refusal.TheVariants.{NotInProfile}
 use Rattle.ownership_rules.specs.Rules.{broken, first_or}
+use Rattle.ownership_rules.specs.Writes.{some_command}
+
+-- the command is another than No Op
+abbrev pub is_other : Command → Bool
+is_other NoOp = false
+is_other _ = true
 
 module _ (h : Header) where
-  -- a row that is refused whatever it says: a register, a doorbell, an event, or a declaration on the command ring
-  unfoldable pub is_outside : Row → Bool
-  is_outside (Sub r blocks) = is_command_kind (shape_of h r).kind
-  is_outside (Write a w) = false
-  is_outside (Reg r v) = true
-  is_outside (Bell s t) = true
-  is_outside (Read b) = true
+  -- a row that is refused whatever else it breaks: before the stop, a doorbell, an event, or a write that gives a command other
+  -- than No Op
+  unfoldable pub is_outside : Known → Row → Bool
+  is_outside k (Sub r blocks) = false
+  is_outside k (Write a w) = not k.stopped && some_command h k a w is_other
+  is_outside k (Reg r v) = false
+  is_outside k (Bell s t) = not k.stopped
+  is_outside k (Read b) = not k.stopped
 
   -- the rules that a row breaks: outside, the profile alone
   unfoldable pub broken_within : Known → Row → List Refusal
-  broken_within k row = if is_outside row then NotInProfile ∷ [] else broken h k row
+  broken_within k row = if is_outside k row then NotInProfile ∷ [] else broken h k row
 
   -- the first row that breaks a rule, and the least of these; n is the number of the first row
   unfoldable pub verdict_within : Known → ℕ → List Row → Option (ℕ × Refusal)

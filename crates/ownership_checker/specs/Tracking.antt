@@ -1,5 +1,5 @@
 -- What the checker's records and memory hold, in terms of what is known after the rows so far
-use Rattle.std.specs.Prelude.{Some, None, ◌≡◌, ℕ, ◌+◌, ◌≤◌, true, false, List, [], ◌∷◌, length, slice_get, reverse, take, drop}
+use Rattle.std.specs.Prelude.{Option, Some, None, is_some, ◌≡◌, ℕ, ◌+◌, ◌≤◌, true, false, List, [], ◌∷◌, length, slice_get, reverse, take, drop}
 use Rattle.trb.specs.declared.block.Block.{Block}
 use Rattle.segments.specs.ShapeValue.{Shape}
 use Rattle.segments.specs.Shape.{IsShape}
@@ -7,9 +7,13 @@ use Rattle.segments.specs.RingView.{RingView, Declares, Writes, changed, new_rin
 use Rattle.traces.specs.declared.ring.Ring.{Ring}
 use Rattle.traces.specs.declared.header.Header.{Header}
 use Rattle.traces.specs.declared.row.Row.{Row}
-use Rattle.traces.specs.Header.{is_driver_kind, event_shape}
+use Rattle.traces.specs.Header.{is_driver_kind, event_ring, event_shape}
 use Rattle.ring_knowledge.specs.declared.ring_record.RingRecord.{RingRecord}
-use Rattle.ring_knowledge.specs.RingRecords.{FollowsRing}
+use Rattle.ring_knowledge.specs.declared.ring_record.RingGiving.{RingGiving}
+use Rattle.ring_knowledge.specs.RingRecords.{FollowsRing, positions_of}
+use Rattle.ring_knowledge.specs.RegisterRecords.{FollowsRegisters}
+use Rattle.event_ring.specs.EventPlaceValue.{EventState}
+use Rattle.event_ring.specs.EventRing.{position_from, erdp_address}
 use Rattle.ring_knowledge.specs.Known.{Known, nothing}
 use Rattle.ring_knowledge.specs.Learned.{learned, known}
 use Rattle.ownership_rules.specs.declared.refusal.Refusal.{Refusal}
@@ -17,9 +21,12 @@ use Rattle.ownership_rules.specs.Refusal.{first_broken}
 use Rattle.ownership_rules.specs.Rules.{broken, verdict_from}
 use Rattle.ownership_rules.specs.Clean.{IsClean}
 use Rattle.ownership_rules.specs.Leases.{begun}
-use Rattle.ownership_checker.specs.Calm.{IsCalm}
+use Rattle.safety.specs.KeptHistories.{MayRead, MayReadAll}
+use Rattle.ownership_checker.specs.NoSlots.{NoSlots, IsSetUp}
 use Rattle.ownership_checker.specs.OneRing.{room_tests, word_tests}
 use Rattle.ownership_checker.specs.Profile.{is_outside, verdict_within}
+use Rattle.ownership_checker.specs.Verdicts.{AreInside}
+use Rattle.ownership_checker.specs.declared.kept.Kept.{Kept}
 use Rattle.ownership_checker.specs.LeaseCount.{begun_count}
 use Rattle.ownership_checker.specs.declared.fault.StepFault.{StepFault}
 use Rattle.ownership_checker.specs.declared.fault.StepFault.TheVariants.{Refused, Memory}
@@ -41,16 +48,35 @@ pub record IsWritten (shape : Shape) (v : RingView) (memory : ℕ → ℕ) (a w 
   pub clean : first_broken (word_tests shape v memory a w) ≡ None
   pub followed : FollowsRing shape (changed shape v (Writes a w)) after
   pub counted : length (positions_given shape v a w) + length (crossings_given shape v a w) ≡ given
+  pub sole : (giving : Option RingGiving) × (positions_given shape v a w ≡ positions_of giving)
 
--- ---- all rings
+-- ---- all rows
+
+-- the counts of the event ring are those that are known; there are none without an event ring
+pub record FollowsPlace (h : Header) (k : Known) (e : EventState) : Type 0 where
+  pub here : is_some (event_ring h) ≡ true
+  pub shape : event_shape h ≡ e.shape
+  pub reads : k.reads ≡ e.counts.reads
+  pub dequeue : k.dequeue ≡ e.counts.dequeue
+
+abbrev pub FollowsEvents : Header → Known → Option EventState → Type 0
+FollowsEvents h k None = event_ring h ≡ None
+FollowsEvents h k (Some e) = FollowsPlace h k e
+
+-- the counts after ERDP was written
+abbrev pub IsMoved : Header → Known → Option EventState → ℕ → Type 0
+IsMoved h k o value = FollowsEvents h (record k { dequeue = position_from (event_shape h) k.dequeue (erdp_address value) }) o
 
 -- the records, one of each ring, and the memory hold what is known
-pub record Follows (h : Header) (k : Known) (records : List RingRecord) (memory : ℕ → ℕ) : Type 0 where
-  pub calm : IsCalm h k
+pub record Follows (h : Header) (k : Known) (kept : Kept) (memory : ℕ → ℕ) : Type 0 where
+  pub slots : NoSlots h k
+  pub set_up : IsSetUp h k
   pub words : (a : ℕ) → k.memory a ≡ memory a
-  pub as_many : length records ≡ length h.rings
-  pub each : (i : ℕ) (ring : Ring) (r : RingRecord) → slice_get h.rings i ≡ Some ring → slice_get records i ≡ Some r →
+  pub as_many : length kept.rings.items ≡ length h.rings
+  pub each : (i : ℕ) (ring : Ring) (r : RingRecord) → slice_get h.rings i ≡ Some ring → slice_get kept.rings.items i ≡ Some r →
       is_driver_kind ring.shape.kind ≡ true → FollowsRing ring.shape (k.ring ring.id) r
+  pub registers : FollowsRegisters k kept.registers
+  pub events : FollowsEvents h k kept.events
 
 -- records of the first rings, of which nothing is known
 pub record IsFreshSo (rings : List Ring) (records : List RingRecord) (count : ℕ) : Type 0 where
@@ -63,16 +89,12 @@ AreFresh rings records = IsFreshSo rings records (length rings)
 
 -- a row was checked: it is in the profile and breaks no rule, the records and the memory hold what is known after it, and so
 -- many leases began
-pub record IsRowStep (h : Header) (k : Known) (row : Row) (after : List RingRecord) (memory : ℕ → ℕ) (leases : ℕ) : Type 0 where
-  pub inside : is_outside h row ≡ false
+pub record IsRowStep (h : Header) (k : Known) (row : Row) (after : Kept) (memory : ℕ → ℕ) (leases : ℕ) : Type 0 where
+  pub inside : is_outside h k row ≡ false
   pub clean : broken h k row ≡ []
+  pub placed : MayRead h k row
   pub tracked : Follows h (learned h k row) after memory
   pub counted : length (begun h k row) ≡ leases
-
--- no row is outside the profile
-abbrev pub AreInside : Header → List Row → Type 0
-AreInside h [] = Unit {0}
-AreInside h (row ∷ past) = AreInside h past × (is_outside h row ≡ false)
 
 -- ---- a trace
 
@@ -86,12 +108,19 @@ pub record IsChecked (h : Header) (rows : List Row) (first : ℕ) (done : ℕ) (
   pub tracked : T (known h (reverse (take done rows)))
   pub inside : AreInside h (reverse (take done rows))
   pub clean : IsClean h (reverse (take done rows))
+  pub placed : MayReadAll h (reverse (take done rows))
   pub verdict : verdict_from h nothing first rows ≡ verdict_from h (known h (reverse (take done rows))) (first + done) (drop done rows)
   pub within : verdict_within h nothing first rows ≡ verdict_within h (known h (reverse (take done rows))) (first + done) (drop done rows)
   pub counted : length (event_shape h).segments + begun_count h nothing rows ≡ leases + begun_count h (known h (reverse (take done rows))) (drop done rows)
 
+-- no more events were read than there were rows
+abbrev pub IsWithin : Option EventState → ℕ → Type 0
+IsWithin None n = Unit {0}
+IsWithin (Some e) n = e.counts.reads ≤ n
+
 -- how far the check of a trace has come
-pub record IsProgress (h : Header) (rows : List Row) (first done number begun : ℕ) (records : List RingRecord) (memory : ℕ → ℕ) : Type 0 where
+pub record IsProgress (h : Header) (rows : List Row) (first done number begun : ℕ) (kept : Kept) (memory : ℕ → ℕ) : Type 0 where
   pub numbered : number ≡ first + done
   pub few : begun ≤ 64 + done
-  pub checked : IsChecked h rows first done (λ k. Follows h k records memory) begun
+  pub few_reads : IsWithin kept.events done
+  pub checked : IsChecked h rows first done (λ k. Follows h k kept memory) begun

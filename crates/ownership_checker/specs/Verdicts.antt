@@ -1,11 +1,9 @@
 -- What the check of a trace answers
-use Rattle.std.specs.Prelude.{Some, None, ◌≡◌, ℕ, ◌-◌, false, List, [], ◌∷◌, length, slice_get, reverse}
-use Rattle.trb.specs.declared.ring_kind.RingKind.TheVariants.{Xfer}
+use Rattle.std.specs.Prelude.{Some, None, ◌≡◌, ℕ, ◌-◌, false, List, [], ◌∷◌, length, slice_get, reverse, take}
 use Rattle.traces.specs.declared.header.Header.{Header}
 use Rattle.traces.specs.declared.row.Row.{Row}
-use Rattle.traces.specs.declared.row.Row.TheVariants.{Sub, Write, Reg, Bell, Read}
-use Rattle.traces.specs.Header.{shape_of}
 use Rattle.ring_knowledge.specs.Known.{nothing}
+use Rattle.ring_knowledge.specs.Learned.{known}
 use Rattle.ownership_rules.specs.declared.refusal.Refusal.{Refusal}
 use Rattle.ownership_rules.specs.Rules.{verdict_from}
 use Rattle.ownership_rules.specs.Clean.{IsClean}
@@ -14,22 +12,14 @@ use Rattle.ownership_checker.specs.Profile.{is_outside}
 use Rattle.ownership_checker.specs.declared.fault.CheckFault.{CheckFault}
 use Rattle.ownership_checker.specs.declared.fault.CheckFault.TheVariants.{Refused, Memory}
 
--- a declaration on a transfer ring, or a write
-abbrev pub IsTransferRow : Header → Row → Type 0
-IsTransferRow h (Sub r blocks) = (shape_of h r).kind ≡ Xfer
-IsTransferRow h (Write a w) = Unit {0}
-IsTransferRow h (Reg r v) = ⊥
-IsTransferRow h (Bell s t) = ⊥
-IsTransferRow h (Read b) = ⊥
+-- no row is outside the profile; the newest first
+abbrev pub AreInside : Header → List Row → Type 0
+AreInside h [] = Unit {0}
+AreInside h (row ∷ past) = AreInside h past × (is_outside h (known h past) row ≡ false)
 
--- of rows, the newest first
-abbrev pub AreTransferRows : Header → List Row → Type 0
-AreTransferRows h [] = Unit {0}
-AreTransferRows h (row ∷ past) = AreTransferRows h past × IsTransferRow h row
-
--- a whole trace was accepted, with so many leases: it only declares on transfer rings and writes, and breaks no rule
+-- a whole trace was accepted, with so many leases: no row is outside the profile or breaks a rule
 pub record IsAccepted (h : Header) (rows : List Row) (first : ℕ) (leases : ℕ) : Type 0 where
-  pub on_transfers : AreTransferRows h (reverse rows)
+  pub inside : AreInside h (reverse rows)
   pub clean : IsClean h (reverse rows)
   pub verdict : verdict_from h nothing first rows ≡ None
   pub counted : length (leases_of h first rows) ≡ leases
@@ -37,7 +27,8 @@ pub record IsAccepted (h : Header) (rows : List Row) (first : ℕ) (leases : ℕ
 -- where the row of this number is in the profile, it is the first that breaks a rule, of all rules
 abbrev pub IsFirstOfAll : Header → ℕ → List Row → ℕ → Refusal → Type 0
 IsFirstOfAll h first rows number c =
-    (row : Row) → slice_get rows (number - first) ≡ Some row → is_outside h row ≡ false → verdict_from h nothing first rows ≡ Some (number, c)
+    (row : Row) → slice_get rows (number - first) ≡ Some row → is_outside h (known h (reverse (take (number - first) rows))) row ≡ false →
+    verdict_from h nothing first rows ≡ Some (number, c)
 
 -- a refused row of a trace, by its number
 abbrev pub IfRefusedAt : CheckFault → (ℕ → Refusal → Type 0) → Type 0

@@ -1,9 +1,10 @@
 ghost use Rattle.std.specs.Prelude.{◌≡◌, ◌==◌, ◌<◌, ◌%◌, ◌++◌, ℕ, List, length, map, position, true, IfOk, IfSome, OnOk};
 ghost use Rattle.segments.specs.Places.{touches};
-ghost use Rattle.traces.specs.Header.{IsHeader, may_stand_together};
+ghost use Rattle.traces.specs.Header.{IsHeader, is_command_kind, may_stand_together};
 ghost use Rattle.traces.specs.declared.ring.Ring.{Ring};
 ghost use Rattle.ownership_checker.specs.Finding.{AreNumbers, IsFinder, IsRingBefore, start_of, starts_from};
 
+use crate::rings::is_command_ring;
 use std::alloc::{AllocError, Global};
 use traces::{Header, Ring};
 
@@ -21,6 +22,8 @@ pub struct Finder {
     pub numbers: Vec<Option<usize>>,
     /// The segments of all rings, by rising address.
     pub starts: Vec<Start>,
+    /// The number of the command ring, where there is one.
+    pub commands: Option<usize>,
 }
 
 impl Finder {
@@ -33,7 +36,12 @@ impl Finder {
         let numbers = ring_numbers(alloc, rings)?;
         let mut starts = all_starts(alloc, rings)?;
         starts.sort_unstable_by_key(|start| start.address);
-        Ok(Finder { numbers, starts })
+        let commands = command_number(rings);
+        Ok(Finder {
+            numbers,
+            starts,
+            commands,
+        })
     }
 
     /// The number of the ring with this ID.
@@ -75,6 +83,13 @@ impl Finder {
         }
         Some(starts[after - 1].ring)
     }
+}
+
+/// The number of the command ring, where there is one.
+fn command_number(rings: &[Ring]) -> Option<usize>
+    ensures { result ≡ position (λ ring. is_command_kind ring.shape.kind) rings.now }
+{
+    rings.iter().position(|ring| is_command_ring(ring))
 }
 
 /// By ID: the number of the ring that has it.

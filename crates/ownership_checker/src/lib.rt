@@ -3,10 +3,14 @@
 
 mod fault;
 mod finder;
+mod given_commands;
+mod kept;
 mod one_ring;
 mod refusals;
+mod registers;
 mod rings;
 mod row;
+mod table;
 #[cfg(test)]
 mod tests;
 mod trace_check;

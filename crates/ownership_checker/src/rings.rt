@@ -1,7 +1,9 @@
 ghost use Rattle.std.specs.Prelude.{◌≡◌, ◌≤◌, length, IfOk};
-ghost use Rattle.traces.specs.Header.{IsHeader, event_shape, is_event_kind};
-ghost use Rattle.ownership_checker.specs.Tracking.{AreFresh};
+ghost use Rattle.traces.specs.Header.{IsHeader, event_shape, is_command_kind, is_event_kind};
+ghost use Rattle.ring_knowledge.specs.Known.{nothing};
+ghost use Rattle.ownership_checker.specs.Tracking.{AreFresh, FollowsEvents, IsWithin};
 
+use event_ring::EventPlace;
 use ring_knowledge::RingRecord;
 use std::alloc::{AllocError, Global};
 use traces::{Header, Ring};
@@ -12,6 +14,13 @@ pub fn is_event_ring(ring: &Ring) -> bool
     ensures { result ≡ is_event_kind ring.now.shape.kind }
 {
     matches!(ring.shape.kind(), RingKind::Evt)
+}
+
+/// The ring carries commands.
+pub fn is_command_ring(ring: &Ring) -> bool
+    ensures { result ≡ is_command_kind ring.now.shape.kind }
+{
+    matches!(ring.shape.kind(), RingKind::Cmd)
 }
 
 /// How many leases stand from the first row on: one of each event segment.
@@ -26,6 +35,20 @@ pub fn event_leases(header: &Header) -> u64
         }
     }
     0
+}
+
+/// The event ring with nothing read, where there is one.
+pub fn event_place(header: &Header) -> Result<Option<EventPlace>, AllocError>
+    requires { IsHeader header.now }
+    ensures follows { IfOk result (FollowsEvents header.now nothing) }
+    ensures unread { IfOk result (λ events. IsWithin events 0) }
+{
+    for ring in header.rings.as_slice() {
+        if is_event_ring(ring) {
+            return Ok(Some(EventPlace::new(ring.shape.copy()?)));
+        }
+    }
+    Ok(None)
 }
 
 /// A record of each ring, of which nothing is known.

@@ -138,7 +138,7 @@ fn gives_links_of_the_command_ring(rt: HostRuntime) -> Result<(), Fail> {
 fn declarations_need_a_transfer_ring(rt: HostRuntime) -> Result<(), Fail> {
     let alloc = rt.alloc();
     let cases = [
-        (0, Refusal::NotInProfile),
+        (0, Refusal::BadDescriptor),
         (1, Refusal::NotDeclared),
         (4, Refusal::NotDeclared),
     ];
@@ -152,16 +152,24 @@ fn declarations_need_a_transfer_ring(rt: HostRuntime) -> Result<(), Fail> {
 #[test]
 fn rows_outside_the_profile_are_refused(rt: HostRuntime) -> Result<(), Fail> {
     let alloc = rt.alloc();
-    let start = Row::Reg {
-        register: Register::Usbcmd,
-        value: 1,
-    };
     let bell = Row::Bell { slot: 0, target: 0 };
-    for last in [start, bell, Row::Read { event: NO_OP }] {
+    for last in [bell, Row::Read { event: NO_OP }] {
         let mut rows = rows_of(alloc, &[2], &[])?;
         rows.push(last)?;
         assert_eq!(rt; answer_to(alloc, rows)?, refused(8, Refusal::NotInProfile));
     }
+    Ok(())
+}
+
+#[test]
+fn the_start_comes_after_the_set_up(rt: HostRuntime) -> Result<(), Fail> {
+    let alloc = rt.alloc();
+    let mut rows = rows_of(alloc, &[2], &[])?;
+    rows.push(Row::Reg {
+        register: Register::Usbcmd,
+        value: 1,
+    })?;
+    assert_eq!(rt; answer_to(alloc, rows)?, refused(8, Refusal::BadRegister));
     Ok(())
 }
 

@@ -8,7 +8,8 @@ ghost use Rattle.ownership_checker.specs.Walks.{WalksRead};
 
 use crate::fault::{CheckFault, StepFault};
 use crate::finder::Finder;
-use crate::rings::{event_leases, fresh_records};
+use crate::kept::Kept;
+use crate::rings::event_leases;
 use crate::row::check_row;
 use guest_memory::{PageMemory, WordMemory};
 use std::alloc::Global;
@@ -27,16 +28,17 @@ fn check_rows<M: WordMemory + Drop>(
     requires zero { (a : ℕ) → M.words memory a ≡ 0 }
     ensures accepted { IfOk result (λ n. IsAccepted header.now rows.now first n) }
     ensures passed { OnOk result (verdict_within header.now nothing first rows.now ≡ None) }
+    ensures walk { OnOk result (WalksRead header.now rows.now) }
     ensures refused { IfErr result (λ e. IfRefusedAt e (λ row c. verdict_within header.now nothing first rows.now ≡ Some (row, c))) }
     ensures first { IfErr result (λ e. IfRefusedAt e (IsFirstOfAll header.now first rows.now)) }
 {
     let mut memory = memory;
     let finder = Finder::new(alloc, header)?;
-    let mut records = fresh_records(alloc, header.rings.as_slice())?;
+    let mut kept = Kept::new(alloc, header)?;
     let mut number = first;
     let mut begun = event_leases(header);
     for row in rows {
-        match check_row(header, &finder, records.as_mut_slice(), &mut memory, row) {
+        match check_row(header, &finder, &mut kept, &mut memory, row) {
             Ok(leases) => begun += leases,
             Err(StepFault::Refused(refusal)) => return Err(CheckFault::Refused {
                 row: number,
@@ -73,8 +75,8 @@ pub fn check_in<M: WordMemory + Drop>(
 }
 
 /// Checks a trace in one pass: how many leases begin, or the first row that breaks a rule and the least of the rules that
-/// it breaks. For now each row of a register, a doorbell or an event, and each declaration on the command ring, is refused
-/// with `NotInProfile`. `Memory` is answered only where a growth was refused.
+/// it breaks. For now each doorbell, each event, and each write that gives a command other than No Op, is refused with
+/// `NotInProfile`. `Memory` is answered only where a growth was refused.
 pub fn check(alloc: Global, trace: &Trace) -> Result<u64, CheckFault>
     ensures accepted { IfOk result (λ n. IsAccepted trace.now.header trace.now.rows trace.now.first n) }
     ensures passed { OnOk result (verdict_within trace.now.header nothing trace.now.first trace.now.rows ≡ None) }

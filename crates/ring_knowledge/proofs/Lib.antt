@@ -12,3 +12,4 @@ pub mod WholeDescriptors
 pub mod GivenCount
 pub mod ClearedMarks
 pub mod ReachedSpots
+pub mod RegisterWrites

@@ -7,4 +7,5 @@ pub mod Completions
 pub mod Learned
 pub mod Marks
 pub mod RingRecords
+pub mod RegisterRecords
 pub mod OnLiterals

@@ -2,9 +2,11 @@
 #![tactic(auto)]
 
 mod lease;
+mod register_record;
 mod ring_record;
 #[cfg(test)]
 mod tests;
 
 pub use lease::Lease;
+pub use register_record::RegisterRecord;
 pub use ring_record::{RingGiving, RingRecord};

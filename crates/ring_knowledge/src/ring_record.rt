@@ -195,7 +195,8 @@ impl RingRecord {
 
     /// The block that is declared at a position.
     pub fn declared(&self, position: u64) -> Option<Block>
-        ensures { (shape : Shape) (v : RingView) → FollowsRing shape v self.now → result ≡ slice_get v.queue position }
+        ensures value { (shape : Shape) (v : RingView) → FollowsRing shape v self.now → result ≡ slice_get v.queue position }
+        ensures few { IfSome result (λ block. position + 1 < 2 ^ 63) }
     {
         self.blocks.get(position as usize).copied()
     }

@@ -8,7 +8,7 @@ use Rattle.ownership_checker.proofs.ListTests.{from_not}
 use Rattle.ownership_checker.proofs.refusals.giving_refusal.Goals as goal
 
 pub returns-in_default : goal.returns-in_default
-returns-in_default g c = λ v f. sym (not_declared c.args.shape.now v _ _ _ c.args.position (sym (c.declared.ensures c.args.shape.now v f) ∙ c.in_default.is))
+returns-in_default g c = λ v f. sym (not_declared c.args.shape.now v _ _ _ c.args.position (sym (c.declared.ensures.value c.args.shape.now v f) ∙ c.in_default.is))
 
 pub block_after-given-requires-clause-aligned : goal.block_after-given-requires-clause-aligned
 block_after-given-requires-clause-aligned g c = rw c.address.ensures (address_aligned c.args.shape.now c.requires.allowed c.args.position)
@@ -19,7 +19,7 @@ block_after-given-requires-clause-ends g c = rw c.address.ensures (address_ends 
 pub returns-then-not-have_same_words : goal.returns-then-not-have_same_words
 returns-then-not-have_same_words g c = λ v f.
     let memory = g.M.WordMemory.words c.args.memory.now in
-    let there = sym (c.declared.ensures c.args.shape.now v f) ∙ c.in-Some.is in
+    let there = sym (c.declared.ensures.value c.args.shape.now v f) ∙ c.in-Some.is in
     let is = c.block_after-given.ensures ∙ ap (λ b. block_at (put memory c.args.at c.args.word) b) c.address.ensures in
     let cycled = c.with_cycle.ensures.value ∙ ap (λ b. with_cycle c.in-Some.declared (if b then 1 else 0)) c.cycle.ensures ∙ ap (λ n. with_cycle c.in-Some.declared n) (cycle_bit c.args.shape.now c.args.position) in
     sym (other_words c.args.shape.now v memory c.args.at c.args.word c.args.position c.in-Some.declared c.block_after-given.result there is
@@ -28,7 +28,7 @@ returns-then-not-have_same_words g c = λ v f.
 pub returns-then-not-is_whole : goal.returns-then-not-is_whole
 returns-then-not-is_whole g c = λ v f.
     let memory = g.M.WordMemory.words c.args.memory.now in
-    let there = sym (c.declared.ensures c.args.shape.now v f) ∙ c.in-Some.is in
+    let there = sym (c.declared.ensures.value c.args.shape.now v f) ∙ c.in-Some.is in
     let is = c.block_after-given.ensures ∙ ap (λ b. block_at (put memory c.args.at c.args.word) b) c.address.ensures in
     let cycled = c.with_cycle.ensures.value ∙ ap (λ b. with_cycle c.in-Some.declared (if b then 1 else 0)) c.cycle.ensures ∙ ap (λ n. with_cycle c.in-Some.declared n) (cycle_bit c.args.shape.now c.args.position) in
     sym (split c.args.shape.now v memory c.args.at c.args.word c.args.position c.in-Some.declared c.block_after-given.result there is
@@ -38,7 +38,7 @@ returns-then-not-is_whole g c = λ v f.
 pub returns : goal.returns
 returns g c = λ v f.
     let memory = g.M.WordMemory.words c.args.memory.now in
-    let there = sym (c.declared.ensures c.args.shape.now v f) ∙ c.in-Some.is in
+    let there = sym (c.declared.ensures.value c.args.shape.now v f) ∙ c.in-Some.is in
     let is = c.block_after-given.ensures ∙ ap (λ b. block_at (put memory c.args.at c.args.word) b) c.address.ensures in
     let cycled = c.with_cycle.ensures.value ∙ ap (λ b. with_cycle c.in-Some.declared (if b then 1 else 0)) c.cycle.ensures ∙ ap (λ n. with_cycle c.in-Some.declared n) (cycle_bit c.args.shape.now c.args.position) in
     sym (given_well c.args.shape.now v memory c.args.at c.args.word c.args.position c.in-Some.declared c.block_after-given.result there is

@@ -1,0 +1,13 @@
+-- What a record of the registers holds, in terms of what is known
+use Rattle.std.specs.Prelude.{◌≡◌, length, slice_index_or, None}
+use Rattle.traces.specs.declared.register.Register.{Register}
+use Rattle.traces.specs.Register.{ordinal}
+use Rattle.ring_knowledge.specs.Known.{Known}
+use Rattle.ring_knowledge.specs.declared.register_record.RegisterRecord.{RegisterRecord}
+
+-- the record holds whether the controller was started and stopped, and the last value written to each register
+pub record FollowsRegisters (k : Known) (r : RegisterRecord) : Type 0 where
+  pub started : k.started ≡ r.started
+  pub stopped : k.stopped ≡ r.stopped
+  pub as_many : length r.values ≡ 11
+  pub values : (q : Register) → k.register q ≡ slice_index_or r.values (ordinal q) None
