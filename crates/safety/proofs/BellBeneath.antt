@@ -1,8 +1,7 @@
 -- The command ring's first doorbell beneath an event that isn't read yet: the two may change places
 use Rattle.std.specs.Prelude.{◌≡◌, ℕ, ◌-◌, ◌==◌, ◌&&◌, ◌||◌, if◌then◌else◌, Bool, true, false, not, [], ◌∷◌, Some, is_none, nat_lt}
-use Rattle.std.proofs.Common.{arith, refl, sym, ◌∙◌, ap, subst, inl, inr}
-use Rattle.std.proofs.Math.Path.{fun_ext}
-use Rattle.std.proofs.lemmas.Bool.{cases_eq, false≢true, and_parts, or_parts, or_from, not-false, not_from_true, cond-true, cond-false, ltb-true}
+use Rattle.std.proofs.Common.{arith, refl, sym, ◌∙◌, ap, subst}
+use Rattle.std.proofs.lemmas.Bool.{false≢true, and_parts, or_parts, or_from, not-false, not_from_true, cond-true, cond-false, ltb-true}
 use Rattle.trb.specs.declared.block.Block.{Block}
 use Rattle.trb.specs.declared.kind.BlockKind.{BlockKind}
 use Rattle.trb.specs.declared.kind.BlockKind.TheVariants.{TransferEvent, CommandCompletion}
@@ -35,9 +34,9 @@ use Rattle.safety.proofs.DriverRings.{endpoints_of}
 use Rattle.safety.proofs.TransferFrames.{transfer_command}
 use Rattle.safety.proofs.DriverRows.{ring_here, ring_elsewhere}
 use Rattle.safety.proofs.SameDriver.{SameDriver, on_ring_same, both_drivers}
-use Rattle.safety.proofs.Alike.{held_same}
-use Rattle.safety.proofs.HeldFurther.{SameStates, held_more, counted, read_same, read_both, flip_driver}
+use Rattle.safety.proofs.HeldFurther.{counted, read_same, read_both, flip_driver}
 use Rattle.safety.proofs.Woken.{Woken}
+use Rattle.safety.proofs.WokenTwice.{woken_more}
 use Rattle.safety.proofs.WokenTransfers.{transfer_woken}
 
 -- the same events may be read, and leave the ring woken
@@ -102,31 +101,11 @@ module _ (h : Header) where
     device = refl;
   }
 
-  -- the states of the one, behind the ring's doorbell, are those of the other
-  states_woken : (k l : Known) → Woken h (command_id h) none_of k l → SameStates (command_rung k) l
-  unfolding on_ring
-  states_woken k l w = record {
-    was_bound = w.was_bound;
-    slot_state = w.slot_state;
-    endpoint_state = fun_ext (λ s. fun_ext (λ i. w.state s i refl));
-    ring_of = w.ring_of;
-    must_move = w.must_move;
-    stop_seen = w.stop_seen;
-    device = w.device;
-  }
-
-  view_woken : (k l : Known) → Woken h (command_id h) none_of k l → (q : ℕ) → l.ring q ≡ (command_rung k).ring q
-  view_woken k l w q =
-      elim (cases_eq q (command_id h)) [
-        | inl same ↦ subst (λ n. l.ring n ≡ (command_rung k).ring n) (sym same) (w.own ∙ sym (ring_here h k (command_id h) Opens))
-        | inr other ↦ w.rings q other ∙ sym (ring_elsewhere h k (command_id h) q Opens other)
-      ]
-
   bell_command : (k : Known) (s t : ℕ) → (s == 0) ≡ true → learned h k (Bell s t) ≡ command_rung k
   unfolding learned rung
   bell_command k s t first = cond-true (s == 0) (command_rung k) (endpoint_rung h k s t (k.ring_of s t)) first
 
-  bell_clean : (k : Known) (s t : ℕ) → k.stopped ≡ false → k.started ≡ true → (if s == 0 then not (t == 0) else is_bad_bell h k s t) ≡ false → broken h k (Bell s t) ≡ []
+  pub bell_clean : (k : Known) (s t : ℕ) → k.stopped ≡ false → k.started ≡ true → (if s == 0 then not (t == 0) else is_bad_bell h k s t) ≡ false → broken h k (Bell s t) ≡ []
   unfolding broken tests doorbell_tests is_bad_doorbell
   bell_clean k s t on started good =
       cond-false k.stopped (AfterStop ∷ []) (broken_of (doorbell_tests h k s t)) on
@@ -185,7 +164,6 @@ module _ (h : Header) where
         let same : SameDriver (counted h k) k_read = read_same h k e in
         let driver : SameDriver k l = on_ring_same h k (command_id h) Opens tt in
         let read : ReadWoken h (command_id h) none_of k l e = read_woken h (command_id h) none_of k l e driver may (kind_woken e may (kind e) refl facts.possible facts.inside) in
-        let view : (q : ℕ) → l_read.ring q ≡ (command_rung k_read).ring q = view_woken k_read l_read read.after in
         let good : (if s == 0 then not (t == 0) else is_bad_bell h k_read s t) ≡ false =
         cond-true (s == 0) (not (t == 0)) (is_bad_bell h k_read s t) slot ∙ sym (cond-true (s == 0) (not (t == 0)) (is_bad_bell h k s t) slot) ∙ bell.good in
         record {
@@ -193,9 +171,7 @@ module _ (h : Header) where
           row = bell_clean k_read s t (same.stopped ∙ (clean_tests h k (Read e) may).0) (same.started ∙ facts.started) good;
           after = subst (λ x. HeldMore x (learned h (learned h k (Bell s t)) (Read e))) (sym (bell_command k_read s t slot))
               (subst (λ x. HeldMore (command_rung k_read) (learned h x (Read e))) (sym (bell_command k s t slot))
-              (held_more (command_rung k_read) l_read
-              (both_drivers (command_rung k_read) k_read l_read (flip_driver k_read (command_rung k_read) (on_ring_same h k_read (command_id h) Opens tt)) (read_both h k l e driver))
-              (states_woken k_read l_read read.after) (λ q. ap (λ v. v.floor) (view q))
-              (λ q. held_same ((command_rung k_read).ring q).held (l_read.ring q).held (ap (λ v. v.held) (view q)))));
+              (woken_more h (command_id h) none_of k_read (command_rung k_read) l_read (command_woken k_read) read.after
+              (both_drivers (command_rung k_read) k_read l_read (flip_driver k_read (command_rung k_read) (on_ring_same h k_read (command_id h) Opens tt)) (read_both h k l e driver))));
           awake = cond-true (s == 0) (is_open (k_read.ring (command_id h))) (is_open_if k_read (k_read.ring_of s t)) slot ∙ ap is_open (ring_still e may) ∙ held_first;
         }

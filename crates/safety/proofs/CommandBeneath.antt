@@ -207,7 +207,7 @@ module _ (h : Header) (is : IsHeader h) (k : Known) (d : DriverKeeps h k) (a w :
     device_same s x y None (Some q) both same = elim both [ inl none ↦ absurd (none-some q (sym none.1)) | inr some ↦ absurd (some.0 refl) ]
     device_same s x y (Some p) None both same = elim both [ inl none ↦ absurd (none-some p (sym none.0)) | inr some ↦ absurd (some.1 refl) ]
 
-    names_same : (s : ℕ) → device_named l s ≡ device_named k s
+    pub names_same : (s : ℕ) → device_named l s ≡ device_named k s
     unfolding device_named
     names_same s = let driver = (event_behind h is k d e may).driver in let memory = driver.memory in let register = driver.register in cc
 

@@ -111,7 +111,7 @@ module _ (h : Header) where
         by (Some n) at = b.context n at
 
     -- a device context that is under lease isn't taken again
-    leased_device : (s n : ℕ) → l.device s ≢ None → commands.takes_bad_device h l s n ≡ false
+    pub leased_device : (s n : ℕ) → l.device s ≢ None → commands.takes_bad_device h l s n ≡ false
     unfolding commands.takes_bad_device
     leased_device s n some = and_left _ _ (none_is (l.device s) some)
 

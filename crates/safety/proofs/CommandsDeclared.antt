@@ -14,7 +14,7 @@ use Rattle.ring_knowledge.specs.Known.{Known}
 use Rattle.ring_knowledge.specs.Rings.{on_ring, command_at}
 use Rattle.safety.specs.Keeps.{IsUnfinished, CommandKeeps, DriverKeeps}
 use Rattle.safety.proofs.DriverRows.{ring_here, ring_elsewhere}
-use Rattle.safety.proofs.StillHolding.{MovesStay, moves_declares, moves_stand}
+use Rattle.safety.proofs.DeclaredMoves.{MovesStay, moves_declares, moves_stand}
 use Rattle.safety.proofs.CommandRing.{due_has_ring}
 use Rattle.safety.proofs.CommandsStay.{Standing}
 use Rattle.safety.proofs.CommandsSame.{SameStates, RingsStay, same_stay}
@@ -58,8 +58,8 @@ module _ (h : Header) (is : IsHeader h) (k : Known) (d : DriverKeeps h k) (r : �
   stays q =
       elim (cases_eq q r) [
         | inl same ↦ subst (λ n. MovesStay (shape_of h n) (k.ring n) ((on_ring h k r (Declares blocks)).ring n)) (sym same)
-            (subst (λ w. MovesStay (shape_of h r) (k.ring r) w) (sym (ring_here h k r (Declares blocks))) (moves_declares h (shape_of h r) (k.ring r) blocks))
-        | inr other ↦ subst (λ w. MovesStay (shape_of h q) (k.ring q) w) (sym (ring_elsewhere h k r q (Declares blocks) other)) (moves_stand h (shape_of h q) (k.ring q))
+            (subst (λ w. MovesStay (shape_of h r) (k.ring r) w) (sym (ring_here h k r (Declares blocks))) (moves_declares (shape_of h r) (k.ring r) blocks))
+        | inr other ↦ subst (λ w. MovesStay (shape_of h q) (k.ring q) w) (sym (ring_elsewhere h k r q (Declares blocks) other)) (moves_stand (shape_of h q) (k.ring q))
       ]
 
   standing : (q : ℕ) → Standing (shape_of h q) (k.ring q) (l.ring q)

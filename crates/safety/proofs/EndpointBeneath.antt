@@ -79,7 +79,7 @@ module _ (h : Header) (k : Known) (s t r : ℕ) (has : k.ring_of s t ≡ Some r)
   -- ---- a Transfer Event
 
   module _ (is : IsHeader h) (d : DriverKeeps h k) (held : is_open (k.ring r) ≡ false) where
-    not_command : command_id h ≢ r
+    pub not_command : command_id h ≢ r
     not_command same = transfer_not_command h is r (d.states.transfer s t r has) (sym same)
 
     stops_still : (u j : ℕ) → is_stopping_now h k u j ≡ true → is_stopping_now h woken u j ≡ true

@@ -1,8 +1,8 @@
 -- What the rules test of a command that a write gives: its bindings and its moves may be made
-use Rattle.std.specs.Prelude.{◌≡◌, ℕ, ◌≤◌, ◌==◌, ◌||◌, not, Bool, true, false, [], map, nat_le, All, Option, None, Some, is_some, suc, zero, ◌+◌}
+use Rattle.std.specs.Prelude.{◌≡◌, ℕ, ◌≤◌, ◌==◌, ◌||◌, not, Bool, true, false, map, nat_le, All, Option, None, Some, suc, zero, ◌+◌}
 use Rattle.std.specs.List.{list_any, range_with_len}
 use Rattle.std.proofs.Common.{arith, refl, sym, ◌∙◌, ap, subst, inl, inr, get_or}
-use Rattle.std.proofs.lemmas.Bool.{or_parts, and_cases, and_from, or_cases, or_left, or_right, not-false, not-true, not_from_false, eqb-true, le-leb, false≢true}
+use Rattle.std.proofs.lemmas.Bool.{or_parts, and_from, or_cases, or_left, or_right, not-false, not-true, eqb-true, le-leb, false≢true}
 use Rattle.std.proofs.lemmas.Option.{same_Some}
 use Rattle.std.proofs.lemmas.List.Elements.{All-nil, All-cons, All-filter, All-get_or, All-weaker}
 use Rattle.std.proofs.lemmas.List.Folds.{Any-from_list_any}
@@ -14,17 +14,14 @@ use Rattle.commands.specs.declared.command.Command.TheVariants.{NoOp, EnableSlot
 use Rattle.commands.specs.Command.{named_slot, named_endpoint, named_context}
 use Rattle.commands.specs.States.{is_off}
 use Rattle.traces.specs.declared.header.Header.{Header}
-use Rattle.traces.specs.declared.row.Row.TheVariants.{Write}
 use Rattle.traces.specs.Header.{shape_of, is_ring}
 use Rattle.ring_knowledge.specs.Known.{Known}
 use Rattle.ring_knowledge.specs.Rings.{unfinished}
-use Rattle.ring_knowledge.specs.Writes.{command_given}
 use Rattle.ownership_rules.specs.Commands as commands
-use Rattle.ownership_rules.specs.Moves.{Binding, binding_in, binds, ring_bound, binds_ring, is_used, is_unused_ring, has_repeats, is_bad_binding, is_bad_stay, is_bad_move}
-use Rattle.ownership_rules.specs.Writes.{holds_of, some_command, write_tests}
-use Rattle.ownership_rules.specs.Rules.{tests, broken}
-use Rattle.safety.specs.Placings.{AreFree, MovesOn, StillHolds}
-use Rattle.safety.proofs.TestsPassed.{AllFail, tests_fail, each_fails}
+use Rattle.ownership_rules.specs.Moves.{Binding, binds, ring_bound, binds_ring, is_used, is_unused_ring, has_repeats, is_bad_binding, is_bad_stay}
+use Rattle.ownership_rules.specs.Writes.{holds_of}
+use Rattle.safety.specs.Placings.{AreFree}
+use Rattle.safety.proofs.TestsPassed.{each_fails}
 
 pub ring_is : (r : ℕ) (o : Option ℕ) → is_ring r o ≡ true → o ≡ Some r
 ring_is r None h = absurd (false≢true h)
@@ -118,42 +115,6 @@ module _ (h : Header) (k : Known) where
       let same : declared (k.ring r) ≡ floor_number (k.ring r) = eqb-true (declared (k.ring r)) (floor_number (k.ring r)) (not-false (declared (k.ring r) == floor_number (k.ring r)) parts.0) in
       ap move (sym same) ∙ not-false (move (declared (k.ring r))) parts.1
 
-  moves_on : (c : Command) → is_bad_move h k c ≡ false → MovesOn h k c
-  unfolding is_bad_move binding_in
-  moves_on (SetTrDequeue s i p cycle) good = good
-  moves_on (AddressDevice s bsr n) good =
-      λ on r at.
-      elim (and_cases (not (is_off (k.endpoint_state s 1))) (is_bad_stay h k (k.ring_of s 1) (binding_in h k n 1)) good) [
-        | inl off ↦ absurd (false≢true (sym off ∙ not_from_false (is_off (k.endpoint_state s 1)) on))
-        | inr stand ↦ stays (binding_in h k n 1) (k.ring_of s 1) r stand at
-      ]
-  moves_on NoOp good = tt
-  moves_on EnableSlot good = tt
-  moves_on (DisableSlot s) good = tt
-  moves_on (ConfigureEndpoint s d n) good = tt
-  moves_on (EvaluateContext s n) good = tt
-  moves_on (ResetEndpoint s i) good = tt
-  moves_on (StopEndpoint s i) good = tt
-  moves_on (ResetDevice s) good = tt
-
   pub fails_of : (test : Command → Bool) (o : Option Command) (c : Command) → holds_of test o ≡ false → o ≡ Some c → test c ≡ false
   unfolding holds_of
   fails_of test o c none at = ap (holds_of test) (sym at) ∙ none
-
-  -- a command that a write gives without breaking a rule
-  pub given_holds : (a w : ℕ) (c : Command) → broken h k (Write a w) ≡ [] → command_given h k a w ≡ Some c → StillHolds h k c
-  unfolding tests write_tests some_command
-  given_holds a w c clean given =
-      let fails : AllFail (write_tests h k a w) = tests_fail h k (Write a w) clean in
-      let good = fails_of (commands.is_bad_command h k) (command_given h k a w) c fails.1.1.1.1.1.0 given in
-      let places = fails_of (λ c. is_bad_binding h k c || is_bad_move h k c) (command_given h k a w) c fails.1.1.1.1.1.1.1.1.0 given in
-      let parts = or_parts (is_bad_binding h k c) (is_bad_move h k c) places in
-      let bindings : GoodBindings c = good_bindings c parts.0 in
-      record {
-        named = All-weaker (λ b. is_unused_ring h k (ring_bound h b) ≡ true) (λ b. is_some (ring_bound h b) ≡ true)
-            (λ b unused. ap (λ o. is_some o) (unused_is (ring_bound h b) unused).1) (binds h k c) bindings.unused;
-        repeats = bindings.repeats;
-        unbound = never_bound c bindings;
-        free = are_free c (content_good c good);
-        moves_on = moves_on c parts.1;
-      }

@@ -37,6 +37,7 @@ use Rattle.safety.proofs.Opens.{opens}
 use Rattle.safety.proofs.Other.{other_runs}
 use Rattle.safety.proofs.ReadRow.{read_on, read_runs}
 use Rattle.safety.proofs.ReportRuns.{report_runs}
+use Rattle.safety.proofs.RowBeneath.{KeptByHistories}
 use Rattle.safety.proofs.RowsLeft.{RowsLeft, looked_left, other_left, reported_left, finished_left, scribbled_left, row_left}
 use Rattle.safety.proofs.Safe.{safe}
 use Rattle.safety.proofs.Scribble.{scribble_runs}
@@ -44,10 +45,6 @@ use Rattle.safety.proofs.StopRow.{stop_ends}
 use Rattle.safety.proofs.TestsPassed.{clean_tests}
 
 -- ---- what is owed
-
--- what a clean history keeps
-abbrev pub HistoryLaw : Header → Type 0
-HistoryLaw h = (past : List Row) → All IsRow past → IsClean h past → (known h past).stopped ≡ false → DriverKeeps h (known h past)
 
 -- a row of the driver that doesn't stop the controller, whatever is unread
 abbrev pub RowLaw : Header → Type 0
@@ -121,7 +118,7 @@ module _ (h : Header) where
   one_more : (row : Row) (rest past : List Row) → reverse (row ∷ rest) ++ past ≡ reverse rest ++ (row ∷ past)
   one_more row rest past = ap (λ l. l ++ past) (reverse-append (row ∷ []) rest) ∙ append_assoc (reverse rest) (row ∷ []) past
 
-  module _ (is : IsHeader h) (keeps : HistoryLaw h) (row_law : RowLaw h) where
+  module _ (is : IsHeader h) (keeps : KeptByHistories h) (row_law : RowLaw h) where
     later_keeps : (past : List Row) (w : World) → All IsRow past → (run : Runs h past w) → DriverKeeps h (known h (reading run.unread past))
     later_keeps past w rows run =
         keeps (reading run.unread past) (reading_rows run.unread past run.blocks rows) run.clean (reading_on run.unread past run.on)

@@ -41,7 +41,7 @@ pub record CompletionFacts (h : Header) (k : Known) (b : Block) : Type 0 where
   pub finishes : can_finish k b (command_at h k (next_command h k)) ≡ true
 
 module _ (h : Header) where
-  by_completion : (k : Known) (b : Block) → is_impossible_completion h k b ≡ false → CompletionFacts h k b
+  pub by_completion : (k : Known) (b : Block) → is_impossible_completion h k b ≡ false → CompletionFacts h k b
   unfolding is_impossible_completion may_be_taken
   by_completion k b possible =
       let three = or_parts _ (not (can_finish k b (command_at h k (next_command h k)))) possible in

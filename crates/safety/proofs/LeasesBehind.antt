@@ -165,7 +165,7 @@ module _ (h : Header) where
         (flat_fewer (λ p. range_of_command h p (command_at h l p)) (λ p. range_of_command h p (command_at h k p)) (unfinished_positions h l) x
         (λ p there here. subst (λ o. IsIn x (range_of_command h p o)) (command_same h k l p (b.driver.rings (command_id h)).queue) here) at)
 
-    entry_stays : (s : ℕ) → entry_of l s ≡ entry_of k s
+    pub entry_stays : (s : ℕ) → entry_of l s ≡ entry_of k s
     unfolding entry_of
     entry_stays s = rw b.driver.register refl
 

@@ -30,8 +30,7 @@ pub mod EndpointHistories
 pub mod Placings
 pub mod StillPlacing
 pub mod GivenCommands
-pub mod Walks
-pub mod StillHolding
+pub mod DeclaredMoves
 pub mod LookedRing
 pub mod OnlyRing
 pub mod LookKinds
@@ -49,7 +48,6 @@ pub mod FloorMoves
 pub mod FinishKinds
 pub mod FinishNext
 pub mod FinishFails
-pub mod FinishIdle
 pub mod FinishChanges
 pub mod FinishBehind
 pub mod FinishSuccess
@@ -150,8 +148,10 @@ pub mod Woken
 pub mod WokenTransfers
 pub mod WokenChanges
 pub mod WokenCompletions
+pub mod WokenTwice
 pub mod BellBeneath
 pub mod EndpointBeneath
+pub mod EndpointCompletions
 pub mod RingGoesOn
 pub mod UnderWayGoesOn
 pub mod MatchesGoesOn
@@ -173,6 +173,9 @@ pub mod RowRuns
 pub mod UntouchedHeld
 pub mod UntouchedCompletion
 pub mod StillRings
+pub mod HeldBehind
+pub mod RungBeneath
+pub mod DoorbellBeneath
 pub mod GivingBeneath
 pub mod FloorsBehind
 pub mod LeasesBehind
@@ -186,8 +189,6 @@ pub mod PlacedTargets
 pub mod DeclarationBeneath
 pub mod FloorsGrow
 pub mod DevicesLeft
-pub mod LeasesEnd
-pub mod GivenStill
 pub mod DeviceBeneath
 pub mod CommandBeneath
 pub mod OtherRingsWritten
@@ -197,3 +198,9 @@ pub mod CommandContext
 pub mod CommandStays
 pub mod CommandMoves
 pub mod CommandTests
+pub mod DeviceBehind
+pub mod Squares
+pub mod Headline
+pub mod CommandGood
+pub mod GivenSquare
+pub mod WriteSquare

@@ -30,9 +30,6 @@ more_at (x ∷ xs) y zero e at = inl (omega arith, at)
 more_at (x ∷ xs) y (suc i) e at =
     elim (more_at xs y i e at) [ inl old ↦ inl (omega (arith, old.0), old.1) | inr new ↦ inr (omega (arith, new.0), new.1) ]
 
-same_address : {X : Type 0} (f : ℕ → X) (a b : ℕ) → a ≡ b → f a ≡ f b
-same_address f a b e = ap f e
-
 module _ (h : Header) (e : EventRing h) (w : World) (b : Block) where
   posted_elsewhere : (q : ℕ) → q < w.posted → w.posted < q + place_count (event_shape h) →
       block_at (stored_block w (address_of (event_shape h) w.posted) b).memory (address_of (event_shape h) q) ≡ block_at w.memory (address_of (event_shape h) q)

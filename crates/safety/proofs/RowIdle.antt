@@ -106,11 +106,11 @@ module _ (h : Header) (k : Known) (d : DriverKeeps h k) (s t : ℕ) where
             ∙ endpoint_idle (k.ring_of s t) refl (sym (cond-false (s == 0) (is_open (k.ring (command_id h))) (is_open_if k (k.ring_of s t)) endpoint) ∙ is)
       ]
 
-  bell_untouched : is_bad_bell h k s t ≡ false → is_touched h k s t ≡ false
+  pub bell_untouched : is_bad_bell h k s t ≡ false → is_touched h k s t ≡ false
   unfolding is_bad_bell
   bell_untouched good = (or_parts _ (is_touched h k s t) good).1
 
-  bell_state : is_bad_bell h k s t ≡ false → (is_running (k.endpoint_state s t) || is_stopped (k.endpoint_state s t)) ≡ true
+  pub bell_state : is_bad_bell h k s t ≡ false → (is_running (k.endpoint_state s t) || is_stopped (k.endpoint_state s t)) ≡ true
   unfolding is_bad_bell
   bell_state good =
       let four = or_parts _ (is_touched h k s t) good in

@@ -36,10 +36,6 @@ pub no_some_ring : (h : Header) (test : ℕ → Bool) → ((r : ℕ) → test r 
 unfolding some_ring
 no_some_ring h test none = no_ring h.rings test none
 
-not_inside_nothing : is_inside_descriptor [] ≡ false
-unfolding is_inside_descriptor
-not_inside_nothing = refl
-
 in_order_nothing : (h : Header) (r : ℕ) → is_out_of_order (shape_of h r) [] ≡ false
 unfolding is_out_of_order
 in_order_nothing h r = refl

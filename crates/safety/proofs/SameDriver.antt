@@ -68,10 +68,6 @@ both_drivers k l m a b = record {
   rings = λ r. both_given (k.ring r) (l.ring r) (m.ring r) (a.rings r) (b.rings r);
 }
 
--- where all these are as they were, other fields may differ
-abbrev same_rest : (k l : Known) → k.ring ≡ l.ring → (r : ℕ) → SameGiven (k.ring r) (l.ring r)
-same_rest k l rings r = subst (λ (f : ℕ → RingView). SameGiven (k.ring r) (f r)) rings (same_given (k.ring r))
-
 -- the pointer of a ring, or where it is held
 abbrev pub IsPointerChange : RingChange → Type 0
 IsPointerChange (Reaches t) = Unit {0}

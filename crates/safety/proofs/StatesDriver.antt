@@ -29,7 +29,7 @@ use Rattle.ownership_rules.specs.Commands.{names_disabled_slot, is_bad_command}
 use Rattle.ownership_rules.specs.Rules.{broken}
 use Rattle.safety.specs.Keeps.{StatesKeep, DriverKeeps}
 use Rattle.safety.proofs.EndpointHistories.{row_keeps}
-use Rattle.safety.proofs.StillHolding.{ceiling_declares}
+use Rattle.safety.proofs.DeclaredMoves.{ceiling_declares}
 use Rattle.safety.proofs.DriverRings.{endpoints_of}
 use Rattle.safety.proofs.SameDriver.{view_after}
 use Rattle.safety.proofs.RowFrames.{DeclarationLeaves, WriteLeaves, RegisterLeaves, declaration_leaves, write_leaves, written_view, register_leaves}
@@ -50,7 +50,7 @@ view_same shape v w same =
 view_declares : (h : Header) (shape : Shape) (v : RingView) (blocks : List Block) → ViewGoesOn shape v (changed shape v (Declares blocks))
 view_declares h shape v blocks = record {
   floor = refl;
-  ceiling = omega (arith, ceiling_declares h shape v blocks);
+  ceiling = omega (arith, ceiling_declares shape v blocks);
   queue = λ p d at. slice_get-append v.queue blocks p (slice_get_within v.queue p d at) ∙ at;
 }
 

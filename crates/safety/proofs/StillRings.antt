@@ -60,16 +60,16 @@ module _ (h : Header) where
   -- ---- a Transfer Event, for the endpoint of slot s at index i and its ring r
 
   module _ (k : Known) (s i r : ℕ) where
-    passed_rest : (t : Spot) → ((passed h k r t).endpoint_state ≡ k.endpoint_state) × ((passed h k r t).ring_of ≡ k.ring_of)
+    passed_rest : (t : Spot) → ((passed h k r t).endpoint_state ≡ k.endpoint_state) × ((passed h k r t).ring_of ≡ k.ring_of) × ((passed h k r t).must_move ≡ k.must_move)
     unfolding passed on_ring
-    passed_rest t = (refl, refl)
+    passed_rest t = (refl, refl, refl)
 
     passed_held : (t : Spot) (q : ℕ) → ((passed h k r t).ring q).held ≡ (k.ring q).held
     unfolding passed
     passed_held t q = reached_held h k r (after (shape_of h r) (number t)) q
 
-    passed_holds : (t : Spot) → EndpointHolds k (passed h k r t) s i
-    passed_holds t = let rest = passed_rest t in record { state = ap (λ f. f s i) rest.0; ring_of = ap (λ f. f s i) rest.1; held = λ q at. passed_held t q }
+    pub passed_holds : (t : Spot) → EndpointHolds k (passed h k r t) s i
+    passed_holds t = let rest = passed_rest t in record { state = ap (λ f. f s i) rest.0; ring_of = ap (λ f. f s i) rest.1; must_move = ap (λ f. f s i) rest.2; held = λ q at. passed_held t q }
 
     broken_state : (t : Spot) (state : EndpointState) → (broken_off h k s i r t state).endpoint_state s i ≡ state
     unfolding broken_off
@@ -107,10 +107,11 @@ module _ (h : Header) where
         false≢true (sym (unfinished_fails h k (touches_endpoint h k s i) (next_command h k) (StopEndpoint s i) none u) ∙ stop_touches h is k d s i)
 
     -- an event for another endpoint
-    other_holds : (t j r : ℕ) (l : Known) → (s ≡ t → i ≡ j → ⊥) → k.ring_of t j ≡ Some r → TransferLeaves k l t j r → EndpointHolds k l s i
+    pub other_holds : (t j r : ℕ) (l : Known) → (s ≡ t → i ≡ j → ⊥) → k.ring_of t j ≡ Some r → TransferLeaves k l t j r → EndpointHolds k l s i
     other_holds t j r l other bound leaves = record {
       state = leaves.states s i other;
       ring_of = ap (λ f. f s i) leaves.ring_of;
+      must_move = leaves.moves s i other;
       held = λ q at. ap (λ v. v.held) (leaves.others q (λ same. let both = d.states.one_endpoint s i t j r (at ∙ ap (λ n. Some n) same) bound in other both.0 both.1));
     }
 
@@ -157,7 +158,7 @@ module _ (h : Header) where
   unfolding touches_endpoint
   touches_same k e s i c = ap (λ m. list_any (touches s i) (changes h.context_size m 0 c)) (memory_same k e)
 
-  untouched_behind : IsHeader h → (k : Known) (d : DriverKeeps h k) (e : Block) → broken h k (Read e) ≡ [] → (s i : ℕ) → is_touched h k s i ≡ false → is_touched h (learned h k (Read e)) s i ≡ false
+  pub untouched_behind : IsHeader h → (k : Known) (d : DriverKeeps h k) (e : Block) → broken h k (Read e) ≡ [] → (s i : ℕ) → is_touched h k s i ≡ false → is_touched h (learned h k (Read e)) s i ≡ false
   unfolding is_touched
   untouched_behind is k d e clean s i none =
       let l : Known = learned h k (Read e) in

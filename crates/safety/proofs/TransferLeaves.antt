@@ -29,6 +29,7 @@ pub record TransferLeaves (k l : Known) (s i r : ℕ) : Type 0 where
   pub was_bound : l.was_bound ≡ k.was_bound
   pub others : (q : ℕ) → q ≢ r → l.ring q ≡ k.ring q
   pub states : (q j : ℕ) → (q ≡ s → j ≡ i → ⊥) → l.endpoint_state q j ≡ k.endpoint_state q j
+  pub moves : (q j : ℕ) → (q ≡ s → j ≡ i → ⊥) → l.must_move q j ≡ k.must_move q j
   pub on : is_off (k.endpoint_state s i) ≡ false → is_off (l.endpoint_state s i) ≡ false
   -- of an endpoint that isn't Running only blocks are reported that were finished before
   pub rests : is_running (k.endpoint_state s i) ≡ false → (l.endpoint_state ≡ k.endpoint_state) × ((l.ring r).held ≡ (k.ring r).held)
@@ -36,7 +37,7 @@ pub record TransferLeaves (k l : Known) (s i r : ℕ) : Type 0 where
 module _ (h : Header) (k : Known) (s i r : ℕ) where
   idle_leaves : TransferLeaves k k s i r
   idle_leaves =
-      record { device = refl; slot_state = refl; ring_of = refl; was_bound = refl; others = λ q other. refl; states = λ q j other. refl; on = λ on. on; rests = λ off. (refl, refl) }
+      record { device = refl; slot_state = refl; ring_of = refl; was_bound = refl; others = λ q other. refl; states = λ q j other. refl; moves = λ q j other. refl; on = λ on. on; rests = λ off. (refl, refl) }
 
   passed_leaves : (t : Spot) → TransferLeaves k (passed h k r t) s i r
   unfolding passed on_ring
@@ -48,6 +49,7 @@ module _ (h : Header) (k : Known) (s i r : ℕ) where
         was_bound = refl;
         others = λ q other. ring_elsewhere h k r q (Reaches (after (shape_of h r) (number t))) other;
         states = λ q j other. refl;
+        moves = λ q j other. refl;
         on = λ on. on;
         rests = λ off. (refl, ap (λ v. v.held) (ring_here h k r (Reaches (after (shape_of h r) (number t)))));
       }
@@ -68,6 +70,7 @@ module _ (h : Header) (k : Known) (s i r : ℕ) where
         was_bound = refl;
         others = λ q other. on_twice (Reaches (after (shape_of h r) (number t))) (Holds (number t + 1)) q other;
         states = λ q j other. at_pair (λ e. e ≡ k.endpoint_state q j) k.endpoint_state s i state q j (λ a b. absurd (other a b)) (λ apart. refl);
+        moves = λ q j other. refl;
         on = λ _. state_on state on;
         rests = λ off. absurd (false≢true (sym off ∙ (and_parts (is_running (k.endpoint_state s i)) (is_open (k.ring r)) works).0));
       }
@@ -82,18 +85,20 @@ module _ (h : Header) (k : Known) (s i r : ℕ) where
         was_bound = refl;
         others = λ q other. on_twice (Holds (stopped_number (shape_of h r) (k.ring r) t)) (Reaches t) q other;
         states = λ q j other. refl;
+        moves = λ q j other. refl;
         on = λ on. on;
         rests = λ off. absurd (false≢true (sym off ∙ (and_parts (is_running (k.endpoint_state s i)) (is_open (k.ring r)) works).0));
       }
 
-  must_leaves : (l : Known) (f : ℕ → ℕ → Bool) → TransferLeaves k l s i r → TransferLeaves k (let m : Known = record l { must_move = f } in m) s i r
-  must_leaves l f leaves = record {
+  must_leaves : (l : Known) → TransferLeaves k l s i r → TransferLeaves k (let m : Known = record l { must_move = put_pair k.must_move s i true } in m) s i r
+  must_leaves l leaves = record {
     device = leaves.device;
     slot_state = leaves.slot_state;
     ring_of = leaves.ring_of;
     was_bound = leaves.was_bound;
     others = leaves.others;
     states = leaves.states;
+    moves = λ q j other. at_pair (λ x. x ≡ k.must_move q j) k.must_move s i true q j (λ a b. absurd (other a b)) (λ apart. refl);
     on = leaves.on;
     rests = leaves.rests;
   }
@@ -112,7 +117,7 @@ module _ (h : Header) (k : Known) (s i r : ℕ) where
       (λ success. passed_leaves t)
       (λ other. cond_both (is_halting c) halts (if is_trb_error c then fails else stopped) (λ l. TransferLeaves k l s i r)
       (λ halting.
-      must_leaves broken (put_pair k.must_move s i true)
+      must_leaves broken
       (broken_leaves t Halted refl (and_parts below (is_working k s i r) (cases.1 other (or_left (is_halting c) (is_trb_error c) halting))).1))
       (λ not_halting. cond_both (is_trb_error c) fails stopped (λ l. TransferLeaves k l s i r)
       (λ error. broken_leaves t Error refl (and_parts below (is_working k s i r) (cases.1 other (or_right (is_halting c) (is_trb_error c) error))).1)

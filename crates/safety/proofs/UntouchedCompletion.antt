@@ -31,7 +31,7 @@ use Rattle.safety.proofs.UnfinishedLists.{unfinished_fails}
 use Rattle.safety.proofs.UntouchedHeld.{EndpointHolds, same_holds, both_hold, changes_hold}
 
 -- which endpoints a command touches doesn't hang on the slot of its completion
-touches_any : (size : ContextSize) (memory : ℕ → ℕ) (n s i : ℕ) (c : Command) → list_any (touches s i) (changes size memory n c) ≡ list_any (touches s i) (changes size memory 0 c)
+pub touches_any : (size : ContextSize) (memory : ℕ → ℕ) (n s i : ℕ) (c : Command) → list_any (touches s i) (changes size memory n c) ≡ list_any (touches s i) (changes size memory 0 c)
 unfolding changes
 touches_any size memory n s i NoOp = refl
 touches_any size memory n s i EnableSlot = refl
@@ -49,13 +49,17 @@ module _ (h : Header) (s i : ℕ) where
   -- neither the end of a Stop Endpoint nor the pointer of a ring changes a state or where a ring is held
   stop_holds : (m : Known) (c : Command) → EndpointHolds m (stop_ended h m c) s i
   unfolding stop_ended
-  stop_holds m (StopEndpoint t j) = record { state = refl; ring_of = refl; held = λ r at. refl }
+  stop_holds m (StopEndpoint t j) = record { state = refl; ring_of = refl; must_move = refl; held = λ r at. refl }
   stop_holds m _ = same_holds m s i
+
+  reached_must : (m : Known) (r : ℕ) (t : Spot) → (on_ring h m r (Reaches t)).must_move ≡ m.must_move
+  unfolding on_ring
+  reached_must m r t = refl
 
   reached_holds : (m : Known) (r : ℕ) (t : Spot) → EndpointHolds m (on_ring h m r (Reaches t)) s i
   reached_holds m r t =
       let same = reached_fields h m r t in
-      record { state = ap (λ f. f s i) same.1; ring_of = ap (λ f. f s i) same.0; held = λ q at. reached_held h m r t q }
+      record { state = ap (λ f. f s i) same.1; ring_of = ap (λ f. f s i) same.0; must_move = ap (λ f. f s i) (reached_must m r t); held = λ q at. reached_held h m r t q }
 
   module _ (is : IsHeader h) (k : Known) (d : DriverKeeps h k) (b : Block) (started : k.started ≡ true) (facts : CompletionFacts h k b) (untouched : is_touched h k s i ≡ false) where
     -- the command is unfinished, and so doesn't touch the endpoint

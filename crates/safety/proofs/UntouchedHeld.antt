@@ -1,4 +1,4 @@
--- The success of a command that doesn't touch an endpoint leaves its state, its ring, and where that ring is held
+-- The success of a command that doesn't touch an endpoint leaves its state, its ring, whether that must be moved, and where it is held
 use Rattle.std.specs.Prelude.{◌≡◌, ◌≢◌, ℕ, ◌==◌, ◌&&◌, Bool, false, List, [], ◌∷◌, Option, None, Some}
 use Rattle.std.specs.List.{list_any}
 use Rattle.std.proofs.Common.{refl, sym, ◌∙◌, ap, inl, inr}
@@ -26,13 +26,14 @@ use Rattle.safety.proofs.UntouchedStays.{EndpointStays, untouched_stays}
 pub record EndpointHolds (k l : Known) (s i : ℕ) : Type 0 where
   pub state : l.endpoint_state s i ≡ k.endpoint_state s i
   pub ring_of : l.ring_of s i ≡ k.ring_of s i
+  pub must_move : l.must_move s i ≡ k.must_move s i
   pub held : (r : ℕ) → k.ring_of s i ≡ Some r → (l.ring r).held ≡ (k.ring r).held
 
 pub same_holds : (k : Known) (s i : ℕ) → EndpointHolds k k s i
-same_holds k s i = record { state = refl; ring_of = refl; held = λ r at. refl }
+same_holds k s i = record { state = refl; ring_of = refl; must_move = refl; held = λ r at. refl }
 
 pub both_hold : (k l m : Known) (s i : ℕ) → EndpointHolds k l s i → EndpointHolds l m s i → EndpointHolds k m s i
-both_hold k l m s i a b = record { state = b.state ∙ a.state; ring_of = b.ring_of ∙ a.ring_of; held = λ r at. b.held r (a.ring_of ∙ at) ∙ a.held r at }
+both_hold k l m s i a b = record { state = b.state ∙ a.state; ring_of = b.ring_of ∙ a.ring_of; must_move = b.must_move ∙ a.must_move; held = λ r at. b.held r (a.ring_of ∙ at) ∙ a.held r at }
 
 module _ (h : Header) (s i : ℕ) where
   module _ (k : Known) (keeps : EndpointsKeep h k) (e : EndpointsStand k) (r : ℕ) (at : k.ring_of s i ≡ Some r) where
@@ -79,7 +80,7 @@ module _ (h : Header) (s i : ℕ) where
   untouched_holds : (c : Command) (k : Known) (change : Change) → EndpointsKeep h k → EndpointsStand k → Fits h k change → touches s i change ≡ false → EndpointHolds k (changed_by h c k change) s i
   untouched_holds c k change keeps e fits apart =
       let stays : EndpointStays k (changed_by h c k change) s i = untouched_stays h s i c k change apart in
-      record { state = stays.state; ring_of = stays.ring_of; held = λ r at. untouched_held k keeps e r at c change fits apart }
+      record { state = stays.state; ring_of = stays.ring_of; must_move = stays.must_move; held = λ r at. untouched_held k keeps e r at c change fits apart }
 
   -- one change after the other
   pub changes_hold : IsHeader h → (c : Command) (k : Known) (all : List Change) → EndpointsKeep h k → EndpointsStand k → FitAll h c k all → list_any (touches s i) all ≡ false →

@@ -1,4 +1,4 @@
--- A change that doesn't touch an endpoint leaves its state, and which ring it has
+-- A change that doesn't touch an endpoint leaves its state, which ring it has, and whether that must be moved
 use Rattle.std.specs.Prelude.{◌≡◌, ℕ, ◌==◌, ◌&&◌, Bool, false, Option, None, Some}
 use Rattle.std.proofs.Common.{refl, ◌∙◌}
 use Rattle.std.proofs.lemmas.Bool.{cond_both, cond-false}
@@ -19,20 +19,21 @@ use Rattle.ring_knowledge.specs.Completions.{set_to, bound_to, moved_to, moved, 
 pub record EndpointStays (k l : Known) (s i : ℕ) : Type 0 where
   pub state : l.endpoint_state s i ≡ k.endpoint_state s i
   pub ring_of : l.ring_of s i ≡ k.ring_of s i
+  pub must_move : l.must_move s i ≡ k.must_move s i
 
 module _ (h : Header) (s i : ℕ) where
   stays : (k : Known) → EndpointStays k k s i
-  stays k = record { state = refl; ring_of = refl }
+  stays k = record { state = refl; ring_of = refl; must_move = refl }
 
   placed_stays : (k : Known) (t j p : ℕ) (o : Option ℕ) → (s == t && i == j) ≡ false → EndpointStays k (bound_to h k t j o) s i
   unfolding bound_to set_to on_ring
-  placed_stays k t j p None apart = record { state = refl; ring_of = refl }
-  placed_stays k t j p (Some r) apart = record { state = refl; ring_of = cond-false (s == t && i == j) (Some r) (k.ring_of s i) apart }
+  placed_stays k t j p None apart = record { state = refl; ring_of = refl; must_move = refl }
+  placed_stays k t j p (Some r) apart = record { state = refl; ring_of = cond-false (s == t && i == j) (Some r) (k.ring_of s i) apart; must_move = refl }
 
   spot_stays : (k : Known) (r : ℕ) (o : Option Spot) → EndpointStays k (moved_to h k r o) s i
   unfolding moved_to set_to on_ring
-  spot_stays k r None = record { state = refl; ring_of = refl }
-  spot_stays k r (Some t) = record { state = refl; ring_of = refl }
+  spot_stays k r None = record { state = refl; ring_of = refl; must_move = refl }
+  spot_stays k r (Some t) = record { state = refl; ring_of = refl; must_move = refl }
 
   moved_stays : (k : Known) (o : Option ℕ) (p : ℕ) (cycle : Bool) → EndpointStays k (moved h k o p cycle) s i
   unfolding moved
@@ -47,26 +48,27 @@ module _ (h : Header) (s i : ℕ) where
 
   in_state_stays : (k : Known) (t j : ℕ) (e : EndpointState) → (s == t && i == j) ≡ false → EndpointStays k (in_state h k t j e) s i
   unfolding in_state
-  in_state_stays k t j e apart = record { state = cond-false (s == t && i == j) e (k.endpoint_state s i) apart; ring_of = refl }
+  in_state_stays k t j e apart = record { state = cond-false (s == t && i == j) e (k.endpoint_state s i) apart; ring_of = refl; must_move = refl }
 
   both_stay : (k l m : Known) → EndpointStays k l s i → EndpointStays l m s i → EndpointStays k m s i
-  both_stay k l m a b = record { state = b.state ∙ a.state; ring_of = b.ring_of ∙ a.ring_of }
+  both_stay k l m a b = record { state = b.state ∙ a.state; ring_of = b.ring_of ∙ a.ring_of; must_move = b.must_move ∙ a.must_move }
 
   held_stays : (k : Known) (o : Option ℕ) → EndpointStays k (held_at_ceiling h k o) s i
   unfolding held_at_ceiling on_ring
-  held_stays k None = record { state = refl; ring_of = refl }
-  held_stays k (Some r) = record { state = refl; ring_of = refl }
+  held_stays k None = record { state = refl; ring_of = refl; must_move = refl }
+  held_stays k (Some r) = record { state = refl; ring_of = refl; must_move = refl }
 
-  must_stays : (k l : Known) (f : ℕ → ℕ → Bool) → EndpointStays k l s i → EndpointStays k (let m : Known = record l { must_move = f } in m) s i
-  must_stays k l f a = record { state = a.state; ring_of = a.ring_of }
+  must_stays : (k l : Known) (t j : ℕ) (must : Bool) → (s == t && i == j) ≡ false → EndpointStays k l s i →
+      EndpointStays k (let m : Known = record l { must_move = put_pair k.must_move t j must } in m) s i
+  must_stays k l t j must apart a = record { state = a.state; ring_of = a.ring_of; must_move = cond-false (s == t && i == j) must (k.must_move s i) apart }
 
   pub untouched_stays : (c : Command) (k : Known) (change : Change) → touches s i change ≡ false → EndpointStays k (changed_by h c k change) s i
   unfolding changed_by disabled
-  untouched_stays c k (SlotGoesOn t) apart = record { state = refl; ring_of = refl }
-  untouched_stays c k (DeviceLeft t) apart = record { state = refl; ring_of = refl }
-  untouched_stays c k (Disables t which) apart = record { state = cond-false (s == t && which i) Off (k.endpoint_state s i) apart; ring_of = cond-false (s == t && which i) None (k.ring_of s i) apart }
+  untouched_stays c k (SlotGoesOn t) apart = record { state = refl; ring_of = refl; must_move = refl }
+  untouched_stays c k (DeviceLeft t) apart = record { state = refl; ring_of = refl; must_move = refl }
+  untouched_stays c k (Disables t which) apart = record { state = cond-false (s == t && which i) Off (k.endpoint_state s i) apart; ring_of = cond-false (s == t && which i) None (k.ring_of s i) apart; must_move = refl }
   untouched_stays c k (Places t j p cycle e) apart =
       let l : Known = pointed h k t j p cycle in
-      must_stays k (in_state h l t j e) (put_pair k.must_move t j false) (both_stay k l (in_state h l t j e) (pointed_stays k t j p cycle apart) (in_state_stays l t j e apart))
+      must_stays k (in_state h l t j e) t j false apart (both_stay k l (in_state h l t j e) (pointed_stays k t j p cycle apart) (in_state_stays l t j e apart))
   untouched_stays c k (Stops t j) apart = both_stay k (in_state h k t j Stopped) (held_at_ceiling h (in_state h k t j Stopped) (k.ring_of t j)) (in_state_stays k t j Stopped apart) (held_stays (in_state h k t j Stopped) (k.ring_of t j))
   untouched_stays c k (Resets t j) apart = in_state_stays k t j Stopped apart

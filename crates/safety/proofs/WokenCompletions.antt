@@ -8,7 +8,6 @@ use Rattle.trb.specs.declared.block.Block.{Block}
 use Rattle.trb.specs.Block.{code, slot}
 use Rattle.segments.specs.Spots.{after}
 use Rattle.segments.specs.RingView.{RingView, Reaches, floor_number}
-use Rattle.contexts.specs.declared.size.ContextSize.{ContextSize}
 use Rattle.commands.specs.declared.command.Command.{Command}
 use Rattle.commands.specs.declared.command.Command.TheVariants.{NoOp, EnableSlot, DisableSlot, AddressDevice, ConfigureEndpoint, EvaluateContext, ResetEndpoint, StopEndpoint, SetTrDequeue, ResetDevice}
 use Rattle.commands.specs.Command.{command_of, may_answer_slot, named_slot, named_endpoint}
@@ -26,28 +25,14 @@ use Rattle.ownership_rules.specs.Events.{was_stop_seen, can_finish}
 use Rattle.safety.proofs.AlikeChanges.{both_sides_if}
 use Rattle.safety.proofs.SameDriver.{SameDriver}
 use Rattle.safety.proofs.StatesChanges.{FitAll}
+use Rattle.safety.proofs.UntouchedCompletion.{touches_any}
 use Rattle.safety.proofs.Woken.{Woken, woken_reach, woken_seen}
 use Rattle.safety.proofs.WokenChanges.{one_of, Owns, flipped, changes_woken}
-
--- which endpoints a command touches doesn't depend on the slot of its completion
-any_slot : (size : ContextSize) (memory : ℕ → ℕ) (n s i : ℕ) (c : Command) → list_any (touches s i) (changes size memory n c) ≡ list_any (touches s i) (changes size memory 0 c)
-unfolding changes
-any_slot size memory n s i NoOp = refl
-any_slot size memory n s i EnableSlot = refl
-any_slot size memory n s i (DisableSlot t) = refl
-any_slot size memory n s i (AddressDevice t bsr a) = refl
-any_slot size memory n s i (ConfigureEndpoint t false a) = refl
-any_slot size memory n s i (ConfigureEndpoint t true a) = refl
-any_slot size memory n s i (EvaluateContext t a) = refl
-any_slot size memory n s i (ResetEndpoint t j) = refl
-any_slot size memory n s i (StopEndpoint t j) = refl
-any_slot size memory n s i (SetTrDequeue t j p cycle) = refl
-any_slot size memory n s i (ResetDevice t) = refl
 
 module _ (h : Header) (r s i : ℕ) (k l : Known) (w : Woken h r (one_of s i) k l) (d : SameDriver k l) where
   pub untouched_list : (n : ℕ) (c : Command) → touches_endpoint h k s i c ≡ false → list_any (touches s i) (changes h.context_size k.memory n c) ≡ false
   unfolding touches_endpoint
-  untouched_list n c apart = any_slot h.context_size k.memory n s i c ∙ apart
+  untouched_list n c apart = touches_any h.context_size k.memory n s i c ∙ apart
 
   -- the endpoint that a command names is another one
   endpoint_same : (c : Command) → touches_endpoint h k s i c ≡ false → is_some (endpoint_success c (endpoint_meant k.endpoint_state (named_endpoint c))) ≡ true →

@@ -43,7 +43,7 @@ below_further m n (Data p) further below = lt-ltb p n (omega (arith, ltb-true p 
 below_further m n (Link q) further below = below
 
 -- an event that is no success comes from an endpoint that works
-works_there : (b c low works stops spot : Bool) → b ≡ false → (if b then low else if c then low && works else works && stops && spot) ≡ true → works ≡ true
+pub works_there : (b c low works stops spot : Bool) → b ≡ false → (if b then low else if c then low && works else works && stops && spot) ≡ true → works ≡ true
 works_there true c low works stops spot out can = absurd (false≢true (sym out))
 works_there false true low works stops spot out can = (and_parts low works can).1
 works_there false false low works stops spot out can = (and_parts works stops (and_parts (works && stops) spot can).0).0

@@ -1,0 +1,31 @@
+-- Spots to which a ring may be moved stay such, behind a declaration too
+use Rattle.std.specs.Prelude.{◌≡◌, ℕ, Bool, true, List, unwrap_or}
+use Rattle.std.proofs.Common.{arith, sym, ap, length-append}
+use Rattle.trb.specs.declared.block.Block.{Block}
+use Rattle.segments.specs.ShapeValue.{Shape}
+use Rattle.segments.specs.RingView.{RingView, Declares, changed, declared, floor_number}
+use Rattle.segments.specs.Ceiling.{ceiling}
+use Rattle.segments.specs.Moves.{is_move}
+use Rattle.segments.proofs.Declaring.{given_count-declares}
+use Rattle.segments.proofs.MovesStay.{move-declares}
+
+-- spots to which a ring may be moved stay such: at the floor, and from the ceiling up to what is declared
+pub record MovesStay (shape : Shape) (v w : RingView) : Type 0 where
+  pub standing : (p : ℕ) (cycle : Bool) → is_move shape v p cycle (floor_number v) (floor_number v) ≡ true → is_move shape w p cycle (floor_number w) (floor_number w) ≡ true
+  pub ahead : (p : ℕ) (cycle : Bool) → is_move shape v p cycle (ceiling shape v) (declared v) ≡ true → is_move shape w p cycle (ceiling shape w) (declared w) ≡ true
+
+pub ceiling_declares : (shape : Shape) (v : RingView) (blocks : List Block) → ceiling shape (changed shape v (Declares blocks)) ≡ ceiling shape v
+unfolding ceiling
+ceiling_declares shape v blocks = ap (λ n. unwrap_or v.held n) (sym (given_count-declares shape v blocks))
+
+pub moves_declares : (shape : Shape) (v : RingView) (blocks : List Block) → MovesStay shape v (changed shape v (Declares blocks))
+moves_declares shape v blocks =
+    record {
+      standing = λ p cycle moves. move-declares shape v p cycle (floor_number v) (floor_number v) (floor_number v) (floor_number v) (omega arith) (omega arith) moves blocks;
+      ahead = λ p cycle moves.
+          move-declares shape v p cycle (ceiling shape v) (declared v) (ceiling shape (changed shape v (Declares blocks))) (declared (changed shape v (Declares blocks)))
+          (omega (arith, ceiling_declares shape v blocks)) (omega (arith, length-append v.queue blocks)) moves blocks;
+    }
+
+pub moves_stand : (shape : Shape) (v : RingView) → MovesStay shape v v
+moves_stand shape v = record { standing = λ p cycle moves. moves; ahead = λ p cycle moves. moves }

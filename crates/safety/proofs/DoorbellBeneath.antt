@@ -1,0 +1,38 @@
+-- A doorbell of a ring that is held beneath an event that isn't read yet: the two may change places
+use Rattle.std.specs.Prelude.{◌≡◌, ℕ, ◌==◌, true, false, [], Some, is_none}
+use Rattle.std.proofs.Common.{sym, ◌∙◌, ap, inl, inr}
+use Rattle.std.proofs.lemmas.Bool.{cases_Bool, cond-true, false≢true}
+use Rattle.trb.specs.declared.block.Block.{Block}
+use Rattle.segments.specs.Ceiling.{is_open}
+use Rattle.traces.specs.declared.header.Header.{Header}
+use Rattle.traces.specs.declared.row.Row.TheVariants.{Bell, Read}
+use Rattle.traces.specs.Header.{IsHeader, command_id}
+use Rattle.ring_knowledge.specs.Known.{Known}
+use Rattle.ownership_rules.specs.Rules.{broken}
+use Rattle.safety.specs.Keeps.{DriverKeeps}
+use Rattle.safety.specs.Beneath.{is_open_if, is_idle, Square}
+use Rattle.safety.proofs.BellBeneath.{command_square}
+use Rattle.safety.proofs.RungBeneath.{rung_ring, bell_square}
+
+module _ (h : Header) (is : IsHeader h) (k : Known) (d : DriverKeeps h k) (s t : ℕ) (clean : broken h k (Bell s t) ≡ []) (awake : is_idle h k (Bell s t) ≡ false) where
+  -- the command ring isn't open: its doorbell wasn't rung yet
+  first_held : (s == 0) ≡ true → (k.ring (command_id h)).held ≡ Some 0
+  unfolding is_open
+  first_held command =
+      let closed : is_open (k.ring (command_id h)) ≡ false = sym (cond-true (s == 0) (is_open (k.ring (command_id h))) (is_open_if k (k.ring_of s t)) command) ∙ awake in
+      elim d.command_ring.held [
+        | inl rung ↦ absurd (false≢true (sym closed ∙ ap is_none rung))
+        | inr first ↦ first.0
+      ]
+
+  endpoint_square : (s == 0) ≡ false → (e : Block) → broken h k (Read e) ≡ [] → Square h k (Bell s t) e
+  endpoint_square endpoint e may =
+      let ring = rung_ring h s t endpoint k awake in
+      bell_square h s t endpoint is k d ring.0 ring.1 ring.2 e clean may
+
+  pub doorbell_square : (e : Block) → broken h k (Read e) ≡ [] → Square h k (Bell s t) e
+  doorbell_square e may =
+      elim (cases_Bool (s == 0)) [
+        | inl command ↦ command_square h is k d (first_held command) s t e command clean may
+        | inr endpoint ↦ endpoint_square endpoint e may
+      ]

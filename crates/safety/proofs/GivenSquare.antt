@@ -1,0 +1,26 @@
+-- A write that gives a command and an event that isn't read yet may change places
+use Rattle.std.specs.Prelude.{◌≡◌, ℕ, [], Some}
+use Rattle.std.proofs.Common.{refl}
+use Rattle.trb.specs.declared.block.Block.{Block}
+use Rattle.commands.specs.declared.command.Command.{Command}
+use Rattle.traces.specs.declared.header.Header.{Header}
+use Rattle.traces.specs.declared.row.Row.TheVariants.{Write, Read}
+use Rattle.traces.specs.Header.{IsHeader}
+use Rattle.ring_knowledge.specs.Known.{Known}
+use Rattle.ring_knowledge.specs.Writes.{command_given}
+use Rattle.ownership_rules.specs.Rules.{broken}
+use Rattle.safety.specs.Keeps.{DriverKeeps}
+use Rattle.safety.specs.Beneath.{Square}
+use Rattle.safety.proofs.CommandBeneath.{command_event, command_after}
+use Rattle.safety.proofs.CommandTests.{row_behind}
+use Rattle.safety.proofs.CommandGood.{good_behind}
+
+module _ (h : Header) (is : IsHeader h) (k : Known) (d : DriverKeeps h k) (a w : ℕ) (e : Block) (clean : broken h k (Write a w) ≡ []) (may : broken h k (Read e) ≡ [])
+    (c : Command) (given : command_given h k a w ≡ Some c) where
+  pub given_square : Square h k (Write a w) e
+  given_square = record {
+    event = command_event h is k d a w e clean may;
+    row = row_behind h is k d a w e clean may c given (good_behind h is k d a w e clean may c given);
+    after = command_after h is k d a w e clean may c given;
+    awake = refl;
+  }

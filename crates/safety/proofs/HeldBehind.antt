@@ -1,0 +1,112 @@
+-- An event leaves an endpoint whose ring is held, where no unfinished command touches it: its doorbell stays one that may be rung
+use Rattle.std.specs.Prelude.{◌≡◌, ℕ, ◌==◌, ◌&&◌, ◌||◌, not, nat_lt, true, false, [], is_none, Option, None, Some}
+use Rattle.std.proofs.Common.{refl, sym, ◌∙◌, ap, subst, inl, inr}
+use Rattle.std.proofs.lemmas.Bool.{cases_Bool, cond-true, and_parts, and_from, or_parts, or_from, not-false, eqb-true, eq-eqb, false≢true}
+use Rattle.std.proofs.lemmas.Option.{same_Some}
+use Rattle.trb.specs.declared.block.Block.{Block}
+use Rattle.trb.specs.declared.kind.BlockKind.{BlockKind}
+use Rattle.trb.specs.declared.kind.BlockKind.TheVariants.{TransferEvent, CommandCompletion}
+use Rattle.trb.specs.Block.{kind, code, slot, endpoint}
+use Rattle.trb.specs.Kind.{is_transfer_event, is_command_completion}
+use Rattle.trb.specs.CompletionCode.{is_success, is_halting, is_trb_error}
+use Rattle.segments.specs.declared.spot.Spot.{Spot}
+use Rattle.segments.specs.Ceiling.{ceiling, is_data_below, is_open, is_stop_spot}
+use Rattle.commands.specs.States.{is_running, is_stopped}
+use Rattle.traces.specs.declared.header.Header.{Header}
+use Rattle.traces.specs.declared.row.Row.TheVariants.{Read}
+use Rattle.traces.specs.Header.{IsHeader, shape_of}
+use Rattle.ring_knowledge.specs.Known.{Known}
+use Rattle.ring_knowledge.specs.Rings.{RingSpot, event_at}
+use Rattle.ring_knowledge.specs.Transfers.{transferred, transferred_at, transfer_read}
+use Rattle.ring_knowledge.specs.Learned.{event_read, learned}
+use Rattle.ownership_rules.specs.Doorbells.{is_touched, is_bad_bell}
+use Rattle.ownership_rules.specs.Events.{is_in_profile, is_working, is_stopping_now, can_report, can_report_at, is_impossible_by_kind}
+use Rattle.ownership_rules.specs.Rules.{broken}
+use Rattle.safety.specs.Keeps.{DriverKeeps}
+use Rattle.safety.proofs.CleanRows.{EventFacts, event_facts}
+use Rattle.safety.proofs.KeptRings.{completion_facts}
+use Rattle.safety.proofs.StatesTransfer.{reported}
+use Rattle.safety.proofs.StillRings.{passed_holds, other_holds, untouched_behind}
+use Rattle.safety.proofs.TransferFrames.{event_ring_of}
+use Rattle.safety.proofs.TransferLeaves.{transferred_leaves}
+use Rattle.safety.proofs.UntouchedHeld.{EndpointHolds, same_holds}
+use Rattle.safety.proofs.UntouchedCompletion.{completion_holds}
+use Rattle.safety.proofs.WokenTransfers.{works_there}
+
+module _ (h : Header) (k : Known) (s i r : ℕ) (held : is_open (k.ring r) ≡ false) where
+  -- only blocks that were finished before are reported of a ring that is held
+  held_success : (c : ℕ) (t : Spot) → can_report h k c s i r t ≡ true → is_success c ≡ true
+  unfolding can_report is_working
+  held_success c t can =
+      elim (cases_Bool (is_success c)) [
+        | inl success ↦ success
+        | inr other ↦
+            let works = works_there (is_success c) (is_halting c || is_trb_error c) (is_data_below (ceiling (shape_of h r) (k.ring r)) t)
+            (is_running (k.endpoint_state s i) && is_open (k.ring r)) (is_stopping_now h k s i) (is_stop_spot (shape_of h r) (k.ring r) t) other can in
+            absurd (false≢true (sym held ∙ (and_parts (is_running (k.endpoint_state s i)) (is_open (k.ring r)) works).1))
+      ]
+
+  own_holds : (c : ℕ) (t : Spot) → can_report h k c s i r t ≡ true → EndpointHolds k (transferred h k c s i r t) s i
+  unfolding transferred
+  own_holds c t can = subst (λ l. EndpointHolds k l s i) (sym (cond-true (is_success c) _ _ (held_success c t can))) (passed_holds h k s i r t)
+
+module _ (h : Header) (is : IsHeader h) (k : Known) (d : DriverKeeps h k) (s i r : ℕ) (has : k.ring_of s i ≡ Some r) (held : is_open (k.ring r) ≡ false)
+    (untouched : is_touched h k s i ≡ false) where
+  -- a Transfer Event, for the endpoint of slot t at index j and its ring q
+  transferred_holds : (c t j q : ℕ) (spot : Spot) → k.ring_of t j ≡ Some q → can_report h k c t j q spot ≡ true → EndpointHolds k (transferred h k c t j q spot) s i
+  transferred_holds c t j q spot bound can =
+      elim (cases_Bool (s == t && i == j)) [
+        | inl same ↦
+            let parts = and_parts (s == t) (i == j) same in
+            let slots : s ≡ t = eqb-true s t parts.0 in
+            let indices : i ≡ j = eqb-true i j parts.1 in
+            let ring : r ≡ q = same_Some r q (sym has ∙ ap (λ n. k.ring_of n i) slots ∙ ap (λ n. k.ring_of t n) indices ∙ bound) in
+            let there : can_report h k c s i q spot ≡ true = ap (λ n. can_report h k c n i q spot) slots ∙ ap (λ n. can_report h k c t n q spot) indices ∙ can in
+            subst (λ n. EndpointHolds k (transferred h k c n j q spot) s i) slots
+            (subst (λ n. EndpointHolds k (transferred h k c s n q spot) s i) indices
+            (own_holds h k s i q (ap (λ n. is_open (k.ring n)) (sym ring) ∙ held) c spot there))
+        | inr other ↦
+            other_holds h is k d s i t j q (transferred h k c t j q spot) (λ a b. false≢true (sym other ∙ and_from (s == t) (i == j) (eq-eqb s t a) (eq-eqb i j b))) bound
+            (transferred_leaves h k t j q c spot can)
+      ]
+
+  at_holds : (b : Block) (o : Option RingSpot) → event_at h k b ≡ o → can_report_at h k b o ≡ true → EndpointHolds k (transferred_at h k b o) s i
+  unfolding transferred_at can_report_at
+  at_holds b None found can = same_holds k s i
+  at_holds b (Some at) found can = transferred_holds (code b) (slot b) (endpoint b) at.ring at.spot (event_ring_of h k b at found) can
+
+  -- any event
+  event_holds : (b : Block) → k.started ≡ true → (n : BlockKind) → kind b ≡ n → is_impossible_by_kind h k n b ≡ false → (is_transfer_event n && not (is_in_profile b)) ≡ false →
+      EndpointHolds k (event_read h k n b) s i
+  unfolding event_read is_impossible_by_kind transfer_read
+  event_holds b started TransferEvent at possible inside = at_holds b (event_at h k b) refl (reported h is k d b possible (not-false (is_in_profile b) inside))
+  event_holds b started CommandCompletion at possible inside =
+      completion_holds h s i is k d b started (completion_facts h k b (ap is_command_completion at) (ap (λ m. is_impossible_by_kind h k m b) at ∙ possible)) untouched
+  event_holds b started _ at possible inside = same_holds k s i
+
+  read_counts : (e : Block) → EndpointHolds k (event_read h k (kind e) e) s i → EndpointHolds k (learned h k (Read e)) s i
+  unfolding learned
+  read_counts e holds = record { state = holds.state; ring_of = holds.ring_of; must_move = holds.must_move; held = holds.held }
+
+  pub read_holds : (e : Block) → broken h k (Read e) ≡ [] → EndpointHolds k (learned h k (Read e)) s i
+  read_holds e clean =
+      let facts : EventFacts h k e = event_facts h k e clean in
+      read_counts e (event_holds e facts.started (kind e) refl facts.possible facts.inside)
+
+  -- behind the event its ring is held still
+  pub still_held : (e : Block) → broken h k (Read e) ≡ [] → is_open ((learned h k (Read e)).ring r) ≡ false
+  unfolding is_open
+  still_held e clean = ap is_none ((read_holds e clean).held r has) ∙ held
+
+  -- and it may still be rung
+  pub good_behind : (e : Block) → broken h k (Read e) ≡ [] → is_bad_bell h k s i ≡ false → is_bad_bell h (learned h k (Read e)) s i ≡ false
+  unfolding is_bad_bell
+  good_behind e clean good =
+      let l : Known = learned h k (Read e) in
+      let holds : EndpointHolds k l s i = read_holds e clean in
+      let rest = (or_parts _ (is_touched h k s i) good).0 in
+      or_from (i == 0 || nat_lt 31 i || not (is_running (l.endpoint_state s i) || is_stopped (l.endpoint_state s i)) || l.must_move s i) (is_touched h l s i)
+      (ap (λ x. i == 0 || nat_lt 31 i || not (is_running x || is_stopped x) || l.must_move s i) holds.state
+      ∙ ap (λ x. i == 0 || nat_lt 31 i || not (is_running (k.endpoint_state s i) || is_stopped (k.endpoint_state s i)) || x) holds.must_move
+      ∙ rest)
+      (untouched_behind h is k d e clean s i untouched)

@@ -1,0 +1,26 @@
+-- A write and an event that isn't read yet may change places, whether the write gives a command or not
+use Rattle.std.specs.Prelude.{◌≡◌, ℕ, false, []}
+use Rattle.std.proofs.Common.{inl, inr}
+use Rattle.trb.specs.declared.block.Block.{Block}
+use Rattle.segments.proofs.Search.{cases_option}
+use Rattle.traces.specs.declared.header.Header.{Header}
+use Rattle.traces.specs.declared.row.Row.TheVariants.{Write, Read}
+use Rattle.traces.specs.Header.{IsHeader}
+use Rattle.traces.specs.Rows.{IsRow}
+use Rattle.ring_knowledge.specs.Known.{Known}
+use Rattle.ring_knowledge.specs.Writes.{command_given}
+use Rattle.ring_knowledge.specs.Learned.{learned}
+use Rattle.ownership_rules.specs.Rules.{broken}
+use Rattle.safety.specs.Keeps.{DriverKeeps}
+use Rattle.safety.specs.KeptHistories.{IsDriverRow}
+use Rattle.safety.specs.Beneath.{is_idle, Square}
+use Rattle.safety.proofs.WriteBeneath.{write_square}
+use Rattle.safety.proofs.GivenSquare.{given_square}
+
+pub any_write_square : (h : Header) (k : Known) (a w : ℕ) (e : Block) → IsHeader h → IsRow (Write a w) → IsDriverRow (Write a w) → DriverKeeps h k → broken h k (Write a w) ≡ [] →
+    broken h k (Read e) ≡ [] → is_idle h k (Write a w) ≡ false → (learned h k (Write a w)).stopped ≡ false → Square h k (Write a w) e
+any_write_square h k a w e is row driver d clean may awake on =
+    elim (cases_option (command_given h k a w)) [
+      | inl none ↦ write_square h is k d a w e clean none may
+      | inr some ↦ given_square h is k d a w e clean may some.0 some.1
+    ]
