@@ -5,6 +5,7 @@ pub mod Borders
 pub mod DeclaredLemmas
 pub mod HistoryLemmas
 pub mod FirstFound
+pub mod NamedPlaces
 pub mod RowLemmas
 pub mod RingLemmas
 pub mod RingSteps
@@ -19,6 +20,7 @@ pub mod RegisterLemmas
 pub mod EventPlaces
 pub mod NextRowLemmas
 pub mod ScribbleLemmas
+pub mod WatchLemmas
 pub mod OpeningLemmas
 pub mod SafetyLemmas
 pub mod ChangeLemmas
@@ -33,3 +35,7 @@ pub mod DisabledRings
 pub mod AddedLemmas
 pub mod EffectLemmas
 pub mod TrialLemmas
+pub mod CommandLemmas
+pub mod SuccessLemmas
+pub mod FinishLemmas
+pub mod StepLemmas

@@ -19,7 +19,7 @@ map_twice : {A B C : Type 0} (f : B → C) (g : A → B) (o : Option A) → opti
 map_twice f g None = refl
 map_twice f g (Some x) = refl
 
-map_choice : {A B : Type 0} (f : A → B) (t : Bool) (x y : Option A) (x' y' : Option B) → x' ≡ option_map f x → y' ≡ option_map f y →
+pub map_choice : {A B : Type 0} (f : A → B) (t : Bool) (x y : Option A) (x' y' : Option B) → x' ≡ option_map f x → y' ≡ option_map f y →
     (if t then x' else y') ≡ option_map f (if t then x else y)
 map_choice f true x y x' y' e d = e
 map_choice f false x y x' y' e d = d

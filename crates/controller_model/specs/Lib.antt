@@ -6,9 +6,12 @@ pub mod Finishes
 pub mod Steps
 pub mod Showing
 pub mod OnLiterals
+pub mod Watches
 pub mod Held
 pub mod Faults
 pub mod Declarations
 pub mod Histories
 pub mod Following
 pub mod Trials
+pub mod Completions
+pub mod Worlds

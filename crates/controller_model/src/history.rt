@@ -1,7 +1,7 @@
-ghost use Rattle.std.specs.Prelude.{◌≡◌, ℕ, ◌+◌, ◌-◌, ◌==◌, ◌∷◌, ◌&&◌, ◌^◌, [], List, Option, Some, None, length, OnOk, IsTrue, IfSome, false, ◌≤◌, ◌<◌, option_map, position};
+ghost use Rattle.std.specs.Prelude.{◌≡◌, ℕ, ◌+◌, ◌-◌, ◌==◌, ◌∷◌, ◌&&◌, ◌%◌, ◌^◌, [], List, Option, Some, None, length, OnOk, IsTrue, IfSome, true, false, ◌≤◌, ◌<◌, option_map, position};
 ghost use Rattle.trb.specs.Block.{same_words};
 ghost use Rattle.segments.specs.ShapeValue.{Shape};
-ghost use Rattle.segments.specs.Places.{is_crossing, link_address, place_count};
+ghost use Rattle.segments.specs.Places.{address_of, is_crossing, link_address, place_count};
 ghost use Rattle.traces.specs.declared.header.Header.{Header};
 ghost use Rattle.world_state.specs.World.{RingEvent, Took, Placed};
 ghost use Rattle.world_state.specs.Takes.{takes_of, first_at, is_as_declared, is_place};
@@ -11,7 +11,7 @@ ghost use Rattle.controller_model.specs.Declarations.{as_declared};
 ghost use Rattle.controller_model.specs.Histories.{Keeps};
 
 use crate::declared::Declared;
-use segments::RingShape;
+use segments::{Place, RingShape};
 use std::alloc::{AllocError, Global};
 use std::collections::VecDeque;
 use trb::Block;
@@ -50,19 +50,59 @@ fn leads_over(shape: &RingShape, address: u64, position: u64) -> bool
     }
 }
 
+/// The number of the data place at an address: of each position that lies there.
+fn data_place(shape: &RingShape, address: u64) -> Option<u64>
+    ensures place { (p : ℕ) → address_of shape.now p ≡ address → result ≡ Some (p % place_count shape.now) }
+    ensures below { IfSome result (λ place. place < place_count shape.now) }
+{
+    let _ = shape.places();
+    match shape.place_at(address) {
+        Some(Place::Data { place, .. }) => Some(u64::from(place)),
+        Some(Place::Link { .. }) => None,
+        None => None,
+    }
+}
+
+/// The number of the data place that an address names, by its block or by the Link before it: of each position there.
+fn place_named(shape: &RingShape, address: u64) -> Option<u64>
+    ensures place { (p : ℕ) → is_place shape.now address p ≡ true → result ≡ Some (p % place_count shape.now) }
+    ensures below { IfSome result (λ place. place < place_count shape.now) }
+{
+    let _ = shape.places();
+    match shape.place_at(address) {
+        Some(Place::Data { .. }) => data_place(shape, address),
+        Some(Place::Link { segment, .. }) => data_place(shape, shape.target(segment)),
+        None => None,
+    }
+}
+
 /// The least position from `from` on at the place that an address names; `from` where there is none.
-#[tactic(auto, unfolding(world_state::specs::Takes::first_at))]
 fn first_at(shape: &RingShape, address: u64, from: u64) -> u64
     requires { from + place_count shape.now < 2 ^ 64 }
     ensures { result ≡ first_at shape.now address from }
 {
-    let end = from + u64::from(shape.places());
-    for position in from..end {
-        if is_place(shape, address, position) {
-            return position;
-        }
+    let place = match place_named(shape, address) {
+        None => return from,
+        Some(place) => place,
+    };
+    let position = lap_position(u64::from(shape.places()), place, from);
+    if is_place(shape, address, position) {
+        position
+    } else {
+        from
     }
-    from
+}
+
+/// The least position from `from` on with this number in its lap.
+fn lap_position(places: u64, place: u64, from: u64) -> u64
+    requires place { place < places }
+    requires end { from + places < 2 ^ 64 }
+    ensures place { result % places ≡ place }
+    ensures from { from ≤ result }
+    ensures lap { result < from + places }
+{
+    let here = from - from % places + place;
+    if here < from { here + places } else { here }
 }
 
 /// Whether two blocks have the same words.

@@ -1,7 +1,6 @@
 //! The controller model: which steps a controller may make beside the driver's rows (xHCI 4.5, 4.6, 4.8, 4.9, 4.11).
 //!
-//! Stands so far: what a step shows, and, each proved against its definition, the rows of a trace, looks at rings, reports, the
-//! controller's own events, writes of device contexts, and the test of harms.
+//! `World` runs it beside a trace: each step is possible exactly where the definitions allow it, and the least harm is told.
 #![tactic(auto)]
 
 mod bells;
@@ -11,6 +10,7 @@ mod disabling;
 mod effects;
 mod endpoints;
 mod fault;
+mod finishes;
 mod history;
 mod inputs;
 mod kept;
@@ -28,9 +28,14 @@ mod scribbles;
 mod seen;
 mod slots;
 mod stamps;
+mod steps;
+mod successes;
 #[cfg(test)]
 mod tests;
 mod trials;
+mod watches;
+mod world;
 
 pub use fault::StepFault;
 pub use seen::Seen;
+pub use world::World;

@@ -1,4 +1,4 @@
-ghost use Rattle.std.specs.Prelude.{◌≡◌, ℕ, ◌+◌, ◌*◌, ◌-◌, ◌%◌, ◌^◌, ◌∷◌, ◌==◌, IsTrue, if◌then◌else◌, List, OnOk, OnErr, IfOk, length, Option, Some, None, is_some, not, Err, ◌||◌, ◌&&◌, option_map};
+ghost use Rattle.std.specs.Prelude.{◌≡◌, ℕ, ◌+◌, ◌*◌, ◌-◌, ◌/◌, ◌%◌, ◌^◌, ◌<◌, ◌∷◌, ◌==◌, IsTrue, if◌then◌else◌, List, OnOk, OnErr, IfOk, length, Option, Some, None, is_some, not, Err, ◌||◌, ◌&&◌, option_map};
 ghost use Rattle.traces.specs.declared.header.Header.{Header as HeaderValue};
 ghost use Rattle.traces.specs.declared.row.Row.{Row as RowValue};
 ghost use Rattle.traces.specs.Header.{command_id, command_ring, is_command_kind, ring_with, shape_of};
@@ -11,6 +11,7 @@ ghost use Rattle.world_state.specs.World.{World, Took};
 ghost use Rattle.controller_model.specs.Following.{Follows, IsStep, RingHeld, FollowsRing, addressed, is_it, taken_held};
 ghost use Rattle.controller_model.specs.Showing.{look_shows};
 ghost use Rattle.commands.specs.Command.{command_of};
+ghost use Rattle.contexts.specs.Contexts.{input_context_bytes};
 ghost use Rattle.trb.specs.Kind.{is_link};
 ghost use Rattle.controller_model.specs.Looks.{looked, looked_at, taken, command_begun, crossed, taken_on, seen_by_look};
 ghost use Rattle.segments.specs.Places.{is_inside};
@@ -180,6 +181,26 @@ fn allow(kept: &mut Kept, slot: Option<u8>)
     }
 }
 
+/// How many words an input context has (xHCI 6.2.5).
+pub(crate) fn input_words(header: &Header) -> u64
+    ensures value { result ≡ input_context_bytes header.now.context_size / 4 }
+    ensures few { result < 2 ^ 32 }
+{
+    33 * header.context_size.bytes() / 4
+}
+
+/// The input context of a command that was taken at this address, if it names one, is watched.
+fn watch_context(header: &Header, kept: &mut Kept, address: u64, block: &Block)
+    ensures { (h : HeaderValue) (rows : List RowValue) (words : ℕ → ℕ) (w : World) → Follows h rows words kept.old w →
+        Follows h rows words kept.new w }
+{
+    if let Some(command) = command_of(block) {
+        if let Some(context) = command.input_context() {
+            kept.stamps.watch(address, context, input_words(header));
+        }
+    }
+}
+
 /// A command that was taken at this address is under way.
 fn begin(kept: &mut Kept, address: u64, block: &Block)
     ensures { (h : HeaderValue) (rows : List RowValue) (words : ℕ → ℕ) (w : World) → Follows h rows words kept.old w →
@@ -208,6 +229,7 @@ fn take_block(
     take_on(kept, shape, ring, block)?;
     if is_command_ring(header, ring) {
         begin(kept, pointer, block);
+        watch_context(header, kept, pointer, block);
         return Ok(());
     }
     Ok(())

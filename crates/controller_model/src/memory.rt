@@ -26,7 +26,7 @@ pub(crate) fn store<M: WordMemory>(
 }
 
 /// The address of a word of the block at this address.
-fn word_at(address: u64, offset: u64) -> Addr
+pub(crate) fn word_at(address: u64, offset: u64) -> Addr
     requires block { address % 16 ≡ 0 }
     requires end { address < 2 ^ 64 }
     requires word { offset % 4 ≡ 0 }

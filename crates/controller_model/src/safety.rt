@@ -1,4 +1,5 @@
-ghost use Rattle.std.specs.Prelude.{◌≡◌, ℕ, ◌&&◌, ◌==◌, ◌-◌, ◌<◌, List, Option, not, nat_le, nat_lt};
+ghost use Rattle.std.specs.Prelude.{◌≡◌, ℕ, ◌&&◌, ◌==◌, ◌-◌, ◌<◌, ◌%◌, if◌then◌else◌, List, Option, not, nat_le, nat_lt};
+ghost use Rattle.trb.specs.Block.{block_at, cycle as cycle_bit};
 ghost use Rattle.traces.specs.declared.header.Header.{Header as HeaderValue};
 ghost use Rattle.traces.specs.declared.row.Row.{Row as RowValue};
 ghost use Rattle.traces.specs.Header.{event_size, shape_of, some_ring};
@@ -7,8 +8,8 @@ ghost use Rattle.world_state.specs.Harms.{harm_of, has_changed_context, has_othe
 ghost use Rattle.controller_model.specs.Following.{Follows, FollowsRing, ring_held};
 
 use crate::kept::{Kept, RingState};
-use crate::looks::{agrees, command_of};
-use crate::memory::block_at;
+use crate::looks::{command_of, input_words};
+use crate::memory::word_at;
 use crate::posts::event_ring;
 use guest_memory::WordMemory;
 use traces::Header;
@@ -45,6 +46,15 @@ fn ring_harms<M: WordMemory>(header: &Header, memory: &M, kept: &Kept) -> RingHa
     harms
 }
 
+/// Whether the Cycle bit of the block at an address is a cycle state; the block's other words aren't read.
+fn shows<M: WordMemory>(memory: &M, address: u64, cycle: bool) -> bool
+    requires { address % 16 ≡ 0 }
+    ensures { (n : ℕ) → n ≡ (if cycle then 1 else 0) → result ≡ (cycle_bit (block_at (M.words memory.now) address) == n) }
+{
+    let bit = memory.word(word_at(address, 12)) % 2 == 1;
+    if cycle { bit } else { !bit }
+}
+
 /// Whether a ring is active and within a descriptor, and the block at its pointer shows the other cycle.
 fn waits_inside<M: WordMemory>(memory: &M, state: &RingState) -> bool
     ensures { (h : HeaderValue) (r : ℕ) (w : World) → FollowsRing h r (ring_held w r) state.now → M.words memory.now ≡ w.memory →
@@ -56,7 +66,7 @@ fn waits_inside<M: WordMemory>(memory: &M, state: &RingState) -> bool
     if !state.history.is_inside() {
         return false;
     }
-    !agrees(&block_at(memory, state.pointer), state.cycle)
+    !shows(memory, state.pointer, state.cycle)
 }
 
 /// Whether the controller posted over an unread event (xHCI 4.9.4).
@@ -90,9 +100,8 @@ fn has_changed_context(header: &Header, kept: &Kept) -> bool
         None => return false,
         Some(context) => context,
     };
-    let given = kept.stamps.written_behind(pending.address, 12);
     kept.stamps
-        .is_changed_since(given, context, 33 * header.context_size.bytes() / 4)
+        .is_context_changed(pending.address, context, input_words(header))
 }
 
 /// The least harm of a world.

@@ -1,7 +1,10 @@
-ghost use Rattle.std.specs.Prelude.{◌≡◌, ℕ, ◌≤◌, ◌^◌, None};
+ghost use Rattle.std.specs.Prelude.{◌≡◌, ℕ, ◌≤◌, ◌^◌, Some, None, unwrap_or};
 ghost use Rattle.std.specs.BTreeMap.{get};
 ghost use Rattle.std.specs.Ordering.{nat_cmp};
+ghost use Rattle.controller_model.specs.Watches.{is_changed_behind};
+ghost use Rattle.controller_model.specs.declared.watches.Watch.{Watch};
 
+use crate::watches::Watch;
 use std::alloc::{AllocError, Global};
 use std::collections::BTreeMap;
 
@@ -10,15 +13,22 @@ use std::collections::BTreeMap;
 pub struct Stamps {
     changed: BTreeMap<u64, u64>,
     written: BTreeMap<u64, u64>,
+    /// No word was changed in a later step.
+    last: u64,
+    /// Words whose changes are followed write by write, so that they need not be gone through.
+    watch: Option<Watch>,
     ghost changed_below: { (a : ℕ) → 2 ^ 64 ≤ a → get nat_cmp changed a ≡ None },
     ghost written_below: { (a : ℕ) → 2 ^ 64 ≤ a → get nat_cmp written a ≡ None },
+    ghost latest: { (a : ℕ) → unwrap_or (get nat_cmp changed a) 0 ≤ last },
+    ghost watched: { (w : Watch) → watch ≡ Some w →
+        w.is_changed ≡ is_changed_behind (λ a. unwrap_or (get nat_cmp changed a) 0) (λ a. unwrap_or (get nat_cmp written a) 0) w.block w.first w.words },
 }
 
 impl Stamps {
     ghost use Rattle.std.specs.Prelude.{◌+◌, ◌*◌, ◌<◌, if◌then◌else◌, nat_lt, OnOk};
     ghost use Rattle.std.specs.List.{list_any, range_with_len};
     ghost use Rattle.guest_memory.specs.Memory.{put};
-    ghost use Rattle.controller_model.specs.Held.{changed_at, written_at};
+    ghost use Rattle.controller_model.specs.Held.{changed_at, held, written_at};
 
     /// No word was written.
     pub(crate) fn new(alloc: Global) -> Stamps
@@ -28,6 +38,8 @@ impl Stamps {
         Stamps {
             changed: BTreeMap::new(alloc),
             written: BTreeMap::new(alloc),
+            last: 0,
+            watch: None,
         }
     }
 
@@ -78,15 +90,73 @@ impl Stamps {
         false
     }
 
+    /// Whether one of so many words from an address on was changed after the control word of a block was last written.
+    fn is_changed_behind(&self, block: u64, first: u64, words: u64) -> bool
+        requires { words < 2 ^ 32 }
+        ensures { result ≡ is_changed_behind (changed_at self.now) (written_at self.now) block first words }
+    {
+        let given = self.written_behind(block, 12);
+        if self.last <= given {
+            return false;
+        }
+        self.is_changed_since(given, first, words)
+    }
+
+    /// The same, at once where these words are watched.
+    pub(crate) fn is_context_changed(&self, block: u64, first: u64, words: u64) -> bool
+        requires { words < 2 ^ 32 }
+        ensures { result ≡ is_changed_behind (changed_at self.now) (written_at self.now) block first words }
+    {
+        if let Some(watch) = self.watch {
+            if watch.is_of(block, first, words) {
+                return watch.is_changed;
+            }
+        }
+        self.is_changed_behind(block, first, words)
+    }
+
+    /// So many words from an address on are watched from now on, and the control word of a block.
+    pub(crate) fn watch(&mut self, block: u64, first: u64, words: u64)
+        requires { words < 2 ^ 32 }
+        ensures { (m : ℕ → ℕ) → held m self.new ≡ held m self.old }
+    {
+        let is_changed = self.is_changed_behind(block, first, words);
+        self.watch = Some(Watch {
+            block,
+            first,
+            words,
+            is_changed,
+        });
+    }
+
+    /// Puts a step to a word that is written in it, and maybe changed; no words are watched from then on.
+    fn put(&mut self, at: u64, is_changed: bool, step: u64) -> Result<(), AllocError>
+        ensures changed { OnOk result ((a : ℕ) → changed_at self.new a ≡ (if is_changed then put (changed_at self.old) at step a else changed_at self.old a)) }
+        ensures written { OnOk result ((a : ℕ) → written_at self.new a ≡ put (written_at self.old) at step a) }
+    {
+        self.watch = None;
+        if is_changed {
+            self.last = self.last.max(step);
+            self.changed.insert(at, step)?;
+        }
+        self.written.insert(at, step)?;
+        Ok(())
+    }
+
     /// Notes that a word is written in this step, and whether it is changed.
     pub(crate) fn note(&mut self, at: u64, is_changed: bool, step: u64) -> Result<(), AllocError>
         ensures changed { OnOk result ((a : ℕ) → changed_at self.new a ≡ (if is_changed then put (changed_at self.old) at step a else changed_at self.old a)) }
         ensures written { OnOk result ((a : ℕ) → written_at self.new a ≡ put (written_at self.old) at step a) }
     {
-        if is_changed {
-            self.changed.insert(at, step)?;
+        let watched = self.watch;
+        self.put(at, is_changed, step)?;
+        if let Some(watch) = watched {
+            if watch.may_be_touched(at, is_changed) {
+                self.watch(watch.block, watch.first, watch.words);
+            } else {
+                self.watch = watched;
+            }
         }
-        self.written.insert(at, step)?;
         Ok(())
     }
 }

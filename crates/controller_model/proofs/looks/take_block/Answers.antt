@@ -9,9 +9,10 @@ pub returns-then-is_command_ring : goal.returns-then-is_command_ring
 returns-then-is_command_ring c = λ rows words w same at f.
     let taken = c.in_ok-take_on.ensures c.args.header.now rows words w same f in
     let begun = c.begin.ensures c.args.header.now rows words (taken_on c.args.header.now w c.args.ring c.args.block.now) taken in
-    let P : ℕ → Type 0 = λ a. Follows c.args.header.now rows words c.begin.new.kept (command_begun c.args.header.now (taken_on c.args.header.now w c.args.ring c.args.block.now) a c.args.block.now) in
-    let Q : World → Type 0 = λ v. Follows c.args.header.now rows words c.begin.new.kept v in
-    subst Q (sym (taken_command c.args.header.now w c.args.ring c.args.block.now (sym c.if-is_command_ring.ensures))) (subst P (sym at) begun)
+    let watched = c.watch_context.ensures c.args.header.now rows words (command_begun c.args.header.now (taken_on c.args.header.now w c.args.ring c.args.block.now) c.args.pointer c.args.block.now) begun in
+    let P : ℕ → Type 0 = λ a. Follows c.args.header.now rows words c.watch_context.new.kept (command_begun c.args.header.now (taken_on c.args.header.now w c.args.ring c.args.block.now) a c.args.block.now) in
+    let Q : World → Type 0 = λ v. Follows c.args.header.now rows words c.watch_context.new.kept v in
+    subst Q (sym (taken_command c.args.header.now w c.args.ring c.args.block.now (sym c.if-is_command_ring.ensures))) (subst P (sym at) watched)
 
 pub returns : goal.returns
 returns c = λ rows words w same at f.

@@ -1,5 +1,5 @@
-use Rattle.std.proofs.Common.{◌≡◌, ◌+◌, ◌*◌, ◌/◌, ◌∙◌, ap, sym}
-use Rattle.controller_model.specs.Held.{changed_at}
+use Rattle.std.proofs.Common.{◌≡◌, ◌+◌, ◌∙◌, ap, sym}
+use Rattle.controller_model.specs.Held.{changed_at, written_at}
 use Rattle.controller_model.proofs.SafetyLemmas.{context_idle, context_of_none, context_unnamed, context_named}
 use Rattle.controller_model.proofs.safety.has_changed_context.Goals as goal
 
@@ -17,7 +17,7 @@ returns-in-None-input_context c = λ rows words w f.
 
 pub returns : goal.returns
 returns c = λ rows words w f.
-    c.is_changed_since.ensures
+    c.is_context_changed.ensures
     ∙ context_named c.args.header.now w c.args.kept.now.under_way f.under_way c.in-Some.pending c.in-Some.is c.in-Some-command_of.command c.in-Some-input_context.context
-    c.written_behind-given.result _ (changed_at c.args.kept.now.stamps) c.in-Some-command_of.ensures c.in-Some-input_context.ensures
-    (c.written_behind-given.ensures ∙ sym (ap (λ y. y.written (c.in-Some.pending.address + 12)) f.held)) (ap (λ n. 33 * n / 4) c.bytes.ensures) (sym (ap (λ y. y.changed) f.held))
+    (written_at c.args.kept.now.stamps (c.in-Some.pending.address + 12)) _ (changed_at c.args.kept.now.stamps) c.in-Some-command_of.ensures c.in-Some-input_context.ensures
+    (sym (ap (λ y. y.written (c.in-Some.pending.address + 12)) f.held)) c.input_words.ensures.value (sym (ap (λ y. y.changed) f.held))

@@ -1,4 +1,5 @@
-use Rattle.std.proofs.Common.{◌∙◌, sym}
+use Rattle.std.proofs.Common.{◌∙◌, refl, sym}
+use Rattle.trb.specs.Block.{block_at}
 use Rattle.controller_model.proofs.SafetyLemmas.{waits_idle, waits_so}
 use Rattle.controller_model.proofs.safety.waits_inside.Goals as goal
 
@@ -7,5 +8,5 @@ returns-then-not-state g c = λ h r w f same. waits_idle h r w c.args.state.now 
 
 pub returns : goal.returns
 returns g c = λ h r w f same.
-    waits_so h r w c.args.state.now f (g.M.WordMemory.words c.args.memory.now) c.block_at.result c.agrees.result same c.if-not-state.false
-    (sym c.is_inside.ensures ∙ c.if-not-is_inside.false) c.block_at.ensures (c.agrees.ensures (w.cycle_state r) f.cycle)
+    waits_so h r w c.args.state.now f (g.M.WordMemory.words c.args.memory.now) (block_at (g.M.WordMemory.words c.args.memory.now) c.args.state.now.pointer) c.shows.result same c.if-not-state.false
+    (sym c.is_inside.ensures ∙ c.if-not-is_inside.false) refl (c.shows.ensures (w.cycle_state r) f.cycle)

@@ -1,0 +1,45 @@
+-- A command that a block says is well: its addresses are on 16-byte boundaries, its indices below 32
+use Rattle.std.proofs.Common.{◌≡◌, ℕ, ◌*◌, ◌/◌, ◌%◌, ◌<◌, ◌^◌, Bool, true, false, if◌then◌else◌, Some, None, subst, arith}
+use Rattle.trb.specs.declared.block.Block.{Block}
+use Rattle.trb.specs.declared.kind.BlockKind.{BlockKind}
+use Rattle.trb.specs.declared.kind.BlockKind.TheVariants as kinds
+use Rattle.trb.specs.Block.{kind, pointer, word}
+use Rattle.trb.specs.Descriptor.{is_command_left_out}
+use Rattle.commands.specs.declared.command.Command.{Command}
+use Rattle.commands.specs.Command.{command_by_kind, command_of}
+use Rattle.controller_model.specs.Following.{IsWell}
+
+on_boundary : (p : ℕ) → p / 16 * 16 % 16 ≡ 0
+on_boundary p = omega arith
+
+below_32 : (n : ℕ) → n % 32 < 32
+below_32 n = omega arith
+
+is_same : (c d : Command) → Some c ≡ Some d → c ≡ d
+is_same c d e = cc
+
+well : (d c : Command) → Some d ≡ Some c → IsWell d → IsWell c
+well d c e is = subst IsWell (is_same d c e) is
+
+none_well : (c : Command) → None ≡ Some c → IsWell c
+none_well c e = absurd (cc)
+
+well_by_kind : (k : BlockKind) (b : Block) (c : Command) → command_by_kind k b ≡ Some c → IsWell c
+well_by_kind kinds.NoOpCommand b c e = well _ c e tt
+well_by_kind kinds.EnableSlot b c e = well _ c e tt
+well_by_kind kinds.DisableSlot b c e = well _ c e tt
+well_by_kind kinds.AddressDevice b c e = well _ c e (on_boundary (pointer b))
+well_by_kind kinds.ConfigureEndpoint b c e = well _ c e (on_boundary (pointer b))
+well_by_kind kinds.EvaluateContext b c e = well _ c e tt
+well_by_kind kinds.ResetEndpoint b c e = well _ c e (below_32 (word b 3 / 2 ^ 16))
+well_by_kind kinds.StopEndpoint b c e = well _ c e (below_32 (word b 3 / 2 ^ 16))
+well_by_kind kinds.SetTrDequeue b c e = well _ c e (below_32 (word b 3 / 2 ^ 16), on_boundary (pointer b))
+well_by_kind kinds.ResetDevice b c e = well _ c e tt
+well_by_kind _ b c e = none_well c e
+
+pub command_well : (b : Block) (c : Command) → command_of b ≡ Some c → IsWell c
+command_well b c = by (is_command_left_out b)
+  where
+    by : (left_out : Bool) → (if left_out then None else command_by_kind (kind b) b) ≡ Some c → IsWell c
+    by true e = none_well c e
+    by false e = well_by_kind (kind b) b c e

@@ -1,0 +1,78 @@
+-- A finish is a completion that is posted
+use Rattle.std.proofs.Common.{◌≡◌, ◌==◌, ◌&&◌, ◌∙◌, not, Bool, true, false, Option, Some, None, Ok, Err, option_map, ap, sym, subst, refl}
+use Rattle.std.proofs.lemmas.Bool.{cond-true, cond-false}
+use Rattle.trb.specs.declared.block.Block.{Block}
+use Rattle.trb.specs.Block.{code, kind, pointer, slot}
+use Rattle.trb.specs.Kind.{is_command_completion}
+use Rattle.commands.specs.Command.{command_of, may_answer_slot}
+use Rattle.traces.specs.declared.header.Header.{Header}
+use Rattle.world_state.specs.World.{World, UnderWay}
+use Rattle.controller_model.specs.declared.seen.Seen.{Seen}
+use Rattle.controller_model.specs.declared.fault.StepFault.{StepFault}
+use Rattle.controller_model.specs.declared.fault.StepFault.TheVariants.{NotPossible, Spent, Memory}
+use Rattle.controller_model.specs.Posts.{can_post}
+use Rattle.controller_model.specs.Finishes.{ended, ended_with, finished, finished_as}
+use Rattle.controller_model.specs.Completions.{IsPart, completed, completed_with}
+use Rattle.controller_model.specs.Following.{IsStep}
+use Rattle.controller_model.proofs.ChangeLemmas.{Made}
+use Rattle.controller_model.proofs.ReportPosts.{map_choice}
+
+pub part_made : (A : Type 0) (x : A) (o : Option World) (w : World) (P : World → Type 0) → o ≡ Some w → P w → IsPart (Ok x) o P
+part_made A x o w P made holds = let Q : Option World → Type 0 = λ v. IsPart (Ok x) v P in subst Q (sym made) holds
+
+pub part_refused : (A : Type 0) (o : Option World) (P : World → Type 0) → o ≡ None → IsPart {A = A} (Err NotPossible) o P
+part_refused A o P none = let Q : Option World → Type 0 = λ v. IsPart {A = A} (Err NotPossible) v P in subst Q (sym none) tt
+
+pub made_of_part : (A : Type 0) (x : A) (o : Option World) (P : World → Type 0) → IsPart (Ok x) o P → Made o P
+made_of_part A x None P made = absurd made
+made_of_part A x (Some w) P made = record { after = w; is = refl; holds = made }
+
+-- a part of a step that fails, and the step
+pub step_fails : (A : Type 0) (fault : StepFault) (part step : Option World) (f : World → World) (shown : Seen) (P Q : World → Type 0) → step ≡ option_map f part →
+    IsPart {A = A} (Err fault) part P → IsStep (Err fault) step shown Q
+step_fails A fault part step f shown P Q same fails =
+    let R : Option World → Type 0 = λ v. IsStep (Err fault) v shown Q in
+    subst R (sym same) (onward fault part fails)
+  where
+    onward : (e : StepFault) (o : Option World) → IsPart {A = A} (Err e) o P → IsStep (Err e) (option_map f o) shown Q
+    onward NotPossible None m = tt
+    onward NotPossible (Some v) m = absurd m
+    onward Memory o m = tt
+    onward Spent o m = absurd m
+
+module _ (h : Header) (w : World) (b : Block) where
+  finished_with_is : (u : UnderWay) → ended_with h w b u ≡ option_map (λ v. ended h v b) (completed_with h w b u)
+  unfolding ended_with
+  finished_with_is u =
+      map_choice (λ v. ended h v b) (code b == 1) _ _ _ _ refl
+      (map_choice (λ v. ended h v b) u.has_stopped None (Some w) None (Some (ended h w b)) refl refl)
+
+  finished_as_is : (o : Option UnderWay) → finished_as h w b o ≡ option_map (λ v. ended h v b) (completed h w b o)
+  unfolding finished_as
+  finished_as_is None = refl
+  finished_as_is (Some u) =
+      map_choice (λ v. ended h v b) (pointer b == u.address && may_answer_slot (command_of u.block) (slot b)) _ None _ None (finished_with_is u) refl
+
+  three : (x y z : Bool) → (x && y && z) ≡ (x && (y && z))
+  three true y z = refl
+  three false y z = refl
+
+  pub finish_not_now : can_post h w b ≡ false → finished h w b ≡ None
+  unfolding finished
+  finish_not_now e =
+      cond-false (can_post h w b && is_command_completion (kind b) && not (code b == 0)) _ None
+      (ap (λ t. t && is_command_completion (kind b) && not (code b == 0)) e)
+
+  pub finish_not_so : can_post h w b ≡ true → (is_command_completion (kind b) && not (code b == 0)) ≡ false → finished h w b ≡ None
+  unfolding finished
+  finish_not_so e differs =
+      cond-false (can_post h w b && is_command_completion (kind b) && not (code b == 0)) _ None
+      (three (can_post h w b) (is_command_completion (kind b)) (not (code b == 0)) ∙ (λ k. e k && differs k))
+
+  pub finish_completed : can_post h w b ≡ true → (is_command_completion (kind b) && not (code b == 0)) ≡ true →
+      finished h w b ≡ option_map (λ v. ended h v b) (completed h w b w.under_way)
+  unfolding finished
+  finish_completed e so =
+      cond-true (can_post h w b && is_command_completion (kind b) && not (code b == 0)) _ None
+      (three (can_post h w b) (is_command_completion (kind b)) (not (code b == 0)) ∙ (λ k. e k && so k))
+      ∙ finished_as_is w.under_way

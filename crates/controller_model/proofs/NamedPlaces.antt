@@ -1,0 +1,50 @@
+-- Which positions an address names
+use Rattle.std.proofs.Common.{◌≡◌, ℕ, ◌+◌, ◌*◌, ◌%◌, ◌<◌, ◌≤◌, ◌==◌, ◌&&◌, ◌∙◌, true, Some, None, is_some, sym, ap, subst, arith, inl, inr, ◌⊎◌}
+use Rattle.std.proofs.lemmas.Bool.{cases_lt, false≢true, or_cases, and_parts, eqb-true}
+use Rattle.segments.specs.declared.place.Place.TheVariants.{Data, Link}
+use Rattle.segments.specs.ShapeValue.{Shape}
+use Rattle.segments.specs.Places.{address_of, place_count, is_crossing, link_crossed, link_address, link_target}
+use Rattle.segments.specs.PlaceAt.{place_at}
+use Rattle.segments.specs.Shape.{IsShape}
+use Rattle.segments.proofs.Search.{cases_option}
+use Rattle.segments.proofs.Positions.{same_in_lap}
+use Rattle.segments.proofs.PlaceAtLemmas.{place_at-address_of, place_at-link_address}
+use Rattle.world_state.specs.Takes.{is_place}
+
+-- the first word of a position's block
+pub at_block : (shape : Shape) → IsShape shape → (a p : ℕ) → address_of shape p ≡ a → place_at shape a ≡ Some (Data (p % place_count shape) 0)
+at_block shape is a p same =
+    let here : address_of shape p + 4 * 0 ≡ a = omega (arith, same) in
+    ap (λ x. place_at shape x) (sym here) ∙ place_at-address_of shape is p 0 (omega arith)
+
+-- the first word of the Link that is crossed on the way to a position
+pub at_crossing : (shape : Shape) → IsShape shape → (a p i : ℕ) → link_crossed shape p ≡ Some i → link_address shape p ≡ a → place_at shape a ≡ Some (Link i 0)
+at_crossing shape is a p i crossed same =
+    let here : link_address shape p + 4 * 0 ≡ a = omega (arith, same) in
+    ap (λ x. place_at shape x) (sym here) ∙ place_at-link_address shape is p i 0 crossed (omega arith)
+
+-- the block of a position, or the Link before it, lies at an address that names it
+pub names : (shape : Shape) (a p : ℕ) → is_place shape a p ≡ true →
+    (address_of shape p ≡ a) ⊎ ((i : ℕ) × (link_crossed shape p ≡ Some i) × (link_address shape p ≡ a))
+unfolding is_place
+names shape a p here =
+    elim (or_cases (address_of shape p == a) (is_crossing shape p && link_address shape p == a) here) [
+      | inl block ↦ inl (eqb-true (address_of shape p) a block)
+      | inr link ↦
+          let parts = and_parts (is_crossing shape p) (link_address shape p == a) link in
+          elim (cases_option (link_crossed shape p)) [
+            | inl none ↦ absurd (no_crossing shape p none parts.0)
+            | inr some ↦ inr (some.0, some.1, eqb-true (link_address shape p) a parts.1)
+          ]
+    ]
+  where
+    no_crossing : (shape : Shape) (p : ℕ) → link_crossed shape p ≡ None → is_crossing shape p ≡ true → ⊥
+    no_crossing shape p none crossing = false≢true (sym (ap (λ o. is_some o) none) ∙ crossing)
+
+-- of the positions of a lap from one on, one alone has a remainder
+pub one_in_lap : (n from p q : ℕ) → 0 < n → from ≤ p → p < from + n → from ≤ q → q < from + n → p % n ≡ q % n → p ≡ q
+one_in_lap n from p q some low high low' high' same =
+    elim (cases_lt p q) [
+      | inl lower ↦ same_in_lap n p q some (omega arith) (omega arith) same
+      | inr upper ↦ sym (same_in_lap n q p some upper (omega arith) (sym same))
+    ]

@@ -1,0 +1,56 @@
+-- Which definition a step goes by
+use Rattle.std.proofs.Common.{◌≡◌, ◌≢◌, ℕ, ◌+◌, ◌∙◌, Bool, true, false, Option, Some, None, Ok, Err, option_map, ap, sym, subst, refl}
+use Rattle.std.proofs.lemmas.Bool.{cond-true, cond-false}
+use Rattle.traces.specs.declared.header.Header.{Header}
+use Rattle.traces.specs.declared.step.Step.{Step}
+use Rattle.traces.specs.declared.step.Step.TheVariants.{NextRow, Look, Report, Finish, Other, Scribble}
+use Rattle.world_state.specs.World.{World}
+use Rattle.controller_model.specs.declared.seen.Seen.{Seen}
+use Rattle.controller_model.specs.declared.fault.StepFault.{StepFault}
+use Rattle.controller_model.specs.declared.fault.StepFault.TheVariants.{NotPossible, Spent, Memory}
+use Rattle.controller_model.specs.Steps.{counted, made, stepped, while_running}
+use Rattle.controller_model.specs.Following.{IsStep}
+
+module _ (h : Header) (w : World) where
+  pub running : (o : Option World) → w.stopped ≡ false → while_running h w o ≡ o
+  unfolding while_running
+  running o e = cond-false w.stopped None o e
+
+  not_running : (o : Option World) → w.stopped ≡ true → while_running h w o ≡ None
+  unfolding while_running
+  not_running o e = cond-true w.stopped None o e
+
+  -- after the stop only rows are possible
+  pub made_stopped : (s : Step) → s ≢ NextRow → w.stopped ≡ true → made h w s ≡ None
+  unfolding made
+  made_stopped NextRow other e = absurd (other refl)
+  made_stopped (Look r) other e = not_running _ e
+  made_stopped (Report b) other e = not_running _ e
+  made_stopped (Finish b) other e = not_running _ e
+  made_stopped (Other b) other e = not_running _ e
+  made_stopped (Scribble a x) other e = not_running _ e
+
+  pub stepped_none : (s : Step) → made h w s ≡ None → stepped h w s ≡ None
+  unfolding stepped
+  stepped_none s e = ap (λ o. option_map (counted h) o) e
+
+-- a step that isn't counted yet, and the one that is
+pub step_counted : (h : Header) (w : World) (s : Step) (seen shown : Seen) (P Q : World → Type 0) → ((v : World) → P v → Q (counted h v)) →
+    IsStep (Ok seen) (made h w s) shown P → IsStep (Ok seen) (stepped h w s) shown Q
+unfolding stepped
+step_counted h w s seen shown P Q more made_so = onward (made h w s) made_so
+  where
+    onward : (o : Option World) → IsStep (Ok seen) o shown P → IsStep (Ok seen) (option_map (counted h) o) shown Q
+    onward None m = absurd m
+    onward (Some v) m = (m.0, more v m.1)
+
+pub step_uncounted : (h : Header) (w : World) (s : Step) (fault : StepFault) (shown : Seen) (P Q : World → Type 0) →
+    IsStep (Err fault) (made h w s) shown P → IsStep (Err fault) (stepped h w s) shown Q
+unfolding stepped
+step_uncounted h w s fault shown P Q made_so = onward fault (made h w s) made_so
+  where
+    onward : (e : StepFault) (o : Option World) → IsStep (Err e) o shown P → IsStep (Err e) (option_map (counted h) o) shown Q
+    onward NotPossible None m = tt
+    onward NotPossible (Some v) m = absurd m
+    onward Memory o m = tt
+    onward Spent o m = absurd m

@@ -1,0 +1,59 @@
+-- Words that are watched: what a write of another word leaves
+use Rattle.std.proofs.Common.{◌≡◌, ◌≢◌, ℕ, zero, suc, ◌+◌, ◌-◌, ◌*◌, ◌/◌, ◌<◌, ◌≤◌, ◌==◌, ◌&&◌, ◌||◌, ◌∙◌, Bool, true, false, if◌then◌else◌, nat_le, nat_lt, ap, refl, sym, arith, inl, inr}
+use Rattle.std.specs.List.{list_any, range_with_len}
+use Rattle.std.proofs.lemmas.Bool.{cases_Bool, le-ltb, cond-true, cond-false, false≢true, and_from, or_left, or_right, eq-eqb, ne_eqb, le-leb, lt-ltb}
+use Rattle.guest_memory.specs.Memory.{put}
+use Rattle.controller_model.specs.Watches.{is_changed_behind, may_touch}
+use Rattle.controller_model.proofs.ScribbleLemmas.{none_in_range}
+
+-- tests that agree on a range find the same there
+pub any_alike : (p q : ℕ → Bool) (from n : ℕ) → ((i : ℕ) → from ≤ i → i < from + n → p i ≡ q i) → list_any p (range_with_len from n) ≡ list_any q (range_with_len from n)
+any_alike p q from zero alike = refl
+any_alike p q from (suc n) alike =
+    ap (λ b. b || list_any p (range_with_len (from + 1) n)) (alike from (omega arith) (omega arith))
+    ∙ ap (λ b. q from || b) (any_alike p q (from + 1) n (λ i l h. alike i (omega arith) (omega arith)))
+
+put_elsewhere : (f : ℕ → ℕ) (at step a : ℕ) → at ≢ a → put f at step a ≡ f a
+put_elsewhere f at step a apart = cond-false (a == at) step (f a) (ne_eqb a at (λ same. apart (sym same)))
+
+module _ (block first words at : ℕ) (is_changed : Bool) (untouched : may_touch block first words at is_changed ≡ false) where
+  control_apart : at ≢ block + 12
+  control_apart same =
+      false≢true (sym untouched ∙ or_left (nat_le 12 at && at - 12 == block) (is_changed && (nat_le first at && nat_lt ((at - first) / 4) words))
+      (and_from (nat_le 12 at) (at - 12 == block) (le-leb 12 at (omega arith)) (eq-eqb (at - 12) block (omega arith))))
+
+  word_apart : (i : ℕ) → i < words → is_changed ≡ true → at ≢ first + 4 * i
+  word_apart i l changes same =
+      false≢true (sym untouched ∙ or_right (nat_le 12 at && at - 12 == block) (is_changed && (nat_le first at && nat_lt ((at - first) / 4) words))
+      (and_from is_changed (nat_le first at && nat_lt ((at - first) / 4) words) changes
+      (and_from (nat_le first at) (nat_lt ((at - first) / 4) words) (le-leb first at (omega arith)) (lt-ltb ((at - first) / 4) words (omega arith)))))
+
+  -- a write that doesn't touch them leaves the answer
+  pub still_watched : (changed written changed' written' : ℕ → ℕ) (step : ℕ) →
+      ((a : ℕ) → changed' a ≡ (if is_changed then put changed at step a else changed a)) → ((a : ℕ) → written' a ≡ put written at step a) →
+      is_changed_behind changed written block first words ≡ is_changed_behind changed' written' block first words
+  still_watched changed written changed' written' step changes writes =
+      any_alike (λ i. nat_lt (written (block + 12)) (changed (first + 4 * i))) (λ i. nat_lt (written' (block + 12)) (changed' (first + 4 * i))) 0 words
+      (λ i l h. ap (λ s. nat_lt s (changed (first + 4 * i))) (sym (writes (block + 12) ∙ put_elsewhere written at step (block + 12) control_apart))
+      ∙ ap (λ s. nat_lt (written' (block + 12)) s) (sym (changes (first + 4 * i) ∙ kept i (omega arith))))
+    where
+      kept : (i : ℕ) → i < words → (if is_changed then put changed at step (first + 4 * i) else changed (first + 4 * i)) ≡ changed (first + 4 * i)
+      kept i l = elim (cases_Bool is_changed) [
+        | inl on ↦
+            cond-true is_changed (put changed at step (first + 4 * i)) (changed (first + 4 * i)) on
+            ∙ put_elsewhere changed at step (first + 4 * i) (word_apart i l on)
+        | inr off ↦ cond-false is_changed (put changed at step (first + 4 * i)) (changed (first + 4 * i)) off
+      ]
+
+-- where no word was changed later than in a step, none was changed behind a block that was written in that step or later
+pub none_later : (changed written : ℕ → ℕ) (last block first words : ℕ) → ((a : ℕ) → changed a ≤ last) → last ≤ written (block + 12) →
+    is_changed_behind changed written block first words ≡ false
+none_later changed written last block first words latest late =
+    none_in_range (λ i. nat_lt (written (block + 12)) (changed (first + 4 * i))) 0 words
+    (λ i l h. not_later (written (block + 12)) (changed (first + 4 * i)) (below i))
+  where
+    below : (i : ℕ) → changed (first + 4 * i) ≤ written (block + 12)
+    below i = let there = latest (first + 4 * i) in omega arith
+
+    not_later : (a b : ℕ) → b ≤ a → nat_lt a b ≡ false
+    not_later a b l = le-ltb a b l

@@ -1,0 +1,79 @@
+use Rattle.std.proofs.Common.{◌≡◌, ◌∙◌, ap, sym, refl, option_map}
+use Rattle.std.proofs.lemmas.Result.{err_from_is_err_and}
+use Rattle.trb.specs.declared.ring_kind.RingKind.TheVariants.{Evt}
+use Rattle.segments.specs.Places.{address_of}
+use Rattle.traces.specs.Header.{event_shape, shape_or}
+use Rattle.controller_model.specs.declared.seen.Seen.TheVariants.{Posted}
+use Rattle.controller_model.specs.Finishes.{ended, finished}
+use Rattle.controller_model.specs.Completions.{completed}
+use Rattle.controller_model.specs.Following.{Follows}
+use Rattle.controller_model.proofs.LookBranches.{step_made, step_refused}
+use Rattle.controller_model.proofs.PostLemmas.{no_ring}
+use Rattle.controller_model.proofs.FinishLemmas.{finish_not_now, finish_not_so, finish_completed, made_of_part, step_fails}
+use Rattle.controller_model.proofs.finishes.finish.Goals as goal
+
+pub returns-in-None-clause-step : goal.returns-in-None-clause-step
+returns-in-None-clause-step g c = λ rows w f.
+    step_refused (finished c.args.header.now w c.args.block.now) (Posted (address_of (event_shape c.args.header.now) w.posted))
+    (Follows c.args.header.now rows (g.M.WordMemory.words c.args.memory.now) c.args.kept.now)
+    (finish_not_now c.args.header.now w c.args.block.now (no_ring c.args.header.now w c.args.block.now c.in-None.ensures))
+
+pub returns-then-not-can_post-clause-step : goal.returns-then-not-can_post-clause-step
+unfolding event_shape
+returns-then-not-can_post-clause-step g c = λ rows w f.
+    let same = ap (λ o. shape_or Evt o) c.in-Some.ensures in
+    let now = sym (c.can_post.ensures c.args.header.now rows (g.M.WordMemory.words c.args.memory.now) w same f) ∙ c.if-not-can_post.true in
+    step_refused (finished c.args.header.now w c.args.block.now) (Posted (address_of (event_shape c.args.header.now) w.posted))
+    (Follows c.args.header.now rows (g.M.WordMemory.words c.args.memory.now) c.args.kept.now)
+    (finish_not_now c.args.header.now w c.args.block.now now)
+
+pub returns-then-not-is_completion-clause-step : goal.returns-then-not-is_completion-clause-step
+unfolding event_shape
+returns-then-not-is_completion-clause-step g c = λ rows w f.
+    let same = ap (λ o. shape_or Evt o) c.in-Some.ensures in
+    let now = sym (c.can_post.ensures c.args.header.now rows (g.M.WordMemory.words c.args.memory.now) w same f) ∙ c.if-not-can_post.false in
+    step_refused (finished c.args.header.now w c.args.block.now) (Posted (address_of (event_shape c.args.header.now) w.posted))
+    (Follows c.args.header.now rows (g.M.WordMemory.words c.args.memory.now) c.args.kept.now)
+    (finish_not_so c.args.header.now w c.args.block.now now (sym c.is_completion.ensures ∙ c.if-not-is_completion.true))
+
+pub returns-in_err-complete-clause-step : goal.returns-in_err-complete-clause-step
+unfolding event_shape
+returns-in_err-complete-clause-step g c = λ rows w f.
+    let h = c.args.header.now in
+    let b = c.args.block.now in
+    let words = g.M.WordMemory.words c.args.memory.now in
+    let same = ap (λ o. shape_or Evt o) c.in-Some.ensures in
+    let now = sym (c.can_post.ensures h rows words w same f) ∙ c.if-not-can_post.false in
+    let so = sym c.is_completion.ensures ∙ c.if-not-is_completion.false in
+    let p = err_from_is_err_and c.from_residual.result c.from_residual.ensures.1 in
+    rw (p.1, p.2)
+    (step_fails (Unit {0}) c.in_err-complete.field-0.0 (completed h w b w.under_way) (finished h w b) (λ v. ended h v b) (Posted (address_of (event_shape h) w.posted))
+    (Follows h rows words c.complete.new.kept) (Follows h rows words c.complete.new.kept) (finish_completed h w b now so) (c.in_err-complete.ensures.change rows w f))
+
+pub returns-clause-step : goal.returns-clause-step
+unfolding event_shape ended
+returns-clause-step g c = λ rows w f.
+    let h = c.args.header.now in
+    let b = c.args.block.now in
+    let words = g.M.WordMemory.words c.args.memory.now in
+    let same = ap (λ o. shape_or Evt o) c.in-Some.ensures in
+    let now = sym (c.can_post.ensures h rows words w same f) ∙ c.if-not-can_post.false in
+    let so = sym c.is_completion.ensures ∙ c.if-not-is_completion.false in
+    let made = made_of_part (Unit {0}) tt (completed h w b w.under_way) (Follows h rows words c.complete.new.kept) (c.in_ok-complete.ensures.change rows w f) in
+    let there : c.in_ok-at.at ≡ address_of (event_shape h) w.posted =
+    c.in_ok-at.ensures.place ∙ (λ i. address_of (same i) ((ap (λ e. e.posted) c.complete.ensures.rest.events ∙ sym f.events.posted) i)) in
+    let after = c.in_ok-at.ensures.posted h rows made.after same made.holds in
+    step_made (finished h w b) (ended h made.after b) (Posted c.in_ok-at.at) (Posted (address_of (event_shape h) w.posted)) _
+    (finish_completed h w b now so ∙ ap (λ o. option_map (λ v. ended h v b) o) made.is) (ap Posted there)
+    (record {
+      progress = after.progress;
+      registers = after.registers;
+      held = after.held;
+      beyond = after.beyond;
+      rings = after.rings;
+      slots = after.slots;
+      endpoints = after.endpoints;
+      events = after.events;
+      under_way = refl;
+      looked = after.looked;
+    })

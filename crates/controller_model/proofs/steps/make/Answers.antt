@@ -1,0 +1,63 @@
+use Rattle.std.proofs.Common.{◌≡◌, ◌∙◌, Option, ap, refl, true, false}
+use Rattle.segments.specs.Places.{address_of}
+use Rattle.trb.specs.Block.{block_at}
+use Rattle.traces.specs.Header.{event_shape}
+use Rattle.world_state.specs.World.{World}
+use Rattle.controller_model.specs.declared.seen.Seen.TheVariants.{Row as RowSeen, Posted, Scribbled}
+use Rattle.controller_model.specs.DriverRows.{next_row}
+use Rattle.controller_model.specs.Looks.{looked}
+use Rattle.controller_model.specs.Posts.{reported, other_posted}
+use Rattle.controller_model.specs.Finishes.{finished}
+use Rattle.controller_model.specs.Showing.{look_shows, shows}
+use Rattle.controller_model.specs.Steps.{made, scribbled}
+use Rattle.controller_model.specs.Following.{Follows}
+use Rattle.controller_model.proofs.LookBranches.{step_along}
+use Rattle.controller_model.proofs.StepLemmas.{running}
+use Rattle.controller_model.proofs.steps.make.Goals as goal
+
+pub returns-in-NextRow-clause-step : goal.returns-in-NextRow-clause-step
+unfolding made shows
+returns-in-NextRow-clause-step g c = λ w f.
+    step_along c.next_row.result (made c.args.trace.now.header w c.args.step.now) (next_row c.args.trace.now.header w w.rows) (shows c.args.trace.now.header w c.args.step.now) RowSeen
+    (Follows c.args.trace.now.header c.args.trace.now.rows (g.M.WordMemory.words c.next_row.new.memory) c.next_row.new.kept)
+    (ap (λ s. made c.args.trace.now.header w s) c.in-NextRow.is) (ap (λ s. shows c.args.trace.now.header w s) c.in-NextRow.is) (c.next_row.ensures.step w f)
+
+pub returns-in-Look-clause-step : goal.returns-in-Look-clause-step
+unfolding made shows
+returns-in-Look-clause-step g c = λ w f.
+    step_along c.look.result (made c.args.trace.now.header w c.args.step.now) (looked c.args.trace.now.header w c.in-Look.ring) (shows c.args.trace.now.header w c.args.step.now) (look_shows w c.in-Look.ring (block_at w.memory (w.pointer_of c.in-Look.ring)))
+    (Follows c.args.trace.now.header c.args.trace.now.rows (g.M.WordMemory.words c.args.memory.now) c.look.new.kept)
+    (ap (λ s. made c.args.trace.now.header w s) c.in-Look.is ∙ running c.args.trace.now.header w (looked c.args.trace.now.header w c.in-Look.ring) (f.progress.stopped ∙ c.if-kept.false))
+    (ap (λ s. shows c.args.trace.now.header w s) c.in-Look.is) (c.look.ensures.step c.args.trace.now.rows w f)
+
+pub returns-in-Report-clause-step : goal.returns-in-Report-clause-step
+unfolding made shows
+returns-in-Report-clause-step g c = λ w f.
+    step_along c.report.result (made c.args.trace.now.header w c.args.step.now) (reported c.args.trace.now.header w c.in-Report.event) (shows c.args.trace.now.header w c.args.step.now) (Posted (address_of (event_shape c.args.trace.now.header) w.posted))
+    (Follows c.args.trace.now.header c.args.trace.now.rows (g.M.WordMemory.words c.report.new.memory) c.report.new.kept)
+    (ap (λ s. made c.args.trace.now.header w s) c.in-Report.is ∙ running c.args.trace.now.header w (reported c.args.trace.now.header w c.in-Report.event) (f.progress.stopped ∙ c.if-kept.false))
+    (ap (λ s. shows c.args.trace.now.header w s) c.in-Report.is) (c.report.ensures.step c.args.trace.now.rows w f)
+
+pub returns-in-Finish-clause-step : goal.returns-in-Finish-clause-step
+unfolding made shows
+returns-in-Finish-clause-step g c = λ w f.
+    step_along c.finish.result (made c.args.trace.now.header w c.args.step.now) (finished c.args.trace.now.header w c.in-Finish.event) (shows c.args.trace.now.header w c.args.step.now) (Posted (address_of (event_shape c.args.trace.now.header) w.posted))
+    (Follows c.args.trace.now.header c.args.trace.now.rows (g.M.WordMemory.words c.finish.new.memory) c.finish.new.kept)
+    (ap (λ s. made c.args.trace.now.header w s) c.in-Finish.is ∙ running c.args.trace.now.header w (finished c.args.trace.now.header w c.in-Finish.event) (f.progress.stopped ∙ c.if-kept.false))
+    (ap (λ s. shows c.args.trace.now.header w s) c.in-Finish.is) (c.finish.ensures.step c.args.trace.now.rows w f)
+
+pub returns-in-Other-clause-step : goal.returns-in-Other-clause-step
+unfolding made shows
+returns-in-Other-clause-step g c = λ w f.
+    step_along c.post_other.result (made c.args.trace.now.header w c.args.step.now) (other_posted c.args.trace.now.header w c.in-Other.event) (shows c.args.trace.now.header w c.args.step.now) (Posted (address_of (event_shape c.args.trace.now.header) w.posted))
+    (Follows c.args.trace.now.header c.args.trace.now.rows (g.M.WordMemory.words c.post_other.new.memory) c.post_other.new.kept)
+    (ap (λ s. made c.args.trace.now.header w s) c.in-Other.is ∙ running c.args.trace.now.header w (other_posted c.args.trace.now.header w c.in-Other.event) (f.progress.stopped ∙ c.if-kept.false))
+    (ap (λ s. shows c.args.trace.now.header w s) c.in-Other.is) (c.post_other.ensures.step c.args.trace.now.rows w f)
+
+pub returns-in-Scribble-clause-step : goal.returns-in-Scribble-clause-step
+unfolding made shows
+returns-in-Scribble-clause-step g c = λ w f.
+    step_along c.scribble.result (made c.args.trace.now.header w c.args.step.now) (scribbled c.args.trace.now.header w c.in-Scribble.at c.in-Scribble.word) (shows c.args.trace.now.header w c.args.step.now) Scribbled
+    (Follows c.args.trace.now.header c.args.trace.now.rows (g.M.WordMemory.words c.scribble.new.memory) c.scribble.new.kept)
+    (ap (λ s. made c.args.trace.now.header w s) c.in-Scribble.is ∙ running c.args.trace.now.header w (scribbled c.args.trace.now.header w c.in-Scribble.at c.in-Scribble.word) (f.progress.stopped ∙ c.if-kept.false))
+    (ap (λ s. shows c.args.trace.now.header w s) c.in-Scribble.is) (c.scribble.ensures.step c.args.trace.now.rows w f)

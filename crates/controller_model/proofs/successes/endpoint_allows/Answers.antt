@@ -1,0 +1,8 @@
+use Rattle.std.proofs.Common.{◌∙◌, is_some, ap}
+use Rattle.commands.specs.States.{endpoint_success}
+use Rattle.controller_model.proofs.successes.endpoint_allows.Goals as goal
+
+pub returns : goal.returns
+returns c = λ h rows words w f.
+    c.is_some.ensures ∙ ap (λ o. is_some o) c.after.ensures
+    ∙ ap (λ s. is_some (endpoint_success c.args.command.now s)) (c.endpoint_meant.ensures h rows words w f)
