@@ -15,7 +15,7 @@ use Rattle.segments.specs.Givings.{has_no_room}
 use Rattle.ring_knowledge.specs.declared.ring_record.RingRecord.{RingRecord}
 use Rattle.ring_knowledge.specs.RingRecords.{ArePositive, FollowsMarks}
 
-sum-cons : (d : ℕ) (ds : List ℕ) → sum (d ∷ ds) ≡ d + sum ds
+pub sum-cons : (d : ℕ) (ds : List ℕ) → sum (d ∷ ds) ≡ d + sum ds
 sum-cons d ds = sum_by-cons (λ x. x) d ds
 
 -- one descriptor more: the others begin where they began

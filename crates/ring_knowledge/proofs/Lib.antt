@@ -12,4 +12,12 @@ pub mod WholeDescriptors
 pub mod GivenCount
 pub mod ClearedMarks
 pub mod ReachedSpots
+pub mod FinishedBlocks
 pub mod RegisterWrites
+pub mod SpotsAt
+pub mod SpotsBetween
+pub mod NamedNow
+pub mod StopSpots
+pub mod Borders
+pub mod MoveTests
+pub mod PassedBlocks

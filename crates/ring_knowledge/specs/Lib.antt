@@ -6,6 +6,7 @@ pub mod Transfers
 pub mod Completions
 pub mod Learned
 pub mod Marks
+pub mod SpotsAt
 pub mod RingRecords
 pub mod RegisterRecords
 pub mod OnLiterals

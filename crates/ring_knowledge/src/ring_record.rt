@@ -11,7 +11,12 @@ ghost use Rattle.segments.specs.Givings.{has_no_room, is_not_whole};
 ghost use Rattle.segments.specs.RingView.{RingView, Declares, Holds, Opens, Reaches, Writes, changed, crossings_given, declared, floor_number, gives, gives_crossing, leased_crossings, leased_positions, new_ring, positions_given};
 ghost use Rattle.ring_knowledge.specs.Marks.{AreCleared, is_noted};
 
+mod changes;
+mod moves;
+mod spots;
+
 use guest_memory::Addr;
+pub use moves::is_data_below;
 use segments::{Place, RingShape, Spot};
 use std::alloc::{AllocError, Global};
 use trb::Block;
@@ -303,6 +308,14 @@ impl RingRecord {
         ensures { (shape : Shape) (v : RingView) → FollowsRing shape v self.now → result ≡ v.floor }
     {
         self.floor
+    }
+
+    /// The number of that spot: the position that the controller finishes next.
+    pub fn floor_number(&self) -> u64
+        ensures value { (shape : Shape) (v : RingView) → FollowsRing shape v self.now → result ≡ floor_number v }
+        ensures fits { result < 2 ^ 63 }
+    {
+        number(self.floor)
     }
 
     /// Opens the ring.

@@ -1,7 +1,8 @@
-use crate::{RingGiving, RingRecord};
+use crate::{RegisterRecord, RingGiving, RingRecord};
 use guest_memory::Addr;
 use segments::{RingShape, Spot};
 use std::test::Fail;
+use traces::Register;
 use trb::{Block, RingKind};
 
 fn at(value: u64) -> Result<Addr, Fail> {
@@ -59,6 +60,75 @@ fn a_descriptor_over_a_link(rt: HostRuntime) -> Result<(), Fail> {
 }
 
 #[test]
+fn names_of_spots(rt: HostRuntime) -> Result<(), Fail> {
+    let shape = RingShape::new(rt.alloc(), RingKind::Xfer, &[(0x80000, 3), (0x81000, 3)])?;
+    let mut record = RingRecord::new(rt.alloc(), &shape)?;
+    record.declare(&[block(1)])?;
+    record.declare(&[block(2), block(3)])?;
+    assert_eq!(rt; record.named(&shape, 0x80010), Some(Spot::Data(1)));
+    assert_eq!(rt; record.named(&shape, 0x80020), Some(Spot::Link(2)));
+    assert_eq!(rt; record.named(&shape, 0x81010), Some(Spot::Data(3)));
+    assert_eq!(rt; record.named(&shape, 0x81020), None);
+    assert_eq!(rt; record.named(&shape, 0x80014), None);
+    assert_eq!(rt; record.named(&shape, 0x82000), None);
+    assert_eq!(rt; record.target(&shape, 0x81010, true), Some(Spot::Data(3)));
+    assert_eq!(rt; record.target(&shape, 0x80020, true), Some(Spot::Link(2)));
+    assert_eq!(rt; record.target(&shape, 0x81010, false), None);
+    assert_eq!(rt; record.target(&shape, 0x81020, true), None);
+    Ok(())
+}
+
+#[test]
+fn events_and_moves(rt: HostRuntime) -> Result<(), Fail> {
+    let shape = RingShape::new(rt.alloc(), RingKind::Xfer, &[(0x80000, 3), (0x81000, 3)])?;
+    let mut record = RingRecord::new(rt.alloc(), &shape)?;
+    record.declare(&[block(1)])?;
+    record.declare(&[block(2), block(3)])?;
+    for control in [0x8100c, 0x8002c, 0x8001c, 0x8000c] {
+        record.note_write(&shape, at(control)?, 1);
+    }
+    record.open();
+    assert!(rt; crate::is_data_below(record.ceiling(), Spot::Data(2)));
+    assert!(rt; !crate::is_data_below(record.ceiling(), Spot::Data(3)));
+    assert!(rt; !crate::is_data_below(record.ceiling(), Spot::Link(2)));
+    assert!(rt; record.is_stop_spot(&shape, Spot::Data(3)));
+    assert!(rt; !record.is_stop_spot(&shape, Spot::Link(4)));
+    assert_eq!(rt; record.stopped_number(Spot::Data(0)), 1);
+    assert_eq!(rt; record.stopped_number(Spot::Data(3)), 3);
+    assert_eq!(rt; record.stopped_number(Spot::Link(2)), 2);
+
+    // two blocks are finished, and the controller is stopped at the Link behind them
+    record.pass(&shape, Spot::Data(0));
+    assert_eq!(rt; record.floor(), Spot::Data(1));
+    record.pass(&shape, Spot::Data(1));
+    assert_eq!(rt; record.floor(), Spot::Link(2));
+    record.stop_at(&shape, Spot::Link(2));
+    assert_eq!(rt; record.ceiling(), 2);
+
+    // the block at 0x81000 is inside a descriptor
+    assert!(rt; !record.may_move_on(&shape, 0x81000, true));
+    assert!(rt; !record.may_move_on(&shape, 0x81010, false));
+    assert!(rt; record.may_move_on(&shape, 0x81010, true));
+    assert!(rt; record.may_stay(&shape, 0x81010, true));
+    assert!(rt; !record.may_stay(&shape, 0x80020, true));
+    record.set_to(&shape, Spot::Data(3));
+    assert_eq!(rt; record.floor(), Spot::Data(3));
+    assert_eq!(rt; record.ceiling(), 3);
+
+    record.declare(&[block(4)])?;
+    record.note_write(&shape, at(0x8101c)?, 1);
+    record.open();
+    record.break_off(&shape, Spot::Data(3));
+    assert_eq!(rt; record.floor(), Spot::Link(4));
+    assert_eq!(rt; record.ceiling(), 4);
+    record.open();
+    record.hold_at_ceiling();
+    assert!(rt; !record.is_open());
+    assert_eq!(rt; record.ceiling(), 4);
+    Ok(())
+}
+
+#[test]
 fn a_second_lap(rt: HostRuntime) -> Result<(), Fail> {
     let shape = RingShape::new(rt.alloc(), RingKind::Xfer, &[(0x80000, 3), (0x81000, 3)])?;
     let mut record = RingRecord::new(rt.alloc(), &shape)?;
@@ -102,5 +172,30 @@ fn a_second_lap(rt: HostRuntime) -> Result<(), Fail> {
         record.given_by(&shape, at(0x8002c)?, 0),
         Some(RingGiving::Crossing(6))
     );
+    Ok(())
+}
+
+#[test]
+fn a_start_and_a_stop(rt: HostRuntime) -> Result<(), Fail> {
+    let mut record = RegisterRecord::new();
+    assert_eq!(rt; record.value(Register::Crcr), None);
+    record.write(Register::Crcr, 0x10001);
+    record.write(Register::Erdp, 0x20000);
+    record.write(Register::Erdp, 0x20010);
+    assert_eq!(rt; record.value(Register::Crcr), Some(0x10001));
+    assert_eq!(rt; record.value(Register::Erdp), Some(0x20010));
+    assert_eq!(rt; record.value(Register::Usbcmd), None);
+
+    // a reset that sets R/S too starts nothing
+    record.write(Register::Usbcmd, 3);
+    assert!(rt; !record.is_started());
+    record.write(Register::Usbcmd, 1);
+    assert!(rt; record.is_started());
+    assert!(rt; !record.is_stopped());
+    record.write(Register::Usbcmd, 5);
+    assert!(rt; !record.is_stopped());
+    record.write(Register::Usbcmd, 4);
+    assert!(rt; record.is_stopped());
+    assert!(rt; record.is_started());
     Ok(())
 }

@@ -1,0 +1,11 @@
+pub mod Fields
+pub mod Steps
+pub mod NewRecord
+pub mod Bells
+pub mod TransferEvents
+pub mod Moves
+pub mod Placing
+pub mod TurnedOff
+pub mod OtherRows
+pub mod NamedCommands
+pub mod NamedEndpoints

@@ -1,0 +1,18 @@
+-- The endpoints that a command disables are those of the test by which its success disables them
+use Rattle.std.specs.Prelude.{◌≡◌, ℕ, ◌&&◌, true, nat_le}
+use Rattle.commands.specs.Changes.{is_above_control}
+use Rattle.contexts.specs.Contexts.{has_flag, is_dropped}
+use Rattle.device_record.specs.declared.disabling.Named.TheVariants.{All, AboveControl, Dropped}
+use Rattle.device_record.specs.Endpoints.{named_by}
+
+-- Disable Slot
+pub named_all : named_by All ≡ (λ i. true)
+named_all = λ k i. true
+
+-- Configure Endpoint with DC, and Reset Device
+pub named_above_control : named_by AboveControl ≡ is_above_control
+named_above_control = λ k i. nat_le 2 i
+
+-- Configure Endpoint, with the Drop Context flags of the input context at address a
+pub named_dropped : (memory : ℕ → ℕ) (a flags : ℕ) → flags ≡ memory a → named_by (Dropped flags) ≡ is_dropped memory a
+named_dropped memory a flags is = λ k i. nat_le 2 i && has_flag (is k) i

@@ -1,0 +1,93 @@
+-- Rows by which nothing changes that the record speaks of
+use Rattle.std.proofs.Common.{◌≡◌, ℕ, ◌+◌, ◌&&◌, ◌||◌, not, if◌then◌else◌, Bool, true, false, List, Option, None, sym, subst, refl}
+use Rattle.std.specs.Prelude.{option_and_then}
+use Rattle.trb.specs.declared.block.Block.{Block}
+use Rattle.trb.specs.declared.kind.BlockKind.{BlockKind}
+use Rattle.trb.specs.declared.kind.BlockKind.TheVariants.{TransferEvent, CommandCompletion}
+use Rattle.trb.specs.Block.{kind}
+use Rattle.segments.specs.RingView.{RingChange}
+use Rattle.traces.specs.declared.header.Header.{Header}
+use Rattle.traces.specs.declared.register.Register.{Register}
+use Rattle.traces.specs.declared.register.Register.TheVariants.{Usbcmd, Erdp}
+use Rattle.traces.specs.declared.row.Row.TheVariants.{Sub, Write, Reg, Bell, Read}
+use Rattle.traces.specs.Header.{command_id}
+use Rattle.traces.specs.Register.{run_bit, reset_bit}
+use Rattle.ring_knowledge.specs.Known.{Known}
+use Rattle.ring_knowledge.specs.Rings.{on_ring, command_at, next_command}
+use Rattle.ring_knowledge.specs.Writes.{taken_device, command_given, with_device, with_word, written}
+use Rattle.ring_knowledge.specs.Registers.{run_or_stop, valued, register_written, rung}
+use Rattle.ring_knowledge.specs.Transfers.{transfer_read}
+use Rattle.ring_knowledge.specs.Completions.{finished, completed}
+use Rattle.ring_knowledge.specs.Learned.{event_read, learned}
+use Rattle.device_record.specs.declared.kept.DeviceRecord.{DeviceRecord}
+use Rattle.device_record.specs.Devices.{FollowsDevices}
+use Rattle.device_record.proofs.Steps.{beside, follows_beside}
+use Rattle.device_record.proofs.Bells.{follows_first}
+
+-- how many events were read
+counted : (k : Known) (n : ℕ) (d : DeviceRecord) → FollowsDevices k d → FollowsDevices (record k { reads = n }) d
+counted k n d f = follows_beside k (record k { reads = n }) d f
+
+started_or_not : (k : Known) (d : DeviceRecord) → FollowsDevices k d → (a b c : Bool) →
+    FollowsDevices (if a then (if b then record k { started = true } else k) else (if c then record k { stopped = true } else k)) d
+started_or_not k d f true true c = follows_beside k (record k { started = true }) d f
+started_or_not k d f true false c = f
+started_or_not k d f false b true = follows_beside k (record k { stopped = true }) d f
+started_or_not k d f false b false = f
+
+pub after_run : (k : Known) (v : ℕ) (d : DeviceRecord) → FollowsDevices k d → FollowsDevices (run_or_stop k v) d
+unfolding run_or_stop
+after_run k v d f = started_or_not k d f (not k.started) (run_bit v && not (reset_bit v)) (not (run_bit v) || reset_bit v)
+
+module _ (h : Header) (k : Known) (d : DeviceRecord) (f : FollowsDevices k d) where
+  -- something happens on a ring
+  pub after_ring : (r : ℕ) (c : RingChange) → FollowsDevices (on_ring h k r c) d
+  unfolding on_ring
+  after_ring r c = follows_beside k (on_ring h k r c) d f
+
+  pub after_declaration : (r : ℕ) (blocks : List Block) → FollowsDevices (learned h k (Sub r blocks)) d
+  unfolding learned on_ring
+  after_declaration r blocks = follows_beside k (learned h k (Sub r blocks)) d f
+
+  -- a word is written, before a device context comes under lease by it
+  pub after_word : (a word : ℕ) → FollowsDevices (with_word h k a word) d
+  unfolding with_word
+  after_word a word = follows_beside k (with_word h k a word) d f
+
+  -- a write by which no device context comes under lease
+  pub after_write : (a word : ℕ) → option_and_then (taken_device k) (command_given h k a word) ≡ None → FollowsDevices (learned h k (Write a word)) d
+  unfolding learned written with_device
+  after_write a word none = subst (λ o. FollowsDevices (with_device h (with_word h k a word) o) d) (sym none) (after_word a word)
+
+  pub after_register : (r : Register) (v : ℕ) → FollowsDevices (learned h k (Reg r v)) d
+  unfolding learned register_written valued
+  after_register Usbcmd v = after_run (valued k Usbcmd v) v d (follows_beside k (valued k Usbcmd v) d f)
+  after_register r v = follows_beside k (register_written h k r v) d f
+
+  -- the host controller's doorbell
+  pub after_command_bell : (t : ℕ) → FollowsDevices (learned h k (Bell 0 t)) d
+  unfolding learned
+  after_command_bell t = follows_first h k 0 t d f refl
+
+  by_kind : (b : Block) (t : BlockKind) → (t ≡ TransferEvent → ⊥) → (t ≡ CommandCompletion → ⊥) → FollowsDevices (record (event_read h k t b) { reads = k.reads + 1 }) d
+  unfolding event_read
+  by_kind b TransferEvent no_transfer no_completion = absurd (no_transfer refl)
+  by_kind b CommandCompletion no_transfer no_completion = absurd (no_completion refl)
+  by_kind b _ no_transfer no_completion = counted k (k.reads + 1) d f
+
+  -- an event that is neither a Transfer Event nor a Command Completion Event
+  pub after_other_event : (b : Block) → (kind b ≡ TransferEvent → ⊥) → (kind b ≡ CommandCompletion → ⊥) → FollowsDevices (learned h k (Read b)) d
+  unfolding learned
+  after_other_event b no_transfer no_completion = by_kind b (kind b) no_transfer no_completion
+
+-- the rest of what a Transfer Event does, and of a Command Completion Event
+module _ (h : Header) (k : Known) (d : DeviceRecord) (b : Block) where
+  pub after_transfer : kind b ≡ TransferEvent → FollowsDevices (transfer_read h k b) d → FollowsDevices (learned h k (Read b)) d
+  unfolding learned event_read
+  after_transfer is f = subst (λ t. FollowsDevices (record (event_read h k t b) { reads = k.reads + 1 }) d) (sym is) (counted (transfer_read h k b) (k.reads + 1) d f)
+
+  pub after_completion : kind b ≡ CommandCompletion → FollowsDevices (finished h k b (command_at h k (next_command h k))) d → FollowsDevices (learned h k (Read b)) d
+  unfolding learned event_read completed
+  after_completion is f =
+      subst (λ t. FollowsDevices (record (event_read h k t b) { reads = k.reads + 1 }) d) (sym is)
+      (counted (completed h k b) (k.reads + 1) d (after_ring h (finished h k b (command_at h k (next_command h k))) d f (command_id h) _))

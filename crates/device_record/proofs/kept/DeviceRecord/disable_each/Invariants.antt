@@ -1,0 +1,9 @@
+use Rattle.std.proofs.Common.{◌&&◌}
+use Rattle.std.specs.Prelude.{nat_lt}
+use Rattle.device_record.specs.Endpoints.{named_by}
+use Rattle.device_record.specs.Devices.{IsDisabled}
+use Rattle.device_record.proofs.kept.DeviceRecord.disable_each.Given as goal
+
+-- those below the index are disabled
+abbrev pub invariant-loop-index : goal.invariant-loop-index
+invariant-loop-index l = IsDisabled l.initial.self l.self l.slot (λ i. named_by l.named i && nat_lt i l.index)

@@ -1,0 +1,15 @@
+use Rattle.std.proofs.Common.{◌≡◌, ◌∙◌, unwrap_or, ap, sym}
+use Rattle.commands.specs.declared.state.SlotState.{SlotState}
+use Rattle.commands.specs.States.{slot_success}
+use Rattle.ring_knowledge.specs.Completions.{changed_by}
+use Rattle.device_record.specs.declared.kept.Slot.{Slot}
+use Rattle.device_record.proofs.Steps.{follows_slot_state}
+use Rattle.device_record.proofs.kept.DeviceRecord.go_on.Goals as goal
+
+pub returns : goal.returns
+unfolding changed_by
+returns c = λ h k f.
+    let now : k.slot_state c.args.slot ≡ c.slot-kept.result.state = f.slot_state c.args.slot ∙ sym (ap (λ (x : Slot). x.state) c.slot-kept.ensures) in
+    follows_slot_state k c.args.self.now c.set_slot.new.self f c.args.slot _ (unwrap_or (slot_success c.args.command.now (k.slot_state c.args.slot)) (k.slot_state c.args.slot))
+    c.set_slot.ensures (ap (λ (s : SlotState). unwrap_or (slot_success c.args.command.now s) s) now ∙ sym c.gone_on.ensures)
+    (sym (ap (λ (x : Slot). x.device) c.slot-kept.ensures))

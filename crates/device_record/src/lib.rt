@@ -1,0 +1,15 @@
+//! What one pass over a trace keeps of device slots, endpoints and the rings that they are bound to.
+#![tactic(auto)]
+
+mod changes;
+mod disabling;
+mod kept;
+mod questions;
+#[cfg(test)]
+mod tests;
+mod transfers;
+mod unfinished;
+
+pub use disabling::Named;
+pub use kept::DeviceRecord;
+pub use unfinished::UnfinishedCommands;

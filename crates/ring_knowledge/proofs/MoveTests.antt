@@ -1,0 +1,86 @@
+-- The test of a move, at the one spot that a pointer and a cycle state name
+use Rattle.std.proofs.Common.{◌≡◌, ℕ, ◌+◌, ◌-◌, ◌<◌, ◌≤◌, List, [], ◌∷◌, Bool, true, false, Some, None, refl, ap, sym, ◌∙◌, arith, inl, inr}
+use Rattle.std.specs.Prelude.{◌&&◌, ◌||◌, All, find}
+use Rattle.std.specs.List.{list_any, flat_map, range_with_len}
+use Rattle.std.proofs.lemmas.Bool.{cases_Bool, cond-true, cond-false, and_parts, or_cases, false≢true}
+use Rattle.std.proofs.lemmas.Option.{none-some}
+use Rattle.std.proofs.lemmas.List.Elements.{All-head, All-tail, All-weaker}
+use Rattle.segments.specs.declared.spot.Spot.{Spot}
+use Rattle.segments.specs.declared.spot.Spot.TheVariants.{Data, Link}
+use Rattle.segments.specs.ShapeValue.{Shape}
+use Rattle.segments.specs.Shape.{IsShape}
+use Rattle.segments.specs.Places.{place_count}
+use Rattle.segments.specs.Spots.{number}
+use Rattle.segments.specs.RingView.{RingView}
+use Rattle.segments.specs.Moves.{is_target, spots_between, may_move_to, is_move}
+use Rattle.segments.proofs.Named.{found_is}
+use Rattle.segments.proofs.MoveTargets.{between}
+use Rattle.ring_knowledge.proofs.SpotsBetween.{target_parts, one_between}
+
+module _ (f g : Spot → Bool) where
+  -- where none passes the first test, none passes both
+  any_none : (xs : List Spot) → find f xs ≡ None → list_any (λ u. f u && g u) xs ≡ false
+  any_none [] none = refl
+  any_none (x ∷ rest) none =
+      elim (cases_Bool (f x)) [
+        | inl passes ↦ absurd (none-some x (sym none ∙ cond-true (f x) (Some x) (find f rest) passes))
+        | inr fails ↦
+            ap (λ b. (b && g x) || list_any (λ u. f u && g u) rest) fails
+            ∙ any_none rest (sym (cond-false (f x) (Some x) (find f rest) fails) ∙ none)
+      ]
+
+  module _ (t : Spot) where
+    any_passes : (xs : List Spot) → All (λ u. f u ≡ true → u ≡ t) xs → list_any (λ u. f u && g u) xs ≡ true → g t ≡ true
+    any_passes [] only any = absurd (false≢true any)
+    any_passes (x ∷ rest) only any =
+        elim (or_cases (f x && g x) (list_any (λ u. f u && g u) rest) any) [
+          | inl here ↦
+              let parts = and_parts (f x) (g x) here in
+              ap g (sym (All-head (λ u. f u ≡ true → u ≡ t) x rest only parts.0)) ∙ parts.1
+          | inr later ↦ any_passes rest (All-tail (λ u. f u ≡ true → u ≡ t) x rest only) later
+        ]
+
+    or_same : (a b : Bool) → (b ≡ true → a ≡ true) → (a || b) ≡ a
+    or_same true b h = refl
+    or_same false true h = sym (h refl)
+    or_same false false h = refl
+
+    -- where one alone passes it, that one decides
+    any_only : (xs : List Spot) → find f xs ≡ Some t → All (λ u. f u ≡ true → u ≡ t) xs → list_any (λ u. f u && g u) xs ≡ g t
+    any_only [] found only = absurd (none-some t found)
+    any_only (x ∷ rest) found only =
+        let tail = All-tail (λ u. f u ≡ true → u ≡ t) x rest only in
+        elim (cases_Bool (f x)) [
+          | inl passes ↦
+              let same : x ≡ t = All-head (λ u. f u ≡ true → u ≡ t) x rest only passes in
+              ap (λ b. (b && g x) || list_any (λ u. f u && g u) rest) passes ∙ ap (λ u. g u || list_any (λ w. f w && g w) rest) same
+              ∙ or_same (g t) (list_any (λ u. f u && g u) rest) (any_passes rest tail)
+          | inr fails ↦
+              ap (λ b. (b && g x) || list_any (λ u. f u && g u) rest) fails
+              ∙ any_only rest (sym (cond-false (f x) (Some x) (find f rest) fails) ∙ found) tail
+        ]
+
+module _ (shape : Shape) (v : RingView) (address : ℕ) (cycle : Bool) (least most : ℕ) where
+  pub no_move : None ≡ find (is_target shape address cycle) (spots_between least most) → false ≡ is_move shape v address cycle least most
+  unfolding is_move
+  no_move none = sym (any_none (is_target shape address cycle) (may_move_to shape v) (spots_between least most) (sym none))
+
+  -- between two numbers of which the second is lower lies no spot
+  pub no_move_between : most < least → false ≡ is_move shape v address cycle least most
+  unfolding is_move spots_between
+  no_move_between none =
+      let empty : most + 1 - least ≡ 0 = omega arith in
+      sym (ap (λ n. list_any (λ u. is_target shape address cycle u && may_move_to shape v u) (flat_map (λ q. Link q ∷ Data q ∷ []) (range_with_len least n))) empty)
+
+  pub one_move : IsShape shape → most < least + place_count shape → (t : Spot) → Some t ≡ find (is_target shape address cycle) (spots_between least most) →
+      may_move_to shape v t ≡ is_move shape v address cycle least most
+  unfolding is_move
+  one_move is near t found =
+      let P = λ (u : Spot). (least ≤ number u) × (number u ≤ most) in
+      let at = found_is (is_target shape address cycle) P (spots_between least most) t (sym found) (between least most) in
+      let there = target_parts shape address cycle t at.0 in
+      let only : All (λ u. is_target shape address cycle u ≡ true → u ≡ t) (spots_between least most) =
+      All-weaker P (λ u. is_target shape address cycle u ≡ true → u ≡ t) (λ u bounds passes.
+      let here = target_parts shape address cycle u passes in
+      one_between shape is least most near u t here.0 there.0 bounds.0 bounds.1 at.1.0 at.1.1 (here.1 ∙ sym there.1)) (spots_between least most) (between least most) in
+      sym (any_only (is_target shape address cycle) (may_move_to shape v) t (spots_between least most) (sym found) only)

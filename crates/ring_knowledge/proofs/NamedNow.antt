@@ -1,0 +1,66 @@
+-- What an event names, and where a pointer and a cycle state stand, by the first spot at an address
+use Rattle.std.proofs.Common.{◌≡◌, ◌≢◌, ℕ, ◌<◌, ◌≤◌, Bool, Option, Some, None, ap, sym, ◌∙◌, arith, inl, inr, subst}
+use Rattle.std.specs.Prelude.{◌^◌, IfSome, find}
+use Rattle.segments.specs.declared.spot.Spot.{Spot}
+use Rattle.segments.specs.ShapeValue.{Shape}
+use Rattle.segments.specs.Spots.{IsSpot, number, spot_address, named_spot}
+use Rattle.segments.specs.RingView.{RingView, declared, floor_number}
+use Rattle.segments.specs.Ceiling.{named}
+use Rattle.segments.specs.Moves.{is_target, spots_between, target}
+use Rattle.segments.proofs.Search.{cases_option}
+use Rattle.segments.proofs.SpotOrder.{rank_least, rank_most}
+use Rattle.segments.proofs.NamedSpots.{IsNamed, named_spot-Some, named_spot-is}
+use Rattle.ring_knowledge.specs.SpotsAt.{IsFirstAt}
+
+module _ (shape : Shape) (v : RingView) (is : IsSpot shape v.floor) (address : ℕ) where
+  -- no spot lies at the address
+  pub named_nowhere : ((t : Spot) → IsSpot shape t → spot_address shape t ≢ address) → None ≡ named shape v address
+  unfolding named
+  named_nowhere nowhere =
+      elim (cases_option (named_spot shape v.floor (declared v) address)) [
+        | inl none ↦ sym none
+        | inr some ↦
+            let found : IsNamed shape v.floor (declared v) address some.0 = named_spot-Some shape v.floor (declared v) address some.0 is some.1 in
+            absurd (nowhere some.0 found.spot found.at)
+      ]
+
+  module _ (floor : Spot) (same : v.floor ≡ floor) (t : Spot) (at : IsFirstAt shape floor address t) where
+    first : IsFirstAt shape v.floor address t
+    first = subst (λ s. IsFirstAt shape s address t) (sym same) at
+
+    -- the first spot there is declared
+    pub named_first : number t ≤ declared v → Some t ≡ named shape v address
+    unfolding named
+    named_first within =
+        sym (named_spot-is shape v.floor (declared v) address t is (record {
+          spot = first.spot;
+          from = first.later;
+          within = within;
+          at = first.at;
+          least = λ u spot from near there. first.least u spot from there;
+        }))
+
+    -- or it isn't
+    pub named_beyond : declared v < number t → None ≡ named shape v address
+    unfolding named
+    named_beyond past =
+        elim (cases_option (named_spot shape v.floor (declared v) address)) [
+          | inl none ↦ sym none
+          | inr some ↦
+              let found : IsNamed shape v.floor (declared v) address some.0 = named_spot-Some shape v.floor (declared v) address some.0 is some.1 in
+              let low = first.least some.0 found.spot found.from found.at in
+              absurd (omega (arith, found.within, rank_most some.0, rank_least t))
+        ]
+
+-- the target is looked for from the floor's number up to what is declared
+pub target_is : (shape : Shape) (v : RingView) (address : ℕ) (cycle : Bool) (least most : ℕ) → least ≡ floor_number v → most ≡ declared v →
+    find (is_target shape address cycle) (spots_between least most) ≡ target shape v address cycle
+unfolding target
+target_is shape v address cycle least most floor end =
+    ap (λ n. find (is_target shape address cycle) (spots_between n most)) floor
+    ∙ ap (λ n. find (is_target shape address cycle) (spots_between (floor_number v) n)) end
+
+-- a spot within a bound has a small number
+pub few_within : (o : Option Spot) (most : ℕ) → most < 2 ^ 63 → IfSome o (λ t. number t ≤ most) → IfSome o (λ t. number t < 2 ^ 63)
+few_within None most few within = within
+few_within (Some t) most few within = omega arith

@@ -1,0 +1,47 @@
+-- The spots that events and completions let a record reach
+use Rattle.std.proofs.Common.{◌≡◌, ℕ, ◌+◌, ◌<◌, ◌≤◌, true, Some, refl, ap, ◌∙◌, arith, inl, inr}
+use Rattle.segments.specs.declared.spot.Spot.{Spot}
+use Rattle.segments.specs.declared.spot.Spot.TheVariants.{Data, Link}
+use Rattle.segments.specs.ShapeValue.{Shape}
+use Rattle.segments.specs.Shape.{IsShape}
+use Rattle.segments.specs.Spots.{number, after}
+use Rattle.segments.specs.RingView.{RingView, Holds, changed, declared, floor_number}
+use Rattle.segments.specs.Ceiling.{ceiling, given_count, is_data_below, is_way_given, named}
+use Rattle.segments.specs.Moves.{is_reached, are_given, are_ways_given}
+use Rattle.segments.specs.RingKeeps.{RingKeeps}
+use Rattle.segments.proofs.SpotOrder.{after_is}
+use Rattle.segments.proofs.Reaching.{given_count_declared}
+use Rattle.segments.proofs.Named.{named_ahead, below_is, ceiling_within}
+use Rattle.ring_knowledge.specs.declared.ring_record.RingRecord.{RingRecord}
+use Rattle.ring_knowledge.specs.RingRecords.{FollowsRing}
+use Rattle.ring_knowledge.proofs.GivenCount.{count_is}
+use Rattle.ring_knowledge.proofs.StopSpots.{reached_block, reached_link, way_without}
+
+-- the spot behind a block that is given with all before it
+pub behind_reached : (shape : Shape) (v : RingView) (r : RingRecord) → FollowsRing shape v r → (p : ℕ) → p < given_count shape v → is_reached shape v (after shape p) ≡ true
+behind_reached shape v r known p given =
+    let count = count_is shape v r known in
+    elim (after_is shape p) [
+      | inl link ↦ ap (λ t. is_reached shape v t) link.1 ∙ reached_link shape v (p + 1) (λ q h. known.steps q (omega arith))
+      | inr none ↦ ap (λ t. is_reached shape v t) none.1 ∙ reached_block shape v (p + 1) (λ q h. known.steps q (omega arith)) (way_without shape v (p + 1) none.0)
+    ]
+
+-- to hold the ring leaves what is reached
+pub held_reached : (shape : Shape) (v : RingView) (n : ℕ) (t : Spot) → is_reached shape (changed shape v (Holds n)) t ≡ is_reached shape v t
+unfolding is_reached are_given are_ways_given is_way_given
+held_reached shape v n (Data q) = refl
+held_reached shape v n (Link q) = refl
+
+-- a ring may begin anew
+pub start_reached : (shape : Shape) (v : RingView) → is_reached shape v (Data 0) ≡ true
+unfolding is_reached are_given are_ways_given
+start_reached shape v = refl
+
+-- a spot that an event names below the ceiling lies from the floor on, at a block that is given with all before it, and declared
+pub named_below : (shape : Shape) → IsShape shape → (memory : ℕ → ℕ) (v : RingView) → RingKeeps shape memory v → (address : ℕ) (t : Spot) → named shape v address ≡ Some t →
+    is_data_below (ceiling shape v) t ≡ true → (floor_number v ≤ number t) × (number t < given_count shape v) × (number t < declared v)
+named_below shape is memory v keeps address t at below =
+    let ahead = named_ahead shape memory v keeps address t at in
+    let within = ceiling_within shape is memory v keeps in
+    let given : number t < given_count shape v = omega (arith, within.1, below_is (ceiling shape v) t below) in
+    (ahead.from, given, omega (arith, given_count_declared shape is memory v keeps))

@@ -1,0 +1,19 @@
+use Rattle.std.proofs.Common.{ap, subst, ◌∙◌, arith}
+use Rattle.std.specs.Prelude.{length}
+use Rattle.segments.specs.Spots.{number, after}
+use Rattle.segments.specs.RingView.{Reaches, changed}
+use Rattle.segments.specs.Moves.{is_reached}
+use Rattle.ring_knowledge.specs.RingRecords.{FollowsRing}
+use Rattle.ring_knowledge.proofs.PassedBlocks.{behind_reached}
+use Rattle.ring_knowledge.proofs.ring_record.RingRecord.pass.Goals as goal
+
+pub returns-then-position-len : goal.returns-then-position-len
+returns-then-position-len c = λ v known later given declared.
+    absurd (omega (arith, c.number-position.ensures, c.len.ensures, c.args.self.now.blocks.ok.0, c.if-position-len.true, ap length known.marks.queue, declared))
+
+pub returns : goal.returns
+returns c = λ v known later given declared.
+    let same = c.after-behind.ensures.behind ∙ ap (λ n. after c.args.shape.now n) c.number-position.ensures in
+    subst (λ t. FollowsRing c.args.shape.now (changed c.args.shape.now v (Reaches t)) c.reach.new.self) same
+    (c.reach.ensures v known (omega (arith, later, c.after-behind.ensures.next, c.number-position.ensures))
+    (ap (λ t. is_reached c.args.shape.now v t) same ∙ behind_reached c.args.shape.now v c.args.self.now known (number c.args.spot) given))

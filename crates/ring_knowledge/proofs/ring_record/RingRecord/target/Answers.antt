@@ -1,0 +1,17 @@
+use Rattle.std.proofs.Common.{◌≡◌, ap, sym, ◌∙◌, arith}
+use Rattle.std.specs.Prelude.{length}
+use Rattle.segments.specs.Spots.{number}
+use Rattle.segments.specs.RingView.{declared}
+use Rattle.ring_knowledge.proofs.NamedNow.{target_is, few_within}
+use Rattle.ring_knowledge.proofs.ring_record.RingRecord.target.Goals as goal
+
+pub returns-clause-value : goal.returns-clause-value
+returns-clause-value c = λ v known.
+    let floor = c.number.ensures ∙ sym (ap number known.marks.floor) in
+    let end : c.len.result ≡ declared v = omega (arith, c.len.ensures, c.args.self.now.blocks.ok.0, ap length known.marks.queue) in
+    c.spot_between.ensures.value (omega (arith, floor, end, known.marks.room, ap length known.marks.queue))
+    ∙ target_is c.args.shape.now v c.args.pointer c.args.cycle c.number.result c.len.result floor end
+
+pub returns-clause-few : goal.returns-clause-few
+returns-clause-few c =
+    few_within c.spot_between.result c.len.result (omega (arith, c.len.ensures, c.args.self.now.blocks.ok.0)) c.spot_between.ensures.within
