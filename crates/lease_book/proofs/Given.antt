@@ -60,14 +60,21 @@ module _ (h : Header) (k : Known) (a w : ℕ) where
       ap (λ xs. segment_ranges h ++ table_range h (k.register Erstba) ++ xs ++ entry_ranges k ++ device_ranges h k) (contexts_kept none)
 
 -- the law
-pub lent_written : (h : Header) → AreShaped h → (first : ℕ) (past : List Row) (a w : ℕ) → first + length (Write a w ∷ past) ≤ without_end →
-    option_and_then (taken_device (known h past)) (command_given h (known h past) a w) ≡ None → GivesNoContext h (known h past) a w →
-    lents h first (Write a w ∷ past) ≡ with_begun (first + length past) (lents h first past) (in_turn (map lease_given (rings.given_by h (known h past) a w)))
-unfolding begun learned written with_device
-lent_written h shaped first past a w room no_device no_context =
-    only_begun h first past (Write a w) room (in_turn (map lease_given (rings.given_by h (known h past) a w)))
-    (λ l is_open. ap (λ x. is_among (open_leases h x) l) written_is ∙ all_kept h shaped (known h past) a w (ranges_kept h (known h past) a w no_context) l is_open)
-    (ap in_turn (ap (λ x. filter (λ l. not (is_among (open_leases h (known h past)) l)) (open_leases h x)) written_is ∙ new_leases h shaped (known h past) a w (ranges_kept h (known h past) a w no_context)))
-  where
-    written_is : learned h (known h past) (Write a w) ≡ with_word h (known h past) a w
-    written_is = ap (with_device h (with_word h (known h past) a w)) no_device
+module _ (h : Header) (shaped : AreShaped h) (first : ℕ) (past : List Row) (a w : ℕ) (room : first + length (Write a w ∷ past) ≤ without_end)
+    (no_device : option_and_then (taken_device (known h past)) (command_given h (known h past) a w) ≡ None) where
+  written_is : learned h (known h past) (Write a w) ≡ with_word h (known h past) a w
+  unfolding learned written with_device
+  written_is = ap (with_device h (with_word h (known h past) a w)) no_device
+
+  -- where the ranges that are open stay
+  pub lent_given : open_ranges h (with_word h (known h past) a w) ≡ open_ranges h (known h past) →
+      lents h first (Write a w ∷ past) ≡ with_begun (first + length past) (lents h first past) (in_turn (map lease_given (rings.given_by h (known h past) a w)))
+  unfolding begun
+  lent_given ranges =
+      only_begun h first past (Write a w) room (in_turn (map lease_given (rings.given_by h (known h past) a w)))
+      (λ l is_open. ap (λ x. is_among (open_leases h x) l) written_is ∙ all_kept h shaped (known h past) a w ranges l is_open)
+      (ap in_turn (ap (λ x. filter (λ l. not (is_among (open_leases h (known h past)) l)) (open_leases h x)) written_is ∙ new_leases h shaped (known h past) a w ranges))
+
+  pub lent_written : GivesNoContext h (known h past) a w →
+      lents h first (Write a w ∷ past) ≡ with_begun (first + length past) (lents h first past) (in_turn (map lease_given (rings.given_by h (known h past) a w)))
+  lent_written no_context = lent_given (ranges_kept h (known h past) a w no_context)

@@ -69,8 +69,7 @@ impl LeaseBook {
 
     /// The lease of a Link begins at a row; the Link is crossed on the way to a position.
     pub fn begin_link(&mut self, row: u32, ring: &Ring, crossing: u64) -> Result<(), AllocError>
-        requires { is_crossing ring.now.shape crossing ≡ true }
-        ensures ok { OnOk result ((h : Header) (ts : List Lent) → shape_of h ring.now.id ≡ ring.now.shape → HoldsLents h ts self.old →
+        ensures ok { OnOk result ((h : Header) (ts : List Lent) → shape_of h ring.now.id ≡ ring.now.shape → is_crossing ring.now.shape crossing ≡ true → HoldsLents h ts self.old →
             is_place_free h ts (Link ring.now.id crossing) ≡ true → HoldsLents h (with_begun row ts (Link ring.now.id crossing ∷ [])) self.new) }
         ensures err { OnErr result ((h : Header) (ts : List Lent) → HoldsLents h ts self.old → HoldsLents h ts self.new) }
     {

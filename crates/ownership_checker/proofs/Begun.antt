@@ -1,12 +1,14 @@
 -- Which leases begin at a row: at a write what it gives, at the write of ERSTBA that of the segment table, at any other row none
 use Rattle.std.proofs.Common.{◌≡◌, ℕ, ◌+◌, ◌<◌, ◌≤◌, List, [], ◌∷◌, ◌++◌, Bool, true, false, Some, None, refl, ap, sym, ◌∙◌, arith, inl, inr, length, zero, suc}
-use Rattle.std.specs.Prelude.{◌==◌, ◌&&◌, ◌||◌, not, map, filter}
+use Rattle.std.specs.Prelude.{◌&&◌, ◌||◌, not, map, filter}
 use Rattle.std.specs.List.{flat_map, range_with_len}
-use Rattle.std.proofs.lemmas.Bool.{cases_Bool, eqb-true}
+use Rattle.std.proofs.lemmas.Bool.{cases_Bool}
 use Rattle.std.proofs.lemmas.List.{append-nil, length-map}
 use Rattle.segments.specs.ShapeValue.{Shape}
 use Rattle.segments.specs.Places.{place_count, is_crossing}
-use Rattle.segments.specs.RingView.{RingView, Writes, changed, floor_number, gives, gives_crossing, is_crossing_due, positions_given, crossings_given, leased_positions, leased_crossings, due_positions, due_crossings}
+use Rattle.segments.specs.declared.spot.Spot.{Spot}
+use Rattle.segments.specs.Spots.{number}
+use Rattle.segments.specs.RingView.{RingView, Writes, Reaches, changed, floor_number, gives, gives_crossing, is_crossing_due, positions_given, crossings_given, leased_positions, leased_crossings, due_positions, due_crossings}
 use Rattle.traces.specs.declared.ring.Ring.{Ring}
 use Rattle.traces.specs.declared.header.Header.{Header}
 use Rattle.traces.specs.declared.row.Row.{Row}
@@ -24,7 +26,7 @@ use Rattle.ownership_rules.specs.Leases.{begun}
 use Rattle.ownership_rules.specs.Writes.{holds_of}
 use Rattle.ownership_checker.specs.Profile.{is_other}
 use Rattle.ownership_checker.specs.NoSlots.{NoSlots}
-use Rattle.ownership_checker.proofs.ListTests.{and_left, filter_append, filter_map_is, filter_flat_map, filter_twice}
+use Rattle.ownership_checker.proofs.ListTests.{and_left, and_right, filter_append, filter_map_is, filter_flat_map, filter_twice}
 use Rattle.ownership_checker.proofs.RingsApart.{IsAmong}
 use Rattle.ownership_checker.proofs.HeaderRings.{shape_there, drivers_of, nothing_from}
 use Rattle.ownership_checker.proofs.NoSlotsLemmas.{written_is}
@@ -181,8 +183,24 @@ module _ (h : Header) (headed : IsHeader h) (k : Known) (slots : NoSlots h k) wh
         not_fresh (is_crossing q.shape p && (k.ring q.id).crossed p) (is_among (open_leases h k) (Link q.id p)) (λ given.
         link_was h headed k slots q among driver p (omega arith) (due p low high given) ∙ given))
 
+  -- on a ring whose floor has moved on nothing new is under lease
+  pub passed_open : (q : Ring) → IsAmong q h.rings → is_driver_kind q.shape.kind ≡ true → (l : Known) (spot : Spot) → l.ring q.id ≡ changed q.shape (k.ring q.id) (Reaches spot) →
+      floor_number (k.ring q.id) ≤ number spot → ((p : ℕ) → (k.ring q.id).given p ≡ true → p < floor_number (k.ring q.id) + place_count q.shape) →
+      ((p : ℕ) → (k.ring q.id).crossed p ≡ true → p < floor_number (k.ring q.id) + (place_count q.shape + 1)) → filter Fresh (open_on h l q) ≡ []
+  unfolding open_on leased_positions leased_crossings due_positions due_crossings
+  passed_open q among driver l spot is later near near_links =
+      let v : RingView = changed q.shape (k.ring q.id) (Reaches spot) in
+      ap (λ w. filter Fresh (map (Block q.id) (leased_positions q.shape w) ++ map (Link q.id) (leased_crossings q.shape w))) is
+      ∙ filter_append Fresh (map (Block q.id) (leased_positions q.shape v)) (map (Link q.id) (leased_crossings q.shape v))
+      ∙ rw (
+        filter_map_is Fresh (Block q.id) (leased_positions q.shape v),
+        filter_map_is Fresh (Link q.id) (leased_crossings q.shape v),
+        still_blocks q among driver (number spot) later (λ p low high given. near p given),
+        still_links q among driver (number spot) later (λ p low high crossed. near_links p (and_right (is_crossing q.shape p) _ crossed)),
+      ) refl
+
   -- what is under lease on a ring was so
-  each_open : (q : Ring) → IsAmong q h.rings → is_driver_kind q.shape.kind ≡ true → filter Fresh (open_on h k q) ≡ []
+  pub each_open : (q : Ring) → IsAmong q h.rings → is_driver_kind q.shape.kind ≡ true → filter Fresh (open_on h k q) ≡ []
   unfolding open_on leased_positions leased_crossings due_positions due_crossings
   each_open q among driver =
       filter_append Fresh (map (Block q.id) (leased_positions q.shape (k.ring q.id))) (map (Link q.id) (leased_crossings q.shape (k.ring q.id)))

@@ -4,6 +4,7 @@ use Rattle.std.specs.Prelude.{slice_get, reverse, take, drop, option_map}
 use Rattle.std.proofs.lemmas.Grind.{common_steps}
 use Rattle.std.proofs.lemmas.Option.{get_or_from_slice_get}
 use Rattle.traces.specs.declared.row.Row.{Row}
+use Rattle.traces.specs.Limits.{most_lines}
 use Rattle.traces.specs.declared.header.Header.{Header}
 use Rattle.traces.specs.Header.{IsHeader, event_shape}
 use Rattle.ownership_checker.specs.Walks.{WalksRead}
@@ -14,16 +15,18 @@ use Rattle.ownership_rules.specs.declared.refusal.Refusal.{Refusal}
 use Rattle.ownership_rules.specs.Refusal.{first_of}
 use Rattle.ownership_rules.specs.Rules.{broken, verdict_from, first_or}
 use Rattle.ownership_rules.specs.Clean.{IsClean}
-use Rattle.ownership_rules.specs.Leases.{begun}
-use Rattle.ownership_checker.specs.LeaseCount.{begun_count}
+use Rattle.ownership_rules.specs.Leases.{leases as leases_of, without_end}
 use Rattle.ownership_checker.specs.Profile.{is_outside, broken_within, verdict_within}
 use Rattle.ownership_checker.specs.declared.fault.StepFault.{StepFault}
 use Rattle.ownership_checker.specs.declared.fault.StepFault.TheVariants.{Refused}
 use Rattle.safety.specs.KeptHistories.{MayRead, MayReadAll}
 use Rattle.ownership_checker.specs.declared.kept.Kept.{Kept}
+use Rattle.ring_knowledge.specs.declared.lease.Lease.{Lease}
+use Rattle.lease_book.specs.declared.lease_book.LeaseBook.{LeaseBook}
+use Rattle.lease_book.specs.Books.{FollowsLeases}
+use Rattle.ownership_checker.specs.Lending.{IsNextRow}
 use Rattle.ownership_checker.specs.Verdicts.{AreInside, IsAccepted, IsFirstOfAll}
 use Rattle.ownership_checker.specs.Tracking.{IsWithin, Follows, IsRowStep, IsChecked, IsProgress, IfRefused}
-use Rattle.ownership_checker.proofs.LeaseCounts.{length-leases}
 use Rattle.ownership_checker.proofs.DeclarationRules.{broken_inside}
 
 -- one row more: the newest first
@@ -55,10 +58,6 @@ within_next : (h : Header) (k : Known) (n : ℕ) (row : Row) (rest : List Row) �
 unfolding verdict_within broken_within first_or
 within_next h k n row rest inside e = rw (inside, e) refl
 
-counted_next : (h : Header) (k : Known) (row : Row) (rest : List Row) → begun_count h k (row ∷ rest) ≡ length (begun h k row) + begun_count h (learned h k row) rest
-unfolding begun_count
-counted_next h k row rest = refl
-
 nothing_first : (h : Header) → known h [] ≡ nothing
 unfolding known
 nothing_first h = refl
@@ -66,6 +65,15 @@ nothing_first h = refl
 known_next : (h : Header) (past : List Row) (row : Row) → known h (row ∷ past) ≡ learned h (known h past) row
 unfolding known
 known_next h past row = refl
+
+length_taken : (rows : List Row) (i : ℕ) → i < length rows → length (reverse (take i rows)) ≡ i
+length_taken rows i h = grind (arith, common_steps, h)
+
+length_reversed : (rows : List Row) → length (reverse rows) ≡ length rows
+length_reversed rows = grind (arith, common_steps)
+
+reversed_twice : (rows : List Row) → reverse (reverse rows) ≡ rows
+reversed_twice rows = grind (arith, common_steps)
 
 take_all : (rows : List Row) → take (length rows) rows ≡ rows
 take_all rows = grind (arith, common_steps)
@@ -87,17 +95,15 @@ within_end : (h : Header) (k : Known) (n : ℕ) → verdict_within h k n [] ≡ 
 unfolding verdict_within
 within_end h k n = refl
 
-counted_end : (h : Header) (k : Known) (n : ℕ) → n + begun_count h k [] ≡ n
-unfolding begun_count
-counted_end h k n = add-zero n
-
-regroup : (b w l n r : ℕ) → w ≡ l + r → l ≡ n → b + w ≡ b + n + r
-regroup b w l n r e f = omega arith
+-- the rows of a trace have numbers below that of no row
+pub room_for : (first n : ℕ) → first + n ≤ most_lines + 1 → first + n ≤ without_end
+unfolding without_end
+room_for first n few = omega (arith, few)
 
 -- a trace, row by row
 module _ (h : Header) (rows : List Row) (first : ℕ) where
   -- before the first row
-  pub start_checked : (T : Known → Type 0) → T nothing → IsChecked h rows first 0 T (length (event_shape h).segments)
+  pub start_checked : (T : Known → Type 0) → T nothing → IsChecked h rows first 0 T
   start_checked T t =
       let start : known h (reverse (take 0 rows)) ≡ nothing = ap (λ xs. known h xs) (none_taken rows) ∙ nothing_first h in
       record {
@@ -113,15 +119,12 @@ module _ (h : Header) (rows : List Row) (first : ℕ) where
             ap (λ n. verdict_within h nothing n rows) (sym (add-zero first))
             ∙ ap (λ k. verdict_within h k (first + 0) rows) (sym start)
             ∙ ap (λ xs. verdict_within h (known h (reverse (take 0 rows))) (first + 0) xs) (sym (none_dropped rows));
-        counted =
-            ap (λ k. length (event_shape h).segments + begun_count h k rows) (sym start)
-            ∙ ap (λ xs. length (event_shape h).segments + begun_count h (known h (reverse (take 0 rows))) xs) (sym (none_dropped rows));
       }
 
   -- one row more
-  pub step_checked : (i begun_ n : ℕ) (T U : Known → Type 0) (row d : Row) → IsChecked h rows first i T begun_ → i < length rows → get_or rows i d ≡ row →
-      ((k : Known) → T k → (is_outside h k row ≡ false) × (broken h k row ≡ []) × (U (learned h k row)) × (length (begun h k row) ≡ n) × MayRead h k row) → IsChecked h rows first (i + 1) U (begun_ + n)
-  step_checked i begun_ n T U row d c below is_row step =
+  pub step_checked : (i : ℕ) (T U : Known → Type 0) (row d : Row) → IsChecked h rows first i T → i < length rows → get_or rows i d ≡ row →
+      ((k : Known) → T k → (is_outside h k row ≡ false) × (broken h k row ≡ []) × (U (learned h k row)) × MayRead h k row) → IsChecked h rows first (i + 1) U
+  step_checked i T U row d c below is_row step =
       let before = known h (reverse (take i rows)) in
       let done = step before c.tracked in
       let past : reverse (take (i + 1) rows) ≡ row ∷ reverse (take i rows) = one_more rows i d below ∙ ap (λ x. x ∷ reverse (take i rows)) is_row in
@@ -132,7 +135,7 @@ module _ (h : Header) (rows : List Row) (first : ℕ) where
         tracked = subst U (sym after) done.2;
         inside = subst (λ (xs : List Row). AreInside h xs) (sym past) (c.inside, done.0);
         clean = subst (λ (xs : List Row). IsClean h xs) (sym past) (c.clean, done.1);
-        placed = subst (λ (xs : List Row). MayReadAll h xs) (sym past) (c.placed, done.4);
+        placed = subst (λ (xs : List Row). MayReadAll h xs) (sym past) (c.placed, done.3);
         verdict =
             c.verdict ∙ ap (λ xs. verdict_from h before (first + i) xs) rest
             ∙ verdict_next h before (first + i) row (drop (i + 1) rows) done.1
@@ -143,27 +146,21 @@ module _ (h : Header) (rows : List Row) (first : ℕ) where
             ∙ within_next h before (first + i) row (drop (i + 1) rows) done.0 done.1
             ∙ ap (λ k. verdict_within h k (first + i + 1) (drop (i + 1) rows)) (sym after)
             ∙ ap (λ x. verdict_within h (known h (reverse (take (i + 1) rows))) x (drop (i + 1) rows)) next_number;
-        counted =
-            let more = counted_next h before row (drop (i + 1) rows) in
-            c.counted ∙ ap (λ xs. begun_ + begun_count h before xs) rest
-            ∙ regroup begun_ (begun_count h before (row ∷ drop (i + 1) rows)) (length (begun h before row)) n
-            (begun_count h (learned h before row) (drop (i + 1) rows)) more done.3
-            ∙ ap (λ k. begun_ + n + begun_count h k (drop (i + 1) rows)) (sym after);
       }
 
   -- the first row that is refused
-  pub refused_checked : (i begun_ : ℕ) (T : Known → Type 0) (row d : Row) (c : Refusal) → IsChecked h rows first i T begun_ → i < length rows → get_or rows i d ≡ row →
+  pub refused_checked : (i : ℕ) (T : Known → Type 0) (row d : Row) (c : Refusal) → IsChecked h rows first i T → i < length rows → get_or rows i d ≡ row →
       ((k : Known) → T k → first_of (broken_within h k row) ≡ Some c) → verdict_within h nothing first rows ≡ Some (first + i, c)
-  refused_checked i begun_ T row d c so_far below is_row breaks =
+  refused_checked i T row d c so_far below is_row breaks =
       let before = known h (reverse (take i rows)) in
       let rest : drop i rows ≡ row ∷ drop (i + 1) rows = left rows i d below ∙ ap (λ x. x ∷ drop (i + 1) rows) is_row in
       so_far.within ∙ ap (λ xs. verdict_within h before (first + i) xs) rest
       ∙ within_first h before (first + i) row (drop (i + 1) rows) c (breaks before so_far.tracked)
 
   -- inside the profile it is the first that breaks a rule
-  pub first_checked : (i begun_ : ℕ) (T : Known → Type 0) (row d : Row) (c : Refusal) → IsChecked h rows first i T begun_ → i < length rows → get_or rows i d ≡ row →
+  pub first_checked : (i : ℕ) (T : Known → Type 0) (row d : Row) (c : Refusal) → IsChecked h rows first i T → i < length rows → get_or rows i d ≡ row →
       ((k : Known) → T k → first_of (broken_within h k row) ≡ Some c) → IsFirstOfAll h first rows (first + i) c
-  first_checked i begun_ T row d c so_far below is_row breaks = λ same found inside.
+  first_checked i T row d c so_far below is_row breaks = λ same found inside.
       let before = known h (reverse (take i rows)) in
       let rest : drop i rows ≡ row ∷ drop (i + 1) rows = left rows i d below ∙ ap (λ x. x ∷ drop (i + 1) rows) is_row in
       let here : first + i - first ≡ i = omega arith in
@@ -174,71 +171,90 @@ module _ (h : Header) (rows : List Row) (first : ℕ) where
       ∙ verdict_first h before (first + i) row (drop (i + 1) rows) c (ap first_of (sym (broken_inside h before row row_inside)) ∙ breaks before so_far.tracked)
 
   -- behind the last row
-  pub ended_checked : IsHeader h → (i begun_ : ℕ) (T : Known → Type 0) → IsChecked h rows first i T begun_ → i ≡ length rows → IsAccepted h rows first begun_
-  ended_checked headed i begun_ T c all =
+  pub ended_checked : (i : ℕ) (T : Known → Type 0) (book : LeaseBook) (leases : List Lease) → first + length rows ≤ without_end → IsChecked h rows first i T → i ≡ length rows →
+      FollowsLeases h first (reverse (take i rows)) book → ((past : List Row) → first + length past ≤ without_end → FollowsLeases h first past book → leases ≡ leases_of h first (reverse past)) →
+      IsAccepted h rows first leases
+  ended_checked i T book leases room c all held listed =
       let whole : take i rows ≡ rows = ap (λ n. take n rows) all ∙ take_all rows in
       let empty : drop i rows ≡ [] = ap (λ n. drop n rows) all ∙ drop_all rows in
       let before = known h (reverse (take i rows)) in
+      let many : length (reverse rows) ≡ length rows = length_reversed rows in
       record {
         inside = subst (λ (xs : List Row). AreInside h (reverse xs)) whole c.inside;
         clean = subst (λ (xs : List Row). IsClean h (reverse xs)) whole c.clean;
         verdict = c.verdict ∙ ap (λ xs. verdict_from h before (first + i) xs) empty ∙ verdict_end h before (first + i);
-        counted = length-leases h headed first rows ∙ c.counted ∙ ap (λ xs. begun_ + begun_count h before xs) empty ∙ counted_end h before begun_;
+        certified =
+            listed (reverse rows) (omega (arith, many, room)) (subst (λ (xs : List Row). FollowsLeases h first (reverse xs) book) whole held)
+            ∙ ap (λ xs. leases_of h first xs) (reversed_twice rows);
       }
 
-  pub ended_placed : (i begun_ : ℕ) (T : Known → Type 0) → IsChecked h rows first i T begun_ → i ≡ length rows → IsClean h (reverse rows) × MayReadAll h (reverse rows)
-  ended_placed i begun_ T c all =
+  pub ended_placed : (i : ℕ) (T : Known → Type 0) → IsChecked h rows first i T → i ≡ length rows → IsClean h (reverse rows) × MayReadAll h (reverse rows)
+  ended_placed i T c all =
       let whole : take i rows ≡ rows = ap (λ n. take n rows) all ∙ take_all rows in (
         subst (λ (xs : List Row). IsClean h (reverse xs)) whole c.clean,
         subst (λ (xs : List Row). MayReadAll h (reverse xs)) whole c.placed,
       )
 
-  pub ended_within : (i begun_ : ℕ) (T : Known → Type 0) → IsChecked h rows first i T begun_ → i ≡ length rows → verdict_within h nothing first rows ≡ None
-  ended_within i begun_ T c all =
+  pub ended_within : (i : ℕ) (T : Known → Type 0) → IsChecked h rows first i T → i ≡ length rows → verdict_within h nothing first rows ≡ None
+  ended_within i T c all =
       let before = known h (reverse (take i rows)) in
       c.within ∙ ap (λ xs. verdict_within h before (first + i) xs) (ap (λ n. drop n rows) all ∙ drop_all rows) ∙ within_end h before (first + i)
 
-  pub started : (kept : Kept) (m : ℕ → ℕ) (begun_ : ℕ) → Follows h nothing kept m → IsWithin kept.events 0 → begun_ ≡ length (event_shape h).segments → begun_ ≤ 64 → IsProgress h rows first 0 first begun_ kept m
-  started kept m begun_ f unread segments few_ = record {
+  pub started : (kept : Kept) (m : ℕ → ℕ) (book : LeaseBook) → Follows h nothing kept m → IsWithin kept.events 0 → FollowsLeases h first [] book → IsProgress h rows first 0 first kept m book
+  started kept m book f unread held = record {
     numbered = sym (add-zero first);
-    few = omega arith;
     few_reads = unread;
-    checked = subst (λ (n : ℕ). IsChecked h rows first 0 (λ k. Follows h k kept m) n) (sym segments) (start_checked (λ k. Follows h k kept m) f);
+    checked = start_checked (λ k. Follows h k kept m) f;
+    lent = subst (λ (xs : List Row). FollowsLeases h first xs book) (sym (none_taken rows)) held;
   }
 
-  pub stepped : (i number begun_ n : ℕ) (kept after : Kept) (m o : ℕ → ℕ) (row d : Row) → IsProgress h rows first i number begun_ kept m → i < length rows → get_or rows i d ≡ row → n ≤ 1 →
-      IsWithin after.events (i + 1) → ((k : Known) → Follows h k kept m → IsRowStep h k row after o n) → IsProgress h rows first (i + 1) (number + 1) (begun_ + n) after o
-  stepped i number begun_ n kept after m o row d p below is_row one reads_ step =
+  pub stepped : (i number n : ℕ) (kept after : Kept) (m o : ℕ → ℕ) (row d : Row) (book later : LeaseBook) → first + length rows ≤ without_end → IsProgress h rows first i number kept m book →
+      i < length rows → get_or rows i d ≡ row → IsWithin after.events (i + 1) → ((k : Known) → Follows h k kept m → IsRowStep h k row after o n) →
+      ((past : List Row) → IsNextRow h first past row number kept → FollowsLeases h first past book → FollowsLeases h first (row ∷ past) later) →
+      IsProgress h rows first (i + 1) (number + 1) after o later
+  stepped i number n kept after m o row d book later room_ p below is_row reads_ step notes =
       let numbered_ = p.numbered in
-      let few_ = p.few in
+      let past = reverse (take i rows) in
+      let many : length past ≡ i = length_taken rows i below in
+      let next : reverse (take (i + 1) rows) ≡ row ∷ past = one_more rows i d below ∙ ap (λ x. x ∷ past) is_row in
+      let done = step (known h past) p.checked.tracked in
       record {
         numbered = omega arith;
-        few = omega arith;
         few_reads = reads_;
-        checked = step_checked i begun_ n (λ k. Follows h k kept m) (λ k. Follows h k after o) row d p.checked below is_row
-            (λ k t. let done = step k t in (done.inside, done.clean, done.tracked, done.counted, done.placed));
+        checked = step_checked i (λ k. Follows h k kept m) (λ k. Follows h k after o) row d p.checked below is_row
+            (λ k t. let here = step k t in (here.inside, here.clean, here.tracked, here.placed));
+        lent = subst (λ (xs : List Row). FollowsLeases h first xs later) (sym next) (notes past (record {
+          numbered = omega (arith, numbered_, many);
+          room = omega (arith, many, room_, below);
+          memory = m;
+          followed = p.checked.tracked;
+          inside = done.inside;
+          clean = done.clean;
+          slots = done.tracked.slots;
+        }) p.lent);
       }
 
-  module _ (i number begun_ : ℕ) (kept : Kept) (m : ℕ → ℕ) (row d : Row) (c : Refusal) (e : StepFault) (is_refused : e ≡ Refused c) (p : IsProgress h rows first i number begun_ kept m)
+  module _ (i number : ℕ) (kept : Kept) (m : ℕ → ℕ) (book : LeaseBook) (row d : Row) (c : Refusal) (e : StepFault) (is_refused : e ≡ Refused c) (p : IsProgress h rows first i number kept m book)
       (below : i < length rows) (is_row : get_or rows i d ≡ row)
       (said : IfRefused e (λ x. (k : Known) → Follows h k kept m → first_of (broken_within h k row) ≡ Some x)) where
     breaks : (k : Known) → Follows h k kept m → first_of (broken_within h k row) ≡ Some c
     breaks = subst (λ (f : StepFault). IfRefused f (λ x. (k : Known) → Follows h k kept m → first_of (broken_within h k row) ≡ Some x)) is_refused said
 
     pub refused : verdict_within h nothing first rows ≡ Some (number, c)
-    refused = refused_checked i begun_ (λ k. Follows h k kept m) row d c p.checked below is_row breaks ∙ ap (λ n. Some (n, c)) (sym p.numbered)
+    refused = refused_checked i (λ k. Follows h k kept m) row d c p.checked below is_row breaks ∙ ap (λ n. Some (n, c)) (sym p.numbered)
 
     pub first_refused : IsFirstOfAll h first rows number c
     first_refused =
-        subst (λ (n : ℕ). IsFirstOfAll h first rows n c) (sym p.numbered) (first_checked i begun_ (λ k. Follows h k kept m) row d c p.checked below is_row breaks)
+        subst (λ (n : ℕ). IsFirstOfAll h first rows n c) (sym p.numbered) (first_checked i (λ k. Follows h k kept m) row d c p.checked below is_row breaks)
 
-  module _ (i number begun_ : ℕ) (kept : Kept) (m : ℕ → ℕ) (p : IsProgress h rows first i number begun_ kept m) (all : i ≡ length rows) where
-    pub ended : IsHeader h → IsAccepted h rows first begun_
-    ended headed = ended_checked headed i begun_ (λ k. Follows h k kept m) p.checked all
+  module _ (i number : ℕ) (kept : Kept) (m : ℕ → ℕ) (book : LeaseBook) (p : IsProgress h rows first i number kept m book) (all : i ≡ length rows) where
+    pub ended : (leases : List Lease) → first + length rows ≤ without_end →
+        ((past : List Row) → first + length past ≤ without_end → FollowsLeases h first past book → leases ≡ leases_of h first (reverse past)) → IsAccepted h rows first leases
+    ended leases room listed = ended_checked i (λ k. Follows h k kept m) book leases room p.checked all p.lent listed
 
     pub none_refused : verdict_within h nothing first rows ≡ None
-    none_refused = ended_within i begun_ (λ k. Follows h k kept m) p.checked all
+    none_refused = ended_within i (λ k. Follows h k kept m) p.checked all
 
     -- after any rows the walk through each ring reads what was declared
     pub walked : IsHeader h → WalksRead h rows
-    walked headed = let kept_so = ended_placed i begun_ (λ k. Follows h k kept m) p.checked all in walks h headed rows kept_so.0 kept_so.1
+    walked headed = let kept_so = ended_placed i (λ k. Follows h k kept m) p.checked all in walks h headed rows kept_so.0 kept_so.1

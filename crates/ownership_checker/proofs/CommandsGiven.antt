@@ -1,17 +1,17 @@
 -- Which command a write gives, by the ring that has the word
-use Rattle.std.proofs.Common.{◌≡◌, ℕ, ◌%◌, List, [], ◌∷◌, Bool, true, false, Option, Some, None, refl, ap, sym, ◌∙◌, inl, inr}
-use Rattle.std.specs.Prelude.{option_and_then, slice_get, if◌then◌else◌}
+use Rattle.std.proofs.Common.{◌≡◌, ℕ, ◌%◌, List, ◌∷◌, Bool, true, false, Option, Some, None, refl, ap, sym, ◌∙◌, inl, inr}
+use Rattle.std.specs.Prelude.{option_and_then, slice_get}
 use Rattle.std.specs.List.{list_any}
 use Rattle.std.proofs.lemmas.Bool.{false≢true}
 use Rattle.trb.specs.declared.ring_kind.RingKind.{RingKind}
 use Rattle.trb.specs.declared.ring_kind.RingKind.TheVariants.{Cmd, Evt, Xfer}
 use Rattle.segments.specs.ShapeValue.{Shape}
-use Rattle.segments.specs.Places.{is_inside, touches}
+use Rattle.segments.specs.Places.{is_inside}
 use Rattle.segments.specs.RingView.{RingView, positions_given, crossings_given, due_positions}
 use Rattle.segments.specs.Givings.{is_other_than_declared, is_not_declared, is_not_whole}
 use Rattle.traces.specs.declared.ring.Ring.{Ring}
 use Rattle.traces.specs.declared.header.Header.{Header}
-use Rattle.traces.specs.Header.{IsHeader, is_command_kind, is_event_kind, command_ring, command_id, shape_of, shape_or, ring_with}
+use Rattle.traces.specs.Header.{IsHeader, is_command_kind, is_driver_kind, is_event_kind, command_ring, command_id, shape_of, shape_or}
 use Rattle.ring_knowledge.specs.Known.{Known}
 use Rattle.ring_knowledge.specs.Rings.{command_at}
 use Rattle.ring_knowledge.specs.Writes.{command_given}
@@ -31,6 +31,12 @@ pub no_command_kind : (kind : RingKind) → is_event_kind kind ≡ true → is_c
 no_command_kind Cmd e = absurd (cc)
 no_command_kind Evt e = refl
 no_command_kind Xfer e = absurd (cc)
+
+-- the command ring is the driver's
+pub driven : (kind : RingKind) → is_command_kind kind ≡ true → is_driver_kind kind ≡ true
+driven Cmd e = refl
+driven Evt e = absurd (cc)
+driven Xfer e = refl
 
 -- of a write that breaks no rule of its ring each given position is declared
 third_fails : (owned other undeclared : Bool) (rest : List Test) → first_broken ((WriteToOwned, owned) ∷ (NotAsSubmitted, other) ∷ (NotDeclared, undeclared) ∷ rest) ≡ None → undeclared ≡ false

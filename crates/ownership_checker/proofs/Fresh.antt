@@ -1,7 +1,7 @@
 -- Before the first row, and what a search through the rings finds
 use Rattle.std.proofs.Common.{◌≡◌, ℕ, zero, suc, ◌+◌, ◌<◌, List, [], ◌∷◌, ◌++◌, Bool, true, false, Some, None, refl, ap, sym, ◌∙◌, inl, inr, length, get_or, subst, length-append}
 use Rattle.std.specs.Prelude.{◌⊎◌, slice_get, position, is_some}
-use Rattle.std.proofs.lemmas.Option.{slice_get_read}
+use Rattle.std.proofs.lemmas.Option.{slice_get-get_or, slice_get_read}
 use Rattle.std.proofs.lemmas.List.Quantifiers.{position-Some}
 use Rattle.segments.proofs.Search.{position-None}
 use Rattle.segments.specs.RingView.{new_ring}
@@ -94,6 +94,12 @@ pub ring_here : (h : Header) (p : Ring → Bool) (xs : List Ring) (n : ℕ) (rin
 ring_here h p xs n ring e same item =
     let some = position-Some p xs n ring e in
     (ap (λ ys. slice_get ys n) (sym same) ∙ slice_get_read xs (length xs) n ring refl some.0 item, ap p item ∙ some.1)
+
+pub found_at : (p : Ring → Bool) (rs : List Ring) (n : ℕ) → position p rs ≡ Some n → (ring : Ring) × (slice_get rs n ≡ Some ring) × (p ring ≡ true)
+found_at p [] n e = absurd (cc)
+found_at p (x ∷ rest) n e =
+    let some = position-Some p (x ∷ rest) n x e in
+    (get_or (x ∷ rest) n x, slice_get-get_or (x ∷ rest) n x some.0, some.1)
 
 pub none_here : (h : Header) (p : Ring → Bool) (xs : List Ring) → position p xs ≡ None → xs ≡ h.rings → (q : Ring) → IsAmong q h.rings → p q ≡ false
 none_here h p xs e same = subst (λ (ys : List Ring). (q : Ring) → IsAmong q ys → p q ≡ false) same (each_among p xs (λ i d l. position-None p xs i d e l))

@@ -18,9 +18,11 @@ pub mod StartRules
 pub mod SetUp
 pub mod RegisterTests
 pub mod RegisterRows
+pub mod DoorbellRows
+pub mod EventRules
+pub mod EventRows
 pub mod CommandsGiven
 pub mod Tracked
-pub mod LeaseCounts
 pub mod Walks
 pub mod Checking
 pub mod Rows
@@ -28,4 +30,8 @@ pub mod Fresh
 pub mod OutsideRows
 pub mod Numbers
 pub mod Starts
+pub mod LentRows
+pub mod LentWrites
+pub mod LentEvents
 mod WithinProfile
+pub mod Harmless

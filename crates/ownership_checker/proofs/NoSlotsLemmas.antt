@@ -1,16 +1,14 @@
 -- While no slot is enabled: no write gives a command but No Op, and no range is under lease but the event segments and their table
-use Rattle.std.proofs.Common.{◌≡◌, ℕ, List, [], ◌∷◌, ◌++◌, Bool, true, false, Option, Some, None, refl, ap, sym, ◌∙◌, arith, inl, inr, subst}
-use Rattle.std.specs.Prelude.{◌==◌, ◌&&◌, not, filter, option_and_then, is_some}
+use Rattle.std.proofs.Common.{◌≡◌, ℕ, List, [], ◌∷◌, ◌++◌, Bool, true, false, Option, Some, None, refl, ap, sym, ◌∙◌, arith, inl, inr}
+use Rattle.std.specs.Prelude.{◌==◌, ◌&&◌, not, filter, option_and_then}
 use Rattle.std.specs.List.{flat_map}
-use Rattle.std.proofs.lemmas.Bool.{cases_Bool, cond_both, eqb-true}
+use Rattle.std.proofs.lemmas.Bool.{cases_Bool}
 use Rattle.std.proofs.lemmas.List.{append-nil}
-use Rattle.segments.specs.ShapeValue.{Shape}
-use Rattle.segments.specs.RingView.{RingView, RingChange, changed, due_positions, new_ring}
+use Rattle.segments.specs.RingView.{due_positions}
 use Rattle.commands.specs.declared.command.Command.{Command}
 use Rattle.commands.specs.declared.command.Command.TheVariants.{NoOp}
 use Rattle.traces.specs.declared.ring.Ring.{Ring}
 use Rattle.traces.specs.declared.header.Header.{Header}
-use Rattle.traces.specs.declared.register.Register.{Register}
 use Rattle.traces.specs.declared.register.Register.TheVariants.{Erstba}
 use Rattle.traces.specs.declared.row.Row.TheVariants.{Write}
 use Rattle.traces.specs.Header.{IsHeader, command_ring, command_id, id_or_none, ring_with, shape_of, shape_or}
@@ -22,9 +20,8 @@ use Rattle.ring_knowledge.specs.Writes as writes
 use Rattle.ownership_rules.specs.OpenLeases as leases
 use Rattle.ownership_rules.specs.Writes.{holds_of, some_command}
 use Rattle.ownership_checker.specs.Profile.{is_other, is_outside}
-use Rattle.ownership_checker.specs.NoSlots.{NoSlots, IsSetUp, GivesNoOps, command_in}
-use Rattle.ownership_checker.proofs.ListTests.{false_unless}
-use Rattle.ownership_checker.proofs.RingsApart.{IsAmong, other_number}
+use Rattle.ownership_checker.specs.NoSlots.{NoSlots, IsSetUp, command_in}
+use Rattle.ownership_checker.proofs.RingsApart.{other_number}
 use Rattle.ownership_checker.proofs.HeaderRings.{id_below, not_found}
 
 none_mapped : {X Y : Type 0} (f : X → List Y) → ((x : X) → f x ≡ []) → (xs : List X) → flat_map f xs ≡ []
@@ -45,13 +42,13 @@ passes_none test fails None idle = refl
 passes_none test fails (Some NoOp) idle = fails
 passes_none test fails (Some _) idle = absurd (cc)
 
-takes_no_device : (k : Known) (o : Option Command) → holds_of is_other o ≡ false → option_and_then (writes.taken_device k) o ≡ None
+pub takes_no_device : (k : Known) (o : Option Command) → holds_of is_other o ≡ false → option_and_then (writes.taken_device k) o ≡ None
 unfolding holds_of writes.taken_device
 takes_no_device k None idle = refl
 takes_no_device k (Some NoOp) idle = refl
 takes_no_device k (Some _) idle = absurd (cc)
 
-reads_no_context : (h : Header) (p : ℕ) (o : Option Command) → holds_of is_other o ≡ false → leases.range_of_command h p o ≡ []
+pub reads_no_context : (h : Header) (p : ℕ) (o : Option Command) → holds_of is_other o ≡ false → leases.range_of_command h p o ≡ []
 unfolding holds_of leases.range_of_command leases.range_of_context
 reads_no_context h p None idle = refl
 reads_no_context h p (Some NoOp) idle = refl
@@ -72,7 +69,7 @@ no_slots_at_first h = record {
 
 pub set_up_at_first : (h : Header) → IsSetUp h nothing
 unfolding nothing
-set_up_at_first h = record { unread = λ e. refl; sized = λ e. absurd (cc); has_events = λ e. absurd (cc) }
+set_up_at_first h = record { unread = λ e. refl; sized = λ e. absurd (cc); has_events = λ e. absurd (cc); pointed = λ e. absurd (cc); has_commands = λ e. absurd (cc) }
 
 -- the ID of the command ring
 pub command_id_is : (h : Header) (ring : Ring) → command_ring h ≡ Some ring → command_id h ≡ ring.id
@@ -93,7 +90,7 @@ module _ (h : Header) (headed : IsHeader h) (k : Known) (slots : NoSlots h k) wh
       let id = command_id_is h ring there in
       ap (λ i. holds_of is_other (command_in (k.ring i).queue p)) id ∙ (slots.commands ring there).no_ops p (ap (λ i. (k.ring i).given p) (sym id) ∙ given)
 
-  no_places : command_ring h ≡ None → rings.unfinished_positions h k ≡ []
+  pub no_places : command_ring h ≡ None → rings.unfinished_positions h k ≡ []
   unfolding rings.unfinished_positions due_positions shape_of
   no_places none = ap (λ o. filter (k.ring (command_id h)).given (due_positions (shape_or Xfer o) (k.ring (command_id h)))) (no_ring h headed none)
 

@@ -1,15 +1,13 @@
--- What is said of a row, by its kind, and of any row after the stop
-use Rattle.std.proofs.Common.{◌≡◌, ℕ, List, [], ◌∷◌, Bool, true, false, Option, None, Some, ◌+◌, ◌≤◌, arith, Result, Ok, Err, refl, ap, sym, ◌∙◌, subst, inl, inr}
-use Rattle.std.specs.Prelude.{◌⊎◌, IfOk, IfErr, IsErrAnd, if◌then◌else◌, not, ◌&&◌}
-use Rattle.trb.specs.declared.block.Block.{Block}
+-- What is said of a row by its kind, and of any row after the stop
+use Rattle.std.proofs.Common.{◌≡◌, ℕ, true, false, Option, None, Some, ◌+◌, arith, Result, Ok, Err, refl, sym, subst}
+use Rattle.std.specs.Prelude.{IfOk, IfErr, IsErrAnd}
 use Rattle.traces.specs.declared.row.Row.{Row}
 use Rattle.traces.specs.declared.row.Row.TheVariants.{Sub, Write, Reg, Bell, Read}
-use Rattle.traces.specs.declared.register.Register.{Register}
 use Rattle.traces.specs.declared.header.Header.{Header}
 use Rattle.ownership_checker.specs.declared.kept.Kept.{Kept}
 use Rattle.ownership_rules.specs.Rules.{broken}
 use Rattle.ring_knowledge.specs.Known.{Known}
-use Rattle.ownership_rules.specs.declared.refusal.Refusal.TheVariants.{NotInProfile, AfterStop}
+use Rattle.ownership_rules.specs.declared.refusal.Refusal.TheVariants.{AfterStop}
 use Rattle.ownership_rules.specs.Refusal.{first_of}
 use Rattle.ownership_checker.specs.Profile.{is_outside, broken_within}
 use Rattle.ownership_checker.specs.declared.fault.StepFault.{StepFault}
@@ -17,20 +15,13 @@ use Rattle.ownership_checker.specs.declared.fault.StepFault.TheVariants.{Refused
 use Rattle.ownership_checker.specs.Tracking.{IfRefused, Follows, IsRowStep, IsWithin}
 use Rattle.event_ring.specs.EventPlaceValue.{EventState}
 
--- a row whose rules aren't checked yet
-pub outside_refused : (h : Header) (k : Known) (row : Row) → k.stopped ≡ false →
-    ((s : ℕ) × (t : ℕ) × (row ≡ Bell s t)) ⊎ ((b : Block) × (row ≡ Read b)) → first_of (broken_within h k row) ≡ Some NotInProfile
-unfolding broken_within is_outside
-outside_refused h k row on (inl e) = rw (e.2, on) refl
-outside_refused h k row on (inr e) = rw (e.1, on) refl
-
 stopped_inside : (h : Header) (k : Known) (row : Row) → k.stopped ≡ true → is_outside h k row ≡ false
 unfolding is_outside
 stopped_inside h k (Sub r blocks) off = refl
 stopped_inside h k (Write a w) off = rw off refl
 stopped_inside h k (Reg r v) off = refl
-stopped_inside h k (Bell s t) off = rw off refl
-stopped_inside h k (Read b) off = rw off refl
+stopped_inside h k (Bell s t) off = refl
+stopped_inside h k (Read b) off = refl
 
 -- any row after the stop
 pub stopped_refused : (h : Header) (k : Known) (row : Row) → k.stopped ≡ true → first_of (broken_within h k row) ≡ Some AfterStop

@@ -1,16 +1,11 @@
 -- What a block says as a command, and what a word of the segment table is
-use Rattle.std.proofs.Common.{◌≡◌, ℕ, ◌+◌, ◌*◌, ◌/◌, ◌<◌, ◌≤◌, List, [], ◌∷◌, Bool, true, false, Option, Some, None, Result, Ok, Err, refl, ap, sym, ◌∙◌, arith, length}
-use Rattle.std.specs.Prelude.{◌↔◌, ◌&&◌, nat_lt, option_and_then, slice_get}
-use Rattle.std.specs.List.{list_any}
+use Rattle.std.proofs.Common.{◌≡◌, ℕ, List, [], ◌∷◌, Bool, true, false, Option, Some, None, Ok, Err, refl, ap, sym, ◌∙◌}
+use Rattle.std.specs.Prelude.{◌↔◌, ◌&&◌, option_and_then, slice_get}
 use Rattle.commands.specs.declared.command.Command.{Command}
 use Rattle.commands.specs.Command.{command_of}
 use Rattle.trb.specs.declared.block.Block.{Block}
 use Rattle.trb.specs.declared.fault.Fault.{Fault}
-use Rattle.segments.specs.ShapeValue.{Shape}
-use Rattle.segments.specs.RingView.{RingView, positions_given}
-use Rattle.ring_knowledge.specs.declared.ring_record.RingGiving.{RingGiving}
-use Rattle.ring_knowledge.specs.declared.ring_record.RingGiving.TheVariants.{Position, Crossing}
-use Rattle.ring_knowledge.specs.RingRecords.{positions_of}
+use Rattle.segments.specs.RingView.{RingView}
 use Rattle.ownership_rules.specs.Writes.{holds_of}
 use Rattle.ownership_checker.specs.Profile.{is_other}
 use Rattle.ownership_checker.specs.NoSlots.{command_in}

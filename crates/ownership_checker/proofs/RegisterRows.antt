@@ -1,10 +1,10 @@
 -- A register write that was checked
-use Rattle.std.proofs.Common.{◌≡◌, ℕ, ◌-◌, List, [], ◌∷◌, ◌++◌, Bool, true, false, Option, None, Some, arith, refl, ap, sym, ◌∙◌, length, map, subst}
+use Rattle.std.proofs.Common.{◌≡◌, ℕ, ◌-◌, [], ◌∷◌, ◌++◌, Bool, true, false, Option, None, Some, arith, refl, ap, sym, ◌∙◌, length, map, subst}
 use Rattle.std.specs.Prelude.{not, ◌&&◌, ◌||◌, is_some, if◌then◌else◌}
 use Rattle.std.proofs.lemmas.Bool.{cond_both}
 use Rattle.segments.specs.RingView.{RingView, leased_positions, leased_crossings}
 use Rattle.event_ring.specs.EventPlaceValue.{EventState}
-use Rattle.event_ring.specs.EventRing.{is_reached_within, erdp_address, position_from}
+use Rattle.event_ring.specs.EventRing.{is_reached_within, erdp_address}
 use Rattle.traces.specs.declared.ring.Ring.{Ring}
 use Rattle.traces.specs.declared.header.Header.{Header}
 use Rattle.traces.specs.declared.register.Register.{Register}
@@ -23,7 +23,6 @@ use Rattle.ownership_rules.specs.Refusal.{first_of, first_broken, broken_of}
 use Rattle.ownership_rules.specs.Rules.{broken, tests}
 use Rattle.ownership_rules.specs.Registers.{register_tests, is_bad_register, is_bad_erdp, may_pass, is_written}
 use Rattle.ownership_rules.specs.OpenLeases.{open_on, Block, Link}
-use Rattle.ownership_rules.specs.Leases.{begun}
 use Rattle.ownership_checker.specs.Profile.{is_outside, broken_within}
 use Rattle.ownership_checker.specs.declared.kept.Kept.{Kept}
 use Rattle.ownership_checker.specs.NoSlots.{NoSlots, IsSetUp}
@@ -68,7 +67,7 @@ unfolding is_bad_erdp
 not_passed h k Erdp v other = absurd (other refl)
 not_passed h k _ v other = refl
 
-unwritten_before : (h : Header) (k : Known) (v : ℕ) → is_bad_register h k Erstba v ≡ false → k.register Erstba ≡ None
+pub unwritten_before : (h : Header) (k : Known) (v : ℕ) → is_bad_register h k Erstba v ≡ false → k.register Erstba ≡ None
 unfolding is_bad_register is_written
 unwritten_before h k v fine = by k.started (k.register Erstba) _ _ fine
   where

@@ -1,16 +1,13 @@
 -- The rule of register writes, register by register
-use Rattle.std.proofs.Common.{◌≡◌, ℕ, ◌+◌, List, [], ◌∷◌, Bool, true, false, Option, None, Some, refl, ap, sym, ◌∙◌, inl, inr}
-use Rattle.std.specs.Prelude.{◌==◌, ◌&&◌, ◌||◌, not, position, is_some, is_none}
-use Rattle.std.specs.List.{list_any}
+use Rattle.std.proofs.Common.{◌≡◌, ℕ, Bool, true, false, None, refl}
+use Rattle.std.specs.Prelude.{◌||◌, position}
 use Rattle.traces.specs.declared.header.Header.{Header}
-use Rattle.traces.specs.declared.ring.Ring.{Ring}
 use Rattle.traces.specs.declared.register.Register.{Register}
-use Rattle.traces.specs.declared.register.Register.TheVariants.{Usbcmd, Crcr, Dcbaap, Config, Erstsz, Erstba, Erdp}
-use Rattle.traces.specs.Header.{IsHeader, command_ring, is_command_kind, touches_ring}
+use Rattle.traces.specs.declared.register.Register.TheVariants.{Usbcmd, Crcr, Dcbaap, Config, Erstsz, Erstba}
+use Rattle.traces.specs.Header.{command_ring, is_command_kind}
 use Rattle.traces.specs.Register.{base_address}
 use Rattle.ring_knowledge.specs.Known.{Known}
 use Rattle.ownership_rules.specs.Registers.{is_bad_register, is_bad_crcr, is_bad_size, is_bad_table, is_written, is_unwritten}
-use Rattle.ownership_checker.proofs.RingsApart.{IsAmong}
 use Rattle.ownership_checker.proofs.HeaderRings.{not_found}
 use Rattle.ownership_checker.proofs.Fresh.{none_here}
 

@@ -1,12 +1,11 @@
 -- A row that was checked, from what was checked of one ring
-use Rattle.std.proofs.Common.{◌≡◌, ℕ, ◌+◌, ◌%◌, List, [], ◌∷◌, Bool, true, false, inl, inr, None, Some, Result, Ok, Err, refl, ap, sym, ◌∙◌, length, set, subst, length-append}
-use Rattle.std.specs.Prelude.{◌==◌, ◌&&◌, not, slice_get, map, option_and_then, if◌then◌else◌, IfOk, IfErr, OnOk}
+use Rattle.std.proofs.Common.{◌≡◌, ℕ, ◌%◌, List, true, false, inl, inr, Some, Result, Ok, Err, refl, ap, sym, ◌∙◌, length, subst, length-append}
+use Rattle.std.specs.Prelude.{◌==◌, ◌&&◌, not, slice_get, map, option_and_then, IfOk, IfErr, OnOk}
 use Rattle.std.specs.Vec.{with_item}
 use Rattle.std.proofs.lemmas.Bool.{cases_Bool, and_parts, eqb-true}
 use Rattle.std.proofs.Math.Path.{fun_ext}
 use Rattle.std.proofs.lemmas.List.{length-map}
 use Rattle.trb.specs.declared.block.Block.{Block}
-use Rattle.trb.specs.declared.ring_kind.RingKind.TheVariants.{Cmd, Evt, Xfer}
 use Rattle.guest_memory.specs.Memory.{put}
 use Rattle.segments.specs.Places.{is_inside, touches}
 use Rattle.segments.specs.RingView.{RingView, Declares, Writes, changed, positions_given, crossings_given, leased_positions, leased_crossings, due_positions, due_crossings}
@@ -14,7 +13,7 @@ use Rattle.segments.proofs.InsideLemmas.{touches-word}
 use Rattle.traces.specs.declared.ring.Ring.{Ring}
 use Rattle.traces.specs.declared.header.Header.{Header}
 use Rattle.traces.specs.declared.row.Row.TheVariants.{Sub, Write}
-use Rattle.traces.specs.Header.{IsHeader, is_driver_kind, is_event_kind, is_command_kind, command_ring, shape_of}
+use Rattle.traces.specs.Header.{IsHeader, is_driver_kind, is_event_kind, is_command_kind}
 use Rattle.ring_knowledge.specs.declared.ring_record.RingRecord.{RingRecord}
 use Rattle.ring_knowledge.specs.RingRecords.{FollowsRing}
 use Rattle.ring_knowledge.specs.Known.{Known}
@@ -25,7 +24,6 @@ use Rattle.traces.specs.declared.register.Register.TheVariants.{Erstba}
 use Rattle.ownership_rules.specs.declared.refusal.Refusal.TheVariants.{NotDeclared, WriteToOwned, NotInProfile}
 use Rattle.ownership_rules.specs.Refusal.{first_of, first_broken}
 use Rattle.ownership_rules.specs.Rules.{broken}
-use Rattle.ownership_rules.specs.Leases.{begun}
 use Rattle.ownership_checker.specs.Profile.{is_outside, broken_within}
 use Rattle.ownership_checker.specs.OneRing.{room_tests, word_tests}
 use Rattle.ownership_checker.specs.declared.fault.StepFault.{StepFault}
@@ -52,7 +50,7 @@ use Rattle.ownership_checker.proofs.Tracked.{HasRecord, slots_nowhere, written_n
 abbrev pub with_ring : Kept → ℕ → RingRecord → Kept
 with_ring kept n new = record kept { rings = with_item kept.rings n new }
 
-has_record : (kept : Kept) (n : ℕ) (new : RingRecord) → HasRecord kept (with_ring kept n new) n new
+pub has_record : (kept : Kept) (n : ℕ) (new : RingRecord) → HasRecord kept (with_ring kept n new) n new
 has_record kept n new = record { rings = refl; registers = refl; events = refl }
 
 module _ (h : Header) (headed : IsHeader h) where

@@ -1,5 +1,5 @@
 -- No row of the profile enables a slot
-use Rattle.std.proofs.Common.{◌≡◌, ℕ, ◌+◌, ◌<◌, ◌≤◌, List, [], ◌∷◌, ◌++◌, Bool, true, false, Option, Some, None, refl, ap, sym, ◌∙◌, arith, inl, inr, subst, length, length-append}
+use Rattle.std.proofs.Common.{◌≡◌, ℕ, ◌+◌, ◌<◌, List, [], ◌∷◌, true, false, Option, Some, None, refl, ap, sym, ◌∙◌, arith, inl, inr, subst, length, length-append}
 use Rattle.std.specs.Prelude.{◌==◌, ◌&&◌, ◌||◌, not, option_and_then, slice_get}
 use Rattle.std.specs.List.{list_any}
 use Rattle.std.proofs.lemmas.Bool.{cases_Bool, cond_both, eqb-true, ltb-true, leb-true, leb-false, and_parts}
@@ -14,7 +14,7 @@ use Rattle.segments.proofs.Declaring.{slice_get-append}
 use Rattle.traces.specs.declared.ring.Ring.{Ring}
 use Rattle.traces.specs.declared.header.Header.{Header}
 use Rattle.traces.specs.declared.register.Register.{Register}
-use Rattle.traces.specs.declared.register.Register.TheVariants.{Usbcmd, Erdp}
+use Rattle.traces.specs.declared.register.Register.TheVariants.{Usbcmd}
 use Rattle.traces.specs.Header.{command_ring, shape_of}
 use Rattle.traces.specs.Register.{run_bit, reset_bit}
 use Rattle.ring_knowledge.specs.declared.ring_record.RingGiving.{RingGiving}
@@ -26,7 +26,7 @@ use Rattle.ring_knowledge.specs.Writes.{with_word}
 use Rattle.ring_knowledge.specs.Registers.{register_written, run_or_stop, valued}
 use Rattle.ownership_rules.specs.Writes.{holds_of}
 use Rattle.ownership_checker.specs.Profile.{is_other}
-use Rattle.ownership_checker.specs.NoSlots.{NoSlots, IsSetUp, GivesNoOps, command_in}
+use Rattle.ownership_checker.specs.NoSlots.{NoSlots, GivesNoOps, command_in}
 use Rattle.ownership_checker.proofs.ListTests.{or_false}
 use Rattle.ownership_checker.proofs.OpenBefore.{among_passing}
 

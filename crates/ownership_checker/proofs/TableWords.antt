@@ -1,6 +1,5 @@
 -- Whether the segment table, which is under lease, has a word
-use Rattle.std.proofs.Common.{◌≡◌, ℕ, ◌*◌, ◌/◌, Bool, true, false, Option, Some, None, refl, ap, sym, ◌∙◌, length}
-use Rattle.std.specs.Prelude.{◌||◌}
+use Rattle.std.proofs.Common.{◌≡◌, ℕ, Bool, false, Option, Some, None, ap, sym, ◌∙◌}
 use Rattle.std.specs.List.{list_any}
 use Rattle.trb.specs.declared.ring_kind.RingKind.TheVariants.{Evt}
 use Rattle.segments.specs.Places.{overlap}

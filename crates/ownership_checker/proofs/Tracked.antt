@@ -2,14 +2,13 @@
 use Rattle.std.proofs.Common.{◌≡◌, ◌≢◌, ℕ, zero, suc, ◌%◌, List, [], ◌∷◌, true, false, Option, Some, None, refl, ap, sym, ◌∙◌, arith, inl, inr, set, subst, length}
 use Rattle.std.specs.Prelude.{◌==◌, ◌⊎◌, slice_get, is_some, if◌then◌else◌}
 use Rattle.std.proofs.Math.ListN.{length-set}
-use Rattle.trb.specs.declared.block.Block.{Block}
 use Rattle.guest_memory.specs.Memory.{put}
 use Rattle.segments.specs.Places.{is_inside}
-use Rattle.segments.specs.RingView.{RingView, RingChange, Declares, Writes, changed}
+use Rattle.segments.specs.RingView.{RingView, RingChange, Writes, changed}
 use Rattle.traces.specs.declared.ring.Ring.{Ring}
 use Rattle.traces.specs.declared.header.Header.{Header}
-use Rattle.traces.specs.declared.row.Row.TheVariants.{Sub, Write}
-use Rattle.traces.specs.declared.register.Register.TheVariants.{Erstsz}
+use Rattle.traces.specs.declared.row.Row.TheVariants.{Write}
+use Rattle.traces.specs.declared.register.Register.TheVariants.{Crcr, Erstsz}
 use Rattle.traces.specs.Header.{IsHeader, is_driver_kind, is_command_kind, command_ring}
 use Rattle.ring_knowledge.specs.declared.ring_record.RingRecord.{RingRecord}
 use Rattle.ring_knowledge.specs.RingRecords.{FollowsRing}
@@ -24,7 +23,7 @@ use Rattle.ownership_rules.specs.Writes.{holds_of}
 use Rattle.ownership_checker.specs.Profile.{is_other}
 use Rattle.ownership_checker.specs.declared.kept.Kept.{Kept}
 use Rattle.ownership_checker.specs.NoSlots.{NoSlots, IsSetUp, GivesNoOps}
-use Rattle.ownership_checker.specs.Tracking.{Follows, FollowsEvents, FollowsPlace}
+use Rattle.ownership_checker.specs.Tracking.{Follows, FollowsEvents}
 use Rattle.ownership_checker.proofs.RingsApart.{IsAmong, Apart, among_at, numbers_apart, same_or_apart, same_number, other_number}
 use Rattle.ownership_checker.proofs.HeaderRings.{together, shape_allowed, shape_there, find_some}
 use Rattle.ownership_checker.proofs.NoSlotsLemmas.{written_is}
@@ -68,6 +67,8 @@ module _ (h : Header) (k l : Known) (b : IsBeside k l) where
     unread = λ off. b.reads ∙ s.unread (sym b.started ∙ off);
     sized = λ on. ap (λ g. is_some (g Erstsz)) b.register ∙ s.sized (sym b.started ∙ on);
     has_events = λ written. s.has_events (ap (λ g. is_some (g Erstsz)) (sym b.register) ∙ written);
+    pointed = λ on. ap (λ g. is_some (g Crcr)) b.register ∙ s.pointed (sym b.started ∙ on);
+    has_commands = λ written. s.has_commands (ap (λ g. is_some (g Crcr)) (sym b.register) ∙ written);
   }
 
   pub registers_still : (r : RegisterRecord) → FollowsRegisters k r → FollowsRegisters l r

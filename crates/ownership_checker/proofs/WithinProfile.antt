@@ -1,15 +1,15 @@
 -- Worked verdicts within the profile: rows that are outside are refused as such, and a row that is refused before them comes first
-use Rattle.std.specs.Prelude.{◌≡◌, ℕ, List, [], ◌∷◌, Option, Some, None, refl}
+use Rattle.std.specs.Prelude.{◌≡◌, ℕ, List, [], ◌∷◌, ◌++◌, Option, Some, None, refl}
 use Rattle.trb.specs.declared.block.Block.{Block}
 use Rattle.trb.specs.declared.ring_kind.RingKind.TheVariants.{Cmd, Evt, Xfer}
 use Rattle.contexts.specs.declared.size.ContextSize.TheVariants.{Bytes32}
 use Rattle.traces.specs.declared.header.Header.{Header}
-use Rattle.traces.specs.declared.register.Register.TheVariants.{Usbcmd}
+use Rattle.traces.specs.declared.register.Register.TheVariants.{Usbcmd, Crcr, Erstsz, Erstba, Erdp}
 use Rattle.traces.specs.declared.row.Row.{Row}
-use Rattle.traces.specs.declared.row.Row.TheVariants.{Sub, Write, Reg, Bell}
+use Rattle.traces.specs.declared.row.Row.TheVariants.{Sub, Write, Reg, Bell, Read}
 use Rattle.ring_knowledge.specs.Known.{nothing}
 use Rattle.ownership_rules.specs.declared.refusal.Refusal.{Refusal}
-use Rattle.ownership_rules.specs.declared.refusal.Refusal.TheVariants.{WriteToOwned, NotDeclared, NotInProfile}
+use Rattle.ownership_rules.specs.declared.refusal.Refusal.TheVariants.{WriteToOwned, NotDeclared, BadDoorbell, ImpossibleEvent, NotInProfile}
 use Rattle.ownership_rules.specs.Rules.{verdict_from}
 use Rattle.ownership_checker.specs.Profile.{verdict_within}
 use Rattle.ownership_checker.specs.OnLiterals.{profile_on_literals}
@@ -34,6 +34,25 @@ no_op_command = record { w = 0 ∷ 0 ∷ 0 ∷ 0x5c00 ∷ [] }
 abbrev enable_slot : Block
 enable_slot = record { w = 0 ∷ 0 ∷ 0 ∷ 0x2400 ∷ [] }
 
+-- the set-up and the start, with the segment table at 50000: seven rows
+abbrev start : List Row
+start =
+    Write 0x50000 0x20000 ∷ Write 0x50008 16 ∷ Reg Erstsz 1 ∷ Reg Erstba 0x50000 ∷ Reg Erdp 0x20000 ∷ Reg Crcr 0x10001 ∷ Reg Usbcmd 1 ∷ []
+
+-- a No Op command is given at the command ring's first block
+abbrev given : List Row
+given = Sub 0 (no_op_command ∷ []) ∷ Write 0x1000c 0x5c01 ∷ []
+
+-- the completion of the command at an address, the success of a transfer, and the end of a microframe counter's lap
+abbrev completion : ℕ → Block
+completion address = record { w = address ∷ 0 ∷ 0x1000000 ∷ 0x8401 ∷ [] }
+
+abbrev transfer : Block
+transfer = record { w = 0x30000 ∷ 0 ∷ 0x1000000 ∷ 0x1018001 ∷ [] }
+
+abbrev wrapped : Block
+wrapped = record { w = 0 ∷ 0 ∷ 0x1000000 ∷ 0x9c01 ∷ [] }
+
 -- the first row is line 6
 abbrev within : List Row → Option (ℕ × Refusal)
 within rows = verdict_within three_rings nothing 6 rows
@@ -54,7 +73,8 @@ pub reset_breaks_nothing : full (Sub 2 (no_op ∷ []) ∷ Reg Usbcmd 2 ∷ []) �
 unfolding profile_on_literals
 reset_breaks_nothing = refl
 
-pub doorbell : within (Bell 0 0 ∷ []) ≡ Some (6, NotInProfile)
+-- a doorbell before the start
+pub doorbell : within (Bell 0 0 ∷ []) ≡ Some (6, BadDoorbell)
 unfolding profile_on_literals
 doorbell = refl
 
@@ -89,3 +109,40 @@ event_segment = refl
 pub refused_before : within (Write 0x1000c 0x5c01 ∷ Reg Usbcmd 2 ∷ []) ≡ Some (6, NotDeclared)
 unfolding profile_on_literals
 refused_before = refl
+
+-- the doorbell of an endpoint
+pub endpoint_bell : within (start ++ Bell 1 1 ∷ []) ≡ Some (13, BadDoorbell)
+unfolding profile_on_literals
+endpoint_bell = refl
+
+-- a No Op command is given, its doorbell rung and its completion read; the block may then be written
+pub finished : within (start ++ given ++ Bell 0 0 ∷ Read (completion 0x10000) ∷ Write 0x10008 0 ∷ []) ≡ None
+unfolding profile_on_literals
+finished = refl
+
+-- its doorbell ends no lease
+pub owned_still : within (start ++ given ++ Bell 0 0 ∷ Write 0x10008 0 ∷ []) ≡ Some (16, WriteToOwned)
+unfolding profile_on_literals
+owned_still = refl
+
+-- a completion before the doorbell, of another block, and of a command that was finished
+pub too_early : within (start ++ given ++ Read (completion 0x10000) ∷ []) ≡ Some (15, ImpossibleEvent)
+unfolding profile_on_literals
+too_early = refl
+
+pub elsewhere : within (start ++ given ++ Bell 0 0 ∷ Read (completion 0x10010) ∷ []) ≡ Some (16, ImpossibleEvent)
+unfolding profile_on_literals
+elsewhere = refl
+
+pub twice : within (start ++ given ++ Bell 0 0 ∷ Read (completion 0x10000) ∷ Read (completion 0x10000) ∷ []) ≡ Some (17, ImpossibleEvent)
+unfolding profile_on_literals
+twice = refl
+
+-- the controller's own events are possible at any time, those of endpoints while no slot is enabled at none
+pub own_event : within (start ++ Read wrapped ∷ []) ≡ None
+unfolding profile_on_literals
+own_event = refl
+
+pub endpoint_event : within (start ++ Read transfer ∷ []) ≡ Some (13, ImpossibleEvent)
+unfolding profile_on_literals
+endpoint_event = refl

@@ -1,5 +1,4 @@
 pub mod Profile
-pub mod LeaseCount
 pub mod NoSlots
 pub mod OneRing
 pub mod Verdicts
@@ -7,3 +6,4 @@ pub mod Tracking
 pub mod Finding
 pub mod OnLiterals
 pub mod Walks
+pub mod Lending

@@ -1,5 +1,5 @@
 -- What is known while no command but No Op was given: no slot is enabled, and no device context is under lease
-use Rattle.std.specs.Prelude.{◌≡◌, ℕ, ◌<◌, Bool, true, false, List, length, Option, None, Some, option_and_then, slice_get, is_some}
+use Rattle.std.specs.Prelude.{◌≡◌, ℕ, ◌<◌, true, false, List, length, Option, None, Some, option_and_then, slice_get, is_some}
 use Rattle.trb.specs.declared.block.Block.{Block}
 use Rattle.segments.specs.RingView.{RingView}
 use Rattle.commands.specs.declared.command.Command.{Command}
@@ -7,7 +7,7 @@ use Rattle.commands.specs.declared.state.EndpointState.TheVariants.{Disabled as 
 use Rattle.commands.specs.Command.{command_of}
 use Rattle.traces.specs.declared.header.Header.{Header}
 use Rattle.traces.specs.declared.ring.Ring.{Ring}
-use Rattle.traces.specs.declared.register.Register.TheVariants.{Erstsz}
+use Rattle.traces.specs.declared.register.Register.TheVariants.{Crcr, Erstsz}
 use Rattle.traces.specs.Header.{command_ring, event_ring}
 use Rattle.ring_knowledge.specs.Known.{Known}
 use Rattle.ownership_rules.specs.Writes.{holds_of}
@@ -36,3 +36,6 @@ pub record IsSetUp (h : Header) (k : Known) : Type 0 where
   -- the start comes after the write of ERSTSZ, and that only where there is an event ring
   pub sized : k.started ≡ true → is_some (k.register Erstsz) ≡ true
   pub has_events : is_some (k.register Erstsz) ≡ true → is_some (event_ring h) ≡ true
+  -- and after the write of CRCR, and that only where there is a command ring
+  pub pointed : k.started ≡ true → is_some (k.register Crcr) ≡ true
+  pub has_commands : is_some (k.register Crcr) ≡ true → is_some (command_ring h) ≡ true

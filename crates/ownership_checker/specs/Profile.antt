@@ -1,4 +1,4 @@
--- The verdict within what is checked for now: doorbells, events, and writes that give a command other than No Op are outside
+-- The verdict within what is checked for now: a write that gives a command other than No Op is outside
 use Rattle.std.specs.Prelude.{ℕ, ◌+◌, ◌&&◌, if◌then◌else◌, Bool, true, false, not, List, [], ◌∷◌, Option, None}
 use Rattle.commands.specs.declared.command.Command.{Command}
 use Rattle.commands.specs.declared.command.Command.TheVariants.{NoOp}
@@ -18,14 +18,13 @@ is_other NoOp = false
 is_other _ = true
 
 module _ (h : Header) where
-  -- a row that is refused whatever else it breaks: before the stop, a doorbell, an event, or a write that gives a command other
-  -- than No Op
+  -- a row that is refused whatever else it breaks: before the stop, a write that gives a command other than No Op
   unfoldable pub is_outside : Known → Row → Bool
   is_outside k (Sub r blocks) = false
   is_outside k (Write a w) = not k.stopped && some_command h k a w is_other
   is_outside k (Reg r v) = false
-  is_outside k (Bell s t) = not k.stopped
-  is_outside k (Read b) = not k.stopped
+  is_outside k (Bell s t) = false
+  is_outside k (Read b) = false
 
   -- the rules that a row breaks: outside, the profile alone
   unfoldable pub broken_within : Known → Row → List Refusal

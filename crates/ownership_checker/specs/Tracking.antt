@@ -1,5 +1,5 @@
 -- What the checker's records and memory hold, in terms of what is known after the rows so far
-use Rattle.std.specs.Prelude.{Option, Some, None, is_some, ◌≡◌, ℕ, ◌+◌, ◌≤◌, true, false, List, [], ◌∷◌, length, slice_get, reverse, take, drop}
+use Rattle.std.specs.Prelude.{Option, Some, None, is_some, ◌≡◌, ℕ, ◌+◌, ◌≤◌, true, false, List, [], length, slice_get, reverse, take, drop}
 use Rattle.trb.specs.declared.block.Block.{Block}
 use Rattle.segments.specs.ShapeValue.{Shape}
 use Rattle.segments.specs.Shape.{IsShape}
@@ -22,12 +22,13 @@ use Rattle.ownership_rules.specs.Rules.{broken, verdict_from}
 use Rattle.ownership_rules.specs.Clean.{IsClean}
 use Rattle.ownership_rules.specs.Leases.{begun}
 use Rattle.safety.specs.KeptHistories.{MayRead, MayReadAll}
+use Rattle.lease_book.specs.declared.lease_book.LeaseBook.{LeaseBook}
+use Rattle.lease_book.specs.Books.{FollowsLeases}
 use Rattle.ownership_checker.specs.NoSlots.{NoSlots, IsSetUp}
 use Rattle.ownership_checker.specs.OneRing.{room_tests, word_tests}
 use Rattle.ownership_checker.specs.Profile.{is_outside, verdict_within}
 use Rattle.ownership_checker.specs.Verdicts.{AreInside}
 use Rattle.ownership_checker.specs.declared.kept.Kept.{Kept}
-use Rattle.ownership_checker.specs.LeaseCount.{begun_count}
 use Rattle.ownership_checker.specs.declared.fault.StepFault.{StepFault}
 use Rattle.ownership_checker.specs.declared.fault.StepFault.TheVariants.{Refused, Memory}
 
@@ -104,14 +105,13 @@ IfRefused (Refused c) P = P c
 IfRefused Memory P = Unit {0}
 
 -- some of the rows were checked; T tells what is held of what is known after them
-pub record IsChecked (h : Header) (rows : List Row) (first : ℕ) (done : ℕ) (T : Known → Type 0) (leases : ℕ) : Type 0 where
+pub record IsChecked (h : Header) (rows : List Row) (first : ℕ) (done : ℕ) (T : Known → Type 0) : Type 0 where
   pub tracked : T (known h (reverse (take done rows)))
   pub inside : AreInside h (reverse (take done rows))
   pub clean : IsClean h (reverse (take done rows))
   pub placed : MayReadAll h (reverse (take done rows))
   pub verdict : verdict_from h nothing first rows ≡ verdict_from h (known h (reverse (take done rows))) (first + done) (drop done rows)
   pub within : verdict_within h nothing first rows ≡ verdict_within h (known h (reverse (take done rows))) (first + done) (drop done rows)
-  pub counted : length (event_shape h).segments + begun_count h nothing rows ≡ leases + begun_count h (known h (reverse (take done rows))) (drop done rows)
 
 -- no more events were read than there were rows
 abbrev pub IsWithin : Option EventState → ℕ → Type 0
@@ -119,8 +119,8 @@ IsWithin None n = Unit {0}
 IsWithin (Some e) n = e.counts.reads ≤ n
 
 -- how far the check of a trace has come
-pub record IsProgress (h : Header) (rows : List Row) (first done number begun : ℕ) (kept : Kept) (memory : ℕ → ℕ) : Type 0 where
+pub record IsProgress (h : Header) (rows : List Row) (first done number : ℕ) (kept : Kept) (memory : ℕ → ℕ) (book : LeaseBook) : Type 0 where
   pub numbered : number ≡ first + done
-  pub few : begun ≤ 64 + done
   pub few_reads : IsWithin kept.events done
-  pub checked : IsChecked h rows first done (λ k. Follows h k kept memory) begun
+  pub checked : IsChecked h rows first done (λ k. Follows h k kept memory)
+  pub lent : FollowsLeases h first (reverse (take done rows)) book

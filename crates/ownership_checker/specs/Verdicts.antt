@@ -2,6 +2,7 @@
 use Rattle.std.specs.Prelude.{Some, None, ◌≡◌, ℕ, ◌-◌, false, List, [], ◌∷◌, length, slice_get, reverse, take}
 use Rattle.traces.specs.declared.header.Header.{Header}
 use Rattle.traces.specs.declared.row.Row.{Row}
+use Rattle.ring_knowledge.specs.declared.lease.Lease.{Lease}
 use Rattle.ring_knowledge.specs.Known.{nothing}
 use Rattle.ring_knowledge.specs.Learned.{known}
 use Rattle.ownership_rules.specs.declared.refusal.Refusal.{Refusal}
@@ -11,18 +12,20 @@ use Rattle.ownership_rules.specs.Leases.{leases as leases_of}
 use Rattle.ownership_checker.specs.Profile.{is_outside}
 use Rattle.ownership_checker.specs.declared.fault.CheckFault.{CheckFault}
 use Rattle.ownership_checker.specs.declared.fault.CheckFault.TheVariants.{Refused, Memory}
+-- what an accepted trace is, beside every run of the controller's model
+pub use Rattle.safety.specs.Headline.{IsHarmless}
 
 -- no row is outside the profile; the newest first
 abbrev pub AreInside : Header → List Row → Type 0
 AreInside h [] = Unit {0}
 AreInside h (row ∷ past) = AreInside h past × (is_outside h (known h past) row ≡ false)
 
--- a whole trace was accepted, with so many leases: no row is outside the profile or breaks a rule
-pub record IsAccepted (h : Header) (rows : List Row) (first : ℕ) (leases : ℕ) : Type 0 where
+-- a whole trace was accepted, with these leases: no row is outside the profile or breaks a rule, and they are its leases
+pub record IsAccepted (h : Header) (rows : List Row) (first : ℕ) (leases : List Lease) : Type 0 where
   pub inside : AreInside h (reverse rows)
   pub clean : IsClean h (reverse rows)
   pub verdict : verdict_from h nothing first rows ≡ None
-  pub counted : length (leases_of h first rows) ≡ leases
+  pub certified : leases ≡ leases_of h first rows
 
 -- where the row of this number is in the profile, it is the first that breaks a rule, of all rules
 abbrev pub IsFirstOfAll : Header → ℕ → List Row → ℕ → Refusal → Type 0

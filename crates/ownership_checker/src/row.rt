@@ -8,6 +8,8 @@ ghost use Rattle.ownership_checker.specs.Profile.{broken_within};
 ghost use Rattle.ownership_checker.specs.Finding.{IsFinder};
 ghost use Rattle.ownership_checker.specs.Tracking.{Follows, IfRefused, IsRowStep, IsWithin};
 
+use crate::doorbells::check_doorbell;
+use crate::events::check_event;
 use crate::fault::StepFault;
 use crate::finder::Finder;
 use crate::given_commands::gives_other_command;
@@ -52,7 +54,14 @@ pub fn check_row<M: WordMemory>(
         Row::Reg { register, value } => check_register(
             header, finder, kept, memory, *register, *value,
         ),
-        Row::Bell { .. } | Row::Read { .. } => Err(StepFault::Refused(Refusal::NotInProfile)),
+        Row::Bell { slot, target } => {
+            check_doorbell(header, finder, kept, *slot, *target)?;
+            Ok(0)
+        }
+        Row::Read { event } => {
+            check_event(header, finder, kept, *event)?;
+            Ok(0)
+        }
     }
 }
 

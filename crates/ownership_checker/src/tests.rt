@@ -2,10 +2,11 @@ ghost use Rattle.std.specs.Prelude.{◌≡◌, ◌+◌, ◌≤◌, length, IfOk}
 ghost use Rattle.traces.specs.Header.{IsHeader};
 ghost use Rattle.traces.specs.Rows.{AreRows};
 
-use crate::{CheckFault, check};
+use crate::{Certificate, CheckFault, check};
 use contexts::ContextSize;
 use guest_memory::Addr;
 use ownership_rules::Refusal;
+use ring_knowledge::Lease;
 use segments::RingShape;
 use std::alloc::{AllocError, Global};
 use std::test::Fail;
@@ -71,7 +72,7 @@ fn rows_of(alloc: Global, declared: &[u8], written: &[(u64, u32)]) -> Result<Vec
 }
 
 /// What is answered to the trace with these rows; the first is line 7.
-fn answer_to(alloc: Global, rows: Vec<Row>) -> Result<Result<u64, CheckFault>, Fail>
+fn checked(alloc: Global, rows: Vec<Row>) -> Result<Result<Certificate, CheckFault>, Fail>
     requires fit { AreRows rows.items }
     requires few { length rows.items ≤ 1000 }
 {
@@ -83,7 +84,18 @@ fn answer_to(alloc: Global, rows: Vec<Row>) -> Result<Result<u64, CheckFault>, F
     Ok(check(alloc, &trace))
 }
 
-fn refused(row: u32, refusal: Refusal) -> Result<u64, CheckFault> {
+/// The same, by the number of leases.
+fn answer_to(alloc: Global, rows: Vec<Row>) -> Result<Result<usize, CheckFault>, Fail>
+    requires fit { AreRows rows.items }
+    requires few { length rows.items ≤ 1000 }
+{
+    match checked(alloc, rows)? {
+        Ok(certificate) => Ok(Ok(certificate.leases.len())),
+        Err(fault) => Ok(Err(fault)),
+    }
+}
+
+fn refused(row: u32, refusal: Refusal) -> Result<usize, CheckFault> {
     Err(CheckFault::Refused { row, refusal })
 }
 
@@ -97,6 +109,41 @@ fn follows_two_transfer_rings(rt: HostRuntime) -> Result<(), Fail> {
     )?;
     // Two leases of event segments, and three of blocks.
     assert_eq!(rt; answer_to(alloc, rows)?, Ok(5));
+    Ok(())
+}
+
+/// A lease that begins at a row and has no end.
+fn lease(kind: u32, ring: u32, pos: u64, from: u32) -> Lease {
+    Lease {
+        kind,
+        ring,
+        pos,
+        from,
+        to: 0xffff_ffff,
+    }
+}
+
+#[test]
+fn tells_the_leases_in_their_order(rt: HostRuntime) -> Result<(), Fail> {
+    let alloc = rt.alloc();
+    let mut rows = rows_of(
+        alloc,
+        &[3, 2, 3],
+        &[(0x4000c, GIVEN), (0x3000c, GIVEN), (0x4001c, GIVEN)],
+    )?;
+    rows.push(Row::Reg {
+        register: Register::Erstsz,
+        value: 2,
+    })?;
+    let certificate = checked(alloc, rows)?.map_err(|_| "the trace breaks a rule")?;
+    let expected = [
+        lease(2, 256, 0x20000, 0),
+        lease(2, 256, 0x21000, 0),
+        lease(0, 3, 0, 10),
+        lease(0, 2, 0, 11),
+        lease(0, 3, 1, 12),
+    ];
+    assert_eq!(rt; certificate.leases.as_slice(), expected.as_slice());
     Ok(())
 }
 
@@ -150,14 +197,23 @@ fn declarations_need_a_transfer_ring(rt: HostRuntime) -> Result<(), Fail> {
 }
 
 #[test]
-fn rows_outside_the_profile_are_refused(rt: HostRuntime) -> Result<(), Fail> {
+fn no_event_comes_before_the_start(rt: HostRuntime) -> Result<(), Fail> {
     let alloc = rt.alloc();
-    let bell = Row::Bell { slot: 0, target: 0 };
-    for last in [bell, Row::Read { event: NO_OP }] {
-        let mut rows = rows_of(alloc, &[2], &[])?;
-        rows.push(last)?;
-        assert_eq!(rt; answer_to(alloc, rows)?, refused(8, Refusal::NotInProfile));
-    }
+    let mut rows = rows_of(alloc, &[2], &[])?;
+    rows.push(Row::Read { event: NO_OP })?;
+    assert_eq!(rt;
+        answer_to(alloc, rows)?,
+        refused(8, Refusal::ImpossibleEvent)
+    );
+    Ok(())
+}
+
+#[test]
+fn no_doorbell_rings_before_the_start(rt: HostRuntime) -> Result<(), Fail> {
+    let alloc = rt.alloc();
+    let mut rows = rows_of(alloc, &[2], &[])?;
+    rows.push(Row::Bell { slot: 0, target: 0 })?;
+    assert_eq!(rt; answer_to(alloc, rows)?, refused(8, Refusal::BadDoorbell));
     Ok(())
 }
 

@@ -2,31 +2,34 @@ ghost use Rattle.std.specs.Prelude.{◌≡◌, ◌+◌, ◌≤◌, ℕ, None, So
 ghost use Rattle.traces.specs.Header.{IsHeader};
 ghost use Rattle.traces.specs.Limits.{most_lines};
 ghost use Rattle.ring_knowledge.specs.Known.{nothing};
+ghost use Rattle.safety.specs.Headline.{IsHarmless};
 ghost use Rattle.ownership_checker.specs.Profile.{verdict_within};
 ghost use Rattle.ownership_checker.specs.Verdicts.{IfRefusedAt, IsAccepted, IsFirstOfAll};
 ghost use Rattle.ownership_checker.specs.Walks.{WalksRead};
 
+use crate::certificate::Certificate;
 use crate::fault::{CheckFault, StepFault};
 use crate::finder::Finder;
 use crate::kept::Kept;
-use crate::rings::event_leases;
+use crate::leases::note_leases;
 use crate::row::check_row;
 use guest_memory::{PageMemory, WordMemory};
+use lease_book::LeaseBook;
 use std::alloc::Global;
 use traces::{Header, Row, Trace};
 
-/// Checks the rows of a trace, `first` the number of the first; how many leases begin.
+/// Checks the rows of a trace, `first` the number of the first; its leases.
 fn check_rows<M: WordMemory + Drop>(
     alloc: Global,
     header: &Header,
     first: u32,
     rows: &[Row],
     memory: M,
-) -> Result<u64, CheckFault>
+) -> Result<Certificate, CheckFault>
     requires headed { IsHeader header.now }
     requires within { first + length rows.now ≤ most_lines + 1 }
     requires zero { (a : ℕ) → M.words memory a ≡ 0 }
-    ensures accepted { IfOk result (λ n. IsAccepted header.now rows.now first n) }
+    ensures accepted { IfOk result (λ certificate. IsAccepted header.now rows.now first certificate.leases.items) }
     ensures passed { OnOk result (verdict_within header.now nothing first rows.now ≡ None) }
     ensures walk { OnOk result (WalksRead header.now rows.now) }
     ensures refused { IfErr result (λ e. IfRefusedAt e (λ row c. verdict_within header.now nothing first rows.now ≡ Some (row, c))) }
@@ -36,10 +39,11 @@ fn check_rows<M: WordMemory + Drop>(
     let finder = Finder::new(alloc, header)?;
     let mut kept = Kept::new(alloc, header)?;
     let mut number = first;
-    let mut begun = event_leases(header);
+    let mut book = LeaseBook::new(alloc, header)?;
     for row in rows {
+        note_leases(&mut book, header, &finder, &kept, number, row)?;
         match check_row(header, &finder, &mut kept, &mut memory, row) {
-            Ok(leases) => begun += leases,
+            Ok(_) => {}
             Err(StepFault::Refused(refusal)) => return Err(CheckFault::Refused {
                 row: number,
                 refusal,
@@ -48,22 +52,25 @@ fn check_rows<M: WordMemory + Drop>(
         }
         number += 1;
     }
-    Ok(begun)
+    Ok(Certificate {
+        leases: book.into_leases(),
+    })
 }
 
-/// Checks a trace in one pass; how many leases begin. The memory is all zero.
+/// Checks a trace in one pass; its leases. The memory is all zero.
 pub fn check_in<M: WordMemory + Drop>(
     alloc: Global,
     trace: &Trace,
     memory: M,
-) -> Result<u64, CheckFault>
+) -> Result<Certificate, CheckFault>
     requires zero { (a : ℕ) → M.words memory a ≡ 0 }
-    ensures accepted { IfOk result (λ n. IsAccepted trace.now.header trace.now.rows trace.now.first n) }
+    ensures accepted { IfOk result (λ certificate. IsAccepted trace.now.header trace.now.rows trace.now.first certificate.leases.items) }
     ensures passed { OnOk result (verdict_within trace.now.header nothing trace.now.first trace.now.rows ≡ None) }
     ensures refused { IfErr result (λ e. IfRefusedAt e (λ row c.
         verdict_within trace.now.header nothing trace.now.first trace.now.rows ≡ Some (row, c))) }
     ensures first { IfErr result (λ e. IfRefusedAt e (IsFirstOfAll trace.now.header trace.now.first trace.now.rows)) }
     ensures walk { OnOk result (WalksRead trace.now.header trace.now.rows) }
+    ensures harmless { OnOk result (IsHarmless trace.now.header trace.now.rows) }
 {
     check_rows(
         alloc,
@@ -74,16 +81,18 @@ pub fn check_in<M: WordMemory + Drop>(
     )
 }
 
-/// Checks a trace in one pass: how many leases begin, or the first row that breaks a rule and the least of the rules that
-/// it breaks. For now each doorbell, each event, and each write that gives a command other than No Op, is refused with
-/// `NotInProfile`. `Memory` is answered only where a growth was refused.
-pub fn check(alloc: Global, trace: &Trace) -> Result<u64, CheckFault>
-    ensures accepted { IfOk result (λ n. IsAccepted trace.now.header trace.now.rows trace.now.first n) }
+/// Checks a trace in one pass: its leases, or the first row that breaks a rule and the least of the rules that
+/// it breaks. For now each write that gives a command other than No Op is refused with `NotInProfile`. A trace that is accepted
+/// is harmless: in each run of the controller's model beside its rows every world is safe. `Memory` is answered only where a
+/// growth was refused.
+pub fn check(alloc: Global, trace: &Trace) -> Result<Certificate, CheckFault>
+    ensures accepted { IfOk result (λ certificate. IsAccepted trace.now.header trace.now.rows trace.now.first certificate.leases.items) }
     ensures passed { OnOk result (verdict_within trace.now.header nothing trace.now.first trace.now.rows ≡ None) }
     ensures refused { IfErr result (λ e. IfRefusedAt e (λ row c.
         verdict_within trace.now.header nothing trace.now.first trace.now.rows ≡ Some (row, c))) }
     ensures first { IfErr result (λ e. IfRefusedAt e (IsFirstOfAll trace.now.header trace.now.first trace.now.rows)) }
     ensures walk { OnOk result (WalksRead trace.now.header trace.now.rows) }
+    ensures harmless { OnOk result (IsHarmless trace.now.header trace.now.rows) }
 {
     check_in(alloc, trace, PageMemory::new(alloc))
 }

@@ -1,4 +1,4 @@
-use Rattle.std.proofs.Common.{ap, sym, ◌∙◌}
+use Rattle.std.proofs.Common.{sym, ◌∙◌}
 use Rattle.ownership_checker.proofs.ReadCommands.{undeclared_none, declared_is}
 use Rattle.ownership_checker.proofs.given_commands.declares_other.Goals as goal
 

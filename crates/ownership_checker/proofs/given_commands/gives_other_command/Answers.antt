@@ -1,5 +1,4 @@
-use Rattle.std.proofs.Common.{◌≡◌, Some, ◌∷◌, [], ap, sym, ◌∙◌, true, false}
-use Rattle.std.specs.Prelude.{◌&&◌, not, option_and_then, slice_get}
+use Rattle.std.proofs.Common.{Some, ap, sym, ◌∙◌}
 use Rattle.segments.specs.RingView.{positions_given}
 use Rattle.ring_knowledge.specs.RingRecords.{positions_of}
 use Rattle.ownership_checker.proofs.ReadCommands.{of_command, not_of_command, gives_nothing, gives_position}

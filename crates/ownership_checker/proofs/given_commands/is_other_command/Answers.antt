@@ -1,5 +1,4 @@
-use Rattle.std.proofs.Common.{ap, sym, refl}
-use Rattle.trb.specs.declared.block.Block.{Block}
+use Rattle.std.proofs.Common.{refl}
 use Rattle.commands.specs.Command.{command_of}
 use Rattle.ownership_checker.proofs.ReadCommands.{said_command, said_none}
 use Rattle.ownership_checker.proofs.given_commands.is_other_command.Goals as goal

@@ -1,6 +1,5 @@
-use Rattle.std.proofs.Common.{◌≡◌, false, true, ap, sym, ◌∙◌, arith, ◌≤◌}
+use Rattle.std.proofs.Common.{ap, sym, ◌∙◌, arith}
 use Rattle.std.specs.Prelude.{not}
-use Rattle.traces.specs.declared.register.Register.TheVariants.{Erdp}
 use Rattle.ownership_rules.specs.Registers.{is_bad_erdp}
 use Rattle.ownership_checker.proofs.RegisterRows.{bad_register, bad_erdp, step_other, step_table, passed_is, moved_follows, others_follow, table_no_erdp, fine_erdp, erdp_no_table}
 use Rattle.ownership_checker.proofs.registers.check_register.Goals as goal

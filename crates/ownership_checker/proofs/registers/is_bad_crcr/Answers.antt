@@ -1,8 +1,8 @@
 use Rattle.std.specs.Prelude.{◌==◌, ◌||◌, not}
 use Rattle.segments.specs.Places.{address_of}
 use Rattle.traces.specs.declared.ring.Ring.{Ring}
-use Rattle.std.proofs.Common.{◌≡◌, ◌*◌, ◌/◌, ◌%◌, Some, get_or, refl, sym, ◌∙◌, ap}
-use Rattle.traces.specs.Header.{is_command_kind, command_ring}
+use Rattle.std.proofs.Common.{◌*◌, ◌/◌, ◌%◌, get_or, refl, sym, ◌∙◌, ap}
+use Rattle.traces.specs.Header.{is_command_kind}
 use Rattle.ownership_checker.proofs.Fresh.{ring_here}
 use Rattle.ownership_checker.proofs.RingsApart.{among_at}
 use Rattle.ownership_checker.proofs.CommandsGiven.{command_found}

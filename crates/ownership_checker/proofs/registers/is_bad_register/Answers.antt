@@ -1,4 +1,4 @@
-use Rattle.std.proofs.Common.{◌≡◌, ap, sym, ◌∙◌}
+use Rattle.std.proofs.Common.{ap, sym, ◌∙◌}
 use Rattle.std.specs.Prelude.{◌||◌}
 use Rattle.traces.specs.declared.register.Register.TheVariants.{Erstba, Erstsz}
 use Rattle.ownership_rules.specs.Registers.{is_bad_register, is_written}

@@ -1,4 +1,4 @@
-use Rattle.std.proofs.Common.{◌≡◌, false, sym, ◌∙◌, ap}
+use Rattle.std.proofs.Common.{sym, ◌∙◌, ap}
 use Rattle.std.specs.Prelude.{◌&&◌}
 use Rattle.ownership_checker.proofs.StartRules.{after_start, at_reset, at_start, bit_on, bit_off, Lacks}
 use Rattle.ownership_checker.proofs.registers.is_bad_start.Goals as goal

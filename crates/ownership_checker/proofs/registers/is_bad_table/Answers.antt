@@ -1,4 +1,4 @@
-use Rattle.std.proofs.Common.{◌≡◌, ap, sym, ◌∙◌, subst}
+use Rattle.std.proofs.Common.{sym, ◌∙◌, subst}
 use Rattle.ownership_checker.specs.Tracking.{FollowsEvents}
 use Rattle.ownership_checker.proofs.RegisterTests.{or_ends, or_goes}
 use Rattle.ownership_checker.proofs.StartRules.{few_segments, table_is, no_events_unwritten}

@@ -1,4 +1,4 @@
-use Rattle.std.proofs.Common.{◌<◌, ◌≤◌, length, get_or, ap, sym, ◌∙◌, arith, subst}
+use Rattle.std.proofs.Common.{◌<◌, length, get_or, ap, sym, ◌∙◌, arith}
 use Rattle.event_ring.specs.EventRing.{EventCounts}
 use Rattle.ownership_checker.proofs.Fresh.{place_first, no_event_ring}
 use Rattle.ownership_checker.proofs.rings.event_place.Goals as goal

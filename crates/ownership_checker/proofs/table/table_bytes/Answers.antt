@@ -1,4 +1,4 @@
-use Rattle.std.proofs.Common.{ap, sym, ◌∙◌, subst}
+use Rattle.std.proofs.Common.{subst}
 use Rattle.ownership_checker.specs.Tracking.{FollowsEvents}
 use Rattle.ownership_checker.proofs.TableWords.{no_bytes}
 use Rattle.ownership_checker.proofs.table.table_bytes.Goals as goal

@@ -9,7 +9,7 @@ use Rattle.lease_book.proofs.lease_book.LeaseBook.begin_link.Goals as goal
 
 pub returns-clause-ok : goal.returns-clause-ok
 unfolding link_of
-returns-clause-ok c = λ h ts shape known free.
+returns-clause-ok c = λ h ts shape crosses known free.
     let place : c.unwrap_or-segment.result ≡ link_of (shape_of h c.args.ring.now.id) c.args.crossing =
     c.unwrap_or-segment.ensures ∙ ap (λ o. unwrap_or o 0) (c.crossing.ensures.value ∙ ap (λ s. link_crossed s c.args.crossing) (sym shape)) in
     let index : c.len-index.result ≡ c.args.self.now.leases.len = c.len-index.ensures in
@@ -17,7 +17,7 @@ returns-clause-ok c = λ h ts shape known free.
       list = list_begun ts c.args.row (Link c.args.ring.now.id c.args.crossing) c.args.self.now.leases.items c.push.new.self.items known.list c.link_lease.ensures c.in_ok-push.ensures.items;
       found =
           link_found h c.args.self.now.links c.put.new.self c.args.self.now.blocks c.args.ring.now.id c.args.crossing c.args.row ts
-          (ap (λ s. is_crossing s c.args.crossing) shape ∙ c.requires) known.found
+          (ap (λ s. is_crossing s c.args.crossing) shape ∙ crosses) known.found
           (put_at c.args.self.now.links c.put.new.self c.args.ring.now.id _ _ _ _ place (index ∙ c.args.self.now.leases.ok.0 ∙ length_held h ts c.args.self.now known)
           (record { same = c.in_default.ensures.same; ring = c.in_default.ensures.ring; others = λ s m. c.in_default.ensures.others s m })) free;
     }
