@@ -1,6 +1,3 @@
-pub mod Answers
-pub mod Telling
-pub mod PlanRefusals
-pub mod Plans
-pub mod Decoding
+pub mod CheckAnswers
 pub mod PlanAnswers
+pub mod ReplayAnswers

@@ -3,9 +3,9 @@ use Rattle.std.specs.Prelude.{◌≡◌, ℕ, List, Option, Some, None, Ok, Err}
 use Rattle.trace_reader.specs.declared.fault.LineFault.{LineFault}
 use Rattle.trace_reader.specs.Plans.{PlanText, plan_of}
 use Rattle.trace_reader.specs.Spelling.{printed_trace}
-use Rattle.xhci_cli.specs.Plans.{plan_refusal, plan_trace}
-use Rattle.xhci_cli.specs.declared.answer.Answer.{Answer}
-use Rattle.xhci_cli.specs.declared.answer.Answer.TheVariants.{Accepted, Written, Decoded, Refused, Unfollowed, BadLine, BadWord, Memory, Device}
+use Rattle.plan_writer.specs.Plans.{plan_refusal, plan_trace}
+use Rattle.answers.specs.declared.answer.Answer.{Answer}
+use Rattle.answers.specs.declared.answer.Answer.TheVariants.{Accepted, Written, Decoded, Replayed, Refused, Unfollowed, BadLine, BadWord, Memory, Device}
 
 -- the known bytes of an input spell the plan; of bytes that aren't known nothing is said
 abbrev pub IsPlanIn : Option (List ℕ) → PlanText → Type 0
@@ -23,6 +23,7 @@ abbrev pub IsPlanAnswer : Option (List ℕ) → Answer → Type 0
 IsPlanAnswer known (Accepted leases) = ⊥
 IsPlanAnswer known (Written text) = (plan : PlanText) × IsPlanIn known plan × (plan_refusal plan ≡ None) × (text.items ≡ printed_trace (plan_trace plan))
 IsPlanAnswer known (Decoded block) = ⊥
+IsPlanAnswer known (Replayed seen ending) = ⊥
 IsPlanAnswer known (Refused row refusal) = ⊥
 IsPlanAnswer known (Unfollowed line refusal) = (plan : PlanText) × IsPlanIn known plan × (plan_refusal plan ≡ Some (line, refusal))
 IsPlanAnswer known (BadLine line fault) = IsFirstBadInPlan known line fault

@@ -2,7 +2,7 @@
 ghost use Rattle.clap.specs.Matches.{first_value, found_of};
 ghost use Rattle.std.specs.Prelude.{◌≡◌, ◌≢◌, ◌⊎◌, None, Some, IfNone, IfSome, codes};
 
-use crate::decode::BlockWords;
+use answers::BlockWords;
 use clap::error::ErrorKind;
 use clap::{Arg, ArgAction, ArgMatches, Command, Error};
 use std::alloc::{AllocError, Global};
@@ -11,9 +11,9 @@ const STATUSES: &str = "\
 Without a command it checks the trace on standard input.
 
 Exit status:
-  0  the trace is accepted; the plan or the block is printed
-  1  a row breaks a rule (row R: C Name), or a line of a plan can't be followed (line L: C Name)
-  2  a line is no line of a trace or a plan (xhcitrace: line L: C Name), a word is no number, or the arguments are wrong
+  0  the trace is accepted; the plan or the block is printed; a replay does no harm
+  1  a row breaks a rule (row R: C Name), a line of a plan can't be followed (line L: C Name), or a replay does harm
+  2  a line is no line of a trace, a plan or a schedule (xhcitrace: line L: C Name), a word is no number, or the arguments are wrong
   3  memory is wanted (xhcitrace: 30 Memory), or a file can't be opened, read or written (xhcitrace: 31 Device)";
 
 const CHECK: &str = "\
@@ -29,6 +29,17 @@ first bad line as `xhcitrace: line L: C Name`, status 2; else status 3.
 
 Example:
   printf 'xplan 1\\nring 02 xfer 0000000000030000:0004\\nsub 02 00000000 00000000 00000000 00002020\\n' | xhcitrace write -";
+
+const REPLAY: &str = "\
+Prints `took ID ADDR W W W W` for each block that the controller takes, and then `no harm`, status 0, or `step S: harm K` or
+`step S: not possible`, status 1; on standard error the first bad line as `xhcitrace: line L: C Name`, status 2; else status 3.
+Steps count from 1. The harms:
+  1  it takes a block that wasn't declared, or not the next one      4  it looks outside the ring
+  2  it takes other words than the declared ones                     5  it posts over an unread event
+  3  it waits within a descriptor                                    6  an input context changed while its command is under way
+
+Example:
+  xhcitrace replay trace schedule";
 
 const DECODE: &str = "\
 Prints one line, status 0; on standard error that a word isn't 8 hex digits, status 2; else status 3.
@@ -56,6 +67,20 @@ pub fn command<'a>(alloc: Global) -> Result<Command<'a>, AllocError> {
             "The file of the plan; -, or none: standard input",
         ))?
         .arg(explain(alloc))?;
+    let replay = Command::new(alloc, "replay")
+        .about("Replays a schedule beside a trace: what the controller takes, and the first harm")
+        .after_help(REPLAY)
+        .arg(needed(
+            alloc,
+            "TRACE",
+            "The file of the trace, which is read first; -: standard input",
+        ))?
+        .arg(needed(
+            alloc,
+            "SCHEDULE",
+            "The file of the schedule; -: standard input",
+        ))?
+        .arg(explain(alloc))?;
     let decode = Command::new(alloc, "decode")
         .about("Tells what a block (TRB) of four words says")
         .after_help(DECODE)
@@ -71,6 +96,7 @@ pub fn command<'a>(alloc: Global) -> Result<Command<'a>, AllocError> {
         .bin_name("xhcitrace")?
         .subcommand(check)?
         .subcommand(write)?
+        .subcommand(replay)?
         .subcommand(decode)
 }
 
@@ -81,6 +107,10 @@ pub fn not_text(alloc: Global) -> Result<Error, AllocError> {
 
 fn file<'a>(alloc: Global, name: &'a str, help: &'a str) -> Arg<'a> {
     Arg::new(alloc, name).help(help)
+}
+
+fn needed<'a>(alloc: Global, name: &'a str, help: &'a str) -> Arg<'a> {
+    Arg::new(alloc, name).help(help).required(true)
 }
 
 fn explain<'a>(alloc: Global) -> Arg<'a> {

@@ -1,28 +1,22 @@
 //! `xhcitrace`: checks recorded traces of USB host controller drivers.
 #![tactic(auto)]
 
-mod answer;
 mod command_line;
-mod decode;
-mod explain;
+mod replay_run;
 mod run;
-mod tell;
 #[cfg(test)]
 mod tests;
-mod writer;
 
-use answer::Status;
+use answers::{Asked, Status, run_decode, tell_failure};
 use clap::ArgMatches;
 use command_line::{block_words, path};
-use decode::run_decode;
-use explain::Asked;
+use replay_run::run_replay;
 use run::{run_check, run_write};
 use std::alloc::AllocError;
 use std::env;
 use std::fs::File;
-use std::io::{self, ErrorKind, IsTerminal};
+use std::io::{self, ErrorKind, IsTerminal, Read};
 use std::process::ExitCode;
-use tell::tell_failure;
 
 fn main(rt: HostRuntime) -> ExitCode {
     match obey(&rt) {
@@ -87,6 +81,9 @@ fn status_of(rt: &HostRuntime, matches: &ArgMatches) -> Status {
     if let Some(write) = matches.subcommand_matches("write") {
         return write_at(rt, path(write, "PLAN"), explains(rt, write));
     }
+    if let Some(replay) = matches.subcommand_matches("replay") {
+        return replay_at(rt, replay, explains(rt, replay));
+    }
     match matches.subcommand_matches("check") {
         Some(check) => check_at(rt, path(check, "TRACE"), explains(rt, check)),
         None => check_at(rt, None, rt.stderr().is_terminal()),
@@ -127,5 +124,44 @@ fn write_at(rt: &HostRuntime, path: Option<&str>, explains: bool) -> Status {
             Err(error) => tell_failure(alloc, &asked, error, &mut out, &mut err),
         },
         None => run_write(alloc, &asked, &mut rt.stdin(), &mut out, &mut err),
+    }
+}
+
+/// Replays the schedule in one file beside the trace in another; one of them may be standard input.
+fn replay_at(rt: &HostRuntime, matches: &ArgMatches, explains: bool) -> Status {
+    let trace = path(matches, "TRACE");
+    let input = trace.unwrap_or("standard input");
+    let asked = Asked { input, explains };
+    match trace {
+        Some(trace) => match File::open(rt, trace) {
+            Ok(mut file) => replay_with(rt, matches, &asked, &mut file),
+            Err(error) => tell_failure(
+                rt.alloc(),
+                &asked,
+                error,
+                &mut rt.stdout(),
+                &mut rt.stderr(),
+            ),
+        },
+        None => replay_with(rt, matches, &asked, &mut rt.stdin()),
+    }
+}
+
+/// Replays the schedule in a file, or on standard input, beside the trace that an input holds.
+fn replay_with<R: Read>(
+    rt: &HostRuntime,
+    matches: &ArgMatches,
+    asked: &Asked,
+    trace: &mut R,
+) -> Status {
+    let alloc = rt.alloc();
+    let mut out = rt.stdout();
+    let mut err = rt.stderr();
+    match path(matches, "SCHEDULE") {
+        Some(path) => {
+            let schedule = File::open(rt, path);
+            run_replay(alloc, asked, trace, schedule, &mut out, &mut err)
+        }
+        None => run_replay(alloc, asked, trace, Ok(rt.stdin()), &mut out, &mut err),
     }
 }

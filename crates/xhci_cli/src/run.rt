@@ -1,14 +1,13 @@
 //! Reads a trace or a plan, and writes the answer.
 ghost use Rattle.std.specs.Prelude.{Some, ◌≡◌, false, true};
-ghost use Rattle.xhci_cli.specs.Answers.{IsCheckAnswer, IsVerdict, goes_out};
+ghost use Rattle.answers.specs.Answers.{goes_out};
+ghost use Rattle.xhci_cli.specs.CheckAnswers.{IsCheckAnswer, IsVerdict};
 ghost use Rattle.xhci_cli.specs.PlanAnswers.{IsPlanAnswer};
-ghost use Rattle.xhci_cli.specs.Telling.{IsTold};
+ghost use Rattle.answers.specs.Telling.{IsTold};
 
-use super::answer::{Answer, Status};
-use super::explain::{Asked, note_on_plan, note_on_trace};
-use super::tell::{tell, tell_failure};
-use super::writer::write_plan;
+use answers::{Answer, Asked, Status, note_on_plan, note_on_trace, tell, tell_failure};
 use ownership_checker::{CheckFault, check};
+use plan_writer::write_plan;
 use std::alloc::Global;
 use std::io::{Read, Write};
 use trace_reader::read_trace;
@@ -78,7 +77,9 @@ fn verdict(alloc: Global, trace: &Trace) -> Answer
     ensures { IsVerdict result trace.now }
 {
     match check(alloc, trace) {
-        Ok(leases) => Answer::Accepted { leases },
+        Ok(certificate) => Answer::Accepted {
+            leases: certificate.leases.len() as u64,
+        },
         Err(CheckFault::Refused { row, refusal }) => Answer::Refused { row, refusal },
         Err(CheckFault::Memory) => Answer::Memory,
     }

@@ -1,8 +1,5 @@
-use crate::answer::Status;
-use crate::decode::{BlockWords, run_decode};
-use crate::explain::Asked;
 use crate::run::{run_check, run_write};
-use std::io::{self, Read, Write};
+use answers::{Asked, Status};
 use std::test::Fail;
 
 /// Only the line of an answer is asked for.
@@ -125,148 +122,16 @@ fn names_the_first_bad_line(rt: HostRuntime) -> Result<(), Fail> {
     Ok(())
 }
 
-/// Gives a whole trace, and fails in place of its end.
-#[derive(Drop)]
-struct Broken {
-    is_read: bool,
-}
-
-impl Read for Broken {
-    fn read(&mut self, buf: &mut [u8]) -> io::Result<usize> {
-        if self.is_read {
-            return Err(io::ErrorKind::BrokenPipe.into());
-        }
-        self.is_read = true;
-        HEAD.as_bytes().read(buf)
-    }
-}
-
-/// Takes so many bytes a write, fails at once where that is none, and says how often it was called.
-#[derive(Drop)]
-struct Taking {
-    bytes: Vec<u8>,
-    most: usize,
-    writes: usize,
-    flushes: usize,
-    can_flush: bool,
-}
-
-impl Write for Taking {
-    fn write(&mut self, buf: &[u8]) -> io::Result<usize> {
-        self.writes = self.writes.wrapping_add(1);
-        if self.most == 0 {
-            return Err(io::ErrorKind::StorageFull.into());
-        }
-        let taken = buf.len().min(self.most);
-        self.bytes.extend_from_slice(&buf[..taken])?;
-        Ok(taken)
-    }
-
-    fn flush(&mut self) -> io::Result<()> {
-        self.flushes = self.flushes.wrapping_add(1);
-        if self.can_flush {
-            Ok(())
-        } else {
-            Err(io::ErrorKind::StorageFull.into())
-        }
-    }
-}
-
-fn writer_of(rt: &HostRuntime, most: usize, can_flush: bool) -> Taking {
-    Taking {
-        bytes: Vec::new(rt.alloc()),
-        most,
-        writes: 0,
-        flushes: 0,
-        can_flush,
-    }
-}
-
-const PLAN: &str = "xplan 1\nring 02 xfer 0000000000030000:0003\n";
-
-const DEVICE: &str = "xhcitrace: 31 Device\n";
-
-const WORDS: BlockWords<'static> = BlockWords {
-    first: "00030000",
-    second: "00000000",
-    third: "01000000",
-    fourth: "01018001",
-};
-
-const DECODED: &str =
-    "32 TransferEvent cycle 1 chain 0 pointer 0000000000030000 code 01 slot 01 endpoint 01\n";
-
-/// What the three commands answer to a clean input.
-const ANSWERS: [&str; 3] = [
-    "accepted: 0 leases\n",
-    "xtrace 1\nctx 20\nring 02 xfer 0000000000030000:0003\n",
-    DECODED,
-];
-
-/// Runs `check`, `write` or `decode` on a clean input.
-fn run_one(rt: &HostRuntime, command: usize, out: &mut Taking, err: &mut Taking) -> Status {
-    match command {
-        0 => run_check(rt.alloc(), &PLAIN, &mut HEAD.as_bytes(), out, err),
-        1 => run_write(rt.alloc(), &PLAIN, &mut PLAN.as_bytes(), out, err),
-        _ => run_decode(rt.alloc(), false, &WORDS, out, err),
-    }
-}
-
 #[test]
-fn writes_an_answer_in_one_write(rt: HostRuntime) {
-    for (command, told) in ANSWERS.iter().enumerate() {
-        let mut out = writer_of(&rt, 1000, true);
-        let mut err = writer_of(&rt, 1000, true);
-        assert_eq!(rt; run_one(&rt, command, &mut out, &mut err), Status::Clean);
-        assert_eq!(rt; out.bytes.as_slice(), told.as_bytes());
-        assert_eq!(rt; out.writes, 1);
-        assert_eq!(rt; out.flushes, 1);
-        assert_eq!(rt; err.writes, 0);
-        assert_eq!(rt; err.flushes, 0);
-    }
-}
-
-#[test]
-fn writes_an_answer_byte_by_byte(rt: HostRuntime) {
-    for (command, told) in ANSWERS.iter().enumerate() {
-        let mut out = writer_of(&rt, 1, true);
-        let mut err = writer_of(&rt, 1, true);
-        assert_eq!(rt; run_one(&rt, command, &mut out, &mut err), Status::Clean);
-        assert_eq!(rt; out.bytes.as_slice(), told.as_bytes());
-        assert_eq!(rt; out.writes, told.len());
-    }
-}
-
-#[test]
-fn tells_of_a_flush_that_fails(rt: HostRuntime) {
-    for (command, told) in ANSWERS.iter().enumerate() {
-        let mut out = writer_of(&rt, 1000, false);
-        let mut err = writer_of(&rt, 1000, true);
-        assert_eq!(rt;
-            run_one(&rt, command, &mut out, &mut err),
-            Status::Unanswered
-        );
-        assert_eq!(rt; out.bytes.as_slice(), told.as_bytes());
-        assert_eq!(rt; err.bytes.as_slice(), DEVICE.as_bytes());
-    }
-}
-
-#[test]
-fn tells_of_a_writer_that_fails(rt: HostRuntime) {
-    for command in 0..3 {
-        let mut out = writer_of(&rt, 0, true);
-        let mut err = writer_of(&rt, 1000, true);
-        assert_eq!(rt;
-            run_one(&rt, command, &mut out, &mut err),
-            Status::Unanswered
-        );
-        assert!(rt; out.bytes.is_empty());
-        assert_eq!(rt; err.bytes.as_slice(), DEVICE.as_bytes());
-    }
-    let mut out = writer_of(&rt, 1000, true);
-    let mut err = writer_of(&rt, 0, true);
-    let status = run_check(rt.alloc(), &PLAIN, &mut b"".as_slice(), &mut out, &mut err);
-    assert_eq!(rt; status, Status::Unanswered);
-    assert_eq!(rt; out.writes, 0);
-    assert_eq!(rt; err.writes, 1);
+fn writes_the_trace_of_a_plan(rt: HostRuntime) {
+    let plan = b"xplan 1\nring 02 xfer 0000000000030000:0003\n";
+    let mut out = Vec::new(rt.alloc());
+    let mut err = Vec::new(rt.alloc());
+    let status = run_write(rt.alloc(), &PLAIN, &mut plan.as_slice(), &mut out, &mut err);
+    assert_eq!(rt; status, Status::Clean);
+    assert_eq!(rt;
+        out.as_slice(),
+        b"xtrace 1\nctx 20\nring 02 xfer 0000000000030000:0003\n".as_slice()
+    );
+    assert!(rt; err.is_empty());
 }

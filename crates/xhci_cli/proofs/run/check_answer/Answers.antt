@@ -1,5 +1,5 @@
 use Rattle.std.proofs.Common.{Some}
-use Rattle.xhci_cli.proofs.Told.{verdict_right}
+use Rattle.xhci_cli.proofs.HeldAnswers.{verdict_right}
 use Rattle.xhci_cli.proofs.run.check_answer.Goals as goal
 
 pub returns-in-Ok : goal.returns-in-Ok

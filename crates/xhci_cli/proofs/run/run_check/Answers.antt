@@ -1,5 +1,6 @@
-use Rattle.xhci_cli.specs.Answers.{IsCheckAnswer}
-use Rattle.xhci_cli.proofs.Told.{check_held, failure, read_is, told_right}
+use Rattle.xhci_cli.specs.CheckAnswers.{IsCheckAnswer}
+use Rattle.answers.proofs.Told.{failure, read_is, told_right}
+use Rattle.xhci_cli.proofs.HeldAnswers.{check_held}
 use Rattle.xhci_cli.proofs.run.run_check.Goals as goal
 
 pub returns-in-Ok-clause-told : goal.returns-in-Ok-clause-told

@@ -1,5 +1,6 @@
 use Rattle.xhci_cli.specs.PlanAnswers.{IsPlanAnswer}
-use Rattle.xhci_cli.proofs.Told.{plan_held, failure, read_is, told_right}
+use Rattle.answers.proofs.Told.{failure, read_is, told_right}
+use Rattle.xhci_cli.proofs.HeldAnswers.{plan_held}
 use Rattle.xhci_cli.proofs.run.run_write.Goals as goal
 
 pub returns-in-Ok-clause-told : goal.returns-in-Ok-clause-told

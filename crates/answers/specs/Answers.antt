@@ -1,0 +1,100 @@
+-- The text of each answer, how the program ends on it, and what is right to answer to the words of a block
+use Rattle.std.specs.Prelude.{◌≡◌, ℕ, List, [], ◌∷◌, ◌++◌, Bool, true, false, if◌then◌else◌, Some, None, codes, decimal}
+use Rattle.std.specs.declared.io.ErrorKind.{ErrorKind}
+use Rattle.std.specs.declared.io.ErrorKind.TheVariants.{OutOfMemory as NoMemory}
+use Rattle.ownership_rules.specs.Refusal as rule
+use Rattle.trace_reader.specs.Faults.{fault_number, fault_name}
+use Rattle.trace_reader.specs.Values.{block_of}
+use Rattle.trace_reader.specs.declared.fault.ReadFault.{ReadFault}
+use Rattle.trace_reader.specs.declared.fault.ReadFault.TheVariants.{Line, Memory as OutOfMemory}
+use Rattle.plan_writer.specs.PlanRefusals.{refusal_number, refusal_name}
+use Rattle.plan_writer.specs.declared.fault.PlanFault.{PlanFault}
+use Rattle.plan_writer.specs.declared.fault.PlanFault.TheVariants.{Line as BadPlanLine, Refused as RefusedLine, Memory as NoPlanMemory}
+use Rattle.answers.specs.Decoding.{decoded_text}
+use Rattle.answers.specs.Replays.{end_status, replay_text}
+use Rattle.answers.specs.declared.answer.Answer.{Answer}
+use Rattle.answers.specs.declared.answer.Answer.TheVariants.{Accepted, Written, Decoded, Replayed, Refused, Unfollowed, BadLine, BadWord, Memory, Device}
+use Rattle.answers.specs.declared.answer.Status.{Status}
+use Rattle.answers.specs.declared.answer.Status.TheVariants.{Clean, Unclean, Unreadable, Unanswered}
+
+-- the status that goes with an answer
+abbrev pub status_of : Answer → Status
+status_of (Accepted leases) = Clean
+status_of (Written trace) = Clean
+status_of (Decoded block) = Clean
+status_of (Replayed seen ending) = end_status ending
+status_of (Refused row refusal) = Unclean
+status_of (Unfollowed line refusal) = Unclean
+status_of (BadLine line fault) = Unreadable
+status_of BadWord = Unreadable
+status_of Memory = Unanswered
+status_of Device = Unanswered
+
+-- the number of a status
+abbrev pub exit_number : Status → ℕ
+exit_number Clean = 0
+exit_number Unclean = 1
+exit_number Unreadable = 2
+exit_number Unanswered = 3
+
+-- an answer of this status goes to standard output; of another one to standard error
+abbrev pub goes_out : Status → Bool
+goes_out Clean = true
+goes_out Unclean = true
+goes_out Unreadable = false
+goes_out Unanswered = false
+
+abbrev pub memory_line : List ℕ
+memory_line = codes "xhcitrace: 30 Memory\n"
+
+abbrev pub device_line : List ℕ
+device_line = codes "xhcitrace: 31 Device\n"
+
+-- the text of an answer, its line feed too
+abbrev pub text_of : Answer → List ℕ
+text_of (Accepted leases) = codes "accepted: " ++ decimal leases ++ codes " leases" ++ 10 ∷ []
+text_of (Written trace) = trace.items
+text_of (Decoded block) = decoded_text block ++ 10 ∷ []
+text_of (Replayed seen ending) = replay_text seen.items ending
+text_of (Refused row refusal) = codes "row " ++ decimal row ++ codes ": " ++ decimal (rule.number_of refusal) ++ codes " " ++ rule.name_of refusal ++ 10 ∷ []
+text_of (Unfollowed line refusal) = codes "line " ++ decimal line ++ codes ": " ++ decimal (refusal_number refusal) ++ codes " " ++ refusal_name refusal ++ 10 ∷ []
+text_of (BadLine line fault) = codes "xhcitrace: line " ++ decimal line ++ codes ": " ++ decimal (fault_number fault) ++ codes " " ++ fault_name fault ++ 10 ∷ []
+text_of BadWord = codes "xhcitrace: 3 Number\n"
+text_of Memory = memory_line
+text_of Device = device_line
+
+-- what of an answer goes to standard output, and what to standard error
+abbrev pub out_text : Answer → List ℕ
+out_text answer = if goes_out (status_of answer) then text_of answer else []
+
+abbrev pub err_text : Answer → List ℕ
+err_text answer = if goes_out (status_of answer) then [] else text_of answer
+
+-- what is answered where no trace is read
+abbrev pub answer_of_fault : ReadFault → Answer
+answer_of_fault (Line line fault) = BadLine line fault
+answer_of_fault OutOfMemory = Memory
+
+-- what is answered where a plan isn't written
+abbrev pub answer_of_plan_fault : PlanFault → Answer
+answer_of_plan_fault (BadPlanLine line fault) = BadLine line fault
+answer_of_plan_fault (RefusedLine line refusal) = Unfollowed line refusal
+answer_of_plan_fault NoPlanMemory = Memory
+
+-- what is answered where a file can't be opened or read: want of memory is told as such, each other kind of error as the device's
+abbrev pub answer_of_kind : ErrorKind → Answer
+answer_of_kind NoMemory = Memory
+answer_of_kind _ = Device
+
+-- an answer to four words is right: the block that they spell, or that one of them is no word; or that memory or the device failed
+abbrev pub IsBlockAnswer : List ℕ → List ℕ → List ℕ → List ℕ → Answer → Type 0
+IsBlockAnswer a b c d (Accepted leases) = ⊥
+IsBlockAnswer a b c d (Written text) = ⊥
+IsBlockAnswer a b c d (Decoded block) = block_of a b c d ≡ Some block
+IsBlockAnswer a b c d (Replayed seen ending) = ⊥
+IsBlockAnswer a b c d (Refused row refusal) = ⊥
+IsBlockAnswer a b c d (Unfollowed line refusal) = ⊥
+IsBlockAnswer a b c d (BadLine line fault) = ⊥
+IsBlockAnswer a b c d BadWord = block_of a b c d ≡ None
+IsBlockAnswer a b c d Memory = Unit {0}
+IsBlockAnswer a b c d Device = Unit {0}

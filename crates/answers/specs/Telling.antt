@@ -1,0 +1,28 @@
+-- What a run writes to the two streams, and how it ends
+use Rattle.std.specs.Prelude.{◌≡◌, ℕ, List, [], ◌++◌, take, Bool, false, Option}
+use Rattle.std.specs.Io.KnownBytes.{Appends}
+use Rattle.answers.specs.Answers.{device_line, err_text, out_text, status_of}
+use Rattle.answers.specs.declared.answer.Answer.{Answer}
+use Rattle.answers.specs.declared.answer.Status.{Status}
+use Rattle.answers.specs.declared.answer.Status.TheVariants.{Unanswered}
+
+-- a beginning of the text, which may be all of it or nothing, was written behind the bytes before, where these are known
+abbrev pub Begins : Option (List ℕ) → Option (List ℕ) → List ℕ → Type 0
+Begins before after text = (n : ℕ) × Appends before after (take n text)
+
+-- an explanation is written only where one was asked for
+abbrev pub IsNote : Bool → List ℕ → Type 0
+IsNote explains note = explains ≡ false → note ≡ []
+
+-- how the texts for standard output and for standard error were written: whole; or cut short with status 3, where standard output
+-- failed, which standard error is told, or where standard error failed
+pub data IsWritten (explains : Bool) (status : Status) (outs errs : List ℕ) (result : Status) (out out' err err' : Option (List ℕ)) : Type 0 where
+  whole : result ≡ status → Appends out out' outs → Appends err err' errs → IsWritten explains status outs errs result out out' err err'
+  output_failed : (note : List ℕ) → IsNote explains note → result ≡ Unanswered → Begins out out' outs → Begins err err' (device_line ++ note)
+      → IsWritten explains status outs errs result out out' err err'
+  error_failed : result ≡ Unanswered → Appends out out' outs → Begins err err' errs → IsWritten explains status outs errs result out out' err err'
+
+-- how an answer was told: its text on its stream, and an explanation behind it on standard error
+abbrev pub IsTold : Bool → Answer → Status → Option (List ℕ) → Option (List ℕ) → Option (List ℕ) → Option (List ℕ) → Type 0
+IsTold explains answer result out out' err err' =
+    (note : List ℕ) × IsNote explains note × IsWritten explains (status_of answer) (out_text answer) (err_text answer ++ note) result out out' err err'

@@ -1,0 +1,192 @@
+//! What is answered, its text, and the exit status that goes with it.
+ghost use Rattle.std.specs.Prelude.{◌≡◌, ◌++◌, ◌∷◌, [], IfOk, IsOk, OnOk, codes, decimal, string_bytes};
+ghost use Rattle.answers.specs.Answers.{exit_number, status_of, text_of};
+
+use crate::decode::line_of;
+use crate::replay_lines::{ReplayEnd, replay_text};
+use controller_model::Seen;
+use ownership_rules::Refusal;
+use plan_writer::{PlanFault, PlanRefusal};
+use std::alloc::{AllocError, Global};
+use std::io;
+use trace_reader::{LineFault, ReadFault};
+use trb::Block;
+
+/// The answer to a trace, a plan or a block.
+#[derive(Debug, Drop, PartialEq, Eq)]
+pub enum Answer {
+    /// The trace is clean, with so many leases.
+    Accepted { leases: u64 },
+    /// The trace of a plan, as it is printed.
+    Written { trace: Vec<u8> },
+    /// What the block says.
+    Decoded { block: Block },
+    /// What the steps of a schedule showed, and how its replay ends.
+    Replayed { seen: Vec<Seen>, ending: ReplayEnd },
+    /// The first row that breaks a rule, by its line from 1, and the least rule that it breaks.
+    Refused { row: u32, refusal: Refusal },
+    /// The first line of a plan that can't be followed, from 1, and why.
+    Unfollowed { line: u32, refusal: PlanRefusal },
+    /// The first bad line, from 1, and its fault.
+    BadLine { line: u32, fault: LineFault },
+    /// A word of a block isn't 8 hex digits.
+    BadWord,
+    /// A growth of memory was refused.
+    Memory,
+    /// The trace couldn't be opened or read, or the answer couldn't be written.
+    Device,
+}
+
+/// How the program ends.
+#[derive(Clone, Copy, Debug, PartialEq, Eq)]
+pub enum Status {
+    /// The trace is accepted, the plan or the block is written, or the replay shows no harm.
+    Clean,
+    /// A row breaks a rule, a line of a plan can't be followed, or a replay does harm or isn't possible.
+    Unclean,
+    /// The text is no trace or no block, or the arguments are wrong.
+    Unreadable,
+    /// Memory or a device failed.
+    Unanswered,
+}
+
+/// The bytes of a line, its line feed behind them.
+fn ended(line: Result<String, AllocError>) -> Result<Vec<u8>, AllocError>
+    ensures line { OnOk result (IsOk line) }
+    ensures ended { IfOk result (λ bytes. IfOk line (λ text. bytes.items ≡ string_bytes text ++ 10 ∷ [])) }
+{
+    let mut text = line?;
+    text.push_str("\n")?;
+    Ok(text.into_bytes())
+}
+
+/// What is told of a numbered line.
+fn numbered(
+    alloc: Global,
+    head: &str,
+    line: u32,
+    number: u8,
+    name: &str,
+) -> Result<String, AllocError>
+    ensures { IfOk result (λ text. string_bytes text ≡ head.now ++ (decimal line ++ (codes ": " ++ (decimal number ++ (codes " " ++ name.now))))) }
+{
+    format!(in alloc; "{head}{line}: {number} {name}")
+}
+
+/// What is written where memory is wanted: it needs none.
+pub const MEMORY_LINE: &str = "xhcitrace: 30 Memory\n";
+
+/// What is written where a device failed.
+pub const DEVICE_LINE: &str = "xhcitrace: 31 Device\n";
+
+impl Answer {
+    pub fn status(&self) -> Status
+        ensures { result ≡ status_of self.now }
+    {
+        match self {
+            Answer::Accepted { .. } | Answer::Written { .. } | Answer::Decoded { .. } =>
+                Status::Clean,
+            Answer::Replayed { ending, .. } => ending.status(),
+            Answer::Refused { .. } | Answer::Unfollowed { .. } => Status::Unclean,
+            Answer::BadLine { .. } | Answer::BadWord => Status::Unreadable,
+            Answer::Memory | Answer::Device => Status::Unanswered,
+        }
+    }
+}
+
+impl Status {
+    /// The exit status of the process.
+    pub fn number(self) -> u8
+        ensures { result ≡ exit_number self }
+    {
+        match self {
+            Status::Clean => 0,
+            Status::Unclean => 1,
+            Status::Unreadable => 2,
+            Status::Unanswered => 3,
+        }
+    }
+}
+
+impl Answer {
+    /// The text of the answer, with its line feed.
+    pub fn text(self, alloc: Global) -> Result<Vec<u8>, AllocError>
+        ensures { IfOk result (λ text. text.items ≡ text_of self) }
+    {
+        match self {
+            Answer::Accepted { leases } => ended(format!(in alloc; "accepted: {leases} leases")),
+            Answer::Written { trace } => Ok(trace),
+            Answer::Decoded { block } => line_of(alloc, block),
+            Answer::Replayed { seen, ending } => replay_text(alloc, &seen, ending),
+            Answer::Refused { row, refusal } => {
+                ended(numbered(alloc, "row ", row, refusal.number(), refusal.name()))
+            },
+            Answer::Unfollowed { line, refusal } => {
+                ended(numbered(alloc, "line ", line, refusal.number(), refusal.name()))
+            },
+            Answer::BadLine { line, fault } => {
+                ended(numbered(
+                    alloc,
+                    "xhcitrace: line ",
+                    line,
+                    fault.number(),
+                    fault.name(),
+                ))
+            },
+            Answer::BadWord => Vec::from_slice(alloc, b"xhcitrace: 3 Number\n"),
+            Answer::Memory => Vec::from_slice(alloc, MEMORY_LINE.as_bytes()),
+            Answer::Device => Vec::from_slice(alloc, DEVICE_LINE.as_bytes()),
+        }
+    }
+}
+
+impl From<ReadFault> for Answer {
+    ghost use Rattle.answers.specs.Answers.{answer_of_fault};
+
+    ghost from_gives = { λ fault answer. answer ≡ answer_of_fault fault };
+
+    fn from(fault: ReadFault) -> Answer {
+        match fault {
+            ReadFault::Line { line, code } => Answer::BadLine { line, fault: code },
+            ReadFault::Memory => Answer::Memory,
+        }
+    }
+}
+
+impl From<PlanFault> for Answer {
+    ghost use Rattle.answers.specs.Answers.{answer_of_plan_fault};
+
+    ghost from_gives = { λ fault answer. answer ≡ answer_of_plan_fault fault };
+
+    fn from(fault: PlanFault) -> Answer {
+        match fault {
+            PlanFault::Line { line, fault } => Answer::BadLine { line, fault },
+            PlanFault::Refused { line, refusal } => Answer::Unfollowed { line, refusal },
+            PlanFault::Memory => Answer::Memory,
+        }
+    }
+}
+
+impl From<AllocError> for Answer {
+    ghost use Rattle.answers.specs.declared.answer.Answer.TheVariants.{Memory};
+
+    ghost from_gives = { λ _ answer. answer ≡ Memory };
+
+    fn from(_error: AllocError) -> Answer {
+        Answer::Memory
+    }
+}
+
+impl From<io::Error> for Answer {
+    ghost use Rattle.std.specs.IoError.{error_kind};
+    ghost use Rattle.answers.specs.Answers.{answer_of_kind};
+
+    ghost from_gives = { λ error answer. answer ≡ answer_of_kind (error_kind error) };
+
+    fn from(error: io::Error) -> Answer {
+        match error.kind() {
+            io::ErrorKind::OutOfMemory => Answer::Memory,
+            _ => Answer::Device,
+        }
+    }
+}

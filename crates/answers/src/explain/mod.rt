@@ -1,0 +1,115 @@
+//! Second lines on standard error: in plain words what is wrong, for a person.
+ghost use Rattle.std.specs.Prelude.{IfOk, string_bytes};
+ghost use Rattle.answers.specs.Telling.{IsNote};
+
+mod bad_line;
+mod refused_row;
+#[cfg(test)]
+mod tests;
+mod words;
+
+use crate::answer::Answer;
+use crate::decode::BlockWords;
+use bad_line::{bad_plan_line, bad_schedule_line, bad_trace_line};
+use refused_row::refused_row;
+use std::alloc::{AllocError, Global};
+use std::io;
+use words::why_unfollowed;
+
+/// What a command is asked for beside its answer.
+#[derive(Clone, Copy)]
+pub struct Asked<'a> {
+    /// How the input is called in messages.
+    pub input: &'a str,
+    /// Whether what is wrong is told in plain words too.
+    pub explains: bool,
+}
+
+/// What a person is told of an answer to a trace, beside its line.
+pub fn note_on_trace(
+    alloc: Global,
+    asked: &Asked,
+    text: &[u8],
+    answer: &Answer,
+) -> Result<String, AllocError>
+    ensures { IfOk result (λ note. IsNote asked.now.explains (string_bytes note)) }
+{
+    if !asked.explains {
+        return Ok(String::new(alloc));
+    }
+    match answer {
+        Answer::BadLine { line, fault } => bad_trace_line(alloc, text, *line, *fault),
+        Answer::Refused { row, refusal } => refused_row(alloc, text, *row, *refusal),
+        _ => Ok(String::new(alloc)),
+    }
+}
+
+/// What a person is told of an answer to a plan, beside its line.
+pub fn note_on_plan(
+    alloc: Global,
+    asked: &Asked,
+    text: &[u8],
+    answer: &Answer,
+) -> Result<String, AllocError>
+    ensures { IfOk result (λ note. IsNote asked.now.explains (string_bytes note)) }
+{
+    if !asked.explains {
+        return Ok(String::new(alloc));
+    }
+    match answer {
+        Answer::BadLine { line, fault } => bad_plan_line(alloc, text, *line, *fault),
+        Answer::Unfollowed { refusal, .. } => {
+            let why = why_unfollowed(*refusal);
+            format!(in alloc; "xhcitrace: {why}\n")
+        }
+        _ => Ok(String::new(alloc)),
+    }
+}
+
+/// What a person is told of an answer to a schedule, beside its line.
+pub fn note_on_schedule(
+    alloc: Global,
+    asked: &Asked,
+    text: &[u8],
+    answer: &Answer,
+) -> Result<String, AllocError>
+    ensures { IfOk result (λ note. IsNote asked.now.explains (string_bytes note)) }
+{
+    if !asked.explains {
+        return Ok(String::new(alloc));
+    }
+    match answer {
+        Answer::BadLine { line, fault } => bad_schedule_line(alloc, text, *line, *fault),
+        _ => Ok(String::new(alloc)),
+    }
+}
+
+/// What a person is told of words that make no block.
+pub fn note_on_words(
+    alloc: Global,
+    explains: bool,
+    words: &BlockWords,
+) -> Result<String, AllocError>
+    ensures { IfOk result (λ note. IsNote explains (string_bytes note)) }
+{
+    if !explains {
+        return Ok(String::new(alloc));
+    }
+    for word in [words.first, words.second, words.third, words.fourth] {
+        if word.len() != 8 || !word.bytes().all(|b| b.is_ascii_hexdigit()) {
+            return format!(in alloc; "xhcitrace: a word has 8 hex digits, and {word:?} hasn't\n");
+        }
+    }
+    Ok(String::new(alloc))
+}
+
+/// Why an input can't be opened or read, as the system says it; want of memory is told without.
+pub fn note_on_failure(alloc: Global, asked: &Asked, error: io::Error) -> Result<String, AllocError>
+    ensures { IfOk result (λ note. IsNote asked.now.explains (string_bytes note)) }
+{
+    if !asked.explains || error.kind() == io::ErrorKind::OutOfMemory {
+        return Ok(String::new(alloc));
+    }
+    let input = asked.input;
+    format!(in alloc; "xhcitrace: {input}: {error}\n")
+}

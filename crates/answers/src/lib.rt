@@ -1,0 +1,17 @@
+//! What the program answers: the text of each answer and the exit status that goes with it, what is told a person in plain words,
+//! and how all that is written to the two streams.
+#![tactic(auto)]
+
+mod answer;
+mod decode;
+mod explain;
+mod replay_lines;
+mod telling;
+#[cfg(test)]
+mod tests;
+
+pub use answer::{Answer, Status};
+pub use decode::{BlockWords, run_decode};
+pub use explain::{Asked, note_on_plan, note_on_schedule, note_on_trace};
+pub use replay_lines::ReplayEnd;
+pub use telling::{tell, tell_failure};

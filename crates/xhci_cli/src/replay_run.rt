@@ -1,0 +1,101 @@
+//! Replays a schedule beside a trace, and writes the answer.
+ghost use Rattle.std.specs.Prelude.{Some, ◌≡◌, false, true};
+ghost use Rattle.answers.specs.Answers.{goes_out};
+ghost use Rattle.xhci_cli.specs.ReplayAnswers.{IsReplayAnswer, IsReplayBeside, IsReplayed, opened};
+ghost use Rattle.answers.specs.Telling.{IsTold};
+
+use answers::{
+    Answer, Asked, ReplayEnd, Status, note_on_schedule, note_on_trace, tell, tell_failure,
+};
+use replayer::{ReplayFault, replay};
+use std::alloc::Global;
+use std::io::{self, Read, Write};
+use trace_reader::{read_schedule, read_trace};
+use traces::{Schedule, Trace};
+
+/// Replays the schedule that `schedule` holds beside the trace that `trace` holds, which is read first. The takes go to `out`,
+/// and how the replay ends; what hinders it to `err`.
+pub fn run_replay<R: Read, S: Read + Drop, O: Write, E: Write>(
+    alloc: Global,
+    asked: &Asked,
+    trace: &mut R,
+    schedule: io::Result<S>,
+    out: &mut O,
+    err: &mut E,
+) -> Status
+    ensures told { (answer : Answer) × IsReplayAnswer (R.remaining trace.old) (opened S.remaining schedule) answer
+        × IsTold asked.now.explains answer result (O.contents out.old) (O.contents out.new) (E.contents err.old) (E.contents err.new) }
+    ensures err { asked.now.explains ≡ false → goes_out result ≡ true → err.new ≡ err.old }
+{
+    let mut text = Vec::new(alloc);
+    if let Err(error) = trace.read_to_end(&mut text) {
+        return tell_failure(alloc, asked, error, out, err);
+    }
+    match read_trace(alloc, &text) {
+        Ok(trace) => run_beside(alloc, asked, &trace, schedule, out, err),
+        Err(fault) => {
+            let answer = Answer::from(fault);
+            let note = note_on_trace(alloc, asked, &text, &answer);
+            tell(alloc, asked.explains, answer, note, out, err)
+        }
+    }
+}
+
+/// Replays the schedule that an input holds beside a trace.
+fn run_beside<S: Read + Drop, O: Write, E: Write>(
+    alloc: Global,
+    asked: &Asked,
+    trace: &Trace,
+    schedule: io::Result<S>,
+    out: &mut O,
+    err: &mut E,
+) -> Status
+    ensures told { (answer : Answer) × IsReplayBeside trace.now (opened S.remaining schedule) answer
+        × IsTold asked.now.explains answer result (O.contents out.old) (O.contents out.new) (E.contents err.old) (E.contents err.new) }
+    ensures err { asked.now.explains ≡ false → goes_out result ≡ true → err.new ≡ err.old }
+{
+    let mut schedule = match schedule {
+        Ok(schedule) => schedule,
+        Err(error) => return tell_failure(alloc, asked, error, out, err),
+    };
+    let mut text = Vec::new(alloc);
+    match schedule.read_to_end(&mut text) {
+        Ok(_) => {
+            let answer = replay_answer(alloc, trace, &text);
+            let note = note_on_schedule(alloc, asked, &text, &answer);
+            tell(alloc, asked.explains, answer, note, out, err)
+        }
+        Err(error) => tell_failure(alloc, asked, error, out, err),
+    }
+}
+
+/// The answer beside a trace to the text of a schedule.
+fn replay_answer(alloc: Global, trace: &Trace, text: &[u8]) -> Answer
+    ensures { IsReplayBeside trace.now (Some text.now) result }
+{
+    match read_schedule(alloc, text) {
+        Ok(schedule) => replay_of(alloc, trace, &schedule),
+        Err(fault) => Answer::from(fault),
+    }
+}
+
+/// The replay of a schedule beside a trace, as it is answered.
+fn replay_of(alloc: Global, trace: &Trace, schedule: &Schedule) -> Answer
+    ensures { IsReplayed trace.now schedule.now result }
+{
+    match replay(alloc, trace, schedule) {
+        Ok(seen) => Answer::Replayed {
+            seen,
+            ending: ReplayEnd::NoHarm,
+        },
+        Err(ReplayFault::Harmful { step, harm, seen }) => Answer::Replayed {
+            seen,
+            ending: ReplayEnd::Harmful { step, harm },
+        },
+        Err(ReplayFault::NotPossible { step, seen }) => Answer::Replayed {
+            seen,
+            ending: ReplayEnd::NotPossible { step },
+        },
+        Err(ReplayFault::Memory) => Answer::Memory,
+    }
+}
