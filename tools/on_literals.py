@@ -27,3 +27,4 @@ write('world_state','world_on_literals',[('traces','header_on_literals'),('segme
 write('controller_model','model_on_literals',[('world_state','world_on_literals'),('commands','commands_on_literals')],c)
 write('ring_knowledge','knowledge_on_literals',[('traces','header_on_literals'),('segments','views_on_literals'),('commands','commands_on_literals')],c)
 write('ownership_rules','rules_on_literals',[('ring_knowledge','knowledge_on_literals')],c)
+write('lazy_runs','lazy_on_literals',[('ring_knowledge','knowledge_on_literals')],c)

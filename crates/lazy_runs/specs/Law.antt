@@ -1,0 +1,50 @@
+-- That there is a run: the lazy schedule of a clean trace without late events reads all its rows
+use Rattle.std.specs.Prelude.{◌≡◌, ℕ, List, [], ◌++◌, All, reverse, Some}
+use Rattle.segments.specs.Spots.{spot_address, spot_cycle}
+use Rattle.traces.specs.declared.header.Header.{Header}
+use Rattle.traces.specs.declared.row.Row.{Row}
+use Rattle.traces.specs.declared.step.Step.{Step}
+use Rattle.traces.specs.Header.{IsHeader, shape_of}
+use Rattle.traces.specs.Rows.{IsRow}
+use Rattle.world_state.specs.World.{World}
+use Rattle.controller_model.specs.Steps.{reached}
+use Rattle.ring_knowledge.specs.Known.{Known}
+use Rattle.ring_knowledge.specs.Learned.{known}
+use Rattle.ownership_rules.specs.Clean.{IsClean}
+use Rattle.lazy_runs.specs.LateEvents.{IsTimely}
+use Rattle.lazy_runs.specs.Lazy.{lazy_run, lazy_steps}
+
+module _ (h : Header) where
+  -- the steps, the newest first, are a run beside the rows that contains them all
+  pub record ContainsAll (rows : List Row) (steps : List Step) : Type 0 where
+    pub world : World
+    pub run : reached h rows steps ≡ Some world
+    pub all : world.rows ≡ []
+
+  -- the dequeue pointer of ring r, and its cycle state, are those of its floor
+  pub record IsAtFloor (k : Known) (w : World) (r : ℕ) : Type 0 where
+    pub pointer : w.pointer_of r ≡ spot_address (shape_of h r) (k.ring r).floor
+    pub cycle : w.cycle_state r ≡ spot_cycle (shape_of h r) (k.ring r).floor
+
+  -- so it is for each ring that an endpoint has
+  abbrev pub AreAtFloors : Known → World → Type 0
+  AreAtFloors k w = (s i r : ℕ) → k.ring_of s i ≡ Some r → IsAtFloor k w r
+
+  -- the lazy run behind the rows so far, the newest first, with the others to come
+  pub record GoesSoFar (past later : List Row) : Type 0 where
+    pub world : World
+    pub run : reached h (reverse past ++ later) (lazy_run h past later) ≡ Some world
+    pub rest : world.rows ≡ later
+    pub floors : AreAtFloors (known h past) world
+
+  -- a clean trace without late events, behind each of its rows
+  abbrev pub LazyLaw : Type 0
+  LazyLaw =
+      (past later : List Row) → IsHeader h → All IsRow (reverse past ++ later) → IsClean h (reverse later ++ past) →
+      IsTimely h (reverse later ++ past) → GoesSoFar past later
+
+  -- so all of its rows are read
+  abbrev pub AllAreRead : Type 0
+  AllAreRead =
+      (rows : List Row) → IsHeader h → All IsRow rows → IsClean h (reverse rows) → IsTimely h (reverse rows) →
+      ContainsAll rows (reverse (lazy_steps h rows))

@@ -1,0 +1,5 @@
+pub mod LateEvents
+pub mod Needs
+pub mod Lazy
+pub mod Law
+pub mod OnLiterals
