@@ -2,3 +2,4 @@ pub mod Answers
 pub mod Telling
 pub mod Decoding
 pub mod Replays
+pub mod Keeping

@@ -1,10 +1,11 @@
 //! What the program answers: the text of each answer and the exit status that goes with it, what is told a person in plain words,
-//! and how all that is written to the two streams.
+//! and how all that is written to the two streams, and the certificate of an accepted trace.
 #![tactic(auto)]
 
 mod answer;
 mod decode;
 mod explain;
+mod keeping;
 mod replay_lines;
 mod telling;
 #[cfg(test)]
@@ -13,5 +14,6 @@ mod tests;
 pub use answer::{Answer, Status};
 pub use decode::{BlockWords, run_decode};
 pub use explain::{Asked, note_on_plan, note_on_schedule, note_on_trace};
+pub use keeping::keep;
 pub use replay_lines::ReplayEnd;
 pub use telling::{tell, tell_failure};

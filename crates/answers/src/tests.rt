@@ -1,4 +1,4 @@
-use crate::{BlockWords, Status, run_decode};
+use crate::{BlockWords, Status, keep, run_decode};
 use std::io::{self, Write};
 
 /// Takes so many bytes a write, fails at once where that is none, and says how often it was called.
@@ -110,4 +110,38 @@ fn tells_of_a_writer_that_fails(rt: HostRuntime) {
     assert_eq!(rt; status, Status::Unanswered);
     assert_eq!(rt; out.writes, 0);
     assert_eq!(rt; err.writes, 1);
+}
+
+/// No lease: eight bytes that name the format.
+const NO_LEASES: &[u8] = b"XHCICRT1";
+
+#[test]
+fn keeps_a_certificate_in_one_write(rt: HostRuntime) {
+    let mut certificate = Some(writer_of(&rt, 100, true));
+    let kept = keep(rt.alloc(), &[], &mut certificate);
+    assert!(rt; kept.is_ok());
+    match certificate {
+        Some(writer) => {
+            assert_eq!(rt; writer.bytes.as_slice(), NO_LEASES);
+            assert_eq!(rt; (writer.writes, writer.flushes), (1, 1));
+        }
+        None => assert!(rt; false),
+    }
+}
+
+#[test]
+fn keeps_no_certificate_where_none_is_asked_for(rt: HostRuntime) {
+    assert!(rt; keep(rt.alloc(), &[], &mut None::<Taking>).is_ok());
+}
+
+#[test]
+fn says_why_a_certificate_is_not_kept(rt: HostRuntime) {
+    for (most, can_flush) in [(0, true), (3, false)] {
+        let mut certificate = Some(writer_of(&rt, most, can_flush));
+        let kept = keep(rt.alloc(), &[], &mut certificate);
+        assert_eq!(rt;
+            kept.err().map(|error| error.kind()),
+            Some(io::ErrorKind::StorageFull)
+        );
+    }
 }

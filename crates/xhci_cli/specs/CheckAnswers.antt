@@ -1,5 +1,5 @@
--- What is right to answer to the text of a trace
-use Rattle.std.specs.Prelude.{◌≡◌, ℕ, List, length, Option, Some, None, Ok, Err}
+-- What is right to answer to the text of a trace, and to write where its certificate goes
+use Rattle.std.specs.Prelude.{◌≡◌, ◌⊎◌, ℕ, List, length, Option, Some, None, Ok, Err}
 use Rattle.traces.specs.declared.trace.Trace.{Trace}
 use Rattle.trace_reader.specs.Entries.{text_of as spelled}
 use Rattle.trace_reader.specs.Reading.{trace_of}
@@ -9,26 +9,33 @@ use Rattle.ring_knowledge.specs.declared.lease.Lease.{Lease}
 use Rattle.ownership_checker.specs.Profile.{verdict_within}
 use Rattle.ownership_checker.specs.Verdicts.{IsAccepted, IsFirstOfAll, IsHarmless}
 use Rattle.ownership_checker.specs.Walks.{WalksRead}
+use Rattle.answers.specs.Keeping.{IsKept, IsKeptInPart}
 use Rattle.answers.specs.declared.answer.Answer.{Answer}
 use Rattle.answers.specs.declared.answer.Answer.TheVariants.{Accepted, Written, Decoded, Replayed, Refused, Unfollowed, BadLine, BadWord, Memory, Device}
 
--- an answer is right of a trace that was read: how many leases it has, where no row breaks a rule, a walk after any row reads what was declared,
--- and no run of the controller's model beside the rows does harm; or its first row that is outside the profile or breaks a rule,
--- and the least rule that it breaks
-abbrev pub IsVerdict : Answer → Trace → Type 0
-IsVerdict (Accepted count) trace =
+-- of the certificate of an accepted trace no more than a beginning was written
+abbrev pub IsCutShort : {C : Type 0} → (C → Option (List ℕ)) → Option C → Option C → Trace → Type 0
+IsCutShort contents before after trace = (leases : List Lease) × IsAccepted trace.header trace.rows trace.first leases × IsKeptInPart contents before after leases
+
+-- an answer is right of a trace that was read, and so is what was done where its certificate goes: how many leases it has, where no
+-- row breaks a rule, and then these were kept whole, a walk after any row reads what was declared, and no run of the controller's
+-- model beside the rows does harm; or its first row that is outside the profile or breaks a rule, and the least rule that it breaks,
+-- and then nothing was kept
+abbrev pub IsVerdict : {C : Type 0} → (C → Option (List ℕ)) → Option C → Option C → Answer → Trace → Type 0
+IsVerdict contents before after (Accepted count) trace =
     (leases : List Lease) × IsAccepted trace.header trace.rows trace.first leases × (count ≡ length leases) × WalksRead trace.header trace.rows
-    × IsHarmless trace.header trace.rows
-IsVerdict (Written text) trace = ⊥
-IsVerdict (Decoded block) trace = ⊥
-IsVerdict (Replayed seen ending) trace = ⊥
-IsVerdict (Refused row refusal) trace =
+    × IsHarmless trace.header trace.rows × IsKept contents before after leases
+IsVerdict contents before after (Written text) trace = ⊥
+IsVerdict contents before after (Decoded block) trace = ⊥
+IsVerdict contents before after (Replayed seen ending) trace = ⊥
+IsVerdict contents before after (Refused row refusal) trace =
     (verdict_within trace.header nothing trace.first trace.rows ≡ Some (row, refusal)) × IsFirstOfAll trace.header trace.first trace.rows row refusal
-IsVerdict (Unfollowed line refusal) trace = ⊥
-IsVerdict (BadLine line fault) trace = ⊥
-IsVerdict BadWord trace = ⊥
-IsVerdict Memory trace = Unit {0}
-IsVerdict Device trace = ⊥
+    × (after ≡ before)
+IsVerdict contents before after (Unfollowed line refusal) trace = ⊥
+IsVerdict contents before after (BadLine line fault) trace = ⊥
+IsVerdict contents before after BadWord trace = ⊥
+IsVerdict contents before after Memory trace = after ≡ before
+IsVerdict contents before after Device trace = ⊥
 
 -- the known bytes of an input spell the trace; of bytes that aren't known nothing is said
 abbrev pub IsTextOf : Option (List ℕ) → Trace → Type 0
@@ -40,16 +47,21 @@ abbrev pub IsFirstBad : Option (List ℕ) → ℕ → LineFault → Type 0
 IsFirstBad None line fault = Unit {0}
 IsFirstBad (Some bytes) line fault = trace_of bytes ≡ Err (line, fault)
 
--- an answer to an input is right: the verdict on the trace that it holds; or where it holds none its first bad line; or that
--- memory or the device failed
-abbrev pub IsCheckAnswer : Option (List ℕ) → Answer → Type 0
-IsCheckAnswer known (Accepted leases) = (trace : Trace) × IsTextOf known trace × IsVerdict (Accepted leases) trace
-IsCheckAnswer known (Written text) = ⊥
-IsCheckAnswer known (Decoded block) = ⊥
-IsCheckAnswer known (Replayed seen ending) = ⊥
-IsCheckAnswer known (Refused row refusal) = (trace : Trace) × IsTextOf known trace × IsVerdict (Refused row refusal) trace
-IsCheckAnswer known (Unfollowed line refusal) = ⊥
-IsCheckAnswer known (BadLine line fault) = IsFirstBad known line fault
-IsCheckAnswer known BadWord = ⊥
-IsCheckAnswer known Memory = Unit {0}
-IsCheckAnswer known Device = Unit {0}
+-- where memory or the device failed nothing was kept, or the input holds a trace that is accepted and a beginning of its
+-- certificate was kept, which may be all of it
+abbrev pub IsHindered : {C : Type 0} → (C → Option (List ℕ)) → Option C → Option C → Option (List ℕ) → Type 0
+IsHindered contents before after known = (after ≡ before) ⊎ ((trace : Trace) × IsTextOf known trace × IsCutShort contents before after trace)
+
+-- an answer to an input is right, and so is what was done where the certificate goes: the verdict on the trace that it holds; or
+-- where it holds none its first bad line, and then nothing was kept; or that memory or the device failed
+abbrev pub IsCheckAnswer : {C : Type 0} → (C → Option (List ℕ)) → Option C → Option C → Option (List ℕ) → Answer → Type 0
+IsCheckAnswer contents before after known (Accepted leases) = (trace : Trace) × IsTextOf known trace × IsVerdict contents before after (Accepted leases) trace
+IsCheckAnswer contents before after known (Written text) = ⊥
+IsCheckAnswer contents before after known (Decoded block) = ⊥
+IsCheckAnswer contents before after known (Replayed seen ending) = ⊥
+IsCheckAnswer contents before after known (Refused row refusal) = (trace : Trace) × IsTextOf known trace × IsVerdict contents before after (Refused row refusal) trace
+IsCheckAnswer contents before after known (Unfollowed line refusal) = ⊥
+IsCheckAnswer contents before after known (BadLine line fault) = IsFirstBad known line fault × (after ≡ before)
+IsCheckAnswer contents before after known BadWord = ⊥
+IsCheckAnswer contents before after known Memory = IsHindered contents before after known
+IsCheckAnswer contents before after known Device = IsHindered contents before after known

@@ -18,10 +18,12 @@ Exit status:
 
 const CHECK: &str = "\
 Prints `accepted: N leases`, status 0, or the first row that breaks a rule of ownership as `row R: C Name`, status 1; on
-standard error the first bad line as `xhcitrace: line L: C Name`, status 2; else status 3.
+standard error the first bad line as `xhcitrace: line L: C Name`, status 2; else status 3. The certificate is the leases of the
+trace, and is written before `accepted` is; of every other trace no file is written.
 
-Example:
-  xhcitrace check --explain examples/written_to_owned.xtrace";
+Examples:
+  xhcitrace check --explain examples/written_to_owned.xtrace
+  xhcitrace check --cert leases examples/two_descriptors.xtrace";
 
 const WRITE: &str = "\
 Prints the trace, status 0, or the first line that can't be followed as `line L: C Name`, status 1; on standard error the
@@ -57,6 +59,7 @@ pub fn command<'a>(alloc: Global) -> Result<Command<'a>, AllocError> {
             "TRACE",
             "The file of the trace; -, or none: standard input",
         ))?
+        .arg(certificate(alloc))?
         .arg(explain(alloc))?;
     let write = Command::new(alloc, "write")
         .about("Writes the trace of a plan: what a driver writes that declares these descriptors")
@@ -120,6 +123,12 @@ fn explain<'a>(alloc: Global) -> Arg<'a> {
         .help(
             "Says in plain words what is wrong, on standard error (as it does where that is a terminal)",
         )
+}
+
+fn certificate<'a>(alloc: Global) -> Arg<'a> {
+    Arg::new(alloc, "cert").long("cert").value_name("FILE").help(
+        "Writes the certificate of an accepted trace to FILE: which memory the controller owned, and when",
+    )
 }
 
 /// A word of the block that is to be decoded.

@@ -2,6 +2,7 @@
 #![tactic(auto)]
 
 mod command_line;
+mod file_on_write;
 mod replay_run;
 mod run;
 #[cfg(test)]
@@ -10,6 +11,7 @@ mod tests;
 use answers::{Asked, Status, run_decode, tell_failure};
 use clap::ArgMatches;
 use command_line::{block_words, path};
+use file_on_write::FileOnWrite;
 use replay_run::run_replay;
 use run::{run_check, run_write};
 use std::alloc::AllocError;
@@ -85,8 +87,13 @@ fn status_of(rt: &HostRuntime, matches: &ArgMatches) -> Status {
         return replay_at(rt, replay, explains(rt, replay));
     }
     match matches.subcommand_matches("check") {
-        Some(check) => check_at(rt, path(check, "TRACE"), explains(rt, check)),
-        None => check_at(rt, None, rt.stderr().is_terminal()),
+        Some(check) => check_at(
+            rt,
+            path(check, "TRACE"),
+            check.get_str("cert"),
+            explains(rt, check),
+        ),
+        None => check_at(rt, None, None, rt.stderr().is_terminal()),
     }
 }
 
@@ -95,19 +102,35 @@ fn explains(rt: &HostRuntime, matches: &ArgMatches) -> bool {
     matches.get_flag("explain") || rt.stderr().is_terminal()
 }
 
-/// Checks the trace in a file, or on standard input.
-fn check_at(rt: &HostRuntime, path: Option<&str>, explains: bool) -> Status {
+/// Checks the trace in a file, or on standard input; its certificate goes to another file, where one is named.
+fn check_at(
+    rt: &HostRuntime,
+    path: Option<&str>,
+    certificate: Option<&str>,
+    explains: bool,
+) -> Status {
     let alloc = rt.alloc();
+    let mut kept = match certificate {
+        Some(path) => Some(FileOnWrite::new(rt, path)),
+        None => None,
+    };
     let mut out = rt.stdout();
     let mut err = rt.stderr();
     let input = path.unwrap_or("standard input");
     let asked = Asked { input, explains };
     match path {
         Some(path) => match File::open(rt, path) {
-            Ok(mut file) => run_check(alloc, &asked, &mut file, &mut out, &mut err),
+            Ok(mut file) => run_check(alloc, &asked, &mut file, &mut kept, &mut out, &mut err),
             Err(error) => tell_failure(alloc, &asked, error, &mut out, &mut err),
         },
-        None => run_check(alloc, &asked, &mut rt.stdin(), &mut out, &mut err),
+        None => run_check(
+            alloc,
+            &asked,
+            &mut rt.stdin(),
+            &mut kept,
+            &mut out,
+            &mut err,
+        ),
     }
 }
 

@@ -1,5 +1,6 @@
 use crate::run::{run_check, run_write};
 use answers::{Asked, Status};
+use std::io::{self, Write};
 use std::test::Fail;
 
 /// Only the line of an answer is asked for.
@@ -35,7 +36,14 @@ fn accepts_clean_traces(rt: HostRuntime) -> Result<(), Fail> {
         let text = format!(in rt.alloc(); "{HEAD}{rows}")?;
         let mut out = Vec::new(rt.alloc());
         let mut err = Vec::new(rt.alloc());
-        let status = run_check(rt.alloc(), &PLAIN, &mut text.as_bytes(), &mut out, &mut err);
+        let status = run_check(
+            rt.alloc(),
+            &PLAIN,
+            &mut text.as_bytes(),
+            &mut None::<Vec<u8>>,
+            &mut out,
+            &mut err,
+        );
         assert_eq!(rt; status, Status::Clean, "{name}");
         assert_eq!(rt; out.as_slice(), told.as_bytes(), "{name}");
         assert!(rt; err.is_empty(), "{name}");
@@ -81,10 +89,19 @@ fn refuses_rows_that_break_a_rule(rt: HostRuntime) -> Result<(), Fail> {
         let text = format!(in rt.alloc(); "{HEAD}{rows}")?;
         let mut out = Vec::new(rt.alloc());
         let mut err = Vec::new(rt.alloc());
-        let status = run_check(rt.alloc(), &PLAIN, &mut text.as_bytes(), &mut out, &mut err);
+        let mut certificate = Some(Vec::new(rt.alloc()));
+        let status = run_check(
+            rt.alloc(),
+            &PLAIN,
+            &mut text.as_bytes(),
+            &mut certificate,
+            &mut out,
+            &mut err,
+        );
         assert_eq!(rt; status, Status::Unclean, "{name}");
         assert_eq!(rt; out.as_slice(), told.as_bytes(), "{name}");
         assert!(rt; err.is_empty(), "{name}");
+        assert!(rt; certificate.is_some_and(|bytes| bytes.is_empty()), "{name}");
     }
     Ok(())
 }
@@ -114,11 +131,82 @@ fn names_the_first_bad_line(rt: HostRuntime) -> Result<(), Fail> {
     for (text, told) in cases {
         let mut out = Vec::new(rt.alloc());
         let mut err = Vec::new(rt.alloc());
-        let status = run_check(rt.alloc(), &PLAIN, &mut text.as_bytes(), &mut out, &mut err);
+        let mut certificate = Some(Vec::new(rt.alloc()));
+        let status = run_check(
+            rt.alloc(),
+            &PLAIN,
+            &mut text.as_bytes(),
+            &mut certificate,
+            &mut out,
+            &mut err,
+        );
         assert_eq!(rt; status, Status::Unreadable, "{told}");
         assert!(rt; out.is_empty(), "{told}");
+        assert!(rt; certificate.is_some_and(|bytes| bytes.is_empty()), "{told}");
         assert_eq!(rt; err.as_slice(), told.as_bytes());
     }
+    Ok(())
+}
+
+/// The Link of the ring is given in row 5.
+const LINK_GIVEN: &str = "w 0000000000030030 00030000\nw 000000000003003c 00001803\n";
+
+/// A lease of the Link behind position 2 of ring 02, from row 5 on.
+const LINK_CERTIFICATE: [u8; 32] = [
+    0x58, 0x48, 0x43, 0x49, 0x43, 0x52, 0x54, 0x31, // XHCICRT1
+    1, 0, 0, 0, 2, 0, 0, 0, 2, 0, 0, 0, 0, 0, 0, 0, 5, 0, 0, 0, 0xff, 0xff, 0xff, 0xff,
+];
+
+#[test]
+fn writes_the_certificate_of_an_accepted_trace(rt: HostRuntime) -> Result<(), Fail> {
+    let text = format!(in rt.alloc(); "{HEAD}{LINK_GIVEN}")?;
+    let mut out = Vec::new(rt.alloc());
+    let mut err = Vec::new(rt.alloc());
+    let mut certificate = Some(Vec::new(rt.alloc()));
+    let status = run_check(
+        rt.alloc(),
+        &PLAIN,
+        &mut text.as_bytes(),
+        &mut certificate,
+        &mut out,
+        &mut err,
+    );
+    assert_eq!(rt; status, Status::Clean);
+    assert_eq!(rt; out.as_slice(), b"accepted: 1 leases\n".as_slice());
+    assert!(rt; certificate.is_some_and(|bytes| bytes.as_slice() == LINK_CERTIFICATE.as_slice()));
+    Ok(())
+}
+
+/// A device that is full.
+#[derive(Drop)]
+struct Full;
+
+impl Write for Full {
+    fn write(&mut self, _buf: &[u8]) -> io::Result<usize> {
+        Err(io::ErrorKind::StorageFull.into())
+    }
+
+    fn flush(&mut self) -> io::Result<()> {
+        Ok(())
+    }
+}
+
+#[test]
+fn tells_no_verdict_where_the_certificate_cannot_be_written(rt: HostRuntime) -> Result<(), Fail> {
+    let text = format!(in rt.alloc(); "{HEAD}{LINK_GIVEN}")?;
+    let mut out = Vec::new(rt.alloc());
+    let mut err = Vec::new(rt.alloc());
+    let status = run_check(
+        rt.alloc(),
+        &PLAIN,
+        &mut text.as_bytes(),
+        &mut Some(Full),
+        &mut out,
+        &mut err,
+    );
+    assert_eq!(rt; status, Status::Unanswered);
+    assert!(rt; out.is_empty());
+    assert_eq!(rt; err.as_slice(), b"xhcitrace: 31 Device\n".as_slice());
     Ok(())
 }
 
