@@ -23,6 +23,7 @@ pub mod ScribbleLemmas
 pub mod WatchLemmas
 pub mod OpeningLemmas
 pub mod SafetyLemmas
+pub mod RingHarmLemmas
 pub mod ChangeLemmas
 pub mod ReportLemmas
 pub mod ReportPosts

@@ -54,3 +54,8 @@ step_uncounted h w s fault shown P Q made_so = onward fault (made h w s) made_so
     onward NotPossible (Some v) m = absurd m
     onward Memory o m = tt
     onward Spent o m = absurd m
+
+-- of the world that a step leads to something else holds
+pub step_more : (o : Option World) (seen shown : Seen) (P Q : World → Type 0) → ((v : World) → o ≡ Some v → P v → Q v) → IsStep (Ok seen) o shown P → IsStep (Ok seen) o shown Q
+step_more None seen shown P Q more step = absurd step
+step_more (Some v) seen shown P Q more step = (step.0, more v refl step.1)

@@ -15,3 +15,4 @@ pub mod Following
 pub mod Trials
 pub mod Completions
 pub mod Worlds
+pub mod RingHarms

@@ -1,36 +1,35 @@
-ghost use Rattle.std.specs.Prelude.{◌≡◌, ℕ, ◌&&◌, ◌==◌, ◌-◌, ◌<◌, ◌%◌, if◌then◌else◌, List, Option, not, nat_le, nat_lt};
+ghost use Rattle.std.specs.Prelude.{◌≡◌, ℕ, ◌&&◌, ◌==◌, ◌-◌, ◌<◌, ◌%◌, if◌then◌else◌, List, Option, Some, true, not, nat_le, nat_lt};
 ghost use Rattle.trb.specs.Block.{block_at, cycle as cycle_bit};
 ghost use Rattle.traces.specs.declared.header.Header.{Header as HeaderValue};
 ghost use Rattle.traces.specs.declared.row.Row.{Row as RowValue};
-ghost use Rattle.traces.specs.Header.{event_size, shape_of, some_ring};
+ghost use Rattle.traces.specs.Header.{event_size, shape_of};
 ghost use Rattle.world_state.specs.World.{World};
 ghost use Rattle.world_state.specs.Harms.{harm_of, has_changed_context, has_other_words, is_inside_descriptor, is_out_of_order, waits};
+ghost use Rattle.traces.specs.declared.step.Step.TheVariants.{Look};
+ghost use Rattle.controller_model.specs.DriverRows.{row_done};
+ghost use Rattle.controller_model.specs.Steps.{stepped};
 ghost use Rattle.controller_model.specs.Following.{Follows, FollowsRing, ring_held};
+ghost use Rattle.controller_model.specs.RingHarms.{HasRingHarms};
 
 use crate::kept::{Kept, RingState};
 use crate::looks::{command_of, input_words};
 use crate::memory::word_at;
 use crate::posts::event_ring;
 use guest_memory::WordMemory;
-use traces::Header;
+use traces::{Header, Row, Step, Trace};
 use world_state::Harm;
 
 /// Which harms the takes and the waiting of some ring show.
 #[derive(Clone, Copy)]
-struct RingHarms {
+pub struct RingHarms {
     out_of_order: bool,
     other_words: bool,
     waits_inside: bool,
 }
 
 /// The harms of all rings.
-fn ring_harms<M: WordMemory>(header: &Header, memory: &M, kept: &Kept) -> RingHarms
-    ensures order { (rows : List RowValue) (w : World) → Follows header.now rows (M.words memory.now) kept.now w →
-        result.out_of_order ≡ some_ring header.now (λ r. is_out_of_order (shape_of header.now r) (w.events r)) }
-    ensures words { (rows : List RowValue) (w : World) → Follows header.now rows (M.words memory.now) kept.now w →
-        result.other_words ≡ some_ring header.now (λ r. has_other_words (shape_of header.now r) (w.events r)) }
-    ensures waits { (rows : List RowValue) (w : World) → Follows header.now rows (M.words memory.now) kept.now w →
-        result.waits_inside ≡ some_ring header.now (λ r. waits w r && is_inside_descriptor (w.events r)) }
+pub(crate) fn ring_harms<M: WordMemory>(header: &Header, memory: &M, kept: &Kept) -> RingHarms
+    ensures { (rows : List RowValue) (w : World) → Follows header.now rows (M.words memory.now) kept.now w → HasRingHarms header.now w result }
 {
     let mut harms = RingHarms {
         out_of_order: false,
@@ -104,11 +103,89 @@ fn has_changed_context(header: &Header, kept: &Kept) -> bool
         .is_context_changed(pending.address, context, input_words(header))
 }
 
-/// The least harm of a world.
-pub(crate) fn harm_of<M: WordMemory>(header: &Header, memory: &M, kept: &Kept) -> Option<Harm>
-    ensures { (rows : List RowValue) (w : World) → Follows header.now rows (M.words memory.now) kept.now w → result ≡ harm_of header.now w }
+/// The harms of one ring.
+fn harms_at<M: WordMemory>(memory: &M, state: &RingState) -> RingHarms
+    ensures order { (h : HeaderValue) (r : ℕ) (w : World) → FollowsRing h r (ring_held w r) state.now →
+        result.out_of_order ≡ is_out_of_order (shape_of h r) (w.events r) }
+    ensures words { (h : HeaderValue) (r : ℕ) (w : World) → FollowsRing h r (ring_held w r) state.now →
+        result.other_words ≡ has_other_words (shape_of h r) (w.events r) }
+    ensures waits { (h : HeaderValue) (r : ℕ) (w : World) → FollowsRing h r (ring_held w r) state.now → M.words memory.now ≡ w.memory →
+        result.waits_inside ≡ (waits w r && is_inside_descriptor (w.events r)) }
 {
-    let rings = ring_harms(header, memory, kept);
+    RingHarms {
+        out_of_order: state.history.is_out_of_order(),
+        other_words: state.history.has_other_words(),
+        waits_inside: waits_inside(memory, state),
+    }
+}
+
+/// The harms of all rings after a look at one of them. Where there was no harm before, that one decides.
+fn harms_after_look<M: WordMemory>(
+    header: &Header,
+    memory: &M,
+    kept: &Kept,
+    before: RingHarms,
+    ring: u8,
+) -> RingHarms
+    ensures { (rows : List RowValue) (w v : World) → HasRingHarms header.now w before → stepped header.now w (Look ring) ≡ Some v →
+        Follows header.now rows (M.words memory.now) kept.now v → HasRingHarms header.now v result }
+{
+    if before.out_of_order || before.other_words || before.waits_inside {
+        return ring_harms(header, memory, kept);
+    }
+    harms_at(memory, &kept.rings[usize::from(ring)])
+}
+
+/// The harms of all rings after a step.
+pub(crate) fn harms_after<M: WordMemory>(
+    header: &Header,
+    memory: &M,
+    kept: &Kept,
+    before: RingHarms,
+    step: &Step,
+) -> RingHarms
+    ensures { (rows : List RowValue) (w v : World) → HasRingHarms header.now w before → stepped header.now w step.now ≡ Some v →
+        Follows header.now rows (M.words memory.now) kept.now v → HasRingHarms header.now v result }
+{
+    match step {
+        Step::Look { ring } => harms_after_look(header, memory, kept, before, *ring),
+        _ => ring_harms(header, memory, kept),
+    }
+}
+
+/// Whether a row surely leaves the rings' harms as they are: it declares blocks, reads an event, or writes a word that keeps its
+/// lowest bit, where a control word has the Cycle bit.
+fn keeps_harms<M: WordMemory>(memory: &M, row: &Row) -> bool
+    ensures { (h : HeaderValue) (w v : World) (x : RingHarms) → M.words memory.now ≡ w.memory → result ≡ true → row_done h w row.now ≡ Some v →
+        HasRingHarms h w x → HasRingHarms h v x }
+{
+    match row {
+        Row::Sub { .. } => true,
+        Row::Write { at, word } => memory.word(*at) % 2 == *word % 2,
+        Row::Read { .. } => true,
+        _ => false,
+    }
+}
+
+/// Whether the next step surely leaves the rings' harms as they are.
+pub(crate) fn is_quiet<M: WordMemory>(trace: &Trace, memory: &M, kept: &Kept, step: &Step) -> bool
+    ensures { (w v : World) (x : RingHarms) → Follows trace.now.header trace.now.rows (M.words memory.now) kept.now w → result ≡ true →
+        stepped trace.now.header w step.now ≡ Some v → HasRingHarms trace.now.header w x → HasRingHarms trace.now.header v x }
+{
+    match step {
+        Step::NextRow => match trace.rows.as_slice().get(kept.progress.next_row) {
+            None => false,
+            Some(row) => keeps_harms(memory, row),
+        },
+        _ => false,
+    }
+}
+
+/// The least harm of a world with these harms of its rings.
+pub(crate) fn harm_of(header: &Header, kept: &Kept, rings: RingHarms) -> Option<Harm>
+    ensures { (rows : List RowValue) (words : ℕ → ℕ) (w : World) → Follows header.now rows words kept.now w → HasRingHarms header.now w rings →
+        result ≡ harm_of header.now w }
+{
     if rings.out_of_order {
         return Some(Harm::TakenOutOfOrder);
     }

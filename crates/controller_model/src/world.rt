@@ -1,7 +1,14 @@
+ghost use Rattle.std.specs.Prelude.{◌≡◌, Err};
+ghost use Rattle.world_state.specs.World.{World as WorldValue};
+ghost use Rattle.controller_model.specs.Steps.{stepped};
+ghost use Rattle.controller_model.specs.Showing.{shows};
+ghost use Rattle.controller_model.specs.Following.{Follows, IsStep};
+ghost use Rattle.controller_model.specs.RingHarms.{HasRingHarms, IsFollowed};
+
 use crate::fault::StepFault;
 use crate::kept::Kept;
 use crate::opening::opening;
-use crate::safety::harm_of;
+use crate::safety::{RingHarms, harm_of, harms_after, is_quiet, ring_harms};
 use crate::seen::Seen;
 use crate::steps::make_step;
 use guest_memory::WordMemory;
@@ -16,7 +23,32 @@ pub struct World<'t, M: WordMemory> {
     trace: &'t Trace,
     memory: M,
     kept: Kept,
+    /// The harms of the rings, as the steps so far left them.
+    rings: RingHarms,
     is_spent: bool,
+}
+
+/// Makes one step, and follows the harms of the rings.
+fn make_followed<M: WordMemory>(
+    trace: &Trace,
+    memory: &mut M,
+    kept: &mut Kept,
+    rings: &mut RingHarms,
+    step: &Step,
+) -> Result<Seen, StepFault>
+    ensures step { (w : WorldValue) → Follows trace.now.header trace.now.rows (M.words memory.old) kept.old w → HasRingHarms trace.now.header w rings.old →
+        IsStep result (stepped trace.now.header w step.now) (shows trace.now.header w step.now)
+        (IsFollowed trace.now.header trace.now.rows (M.words memory.new) kept.new rings.new) }
+    ensures refused { result ≡ Err StepFault.NotPossible → kept.new ≡ kept.old }
+    ensures memory { result ≡ Err StepFault.NotPossible → M.words memory.new ≡ M.words memory.old }
+    ensures rings { result ≡ Err StepFault.NotPossible → rings.new ≡ rings.old }
+{
+    let is_quiet = is_quiet(trace, memory, kept, step);
+    let seen = make_step(trace, memory, kept, step)?;
+    if !is_quiet {
+        *rings = harms_after(&trace.header, memory, kept, *rings, step);
+    }
+    Ok(seen)
 }
 
 impl<'t, M: WordMemory + Drop> World<'t, M> {
@@ -37,10 +69,13 @@ impl<'t, M: WordMemory + Drop> World<'t, M> {
         requires { (a : ℕ) → M.words memory a ≡ 0 }
         ensures { IfOk result (λ v. StandsFor M.words trace.now.header trace.now.rows v (opening trace.now.rows)) }
     {
+        let kept = opening(alloc)?;
+        let rings = ring_harms(&trace.header, &memory, &kept);
         Ok(World {
             trace,
             memory,
-            kept: opening(alloc)?,
+            kept,
+            rings,
             is_spent: false,
         })
     }
@@ -59,7 +94,13 @@ impl<'t, M: WordMemory + Drop> World<'t, M> {
         if self.is_spent {
             return Err(StepFault::Spent);
         }
-        match make_step(self.trace, &mut self.memory, &mut self.kept, step) {
+        match make_followed(
+            self.trace,
+            &mut self.memory,
+            &mut self.kept,
+            &mut self.rings,
+            step,
+        ) {
             Ok(seen) => Ok(seen),
             Err(StepFault::Memory) => {
                 self.is_spent = true;
@@ -73,7 +114,7 @@ impl<'t, M: WordMemory + Drop> World<'t, M> {
     pub fn safe(&self) -> Result<(), Harm>
         ensures { (h : Header) (rows : List Row) (w : WorldValue) → StandsFor M.words h rows self.now w → result_err result ≡ harm_of h w }
     {
-        match harm_of(&self.trace.header, &self.memory, &self.kept) {
+        match harm_of(&self.trace.header, &self.kept, self.rings) {
             None => Ok(()),
             Some(harm) => Err(harm),
         }

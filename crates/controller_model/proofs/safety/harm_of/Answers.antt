@@ -3,9 +3,9 @@ use Rattle.controller_model.proofs.SafetyLemmas.{harm_is, words_harm, waits_harm
 use Rattle.controller_model.proofs.safety.harm_of.Goals as goal
 
 pub returns-then-rings : goal.returns-then-rings
-returns-then-rings g c = λ rows w f.
+returns-then-rings c = λ rows words w f x.
     sym (harm_is c.args.header.now w true (words_harm c.args.header.now w) (waits_harm c.args.header.now w) w.looked_outside (posts_harm c.args.header.now w) (context_harm c.args.header.now w)
-    (sym (c.ring_harms-rings.ensures.order rows w f) ∙ c.if-rings.true)
+    (sym x.order ∙ c.if-rings.true)
     refl
     refl
     refl
@@ -13,61 +13,61 @@ returns-then-rings g c = λ rows w f.
     refl)
 
 pub returns-then-rings-2 : goal.returns-then-rings-2
-returns-then-rings-2 g c = λ rows w f.
+returns-then-rings-2 c = λ rows words w f x.
     sym (harm_is c.args.header.now w false true (waits_harm c.args.header.now w) w.looked_outside (posts_harm c.args.header.now w) (context_harm c.args.header.now w)
-    (sym (c.ring_harms-rings.ensures.order rows w f) ∙ c.if-rings.false)
-    (sym (c.ring_harms-rings.ensures.words rows w f) ∙ c.if-rings-2.true)
+    (sym x.order ∙ c.if-rings.false)
+    (sym x.words ∙ c.if-rings-2.true)
     refl
     refl
     refl
     refl)
 
 pub returns-then-rings-3 : goal.returns-then-rings-3
-returns-then-rings-3 g c = λ rows w f.
+returns-then-rings-3 c = λ rows words w f x.
     sym (harm_is c.args.header.now w false false true w.looked_outside (posts_harm c.args.header.now w) (context_harm c.args.header.now w)
-    (sym (c.ring_harms-rings.ensures.order rows w f) ∙ c.if-rings.false)
-    (sym (c.ring_harms-rings.ensures.words rows w f) ∙ c.if-rings-2.false)
-    (sym (c.ring_harms-rings.ensures.waits rows w f) ∙ c.if-rings-3.true)
+    (sym x.order ∙ c.if-rings.false)
+    (sym x.words ∙ c.if-rings-2.false)
+    (sym x.waiting ∙ c.if-rings-3.true)
     refl
     refl
     refl)
 
 pub returns-then-kept : goal.returns-then-kept
-returns-then-kept g c = λ rows w f.
+returns-then-kept c = λ rows words w f x.
     sym (harm_is c.args.header.now w false false false true (posts_harm c.args.header.now w) (context_harm c.args.header.now w)
-    (sym (c.ring_harms-rings.ensures.order rows w f) ∙ c.if-rings.false)
-    (sym (c.ring_harms-rings.ensures.words rows w f) ∙ c.if-rings-2.false)
-    (sym (c.ring_harms-rings.ensures.waits rows w f) ∙ c.if-rings-3.false)
+    (sym x.order ∙ c.if-rings.false)
+    (sym x.words ∙ c.if-rings-2.false)
+    (sym x.waiting ∙ c.if-rings-3.false)
     (f.looked ∙ c.if-kept.true)
     refl
     refl)
 
 pub returns-then-posts_over_unread : goal.returns-then-posts_over_unread
-returns-then-posts_over_unread g c = λ rows w f.
+returns-then-posts_over_unread c = λ rows words w f x.
     sym (harm_is c.args.header.now w false false false false true (context_harm c.args.header.now w)
-    (sym (c.ring_harms-rings.ensures.order rows w f) ∙ c.if-rings.false)
-    (sym (c.ring_harms-rings.ensures.words rows w f) ∙ c.if-rings-2.false)
-    (sym (c.ring_harms-rings.ensures.waits rows w f) ∙ c.if-rings-3.false)
+    (sym x.order ∙ c.if-rings.false)
+    (sym x.words ∙ c.if-rings-2.false)
+    (sym x.waiting ∙ c.if-rings-3.false)
     (f.looked ∙ c.if-kept.false)
-    (sym (c.posts_over_unread.ensures rows (g.M.WordMemory.words c.args.memory.now) w f) ∙ c.if-posts_over_unread.true)
+    (sym (c.posts_over_unread.ensures rows words w f) ∙ c.if-posts_over_unread.true)
     refl)
 
 pub returns-then-has_changed_context : goal.returns-then-has_changed_context
-returns-then-has_changed_context g c = λ rows w f.
+returns-then-has_changed_context c = λ rows words w f x.
     sym (harm_is c.args.header.now w false false false false false true
-    (sym (c.ring_harms-rings.ensures.order rows w f) ∙ c.if-rings.false)
-    (sym (c.ring_harms-rings.ensures.words rows w f) ∙ c.if-rings-2.false)
-    (sym (c.ring_harms-rings.ensures.waits rows w f) ∙ c.if-rings-3.false)
+    (sym x.order ∙ c.if-rings.false)
+    (sym x.words ∙ c.if-rings-2.false)
+    (sym x.waiting ∙ c.if-rings-3.false)
     (f.looked ∙ c.if-kept.false)
-    (sym (c.posts_over_unread.ensures rows (g.M.WordMemory.words c.args.memory.now) w f) ∙ c.if-posts_over_unread.false)
-    (sym (c.has_changed_context.ensures rows (g.M.WordMemory.words c.args.memory.now) w f) ∙ c.if-has_changed_context.true))
+    (sym (c.posts_over_unread.ensures rows words w f) ∙ c.if-posts_over_unread.false)
+    (sym (c.has_changed_context.ensures rows words w f) ∙ c.if-has_changed_context.true))
 
 pub returns : goal.returns
-returns g c = λ rows w f.
+returns c = λ rows words w f x.
     sym (harm_is c.args.header.now w false false false false false false
-    (sym (c.ring_harms-rings.ensures.order rows w f) ∙ c.if-rings.false)
-    (sym (c.ring_harms-rings.ensures.words rows w f) ∙ c.if-rings-2.false)
-    (sym (c.ring_harms-rings.ensures.waits rows w f) ∙ c.if-rings-3.false)
+    (sym x.order ∙ c.if-rings.false)
+    (sym x.words ∙ c.if-rings-2.false)
+    (sym x.waiting ∙ c.if-rings-3.false)
     (f.looked ∙ c.if-kept.false)
-    (sym (c.posts_over_unread.ensures rows (g.M.WordMemory.words c.args.memory.now) w f) ∙ c.if-posts_over_unread.false)
-    (sym (c.has_changed_context.ensures rows (g.M.WordMemory.words c.args.memory.now) w f) ∙ c.if-has_changed_context.false))
+    (sym (c.posts_over_unread.ensures rows words w f) ∙ c.if-posts_over_unread.false)
+    (sym (c.has_changed_context.ensures rows words w f) ∙ c.if-has_changed_context.false))

@@ -1,4 +1,4 @@
-use Rattle.std.proofs.Common.{◌≡◌, ◌<◌, ◌∙◌, ◌&&◌, Some, ap, get_or, length, slice_get, sym, refl, take, arith}
+use Rattle.std.proofs.Common.{◌≡◌, ◌<◌, ◌∙◌, ◌&&◌, Some, ap, get_or, length, slice_get, sym, arith}
 use Rattle.std.specs.List.{list_any}
 use Rattle.traces.specs.Header.{shape_of, some_ring}
 use Rattle.world_state.specs.Harms.{has_other_words, is_inside_descriptor, is_out_of_order, waits}
@@ -31,20 +31,15 @@ loop-ring-preserved g c =
           (c.loop-ring.invariant.waiting rows w f) (c.waits_inside.ensures c.args.header.now c.ring-item.result.id w old (sym (ap (λ y. y.memory) f.held)));
     }
 
-pub returns-clause-order : goal.returns-clause-order
+pub returns : goal.returns
 unfolding some_ring
-returns-clause-order g c = λ rows w f.
-    c.loop-ring.invariant.order rows w f
-    ∙ ap (λ xs. list_any (λ ring. is_out_of_order (shape_of c.args.header.now ring.id) (w.events ring.id)) xs) (take_past c.args.header.now.rings c.loop-ring.ring-index (omega (arith, ap length c.as_slice-ring-items.ensures)))
-
-pub returns-clause-words : goal.returns-clause-words
-unfolding some_ring
-returns-clause-words g c = λ rows w f.
-    c.loop-ring.invariant.words rows w f
-    ∙ ap (λ xs. list_any (λ ring. has_other_words (shape_of c.args.header.now ring.id) (w.events ring.id)) xs) (take_past c.args.header.now.rings c.loop-ring.ring-index (omega (arith, ap length c.as_slice-ring-items.ensures)))
-
-pub returns-clause-waits : goal.returns-clause-waits
-unfolding some_ring
-returns-clause-waits g c = λ rows w f.
-    c.loop-ring.invariant.waiting rows w f
-    ∙ ap (λ xs. list_any (λ ring. waits w ring.id && is_inside_descriptor (w.events ring.id)) xs) (take_past c.args.header.now.rings c.loop-ring.ring-index (omega (arith, ap length c.as_slice-ring-items.ensures)))
+returns g c = λ rows w f.
+    let past = take_past c.args.header.now.rings c.loop-ring.ring-index (omega (arith, ap length c.as_slice-ring-items.ensures)) in
+    record {
+      order = c.loop-ring.invariant.order rows w f
+          ∙ ap (λ xs. list_any (λ ring. is_out_of_order (shape_of c.args.header.now ring.id) (w.events ring.id)) xs) past;
+      words = c.loop-ring.invariant.words rows w f
+          ∙ ap (λ xs. list_any (λ ring. has_other_words (shape_of c.args.header.now ring.id) (w.events ring.id)) xs) past;
+      waiting = c.loop-ring.invariant.waiting rows w f
+          ∙ ap (λ xs. list_any (λ ring. waits w ring.id && is_inside_descriptor (w.events ring.id)) xs) past;
+    }

@@ -1,0 +1,219 @@
+-- What a step at one ring does to the rings' harms
+use Rattle.std.proofs.Common.{◌≡◌, ◌≢◌, ℕ, ◌==◌, ◌&&◌, ◌||◌, ◌∙◌, if◌then◌else◌, is_some, not, Bool, true, false, List, [], ◌∷◌, Option, Some, None, option_map, ap, sym, subst, refl, inl, inr}
+use Rattle.std.specs.Prelude.{IsSome, find}
+use Rattle.std.specs.List.{list_any}
+use Rattle.std.proofs.lemmas.Bool.{eq-eqb, cases_Bool, cases_eq, cond-false, ne_eqb, cond-true}
+use Rattle.trb.specs.declared.block.Block.{Block}
+use Rattle.trb.specs.Block.{block_at, cycle, kind}
+use Rattle.trb.specs.Kind.{is_link}
+use Rattle.traces.specs.declared.header.Header.{Header}
+use Rattle.traces.specs.declared.ring.Ring.{Ring}
+use Rattle.traces.specs.declared.step.Step.TheVariants.{Look, NextRow}
+use Rattle.traces.specs.Header.{command_id, ring_with, shape_of, some_ring}
+use Rattle.world_state.specs.World.{World}
+use Rattle.world_state.specs.Harms.{has_other_words, is_inside_descriptor, is_out_of_order, waits}
+use Rattle.controller_model.specs.declared.safety.RingHarms.{RingHarms}
+use Rattle.controller_model.specs.Looks.{command_begun, crossed, looked, looked_at, seen_by_look, taken, taken_on}
+use Rattle.controller_model.specs.Steps.{counted, made, stepped, while_running}
+use Rattle.std.proofs.Common.{◌+◌, ◌%◌, arith}
+use Rattle.std.specs.Prelude.{nat_lt}
+use Rattle.guest_memory.specs.Memory.{put}
+use Rattle.trb.specs.Bits.{bits}
+use Rattle.trb.specs.Block.{same_words}
+use Rattle.traces.specs.declared.row.Row.{Row}
+use Rattle.traces.specs.declared.row.Row.TheVariants.{Sub, Write, Read}
+use Rattle.world_state.specs.World.{event_at, stored}
+use Rattle.controller_model.specs.DriverRows.{declared, event_read, next_row, row_done}
+use Rattle.controller_model.specs.Following.{RingHeld, ring_held}
+use Rattle.controller_model.proofs.RingLemmas.{put_other}
+use Rattle.controller_model.proofs.NextRowLemmas.{behind}
+use Rattle.controller_model.specs.RingHarms.{ChangesOnly, HasRingHarms}
+use Rattle.controller_model.proofs.LookBranches.{looked_active, looked_inactive, waits as look_waits, crosses, refuses, takes, taken_transfer, taken_command}
+use Rattle.controller_model.proofs.RingSteps.{crossed_other, taken_other}
+
+or_again : (a b : Bool) → (a || (a || b)) ≡ (a || b)
+or_again true b = refl
+or_again false b = refl
+
+or_none : (a : Bool) → (a || false) ≡ a
+or_none true = refl
+or_none false = refl
+
+first_false : (a b : Bool) → (a || b) ≡ false → a ≡ false
+first_false true b e = e
+first_false false b e = refl
+
+second_false : (a b : Bool) → (a || b) ≡ false → b ≡ false
+second_false true b e = absurd (cc)
+second_false false b e = e
+
+-- a test of rings that no ring passed, and that changes at ring r alone
+module _ (p q : ℕ → Bool) (r : ℕ) (x : Bool) (others : (n : ℕ) → n ≢ r → q n ≡ p n) (here : x ≡ q r) where
+  elsewhere : (n : ℕ) → n ≢ r → p n ≡ false → q n ≡ false
+  elsewhere n apart none = others n apart ∙ none
+
+  absorbed : (rings : List Ring) → list_any (λ ring. p ring.id) rings ≡ false → (x || list_any (λ ring. q ring.id) rings) ≡ x
+  absorbed [] none = or_none x
+  absorbed (y ∷ ys) none =
+      let rest = absorbed ys (second_false (p y.id) _ none) in
+      elim (cases_eq y.id r) [
+        | inl same ↦ ap (λ b. x || (b || list_any (λ ring. q ring.id) ys)) (ap q same ∙ sym here) ∙ or_again x _ ∙ rest
+        | inr apart ↦ ap (λ b. x || (b || list_any (λ ring. q ring.id) ys)) (elsewhere y.id apart (first_false (p y.id) _ none)) ∙ rest
+      ]
+
+  pub any_only : (rings : List Ring) → list_any (λ ring. p ring.id) rings ≡ false → IsSome (find (λ ring. ring.id == r) rings) → x ≡ list_any (λ ring. q ring.id) rings
+  any_only [] none known = absurd (cc)
+  any_only (y ∷ ys) none known =
+      elim (cases_eq y.id r) [
+        | inl same ↦ sym (absorbed ys (second_false (p y.id) _ none)) ∙ ap (λ b. b || list_any (λ ring. q ring.id) ys) (here ∙ ap q (sym same))
+        | inr apart ↦
+            let P : Option Ring → Type 0 = λ o. IsSome o in
+            let later = subst P (cond-false (y.id == r) (Some y) (find (λ ring. ring.id == r) ys) (ne_eqb y.id r apart)) known in
+            any_only ys (second_false (p y.id) _ none) later
+            ∙ ap (λ b. b || list_any (λ ring. q ring.id) ys) (sym (elsewhere y.id apart (first_false (p y.id) _ none)))
+      ]
+
+-- whether an active ring waits inside a descriptor, by what the world has of it
+abbrev waits_so : (ℕ → ℕ) → RingHeld → Bool
+waits_so m x = (x.is_active && not (cycle (block_at m x.pointer) == x.cycle)) && is_inside_descriptor x.events
+
+-- no ring was in harm, and a step changed ring r alone: that one decides
+pub harms_of_changed : (h : Header) (w v : World) (r : ℕ) (x y : RingHarms) → HasRingHarms h w x → x.out_of_order ≡ false → x.other_words ≡ false → x.waits_inside ≡ false →
+    ChangesOnly r w v → IsSome (ring_with h r) → y.out_of_order ≡ is_out_of_order (shape_of h r) (v.events r) → y.other_words ≡ has_other_words (shape_of h r) (v.events r) →
+    y.waits_inside ≡ (waits v r && is_inside_descriptor (v.events r)) → HasRingHarms h v y
+unfolding some_ring waits
+harms_of_changed h w v r x y f no_order no_words no_wait only known order words waiting = record {
+  order = any_only (λ q. is_out_of_order (shape_of h q) (w.events q)) (λ q. is_out_of_order (shape_of h q) (v.events q)) r y.out_of_order
+      (λ q apart. ap (λ held. is_out_of_order (shape_of h q) held.events) (only.others q apart)) order h.rings (sym f.order ∙ no_order) known;
+  words = any_only (λ q. has_other_words (shape_of h q) (w.events q)) (λ q. has_other_words (shape_of h q) (v.events q)) r y.other_words
+      (λ q apart. ap (λ held. has_other_words (shape_of h q) held.events) (only.others q apart)) words h.rings (sym f.words ∙ no_words) known;
+  waiting = any_only (λ q. waits_so w.memory (ring_held w q)) (λ q. waits_so v.memory (ring_held v q)) r y.waits_inside
+      (λ q apart i. waits_so (only.memory i) (only.others q apart i)) waiting h.rings (sym f.waiting ∙ no_wait) known;
+}
+
+-- a step at ring r that leaves it active
+abbrev pub IsAt : ℕ → World → World → Type 0
+IsAt r w v = ChangesOnly r w v × (v.is_active r ≡ true)
+
+module _ (h : Header) (w : World) (r : ℕ) (active : w.is_active r ≡ true) where
+  waiting_at : IsAt r w (seen_by_look h w r)
+  unfolding seen_by_look
+  waiting_at = (record { memory = refl; others = λ q apart. refl }, active)
+
+  crossing_at : (b : Block) → IsAt r w (crossed h (seen_by_look h w r) r b)
+  unfolding seen_by_look crossed
+  crossing_at b = (record { memory = refl; others = λ q apart. crossed_other h (seen_by_look h w r) r b q apart }, active)
+
+  taking_on_at : (b : Block) → IsAt r w (taken_on h (seen_by_look h w r) r b)
+  unfolding seen_by_look taken_on
+  taking_on_at b = (record { memory = refl; others = λ q apart. taken_other h (seen_by_look h w r) r b q apart }, active)
+
+  begun_at : (u : World) (a : ℕ) (b : Block) → IsAt r w u → IsAt r w (command_begun h u a b)
+  unfolding command_begun
+  begun_at u a b f = (record { memory = f.0.memory; others = f.0.others }, f.1)
+
+  taking_at : (b : Block) → IsAt r w (taken h (seen_by_look h w r) r b)
+  taking_at b =
+      let P : World → Type 0 = IsAt r w in
+      let u = seen_by_look h w r in
+      elim (cases_Bool (r == command_id h)) [
+        | inl command ↦ subst P (sym (taken_command h u r b command)) (begun_at (taken_on h u r b) (u.pointer_of r) b (taking_on_at b))
+        | inr other ↦ subst P (sym (taken_transfer h u r b other)) (taking_on_at b)
+      ]
+
+  looked_at_is : (b : Block) (v : World) → looked_at h w r b ≡ Some v → IsAt r w v
+  looked_at_is b v e =
+      elim (cases_Bool (cycle b == w.cycle_state r)) [
+        | inr turned ↦ onward (seen_by_look h w r) (look_waits h w r b turned) waiting_at
+        | inl same ↦
+            elim (cases_Bool (is_link (kind b))) [
+              | inl link ↦ onward _ (crosses h w r b same link) (crossing_at b)
+              | inr block ↦
+                  elim (cases_Bool (r == command_id h && is_some w.under_way)) [
+                    | inl busy ↦ let none = refuses h w r b same block busy in absurd (cc)
+                    | inr free ↦ onward _ (takes h w r b same block free) (taking_at b)
+                  ]
+            ]
+      ]
+    where
+      onward : (u : World) → looked_at h w r b ≡ Some u → IsAt r w u → IsAt r w v
+      onward u made f =
+          let same : u ≡ v = cc in
+          subst (IsAt r w) same f
+
+pub looked_is : (h : Header) (w v : World) (r : ℕ) → looked h w r ≡ Some v → IsAt r w v
+looked_is h w v r e =
+    elim (cases_Bool (w.is_active r)) [
+      | inl active ↦ looked_at_is h w r active (block_at w.memory (w.pointer_of r)) v (sym (looked_active h w r (block_at w.memory (w.pointer_of r)) active refl) ∙ e)
+      | inr idle ↦ let none = looked_inactive h w r idle in absurd (cc)
+    ]
+
+-- a step that is possible was made, and counted
+counts : (h : Header) (P : World → Type 0) → ((u : World) → P u → P (counted h u)) → (stopped : Bool) (o : Option World) (v : World) → ((u : World) → o ≡ Some u → P u) →
+    option_map (counted h) (if stopped then None else o) ≡ Some v → P v
+counts h P more true o v each e = absurd (cc)
+counts h P more false None v each e = absurd (cc)
+counts h P more false (Some u) v each e =
+    let same : counted h u ≡ v = cc in
+    subst P same (more u (each u refl))
+
+counted_at : (h : Header) (r : ℕ) (w u : World) → IsAt r w u → IsAt r w (counted h u)
+unfolding counted
+counted_at h r w u f = (record { memory = f.0.memory; others = f.0.others }, f.1)
+
+pub look_is : (h : Header) (w v : World) (r : ℕ) → stepped h w (Look r) ≡ Some v → IsAt r w v
+unfolding stepped made while_running
+look_is h w v r e = counts h (IsAt r w) (counted_at h r w) w.stopped (looked h w r) v (λ u made. looked_is h w u r made) e
+
+low_bit : (x : ℕ) → bits x 0 1 ≡ x % 2
+low_bit x = omega arith
+
+-- a write that keeps a word's lowest bit keeps that of each word
+low_kept : (m : ℕ → ℕ) (a x n : ℕ) → m a % 2 ≡ x % 2 → bits (put m a x n) 0 1 ≡ bits (m n) 0 1
+low_kept m a x n e =
+    elim (cases_eq n a) [
+      | inl same ↦
+          ap (λ y. bits y 0 1) (cond-true (n == a) x (m n) (eq-eqb n a same)) ∙ low_bit x ∙ sym e ∙ sym (low_bit (m a)) ∙ ap (λ k. bits (m k) 0 1) (sym same)
+      | inr apart ↦ ap (λ y. bits y 0 1) (put_other m a n x apart)
+    ]
+
+-- and the harms of the rings
+pub stored_harms : (h : Header) (w v : World) (a n : ℕ) (x : RingHarms) → w.memory a % 2 ≡ n % 2 → row_done h w (Write a n) ≡ Some v → HasRingHarms h w x → HasRingHarms h v x
+unfolding row_done stored waits
+stored_harms h w v a n x low e f =
+    let same : stored w a n ≡ v = cc in
+    subst (λ (u : World). HasRingHarms h u x) same (record {
+      order = f.order;
+      words = f.words;
+      waiting = f.waiting ∙ (λ i. some_ring h (λ r. (w.is_active r && not (sym (low_kept w.memory a n (w.pointer_of r + 12) low) i == w.cycle_state r)) && is_inside_descriptor (w.events r)));
+    })
+
+pub declared_harms : (h : Header) (w v : World) (r : ℕ) (blocks : List Block) (x : RingHarms) → row_done h w (Sub r blocks) ≡ Some v → HasRingHarms h w x → HasRingHarms h v x
+unfolding row_done declared waits
+declared_harms h w v r blocks x e f =
+    let same : declared h w r blocks ≡ v = cc in
+    subst (λ (u : World). HasRingHarms h u x) same (record { order = f.order; words = f.words; waiting = f.waiting })
+
+pub read_harms : (h : Header) (w v : World) (b : Block) (x : RingHarms) → row_done h w (Read b) ≡ Some v → HasRingHarms h w x → HasRingHarms h v x
+unfolding row_done event_read waits
+read_harms h w v b x e f =
+    let was : Bool = nat_lt w.reads w.posted && same_words (event_at h w w.reads) b in
+    elim (cases_Bool was) [
+      | inl unread ↦
+          let same : record w { reads = w.reads + 1 } ≡ v = cc in
+          subst (λ (u : World). HasRingHarms h u x) same (record { order = f.order; words = f.words; waiting = f.waiting })
+      | inr none ↦ absurd (cc)
+    ]
+
+counted_harms : (h : Header) (u : World) (x : RingHarms) → HasRingHarms h u x → HasRingHarms h (counted h u) x
+unfolding counted waits
+counted_harms h u x f = record { order = f.order; words = f.words; waiting = f.waiting }
+
+-- a row that keeps the harms does so as a step
+pub row_harms : (h : Header) (w v : World) (rows : List Row) (n : ℕ) (row : Row) (x : RingHarms) → next_row h w w.rows ≡ row_done h (behind w rows n) row →
+    ((u : World) → row_done h (behind w rows n) row ≡ Some u → HasRingHarms h (behind w rows n) x → HasRingHarms h u x) → stepped h w NextRow ≡ Some v →
+    HasRingHarms h w x → HasRingHarms h v x
+unfolding stepped made waits
+row_harms h w v rows n row x this keeps e f =
+    counts h (λ u. HasRingHarms h u x) (λ u g. counted_harms h u x g) false (next_row h w w.rows) v
+    (λ u done. keeps u (sym this ∙ done) (record { order = f.order; words = f.words; waiting = f.waiting })) e
