@@ -32,7 +32,7 @@ at_none l n i [] e = refl
 at_none l n zero (x ∷ xs) e = cc
 at_none l n (suc i) (x ∷ xs) e = ap (λ ys. x ∷ ys) (at_none l n i xs e)
 
-later_end : (t : Lent) (n : ℕ) → lease_of (record t { to = n }) ≡ record (lease_of t) { to = n }
+pub later_end : (t : Lent) (n : ℕ) → lease_of (record t { to = n }) ≡ record (lease_of t) { to = n }
 unfolding lease_of as_lease
 later_end t n = by t.leased
   where
@@ -43,7 +43,7 @@ later_end t n = by t.leased
 
 module _ (F : ℕ → Leased → Type 0) (l : Leased) (row : ℕ) where
   -- none of these is the one that ends
-  none_ends : (n : ℕ) (ts : List Lent) → ((j : ℕ) → F j l → j < n) → AllUnended F n ts → map (ended_where (same_leased l) row) ts ≡ ts
+  pub none_ends : (n : ℕ) (ts : List Lent) → ((j : ℕ) → F j l → j < n) → AllUnended F n ts → map (ended_where (same_leased l) row) ts ≡ ts
   unfolding ended_where
   none_ends n [] before all = refl
   none_ends n (t ∷ ts) before all =

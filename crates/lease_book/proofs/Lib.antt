@@ -17,3 +17,16 @@ pub mod FirstBook
 pub mod TableAlone
 pub mod FreePlaces
 pub mod FreeLinks
+pub mod EndingRange
+pub mod RangePlaces
+pub mod FirstRanges
+pub mod OpenBlocks
+pub mod OpenLinks
+pub mod FreeRanges
+pub mod Narrowing
+pub mod Transferring
+pub mod LettingGo
+pub mod DevicesAfter
+pub mod Finishing
+pub mod GivingCommands
+pub mod OpenLent

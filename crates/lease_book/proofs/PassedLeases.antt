@@ -34,17 +34,17 @@ pub record Reaches (h : Header) (k k' : Known) (r to : ℕ) : Type 0 where
   pub within : (q : Ring) → IsIn q (driver_rings h) → q.id ≡ r → IsWithinLap q.shape (k.ring r)
   pub ranges : open_ranges h k' ≡ open_ranges h k
 
-not_false : (b : Bool) → not b ≡ true → b ≡ false
+pub not_false : (b : Bool) → not b ≡ true → b ≡ false
 not_false true e = absurd (false≢true e)
 not_false false e = refl
 
 -- it goes on, on this very ring
-record Moves (shape : Shape) (v w : RingView) (to : ℕ) : Type 0 where
-  given : w.given ≡ v.given
-  crossed : w.crossed ≡ v.crossed
-  floor : floor_number w ≡ to
-  rises : floor_number v ≤ to
-  within : IsWithinLap shape v
+pub record Moves (shape : Shape) (v w : RingView) (to : ℕ) : Type 0 where
+  pub given : w.given ≡ v.given
+  pub crossed : w.crossed ≡ v.crossed
+  pub floor : floor_number w ≡ to
+  pub rises : floor_number v ≤ to
+  pub within : IsWithinLap shape v
 
 last_fails : (a b c : Bool) → c ≡ false → (a && b && c) ≡ false
 last_fails true true c e = e
@@ -61,7 +61,7 @@ not_passed true from p to is low e = grind (arith, nat_tests, low, e)
 not_passed false from p to is low e = absurd (false≢true is)
 
 module _ (q : Ring) (v w : RingView) (to : ℕ) (m : Moves q.shape v w to) where
-  block_was : (p : ℕ) → floor_number w ≤ p → w.given p ≡ true → (floor_number v ≤ p) × (p < floor_number v + place_count q.shape) × (v.given p ≡ true) × (to ≤ p)
+  pub block_was : (p : ℕ) → floor_number w ≤ p → w.given p ≡ true → (floor_number v ≤ p) × (p < floor_number v + place_count q.shape) × (v.given p ≡ true) × (to ≤ p)
   block_was p low given =
       let from : to ≤ p = omega (arith, m.floor, low) in
       let rises : floor_number v ≤ to = m.rises in
@@ -73,7 +73,7 @@ module _ (q : Ring) (v w : RingView) (to : ℕ) (m : Moves q.shape v w to) where
             absurd (false≢true (sym (m.within.given p beyond) ∙ there))
       ]
 
-  link_was : (c : ℕ) → floor_number w ≤ c → (is_crossing q.shape c && w.crossed c) ≡ true →
+  pub link_was : (c : ℕ) → floor_number w ≤ c → (is_crossing q.shape c && w.crossed c) ≡ true →
       (floor_number v ≤ c) × (c < floor_number v + (place_count q.shape + 1)) × ((is_crossing q.shape c && v.crossed c) ≡ true) × (to ≤ c)
   link_was c low crossed =
       let from : to ≤ c = omega (arith, m.floor, low) in

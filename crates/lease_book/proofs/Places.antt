@@ -26,7 +26,7 @@ pub record IsPut (old new : IndexTables) (r n i : ℕ) : Type 0 where
   pub ring : (m : ℕ) → m ≢ n → index_at new r m ≡ index_at old r m
   pub others : (s m : ℕ) → s ≢ r → index_at new s m ≡ index_at old s m
 
-not_true : (b : Bool) → not b ≡ true → b ≡ false
+pub not_true : (b : Bool) → not b ≡ true → b ≡ false
 not_true true h = absurd (false≢true h)
 not_true false h = refl
 

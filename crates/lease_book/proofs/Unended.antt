@@ -7,7 +7,7 @@ use Rattle.ownership_rules.specs.OpenLeases.{Leased}
 use Rattle.lease_book.specs.Lents.{Lent, is_unended, begun_at, ended_where, with_begun}
 use Rattle.lease_book.specs.Books.{AllUnended}
 
-both_false : (x y : Bool) → (x || y) ≡ false → (x ≡ false) × (y ≡ false)
+pub both_false : (x y : Bool) → (x || y) ≡ false → (x ≡ false) × (y ≡ false)
 both_false true y h = absurd (false≢true (sym h))
 both_false false y h = (refl, h)
 

@@ -36,7 +36,7 @@ filter_map_is {X} {Y} p f (x ∷ xs) = by (p (f x)) (filter_map_is p f xs)
     by true e = ap (λ ys. f x ∷ ys) e
     by false e = e
 
-filter_flat_map : {X Y : Type 0} (p : Y → Bool) (f : X → List Y) (xs : List X) → filter p (flat_map f xs) ≡ flat_map (λ x. filter p (f x)) xs
+pub filter_flat_map : {X Y : Type 0} (p : Y → Bool) (f : X → List Y) (xs : List X) → filter p (flat_map f xs) ≡ flat_map (λ x. filter p (f x)) xs
 filter_flat_map p f [] = refl
 filter_flat_map p f (x ∷ xs) = filter-append p (f x) (flat_map f xs) ∙ ap (λ ys. filter p (f x) ++ ys) (filter_flat_map p f xs)
 
@@ -183,6 +183,19 @@ module _ (h : Header) (shaped : AreShaped h) (k : Known) (a w : ℕ) where
         subst (λ (v : RingView). InOn q v (Link q.id c)) (sym view_after)
         (link c low high (and_from (is_crossing q.shape c) _ parts.0 (or_left ((k.ring q.id).crossed c) (gives_crossing q.shape (k.ring q.id).floor c a w) parts.1)))
 
+  -- on all rings
+  pub new_on_rings : filter IsNew (flat_map (open_on h after) (driver_rings h)) ≡ map lease_given (rings.given_by h k a w)
+  unfolding rings.given_by
+  new_on_rings =
+      filter_flat_map IsNew (open_on h after) (driver_rings h)
+      ∙ flat_alike (λ q. filter IsNew (open_on h after q)) (λ q. map lease_given (rings.given_of h k a w q.id)) (driver_rings h) new_on
+      ∙ sym (map_flat_map lease_given (λ q. rings.given_of h k a w q.id) (driver_rings h))
+
+  pub kept_on_rings : (l : Leased) → IsIn l (flat_map (open_on h k) (driver_rings h)) → IsIn l (flat_map (open_on h after) (driver_rings h))
+  kept_on_rings l on =
+      let found = from_flat_map (open_on h k) (driver_rings h) l on in
+      in_flat_map (open_on h after) (driver_rings h) found.0 l found.1 (on_in h after found.0 l (kept_on found.0 found.1 l (in_on h k found.0 l found.2)))
+
   module _ (ranges : open_ranges h after ≡ open_ranges h k) where
     no_new_range : filter IsNew (open_ranges h after) ≡ []
     unfolding open_leases
@@ -190,23 +203,18 @@ module _ (h : Header) (shaped : AreShaped h) (k : Known) (a w : ℕ) where
         ap (filter IsNew) ranges ∙ none_new (open_leases h k) (open_ranges h k) (λ l at. in_among _ l (in_right l (flat_map (open_on h k) (driver_rings h)) (open_ranges h k) at))
 
     pub new_leases : filter IsNew (open_leases h after) ≡ map lease_given (rings.given_by h k a w)
-    unfolding open_leases rings.given_by
+    unfolding open_leases
     new_leases =
         filter-append IsNew (flat_map (open_on h after) (driver_rings h)) (open_ranges h after)
         ∙ ap (λ ys. filter IsNew (flat_map (open_on h after) (driver_rings h)) ++ ys) no_new_range
         ∙ append-nil _
-        ∙ filter_flat_map IsNew (open_on h after) (driver_rings h)
-        ∙ flat_alike (λ q. filter IsNew (open_on h after q)) (λ q. map lease_given (rings.given_of h k a w q.id)) (driver_rings h) new_on
-        ∙ sym (map_flat_map lease_given (λ q. rings.given_of h k a w q.id) (driver_rings h))
+        ∙ new_on_rings
 
     pub all_kept : (l : Leased) → is_among (open_leases h k) l ≡ true → is_among (open_leases h after) l ≡ true
     unfolding open_leases
     all_kept l e =
         in_among _ l
         (elim (in_either l (flat_map (open_on h k) (driver_rings h)) (open_ranges h k) (among_is _ l e)) [
-          | inl on ↦
-              let found = from_flat_map (open_on h k) (driver_rings h) l on in
-              in_left l (flat_map (open_on h after) (driver_rings h)) (open_ranges h after)
-              (in_flat_map (open_on h after) (driver_rings h) found.0 l found.1 (on_in h after found.0 l (kept_on found.0 found.1 l (in_on h k found.0 l found.2))))
+          | inl on ↦ in_left l (flat_map (open_on h after) (driver_rings h)) (open_ranges h after) (kept_on_rings l on)
           | inr range ↦ in_right l (flat_map (open_on h after) (driver_rings h)) (open_ranges h after) (subst (IsIn l) (sym ranges) range)
         ])

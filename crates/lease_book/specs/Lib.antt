@@ -3,3 +3,7 @@ pub mod IndexTables
 pub mod Books
 pub mod Endings
 pub mod Opening
+pub mod Ranges
+pub mod OpenBlocks
+pub mod Coming
+pub mod LettingGo

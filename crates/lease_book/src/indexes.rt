@@ -11,15 +11,22 @@ pub struct Indexes {
 impl Indexes {
     ghost use Rattle.lease_book.specs.IndexTables.{index_in};
 
+    /// No index is put.
+    pub fn new(alloc: Global) -> Indexes {
+        Indexes {
+            indexes: Vec::new(alloc),
+        }
+    }
+
     /// The index of a number; 0 where none was put.
-    fn get(&self, number: u32) -> usize
+    pub fn get(&self, number: u32) -> usize
         ensures { result ≡ index_in self.now number }
     {
         self.indexes.get(number as usize).copied().unwrap_or(0)
     }
 
     /// Puts the index of a number. Want of memory changes none.
-    fn put(&mut self, number: u32, index: usize) -> Result<(), AllocError>
+    pub fn put(&mut self, number: u32, index: usize) -> Result<(), AllocError>
         ensures same { OnOk result (index_in self.new number ≡ index) }
         ensures others { OnOk result ((m : ℕ) → m ≢ number → index_in self.new m ≡ index_in self.old m) }
         ensures err { OnErr result ((m : ℕ) → index_in self.new m ≡ index_in self.old m) }
@@ -47,9 +54,7 @@ impl IndexTables {
     pub fn new(alloc: Global) -> Result<IndexTables, AllocError> {
         let mut rings = Vec::new(alloc);
         for _ in 0..256u32 {
-            rings.push(Indexes {
-                indexes: Vec::new(alloc),
-            })?;
+            rings.push(Indexes::new(alloc))?;
         }
         Ok(IndexTables { rings })
     }

@@ -4,5 +4,9 @@
 mod indexes;
 mod lease_book;
 mod opening;
+mod ranges;
+#[cfg(test)]
+mod tests;
 
 pub use lease_book::LeaseBook;
+pub use ranges::RangeIndexes;

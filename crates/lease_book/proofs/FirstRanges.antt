@@ -1,0 +1,41 @@
+-- Before the first row no range that ends is under lease
+use Rattle.std.specs.Prelude.{ℕ, ◌*◌, [], map}
+use Rattle.std.proofs.Common.{sym, subst}
+use Rattle.segments.specs.declared.segment.Segment.{Segment}
+use Rattle.traces.specs.declared.header.Header.{Header}
+use Rattle.traces.specs.Header.{event_shape}
+use Rattle.ring_knowledge.specs.Known.{nothing}
+use Rattle.ownership_rules.specs.OpenLeases.{Leased, Block, Link, Range, EventSegment, SegmentTable, InputContext, SlotEntry, DeviceContext, open_leases, segment_ranges}
+use Rattle.ownership_rules.proofs.Among.{IsIn}
+use Rattle.lease_book.specs.declared.ranges.RangeIndexes.{RangeIndexes}
+use Rattle.lease_book.specs.Lents.{begun_at, in_turn, lents, with_begun}
+use Rattle.lease_book.specs.Ranges.{FindsRanges, IsRangeFound}
+use Rattle.lease_book.proofs.FirstBook.{open_at_first}
+use Rattle.lease_book.proofs.Rows.{all_new, from_turn}
+use Rattle.lease_book.proofs.Members.{from_map}
+use Rattle.lease_book.proofs.Unended.{all_anew}
+
+abbrev pub IsSegment : Leased → Type 0
+IsSegment (Range n a EventSegment) = Unit {0}
+IsSegment _ = ⊥
+
+segments_are : (h : Header) (l : Leased) → IsIn l (segment_ranges h) → IsSegment l
+unfolding segment_ranges
+segments_are h l at =
+    let found = from_map (λ (s : Segment). Range (16 * s.count) s.base EventSegment) (event_shape h).segments l at in
+    subst IsSegment (sym found.2) tt
+
+pub first_ranges : (h : Header) (first : ℕ) (x : RangeIndexes) → FindsRanges h (lents h first []) x
+unfolding lents with_begun
+first_ranges h first x =
+    all_anew (λ i l. IsSegment l) (IsRangeFound h x) 0 (map (begun_at 0) (in_turn (open_leases h nothing))) found
+    (all_new IsSegment 0 0 (in_turn (open_leases h nothing)) (λ l at. segments_are h l (subst (IsIn l) (open_at_first h) (from_turn (open_leases h nothing) l at))))
+  where
+    found : (i : ℕ) (l : Leased) → IsSegment l → IsRangeFound h x i l
+    found i (Block r p) is = absurd is
+    found i (Link r q) is = absurd is
+    found i (Range n a EventSegment) is = tt
+    found i (Range n a SegmentTable) is = tt
+    found i (Range n a (InputContext p)) is = absurd is
+    found i (Range n a (SlotEntry s)) is = absurd is
+    found i (Range n a (DeviceContext s)) is = absurd is

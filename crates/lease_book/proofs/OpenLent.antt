@@ -1,0 +1,95 @@
+-- What is open is lent and not over
+use Rattle.std.specs.Prelude.{◌≡◌, ℕ, ◌+◌, ◌==◌, ◌&&◌, ◌||◌, Bool, true, false, not, List, [], ◌∷◌, ◌++◌, length, map, filter}
+use Rattle.std.specs.List.{list_any}
+use Rattle.std.proofs.Common.{sym, ◌∙◌, ap, refl, inl, inr, cond}
+use Rattle.std.proofs.lemmas.Bool.{cases_Bool, and_parts, and_from, false≢true, eq-eqb}
+use Rattle.traces.specs.declared.header.Header.{Header}
+use Rattle.traces.specs.declared.row.Row.{Row}
+use Rattle.ring_knowledge.specs.Known.{Known, nothing}
+use Rattle.ring_knowledge.specs.Learned.{learned, known}
+use Rattle.ownership_rules.specs.OpenLeases.{Leased, is_among, open_leases, same_leased}
+use Rattle.ownership_rules.specs.Leases.{begun, without_end}
+use Rattle.ownership_rules.proofs.Among.{IsIn, among_is, in_filter, leased_is, leased_itself}
+use Rattle.lease_book.specs.Lents.{Lent, begun_at, ended_where, grown, in_turn, is_unended, lents, precedes, with_begun, with_leased}
+use Rattle.lease_book.specs.Ranges.{is_lent}
+
+to_with : (l : Leased) (ls : List Leased) (m : Leased) → IsIn m (l ∷ ls) → IsIn m (with_leased l ls)
+unfolding with_leased
+to_with l [] m at = at
+to_with l (x ∷ rest) m at = by (precedes l x) at (to_with l rest m)
+  where
+    by : (b : Bool) → IsIn m (l ∷ x ∷ rest) → (IsIn m (l ∷ rest) → IsIn m (with_leased l rest)) → IsIn m (cond b (l ∷ x ∷ rest) (x ∷ with_leased l rest))
+    by true here f = here
+    by false here f = elim here [
+      | inl first ↦ inr (f (inl first))
+      | inr later ↦ elim later [ inl this ↦ inl this | inr after ↦ inr (f (inr after)) ]
+    ]
+
+to_turn : (ls : List Leased) (m : Leased) → IsIn m ls → IsIn m (in_turn ls)
+unfolding in_turn
+to_turn [] m at = at
+to_turn (l ∷ rest) m at = to_with l (in_turn rest) m (elim at [ inl here ↦ inl here | inr later ↦ inr (to_turn rest m later) ])
+
+or_first : (x y : Bool) → x ≡ true → (x || y) ≡ true
+or_first true y e = refl
+or_first false y e = absurd (false≢true e)
+
+or_second : (x y : Bool) → y ≡ true → (x || y) ≡ true
+or_second true y e = refl
+or_second false y e = e
+
+lent_left : (ts us : List Lent) (l : Leased) → is_lent ts l ≡ true → is_lent (ts ++ us) l ≡ true
+unfolding is_lent
+lent_left [] us l e = absurd (false≢true e)
+lent_left (t ∷ ts) us l e = by (is_unended t && same_leased l t.leased) e (lent_left ts us l)
+  where
+    by : (b : Bool) → (b || list_any (λ t. is_unended t && same_leased l t.leased) ts) ≡ true →
+        (list_any (λ t. is_unended t && same_leased l t.leased) ts ≡ true → list_any (λ t. is_unended t && same_leased l t.leased) (ts ++ us) ≡ true) →
+        (b || list_any (λ t. is_unended t && same_leased l t.leased) (ts ++ us)) ≡ true
+    by true f g = refl
+    by false f g = g f
+
+lent_right : (ts us : List Lent) (l : Leased) → is_lent us l ≡ true → is_lent (ts ++ us) l ≡ true
+unfolding is_lent
+lent_right [] us l e = e
+lent_right (t ∷ ts) us l e = or_second (is_unended t && same_leased l t.leased) _ (lent_right ts us l e)
+
+lent_begun : (n : ℕ) (ls : List Leased) (l : Leased) → IsIn l ls → is_lent (map (begun_at n) ls) l ≡ true
+unfolding is_lent begun_at is_unended
+lent_begun n [] l at = absurd at
+lent_begun n (m ∷ ls) l at = elim at [
+  | inl here ↦ or_first _ _ (and_from (without_end == without_end) (same_leased l m) (eq-eqb without_end without_end refl) (ap (same_leased l) (sym here) ∙ leased_itself l))
+  | inr later ↦ or_second ((without_end == without_end) && same_leased l m) _ (lent_begun n ls l later)
+]
+
+-- what doesn't end is still lent
+pub still_lent : (over : Leased → Bool) (n : ℕ) (ts : List Lent) (l : Leased) → over l ≡ false → is_lent ts l ≡ true → is_lent (map (ended_where over n) ts) l ≡ true
+unfolding is_lent ended_where
+still_lent over n [] l stays e = absurd (false≢true e)
+still_lent over n (t ∷ ts) l stays e = elim (cases_Bool (is_unended t && same_leased l t.leased)) [
+  | inl this ↦
+      let parts = and_parts (is_unended t) (same_leased l t.leased) this in
+      let none : (is_unended t && over t.leased) ≡ false = ap (λ b. b && over t.leased) parts.0 ∙ ap over (sym (leased_is l t.leased parts.1)) ∙ stays in
+      rw none (or_first (is_unended t && same_leased l t.leased) (list_any (λ t. is_unended t && same_leased l t.leased) (map (ended_where over n) ts)) this)
+  | inr other ↦
+      let rest : list_any (λ t. is_unended t && same_leased l t.leased) ts ≡ true = sym (ap (λ b. b || list_any (λ t. is_unended t && same_leased l t.leased) ts) other) ∙ e in
+      or_second _ _ (still_lent over n ts l stays rest)
+]
+
+module _ (h : Header) where
+  grown_lent : (k : Known) (row : Row) (n : ℕ) (ts : List Lent) (l : Leased) → is_among (open_leases h (learned h k row)) l ≡ true → (is_among (open_leases h k) l ≡ true → is_lent ts l ≡ true) → is_lent (grown h k row n ts) l ≡ true
+  unfolding grown with_begun begun
+  grown_lent k row n ts l after before =
+      let gone : Leased → Bool = λ m. not (is_among (open_leases h (learned h k row)) m) in
+      let new : List Leased = filter (λ m. not (is_among (open_leases h k) m)) (open_leases h (learned h k row)) in
+      elim (cases_Bool (is_among (open_leases h k) l)) [
+        | inl was ↦ lent_left (map (ended_where gone n) ts) (map (begun_at n) (in_turn new)) l (still_lent gone n ts l (ap not after) (before was))
+        | inr fresh ↦
+            lent_right (map (ended_where gone n) ts) (map (begun_at n) (in_turn new)) l
+            (lent_begun n (in_turn new) l (to_turn new l (in_filter (λ m. not (is_among (open_leases h k) m)) (open_leases h (learned h k row)) l (among_is (open_leases h (learned h k row)) l after) (ap not fresh))))
+      ]
+
+  pub open_lent : (first : ℕ) (past : List Row) (l : Leased) → is_among (open_leases h (known h past)) l ≡ true → is_lent (lents h first past) l ≡ true
+  unfolding lents known with_begun
+  open_lent first [] l is_open = lent_begun 0 (in_turn (open_leases h nothing)) l (to_turn (open_leases h nothing) l (among_is (open_leases h nothing) l is_open))
+  open_lent first (row ∷ past) l is_open = grown_lent (known h past) row (first + length past) (lents h first past) l is_open (open_lent first past l)

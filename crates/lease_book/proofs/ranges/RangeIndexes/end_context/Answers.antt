@@ -1,0 +1,14 @@
+use Rattle.std.proofs.Common.{◌≡◌, ◌%◌, sym, ap, ◌∙◌}
+use Rattle.segments.specs.Places.{place_count}
+use Rattle.ownership_rules.specs.OpenLeases.{InputContext}
+use Rattle.lease_book.specs.IndexTables.{index_in}
+use Rattle.lease_book.specs.Ranges.{command_place}
+use Rattle.lease_book.proofs.RangePlaces.{stands}
+use Rattle.lease_book.proofs.ranges.RangeIndexes.end_context.Goals as goal
+
+pub returns : goal.returns
+returns c = λ h ts shape held found lent.
+    let place : c.place_on.result ≡ command_place h c.args.position = c.place_on.ensures ∙ ap (λ s. c.args.position % place_count s) (sym shape) in
+    c.end_range.ensures h ts (InputContext c.args.position) held
+    (stands h c.args.self.now ts c.args.bytes c.args.address c.get-index.result (InputContext c.args.position)
+    (λ i at. sym at ∙ ap (index_in c.args.self.now.contexts) (sym place) ∙ sym c.get-index.ensures) found) lent
