@@ -1,11 +1,10 @@
 -- A doorbell is rung
-use Rattle.std.proofs.Common.{◌≡◌, ℕ, ◌==◌, ◌≤◌, ◌&&◌, if◌then◌else◌, ◌∙◌, Bool, true, false, Option, Some, None, ap, sym, subst, refl}
+use Rattle.std.proofs.Common.{◌≡◌, ℕ, ◌==◌, ◌≤◌, ◌&&◌, if◌then◌else◌, ◌∙◌, Bool, true, false, Option, Some, None, ap, sym, subst}
 use Rattle.std.specs.Prelude.{nat_lt, is_some, slice_index_or, ◌+◌, ◌*◌}
 use Rattle.std.proofs.lemmas.Bool.{cond-true, cond-false, eq-eqb, ne_eqb, le-ltb}
 use Rattle.guest_memory.specs.Memory.{put_pair}
 use Rattle.segments.specs.RingView.{Opens}
 use Rattle.commands.specs.States.{is_stopped}
-use Rattle.commands.specs.declared.state.EndpointState.{EndpointState}
 use Rattle.commands.specs.declared.state.EndpointState.TheVariants.{Running}
 use Rattle.traces.specs.declared.header.Header.{Header}
 use Rattle.traces.specs.Header.{command_id}

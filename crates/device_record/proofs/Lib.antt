@@ -8,4 +8,15 @@ pub mod Placing
 pub mod TurnedOff
 pub mod OtherRows
 pub mod NamedCommands
+pub mod Addressing
 pub mod NamedEndpoints
+pub mod Inserted
+pub mod UnfinishedWritten
+pub mod UnfinishedSame
+pub mod UnfinishedFinished
+pub mod RingApart
+pub mod TransfersApart
+pub mod UnfinishedEvents
+pub mod UnfinishedRows
+pub mod TouchedEndpoints
+pub mod HeaderShapes

@@ -1,5 +1,5 @@
 -- An endpoint gets a ring, or keeps its own
-use Rattle.std.proofs.Common.{◌≡◌, ◌≢◌, ℕ, ◌<◌, ◌==◌, if◌then◌else◌, ◌∙◌, Bool, true, false, List, Option, Some, None, ap, sym, subst, refl, length, set, inl, inr, get_or-set_same, get_or-set_other, arith}
+use Rattle.std.proofs.Common.{◌≡◌, ℕ, ◌<◌, ◌==◌, if◌then◌else◌, ◌∙◌, Bool, true, false, List, Option, Some, None, ap, sym, subst, refl, length, inl, inr, get_or-set_same, get_or-set_other, arith}
 use Rattle.std.specs.Prelude.{slice_index_or, slice_set}
 use Rattle.std.proofs.lemmas.Bool.{cases_eq, cond-true, cond-false, eq-eqb, ne_eqb}
 use Rattle.guest_memory.specs.Memory.{put, put_pair}
@@ -14,7 +14,7 @@ use Rattle.ring_knowledge.specs.Completions.{bound_to, in_state, moved, pointed,
 use Rattle.device_record.specs.declared.kept.Endpoint.{Endpoint}
 use Rattle.device_record.specs.declared.kept.DeviceRecord.{DeviceRecord}
 use Rattle.device_record.specs.Endpoints.{placed_endpoint, ring_got}
-use Rattle.device_record.specs.Devices.{FollowsDevices, IsWithBound, IsWithEndpoint, endpoint_at, with_bound}
+use Rattle.device_record.specs.Devices.{FollowsDevices, IsWithBound, IsWithEndpoint, endpoint_at}
 use Rattle.device_record.proofs.Moves.{follows_moved}
 use Rattle.device_record.proofs.Steps.{endpoints_same, states_same, devices_same, follows_beside, follows_halt, follows_placed}
 

@@ -1,3 +1,4 @@
 pub mod Endpoints
 pub mod Devices
 pub mod Unfinished
+pub mod Addressing

@@ -101,3 +101,20 @@ fn a_slot_is_busy_until_its_command_is_finished(rt: HostRuntime) -> Result<(), F
     assert_eq!(rt; unfinished.of_slot(2), None);
     Ok(())
 }
+
+#[test]
+fn an_address_device_is_unfinished_until_it_is_finished(rt: HostRuntime) -> Result<(), Fail> {
+    let mut unfinished = UnfinishedCommands::new(rt.alloc())?;
+    unfinished.give(Command::DisableSlot { slot: 2 });
+    assert!(rt; !unfinished.has_address_device());
+    let address = Command::AddressDevice {
+        slot: 3,
+        block_set_address: true,
+        input_context: 0x50000,
+    };
+    unfinished.give(address);
+    assert!(rt; unfinished.has_address_device());
+    unfinished.finish(&address);
+    assert!(rt; !unfinished.has_address_device());
+    Ok(())
+}

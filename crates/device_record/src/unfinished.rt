@@ -1,7 +1,8 @@
-ghost use Rattle.std.specs.Prelude.{◌≡◌, ℕ, ◌<◌, ◌++◌, if◌then◌else◌, Bool, false, List, [], ◌∷◌, Option, None, IfOk, is_some, length, replicate};
-ghost use Rattle.std.specs.List.{list_any};
+ghost use Rattle.std.specs.Prelude.{◌≡◌, ℕ, ◌<◌, ◌==◌, ◌++◌, if◌then◌else◌, Bool, true, false, List, [], ◌∷◌, Option, Some, None, IfOk, IfSome, is_some, length, replicate};
+ghost use Rattle.std.specs.List.{list_any, sum_by};
 ghost use Rattle.commands.specs.declared.command.Command.{Command as CommandValue};
 ghost use Rattle.commands.specs.Command.{name_one_slot, named_slot};
+ghost use Rattle.device_record.specs.Addressing.{addressing_count, is_address_device, is_addressing};
 
 use commands::Command;
 use std::alloc::{AllocError, Global};
@@ -18,11 +19,14 @@ pub struct SlotCommand {
 pub struct UnfinishedCommands {
     /// By slot.
     by_slot: Vec<SlotCommand>,
+    /// How many of them are an Address Device.
+    addressing: usize,
     ghost slots_many: { length by_slot.items ≡ 256 },
+    ghost addressing_all: { addressing ≡ sum_by addressing_count by_slot.items },
 }
 
 impl UnfinishedCommands {
-    ghost use Rattle.device_record.specs.Unfinished.{FollowsUnfinished, IsOfSlot, as_list, is_slot, kept_of};
+    ghost use Rattle.device_record.specs.Unfinished.{FollowsUnfinished, IsOfSlot, as_list, is_slot, kept_of, names};
 
     /// The record before any command is given. `AllocError` where memory is wanting.
     pub fn new(alloc: Global) -> Result<UnfinishedCommands, AllocError>
@@ -30,15 +34,24 @@ impl UnfinishedCommands {
     {
         Ok(UnfinishedCommands {
             by_slot: no_commands(alloc)?,
+            addressing: 0,
         })
     }
 
     /// The unfinished command that names a slot. What holds of commands alone that name the slot holds of some unfinished command
     /// exactly if it holds of this one.
     pub fn of_slot(&self, slot: u8) -> Option<Command>
-        ensures { (all : List CommandValue) (p : CommandValue → Bool) → FollowsUnfinished all self.now → IsOfSlot slot p → list_any p (as_list result) ≡ list_any p all }
+        ensures one { (all : List CommandValue) (p : CommandValue → Bool) → FollowsUnfinished all self.now → IsOfSlot slot p → list_any p (as_list result) ≡ list_any p all }
+        ensures named { IfSome result (λ c. (all : List CommandValue) → FollowsUnfinished all self.now → names slot c ≡ true) }
     {
         self.kept(slot)
+    }
+
+    /// Whether an Address Device is among the unfinished commands.
+    pub fn has_address_device(&self) -> bool
+        ensures { (all : List CommandValue) → FollowsUnfinished all self.now → result ≡ list_any is_address_device all }
+    {
+        self.addressing > 0
     }
 
     /// Whether the slot that a command names has an unfinished command.
@@ -73,8 +86,18 @@ impl UnfinishedCommands {
     {
         match slot {
             None => {}
-            Some(slot) => self.by_slot[usize::from(slot)] = SlotCommand { command },
+            Some(slot) => self.keep_of(slot, command),
         }
+    }
+
+    /// Keeps this of a slot.
+    fn keep_of(&mut self, slot: u8, command: Option<Command>)
+        ensures { (s : ℕ) → kept_of self.new s ≡ (if s == slot then command else kept_of self.old s) }
+    {
+        let before = addressing_count(self.by_slot[usize::from(slot)]);
+        let kept = SlotCommand { command };
+        self.addressing = self.addressing - before + addressing_count(kept);
+        self.by_slot[usize::from(slot)] = kept;
     }
 
     fn kept(&self, slot: u8) -> Option<Command>
@@ -87,6 +110,16 @@ impl UnfinishedCommands {
         ensures { result ≡ is_some (kept_of self.now slot) }
     {
         self.by_slot[usize::from(slot)].command.is_some()
+    }
+}
+
+/// One for an Address Device, else none.
+fn addressing_count(kept: SlotCommand) -> usize
+    ensures { result ≡ addressing_count kept }
+{
+    match kept.command {
+        Some(Command::AddressDevice { .. }) => 1,
+        _ => 0,
     }
 }
 
