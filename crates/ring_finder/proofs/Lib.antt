@@ -1,0 +1,7 @@
+pub mod ListTests
+pub mod RingsApart
+pub mod HeaderRings
+pub mod Numbers
+pub mod Starts
+pub mod FoundRings
+pub mod Beginnings

@@ -1,0 +1,19 @@
+use Rattle.std.proofs.Common.{List, length, subst, ap, ◌∙◌, rules}
+use Rattle.std.specs.List.Sorted.{IsPermutation}
+use Rattle.std.proofs.lemmas.List.Sorted.{IsNonDecreasingBy-from_sort_by_key}
+use Rattle.std.specs.Prelude.{position}
+use Rattle.traces.specs.Header.{is_command_kind}
+use Rattle.traces.specs.declared.ring.Ring.{Ring}
+use Rattle.ring_finder.specs.declared.finder.Start.{Start}
+use Rattle.ring_finder.specs.Finding.{AreNumbers, starts_from}
+use Rattle.ring_finder.proofs.finder.Finder.new.Goals as goal
+
+pub returns : goal.returns
+returns c =
+    let starts = c.in_ok-starts.ensures ∙ ap (λ xs. starts_from 0 xs) c.as_slice-rings.ensures in
+    record {
+      numbers = subst (λ (xs : List Ring). AreNumbers xs (length xs) c.in_ok-numbers.numbers.items) c.as_slice-rings.ensures c.in_ok-numbers.ensures;
+      starts = subst (λ (xs : List Start). IsPermutation xs c.sort_unstable_by_key.new.self.items) starts c.sort_unstable_by_key.ensures.permutation;
+      sorted = IsNonDecreasingBy-from_sort_by_key (λ s. s.address) _ c.sort_unstable_by_key.ensures.sorted (λ a r q k. search rules);
+      commands = c.command_number-commands.ensures ∙ ap (λ (xs : List Ring). position (λ r. is_command_kind r.shape.kind) xs) c.as_slice-rings.ensures;
+    }

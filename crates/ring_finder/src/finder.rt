@@ -1,0 +1,150 @@
+ghost use Rattle.std.specs.Prelude.{◌≡◌, ◌==◌, ◌<◌, ◌%◌, ◌++◌, ℕ, List, length, map, position, true, IfOk, IfSome, OnOk};
+ghost use Rattle.segments.specs.Places.{touches};
+ghost use Rattle.traces.specs.Header.{IsHeader, is_command_kind, may_stand_together, ring_beginning_at};
+ghost use Rattle.traces.specs.declared.ring.Ring.{Ring};
+ghost use Rattle.ring_finder.specs.Finding.{AreNumbers, IsFinder, IsRingBefore, start_of, starts_from};
+
+use crate::kinds::{begins_at, is_command_ring};
+use std::alloc::{AllocError, Global};
+use traces::{Header, Ring};
+
+/// The first address of a segment, and the number of its ring in the header.
+#[derive(Clone, Copy)]
+pub struct Start {
+    pub address: u64,
+    pub ring: usize,
+}
+
+/// Finds rings of a header by ID and by address, in a time that hardly grows with their number.
+#[derive(Drop)]
+pub struct Finder {
+    /// By ID: the number of the ring that has it.
+    pub numbers: Vec<Option<usize>>,
+    /// The segments of all rings, by rising address.
+    pub starts: Vec<Start>,
+    /// The number of the command ring, where there is one.
+    pub commands: Option<usize>,
+}
+
+impl Finder {
+    /// A finder of these rings.
+    pub fn new(alloc: Global, header: &Header) -> Result<Finder, AllocError>
+        requires { IsHeader header.now }
+        ensures { IfOk result (IsFinder header.now.rings) }
+    {
+        let rings = header.rings.as_slice();
+        let numbers = ring_numbers(alloc, rings)?;
+        let mut starts = all_starts(alloc, rings)?;
+        starts.sort_unstable_by_key(|start| start.address);
+        let commands = command_number(rings);
+        Ok(Finder {
+            numbers,
+            starts,
+            commands,
+        })
+    }
+
+    /// The number of the ring with this ID.
+    pub fn ring_named(&self, id: u8) -> Option<usize>
+        ensures { (rings : List Ring) → IsFinder rings self.now → result ≡ position (λ ring. ring.id == id) rings }
+    {
+        self.numbers.get(usize::from(id)).copied().flatten()
+    }
+
+    /// The number of the ring that has the word at this address.
+    pub fn ring_at(&self, header: &Header, address: u64) -> Option<usize>
+        requires headed { IsHeader header.now }
+        requires found { IsFinder header.now.rings self.now }
+        requires aligned { address % 4 ≡ 0 }
+        ensures { result ≡ position (λ ring. touches ring.shape address 4) header.now.rings }
+    {
+        let Some(number) = self.ring_before(header, address) else {
+            return None;
+        };
+        let rings = header.rings.as_slice();
+        if rings[number].shape.overlaps(address, 4) {
+            Some(number)
+        } else {
+            None
+        }
+    }
+
+    /// The ID of the transfer ring whose first block lies at this address.
+    pub fn ring_beginning_at(&self, header: &Header, address: u64) -> Option<u8>
+        requires headed { IsHeader header.now }
+        requires found { IsFinder header.now.rings self.now }
+        ensures { result ≡ ring_beginning_at header.now address }
+    {
+        if address % 4 != 0 {
+            return None;
+        }
+        let Some(number) = self.ring_at(header, address) else {
+            return None;
+        };
+        let rings = header.rings.as_slice();
+        let ring = &rings[number];
+        if begins_at(ring, address) {
+            Some(ring.id)
+        } else {
+            None
+        }
+    }
+
+    /// The number of the ring whose segment is the last one that starts at or before this address.
+    fn ring_before(&self, header: &Header, address: u64) -> Option<usize>
+        requires headed { IsHeader header.now }
+        requires found { IsFinder header.now.rings self.now }
+        ensures below { IfSome result (λ number. number < length header.now.rings) }
+        ensures last { IsRingBefore self.now.starts.items address result }
+    {
+        let starts = self.starts.as_slice();
+        let after = starts.partition_point(|start| start.address <= address);
+        if after == 0 {
+            return None;
+        }
+        Some(starts[after - 1].ring)
+    }
+}
+
+/// The number of the command ring, where there is one.
+fn command_number(rings: &[Ring]) -> Option<usize>
+    ensures { result ≡ position (λ ring. is_command_kind ring.shape.kind) rings.now }
+{
+    rings.iter().position(|ring| is_command_ring(ring))
+}
+
+/// By ID: the number of the ring that has it.
+fn ring_numbers(alloc: Global, rings: &[Ring]) -> Result<Vec<Option<usize>>, AllocError>
+    requires { may_stand_together rings.now ≡ true }
+    ensures { IfOk result (λ numbers. AreNumbers rings.now (length rings.now) numbers.items) }
+{
+    let mut numbers = vec![in alloc; None; 256]?;
+    for (number, ring) in rings.iter().enumerate() {
+        numbers[usize::from(ring.id)] = Some(number);
+    }
+    Ok(numbers)
+}
+
+/// The segments of all rings, ring by ring.
+fn all_starts(alloc: Global, rings: &[Ring]) -> Result<Vec<Start>, AllocError>
+    ensures { IfOk result (λ starts. starts.items ≡ starts_from 0 rings.now) }
+{
+    let mut starts = Vec::new(alloc);
+    for (number, ring) in rings.iter().enumerate() {
+        push_starts(&mut starts, ring, number)?;
+    }
+    Ok(starts)
+}
+
+/// Adds the segments of a ring.
+fn push_starts(starts: &mut Vec<Start>, ring: &Ring, number: usize) -> Result<(), AllocError>
+    ensures { OnOk result (starts.new.items ≡ starts.old.items ++ map (start_of number) ring.now.shape.segments) }
+{
+    for segment in ring.shape.segments() {
+        starts.push(Start {
+            address: segment.base,
+            ring: number,
+        })?;
+    }
+    Ok(())
+}

@@ -1,0 +1,8 @@
+//! Finds the rings of a header by ID and by address, and what is kept of all of them.
+#![tactic(auto)]
+
+mod finder;
+mod kinds;
+
+pub use finder::Finder;
+pub use kinds::{is_command_ring, is_event_ring};
