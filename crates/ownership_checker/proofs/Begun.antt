@@ -26,9 +26,9 @@ use Rattle.ownership_rules.specs.Leases.{begun}
 use Rattle.ownership_rules.specs.Writes.{holds_of}
 use Rattle.ownership_checker.specs.Profile.{is_other}
 use Rattle.ownership_checker.specs.NoSlots.{NoSlots}
-use Rattle.ownership_checker.proofs.ListTests.{and_left, and_right, filter_append, filter_map_is, filter_flat_map, filter_twice}
-use Rattle.ownership_checker.proofs.RingsApart.{IsAmong}
-use Rattle.ownership_checker.proofs.HeaderRings.{shape_there, drivers_of, nothing_from}
+use Rattle.ring_finder.proofs.ListTests.{and_left, and_right, filter_append, filter_map_is, filter_flat_map, filter_twice}
+use Rattle.ring_finder.proofs.RingsApart.{IsAmong}
+use Rattle.ring_finder.proofs.HeaderRings.{shape_there, drivers_of, nothing_from}
 use Rattle.ownership_checker.proofs.NoSlotsLemmas.{written_is}
 use Rattle.ownership_checker.proofs.OpenBefore.{open_is, ranges_of, none_new, no_table_before, block_was, link_was}
 

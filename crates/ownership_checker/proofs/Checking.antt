@@ -6,7 +6,7 @@ use Rattle.std.proofs.lemmas.Option.{get_or_from_slice_get}
 use Rattle.traces.specs.declared.row.Row.{Row}
 use Rattle.traces.specs.Limits.{most_lines}
 use Rattle.traces.specs.declared.header.Header.{Header}
-use Rattle.traces.specs.Header.{IsHeader, event_shape}
+use Rattle.traces.specs.Header.{IsHeader}
 use Rattle.ownership_checker.specs.Walks.{WalksRead}
 use Rattle.ownership_checker.proofs.Walks.{walks}
 use Rattle.ring_knowledge.specs.Known.{Known, nothing}
@@ -20,13 +20,16 @@ use Rattle.ownership_checker.specs.Profile.{is_outside, broken_within, verdict_w
 use Rattle.ownership_checker.specs.declared.fault.StepFault.{StepFault}
 use Rattle.ownership_checker.specs.declared.fault.StepFault.TheVariants.{Refused}
 use Rattle.safety.specs.KeptHistories.{MayRead, MayReadAll}
+use Rattle.safety.proofs.TestsPassed.{clean_tests}
+use Rattle.safety.proofs.NothingKept.{nothing_kept}
+use Rattle.safety.proofs.DriverHistories.{kept_driver}
 use Rattle.ownership_checker.specs.declared.kept.Kept.{Kept}
 use Rattle.ring_knowledge.specs.declared.lease.Lease.{Lease}
 use Rattle.lease_book.specs.declared.lease_book.LeaseBook.{LeaseBook}
 use Rattle.lease_book.specs.Books.{FollowsLeases}
 use Rattle.ownership_checker.specs.Lending.{IsNextRow}
 use Rattle.ownership_checker.specs.Verdicts.{AreInside, IsAccepted, IsFirstOfAll}
-use Rattle.ownership_checker.specs.Tracking.{IsWithin, Follows, IsRowStep, IsChecked, IsProgress, IfRefused}
+use Rattle.ownership_checker.specs.Tracking.{IsWithin, Follows, IsTracked, IsRowStep, IsChecked, IsProgress, IfRefused}
 use Rattle.ownership_checker.proofs.DeclarationRules.{broken_inside}
 
 -- one row more: the newest first
@@ -99,6 +102,12 @@ within_end h k n = refl
 pub room_for : (first n : ℕ) → first + n ≤ most_lines + 1 → first + n ≤ without_end
 unfolding without_end
 room_for first n few = omega (arith, few)
+
+-- one row more that breaks no rule
+tracked_after : (h : Header) → IsHeader h → (k : Known) (row : Row) (kept after : Kept) (m o : ℕ → ℕ) → IsTracked h k kept m → broken h k row ≡ [] → Follows h (learned h k row) after o →
+    IsTracked h (learned h k row) after o
+tracked_after h headed k row kept after m o t clean f =
+    record { follows = f; keeps = λ on. kept_driver h headed k row (t.keeps (clean_tests h k row clean).0) clean on }
 
 -- a trace, row by row
 module _ (h : Header) (rows : List Row) (first : ℕ) where
@@ -200,19 +209,19 @@ module _ (h : Header) (rows : List Row) (first : ℕ) where
       let before = known h (reverse (take i rows)) in
       c.within ∙ ap (λ xs. verdict_within h before (first + i) xs) (ap (λ n. drop n rows) all ∙ drop_all rows) ∙ within_end h before (first + i)
 
-  pub started : (kept : Kept) (m : ℕ → ℕ) (book : LeaseBook) → Follows h nothing kept m → IsWithin kept.events 0 → FollowsLeases h first [] book → IsProgress h rows first 0 first kept m book
-  started kept m book f unread held = record {
+  pub started : IsHeader h → (kept : Kept) (m : ℕ → ℕ) (book : LeaseBook) → Follows h nothing kept m → IsWithin kept.events 0 → FollowsLeases h first [] book → IsProgress h rows first 0 first kept m book
+  started headed kept m book f unread held = record {
     numbered = sym (add-zero first);
     few_reads = unread;
-    checked = start_checked (λ k. Follows h k kept m) f;
+    checked = start_checked (λ k. IsTracked h k kept m) (record { follows = f; keeps = λ on. nothing_kept h headed });
     lent = subst (λ (xs : List Row). FollowsLeases h first xs book) (sym (none_taken rows)) held;
   }
 
-  pub stepped : (i number n : ℕ) (kept after : Kept) (m o : ℕ → ℕ) (row d : Row) (book later : LeaseBook) → first + length rows ≤ without_end → IsProgress h rows first i number kept m book →
-      i < length rows → get_or rows i d ≡ row → IsWithin after.events (i + 1) → ((k : Known) → Follows h k kept m → IsRowStep h k row after o n) →
+  pub stepped : IsHeader h → (i number n : ℕ) (kept after : Kept) (m o : ℕ → ℕ) (row d : Row) (book later : LeaseBook) → first + length rows ≤ without_end → IsProgress h rows first i number kept m book →
+      i < length rows → get_or rows i d ≡ row → IsWithin after.events (i + 1) → ((k : Known) → IsTracked h k kept m → IsRowStep h k row after o n) →
       ((past : List Row) → IsNextRow h first past row number kept → FollowsLeases h first past book → FollowsLeases h first (row ∷ past) later) →
       IsProgress h rows first (i + 1) (number + 1) after o later
-  stepped i number n kept after m o row d book later room_ p below is_row reads_ step notes =
+  stepped headed i number n kept after m o row d book later room_ p below is_row reads_ step notes =
       let numbered_ = p.numbered in
       let past = reverse (take i rows) in
       let many : length past ≡ i = length_taken rows i below in
@@ -221,13 +230,13 @@ module _ (h : Header) (rows : List Row) (first : ℕ) where
       record {
         numbered = omega arith;
         few_reads = reads_;
-        checked = step_checked i (λ k. Follows h k kept m) (λ k. Follows h k after o) row d p.checked below is_row
-            (λ k t. let here = step k t in (here.inside, here.clean, here.tracked, here.placed));
+        checked = step_checked i (λ k. IsTracked h k kept m) (λ k. IsTracked h k after o) row d p.checked below is_row
+            (λ k t. let here = step k t in (here.inside, here.clean, tracked_after h headed k row kept after m o t here.clean here.tracked, here.placed));
         lent = subst (λ (xs : List Row). FollowsLeases h first xs later) (sym next) (notes past (record {
           numbered = omega (arith, numbered_, many);
           room = omega (arith, many, room_, below);
           memory = m;
-          followed = p.checked.tracked;
+          followed = p.checked.tracked.follows;
           inside = done.inside;
           clean = done.clean;
           slots = done.tracked.slots;
@@ -236,25 +245,25 @@ module _ (h : Header) (rows : List Row) (first : ℕ) where
 
   module _ (i number : ℕ) (kept : Kept) (m : ℕ → ℕ) (book : LeaseBook) (row d : Row) (c : Refusal) (e : StepFault) (is_refused : e ≡ Refused c) (p : IsProgress h rows first i number kept m book)
       (below : i < length rows) (is_row : get_or rows i d ≡ row)
-      (said : IfRefused e (λ x. (k : Known) → Follows h k kept m → first_of (broken_within h k row) ≡ Some x)) where
-    breaks : (k : Known) → Follows h k kept m → first_of (broken_within h k row) ≡ Some c
-    breaks = subst (λ (f : StepFault). IfRefused f (λ x. (k : Known) → Follows h k kept m → first_of (broken_within h k row) ≡ Some x)) is_refused said
+      (said : IfRefused e (λ x. (k : Known) → IsTracked h k kept m → first_of (broken_within h k row) ≡ Some x)) where
+    breaks : (k : Known) → IsTracked h k kept m → first_of (broken_within h k row) ≡ Some c
+    breaks = subst (λ (f : StepFault). IfRefused f (λ x. (k : Known) → IsTracked h k kept m → first_of (broken_within h k row) ≡ Some x)) is_refused said
 
     pub refused : verdict_within h nothing first rows ≡ Some (number, c)
-    refused = refused_checked i (λ k. Follows h k kept m) row d c p.checked below is_row breaks ∙ ap (λ n. Some (n, c)) (sym p.numbered)
+    refused = refused_checked i (λ k. IsTracked h k kept m) row d c p.checked below is_row breaks ∙ ap (λ n. Some (n, c)) (sym p.numbered)
 
     pub first_refused : IsFirstOfAll h first rows number c
     first_refused =
-        subst (λ (n : ℕ). IsFirstOfAll h first rows n c) (sym p.numbered) (first_checked i (λ k. Follows h k kept m) row d c p.checked below is_row breaks)
+        subst (λ (n : ℕ). IsFirstOfAll h first rows n c) (sym p.numbered) (first_checked i (λ k. IsTracked h k kept m) row d c p.checked below is_row breaks)
 
   module _ (i number : ℕ) (kept : Kept) (m : ℕ → ℕ) (book : LeaseBook) (p : IsProgress h rows first i number kept m book) (all : i ≡ length rows) where
     pub ended : (leases : List Lease) → first + length rows ≤ without_end →
         ((past : List Row) → first + length past ≤ without_end → FollowsLeases h first past book → leases ≡ leases_of h first (reverse past)) → IsAccepted h rows first leases
-    ended leases room listed = ended_checked i (λ k. Follows h k kept m) book leases room p.checked all p.lent listed
+    ended leases room listed = ended_checked i (λ k. IsTracked h k kept m) book leases room p.checked all p.lent listed
 
     pub none_refused : verdict_within h nothing first rows ≡ None
-    none_refused = ended_within i (λ k. Follows h k kept m) p.checked all
+    none_refused = ended_within i (λ k. IsTracked h k kept m) p.checked all
 
     -- after any rows the walk through each ring reads what was declared
     pub walked : IsHeader h → WalksRead h rows
-    walked headed = let kept_so = ended_placed i (λ k. Follows h k kept m) p.checked all in walks h headed rows kept_so.0 kept_so.1
+    walked headed = let kept_so = ended_placed i (λ k. IsTracked h k kept m) p.checked all in walks h headed rows kept_so.0 kept_so.1

@@ -21,9 +21,9 @@ use Rattle.ownership_rules.specs.Writes.{holds_of}
 use Rattle.ownership_checker.specs.Profile.{is_other}
 use Rattle.ownership_checker.specs.OneRing.{is_owned, word_tests, crossing_tests}
 use Rattle.ownership_checker.specs.NoSlots.{command_in}
-use Rattle.ownership_checker.proofs.RingsApart.{IsAmong, same_or_apart}
-use Rattle.ownership_checker.proofs.HeaderRings.{together, shape_allowed, shape_there, find_some, find_only}
-use Rattle.ownership_checker.proofs.ListTests.{false_unless}
+use Rattle.ring_finder.proofs.RingsApart.{IsAmong, same_or_apart}
+use Rattle.ring_finder.proofs.HeaderRings.{together, shape_allowed, shape_there, find_some, find_only}
+use Rattle.ring_finder.proofs.ListTests.{false_unless}
 use Rattle.ownership_checker.proofs.WordsInside.{gives_no_position}
 use Rattle.ownership_checker.proofs.NoSlotsLemmas.{command_id_is, no_ring}
 

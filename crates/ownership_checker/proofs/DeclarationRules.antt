@@ -17,8 +17,8 @@ use Rattle.ownership_rules.specs.Rules.{broken, tests}
 use Rattle.ownership_checker.specs.OneRing.{room_tests}
 use Rattle.ownership_checker.specs.Profile.{is_outside, broken_within}
 use Rattle.ownership_checker.proofs.FirstBroken.{first_broken-is}
-use Rattle.ownership_checker.proofs.RingsApart.{IsAmong}
-use Rattle.ownership_checker.proofs.HeaderRings.{ring_found, not_found, shape_there}
+use Rattle.ring_finder.proofs.RingsApart.{IsAmong}
+use Rattle.ring_finder.proofs.HeaderRings.{ring_found, not_found, shape_there}
 
 no_driver : (kind : RingKind) → is_event_kind kind ≡ true → is_driver_kind kind ≡ false
 no_driver Cmd e = absurd (cc)

@@ -13,19 +13,23 @@ use Rattle.segments.specs.RingView.{RingChange, Reaches, changed, floor_number, 
 use Rattle.segments.specs.Ceiling.{given_count}
 use Rattle.segments.proofs.ReachedSpots.{number-after}
 use Rattle.commands.specs.declared.command.Command.{Command}
-use Rattle.commands.specs.declared.command.Command.TheVariants.{NoOp}
-use Rattle.commands.specs.Changes.{changes}
+use Rattle.commands.specs.declared.command.Command.TheVariants.{NoOp, EnableSlot}
+use Rattle.commands.specs.declared.state.SlotState.{SlotState}
+use Rattle.commands.specs.Changes.{changes, slot_gone_on}
 use Rattle.traces.specs.declared.ring.Ring.{Ring}
 use Rattle.traces.specs.declared.header.Header.{Header}
 use Rattle.traces.specs.declared.row.Row.TheVariants.{Read}
 use Rattle.traces.specs.declared.register.Register.TheVariants.{Erstba}
 use Rattle.traces.specs.Header.{IsHeader, is_driver_kind, command_ring, command_id, shape_of}
 use Rattle.event_ring.specs.EventPlaceValue.{EventState}
+use Rattle.device_record.specs.declared.kept.DeviceRecord.{DeviceRecord}
+use Rattle.device_record.specs.Devices.{FollowsDevices}
+use Rattle.device_record.proofs.Steps.{follows_beside}
 use Rattle.ring_knowledge.specs.declared.ring_record.RingRecord.{RingRecord}
 use Rattle.ring_knowledge.specs.RingRecords.{FollowsRing}
 use Rattle.ring_knowledge.specs.Known.{Known}
 use Rattle.ring_knowledge.specs.Learned.{learned, event_read}
-use Rattle.ring_knowledge.specs.Completions.{completed, finished, succeeded, stop_ended, changed_by_all}
+use Rattle.ring_knowledge.specs.Completions.{completed, finished, succeeded, stop_ended, changed_by, changed_by_all}
 use Rattle.ring_knowledge.specs.Rings.{command_at, next_command, on_ring}
 use Rattle.ring_knowledge.proofs.FinishedBlocks.{given_near, crossed_near}
 use Rattle.safety.specs.Placings.{MayFinish, MayChangeAll}
@@ -35,16 +39,16 @@ use Rattle.ownership_rules.specs.OpenLeases.{Block, Link, open_on, open_leases, 
 use Rattle.ownership_rules.specs.Writes.{holds_of}
 use Rattle.ownership_checker.specs.Profile.{is_other}
 use Rattle.ownership_checker.specs.declared.kept.Kept.{Kept}
-use Rattle.ownership_checker.specs.NoSlots.{NoSlots, GivesNoOps, command_in}
+use Rattle.ownership_checker.specs.NoSlots.{NoSlots, GivesWithin, command_in}
 use Rattle.ownership_checker.specs.Tracking.{Follows, FollowsEvents, IsRowStep}
-use Rattle.ownership_checker.proofs.RingsApart.{IsAmong, same_or_apart, same_number, other_number}
-use Rattle.ownership_checker.proofs.HeaderRings.{together, shape_there}
+use Rattle.ring_finder.proofs.RingsApart.{IsAmong, same_or_apart, same_number, other_number}
+use Rattle.ring_finder.proofs.HeaderRings.{together, shape_there}
 use Rattle.ownership_checker.proofs.FirstBroken.{nothing_broken}
 use Rattle.ownership_checker.proofs.NoSlotsLemmas.{command_id_is}
 use Rattle.ownership_checker.proofs.CommandsGiven.{commands_among, commands_kind, driven}
 use Rattle.ownership_checker.proofs.Begun.{begun_fewer, each_open, passed_open}
 use Rattle.ownership_checker.proofs.StillNoSlots.{slots_on, gives_reached}
-use Rattle.ownership_checker.proofs.Tracked.{HasRecord, IsBeside, changed_on}
+use Rattle.ownership_checker.proofs.Tracked.{HasRecord, IsBeside, set_up_still, registers_still, events_still, changed_on}
 use Rattle.ownership_checker.proofs.EventRules.{possible, possible_next, next_idle, by_completion, no_transfer, inside_is, rules_are}
 use Rattle.ownership_checker.proofs.DoorbellRows.{has_commands}
 
@@ -61,26 +65,39 @@ unfolding event_read
 event_completion h k CommandCompletion b e = refl
 event_completion h k _ b e = absurd (cc)
 
--- a No Op that is finished changes nothing else
-finished_is : (h : Header) (k : Known) (b : blocks.Block) (o : Option Command) → holds_of is_other o ≡ false → finished h k b o ≡ k
-unfolding holds_of finished succeeded stop_ended changed_by_all changes
+-- what the end of the next command leaves: the states of slots may go on
+abbrev pub with_finished : Header → Known → blocks.Block → Known
+with_finished h k b = record k { slot_state = (finished h k b (command_at h k (next_command h k))).slot_state }
+
+-- a command that is checked changes nothing else
+finished_is : (h : Header) (k : Known) (b : blocks.Block) (o : Option Command) → holds_of is_other o ≡ false → finished h k b o ≡ record k { slot_state = (finished h k b o).slot_state }
+unfolding holds_of finished succeeded stop_ended changed_by_all changed_by changes
 finished_is h k b None idle = refl
 finished_is h k b (Some NoOp) idle = by (code b == 1)
   where
-    by : (c : Bool) → (if c then k else k) ≡ k
+    by : (c : Bool) → (if c then k else k) ≡ record k { slot_state = (if c then k else k).slot_state }
     by true = refl
     by false = refl
+finished_is h k b (Some EnableSlot) idle = by (slot_gone_on EnableSlot k.slot_state (slot b)) (code b == 1)
+  where
+    by : (states : ℕ → SlotState) (c : Bool) → (if c then record k { slot_state = states } else k) ≡ record k { slot_state = (if c then record k { slot_state = states } else k).slot_state }
+    by states true = refl
+    by states false = refl
 finished_is h k b (Some _) idle = absurd (cc)
 
 -- and places nothing
 places_nothing : (h : Header) (k : Known) (b : blocks.Block) (c : Command) → holds_of is_other (Some c) ≡ false → MayChangeAll h c k (changes h.context_size k.memory (slot b) c)
 unfolding holds_of changes
 places_nothing h k b NoOp idle = tt
+places_nothing h k b EnableSlot idle = (tt, tt)
 places_nothing h k b _ idle = absurd (cc)
 
-beside_on : (h : Header) (k : Known) (r : ℕ) (change : RingChange) → IsBeside k (on_ring h k r change)
+beside_finished : (h : Header) (k : Known) (b : blocks.Block) → IsBeside k (with_finished h k b)
+beside_finished h k b = record { started = refl; stopped = refl; register = refl; reads = refl; dequeue = refl }
+
+beside_on : (h : Header) (k : Known) (b : blocks.Block) (r : ℕ) (change : RingChange) → IsBeside k (on_ring h (with_finished h k b) r change)
 unfolding on_ring
-beside_on h k r change = record { started = refl; stopped = refl; register = refl; reads = refl; dequeue = refl }
+beside_on h k b r change = record { started = refl; stopped = refl; register = refl; reads = refl; dequeue = refl }
 
 pub view_on : (h : Header) (k : Known) (r : ℕ) (change : RingChange) → (on_ring h k r change).ring r ≡ changed (shape_of h r) (k.ring r) change
 unfolding on_ring
@@ -132,6 +149,7 @@ module _ (h : Header) (k l : Known) (beside : IsBeside k l) (runs : k.started �
         each = f.each;
         registers = record { started = regs.started; stopped = regs.stopped; as_many = regs.as_many; values = regs.values };
         events = counted_events events_ follows_events;
+        devices = follows_beside l counted kept.devices f.devices;
       }
 
 module _ (h : Header) (headed : IsHeader h) (b : blocks.Block) (k : Known) (kept : Kept) (m : ℕ → ℕ) (f : Follows h k kept m) where
@@ -152,7 +170,7 @@ module _ (h : Header) (headed : IsHeader h) (b : blocks.Block) (k : Known) (kept
     among : IsAmong ring h.rings
     among = commands_among h ring there
 
-    pub gives : GivesNoOps (k.ring ring.id)
+    pub gives : GivesWithin (k.ring ring.id)
     gives = f.slots.commands ring there
 
     abbrev next : ℕ
@@ -171,36 +189,56 @@ module _ (h : Header) (headed : IsHeader h) (b : blocks.Block) (k : Known) (kept
     pub idle : holds_of is_other (command_at h k (next_command h k)) ≡ false
     idle = ap (λ o. holds_of is_other o) command_is ∙ next_idle ring.shape (k.ring ring.id) gives next_below
 
-    -- the floor of the command ring moves on, and nothing else
-    pub completed_is : completed h k b ≡ on_ring h k ring.id passed
+    -- the floor of the command ring moves on, and the state of a slot may
+    pub completed_is : completed h k b ≡ on_ring h (with_finished h k b) ring.id passed
     unfolding completed next_command
     completed_is =
         ap (λ l. on_ring h l (command_id h) (Reaches (after (shape_of h (command_id h)) (floor_number (k.ring (command_id h)))))) (finished_is h k b (command_at h k (next_command h k)) idle)
-        ∙ ap (λ i. on_ring h k i (Reaches (after (shape_of h i) (floor_number (k.ring i))))) (command_id_is h ring there)
-        ∙ ap (λ s. on_ring h k ring.id (Reaches (after s next))) (shape_there h headed ring among)
+        ∙ ap (λ i. on_ring h (with_finished h k b) i (Reaches (after (shape_of h i) (floor_number (k.ring i))))) (command_id_is h ring there)
+        ∙ ap (λ s. on_ring h (with_finished h k b) ring.id (Reaches (after s next))) (shape_there h headed ring among)
 
     pub may_finish : MayFinish h k b
     may_finish = λ c at one. places_nothing h k b c (ap (λ o. holds_of is_other o) (sym at) ∙ idle)
 
-    pub slots_passed : NoSlots h (on_ring h k ring.id passed)
-    slots_passed = slots_on h k f.slots ring.id passed (λ shape v g. gives_reached shape v (after ring.shape next) g)
+    slots_finished : NoSlots h (with_finished h k b)
+    slots_finished = record { endpoints = f.slots.endpoints; rings = f.slots.rings; devices = f.slots.devices; commands = f.slots.commands }
 
-    pub followed : (n : ℕ) → slice_get h.rings n ≡ Some ring → (new : RingRecord) → FollowsRing ring.shape (changed ring.shape (k.ring ring.id) passed) new → (later : Kept) → HasRecord kept later n new →
+    finished_next : finished h k b (command_at h k (next_command h k)) ≡ with_finished h k b
+    finished_next = finished_is h k b (command_at h k (next_command h k)) idle
+
+    -- what is kept with another record of slots and endpoints
+    with_devices : (d : DeviceRecord) → FollowsDevices (finished h k b (command_in (k.ring ring.id).queue next)) d → Follows h (with_finished h k b) (record kept { devices = d }) m
+    with_devices d follows = record {
+      slots = slots_finished;
+      set_up = set_up_still h k (with_finished h k b) (beside_finished h k b) f.set_up;
+      words = f.words;
+      as_many = f.as_many;
+      each = f.each;
+      registers = registers_still h k (with_finished h k b) (beside_finished h k b) kept.registers f.registers;
+      events = events_still h k (with_finished h k b) (beside_finished h k b) kept.events f.events;
+      devices = subst (λ (l : Known). FollowsDevices l d) (ap (λ o. finished h k b o) (sym command_is) ∙ finished_next) follows;
+    }
+
+    pub slots_passed : NoSlots h (on_ring h (with_finished h k b) ring.id passed)
+    slots_passed = slots_on h (with_finished h k b) slots_finished ring.id passed (λ shape v g. gives_reached shape v (after ring.shape next) g)
+
+    pub followed : (n : ℕ) → slice_get h.rings n ≡ Some ring → (d : DeviceRecord) → FollowsDevices (finished h k b (command_in (k.ring ring.id).queue next)) d → (new : RingRecord) →
+        FollowsRing ring.shape (changed ring.shape (k.ring ring.id) passed) new → (later : Kept) → HasRecord (record kept { devices = d }) later n new →
         is_command_completion (kind b) ≡ true → Follows h (event_read h k (kind b) b) later m
-    followed n at new follows later has completion = subst (λ (l : Known). Follows h l later m) (sym (event_completion h k (kind b) b completion ∙ completed_is))
-        (changed_on h headed k kept m f n ring at passed slots_passed new follows later has)
+    followed n at d devices_ new follows later has completion = subst (λ (l : Known). Follows h l later m) (sym (event_completion h k (kind b) b completion ∙ completed_is))
+        (changed_on h headed (with_finished h k b) (record kept { devices = d }) m (with_devices d devices_) n ring at passed slots_passed new follows later has)
 
     module _ (r : RingRecord) (known : FollowsRing ring.shape (k.ring ring.id) r) (driver : is_driver_kind ring.shape.kind ≡ true) where
-      view_passed : (on_ring h k ring.id passed).ring ring.id ≡ changed ring.shape (k.ring ring.id) passed
-      view_passed = view_on h k ring.id passed ∙ ap (λ s. changed s (k.ring ring.id) passed) (shape_there h headed ring among)
+      view_passed : (on_ring h (with_finished h k b) ring.id passed).ring ring.id ≡ changed ring.shape (k.ring ring.id) passed
+      view_passed = view_on h (with_finished h k b) ring.id passed ∙ ap (λ s. changed s (k.ring ring.id) passed) (shape_there h headed ring among)
 
       -- nothing new is under lease
-      pub none_on : (q : Ring) → IsAmong q h.rings → is_driver_kind q.shape.kind ≡ true → filter (λ l. not (is_among (open_leases h k) l)) (open_on h (on_ring h k ring.id passed) q) ≡ []
+      pub none_on : (q : Ring) → IsAmong q h.rings → is_driver_kind q.shape.kind ≡ true → filter (λ l. not (is_among (open_leases h k) l)) (open_on h (on_ring h (with_finished h k b) ring.id passed) q) ≡ []
       none_on q in_header driven = elim (same_or_apart h.rings (together h headed) ring q among in_header) [
-        | inl same ↦ subst (λ (x : Ring). filter (λ l. not (is_among (open_leases h k) l)) (open_on h (on_ring h k ring.id passed) x) ≡ []) (sym same)
-            (passed_open h headed k f.slots ring among driver (on_ring h k ring.id passed) (after ring.shape next) view_passed (omega (arith, number-after ring.shape next))
+        | inl same ↦ subst (λ (x : Ring). filter (λ l. not (is_among (open_leases h k) l)) (open_on h (on_ring h (with_finished h k b) ring.id passed) x) ≡ []) (sym same)
+            (passed_open h headed k f.slots ring among driver (on_ring h (with_finished h k b) ring.id passed) (after ring.shape next) view_passed (omega (arith, number-after ring.shape next))
             (given_near ring.shape (k.ring ring.id) r known.marks) (λ p crossed. omega (arith, crossed_near ring.shape (k.ring ring.id) r known.marks p crossed)))
-        | inr apart ↦ ap (λ ls. filter (λ l. not (is_among (open_leases h k) l)) ls) (open_same h k (on_ring h k ring.id passed) q (view_beside h k ring.id q.id passed (λ e. apart.ids (sym e))))
+        | inr apart ↦ ap (λ ls. filter (λ l. not (is_among (open_leases h k) l)) ls) (open_same h k (on_ring h (with_finished h k b) ring.id passed) q (view_beside h (with_finished h k b) ring.id q.id passed (λ e. apart.ids (sym e))))
             ∙ each_open h headed k f.slots q in_header driven
       ]
 
@@ -254,5 +292,5 @@ module _ (h : Header) (headed : IsHeader h) (b : blocks.Block) (k : Known) (kept
             let driver = driven ring.shape.kind (commands_kind h ring there) in
             let n = index_of h.rings ring (commands_among h ring there) in
             let r = record_at n.0 ring n.1 in
-            step_learned (on_ring h k ring.id (passed ring there may_now)) is (beside_on h k ring.id (passed ring there may_now)) (subst (λ (l : Known). Follows h l later m) is follows) (λ e. may_finish ring there may_now)
+            step_learned (on_ring h (with_finished h k b) ring.id (passed ring there may_now)) is (beside_on h k b ring.id (passed ring there may_now)) (subst (λ (l : Known). Follows h l later m) is follows) (λ e. may_finish ring there may_now)
             (none_on ring there may_now r.0 (f.each n.0 ring r.0 n.1 r.1 driver) driver)

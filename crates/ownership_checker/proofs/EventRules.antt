@@ -1,21 +1,19 @@
--- The rules of an event, as they are while no slot is enabled
+-- The rules of an event, as they are while no endpoint is enabled
 use Rattle.std.proofs.Common.{◌≡◌, ℕ, ◌-◌, ◌<◌, [], ◌∷◌, Bool, true, false, Option, None, Some, refl, ap, sym, ◌∙◌, arith, inl, inr}
-use Rattle.std.specs.Prelude.{◌==◌, ◌&&◌, ◌||◌, not, nat_lt, is_none, is_some, unwrap_or, slice_get, if◌then◌else◌}
+use Rattle.std.specs.Prelude.{◌==◌, ◌&&◌, ◌||◌, not, nat_lt, is_some, unwrap_or, slice_get, if◌then◌else◌}
 use Rattle.std.proofs.lemmas.Bool.{cases_Bool, and_parts, or_parts, ltb-true, false≢true}
 use Rattle.std.proofs.lemmas.Option.{slice_get_cases}
 use Rattle.trb.specs.declared.block.Block.{Block}
 use Rattle.trb.specs.declared.kind.BlockKind.{BlockKind}
 use Rattle.trb.specs.declared.kind.BlockKind.TheVariants.{TransferEvent, CommandCompletion}
-use Rattle.trb.specs.Block.{cycle, kind, pointer, code, slot, endpoint}
+use Rattle.trb.specs.Block.{cycle, kind, slot, endpoint}
 use Rattle.trb.specs.Kind.{is_event, is_transfer_event, is_command_completion}
 use Rattle.segments.specs.ShapeValue.{Shape}
-use Rattle.segments.specs.Places.{address_of, cycle_of, place_count}
+use Rattle.segments.specs.Places.{cycle_of, place_count}
 use Rattle.segments.specs.RingView.{RingView, floor_number}
 use Rattle.segments.specs.Ceiling.{ceiling, given_count, is_step_given, is_way_given}
 use Rattle.segments.proofs.GivenCount.{given_below}
-use Rattle.commands.specs.declared.command.Command.{Command}
-use Rattle.commands.specs.declared.command.Command.TheVariants.{NoOp}
-use Rattle.commands.specs.States.{can_succeed, is_off}
+use Rattle.commands.specs.States.{is_off}
 use Rattle.traces.specs.declared.ring.Ring.{Ring}
 use Rattle.traces.specs.declared.header.Header.{Header}
 use Rattle.traces.specs.declared.row.Row.TheVariants.{Read}
@@ -29,19 +27,19 @@ use Rattle.ownership_rules.specs.Rules.{broken, tests}
 use Rattle.ownership_rules.specs.Events as events
 use Rattle.ownership_rules.specs.Writes.{holds_of}
 use Rattle.ownership_checker.specs.Profile.{is_other, is_outside, broken_within}
-use Rattle.ownership_checker.specs.NoSlots.{NoSlots, IsSetUp, GivesNoOps, command_in}
+use Rattle.ownership_checker.specs.NoSlots.{NoSlots, IsSetUp, GivesWithin, command_in}
 use Rattle.ownership_checker.specs.OneRing.{is_no_completion}
 use Rattle.ownership_checker.specs.Tracking.{FollowsPlace}
 use Rattle.ownership_checker.proofs.DeclarationRules.{broken_inside}
 use Rattle.ownership_checker.proofs.FirstBroken.{first_broken-is}
-use Rattle.ownership_checker.proofs.HeaderRings.{shape_there}
+use Rattle.ring_finder.proofs.HeaderRings.{shape_there}
 use Rattle.ownership_checker.proofs.CommandsGiven.{commands_among}
 use Rattle.ownership_checker.proofs.NoSlotsLemmas.{command_id_is}
 
 -- ---- the command ring
 
 -- what may be taken next is given
-pub next_given : (shape : Shape) (v : RingView) → GivesNoOps v → nat_lt (floor_number v) (ceiling shape v) ≡ true → floor_number v < given_count shape v
+pub next_given : (shape : Shape) (v : RingView) → GivesWithin v → nat_lt (floor_number v) (ceiling shape v) ≡ true → floor_number v < given_count shape v
 unfolding ceiling
 next_given shape v g taken = by v.held refl taken
   where
@@ -53,53 +51,32 @@ given_so : (shape : Shape) (v : RingView) (p : ℕ) → p < given_count shape v 
 unfolding is_step_given
 given_so shape v p below = (and_parts (v.given p) (is_way_given shape v p) (given_below shape v p below)).0
 
--- the next command is declared, and no other than No Op
-pub next_declared : (shape : Shape) (v : RingView) → GivesNoOps v → floor_number v < given_count shape v → is_some (slice_get v.queue (floor_number v)) ≡ true
+-- the next command is declared, and is one of those that are checked
+pub next_declared : (shape : Shape) (v : RingView) → GivesWithin v → floor_number v < given_count shape v → is_some (slice_get v.queue (floor_number v)) ≡ true
 next_declared shape v g below = elim (slice_get_cases v.queue (floor_number v)).1 [
   | inl found ↦ ap (λ o. is_some o) found.2
   | inr past ↦ let inside = g.declared (floor_number v) (given_so shape v (floor_number v) below) in absurd (omega (arith, past.0, inside))
 ]
 
-pub next_idle : (shape : Shape) (v : RingView) → GivesNoOps v → floor_number v < given_count shape v → holds_of is_other (command_in v.queue (floor_number v)) ≡ false
-next_idle shape v g below = g.no_ops (floor_number v) (given_so shape v (floor_number v) below)
-
--- a No Op can be finished with any code
-finishes : (k : Known) (b : Block) (o : Option Command) → holds_of is_other o ≡ false → not (events.can_finish k b o) ≡ is_none o
-unfolding holds_of events.can_finish can_succeed events.was_stop_seen
-finishes k b None idle = refl
-finishes k b (Some NoOp) idle = by (code b == 1)
-  where
-    by : (c : Bool) → not (if c then true else true) ≡ false
-    by true = refl
-    by false = refl
-finishes k b (Some _) idle = absurd (cc)
+pub next_idle : (shape : Shape) (v : RingView) → GivesWithin v → floor_number v < given_count shape v → holds_of is_other (command_in v.queue (floor_number v)) ≡ false
+next_idle shape v g below = g.within (floor_number v) (given_so shape v (floor_number v) below)
 
 module _ (h : Header) (headed : IsHeader h) (k : Known) (b : Block) where
-  abbrev On : Shape → RingView → Bool
-  On s v = not (nat_lt (floor_number v) (ceiling s v)) || not (pointer b == address_of s (floor_number v)) || code b == 0 || not (events.can_finish k b (command_in v.queue (floor_number v)))
-
-  completion_on : events.is_impossible_completion h k b ≡ On (shape_of h (command_id h)) (k.ring (command_id h))
+  completion_on : events.is_impossible_completion h k b ≡ is_no_completion k (shape_of h (command_id h)) (k.ring (command_id h)) b
   unfolding events.is_impossible_completion events.may_be_taken next_command command_at
   completion_on = refl
 
-  on_no_ops : (s : Shape) (v : RingView) → GivesNoOps v → On s v ≡ is_no_completion s v b
-  on_no_ops s v g = elim (cases_Bool (nat_lt (floor_number v) (ceiling s v))) [
-    | inl taken ↦ ap (λ e. not (nat_lt (floor_number v) (ceiling s v)) || not (pointer b == address_of s (floor_number v)) || code b == 0 || e)
-        (finishes k b (command_in v.queue (floor_number v)) (next_idle s v g (next_given s v g taken)))
-    | inr early ↦ rw early refl
-  ]
-
   module _ (ring : Ring) (there : command_ring h ≡ Some ring) where
     -- of a completion the command ring tells whether it is possible
-    pub completion_is : GivesNoOps (k.ring ring.id) → events.is_impossible_completion h k b ≡ is_no_completion ring.shape (k.ring ring.id) b
-    completion_is g =
-        completion_on ∙ ap (λ i. On (shape_of h i) (k.ring i)) (command_id_is h ring there) ∙ ap (λ s. On s (k.ring ring.id)) (shape_there h headed ring (commands_among h ring there))
-        ∙ on_no_ops ring.shape (k.ring ring.id) g
+    pub completion_is : events.is_impossible_completion h k b ≡ is_no_completion k ring.shape (k.ring ring.id) b
+    completion_is =
+        completion_on ∙ ap (λ i. is_no_completion k (shape_of h i) (k.ring i) b) (command_id_is h ring there)
+        ∙ ap (λ s. is_no_completion k s (k.ring ring.id) b) (shape_there h headed ring (commands_among h ring there))
 
     -- one that is possible finishes the next command
-    pub possible_next : GivesNoOps (k.ring ring.id) → events.is_impossible_completion h k b ≡ false → floor_number (k.ring ring.id) < given_count ring.shape (k.ring ring.id)
+    pub possible_next : GivesWithin (k.ring ring.id) → events.is_impossible_completion h k b ≡ false → floor_number (k.ring ring.id) < given_count ring.shape (k.ring ring.id)
     possible_next g possible =
-        next_given ring.shape (k.ring ring.id) g (by (nat_lt (floor_number (k.ring ring.id)) (ceiling ring.shape (k.ring ring.id))) _ _ _ (sym (completion_is g) ∙ possible))
+        next_given ring.shape (k.ring ring.id) g (by (nat_lt (floor_number (k.ring ring.id)) (ceiling ring.shape (k.ring ring.id))) _ _ _ (sym completion_is ∙ possible))
       where
         by : (a x y z : Bool) → (not a || x || y || z) ≡ false → a ≡ true
         by true x y z e = refl
@@ -108,7 +85,7 @@ module _ (h : Header) (headed : IsHeader h) (k : Known) (b : Block) where
 -- ---- all events
 
 module _ (h : Header) (k : Known) (b : Block) where
-  -- while no slot is enabled no Transfer Event is possible
+  -- while no endpoint is enabled no Transfer Event is possible
   pub transfer_is : NoSlots h k → events.is_impossible_transfer h k b ≡ events.is_in_profile b
   unfolding events.is_impossible_transfer
   transfer_is slots = ap (λ s. events.is_in_profile b && (is_off s || not (events.can_report_at h k b (event_at h k b)))) (slots.endpoints (slot b) (endpoint b)) ∙ by (events.is_in_profile b)

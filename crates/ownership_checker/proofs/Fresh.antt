@@ -13,12 +13,13 @@ use Rattle.ring_knowledge.specs.RingRecords.{FollowsRing}
 use Rattle.ring_knowledge.specs.Known.{nothing}
 use Rattle.ownership_checker.specs.Tracking.{AreFresh, IsFreshSo, Follows, FollowsEvents, FollowsPlace}
 use Rattle.event_ring.specs.EventPlaceValue.{EventState}
+use Rattle.device_record.specs.Devices.{FollowsDevices}
 use Rattle.event_ring.specs.EventRing.{EventCounts}
 use Rattle.trb.specs.declared.ring_kind.RingKind.TheVariants.{Evt}
 use Rattle.ring_knowledge.specs.RegisterRecords.{FollowsRegisters}
 use Rattle.ownership_checker.specs.declared.kept.Kept.{Kept}
-use Rattle.ownership_checker.proofs.RingsApart.{IsAmong, among_at, each_among}
-use Rattle.ownership_checker.proofs.HeaderRings.{not_found, event_found, event_here}
+use Rattle.ring_finder.proofs.RingsApart.{IsAmong, among_at, each_among}
+use Rattle.ring_finder.proofs.HeaderRings.{not_found, event_found, event_here}
 use Rattle.ownership_checker.proofs.NoSlotsLemmas.{no_slots_at_first, set_up_at_first}
 use Rattle.ownership_checker.proofs.Tracked.{one_at}
 
@@ -50,10 +51,10 @@ fresh_push rings records ring i r so item below fresh = record {
 }
 
 -- before the first row
-pub follows_first : (h : Header) (kept : Kept) → AreFresh h.rings kept.rings.items → FollowsRegisters nothing kept.registers → FollowsEvents h nothing kept.events →
+pub follows_first : (h : Header) (kept : Kept) → AreFresh h.rings kept.rings.items → FollowsRegisters nothing kept.registers → FollowsEvents h nothing kept.events → FollowsDevices nothing kept.devices →
     (m : ℕ → ℕ) → ((a : ℕ) → m a ≡ 0) → Follows h nothing kept m
 unfolding nothing
-follows_first h kept fresh registers_ events_ m blank = record {
+follows_first h kept fresh registers_ events_ devices_ m blank = record {
   slots = no_slots_at_first h;
   set_up = set_up_at_first h;
   words = λ a. sym (blank a);
@@ -61,6 +62,7 @@ follows_first h kept fresh registers_ events_ m blank = record {
   each = λ i q r at there driver. fresh.each i q r at there;
   registers = registers_;
   events = events_;
+  devices = devices_;
 }
 
 pub event_count : (h : Header) → IsHeader h → (i : ℕ) (r : Ring) → r ≡ get_or h.rings i r → i < length h.rings → is_event_kind r.shape.kind ≡ true → length r.shape.segments ≡ length (event_shape h).segments

@@ -1,13 +1,13 @@
 -- What is lent after an event that was checked: the completion of a No Op ends the lease of its block, and that of the Link before it
-use Rattle.std.proofs.Common.{◌≡◌, ◌≢◌, ℕ, ◌+◌, ◌<◌, ◌≤◌, List, [], ◌∷◌, Bool, true, false, None, Some, Option, refl, ap, sym, ◌∙◌, arith, inl, inr, subst, length}
-use Rattle.std.specs.Prelude.{◌==◌, ◌&&◌, not, map, max, slice_get}
+use Rattle.std.proofs.Common.{◌≡◌, ℕ, ◌+◌, List, [], ◌∷◌, Bool, true, false, None, Some, refl, ap, sym, ◌∙◌, arith, inl, subst}
+use Rattle.std.specs.Prelude.{◌&&◌, not, map}
 use Rattle.trb.specs.declared.block.Block as blocks
 use Rattle.trb.specs.Block.{kind}
 use Rattle.trb.specs.Kind.{is_command_completion, is_transfer_event}
 use Rattle.segments.specs.ShapeValue.{Shape}
-use Rattle.segments.specs.Places.{is_crossing, place_count}
+use Rattle.segments.specs.Places.{place_count}
 use Rattle.segments.specs.RingView.{Reaches, RingView, changed, floor_number}
-use Rattle.segments.specs.Spots.{after, number as number_of}
+use Rattle.segments.specs.Spots.{after}
 use Rattle.segments.proofs.ReachedSpots.{number-after}
 use Rattle.traces.specs.declared.ring.Ring.{Ring}
 use Rattle.traces.specs.declared.header.Header.{Header}
@@ -35,13 +35,13 @@ use Rattle.lease_book.proofs.SameLeases.{command_same, entries_kept, open_same}
 use Rattle.ownership_checker.specs.declared.kept.Kept.{Kept}
 use Rattle.ownership_checker.specs.Lending.{IsNextRow}
 use Rattle.ownership_checker.proofs.CommandsGiven.{commands_among, commands_kind, driven}
-use Rattle.ownership_checker.proofs.EventRows.{completed_is, event_completion, event_others, idle, index_of, record_at, view_beside, view_on}
+use Rattle.ownership_checker.proofs.EventRows.{completed_is, event_completion, event_others, idle, index_of, record_at, view_beside, view_on, with_finished}
 use Rattle.ownership_checker.proofs.EventRules.{by_completion, no_transfer, possible, rules_are}
-use Rattle.ownership_checker.proofs.HeaderRings.{shape_there}
-use Rattle.ownership_checker.proofs.LentRows.{among_drivers, before_stop, in_rings}
+use Rattle.ring_finder.proofs.HeaderRings.{shape_there}
+use Rattle.ownership_checker.proofs.LentRows.{before_stop, in_rings}
 use Rattle.ownership_checker.proofs.LentWrites.{none_ahead}
 use Rattle.ownership_checker.proofs.NoSlotsLemmas.{command_id_is, reads_no_context}
-use Rattle.ownership_checker.proofs.RingsApart.{IsAmong}
+use Rattle.ring_finder.proofs.RingsApart.{IsAmong}
 
 two_fine : (x y : Bool) → first_broken ((ImpossibleEvent, x) ∷ (NotInProfile, y) ∷ []) ≡ None → (x ≡ false) × (y ≡ false)
 two_fine true y e = absurd (cc)
@@ -106,7 +106,7 @@ module _ (h : Header) (headed : IsHeader h) (first : ℕ) (past : List Row) (b :
     n = floor_number (k.ring ring.id)
 
     abbrev gone_on : Known
-    gone_on = on_ring h k ring.id (Reaches (after ring.shape n))
+    gone_on = on_ring h (with_finished h k b) ring.id (Reaches (after ring.shape n))
 
     abbrev after_it : Known
     after_it = record gone_on { reads = k.reads + 1 }
@@ -116,7 +116,7 @@ module _ (h : Header) (headed : IsHeader h) (first : ℕ) (past : List Row) (b :
     learned_is = ap (λ (x : Known). record x { reads = k.reads + 1 }) (event_completion h k (kind b) b completion ∙ completed_is h headed b k kept next.memory next.followed ring there may)
 
     view : gone_on.ring (command_id h) ≡ changed (shape_of h ring.id) (k.ring ring.id) (Reaches (after ring.shape n))
-    view = ap gone_on.ring id ∙ view_on h k ring.id (Reaches (after ring.shape n))
+    view = ap gone_on.ring id ∙ view_on h (with_finished h k b) ring.id (Reaches (after ring.shape n))
 
     was : k.ring (command_id h) ≡ k.ring ring.id
     was = ap k.ring id
@@ -127,7 +127,7 @@ module _ (h : Header) (headed : IsHeader h) (first : ℕ) (past : List Row) (b :
 
     finishes : Finishes h k after_it
     finishes = record {
-      others = λ q apart. view_beside h k ring.id q (Reaches (after ring.shape n)) (λ e. apart (e ∙ sym id));
+      others = λ q apart. view_beside h (with_finished h k b) ring.id q (Reaches (after ring.shape n)) (λ e. apart (e ∙ sym id));
       given = ap (λ (v : RingView). v.given) view ∙ sym (ap (λ (v : RingView). v.given) was);
       crossed = ap (λ (v : RingView). v.crossed) view ∙ sym (ap (λ (v : RingView). v.crossed) was);
       queue = ap (λ (v : RingView). v.queue) view ∙ sym (ap (λ (v : RingView). v.queue) was);

@@ -1,6 +1,6 @@
 -- What is lent after rows that were checked: declarations, doorbells and registers
-use Rattle.std.proofs.Common.{◌≡◌, ℕ, ◌+◌, ◌<◌, ◌≤◌, List, [], ◌∷◌, Bool, true, false, None, Some, Option, Result, Ok, Err, refl, ap, sym, ◌∙◌, arith, inl, inr, subst, length, cond}
-use Rattle.std.specs.Prelude.{◌==◌, ◌&&◌, OnOk}
+use Rattle.std.proofs.Common.{◌≡◌, ℕ, ◌+◌, ◌<◌, ◌≤◌, List, [], ◌∷◌, Bool, true, false, None, Some, Option, Result, Ok, Err, refl, ap, sym, ◌∙◌, inl, inr, subst, length, cond}
+use Rattle.std.specs.Prelude.{OnOk}
 use Rattle.std.proofs.lemmas.Bool.{cases_Bool}
 use Rattle.trb.specs.declared.block.Block.{Block as Trb}
 use Rattle.event_ring.specs.EventRing.{table_bytes}
@@ -36,10 +36,10 @@ use Rattle.ownership_checker.specs.Lending.{IsNextRow}
 use Rattle.ownership_checker.specs.NoSlots.{NoSlots}
 use Rattle.ownership_checker.specs.Profile.{broken_within, is_outside}
 use Rattle.ownership_checker.proofs.DeclarationRules.{broken_inside}
-use Rattle.ownership_checker.proofs.HeaderRings.{shape_there}
+use Rattle.ring_finder.proofs.HeaderRings.{shape_there}
 use Rattle.ownership_checker.proofs.NoSlotsLemmas.{command_id_is, no_places}
 use Rattle.ownership_checker.proofs.RegisterRows.{bad_register, unwritten_before}
-use Rattle.ownership_checker.proofs.RingsApart.{IsAmong}
+use Rattle.ring_finder.proofs.RingsApart.{IsAmong}
 
 -- from what an answer promises to what follows
 pub on_more : {X E P Q : Type 0} (answer : Result X E) → (P → Q) → OnOk answer P → OnOk answer Q

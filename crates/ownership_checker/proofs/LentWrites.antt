@@ -1,5 +1,5 @@
 -- What is lent after a write that was checked: what it gives comes under lease, at a free place
-use Rattle.std.proofs.Common.{◌≡◌, ℕ, ◌+◌, ◌<◌, ◌≤◌, ◌%◌, List, [], ◌∷◌, ◌++◌, Bool, true, false, None, Some, Option, refl, ap, sym, ◌∙◌, arith, inl, inr, subst, length}
+use Rattle.std.proofs.Common.{◌≡◌, ℕ, ◌+◌, ◌<◌, ◌≤◌, ◌%◌, List, [], ◌∷◌, ◌++◌, Bool, true, false, None, Some, Option, refl, ap, sym, ◌∙◌, arith, inl, inr, subst}
 use Rattle.std.specs.Prelude.{◌==◌, ◌&&◌, ◌||◌, nat_le, nat_lt, not, map, max}
 use Rattle.std.proofs.lemmas.Bool.{and_parts, eqb-true, ltb-true, leb-true, or_cases}
 use Rattle.std.proofs.lemmas.List.{append-nil}
@@ -17,14 +17,14 @@ use Rattle.ring_knowledge.specs.declared.ring_record.RingGiving.TheVariants.{Pos
 use Rattle.ring_knowledge.specs.declared.ring_record.RingRecord.{RingRecord}
 use Rattle.ring_knowledge.specs.RingRecords.{FollowsRing, crossings_of, least_crossing, positions_of}
 use Rattle.ring_knowledge.specs.Known.{Known}
-use Rattle.ring_knowledge.specs.Learned.{learned, known}
+use Rattle.ring_knowledge.specs.Learned.{known}
 use Rattle.ring_knowledge.specs.Rings as rings
 use Rattle.ring_knowledge.specs.Writes.{command_given, with_word}
 use Rattle.ring_knowledge.proofs.Noted.{noted_past}
 use Rattle.ownership_rules.specs.OpenLeases.{Block, Link, open_ranges, segment_ranges, table_range}
 use Rattle.ownership_rules.specs.Writes.{holds_of}
 use Rattle.ownership_rules.proofs.Among.{IsIn, from_filter}
-use Rattle.lease_book.specs.Lents.{Lent, in_turn, is_place_free, lents, with_begun, with_leased}
+use Rattle.lease_book.specs.Lents.{in_turn, is_place_free, lents, with_begun, with_leased}
 use Rattle.lease_book.proofs.FreeLinks.{NoneAhead, link_free}
 use Rattle.lease_book.proofs.FreePlaces.{block_free}
 use Rattle.lease_book.proofs.Given.{lent_given}
@@ -34,12 +34,12 @@ use Rattle.ownership_checker.specs.declared.kept.Kept.{Kept}
 use Rattle.ownership_checker.specs.Lending.{IsNextRow}
 use Rattle.ownership_checker.specs.NoSlots.{NoSlots}
 use Rattle.ownership_checker.specs.Profile.{is_other}
-use Rattle.ownership_checker.proofs.HeaderRings.{shape_allowed}
+use Rattle.ring_finder.proofs.HeaderRings.{shape_allowed}
 use Rattle.ownership_checker.proofs.LentRows.{among_drivers, are_shaped, before_stop}
-use Rattle.ownership_checker.proofs.ListTests.{and_false}
+use Rattle.ring_finder.proofs.ListTests.{and_false}
 use Rattle.ownership_checker.proofs.NoSlotsLemmas.{idle_inside, ranges_are, takes_no_device, written_is}
 use Rattle.ownership_checker.proofs.OneRingHas.{given_by_one, given_nowhere}
-use Rattle.ownership_checker.proofs.RingsApart.{IsAmong}
+use Rattle.ring_finder.proofs.RingsApart.{IsAmong}
 
 absent_if : (b : Bool) → not b ≡ true → b ≡ false
 absent_if true e = absurd (cc)

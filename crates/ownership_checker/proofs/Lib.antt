@@ -1,6 +1,3 @@
-pub mod RingsApart
-pub mod HeaderRings
-pub mod ListTests
 pub mod WordsInside
 pub mod NoSlotsLemmas
 pub mod OneRingHas
@@ -28,10 +25,9 @@ pub mod Checking
 pub mod Rows
 pub mod Fresh
 pub mod OutsideRows
-pub mod Numbers
-pub mod Starts
 pub mod LentRows
 pub mod LentWrites
 pub mod LentEvents
 mod WithinProfile
 pub mod Harmless
+pub mod Finishing

@@ -1,4 +1,4 @@
--- While no slot is enabled: no write gives a command but No Op, and no range is under lease but the event segments and their table
+-- While no endpoint is enabled: no write gives a command but No Op and Enable Slot, and no range is under lease but the event segments and their table
 use Rattle.std.proofs.Common.{◌≡◌, ℕ, List, [], ◌∷◌, ◌++◌, Bool, true, false, Option, Some, None, refl, ap, sym, ◌∙◌, arith, inl, inr}
 use Rattle.std.specs.Prelude.{◌==◌, ◌&&◌, not, filter, option_and_then}
 use Rattle.std.specs.List.{flat_map}
@@ -6,7 +6,7 @@ use Rattle.std.proofs.lemmas.Bool.{cases_Bool}
 use Rattle.std.proofs.lemmas.List.{append-nil}
 use Rattle.segments.specs.RingView.{due_positions}
 use Rattle.commands.specs.declared.command.Command.{Command}
-use Rattle.commands.specs.declared.command.Command.TheVariants.{NoOp}
+use Rattle.commands.specs.declared.command.Command.TheVariants.{NoOp, EnableSlot}
 use Rattle.traces.specs.declared.ring.Ring.{Ring}
 use Rattle.traces.specs.declared.header.Header.{Header}
 use Rattle.traces.specs.declared.register.Register.TheVariants.{Erstba}
@@ -21,8 +21,8 @@ use Rattle.ownership_rules.specs.OpenLeases as leases
 use Rattle.ownership_rules.specs.Writes.{holds_of, some_command}
 use Rattle.ownership_checker.specs.Profile.{is_other, is_outside}
 use Rattle.ownership_checker.specs.NoSlots.{NoSlots, IsSetUp, command_in}
-use Rattle.ownership_checker.proofs.RingsApart.{other_number}
-use Rattle.ownership_checker.proofs.HeaderRings.{id_below, not_found}
+use Rattle.ring_finder.proofs.RingsApart.{other_number}
+use Rattle.ring_finder.proofs.HeaderRings.{id_below, not_found}
 
 none_mapped : {X Y : Type 0} (f : X → List Y) → ((x : X) → f x ≡ []) → (xs : List X) → flat_map f xs ≡ []
 none_mapped f none [] = refl
@@ -35,23 +35,24 @@ none_passing f g none (x ∷ xs) = elim (cases_Bool (g x)) [
   | inr fails ↦ rw fails (none_passing f g none xs)
 ]
 
--- no command, or a No Op
-pub passes_none : (test : Command → Bool) → test NoOp ≡ false → (o : Option Command) → holds_of is_other o ≡ false → holds_of test o ≡ false
+-- no command, or one of those that are checked
+pub passes_none : (test : Command → Bool) → ((c : Command) → is_other c ≡ false → test c ≡ false) → (o : Option Command) → holds_of is_other o ≡ false → holds_of test o ≡ false
 unfolding holds_of
 passes_none test fails None idle = refl
-passes_none test fails (Some NoOp) idle = fails
-passes_none test fails (Some _) idle = absurd (cc)
+passes_none test fails (Some c) idle = fails c idle
 
 pub takes_no_device : (k : Known) (o : Option Command) → holds_of is_other o ≡ false → option_and_then (writes.taken_device k) o ≡ None
 unfolding holds_of writes.taken_device
 takes_no_device k None idle = refl
 takes_no_device k (Some NoOp) idle = refl
+takes_no_device k (Some EnableSlot) idle = refl
 takes_no_device k (Some _) idle = absurd (cc)
 
 pub reads_no_context : (h : Header) (p : ℕ) (o : Option Command) → holds_of is_other o ≡ false → leases.range_of_command h p o ≡ []
 unfolding holds_of leases.range_of_command leases.range_of_context
 reads_no_context h p None idle = refl
 reads_no_context h p (Some NoOp) idle = refl
+reads_no_context h p (Some EnableSlot) idle = refl
 reads_no_context h p (Some _) idle = absurd (cc)
 
 -- before the first row
@@ -61,7 +62,7 @@ no_slots_at_first h = record {
   endpoints = λ s i. refl;
   rings = λ s i. refl;
   devices = λ s. refl;
-  commands = λ ring there. record { declared = λ p given. absurd (cc); no_ops = λ p given. absurd (cc); held = λ n at. zero_held n at };
+  commands = λ ring there. record { declared = λ p given. absurd (cc); within = λ p given. absurd (cc); held = λ n at. zero_held n at };
 }
   where
     zero_held : (n : ℕ) → Some 0 ≡ Some n → n ≡ 0
@@ -83,12 +84,12 @@ no_ring h headed none =
     ap (λ o. ring_with h (id_or_none o)) none ∙ not_found (λ r. r.id == 256) h.rings (λ q among. other_number q.id 256 (λ e. omega (arith, e, id_below h headed q among)))
 
 module _ (h : Header) (headed : IsHeader h) (k : Known) (slots : NoSlots h k) where
-  -- a command that was given is no other than No Op
-  pub given_no_op : (ring : Ring) → command_ring h ≡ Some ring → (p : ℕ) → (k.ring (command_id h)).given p ≡ true → holds_of is_other (rings.command_at h k p) ≡ false
+  -- a command that was given is one of these
+  pub given_within : (ring : Ring) → command_ring h ≡ Some ring → (p : ℕ) → (k.ring (command_id h)).given p ≡ true → holds_of is_other (rings.command_at h k p) ≡ false
   unfolding rings.command_at
-  given_no_op ring there p given =
+  given_within ring there p given =
       let id = command_id_is h ring there in
-      ap (λ i. holds_of is_other (command_in (k.ring i).queue p)) id ∙ (slots.commands ring there).no_ops p (ap (λ i. (k.ring i).given p) (sym id) ∙ given)
+      ap (λ i. holds_of is_other (command_in (k.ring i).queue p)) id ∙ (slots.commands ring there).within p (ap (λ i. (k.ring i).given p) (sym id) ∙ given)
 
   pub no_places : command_ring h ≡ None → rings.unfinished_positions h k ≡ []
   unfolding rings.unfinished_positions due_positions shape_of
@@ -102,7 +103,7 @@ module _ (h : Header) (headed : IsHeader h) (k : Known) (slots : NoSlots h k) wh
       by None none = ap (λ ps. flat_map (λ p. leases.range_of_command h p (rings.command_at h k p)) ps) (no_places none)
       by (Some ring) there =
           none_passing (λ p. leases.range_of_command h p (rings.command_at h k p)) (k.ring (command_id h)).given
-          (λ p given. reads_no_context h p (rings.command_at h k p) (given_no_op ring there p given)) (due_positions (shape_of h (command_id h)) (k.ring (command_id h)))
+          (λ p given. reads_no_context h p (rings.command_at h k p) (given_within ring there p given)) (due_positions (shape_of h (command_id h)) (k.ring (command_id h)))
 
   no_entries : leases.entry_ranges k ≡ []
   unfolding leases.entry_ranges leases.range_of_entry
@@ -117,7 +118,7 @@ module _ (h : Header) (headed : IsHeader h) (k : Known) (slots : NoSlots h k) wh
   unfolding leases.open_ranges
   ranges_are = rw (no_contexts, no_entries, no_devices) (append-nil _ ∙ append-nil _ ∙ append-nil _)
 
--- a write inside the profile gives no command but No Op
+-- a write inside the profile gives no command but these
 pub idle_inside : (h : Header) (k : Known) (a w : ℕ) → k.stopped ≡ false → is_outside h k (Write a w) ≡ false → holds_of is_other (writes.command_given h k a w) ≡ false
 unfolding is_outside some_command
 idle_inside h k a w on inside = by k.stopped on inside

@@ -17,9 +17,9 @@ use Rattle.ring_knowledge.specs.Rings.{Position, Crossing, given_of, given_by}
 use Rattle.ownership_rules.specs.OpenLeases as leases
 use Rattle.ownership_checker.specs.NoSlots.{NoSlots}
 use Rattle.ownership_checker.specs.OneRing.{is_owned}
-use Rattle.ownership_checker.proofs.ListTests.{false_unless, or_false, any_append, any_map, any_flat_map}
-use Rattle.ownership_checker.proofs.RingsApart.{IsAmong, Apart, same_or_apart}
-use Rattle.ownership_checker.proofs.HeaderRings.{together, shape_allowed, shape_there, event_here, find_some, one_driver, no_driver, all_from_one, nothing_from}
+use Rattle.ring_finder.proofs.ListTests.{false_unless, or_false, any_append, any_map, any_flat_map}
+use Rattle.ring_finder.proofs.RingsApart.{IsAmong, Apart, same_or_apart}
+use Rattle.ring_finder.proofs.HeaderRings.{together, shape_allowed, shape_there, event_here, find_some, one_driver, no_driver, all_from_one, nothing_from}
 use Rattle.ownership_checker.proofs.WordsInside.{not_owned, gives_no_position, gives_no_crossing}
 use Rattle.ownership_checker.proofs.NoSlotsLemmas.{ranges_are}
 

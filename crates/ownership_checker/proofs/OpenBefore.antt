@@ -1,4 +1,4 @@
--- While no slot is enabled: whether a block, a Link or a range is already under lease
+-- While no endpoint is enabled: whether a block, a Link or a range is already under lease
 use Rattle.std.proofs.Common.{◌≡◌, ◌≢◌, ℕ, ◌+◌, ◌*◌, ◌<◌, ◌≤◌, List, [], ◌∷◌, ◌++◌, Bool, true, false, Option, None, Some, refl, ap, sym, ◌∙◌}
 use Rattle.std.specs.Prelude.{◌==◌, ◌&&◌, ◌||◌, not, map, filter}
 use Rattle.std.specs.List.{list_any, flat_map, range_with_len}
@@ -11,10 +11,10 @@ use Rattle.traces.specs.Header.{IsHeader, is_driver_kind, driver_rings, event_sh
 use Rattle.ring_knowledge.specs.Known.{Known}
 use Rattle.ownership_rules.specs.OpenLeases.{EventSegment, SegmentTable, InputContext, SlotEntry, DeviceContext, Use, Leased, Block, Link, Range, same_leased, is_among, open_on, open_leases, segment_ranges, table_range}
 use Rattle.ownership_checker.specs.NoSlots.{NoSlots}
-use Rattle.ownership_checker.proofs.ListTests.{or_false, and_false, any_append, any_map, any_flat_map, any_nowhere, any_filter}
+use Rattle.ring_finder.proofs.ListTests.{or_false, and_false, any_append, any_map, any_flat_map, any_nowhere, any_filter}
 use Rattle.ring_knowledge.proofs.Ranges.{any_only}
-use Rattle.ownership_checker.proofs.RingsApart.{IsAmong, same_number, other_number}
-use Rattle.ownership_checker.proofs.HeaderRings.{together, one_driver}
+use Rattle.ring_finder.proofs.RingsApart.{IsAmong, same_number, other_number}
+use Rattle.ring_finder.proofs.HeaderRings.{together, one_driver}
 use Rattle.ownership_checker.proofs.NoSlotsLemmas.{ranges_are}
 
 pub same_itself : (l : Leased) → same_leased l l ≡ true

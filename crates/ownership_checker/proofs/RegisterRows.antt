@@ -4,6 +4,7 @@ use Rattle.std.specs.Prelude.{not, ◌&&◌, ◌||◌, is_some, if◌then◌else
 use Rattle.std.proofs.lemmas.Bool.{cond_both}
 use Rattle.segments.specs.RingView.{RingView, leased_positions, leased_crossings}
 use Rattle.event_ring.specs.EventPlaceValue.{EventState}
+use Rattle.device_record.proofs.OtherRows.{after_register}
 use Rattle.event_ring.specs.EventRing.{is_reached_within, erdp_address}
 use Rattle.traces.specs.declared.ring.Ring.{Ring}
 use Rattle.traces.specs.declared.header.Header.{Header}
@@ -114,6 +115,7 @@ module _ (h : Header) (headed : IsHeader h) (r : Register) (v : ℕ) (kept : Kep
       each = λ i q x there is driver. subst (λ (rings : ℕ → RingView). FollowsRing q.shape (rings q.id) x) (sym same.ring) (f.each i q x there is driver);
       registers = follows_registers;
       events = follows_events;
+      devices = after_register h k kept.devices f.devices r v;
     }
 
     learned_is : learned h k (Reg r v) ≡ register_written h k r v

@@ -8,7 +8,7 @@ use Rattle.traces.specs.Header.{command_ring, is_command_kind}
 use Rattle.traces.specs.Register.{base_address}
 use Rattle.ring_knowledge.specs.Known.{Known}
 use Rattle.ownership_rules.specs.Registers.{is_bad_register, is_bad_crcr, is_bad_size, is_bad_table, is_written, is_unwritten}
-use Rattle.ownership_checker.proofs.HeaderRings.{not_found}
+use Rattle.ring_finder.proofs.HeaderRings.{not_found}
 use Rattle.ownership_checker.proofs.Fresh.{none_here}
 
 -- a test that comes to an early end, and one that goes on

@@ -29,14 +29,14 @@ use Rattle.ownership_checker.specs.OneRing.{room_tests, word_tests}
 use Rattle.ownership_checker.specs.declared.fault.StepFault.{StepFault}
 use Rattle.ownership_checker.specs.declared.fault.StepFault.TheVariants.{Refused, Memory}
 use Rattle.ownership_checker.specs.declared.kept.Kept.{Kept}
-use Rattle.ownership_checker.specs.NoSlots.{GivesNoOps, command_in}
+use Rattle.ownership_checker.specs.NoSlots.{GivesWithin, command_in}
 use Rattle.ownership_checker.specs.Profile.{is_other}
 use Rattle.ownership_rules.specs.Writes.{holds_of, some_command}
 use Rattle.ownership_rules.specs.OpenLeases.{open_on}
 use Rattle.ownership_checker.specs.Tracking.{IfRefused, IsDeclared, IsWritten, Follows, IsRowStep}
-use Rattle.ownership_checker.proofs.RingsApart.{IsAmong, Apart, among_at}
-use Rattle.ownership_checker.proofs.HeaderRings.{shape_allowed}
-use Rattle.ownership_checker.proofs.ListTests.{false_unless, and_false}
+use Rattle.ring_finder.proofs.RingsApart.{IsAmong, Apart, among_at}
+use Rattle.ring_finder.proofs.HeaderRings.{shape_allowed}
+use Rattle.ring_finder.proofs.ListTests.{false_unless, and_false}
 use Rattle.ownership_checker.proofs.FirstBroken.{nothing_broken}
 use Rattle.ownership_checker.proofs.DeclarationRules.{broken_inside, declared_nowhere, declared_on_events, declared_on_ring, declared_inside}
 use Rattle.ownership_checker.proofs.WriteRules.{nothing_breaks, owned_by_events, owned_by_table, first_of_ring}
@@ -51,7 +51,7 @@ abbrev pub with_ring : Kept → ℕ → RingRecord → Kept
 with_ring kept n new = record kept { rings = with_item kept.rings n new }
 
 pub has_record : (kept : Kept) (n : ℕ) (new : RingRecord) → HasRecord kept (with_ring kept n new) n new
-has_record kept n new = record { rings = refl; registers = refl; events = refl }
+has_record kept n new = record { rings = refl; registers = refl; events = refl; devices = refl }
 
 module _ (h : Header) (headed : IsHeader h) where
   module _ (id : ℕ) (blocks : List Block) where
@@ -198,7 +198,7 @@ module _ (h : Header) (headed : IsHeader h) where
                 first_of_ring h headed k f.slots on a w idle aligned ring among_n driver has no_table
                 ∙ ap (λ words. first_broken (word_tests ring.shape (k.ring ring.id) words a w)) (fun_ext f.words)
 
-            gives : (new : RingRecord) (x : ℕ) → IsWritten ring.shape (k.ring ring.id) m a w new x → is_command_kind ring.shape.kind ≡ true → GivesNoOps (changed ring.shape (k.ring ring.id) (Writes a w))
+            gives : (new : RingRecord) (x : ℕ) → IsWritten ring.shape (k.ring ring.id) m a w new x → is_command_kind ring.shape.kind ≡ true → GivesWithin (changed ring.shape (k.ring ring.id) (Writes a w))
             gives new x step command =
                 gives_written ring.shape (k.ring ring.id) a w step.sole.0 step.sole.1 (f.slots.commands ring (command_found h headed ring among_n command))
                 (all_declared ring.shape (k.ring ring.id) m a w step.clean) (ap (λ o. holds_of is_other o) (sym (command_there command k)) ∙ idle)

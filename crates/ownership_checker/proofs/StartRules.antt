@@ -16,13 +16,13 @@ use Rattle.event_ring.specs.EventRing.{lists, table_bytes, is_table_fault, is_re
 use Rattle.traces.specs.declared.ring.Ring.{Ring}
 use Rattle.traces.specs.Header.{IsHeader, command_ring, event_ring, event_shape, is_event_kind, shape_or, touches_ring}
 use Rattle.segments.proofs.ShapeFacts.{shape_facts}
-use Rattle.ownership_checker.proofs.HeaderRings.{find_some, shape_allowed}
+use Rattle.ring_finder.proofs.HeaderRings.{find_some, shape_allowed}
 use Rattle.trb.specs.declared.ring_kind.RingKind.TheVariants.{Evt}
 use Rattle.std.proofs.Math.Path.{fun_ext}
 use Rattle.ownership_checker.specs.NoSlots.{NoSlots, IsSetUp}
 use Rattle.std.proofs.lemmas.Bool.{false≢true}
 use Rattle.ownership_checker.proofs.NoSlotsLemmas.{no_devices}
-use Rattle.ownership_checker.proofs.RingsApart.{same_number, other_number}
+use Rattle.ring_finder.proofs.RingsApart.{same_number, other_number}
 
 abbrev either : (started reset run begun lacks : Bool) → Bool
 either started reset run begun lacks = not started && (reset && begun || run && not reset && lacks)

@@ -26,24 +26,24 @@ use Rattle.ring_knowledge.specs.Writes.{with_word}
 use Rattle.ring_knowledge.specs.Registers.{register_written, run_or_stop, valued}
 use Rattle.ownership_rules.specs.Writes.{holds_of}
 use Rattle.ownership_checker.specs.Profile.{is_other}
-use Rattle.ownership_checker.specs.NoSlots.{NoSlots, GivesNoOps, command_in}
-use Rattle.ownership_checker.proofs.ListTests.{or_false}
+use Rattle.ownership_checker.specs.NoSlots.{NoSlots, GivesWithin, command_in}
+use Rattle.ring_finder.proofs.ListTests.{or_false}
 use Rattle.ownership_checker.proofs.OpenBefore.{among_passing}
 
 -- ---- one ring
 
-pub gives_declared : (shape : Shape) (v : RingView) (blocks : List Block) → GivesNoOps v → GivesNoOps (changed shape v (Declares blocks))
+pub gives_declared : (shape : Shape) (v : RingView) (blocks : List Block) → GivesWithin v → GivesWithin (changed shape v (Declares blocks))
 gives_declared shape v blocks g = record {
   declared = λ p given. omega (arith, g.declared p given, length-append v.queue blocks);
-  no_ops = λ p given. ap (λ o. holds_of is_other (option_and_then command_of o)) (slice_get-append v.queue blocks p (g.declared p given)) ∙ g.no_ops p given;
+  within = λ p given. ap (λ o. holds_of is_other (option_and_then command_of o)) (slice_get-append v.queue blocks p (g.declared p given)) ∙ g.within p given;
   held = g.held;
 }
 
-pub gives_opened : (shape : Shape) (v : RingView) → GivesNoOps v → GivesNoOps (changed shape v Opens)
-gives_opened shape v g = record { declared = g.declared; no_ops = g.no_ops; held = λ n at. absurd (cc) }
+pub gives_opened : (shape : Shape) (v : RingView) → GivesWithin v → GivesWithin (changed shape v Opens)
+gives_opened shape v g = record { declared = g.declared; within = g.within; held = λ n at. absurd (cc) }
 
-pub gives_reached : (shape : Shape) (v : RingView) (spot : Spot) → GivesNoOps v → GivesNoOps (changed shape v (Reaches spot))
-gives_reached shape v spot g = record { declared = g.declared; no_ops = g.no_ops; held = g.held }
+pub gives_reached : (shape : Shape) (v : RingView) (spot : Spot) → GivesWithin v → GivesWithin (changed shape v (Reaches spot))
+gives_reached shape v spot g = record { declared = g.declared; within = g.within; held = g.held }
 
 -- the position that a write gives
 the_one : (giving : Option RingGiving) (p : ℕ) → list_any (λ x. p == x) (positions_of giving) ≡ true → positions_of giving ≡ p ∷ []
@@ -66,12 +66,12 @@ is_declared : (v : RingView) (p : ℕ) → is_not_declared v p ≡ false → p <
 unfolding is_not_declared
 is_declared v p e = leb-false (length v.queue) p e
 
-module _ (shape : Shape) (v : RingView) (a w : ℕ) (giving : Option RingGiving) (is : positions_given shape v a w ≡ positions_of giving) (g : GivesNoOps v)
+module _ (shape : Shape) (v : RingView) (a w : ℕ) (giving : Option RingGiving) (is : positions_given shape v a w ≡ positions_of giving) (g : GivesWithin v)
     (all_declared : list_any (is_not_declared v) (positions_given shape v a w) ≡ false)
     (idle : holds_of is_other (option_and_then (command_in v.queue) (slice_get (positions_given shape v a w) 0)) ≡ false) where
   each_given : (p : ℕ) → (v.given p || gives shape v.floor p a w) ≡ true → (p < length v.queue) × (holds_of is_other (command_in v.queue p) ≡ false)
   each_given p given = elim (cases_Bool (v.given p)) [
-    | inl old ↦ (g.declared p old, g.no_ops p old)
+    | inl old ↦ (g.declared p old, g.within p old)
     | inr new ↦
         let gives_it : gives shape v.floor p a w ≡ true = ap (λ b. b || gives shape v.floor p a w) (sym new) ∙ given in
         let one = new_given shape v a w giving is p new gives_it in (
@@ -80,24 +80,24 @@ module _ (shape : Shape) (v : RingView) (a w : ℕ) (giving : Option RingGiving)
         )
   ]
 
-  pub gives_written : GivesNoOps (changed shape v (Writes a w))
-  gives_written = record { declared = λ p given. (each_given p given).0; no_ops = λ p given. (each_given p given).1; held = g.held }
+  pub gives_written : GivesWithin (changed shape v (Writes a w))
+  gives_written = record { declared = λ p given. (each_given p given).0; within = λ p given. (each_given p given).1; held = g.held }
 
 -- ---- all rings
 
 module _ (h : Header) (k : Known) (slots : NoSlots h k) where
-  pub slots_written : (a w : ℕ) → ((ring : Ring) → command_ring h ≡ Some ring → GivesNoOps ((with_word h k a w).ring ring.id)) → NoSlots h (with_word h k a w)
+  pub slots_written : (a w : ℕ) → ((ring : Ring) → command_ring h ≡ Some ring → GivesWithin ((with_word h k a w).ring ring.id)) → NoSlots h (with_word h k a w)
   unfolding with_word
   slots_written a w commands_ = record { endpoints = slots.endpoints; rings = slots.rings; devices = slots.devices; commands = commands_ }
 
-  pub slots_on : (r : ℕ) (change : RingChange) → ((shape : Shape) (v : RingView) → GivesNoOps v → GivesNoOps (changed shape v change)) → NoSlots h (on_ring h k r change)
+  pub slots_on : (r : ℕ) (change : RingChange) → ((shape : Shape) (v : RingView) → GivesWithin v → GivesWithin (changed shape v change)) → NoSlots h (on_ring h k r change)
   unfolding on_ring
   slots_on r change kept = record {
     endpoints = slots.endpoints;
     rings = slots.rings;
     devices = slots.devices;
     commands = λ ring there. elim (cases_Bool (ring.id == r)) [
-      | inl same ↦ rw same (kept (shape_of h r) (k.ring r) (subst (λ (i : ℕ). GivesNoOps (k.ring i)) (eqb-true ring.id r same) (slots.commands ring there)))
+      | inl same ↦ rw same (kept (shape_of h r) (k.ring r) (subst (λ (i : ℕ). GivesWithin (k.ring i)) (eqb-true ring.id r same) (slots.commands ring there)))
       | inr apart ↦ rw apart (slots.commands ring there)
     ];
   }

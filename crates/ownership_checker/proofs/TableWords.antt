@@ -8,7 +8,7 @@ use Rattle.traces.specs.declared.header.Header.{Header}
 use Rattle.traces.specs.Header.{event_ring, event_shape, shape_or}
 use Rattle.traces.specs.Register.{base_address}
 use Rattle.ownership_rules.specs.OpenLeases.{covers, table_range, lease_start, lease_bytes}
-use Rattle.ownership_checker.proofs.ListTests.{or_false}
+use Rattle.ring_finder.proofs.ListTests.{or_false}
 
 pub has_word : (h : Header) (a : ℕ) (o : Option ℕ) (v : ℕ) (b : Bool) → o ≡ Some v → b ≡ overlap a 4 (base_address v) (table_bytes (event_shape h)) → b ≡ list_any (covers h a 4) (table_range h o)
 unfolding table_range covers lease_start lease_bytes

@@ -18,14 +18,17 @@ use Rattle.ring_knowledge.specs.Rings.{on_ring}
 use Rattle.ring_knowledge.specs.RegisterRecords.{FollowsRegisters}
 use Rattle.ring_knowledge.specs.declared.register_record.RegisterRecord.{RegisterRecord}
 use Rattle.event_ring.specs.EventPlaceValue.{EventState}
+use Rattle.device_record.specs.declared.kept.DeviceRecord.{DeviceRecord}
+use Rattle.device_record.specs.Devices.{FollowsDevices}
+use Rattle.device_record.proofs.OtherRows.{after_word, after_ring}
 use Rattle.ring_knowledge.specs.Writes.{with_word, command_given}
 use Rattle.ownership_rules.specs.Writes.{holds_of}
 use Rattle.ownership_checker.specs.Profile.{is_other}
 use Rattle.ownership_checker.specs.declared.kept.Kept.{Kept}
-use Rattle.ownership_checker.specs.NoSlots.{NoSlots, IsSetUp, GivesNoOps}
+use Rattle.ownership_checker.specs.NoSlots.{NoSlots, IsSetUp, GivesWithin}
 use Rattle.ownership_checker.specs.Tracking.{Follows, FollowsEvents}
-use Rattle.ownership_checker.proofs.RingsApart.{IsAmong, Apart, among_at, numbers_apart, same_or_apart, same_number, other_number}
-use Rattle.ownership_checker.proofs.HeaderRings.{together, shape_allowed, shape_there, find_some}
+use Rattle.ring_finder.proofs.RingsApart.{IsAmong, Apart, among_at, numbers_apart, same_or_apart, same_number, other_number}
+use Rattle.ring_finder.proofs.HeaderRings.{together, shape_allowed, shape_there, find_some}
 use Rattle.ownership_checker.proofs.NoSlotsLemmas.{written_is}
 use Rattle.ownership_checker.proofs.StillNoSlots.{slots_written}
 use Rattle.ownership_checker.proofs.WordsInside.{nothing_changed}
@@ -88,6 +91,7 @@ pub record HasRecord (kept after : Kept) (n : ℕ) (new : RingRecord) : Type 0 w
   pub rings : after.rings.items ≡ set kept.rings.items n new
   pub registers : after.registers ≡ kept.registers
   pub events : after.events ≡ kept.events
+  pub devices : after.devices ≡ kept.devices
 
 module _ (h : Header) (headed : IsHeader h) (k : Known) (kept : Kept) (m : ℕ → ℕ) (f : Follows h k kept m) where
   -- the record of one ring is a new one, and the others hold what is known after the row too
@@ -102,10 +106,10 @@ module _ (h : Header) (headed : IsHeader h) (k : Known) (kept : Kept) (m : ℕ �
   ]
 
   -- another record of one ring, where nothing but rings and memory has changed
-  with_record : (l : Known) → IsBeside k l → NoSlots h l → (o : ℕ → ℕ) → ((b : ℕ) → l.memory b ≡ o b) → (n : ℕ) (ring : Ring) → slice_get h.rings n ≡ Some ring → (new : RingRecord) →
+  with_record : (l : Known) → IsBeside k l → ((d : DeviceRecord) → FollowsDevices k d → FollowsDevices l d) → NoSlots h l → (o : ℕ → ℕ) → ((b : ℕ) → l.memory b ≡ o b) → (n : ℕ) (ring : Ring) → slice_get h.rings n ≡ Some ring → (new : RingRecord) →
       FollowsRing ring.shape (l.ring ring.id) new → ((q : Ring) → IsAmong q h.rings → Apart q ring → (r : RingRecord) → FollowsRing q.shape (k.ring q.id) r → FollowsRing q.shape (l.ring q.id) r) →
       (after : Kept) → HasRecord kept after n new → Follows h l after o
-  with_record l beside slots o words n ring at new here others after has = record {
+  with_record l beside devices_ slots o words n ring at new here others after has = record {
     slots = slots;
     set_up = set_up_still h k l beside f.set_up;
     words = words;
@@ -113,6 +117,7 @@ module _ (h : Header) (headed : IsHeader h) (k : Known) (kept : Kept) (m : ℕ �
     each = λ i q r there is driver. one_new l n ring at new here others i q r there (ap (λ rs. slice_get rs i) (sym has.rings) ∙ is) driver;
     registers = subst (λ (r : RegisterRecord). FollowsRegisters l r) (sym has.registers) (registers_still h k l beside kept.registers f.registers);
     events = subst (λ (e : Option EventState). FollowsEvents h l e) (sym has.events) (events_still h k l beside kept.events f.events);
+    devices = subst (λ (d : DeviceRecord). FollowsDevices l d) (sym has.devices) (devices_ kept.devices f.devices);
   }
 
   module _ (a w : ℕ) (idle : holds_of is_other (command_given h k a w) ≡ false) (after : ℕ → ℕ) (made : (b : ℕ) → after b ≡ put m a w b) where
@@ -135,11 +140,11 @@ module _ (h : Header) (headed : IsHeader h) (k : Known) (kept : Kept) (m : ℕ �
       other_written : (q : Ring) → IsAmong q h.rings → is_inside q.shape a ≡ false → (r : RingRecord) → FollowsRing q.shape (k.ring q.id) r → FollowsRing q.shape ((with_word h k a w).ring q.id) r
       other_written q among outside r t = subst (λ (v : RingView). FollowsRing q.shape v r) (sym (view_outside q among outside)) t
 
-      commands_outside : (ring : Ring) → command_ring h ≡ Some ring → is_inside ring.shape a ≡ false → GivesNoOps ((with_word h k a w).ring ring.id)
+      commands_outside : (ring : Ring) → command_ring h ≡ Some ring → is_inside ring.shape a ≡ false → GivesWithin ((with_word h k a w).ring ring.id)
       unfolding command_ring
       commands_outside ring there outside =
           let among = (find_some (λ r. is_command_kind r.shape.kind) h.rings ring there).0 in
-          subst (λ (v : RingView). GivesNoOps v) (sym (view_outside ring among outside)) (f.slots.commands ring there)
+          subst (λ (v : RingView). GivesWithin v) (sym (view_outside ring among outside)) (f.slots.commands ring there)
 
       -- after a write outside all rings
       module _ (outside : (q : Ring) → IsAmong q h.rings → is_inside q.shape a ≡ false) where
@@ -156,20 +161,21 @@ module _ (h : Header) (headed : IsHeader h) (k : Known) (kept : Kept) (m : ℕ �
           each = λ i q r there is driver. other_written q (among_at h.rings i q there) (outside q (among_at h.rings i q there)) r (f.each i q r there is driver);
           registers = registers_still h k (with_word h k a w) beside_word kept.registers f.registers;
           events = events_still h k (with_word h k a w) beside_word kept.events f.events;
+          devices = after_word h k kept.devices f.devices a w;
         })
 
       -- after a write inside a ring
       module _ (n : ℕ) (ring : Ring) (at : slice_get h.rings n ≡ Some ring) (outside : (q : Ring) → IsAmong q h.rings → Apart q ring → is_inside q.shape a ≡ false)
-          (gives : is_command_kind ring.shape.kind ≡ true → GivesNoOps (changed ring.shape (k.ring ring.id) (Writes a w))) where
-        commands_on : (c : Ring) → command_ring h ≡ Some c → GivesNoOps ((with_word h k a w).ring c.id)
+          (gives : is_command_kind ring.shape.kind ≡ true → GivesWithin (changed ring.shape (k.ring ring.id) (Writes a w))) where
+        commands_on : (c : Ring) → command_ring h ≡ Some c → GivesWithin ((with_word h k a w).ring c.id)
         unfolding command_ring
         commands_on c there =
             let found = find_some (λ r. is_command_kind r.shape.kind) h.rings c there in
             elim (same_or_apart h.rings (together h headed) c ring found.0 (among_at h.rings n ring at)) [
               | inl same ↦
                   let command = ap (λ (r : Ring). is_command_kind r.shape.kind) same ∙ found.1 in
-                  subst (λ (r : Ring). GivesNoOps ((with_word h k a w).ring r.id)) same
-                  (subst (λ (v : RingView). GivesNoOps v) (sym (view_written ring (among_at h.rings n ring at))) (gives command))
+                  subst (λ (r : Ring). GivesWithin ((with_word h k a w).ring r.id)) same
+                  (subst (λ (v : RingView). GivesWithin v) (sym (view_written ring (among_at h.rings n ring at))) (gives command))
               | inr apart ↦ commands_outside c there (outside c found.0 apart)
             ]
 
@@ -179,7 +185,7 @@ module _ (h : Header) (headed : IsHeader h) (k : Known) (kept : Kept) (m : ℕ �
         pub written_on : (new : RingRecord) → FollowsRing ring.shape (changed ring.shape (k.ring ring.id) (Writes a w)) new → (kept_after : Kept) → HasRecord kept kept_after n new →
             Follows h (learned h k (Write a w)) kept_after after
         written_on new follows kept_after has = subst (λ (l : Known). Follows h l kept_after after) (sym (written_is h k a w idle))
-            (with_record (with_word h k a w) beside_word slots_on_ring after words_written n ring at new
+            (with_record (with_word h k a w) beside_word (λ d g. after_word h k d g a w) slots_on_ring after words_written n ring at new
             (subst (λ (v : RingView). FollowsRing ring.shape v new) (sym (view_written ring (among_at h.rings n ring at))) follows)
             (λ q among apart r t. other_written q among (outside q among apart) r t) kept_after has)
 
@@ -204,6 +210,6 @@ module _ (h : Header) (headed : IsHeader h) (k : Known) (kept : Kept) (m : ℕ �
     pub changed_on : NoSlots h (on_ring h k ring.id change) → (new : RingRecord) → FollowsRing ring.shape (changed ring.shape (k.ring ring.id) change) new → (after : Kept) → HasRecord kept after n new →
         Follows h (on_ring h k ring.id change) after m
     changed_on slots new follows after has =
-        with_record (on_ring h k ring.id change) beside_ring slots m words_changed n ring at new
+        with_record (on_ring h k ring.id change) beside_ring (λ d g. after_ring h k d g ring.id change) slots m words_changed n ring at new
         (subst (λ (v : RingView). FollowsRing ring.shape v new) (sym view_changed) follows)
         (λ q among apart r t. subst (λ (v : RingView). FollowsRing q.shape v r) (sym (other_changed q apart.ids)) t) after has

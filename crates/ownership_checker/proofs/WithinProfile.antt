@@ -1,10 +1,10 @@
 -- Worked verdicts within the profile: rows that are outside are refused as such, and a row that is refused before them comes first
-use Rattle.std.specs.Prelude.{◌≡◌, ℕ, List, [], ◌∷◌, ◌++◌, Option, Some, None, refl}
+use Rattle.std.specs.Prelude.{◌≡◌, ℕ, ◌+◌, ◌*◌, List, [], ◌∷◌, ◌++◌, Option, Some, None, refl}
 use Rattle.trb.specs.declared.block.Block.{Block}
 use Rattle.trb.specs.declared.ring_kind.RingKind.TheVariants.{Cmd, Evt, Xfer}
 use Rattle.contexts.specs.declared.size.ContextSize.TheVariants.{Bytes32}
 use Rattle.traces.specs.declared.header.Header.{Header}
-use Rattle.traces.specs.declared.register.Register.TheVariants.{Usbcmd, Crcr, Erstsz, Erstba, Erdp}
+use Rattle.traces.specs.declared.register.Register.TheVariants.{Config, Usbcmd, Crcr, Erstsz, Erstba, Erdp}
 use Rattle.traces.specs.declared.row.Row.{Row}
 use Rattle.traces.specs.declared.row.Row.TheVariants.{Sub, Write, Reg, Bell, Read}
 use Rattle.ring_knowledge.specs.Known.{nothing}
@@ -33,6 +33,9 @@ no_op_command = record { w = 0 ∷ 0 ∷ 0 ∷ 0x5c00 ∷ [] }
 
 abbrev enable_slot : Block
 enable_slot = record { w = 0 ∷ 0 ∷ 0 ∷ 0x2400 ∷ [] }
+
+abbrev disable_slot : Block
+disable_slot = record { w = 0 ∷ 0 ∷ 0 ∷ 0x1002800 ∷ [] }
 
 -- the set-up and the start, with the segment table at 50000: seven rows
 abbrev start : List Row
@@ -82,12 +85,16 @@ pub no_op_given : within (Sub 0 (no_op_command ∷ []) ∷ Write 0x1000c 0x5c01 
 unfolding profile_on_literals
 no_op_given = refl
 
--- a command other than No Op is outside where it is given, and not where it is declared
-pub command_declared : within (Sub 0 (enable_slot ∷ []) ∷ []) ≡ None
+pub enable_slot_given : within (Sub 0 (enable_slot ∷ []) ∷ Write 0x1000c 0x2401 ∷ []) ≡ None
+unfolding profile_on_literals
+enable_slot_given = refl
+
+-- a command other than these is outside where it is given, and not where it is declared
+pub command_declared : within (Sub 0 (disable_slot ∷ []) ∷ []) ≡ None
 unfolding profile_on_literals
 command_declared = refl
 
-pub command_given : within (Sub 0 (enable_slot ∷ []) ∷ Write 0x1000c 0x2401 ∷ []) ≡ Some (7, NotInProfile)
+pub command_given : within (Sub 0 (disable_slot ∷ []) ∷ Write 0x1000c 0x1002801 ∷ []) ≡ Some (7, NotInProfile)
 unfolding profile_on_literals
 command_given = refl
 
@@ -138,7 +145,7 @@ pub twice : within (start ++ given ++ Bell 0 0 ∷ Read (completion 0x10000) ∷
 unfolding profile_on_literals
 twice = refl
 
--- the controller's own events are possible at any time, those of endpoints while no slot is enabled at none
+-- the controller's own events are possible at any time, those of endpoints while no endpoint is enabled at none
 pub own_event : within (start ++ Read wrapped ∷ []) ≡ None
 unfolding profile_on_literals
 own_event = refl
@@ -146,3 +153,41 @@ own_event = refl
 pub endpoint_event : within (start ++ Read transfer ∷ []) ≡ Some (13, ImpossibleEvent)
 unfolding profile_on_literals
 endpoint_event = refl
+
+-- ---- Enable Slot
+
+-- CONFIG enables slot 1 alone, and an Enable Slot is given: eleven rows
+abbrev enabling : List Row
+enabling = Reg Config 1 ∷ start ++ Sub 0 (enable_slot ∷ []) ∷ Write 0x1000c 0x2401 ∷ Bell 0 0 ∷ []
+
+-- the success of the command at an address with a slot, and its failure
+abbrev answered : ℕ → ℕ → Block
+answered address slot = record { w = address ∷ 0 ∷ 0x1000000 ∷ (slot * 0x1000000 + 0x8401) ∷ [] }
+
+abbrev no_slot_left : Block
+no_slot_left = record { w = 0x10000 ∷ 0 ∷ 0x9000000 ∷ 0x8401 ∷ [] }
+
+-- it answers a slot that CONFIG enables, or fails
+pub slot_answered : within (enabling ++ Read (answered 0x10000 1) ∷ Write 0x10008 0 ∷ []) ≡ None
+unfolding profile_on_literals
+slot_answered = refl
+
+pub slot_denied : within (enabling ++ Read no_slot_left ∷ Write 0x10008 0 ∷ []) ≡ None
+unfolding profile_on_literals
+slot_denied = refl
+
+pub slot_zero : within (enabling ++ Read (answered 0x10000 0) ∷ []) ≡ Some (17, ImpossibleEvent)
+unfolding profile_on_literals
+slot_zero = refl
+
+pub slot_above_config : within (enabling ++ Read (answered 0x10000 2) ∷ []) ≡ Some (17, ImpossibleEvent)
+unfolding profile_on_literals
+slot_above_config = refl
+
+-- a slot is answered once, for it is Enabled from then on
+abbrev again : List Row
+again = enabling ++ Read (answered 0x10000 1) ∷ Sub 0 (enable_slot ∷ []) ∷ Write 0x1001c 0x2401 ∷ Bell 0 0 ∷ []
+
+pub slot_twice : within (again ++ Read (answered 0x10010 1) ∷ []) ≡ Some (21, ImpossibleEvent)
+unfolding profile_on_literals
+slot_twice = refl

@@ -14,7 +14,7 @@ use Rattle.segments.proofs.DataPlaces.{link_aligned}
 use Rattle.segments.proofs.PlaceAtLemmas.{place_at-data, place_at-link, is_inside-place_at}
 use Rattle.segments.proofs.Crossings.{crosses, crossed_link, link_address_is}
 use Rattle.ownership_checker.specs.OneRing.{is_owned}
-use Rattle.ownership_checker.proofs.ListTests.{false_unless, and_left, and_right, and_false, or_false, any_nowhere, any_filter, filter_nothing}
+use Rattle.ring_finder.proofs.ListTests.{false_unless, and_left, and_right, and_false, or_false, any_nowhere, any_filter, filter_nothing}
 
 module _ (shape : Shape) (allowed : IsShape shape) (a : ℕ) (aligned : a % 4 ≡ 0) where
   block_inside : (p : ℕ) → address_of shape p ≤ a → a < address_of shape p + 16 → is_inside shape a ≡ true

@@ -1,4 +1,4 @@
--- While no slot is enabled: which rules a write breaks
+-- While no endpoint is enabled: which rules a write breaks
 use Rattle.std.proofs.Common.{◌≡◌, ℕ, ◌%◌, List, [], ◌∷◌, Bool, true, false, Some, refl, ap, ◌∙◌}
 use Rattle.std.specs.Prelude.{◌||◌, map, if◌then◌else◌}
 use Rattle.std.specs.List.{list_any}
@@ -10,7 +10,7 @@ use Rattle.traces.specs.declared.header.Header.{Header}
 use Rattle.traces.specs.declared.row.Row.TheVariants.{Write}
 use Rattle.traces.specs.Header.{IsHeader, is_driver_kind, is_event_kind, shape_of}
 use Rattle.commands.specs.declared.command.Command.{Command}
-use Rattle.commands.specs.declared.command.Command.TheVariants.{NoOp, AddressDevice}
+use Rattle.commands.specs.declared.command.Command.TheVariants.{NoOp, EnableSlot, AddressDevice}
 use Rattle.commands.specs.Command.{name_one_slot}
 use Rattle.ring_knowledge.specs.Known.{Known}
 use Rattle.ring_knowledge.specs.Rings.{Given, Position, Crossing, given_by, unfinished}
@@ -25,10 +25,10 @@ use Rattle.ownership_rules.specs.Rules.{broken, tests}
 use Rattle.ownership_checker.specs.NoSlots.{NoSlots}
 use Rattle.ownership_checker.specs.Profile.{is_other}
 use Rattle.ownership_checker.specs.OneRing.{is_owned, word_tests}
-use Rattle.ownership_checker.proofs.ListTests.{or_false, any_append, any_map, any_nowhere}
+use Rattle.ring_finder.proofs.ListTests.{or_false, any_append, any_map, any_nowhere}
 use Rattle.ownership_checker.proofs.FirstBroken.{first_broken-is}
-use Rattle.ownership_checker.proofs.RingsApart.{IsAmong}
-use Rattle.ownership_checker.proofs.HeaderRings.{shape_there}
+use Rattle.ring_finder.proofs.RingsApart.{IsAmong}
+use Rattle.ring_finder.proofs.HeaderRings.{shape_there}
 use Rattle.ownership_checker.proofs.NoSlotsLemmas.{passes_none}
 use Rattle.ownership_checker.proofs.OneRingHas.{is_in_table, leased_in_table, leased_nowhere, given_nowhere, leased_in_events, leased_here, given_by_one}
 
@@ -45,26 +45,34 @@ none_broken : (owned other not_declared not_whole wrong interrupting command bus
     ≡ left_over owned other not_declared not_whole wrong interrupting
 none_broken owned other not_declared not_whole wrong interrupting command busy moved left_out binding a b c d e = rw (a, b, c, d, e) refl
 
--- a No Op breaks no rule of commands
+-- a No Op and an Enable Slot break no rule of commands
 module _ (h : Header) (k : Known) where
-  no_bad_command : commands.is_bad_command h k NoOp ≡ false
+  no_bad_command : (c : Command) → is_other c ≡ false → commands.is_bad_command h k c ≡ false
   unfolding commands.is_bad_command commands.names_disabled_slot commands.names_disabled_endpoint commands.has_bad_context commands.has_bad_content
-  no_bad_command = refl
+  no_bad_command NoOp idle = refl
+  no_bad_command EnableSlot idle = refl
+  no_bad_command _ idle = absurd (cc)
 
-  no_busy_command : commands.is_busy h k NoOp ≡ false
+  no_busy_command : (c : Command) → is_other c ≡ false → commands.is_busy h k c ≡ false
   unfolding commands.is_busy
-  no_busy_command = any_nowhere (name_one_slot NoOp) (λ c. refl) (unfinished h k)
+  no_busy_command NoOp idle = any_nowhere (name_one_slot NoOp) (λ c. refl) (unfinished h k)
+  no_busy_command EnableSlot idle = any_nowhere (name_one_slot EnableSlot) (λ c. refl) (unfinished h k)
+  no_busy_command _ idle = absurd (cc)
 
-  no_left_out_command : commands.has_left_out_endpoint h k NoOp ≡ false
+  no_left_out_command : (c : Command) → is_other c ≡ false → commands.has_left_out_endpoint h k c ≡ false
   unfolding commands.has_left_out_endpoint
-  no_left_out_command = refl
+  no_left_out_command NoOp idle = refl
+  no_left_out_command EnableSlot idle = refl
+  no_left_out_command _ idle = absurd (cc)
 
-  no_bad_move : (moves.is_bad_binding h k NoOp || moves.is_bad_move h k NoOp) ≡ false
+  no_bad_move : (c : Command) → is_other c ≡ false → (moves.is_bad_binding h k c || moves.is_bad_move h k c) ≡ false
   unfolding moves.is_bad_binding moves.is_bad_move moves.binds moves.has_repeats
-  no_bad_move = refl
+  no_bad_move NoOp idle = refl
+  no_bad_move EnableSlot idle = refl
+  no_bad_move _ idle = absurd (cc)
 
 module _ (h : Header) (headed : IsHeader h) (k : Known) (slots : NoSlots h k) (on : k.stopped ≡ false) (a w : ℕ) (idle : holds_of is_other (command_given h k a w) ≡ false) where
-  no_command : (test : Command → Bool) → test NoOp ≡ false → some_command h k a w test ≡ false
+  no_command : (test : Command → Bool) → ((c : Command) → is_other c ≡ false → test c ≡ false) → some_command h k a w test ≡ false
   unfolding some_command
   no_command test fails = passes_none test fails (command_given h k a w) idle
 

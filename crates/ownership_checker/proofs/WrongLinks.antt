@@ -8,7 +8,7 @@ use Rattle.trb.specs.Kind.{is_link}
 use Rattle.segments.specs.ShapeValue.{Shape}
 use Rattle.segments.specs.Places.{link_target, toggles}
 use Rattle.segments.specs.Givings.{is_wrong_link, same}
-use Rattle.ownership_checker.proofs.RingsApart.{same_number, other_number}
+use Rattle.ring_finder.proofs.RingsApart.{same_number, other_number}
 
 module _ (shape : Shape) (i : ℕ) (b : Block) where
   pub leads_elsewhere : (aligned (pointer b) ≡ link_target shape i → ⊥) → true ≡ is_wrong_link shape i b

@@ -3,7 +3,6 @@ pub mod NoSlots
 pub mod OneRing
 pub mod Verdicts
 pub mod Tracking
-pub mod Finding
 pub mod OnLiterals
 pub mod Walks
 pub mod Lending

@@ -1,4 +1,4 @@
--- What is known while no command but No Op was given: no slot is enabled, and no device context is under lease
+-- What is known while no command but No Op and Enable Slot was given: no endpoint is enabled, and no device context is under lease
 use Rattle.std.specs.Prelude.{◌≡◌, ℕ, ◌<◌, true, false, List, length, Option, None, Some, option_and_then, slice_get, is_some}
 use Rattle.trb.specs.declared.block.Block.{Block}
 use Rattle.segments.specs.RingView.{RingView}
@@ -17,17 +17,17 @@ use Rattle.ownership_checker.specs.Profile.{is_other}
 abbrev pub command_in : List Block → ℕ → Option Command
 command_in queue p = option_and_then command_of (slice_get queue p)
 
--- of the command ring: what was given was declared, and is no command but No Op; it was never held but at its beginning
-pub record GivesNoOps (v : RingView) : Type 0 where
+-- of the command ring: what was given was declared, and is one of these commands; it was never held but at its beginning
+pub record GivesWithin (v : RingView) : Type 0 where
   pub declared : (p : ℕ) → v.given p ≡ true → p < length v.queue
-  pub no_ops : (p : ℕ) → v.given p ≡ true → holds_of is_other (command_in v.queue p) ≡ false
+  pub within : (p : ℕ) → v.given p ≡ true → holds_of is_other (command_in v.queue p) ≡ false
   pub held : (n : ℕ) → v.held ≡ Some n → n ≡ 0
 
 pub record NoSlots (h : Header) (k : Known) : Type 0 where
   pub endpoints : (s i : ℕ) → k.endpoint_state s i ≡ Off
   pub rings : (s i : ℕ) → k.ring_of s i ≡ None
   pub devices : (s : ℕ) → k.device s ≡ None
-  pub commands : (ring : Ring) → command_ring h ≡ Some ring → GivesNoOps (k.ring ring.id)
+  pub commands : (ring : Ring) → command_ring h ≡ Some ring → GivesWithin (k.ring ring.id)
 
 -- what the rules of registers and events keep of the set-up
 pub record IsSetUp (h : Header) (k : Known) : Type 0 where

@@ -1,5 +1,5 @@
--- What is left of the rules while no slot is enabled: those of one ring
-use Rattle.std.specs.Prelude.{ℕ, ◌==◌, ◌||◌, Bool, not, List, [], ◌∷◌, ◌++◌, length, nat_lt, is_none}
+-- What is left of the rules while no endpoint is enabled: those of one ring
+use Rattle.std.specs.Prelude.{ℕ, ◌==◌, ◌||◌, Bool, not, List, [], ◌∷◌, ◌++◌, length, nat_lt}
 use Rattle.std.specs.List.{list_any}
 use Rattle.trb.specs.declared.block.Block.{Block}
 use Rattle.trb.specs.declared.ring_kind.RingKind.{RingKind}
@@ -10,6 +10,8 @@ use Rattle.segments.specs.Places.{overlap, address_of, link_address}
 use Rattle.segments.specs.Ceiling.{ceiling}
 use Rattle.segments.specs.RingView.{RingView, floor_number, leased_positions, leased_crossings, positions_given, crossings_given}
 use Rattle.segments.specs.Givings.{has_no_room, is_other_than_declared, is_not_declared, is_not_whole, leads_wrong, interrupts}
+use Rattle.ring_knowledge.specs.Known.{Known}
+use Rattle.ownership_rules.specs.Events.{can_finish}
 use Rattle.ownership_rules.specs.Refusal.{Test}
 use Rattle.ownership_rules.specs.declared.refusal.Refusal.TheVariants.{WriteToOwned, NotAsSubmitted, NotDeclared, NotWhole, LinkFault, RingFull, BadDescriptor, NotInProfile}
 use Rattle.ownership_checker.specs.NoSlots.{command_in}
@@ -47,9 +49,9 @@ form_tests kind blocks = (BadDescriptor, is_bad_descriptor kind blocks) ∷ (Not
 abbrev pub room_tests : Shape → RingView → List Block → List Test
 room_tests shape v blocks = (RingFull, has_no_room shape v (length blocks)) ∷ form_tests shape.kind blocks
 
--- of a completion: the controller can't have come to the next command, or another address is named, or there is no code, or no
--- command is declared there
-abbrev pub is_no_completion : Shape → RingView → Block → Bool
-is_no_completion shape v b =
+-- of a completion: the controller can't have come to the next command, or another address is named, or there is no code, or
+-- the command can't have been finished so
+abbrev pub is_no_completion : Known → Shape → RingView → Block → Bool
+is_no_completion k shape v b =
     not (nat_lt (floor_number v) (ceiling shape v)) || not (pointer b == address_of shape (floor_number v)) || code b == 0
-    || is_none (command_in v.queue (floor_number v))
+    || not (can_finish k b (command_in v.queue (floor_number v)))

@@ -1,7 +1,7 @@
--- The verdict within what is checked for now: a write that gives a command other than No Op is outside
+-- The verdict within what is checked for now: a write that gives a command other than No Op and Enable Slot is outside
 use Rattle.std.specs.Prelude.{ℕ, ◌+◌, ◌&&◌, if◌then◌else◌, Bool, true, false, not, List, [], ◌∷◌, Option, None}
 use Rattle.commands.specs.declared.command.Command.{Command}
-use Rattle.commands.specs.declared.command.Command.TheVariants.{NoOp}
+use Rattle.commands.specs.declared.command.Command.TheVariants.{NoOp, EnableSlot}
 use Rattle.traces.specs.declared.header.Header.{Header}
 use Rattle.traces.specs.declared.row.Row.{Row}
 use Rattle.traces.specs.declared.row.Row.TheVariants.{Sub, Write, Reg, Bell, Read}
@@ -12,13 +12,14 @@ use Rattle.ownership_rules.specs.declared.refusal.Refusal.TheVariants.{NotInProf
 use Rattle.ownership_rules.specs.Rules.{broken, first_or}
 use Rattle.ownership_rules.specs.Writes.{some_command}
 
--- the command is another than No Op
+-- the command is another than No Op and Enable Slot
 abbrev pub is_other : Command → Bool
 is_other NoOp = false
+is_other EnableSlot = false
 is_other _ = true
 
 module _ (h : Header) where
-  -- a row that is refused whatever else it breaks: before the stop, a write that gives a command other than No Op
+  -- a row that is refused whatever else it breaks: before the stop, a write that gives a command other than these
   unfoldable pub is_outside : Known → Row → Bool
   is_outside k (Sub r blocks) = false
   is_outside k (Write a w) = not k.stopped && some_command h k a w is_other

@@ -12,6 +12,7 @@ use Rattle.ring_knowledge.specs.declared.ring_record.RingRecord.{RingRecord}
 use Rattle.ring_knowledge.specs.declared.ring_record.RingGiving.{RingGiving}
 use Rattle.ring_knowledge.specs.RingRecords.{FollowsRing, positions_of}
 use Rattle.ring_knowledge.specs.RegisterRecords.{FollowsRegisters}
+use Rattle.device_record.specs.Devices.{FollowsDevices}
 use Rattle.event_ring.specs.EventPlaceValue.{EventState}
 use Rattle.event_ring.specs.EventRing.{position_from, erdp_address}
 use Rattle.ring_knowledge.specs.Known.{Known, nothing}
@@ -21,6 +22,7 @@ use Rattle.ownership_rules.specs.Refusal.{first_broken}
 use Rattle.ownership_rules.specs.Rules.{broken, verdict_from}
 use Rattle.ownership_rules.specs.Clean.{IsClean}
 use Rattle.ownership_rules.specs.Leases.{begun}
+use Rattle.safety.specs.Keeps.{DriverKeeps}
 use Rattle.safety.specs.KeptHistories.{MayRead, MayReadAll}
 use Rattle.lease_book.specs.declared.lease_book.LeaseBook.{LeaseBook}
 use Rattle.lease_book.specs.Books.{FollowsLeases}
@@ -68,7 +70,7 @@ FollowsEvents h k (Some e) = FollowsPlace h k e
 abbrev pub IsMoved : Header → Known → Option EventState → ℕ → Type 0
 IsMoved h k o value = FollowsEvents h (record k { dequeue = position_from (event_shape h) k.dequeue (erdp_address value) }) o
 
--- the records, one of each ring, and the memory hold what is known
+-- the records, those of the rings one of each, and the memory hold what is known
 pub record Follows (h : Header) (k : Known) (kept : Kept) (memory : ℕ → ℕ) : Type 0 where
   pub slots : NoSlots h k
   pub set_up : IsSetUp h k
@@ -78,6 +80,12 @@ pub record Follows (h : Header) (k : Known) (kept : Kept) (memory : ℕ → ℕ)
       is_driver_kind ring.shape.kind ≡ true → FollowsRing ring.shape (k.ring ring.id) r
   pub registers : FollowsRegisters k kept.registers
   pub events : FollowsEvents h k kept.events
+  pub devices : FollowsDevices k kept.devices
+
+-- and until the stop the driver keeps what follows from its keeping the rules
+pub record IsTracked (h : Header) (k : Known) (kept : Kept) (memory : ℕ → ℕ) : Type 0 where
+  pub follows : Follows h k kept memory
+  pub keeps : k.stopped ≡ false → DriverKeeps h k
 
 -- records of the first rings, of which nothing is known
 pub record IsFreshSo (rings : List Ring) (records : List RingRecord) (count : ℕ) : Type 0 where
@@ -122,5 +130,5 @@ IsWithin (Some e) n = e.counts.reads ≤ n
 pub record IsProgress (h : Header) (rows : List Row) (first done number : ℕ) (kept : Kept) (memory : ℕ → ℕ) (book : LeaseBook) : Type 0 where
   pub numbered : number ≡ first + done
   pub few_reads : IsWithin kept.events done
-  pub checked : IsChecked h rows first done (λ k. Follows h k kept memory)
+  pub checked : IsChecked h rows first done (λ k. IsTracked h k kept memory)
   pub lent : FollowsLeases h first (reverse (take done rows)) book

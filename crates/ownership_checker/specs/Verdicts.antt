@@ -1,5 +1,5 @@
 -- What the check of a trace answers
-use Rattle.std.specs.Prelude.{Some, None, ◌≡◌, ℕ, ◌-◌, false, List, [], ◌∷◌, length, slice_get, reverse, take}
+use Rattle.std.specs.Prelude.{Some, None, ◌≡◌, ℕ, ◌-◌, false, List, [], ◌∷◌, slice_get, reverse, take}
 use Rattle.traces.specs.declared.header.Header.{Header}
 use Rattle.traces.specs.declared.row.Row.{Row}
 use Rattle.ring_knowledge.specs.declared.lease.Lease.{Lease}

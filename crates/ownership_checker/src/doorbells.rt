@@ -7,15 +7,15 @@ ghost use Rattle.ring_knowledge.specs.Known.{Known};
 ghost use Rattle.ring_knowledge.specs.RegisterRecords.{FollowsRegisters};
 ghost use Rattle.ownership_rules.specs.Refusal.{first_of};
 ghost use Rattle.ownership_rules.specs.Doorbells.{is_bad_doorbell};
-ghost use Rattle.ownership_checker.specs.Finding.{IsFinder};
+ghost use Rattle.ring_finder.specs.Finding.{IsFinder};
 ghost use Rattle.ownership_checker.specs.NoSlots.{NoSlots};
 ghost use Rattle.ownership_checker.specs.Profile.{broken_within};
 ghost use Rattle.ownership_checker.specs.Tracking.{Follows, IfRefused, IsRowStep};
 
 use crate::fault::StepFault;
-use crate::finder::Finder;
 use crate::kept::Kept;
 use ownership_rules::Refusal;
+use ring_finder::Finder;
 use ring_knowledge::RegisterRecord;
 use traces::Header;
 
@@ -45,7 +45,7 @@ pub fn check_doorbell(
     Ok(())
 }
 
-/// Whether a doorbell rings before the start, or is another than that of the command ring: while no slot is enabled no
+/// Whether a doorbell rings before the start, or is another than that of the command ring: while no endpoint is enabled no
 /// endpoint's may ring.
 fn is_bad_doorbell(registers: &RegisterRecord, slot: u8, target: u8) -> bool
     ensures { (h : Header) (k : Known) → NoSlots h k → FollowsRegisters k registers.now → result ≡ is_bad_doorbell h k slot target }

@@ -1,5 +1,5 @@
 //! A row of an event that was read: xHCI 4.6, 4.9.4, 6.4.2.
-ghost use Rattle.std.specs.Prelude.{◌≡◌, ◌+◌, ◌-◌, ◌<◌, ◌^◌, ◌==◌, ◌||◌, ◌&&◌, not, ℕ, Some, true, false, length, nat_lt, is_none, IfErr, OnOk};
+ghost use Rattle.std.specs.Prelude.{◌≡◌, ◌+◌, ◌-◌, ◌<◌, ◌^◌, ◌==◌, ◌||◌, ◌&&◌, not, ℕ, Some, true, false, length, nat_lt, IfErr, OnOk};
 ghost use Rattle.trb.specs.Bits.{is_set};
 ghost use Rattle.trb.specs.Block.{cycle, kind, word};
 ghost use Rattle.trb.specs.CompletionCode.{is_transfer_code};
@@ -13,24 +13,25 @@ ghost use Rattle.traces.specs.Header.{IsHeader, event_shape};
 ghost use Rattle.traces.specs.Limits.{most_lines};
 ghost use Rattle.traces.specs.declared.header.Header.{Header};
 ghost use Rattle.traces.specs.declared.row.Row.TheVariants.{Read};
-ghost use Rattle.commands.specs.Command.{command_of};
 ghost use Rattle.ring_knowledge.specs.Known.{Known};
 ghost use Rattle.ring_knowledge.specs.Learned.{event_read};
+ghost use Rattle.ring_knowledge.specs.RegisterRecords.{FollowsRegisters};
 ghost use Rattle.ring_knowledge.specs.RingRecords.{FollowsRing};
+ghost use Rattle.device_record.specs.Devices.{FollowsDevices};
 ghost use Rattle.ownership_rules.specs.Refusal.{first_of};
 ghost use Rattle.ownership_rules.specs.Events.{is_impossible, is_impossible_by_kind, is_impossible_completion, is_in_profile};
-ghost use Rattle.ownership_checker.specs.Finding.{IsFinder};
-ghost use Rattle.ownership_checker.specs.NoSlots.{GivesNoOps, command_in};
+ghost use Rattle.ring_finder.specs.Finding.{IsFinder};
+ghost use Rattle.ownership_checker.specs.NoSlots.{GivesWithin};
 ghost use Rattle.ownership_checker.specs.OneRing.{is_no_completion};
 ghost use Rattle.ownership_checker.specs.Profile.{broken_within};
 ghost use Rattle.ownership_checker.specs.Tracking.{Follows, FollowsEvents, IfRefused, IsRowStep, IsWithin};
 
+use crate::completions::{cannot_finish, finish, next_command};
 use crate::fault::StepFault;
-use crate::finder::Finder;
 use crate::kept::Kept;
-use commands::Command;
 use event_ring::EventPlace;
 use ownership_rules::Refusal;
+use ring_finder::Finder;
 use ring_knowledge::RingRecord;
 use segments::{RingShape, Spot};
 use traces::Header;
@@ -138,7 +139,7 @@ fn is_other_event(kind: BlockKind) -> bool
     )
 }
 
-/// Whether no controller can have posted an event of this type with these words: while no slot is enabled no Transfer Event.
+/// Whether no controller can have posted an event of this type with these words: while no endpoint is enabled no Transfer Event.
 fn is_impossible_by_kind(header: &Header, finder: &Finder, kept: &Kept, event: Block) -> bool
     requires headed { IsHeader header.now }
     requires found { IsFinder header.now.rings finder.now }
@@ -195,28 +196,19 @@ fn is_impossible_completion(header: &Header, finder: &Finder, kept: &Kept, event
     };
     let rings = header.rings.as_slice();
     let ring = &rings[number];
-    is_no_completion(&ring.shape, &kept.rings[number], event)
+    is_no_completion(&ring.shape, &kept.rings[number], kept, event)
 }
 
-/// The same of a command ring on which No Op is the only command that was given.
-fn is_no_completion(shape: &RingShape, known: &RingRecord, event: Block) -> bool
-    ensures { (v : RingView) → FollowsRing shape.now v known.now → result ≡ is_no_completion shape.now v event }
+/// The same of a command ring, from what is known of slots, endpoints and registers.
+fn is_no_completion(shape: &RingShape, known: &RingRecord, kept: &Kept, event: Block) -> bool
+    ensures { (v : RingView) (k : Known) → FollowsRing shape.now v known.now → FollowsDevices k kept.now.devices → FollowsRegisters k kept.now.registers →
+        result ≡ is_no_completion k shape.now v event }
 {
     let next = known.floor_number();
     next >= known.ceiling()
         || event.pointer() != shape.address(next)
         || event.code() == 0
-        || has_no_command(known, next)
-}
-
-/// Whether no command is declared at a position.
-fn has_no_command(known: &RingRecord, position: u64) -> bool
-    ensures { (shape : Shape) (v : RingView) → FollowsRing shape v known.now → result ≡ is_none (command_in v.queue position) }
-{
-    match known.declared(position) {
-        Some(block) => Command::read(&block).is_err(),
-        None => true,
-    }
+        || cannot_finish(&kept.devices, &kept.registers, next_command(known), event)
 }
 
 /// Notes what an event says that can have been posted: a completion, that the next command is finished.
@@ -234,13 +226,15 @@ fn note_event(header: &Header, finder: &Finder, kept: &mut Kept, event: Block)
     if let Some(number) = finder.commands {
         let rings = header.rings.as_slice();
         let ring = &rings[number];
+        let command = next_command(&kept.rings[number]);
+        finish(&mut kept.devices, command, event);
         pass_next(&ring.shape, &mut kept.rings[number]);
     }
 }
 
 /// Notes that the controller has finished the block at the floor: its dequeue pointer is behind it.
 fn pass_next(shape: &RingShape, known: &mut RingRecord)
-    ensures { (v : RingView) → FollowsRing shape.now v known.old → GivesNoOps v → floor_number v < given_count shape.now v →
+    ensures { (v : RingView) → FollowsRing shape.now v known.old → GivesWithin v → floor_number v < given_count shape.now v →
         FollowsRing shape.now (changed shape.now v (Reaches (after shape.now (floor_number v)))) known.new }
 {
     let next = known.floor_number();

@@ -9,14 +9,14 @@ ghost use Rattle.ownership_rules.specs.Writes.{holds_of};
 ghost use Rattle.ownership_checker.specs.Profile.{is_other};
 ghost use Rattle.ownership_checker.specs.NoSlots.{command_in};
 
-use crate::rings::is_command_ring;
 use commands::Command;
 use guest_memory::Addr;
+use ring_finder::is_command_ring;
 use ring_knowledge::{RingGiving, RingRecord};
 use traces::Ring;
 use trb::Block;
 
-/// Whether the ring is the command ring, and the write of a word of it gives a command other than No Op.
+/// Whether the ring is the command ring, and the write of a word of it gives a command other than No Op and Enable Slot.
 pub fn gives_other_command(ring: &Ring, known: &RingRecord, at: Addr, word: u32) -> bool
     ensures { (v : RingView) → FollowsRing ring.now.shape v known.now →
         result ≡ (is_command_kind ring.now.shape.kind && holds_of is_other (option_and_then (command_in v.queue) (slice_get (positions_given ring.now.shape v at word) 0))) }
@@ -31,7 +31,7 @@ pub fn gives_other_command(ring: &Ring, known: &RingRecord, at: Addr, word: u32)
     }
 }
 
-/// Whether a command other than No Op is declared at a position.
+/// Whether a command other than No Op and Enable Slot is declared at a position.
 fn declares_other(known: &RingRecord, position: u64) -> bool
     ensures { (shape : Shape) (v : RingView) → FollowsRing shape v known.now → result ≡ holds_of is_other (command_in v.queue position) }
 {
@@ -41,7 +41,7 @@ fn declares_other(known: &RingRecord, position: u64) -> bool
     }
 }
 
-/// Whether the block is a command other than No Op.
+/// Whether the block is a command other than No Op and Enable Slot.
 fn is_other_command(block: Block) -> bool
     ensures { result ≡ holds_of is_other (command_of block) }
 {
@@ -51,9 +51,9 @@ fn is_other_command(block: Block) -> bool
     }
 }
 
-/// Whether the command is another than No Op.
+/// Whether the command is another than No Op and Enable Slot.
 fn is_other(command: Command) -> bool
     ensures { result ≡ is_other command }
 {
-    !matches!(command, Command::NoOp)
+    !matches!(command, Command::NoOp | Command::EnableSlot)
 }

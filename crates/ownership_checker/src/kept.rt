@@ -4,6 +4,7 @@ ghost use Rattle.ring_knowledge.specs.Known.{nothing};
 ghost use Rattle.ownership_checker.specs.Tracking.{Follows, IsWithin};
 
 use crate::rings::{event_place, fresh_records};
+use device_record::DeviceRecord;
 use event_ring::EventPlace;
 use ring_knowledge::{RegisterRecord, RingRecord};
 use std::alloc::{AllocError, Global};
@@ -17,6 +18,8 @@ pub struct Kept {
     pub registers: RegisterRecord,
     /// How many events were read, and the position that ERDP names, where there is an event ring.
     pub events: Option<EventPlace>,
+    /// What is known of slots and endpoints.
+    pub devices: DeviceRecord,
 }
 
 impl Kept {
@@ -30,6 +33,7 @@ impl Kept {
             rings: fresh_records(alloc, header.rings.as_slice())?,
             registers: RegisterRecord::new(),
             events: event_place(header)?,
+            devices: DeviceRecord::new(alloc)?,
         })
     }
 }

@@ -2,10 +2,10 @@
 #![tactic(auto)]
 
 mod certificate;
+mod completions;
 mod doorbells;
 mod events;
 mod fault;
-mod finder;
 mod given_commands;
 mod kept;
 mod leases;

@@ -10,16 +10,16 @@ ghost use Rattle.ring_knowledge.specs.Known.{Known};
 ghost use Rattle.ring_knowledge.specs.RegisterRecords.{FollowsRegisters};
 ghost use Rattle.ownership_rules.specs.Refusal.{first_of};
 ghost use Rattle.ownership_rules.specs.Registers.{is_bad_crcr, is_bad_register, is_bad_size, is_bad_table, is_unwritten, is_written};
-ghost use Rattle.ownership_checker.specs.Finding.{IsFinder};
+ghost use Rattle.ring_finder.specs.Finding.{IsFinder};
 ghost use Rattle.ownership_checker.specs.Profile.{broken_within};
 ghost use Rattle.ownership_checker.specs.Tracking.{Follows, FollowsEvents, IfRefused, IsMoved, IsRowStep, IsWithin};
 
 use crate::fault::StepFault;
-use crate::finder::Finder;
 use crate::kept::Kept;
 use event_ring::EventPlace;
 use guest_memory::WordMemory;
 use ownership_rules::Refusal;
+use ring_finder::Finder;
 use ring_knowledge::RegisterRecord;
 use segments::RingShape;
 use traces::{Header, Register, Ring};

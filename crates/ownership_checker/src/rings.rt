@@ -1,27 +1,13 @@
 ghost use Rattle.std.specs.Prelude.{◌≡◌, ◌≤◌, length, IfOk};
-ghost use Rattle.traces.specs.Header.{IsHeader, event_shape, is_command_kind, is_event_kind};
+ghost use Rattle.traces.specs.Header.{IsHeader, event_shape};
 ghost use Rattle.ring_knowledge.specs.Known.{nothing};
 ghost use Rattle.ownership_checker.specs.Tracking.{AreFresh, FollowsEvents, IsWithin};
 
 use event_ring::EventPlace;
+use ring_finder::is_event_ring;
 use ring_knowledge::RingRecord;
 use std::alloc::{AllocError, Global};
 use traces::{Header, Ring};
-use trb::RingKind;
-
-/// The ring carries events.
-pub fn is_event_ring(ring: &Ring) -> bool
-    ensures { result ≡ is_event_kind ring.now.shape.kind }
-{
-    matches!(ring.shape.kind(), RingKind::Evt)
-}
-
-/// The ring carries commands.
-pub fn is_command_ring(ring: &Ring) -> bool
-    ensures { result ≡ is_command_kind ring.now.shape.kind }
-{
-    matches!(ring.shape.kind(), RingKind::Cmd)
-}
 
 /// How many leases stand from the first row on: one of each event segment.
 pub fn event_leases(header: &Header) -> u64

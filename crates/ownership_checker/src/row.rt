@@ -5,21 +5,20 @@ ghost use Rattle.traces.specs.declared.row.Row.TheVariants.{Sub, Write};
 ghost use Rattle.ring_knowledge.specs.Known.{Known};
 ghost use Rattle.ownership_rules.specs.Refusal.{first_of};
 ghost use Rattle.ownership_checker.specs.Profile.{broken_within};
-ghost use Rattle.ownership_checker.specs.Finding.{IsFinder};
-ghost use Rattle.ownership_checker.specs.Tracking.{Follows, IfRefused, IsRowStep, IsWithin};
+ghost use Rattle.ring_finder.specs.Finding.{IsFinder};
+ghost use Rattle.ownership_checker.specs.Tracking.{Follows, IfRefused, IsRowStep, IsTracked, IsWithin};
 
 use crate::doorbells::check_doorbell;
 use crate::events::check_event;
 use crate::fault::StepFault;
-use crate::finder::Finder;
 use crate::given_commands::gives_other_command;
 use crate::kept::Kept;
 use crate::one_ring::{declare_on, write_on};
 use crate::registers::check_register;
-use crate::rings::is_event_ring;
 use crate::table::is_in_table;
 use guest_memory::{Addr, WordMemory};
 use ownership_rules::Refusal;
+use ring_finder::{Finder, is_event_ring};
 use traces::{Header, Row};
 use trb::Block;
 
@@ -35,10 +34,10 @@ pub fn check_row<M: WordMemory>(
     requires found { IsFinder header.now.rings finder.now }
     requires as_many { length kept.now.rings.items ≡ length header.now.rings }
     requires few_reads { IsWithin kept.now.events most_lines }
-    ensures ok { IfOk result (λ n. (k : Known) → Follows header.now k kept.old (M.words memory.old) →
+    ensures ok { IfOk result (λ n. (k : Known) → IsTracked header.now k kept.old (M.words memory.old) →
         IsRowStep header.now k row.now kept.new (M.words memory.new) n) }
     ensures few { IfOk result (λ n. n ≤ 1) }
-    ensures refused { IfErr result (λ e. IfRefused e (λ c. (k : Known) → Follows header.now k kept.old (M.words memory.old) →
+    ensures refused { IfErr result (λ e. IfRefused e (λ c. (k : Known) → IsTracked header.now k kept.old (M.words memory.old) →
         first_of (broken_within header.now k row.now) ≡ Some c)) }
     ensures reads { (n : ℕ) → IsWithin kept.old.events n → IsWithin kept.new.events (n + 1) }
 {

@@ -9,12 +9,12 @@ ghost use Rattle.ownership_checker.specs.Walks.{WalksRead};
 
 use crate::certificate::Certificate;
 use crate::fault::{CheckFault, StepFault};
-use crate::finder::Finder;
 use crate::kept::Kept;
 use crate::leases::note_leases;
 use crate::row::check_row;
 use guest_memory::{PageMemory, WordMemory};
 use lease_book::LeaseBook;
+use ring_finder::Finder;
 use std::alloc::Global;
 use traces::{Header, Row, Trace};
 
@@ -82,9 +82,9 @@ pub fn check_in<M: WordMemory + Drop>(
 }
 
 /// Checks a trace in one pass: its leases, or the first row that breaks a rule and the least of the rules that
-/// it breaks. For now each write that gives a command other than No Op is refused with `NotInProfile`. A trace that is accepted
-/// is harmless: in each run of the controller's model beside its rows every world is safe. `Memory` is answered only where a
-/// growth was refused.
+/// it breaks. For now each write that gives a command other than No Op and Enable Slot is refused with `NotInProfile`. A trace
+/// that is accepted is harmless: in each run of the controller's model beside its rows every world is safe. `Memory` is answered
+/// only where a growth was refused.
 pub fn check(alloc: Global, trace: &Trace) -> Result<Certificate, CheckFault>
     ensures accepted { IfOk result (λ certificate. IsAccepted trace.now.header trace.now.rows trace.now.first certificate.leases.items) }
     ensures passed { OnOk result (verdict_within trace.now.header nothing trace.now.first trace.now.rows ≡ None) }

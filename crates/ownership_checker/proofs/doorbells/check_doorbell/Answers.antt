@@ -1,7 +1,7 @@
 use Rattle.std.proofs.Common.{arith, refl, sym, ◌∙◌, length}
 use Rattle.std.proofs.lemmas.Option.{slice_get_read, slice_get_within}
 use Rattle.traces.specs.Header.{is_command_kind}
-use Rattle.ownership_checker.proofs.RingsApart.{among_at}
+use Rattle.ring_finder.proofs.RingsApart.{among_at}
 use Rattle.ownership_checker.proofs.CommandsGiven.{command_found, driven}
 use Rattle.ownership_checker.proofs.RegisterTests.{no_command_ring}
 use Rattle.ownership_checker.proofs.Fresh.{found_at}

@@ -1,7 +1,7 @@
 use Rattle.std.proofs.Common.{get_or, arith, refl, sym, ◌∙◌, ap, length}
 use Rattle.std.proofs.lemmas.Option.{slice_get_read, slice_get_within}
 use Rattle.traces.specs.Header.{is_command_kind}
-use Rattle.ownership_checker.proofs.RingsApart.{among_at}
+use Rattle.ring_finder.proofs.RingsApart.{among_at}
 use Rattle.ownership_checker.proofs.CommandsGiven.{command_found, driven}
 use Rattle.ownership_checker.proofs.RegisterTests.{no_command_ring}
 use Rattle.ownership_checker.proofs.Fresh.{ring_here}
@@ -21,4 +21,4 @@ returns c = λ k m f on.
     let within = slice_get_within c.args.header.now.rings c.in-Some.number ring here.0 in
     let there = slice_get_read items (length items) c.in-Some.number c.index.result.now refl (omega (arith, c.requires.as_many, within)) c.index.ensures in
     let known = f.each c.in-Some.number ring c.index.result.now here.0 there (driven ring.shape.kind here.1) in
-    c.is_no_completion.ensures (k.ring ring.id) known ∙ sym (completion_is c.args.header.now c.requires.headed k c.args.event ring commands (f.slots.commands ring commands))
+    c.is_no_completion.ensures (k.ring ring.id) k known f.devices f.registers ∙ sym (completion_is c.args.header.now c.requires.headed k c.args.event ring commands)

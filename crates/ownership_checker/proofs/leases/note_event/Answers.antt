@@ -1,4 +1,4 @@
-use Rattle.std.proofs.Common.{◌≡◌, ◌+◌, true, length, get_or, arith, refl, sym, ap, ◌∙◌}
+use Rattle.std.proofs.Common.{length, get_or, arith, refl, sym, ap, ◌∙◌}
 use Rattle.std.proofs.lemmas.Option.{slice_get_read, slice_get_within}
 use Rattle.trb.specs.Kind.{is_command_completion}
 use Rattle.traces.specs.declared.row.Row.TheVariants.{Read}
@@ -8,11 +8,11 @@ use Rattle.lease_book.specs.Lents.{lents}
 use Rattle.ownership_checker.proofs.CommandsGiven.{command_found, driven}
 use Rattle.ownership_checker.proofs.DoorbellRows.{has_commands}
 use Rattle.ownership_checker.proofs.Fresh.{ring_here}
-use Rattle.ownership_checker.proofs.HeaderRings.{shape_there}
+use Rattle.ring_finder.proofs.HeaderRings.{shape_there}
 use Rattle.ownership_checker.proofs.LentEvents.{completion_ends, other_lent, runs_now}
 use Rattle.ownership_checker.proofs.LentRows.{held_still}
 use Rattle.ownership_checker.proofs.RegisterTests.{no_command_ring}
-use Rattle.ownership_checker.proofs.RingsApart.{among_at}
+use Rattle.ring_finder.proofs.RingsApart.{among_at}
 use Rattle.ownership_checker.proofs.leases.note_event.Goals as goal
 
 pub returns-then-not-is_command_completion : goal.returns-then-not-is_command_completion

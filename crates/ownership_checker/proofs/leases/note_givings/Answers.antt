@@ -9,10 +9,10 @@ use Rattle.ring_knowledge.specs.RingRecords.{FollowsRing}
 use Rattle.lease_book.specs.Books.{HoldsLents}
 use Rattle.lease_book.specs.Lents.{Lent, lents}
 use Rattle.ownership_checker.proofs.Fresh.{none_here, ring_here}
-use Rattle.ownership_checker.proofs.HeaderRings.{shape_there}
+use Rattle.ring_finder.proofs.HeaderRings.{shape_there}
 use Rattle.ownership_checker.proofs.LentRows.{before_stop, held_still, not_refused, on_more}
 use Rattle.ownership_checker.proofs.LentWrites.{crosses, lent_block, lent_link, lent_none, lent_nowhere, link_is_free, place_free}
-use Rattle.ownership_checker.proofs.RingsApart.{IsAmong, among_at}
+use Rattle.ring_finder.proofs.RingsApart.{IsAmong, among_at}
 use Rattle.ownership_checker.proofs.Rows.{event_write}
 use Rattle.ownership_checker.proofs.leases.note_givings.Goals as goal
 

@@ -1,4 +1,4 @@
-use Rattle.std.proofs.Common.{◌*◌, ap, ◌∙◌}
+use Rattle.std.proofs.Common.{◌*◌, ap}
 use Rattle.ownership_rules.specs.OpenLeases.{SegmentTable}
 use Rattle.lease_book.specs.Lents.{lents}
 use Rattle.ownership_checker.proofs.LentRows.{lent_register, on_more, table_begins}

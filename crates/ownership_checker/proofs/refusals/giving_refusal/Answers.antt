@@ -4,7 +4,7 @@ use Rattle.guest_memory.specs.Memory.{put}
 use Rattle.trb.specs.Block.{block_at, same_words, with_cycle}
 use Rattle.segments.proofs.Positions.{address_aligned, address_ends}
 use Rattle.ownership_checker.proofs.Given.{not_declared, other_words, split, given_well, cycle_bit}
-use Rattle.ownership_checker.proofs.ListTests.{from_not}
+use Rattle.ring_finder.proofs.ListTests.{from_not}
 use Rattle.ownership_checker.proofs.refusals.giving_refusal.Goals as goal
 
 pub returns-in_default : goal.returns-in_default

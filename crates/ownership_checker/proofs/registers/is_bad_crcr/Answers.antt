@@ -4,7 +4,7 @@ use Rattle.traces.specs.declared.ring.Ring.{Ring}
 use Rattle.std.proofs.Common.{◌*◌, ◌/◌, ◌%◌, get_or, refl, sym, ◌∙◌, ap}
 use Rattle.traces.specs.Header.{is_command_kind}
 use Rattle.ownership_checker.proofs.Fresh.{ring_here}
-use Rattle.ownership_checker.proofs.RingsApart.{among_at}
+use Rattle.ring_finder.proofs.RingsApart.{among_at}
 use Rattle.ownership_checker.proofs.CommandsGiven.{command_found}
 use Rattle.ownership_checker.proofs.RegisterTests.{no_command_ring}
 use Rattle.ownership_checker.proofs.StartRules.{crcr_is, crcr_without}

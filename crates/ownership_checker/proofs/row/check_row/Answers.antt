@@ -4,7 +4,7 @@ use Rattle.ownership_checker.proofs.OutsideRows.{stopped_refused, row_ok, row_ba
 use Rattle.ownership_checker.proofs.row.check_row.Goals as goal
 
 pub returns-then-is_stopped-clause-refused : goal.returns-then-is_stopped-clause-refused
-returns-then-is_stopped-clause-refused g c = λ k f. stopped_refused c.args.header.now k c.args.row.now (sym (c.is_stopped.ensures k f.registers) ∙ c.if-is_stopped.true)
+returns-then-is_stopped-clause-refused g c = λ k t. stopped_refused c.args.header.now k c.args.row.now (sym (c.is_stopped.ensures k t.follows.registers) ∙ c.if-is_stopped.true)
 
 pub returns-then-is_stopped-clause-reads : goal.returns-then-is_stopped-clause-reads
 returns-then-is_stopped-clause-reads g c = within_more c.args.kept.now.events c.args.kept.now.events refl

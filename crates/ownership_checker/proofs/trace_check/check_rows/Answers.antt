@@ -8,13 +8,13 @@ use Rattle.ownership_checker.proofs.trace_check.check_rows.Goals as goal
 
 pub loop-row-init : goal.loop-row-init
 loop-row-init g c =
-    started c.args.header.now c.args.rows.now c.args.first c.in_ok-kept.kept (g.M.WordMemory.words c.args.memory) c.in_ok-book.book
+    started c.args.header.now c.args.rows.now c.args.first c.requires.headed c.in_ok-kept.kept (g.M.WordMemory.words c.args.memory) c.in_ok-book.book
     (c.in_ok-kept.ensures.follows (g.M.WordMemory.words c.args.memory) c.requires.zero) c.in_ok-kept.ensures.unread (c.in_ok-book.ensures c.args.first)
 
 pub loop-row-preserved : goal.loop-row-preserved
 loop-row-preserved g c =
     let p = c.loop-row.invariant in
-    stepped c.args.header.now c.args.rows.now c.args.first c.loop-row.row-index c.loop-row.number c.in-Ok.field-0 c.loop-row.kept c.check_row.new.kept
+    stepped c.args.header.now c.args.rows.now c.args.first c.requires.headed c.loop-row.row-index c.loop-row.number c.in-Ok.field-0 c.loop-row.kept c.check_row.new.kept
     (g.M.WordMemory.words c.loop-row.memory) (g.M.WordMemory.words c.check_row.new.memory) c.row-item.result c.row-item.result c.loop-row.book c.note_leases.new.book
     (room_for c.args.first (length c.args.rows.now) c.requires.within) p c.loop-row-test.true (sym c.row-item.is)
     (c.in-Ok.ensures.reads c.loop-row.row-index p.few_reads) c.in-Ok.ensures.ok (c.in_ok-note_leases.ensures c.args.first)

@@ -1,6 +1,0 @@
-use Rattle.std.proofs.Common.{◌≡◌, take}
-use Rattle.ownership_checker.specs.Finding.{starts_from}
-use Rattle.ownership_checker.proofs.finder.all_starts.Given as goal
-
-abbrev pub invariant-loop-number : goal.invariant-loop-number
-invariant-loop-number l = l.starts.items ≡ starts_from 0 (take l.number l.rings)

@@ -1,6 +1,0 @@
-use Rattle.std.proofs.Common.{◌≡◌, ◌++◌, map, take}
-use Rattle.ownership_checker.specs.Finding.{start_of}
-use Rattle.ownership_checker.proofs.finder.push_starts.Given as goal
-
-abbrev pub invariant-loop-segment : goal.invariant-loop-segment
-invariant-loop-segment l = l.starts.items ≡ l.fn.starts.items ++ map (start_of l.number) (take l.segment-index l.ring.shape.segments)
