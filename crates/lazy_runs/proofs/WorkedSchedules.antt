@@ -1,14 +1,12 @@
 -- Worked lazy schedules, step by step, and the endings of their replays, written by tools/worked_schedules.py from worked cases
-use Rattle.std.specs.Prelude.{◌≡◌, ℕ, List, [], ◌∷◌, Option, Some, None, length, refl}
-use Rattle.trb.specs.declared.block.Block.{Block}
+use Rattle.std.specs.Prelude.{◌≡◌, List, [], ◌∷◌, refl}
 use Rattle.trb.specs.declared.ring_kind.RingKind.TheVariants.{Cmd, Evt, Xfer}
-use Rattle.contexts.specs.declared.size.ContextSize.TheVariants.{Bytes32, Bytes64}
+use Rattle.contexts.specs.declared.size.ContextSize.TheVariants.{Bytes32}
 use Rattle.traces.specs.declared.header.Header.{Header}
 use Rattle.traces.specs.declared.row.Row.{Row}
 use Rattle.traces.specs.declared.row.Row.TheVariants.{Sub, Write, Reg, Bell, Read}
 use Rattle.traces.specs.declared.register.Register.TheVariants.{Usbcmd, Crcr, Dcbaap, Config, Erstsz, Erstba, Erdp}
-use Rattle.traces.specs.declared.step.Step.{Step}
-use Rattle.traces.specs.declared.step.Step.TheVariants.{NextRow, Look, Report, Finish, Other}
+use Rattle.traces.specs.declared.step.Step.TheVariants.{NextRow, Look, Report, Finish}
 use Rattle.controller_model.specs.Steps.{ending_of, NoHarm}
 use Rattle.controller_model.specs.OnLiterals.{model_on_literals}
 use Rattle.lazy_runs.specs.Lazy.{lazy_steps}

@@ -1,5 +1,5 @@
 -- The lazy schedule: directly before an event the looks that it needs, and its post: xHCI 4.6.9, 4.9.2, 4.9.4
-use Rattle.std.specs.Prelude.{ℕ, suc, zero, ◌+◌, ◌-◌, ◌*◌, ◌==◌, ◌&&◌, if◌then◌else◌, List, [], ◌∷◌, ◌++◌, nat_lt, filter, map, reverse, Option, Some, None}
+use Rattle.std.specs.Prelude.{ℕ, suc, zero, ◌+◌, ◌-◌, ◌*◌, ◌==◌, if◌then◌else◌, List, [], ◌∷◌, ◌++◌, nat_lt, filter, map, reverse, Option, Some, None}
 use Rattle.std.specs.List.{flat_map}
 use Rattle.guest_memory.specs.Memory.{put}
 use Rattle.trb.specs.declared.block.Block.{Block}

@@ -60,10 +60,10 @@ nothing_ahead shape is memory v k nothing =
     ]
 
 module _ (h : Header) (is : IsHeader h) (k : Known) (d : DriverKeeps h k) (s n : ℕ) (bsr : Bool) (given : CommandKeeps h k (next_command h k) (AddressDevice s bsr n)) where
-  abbrev p : ℕ
+  abbrev pub p : ℕ
   p = context_pointer h.context_size k.memory n 1
 
-  abbrev cycle : Bool
+  abbrev pub cycle : Bool
   cycle = context_cycle h.context_size k.memory n 1
 
   -- where endpoint 1 is off
@@ -82,7 +82,7 @@ module _ (h : Header) (is : IsHeader h) (k : Known) (d : DriverKeeps h k) (s n :
   unbound_it off r at =
       given.unbound r (ap (λ bs. list_any (λ b. is_ring r (ring_bound h b)) bs) (binds_it off) ∙ or_left (is_ring r (ring_beginning_at h p)) false (ap (is_ring r) at ∙ eq-eqb r r refl))
 
-  first_binds : is_off (k.endpoint_state s 1) ≡ true → MayBind h k s 1 p cycle
+  pub first_binds : is_off (k.endpoint_state s 1) ≡ true → MayBind h k s 1 p cycle
   first_binds off =
       let named = named_it off in
       elim (cases_option (ring_beginning_at h p)) [
@@ -115,7 +115,7 @@ module _ (h : Header) (is : IsHeader h) (k : Known) (d : DriverKeeps h k) (s n :
         moves = stays.here;
       }
 
-  second_moves : is_off (k.endpoint_state s 1) ≡ false → MayMove h k s 1 p cycle
+  pub second_moves : is_off (k.endpoint_state s 1) ≡ false → MayMove h k s 1 p cycle
   second_moves on =
       elim (cases_option (k.ring_of s 1)) [
         | inl none ↦ absurd (false≢true (sym on ∙ ap is_off (d.states.off s 1 none)))
@@ -124,14 +124,14 @@ module _ (h : Header) (is : IsHeader h) (k : Known) (d : DriverKeeps h k) (s n :
 
   -- ---- behind the change of the slot's state
 
-  abbrev c : Command
+  abbrev pub c : Command
   c = AddressDevice s bsr n
 
-  slot_binds : MayBind h k s 1 p cycle → MayBind h (completions.changed_by h c k (SlotGoesOn s)) s 1 p cycle
+  pub slot_binds : MayBind h k s 1 p cycle → MayBind h (completions.changed_by h c k (SlotGoesOn s)) s 1 p cycle
   unfolding completions.changed_by
   slot_binds b = record { off = b.off; none = b.none; ring = b.ring; named = b.named; unbound = b.unbound; first_lap = b.first_lap }
 
-  slot_moves : MayMove h k s 1 p cycle → MayMove h (completions.changed_by h c k (SlotGoesOn s)) s 1 p cycle
+  pub slot_moves : MayMove h k s 1 p cycle → MayMove h (completions.changed_by h c k (SlotGoesOn s)) s 1 p cycle
   unfolding completions.changed_by
   slot_moves m = record {
     on = m.on;
@@ -148,7 +148,7 @@ module _ (h : Header) (is : IsHeader h) (k : Known) (d : DriverKeeps h k) (s n :
     moves = m.moves;
   }
 
-  slot_was : (z j q : ℕ) → (completions.changed_by h c k (SlotGoesOn s)).ring_of z j ≡ Some q → (completions.changed_by h c k (SlotGoesOn s)).was_bound q ≡ true
+  pub slot_was : (z j q : ℕ) → (completions.changed_by h c k (SlotGoesOn s)).ring_of z j ≡ Some q → (completions.changed_by h c k (SlotGoesOn s)).was_bound q ≡ true
   unfolding completions.changed_by
   slot_was z j q at = d.states.was_bound z j q at
 
@@ -169,7 +169,7 @@ module _ (h : Header) (is : IsHeader h) (k : Known) (d : DriverKeeps h k) (s n :
       (λ u at there. change_then h c l u (Places s 1 p cycle Running) [] (λ v placed. place_keeps u v there low placed)
       (λ v placed states. nothing_keeps h c (completions.changed_by h c l (Places s 1 p cycle Running)) v states))
 
-  address_changes : (m : ℕ) → changes h.context_size k.memory m c ≡ SlotGoesOn s ∷ Places s 1 p cycle Running ∷ []
+  pub address_changes : (m : ℕ) → changes h.context_size k.memory m c ≡ SlotGoesOn s ∷ Places s 1 p cycle Running ∷ []
   unfolding changes
   address_changes m = refl
 

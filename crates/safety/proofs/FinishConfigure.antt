@@ -45,7 +45,7 @@ use Rattle.safety.proofs.FinishSuccess.{EffectKeeps}
 use Rattle.safety.proofs.FinishGiven.{ListKeeps, change_then, finish_given_runs}
 
 module _ (h : Header) (is : IsHeader h) (k : Known) (d : DriverKeeps h k) (s a : ℕ) (given : CommandKeeps h k (next_command h k) (ConfigureEndpoint s false a)) where
-  abbrev c : Command
+  abbrev pub c : Command
   c = ConfigureEndpoint s false a
 
   still : StillHolds h k c
@@ -58,7 +58,7 @@ module _ (h : Header) (is : IsHeader h) (k : Known) (d : DriverKeeps h k) (s a :
   }
 
   -- behind the drops
-  abbrev l : Known
+  abbrev pub l : Known
   l = dropped h is c k s a
 
   dropped_ring : (z j : ℕ) → l.ring_of z j ≡ (if z == s && is_dropped k.memory a j then None else k.ring_of z j)
@@ -69,7 +69,7 @@ module _ (h : Header) (is : IsHeader h) (k : Known) (d : DriverKeeps h k) (s a :
   unfolding completions.changed_by completions.disabled
   dropped_was = refl
 
-  were_bound : WereBound l
+  pub were_bound : WereBound l
   were_bound z j q at =
       elim (cond_is (z == s && is_dropped k.memory a j) None (k.ring_of z j) (Some q) (sym (dropped_ring z j) ∙ at)) [
         | inl gone ↦ absurd (none-some q gone.1)
@@ -104,18 +104,18 @@ module _ (h : Header) (is : IsHeader h) (k : Known) (d : DriverKeeps h k) (s a :
       let some = the_some h is _ ready.named in
       record { off = ready.off; none = none; ring = some.0; named = some.1; unbound = ready.unbound some.0 some.1; first_lap = lap }
 
-  may_add : All (MayAdd h l k.memory s a) (added_endpoints k.memory a)
+  pub may_add : All (MayAdd h l k.memory s a) (added_endpoints k.memory a)
   may_add x e inside =
       let i : ℕ = get_or (added_endpoints k.memory a) x e in
       ready_adds i (all_ready h is k s a still x e inside) (none_left i (still.free x e inside)) (first_lap x e inside)
 
-  numbered : All (λ i. (0 < i) × (i < 32)) (added_endpoints k.memory a)
+  pub numbered : All (λ i. (0 < i) × (i < 32)) (added_endpoints k.memory a)
   numbered x e inside =
       let i : ℕ = get_or (added_endpoints k.memory a) x e in
       let least : 2 ≤ i = leb-true 2 i (added_above k.memory a x e inside) in
       (omega arith, added_below k.memory a x e inside)
 
-  apart : has_repeats (map (λ i. ring_bound h (binding_in h k a i)) (added_endpoints k.memory a)) ≡ false
+  pub apart : has_repeats (map (λ i. ring_bound h (binding_in h k a i)) (added_endpoints k.memory a)) ≡ false
   unfolding binds
   apart = ap has_repeats (sym (map_map h is (ring_bound h) (binding_in h k a) (added_endpoints k.memory a))) ∙ given.repeats
 
@@ -123,7 +123,7 @@ module _ (h : Header) (is : IsHeader h) (k : Known) (d : DriverKeeps h k) (s a :
   unfolding ring_bound binding_in
   each w m low = each_keeps h k.memory s a is c (slot_above h k d c s given.good refl) low (added_endpoints k.memory a) l w m were_bound may_add numbered apart
 
-  abbrev all : List Change
+  abbrev pub all : List Change
   all = SlotGoesOn s ∷ Disables s (is_dropped k.memory a) ∷ map (placed_by_context h.context_size k.memory s a) (added_endpoints k.memory a)
 
   list_keeps : (w : World) → StatesMatch h k w → s < 256 → ListKeeps h c k w all
@@ -134,7 +134,7 @@ module _ (h : Header) (is : IsHeader h) (k : Known) (d : DriverKeeps h k) (s a :
       (λ u at there. change_then h c n u (Disables s (is_dropped k.memory a)) adds (λ v drops. disable_keeps h c n u there s (is_dropped k.memory a) v drops)
       (λ v drops states. each v states low))
 
-  configure_changes : (n : ℕ) → changes h.context_size k.memory n c ≡ all
+  pub configure_changes : (n : ℕ) → changes h.context_size k.memory n c ≡ all
   unfolding changes
   configure_changes n = refl
 

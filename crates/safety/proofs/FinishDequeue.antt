@@ -63,7 +63,7 @@ module _ (h : Header) (is : IsHeader h) (k : Known) (d : DriverKeeps h k) (s i p
         moves = not-false (is_move (shape_of h r) (k.ring r) p cycle (ceiling (shape_of h r) (k.ring r)) (declared (k.ring r))) good;
       }
 
-  may_move : is_bad_move h k (SetTrDequeue s i p cycle) ≡ false → MayMove h k s i p cycle
+  pub may_move : is_bad_move h k (SetTrDequeue s i p cycle) ≡ false → MayMove h k s i p cycle
   unfolding is_bad_move
   may_move good =
       let parts = or_parts (not (is_at_rest (k.endpoint_state s i))) (is_bad_dequeue h k (k.ring_of s i) p cycle) good in

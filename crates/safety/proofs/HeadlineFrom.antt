@@ -62,7 +62,7 @@ some_of : {A B : Type 0} (f : A → B) (o : Option A) (y : B) → option_map f o
 some_of f None y at = absurd (none-some y at)
 some_of f (Some x) y at = (x, refl, same_Some (f x) y at)
 
-later_clean : (h : Header) (xs ys : List Row) → IsClean h (xs ++ ys) → IsClean h ys
+pub later_clean : (h : Header) (xs ys : List Row) → IsClean h (xs ++ ys) → IsClean h ys
 later_clean h [] ys clean = clean
 later_clean h (x ∷ xs) ys clean = later_clean h xs ys clean.0
 
@@ -103,7 +103,7 @@ module _ (h : Header) where
         stamps = g.stamps;
       }
 
-  runs_rest : (past : List Row) (w : World) (rest : List Row) → Runs h past w → Runs h past (record w { rows = rest })
+  pub runs_rest : (past : List Row) (w : World) (rest : List Row) → Runs h past w → Runs h past (record w { rows = rest })
   runs_rest past w rest run =
       record { unread = run.unread; clean = run.clean; blocks = run.blocks; on = run.on; agrees = agrees_rest (known h (reading run.unread past)) run.unread w rest run.agrees }
 
@@ -115,7 +115,7 @@ module _ (h : Header) where
     holds : Holds h past w
 
   -- the same with one row more
-  one_more : (row : Row) (rest past : List Row) → reverse (row ∷ rest) ++ past ≡ reverse rest ++ (row ∷ past)
+  pub one_more : (row : Row) (rest past : List Row) → reverse (row ∷ rest) ++ past ≡ reverse rest ++ (row ∷ past)
   one_more row rest past = ap (λ l. l ++ past) (reverse-append (row ∷ []) rest) ∙ append_assoc (reverse rest) (row ∷ []) past
 
   module _ (is : IsHeader h) (keeps : KeptByHistories h) (row_law : RowLaw h) where

@@ -56,12 +56,12 @@ module _ (h : Header) (is : IsHeader h) (k : Known) (w : World) (d : DriverKeeps
         | inr missing ↦ absurd (waits_at_link (shape_of h r) allowed k.memory (k.ring r) keeps q at missing (sym (ap (λ b. cycle b) found) ∙ same ∙ m.cycle))
       ]
 
-  block_no_link : (q : ℕ) → RingMatches (shape_of h r) (k.ring r) (state_of w r) (Data q) → Takeable (shape_of h r) k.memory (k.ring r) q → is_link (kind (seen w r)) ≡ false
+  pub block_no_link : (q : ℕ) → RingMatches (shape_of h r) (k.ring r) (state_of w r) (Data q) → Takeable (shape_of h r) k.memory (k.ring r) q → is_link (kind (seen w r)) ≡ false
   block_no_link q m t =
       ap (λ b. is_link (kind b)) (block_found h is k w d s r (Data q) ring m ∙ t.stands)
       ∙ ap is_link (kind-with_cycle t.block (cycle_of (shape_of h r) q) (cycle_of_bit (shape_of h r) q)) ∙ t.no_link
 
-  link_is : (q : ℕ) → RingMatches (shape_of h r) (k.ring r) (state_of w r) (Link q) → Crossable (shape_of h r) k.memory (k.ring r) q → is_link (kind (seen w r)) ≡ true
+  pub link_is : (q : ℕ) → RingMatches (shape_of h r) (k.ring r) (state_of w r) (Link q) → Crossable (shape_of h r) k.memory (k.ring r) q → is_link (kind (seen w r)) ≡ true
   link_is q m c =
       ap (λ b. is_link (kind b)) (block_found h is k w d s r (Link q) ring m) ∙ (leads_on (shape_of h r) c.link (block_at k.memory (link_address (shape_of h r) q)) c.leads).is_link
 

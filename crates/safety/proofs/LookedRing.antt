@@ -128,7 +128,7 @@ order_kept shape a b d older right here rest =
     or_from _ _ (or_from _ _ (not_from_true (is_right_place (was_placed older) d) right)
     (not_from_true (address_of shape (next_take shape older) == a) (eq-eqb (address_of shape (next_take shape older)) a here))) rest
 
-words_itself : (b : Block) → same_words b b ≡ true
+pub words_itself : (b : Block) → same_words b b ≡ true
 words_itself b =
     and_from _ _ (and_from _ _ (and_from _ _ (eq-eqb (word b 0) (word b 0) refl) (eq-eqb (word b 1) (word b 1) refl)) (eq-eqb (word b 2) (word b 2) refl)) (eq-eqb (word b 3) (word b 3) refl)
 

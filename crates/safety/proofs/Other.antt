@@ -32,7 +32,7 @@ pub record SaysNothing (h : Header) (k : Known) (b : Block) (t : BlockKind) : Ty
   pub possible : is_impossible_by_kind h k t b ≡ false
   pub no_transfer : is_transfer_event t ≡ false
 
-says_nothing : (h : Header) (k : Known) (b : Block) (t : BlockKind) → is_other_event t ≡ true → SaysNothing h k b t
+pub says_nothing : (h : Header) (k : Known) (b : Block) (t : BlockKind) → is_other_event t ≡ true → SaysNothing h k b t
 unfolding event_read is_impossible_by_kind
 says_nothing h k b kinds.PortStatusChange other = record { read = refl; possible = refl; no_transfer = refl }
 says_nothing h k b kinds.BandwidthRequest other = record { read = refl; possible = refl; no_transfer = refl }

@@ -35,7 +35,7 @@ MayAdd h l memory s a i = MayBind h l s i (context_pointer h.context_size memory
 
 module _ (h : Header) (memory : ℕ → ℕ) (s a : ℕ) where
   -- behind the binding of another one
-  bound_next : (l m : Known) (i r : ℕ) → PlacedTo l m s i r (Data 0) Running → WereBound l → WereBound m
+  pub bound_next : (l m : Known) (i r : ℕ) → PlacedTo l m s i r (Data 0) Running → WereBound l → WereBound m
   bound_next l m i r x was z j q at =
       elim (cases_eq q r) [
         | inl same ↦ ap m.was_bound same ∙ x.bound
@@ -58,11 +58,11 @@ module _ (h : Header) (memory : ℕ → ℕ) (s a : ℕ) where
         first_lap = b.first_lap;
       }
 
-  abbrev ring_at : ℕ → Option ℕ
+  abbrev pub ring_at : ℕ → Option ℕ
   ring_at i = ring_beginning_at h (context_pointer h.context_size memory a i)
 
   -- one of an index whose ring is another
-  may_behind : (l m : Known) (i j : ℕ) (first : MayAdd h l memory s a i) → PlacedTo l m s i first.ring (Data 0) Running → is_ring first.ring (ring_at j) ≡ false → MayAdd h l memory s a j →
+  pub may_behind : (l m : Known) (i j : ℕ) (first : MayAdd h l memory s a i) → PlacedTo l m s i first.ring (Data 0) Running → is_ring first.ring (ring_at j) ≡ false → MayAdd h l memory s a j →
       MayAdd h m memory s a j
   may_behind l m i j first x apart b =
       may_next l m i j first.ring x

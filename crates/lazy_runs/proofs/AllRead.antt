@@ -1,0 +1,30 @@
+-- Behind all rows of a trace nothing is left to read: from the law of the lazy run behind each row
+use Rattle.std.specs.Prelude.{◌≡◌, List, [], ◌++◌, All, reverse}
+use Rattle.std.proofs.Common.{sym, ◌∙◌, ap, subst}
+use Rattle.std.proofs.lemmas.List.{append-nil, reverse-reverse}
+use Rattle.traces.specs.declared.header.Header.{Header}
+use Rattle.traces.specs.declared.row.Row.{Row}
+use Rattle.traces.specs.Rows.{IsRow}
+use Rattle.controller_model.specs.Steps.{reached}
+use Rattle.lazy_runs.specs.Lazy as lazy
+use Rattle.lazy_runs.specs.Law.{ContainsAll, GoesSoFar, LazyLaw, AllAreRead}
+
+module _ (h : Header) where
+  -- the rows, told from their history
+  whole : (rows : List Row) → reverse (reverse rows) ++ [] ≡ rows
+  whole rows = append-nil (reverse (reverse rows)) ∙ reverse-reverse rows
+
+  steps_are : (rows : List Row) → reverse (lazy.lazy_steps h rows) ≡ lazy.lazy_run h (reverse rows) []
+  unfolding lazy.lazy_steps
+  steps_are rows = reverse-reverse (lazy.lazy_run h (reverse rows) [])
+
+  contains : (rows : List Row) → GoesSoFar h (reverse rows) [] → ContainsAll h rows (reverse (lazy.lazy_steps h rows))
+  contains rows goes = record {
+    world = goes.world;
+    run = ap (λ steps. reached h rows steps) (steps_are rows) ∙ ap (λ l. reached h l (lazy.lazy_run h (reverse rows) [])) (sym (whole rows)) ∙ goes.run;
+    all = goes.rest;
+  }
+
+  pub all_are_read : LazyLaw h → AllAreRead h
+  all_are_read law rows is are clean timely =
+      contains rows (law (reverse rows) [] is (subst (λ l. All IsRow l) (sym (whole rows)) are) clean timely)

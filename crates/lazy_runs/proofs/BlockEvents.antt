@@ -1,0 +1,158 @@
+-- A Transfer Event of a success or an error: the lazy run brings its ring behind the block that it names, reports it, and reads it
+use Rattle.std.specs.Prelude.{◌≡◌, ◌≢◌, ℕ, ◌≤◌, ◌&&◌, ◌||◌, true, false, List, [], ◌∷◌, ◌++◌, reverse, Option, Some}
+use Rattle.std.proofs.Common.{arith, sym, ◌∙◌, ap, subst}
+use Rattle.std.proofs.lemmas.Bool.{false≢true, not-false, and_from}
+use Rattle.trb.specs.declared.block.Block.{Block}
+use Rattle.trb.specs.Block.{IsBlock, kind, code, slot, endpoint}
+use Rattle.trb.specs.Kind.{is_transfer_event}
+use Rattle.trb.specs.CompletionCode.{is_success, is_halting, is_trb_error, is_stopping}
+use Rattle.segments.specs.declared.spot.Spot.{Spot}
+use Rattle.segments.specs.declared.spot.Spot.TheVariants.{Data}
+use Rattle.segments.specs.Ceiling.{is_open}
+use Rattle.segments.specs.RingView.{RingView, floor_number}
+use Rattle.segments.specs.RingKeeps.{MayReach}
+use Rattle.segments.specs.Spots.{rank, number, after}
+use Rattle.segments.proofs.Named.{ceiling_within}
+use Rattle.segments.proofs.ReachedSpots.{after_reached}
+use Rattle.segments.proofs.SpotOrder.{next_later}
+use Rattle.traces.specs.declared.header.Header.{Header}
+use Rattle.traces.specs.declared.row.Row.{Row}
+use Rattle.traces.specs.declared.row.Row.TheVariants.{Read}
+use Rattle.traces.specs.Header.{IsHeader, shape_of, command_id}
+use Rattle.world_state.specs.World.{World}
+use Rattle.controller_model.specs.Steps.{reached}
+use Rattle.ring_knowledge.specs.Known.{Known}
+use Rattle.ring_knowledge.specs.Learned.{learned, known}
+use Rattle.ring_knowledge.specs.Rings.{RingSpot}
+use Rattle.ring_knowledge.specs.Transfers.{transferred}
+use Rattle.ownership_rules.specs.Clean.{IsClean}
+use Rattle.safety.specs.Keeps.{IsDriverRing, DriverKeeps}
+use Rattle.safety.specs.Matches.{Agrees}
+use Rattle.safety.proofs.Headers.{transfer_driver, ring_shape}
+use Rattle.lazy_runs.specs.LateEvents.{is_held_ring, is_late}
+use Rattle.lazy_runs.specs.Lazy.{lazy_run, pointers_at, brought}
+use Rattle.lazy_runs.proofs.Follows.{StandsAt, IsActiveIfOpen, Follows, Carries}
+use Rattle.lazy_runs.proofs.Preparing.{AllFit}
+use Rattle.lazy_runs.proofs.ReportPossible.{Reports, names, ahead, success_reports, error_reports}
+use Rattle.lazy_runs.proofs.ReportStep.{EventLearns}
+use Rattle.lazy_runs.proofs.Traced.{Traced, traced_behind}
+use Rattle.lazy_runs.proofs.TransferFacts.{TransferFacts, NamesBlock, success_names, error_names}
+use Rattle.lazy_runs.proofs.TransferGoals.{success_goes_on, error_goes_on, block_goal, brought_here, brought_off, read_is, learns, success_floor, error_ring}
+use Rattle.lazy_runs.proofs.TransferRow.{facts, keeps, agrees, other_ring, row_carries}
+
+open_as_before : (v w : RingView) → w.held ≡ v.held → is_open w ≡ true → is_open v ≡ true
+unfolding is_open
+open_as_before v w same opened = rw (sym same) opened
+
+module _ (h : Header) where
+  -- where no event is late, the ring of a success is open
+  open_ring : (k : Known) (o : Option ℕ) (r : ℕ) → o ≡ Some r → is_held_ring k o ≡ false → is_open (k.ring r) ≡ true
+  unfolding is_held_ring
+  open_ring k o r at timely = not-false (is_open (k.ring r)) (ap (λ x. is_held_ring k x) (sym at) ∙ timely)
+
+  pub success_open : (k : Known) (b : Block) (r : ℕ) → k.ring_of (slot b) (endpoint b) ≡ Some r → is_transfer_event (kind b) ≡ true → is_success (code b) ≡ true →
+      is_late k (Read b) ≡ false → is_open (k.ring r) ≡ true
+  unfolding is_late
+  success_open k b r bound transfer success timely =
+      open_ring k (k.ring_of (slot b) (endpoint b)) r bound
+      (ap (λ c. c && is_held_ring k (k.ring_of (slot b) (endpoint b))) (sym (and_from (is_transfer_event (kind b)) (is_success (code b)) transfer success)) ∙ timely)
+
+  module _ (is : IsHeader h) (past later : List Row) (b : Block) (block : IsBlock b) (clean : IsClean h (Read b ∷ past)) (transfer : is_transfer_event (kind b) ≡ true) (w : World)
+      (f : Follows h past (Read b ∷ later) w) where
+    k : Known
+    k = known h past
+
+    e : TransferFacts h (known h past) b
+    e = facts h is past later b block clean transfer
+
+    d : DriverKeeps h (known h past)
+    d = keeps h is past later b block clean transfer w f
+
+    now : Agrees h (known h past) [] w
+    now = agrees h is past later b block clean transfer w f (pointers_at h past (Read b ∷ later)) w (traced_behind h past (Read b ∷ later) w f)
+
+    -- where the rings stand before the looks
+    abbrev at_first : ℕ → Spot
+    at_first = pointers_at h past (Read b ∷ later)
+
+    module _ (n : NamesBlock h (known h past) e.ring e.spot) (goes_on : is_stopping (code b) ≡ false) (opened : is_open ((known h past).ring e.ring) ≡ true) where
+      goal : RingSpot
+      goal = record { ring = e.ring; spot = after (shape_of h e.ring) n.position }
+
+      no_command : e.ring ≢ command_id h
+      unfolding e
+      no_command = other_ring h is past later b block clean transfer w f
+
+      -- the block isn't passed yet
+      floor_is : at_first e.ring ≡ ((known h past).ring e.ring).floor
+      floor_is = f.traced (slot b) (endpoint b) e.ring e.bound
+
+      near : rank (at_first e.ring) ≤ rank (after (shape_of h e.ring) n.position)
+      near =
+          let named = names h is (known h past) w b block d now clean.1 transfer e in
+          let from : rank ((known h past).ring e.ring).floor ≤ rank (Data n.position) = subst (λ t. rank ((known h past).ring e.ring).floor ≤ rank t) n.is named.from in
+          let past_it = next_later (shape_of h e.ring) (Data n.position) in
+          let same : rank (at_first e.ring) ≡ rank ((known h past).ring e.ring).floor = ap rank floor_is in
+          omega (arith, from, past_it, same)
+
+      reach : MayReach (shape_of h e.ring) ((known h past).ring e.ring) (after (shape_of h e.ring) n.position)
+      reach =
+          let driver : IsDriverRing h e.ring = transfer_driver h e.ring (d.states.transfer (slot b) (endpoint b) e.ring e.bound) in
+          let within = ceiling_within (shape_of h e.ring) (ring_shape h is e.ring driver).is (known h past).memory ((known h past).ring e.ring) (d.rings e.ring driver) in
+          let from : floor_number ((known h past).ring e.ring) ≤ n.position =
+          subst (λ t. floor_number ((known h past).ring e.ring) ≤ number t) n.is (ahead h is (known h past) w b block d now clean.1 transfer e) in
+          after_reached (shape_of h e.ring) ((known h past).ring e.ring) n.position (omega (arith, from)) (omega (arith, n.below, within.1))
+
+      active : w.is_active e.ring ≡ true
+      active = f.active (slot b) (endpoint b) e.ring e.bound opened
+
+      fits : AllFit h past w at_first (goal ∷ [])
+      unfolding goal
+      fits = (
+        record {
+          stands = (traced_behind h past (Read b ∷ later) w f).rings (slot b) (endpoint b) e.ring e.bound;
+          may = λ further. record { active = active; reach = reach; one_command = λ same. absurd (no_command same) };
+        },
+        tt,
+      )
+
+      module _ (floor : ((transferred h (known h past) (code b) (slot b) (endpoint b) e.ring e.spot).ring e.ring).floor ≡ after (shape_of h e.ring) (number e.spot))
+          (reports : (u : World) → Agrees h (known h past) [] u → u.is_active e.ring ≡ true → StandsAt h u e.ring (after (shape_of h e.ring) n.position) →
+          (x : Reports h u b e.ring) × IsActiveIfOpen (learned h (known h past) (Read b)) x.world e.ring)
+          (run : reached h (reverse past ++ (Read b ∷ later)) (lazy_run h past (Read b ∷ later)) ≡ Some w) (rest : w.rows ≡ Read b ∷ later) where
+        behind : EventLearns h (known h past) (learned h (known h past) (Read b)) e.ring (after (shape_of h e.ring) n.position)
+        behind = learns h (known h past) b transfer e (after (shape_of h e.ring) n.position) (floor ∙ ap (λ t. after (shape_of h e.ring) (number t)) n.is)
+
+        reports_there : (u : World) → Traced h past (brought h at_first (goal ∷ [])) u → (x : Reports h u b e.ring) × IsActiveIfOpen (learned h (known h past) (Read b)) x.world e.ring
+        unfolding goal
+        reports_there u trace =
+            reports u (agrees h is past later b block clean transfer w f (brought h at_first (goal ∷ [])) u trace) (trace.active (slot b) (endpoint b) e.ring e.bound opened)
+            (subst (λ t. StandsAt h u e.ring t) (brought_here h at_first e.ring (after (shape_of h e.ring) n.position) near) (trace.rings (slot b) (endpoint b) e.ring e.bound))
+
+        block_carries : Carries h (Read b ∷ past) later
+        unfolding goal e
+        block_carries =
+            row_carries h is past later b block clean transfer w f (goal ∷ []) (block_goal h (known h past) b transfer e later n goes_on) (tt, tt) fits
+            (after (shape_of h e.ring) n.position) behind (brought_here h at_first e.ring (after (shape_of h e.ring) n.position) near)
+            (λ s i q at other. brought_off h at_first e.ring q (after (shape_of h e.ring) n.position) other) reports_there run rest
+
+    module _ (run : reached h (reverse past ++ (Read b ∷ later)) (lazy_run h past (Read b ∷ later)) ≡ Some w) (rest : w.rows ≡ Read b ∷ later) where
+      pub success_carries : is_success (code b) ≡ true → is_late (known h past) (Read b) ≡ false → Carries h (Read b ∷ past) later
+      success_carries success timely =
+          let n : NamesBlock h (known h past) e.ring e.spot = success_names h (known h past) b e success in
+          let opened = success_open (known h past) b e.ring e.bound transfer success timely in
+          block_carries n (success_goes_on (code b) success) opened (success_floor h (known h past) b transfer e (code b) (slot b) (endpoint b) e.ring e.spot success)
+          (λ u agree active here.
+          let r = success_reports h is (known h past) u b block d agree clean.1 transfer e n here success in (r.0, λ _. r.1 ∙ active))
+          run rest
+
+      pub error_carries : is_success (code b) ≡ false → (is_halting (code b) || is_trb_error (code b)) ≡ true → Carries h (Read b ∷ past) later
+      error_carries fails breaks =
+          let named = error_names h (known h past) b e fails breaks in
+          let n : NamesBlock h (known h past) e.ring e.spot = named.0 in
+          let there = error_ring h (known h past) b transfer e (code b) (slot b) (endpoint b) e.ring e.spot fails breaks in
+          let held : is_open ((learned h (known h past) (Read b)).ring e.ring) ≡ false = ap (λ (l : Known). is_open (l.ring e.ring)) (read_is h (known h past) b transfer e) ∙ there.held in
+          block_carries n (error_goes_on (code b) breaks) named.1.opened there.floor
+          (λ u agree active here.
+          (error_reports h is (known h past) u b block d agree clean.1 transfer e n here named.1.runs active fails breaks, λ opened. absurd (false≢true (sym held ∙ opened))))
+          run rest

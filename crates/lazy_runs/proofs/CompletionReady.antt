@@ -1,0 +1,124 @@
+-- The lazy run directly before a finish: the command is under way, and the controller can end it as a clean event says
+use Rattle.std.specs.Prelude.{◌≡◌, ℕ, ◌==◌, ◌&&◌, not, true, List, [], ◌∷◌, ◌++◌, reverse, Some, None}
+use Rattle.std.proofs.Common.{sym, ◌∙◌, ap, subst}
+use Rattle.std.proofs.lemmas.Bool.{and_from, cond-true, eq-eqb, not_from_false}
+use Rattle.trb.specs.declared.block.Block.{Block}
+use Rattle.trb.specs.Block.{kind, code, pointer, slot}
+use Rattle.trb.specs.Kind.{is_command_completion}
+use Rattle.segments.specs.declared.spot.Spot.{Spot}
+use Rattle.segments.specs.Places.{cycle_of}
+use Rattle.segments.specs.Ceiling.{is_open}
+use Rattle.segments.proofs.Positions.{cycle_of_bit}
+use Rattle.commands.specs.Command.{command_of, may_answer_slot}
+use Rattle.traces.specs.declared.header.Header.{Header}
+use Rattle.traces.specs.declared.row.Row.{Row}
+use Rattle.traces.specs.declared.row.Row.TheVariants.{Read}
+use Rattle.traces.specs.declared.step.Step.{Step}
+use Rattle.traces.specs.Header.{IsHeader, shape_of, command_id}
+use Rattle.world_state.specs.World.{World, UnderWay}
+use Rattle.controller_model.specs.Posts.{can_post}
+use Rattle.controller_model.specs.Finishes as finishes
+use Rattle.controller_model.specs.Steps.{reached}
+use Rattle.ring_knowledge.specs.Known.{Known}
+use Rattle.ring_knowledge.specs.Learned.{known}
+use Rattle.ring_knowledge.specs.Rings.{next_command}
+use Rattle.ownership_rules.specs.Clean.{IsClean}
+use Rattle.ownership_rules.specs.Events.{was_stop_seen}
+use Rattle.safety.specs.Keeps.{DriverKeeps}
+use Rattle.safety.specs.Matches.{Agrees}
+use Rattle.safety.proofs.DriverHistories.{driver_keeps}
+use Rattle.safety.proofs.KeptRings.{next_at_floor}
+use Rattle.safety.proofs.SafeContext.{AtFloor, command_at_is}
+use Rattle.safety.proofs.SameCommand.{command_of-with_cycle}
+use Rattle.lazy_runs.specs.Lazy as lazy
+use Rattle.lazy_runs.specs.LateEvents.{IsTimely}
+use Rattle.lazy_runs.proofs.AllEventsRead.{agrees_now}
+use Rattle.lazy_runs.proofs.CompletionLooks.{IsTaken, is_taken, prepared, rings_stay}
+use Rattle.lazy_runs.proofs.CompletionSays.{CompletionSays, completion_says, commands_open}
+use Rattle.lazy_runs.proofs.Follows.{StandsAt, Follows}
+use Rattle.lazy_runs.proofs.MayPost.{may_post}
+use Rattle.lazy_runs.proofs.Preparing.{AllBrought}
+use Rattle.lazy_runs.proofs.RingsGo.{AtFloors}
+use Rattle.lazy_runs.proofs.Traced.{Traced, traced_behind, looks_for}
+
+module _ (h : Header) where
+  -- where the rings stand before the event is posted
+  abbrev pub spots_then : List Row → List Row → Block → ℕ → Spot
+  spots_then past later b = lazy.brought h (lazy.pointers_at h past (Read b ∷ later)) (lazy.goals h (known h past) later (kind b) b)
+
+  pub record ReadyToFinish (past later : List Row) (b : Block) : Type 0 where
+    pub world : World
+    pub run : reached h (reverse past ++ (Read b ∷ later)) (reverse (looks_for h past later b) ++ lazy.lazy_run h past (Read b ∷ later)) ≡ Some world
+    pub rest : world.rows ≡ Read b ∷ later
+    pub traced : Traced h past (spots_then past later b) world
+    pub stay : (s i r : ℕ) → (known h past).ring_of s i ≡ Some r → spots_then past later b r ≡ ((known h past).ring r).floor
+    pub opened : is_open ((known h past).ring (command_id h)) ≡ true
+    pub keeps : DriverKeeps h (known h past)
+    pub agrees : Agrees h (known h past) [] world
+    pub says : CompletionSays h (known h past) b
+    pub can : can_post h world b ≡ true
+    pub taken : UnderWay
+    pub under_way : world.under_way ≡ Some taken
+    pub named : pointer b ≡ taken.address
+    pub command_is : command_of taken.block ≡ Some says.command
+    pub stopped_is : taken.has_stopped ≡ was_stop_seen (known h past) says.command
+
+  module _ (is : IsHeader h) (past later : List Row) (b : Block) (w : World) (completion : is_command_completion (kind b) ≡ true) (clean : IsClean h (Read b ∷ past))
+      (timely : IsTimely h (reverse later ++ (Read b ∷ past))) (f : Follows h past (Read b ∷ later) w) where
+    pub ready_to_finish : reached h (reverse past ++ (Read b ∷ later)) (lazy.lazy_run h past (Read b ∷ later)) ≡ Some w → w.rows ≡ Read b ∷ later → ReadyToFinish past later b
+    ready_to_finish run rest =
+        let k : Known = known h past in
+        let pointers : ℕ → Spot = lazy.pointers_at h past (Read b ∷ later) in
+        let rows : List Row = reverse past ++ (Read b ∷ later) in
+        let older : List Step = lazy.lazy_run h past (Read b ∷ later) in
+        let d : DriverKeeps h k = driver_keeps h is past clean.0 f.runs.on in
+        let says : CompletionSays h k b = completion_says h k b completion clean.1 in
+        let trace : Traced h past pointers w = traced_behind h past (Read b ∷ later) w f in
+        let looked : AllBrought h rows past older w pointers (lazy.goals h k later (kind b) b) (looks_for h past later b) =
+        prepared h is past later b completion timely d clean.0 w says pointers trace rows older run in
+        let v : World = looked.world in
+        let one : IsTaken h is past later b completion timely d clean.0 w says pointers trace v = is_taken h is past later b completion timely d clean.0 w says pointers trace v looked.traced in
+        let g : Agrees h k [] v = agrees_now h past v looked.traced.runs looked.traced.all_read in
+        let floor : AtFloor h k = next_at_floor h is k d says.started says.below in
+        let declared : command_of floor.block ≡ Some says.command = sym (command_at_is h k (next_command h k) floor.block floor.queued) ∙ says.here in
+        record {
+          world = v;
+          run = looked.run;
+          rest = looked.rest ∙ rest;
+          traced = looked.traced;
+          stay = λ s i r had. rings_stay h is past later b completion timely d clean.0 w says pointers trace s i r had ∙ f.traced s i r had;
+          opened = (commands_open h k d says.below).opened;
+          keeps = d;
+          agrees = g;
+          says = says;
+          can = may_post h is k v b d g clean.1;
+          taken = one.taken;
+          under_way = one.under_way;
+          named = says.named ∙ sym one.command.address;
+          command_is = ap (λ e. command_of e) (one.command.words floor.block floor.queued)
+              ∙ command_of-with_cycle floor.block (cycle_of (shape_of h (command_id h)) (next_command h k)) (cycle_of_bit (shape_of h (command_id h)) (next_command h k)) ∙ declared;
+          stopped_is = one.command.stopped says.command says.here;
+        }
+
+  -- the rings stand at their floors
+  pub floors_then : (past later : List Row) (b : Block) → (ready : ReadyToFinish past later b) → AtFloors h (known h past) ready.world
+  floors_then past later b ready = record {
+    floors = λ s i r had. subst (λ t. StandsAt h ready.world r t) (ready.stay s i r had) (ready.traced.rings s i r had);
+    active = ready.traced.active;
+  }
+
+  -- it can be posted, with what its code does
+  pub finish_posted : (past later : List Row) (b : Block) (v : World) → is_command_completion (kind b) ≡ true → (ready : ReadyToFinish past later b) →
+      finishes.ended_with h ready.world b ready.taken ≡ Some v → finishes.finished h ready.world b ≡ Some v
+  unfolding finishes.finished finishes.finished_as
+  finish_posted past later b v completion ready ends =
+      let w : World = ready.world in
+      let u : UnderWay = ready.taken in
+      let answers : may_answer_slot (command_of u.block) (slot b) ≡ true = ap (λ o. may_answer_slot o (slot b)) ready.command_is ∙ ready.says.answers in
+      cond-true (can_post h w b && is_command_completion (kind b) && not (code b == 0)) (finishes.finished_as h w b w.under_way) None
+      (and_from (can_post h w b && is_command_completion (kind b)) (not (code b == 0)) (and_from (can_post h w b) (is_command_completion (kind b)) ready.can completion)
+      (not_from_false (code b == 0) ready.says.some_code))
+      ∙ ap (λ o. finishes.finished_as h w b o) ready.under_way
+      ∙ cond-true (pointer b == u.address && may_answer_slot (command_of u.block) (slot b)) (finishes.ended_with h w b u) None
+      (and_from (pointer b == u.address) (may_answer_slot (command_of u.block) (slot b)) (eq-eqb (pointer b) u.address ready.named) answers)
+      ∙ ends

@@ -1,0 +1,65 @@
+-- The step of a row that reads a Command Completion Event, whatever its command and its code
+use Rattle.std.specs.Prelude.{◌≡◌, ◌==◌, true, false, List, Some}
+use Rattle.std.proofs.Common.{refl, ◌∙◌, ap, subst, inl, inr}
+use Rattle.std.proofs.lemmas.Bool.{cases_Bool}
+use Rattle.trb.specs.declared.block.Block.{Block}
+use Rattle.trb.specs.Block.{code, slot}
+use Rattle.trb.specs.Kind.{is_command_completion}
+use Rattle.commands.specs.declared.command.Command.{Command}
+use Rattle.commands.specs.declared.command.Command.TheVariants.{NoOp, EnableSlot, DisableSlot, AddressDevice, ConfigureEndpoint, EvaluateContext, ResetEndpoint, StopEndpoint, SetTrDequeue, ResetDevice}
+use Rattle.commands.specs.Command.{command_of}
+use Rattle.traces.specs.declared.header.Header.{Header}
+use Rattle.traces.specs.declared.row.Row.{Row}
+use Rattle.traces.specs.Header.{IsHeader}
+use Rattle.ring_knowledge.specs.Learned.{known}
+use Rattle.ring_knowledge.specs.Rings.{next_command}
+use Rattle.safety.specs.Keeps.{CommandKeeps}
+use Rattle.safety.proofs.FinishSlots.{PlacesNone}
+use Rattle.safety.proofs.NumberedChanges.{command_numbered}
+use Rattle.lazy_runs.proofs.AddressCompletions.{address_effect}
+use Rattle.lazy_runs.proofs.CompletionReady.{ReadyToFinish, ready_to_finish, floors_then}
+use Rattle.lazy_runs.proofs.ConfigureCompletions.{configure_effect}
+use Rattle.lazy_runs.proofs.DequeueCompletions.{dequeue_effect}
+use Rattle.lazy_runs.proofs.EventKinds.{EventLawOf}
+use Rattle.lazy_runs.proofs.FailedCompletions.{failed_step}
+use Rattle.lazy_runs.proofs.SlotCompletions.{slot_effect}
+use Rattle.lazy_runs.proofs.SucceededCompletions.{EffectGoes, given_then, states_then, success_step}
+
+module _ (h : Header) (is : IsHeader h) (past later : List Row) (b : Block) (ready : ReadyToFinish h past later b) where
+  -- the command by its name
+  command_keeps : (c : Command) → ready.says.command ≡ c → CommandKeeps h (known h past) (next_command h (known h past)) c
+  command_keeps c here = subst (λ x. CommandKeeps h (known h past) (next_command h (known h past)) x) here (given_then h past later b is ready)
+
+  command_there : (c : Command) → ready.says.command ≡ c → command_of ready.taken.block ≡ Some c
+  command_there c here = ready.command_is ∙ ap (λ x. Some x) here
+
+  plain : (c : Command) → PlacesNone c → EffectGoes h (known h past) ready.world (slot b) c
+  plain c none = slot_effect h (known h past) ready.world (slot b) c none (states_then h past later b is ready) (floors_then h past later b ready)
+
+  command_effect : (c : Command) → ready.says.command ≡ c → EffectGoes h (known h past) ready.world (slot b) c
+  command_effect NoOp here = plain NoOp tt
+  command_effect EnableSlot here = plain EnableSlot tt
+  command_effect (DisableSlot s) here = plain (DisableSlot s) tt
+  command_effect (AddressDevice s bsr n) here =
+      address_effect h is (known h past) ready.world ready.keeps (states_then h past later b is ready) (floors_then h past later b ready) s n bsr
+      (command_numbered ready.taken.block (AddressDevice s bsr n) (command_there (AddressDevice s bsr n) here)) (command_keeps (AddressDevice s bsr n) here) (slot b) ready.agrees.stands
+  command_effect (ConfigureEndpoint s false a) here =
+      configure_effect h is (known h past) ready.world ready.keeps (states_then h past later b is ready) (floors_then h past later b ready) s a
+      (command_numbered ready.taken.block (ConfigureEndpoint s false a) (command_there (ConfigureEndpoint s false a) here)) (command_keeps (ConfigureEndpoint s false a) here) (slot b) ready.agrees.stands
+  command_effect (ConfigureEndpoint s true a) here = plain (ConfigureEndpoint s true a) tt
+  command_effect (EvaluateContext s n) here = plain (EvaluateContext s n) tt
+  command_effect (ResetEndpoint s i) here = plain (ResetEndpoint s i) tt
+  command_effect (StopEndpoint s i) here = plain (StopEndpoint s i) tt
+  command_effect (SetTrDequeue s i p cycle) here =
+      dequeue_effect h is (known h past) ready.world (slot b) s i p cycle ready.keeps (states_then h past later b is ready) (floors_then h past later b ready)
+      (command_keeps (SetTrDequeue s i p cycle) here)
+  command_effect (ResetDevice s) here = plain (ResetDevice s) tt
+
+pub completion_law : (h : Header) → EventLawOf h is_command_completion
+completion_law h past later b w completion is rows block clean timely run rest f =
+    elim (cases_Bool (code b == 1)) [
+      | inl one ↦
+          let ready : ReadyToFinish h past later b = ready_to_finish h is past later b w completion clean timely f run rest in
+          success_step h past later b completion one ready is (command_effect h is past later b ready ready.says.command refl) block clean
+      | inr fails ↦ failed_step h past later b w completion fails is block clean timely run rest f
+    ]

@@ -1,0 +1,31 @@
+-- The success of a Set TR Dequeue: the ring stands where it was moved
+use Rattle.std.specs.Prelude.{ℕ, Bool, []}
+use Rattle.std.proofs.Common.{refl}
+use Rattle.commands.specs.declared.command.Command.{Command}
+use Rattle.commands.specs.declared.command.Command.TheVariants.{SetTrDequeue}
+use Rattle.commands.specs.declared.state.EndpointState.TheVariants.{Stopped}
+use Rattle.commands.specs.Changes.{Change, Places, changes}
+use Rattle.traces.specs.declared.header.Header.{Header}
+use Rattle.traces.specs.Header.{IsHeader}
+use Rattle.world_state.specs.World.{World}
+use Rattle.ring_knowledge.specs.Known.{Known}
+use Rattle.ring_knowledge.specs.Rings.{next_command}
+use Rattle.ring_knowledge.specs.Completions as completions
+use Rattle.safety.specs.Keeps.{DriverKeeps, CommandKeeps}
+use Rattle.safety.proofs.FinishChanges.{StatesMatch}
+use Rattle.safety.proofs.FinishDequeue.{may_move}
+use Rattle.safety.proofs.PlaceKeeps.{MayMove}
+use Rattle.lazy_runs.proofs.ChangesGo.{ChangeGoes, no_change_goes, change_then_goes}
+use Rattle.lazy_runs.proofs.PlacesGo.{move_goes}
+use Rattle.lazy_runs.proofs.RingsGo.{AtFloors}
+use Rattle.lazy_runs.proofs.SucceededCompletions.{EffectGoes}
+
+pub dequeue_effect : (h : Header) → IsHeader h → (k : Known) (w : World) (n s i p : ℕ) (cycle : Bool) → DriverKeeps h k → StatesMatch h k w → AtFloors h k w →
+    CommandKeeps h k (next_command h k) (SetTrDequeue s i p cycle) → EffectGoes h k w n (SetTrDequeue s i p cycle)
+unfolding changes
+dequeue_effect h is k w n s i p cycle d m at given =
+    let c : Command = SetTrDequeue s i p cycle in
+    let change : Change = Places s i p cycle Stopped in
+    let may : MayMove h k s i p cycle = may_move h is k d s i p cycle given.moves_on in
+    let one : ChangeGoes h c k w change = move_goes h is c k w s i p cycle Stopped m at (m.within s i may.ring may.had) may in
+    (refl, change_then_goes h c k w change [] one (no_change_goes h c (completions.changed_by h c k change) one.world one.keeps.states one.goes.at_floors))

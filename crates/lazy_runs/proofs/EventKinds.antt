@@ -1,0 +1,49 @@
+-- The lazy law from the laws of the events that need steps of a ring: Transfer Events and Command Completion Events
+use Rattle.std.specs.Prelude.{◌≡◌, Bool, true, List, ◌∷◌, ◌++◌, ◌||◌, All, reverse, Some}
+use Rattle.std.proofs.Common.{inl, inr}
+use Rattle.std.proofs.lemmas.Bool.{or_cases}
+use Rattle.trb.specs.declared.block.Block.{Block}
+use Rattle.trb.specs.declared.kind.BlockKind.{BlockKind}
+use Rattle.trb.specs.Block.{IsBlock, kind}
+use Rattle.trb.specs.Kind.{is_transfer_event, is_command_completion, is_other_event}
+use Rattle.traces.specs.declared.header.Header.{Header}
+use Rattle.traces.specs.declared.row.Row.{Row}
+use Rattle.traces.specs.declared.row.Row.TheVariants.{Read}
+use Rattle.traces.specs.Header.{IsHeader}
+use Rattle.traces.specs.Rows.{IsRow}
+use Rattle.world_state.specs.World.{World}
+use Rattle.controller_model.specs.Steps.{reached}
+use Rattle.ring_knowledge.specs.Learned.{known}
+use Rattle.ownership_rules.specs.Clean.{IsClean}
+use Rattle.lazy_runs.specs.LateEvents.{IsTimely}
+use Rattle.lazy_runs.specs.Lazy.{lazy_run}
+use Rattle.lazy_runs.specs.Law.{LazyLaw, AllAreRead}
+use Rattle.lazy_runs.proofs.Follows.{Follows, Carries, EventLaw}
+use Rattle.lazy_runs.proofs.Induction.{lazy_from_events, all_read_from_events}
+use Rattle.lazy_runs.proofs.MayPost.{is_event_read}
+use Rattle.lazy_runs.proofs.OtherEvents.{other_step}
+
+module _ (h : Header) where
+  -- the step of a row that reads an event of some kinds
+  abbrev pub EventLawOf : (BlockKind → Bool) → Type 0
+  EventLawOf is_kind =
+      (past later : List Row) (b : Block) (w : World) → is_kind (kind b) ≡ true → IsHeader h → All IsRow past → IsBlock b → IsClean h (Read b ∷ past) →
+      IsTimely h (reverse later ++ (Read b ∷ past)) → reached h (reverse past ++ (Read b ∷ later)) (lazy_run h past (Read b ∷ later)) ≡ Some w →
+      w.rows ≡ Read b ∷ later → Follows h past (Read b ∷ later) w → Carries h (Read b ∷ past) later
+
+  module _ (transfer : EventLawOf is_transfer_event) (completion : EventLawOf is_command_completion) where
+    event_law : EventLaw h
+    event_law past later b w is rows block clean timely run rest f =
+        elim (or_cases (is_transfer_event (kind b) || is_command_completion (kind b)) (is_other_event (kind b)) (is_event_read h (known h past) b clean.1)) [
+          | inl ring ↦ elim (or_cases (is_transfer_event (kind b)) (is_command_completion (kind b)) ring) [
+            | inl one ↦ transfer past later b w one is rows block clean timely run rest f
+            | inr two ↦ completion past later b w two is rows block clean timely run rest f
+          ]
+          | inr other ↦ other_step h is past later b w block clean other f run rest
+        ]
+
+    pub lazy_law : LazyLaw h
+    lazy_law = lazy_from_events h event_law
+
+    pub all_read_law : AllAreRead h
+    all_read_law = all_read_from_events h event_law

@@ -1,0 +1,78 @@
+-- The completion of a command that doesn't succeed: it leaves all rings of endpoints
+use Rattle.std.specs.Prelude.{◌≡◌, ℕ, ◌+◌, ◌==◌, ◌&&◌, if◌then◌else◌, not, true, false, List, ◌∷◌, ◌++◌, reverse, Some, None, option_map}
+use Rattle.std.proofs.Common.{refl, sym, ◌∙◌, subst}
+use Rattle.std.proofs.lemmas.Bool.{and_left, and_right, cond-false, not-true}
+use Rattle.trb.specs.declared.block.Block.{Block}
+use Rattle.trb.specs.Block.{IsBlock, kind, code, slot}
+use Rattle.trb.specs.Kind.{is_command_completion}
+use Rattle.commands.specs.declared.command.Command.{Command}
+use Rattle.commands.specs.Command.{command_of}
+use Rattle.traces.specs.declared.header.Header.{Header}
+use Rattle.traces.specs.declared.row.Row.{Row}
+use Rattle.traces.specs.declared.row.Row.TheVariants.{Read}
+use Rattle.traces.specs.Header.{IsHeader, command_id}
+use Rattle.world_state.specs.World.{World}
+use Rattle.world_state.specs.World as of_world
+use Rattle.controller_model.specs.Finishes as finishes
+use Rattle.controller_model.specs.Posts.{posted}
+use Rattle.controller_model.specs.Steps.{reached}
+use Rattle.ring_knowledge.specs.Known.{Known}
+use Rattle.ring_knowledge.specs.Learned.{learned, known}
+use Rattle.ring_knowledge.specs.Rings.{command_at, next_command}
+use Rattle.ownership_rules.specs.Clean.{IsClean}
+use Rattle.ownership_rules.specs.Events.{was_stop_seen}
+use Rattle.safety.proofs.EventRead.{learned_read}
+use Rattle.safety.proofs.FinishKinds.{let_go, next_known, seen_after, failed_read}
+use Rattle.safety.proofs.LookKinds.{put_off}
+use Rattle.lazy_runs.specs.LateEvents.{IsTimely}
+use Rattle.lazy_runs.specs.Lazy.{lazy_run}
+use Rattle.lazy_runs.specs.Needs as needs
+use Rattle.lazy_runs.proofs.CompletionReady.{ReadyToFinish, ready_to_finish, floors_then, finish_posted, spots_then}
+use Rattle.lazy_runs.proofs.CompletionStep.{CompletionLearns, FinishLeaves, completion_step}
+use Rattle.lazy_runs.proofs.Follows.{Follows, Carries}
+use Rattle.lazy_runs.proofs.RingsGo.{RingsGo}
+
+module _ (h : Header) where
+  -- what it leaves of the world, and what it adds to what is known
+  failed_leaves : (w : World) (b : Block) → FinishLeaves h w (let_go (posted h w b)) w b
+  unfolding posted of_world.stored_block of_world.stored
+  failed_leaves w b = record { memory = refl; posted = refl; reads = refl; rows = refl; rings = λ q. refl; command = refl }
+
+  failed_learns : (k : Known) (b : Block) (c : Command) → is_command_completion (kind b) ≡ true → command_at h k (next_command h k) ≡ Some c → (code b == 1) ≡ false →
+      CompletionLearns h k (learned h k (Read b)) k
+  failed_learns k b c completion here fails =
+      let same : learned h k (Read b) ≡ next_known h k (seen_after k c) (k.reads + 1) = learned_read h k b ∙ failed_read h k b c (k.reads + 1) completion here fails in
+      subst (λ l. CompletionLearns h k l k) (sym same) (record { started = refl; ring_of = λ s i. refl; rings = λ q other. put_off k.ring (command_id h) _ q other })
+
+  not_placed : (k : Known) (r : ℕ) (b : Block) → (code b == 1) ≡ false → needs.is_placed h k r b ≡ false
+  unfolding needs.is_placed
+  not_placed k r b fails =
+      and_left (is_command_completion (kind b) && code b == 1) (needs.is_placed_by h k r (slot b) (command_at h k (next_command h k))) (and_right (is_command_completion (kind b)) (code b == 1) fails)
+
+  module _ (past later : List Row) (b : Block) (completion : is_command_completion (kind b) ≡ true) (fails : (code b == 1) ≡ false) (ready : ReadyToFinish h past later b) where
+    fresh : was_stop_seen (known h past) ready.says.command ≡ false
+    fresh = not-true (was_stop_seen (known h past) ready.says.command) (sym (cond-false (code b == 1) _ (not (was_stop_seen (known h past) ready.says.command)) fails) ∙ ready.says.may)
+
+    ends : finishes.ended_with h ready.world b ready.taken ≡ Some (let_go (posted h ready.world b))
+    unfolding finishes.ended_with finishes.ended
+    ends =
+        cond-false (code b == 1) (option_map (λ v. finishes.ended h v b) (finishes.succeeded h ready.world (slot b) (command_of ready.taken.block)))
+        (if ready.taken.has_stopped then None else Some (let_go (posted h ready.world b))) fails
+        ∙ cond-false ready.taken.has_stopped None (Some (let_go (posted h ready.world b))) (ready.stopped_is ∙ fresh)
+
+    rings_go : RingsGo h (known h past) (known h past) ready.world (λ r. needs.is_placed h (known h past) r b)
+    rings_go = record {
+      at_floors = floors_then h past later b ready;
+      had = λ s i r has other. record { slot = s; index = i; had = has; floor = refl };
+      not_command = not_placed (known h past) (command_id h) b fails;
+    }
+
+  pub failed_step : (past later : List Row) (b : Block) (w : World) → is_command_completion (kind b) ≡ true → (code b == 1) ≡ false → IsHeader h → IsBlock b → IsClean h (Read b ∷ past) →
+      IsTimely h (reverse later ++ (Read b ∷ past)) → reached h (reverse past ++ (Read b ∷ later)) (lazy_run h past (Read b ∷ later)) ≡ Some w →
+      w.rows ≡ Read b ∷ later → Follows h past (Read b ∷ later) w → Carries h (Read b ∷ past) later
+  failed_step past later b w completion fails is block clean timely run rest f =
+      let ready : ReadyToFinish h past later b = ready_to_finish h is past later b w completion clean timely f run rest in
+      let v : World = let_go (posted h ready.world b) in
+      completion_step h is past later b block clean completion (spots_then h past later b) (λ q. refl) ready.world v ready.world (known h past) ready.traced ready.stay
+      ready.says.started ready.opened (finish_posted h past later b v completion ready (ends past later b completion fails ready)) (failed_leaves ready.world b)
+      (failed_learns (known h past) b ready.says.command completion ready.says.here fails) (rings_go past later b completion fails ready) ready.run ready.rest

@@ -1,0 +1,62 @@
+-- The looks of the lazy schedule at one ring are a run, and bring the ring to its spot
+use Rattle.std.specs.Prelude.{◌≡◌, ◌≢◌, ℕ, ◌+◌, ◌<◌, ◌≤◌, true, List, ◌++◌, reverse, Some}
+use Rattle.segments.specs.declared.spot.Spot.{Spot}
+use Rattle.segments.specs.Spots.{rank, number}
+use Rattle.segments.specs.RingKeeps.{MayReach}
+use Rattle.traces.specs.declared.header.Header.{Header}
+use Rattle.traces.specs.declared.row.Row.{Row}
+use Rattle.traces.specs.declared.step.Step.{Step}
+use Rattle.traces.specs.Header.{IsHeader, shape_of, command_id}
+use Rattle.world_state.specs.World.{World}
+use Rattle.controller_model.specs.Steps.{reached}
+use Rattle.ring_knowledge.specs.Known.{Known}
+use Rattle.ring_knowledge.specs.Learned.{known}
+use Rattle.ring_knowledge.specs.Rings.{RingSpot, next_command}
+use Rattle.ownership_rules.specs.Clean.{IsClean}
+use Rattle.safety.specs.Matches.{state_of}
+use Rattle.safety.specs.Invariant.{Runs}
+use Rattle.lazy_runs.specs.Lazy.{further, looks_to}
+use Rattle.lazy_runs.proofs.Follows.{StandsAt}
+
+-- what the looks at ring r leave
+pub record LooksLeave (h : Header) (w v : World) (r : ℕ) : Type 0 where
+  -- the other rings
+  pub others : (q : ℕ) → q ≢ r → state_of v q ≡ state_of w q
+  -- of ring r what no look changes
+  pub active : v.is_active r ≡ w.is_active r
+  pub reported : v.reported r ≡ w.reported r
+  pub under_way : r ≢ command_id h → v.under_way ≡ w.under_way
+  pub rows : v.rows ≡ w.rows
+  pub started : v.started ≡ w.started
+  pub stopped : v.stopped ≡ w.stopped
+  pub memory : v.memory ≡ w.memory
+  pub slot_state : v.slot_state ≡ w.slot_state
+  pub endpoint_state : v.endpoint_state ≡ w.endpoint_state
+  pub ring_of : v.ring_of ≡ w.ring_of
+  pub posted : v.posted ≡ w.posted
+  pub reads : v.reads ≡ w.reads
+  pub dequeue : v.dequeue ≡ w.dequeue
+
+module _ (h : Header) where
+  -- ring r may be brought to spot t: it is active, all before t is given, and of the command ring no more than the next command is taken
+  pub record MayBring (k : Known) (w : World) (r : ℕ) (t : Spot) : Type 0 where
+    pub active : w.is_active r ≡ true
+    pub reach : MayReach (shape_of h r) (k.ring r) t
+    pub one_command : r ≡ command_id h → number t ≤ next_command h k + 1
+
+  -- the looks are a run, and the ring stands at its goal, or where it stood if that is further. Its takes are those of the blocks
+  -- that it passed: what stands at a spot has taken the blocks before it, by the agreement of a run
+  pub record Looked (rows past : List Row) (made : List Step) (w : World) (r : ℕ) (t : Spot) (looks : List Step) : Type 0 where
+    pub world : World
+    pub run : reached h rows (reverse looks ++ made) ≡ Some world
+    pub runs : Runs h past world
+    pub stands : StandsAt h world r t
+    pub leaves : LooksLeave h w world r
+
+  -- nothing is asked of a ring that stands at its goal, or behind it
+  abbrev pub LooksLaw : Type 0
+  LooksLaw =
+      (rows past : List Row) (made : List Step) (w : World) (pointers : ℕ → Spot) (goal : RingSpot) → IsHeader h → IsClean h past → reached h rows made ≡ Some w → Runs h past w →
+      w.posted ≡ w.reads → StandsAt h w goal.ring (pointers goal.ring) →
+      (rank (pointers goal.ring) < rank goal.spot → MayBring (known h past) w goal.ring goal.spot) →
+      Looked rows past made w goal.ring (further (pointers goal.ring) goal.spot) (looks_to h pointers goal)

@@ -1,0 +1,193 @@
+-- An event of the controller itself: the lazy run posts it directly before it is read, and needs no look for it
+use Rattle.std.specs.Prelude.{◌≡◌, ◌+◌, ◌<◌, ◌==◌, ◌&&◌, ℕ, true, false, List, [], ◌∷◌, ◌++◌, reverse, Some, None, option_map, option_and_then}
+use Rattle.std.specs.List.{flat_map}
+use Rattle.std.proofs.Common.{arith, refl, sym, ◌∙◌, ap, subst, inl}
+use Rattle.std.proofs.lemmas.Bool.{and_from, cond-false, cond-true, false≢true}
+use Rattle.trb.specs.declared.block.Block.{Block}
+use Rattle.trb.specs.declared.kind.BlockKind.{BlockKind}
+use Rattle.trb.specs.declared.kind.BlockKind.TheVariants as kinds
+use Rattle.trb.specs.Block.{IsBlock, kind, code, slot, same_words}
+use Rattle.trb.specs.Kind.{is_command_completion, is_other_event}
+use Rattle.segments.specs.declared.spot.Spot.{Spot}
+use Rattle.segments.specs.Ceiling.{is_open}
+use Rattle.traces.specs.declared.header.Header.{Header}
+use Rattle.traces.specs.declared.row.Row.{Row}
+use Rattle.traces.specs.declared.row.Row.TheVariants.{Read}
+use Rattle.traces.specs.declared.step.Step.{Step}
+use Rattle.traces.specs.declared.step.Step.TheVariants.{NextRow, Other}
+use Rattle.traces.specs.Header.{IsHeader, command_id}
+use Rattle.world_state.specs.World.{World, event_at, stored, stored_block}
+use Rattle.controller_model.specs.DriverRows as driver
+use Rattle.controller_model.specs.Posts as posts
+use Rattle.controller_model.specs.Steps as steps
+use Rattle.controller_model.proofs.ReadLemmas.{read_made}
+use Rattle.ring_knowledge.specs.Known.{Known}
+use Rattle.ring_knowledge.specs.Rings.{command_at, next_command}
+use Rattle.ring_knowledge.specs.Learned.{learned, known}
+use Rattle.ownership_rules.specs.Clean.{IsClean}
+use Rattle.safety.specs.Keeps.{DriverKeeps}
+use Rattle.safety.specs.Matches.{Agrees}
+use Rattle.safety.specs.Invariant.{Runs}
+use Rattle.safety.proofs.DriverHistories.{driver_keeps, run_keeps}
+use Rattle.safety.proofs.EventRead.{learned_read}
+use Rattle.safety.proofs.HeadlineFrom.{one_more, runs_rest}
+use Rattle.safety.proofs.LookedRing.{words_itself}
+use Rattle.safety.proofs.Other.{says_nothing, other_runs}
+use Rattle.safety.proofs.Posted.{post_keeps}
+use Rattle.safety.proofs.ReadRow.{read_runs}
+use Rattle.safety.proofs.WithReads.{with_reads}
+use Rattle.lazy_runs.specs.Lazy as lazy
+use Rattle.lazy_runs.specs.Needs as needs
+use Rattle.lazy_runs.proofs.AllEventsRead.{agrees_now}
+use Rattle.lazy_runs.proofs.DriverRuns.{with_rest, next_reached}
+use Rattle.lazy_runs.proofs.Follows.{StandsAt, Follows, Carries}
+use Rattle.lazy_runs.proofs.MayPost.{may_post}
+
+module _ (h : Header) where
+  -- what the schedule does for such an event
+  record NeedsNothing (k : Known) (later : List Row) (b : Block) (t : BlockKind) : Type 0 where
+    goals : lazy.goals h k later t b ≡ []
+    post : lazy.post_of h t b ≡ Other b
+    no_completion : is_command_completion t ≡ false
+
+  needs_nothing : (k : Known) (later : List Row) (b : Block) (t : BlockKind) → is_other_event t ≡ true → NeedsNothing k later b t
+  unfolding lazy.goals lazy.post_of
+  needs_nothing k later b kinds.PortStatusChange other = record { goals = refl; post = refl; no_completion = refl }
+  needs_nothing k later b kinds.BandwidthRequest other = record { goals = refl; post = refl; no_completion = refl }
+  needs_nothing k later b kinds.Doorbell other = record { goals = refl; post = refl; no_completion = refl }
+  needs_nothing k later b kinds.HostController other = record { goals = refl; post = refl; no_completion = refl }
+  needs_nothing k later b kinds.DeviceNotification other = record { goals = refl; post = refl; no_completion = refl }
+  needs_nothing k later b kinds.MfindexWrap other = record { goals = refl; post = refl; no_completion = refl }
+  needs_nothing k later b _ other = absurd (false≢true other)
+
+  lazy_event : (b : Block) (past later : List Row) → is_other_event (kind b) ≡ true →
+      lazy.lazy_run h (Read b ∷ past) later ≡ NextRow ∷ Other b ∷ lazy.lazy_run h past (Read b ∷ later)
+  unfolding lazy.lazy_run lazy.steps_before
+  lazy_event b past later other =
+      let n = needs_nothing (known h past) later b (kind b) other in
+      let pointers : ℕ → Spot = lazy.pointers_at h past (Read b ∷ later) in
+      let older : List Step = lazy.lazy_run h past (Read b ∷ later) in
+      ap (λ g. NextRow ∷ reverse (flat_map (lazy.looks_to h pointers) g ++ lazy.post_of h (kind b) b ∷ []) ++ older) n.goals
+      ∙ ap (λ s. NextRow ∷ reverse (s ∷ []) ++ older) n.post
+
+  pointers_same : (b : Block) (past later : List Row) (r : ℕ) → is_other_event (kind b) ≡ true →
+      lazy.pointers_at h (Read b ∷ past) later r ≡ lazy.pointers_at h past (Read b ∷ later) r
+  unfolding lazy.pointers_at lazy.pointers_after lazy.brought needs.is_placed
+  pointers_same b past later r other =
+      let k : Known = known h past in
+      let n = needs_nothing k later b (kind b) other in
+      let pointers : ℕ → Spot = lazy.pointers_at h past (Read b ∷ later) in
+      let no_place : needs.is_placed h k r b ≡ false = ap (λ c. c && code b == 1 && needs.is_placed_by h k r (slot b) (command_at h k (next_command h k))) n.no_completion in
+      cond-false (needs.is_placed h k r b) ((learned h k (Read b)).ring r).floor (lazy.brought h pointers (lazy.goals h k later (kind b) b) r) no_place
+      ∙ ap (λ g. lazy.brought h pointers g r) n.goals
+
+  post_made : (w : World) (b : Block) → posts.can_post h w b ≡ true → is_other_event (kind b) ≡ true → posts.other_posted h w b ≡ Some (posts.posted h w b)
+  unfolding posts.other_posted
+  post_made w b can other = cond-true (posts.can_post h w b && is_other_event (kind b)) (Some (posts.posted h w b)) None (and_from (posts.can_post h w b) (is_other_event (kind b)) can other)
+
+  post_reached : (rows : List Row) (made : List Step) (w u : World) (b : Block) → steps.reached h rows made ≡ Some w → w.stopped ≡ false → posts.other_posted h w b ≡ Some u →
+      steps.reached h rows (Other b ∷ made) ≡ Some (steps.counted h u)
+  unfolding steps.reached steps.stepped steps.made steps.while_running
+  post_reached rows made w u b run running at =
+      ap (λ o. option_and_then (λ x. steps.stepped h x (Other b)) o) run
+      ∙ ap (λ o. option_map (steps.counted h) o) (cond-false w.stopped None (posts.other_posted h w b) running ∙ at)
+
+  module _ (is : IsHeader h) (past later : List Row) (b : Block) (w : World) (block : IsBlock b) (clean : IsClean h (Read b ∷ past)) (other : is_other_event (kind b) ≡ true)
+      (f : Follows h past (Read b ∷ later) w) where
+    k : Known
+    k = known h past
+
+    l : Known
+    l = learned h k (Read b)
+
+    keeps : DriverKeeps h k
+    unfolding k
+    keeps = driver_keeps h is past clean.0 f.runs.on
+
+    agrees : Agrees h k [] w
+    unfolding k
+    agrees = agrees_now h past w f.runs f.all_read
+
+    can : posts.can_post h w b ≡ true
+    unfolding k
+    can = may_post h is k w b keeps agrees clean.1
+
+    running : w.stopped ≡ false
+    unfolding k
+    running = agrees.stands.stopped ∙ f.runs.on
+
+    same : l ≡ with_reads k (k.reads + 1)
+    unfolding l
+    same = learned_read h k b ∙ ap (λ m. with_reads m (k.reads + 1)) (says_nothing h k b (kind b) other).read
+
+    -- the world behind the post, before the row, and behind it
+    u : World
+    u = posts.posted h w b
+
+    x : World
+    x = with_rest (steps.counted h u) later
+
+    y : World
+    y = record x { reads = x.reads + 1 }
+
+    v : World
+    v = steps.counted h y
+
+    there : event_at h x x.reads ≡ b
+    unfolding x u steps.counted event_at posts.posted stored_block stored
+    there =
+        let p = post_keeps h is k [] w b block keeps agrees can in
+        let first : event_at h (posts.posted h w b) ((posts.posted h w b).reads + 0) ≡ b = p.events.places 0 b refl in
+        let zero : w.reads + 0 ≡ w.reads = omega arith in
+        ap (λ n. event_at h (posts.posted h w b) n) (sym zero) ∙ first
+
+    unread : x.reads < x.posted
+    unfolding x u steps.counted posts.posted stored_block stored
+    unread = omega (arith, f.all_read)
+
+    reads_it : driver.event_read h x b ≡ Some y
+    unfolding y
+    reads_it = read_made h x b unread (subst (λ e. same_words e b ≡ true) (sym there) (words_itself b))
+
+    runs : Runs h (Read b ∷ past) v
+    unfolding x u v k
+    runs =
+        let posted : Runs h past (steps.counted h (posts.posted h w b)) =
+        other_runs h is past w (posts.posted h w b) b block running f.runs (run_keeps h is past w f.runs) (post_made w b can other) in
+        read_runs h past b x y block (runs_rest h past (steps.counted h u) later posted) reads_it
+
+    had : (s i r : ℕ) → l.ring_of s i ≡ Some r → k.ring_of s i ≡ Some r
+    had s i r at = ap (λ (m : Known). m.ring_of s i) (sym same) ∙ at
+
+    stands : (r : ℕ) (t : Spot) → StandsAt h w r t → StandsAt h v r t
+    unfolding v y x u steps.counted posts.posted stored_block stored
+    stands r t at = record { is_spot = at.is_spot; pointer = at.pointer; cycle = at.cycle; next = at.next }
+
+    follows : Follows h (Read b ∷ past) later v
+    unfolding known k l v y x u steps.counted posts.posted stored_block stored
+    follows = record {
+      runs = runs;
+      all_read = omega (arith, f.all_read);
+      floors = λ s i r at. subst (λ t. StandsAt h v r t) (ap (λ (m : Known). (m.ring r).floor) (sym same)) (stands r (k.ring r).floor (f.floors s i r (had s i r at)));
+      traced = λ s i r at. pointers_same b past later r other ∙ f.traced s i r (had s i r at) ∙ ap (λ (m : Known). (m.ring r).floor) (sym same);
+      active = λ s i r at opened. f.active s i r (had s i r at) (ap (λ (m : Known). is_open (m.ring r)) (sym same) ∙ opened);
+      before = λ off. pointers_same b past later (command_id h) other ∙ f.before (ap (λ (m : Known). m.started) (sym same) ∙ off);
+      command = λ on.
+          subst (λ t. StandsAt h v (command_id h) t) (sym (pointers_same b past later (command_id h) other))
+          (stands (command_id h) (lazy.pointers_at h past (Read b ∷ later) (command_id h)) (f.command (ap (λ (m : Known). m.started) (sym same) ∙ on)));
+      command_active = λ opened. f.command_active (ap (λ (m : Known). is_open (m.ring (command_id h))) (sym same) ∙ opened);
+    }
+
+    pub other_step : steps.reached h (reverse past ++ (Read b ∷ later)) (lazy.lazy_run h past (Read b ∷ later)) ≡ Some w → w.rows ≡ Read b ∷ later → Carries h (Read b ∷ past) later
+    unfolding v y x u steps.counted posts.posted stored_block stored driver.row_done
+    other_step run rest =
+        let rows : List Row = reverse past ++ (Read b ∷ later) in
+        let older : List Step = lazy.lazy_run h past (Read b ∷ later) in
+        let posted_run = post_reached rows older w (posts.posted h w b) b run running (post_made w b can other) in
+        record {
+          world = v;
+          run = ap (λ all. steps.reached h all (lazy.lazy_run h (Read b ∷ past) later)) (one_more h (Read b) past later) ∙ ap (λ made. steps.reached h rows made) (lazy_event b past later other)
+              ∙ next_reached h rows (Other b ∷ older) (steps.counted h u) y (Read b) later posted_run rest reads_it;
+          rest = refl;
+          goes = inl follows;
+        }

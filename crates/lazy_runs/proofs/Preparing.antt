@@ -1,0 +1,151 @@
+-- The looks for an event, at one ring after the other, are a run: each ring comes to its goal
+use Rattle.std.specs.Prelude.{◌≡◌, ◌≢◌, ℕ, ◌<◌, List, [], ◌∷◌, ◌++◌, map, reverse, Some}
+use Rattle.std.specs.List.{flat_map}
+use Rattle.std.proofs.Common.{refl, sym, ◌∙◌, ap, subst, inl, inr}
+use Rattle.std.proofs.lemmas.Bool.{cases_eq}
+use Rattle.std.proofs.lemmas.List.{append_assoc, reverse-append}
+use Rattle.guest_memory.specs.Memory.{put}
+use Rattle.segments.specs.declared.spot.Spot.{Spot}
+use Rattle.segments.specs.Spots.{rank}
+use Rattle.traces.specs.declared.header.Header.{Header}
+use Rattle.traces.specs.declared.row.Row.{Row}
+use Rattle.traces.specs.declared.step.Step.{Step}
+use Rattle.traces.specs.declared.step.Step.TheVariants.{Look}
+use Rattle.traces.specs.Header.{IsHeader, shape_of, command_id}
+use Rattle.world_state.specs.World.{World}
+use Rattle.world_state.specs.Takes.{next_take}
+use Rattle.controller_model.specs.Steps.{reached}
+use Rattle.ring_knowledge.specs.Learned.{known}
+use Rattle.ring_knowledge.specs.Rings.{RingSpot}
+use Rattle.ownership_rules.specs.Clean.{IsClean}
+use Rattle.safety.specs.Matches.{RingState, state_of}
+use Rattle.safety.specs.Invariant.{Runs}
+use Rattle.safety.proofs.LookKinds.{put_at, put_off}
+use Rattle.lazy_runs.specs.Lazy as lazy
+use Rattle.lazy_runs.proofs.Follows.{StandsAt}
+use Rattle.lazy_runs.proofs.Looking.{MayBring, Looked, LooksLeave}
+use Rattle.lazy_runs.proofs.LooksRun.{looks_law}
+use Rattle.lazy_runs.proofs.Traced.{Traced}
+
+module _ (h : Header) where
+  -- a ring stands where it is said to, and may be brought to its goal, if that is further
+  pub record Fits (past : List Row) (w : World) (pointers : ℕ → Spot) (goal : RingSpot) : Type 0 where
+    pub stands : StandsAt h w goal.ring (pointers goal.ring)
+    pub may : rank (pointers goal.ring) < rank goal.spot → MayBring h (known h past) w goal.ring goal.spot
+
+  abbrev pub AllFit : List Row → World → (ℕ → Spot) → List RingSpot → Type 0
+  AllFit past w pointers [] = Unit {0}
+  AllFit past w pointers (goal ∷ rest) = Fits past w pointers goal × AllFit past w pointers rest
+
+  -- none of the goals is on ring r
+  abbrev pub AreElsewhere : ℕ → List RingSpot → Type 0
+  AreElsewhere r [] = Unit {0}
+  AreElsewhere r (goal ∷ rest) = (goal.ring ≢ r) × AreElsewhere r rest
+
+  -- no two goals are on one ring
+  abbrev pub AreApart : List RingSpot → Type 0
+  AreApart [] = Unit {0}
+  AreApart (goal ∷ rest) = AreElsewhere goal.ring rest × AreApart rest
+
+  pub record AllBrought (rows past : List Row) (made : List Step) (w : World) (now : ℕ → Spot) (goals : List RingSpot) (looks : List Step) : Type 0 where
+    pub world : World
+    pub run : reached h rows (reverse looks ++ made) ≡ Some world
+    pub traced : Traced h past (lazy.brought h now goals) world
+    pub rest : world.rows ≡ w.rows
+
+  pub stands_same : (w v : World) (q : ℕ) (t : Spot) → state_of v q ≡ state_of w q → StandsAt h w q t → StandsAt h v q t
+  stands_same w v q t same at = record {
+    is_spot = at.is_spot;
+    pointer = ap (λ (x : RingState). x.pointer) same ∙ at.pointer;
+    cycle = ap (λ (x : RingState). x.cycle) same ∙ at.cycle;
+    next = ap (λ (x : RingState). next_take (shape_of h q) x.events) same ∙ at.next;
+  }
+
+  module _ (past : List Row) (w v : World) (now : ℕ → Spot) (r : ℕ) (t : Spot) (there : StandsAt h v r t) (leaves : LooksLeave h w v r) where
+    moved_stands : (q : ℕ) → StandsAt h w q (now q) → StandsAt h v q (put now r t q)
+    moved_stands q at =
+        elim (cases_eq q r) [
+          | inl same ↦ subst (λ n. StandsAt h v n (put now r t n)) (sym same) (subst (λ s. StandsAt h v r s) (sym (put_at now r t)) there)
+          | inr other ↦ subst (λ s. StandsAt h v q s) (sym (put_off now r t q other)) (stands_same w v q (now q) (leaves.others q other) at)
+        ]
+
+    still_active : (q : ℕ) → v.is_active q ≡ w.is_active q
+    still_active q =
+        elim (cases_eq q r) [
+          | inl same ↦ ap v.is_active same ∙ leaves.active ∙ ap w.is_active (sym same)
+          | inr other ↦ ap (λ (x : RingState). x.active) (leaves.others q other)
+        ]
+
+    moved_on : Runs h past v → Traced h past now w → Traced h past (put now r t) v
+    moved_on runs trace = record {
+      runs = runs;
+      all_read = leaves.posted ∙ trace.all_read ∙ sym leaves.reads;
+      rings = λ s i q at. moved_stands q (trace.rings s i q at);
+      active = λ s i q at opened. still_active q ∙ trace.active s i q at opened;
+      command = λ on. moved_stands (command_id h) (trace.command on);
+      command_active = λ opened. still_active (command_id h) ∙ trace.command_active opened;
+    }
+
+  same_spot_looks : (pointers now : ℕ → Spot) (goal : RingSpot) → now goal.ring ≡ pointers goal.ring → lazy.looks_to h now goal ≡ lazy.looks_to h pointers goal
+  unfolding lazy.looks_to
+  same_spot_looks pointers now goal same = ap (λ s. map (λ t. Look goal.ring) (lazy.spots_before (shape_of h goal.ring) s goal.spot)) same
+
+  -- the looks at one ring leave the goals on others as they are
+  module _ (past : List Row) (w v : World) (now : ℕ → Spot) (r : ℕ) (t : Spot) (there : StandsAt h v r t) (leaves : LooksLeave h w v r) where
+    fits_still : (goal : RingSpot) → goal.ring ≢ r → Fits past w now goal → Fits past v (put now r t) goal
+    fits_still goal other fits =
+        let same : put now r t goal.ring ≡ now goal.ring = put_off now r t goal.ring other in
+        record {
+          stands = moved_stands past w v now r t there leaves goal.ring fits.stands;
+          may = λ further.
+              let may = fits.may (subst (λ s. rank s < rank goal.spot) same further) in
+              record { active = still_active past w v now r t there leaves goal.ring ∙ may.active; reach = may.reach; one_command = may.one_command };
+        }
+
+    all_fit_still : (goals : List RingSpot) → AreElsewhere r goals → AllFit past w now goals → AllFit past v (put now r t) goals
+    all_fit_still [] other fits = tt
+    all_fit_still (goal ∷ rest) other fits = (fits_still goal other.0 fits.0, all_fit_still rest other.1 fits.1)
+
+  abbrev AreSame : (ℕ → Spot) → (ℕ → Spot) → List RingSpot → Type 0
+  AreSame pointers now [] = Unit {0}
+  AreSame pointers now (goal ∷ rest) = (now goal.ring ≡ pointers goal.ring) × AreSame pointers now rest
+
+  same_still : (pointers now : ℕ → Spot) (r : ℕ) (t : Spot) (goals : List RingSpot) → AreElsewhere r goals → AreSame pointers now goals → AreSame pointers (put now r t) goals
+  same_still pointers now r t [] other same = tt
+  same_still pointers now r t (goal ∷ rest) other same = (put_off now r t goal.ring other.0 ∙ same.0, same_still pointers now r t rest other.1 same.1)
+
+  all_same : (pointers : ℕ → Spot) (goals : List RingSpot) → AreSame pointers pointers goals
+  all_same pointers [] = tt
+  all_same pointers (goal ∷ rest) = (refl, all_same pointers rest)
+
+  two_lists : (a b made : List Step) → reverse (a ++ b) ++ made ≡ reverse b ++ (reverse a ++ made)
+  two_lists a b made = ap (λ l. l ++ made) (reverse-append a b) ∙ append_assoc (reverse b) (reverse a) made
+
+  module _ (is : IsHeader h) (rows past : List Row) (clean : IsClean h past) (pointers : ℕ → Spot) where
+    all_brought : (goals : List RingSpot) (made : List Step) (w : World) (now : ℕ → Spot) → AreSame pointers now goals → AreApart goals → AllFit past w now goals →
+        reached h rows made ≡ Some w → Traced h past now w → AllBrought rows past made w now goals (flat_map (lazy.looks_to h pointers) goals)
+    unfolding lazy.brought
+    all_brought [] made w now same apart fits run trace = record { world = w; run = run; traced = trace; rest = refl }
+    all_brought (goal ∷ rest) made w now same apart fits run trace =
+        let r : ℕ = goal.ring in
+        let t : Spot = lazy.further (now r) goal.spot in
+        let looks : List Step = lazy.looks_to h pointers goal in
+        let one : Looked h rows past made w r t looks =
+        subst (λ l. Looked h rows past made w r t l) (same_spot_looks pointers now goal same.0)
+        (looks_law h rows past made w now goal is clean run trace.runs trace.all_read fits.0.stands fits.0.may) in
+        let v : World = one.world in
+        let on : AllBrought rows past (reverse looks ++ made) v (put now r t) rest (flat_map (lazy.looks_to h pointers) rest) =
+        all_brought rest (reverse looks ++ made) v (put now r t) (same_still pointers now r t rest apart.0 same.1) apart.1
+        (all_fit_still past w v now r t one.stands one.leaves rest apart.0 fits.1) one.run
+        (moved_on past w v now r t one.stands one.leaves one.runs trace) in
+        record {
+          world = on.world;
+          run = subst (λ l. reached h rows l ≡ Some on.world) (sym (two_lists looks (flat_map (lazy.looks_to h pointers) rest) made)) on.run;
+          traced = on.traced;
+          rest = subst (λ (l : List Row). on.world.rows ≡ l) one.leaves.rows on.rest;
+        }
+
+  -- goals on rings apart are reached one after the other
+  pub goals_reached : IsHeader h → (rows past : List Row) (made : List Step) (w : World) (pointers : ℕ → Spot) (goals : List RingSpot) → IsClean h past → AreApart goals → AllFit past w pointers goals →
+      reached h rows made ≡ Some w → Traced h past pointers w → AllBrought rows past made w pointers goals (flat_map (lazy.looks_to h pointers) goals)
+  goals_reached is rows past made w pointers goals clean apart fits run trace = all_brought is rows past clean pointers goals made w pointers (all_same pointers goals) apart fits run trace

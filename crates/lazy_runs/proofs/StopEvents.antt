@@ -1,0 +1,223 @@
+-- A Transfer Event of a stop: the lazy run takes its Stop Endpoint, brings its ring to the spot that it names, reports it, and reads it
+use Rattle.std.specs.Prelude.{◌≡◌, ◌≢◌, ℕ, ◌+◌, ◌≤◌, ◌==◌, ◌||◌, true, false, List, [], ◌∷◌, ◌++◌, reverse, Some}
+use Rattle.std.proofs.Common.{arith, sym, ◌∙◌, ap, subst, inl, inr}
+use Rattle.std.proofs.lemmas.Bool.{cases_lt, cond-true, cond-false, false≢true, ne_eqb}
+use Rattle.guest_memory.specs.Memory.{put}
+use Rattle.trb.specs.declared.block.Block.{Block}
+use Rattle.trb.specs.Block.{IsBlock, kind, code, slot, endpoint}
+use Rattle.trb.specs.Kind.{is_transfer_event}
+use Rattle.trb.specs.CompletionCode.{is_success, is_halting, is_trb_error, is_stopping}
+use Rattle.segments.specs.declared.spot.Spot.{Spot}
+use Rattle.segments.specs.Ceiling.{is_open}
+use Rattle.segments.specs.Spots.{rank, number, after}
+use Rattle.segments.proofs.ReachedSpots.{after_reached, number-after, stop_spot_reached}
+use Rattle.segments.proofs.SpotOrder.{rank_least, rank_most}
+use Rattle.traces.specs.declared.header.Header.{Header}
+use Rattle.traces.specs.declared.row.Row.{Row}
+use Rattle.traces.specs.declared.row.Row.TheVariants.{Read}
+use Rattle.traces.specs.Header.{IsHeader, shape_of, command_id}
+use Rattle.world_state.specs.World.{World}
+use Rattle.controller_model.specs.Steps.{reached}
+use Rattle.ring_knowledge.specs.Known.{Known}
+use Rattle.ring_knowledge.specs.Learned.{learned, known}
+use Rattle.ring_knowledge.specs.Rings.{RingSpot, next_command}
+use Rattle.ring_knowledge.specs.Transfers.{transferred}
+use Rattle.ownership_rules.specs.Clean.{IsClean}
+use Rattle.safety.specs.Keeps.{DriverKeeps}
+use Rattle.safety.specs.Matches.{Agrees}
+use Rattle.safety.proofs.CleanRows.{event_facts}
+use Rattle.safety.proofs.Headers.{transfer_not_command}
+use Rattle.safety.proofs.LookKinds.{put_at, put_off}
+use Rattle.safety.proofs.SafeContext.{next_is}
+use Rattle.safety.proofs.StopRead.{StopCode}
+use Rattle.lazy_runs.specs.LateEvents.{IsTimely}
+use Rattle.lazy_runs.specs.Lazy.{lazy_run, pointers_at, goals, brought, further, report_goals, command_taken, taken_up_to, stop_goal}
+use Rattle.lazy_runs.specs.Needs.{need}
+use Rattle.lazy_runs.proofs.LooksRun.{further_then, further_not}
+use Rattle.lazy_runs.proofs.CompletionSays.{CommandsOpen, commands_open}
+use Rattle.lazy_runs.proofs.Follows.{StandsAt, IsActiveIfOpen, Follows, Carries}
+use Rattle.lazy_runs.proofs.NeedsOfHeld.{IsHeld, need_of_held}
+use Rattle.lazy_runs.proofs.Preparing.{Fits, AreApart}
+use Rattle.lazy_runs.proofs.ReportPossible.{Reports, names, ahead}
+use Rattle.lazy_runs.proofs.ReportStep.{EventLearns}
+use Rattle.lazy_runs.proofs.StopPossible.{StopIsNext, stop_is_next, stop_reports}
+use Rattle.lazy_runs.proofs.Traced.{Traced, traced_behind}
+use Rattle.lazy_runs.proofs.TransferFacts.{TransferFacts, StopsThere, stop_names, stop_code}
+use Rattle.lazy_runs.proofs.TransferGoals.{IsHeldAt, further_is, taken_behind, goals_are, read_is, learns, stop_ring}
+use Rattle.lazy_runs.proofs.TransferRow.{facts, keeps, agrees, other_ring, row_carries}
+
+-- the further one of two spots is no less far than the second
+further_most : (s t : Spot) → rank t ≤ rank (further s t)
+further_most s t =
+    elim (cases_lt (rank s) (rank t)) [
+      | inl before ↦ let same : rank (further s t) ≡ rank t = ap rank (further_then s t before) in omega (arith, same)
+      | inr there ↦ let same : rank (further s t) ≡ rank s = ap rank (further_not s t there) in omega (arith, same, there)
+    ]
+
+module _ (h : Header) where
+  taken_spot : (k : Known) → command_taken h k ≡ record { ring = command_id h; spot = after (shape_of h (command_id h)) (next_command h k) }
+  unfolding command_taken
+  taken_spot k = taken_behind h (command_id h) (next_command h k)
+
+  -- no success is read of a ring that stops: it stops where it is said to
+  stops_there : (at : RingSpot) (n : ℕ) → n ≡ 0 → stop_goal h at n ≡ at
+  unfolding stop_goal
+  stops_there at n none = cond-false (n == number at.spot + 1) (taken_up_to h at.ring n) at (ne_eqb n (number at.spot + 1) (λ same. omega (arith, same, none)))
+
+  module _ (is : IsHeader h) (past later : List Row) (b : Block) (block : IsBlock b) (clean : IsClean h (Read b ∷ past)) (transfer : is_transfer_event (kind b) ≡ true) (w : World)
+      (f : Follows h past (Read b ∷ later) w) (fails : is_success (code b) ≡ false) (quiet : (is_halting (code b) || is_trb_error (code b)) ≡ false)
+      (timely : IsTimely h (reverse later ++ (Read b ∷ past))) where
+    abbrev k : Known
+    k = known h past
+
+    e : TransferFacts h (known h past) b
+    e = facts h is past later b block clean transfer
+
+    d : DriverKeeps h (known h past)
+    d = keeps h is past later b block clean transfer w f
+
+    trace : Traced h past (pointers_at h past (Read b ∷ later)) w
+    trace = traced_behind h past (Read b ∷ later) w f
+
+    now : Agrees h (known h past) [] w
+    now = agrees h is past later b block clean transfer w f (pointers_at h past (Read b ∷ later)) w trace
+
+    no_command : e.ring ≢ command_id h
+    unfolding e
+    no_command = other_ring h is past later b block clean transfer w f
+
+    stops : StopsThere h (known h past) b e
+    stops = stop_names h (known h past) b e fails quiet
+
+    coded : StopCode (code b)
+    coded = stop_code h (known h past) b e fails quiet
+
+    next : StopIsNext h (known h past) (slot b) (endpoint b)
+    next = stop_is_next h (known h past) (slot b) (endpoint b) stops.now
+
+    opened : CommandsOpen h (known h past)
+    opened = commands_open h (known h past) d next.below
+
+    started : k.started ≡ true
+    started = (event_facts h (known h past) b clean.1).started
+
+    there : IsHeldAt h (known h past) b transfer e (code b) (slot b) (endpoint b) e.ring e.spot (transferred h (known h past) (code b) (slot b) (endpoint b) e.ring e.spot) e.spot
+    there = stop_ring h (known h past) b transfer e (code b) (slot b) (endpoint b) e.ring e.spot coded.success coded.halting coded.error coded.stopping
+
+    held : IsHeld (learned h (known h past) (Read b)) e.ring
+    held = ap (λ (l : Known). is_open (l.ring e.ring)) (read_is h (known h past) b transfer e) ∙ there.held
+
+    needs_none : need h (learned h (known h past) (Read b)) e.ring later ≡ 0
+    unfolding known
+    needs_none = need_of_held h later (Read b ∷ past) e.ring no_command held timely
+
+    -- ---- the goals
+
+    command : RingSpot
+    command = record { ring = command_id h; spot = after (shape_of h (command_id h)) (next_command h k) }
+
+    place : RingSpot
+    place = record { ring = e.ring; spot = e.spot }
+
+    both_goals : goals h k later (kind b) b ≡ command ∷ place ∷ []
+    unfolding report_goals command place
+    both_goals =
+        goals_are h (known h past) b transfer e later
+        ∙ cond-true (is_stopping (code b)) (command_taken h k ∷ stop_goal h place (need h (learned h k (Read b)) e.ring later) ∷ []) (taken_up_to h e.ring (number e.spot + 1) ∷ []) coded.stopping
+        ∙ ap (λ (g : RingSpot). g ∷ stop_goal h place (need h (learned h k (Read b)) e.ring later) ∷ []) (taken_spot k)
+        ∙ ap (λ (g : RingSpot). command ∷ g ∷ []) (stops_there place (need h (learned h k (Read b)) e.ring later) needs_none)
+
+    at_first : ℕ → Spot
+    at_first = pointers_at h past (Read b ∷ later)
+
+    -- the command ring stands behind the Stop Endpoint
+    at_command : Spot
+    at_command = further (at_first (command_id h)) (after (shape_of h (command_id h)) (next_command h k))
+
+    beyond : next_command h k + 1 ≤ number at_command
+    unfolding at_command
+    beyond =
+        let t : Spot = after (shape_of h (command_id h)) (next_command h k) in
+        let most = further_most (at_first (command_id h)) t in
+        let low = rank_least t in
+        let high = rank_most (further (at_first (command_id h)) t) in
+        omega (arith, most, low, high, number-after (shape_of h (command_id h)) (next_command h k))
+
+    near : rank (at_first e.ring) ≤ rank e.spot
+    unfolding at_first
+    near =
+        let from = (names h is (known h past) w b block d now clean.1 transfer e).from in
+        let same : rank (pointers_at h past (Read b ∷ later) e.ring) ≡ rank (k.ring e.ring).floor = ap rank (f.traced (slot b) (endpoint b) e.ring e.bound) in
+        omega (arith, from, same)
+
+    abbrev behind_command : Spot
+    behind_command = further (at_first (command_id h)) (after (shape_of h (command_id h)) (next_command h k))
+
+    abbrev taken : ℕ → Spot
+    taken = put at_first (command_id h) behind_command
+
+    brought_both : (q : ℕ) → q ≢ command_id h → q ≢ e.ring → brought h at_first (command ∷ place ∷ []) q ≡ at_first q
+    unfolding brought command place
+    brought_both q other apart = put_off taken e.ring (further (taken e.ring) e.spot) q apart ∙ put_off at_first (command_id h) behind_command q other
+
+    ring_brought : brought h at_first (command ∷ place ∷ []) e.ring ≡ e.spot
+    unfolding brought command place
+    ring_brought =
+        put_at taken e.ring (further (taken e.ring) e.spot) ∙ ap (λ t. further t e.spot) (put_off at_first (command_id h) behind_command e.ring no_command)
+        ∙ further_is (at_first e.ring) e.spot near
+
+    command_brought : brought h at_first (command ∷ place ∷ []) (command_id h) ≡ at_command
+    unfolding brought command place at_command
+    command_brought = put_off taken e.ring (further (taken e.ring) e.spot) (command_id h) (λ same. no_command (sym same)) ∙ put_at at_first (command_id h) behind_command
+
+    command_fits : Fits h past w at_first command
+    unfolding command at_first
+    command_fits = record {
+      stands = trace.command started;
+      may = λ further. record {
+        active = f.command_active opened.opened;
+        reach = after_reached (shape_of h (command_id h)) (k.ring (command_id h)) (next_command h k) (omega (arith, next_is h k)) opened.given;
+        one_command = λ same. omega (arith, number-after (shape_of h (command_id h)) (next_command h k));
+      };
+    }
+
+    place_fits : Fits h past w at_first place
+    unfolding place at_first
+    place_fits =
+        let named = names h is (known h past) w b block d now clean.1 transfer e in
+        record {
+          stands = trace.rings (slot b) (endpoint b) e.ring e.bound;
+          may = λ further. record {
+            active = f.active (slot b) (endpoint b) e.ring e.bound stops.work.opened;
+            reach = stop_spot_reached (shape_of h e.ring) (k.ring e.ring) e.spot named.spot (ahead h is (known h past) w b block d now clean.1 transfer e) stops.there;
+            one_command = λ same. absurd (no_command same);
+          };
+        }
+
+    apart : AreApart h (command ∷ place ∷ [])
+    unfolding command place
+    apart = ((no_command, tt), (tt, tt))
+
+    -- ---- the report
+
+    reports : (u : World) → Traced h past (brought h at_first (command ∷ place ∷ [])) u → (x : Reports h u b e.ring) × IsActiveIfOpen (learned h k (Read b)) x.world e.ring
+    reports u behind =
+        let agree = agrees h is past later b block clean transfer w f (brought h at_first (command ∷ place ∷ [])) u behind in
+        let commands : StandsAt h u (command_id h) at_command = subst (λ t. StandsAt h u (command_id h) t) command_brought (behind.command started) in
+        let ring : StandsAt h u e.ring e.spot = subst (λ t. StandsAt h u e.ring t) ring_brought (behind.rings (slot b) (endpoint b) e.ring e.bound) in
+        let named = names h is (known h past) w b block d now clean.1 transfer e in
+        let x : Reports h u b e.ring =
+        stop_reports h is (known h past) u b block d agree clean.1 transfer e next at_command commands beyond coded stops.work.runs
+        (behind.active (slot b) (endpoint b) e.ring e.bound stops.work.opened) (sym named.at ∙ sym ring.pointer) in
+        (x, λ opened. absurd (false≢true (sym held ∙ opened)))
+
+    behind : EventLearns h (known h past) (learned h (known h past) (Read b)) e.ring e.spot
+    behind = learns h (known h past) b transfer e e.spot there.floor
+
+    others : (s i q : ℕ) → (known h past).ring_of s i ≡ Some q → q ≢ e.ring → brought h at_first (command ∷ place ∷ []) q ≡ at_first q
+    others s i q at other = brought_both q (λ same. transfer_not_command h is q (d.states.transfer s i q at) same) other
+
+    pub stop_carries : reached h (reverse past ++ (Read b ∷ later)) (lazy_run h past (Read b ∷ later)) ≡ Some w → w.rows ≡ Read b ∷ later → Carries h (Read b ∷ past) later
+    unfolding e at_first
+    stop_carries run rest =
+        row_carries h is past later b block clean transfer w f (command ∷ place ∷ []) both_goals apart (command_fits, (place_fits, tt)) e.spot behind ring_brought others reports run rest
