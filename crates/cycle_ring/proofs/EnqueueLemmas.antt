@@ -1,14 +1,18 @@
 -- What enqueue appends, played into memory
-use Rattle.std.proofs.Common.{◌≡◌, ℕ, ◌+◌, ◌-◌, ◌^◌, ◌<◌, ◌≤◌, ◌&&◌, nat_le, nat_lt, true, List, ◌++◌, length, arith, subst, sym, ap, ◌∙◌}
+use Rattle.std.proofs.Common.{◌≡◌, ℕ, ◌+◌, ◌-◌, ◌^◌, ◌<◌, ◌≤◌, ◌&&◌, nat_le, nat_lt, true, List, ◌++◌, length, arith, subst, sym, ap, ◌∙◌, None}
 use Rattle.std.proofs.Math.Seq.{drop-append_seam}
 use Rattle.std.proofs.lemmas.Bool.Decides.{nat_tests}
 use Rattle.trb.specs.declared.block.Block.{Block}
+use Rattle.trb.specs.Descriptor.{fault_of}
 use Rattle.segments.specs.Shape.{IsShape}
 use Rattle.segments.specs.Places.{place_count}
 use Rattle.segments.proofs.Positions.{place_count_pos}
 use Rattle.cycle_ring.specs.Progress.{Progress, has_room}
 use Rattle.cycle_ring.specs.Writes.{writes_of}
 use Rattle.cycle_ring.specs.Played.{appended, BlocksStand, LinksStand, OthersStay, GivenLast}
+use Rattle.cycle_ring.specs.RingRules.{MayBeDeclared, KeepTheRing, FollowsPassed}
+use Rattle.cycle_ring.proofs.Declared.{may_be_declared}
+use Rattle.cycle_ring.proofs.KeepsTheRing.{keep_the_ring}
 use Rattle.cycle_ring.proofs.DescriptorStands.{blocks_stand, links_stand, others_stay, given_last}
 
 -- blocks for which there is room are fewer than the places
@@ -52,3 +56,20 @@ module _ (p seen : Progress) (is_seen : p ≡ seen) (in_order : p.retired ≤ p.
   appended_last =
       subst (λ (ws : List (ℕ × ℕ)). GivenLast seen.shape seen.enqueued ws) appended_writes
       (given_last seen.shape is_shape seen.enqueued blocks fewer)
+
+  -- and where they are a descriptor, they keep the rules of the ring
+  module _ (no_fault : fault_of seen.shape.kind blocks ≡ None) where
+    seen_in_order : seen.retired ≤ seen.enqueued
+    seen_in_order = subst (λ (q : Progress). q.retired ≤ q.enqueued) is_seen in_order
+
+    pub appended_declared : MayBeDeclared seen blocks
+    appended_declared = may_be_declared seen blocks is_shape seen_in_order (room, no_fault)
+
+    pub appended_rules : KeepTheRing seen blocks (appended old new)
+    appended_rules =
+        subst (λ (ws : List (ℕ × ℕ)). KeepTheRing seen blocks ws) appended_writes
+        (keep_the_ring seen blocks is_shape seen_in_order fewer (room, no_fault))
+
+-- what is surely passed may be retired
+pub retired_follows : (p : Progress) (count : ℕ) → FollowsPassed p count (record p { retired = count })
+retired_follows p count v so passed = record { declared = so.declared; given = so.given; crossed = so.crossed; passed = passed }

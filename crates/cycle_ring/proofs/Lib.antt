@@ -2,3 +2,9 @@ pub mod PlayedLemmas
 pub mod WrittenWords
 pub mod DescriptorStands
 pub mod EnqueueLemmas
+pub mod Declared
+pub mod MayWriteLemmas
+pub mod Stages
+pub mod LinkBlocks
+pub mod Runs
+pub mod KeepsTheRing

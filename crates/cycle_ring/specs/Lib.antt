@@ -2,3 +2,4 @@ pub mod Progress
 pub mod Links
 pub mod Writes
 pub mod Played
+pub mod RingRules

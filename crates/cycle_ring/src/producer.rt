@@ -5,6 +5,7 @@ ghost use Rattle.segments.specs.Shape.{IsShape};
 ghost use Rattle.cycle_ring.specs.Progress.{has_room, HasFault, IsAllowed, is_given_count};
 ghost use Rattle.cycle_ring.specs.Writes.{writes_of};
 ghost use Rattle.cycle_ring.specs.Played.{appended, BlocksStand, LinksStand, OthersStay, GivenLast};
+ghost use Rattle.cycle_ring.specs.RingRules.{MayBeDeclared, KeepTheRing, BeginsWithTheRing, FollowsPassed};
 
 use crate::fault::{EnqueueFault, NotGiven};
 use crate::writes::writes_of;
@@ -37,7 +38,8 @@ impl Producer {
     /// A producer at the first place of a ring, which is no event ring.
     pub fn new(shape: RingShape) -> Producer
         requires { shape.kind ≢ RingKind.Evt }
-        ensures { result ≡ record { shape = shape; enqueued = 0; retired = 0 } }
+        ensures value { result ≡ record { shape = shape; enqueued = 0; retired = 0 } }
+        ensures begins { BeginsWithTheRing result }
     {
         Producer {
             shape,
@@ -75,6 +77,10 @@ impl Producer {
         // Until the last of them is written, the first block is not given.
         ensures last { OnOk result (GivenLast self.old.shape self.old.enqueued (appended out.old.items out.new.items)) }
 
+        // Where the ring is as the producer has it, the blocks may be declared; then each of the writes keeps the ring's rules.
+        ensures declared { OnOk result (MayBeDeclared self.old blocks.now) }
+        ensures rules { OnOk result (KeepTheRing self.old blocks.now (appended out.old.items out.new.items)) }
+
         // Of several faults the one with the least number is told.
         ensures full { (result ≡ Err EnqueueFault.RingFull) ↔ (has_room self.old (length blocks.now) ≡ false) }
         ensures bad { (result ≡ Err EnqueueFault.BadDescriptor) ↔ HasFault self.old blocks.now BadDescriptor }
@@ -98,6 +104,7 @@ impl Producer {
     pub fn retire(&mut self, upto: u64) -> Result<(), NotGiven>
         ensures refused { IsErr result ↔ (is_given_count self.old upto ≡ false) }
         ensures retired { OnOk result (self.new ≡ record self.old { retired = upto }) }
+        ensures passed { OnOk result (FollowsPassed self.old upto self.new) }
         ensures err { OnErr result (self.new ≡ self.old) }
     {
         if upto < self.retired || upto > self.enqueued {

@@ -1,5 +1,7 @@
-use Rattle.std.proofs.Common.{◌∙◌}
-use Rattle.cycle_ring.proofs.EnqueueLemmas.{appended_blocks, appended_links, appended_others, appended_last}
+use Rattle.std.proofs.Common.{◌∙◌, ap, sym}
+use Rattle.trb.specs.Descriptor.{fault_of}
+use Rattle.cycle_ring.specs.Progress.{Progress}
+use Rattle.cycle_ring.proofs.EnqueueLemmas.{appended_blocks, appended_links, appended_others, appended_last, appended_declared, appended_rules}
 use Rattle.cycle_ring.proofs.producer.Producer.enqueue.Goals as goal
 
 pub returns-clause-blocks : goal.returns-clause-blocks
@@ -21,3 +23,17 @@ pub returns-clause-last : goal.returns-clause-last
 returns-clause-last c =
     appended_last _ _ c.self.view_is c.self.invariant c.args.blocks.now _ _ _ c.in-Some.ensures.shape c.in-Some.ensures.end.0
     (c.deref.ensures.value ∙ c.in_ok-writes.ensures) c.in_ok-extend_from_slice.ensures.items
+
+pub returns-clause-declared : goal.returns-clause-declared
+returns-clause-declared c =
+    appended_declared _ _ c.self.view_is c.self.invariant c.args.blocks.now _ _ _ c.in-Some.ensures.shape c.in-Some.ensures.end.0
+    (c.deref.ensures.value ∙ c.in_ok-writes.ensures) c.in_ok-extend_from_slice.ensures.items
+    (sym (ap (λ (p : Progress). fault_of p.shape.kind c.args.blocks.now) c.self.view_is)
+    ∙ ap (λ r. fault_of r c.args.blocks.now) (sym c.kind.ensures) ∙ sym c.descriptor_fault.ensures ∙ c.in_default-descriptor_fault.is)
+
+pub returns-clause-rules : goal.returns-clause-rules
+returns-clause-rules c =
+    appended_rules _ _ c.self.view_is c.self.invariant c.args.blocks.now _ _ _ c.in-Some.ensures.shape c.in-Some.ensures.end.0
+    (c.deref.ensures.value ∙ c.in_ok-writes.ensures) c.in_ok-extend_from_slice.ensures.items
+    (sym (ap (λ (p : Progress). fault_of p.shape.kind c.args.blocks.now) c.self.view_is)
+    ∙ ap (λ r. fault_of r c.args.blocks.now) (sym c.kind.ensures) ∙ sym c.descriptor_fault.ensures ∙ c.in_default-descriptor_fault.is)

@@ -1,0 +1,94 @@
+-- The Link that a producer writes leads on, and a block stands once its four words are written
+use Rattle.std.specs.Prelude.{◌≡◌, ℕ, suc, zero, ◌+◌, ◌-◌, ◌*◌, ◌/◌, ◌%◌, ◌^◌, ◌<◌, ◌==◌, ◌||◌, Bool, true, false, not, [], ◌∷◌, Some, unwrap_or}
+use Rattle.std.proofs.Common.{arith, refl, sym, ◌∙◌, ap}
+use Rattle.std.proofs.lemmas.Bool.{eq-eqb}
+use Rattle.guest_memory.specs.Memory.{put}
+use Rattle.trb.specs.declared.block.Block.{Block}
+use Rattle.trb.specs.Bits.{is_set}
+use Rattle.trb.specs.Block.{aligned, block_at, word, with_cycle, kind, pointer}
+use Rattle.trb.specs.Kind.{is_link}
+use Rattle.trb.proofs.BlockLemmas.{cycle-with_cycle}
+use Rattle.segments.specs.ShapeValue.{Shape}
+use Rattle.segments.specs.Shape.{IsShape}
+use Rattle.segments.specs.Places.{cycle_of, link_crossed, link_address, link_target, toggles}
+use Rattle.segments.specs.Givings.{same, is_wrong_link, link_of, leads_wrong, interrupts}
+use Rattle.segments.proofs.Positions.{address_aligned, cycle_of_bit}
+use Rattle.segments.proofs.Crossings.{link_target-crossed}
+use Rattle.segments.proofs.MemoryWords.{put_here, put_elsewhere}
+use Rattle.cycle_ring.specs.Links.{link_control, link_block}
+use Rattle.cycle_ring.proofs.PlayedLemmas.{block_at-words}
+
+-- the fields of a Link's control word
+
+link_fields :
+    (c : ℕ) (toggle chain : Bool) → c < 2
+    → (is_link (kind (record { w = 0 ∷ 0 ∷ 0 ∷ link_control c toggle chain ∷ [] })) ≡ true)
+    × (same (is_set (link_control c toggle chain) 1) toggle ≡ true) × (link_control c toggle chain % 2 ≡ c)
+    × (is_set (link_control c toggle chain) 5 ≡ false)
+link_fields zero true true h = (refl, refl, refl, refl)
+link_fields zero true false h = (refl, refl, refl, refl)
+link_fields zero false true h = (refl, refl, refl, refl)
+link_fields zero false false h = (refl, refl, refl, refl)
+link_fields (suc zero) true true h = (refl, refl, refl, refl)
+link_fields (suc zero) true false h = (refl, refl, refl, refl)
+link_fields (suc zero) false true h = (refl, refl, refl, refl)
+link_fields (suc zero) false false h = (refl, refl, refl, refl)
+link_fields (suc (suc c)) toggle chain h = absurd (omega arith)
+
+whole_pointer : (t : ℕ) → t % 16 ≡ 0 → aligned (t % 2 ^ 32 + 2 ^ 32 * (t / 2 ^ 32)) ≡ t
+whole_pointer t on =
+    let parts : t % 2 ^ 32 + 2 ^ 32 * (t / 2 ^ 32) ≡ t = omega arith in
+    rw parts (omega arith)
+
+module _ (shape : Shape) (is : IsShape shape) (q i : ℕ) (chain : Bool) (crossed : link_crossed shape q ≡ Some i) where
+  target_aligned : link_target shape i % 16 ≡ 0
+  target_aligned = ap (λ a. a % 16) (sym (link_target-crossed shape is q i crossed)) ∙ address_aligned shape is q
+
+  link_is_right : is_wrong_link shape i (link_block shape i (cycle_of shape (q - 1)) chain) ≡ false
+  unfolding is_wrong_link
+  link_is_right =
+      let fields = link_fields (cycle_of shape (q - 1)) (toggles shape i) chain (cycle_of_bit shape (q - 1)) in
+      let there : (aligned (pointer (link_block shape i (cycle_of shape (q - 1)) chain)) == link_target shape i) ≡ true =
+      eq-eqb (aligned (pointer (link_block shape i (cycle_of shape (q - 1)) chain))) (link_target shape i) (whole_pointer (link_target shape i) target_aligned) in
+      by_parts _ _ _ there fields.0 fields.1
+    where
+      by_parts : (x y z : Bool) → x ≡ true → y ≡ true → z ≡ true → (not x || not y || not z) ≡ false
+      by_parts true true true a b c = refl
+      by_parts true true false a b c = absurd (cc)
+      by_parts true false z a b c = absurd (cc)
+      by_parts false y z a b c = absurd (cc)
+
+  pub link_cycle : link_control (cycle_of shape (q - 1)) (toggles shape i) chain % 2 ≡ cycle_of shape (q - 1)
+  link_cycle = (link_fields (cycle_of shape (q - 1)) (toggles shape i) chain (cycle_of_bit shape (q - 1))).2
+
+  pub leads_right :
+      (m : ℕ → ℕ) (a w : ℕ) → block_at (put m a w) (link_address shape q) ≡ link_block shape i (cycle_of shape (q - 1)) chain
+      → (leads_wrong shape m a w q ≡ false) × (interrupts shape m a w q ≡ false)
+  unfolding leads_wrong interrupts link_of
+  leads_right m a w stands = (
+    ap (λ o. is_wrong_link shape (unwrap_or o 0) (block_at (put m a w) (link_address shape q))) crossed
+        ∙ ap (λ b. is_wrong_link shape i b) stands ∙ link_is_right,
+    ap (λ (b : Block). is_set (word b 3) 5) stands ∙ (link_fields (cycle_of shape (q - 1)) (toggles shape i) chain (cycle_of_bit shape (q - 1))).3,
+  )
+
+pub cycle_written : (shape : Shape) (p : ℕ) (b : Block) → word (with_cycle b (cycle_of shape p)) 3 % 2 ≡ cycle_of shape p
+cycle_written shape p b = one_bit _ _ (cycle-with_cycle b (cycle_of shape p) (cycle_of_bit shape p))
+  where
+    one_bit : (w c : ℕ) → w / 1 % 2 ≡ c → w % 2 ≡ c
+    one_bit w c same = omega arith
+
+-- memory after the four words of a block
+pub four_puts :
+    (m : ℕ → ℕ) (a w0 w1 w2 w3 : ℕ)
+    → block_at (put (put (put (put m a w0) (a + 4) w1) (a + 8) w2) (a + 12) w3) a ≡ (let b : Block = record { w = w0 ∷ w1 ∷ w2 ∷ w3 ∷ [] } in b)
+four_puts m a w0 w1 w2 w3 =
+    let m1 = put m a w0 in
+    let m2 = put m1 (a + 4) w1 in
+    let m3 = put m2 (a + 8) w2 in
+    let m4 = put m3 (a + 12) w3 in
+    block_at-words m4 a w0 w1 w2 w3
+    (put_elsewhere m3 (a + 12) w3 a (λ e. absurd (omega arith)) ∙ put_elsewhere m2 (a + 8) w2 a (λ e. absurd (omega arith))
+    ∙ put_elsewhere m1 (a + 4) w1 a (λ e. absurd (omega arith)) ∙ put_here m a w0)
+    (put_elsewhere m3 (a + 12) w3 (a + 4) (λ e. absurd (omega arith)) ∙ put_elsewhere m2 (a + 8) w2 (a + 4) (λ e. absurd (omega arith)) ∙ put_here m1 (a + 4) w1)
+    (put_elsewhere m3 (a + 12) w3 (a + 8) (λ e. absurd (omega arith)) ∙ put_here m2 (a + 8) w2)
+    (put_here m3 (a + 12) w3)

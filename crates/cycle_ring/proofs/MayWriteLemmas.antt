@@ -1,0 +1,126 @@
+-- When a word may be written on a ring, by what it touches and what it gives
+use Rattle.std.specs.Prelude.{◌≡◌, ℕ, ◌+◌, ◌*◌, ◌%◌, ◌<◌, ◌≤◌, true, false, List, nat_lt, All, Contains, slice_index}
+use Rattle.std.proofs.Common.{arith, sym, ◌∙◌, ap}
+use Rattle.std.proofs.lemmas.Bool.{and_parts, ltb-true, false_from_ne_true}
+use Rattle.std.proofs.lemmas.List.Elements.{All-weaker, All-contains_itself}
+use Rattle.segments.specs.ShapeValue.{Shape}
+use Rattle.segments.specs.Shape.{IsShape}
+use Rattle.segments.specs.Places.{data_places, links, place_count, address_of, is_crossing, link_address, overlap}
+use Rattle.segments.specs.RingView.{RingView, floor_number, is_due, positions_given, crossings_given, leased_positions, leased_crossings}
+use Rattle.segments.specs.Givings.{is_other_than_declared, is_not_declared, is_not_whole, leads_wrong, interrupts}
+use Rattle.segments.specs.RingKeeps.{MayWrite}
+use Rattle.segments.proofs.DataPlaces.{place_not_link, link_aligned, links_apart}
+use Rattle.segments.proofs.Positions.{place_below, same_place_of, same_position_near}
+use Rattle.segments.proofs.Crossings.{crosses, crossed_link, link_address_is, same_crossing_at}
+use Rattle.segments.proofs.Giving.{Gives, GivesCrossing, gives_is, gives_crossing_is}
+use Rattle.segments.proofs.DueLists.{leased_position_is, leased_crossing_is, position_given_is, crossing_given_is}
+
+all_in : (P : ℕ → Type 0) (xs : List ℕ) → ((x : ℕ) → Contains xs x → P x) → All P xs
+all_in P xs each = All-weaker (Contains xs) P each xs (All-contains_itself xs)
+
+-- position p may be given by this write
+pub record MayGive (shape : Shape) (m : ℕ → ℕ) (v : RingView) (a w p : ℕ) : Type 0 where
+  pub as_declared : is_other_than_declared shape v m a w p ≡ false
+  pub declared : is_not_declared v p ≡ false
+  pub whole : is_not_whole shape v p ≡ false
+
+-- a word may be written, and gives no Link that interrupts
+pub record MayPut (shape : Shape) (m : ℕ → ℕ) (v : RingView) (a w : ℕ) : Type 0 where
+  pub may : MayWrite shape m v a w
+  pub without_interrupt : All (λ q. interrupts shape m a w q ≡ false) (crossings_given shape v a w)
+
+pub may_write_from :
+    (shape : Shape) (m : ℕ → ℕ) (v : RingView) (a w : ℕ)
+    → ((p : ℕ) → is_due shape v.floor p ≡ true → v.given p ≡ true → overlap a 4 (address_of shape p) 16 ≡ false)
+    → ((q : ℕ) → is_crossing shape q ≡ true → v.crossed q ≡ true → floor_number v ≤ q → overlap a 4 (link_address shape q) 16 ≡ false)
+    → ((p : ℕ) → Gives shape v.floor p a w → MayGive shape m v a w p)
+    → ((q : ℕ) → GivesCrossing shape v.floor q a w → (leads_wrong shape m a w q ≡ false) × (interrupts shape m a w q ≡ false))
+    → MayPut shape m v a w
+may_write_from shape m v a w blocks links positions crossings =
+    let may : (p : ℕ) → Contains (positions_given shape v a w) p → MayGive shape m v a w p =
+    λ p c. positions p (gives_is shape v.floor p a w (position_given_is shape v a w p c).1) in
+    let leads : (q : ℕ) → Contains (crossings_given shape v a w) q → (leads_wrong shape m a w q ≡ false) × (interrupts shape m a w q ≡ false) =
+    λ q c. crossings q (gives_crossing_is shape v.floor q a w (crossing_given_is shape v a w q c).1) in
+    let may_write : MayWrite shape m v a w = record {
+      blocks = all_in (λ p. overlap a 4 (address_of shape p) 16 ≡ false) (leased_positions shape v)
+          (λ p c. let is = leased_position_is shape v p c in blocks p is.0 is.1);
+      links = all_in (λ q. overlap a 4 (link_address shape q) 16 ≡ false) (leased_crossings shape v)
+          (λ q c. let is = leased_crossing_is shape v q c in links q is.0 is.1 is.2);
+      as_declared = all_in (λ p. is_other_than_declared shape v m a w p ≡ false) (positions_given shape v a w) (λ p c. (may p c).as_declared);
+      declared = all_in (λ p. is_not_declared v p ≡ false) (positions_given shape v a w) (λ p c. (may p c).declared);
+      whole = all_in (λ p. is_not_whole shape v p ≡ false) (positions_given shape v a w) (λ p c. (may p c).whole);
+      leads = all_in (λ q. leads_wrong shape m a w q ≡ false) (crossings_given shape v a w)
+          (λ q c. (leads q c).0);
+    } in
+    record {
+      may = may_write;
+      without_interrupt = all_in (λ q. interrupts shape m a w q ≡ false) (crossings_given shape v a w) (λ q c. (leads q c).1);
+    }
+
+-- ---- words of blocks and Links that lie apart
+
+overlap_is : (a b : ℕ) → overlap a 4 b 16 ≡ true → (a < b + 16) × (b < a + 4)
+overlap_is a b h =
+    let parts = and_parts (nat_lt a (b + 16)) (nat_lt b (a + 4)) h in
+    (ltb-true a (b + 16) parts.0, ltb-true b (a + 4) parts.1)
+
+module _ (shape : Shape) (is : IsShape shape) where
+  pub link_address_aligned : (q : ℕ) → is_crossing shape q ≡ true → link_address shape q % 16 ≡ 0
+  link_address_aligned q crossing =
+      let found = crossed_link shape q crossing in
+      ap (λ a. a % 16) (link_address_is shape q found.0 found.1) ∙ link_aligned shape is found.0 (crosses shape q found.0 found.1).link
+
+  pub same_link_address :
+      (r q : ℕ) → is_crossing shape r ≡ true → is_crossing shape q ≡ true
+      → link_address shape r < link_address shape q + 16 → link_address shape q < link_address shape r + 16 → link_address shape r ≡ link_address shape q
+  same_link_address r q at_r at_q near far =
+      let a = crossed_link shape r at_r in
+      let b = crossed_link shape q at_q in
+      let here : link_address shape r ≡ slice_index (links shape) a.0 = link_address_is shape r a.0 a.1 in
+      let there : link_address shape q ≡ slice_index (links shape) b.0 = link_address_is shape q b.0 b.1 in
+      let one : a.0 ≡ b.0 = links_apart shape is a.0 b.0 (crosses shape r a.0 a.1).link (crosses shape q b.0 b.1).link (omega arith) (omega arith) in
+      here ∙ ap (λ i. slice_index (links shape) i) one ∙ sym there
+
+  place_and_link :
+      (p q : ℕ) → is_crossing shape q ≡ true
+      → address_of shape p < link_address shape q + 16 → link_address shape q < address_of shape p + 16 → ⊥
+  place_and_link p q crossing near far =
+      let found = crossed_link shape q crossing in
+      let at : link_address shape q ≡ slice_index (links shape) found.0 = link_address_is shape q found.0 found.1 in
+      place_not_link shape is (p % place_count shape) found.0 (place_below shape is p) (crosses shape q found.0 found.1).link (omega arith) (omega arith)
+
+  module _ (x : ℕ) (k : ℕ) (small : k < 4) where
+    pub block_word_no_block :
+        (q p : ℕ) → x ≡ address_of shape q + 4 * k → p < q + place_count shape → q < p + place_count shape → (p ≡ q → ⊥)
+        → overlap x 4 (address_of shape p) 16 ≡ false
+    block_word_no_block q p at far near other =
+        false_from_ne_true (overlap x 4 (address_of shape p) 16)
+        (λ h.
+        let o = overlap_is x (address_of shape p) h in
+        let place : p % place_count shape ≡ q % place_count shape = same_place_of shape is p q (omega (arith, o.1)) (omega (arith, o.0)) in
+        other (same_position_near shape is p q far near (ap (λ i. slice_index (data_places shape) i) place)))
+
+    pub block_word_no_link : (q r : ℕ) → x ≡ address_of shape q + 4 * k → is_crossing shape r ≡ true → overlap x 4 (link_address shape r) 16 ≡ false
+    block_word_no_link q r at crossing =
+        false_from_ne_true (overlap x 4 (link_address shape r) 16)
+        (λ h.
+        let o = overlap_is x (link_address shape r) h in
+        place_and_link q r crossing (omega (arith, o.0)) (omega (arith, o.1)))
+
+    pub link_word_no_block : (q p : ℕ) → x ≡ link_address shape q + 4 * k → is_crossing shape q ≡ true → overlap x 4 (address_of shape p) 16 ≡ false
+    link_word_no_block q p at crossing =
+        false_from_ne_true (overlap x 4 (address_of shape p) 16)
+        (λ h.
+        let o = overlap_is x (address_of shape p) h in
+        place_and_link p q crossing (omega (arith, o.1)) (omega (arith, o.0)))
+
+    pub link_word_no_link :
+        (q r : ℕ) → x ≡ link_address shape q + 4 * k → is_crossing shape q ≡ true → is_crossing shape r ≡ true
+        → r < q → q < r + place_count shape → overlap x 4 (link_address shape r) 16 ≡ false
+    link_word_no_link q r at at_q at_r lower near =
+        false_from_ne_true (overlap x 4 (link_address shape r) 16)
+        (λ h.
+        let o = overlap_is x (link_address shape r) h in
+        let one : link_address shape r ≡ link_address shape q = same_link_address r q at_r at_q (omega (arith, o.1)) (omega (arith, o.0)) in
+        let same : r ≡ q = same_crossing_at shape is r q (omega arith) near at_r at_q one in
+        absurd (omega arith))

@@ -1,0 +1,197 @@
+-- The writes of a descriptor, one after another, keep the rules of the ring
+use Rattle.std.specs.Prelude.{◌≡◌, ℕ, suc, ◌+◌, ◌-◌, ◌<◌, ◌≤◌, ◌⊎◌, Bool, true, false, List, [], ◌∷◌, ◌++◌, length, Some, Option, slice_get, is_some}
+use Rattle.std.proofs.Common.{arith, refl, sym, ◌∙◌, ap, subst, inl, inr, append_assoc}
+use Rattle.guest_memory.specs.Memory.{put}
+use Rattle.trb.specs.declared.block.Block.{Block}
+use Rattle.trb.specs.Block.{word}
+use Rattle.segments.specs.ShapeValue.{Shape}
+use Rattle.segments.specs.Shape.{IsShape}
+use Rattle.segments.specs.Places.{address_of, cycle_of, link_crossed, link_address}
+use Rattle.segments.specs.RingView.{RingView, Writes, changed}
+use Rattle.segments.specs.RingKeeps.{RingKeeps}
+use Rattle.segments.proofs.Search.{cases_option}
+use Rattle.segments.proofs.Crossings.{is_crossing-from}
+use Rattle.segments.proofs.Writing.{writes_keeps}
+use Rattle.cycle_ring.specs.Links.{link_block}
+use Rattle.cycle_ring.specs.Writes.{low_writes, block_writes, block_at_position, way_writes, later_writes}
+use Rattle.cycle_ring.specs.Played.{played}
+use Rattle.cycle_ring.specs.RingRules.{viewed, AllMayWrite, AllWithoutInterrupt}
+use Rattle.cycle_ring.proofs.MayWriteLemmas.{MayPut}
+use Rattle.cycle_ring.proofs.Stages.{Stage, low_word, later_control, link_low_word, link_control_word, no_way}
+use Rattle.cycle_ring.proofs.LinkBlocks.{link_cycle, leads_right, cycle_written, four_puts}
+
+-- ---- lists of writes
+
+-- each of these writes may be, and gives no Link that interrupts
+abbrev pub AllMayPut : Shape → (ℕ → ℕ) → RingView → List (ℕ × ℕ) → Type 0
+AllMayPut shape m v [] = Unit {0}
+AllMayPut shape m v (x ∷ rest) = MayPut shape m v x.0 x.1 × AllMayPut shape (put m x.0 x.1) (changed shape v (Writes x.0 x.1)) rest
+
+pub all_may_write : (shape : Shape) (m : ℕ → ℕ) (v : RingView) (writes : List (ℕ × ℕ)) → AllMayPut shape m v writes → AllMayWrite shape m v writes
+all_may_write shape m v [] all = tt
+all_may_write shape m v (x ∷ rest) all = (all.0.may, all_may_write shape (put m x.0 x.1) (changed shape v (Writes x.0 x.1)) rest all.1)
+
+pub all_without_interrupt :
+    (shape : Shape) (m : ℕ → ℕ) (v : RingView) (writes : List (ℕ × ℕ)) → AllMayPut shape m v writes → AllWithoutInterrupt shape m v writes
+all_without_interrupt shape m v [] all = tt
+all_without_interrupt shape m v (x ∷ rest) all =
+    (all.0.without_interrupt, all_without_interrupt shape (put m x.0 x.1) (changed shape v (Writes x.0 x.1)) rest all.1)
+
+pub all_append :
+    (shape : Shape) (m : ℕ → ℕ) (v : RingView) (xs ys : List (ℕ × ℕ))
+    → AllMayPut shape m v xs → AllMayPut shape (played m xs) (viewed shape v xs) ys → AllMayPut shape m v (xs ++ ys)
+all_append shape m v [] ys first second = second
+all_append shape m v (x ∷ rest) ys first second =
+    (first.0, all_append shape (put m x.0 x.1) (changed shape v (Writes x.0 x.1)) rest ys first.1 second)
+
+pub viewed_append : (shape : Shape) (v : RingView) (xs ys : List (ℕ × ℕ)) → viewed shape v (xs ++ ys) ≡ viewed shape (viewed shape v xs) ys
+viewed_append shape v [] ys = refl
+viewed_append shape v (x ∷ rest) ys = viewed_append shape (changed shape v (Writes x.0 x.1)) rest ys
+
+pub played_append : (m : ℕ → ℕ) (xs ys : List (ℕ × ℕ)) → played m (xs ++ ys) ≡ played (played m xs) ys
+played_append m [] ys = refl
+played_append m (x ∷ rest) ys = played_append (put m x.0 x.1) rest ys
+
+pub all_keep :
+    (shape : Shape) (m : ℕ → ℕ) (v : RingView) (writes : List (ℕ × ℕ)) → RingKeeps shape m v → AllMayWrite shape m v writes
+    → RingKeeps shape (played m writes) (viewed shape v writes)
+all_keep shape m v [] k all = k
+all_keep shape m v (x ∷ rest) k all =
+    all_keep shape (put m x.0 x.1) (changed shape v (Writes x.0 x.1)) rest (writes_keeps shape m v x.0 x.1 k all.0) all.1
+
+-- all these writes keep the rules, and behind them S holds of what is known
+abbrev pub Run : Shape → (ℕ → ℕ) → RingView → List (ℕ × ℕ) → (RingView → Type 0) → Type 0
+Run shape m v writes S = AllMayPut shape m v writes × S (viewed shape v writes)
+
+module _ (shape : Shape) (is : IsShape shape) (first count : ℕ) (queue : List Block) (S : RingView → Type 0) where
+  -- ---- a Link
+
+  link_then :
+      (i : ℕ) (chain : Bool) (next way : ℕ) (m : ℕ → ℕ) (v : RingView) (rest : List (ℕ × ℕ)) → link_crossed shape way ≡ Some i
+      → first ≤ way → way < first + count → Stage shape first count queue next way v
+      → ((n : ℕ → ℕ) (u : RingView) → Stage shape first count queue next (way + 1) u → Run shape n u rest S)
+      → Run shape m v (block_writes (link_address shape way) (link_block shape i (cycle_of shape (way - 1)) chain) ++ rest) S
+  link_then i chain next way m v rest crossed from within s then =
+      let a = link_address shape way in
+      let b = link_block shape i (cycle_of shape (way - 1)) chain in
+      let crossing = is_crossing-from shape way i crossed in
+      let m1 = put m a (word b 0) in
+      let v1 = changed shape v (Writes a (word b 0)) in
+      let m2 = put m1 (a + 4) (word b 1) in
+      let v2 = changed shape v1 (Writes (a + 4) (word b 1)) in
+      let m3 = put m2 (a + 8) (word b 2) in
+      let v3 = changed shape v2 (Writes (a + 8) (word b 2)) in
+      let one = link_low_word shape is first count queue next way m v s crossing from within a 0 (word b 0) (omega arith) (omega arith) in
+      let two = link_low_word shape is first count queue next way m1 v1 one.1 crossing from within (a + 4) 1 (word b 1) (omega arith) refl in
+      let three = link_low_word shape is first count queue next way m2 v2 two.1 crossing from within (a + 8) 2 (word b 2) (omega arith) refl in
+      let four =
+      link_control_word shape is first count queue next way m3 v3 three.1 crossing from within (word b 3) (link_cycle shape is way i chain crossed)
+      (leads_right shape is way i chain crossed m3 (a + 12) (word b 3) (four_puts m a (word b 0) (word b 1) (word b 2) (word b 3))) in
+      let tail = then (put m3 (a + 12) (word b 3)) (changed shape v3 (Writes (a + 12) (word b 3))) four.1 in
+      ((one.0, (two.0, (three.0, (four.0, tail.0)))), tail.1)
+
+  way_then :
+      (chain : Bool) (next way : ℕ) (m : ℕ → ℕ) (v : RingView) (rest : List (ℕ × ℕ)) → first ≤ way → way < first + count
+      → Stage shape first count queue next way v
+      → ((n : ℕ → ℕ) (u : RingView) → Stage shape first count queue next (way + 1) u → Run shape n u rest S)
+      → Run shape m v (way_writes shape way chain ++ rest) S
+  way_then chain next way m v rest from within s then =
+      elim (cases_option (link_crossed shape way)) [
+        | inl none ↦
+            let empty : way_writes shape way chain ≡ [] = rw none refl in
+            subst (λ ws. Run shape m v (ws ++ rest) S) (sym empty)
+            (then m v (no_way shape is first count queue next way m v s (ap (λ (o : Option ℕ). is_some o) none)))
+        | inr (i, some) ↦
+            let is_link : way_writes shape way chain ≡ block_writes (link_address shape way) (link_block shape i (cycle_of shape (way - 1)) chain) = rw some refl in
+            subst (λ ws. Run shape m v (ws ++ rest) S) (sym is_link) (link_then i chain next way m v rest some from within s then)
+      ]
+
+  -- ---- a block behind the first one
+
+  block_then :
+      (b : Block) (next way : ℕ) (m : ℕ → ℕ) (v : RingView) (rest : List (ℕ × ℕ)) → first < next → next < first + count → slice_get queue next ≡ Some b
+      → Stage shape first count queue next way v
+      → ((n : ℕ → ℕ) (u : RingView) → Stage shape first count queue (next + 1) way u → Run shape n u rest S)
+      → Run shape m v (block_writes (address_of shape next) (block_at_position shape next b) ++ rest) S
+  block_then d next way m v rest behind within at s then =
+      let a = address_of shape next in
+      let b = block_at_position shape next d in
+      let from : first ≤ next = omega arith in
+      let new : (next ≡ first) ⊎ (next ≤ next) = inr (omega arith) in
+      let m1 = put m a (word b 0) in
+      let v1 = changed shape v (Writes a (word b 0)) in
+      let m2 = put m1 (a + 4) (word b 1) in
+      let v2 = changed shape v1 (Writes (a + 4) (word b 1)) in
+      let m3 = put m2 (a + 8) (word b 2) in
+      let v3 = changed shape v2 (Writes (a + 8) (word b 2)) in
+      let one = low_word shape is first count queue next way m v s next from within new a 0 (word b 0) (omega arith) (omega arith) in
+      let two = low_word shape is first count queue next way m1 v1 one.1 next from within new (a + 4) 1 (word b 1) (omega arith) refl in
+      let three = low_word shape is first count queue next way m2 v2 two.1 next from within new (a + 8) 2 (word b 2) (omega arith) refl in
+      let four =
+      later_control shape is first count queue next way m3 v3 three.1 (word b 3) d behind within at (cycle_written shape next d)
+      (four_puts m a (word b 0) (word b 1) (word b 2) (word b 3)) in
+      let tail = then (put m3 (a + 12) (word b 3)) (changed shape v3 (Writes (a + 12) (word b 3))) four.1 in
+      ((one.0, (two.0, (three.0, (four.0, tail.0)))), tail.1)
+
+  -- ---- words 0 to 2 of the first block
+
+  low_then :
+      (d : Block) (next way : ℕ) (m : ℕ → ℕ) (v : RingView) (rest : List (ℕ × ℕ)) → 0 < count
+      → Stage shape first count queue next way v
+      → ((n : ℕ → ℕ) (u : RingView) → Stage shape first count queue next way u → Run shape n u rest S)
+      → Run shape m v (low_writes (address_of shape first) (block_at_position shape first d) ++ rest) S
+  low_then d next way m v rest some s then =
+      let a = address_of shape first in
+      let b = block_at_position shape first d in
+      let m1 = put m a (word b 0) in
+      let v1 = changed shape v (Writes a (word b 0)) in
+      let m2 = put m1 (a + 4) (word b 1) in
+      let v2 = changed shape v1 (Writes (a + 4) (word b 1)) in
+      let from : first ≤ first = omega arith in
+      let within : first < first + count = omega arith in
+      let one = low_word shape is first count queue next way m v s first from within (inl refl) a 0 (word b 0) (omega arith) (omega arith) in
+      let two = low_word shape is first count queue next way m1 v1 one.1 first from within (inl refl) (a + 4) 1 (word b 1) (omega arith) refl in
+      let three = low_word shape is first count queue next way m2 v2 two.1 first from within (inl refl) (a + 8) 2 (word b 2) (omega arith) refl in
+      let tail = then (put m2 (a + 8) (word b 2)) (changed shape v2 (Writes (a + 8) (word b 2))) three.1 in
+      ((one.0, (two.0, (three.0, tail.0))), tail.1)
+
+module _ (shape : Shape) (is : IsShape shape) (first count : ℕ) (queue : List Block) where
+  -- what stands when all but the first block's control word is written
+  abbrev pub Waits : RingView → Type 0
+  Waits v = Stage shape first count queue (first + count) (first + count) v
+
+  later_run :
+      (p : ℕ) (blocks : List Block) (m : ℕ → ℕ) (v : RingView) → first < p → p + length blocks ≡ first + count
+      → ((i : ℕ) (b : Block) → slice_get blocks i ≡ Some b → slice_get queue (p + i) ≡ Some b)
+      → Stage shape first count queue p p v → Run shape m v (later_writes shape p blocks) Waits
+  later_run p [] m v behind end queued s = (tt, subst (λ n. Stage shape first count queue n n v) (omega arith) s)
+  later_run p (b ∷ rest) m v behind end queued s =
+      let way = way_writes shape p true in
+      let this = block_writes (address_of shape p) (block_at_position shape p b) in
+      let later = later_writes shape (p + 1) rest in
+      let zero_more : p + 0 ≡ p = omega arith in
+      subst (λ ws. Run shape m v ws Waits) (sym (append_assoc way this later))
+      (way_then shape is first count queue Waits true p p m v (this ++ later) (omega arith) (omega arith) s
+      (λ n u t.
+      block_then shape is first count queue Waits b p (p + 1) n u later behind (omega arith) (ap (λ k. slice_get queue k) (sym zero_more) ∙ queued 0 b refl) t
+      (λ o x r.
+      later_run (p + 1) rest o x (omega arith) (omega arith)
+      (λ i c at. let moved : (p + 1) + i ≡ p + suc i = omega arith in ap (λ k. slice_get queue k) moved ∙ queued (suc i) c at) r)))
+
+  -- all writes but the last
+  pub front_run :
+      (b : Block) (rest : List Block) (m : ℕ → ℕ) (v : RingView) → count ≡ suc (length rest)
+      → ((i : ℕ) (c : Block) → slice_get (b ∷ rest) i ≡ Some c → slice_get queue (first + i) ≡ Some c)
+      → Stage shape first count queue (first + 1) first v
+      → Run shape m v (way_writes shape first false ++ low_writes (address_of shape first) (block_at_position shape first b) ++ later_writes shape (first + 1) rest) Waits
+  front_run b rest m v counted queued s =
+      let way = way_writes shape first false in
+      let low = low_writes (address_of shape first) (block_at_position shape first b) in
+      let later = later_writes shape (first + 1) rest in
+      subst (λ ws. Run shape m v ws Waits) (sym (append_assoc way low later))
+      (way_then shape is first count queue Waits false (first + 1) first m v (low ++ later) (omega arith) (omega arith) s
+      (λ n u t.
+      low_then shape is first count queue Waits b (first + 1) (first + 1) n u later (omega arith) t
+      (λ o x r.
+      later_run (first + 1) rest o x (omega arith) (omega arith)
+      (λ i c at. let moved : (first + 1) + i ≡ first + suc i = omega arith in ap (λ k. slice_get queue k) moved ∙ queued (suc i) c at) r)))

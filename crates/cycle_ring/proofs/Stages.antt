@@ -1,0 +1,317 @@
+-- How far the writes of a descriptor are, and what each further one gives
+use Rattle.std.specs.Prelude.{◌≡◌, ℕ, ◌+◌, ◌-◌, ◌*◌, ◌%◌, ◌<◌, ◌≤◌, ◌⊎◌, ◌==◌, ◌||◌, true, false, List, nat_le, Some, slice_get}
+use Rattle.std.proofs.Common.{arith, refl, sym, ◌∙◌, ap, inl, inr, subst}
+use Rattle.std.proofs.lemmas.Bool.{cases_lt, cases_order, false≢true, or_cases, or_left, or_right, eq-eqb, false_from_ne_true, leb-true, not_from_true}
+use Rattle.trb.specs.declared.block.Block.{Block}
+use Rattle.trb.specs.Block.{block_at, with_cycle, same_words, word}
+use Rattle.guest_memory.specs.Memory.{put}
+use Rattle.segments.specs.ShapeValue.{Shape}
+use Rattle.segments.specs.Shape.{IsShape}
+use Rattle.segments.specs.Places.{place_count, address_of, cycle_of, is_crossing, link_address, overlap}
+use Rattle.segments.specs.RingView.{RingView, Writes, changed, declared, floor_number, is_due, is_crossing_due, gives, gives_crossing}
+use Rattle.segments.specs.Givings.{descriptor_length, is_other_than_declared, is_declared_as, is_not_declared, is_not_whole, leads_wrong, interrupts}
+use Rattle.segments.proofs.Positions.{address_aligned, same_position_near}
+use Rattle.segments.proofs.Crossings.{crossing_positive, same_crossing_at}
+use Rattle.segments.proofs.SpotOrder.{data_not_link}
+use Rattle.segments.proofs.Giving.{Gives, GivesCrossing, due_is, due_from, crossing_due_from, gives_is, gives_crossing_is, gives_from, gives_crossing_from}
+use Rattle.segments.proofs.StepFacts.{whole_from, step_from}
+use Rattle.cycle_ring.proofs.MayWriteLemmas.{MayGive, MayPut, may_write_from, link_address_aligned, block_word_no_block, block_word_no_link, link_word_no_block, link_word_no_link}
+
+-- a descriptor of count blocks is declared last, from position first on; given are all before it, its own blocks behind the first
+-- one up to next, and the Links on the way up to way
+pub record Stage (shape : Shape) (first count : ℕ) (queue : List Block) (next way : ℕ) (v : RingView) : Type 0 where
+  pub low : floor_number v ≤ first
+  pub room : first + count < floor_number v + place_count shape
+  pub all : declared v ≡ first + count
+  pub queue_is : v.queue ≡ queue
+  pub begins : descriptor_length v first ≡ count
+  pub inner : (p : ℕ) → first < p → descriptor_length v p ≡ 0
+  pub given_only : (p : ℕ) → v.given p ≡ true → (p < first) ⊎ ((first < p) × (p < next))
+  pub given : (p : ℕ) → p < first → v.given p ≡ true
+  pub given_later : (p : ℕ) → first < p → p < next → v.given p ≡ true
+  pub crossed_only : (q : ℕ) → v.crossed q ≡ true → (is_crossing shape q ≡ true) × (q < way)
+  pub crossed : (q : ℕ) → is_crossing shape q ≡ true → q < way → v.crossed q ≡ true
+
+-- a block that stands with the word written as it is declared
+declared_right :
+    (shape : Shape) (v : RingView) (m : ℕ → ℕ) (a w p : ℕ) (d : Block) → slice_get v.queue p ≡ Some d
+    → block_at (put m a w) (address_of shape p) ≡ with_cycle d (cycle_of shape p) → is_other_than_declared shape v m a w p ≡ false
+unfolding is_other_than_declared is_declared_as
+declared_right shape v m a w p d at stands =
+    not_from_true (is_declared_as (block_at (put m a w) (address_of shape p)) (cycle_of shape p) (slice_get v.queue p))
+    (ap (λ o. is_declared_as (block_at (put m a w) (address_of shape p)) (cycle_of shape p) o) at
+    ∙ ap (λ b. same_words b (with_cycle d (cycle_of shape p))) stands ∙ itself (with_cycle d (cycle_of shape p)))
+  where
+    itself : (b : Block) → same_words b b ≡ true
+    itself b =
+        let e : (n : ℕ) → (n == n) ≡ true = λ n. eq-eqb n n refl in
+        rw (e (word b 0), e (word b 1), e (word b 2), e (word b 3)) refl
+
+not_declared_false : (v : RingView) (p : ℕ) → p < declared v → is_not_declared v p ≡ false
+unfolding is_not_declared
+not_declared_false v p below =
+    false_from_ne_true (nat_le (declared v) p) (λ h. let above = leb-true (declared v) p h in omega arith)
+
+module _ (shape : Shape) (is : IsShape shape) (first count : ℕ) (queue : List Block) (next way : ℕ) (m : ℕ → ℕ) (v : RingView)
+    (s : Stage shape first count queue next way v) where
+  after :
+      (later_next later_way a w : ℕ) → next ≤ later_next → way ≤ later_way
+      → ((p : ℕ) → Gives shape v.floor p a w → (first < p) × (p < later_next))
+      → ((q : ℕ) → GivesCrossing shape v.floor q a w → q < later_way)
+      → ((p : ℕ) → first < p → p < later_next → (p < next) ⊎ (gives shape v.floor p a w ≡ true))
+      → ((q : ℕ) → is_crossing shape q ≡ true → q < later_way → (q < way) ⊎ (gives_crossing shape v.floor q a w ≡ true))
+      → Stage shape first count queue later_next later_way (changed shape v (Writes a w))
+  unfolding descriptor_length
+  after later_next later_way a w up up_way gives_p gives_q new_p new_q =
+      record {
+        low = s.low;
+        room = s.room;
+        all = s.all;
+        queue_is = s.queue_is;
+        begins = s.begins;
+        inner = s.inner;
+        given_only = λ p g. elim (or_cases (v.given p) (gives shape v.floor p a w) g) [
+          | inl was ↦ elim (s.given_only p was) [
+            | inl before ↦ inl before
+            | inr within ↦ inr (within.0, omega (arith, within.1))
+          ]
+          | inr now ↦ inr (gives_p p (gives_is shape v.floor p a w now))
+        ];
+        given = λ p below. or_left (v.given p) (gives shape v.floor p a w) (s.given p below);
+        given_later = λ p above below. elim (new_p p above below) [
+          | inl was ↦ or_left (v.given p) (gives shape v.floor p a w) (s.given_later p above was)
+          | inr now ↦ or_right (v.given p) (gives shape v.floor p a w) now
+        ];
+        crossed_only = λ q g. elim (or_cases (v.crossed q) (gives_crossing shape v.floor q a w) g) [
+          | inl was ↦ let before = s.crossed_only q was in (before.0, omega (arith, before.1))
+          | inr now ↦ let giving = gives_crossing_is shape v.floor q a w now in (giving.due.crossing, gives_q q giving)
+        ];
+        crossed = λ q crossing below. elim (new_q q crossing below) [
+          | inl was ↦ or_left (v.crossed q) (gives_crossing shape v.floor q a w) (s.crossed q crossing was)
+          | inr now ↦ or_right (v.crossed q) (gives_crossing shape v.floor q a w) now
+        ];
+      }
+
+  -- a word that gives nothing
+  quiet :
+      (a w : ℕ) → ((p : ℕ) → Gives shape v.floor p a w → ⊥) → ((q : ℕ) → GivesCrossing shape v.floor q a w → ⊥)
+      → Stage shape first count queue next way (changed shape v (Writes a w))
+  quiet a w none none_crossed =
+      after next way a w (omega arith) (omega arith) (λ p g. absurd (none p g)) (λ q g. absurd (none_crossed q g)) (λ p above below. inl below) (λ q crossing below. inl below)
+
+  -- ---- the block of position q, which isn't given
+
+  module _ (q : ℕ) (from : first ≤ q) (within : q < first + count) (new : (q ≡ first) ⊎ (next ≤ q)) where
+    not_this : (p : ℕ) → v.given p ≡ true → p ≡ q → ⊥
+    not_this p given same =
+        elim (s.given_only p given) [
+          | inl before ↦ absurd (omega arith)
+          | inr between ↦ elim new [
+            | inl here ↦ absurd (omega (arith, between.0))
+            | inr beyond ↦ absurd (omega (arith, between.1))
+          ]
+        ]
+
+    free_of_blocks :
+        (x k : ℕ) → k < 4 → x ≡ address_of shape q + 4 * k
+        → (p : ℕ) → is_due shape v.floor p ≡ true → v.given p ≡ true → overlap x 4 (address_of shape p) 16 ≡ false
+    free_of_blocks x k small at p due given =
+        let is_due = due_is shape v.floor p due in
+        block_word_no_block shape is x k small q p at (omega (arith, s.low, is_due.1)) (omega (arith, s.room, is_due.0)) (not_this p given)
+
+    -- words 0 to 2
+    pub low_word :
+        (x k w : ℕ) → k < 3 → x ≡ address_of shape q + 4 * k
+        → MayPut shape m v x w × Stage shape first count queue next way (changed shape v (Writes x w))
+    low_word x k w small at =
+        let here = address_aligned shape is q in
+        let no_block : (p : ℕ) → Gives shape v.floor p x w → ⊥ = λ p g. let there = address_aligned shape is p in absurd (apart (address_of shape q) (address_of shape p) x k small here there at g.at) in
+        let no_link : (r : ℕ) → GivesCrossing shape v.floor r x w → ⊥ =
+        λ r g. let there = link_address_aligned shape is r g.due.crossing in absurd (apart (address_of shape q) (link_address shape r) x k small here there at g.at) in (
+          may_write_from shape m v x w (free_of_blocks x k (omega arith) at) (λ r crossing crossed above. block_word_no_link shape is x k (omega arith) q r at crossing)
+              (λ p g. absurd (no_block p g)) (λ r g. absurd (no_link r g)),
+          quiet x w no_block no_link,
+        )
+      where
+        apart : (a b x k : ℕ) → k < 3 → a % 16 ≡ 0 → b % 16 ≡ 0 → x ≡ a + 4 * k → x ≡ b + 12 → ⊥
+        apart a b x k small here there at again = omega arith
+
+    -- the control word gives this position alone
+    gives_this : (w p : ℕ) → Gives shape v.floor p (address_of shape q + 12) w → p ≡ q
+    gives_this w p g =
+        same_position_near shape is p q (omega (arith, g.within, s.low)) (omega (arith, g.from, s.room)) (omega (arith, g.at))
+
+    gives_no_link : (w r : ℕ) → GivesCrossing shape v.floor r (address_of shape q + 12) w → ⊥
+    gives_no_link w r g = data_not_link shape is q r g.due.crossing (omega (arith, g.at))
+
+    pub control_word :
+        (w : ℕ) → MayGive shape m v (address_of shape q + 12) w q → MayPut shape m v (address_of shape q + 12) w
+    control_word w may =
+        may_write_from shape m v (address_of shape q + 12) w (free_of_blocks (address_of shape q + 12) 3 (omega arith) (omega arith))
+        (λ r crossing crossed above. block_word_no_link shape is (address_of shape q + 12) 3 (omega arith) q r (omega arith) crossing)
+        (λ p g. subst (λ n. MayGive shape m v (address_of shape q + 12) w n) (sym (gives_this w p g)) may)
+        (λ r g. absurd (gives_no_link w r g))
+
+    pub may_give :
+        (w : ℕ) (d : Block) → slice_get queue q ≡ Some d → block_at (put m (address_of shape q + 12) w) (address_of shape q) ≡ with_cycle d (cycle_of shape q)
+        → is_not_whole shape v q ≡ false → MayGive shape m v (address_of shape q + 12) w q
+    may_give w d at stands whole =
+        record {
+          as_declared = declared_right shape v m (address_of shape q + 12) w q d (ap (λ xs. slice_get xs q) s.queue_is ∙ at) stands;
+          declared = not_declared_false v q (omega (arith, s.all));
+          whole = whole;
+        }
+
+    due_here : is_due shape v.floor q ≡ true
+    due_here = due_from shape v.floor q (omega (arith, s.low)) (omega (arith, s.room))
+
+  -- the control word of the block that is next behind the first one
+  pub later_control :
+      (w : ℕ) (d : Block) → first < next → next < first + count → slice_get queue next ≡ Some d → w % 2 ≡ cycle_of shape next
+      → block_at (put m (address_of shape next + 12) w) (address_of shape next) ≡ with_cycle d (cycle_of shape next)
+      → MayPut shape m v (address_of shape next + 12) w × Stage shape first count queue (next + 1) way (changed shape v (Writes (address_of shape next + 12) w))
+  later_control w d behind within at cycle stands =
+      let from : first ≤ next = omega arith in
+      let new : (next ≡ first) ⊎ (next ≤ next) = inr (omega arith) in
+      let none : descriptor_length v next ≡ 0 = s.inner next behind in
+      let whole : is_not_whole shape v next ≡ false = whole_from shape v next (λ r low high. absurd (omega arith)) in (
+        control_word next from within new w (may_give next from within new w d at stands whole),
+        after (next + 1) way (address_of shape next + 12) w (omega arith) (omega arith)
+            (λ p g. let same = gives_this next from within new w p g in (omega arith, omega arith))
+            (λ r g. absurd (gives_no_link next from within new w r g))
+            (λ p above below. elim (cases_lt p next) [
+              | inl was ↦ inl was
+              | inr not_below ↦
+                  let same : next ≡ p = omega arith in
+                  inr (subst (λ n. gives shape v.floor n (address_of shape next + 12) w ≡ true) same
+                  (gives_from shape v.floor next w (due_here next from within new) cycle))
+            ])
+            (λ r crossing below. inl below),
+      )
+
+  -- the control word of the first block, all others being given
+  pub first_control :
+      (w : ℕ) (d : Block) → next ≡ first + count → way ≡ first + count → 0 < count → slice_get queue first ≡ Some d
+      → block_at (put m (address_of shape first + 12) w) (address_of shape first) ≡ with_cycle d (cycle_of shape first)
+      → MayPut shape m v (address_of shape first + 12) w
+  first_control w d all_given all_crossed some at stands =
+      let from : first ≤ first = omega arith in
+      let within : first < first + count = omega arith in
+      let length_is : descriptor_length v first ≡ count = s.begins in
+      let whole : is_not_whole shape v first ≡ false =
+      whole_from shape v first (λ r low high. step_from shape v r (s.given_later r low (omega arith)) (λ crossing. s.crossed r crossing (omega arith))) in
+      control_word first from within (inl refl) w (may_give first from within (inl refl) w d at stands whole)
+
+  pub first_given : (w p : ℕ) → 0 < count → next ≡ first + count → w % 2 ≡ cycle_of shape first → p < first + count → (v.given p || gives shape v.floor p (address_of shape first + 12) w) ≡ true
+  first_given w p some all_given cycle below =
+      let shows = gives_from shape v.floor first w (due_here first (omega arith) (omega arith) (inl refl)) cycle in
+      elim (cases_order p first) [
+        | inl here ↦ or_right (v.given p) (gives shape v.floor p (address_of shape first + 12) w) (subst (λ n. gives shape v.floor n (address_of shape first + 12) w ≡ true) (sym here) shows)
+        | inr apart ↦ elim apart [
+          | inl before ↦ or_left (v.given p) (gives shape v.floor p (address_of shape first + 12) w) (s.given p before)
+          | inr behind ↦ or_left (v.given p) (gives shape v.floor p (address_of shape first + 12) w) (s.given_later p behind (omega arith))
+        ]
+      ]
+
+  pub first_given_only : (w p : ℕ) → 0 < count → next ≤ first + count → (v.given p || gives shape v.floor p (address_of shape first + 12) w) ≡ true → p < first + count
+  first_given_only w p some up g =
+      elim (or_cases (v.given p) (gives shape v.floor p (address_of shape first + 12) w) g) [
+        | inl was ↦ elim (s.given_only p was) [
+          | inl before ↦ omega arith
+          | inr between ↦ omega (arith, between.1)
+        ]
+        | inr now ↦
+            let same = gives_this first (omega arith) (omega arith) (inl refl) w p (gives_is shape v.floor p (address_of shape first + 12) w now) in
+            omega arith
+      ]
+
+  pub first_crossed_only : (w q : ℕ) → 0 < count → way ≤ first + count → (v.crossed q || gives_crossing shape v.floor q (address_of shape first + 12) w) ≡ true → (is_crossing shape q ≡ true) × (q < first + count)
+  first_crossed_only w q some up g =
+      elim (or_cases (v.crossed q) (gives_crossing shape v.floor q (address_of shape first + 12) w) g) [
+        | inl was ↦ let before = s.crossed_only q was in (before.0, omega (arith, before.1))
+        | inr now ↦ absurd (gives_no_link first (omega arith) (omega arith) (inl refl) w q (gives_crossing_is shape v.floor q (address_of shape first + 12) w now))
+      ]
+
+  -- ---- the Link that is crossed on the way to the position way
+
+  module _ (crossing : is_crossing shape way ≡ true) (from : first ≤ way) (within : way < first + count) where
+    free_of_links :
+        (x k : ℕ) → k < 4 → x ≡ link_address shape way + 4 * k
+        → (r : ℕ) → is_crossing shape r ≡ true → v.crossed r ≡ true → floor_number v ≤ r → overlap x 4 (link_address shape r) 16 ≡ false
+    free_of_links x k small at r at_r crossed above =
+        let before = s.crossed_only r crossed in
+        link_word_no_link shape is x k small way r at crossing at_r before.1 (omega (arith, s.room))
+
+    pub link_low_word :
+        (x k w : ℕ) → k < 3 → x ≡ link_address shape way + 4 * k
+        → MayPut shape m v x w × Stage shape first count queue next way (changed shape v (Writes x w))
+    link_low_word x k w small at =
+        let here = link_address_aligned shape is way crossing in
+        let no_block : (p : ℕ) → Gives shape v.floor p x w → ⊥ = λ p g. let there = address_aligned shape is p in absurd (apart (link_address shape way) (address_of shape p) x k small here there at g.at) in
+        let no_link : (r : ℕ) → GivesCrossing shape v.floor r x w → ⊥ =
+        λ r g. let there = link_address_aligned shape is r g.due.crossing in absurd (apart (link_address shape way) (link_address shape r) x k small here there at g.at) in (
+          may_write_from shape m v x w (λ p due given. link_word_no_block shape is x k (omega arith) way p at crossing) (free_of_links x k (omega arith) at)
+              (λ p g. absurd (no_block p g)) (λ r g. absurd (no_link r g)),
+          quiet x w no_block no_link,
+        )
+      where
+        apart : (a b x k : ℕ) → k < 3 → a % 16 ≡ 0 → b % 16 ≡ 0 → x ≡ a + 4 * k → x ≡ b + 12 → ⊥
+        apart a b x k small here there at again = omega arith
+
+    -- the control word gives this crossing alone
+    gives_this_crossing : (w r : ℕ) → GivesCrossing shape v.floor r (link_address shape way + 12) w → r ≡ way
+    gives_this_crossing w r g =
+        let some = crossing_positive shape way crossing in
+        let same : link_address shape r ≡ link_address shape way = omega (arith, g.at) in
+        elim (cases_lt r way) [
+          | inl lower ↦ same_crossing_at shape is r way (omega arith) (omega (arith, s.room, g.due.from)) g.due.crossing crossing same
+          | inr above ↦ sym (same_crossing_at shape is way r above
+              (elim g.due.within [ inl below ↦ omega (arith, s.low) | inr end ↦ omega (arith, end.0, end.1) ]) crossing g.due.crossing (sym same))
+        ]
+
+    gives_no_block : (w p : ℕ) → Gives shape v.floor p (link_address shape way + 12) w → ⊥
+    gives_no_block w p g = data_not_link shape is p way crossing (omega (arith, g.at))
+
+    pub link_control_word :
+        (w : ℕ) → w % 2 ≡ cycle_of shape (way - 1)
+        → (leads_wrong shape m (link_address shape way + 12) w way ≡ false) × (interrupts shape m (link_address shape way + 12) w way ≡ false)
+        → MayPut shape m v (link_address shape way + 12) w × Stage shape first count queue next (way + 1) (changed shape v (Writes (link_address shape way + 12) w))
+    link_control_word w cycle leads =
+        let due : is_crossing_due shape v.floor way ≡ true =
+        crossing_due_from shape v.floor way (record { crossing = crossing; from = omega (arith, s.low); within = inl (omega (arith, s.room)) }) in (
+          may_write_from shape m v (link_address shape way + 12) w
+              (λ p due given. link_word_no_block shape is (link_address shape way + 12) 3 (omega arith) way p (omega arith) crossing)
+              (free_of_links (link_address shape way + 12) 3 (omega arith) (omega arith))
+              (λ p g. absurd (gives_no_block w p g))
+              (λ r g. subst (λ n. (leads_wrong shape m (link_address shape way + 12) w n ≡ false) × (interrupts shape m (link_address shape way + 12) w n ≡ false)) (sym (gives_this_crossing w r g)) leads),
+          after next (way + 1) (link_address shape way + 12) w (omega arith) (omega arith)
+              (λ p g. absurd (gives_no_block w p g))
+              (λ r g. let same = gives_this_crossing w r g in omega arith)
+              (λ p above below. inl below)
+              (λ r at_r below. elim (cases_lt r way) [
+                | inl was ↦ inl was
+                | inr not_below ↦
+                    let same : way ≡ r = omega arith in
+                    inr (subst (λ n. gives_crossing shape v.floor n (link_address shape way + 12) w ≡ true) same (gives_crossing_from shape v.floor way w due cycle))
+              ]),
+        )
+
+  -- where no Link is crossed on the way
+  pub no_way : is_crossing shape way ≡ false → Stage shape first count queue next (way + 1) v
+  no_way none =
+      record {
+        low = s.low;
+        room = s.room;
+        all = s.all;
+        queue_is = s.queue_is;
+        begins = s.begins;
+        inner = s.inner;
+        given_only = s.given_only;
+        given = s.given;
+        given_later = s.given_later;
+        crossed_only = λ q g. let before = s.crossed_only q g in (before.0, omega (arith, before.1));
+        crossed = λ q crossing below. elim (cases_lt q way) [
+          | inl was ↦ s.crossed q crossing was
+          | inr not_below ↦ let same : q ≡ way = omega arith in absurd (false≢true (sym none ∙ ap (λ n. is_crossing shape n) (sym same) ∙ crossing))
+        ];
+      }

@@ -1,0 +1,60 @@
+-- What a producer's words mean by the rules of its ring: xHCI 4.9.2, 4.11.5.1
+use Rattle.std.specs.Prelude.{◌≡◌, ℕ, ◌+◌, ◌≤◌, ◌&&◌, nat_lt, false, List, [], ◌∷◌, length, fold, All}
+use Rattle.guest_memory.specs.Memory.{put}
+use Rattle.trb.specs.declared.block.Block.{Block}
+use Rattle.segments.specs.ShapeValue.{Shape}
+use Rattle.segments.specs.Places.{is_crossing}
+use Rattle.segments.specs.RingView.{RingView, Declares, Writes, changed, declared, floor_number, new_ring, crossings_given}
+use Rattle.segments.specs.Givings.{interrupts}
+use Rattle.segments.specs.RingKeeps.{RingKeeps, MayDeclare, MayWrite}
+use Rattle.cycle_ring.specs.Progress.{Progress}
+use Rattle.cycle_ring.specs.Played.{played}
+
+-- what is enqueued, and nothing else, is declared and given, with the Links on the way; and the controller has surely passed
+-- all that is retired
+pub record IsEnqueuedSo (p : Progress) (v : RingView) : Type 0 where
+  pub declared : declared v ≡ p.enqueued
+  pub given : (n : ℕ) → v.given n ≡ nat_lt n p.enqueued
+  pub crossed : (q : ℕ) → v.crossed q ≡ (is_crossing p.shape q && nat_lt q p.enqueued)
+  pub passed : p.retired ≤ floor_number v
+
+-- what is known of the ring after these writes, the first one first
+abbrev pub viewed : Shape → RingView → List (ℕ × ℕ) → RingView
+viewed shape v writes = fold (λ u write. changed shape u (Writes write.0 write.1)) v writes
+
+-- each of these writes keeps the rules, with memory and with what is known of the ring at its moment
+abbrev pub AllMayWrite : Shape → (ℕ → ℕ) → RingView → List (ℕ × ℕ) → Type 0
+AllMayWrite shape memory v [] = Unit {0}
+AllMayWrite shape memory v (write ∷ rest) =
+    MayWrite shape memory v write.0 write.1 × AllMayWrite shape (put memory write.0 write.1) (changed shape v (Writes write.0 write.1)) rest
+
+-- no Link that one of them gives interrupts on completion
+abbrev pub AllWithoutInterrupt : Shape → (ℕ → ℕ) → RingView → List (ℕ × ℕ) → Type 0
+AllWithoutInterrupt shape memory v [] = Unit {0}
+AllWithoutInterrupt shape memory v (write ∷ rest) =
+    All (λ q. interrupts shape memory write.0 write.1 q ≡ false) (crossings_given shape v write.0 write.1)
+    × AllWithoutInterrupt shape (put memory write.0 write.1) (changed shape v (Writes write.0 write.1)) rest
+
+-- where the ring is as the producer has it, these blocks may be declared next
+abbrev pub MayBeDeclared : Progress → List Block → Type 0
+MayBeDeclared p blocks = (v : RingView) → IsEnqueuedSo p v → MayDeclare p.shape v blocks
+
+-- once the blocks are declared each of the writes keeps the rules, and behind them the ring is as the producer has it then
+pub record KeepsTheRing (p : Progress) (blocks : List Block) (writes : List (ℕ × ℕ)) (memory : ℕ → ℕ) (v : RingView) : Type 0 where
+  pub may_write : AllMayWrite p.shape memory (changed p.shape v (Declares blocks)) writes
+  pub without_interrupt : AllWithoutInterrupt p.shape memory (changed p.shape v (Declares blocks)) writes
+  pub keeps : RingKeeps p.shape (played memory writes) (viewed p.shape (changed p.shape v (Declares blocks)) writes)
+  pub enqueued : IsEnqueuedSo (record p { enqueued = p.enqueued + length blocks }) (viewed p.shape (changed p.shape v (Declares blocks)) writes)
+
+-- where the ring is as the producer has it and its rules are kept, these writes keep them
+abbrev pub KeepTheRing : Progress → List Block → List (ℕ × ℕ) → Type 0
+KeepTheRing p blocks writes = (memory : ℕ → ℕ) (v : RingView) → RingKeeps p.shape memory v → IsEnqueuedSo p v → KeepsTheRing p blocks writes memory v
+
+-- before anything happens the ring, with blank memory, is as the producer has it, and its rules are kept
+pub record BeginsWithTheRing (p : Progress) : Type 0 where
+  pub enqueued : IsEnqueuedSo p new_ring
+  pub keeps : (memory : ℕ → ℕ) → ((a : ℕ) → memory a ≡ 0) → RingKeeps p.shape memory new_ring
+
+-- where the ring is as the producer had it, and its controller has surely passed the first count blocks, it is as the producer has it now
+abbrev pub FollowsPassed : Progress → ℕ → Progress → Type 0
+FollowsPassed old count new = (v : RingView) → IsEnqueuedSo old v → count ≤ floor_number v → IsEnqueuedSo new v
