@@ -1,0 +1,4 @@
+mod AnyTests
+mod Counts
+mod AreaLists
+mod WordTests

@@ -1,0 +1,133 @@
+-- Before the first row, and what a search through the rings finds
+use Rattle.std.proofs.Common.{◌≡◌, ℕ, zero, suc, ◌+◌, ◌<◌, List, [], ◌∷◌, ◌++◌, Bool, true, false, Some, None, refl, ap, sym, ◌∙◌, inl, inr, length, get_or, subst, length-append}
+use Rattle.std.specs.Prelude.{◌⊎◌, slice_get, position, is_some}
+use Rattle.std.proofs.lemmas.Option.{slice_get-get_or, slice_get_read}
+use Rattle.std.proofs.lemmas.List.Quantifiers.{position-Some}
+use Rattle.segments.proofs.Search.{position-None}
+use Rattle.segments.specs.RingView.{new_ring, due_positions}
+use Rattle.traces.specs.declared.ring.Ring.{Ring}
+use Rattle.traces.specs.declared.header.Header.{Header}
+use Rattle.traces.specs.Header.{IsHeader, is_event_kind, event_shape, event_ring, shape_or, shape_of, command_id}
+use Rattle.ring_knowledge.specs.declared.ring_record.RingRecord.{RingRecord}
+use Rattle.ring_knowledge.specs.RingRecords.{FollowsRing}
+use Rattle.ring_knowledge.specs.Known.{nothing}
+use Rattle.trace_record.specs.FollowsTrace.{FollowsTrace, FollowsEvents, FollowsPlace, inputs_of, device_contexts}
+use Rattle.trace_record.specs.Fresh.{AreFresh, IsFreshSo}
+use Rattle.event_ring.specs.EventPlaceValue.{EventState}
+use Rattle.device_record.specs.Devices.{FollowsDevices}
+use Rattle.event_ring.specs.EventRing.{EventCounts}
+use Rattle.trb.specs.declared.ring_kind.RingKind.TheVariants.{Evt}
+use Rattle.ring_knowledge.specs.RegisterRecords.{FollowsRegisters}
+use Rattle.trace_record.specs.declared.trace_record.TraceRecord.{TraceRecord}
+use Rattle.ring_finder.proofs.RingsApart.{IsAmong, among_at, each_among}
+use Rattle.ring_finder.proofs.HeaderRings.{not_found, event_found}
+use Rattle.ring_finder.proofs.ListTests.{filter_nothing}
+use Rattle.contexts.specs.Contexts.{device_context_bytes, input_context_bytes}
+use Rattle.device_record.specs.Unfinished.{FollowsUnfinished}
+use Rattle.ring_knowledge.specs.Rings.{unfinished, unfinished_positions}
+use Rattle.range_words.specs.declared.soiled.SoiledWords.{SoiledWords}
+use Rattle.range_words.specs.Holding.{HoldsAreas, HoldsSoiled}
+use Rattle.ownership_rules.specs.OpenLeases.{slots}
+use Rattle.commands.specs.declared.command.Command.{Command}
+
+one_at : (rs : List Ring) (i : ℕ) (q r : Ring) → slice_get rs i ≡ Some q → slice_get rs i ≡ Some r → q ≡ r
+one_at rs i q r e f = some_is (sym e ∙ f)
+  where
+    some_is : Some q ≡ Some r → q ≡ r
+    some_is e = cc
+
+-- in a list with a new element at the end
+at_push : {X : Type 0} (xs : List X) (y : X) (i : ℕ) (x : X) → slice_get (xs ++ y ∷ []) i ≡ Some x → (slice_get xs i ≡ Some x) ⊎ ((i ≡ length xs) × (y ≡ x))
+at_push [] y zero x e = inr (refl, some_is e)
+  where
+    some_is : Some y ≡ Some x → y ≡ x
+    some_is e = cc
+at_push [] y (suc i) x e = absurd (none_some e)
+  where
+    none_some : None ≡ Some x → ⊥
+    none_some e = cc
+at_push (z ∷ xs) y zero x e = inl e
+at_push (z ∷ xs) y (suc i) x e = elim (at_push xs y i x e) [ inl old ↦ inl old | inr new ↦ inr (ap suc new.0, new.1) ]
+
+-- a record of each ring so far
+pub fresh_push : (rings : List Ring) (records : List RingRecord) (ring : Ring) (i : ℕ) (r : RingRecord) → IsFreshSo rings records i → ring ≡ get_or rings i ring → i < length rings →
+    FollowsRing ring.shape new_ring r → IsFreshSo rings (records ++ r ∷ []) (i + 1)
+fresh_push rings records ring i r so item below fresh = record {
+  as_many = length-append records (r ∷ []) ∙ ap (λ n. n + 1) so.as_many;
+  each = λ j q x at there. elim (at_push records r j x there) [
+    | inl old ↦ so.each j q x at old
+    | inr new ↦
+        let here : slice_get rings i ≡ Some ring = slice_get_read rings (length rings) i ring refl below item in
+        let same : q ≡ ring = one_at rings i q ring (ap (λ n. slice_get rings n) (sym (new.0 ∙ so.as_many)) ∙ at) here in
+        subst (λ (y : RingRecord). FollowsRing q.shape new_ring y) new.1 (subst (λ (y : Ring). FollowsRing y.shape new_ring r) (sym same) fresh)
+  ];
+}
+
+blank_memory : (a : ℕ) → nothing.memory a ≡ 0
+unfolding nothing
+blank_memory a = refl
+
+first_ring : (r : ℕ) → nothing.ring r ≡ new_ring
+unfolding nothing
+first_ring r = refl
+
+first_soiled : (s : SoiledWords) → HoldsSoiled (λ a. false) s → HoldsSoiled nothing.soiled s
+unfolding nothing
+first_soiled s held = held
+
+nothing_unfinished : (h : Header) → [] ≡ unfinished h nothing
+unfolding nothing unfinished unfinished_positions
+nothing_unfinished h = rw (filter_nothing (λ p. false) (λ p. refl) (due_positions (shape_of h (command_id h)) new_ring)) refl
+
+no_contexts : [] ≡ device_contexts nothing
+unfolding nothing slots
+no_contexts = refl
+
+-- before the first row
+pub follows_first : (h : Header) (t : TraceRecord) → AreFresh h.rings t.rings.items → FollowsRegisters nothing t.registers → FollowsEvents h nothing t.events → FollowsDevices nothing t.devices →
+    FollowsUnfinished [] t.commands → HoldsAreas (input_context_bytes h.context_size) [] t.inputs → HoldsAreas (device_context_bytes h.context_size) [] t.contexts → HoldsSoiled (λ a. false) t.soiled →
+    (m : ℕ → ℕ) → ((a : ℕ) → m a ≡ 0) → FollowsTrace h nothing t m
+follows_first h t fresh registers_ events_ devices_ commands_ inputs_ contexts_ soiled_ m blank = record {
+  words = λ a. blank_memory a ∙ sym (blank a);
+  rings = record { as_many = fresh.as_many; each = λ i q r at there driver. rw (first_ring q.id) (fresh.each i q r at there) };
+  registers = registers_;
+  events = events_;
+  devices = devices_;
+  commands = subst (λ (cs : List Command). FollowsUnfinished cs t.commands) (nothing_unfinished h) commands_;
+  inputs = subst (λ (cs : List Command). HoldsAreas (input_context_bytes h.context_size) (inputs_of cs) t.inputs) (nothing_unfinished h) inputs_;
+  contexts = subst (λ (places : List ℕ). HoldsAreas (device_context_bytes h.context_size) places t.contexts) no_contexts contexts_;
+  soiled = first_soiled t.soiled soiled_;
+}
+
+-- the event ring with nothing read
+pub place_first : (h : Header) → IsHeader h → (i : ℕ) (r : Ring) → r ≡ get_or h.rings i r → i < length h.rings → is_event_kind r.shape.kind ≡ true → (e : EventState) → e.shape ≡ r.shape →
+    e.counts ≡ record { posted = 0; reads = 0; dequeue = 0 } → FollowsPlace h nothing e
+unfolding nothing event_shape
+place_first h headed i r item below event e shape_ counts =
+    let among = among_at h.rings i r (slice_get_read h.rings (length h.rings) i r refl below item) in
+    let found = event_found h headed r among event in
+    record {
+      here = ap (λ o. is_some o) found;
+      shape = ap (λ o. shape_or Evt o) found ∙ sym shape_;
+      reads = ap (λ (c : EventCounts). c.reads) (sym counts);
+      dequeue = ap (λ (c : EventCounts). c.dequeue) (sym counts);
+    }
+
+pub no_event_ring : (h : Header) → ((i : ℕ) (d : Ring) → i < length h.rings → is_event_kind (get_or h.rings i d).shape.kind ≡ false) → event_ring h ≡ None
+unfolding event_ring
+no_event_ring h none = not_found (λ q. is_event_kind q.shape.kind) h.rings (each_among (λ q. is_event_kind q.shape.kind) h.rings none)
+
+-- what a search through the rings has found
+pub ring_here : (h : Header) (p : Ring → Bool) (xs : List Ring) (n : ℕ) (ring : Ring) → position p xs ≡ Some n → xs ≡ h.rings → ring ≡ get_or xs n ring → (slice_get h.rings n ≡ Some ring) × (p ring ≡ true)
+ring_here h p xs n ring e same item =
+    let some = position-Some p xs n ring e in
+    (ap (λ ys. slice_get ys n) (sym same) ∙ slice_get_read xs (length xs) n ring refl some.0 item, ap p item ∙ some.1)
+
+pub found_at : (p : Ring → Bool) (rs : List Ring) (n : ℕ) → position p rs ≡ Some n → (ring : Ring) × (slice_get rs n ≡ Some ring) × (p ring ≡ true)
+found_at p [] n e = absurd (cc)
+found_at p (x ∷ rest) n e =
+    let some = position-Some p (x ∷ rest) n x e in
+    (get_or (x ∷ rest) n x, slice_get-get_or (x ∷ rest) n x some.0, some.1)
+
+pub none_here : (h : Header) (p : Ring → Bool) (xs : List Ring) → position p xs ≡ None → xs ≡ h.rings → (q : Ring) → IsAmong q h.rings → p q ≡ false
+none_here h p xs e same = subst (λ (ys : List Ring). (q : Ring) → IsAmong q ys → p q ≡ false) same (each_among p xs (λ i d l. position-None p xs i d e l))

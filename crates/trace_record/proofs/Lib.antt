@@ -1,0 +1,6 @@
+mod FreshRecords
+pub mod WordsInside
+pub mod OneRingHas
+mod TableWords
+mod OpenAreas
+mod OpenEntries

@@ -1,0 +1,97 @@
+-- The contexts under lease, by the addresses at which they start
+use Rattle.std.proofs.Common.{◌≡◌, ℕ, List, [], ◌∷◌, ◌++◌, Bool, true, false, Option, Some, None, refl, ap, sym, ◌∙◌}
+use Rattle.std.specs.Prelude.{◌||◌}
+use Rattle.std.specs.List.{list_any, filter_map, flat_map, cons_option}
+use Rattle.segments.specs.Places.{overlap}
+use Rattle.commands.specs.declared.command.Command.{Command}
+use Rattle.commands.specs.Command.{named_context}
+use Rattle.contexts.specs.Contexts.{device_context_bytes, input_context_bytes}
+use Rattle.traces.specs.declared.header.Header.{Header}
+use Rattle.traces.specs.declared.register.Register.TheVariants.{Erstba}
+use Rattle.traces.specs.Header.{driver_rings}
+use Rattle.ring_knowledge.specs.Known.{Known}
+use Rattle.ring_knowledge.specs.Rings as rings
+use Rattle.ownership_rules.specs.OpenLeases as leases
+use Rattle.ring_finder.proofs.ListTests.{or_false, any_append, any_flat_map}
+use Rattle.trace_record.specs.FollowsTrace.{inputs_of, device_contexts}
+use Rattle.trace_record.specs.Owned.{rings_have, table_has, entries_have}
+
+or_groups : (d s t c e v : Bool) → (d || ((((s || t) || c) || e) || v)) ≡ (((((d || s) || t) || c) || e) || v)
+or_groups true s t c e v = refl
+or_groups false s t c e v = refl
+
+any_parts : {X : Type 0} (f : X → Bool) (xs ys zs us vs : List X) →
+    list_any f (xs ++ ys ++ zs ++ us ++ vs) ≡ ((((list_any f xs || list_any f ys) || list_any f zs) || list_any f us) || list_any f vs)
+any_parts f xs ys zs us vs =
+    any_append f (xs ++ ys ++ zs ++ us) vs
+    ∙ ap (λ b. b || list_any f vs) (any_append f (xs ++ ys ++ zs) us
+    ∙ ap (λ b. b || list_any f us) (any_append f (xs ++ ys) zs
+    ∙ ap (λ b. b || list_any f zs) (any_append f xs ys)))
+
+module _ (h : Header) (k : Known) (a : ℕ) where
+  abbrev Has : List leases.Leased → Bool
+  Has ls = list_any (leases.covers h a 4) ls
+
+  abbrev in_input : ℕ → Bool
+  in_input c = overlap a 4 c (input_context_bytes h.context_size)
+
+  abbrev in_device : ℕ → Bool
+  in_device d = overlap a 4 d (device_context_bytes h.context_size)
+
+  -- ---- input contexts
+
+  one_context : (p : ℕ) (o : Option ℕ) (rest : List ℕ) → list_any in_input (cons_option o rest) ≡ (Has (leases.range_of_context h p o) || list_any in_input rest)
+  unfolding leases.range_of_context leases.covers leases.lease_start leases.lease_bytes
+  one_context p None rest = refl
+  one_context p (Some c) rest = ap (λ b. b || list_any in_input rest) (sym (or_false (in_input c)))
+
+  one_command : (p : ℕ) (o : Option Command) (rest : List Command) → list_any in_input (inputs_of (cons_option o rest)) ≡ (Has (leases.range_of_command h p o) || list_any in_input (inputs_of rest))
+  unfolding leases.range_of_command
+  one_command p None rest = refl
+  one_command p (Some c) rest = one_context p (named_context c) (inputs_of rest)
+
+  all_commands : (ps : List ℕ) → list_any in_input (inputs_of (filter_map (rings.command_at h k) ps)) ≡ list_any (λ p. Has (leases.range_of_command h p (rings.command_at h k p))) ps
+  all_commands [] = refl
+  all_commands (p ∷ ps) =
+      one_command p (rings.command_at h k p) (filter_map (rings.command_at h k) ps) ∙ ap (λ b. Has (leases.range_of_command h p (rings.command_at h k p)) || b) (all_commands ps)
+
+  inputs_are : list_any in_input (inputs_of (rings.unfinished h k)) ≡ Has (leases.context_ranges h k)
+  unfolding rings.unfinished leases.context_ranges
+  inputs_are =
+      all_commands (rings.unfinished_positions h k)
+      ∙ sym (any_flat_map (leases.covers h a 4) (λ p. leases.range_of_command h p (rings.command_at h k p)) (rings.unfinished_positions h k))
+
+  -- ---- device contexts
+
+  one_device : (s : ℕ) (o : Option ℕ) (rest : List ℕ) → list_any in_device (cons_option o rest) ≡ (Has (leases.range_of_device h s o) || list_any in_device rest)
+  unfolding leases.range_of_device leases.covers leases.lease_start leases.lease_bytes
+  one_device s None rest = refl
+  one_device s (Some d) rest = ap (λ b. b || list_any in_device rest) (sym (or_false (in_device d)))
+
+  all_devices : (ss : List ℕ) → list_any in_device (filter_map k.device ss) ≡ list_any (λ s. Has (leases.range_of_device h s (k.device s))) ss
+  all_devices [] = refl
+  all_devices (s ∷ ss) = one_device s (k.device s) (filter_map k.device ss) ∙ ap (λ b. Has (leases.range_of_device h s (k.device s)) || b) (all_devices ss)
+
+  devices_are : list_any in_device (device_contexts k) ≡ Has (leases.device_ranges h k)
+  unfolding leases.device_ranges
+  devices_are = all_devices leases.slots ∙ sym (any_flat_map (leases.covers h a 4) (λ s. leases.range_of_device h s (k.device s)) leases.slots)
+
+  -- ---- all of them
+
+  ranges_are : Has (leases.open_ranges h k)
+      ≡ ((((Has (leases.segment_ranges h) || table_has h k a) || Has (leases.context_ranges h k)) || entries_have h k a) || Has (leases.device_ranges h k))
+  unfolding leases.open_ranges
+  ranges_are =
+      any_parts (leases.covers h a 4) (leases.segment_ranges h) (leases.table_range h (k.register Erstba)) (leases.context_ranges h k) (leases.entry_ranges k) (leases.device_ranges h k)
+
+  pub leased_is : leases.is_leased h k a
+      ≡ ((((rings_have h k a || table_has h k a) || list_any in_input (inputs_of (rings.unfinished h k))) || entries_have h k a) || list_any in_device (device_contexts k))
+  unfolding leases.is_leased leases.open_leases
+  leased_is =
+      let on_rings : Bool = list_any (λ q. Has (leases.open_on h k q)) (driver_rings h) in
+      any_append (leases.covers h a 4) (flat_map (leases.open_on h k) (driver_rings h)) (leases.open_ranges h k)
+      ∙ ap (λ b. b || Has (leases.open_ranges h k)) (any_flat_map (leases.covers h a 4) (leases.open_on h k) (driver_rings h))
+      ∙ ap (λ b. on_rings || b) ranges_are
+      ∙ or_groups on_rings (Has (leases.segment_ranges h)) (table_has h k a) (Has (leases.context_ranges h k)) (entries_have h k a) (Has (leases.device_ranges h k))
+      ∙ ap (λ b. (((rings_have h k a || table_has h k a) || b) || entries_have h k a) || Has (leases.device_ranges h k)) (sym inputs_are)
+      ∙ ap (λ b. (((rings_have h k a || table_has h k a) || list_any in_input (inputs_of (rings.unfinished h k))) || entries_have h k a) || b) (sym devices_are)

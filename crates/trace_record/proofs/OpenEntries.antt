@@ -1,0 +1,84 @@
+-- The entries of the DCBAA under lease, by the slot whose entry has a word
+use Rattle.std.proofs.Common.{◌≡◌, ◌≢◌, ℕ, zero, suc, ◌+◌, ◌-◌, ◌*◌, ◌/◌, ◌%◌, ◌<◌, ◌≤◌, List, [], ◌∷◌, Bool, true, false, Option, Some, None, refl, ap, sym, ◌∙◌, arith, inl, inr}
+use Rattle.std.specs.Prelude.{◌||◌, ◌&&◌, ◌⊎◌, is_some}
+use Rattle.std.specs.List.{list_any, range_with_len}
+use Rattle.std.proofs.lemmas.Bool.{cases_eq}
+use Rattle.std.proofs.lemmas.Bool.Decides.{nat_tests}
+use Rattle.segments.specs.Places.{overlap}
+use Rattle.traces.specs.declared.header.Header.{Header}
+use Rattle.traces.specs.declared.register.Register.TheVariants.{Dcbaap}
+use Rattle.traces.specs.Register.{register_or_zero}
+use Rattle.ring_knowledge.specs.Known.{Known}
+use Rattle.ring_knowledge.specs.Writes.{entry_of}
+use Rattle.ownership_rules.specs.OpenLeases as leases
+use Rattle.ring_finder.proofs.ListTests.{or_false, and_false, any_flat_map}
+use Rattle.trace_record.specs.Owned.{entries_have}
+
+range_none : (p : ℕ → Bool) (first n : ℕ) → ((s : ℕ) → first ≤ s → s < first + n → p s ≡ false) → list_any p (range_with_len first n) ≡ false
+range_none p first zero none = refl
+range_none p first (suc n) none = rw (none first (omega arith) (omega arith)) (range_none p (first + 1) n (λ s low high. none s (omega arith) (omega arith)))
+
+range_one : (p : ℕ → Bool) (first n t : ℕ) → first ≤ t → t < first + n → ((s : ℕ) → s ≢ t → p s ≡ false) → list_any p (range_with_len first n) ≡ p t
+range_one p first zero t low high others = absurd (omega arith)
+range_one p first (suc n) t low high others = elim (cases_eq first t) [
+  | inl same ↦ rw (range_none p (first + 1) n (λ s above below. others s (λ e. omega (arith, e, same, above)))) (or_false (p first) ∙ ap p same)
+  | inr other ↦ rw (others first other) (range_one p (first + 1) n t (omega (arith, other)) (omega arith) others)
+]
+
+and_true : (b : Bool) → (b && true) ≡ b
+and_true true = refl
+and_true false = refl
+
+same_any : (p q : ℕ → Bool) → ((s : ℕ) → p s ≡ q s) → (xs : List ℕ) → list_any p xs ≡ list_any q xs
+same_any p q same [] = refl
+same_any p q same (x ∷ xs) = rw (same x) (ap (λ b. q x || b) (same_any p q same xs))
+
+module _ (h : Header) (k : Known) (a : ℕ) where
+  abbrev base : ℕ
+  base = register_or_zero k.register Dcbaap / 64 * 64
+
+  abbrev in_entry : ℕ → Bool
+  in_entry s = is_some (k.device s) && overlap a 4 (base + 8 * s) 8
+
+  one_entry : (s : ℕ) (o : Option ℕ) → list_any (leases.covers h a 4) (leases.range_of_entry k s o) ≡ (is_some o && overlap a 4 (base + 8 * s) 8)
+  unfolding leases.range_of_entry leases.covers leases.lease_start leases.lease_bytes entry_of
+  one_entry s None = refl
+  one_entry s (Some d) = or_false (overlap a 4 (base + 8 * s) 8)
+
+  entries_are : entries_have h k a ≡ list_any in_entry (range_with_len 1 255)
+  unfolding leases.entry_ranges leases.slots
+  entries_are =
+      any_flat_map (leases.covers h a 4) (λ s. leases.range_of_entry k s (k.device s)) (range_with_len 1 255)
+      ∙ same_any (λ s. list_any (leases.covers h a 4) (leases.range_of_entry k s (k.device s))) in_entry (λ s. one_entry s (k.device s)) (range_with_len 1 255)
+
+  misses : (s : ℕ) → overlap a 4 (base + 8 * s) 8 ≡ false → in_entry s ≡ false
+  misses s away = ap (λ b. is_some (k.device s) && b) away ∙ and_false (is_some (k.device s))
+
+  module _ (aligned : a % 4 ≡ 0) where
+    -- the word lies below the array
+    pub below_entries : a < base → false ≡ entries_have h k a
+    below_entries below = sym (entries_are ∙ range_none in_entry 1 255 (λ s low high. misses s (grind (arith, nat_tests, below))))
+
+    module _ (above : base ≤ a) where
+      -- the slot that has the word, if one has
+      abbrev slot : ℕ
+      slot = (a - base) / 8
+
+      elsewhere : (s : ℕ) → s ≢ slot → overlap a 4 (base + 8 * s) 8 ≡ false
+      elsewhere s other = grind (arith, nat_tests, aligned, above, other)
+
+      in_slot : overlap a 4 (base + 8 * slot) 8 ≡ true
+      in_slot = grind (arith, nat_tests, above)
+
+      -- no slot has this number
+      pub no_slot : (slot ≡ 0) ⊎ (255 < slot) → false ≡ entries_have h k a
+      no_slot none = sym (entries_are ∙ range_none in_entry 1 255 (λ s low high. misses s (elsewhere s (λ e. elim none [
+        | inl first ↦ omega (arith, e, first, low)
+        | inr large ↦ omega (arith, e, large, high)
+      ]))))
+
+      pub one_slot : slot ≢ 0 → slot ≤ 255 → is_some (k.device slot) ≡ entries_have h k a
+      one_slot some few =
+          sym (entries_are
+          ∙ range_one in_entry 1 255 slot (omega (arith, some)) (omega (arith, few)) (λ s other. misses s (elsewhere s other))
+          ∙ ap (λ b. is_some (k.device slot) && b) in_slot ∙ and_true (is_some (k.device slot)))

@@ -1,0 +1,5 @@
+pub mod FollowsTrace
+pub mod Steps
+pub mod Premises
+pub mod Fresh
+pub mod Owned

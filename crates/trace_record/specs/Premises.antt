@@ -1,0 +1,36 @@
+-- What follows of a driver that has kept the rules, and what the checks of rows rest on
+use Rattle.std.specs.Prelude.{◌≡◌, ◌≢◌, ℕ, ◌+◌, ◌%◌, ◌^◌, ◌≤◌, Option, None, Some, List, true, false, is_some}
+use Rattle.std.specs.List.{All}
+use Rattle.contexts.specs.declared.size.ContextSize.{ContextSize}
+use Rattle.contexts.specs.Contexts.{input_context_bytes}
+use Rattle.commands.specs.declared.command.Command.{Command}
+use Rattle.commands.specs.Command.{named_context}
+use Rattle.traces.specs.declared.header.Header.{Header}
+use Rattle.traces.specs.declared.ring.Ring.{Ring}
+use Rattle.traces.specs.declared.register.Register.TheVariants.{Config, Crcr, Dcbaap, Erstba, Erstsz}
+use Rattle.traces.specs.Header.{command_ring, event_ring, is_transfer_kind, ring_with}
+use Rattle.ring_knowledge.specs.Known.{Known}
+use Rattle.ring_knowledge.specs.Rings.{unfinished}
+
+-- the input context that a command names ends within the address space, and lies on words
+abbrev pub FitsMemory : ContextSize → Command → Type 0
+FitsMemory size c = (a : ℕ) → named_context c ≡ Some a → (a % 4 ≡ 0) × (a + input_context_bytes size ≤ 2 ^ 64)
+
+-- that of each unfinished command does
+abbrev pub ContextsFit : Header → Known → Type 0
+ContextsFit h k = All (FitsMemory h.context_size) (unfinished h k)
+
+-- the ring of each endpoint is a transfer ring of the header
+abbrev pub EndpointRings : Header → Known → Type 0
+EndpointRings h k = (s i r : ℕ) → k.ring_of s i ≡ Some r → (ring : Ring) × (ring_with h r ≡ Some ring) × (is_transfer_kind ring.shape.kind ≡ true)
+
+-- what the rules of registers and events keep of the set-up
+pub record IsSetUp (h : Header) (k : Known) : Type 0 where
+  -- no event is read before the start
+  pub unread : k.started ≡ false → k.reads ≡ 0
+  -- the start comes after the write of ERSTSZ, and that only where there is an event ring
+  pub sized : k.started ≡ true → is_some (k.register Erstsz) ≡ true
+  pub has_events : is_some (k.register Erstsz) ≡ true → is_some (event_ring h) ≡ true
+  -- and after the write of CRCR, and that only where there is a command ring
+  pub pointed : k.started ≡ true → is_some (k.register Crcr) ≡ true
+  pub has_commands : is_some (k.register Crcr) ≡ true → is_some (command_ring h) ≡ true

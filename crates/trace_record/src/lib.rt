@@ -1,0 +1,10 @@
+//! What one pass over a trace keeps of its rows so far, beside the words of memory.
+#![tactic(auto)]
+
+mod fault;
+mod fresh;
+mod owned;
+mod trace_record;
+
+pub use fault::StepFault;
+pub use trace_record::TraceRecord;

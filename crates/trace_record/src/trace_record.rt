@@ -1,0 +1,55 @@
+ghost use Rattle.std.specs.Prelude.{◌≡◌, ℕ, IfOk};
+ghost use Rattle.traces.specs.Header.{IsHeader};
+ghost use Rattle.ring_knowledge.specs.Known.{nothing};
+
+use crate::fresh::{event_place, fresh_records};
+use device_record::{DeviceRecord, UnfinishedCommands};
+use event_ring::EventPlace;
+use range_words::{Areas, SoiledWords};
+use ring_knowledge::{RegisterRecord, RingRecord};
+use std::alloc::{AllocError, Global};
+use traces::Header;
+
+/// What one pass over a trace keeps of its rows so far, beside the words of memory. Contracts compare it with what is `Known`.
+#[derive(Drop)]
+pub struct TraceRecord {
+    /// A record of each ring, in the order of the header.
+    pub rings: Vec<RingRecord>,
+    pub registers: RegisterRecord,
+    /// How many events were read, and the position that ERDP names, where there is an event ring.
+    pub events: Option<EventPlace>,
+    /// Slots and endpoints.
+    pub devices: DeviceRecord,
+    /// The commands that were given and whose completion wasn't read.
+    pub commands: UnfinishedCommands,
+    /// The input contexts of these commands.
+    pub inputs: Areas,
+    /// The device contexts under lease.
+    pub contexts: Areas,
+    /// The words that the controller may have changed, and the driver hasn't written since.
+    pub soiled: SoiledWords,
+}
+
+impl TraceRecord {
+    ghost use Rattle.trace_record.specs.FollowsTrace.{FollowsTrace};
+    ghost use Rattle.trace_record.specs.Fresh.{IsWithin};
+
+    /// The record before the first row, when each word of memory is 0.
+    pub fn new(alloc: Global, header: &Header) -> Result<TraceRecord, AllocError>
+        requires { IsHeader header.now }
+        ensures follows { IfOk result (λ t. (memory : ℕ → ℕ) → ((a : ℕ) → memory a ≡ 0) → FollowsTrace header.now nothing t memory) }
+        ensures unread { IfOk result (λ t. IsWithin t.events 0) }
+    {
+        let context = header.context_size.bytes();
+        Ok(TraceRecord {
+            rings: fresh_records(alloc, header.rings.as_slice())?,
+            registers: RegisterRecord::new(),
+            events: event_place(header)?,
+            devices: DeviceRecord::new(alloc)?,
+            commands: UnfinishedCommands::new(alloc)?,
+            inputs: Areas::new(alloc, 33 * context),
+            contexts: Areas::new(alloc, 32 * context),
+            soiled: SoiledWords::new(alloc),
+        })
+    }
+}
