@@ -1,0 +1,144 @@
+-- What a command binds, endpoint by endpoint
+use Rattle.std.proofs.Common.{◌≡◌, ℕ, zero, suc, ◌+◌, ◌-◌, ◌<◌, ◌≤◌, ◌==◌, ◌&&◌, ◌||◌, if◌then◌else◌, Bool, true, false, List, [], ◌∷◌, Option, Some, None, map, refl, ap, sym, ◌∙◌, arith}
+use Rattle.std.specs.Prelude.{not, nat_le, filter, is_some}
+use Rattle.std.specs.List.{cons_option, filter_map, list_any, range_with_len}
+use Rattle.std.specs.Option.{option_map}
+use Rattle.std.proofs.lemmas.Bool.Decides.{nat_tests}
+use Rattle.contexts.specs.Contexts.{input_add_flag, added_endpoints}
+use Rattle.commands.specs.declared.command.Command.{Command}
+use Rattle.commands.specs.declared.command.Command.TheVariants.{AddressDevice, ConfigureEndpoint}
+use Rattle.commands.specs.Command.{named_slot}
+use Rattle.commands.specs.States.{is_off}
+use Rattle.traces.specs.declared.header.Header.{Header}
+use Rattle.traces.specs.Header.{is_ring}
+use Rattle.ring_knowledge.specs.Known.{Known}
+use Rattle.ring_knowledge.specs.Rings.{unfinished}
+use Rattle.ownership_rules.specs.Moves.{Binding, binding_in, binds, binds_ring, has_repeats, is_among, is_bad_binding, is_unused_ring, is_used, ring_bound}
+use Rattle.binding_checks.specs.declared.binding.RingBinding.{RingBinding}
+use Rattle.binding_checks.specs.declared.ring_set.RingSet.{RingSet}
+use Rattle.binding_checks.specs.Contexts.{dequeue_in}
+use Rattle.binding_checks.specs.Bindings.{are_bad, binding_at, binding_of, bindings_from, is_bad, is_taken, is_to}
+use Rattle.binding_checks.specs.RingSets.{has}
+use Rattle.binding_checks.proofs.Lists.{any_same, any_or, any_map, map_twice, or_none, or_true, crossed, or_assoc}
+
+pub range_is : (i : ℕ) → i < 32 → range_with_len i (32 - i) ≡ i ∷ range_with_len (i + 1) (32 - (i + 1))
+range_is i below = ap (λ n. range_with_len i n) (let e : 32 - i ≡ suc (32 - (i + 1)) = omega arith in e)
+
+module _ (h : Header) (k : Known) where
+  module _ (c : Command) where
+    pub bindings_next : (i : ℕ) → i < 32 → bindings_from h k c i ≡ cons_option (binding_at h k c i) (bindings_from h k c (i + 1))
+    unfolding bindings_from
+    bindings_next i below = ap (λ xs. filter_map (binding_at h k c) xs) (range_is i below)
+
+    pub bindings_end : (i : ℕ) → i ≡ 32 → bindings_from h k c i ≡ []
+    unfolding bindings_from
+    bindings_end i e = ap (λ n. filter_map (binding_at h k c) (range_with_len i n)) (let none : 32 - i ≡ 0 = omega arith in none)
+
+  abbrev pub with_ring : Binding → RingBinding
+  with_ring b = record { ring = ring_bound h b; cycle = b.cycle }
+
+  same_binding : (c i : ℕ) → binding_of h (dequeue_in h.context_size k.memory c i) ≡ with_ring (binding_in h k c i)
+  unfolding ring_bound binding_in
+  same_binding c i = refl
+
+  addressed : (s c : ℕ) (bsr b : Bool) →
+      filter_map (λ i. option_map (binding_of h) (if i == 1 && b then Some (dequeue_in h.context_size k.memory c 1) else None)) (range_with_len 1 31)
+      ≡ map with_ring (if b then binding_in h k c 1 ∷ [] else [])
+  addressed s c bsr true = ap (λ x. x ∷ []) (same_binding c 1)
+  addressed s c bsr false = refl
+
+  module _ (s c : ℕ) where
+    one : (i : ℕ) (b : Bool) (xs : List ℕ) →
+        cons_option (option_map (binding_of h) (if b then Some (dequeue_in h.context_size k.memory c i) else None)) (map with_ring (map (binding_in h k c) xs))
+        ≡ map with_ring (map (binding_in h k c) (if b then i ∷ xs else xs))
+    one i true xs = ap (λ x. x ∷ map with_ring (map (binding_in h k c) xs)) (same_binding c i)
+    one i false xs = refl
+
+    added : (n i : ℕ) → 2 ≤ i → filter_map (binding_at h k (ConfigureEndpoint s false c)) (range_with_len i n)
+        ≡ map with_ring (map (binding_in h k c) (filter (input_add_flag k.memory c) (range_with_len i n)))
+    added zero i low = refl
+    added (suc n) i low =
+        ap (λ b. cons_option (option_map (binding_of h) (if b && input_add_flag k.memory c i then Some (dequeue_in h.context_size k.memory c i) else None))
+        (filter_map (binding_at h k (ConfigureEndpoint s false c)) (range_with_len (i + 1) n))) (let there : nat_le 2 i ≡ true = grind (arith, nat_tests, low) in there)
+        ∙ ap (λ xs. cons_option (option_map (binding_of h) (if input_add_flag k.memory c i then Some (dequeue_in h.context_size k.memory c i) else None)) xs) (added n (i + 1) (omega arith))
+        ∙ one i (input_add_flag k.memory c i) (filter (input_add_flag k.memory c) (range_with_len (i + 1) n))
+
+  -- all that a command binds
+  pub bindings_all : (c : Command) → bindings_from h k c 1 ≡ map with_ring (binds h k c)
+  unfolding bindings_from binds added_endpoints
+  bindings_all (AddressDevice s bsr c) = addressed s c bsr (is_off (k.endpoint_state s 1))
+  bindings_all (ConfigureEndpoint s false c) = added s c 30 2 (omega arith)
+  bindings_all _ = refl
+
+  -- a ring that a command binds
+  pub binds_ring_is : (c : Command) (r : ℕ) → binds_ring h k r c ≡ list_any (is_to r) (bindings_from h k c 1)
+  unfolding binds_ring
+  binds_ring_is c r = sym (ap (list_any (is_to r)) (bindings_all c) ∙ any_map (is_to r) with_ring (binds h k c))
+
+  -- other commands bind nothing
+  pub binds_none : (c : Command) → ((s : ℕ) (bsr : Bool) (n : ℕ) → c ≡ AddressDevice s bsr n → ⊥) → ((s : ℕ) (dc : Bool) (n : ℕ) → c ≡ ConfigureEndpoint s dc n → ⊥) → binds h k c ≡ []
+  unfolding binds
+  binds_none (AddressDevice s bsr n) first second = absurd (first s bsr n refl)
+  binds_none (ConfigureEndpoint s dc n) first second = absurd (second s dc n refl)
+  binds_none _ first second = refl
+
+  pub binding_names : (r : ℕ) (c : Command) → binds_ring h k r c ≡ true → is_some (named_slot c) ≡ true
+  unfolding binds_ring binds
+  binding_names r (AddressDevice s bsr n) e = refl
+  binding_names r (ConfigureEndpoint s dc n) e = refl
+  binding_names r _ e = absurd (cc)
+
+  pub nothing_bad : (c : Command) → binds h k c ≡ [] → is_bad_binding h k c ≡ false
+  unfolding is_bad_binding has_repeats
+  nothing_bad c none = ap (λ bs. list_any (λ b. not (is_unused_ring h k (ring_bound h b)) || not b.cycle) bs || has_repeats (map (ring_bound h) bs)) none
+
+  -- with a set of the rings that unfinished commands bind
+  module _ (taken : RingSet) (all : (r : ℕ) → has taken r ≡ list_any (binds_ring h k r) (unfinished h k)) where
+    used_is : (o : Option ℕ) → is_taken k.was_bound taken o ≡ not (is_unused_ring h k o)
+    unfolding is_unused_ring is_used
+    used_is None = refl
+    used_is (Some r) = ap (λ b. k.was_bound r || b) (all r) ∙ twice (k.was_bound r || list_any (binds_ring h k r) (unfinished h k))
+      where
+        twice : (b : Bool) → b ≡ not (not b)
+        twice true = refl
+        twice false = refl
+
+    pub bad_is : (c : Command) → are_bad k.was_bound taken (bindings_from h k c 1) ≡ is_bad_binding h k c
+    unfolding is_bad_binding
+    bad_is c =
+        ap (are_bad k.was_bound taken) (bindings_all c)
+        ∙ (λ i. (any_map (is_bad k.was_bound taken) with_ring (binds h k c) ∙ any_same _ _ (binds h k c) (λ b. ap (λ u. u || not b.cycle) (used_is (ring_bound h b)))) i
+        || has_repeats (map_twice (λ (b : RingBinding). b.ring) with_ring (binds h k c) i))
+
+-- ---- one binding more
+
+-- its ring is noted
+pub noted : (old new : RingSet) (r : ℕ) (b : RingBinding) (rest : List RingBinding) → has new r ≡ (is_to r b || has old r) →
+    (has new r || list_any (is_to r) rest) ≡ (has old r || list_any (is_to r) (b ∷ rest))
+noted old new r b rest is = ap (λ x. x || list_any (is_to r) rest) is ∙ or_assoc (is_to r b) (has old r) (list_any (is_to r) rest) ∙ crossed (is_to r b) (has old r) (list_any (is_to r) rest)
+
+either_way : (m n : ℕ) → (m == n) ≡ (n == m)
+either_way m n = grind (arith, nat_tests)
+
+last : (a e t n : Bool) → ((a || (e || t)) || n) ≡ (((a || t) || n) || e)
+last true e t n = refl
+last false true t n = sym (or_true (t || n))
+last false false t n = sym (or_none (t || n))
+
+module _ (bound : ℕ → Bool) (old new : RingSet) (r : ℕ) (inserted : (q : ℕ) → has new q ≡ (r == q || has old q)) where
+  bad_then : (o : Option ℕ) (n : Bool) → (is_taken bound new o || n) ≡ ((is_taken bound old o || n) || is_ring r o)
+  bad_then None n = refl
+  bad_then (Some q) n = ap (λ x. (bound q || x) || n) (inserted q ∙ ap (λ x. x || has old q) (either_way r q)) ∙ last (bound q) (q == r) (has old q) n
+
+  -- its ring is taken
+  pub taken_next : (b : RingBinding) (rest : List RingBinding) → b.cycle ≡ true → b.ring ≡ Some r → bound r ≡ false → has old r ≡ false →
+      are_bad bound old (b ∷ rest) ≡ are_bad bound new rest
+  unfolding has_repeats is_among
+  taken_next b rest cycle ring unbound free =
+      ap (λ x. (x || list_any (is_bad bound old) rest) || (is_among (map (λ a. a.ring) rest) b.ring || has_repeats (map (λ a. a.ring) rest)))
+      ((λ i. is_taken bound old (ring i) || not (cycle i)) ∙ or_none (bound r || has old r) ∙ (λ i. unbound i || free i))
+      ∙ ap (λ o. list_any (is_bad bound old) rest || (is_among (map (λ a. a.ring) rest) o || has_repeats (map (λ a. a.ring) rest))) ring
+      ∙ ap (λ x. list_any (is_bad bound old) rest || (x || has_repeats (map (λ a. a.ring) rest))) (any_map (is_ring r) (λ a. a.ring) rest)
+      ∙ sym (or_assoc (list_any (is_bad bound old) rest) (list_any (λ a. is_ring r a.ring) rest) (has_repeats (map (λ a. a.ring) rest)))
+      ∙ ap (λ x. x || has_repeats (map (λ a. a.ring) rest))
+      (sym (any_same (is_bad bound new) _ rest (λ a. bad_then a.ring (not a.cycle)) ∙ any_or (is_bad bound old) (λ a. is_ring r a.ring) rest))

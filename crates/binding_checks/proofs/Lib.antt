@@ -1,0 +1,4 @@
+pub mod Lists
+pub mod BindingLists
+pub mod SlotWalk
+pub mod RingRecords

@@ -1,0 +1,4 @@
+pub mod Contexts
+pub mod Bindings
+pub mod RingSets
+pub mod Slots

@@ -1,0 +1,95 @@
+ghost use Rattle.std.specs.Prelude.{◌≡◌, ℕ, ◌+◌, ◌^◌, ◌≤◌};
+ghost use Rattle.std.specs.List.{list_any};
+ghost use Rattle.segments.specs.Places.{touches};
+ghost use Rattle.traces.specs.Header.{event_shape};
+ghost use Rattle.traces.specs.declared.header.Header.{Header};
+ghost use Rattle.traces.specs.declared.register.Register.TheVariants.{Erstba};
+ghost use Rattle.ring_knowledge.specs.Known.{Known};
+ghost use Rattle.ownership_rules.specs.Areas.{is_in_range_lease};
+ghost use Rattle.event_ring.specs.EventRing.{table_bytes};
+ghost use Rattle.ownership_rules.specs.OpenLeases.{context_ranges, covers, entry_ranges, table_range};
+ghost use Rattle.trace_record.specs.FollowsTrace.{FollowsTrace};
+ghost use Rattle.context_checks.specs.Entries.{touches_entry};
+
+use crate::areas::{overlap, touches_devices};
+use crate::devices::entry_at;
+use trace_record::TraceRecord;
+use traces::{Header, Register};
+
+/// Whether so many bytes from an address on touch a range under lease: a segment of the event ring, the segment table, the
+/// input context of an unfinished command, or a device context or its entry (xHCI 4.6, 4.9.4, 6.1).
+pub fn is_in_range_lease(header: &Header, t: &TraceRecord, from: u64, len: u64) -> bool
+    requires { from + len ≤ 2 ^ 64 }
+    ensures { (k : Known) (memory : ℕ → ℕ) → FollowsTrace header.now k t.now memory → result ≡ is_in_range_lease header.now k from len }
+{
+    touches_events(t, from, len)
+        || touches_table(t, from, len)
+        || touches_inputs(t, from, len)
+        || touches_entries(t, from, len)
+        || touches_devices(t, from, len)
+}
+
+/// Whether these bytes touch a segment of the event ring.
+fn touches_events(t: &TraceRecord, from: u64, len: u64) -> bool
+    ensures { (h : Header) (k : Known) (memory : ℕ → ℕ) → FollowsTrace h k t.now memory → result ≡ touches (event_shape h) from len }
+{
+    match &t.events {
+        Some(events) => events.shape().overlaps(from, len),
+        None => false,
+    }
+}
+
+/// Whether these bytes touch the segment table, once ERSTBA is written (xHCI 6.5).
+fn touches_table(t: &TraceRecord, from: u64, len: u64) -> bool
+    ensures { (h : Header) (k : Known) (memory : ℕ → ℕ) → FollowsTrace h k t.now memory →
+        result ≡ list_any (covers h from len) (table_range h (k.register Erstba)) }
+{
+    let Some(value) = t.registers.value(Register::Erstba) else {
+        return false;
+    };
+    overlap(from, len, value / 64 * 64, table_bytes(t))
+}
+
+/// How many bytes the segment table has: 16 for each segment of the event ring.
+fn table_bytes(t: &TraceRecord) -> u64
+    ensures { (h : Header) (k : Known) (memory : ℕ → ℕ) → FollowsTrace h k t.now memory → result ≡ table_bytes (event_shape h) }
+{
+    match &t.events {
+        Some(events) => 16 * events.shape().segments().len() as u64,
+        None => 0,
+    }
+}
+
+/// Whether these bytes touch the input context of an unfinished command.
+fn touches_inputs(t: &TraceRecord, from: u64, len: u64) -> bool
+    ensures { (h : Header) (k : Known) (memory : ℕ → ℕ) → FollowsTrace h k t.now memory → result ≡ list_any (covers h from len) (context_ranges h k) }
+{
+    t.inputs.touches(from, len)
+}
+
+/// Whether these bytes touch the entry of a slot that has a device context under lease.
+fn touches_entries(t: &TraceRecord, from: u64, len: u64) -> bool
+    requires { from + len ≤ 2 ^ 64 }
+    ensures { (h : Header) (k : Known) (memory : ℕ → ℕ) → FollowsTrace h k t.now memory → result ≡ list_any (covers h from len) (entry_ranges k) }
+{
+    for slot in 1..256u16 {
+        if touches_entry(t, slot as u8, from, len) {
+            return true;
+        }
+    }
+    false
+}
+
+/// Whether the slot has a device context under lease and these bytes touch its entry.
+fn touches_entry(t: &TraceRecord, slot: u8, from: u64, len: u64) -> bool
+    requires { from + len ≤ 2 ^ 64 }
+    ensures { (h : Header) (k : Known) (memory : ℕ → ℕ) → FollowsTrace h k t.now memory → result ≡ touches_entry k from len slot }
+{
+    if t.devices.device(slot).is_none() {
+        return false;
+    }
+    match entry_at(t.registers.value(Register::Dcbaap).unwrap_or(0), slot) {
+        Some(entry) => overlap(from, len, entry, 8),
+        None => false,
+    }
+}

@@ -1,0 +1,4 @@
+pub mod FirstBroken
+pub mod DeclarationRules
+pub mod FoundRing
+pub mod Declared

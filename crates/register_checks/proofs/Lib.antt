@@ -1,0 +1,5 @@
+mod FirstBroken
+mod RegisterTests
+mod StartRules
+mod SetUp
+mod RegisterRows

@@ -1,0 +1,155 @@
+-- A register write that was checked
+use Rattle.std.proofs.Common.{◌≡◌, ℕ, ◌-◌, [], ◌∷◌, Bool, true, false, Option, None, Some, arith, refl, ap, sym, ◌∙◌, subst}
+use Rattle.std.specs.Prelude.{not, ◌&&◌, ◌||◌, if◌then◌else◌}
+use Rattle.std.specs.List.{filter_map}
+use Rattle.std.proofs.lemmas.Bool.{cond_both}
+use Rattle.segments.specs.RingView.{RingView}
+use Rattle.contexts.specs.Contexts.{device_context_bytes, input_context_bytes}
+use Rattle.event_ring.specs.EventPlaceValue.{EventState}
+use Rattle.event_ring.specs.EventRing.{is_reached_within, erdp_address}
+use Rattle.traces.specs.declared.header.Header.{Header}
+use Rattle.traces.specs.declared.register.Register.{Register}
+use Rattle.traces.specs.declared.register.Register.TheVariants.{Usbcmd, Erdp}
+use Rattle.traces.specs.declared.row.Row.TheVariants.{Reg}
+use Rattle.traces.specs.Header.{event_shape}
+use Rattle.traces.specs.Register.{run_bit, reset_bit}
+use Rattle.ring_knowledge.specs.declared.register_record.RegisterRecord.{RegisterRecord}
+use Rattle.ring_knowledge.specs.RegisterRecords.{FollowsRegisters}
+use Rattle.ring_knowledge.specs.RingRecords.{FollowsRing}
+use Rattle.ring_knowledge.specs.Known.{Known}
+use Rattle.ring_knowledge.specs.Learned.{learned}
+use Rattle.ring_knowledge.specs.Registers.{register_written, run_or_stop, valued}
+use Rattle.ring_knowledge.specs.Rings.{unfinished}
+use Rattle.device_record.specs.Devices.{FollowsDevices}
+use Rattle.device_record.specs.Unfinished.{FollowsUnfinished}
+use Rattle.device_record.proofs.OtherRows.{after_register}
+use Rattle.device_record.proofs.UnfinishedSame.{unfinished_register}
+use Rattle.range_words.specs.Holding.{HoldsAreas, HoldsSoiled}
+use Rattle.ownership_rules.specs.declared.refusal.Refusal.TheVariants.{BadRegister, BadErdp, AfterStop}
+use Rattle.ownership_rules.specs.Refusal.{first_of, first_broken, broken_of}
+use Rattle.ownership_rules.specs.Rules.{broken, tests}
+use Rattle.ownership_rules.specs.Registers.{register_tests, is_bad_register, is_bad_erdp, may_pass}
+use Rattle.ownership_rules.specs.OpenLeases.{slots}
+use Rattle.trace_record.specs.declared.trace_record.TraceRecord.{TraceRecord}
+use Rattle.trace_record.specs.FollowsTrace.{FollowsEvents, FollowsTrace, device_contexts, inputs_of}
+use Rattle.trace_record.specs.Premises.{IsSetUp}
+use Rattle.trace_record.specs.Steps.{IsLeast, IsRowStep}
+use Rattle.register_checks.specs.EventReads.{IsMoved}
+use Rattle.register_checks.proofs.FirstBroken.{first_broken-is, nothing_broken}
+
+-- all else stays as it was
+pub record IsElsewhereSame (k l : Known) : Type 0 where
+  pub ring : l.ring ≡ k.ring
+  pub memory : l.memory ≡ k.memory
+  pub reads : l.reads ≡ k.reads
+  pub device : l.device ≡ k.device
+  pub soiled : l.soiled ≡ k.soiled
+
+pub elsewhere_same : (h : Header) (k : Known) (r : Register) (v : ℕ) → IsElsewhereSame k (register_written h k r v)
+unfolding register_written valued run_or_stop
+elsewhere_same h k Usbcmd v =
+    cond_both (not k.started) _ _ (λ l. IsElsewhereSame k l)
+    (λ off. cond_both (run_bit v && not (reset_bit v)) _ _ (λ l. IsElsewhereSame k l) (λ e. record { ring = refl; memory = refl; reads = refl; device = refl; soiled = refl }) (λ e. record { ring = refl; memory = refl; reads = refl; device = refl; soiled = refl }))
+    (λ on. cond_both (not (run_bit v) || reset_bit v) _ _ (λ l. IsElsewhereSame k l) (λ e. record { ring = refl; memory = refl; reads = refl; device = refl; soiled = refl }) (λ e. record { ring = refl; memory = refl; reads = refl; device = refl; soiled = refl }))
+elsewhere_same h k _ v = record { ring = refl; memory = refl; reads = refl; device = refl; soiled = refl }
+
+pub dequeue_same : (h : Header) (k : Known) (r : Register) (v : ℕ) → (r ≡ Erdp → ⊥) → (register_written h k r v).dequeue ≡ k.dequeue
+unfolding register_written valued run_or_stop
+dequeue_same h k Usbcmd v other =
+    cond_both (not k.started) _ _ (λ (l : Known). l.dequeue ≡ k.dequeue)
+    (λ off. cond_both (run_bit v && not (reset_bit v)) _ _ (λ (l : Known). l.dequeue ≡ k.dequeue) (λ e. refl) (λ e. refl))
+    (λ on. cond_both (not (run_bit v) || reset_bit v) _ _ (λ (l : Known). l.dequeue ≡ k.dequeue) (λ e. refl) (λ e. refl))
+dequeue_same h k Erdp v other = absurd (other refl)
+dequeue_same h k _ v other = refl
+
+not_passed : (h : Header) (k : Known) (r : Register) (v : ℕ) → (r ≡ Erdp → ⊥) → is_bad_erdp h k r v ≡ false
+unfolding is_bad_erdp
+not_passed h k Erdp v other = absurd (other refl)
+not_passed h k _ v other = refl
+
+module _ (h : Header) (r : Register) (v : ℕ) where
+  rules_are : (k : Known) → k.stopped ≡ false → first_of (broken h k (Reg r v)) ≡ first_broken ((BadRegister, is_bad_register h k r v) ∷ (BadErdp, is_bad_erdp h k r v) ∷ [])
+  unfolding broken tests register_tests
+  rules_are k on = ap (λ b. first_of (if b then AfterStop ∷ [] else broken_of ((BadRegister, is_bad_register h k r v) ∷ (BadErdp, is_bad_erdp h k r v) ∷ []))) on
+      ∙ first_broken-is ((BadRegister, is_bad_register h k r v) ∷ (BadErdp, is_bad_erdp h k r v) ∷ [])
+
+  pub bad_register : (k : Known) → k.stopped ≡ false → is_bad_register h k r v ≡ true → IsLeast h k (Reg r v) BadRegister
+  bad_register k on bad = rules_are k on ∙ rw bad refl
+
+  pub bad_erdp : (k : Known) → k.stopped ≡ false → is_bad_register h k r v ≡ false → is_bad_erdp h k r v ≡ true → IsLeast h k (Reg r v) BadErdp
+  bad_erdp k on fine bad = rules_are k on ∙ rw (fine, bad) refl
+
+  module _ (t : TraceRecord) (m : ℕ → ℕ) (k : Known) (f : FollowsTrace h k t m) (on : k.stopped ≡ false) (fine : is_bad_register h k r v ≡ false) (passed : is_bad_erdp h k r v ≡ false) where
+    clean_is : broken h k (Reg r v) ≡ []
+    clean_is = nothing_broken _ (rules_are k on ∙ rw (fine, passed) refl)
+
+    same : IsElsewhereSame k (register_written h k r v)
+    same = elsewhere_same h k r v
+
+    learned_is : learned h k (Reg r v) ≡ register_written h k r v
+    unfolding learned
+    learned_is = refl
+
+    unfinished_is : unfinished h (register_written h k r v) ≡ unfinished h k
+    unfinished_is = ap (λ l. unfinished h l) (sym learned_is) ∙ unfinished_register h k r v
+
+    contexts_are : device_contexts (register_written h k r v) ≡ device_contexts k
+    contexts_are = ap (λ (device : ℕ → Option ℕ). filter_map device slots) same.device
+
+    module _ (registers_ : RegisterRecord) (events_ : Option EventState) (follows_registers : FollowsRegisters (register_written h k r v) registers_)
+        (follows_events : FollowsEvents h (register_written h k r v) events_) where
+      followed_is : FollowsTrace h (register_written h k r v) (record t { registers = registers_; events = events_ }) m
+      followed_is = record {
+        words = λ a. ap (λ words. words a) same.memory ∙ f.words a;
+        rings = record {
+          as_many = f.rings.as_many;
+          each = λ i q x there is driver. subst (λ (rings : ℕ → RingView). FollowsRing q.shape (rings q.id) x) (sym same.ring) (f.rings.each i q x there is driver);
+        };
+        registers = follows_registers;
+        events = follows_events;
+        devices = subst (λ (l : Known). FollowsDevices l t.devices) learned_is (after_register h k t.devices f.devices r v);
+        commands = subst (λ commands. FollowsUnfinished commands t.commands) (sym unfinished_is) f.commands;
+        inputs = subst (λ commands. HoldsAreas (input_context_bytes h.context_size) (inputs_of commands) t.inputs) (sym unfinished_is) f.inputs;
+        contexts = subst (λ starts. HoldsAreas (device_context_bytes h.context_size) starts t.contexts) (sym contexts_are) f.contexts;
+        soiled = subst (λ soiled. HoldsSoiled soiled t.soiled) (sym same.soiled) f.soiled;
+      }
+
+      pub step_is : IsRowStep h k (Reg r v) (record t { registers = registers_; events = events_ }) m
+      step_is = record {
+        clean = clean_is;
+        followed = subst (λ (l : Known). FollowsTrace h l (record t { registers = registers_; events = events_ }) m) (sym learned_is) followed_is;
+      }
+
+may_is : (h : Header) (k : Known) → IsSetUp h k → (b : Bool) → k.started ≡ b → may_pass k ≡ k.reads - k.dequeue
+unfolding may_pass
+may_is h k s true was = rw was refl
+may_is h k s false was = rw was (none k.reads k.dequeue (s.unread was))
+  where
+    none : (n d : ℕ) → n ≡ 0 → 0 ≡ n - d
+    none n d e = omega (arith, e)
+
+moved_place : (h : Header) (k : Known) (v : ℕ) (e : EventState) → IsMoved h k (Some e) v → FollowsEvents h (register_written h k Erdp v) (Some e)
+unfolding register_written valued
+moved_place h k v e f = record { here = f.here; shape = f.shape; reads = f.reads; dequeue = f.dequeue }
+
+-- ERDP goes past what was read
+pub passed_is : (h : Header) (k : Known) (v : ℕ) (b : Bool) → IsSetUp h k → b ≡ is_reached_within (event_shape h) k.dequeue (k.reads - k.dequeue) (erdp_address v) → is_bad_erdp h k Erdp v ≡ not b
+unfolding is_bad_erdp
+passed_is h k v b s is = ap (λ n. not (is_reached_within (event_shape h) k.dequeue n (erdp_address v))) (may k.started refl) ∙ ap not (sym is)
+  where
+    may : (b : Bool) → k.started ≡ b → may_pass k ≡ k.reads - k.dequeue
+    may b was = may_is h k s b was
+
+pub moved_follows : (h : Header) (k : Known) (r : Register) (v : ℕ) (o : Option EventState) → r ≡ Erdp → IsMoved h k o v → FollowsEvents h (register_written h k r v) o
+moved_follows h k r v o is f = subst (λ (q : Register). FollowsEvents h (register_written h k q v) o) (sym is) (by o f)
+  where
+    by : (o : Option EventState) → IsMoved h k o v → FollowsEvents h (register_written h k Erdp v) o
+    by None f = f
+    by (Some e) f = moved_place h k v e f
+
+pub others_follow : (h : Header) (k : Known) (r : Register) (v : ℕ) (o : Option EventState) → (r ≡ Erdp → ⊥) → FollowsEvents h k o → FollowsEvents h (register_written h k r v) o
+others_follow h k r v None other f = f
+others_follow h k r v (Some e) other f = record { here = f.here; shape = f.shape; reads = (elsewhere_same h k r v).reads ∙ f.reads; dequeue = dequeue_same h k r v other ∙ f.dequeue }
+
+pub fine_erdp : (h : Header) (k : Known) (r : Register) (v : ℕ) → (r ≡ Erdp → ⊥) → is_bad_erdp h k r v ≡ false
+fine_erdp = not_passed

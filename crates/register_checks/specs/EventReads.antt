@@ -1,0 +1,18 @@
+-- The event ring, and its counts after a write of ERDP
+use Rattle.std.specs.Prelude.{Option, is_some, ◌≡◌, ℕ, true}
+use Rattle.segments.specs.ShapeValue.{Shape}
+use Rattle.traces.specs.declared.header.Header.{Header}
+use Rattle.traces.specs.Header.{event_ring, event_shape}
+use Rattle.event_ring.specs.EventPlaceValue.{EventState}
+use Rattle.event_ring.specs.EventRing.{position_from, erdp_address}
+use Rattle.ring_knowledge.specs.Known.{Known}
+use Rattle.trace_record.specs.FollowsTrace.{FollowsEvents}
+
+-- the counts after ERDP was written
+abbrev pub IsMoved : Header → Known → Option EventState → ℕ → Type 0
+IsMoved h k o value = FollowsEvents h (record k { dequeue = position_from (event_shape h) k.dequeue (erdp_address value) }) o
+
+-- there is an event ring, and it has this shape
+pub record IsEventRing (h : Header) (shape : Shape) : Type 0 where
+  pub here : is_some (event_ring h) ≡ true
+  pub same : shape ≡ event_shape h

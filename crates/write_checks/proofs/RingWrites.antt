@@ -1,0 +1,134 @@
+-- Which rules a write breaks
+use Rattle.std.proofs.Common.{◌≡◌, ℕ, ◌%◌, List, [], ◌∷◌, Bool, true, false, Option, None, Some, refl, ap, sym, ◌∙◌}
+use Rattle.std.specs.Prelude.{◌||◌, map, if◌then◌else◌}
+use Rattle.std.specs.List.{list_any}
+use Rattle.segments.specs.Places.{touches}
+use Rattle.segments.specs.RingView.{positions_given, crossings_given}
+use Rattle.segments.specs.Givings.{is_other_than_declared, is_not_declared, is_not_whole, leads_wrong, interrupts}
+use Rattle.traces.specs.declared.ring.Ring.{Ring}
+use Rattle.traces.specs.declared.header.Header.{Header}
+use Rattle.traces.specs.declared.row.Row.TheVariants.{Write}
+use Rattle.traces.specs.Header.{IsHeader, is_driver_kind, is_event_kind, shape_of}
+use Rattle.commands.specs.declared.command.Command.{Command}
+use Rattle.ring_knowledge.specs.Known.{Known}
+use Rattle.ring_knowledge.specs.Rings as rings
+use Rattle.ring_knowledge.specs.Writes.{command_given}
+use Rattle.ring_knowledge.specs.RingRecords.{positions_of, crossings_of}
+use Rattle.ring_knowledge.specs.declared.ring_record.RingGiving.{RingGiving}
+use Rattle.ring_knowledge.specs.declared.ring_record.RingGiving.TheVariants.{Position, Crossing}
+use Rattle.ownership_rules.specs.declared.refusal.Refusal.TheVariants.{WriteToOwned, NotAsSubmitted, NotDeclared, NotWhole, LinkFault, BadCommand, Busy, NotInProfile, BadMove, AfterStop}
+use Rattle.ownership_rules.specs.Refusal.{Test, broken_of, first_of, first_broken}
+use Rattle.ownership_rules.specs.OpenLeases.{is_leased}
+use Rattle.ownership_rules.specs.Commands as commands
+use Rattle.ownership_rules.specs.Moves as moves
+use Rattle.ownership_rules.specs.Writes.{write_tests, some_given, some_crossed, some_command, holds_of, on_position, on_crossing}
+use Rattle.ownership_rules.specs.Rules.{broken, tests}
+use Rattle.trace_record.specs.Steps.{IsLeast}
+use Rattle.ring_finder.proofs.ListTests.{or_false, any_append, any_map, any_nowhere}
+use Rattle.ring_finder.proofs.RingsApart.{IsAmong}
+use Rattle.ring_finder.proofs.HeaderRings.{shape_there}
+use Rattle.write_checks.specs.WriteTests.{GivesOnPosition, given_tests}
+use Rattle.write_checks.proofs.FirstBroken.{first_broken-is}
+use Rattle.write_checks.proofs.OnRing.{given_by_one, given_nowhere, leased_in_events}
+
+-- the tests of a word that isn't under lease, of what is given of one ring
+module _ (h : Header) (k : Known) (a w : ℕ) (r : Ring) where
+  abbrev pub of_ring : Option RingGiving → Option Command → List Test
+  of_ring giving command =
+      (WriteToOwned, false)
+      ∷ (NotAsSubmitted, list_any (is_other_than_declared r.shape (k.ring r.id) k.memory a w) (positions_of giving))
+      ∷ (NotDeclared, list_any (is_not_declared (k.ring r.id)) (positions_of giving))
+      ∷ (NotWhole, list_any (is_not_whole r.shape (k.ring r.id)) (positions_of giving))
+      ∷ (LinkFault, list_any (leads_wrong r.shape k.memory a w) (crossings_of giving))
+      ∷ (BadCommand, holds_of (commands.is_bad_command h k) command)
+      ∷ (Busy, holds_of (commands.is_busy h k) command || list_any (λ p. moves.is_being_moved h k r.id) (positions_of giving))
+      ∷ (NotInProfile, holds_of (commands.has_left_out_endpoint h k) command || list_any (interrupts r.shape k.memory a w) (crossings_of giving))
+      ∷ (BadMove, holds_of (λ c. moves.is_bad_binding h k c || moves.is_bad_move h k c) command) ∷ []
+
+  quiet_is : (giving : Option RingGiving) → positions_of giving ≡ [] → first_broken (of_ring giving None) ≡ first_broken (given_tests h k r k.memory a w giving None)
+  unfolding holds_of
+  quiet_is None none = refl
+  quiet_is (Some (Crossing q)) none = refl
+  quiet_is (Some (Position p)) none = absurd (cc)
+
+  placed_is : (p : ℕ) (command : Option Command) → ((c : Command) → command ≡ Some c → moves.is_being_moved h k r.id ≡ false) →
+      first_broken (of_ring (Some (Position p)) command) ≡ first_broken (given_tests h k r k.memory a w (Some (Position p)) command)
+  unfolding holds_of
+  placed_is p None still = rw (or_false (moves.is_being_moved h k r.id)) refl
+  placed_is p (Some c) still = rw (still c refl, or_false (commands.is_busy h k c), or_false (commands.has_left_out_endpoint h k c)) refl
+
+  pub tests_are : (giving : Option RingGiving) (command : Option Command) → GivesOnPosition giving command →
+      ((c : Command) → command ≡ Some c → moves.is_being_moved h k r.id ≡ false) → first_broken (of_ring giving command) ≡ first_broken (given_tests h k r k.memory a w giving command)
+  tests_are None command quiet still =
+      ap (λ o. first_broken (of_ring None o)) quiet ∙ quiet_is None refl ∙ ap (λ o. first_broken (given_tests h k r k.memory a w None o)) (sym quiet)
+  tests_are (Some (Crossing q)) command quiet still =
+      ap (λ o. first_broken (of_ring (Some (Crossing q)) o)) quiet ∙ quiet_is (Some (Crossing q)) refl
+      ∙ ap (λ o. first_broken (given_tests h k r k.memory a w (Some (Crossing q)) o)) (sym quiet)
+  tests_are (Some (Position p)) command quiet still = placed_is p command still
+
+module _ (h : Header) (headed : IsHeader h) (k : Known) (on : k.stopped ≡ false) (a w : ℕ) where
+  pub least_is : first_of (broken h k (Write a w)) ≡ first_broken (write_tests h k a w)
+  unfolding broken tests
+  least_is = ap (λ b. first_of (if b then AfterStop ∷ [] else broken_of (write_tests h k a w))) on ∙ first_broken-is (write_tests h k a w)
+
+  -- the word is under lease
+  pub owned : is_leased h k a ≡ true → IsLeast h k (Write a w) WriteToOwned
+  unfolding write_tests
+  owned leased = least_is ∙ rw leased refl
+
+  module _ (aligned : a % 4 ≡ 0) where
+    -- an event segment has it
+    pub owned_by_events : (e : Ring) → IsAmong e h.rings → is_event_kind e.shape.kind ≡ true → touches e.shape a 4 ≡ true → IsLeast h k (Write a w) WriteToOwned
+    owned_by_events e among event has = owned (leased_in_events h headed k a aligned e among event has)
+
+    -- no ring has it
+    pub nothing_breaks : ((q : Ring) → IsAmong q h.rings → touches q.shape a 4 ≡ false) → is_leased h k a ≡ false → command_given h k a w ≡ None → first_of (broken h k (Write a w)) ≡ None
+    unfolding write_tests some_given some_crossed some_command holds_of
+    nothing_breaks none free no_command = least_is ∙ rw (free, given_nowhere h headed k a aligned none w, no_command) refl
+
+    -- a command or transfer ring has it
+    module _ (r : Ring) (among : IsAmong r h.rings) (driver : is_driver_kind r.shape.kind ≡ true) (has : touches r.shape a 4 ≡ true) (free : is_leased h k a ≡ false) where
+      given_is : (test : ℕ → ℕ → Bool) → some_given h k a w test ≡ list_any (test r.id) (positions_given r.shape (k.ring r.id) a w)
+      unfolding some_given on_position
+      given_is test =
+          ap (λ gs. list_any (on_position test) gs) (given_by_one h headed k a aligned r among driver has w)
+          ∙ any_append (on_position test) (map (rings.Position r.id) (positions_given r.shape (k.ring r.id) a w)) (map (rings.Crossing r.id) (crossings_given r.shape (k.ring r.id) a w))
+          ∙ rw (
+            any_map (on_position test) (rings.Position r.id) (positions_given r.shape (k.ring r.id) a w),
+            any_map (on_position test) (rings.Crossing r.id) (crossings_given r.shape (k.ring r.id) a w),
+            any_nowhere (λ q. on_position test (rings.Crossing r.id q)) (λ q. refl) (crossings_given r.shape (k.ring r.id) a w),
+          ) (or_false _)
+
+      crossed_is : (test : ℕ → ℕ → Bool) → some_crossed h k a w test ≡ list_any (test r.id) (crossings_given r.shape (k.ring r.id) a w)
+      unfolding some_crossed on_crossing
+      crossed_is test =
+          ap (λ gs. list_any (on_crossing test) gs) (given_by_one h headed k a aligned r among driver has w)
+          ∙ any_append (on_crossing test) (map (rings.Position r.id) (positions_given r.shape (k.ring r.id) a w)) (map (rings.Crossing r.id) (crossings_given r.shape (k.ring r.id) a w))
+          ∙ rw (
+            any_map (on_crossing test) (rings.Position r.id) (positions_given r.shape (k.ring r.id) a w),
+            any_nowhere (λ p. on_crossing test (rings.Position r.id p)) (λ p. refl) (positions_given r.shape (k.ring r.id) a w),
+            any_map (on_crossing test) (rings.Crossing r.id) (crossings_given r.shape (k.ring r.id) a w),
+          ) refl
+
+      module _ (giving : Option RingGiving) (command : Option Command) (positions : positions_given r.shape (k.ring r.id) a w ≡ positions_of giving)
+          (crossings : crossings_given r.shape (k.ring r.id) a w ≡ crossings_of giving) (gives : command_given h k a w ≡ command) where
+        all_are : write_tests h k a w ≡ of_ring h k a w r giving command
+        unfolding write_tests some_command
+        all_are = rw (
+          free,
+          given_is (λ s p. is_other_than_declared (shape_of h s) (k.ring s) k.memory a w p),
+          given_is (λ s p. is_not_declared (k.ring s) p),
+          given_is (λ s p. is_not_whole (shape_of h s) (k.ring s) p),
+          given_is (λ s p. moves.is_being_moved h k s),
+          crossed_is (λ s q. leads_wrong (shape_of h s) k.memory a w q),
+          crossed_is (λ s q. interrupts (shape_of h s) k.memory a w q),
+          shape_there h headed r among,
+          positions,
+          crossings,
+          gives,
+        ) refl
+
+        -- the least rule that it breaks
+        pub least_of_ring : GivesOnPosition giving command → ((c : Command) → command ≡ Some c → moves.is_being_moved h k r.id ≡ false) →
+            first_of (broken h k (Write a w)) ≡ first_broken (given_tests h k r k.memory a w giving command)
+        least_of_ring quiet still = least_is ∙ ap first_broken all_are ∙ tests_are h k a w r giving command quiet still

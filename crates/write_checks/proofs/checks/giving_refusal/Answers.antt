@@ -1,0 +1,28 @@
+use Rattle.std.proofs.Common.{rules, ◌≡◌, [], ◌∷◌, Option, Some, ap, sym, ◌∙◌}
+use Rattle.ring_knowledge.specs.declared.ring_record.RingGiving.{RingGiving}
+use Rattle.ring_knowledge.specs.declared.ring_record.RingGiving.TheVariants.{Position}
+use Rattle.ownership_rules.specs.Refusal.{first_broken}
+use Rattle.write_checks.specs.WriteTests.{given_tests, place_tests, position_tests}
+use Rattle.write_checks.proofs.GivenTests.{first_fails, none_fails}
+use Rattle.write_checks.proofs.checks.giving_refusal.Goals as goal
+
+pub returns-in-Some-clause-first : goal.returns-in-Some-clause-first
+returns-in-Some-clause-first g c =
+    let is : c.args.giving ≡ Some (Position c.in-Some-Position.p) = search rules in
+    λ k f d fit r.
+    let ring = c.args.ring.now in
+    let memory = g.M.WordMemory.words c.args.memory.now in
+    first_fails (position_tests ring.shape (k.ring ring.id) memory c.args.at c.args.word (c.in-Some-Position.p ∷ [])) (place_tests c.args.header.now k ring.id c.args.command)
+    c.in-Some.refusal (sym c.in-Some.is ∙ c.position_refusal.ensures (k.ring ring.id) r)
+    ∙ ap (λ (o : Option RingGiving). first_broken (given_tests c.args.header.now k ring memory c.args.at c.args.word o c.args.command)) (sym is)
+
+pub returns-in_default-clause-first : goal.returns-in_default-clause-first
+returns-in_default-clause-first g c =
+    let is : c.args.giving ≡ Some (Position c.in-Some-Position.p) = search rules in
+    λ k f d fit r.
+    let ring = c.args.ring.now in
+    let memory = g.M.WordMemory.words c.args.memory.now in
+    c.place_refusal.ensures.first k f d fit
+    ∙ none_fails (position_tests ring.shape (k.ring ring.id) memory c.args.at c.args.word (c.in-Some-Position.p ∷ [])) (place_tests c.args.header.now k ring.id c.args.command)
+    (sym c.in_default.is ∙ c.position_refusal.ensures (k.ring ring.id) r)
+    ∙ ap (λ (o : Option RingGiving). first_broken (given_tests c.args.header.now k ring memory c.args.at c.args.word o c.args.command)) (sym is)

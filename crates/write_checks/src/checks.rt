@@ -1,0 +1,140 @@
+ghost use Rattle.std.specs.Prelude.{◌≡◌, false, length, slice_get, position, Some, IfOk, IfErr, IfSome, IfNone};
+ghost use Rattle.segments.specs.Places.{touches};
+ghost use Rattle.traces.specs.Header.{IsHeader};
+ghost use Rattle.traces.specs.declared.row.Row.TheVariants.{Write};
+ghost use Rattle.ring_knowledge.specs.Known.{Known};
+ghost use Rattle.ring_knowledge.specs.RingRecords.{FollowsRing};
+ghost use Rattle.ring_finder.specs.Finding.{IsFinder};
+ghost use Rattle.ownership_rules.specs.Refusal.{first_broken};
+ghost use Rattle.safety.specs.Keeps.{DriverKeeps};
+ghost use Rattle.trace_record.specs.FollowsTrace.{FollowsTrace};
+ghost use Rattle.trace_record.specs.Premises.{ContextsFit, FitsMemory};
+ghost use Rattle.trace_record.specs.Steps.{IsLeast};
+ghost use Rattle.context_checks.specs.Contents.{IsAligned};
+ghost use Rattle.write_checks.specs.WriteTests.{GivesOnPosition, IsDriver, given_tests, place_tests};
+ghost use Rattle.write_checks.specs.Allowed.{IsAllowed};
+
+use crate::crossings::crossing_refusal;
+use crate::given_commands::{command_refusal, given_command};
+use crate::positions::position_refusal;
+use crate::write_giving::WriteGiving;
+use binding_checks::is_being_moved;
+use commands::Command;
+use guest_memory::{Addr, WordMemory};
+use ownership_rules::Refusal;
+use ring_finder::{Finder, is_event_ring};
+use ring_knowledge::{RingGiving, RingRecord};
+use trace_record::TraceRecord;
+use traces::{Header, Ring};
+
+/// Checks a write of memory before the stop: what it gives, or the least of the rules that it breaks.
+pub fn check_write<M: WordMemory>(
+    header: &Header,
+    finder: &Finder,
+    t: &TraceRecord,
+    memory: &M,
+    at: Addr,
+    word: u32,
+) -> Result<WriteGiving, Refusal>
+    requires headed { IsHeader header.now }
+    requires found { IsFinder header.now.rings finder.now }
+    requires as_many { length t.now.rings.items ≡ length header.now.rings }
+    ensures ok { IfOk result (λ g. (k : Known) → FollowsTrace header.now k t.now (M.words memory.now) → DriverKeeps header.now k → ContextsFit header.now k → k.stopped ≡ false →
+        IsAllowed header.now k at word g) }
+    ensures fits { IfOk result (λ g. IfSome g.command (FitsMemory header.now.context_size)) }
+    ensures ring { IfOk result (λ g. g.ring ≡ position (λ ring. touches ring.shape at 4) header.now.rings) }
+    ensures refused { IfErr result (λ c. (k : Known) → FollowsTrace header.now k t.now (M.words memory.now) → DriverKeeps header.now k → ContextsFit header.now k → k.stopped ≡ false →
+        IsLeast header.now k (Write at word) c) }
+{
+    if t.owns(header, finder, at) {
+        return Err(Refusal::WriteToOwned);
+    }
+    let Some(number) = finder.ring_at(header, at.get()) else {
+        return Ok(WriteGiving {
+            ring: None,
+            giving: None,
+            command: None,
+        });
+    };
+    let rings = header.rings.as_slice();
+    let ring = &rings[number];
+    if is_event_ring(ring) {
+        return Err(Refusal::WriteToOwned);
+    }
+    let known = &t.rings[number];
+    let giving = known.given_by(&ring.shape, at, word);
+    let command = given_command(ring, known, giving);
+    match giving_refusal(
+        header, finder, t, memory, at, word, ring, known, giving, command,
+    ) {
+        Some(refusal) => Err(refusal),
+        None => Ok(WriteGiving {
+            ring: Some(number),
+            giving,
+            command,
+        }),
+    }
+}
+
+/// Which rule a write to a word that isn't under lease breaks first, where it gives this of a ring, and this command.
+fn giving_refusal<M: WordMemory>(
+    header: &Header,
+    finder: &Finder,
+    t: &TraceRecord,
+    memory: &M,
+    at: Addr,
+    word: u32,
+    ring: &Ring,
+    known: &RingRecord,
+    giving: Option<RingGiving>,
+    command: Option<Command>,
+) -> Option<Refusal>
+    requires headed { IsHeader header.now }
+    requires found { IsFinder header.now.rings finder.now }
+    requires driver { IsDriver ring.now.shape }
+    requires aligned { IfSome command IsAligned }
+    requires quiet { GivesOnPosition giving command }
+    ensures first { (k : Known) → FollowsTrace header.now k t.now (M.words memory.now) → DriverKeeps header.now k → ContextsFit header.now k →
+        FollowsRing ring.now.shape (k.ring ring.now.id) known.now →
+        result ≡ first_broken (given_tests header.now k ring.now (M.words memory.now) at word giving command) }
+    ensures fits { IfNone result (IfSome command (FitsMemory header.now.context_size)) }
+{
+    match giving {
+        None => None,
+        Some(RingGiving::Crossing(q)) => crossing_refusal(&ring.shape, memory, at, word, q),
+        Some(RingGiving::Position(p)) => {
+            if let Some(refusal) = position_refusal(&ring.shape, known, memory, at, word, p) {
+                return Some(refusal);
+            }
+            place_refusal(header, finder, t, memory, ring.id, command)
+        }
+    }
+}
+
+/// Which rule of commands and moves the giving of a position breaks first, by which this command is given.
+fn place_refusal<M: WordMemory>(
+    header: &Header,
+    finder: &Finder,
+    t: &TraceRecord,
+    memory: &M,
+    ring: u8,
+    command: Option<Command>,
+) -> Option<Refusal>
+    requires headed { IsHeader header.now }
+    requires found { IsFinder header.now.rings finder.now }
+    requires aligned { IfSome command IsAligned }
+    ensures first { (k : Known) → FollowsTrace header.now k t.now (M.words memory.now) → DriverKeeps header.now k → ContextsFit header.now k →
+        result ≡ first_broken (place_tests header.now k ring command) }
+    ensures fits { IfNone result (IfSome command (FitsMemory header.now.context_size)) }
+{
+    match command {
+        Some(command) => command_refusal(header, finder, t, memory, &command),
+        None => {
+            if is_being_moved(t, ring) {
+                Some(Refusal::Busy)
+            } else {
+                None
+            }
+        }
+    }
+}

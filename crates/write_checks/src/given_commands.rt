@@ -1,0 +1,112 @@
+//! The command that a write gives, and its rules: xHCI 4.6.
+ghost use Rattle.std.specs.Prelude.{◌≡◌, ◌||◌, if◌then◌else◌, None, IfNone, IfSome};
+ghost use Rattle.segments.specs.ShapeValue.{Shape};
+ghost use Rattle.segments.specs.RingView.{RingView};
+ghost use Rattle.traces.specs.Header.{IsHeader, is_command_kind};
+ghost use Rattle.commands.specs.Command.{command_of};
+ghost use Rattle.ring_knowledge.specs.Known.{Known};
+ghost use Rattle.ring_knowledge.specs.RingRecords.{FollowsRing, positions_of};
+ghost use Rattle.ring_finder.specs.Finding.{IsFinder};
+ghost use Rattle.ownership_rules.specs.Moves.{is_bad_binding, is_bad_move};
+ghost use Rattle.ownership_rules.specs.Refusal.{first_broken};
+ghost use Rattle.safety.specs.Keeps.{DriverKeeps};
+ghost use Rattle.trace_record.specs.FollowsTrace.{FollowsTrace};
+ghost use Rattle.trace_record.specs.Premises.{ContextsFit, FitsMemory};
+ghost use Rattle.context_checks.specs.Contents.{IsAligned};
+ghost use Rattle.write_checks.specs.WriteTests.{GivesOnPosition, command_in, command_on, command_tests};
+
+use binding_checks::{is_bad_binding, is_bad_move};
+use commands::Command;
+use context_checks::{has_left_out_endpoint, is_bad_command};
+use guest_memory::WordMemory;
+use ownership_rules::Refusal;
+use ring_finder::{Finder, is_command_ring};
+use ring_knowledge::{RingGiving, RingRecord};
+use trace_record::TraceRecord;
+use traces::{Header, Ring};
+use trb::Block;
+
+/// The command that a write gives which gives this of a ring.
+pub fn given_command(ring: &Ring, known: &RingRecord, giving: Option<RingGiving>) -> Option<Command>
+    ensures value { (v : RingView) → FollowsRing ring.now.shape v known.now →
+        result ≡ (if is_command_kind ring.now.shape.kind then command_on v (positions_of giving) else None) }
+    ensures aligned { IfSome result IsAligned }
+    ensures quiet { GivesOnPosition giving result }
+{
+    if !is_command_ring(ring) {
+        return None;
+    }
+    match giving {
+        Some(RingGiving::Position(position)) => declared_command(known, position),
+        Some(RingGiving::Crossing(_)) => None,
+        None => None,
+    }
+}
+
+/// The command that is declared at a position.
+fn declared_command(known: &RingRecord, position: u64) -> Option<Command>
+    ensures value { (shape : Shape) (v : RingView) → FollowsRing shape v known.now → result ≡ command_in v.queue position }
+    ensures aligned { IfSome result IsAligned }
+{
+    match known.declared(position) {
+        Some(block) => command_said(&block),
+        None => None,
+    }
+}
+
+/// The command that a block says.
+fn command_said(block: &Block) -> Option<Command>
+    ensures value { result ≡ command_of block.now }
+    ensures aligned { IfSome result IsAligned }
+{
+    match Command::read(block) {
+        Ok(command) => Some(command),
+        Err(_) => None,
+    }
+}
+
+/// Which rule a command breaks first.
+pub fn command_refusal<M: WordMemory>(
+    header: &Header,
+    finder: &Finder,
+    t: &TraceRecord,
+    memory: &M,
+    command: &Command,
+) -> Option<Refusal>
+    requires headed { IsHeader header.now }
+    requires found { IsFinder header.now.rings finder.now }
+    requires aligned { IsAligned command.now }
+    ensures first { (k : Known) → FollowsTrace header.now k t.now (M.words memory.now) → DriverKeeps header.now k → ContextsFit header.now k →
+        result ≡ first_broken (command_tests header.now k command.now) }
+    ensures fits { IfNone result (FitsMemory header.now.context_size command.now) }
+{
+    if is_bad_command(header, t, memory, command) {
+        return Some(Refusal::BadCommand);
+    }
+    if t.commands.is_busy(command) {
+        return Some(Refusal::Busy);
+    }
+    if has_left_out_endpoint(header, memory, command) {
+        return Some(Refusal::NotInProfile);
+    }
+    if moves_badly(header, finder, t, memory, command) {
+        return Some(Refusal::BadMove);
+    }
+    None
+}
+
+/// Whether the command binds or moves a ring to where it may not be.
+fn moves_badly<M: WordMemory>(
+    header: &Header,
+    finder: &Finder,
+    t: &TraceRecord,
+    memory: &M,
+    command: &Command,
+) -> bool
+    requires headed { IsHeader header.now }
+    requires found { IsFinder header.now.rings finder.now }
+    ensures { (k : Known) → FollowsTrace header.now k t.now (M.words memory.now) → DriverKeeps header.now k → ContextsFit header.now k →
+        FitsMemory header.now.context_size command.now → result ≡ (is_bad_binding header.now k command.now || is_bad_move header.now k command.now) }
+{
+    is_bad_binding(header, finder, t, memory, command) || is_bad_move(header, t, memory, command)
+}

@@ -1,0 +1,12 @@
+//! The rules of a write of memory, and what it gives: xHCI 4.9.2, 4.11, 4.6.
+#![tactic(auto)]
+
+mod blocks;
+mod checks;
+mod crossings;
+mod given_commands;
+mod positions;
+mod write_giving;
+
+pub use checks::check_write;
+pub use write_giving::WriteGiving;
