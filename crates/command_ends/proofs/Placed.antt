@@ -1,0 +1,66 @@
+-- An endpoint that is placed, and those that an input context adds
+use Rattle.std.proofs.Common.{◌≡◌, ℕ, List, [], ◌∷◌, Bool, true, false, refl, ap, sym, subst}
+use Rattle.std.proofs.lemmas.Bool.{cond-true, cond-false}
+use Rattle.commands.specs.declared.command.Command.{Command}
+use Rattle.commands.specs.declared.state.EndpointState.{EndpointState}
+use Rattle.commands.specs.States.{is_off}
+use Rattle.commands.specs.Changes.{Change, Places}
+use Rattle.traces.specs.declared.header.Header.{Header}
+use Rattle.traces.specs.Header.{ring_beginning_at}
+use Rattle.ring_knowledge.specs.declared.ring_record.RingRecord.{RingRecord}
+use Rattle.ring_knowledge.specs.Known.{Known}
+use Rattle.ring_knowledge.specs.Completions.{bound_to, changed_by, changed_by_all, in_state, moved, pointed}
+use Rattle.ring_finder.specs.RecordsOfRings.{FollowsRings}
+use Rattle.device_record.specs.declared.kept.DeviceRecord.{DeviceRecord}
+use Rattle.safety.specs.Placings.{MayChangeAll, MayPoint}
+use Rattle.command_ends.specs.OneRing.{IsAtStart, MayMoveTo}
+use Rattle.command_ends.specs.Places.{FollowsPlaces, HasDone}
+use Rattle.command_ends.proofs.OneRing.{rings_same}
+
+module _ (h : Header) (k : Known) (s i p : ℕ) (cycle : Bool) where
+  pub pointed_off : is_off (k.endpoint_state s i) ≡ true → bound_to h k s i (ring_beginning_at h p) ≡ pointed h k s i p cycle
+  unfolding pointed
+  pointed_off off = sym (cond-true (is_off (k.endpoint_state s i)) (bound_to h k s i (ring_beginning_at h p)) (moved h k (k.ring_of s i) p cycle) off)
+
+  pub pointed_on : is_off (k.endpoint_state s i) ≡ false → moved h k (k.ring_of s i) p cycle ≡ pointed h k s i p cycle
+  unfolding pointed
+  pointed_on on = sym (cond-false (is_off (k.endpoint_state s i)) (bound_to h k s i (ring_beginning_at h p)) (moved h k (k.ring_of s i) p cycle) on)
+
+  module _ (may : MayPoint h k s i p cycle) where
+    pub starts : is_off (k.endpoint_state s i) ≡ true → IsAtStart k (ring_beginning_at h p)
+    starts off = λ r at. may.binds off r at
+
+    pub may_move : is_off (k.endpoint_state s i) ≡ false → MayMoveTo h k (k.ring_of s i) p cycle
+    may_move on = λ r at t named. may.moves on r t at named
+
+  pub placed_rings : (c : Command) (state : EndpointState) (rs : List RingRecord) → FollowsRings h (pointed h k s i p cycle) rs → FollowsRings h (changed_by h c k (Places s i p cycle state)) rs
+  unfolding changed_by in_state
+  placed_rings c state rs f = rings_same h (pointed h k s i p cycle) (changed_by h c k (Places s i p cycle state)) rs f refl
+
+module _ (h : Header) (c : Command) (rs : List RingRecord) (d : DeviceRecord) where
+  -- nothing is done yet
+  pub nothing_done : (k : Known) (all : List Change) → FollowsPlaces h k rs d → MayChangeAll h c k all → HasDone h c k all all rs d
+  nothing_done k all f may = record { known = k; follows = f; may = may; same = refl }
+
+  -- nothing is to be done next
+  pub none_done : (k : Known) (all left : List Change) → all ≡ left → FollowsPlaces h k rs d → MayChangeAll h c k all → HasDone h c k all left rs d
+  none_done k all left same f may = record {
+    known = k;
+    follows = f;
+    may = subst (λ xs. MayChangeAll h c k xs) same may;
+    same = ap (λ xs. changed_by_all h c k xs) (sym same);
+  }
+
+  -- the next change is done
+  pub one_done : (k : Known) (all left : List Change) (change : Change) → all ≡ change ∷ left → FollowsPlaces h (changed_by h c k change) rs d → MayChangeAll h c k all → HasDone h c k all left rs d
+  unfolding changed_by_all
+  one_done k all left change same f may = record {
+    known = changed_by h c k change;
+    follows = f;
+    may = (subst (λ xs. MayChangeAll h c k xs) same may).1;
+    same = ap (λ xs. changed_by_all h c k xs) (sym same);
+  }
+
+  pub all_done : (k : Known) (all : List Change) → HasDone h c k all [] rs d → FollowsPlaces h (changed_by_all h c k all) rs d
+  unfolding changed_by_all
+  all_done k all done = subst (λ (l : Known). FollowsPlaces h l rs d) done.same done.follows

@@ -1,0 +1,59 @@
+use Rattle.std.proofs.Common.{◌≡◌, ◌∙◌, [], ◌∷◌, List, Some, ap, refl, subst, sym}
+use Rattle.segments.specs.Spots.{after}
+use Rattle.segments.specs.RingView.{Reaches}
+use Rattle.contexts.specs.Contexts.{device_context_bytes, input_context_bytes}
+use Rattle.commands.specs.declared.command.Command.{Command}
+use Rattle.traces.specs.Header.{command_id, shape_of}
+use Rattle.ring_knowledge.specs.Known.{Known}
+use Rattle.ring_knowledge.specs.Rings.{command_at, next_command, on_ring, unfinished}
+use Rattle.ring_knowledge.specs.Completions.{completed}
+use Rattle.device_record.specs.Unfinished.{FollowsUnfinished}
+use Rattle.range_words.specs.Holding.{HoldsAreas}
+use Rattle.trace_record.specs.declared.trace_record.TraceRecord.{TraceRecord}
+use Rattle.trace_record.specs.FollowsTrace.{FollowsTrace, inputs_of}
+use Rattle.command_ends.specs.Places.{FollowsPlaces}
+use Rattle.command_ends.proofs.CommandRings.{set_up_commands}
+use Rattle.command_ends.proofs.Finished.{completed_is, done, done_given, has_next, has_room, may_change, slots_of, unfinished_is, was_started}
+use Rattle.command_ends.proofs.Followed.{followed_behind}
+use Rattle.command_ends.proofs.Rest.{ended_devices, finished_rest}
+use Rattle.command_ends.proofs.ending.finish.Goals as goal
+
+pub returns-in_default-clause-followed : goal.returns-in_default-clause-followed
+returns-in_default-clause-followed g c = λ k f d set_up possible.
+    let h = c.args.header.now in
+    let some = set_up_commands h k set_up (was_started h c.requires.headed k d c.args.block possible) in
+    has_next h c.requires.headed k d c.args.block possible (sym (c.next_command.ensures.value k (g.M.WordMemory.words c.args.memory.now) f some) ∙ c.in_default.is)
+
+pub returns-clause-followed : goal.returns-clause-followed
+returns-clause-followed g c = λ k f d set_up possible.
+    let h = c.args.header.now in
+    let headed = c.requires.headed in
+    let b = c.args.block in
+    let e : Command = c.in-Some.command in
+    let words = g.M.WordMemory.words c.args.memory.now in
+    let some = set_up_commands h k set_up (was_started h headed k d b possible) in
+    let here : command_at h k (next_command h k) ≡ Some e = sym (c.next_command.ensures.value k words f some) ∙ c.in-Some.is in
+    let l : Known = done h headed k d b possible e here in
+    let places : FollowsPlaces h l c.end_command.new.rings.items c.end_command.new.devices =
+    c.end_command.ensures k (record { rings = f.rings; devices = f.devices }) f.words (may_change h headed k d b possible e here) (has_room h headed k d b possible e here) in
+    let rings = c.pass_next.ensures l places.rings some (done_given h headed k d b possible e here) in
+    let same : on_ring h l (command_id h) (Reaches (after (shape_of h (command_id h)) (next_command h l))) ≡ completed h k b = completed_is h headed k d b possible e here in
+    let left : unfinished h k ≡ e ∷ unfinished h (on_ring h l (command_id h) (Reaches (after (shape_of h (command_id h)) (next_command h l)))) =
+    unfinished_is h headed k d b possible e here ∙ ap (λ (x : Known). e ∷ unfinished h x) (sym same) in
+    let commands = c.finish.ensures [] (unfinished h (on_ring h l (command_id h) (Reaches (after (shape_of h (command_id h)) (next_command h l))))) (subst (λ (xs : List Command). FollowsUnfinished xs c.args.t.now.commands) left f.commands) in
+    let inputs = c.leave_input.ensures (input_context_bytes h.context_size) (inputs_of (unfinished h (on_ring h l (command_id h) (Reaches (after (shape_of h (command_id h)) (next_command h l))))))
+    (subst (λ (xs : List Command). HoldsAreas (input_context_bytes h.context_size) (inputs_of xs) c.args.t.now.inputs) left f.inputs) in
+    let contexts = c.leave_context.ensures h k (device_context_bytes h.context_size) f.devices (slots_of h k d) f.contexts in
+    let new : TraceRecord = record {
+      rings = c.pass_next.new.rings;
+      registers = c.args.t.now.registers;
+      events = c.args.t.now.events;
+      devices = c.end_command.new.devices;
+      commands = c.finish.new.self;
+      inputs = c.leave_input.new.inputs;
+      contexts = c.leave_context.new.contexts;
+      soiled = c.args.t.now.soiled;
+    } in
+    subst (λ (x : Known). FollowsTrace h x new words) same
+    (followed_behind h k l (command_id h) (Reaches (after (shape_of h (command_id h)) (next_command h l))) c.args.t.now new words f (ended_devices h k b e) (finished_rest h k b e) refl refl refl
+    rings places.devices commands inputs contexts)

@@ -1,0 +1,18 @@
+use Rattle.std.proofs.Common.{◌+◌, ◌∙◌, sym, subst}
+use Rattle.commands.specs.Changes.{placed_by_context}
+use Rattle.controller_model.specs.Following.{places_from}
+use Rattle.controller_model.proofs.AddedLemmas.{adds_next}
+use Rattle.safety.specs.Placings.{MayChangeAll}
+use Rattle.command_ends.proofs.Placed.{one_done}
+use Rattle.command_ends.proofs.placing.add_endpoint.Goals as goal
+
+pub returns-then-adds : goal.returns-then-adds
+returns-then-adds g c = λ d k f may.
+    let h = c.args.header.now in
+    let memory = g.M.WordMemory.words c.args.input.now.memory in
+    let size = c.args.input.now.size in
+    let a = c.args.input.now.address in
+    let next = adds_next size memory c.args.slot a c.args.index c.requires.last (sym c.adds.ensures ∙ c.if-adds.true) in
+    one_done h d c.place_by_context.new.rings.items c.place_by_context.new.devices k
+    (places_from size memory c.args.slot a c.args.index) (places_from size memory c.args.slot a (c.args.index + 1)) (placed_by_context size memory c.args.slot a c.args.index) next
+    (c.place_by_context.ensures d k f (subst (λ xs. MayChangeAll h d k xs) next may).0) may

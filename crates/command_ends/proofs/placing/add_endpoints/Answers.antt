@@ -1,0 +1,17 @@
+use Rattle.std.proofs.Common.{arith, subst}
+use Rattle.controller_model.specs.Following.{places_from}
+use Rattle.controller_model.proofs.AddedLemmas.{adds_end}
+use Rattle.command_ends.specs.Places.{HasDone}
+use Rattle.command_ends.proofs.Placed.{all_done}
+use Rattle.command_ends.proofs.placing.add_endpoints.Goals as goal
+
+pub returns : goal.returns
+returns g c = λ d k f may.
+    let h = c.args.header.now in
+    let memory = g.M.WordMemory.words c.args.input.now.memory in
+    let size = c.args.input.now.size in
+    let a = c.args.input.now.address in
+    let all = places_from size memory c.args.slot a 2 in
+    let end = adds_end size memory c.args.slot a c.loop-index.index (omega (arith, c.loop-index.auto.index-end, c.loop-index-test.false)) in
+    all_done h d c.loop-index.rings.items c.loop-index.devices k all
+    (subst (λ xs. HasDone h d k all xs c.loop-index.rings.items c.loop-index.devices) end (c.loop-index.invariant d k f may))

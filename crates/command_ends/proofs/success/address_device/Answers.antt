@@ -1,0 +1,22 @@
+use Rattle.std.proofs.Common.{ap, subst, sym}
+use Rattle.commands.specs.Changes.{SlotGoesOn, placed_by_context}
+use Rattle.ring_knowledge.specs.Known.{Known}
+use Rattle.ring_knowledge.specs.Completions.{changed_by, changed_by_all}
+use Rattle.safety.specs.Placings.{MayChange}
+use Rattle.contexts.specs.View.{View}
+use Rattle.command_ends.specs.Places.{FollowsPlaces, addressed}
+use Rattle.command_ends.proofs.Succeeded.{devices_only, goes_on_rings}
+use Rattle.command_ends.proofs.success.address_device.Goals as goal
+
+pub returns : goal.returns
+unfolding changed_by_all addressed
+returns g c = λ k f ends may.
+    let h = c.args.header.now in
+    let d = c.args.command.now in
+    let s = c.args.slot in
+    let rs = c.args.rings.now.items in
+    let gone : Known = changed_by h d k (SlotGoesOn s) in
+    let first : FollowsPlaces h gone rs c.go_on.new.self = devices_only h k gone rs c.args.devices.now c.go_on.new.self f (goes_on_rings h d k s) (c.go_on.ensures h k f.devices) in
+    let same = ap (λ (v : View _). placed_by_context v.size (g.M.WordMemory.words v.memory) s v.address 1) c.in-Some.ensures.view in
+    subst (λ x. FollowsPlaces h (changed_by h d gone x) c.place_by_context.new.rings.items c.place_by_context.new.devices) same
+    (c.place_by_context.ensures d gone first (subst (λ x. MayChange h gone x) (sym same) may.1.0))

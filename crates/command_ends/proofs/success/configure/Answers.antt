@@ -1,0 +1,32 @@
+use Rattle.std.proofs.Common.{ap, subst, sym}
+use Rattle.contexts.specs.Contexts.{is_dropped}
+use Rattle.contexts.specs.View.{View}
+use Rattle.commands.specs.Changes.{Disables, SlotGoesOn}
+use Rattle.controller_model.specs.Following.{places_from}
+use Rattle.ring_knowledge.specs.Known.{Known}
+use Rattle.ring_knowledge.specs.Completions.{changed_by, changed_by_all}
+use Rattle.device_record.specs.declared.disabling.Named.TheVariants.{Dropped}
+use Rattle.device_record.specs.Devices.{FollowsDevices}
+use Rattle.device_record.specs.Endpoints.{named_by}
+use Rattle.safety.specs.Placings.{MayChangeAll}
+use Rattle.command_ends.specs.Places.{FollowsPlaces, configured}
+use Rattle.command_ends.proofs.Succeeded.{devices_only, disables_rings, goes_on_rings}
+use Rattle.command_ends.proofs.success.configure.Goals as goal
+
+pub returns : goal.returns
+unfolding changed_by_all configured
+returns g c = λ k f ends may.
+    let h = c.args.header.now in
+    let d = c.args.command.now in
+    let s = c.args.slot in
+    let rs = c.args.rings.now.items in
+    let words = g.M.WordMemory.words c.args.memory.now in
+    let gone : Known = changed_by h d k (SlotGoesOn s) in
+    let first : FollowsPlaces h gone rs c.go_on.new.self = devices_only h k gone rs c.args.devices.now c.go_on.new.self f (goes_on_rings h d k s) (c.go_on.ensures h k f.devices) in
+    let dropped : Known = changed_by h d gone (Disables s (is_dropped words c.args.context)) in
+    let off : FollowsDevices dropped c.disable.new.self =
+    subst (λ w. FollowsDevices (changed_by h d gone (Disables s (named_by (Dropped w)))) c.disable.new.self) c.drop_flags.ensures (c.disable.ensures h d gone first.devices) in
+    let second : FollowsPlaces h dropped rs c.disable.new.self = devices_only h gone dropped rs c.go_on.new.self c.disable.new.self first (disables_rings h d gone s (is_dropped words c.args.context)) off in
+    let same = ap (λ (v : View _). places_from v.size (g.M.WordMemory.words v.memory) s v.address 2) c.in-Some.ensures.view in
+    subst (λ xs. FollowsPlaces h (changed_by_all h d dropped xs) c.add_endpoints.new.rings.items c.add_endpoints.new.devices) same
+    (c.add_endpoints.ensures d dropped second (subst (λ xs. MayChangeAll h d dropped xs) (sym same) may.1.1))

@@ -1,0 +1,20 @@
+use Rattle.std.proofs.Common.{subst}
+use Rattle.commands.specs.declared.state.EndpointState.TheVariants.{Stopped}
+use Rattle.ring_knowledge.specs.Known.{Known}
+use Rattle.ring_knowledge.specs.Completions.{held_at_ceiling, in_state}
+use Rattle.ring_finder.specs.RecordsOfRings.{FollowsRings}
+use Rattle.command_ends.proofs.OneRing.{rings_same}
+use Rattle.command_ends.proofs.Succeeded.{in_state_rings, stops_rings}
+use Rattle.command_ends.proofs.success.stop.Goals as goal
+
+pub returns : goal.returns
+returns c = λ d k f.
+    let h = c.args.header.now in
+    let s = c.args.slot in
+    let i = c.args.endpoint in
+    let stopped : Known = in_state h k s i Stopped in
+    let held = c.hold_ring.ensures stopped (rings_same h k stopped c.args.rings.now.items f.rings (in_state_rings h d k s i)) in
+    record {
+      rings = stops_rings h d k s i c.hold_ring.new.rings.items (subst (λ o. FollowsRings h (held_at_ceiling h stopped o) c.hold_ring.new.rings.items) (c.ring_of-ring.ensures k f.devices) held);
+      devices = c.stop.ensures h d k f.devices;
+    }

@@ -1,0 +1,173 @@
+//! A command ends with a completion that was read (xHCI 4.6).
+ghost use Rattle.std.specs.Prelude.{◌≡◌, ◌<◌, ℕ, List, Some, true, false, is_some};
+ghost use Rattle.std.specs.List.{cons_option};
+ghost use Rattle.trb.specs.Block.{code, slot};
+ghost use Rattle.segments.specs.Spots.{after};
+ghost use Rattle.segments.specs.RingView.{Reaches};
+ghost use Rattle.commands.specs.Changes.{changes};
+ghost use Rattle.commands.specs.Command.{named_context};
+ghost use Rattle.traces.specs.declared.header.Header.{Header as HeaderValue};
+ghost use Rattle.traces.specs.Header.{IsHeader, command_id, command_ring, shape_of};
+ghost use Rattle.controller_model.specs.Following.{HasRoom, IsWell};
+ghost use Rattle.ring_knowledge.specs.Completions.{completed, finished, stop_ended};
+ghost use Rattle.ring_knowledge.specs.Known.{Known};
+ghost use Rattle.ring_knowledge.specs.Rings.{next_command, on_ring};
+ghost use Rattle.ring_finder.specs.Finding.{IsFinder};
+ghost use Rattle.ring_finder.specs.RecordsOfRings.{FollowsRings};
+ghost use Rattle.device_record.specs.Devices.{FollowsDevices};
+ghost use Rattle.ownership_rules.specs.Events.{is_impossible_completion};
+ghost use Rattle.range_words.specs.Holding.{HoldsAreas};
+ghost use Rattle.safety.specs.Keeps.{DriverKeeps};
+ghost use Rattle.safety.specs.Placings.{MayChangeAll};
+ghost use Rattle.trace_record.specs.FollowsTrace.{FollowsTrace, device_contexts};
+ghost use Rattle.trace_record.specs.Premises.{IsSetUp};
+ghost use Rattle.command_ends.specs.Places.{AreSlots, FollowsPlaces, HasWords, IsNextGiven, succeeded_if};
+
+use crate::next::next_command;
+use crate::success::succeed;
+use commands::Command;
+use device_record::DeviceRecord;
+use guest_memory::WordMemory;
+use range_words::Areas;
+use ring_finder::Finder;
+use ring_knowledge::RingRecord;
+use trace_record::TraceRecord;
+use traces::Header;
+use trb::Block;
+
+/// Notes the end of the next command: what its success does, that its contexts are let go, and that the controller is behind it.
+pub fn finish<M: WordMemory>(
+    header: &Header,
+    finder: &Finder,
+    t: &mut TraceRecord,
+    memory: &M,
+    block: Block,
+)
+    requires headed { IsHeader header.now }
+    requires found { IsFinder header.now.rings finder.now }
+    ensures followed { (k : Known) → FollowsTrace header.now k t.old (M.words memory.now) → DriverKeeps header.now k → IsSetUp header.now k →
+        is_impossible_completion header.now k block ≡ false → FollowsTrace header.now (completed header.now k block) t.new (M.words memory.now) }
+    ensures events { t.new.events ≡ t.old.events }
+{
+    let Some(command) = next_command(header, finder, t) else {
+        return;
+    };
+    leave_context(&mut t.contexts, &t.devices, &command, block);
+    end_command(
+        header,
+        finder,
+        &mut t.rings,
+        &mut t.devices,
+        memory,
+        &command,
+        block,
+    );
+    leave_input(&mut t.inputs, &command);
+    t.commands.finish(&command);
+    pass_next(header, finder, &mut t.rings);
+}
+
+/// What the end of the command does to rings and devices: its changes, if it succeeded, and that a stop has come to its end.
+fn end_command<M: WordMemory>(
+    header: &Header,
+    finder: &Finder,
+    rings: &mut Vec<RingRecord>,
+    devices: &mut DeviceRecord,
+    memory: &M,
+    command: &Command,
+    block: Block,
+)
+    requires headed { IsHeader header.now }
+    requires found { IsFinder header.now.rings finder.now }
+    requires well { IsWell command.now }
+    ensures { (k : Known) → FollowsPlaces header.now k rings.old.items devices.old → HasWords k (M.words memory.now) →
+        MayChangeAll header.now command.now k (changes header.now.context_size k.memory (slot block) command.now) → HasRoom header.now.context_size command.now →
+        FollowsPlaces header.now (finished header.now k block (Some command.now)) rings.new.items devices.new }
+{
+    succeed_by(header, finder, rings, devices, memory, command, block);
+    end_stop(devices, command);
+}
+
+/// The changes of the command, if it succeeded.
+fn succeed_by<M: WordMemory>(
+    header: &Header,
+    finder: &Finder,
+    rings: &mut Vec<RingRecord>,
+    devices: &mut DeviceRecord,
+    memory: &M,
+    command: &Command,
+    block: Block,
+)
+    requires headed { IsHeader header.now }
+    requires found { IsFinder header.now.rings finder.now }
+    requires well { IsWell command.now }
+    ensures { (k : Known) → FollowsPlaces header.now k rings.old.items devices.old → HasWords k (M.words memory.now) →
+        MayChangeAll header.now command.now k (changes header.now.context_size k.memory (slot block) command.now) → HasRoom header.now.context_size command.now →
+        FollowsPlaces header.now (succeeded_if header.now k block command.now) rings.new.items devices.new }
+{
+    if block.code() == 1 {
+        succeed(
+            header,
+            finder,
+            rings,
+            devices,
+            memory,
+            command,
+            block.slot(),
+        );
+    }
+}
+
+/// A Stop Endpoint has come to its end, whatever its code (xHCI 4.6.9).
+fn end_stop(devices: &mut DeviceRecord, command: &Command)
+    requires { IsWell command.now }
+    ensures { (h : HeaderValue) (k : Known) → FollowsDevices k devices.old → FollowsDevices (stop_ended h k command.now) devices.new }
+{
+    match *command {
+        Command::StopEndpoint { slot, endpoint } => devices.end_stop(slot, endpoint),
+        _ => {}
+    }
+}
+
+/// The device context of a slot that is disabled is no longer under lease (xHCI 4.6.4).
+fn leave_context(contexts: &mut Areas, devices: &DeviceRecord, command: &Command, block: Block)
+    ensures { (h : HeaderValue) (k : Known) (n : ℕ) → FollowsDevices k devices.now → AreSlots k → HoldsAreas n (device_contexts k) contexts.old →
+        HoldsAreas n (device_contexts (finished h k block (Some command.now))) contexts.new }
+{
+    if block.code() != 1 {
+        return;
+    }
+    let Command::DisableSlot { slot } = *command else {
+        return;
+    };
+    if let Some(address) = devices.device(slot) {
+        contexts.remove(address);
+    }
+}
+
+/// The input context of a command that has ended is no longer under lease (xHCI 4.6).
+fn leave_input(inputs: &mut Areas, command: &Command)
+    ensures { (n : ℕ) (rest : List ℕ) → HoldsAreas n (cons_option (named_context command.now) rest) inputs.old → HoldsAreas n rest inputs.new }
+{
+    if let Some(address) = command.input_context() {
+        inputs.remove(address);
+    }
+}
+
+/// The controller's dequeue pointer is behind the next command.
+fn pass_next(header: &Header, finder: &Finder, rings: &mut Vec<RingRecord>)
+    requires headed { IsHeader header.now }
+    requires found { IsFinder header.now.rings finder.now }
+    ensures { (k : Known) → FollowsRings header.now k rings.old.items → is_some (command_ring header.now) ≡ true → IsNextGiven header.now k →
+        FollowsRings header.now (on_ring header.now k (command_id header.now) (Reaches (after (shape_of header.now (command_id header.now)) (next_command header.now k)))) rings.new.items }
+{
+    let Some(number) = finder.commands else {
+        return;
+    };
+    let all = header.rings.as_slice();
+    let ring = &all[number];
+    if let Some(known) = rings.get_mut(number) {
+        let next = known.floor();
+        known.pass(&ring.shape, next);
+    }
+}

@@ -1,0 +1,14 @@
+//! Command Completion Events: which of them are impossible, and what the others end (xHCI 4.5.3, 4.6, 4.8.3).
+#![tactic(auto)]
+
+mod ending;
+mod impossible;
+mod next;
+mod placing;
+mod possible;
+mod rings;
+mod success;
+
+pub use ending::finish;
+pub use impossible::is_impossible_completion;
+pub use next::next_command;

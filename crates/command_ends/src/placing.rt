@@ -1,0 +1,167 @@
+//! An endpoint is placed on a ring (xHCI 4.6.5, 4.6.6, 4.6.10).
+ghost use Rattle.std.specs.Prelude.{◌≡◌, ◌+◌, ◌<◌, ◌≤◌};
+ghost use Rattle.commands.specs.declared.command.Command.{Command};
+ghost use Rattle.commands.specs.declared.state.EndpointState.TheVariants.{Stopped};
+ghost use Rattle.commands.specs.Changes.{Places, placed_by_context};
+ghost use Rattle.traces.specs.Header.{IsHeader, ring_beginning_at};
+ghost use Rattle.controller_model.specs.Following.{places_from};
+ghost use Rattle.ring_knowledge.specs.Completions.{changed_by, changed_by_all, pointed};
+ghost use Rattle.ring_knowledge.specs.Known.{Known};
+ghost use Rattle.ring_finder.specs.Finding.{IsFinder};
+ghost use Rattle.ring_finder.specs.RecordsOfRings.{FollowsRings};
+ghost use Rattle.device_record.specs.Devices.{FollowsDevices};
+ghost use Rattle.safety.specs.Placings.{MayChange, MayChangeAll, MayPoint};
+ghost use Rattle.command_ends.specs.Places.{FollowsPlaces, HasDone};
+
+use crate::rings::{begin_ring, move_ring};
+use commands::EndpointState;
+use contexts::InputContext;
+use device_record::DeviceRecord;
+use guest_memory::WordMemory;
+use ring_finder::Finder;
+use ring_knowledge::RingRecord;
+use traces::Header;
+
+/// Where the ring of an endpoint is set: to a pointer, with a cycle state; and the endpoint's state from then on.
+#[derive(Clone, Copy)]
+pub(crate) struct Placing {
+    pub(crate) slot: u8,
+    pub(crate) index: u8,
+    pub(crate) pointer: u64,
+    pub(crate) cycle: bool,
+    pub(crate) state: EndpointState,
+}
+
+impl Placing {
+    /// The endpoint is Stopped from then on (xHCI 4.6.10).
+    pub(crate) fn stopped(slot: u8, index: u8, pointer: u64, cycle: bool) -> Placing
+        ensures { result ≡ record { slot = slot; index = index; pointer = pointer; cycle = cycle; state = Stopped } }
+    {
+        Placing {
+            slot,
+            index,
+            pointer,
+            cycle,
+            state: EndpointState::Stopped,
+        }
+    }
+}
+
+/// An endpoint is placed: a Disabled one gets the ring that begins at the pointer, any other has its own moved there.
+pub(crate) fn place(
+    header: &Header,
+    finder: &Finder,
+    rings: &mut Vec<RingRecord>,
+    devices: &mut DeviceRecord,
+    placing: Placing,
+)
+    requires headed { IsHeader header.now }
+    requires found { IsFinder header.now.rings finder.now }
+    requires index { placing.index < 32 }
+    ensures { (c : Command) (k : Known) → FollowsPlaces header.now k rings.old.items devices.old →
+        MayPoint header.now k placing.slot placing.index placing.pointer placing.cycle →
+        FollowsPlaces header.now (changed_by header.now c k (Places placing.slot placing.index placing.pointer placing.cycle placing.state)) rings.new.items devices.new }
+{
+    let beginning = finder.ring_beginning_at(header, placing.pointer);
+    point_ring(header, finder, rings, devices, placing, beginning);
+    devices.place(placing.slot, placing.index, beginning, placing.state);
+}
+
+/// The part of the rings.
+fn point_ring(
+    header: &Header,
+    finder: &Finder,
+    rings: &mut Vec<RingRecord>,
+    devices: &DeviceRecord,
+    placing: Placing,
+    beginning: Option<u8>,
+)
+    requires headed { IsHeader header.now }
+    requires found { IsFinder header.now.rings finder.now }
+    requires begins { beginning ≡ ring_beginning_at header.now placing.pointer }
+    ensures { (k : Known) → FollowsRings header.now k rings.old.items → FollowsDevices k devices.now →
+        MayPoint header.now k placing.slot placing.index placing.pointer placing.cycle →
+        FollowsRings header.now (pointed header.now k placing.slot placing.index placing.pointer placing.cycle) rings.new.items }
+{
+    match devices.endpoint_state(placing.slot, placing.index) {
+        EndpointState::Disabled => begin_ring(header, finder, rings, beginning),
+        _ => {
+            let own = devices.ring_of(placing.slot, placing.index);
+            move_ring(header, finder, rings, own, placing.pointer, placing.cycle);
+        }
+    }
+}
+
+/// The endpoints that an input context adds are placed, in order (xHCI 4.6.6).
+pub(crate) fn add_endpoints<M: WordMemory>(
+    header: &Header,
+    finder: &Finder,
+    rings: &mut Vec<RingRecord>,
+    devices: &mut DeviceRecord,
+    input: &InputContext<'_, M>,
+    slot: u8,
+)
+    requires headed { IsHeader header.now }
+    requires found { IsFinder header.now.rings finder.now }
+    ensures { (c : Command) (k : Known) → FollowsPlaces header.now k rings.old.items devices.old →
+        MayChangeAll header.now c k (places_from input.now.size (M.words input.now.memory) slot input.now.address 2) →
+        FollowsPlaces header.now (changed_by_all header.now c k (places_from input.now.size (M.words input.now.memory) slot input.now.address 2)) rings.new.items devices.new }
+{
+    for index in 2..32 {
+        add_endpoint(header, finder, rings, devices, input, slot, index);
+    }
+}
+
+/// One endpoint is placed, if the input context adds it.
+fn add_endpoint<M: WordMemory>(
+    header: &Header,
+    finder: &Finder,
+    rings: &mut Vec<RingRecord>,
+    devices: &mut DeviceRecord,
+    input: &InputContext<'_, M>,
+    slot: u8,
+    index: u8,
+)
+    requires headed { IsHeader header.now }
+    requires found { IsFinder header.now.rings finder.now }
+    requires first { 1 ≤ index }
+    requires last { index < 32 }
+    ensures { (c : Command) (k : Known) → FollowsPlaces header.now k rings.old.items devices.old →
+        MayChangeAll header.now c k (places_from input.now.size (M.words input.now.memory) slot input.now.address index) →
+        HasDone header.now c k
+        (places_from input.now.size (M.words input.now.memory) slot input.now.address index)
+        (places_from input.now.size (M.words input.now.memory) slot input.now.address (index + 1)) rings.new.items devices.new }
+{
+    if input.adds(index) {
+        place_by_context(header, finder, rings, devices, input, slot, index);
+    }
+}
+
+/// An endpoint is Running, on the ring that its context names.
+pub(crate) fn place_by_context<M: WordMemory>(
+    header: &Header,
+    finder: &Finder,
+    rings: &mut Vec<RingRecord>,
+    devices: &mut DeviceRecord,
+    input: &InputContext<'_, M>,
+    slot: u8,
+    index: u8,
+)
+    requires headed { IsHeader header.now }
+    requires found { IsFinder header.now.rings finder.now }
+    requires first { 1 ≤ index }
+    requires last { index < 32 }
+    ensures { (c : Command) (k : Known) → FollowsPlaces header.now k rings.old.items devices.old →
+        MayChange header.now k (placed_by_context input.now.size (M.words input.now.memory) slot input.now.address index) →
+        FollowsPlaces header.now (changed_by header.now c k (placed_by_context input.now.size (M.words input.now.memory) slot input.now.address index)) rings.new.items devices.new }
+{
+    let context = input.endpoint(index);
+    let placing = Placing {
+        slot,
+        index,
+        pointer: context.pointer,
+        cycle: context.dcs,
+        state: EndpointState::Running,
+    };
+    place(header, finder, rings, devices, placing);
+}

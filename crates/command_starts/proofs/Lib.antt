@@ -1,0 +1,7 @@
+pub mod WordsOutside
+pub mod NotedRings
+pub mod Inserting
+pub mod Taking
+pub mod SlotLists
+pub mod GivenNow
+pub mod Followed

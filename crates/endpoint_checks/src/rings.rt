@@ -1,0 +1,40 @@
+//! The rings of endpoints and their records.
+ghost use Rattle.std.specs.Prelude.{◌≡◌, ◌<◌, ℕ, List, None, Some, length, slice_get, IfSome};
+ghost use Rattle.segments.specs.RingView.{Opens};
+ghost use Rattle.traces.specs.Header.{IsHeader};
+ghost use Rattle.traces.specs.declared.header.Header.{Header as HeaderValue};
+ghost use Rattle.traces.specs.declared.ring.Ring.{Ring as RingValue};
+ghost use Rattle.ring_knowledge.specs.Known.{Known};
+ghost use Rattle.ring_knowledge.specs.Rings.{on_ring};
+ghost use Rattle.device_record.specs.Devices.{FollowsDevices};
+ghost use Rattle.ring_finder.specs.Finding.{IsFinder};
+ghost use Rattle.ring_finder.specs.RecordsOfRings.{FollowsRings};
+ghost use Rattle.endpoint_checks.specs.Numbers.{number_of};
+
+use device_record::DeviceRecord;
+use ring_finder::Finder;
+use ring_knowledge::RingRecord;
+
+/// The number of an endpoint's ring in the header.
+pub fn endpoint_ring(finder: &Finder, devices: &DeviceRecord, slot: u8, index: u8) -> Option<usize>
+    ensures value { (rings : List RingValue) (k : Known) → IsFinder rings finder.now → FollowsDevices k devices.now → result ≡ number_of rings (k.ring_of slot index) }
+    ensures below { (rings : List RingValue) → IsFinder rings finder.now → IfSome result (λ number. number < length rings) }
+{
+    match devices.ring_of(slot, index) {
+        Some(id) => finder.ring_named(id),
+        None => None,
+    }
+}
+
+/// Opens the ring with this number, if there is one.
+pub fn open_ring(records: &mut Vec<RingRecord>, number: Option<usize>)
+    ensures opened { (h : HeaderValue) (k : Known) (n : ℕ) (ring : RingValue) → IsHeader h → number ≡ Some n → slice_get h.rings n ≡ Some ring →
+        FollowsRings h k records.old.items → FollowsRings h (on_ring h k ring.id Opens) records.new.items }
+    ensures none { number ≡ None → records.new.items ≡ records.old.items }
+{
+    if let Some(number) = number {
+        if let Some(record) = records.get_mut(number) {
+            record.open();
+        }
+    }
+}
