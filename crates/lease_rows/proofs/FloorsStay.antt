@@ -1,0 +1,192 @@
+-- The changes that leave the number of each ring's floor as it is
+use Rattle.std.specs.Prelude.{◌≡◌, ℕ, suc, ◌+◌, ◌-◌, ◌≤◌, ◌&&◌, ◌||◌, Bool, true, false, List, [], ◌∷◌, map, find, All, Option, None, Some}
+use Rattle.std.specs.List.{list_any, range_with_len, flat_map}
+use Rattle.std.proofs.Common.{arith, refl, sym, ◌∙◌, ap, subst, get_or, inl, inr}
+use Rattle.std.proofs.lemmas.Bool.{cases_Bool, cond_both, cond-true, cond-false, or_parts, false≢true}
+use Rattle.std.proofs.lemmas.Option.{same_Some}
+use Rattle.std.proofs.lemmas.List.Elements.{All-head, All-tail}
+use Rattle.segments.specs.declared.spot.Spot.{Spot}
+use Rattle.segments.specs.declared.spot.Spot.TheVariants.{Data, Link}
+use Rattle.segments.specs.ShapeValue.{Shape}
+use Rattle.segments.specs.Spots.{number}
+use Rattle.segments.specs.RingView.{RingView, Reaches, Holds, declared, floor_number}
+use Rattle.segments.specs.Ceiling.{ceiling}
+use Rattle.segments.specs.Moves.{is_target, may_move_to, spots_between, target, is_move}
+use Rattle.segments.proofs.Reaching.{floor_given, given_count_declared}
+use Rattle.contexts.specs.Contexts.{context_pointer, context_cycle}
+use Rattle.commands.specs.declared.command.Command.{Command}
+use Rattle.commands.specs.declared.command.Command.TheVariants.{AddressDevice}
+use Rattle.commands.specs.declared.state.EndpointState.TheVariants.{Stopped}
+use Rattle.commands.specs.States.{is_off}
+use Rattle.commands.specs.Changes.{Change, SlotGoesOn, DeviceLeft, Disables, Places, Stops, Resets, placed_by_context}
+use Rattle.traces.specs.declared.header.Header.{Header}
+use Rattle.traces.specs.Header.{IsHeader, shape_of, is_ring, ring_beginning_at}
+use Rattle.ring_knowledge.specs.Known.{Known}
+use Rattle.ring_knowledge.specs.Rings.{on_ring}
+use Rattle.ring_knowledge.specs.Completions.{set_to, bound_to, moved_to, moved, pointed, disabled, in_state, held_at_ceiling, changed_by, changed_by_all}
+use Rattle.ownership_rules.specs.Moves.{has_repeats, is_among}
+use Rattle.safety.specs.Keeps.{DriverKeeps}
+use Rattle.safety.specs.Placings.{MayChangeAll, StillHolds}
+use Rattle.safety.proofs.Headers.{ring_shape, transfer_driver}
+use Rattle.safety.proofs.Placings.{Ready, ring_at, the_some, ready_next}
+use Rattle.safety.proofs.SameDriver.{view_after}
+use Rattle.safety.proofs.TestsPassed.{each_fails, any_of_map}
+
+-- ---- a pointer and a cycle state that name a spot at the floor's number
+
+find_here : (test : Spot → Bool) (u t : Spot) (rest : List Spot) → find test (u ∷ rest) ≡ Some t → test u ≡ true → u ≡ t
+find_here test u t rest found here = same_Some u t (sym (cond-true (test u) (Some u) (find test rest) here) ∙ found)
+
+find_later : (test : Spot → Bool) (u t : Spot) (rest : List Spot) → find test (u ∷ rest) ≡ Some t → test u ≡ false → find test rest ≡ Some t
+find_later test u t rest found none = sym (cond-false (test u) (Some u) (find test rest) none) ∙ found
+
+either_found : (test more : Spot → Bool) (u v t : Spot) (rest : List Spot) → ((test u && more u) || ((test v && more v) || false)) ≡ true → find test (u ∷ v ∷ rest) ≡ Some t →
+    number u ≡ number v → number t ≡ number u
+either_found test more u v t rest some found same = elim (cases_Bool (test u)) [
+  | inl here ↦ ap number (sym (find_here test u t (v ∷ rest) found here))
+  | inr none ↦ elim (cases_Bool (test v)) [
+    | inl there ↦ ap number (sym (find_here test v t rest (find_later test u t (v ∷ rest) found none) there)) ∙ sym same
+    | inr neither ↦ absurd (fails (test u) (more u) (test v) (more v) none neither some)
+  ]
+]
+  where
+    fails : (a b c d : Bool) → a ≡ false → c ≡ false → ((a && b) || ((c && d) || false)) ≡ true → ⊥
+    fails true b c d e f g = false≢true (sym e)
+    fails false b true d e f g = false≢true (sym f)
+    fails false b false d e f g = false≢true g
+
+first_found : (test more : Spot → Bool) (f n : ℕ) (t : Spot) → list_any (λ u. test u && more u) (flat_map (λ q. Link q ∷ Data q ∷ []) (range_with_len f 1)) ≡ true →
+    find test (flat_map (λ q. Link q ∷ Data q ∷ []) (range_with_len f (suc n))) ≡ Some t → number t ≡ f
+first_found test more f n t some found = either_found test more (Link f) (Data f) t (flat_map (λ q. Link q ∷ Data q ∷ []) (range_with_len (f + 1) n)) some found refl
+
+-- where the spots at the floor's number pass the test of a move, the target is one of them
+target_here : (shape : Shape) (v : RingView) (p : ℕ) (cycle : Bool) (t : Spot) → floor_number v ≤ declared v → is_move shape v p cycle (floor_number v) (floor_number v) ≡ true →
+    target shape v p cycle ≡ Some t → number t ≡ floor_number v
+unfolding is_move target spots_between
+target_here shape v p cycle t low moves named =
+    let f : ℕ = floor_number v in
+    let one : f + 1 - f ≡ 1 = omega arith in
+    let many : declared v + 1 - f ≡ suc (declared v - f) = omega (arith, low) in
+    first_found (is_target shape p cycle) (may_move_to shape v) f (declared v - f) t
+    (subst (λ n. list_any (λ u. is_target shape p cycle u && may_move_to shape v u) (flat_map (λ q. Link q ∷ Data q ∷ []) (range_with_len f n)) ≡ true) one moves)
+    (subst (λ n. find (is_target shape p cycle) (flat_map (λ q. Link q ∷ Data q ∷ []) (range_with_len f n)) ≡ Some t) many named)
+
+-- ---- what leaves the floors' numbers
+
+abbrev pub FloorsStay : Known → Known → Type 0
+FloorsStay k l = (r : ℕ) → floor_number (l.ring r) ≡ floor_number (k.ring r)
+
+pub stay_none : (k : Known) → FloorsStay k k
+stay_none k r = refl
+
+pub stay_twice : (k l m : Known) → FloorsStay k l → FloorsStay l m → FloorsStay k m
+stay_twice k l m a b r = b r ∙ a r
+
+module _ (h : Header) where
+  -- an endpoint that is off gets a ring whose pointer hasn't moved yet; any other one keeps its ring where it is
+  pub record StaysHere (k : Known) (s i p : ℕ) (cycle : Bool) : Type 0 where
+    pub binds : is_off (k.endpoint_state s i) ≡ true → (r : ℕ) → ring_beginning_at h p ≡ Some r → floor_number (k.ring r) ≡ 0
+    pub moves : is_off (k.endpoint_state s i) ≡ false → (r : ℕ) (t : Spot) → k.ring_of s i ≡ Some r → target (shape_of h r) (k.ring r) p cycle ≡ Some t → number t ≡ floor_number (k.ring r)
+
+  abbrev pub ChangeStays : Known → Change → Type 0
+  ChangeStays k (Places s i p cycle state) = StaysHere k s i p cycle
+  ChangeStays k (SlotGoesOn s) = Unit {0}
+  ChangeStays k (DeviceLeft s) = Unit {0}
+  ChangeStays k (Disables s which) = Unit {0}
+  ChangeStays k (Stops s i) = Unit {0}
+  ChangeStays k (Resets s i) = Unit {0}
+
+  abbrev pub ChangesStay : Command → Known → List Change → Type 0
+  ChangesStay c k [] = Unit {0}
+  ChangesStay c k (change ∷ rest) = ChangeStays k change × ChangesStay c (changed_by h c k change) rest
+
+  reach_stays : (k : Known) (r : ℕ) (t : Spot) → number t ≡ floor_number (k.ring r) → FloorsStay k (on_ring h k r (Reaches t))
+  reach_stays k r t here q =
+      view_after h (λ v. floor_number v ≡ floor_number (k.ring q)) k r (Reaches t) q (λ same. here ∙ ap (λ n. floor_number (k.ring n)) (sym same)) (λ _. refl)
+
+  pub hold_stays : (k : Known) (r n : ℕ) → FloorsStay k (on_ring h k r (Holds n))
+  hold_stays k r n q = view_after h (λ v. floor_number v ≡ floor_number (k.ring q)) k r (Holds n) q (λ same. ap (λ n. floor_number (k.ring n)) (sym same)) (λ _. refl)
+
+  set_stays : (k : Known) (r : ℕ) (t : Spot) → number t ≡ floor_number (k.ring r) → FloorsStay k (set_to h k r t)
+  unfolding set_to
+  set_stays k r t here =
+      let l : Known = on_ring h k r (Reaches t) in stay_twice k l (on_ring h l r (Holds (number t))) (reach_stays k r t here) (hold_stays l r (number t))
+
+  bound_stays : (k : Known) (s i : ℕ) (o : Option ℕ) → ((r : ℕ) → o ≡ Some r → floor_number (k.ring r) ≡ 0) → FloorsStay k (bound_to h k s i o)
+  unfolding bound_to
+  bound_stays k s i None new = stay_none k
+  bound_stays k s i (Some r) new = set_stays k r (Data 0) (sym (new r refl))
+
+  target_stays : (k : Known) (r : ℕ) (o : Option Spot) → ((t : Spot) → o ≡ Some t → number t ≡ floor_number (k.ring r)) → FloorsStay k (moved_to h k r o)
+  unfolding moved_to
+  target_stays k r None here = stay_none k
+  target_stays k r (Some t) here = set_stays k r t (here t refl)
+
+  moved_stays : (k : Known) (o : Option ℕ) (p : ℕ) (cycle : Bool) → ((r : ℕ) (t : Spot) → o ≡ Some r → target (shape_of h r) (k.ring r) p cycle ≡ Some t → number t ≡ floor_number (k.ring r)) →
+      FloorsStay k (moved h k o p cycle)
+  unfolding moved
+  moved_stays k None p cycle here = stay_none k
+  moved_stays k (Some r) p cycle here = target_stays k r (target (shape_of h r) (k.ring r) p cycle) (λ t at. here r t refl at)
+
+  pointed_stays : (k : Known) (s i p : ℕ) (cycle : Bool) → StaysHere k s i p cycle → FloorsStay k (pointed h k s i p cycle)
+  unfolding pointed
+  pointed_stays k s i p cycle stays =
+      cond_both (is_off (k.endpoint_state s i)) (bound_to h k s i (ring_beginning_at h p)) (moved h k (k.ring_of s i) p cycle) (FloorsStay k)
+      (λ off. bound_stays k s i (ring_beginning_at h p) (stays.binds off)) (λ on. moved_stays k (k.ring_of s i) p cycle (stays.moves on))
+
+  held_stays : (k : Known) (o : Option ℕ) → FloorsStay k (held_at_ceiling h k o)
+  unfolding held_at_ceiling
+  held_stays k None = stay_none k
+  held_stays k (Some r) = hold_stays k r (ceiling (shape_of h r) (k.ring r))
+
+  change_stays : (c : Command) (k : Known) (change : Change) → ChangeStays k change → FloorsStay k (changed_by h c k change)
+  unfolding changed_by disabled in_state
+  change_stays c k (SlotGoesOn s) stays = λ r. refl
+  change_stays c k (DeviceLeft s) stays = λ r. refl
+  change_stays c k (Disables s which) stays = λ r. refl
+  change_stays c k (Places s i p cycle state) stays = pointed_stays k s i p cycle stays
+  change_stays c k (Stops s i) stays = held_stays (in_state h k s i Stopped) (k.ring_of s i)
+  change_stays c k (Resets s i) stays = λ r. refl
+
+  pub changes_stay : (c : Command) (k : Known) (all : List Change) → ChangesStay c k all → FloorsStay k (changed_by_all h c k all)
+  unfolding changed_by_all
+  changes_stay c k [] stay = stay_none k
+  changes_stay c k (change ∷ rest) stay =
+      let l : Known = changed_by h c k change in stay_twice k l (changed_by_all h c l rest) (change_stays c k change stay.0) (changes_stay c l rest stay.1)
+
+  -- ---- Configure Endpoint: each endpoint that is added is off
+
+  pub each_stays : (is : IsHeader h) (c : Command) (memory : ℕ → ℕ) (s a : ℕ) (indices : List ℕ) (l : Known) → All (Ready h is l memory s a) indices →
+      has_repeats (map (ring_at h is memory a) indices) ≡ false → MayChangeAll h c l (map (placed_by_context h.context_size memory s a) indices) →
+      ChangesStay c l (map (placed_by_context h.context_size memory s a) indices)
+  unfolding has_repeats is_among
+  each_stays is c memory s a [] l ready apart may = tt
+  each_stays is c memory s a (i ∷ rest) l ready apart may =
+      let here : Ready h is l memory s a i = All-head (Ready h is l memory s a) i rest ready in
+      let later : All (Ready h is l memory s a) rest = All-tail (Ready h is l memory s a) i rest ready in
+      let some = the_some h is (ring_at h is memory a i) here.named in
+      let r : ℕ = some.0 in
+      let parts = or_parts (is_among (map (ring_at h is memory a) rest) (ring_at h is memory a i)) (has_repeats (map (ring_at h is memory a) rest)) apart in
+      let none : list_any (is_ring r) (map (ring_at h is memory a) rest) ≡ false = sym (ap (is_among (map (ring_at h is memory a) rest)) some.1) ∙ parts.0 in
+      let others : All (λ j. is_ring r (ring_at h is memory a j) ≡ false) rest =
+      each_fails (λ j. is_ring r (ring_at h is memory a j)) rest (sym (any_of_map (is_ring r) (ring_at h is memory a) rest) ∙ none) in
+      let change : Change = placed_by_context h.context_size memory s a i in (
+        record {
+          binds = may.0.binds;
+          moves = λ on q t at named. absurd (false≢true (sym on ∙ here.off));
+        },
+        each_stays is c memory s a rest (changed_by h c l change) (λ x d inside. ready_next h is c l memory s a i r (get_or rest x d) here.off some.1 (later x d inside) (others x d inside)) parts.1 may.1,
+      )
+
+  -- ---- Address Device: a second one moves its ring nowhere
+
+  pub address_stays : IsHeader h → (k : Known) → DriverKeeps h k → (s n : ℕ) (bsr : Bool) → StillHolds h k (AddressDevice s bsr n) → (r : ℕ) (t : Spot) →
+      is_off (k.endpoint_state s 1) ≡ false → k.ring_of s 1 ≡ Some r →
+      target (shape_of h r) (k.ring r) (context_pointer h.context_size k.memory n 1) (context_cycle h.context_size k.memory n 1) ≡ Some t → number t ≡ floor_number (k.ring r)
+  address_stays is k d s n bsr still r t on has named =
+      let driver = transfer_driver h r (d.states.transfer s 1 r has) in
+      let allowed = (ring_shape h is r driver).is in
+      let low = floor_given (shape_of h r) allowed k.memory (k.ring r) (d.rings r driver) in
+      let high = given_count_declared (shape_of h r) allowed k.memory (k.ring r) (d.rings r driver) in
+      target_here (shape_of h r) (k.ring r) (context_pointer h.context_size k.memory n 1) (context_cycle h.context_size k.memory n 1) t (omega (arith, low, high))
+      (still.moves_on on r has) named

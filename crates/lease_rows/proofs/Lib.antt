@@ -1,0 +1,12 @@
+pub mod EventSegments
+pub mod OtherRows
+pub mod TakenRanges
+pub mod WordsApart
+pub mod GivenHere
+pub mod RowWrites
+pub mod TransferRows
+pub mod EndedRanges
+pub mod CompletionRows
+pub mod EntriesFit
+pub mod FloorsStay
+pub mod FloorsMove

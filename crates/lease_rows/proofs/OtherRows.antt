@@ -1,0 +1,159 @@
+-- What is lent after a clean declaration, doorbell or register write
+use Rattle.std.proofs.Common.{◌≡◌, ℕ, ◌+◌, ◌<◌, ◌≤◌, List, [], ◌∷◌, Bool, true, false, None, Some, Option, Result, Ok, Err, refl, ap, sym, ◌∙◌, inl, inr, subst, length}
+use Rattle.std.specs.Prelude.{OnOk, ◌≢◌, ◌⊎◌, ◌||◌, is_some, nat_le, nat_lt}
+use Rattle.std.proofs.lemmas.Bool.{and_from, le-leb, lt-ltb}
+use Rattle.trb.specs.declared.block.Block.{Block as Trb}
+use Rattle.event_ring.specs.EventRing.{table_bytes}
+use Rattle.segments.specs.Places.{place_count}
+use Rattle.segments.specs.RingView.{due_positions, floor_number}
+use Rattle.traces.specs.declared.ring.Ring.{Ring}
+use Rattle.traces.specs.declared.header.Header.{Header}
+use Rattle.traces.specs.declared.row.Row.{Row}
+use Rattle.traces.specs.declared.row.Row.TheVariants.{Sub, Write, Reg, Bell, Read}
+use Rattle.traces.specs.declared.register.Register.{Register}
+use Rattle.traces.specs.declared.register.Register.TheVariants.{Usbcmd, Usbsts, Dnctrl, Crcr, Dcbaap, Config, Iman, Imod, Erstsz, Erstba, Erdp}
+use Rattle.traces.specs.Header.{IsHeader, command_id, driver_rings, event_shape, is_driver_kind, shape_of}
+use Rattle.traces.specs.Register.{base_address}
+use Rattle.ring_knowledge.specs.Known.{Known}
+use Rattle.ring_knowledge.specs.Learned.{learned, known}
+use Rattle.ring_knowledge.specs.Rings as rings
+use Rattle.ownership_rules.specs.Registers.{is_bad_register, is_written}
+use Rattle.ownership_rules.specs.Leases.{without_end}
+use Rattle.ownership_rules.specs.OpenLeases.{Range, SegmentTable, is_among, open_leases}
+use Rattle.ownership_rules.proofs.Among.{IsIn, from_filter, in_filter}
+use Rattle.safety.specs.Keeps.{DriverKeeps}
+use Rattle.safety.proofs.TestsPassed.{clean_tests}
+use Rattle.safety.proofs.CleanRows.{register_facts}
+use Rattle.safety.proofs.CommandRing.{due_has_ring}
+use Rattle.safety.proofs.DriverHistories.{driver_keeps}
+use Rattle.lease_book.specs.Lents.{Lent, lents, with_begun}
+use Rattle.lease_book.specs.Books.{HoldsLents}
+use Rattle.lease_book.specs.Ranges.{FindsRanges}
+use Rattle.lease_book.specs.declared.lease_book.LeaseBook.{LeaseBook}
+use Rattle.lease_book.specs.declared.ranges.RangeIndexes.{RangeIndexes}
+use Rattle.lease_book.proofs.Members.{from_range}
+use Rattle.lease_book.proofs.RangePlaces.{others_begin}
+use Rattle.lease_book.proofs.Rows.{nothing_new}
+use Rattle.lease_book.proofs.SameLeases.{bell_same, reg_same, sub_same}
+use Rattle.lease_book.proofs.TableAlone.{lent_table}
+use Rattle.lease_book.proofs.Writing.{AreShaped}
+use Rattle.ring_finder.proofs.HeaderRings.{shape_there}
+use Rattle.ring_finder.proofs.RingsApart.{IsAmong}
+use Rattle.trace_record.specs.declared.trace_record.TraceRecord.{TraceRecord}
+use Rattle.lease_rows.specs.CleanRows.{FollowsBook, HoldsAll, IsCleanRow, IsOtherRow}
+
+-- from what an answer promises to what follows
+pub on_more : {X E P Q : Type 0} (answer : Result X E) → (P → Q) → OnOk answer P → OnOk answer Q
+on_more (Ok x) f p = f p
+on_more (Err e) f p = p
+
+pub on_both : {X E P Q R : Type 0} (answer : Result X E) → (P → Q → R) → OnOk answer P → OnOk answer Q → OnOk answer R
+on_both (Ok x) f p q = f p q
+on_both (Err e) f p q = p
+
+pub in_rings : (q : Ring) (rs : List Ring) → IsIn q rs → IsAmong q rs
+in_rings q [] at = absurd at
+in_rings q (x ∷ rest) at = elim at [ inl here ↦ inl (sym here) | inr later ↦ inr (in_rings q rest later) ]
+
+from_rings : (q : Ring) (rs : List Ring) → IsAmong q rs → IsIn q rs
+from_rings q [] at = absurd at
+from_rings q (x ∷ rest) at = elim at [ inl here ↦ inl (sym here) | inr later ↦ inr (from_rings q rest later) ]
+
+pub among_drivers : (h : Header) (q : Ring) → IsAmong q h.rings → is_driver_kind q.shape.kind ≡ true → IsIn q (driver_rings h)
+unfolding driver_rings
+among_drivers h q among driver = in_filter (λ r. is_driver_kind r.shape.kind) h.rings q (from_rings q h.rings among) driver
+
+pub from_drivers : (h : Header) (q : Ring) → IsIn q (driver_rings h) → IsAmong q h.rings × (is_driver_kind q.shape.kind ≡ true)
+unfolding driver_rings
+from_drivers h q at = let found = from_filter (λ r. is_driver_kind r.shape.kind) h.rings q at in (in_rings q h.rings found.0, found.1)
+
+pub are_shaped : (h : Header) → IsHeader h → AreShaped h
+are_shaped h headed = λ q at. shape_there h headed q (from_drivers h q at).0
+
+-- a driver that has kept the rules keeps what it does
+pub driver_now : (h : Header) → IsHeader h → (first : ℕ) (past : List Row) (row : Row) (number : ℕ) (t : TraceRecord) (m : ℕ → ℕ) → IsCleanRow h first past row number t m → DriverKeeps h (known h past)
+driver_now h headed first past row number t m next = driver_keeps h headed past next.history (clean_tests h (known h past) row next.clean).0
+
+unwritten_before : (h : Header) (k : Known) (v : ℕ) → is_bad_register h k Erstba v ≡ false → k.register Erstba ≡ None
+unfolding is_bad_register is_written
+unwritten_before h k v fine = by k.started (k.register Erstba) _ _ fine
+  where
+    by : (s : Bool) (o : Option ℕ) (a b : Bool) → (s || is_some o || a || b) ≡ false → o ≡ None
+    by true o a b e = absurd (cc)
+    by false None a b e = refl
+    by false (Some x) a b e = absurd (cc)
+
+-- DCBAAP isn't written once a slot may have a device context
+no_device : (h : Header) (k : Known) (v : ℕ) → DriverKeeps h k → is_bad_register h k Dcbaap v ≡ false → (s : ℕ) → k.device s ≡ None
+unfolding is_bad_register
+no_device h k v d fine s = d.states.no_device s ((d.unstarted fine).slots s)
+
+array_rests : (h : Header) (k : Known) (r : Register) (v : ℕ) → DriverKeeps h k → is_bad_register h k r v ≡ false → (r ≢ Dcbaap) ⊎ ((s : ℕ) → k.device s ≡ None)
+array_rests h k Dcbaap v d fine = inr (no_device h k v d fine)
+array_rests h k Usbcmd v d fine = inl (λ e. cc)
+array_rests h k Usbsts v d fine = inl (λ e. cc)
+array_rests h k Dnctrl v d fine = inl (λ e. cc)
+array_rests h k Crcr v d fine = inl (λ e. cc)
+array_rests h k Config v d fine = inl (λ e. cc)
+array_rests h k Iman v d fine = inl (λ e. cc)
+array_rests h k Imod v d fine = inl (λ e. cc)
+array_rests h k Erstsz v d fine = inl (λ e. cc)
+array_rests h k Erstba v d fine = inl (λ e. cc)
+array_rests h k Erdp v d fine = inl (λ e. cc)
+
+-- a command that was given is declared
+declared_given : (h : Header) → IsHeader h → (k : Known) → DriverKeeps h k → (p : ℕ) → IsIn p (rings.unfinished_positions h k) → p < length (k.ring (command_id h)).queue
+unfolding rings.unfinished_positions due_positions
+declared_given h headed k d p at =
+    let v = k.ring (command_id h) in
+    let count : ℕ = place_count (shape_of h (command_id h)) in
+    let found = from_filter v.given (due_positions (shape_of h (command_id h)) v) p at in
+    let range = from_range (floor_number v) count p found.0 in
+    let ring = due_has_ring h headed v.floor p (and_from (nat_le (floor_number v) p) (nat_lt p (floor_number v + count)) (le-leb (floor_number v) p range.0) (lt-ltb p (floor_number v + count) range.1)) in
+    (d.rings (command_id h) ring).given_declared p found.1
+
+module _ (h : Header) (headed : IsHeader h) (first : ℕ) (past : List Row) where
+  -- the book still holds what is lent
+  pub held_still : (book : LeaseBook) (x : RangeIndexes) (row : Row) → lents h first (row ∷ past) ≡ lents h first past → FollowsBook h first past book x → FollowsBook h first (row ∷ past) book x
+  held_still book x row same held = subst (λ (ts : List Lent). HoldsAll h ts book x) (sym same) held
+
+  unchanged : (row : Row) → first + length (row ∷ past) ≤ without_end → open_leases h (learned h (known h past) row) ≡ open_leases h (known h past) → lents h first (row ∷ past) ≡ lents h first past
+  unchanged row room same = nothing_new h first past row room (λ l. ap (λ ls. is_among ls l) same)
+
+  module _ (number : ℕ) (t : TraceRecord) (m : ℕ → ℕ) where
+    pub lent_sub : (r : ℕ) (blocks : List Trb) → IsCleanRow h first past (Sub r blocks) number t m → lents h first (Sub r blocks ∷ past) ≡ lents h first past
+    lent_sub r blocks next = unchanged (Sub r blocks) next.room (sub_same h (known h past) r blocks (declared_given h headed (known h past) (driver_now h headed first past (Sub r blocks) number t m next)))
+
+    pub lent_bell : (s i : ℕ) → IsCleanRow h first past (Bell s i) number t m → lents h first (Bell s i ∷ past) ≡ lents h first past
+    lent_bell s i next = unchanged (Bell s i) next.room (bell_same h (known h past) s i)
+
+    pub lent_register : (r : Register) (v : ℕ) → (r ≢ Erstba) → IsCleanRow h first past (Reg r v) number t m → lents h first (Reg r v ∷ past) ≡ lents h first past
+    lent_register r v other next =
+        unchanged (Reg r v) next.room
+        (reg_same h (known h past) r v other (array_rests h (known h past) r v (driver_now h headed first past (Reg r v) number t m next) (register_facts h (known h past) r v next.clean).good))
+
+    -- the segment table comes under lease
+    table_lent : (v : ℕ) → IsCleanRow h first past (Reg Erstba v) number t m →
+        lents h first (Reg Erstba v ∷ past) ≡ with_begun number (lents h first past) (Range (table_bytes (event_shape h)) (base_address v) SegmentTable ∷ [])
+    table_lent v next =
+        lent_table h first past v next.room (unwritten_before h (known h past) v (register_facts h (known h past) Erstba v next.clean).good)
+        ∙ ap (λ n. with_begun n (lents h first past) (Range (table_bytes (event_shape h)) (base_address v) SegmentTable ∷ [])) (sym next.numbered)
+
+    pub table_begins : (r : Register) (v bytes : ℕ) (book : LeaseBook) (x : RangeIndexes) → r ≡ Erstba → bytes ≡ table_bytes (event_shape h) → IsCleanRow h first past (Reg r v) number t m →
+        HoldsLents h (with_begun number (lents h first past) (Range bytes (base_address v) SegmentTable ∷ [])) book → FindsRanges h (lents h first past) x → FollowsBook h first (Reg r v ∷ past) book x
+    table_begins r v bytes book x is same next held found =
+        let table : IsCleanRow h first past (Reg Erstba v) number t m = subst (λ (q : Register). IsCleanRow h first past (Reg q v) number t m) is next in
+        let there : HoldsLents h (with_begun number (lents h first past) (Range (table_bytes (event_shape h)) (base_address v) SegmentTable ∷ [])) book =
+        subst (λ (n : ℕ). HoldsLents h (with_begun number (lents h first past) (Range n (base_address v) SegmentTable ∷ [])) book) same held in
+        let after : HoldsAll h (with_begun number (lents h first past) (Range (table_bytes (event_shape h)) (base_address v) SegmentTable ∷ [])) book x =
+        record { held = there; found = others_begin h x number (Range (table_bytes (event_shape h)) (base_address v) SegmentTable) (lents h first past) (λ g y i. tt) found } in
+        subst (λ (q : Register). FollowsBook h first (Reg q v ∷ past) book x) (sym is) (subst (λ (ts : List Lent). HoldsAll h ts book x) (sym (table_lent v table)) after)
+
+    -- rows but those of registers
+    pub other_held : (book : LeaseBook) (x : RangeIndexes) (row : Row) → IsOtherRow row → ((r : Register) (v : ℕ) → row ≡ Reg r v → ⊥) → IsCleanRow h first past row number t m →
+        FollowsBook h first past book x → FollowsBook h first (row ∷ past) book x
+    other_held book x (Sub r blocks) other none next held = held_still book x (Sub r blocks) (lent_sub r blocks next) held
+    other_held book x (Write a w) other none next held = absurd other
+    other_held book x (Reg r v) other none next held = absurd (none r v refl)
+    other_held book x (Bell s i) other none next held = held_still book x (Bell s i) (lent_bell s i next) held
+    other_held book x (Read b) other none next held = absurd other

@@ -1,0 +1,16 @@
+use Rattle.std.proofs.Common.{◌*◌, ap}
+use Rattle.ownership_rules.specs.OpenLeases.{SegmentTable}
+use Rattle.lease_book.specs.Lents.{lents}
+use Rattle.lease_rows.proofs.OtherRows.{held_still, lent_register, on_more, table_begins}
+use Rattle.lease_rows.proofs.other_rows.note_table.Goals as goal
+
+pub returns-in-Erstba : goal.returns-in-Erstba
+returns-in-Erstba c =
+    on_more c.begin_range.result (λ begins. λ first past t memory ranges next all.
+    table_begins c.args.header.now c.requires first past c.args.number t memory c.args.register c.args.value _ _ ranges c.in-Erstba.is (ap (λ n. 16 * n) c.event_segments.ensures.exact) next
+    (begins c.args.header.now (lents c.args.header.now first past) SegmentTable all.held) all.found) c.begin_range.ensures.ok
+
+pub returns-in_default : goal.returns-in_default
+returns-in_default c = λ first past t memory ranges next all.
+    held_still c.args.header.now c.requires first past c.args.book.now ranges _
+    (lent_register c.args.header.now c.requires first past c.args.number t memory c.args.register c.args.value c.in_default.not-Erstba next) all

@@ -1,0 +1,40 @@
+-- A clean row behind a clean history, for the book of leases
+use Rattle.std.specs.Prelude.{◌≡◌, ℕ, ◌+◌, ◌≤◌, List, [], ◌∷◌, length}
+use Rattle.traces.specs.declared.header.Header.{Header}
+use Rattle.traces.specs.declared.row.Row.{Row}
+use Rattle.traces.specs.declared.row.Row.TheVariants.{Write, Read}
+use Rattle.ring_knowledge.specs.Learned.{known}
+use Rattle.ownership_rules.specs.Clean.{IsClean}
+use Rattle.ownership_rules.specs.Leases.{without_end}
+use Rattle.ownership_rules.specs.Rules.{broken}
+use Rattle.lease_book.specs.declared.lease_book.LeaseBook.{LeaseBook}
+use Rattle.lease_book.specs.declared.ranges.RangeIndexes.{RangeIndexes}
+use Rattle.lease_book.specs.Books.{HoldsLents}
+use Rattle.lease_book.specs.Lents.{Lent, lents}
+use Rattle.lease_book.specs.Ranges.{FindsRanges}
+use Rattle.trace_record.specs.declared.trace_record.TraceRecord.{TraceRecord}
+use Rattle.trace_record.specs.FollowsTrace.{FollowsTrace}
+
+-- behind rows none of which breaks a rule, the newest first, comes the row of this number, and breaks none: the record and the
+-- memory hold what is known before it; `first` is the number of the oldest row
+pub record IsCleanRow (h : Header) (first : ℕ) (past : List Row) (row : Row) (number : ℕ) (t : TraceRecord) (memory : ℕ → ℕ) : Type 0 where
+  pub numbered : number ≡ first + length past
+  pub room : first + length (row ∷ past) ≤ without_end
+  pub followed : FollowsTrace h (known h past) t memory
+  pub history : IsClean h past
+  pub clean : broken h (known h past) row ≡ []
+
+-- the row is a declaration, a doorbell or a register's
+abbrev pub IsOtherRow : Row → Type 0
+IsOtherRow (Write a w) = ⊥
+IsOtherRow (Read b) = ⊥
+IsOtherRow _ = Unit {0}
+
+-- the book holds what was and is lent, and the indexes find the ranges among it
+pub record HoldsAll (h : Header) (ts : List Lent) (book : LeaseBook) (ranges : RangeIndexes) : Type 0 where
+  pub held : HoldsLents h ts book
+  pub found : FindsRanges h ts ranges
+
+-- that of the rows so far, the newest first; `first` is the number of the oldest
+abbrev pub FollowsBook : Header → ℕ → List Row → LeaseBook → RangeIndexes → Type 0
+FollowsBook h first past book ranges = HoldsAll h (lents h first past) book ranges

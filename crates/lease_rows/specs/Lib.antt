@@ -1,0 +1,3 @@
+pub mod CleanRows
+pub mod Taking
+pub mod LeftBehind

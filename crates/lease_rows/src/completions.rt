@@ -1,0 +1,61 @@
+//! Command Completion Events: what the command leaves behind is let go, and the command's own block and Link (xHCI 4.6, 4.11.4).
+ghost use Rattle.std.specs.Prelude.{◌≡◌, ℕ, List, ◌∷◌};
+ghost use Rattle.trb.specs.declared.kind.BlockKind.TheVariants.{CommandCompletion};
+ghost use Rattle.trb.specs.Block.{kind};
+ghost use Rattle.traces.specs.Header.{IsHeader};
+ghost use Rattle.traces.specs.declared.row.Row.{Row as RowValue};
+ghost use Rattle.traces.specs.declared.row.Row.TheVariants.{Read};
+ghost use Rattle.ring_finder.specs.Finding.{IsFinder};
+ghost use Rattle.ring_knowledge.specs.Learned.{known};
+ghost use Rattle.lease_rows.specs.CleanRows.{FollowsBook, IsCleanRow};
+ghost use Rattle.lease_rows.specs.LeftBehind.{EntriesFit, FloorsMove};
+
+use crate::left_behind::end_command;
+use crate::taking::command_at;
+use lease_book::{LeaseBook, RangeIndexes};
+use ring_finder::Finder;
+use trace_record::TraceRecord;
+use traces::Header;
+use trb::Block;
+
+/// Notes the row of a number that reads a Command Completion Event; the record is that before it. The leases end of the command's
+/// block and of the Link before it, of its input context, of what a Disable Slot that succeeded lets go, and of what a ring passes
+/// that a Set TR Dequeue moved.
+pub fn note_completion(
+    book: &mut LeaseBook,
+    ranges: &RangeIndexes,
+    header: &Header,
+    finder: &Finder,
+    t: &TraceRecord,
+    number: u32,
+    event: Block,
+)
+    requires headed { IsHeader header.now }
+    requires found { IsFinder header.now.rings finder.now }
+    ensures { (first : ℕ) (past : List RowValue) (memory : ℕ → ℕ) → kind event ≡ CommandCompletion → EntriesFit (known header.now past) →
+        FloorsMove header.now (known header.now past) event → IsCleanRow header.now first past (Read event) number t.now memory →
+        FollowsBook header.now first past book.old ranges.now → FollowsBook header.now first (Read event ∷ past) book.new ranges.now }
+{
+    let Some(place) = finder.commands else {
+        return;
+    };
+    let rings = header.rings.as_slice();
+    let Some(ring) = rings.get(place) else {
+        return;
+    };
+    let records = t.rings.as_slice();
+    let Some(known) = records.get(place) else {
+        return;
+    };
+    let next = known.floor_number();
+    match command_at(known, next) {
+        None => book.end_passed(number, ring, next, next + 1),
+        Some(command) => {
+            let success = event.code() == 1;
+            end_command(
+                book, ranges, header, finder, t, number, ring, next, command, success,
+            );
+            book.end_passed(number, ring, next, next + 1);
+        }
+    }
+}

@@ -1,0 +1,67 @@
+//! Declarations, doorbells and registers: a lease begins with the write of ERSTBA alone (xHCI 5.5.2.3.2, 6.5).
+ghost use Rattle.std.specs.Prelude.{◌≡◌, ◌≤◌, ℕ, List, ◌∷◌, length, OnOk};
+ghost use Rattle.traces.specs.Header.{IsHeader, event_shape};
+ghost use Rattle.traces.specs.declared.row.Row.{Row as RowValue};
+ghost use Rattle.traces.specs.declared.row.Row.TheVariants.{Reg};
+ghost use Rattle.lease_book.specs.declared.ranges.RangeIndexes.{RangeIndexes};
+ghost use Rattle.lease_rows.specs.CleanRows.{FollowsBook, IsCleanRow, IsOtherRow};
+ghost use Rattle.trace_record.specs.declared.trace_record.TraceRecord.{TraceRecord};
+
+use lease_book::LeaseBook;
+use ring_finder::is_event_ring;
+use std::alloc::AllocError;
+use traces::{Header, Register, Row};
+
+/// Notes the row of a number, a declaration, a doorbell or a register's. Where the leases of ranges stand stays.
+pub fn note_other_row(
+    book: &mut LeaseBook,
+    header: &Header,
+    number: u32,
+    row: &Row,
+) -> Result<(), AllocError>
+    requires { IsHeader header.now }
+    ensures { OnOk result ((first : ℕ) (past : List RowValue) (t : TraceRecord) (memory : ℕ → ℕ) (ranges : RangeIndexes) → IsOtherRow row.now →
+        IsCleanRow header.now first past row.now number t memory → FollowsBook header.now first past book.old ranges →
+        FollowsBook header.now first (row.now ∷ past) book.new ranges) }
+{
+    match row {
+        Row::Reg { register, value } => note_table(book, header, number, *register, *value),
+        _ => Ok(()),
+    }
+}
+
+/// The lease of the segment table begins, at the write of ERSTBA.
+fn note_table(
+    book: &mut LeaseBook,
+    header: &Header,
+    number: u32,
+    register: Register,
+    value: u64,
+) -> Result<(), AllocError>
+    requires { IsHeader header.now }
+    ensures { OnOk result ((first : ℕ) (past : List RowValue) (t : TraceRecord) (memory : ℕ → ℕ) (ranges : RangeIndexes) →
+        IsCleanRow header.now first past (Reg register value) number t memory → FollowsBook header.now first past book.old ranges →
+        FollowsBook header.now first (Reg register value ∷ past) book.new ranges) }
+{
+    match register {
+        Register::Erstba => {
+            let bytes = 16 * event_segments(header) as u32;
+            book.begin_range(number, bytes, value / 64 * 64)
+        }
+        _ => Ok(()),
+    }
+}
+
+/// How many segments the event ring has.
+fn event_segments(header: &Header) -> u64
+    requires { IsHeader header.now }
+    ensures exact { result ≡ length (event_shape header.now).segments }
+    ensures few { result ≤ 64 }
+{
+    for ring in header.rings.as_slice() {
+        if is_event_ring(ring) {
+            return ring.shape.segments().len() as u64;
+        }
+    }
+    0
+}
