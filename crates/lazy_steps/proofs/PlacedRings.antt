@@ -1,0 +1,48 @@
+-- The rings that an event's command binds or moves, as a list and as a test
+use Rattle.std.specs.Prelude.{◌≡◌, ℕ, ◌==◌, ◌&&◌, ◌||◌, Bool, true, false, List, [], ◌∷◌, if◌then◌else◌, Option, Some, None}
+use Rattle.std.specs.List.{list_any}
+use Rattle.std.proofs.Common.{refl, ◌∙◌, ap}
+use Rattle.std.proofs.Math.Bool.{or-false}
+use Rattle.std.proofs.lemmas.List.Folds.{list_any-append}
+use Rattle.trb.specs.declared.block.Block.{Block}
+use Rattle.trb.specs.Block.{code, slot}
+use Rattle.commands.specs.declared.command.Command.{Command}
+use Rattle.commands.specs.Changes.{Change, changes}
+use Rattle.traces.specs.declared.header.Header.{Header}
+use Rattle.traces.specs.Header.{is_ring}
+use Rattle.ring_knowledge.specs.Known.{Known}
+use Rattle.ring_knowledge.specs.Rings.{command_at, next_command}
+use Rattle.ring_knowledge.specs.Completions.{changed_by}
+use Rattle.lazy_runs.specs.Needs.{ring_placed, is_placed_by_all, is_placed_by}
+use Rattle.lazy_steps.specs.Notes.{listed, placed_by_all, placed_by, placed}
+
+abbrev pub has : ℕ → List ℕ → Bool
+has r rings = list_any (λ q. q == r) rings
+
+pub has_listed : (r : ℕ) (o : Option ℕ) → has r (listed o) ≡ is_ring r o
+has_listed r None = refl
+has_listed r (Some q) = or-false (q == r)
+
+module _ (h : Header) where
+  has_all : (c : Command) (k : Known) (r : ℕ) (l : List Change) → has r (placed_by_all h c k l) ≡ is_placed_by_all h c k r l
+  unfolding placed_by_all is_placed_by_all
+  has_all c k r [] = refl
+  has_all c k r (change ∷ rest) =
+      list_any-append (λ q. q == r) (listed (ring_placed h k change)) (placed_by_all h c (changed_by h c k change) rest)
+      ∙ ap (λ b. b || has r (placed_by_all h c (changed_by h c k change) rest)) (has_listed r (ring_placed h k change))
+      ∙ ap (λ b. is_ring r (ring_placed h k change) || b) (has_all c (changed_by h c k change) r rest)
+
+  has_by : (k : Known) (r n : ℕ) (o : Option Command) → has r (placed_by h k n o) ≡ is_placed_by h k r n o
+  unfolding placed_by is_placed_by
+  has_by k r n None = refl
+  has_by k r n (Some c) = has_all c k r (changes h.context_size k.memory n c)
+
+  if_so : (b : Bool) (r : ℕ) (l : List ℕ) → has r (if b then l else []) ≡ b && has r l
+  if_so true r l = refl
+  if_so false r l = refl
+
+  pub has_placed : (k : Known) (b : Block) (r : ℕ) → has r (placed h k b) ≡ code b == 1 && is_placed_by h k r (slot b) (command_at h k (next_command h k))
+  unfolding placed
+  has_placed k b r =
+      let o : Option Command = command_at h k (next_command h k) in
+      if_so (code b == 1) r (placed_by h k (slot b) o) ∙ ap (λ t. code b == 1 && t) (has_by k r (slot b) o)

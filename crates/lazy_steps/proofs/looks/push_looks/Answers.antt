@@ -1,0 +1,25 @@
+use Rattle.std.proofs.Common.{◌≡◌, ◌<◌, ◌≤◌, ◌++◌, ◌∷◌, [], List, map, ap, sym, ◌∙◌, arith}
+use Rattle.std.proofs.lemmas.Bool.Decides.{nat_tests}
+use Rattle.segments.specs.declared.spot.Spot.{Spot}
+use Rattle.segments.specs.Spots.{rank}
+use Rattle.traces.specs.declared.step.Step.{Step}
+use Rattle.traces.specs.declared.step.Step.TheVariants.{Look}
+use Rattle.lazy_runs.specs.Lazy.{spots_before}
+use Rattle.lazy_steps.proofs.Walks.{one_look, no_look}
+use Rattle.lazy_steps.proofs.looks.push_looks.Goals as goal
+
+pub loop-to-preserved : goal.loop-to-preserved
+loop-to-preserved c =
+    let shape = c.args.shape.now in
+    let ring = c.args.ring in
+    let before : rank c.loop-to.at < rank c.args.to = grind (arith, nat_tests, c.loop-to-test.ensures) in
+    let pushed : c.push.new.self.items ≡ c.loop-to.steps.items ++ Look ring ∷ [] = c.in_ok-push.ensures.items in
+    ap (λ (l : List Step). l ++ map (λ t. Look ring) (spots_before shape c.next_spot-at.result c.args.to)) pushed
+    ∙ ap (λ (s : Spot). (c.loop-to.steps.items ++ Look ring ∷ []) ++ map (λ t. Look ring) (spots_before shape s c.args.to)) c.next_spot-at.ensures
+    ∙ one_look c.loop-to.steps.items ring shape c.loop-to.at c.args.to before
+    ∙ c.loop-to.invariant
+
+pub returns : goal.returns
+returns c =
+    let past : rank c.args.to ≤ rank c.loop-to.at = grind (arith, nat_tests, c.loop-to-test.ensures) in
+    sym (no_look c.loop-to.steps.items c.args.ring c.args.shape.now c.loop-to.at c.args.to past) ∙ c.loop-to.invariant

@@ -1,0 +1,21 @@
+use Rattle.std.proofs.Common.{◌≡◌, ◌<◌, ap, sym, ◌∙◌, arith, length, true, false, nat_lt}
+use Rattle.std.proofs.Math.ListN.{set}
+use Rattle.segments.specs.Spots.{rank}
+use Rattle.lazy_steps.specs.Tables.{spot_in}
+use Rattle.lazy_steps.proofs.PointerTables.{further_in, no_further}
+use Rattle.lazy_steps.proofs.pointers.move_on.Goals as goal
+
+pub returns-then-is_before-clause-moved : goal.returns-then-is_before-clause-moved
+returns-then-is_before-clause-moved c =
+    let t = c.args.pointers.now in
+    let small : c.args.ring < length t = omega arith in
+    let before : nat_lt (rank (spot_in t c.args.ring)) (rank c.args.spot) ≡ true =
+    sym (c.if-is_before.ensures ∙ ap (λ n. nat_lt (rank (spot_in t n)) (rank c.args.spot)) c.from.ensures) in
+    ap (λ n. spot_in (set t n c.args.spot)) c.from-then-is_before.ensures ∙ further_in t c.args.ring c.args.spot small before
+
+pub returns-else-is_before-clause-moved : goal.returns-else-is_before-clause-moved
+returns-else-is_before-clause-moved c =
+    let t = c.args.pointers.now in
+    let past : nat_lt (rank (spot_in t c.args.ring)) (rank c.args.spot) ≡ false =
+    sym (c.if-is_before.ensures ∙ ap (λ n. nat_lt (rank (spot_in t n)) (rank c.args.spot)) c.from.ensures) in
+    no_further t c.args.ring c.args.spot past

@@ -1,0 +1,4 @@
+pub mod Notes
+pub mod Passes
+pub mod Law
+pub mod Tables
