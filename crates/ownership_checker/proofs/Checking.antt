@@ -16,21 +16,22 @@ use Rattle.ownership_rules.specs.Refusal.{first_of}
 use Rattle.ownership_rules.specs.Rules.{broken, verdict_from, first_or}
 use Rattle.ownership_rules.specs.Clean.{IsClean}
 use Rattle.ownership_rules.specs.Leases.{leases as leases_of, without_end}
-use Rattle.ownership_checker.specs.Profile.{is_outside, broken_within, verdict_within}
-use Rattle.ownership_checker.specs.declared.fault.StepFault.{StepFault}
-use Rattle.ownership_checker.specs.declared.fault.StepFault.TheVariants.{Refused}
-use Rattle.safety.specs.KeptHistories.{MayRead, MayReadAll}
 use Rattle.safety.proofs.TestsPassed.{clean_tests}
 use Rattle.safety.proofs.NothingKept.{nothing_kept}
 use Rattle.safety.proofs.DriverHistories.{kept_driver}
-use Rattle.ownership_checker.specs.declared.kept.Kept.{Kept}
 use Rattle.ring_knowledge.specs.declared.lease.Lease.{Lease}
 use Rattle.lease_book.specs.declared.lease_book.LeaseBook.{LeaseBook}
+use Rattle.ownership_checker.specs.Verdicts.{IsAccepted}
+use Rattle.lease_book.specs.declared.ranges.RangeIndexes.{RangeIndexes}
 use Rattle.lease_book.specs.Books.{FollowsLeases}
-use Rattle.ownership_checker.specs.Lending.{IsNextRow}
-use Rattle.ownership_checker.specs.Verdicts.{AreInside, IsAccepted, IsFirstOfAll}
-use Rattle.ownership_checker.specs.Tracking.{IsWithin, Follows, IsTracked, IsRowStep, IsChecked, IsProgress, IfRefused}
-use Rattle.ownership_checker.proofs.DeclarationRules.{broken_inside}
+use Rattle.lease_rows.specs.CleanRows.{FollowsBook, IsCleanRow}
+use Rattle.trace_record.specs.declared.trace_record.TraceRecord.{TraceRecord}
+use Rattle.trace_record.specs.declared.fault.StepFault.{StepFault}
+use Rattle.trace_record.specs.declared.fault.StepFault.TheVariants.{Refused}
+use Rattle.trace_record.specs.FollowsTrace.{FollowsTrace}
+use Rattle.trace_record.specs.Fresh.{IsWithin}
+use Rattle.trace_record.specs.Steps.{IfRefused, IsLeast, IsRowStep}
+use Rattle.ownership_checker.specs.Tracking.{IsTracked, IsChecked, IsProgress}
 
 -- one row more: the newest first
 one_more : (rows : List Row) (i : ℕ) (d : Row) → i < length rows → reverse (take (i + 1) rows) ≡ get_or rows i d ∷ reverse (take i rows)
@@ -51,15 +52,6 @@ verdict_first h k n row rest c e = first_is (broken h k row) n c (verdict_from h
 verdict_next : (h : Header) (k : Known) (n : ℕ) (row : Row) (rest : List Row) → broken h k row ≡ [] → verdict_from h k n (row ∷ rest) ≡ verdict_from h (learned h k row) (n + 1) rest
 unfolding verdict_from first_or
 verdict_next h k n row rest e = rw e refl
-
-within_first : (h : Header) (k : Known) (n : ℕ) (row : Row) (rest : List Row) (c : Refusal) → first_of (broken_within h k row) ≡ Some c → verdict_within h k n (row ∷ rest) ≡ Some (n, c)
-unfolding verdict_within
-within_first h k n row rest c e = first_is (broken_within h k row) n c (verdict_within h (learned h k row) (n + 1) rest) e
-
-within_next : (h : Header) (k : Known) (n : ℕ) (row : Row) (rest : List Row) → is_outside h k row ≡ false → broken h k row ≡ [] →
-    verdict_within h k n (row ∷ rest) ≡ verdict_within h (learned h k row) (n + 1) rest
-unfolding verdict_within broken_within first_or
-within_next h k n row rest inside e = rw (inside, e) refl
 
 nothing_first : (h : Header) → known h [] ≡ nothing
 unfolding known
@@ -94,17 +86,13 @@ verdict_end : (h : Header) (k : Known) (n : ℕ) → verdict_from h k n [] ≡ N
 unfolding verdict_from
 verdict_end h k n = refl
 
-within_end : (h : Header) (k : Known) (n : ℕ) → verdict_within h k n [] ≡ None
-unfolding verdict_within
-within_end h k n = refl
-
 -- the rows of a trace have numbers below that of no row
 pub room_for : (first n : ℕ) → first + n ≤ most_lines + 1 → first + n ≤ without_end
 unfolding without_end
 room_for first n few = omega (arith, few)
 
 -- one row more that breaks no rule
-tracked_after : (h : Header) → IsHeader h → (k : Known) (row : Row) (kept after : Kept) (m o : ℕ → ℕ) → IsTracked h k kept m → broken h k row ≡ [] → Follows h (learned h k row) after o →
+tracked_after : (h : Header) → IsHeader h → (k : Known) (row : Row) (kept after : TraceRecord) (m o : ℕ → ℕ) → IsTracked h k kept m → broken h k row ≡ [] → FollowsTrace h (learned h k row) after o →
     IsTracked h (learned h k row) after o
 tracked_after h headed k row kept after m o t clean f =
     record { follows = f; keeps = λ on. kept_driver h headed k row (t.keeps (clean_tests h k row clean).0) clean on }
@@ -117,22 +105,16 @@ module _ (h : Header) (rows : List Row) (first : ℕ) where
       let start : known h (reverse (take 0 rows)) ≡ nothing = ap (λ xs. known h xs) (none_taken rows) ∙ nothing_first h in
       record {
         tracked = subst T (sym start) t;
-        inside = subst (λ (xs : List Row). AreInside h xs) (sym (none_taken rows)) tt;
         clean = subst (λ (xs : List Row). IsClean h xs) (sym (none_taken rows)) tt;
-        placed = subst (λ (xs : List Row). MayReadAll h xs) (sym (none_taken rows)) tt;
         verdict =
             ap (λ n. verdict_from h nothing n rows) (sym (add-zero first))
             ∙ ap (λ k. verdict_from h k (first + 0) rows) (sym start)
             ∙ ap (λ xs. verdict_from h (known h (reverse (take 0 rows))) (first + 0) xs) (sym (none_dropped rows));
-        within =
-            ap (λ n. verdict_within h nothing n rows) (sym (add-zero first))
-            ∙ ap (λ k. verdict_within h k (first + 0) rows) (sym start)
-            ∙ ap (λ xs. verdict_within h (known h (reverse (take 0 rows))) (first + 0) xs) (sym (none_dropped rows));
       }
 
   -- one row more
   pub step_checked : (i : ℕ) (T U : Known → Type 0) (row d : Row) → IsChecked h rows first i T → i < length rows → get_or rows i d ≡ row →
-      ((k : Known) → T k → (is_outside h k row ≡ false) × (broken h k row ≡ []) × (U (learned h k row)) × MayRead h k row) → IsChecked h rows first (i + 1) U
+      ((k : Known) → T k → (broken h k row ≡ []) × U (learned h k row)) → IsChecked h rows first (i + 1) U
   step_checked i T U row d c below is_row step =
       let before = known h (reverse (take i rows)) in
       let done = step before c.tracked in
@@ -141,43 +123,23 @@ module _ (h : Header) (rows : List Row) (first : ℕ) where
       let after : known h (reverse (take (i + 1) rows)) ≡ learned h before row = ap (λ xs. known h xs) past ∙ known_next h (reverse (take i rows)) row in
       let next_number : first + i + 1 ≡ first + (i + 1) = omega arith in
       record {
-        tracked = subst U (sym after) done.2;
-        inside = subst (λ (xs : List Row). AreInside h xs) (sym past) (c.inside, done.0);
-        clean = subst (λ (xs : List Row). IsClean h xs) (sym past) (c.clean, done.1);
-        placed = subst (λ (xs : List Row). MayReadAll h xs) (sym past) (c.placed, done.3);
+        tracked = subst U (sym after) done.1;
+        clean = subst (λ (xs : List Row). IsClean h xs) (sym past) (c.clean, done.0);
         verdict =
             c.verdict ∙ ap (λ xs. verdict_from h before (first + i) xs) rest
-            ∙ verdict_next h before (first + i) row (drop (i + 1) rows) done.1
+            ∙ verdict_next h before (first + i) row (drop (i + 1) rows) done.0
             ∙ ap (λ k. verdict_from h k (first + i + 1) (drop (i + 1) rows)) (sym after)
             ∙ ap (λ x. verdict_from h (known h (reverse (take (i + 1) rows))) x (drop (i + 1) rows)) next_number;
-        within =
-            c.within ∙ ap (λ xs. verdict_within h before (first + i) xs) rest
-            ∙ within_next h before (first + i) row (drop (i + 1) rows) done.0 done.1
-            ∙ ap (λ k. verdict_within h k (first + i + 1) (drop (i + 1) rows)) (sym after)
-            ∙ ap (λ x. verdict_within h (known h (reverse (take (i + 1) rows))) x (drop (i + 1) rows)) next_number;
       }
 
   -- the first row that is refused
   pub refused_checked : (i : ℕ) (T : Known → Type 0) (row d : Row) (c : Refusal) → IsChecked h rows first i T → i < length rows → get_or rows i d ≡ row →
-      ((k : Known) → T k → first_of (broken_within h k row) ≡ Some c) → verdict_within h nothing first rows ≡ Some (first + i, c)
+      ((k : Known) → T k → IsLeast h k row c) → verdict_from h nothing first rows ≡ Some (first + i, c)
   refused_checked i T row d c so_far below is_row breaks =
       let before = known h (reverse (take i rows)) in
       let rest : drop i rows ≡ row ∷ drop (i + 1) rows = left rows i d below ∙ ap (λ x. x ∷ drop (i + 1) rows) is_row in
-      so_far.within ∙ ap (λ xs. verdict_within h before (first + i) xs) rest
-      ∙ within_first h before (first + i) row (drop (i + 1) rows) c (breaks before so_far.tracked)
-
-  -- inside the profile it is the first that breaks a rule
-  pub first_checked : (i : ℕ) (T : Known → Type 0) (row d : Row) (c : Refusal) → IsChecked h rows first i T → i < length rows → get_or rows i d ≡ row →
-      ((k : Known) → T k → first_of (broken_within h k row) ≡ Some c) → IsFirstOfAll h first rows (first + i) c
-  first_checked i T row d c so_far below is_row breaks = λ same found inside.
-      let before = known h (reverse (take i rows)) in
-      let rest : drop i rows ≡ row ∷ drop (i + 1) rows = left rows i d below ∙ ap (λ x. x ∷ drop (i + 1) rows) is_row in
-      let here : first + i - first ≡ i = omega arith in
-      let this : same ≡ row = sym (get_or_from_slice_get rows i same d (ap (λ n. slice_get rows n) (sym here) ∙ found)) ∙ is_row in
-      let row_inside : is_outside h before row ≡ false =
-      ap (λ (x : Row). is_outside h before x) (sym this) ∙ ap (λ n. is_outside h (known h (reverse (take n rows))) same) (sym here) ∙ inside in
       so_far.verdict ∙ ap (λ xs. verdict_from h before (first + i) xs) rest
-      ∙ verdict_first h before (first + i) row (drop (i + 1) rows) c (ap first_of (sym (broken_inside h before row row_inside)) ∙ breaks before so_far.tracked)
+      ∙ verdict_first h before (first + i) row (drop (i + 1) rows) c (breaks before so_far.tracked)
 
   -- behind the last row
   pub ended_checked : (i : ℕ) (T : Known → Type 0) (book : LeaseBook) (leases : List Lease) → first + length rows ≤ without_end → IsChecked h rows first i T → i ≡ length rows →
@@ -189,7 +151,6 @@ module _ (h : Header) (rows : List Row) (first : ℕ) where
       let before = known h (reverse (take i rows)) in
       let many : length (reverse rows) ≡ length rows = length_reversed rows in
       record {
-        inside = subst (λ (xs : List Row). AreInside h (reverse xs)) whole c.inside;
         clean = subst (λ (xs : List Row). IsClean h (reverse xs)) whole c.clean;
         verdict = c.verdict ∙ ap (λ xs. verdict_from h before (first + i) xs) empty ∙ verdict_end h before (first + i);
         certified =
@@ -197,31 +158,25 @@ module _ (h : Header) (rows : List Row) (first : ℕ) where
             ∙ ap (λ xs. leases_of h first xs) (reversed_twice rows);
       }
 
-  pub ended_placed : (i : ℕ) (T : Known → Type 0) → IsChecked h rows first i T → i ≡ length rows → IsClean h (reverse rows) × MayReadAll h (reverse rows)
-  ended_placed i T c all =
-      let whole : take i rows ≡ rows = ap (λ n. take n rows) all ∙ take_all rows in (
-        subst (λ (xs : List Row). IsClean h (reverse xs)) whole c.clean,
-        subst (λ (xs : List Row). MayReadAll h (reverse xs)) whole c.placed,
-      )
+  pub ended_clean : (i : ℕ) (T : Known → Type 0) → IsChecked h rows first i T → i ≡ length rows → IsClean h (reverse rows)
+  ended_clean i T c all = subst (λ (xs : List Row). IsClean h (reverse xs)) (ap (λ n. take n rows) all ∙ take_all rows) c.clean
 
-  pub ended_within : (i : ℕ) (T : Known → Type 0) → IsChecked h rows first i T → i ≡ length rows → verdict_within h nothing first rows ≡ None
-  ended_within i T c all =
-      let before = known h (reverse (take i rows)) in
-      c.within ∙ ap (λ xs. verdict_within h before (first + i) xs) (ap (λ n. drop n rows) all ∙ drop_all rows) ∙ within_end h before (first + i)
-
-  pub started : IsHeader h → (kept : Kept) (m : ℕ → ℕ) (book : LeaseBook) → Follows h nothing kept m → IsWithin kept.events 0 → FollowsLeases h first [] book → IsProgress h rows first 0 first kept m book
-  started headed kept m book f unread held = record {
+  pub started : IsHeader h → (kept : TraceRecord) (m : ℕ → ℕ) (book : LeaseBook) (ranges : RangeIndexes) → FollowsTrace h nothing kept m → IsWithin kept.events 0 →
+      FollowsBook h first [] book ranges → IsProgress h rows first 0 first kept m book ranges
+  started headed kept m book ranges f unread lent = record {
     numbered = sym (add-zero first);
+    as_many = f.rings.as_many;
     few_reads = unread;
     checked = start_checked (λ k. IsTracked h k kept m) (record { follows = f; keeps = λ on. nothing_kept h headed });
-    lent = subst (λ (xs : List Row). FollowsLeases h first xs book) (sym (none_taken rows)) held;
+    lent = subst (λ (xs : List Row). FollowsBook h first xs book ranges) (sym (none_taken rows)) lent;
   }
 
-  pub stepped : IsHeader h → (i number n : ℕ) (kept after : Kept) (m o : ℕ → ℕ) (row d : Row) (book later : LeaseBook) → first + length rows ≤ without_end → IsProgress h rows first i number kept m book →
-      i < length rows → get_or rows i d ≡ row → IsWithin after.events (i + 1) → ((k : Known) → IsTracked h k kept m → IsRowStep h k row after o n) →
-      ((past : List Row) → IsNextRow h first past row number kept → FollowsLeases h first past book → FollowsLeases h first (row ∷ past) later) →
-      IsProgress h rows first (i + 1) (number + 1) after o later
-  stepped headed i number n kept after m o row d book later room_ p below is_row reads_ step notes =
+  pub stepped : IsHeader h → (i number : ℕ) (kept after : TraceRecord) (m o : ℕ → ℕ) (row d : Row) (book later : LeaseBook) (ranges further : RangeIndexes) → first + length rows ≤ without_end →
+      IsProgress h rows first i number kept m book ranges → i < length rows → get_or rows i d ≡ row → IsWithin after.events (i + 1) →
+      ((k : Known) → IsTracked h k kept m → IsRowStep h k row after o) →
+      ((past : List Row) → IsCleanRow h first past row number kept m → FollowsBook h first past book ranges → FollowsBook h first (row ∷ past) later further) →
+      IsProgress h rows first (i + 1) (number + 1) after o later further
+  stepped headed i number kept after m o row d book later ranges further room_ p below is_row reads_ step notes =
       let numbered_ = p.numbered in
       let past = reverse (take i rows) in
       let many : length past ≡ i = length_taken rows i below in
@@ -229,41 +184,32 @@ module _ (h : Header) (rows : List Row) (first : ℕ) where
       let done = step (known h past) p.checked.tracked in
       record {
         numbered = omega arith;
+        as_many = done.followed.rings.as_many;
         few_reads = reads_;
         checked = step_checked i (λ k. IsTracked h k kept m) (λ k. IsTracked h k after o) row d p.checked below is_row
-            (λ k t. let here = step k t in (here.inside, here.clean, tracked_after h headed k row kept after m o t here.clean here.tracked, here.placed));
-        lent = subst (λ (xs : List Row). FollowsLeases h first xs later) (sym next) (notes past (record {
+            (λ k t. let here = step k t in (here.clean, tracked_after h headed k row kept after m o t here.clean here.followed));
+        lent = subst (λ (xs : List Row). FollowsBook h first xs later further) (sym next) (notes past (record {
           numbered = omega (arith, numbered_, many);
           room = omega (arith, many, room_, below);
-          memory = m;
           followed = p.checked.tracked.follows;
-          inside = done.inside;
+          history = p.checked.clean;
           clean = done.clean;
-          slots = done.tracked.slots;
         }) p.lent);
       }
 
-  module _ (i number : ℕ) (kept : Kept) (m : ℕ → ℕ) (book : LeaseBook) (row d : Row) (c : Refusal) (e : StepFault) (is_refused : e ≡ Refused c) (p : IsProgress h rows first i number kept m book)
-      (below : i < length rows) (is_row : get_or rows i d ≡ row)
-      (said : IfRefused e (λ x. (k : Known) → IsTracked h k kept m → first_of (broken_within h k row) ≡ Some x)) where
-    breaks : (k : Known) → IsTracked h k kept m → first_of (broken_within h k row) ≡ Some c
-    breaks = subst (λ (f : StepFault). IfRefused f (λ x. (k : Known) → IsTracked h k kept m → first_of (broken_within h k row) ≡ Some x)) is_refused said
+  pub refused : (i number : ℕ) (kept : TraceRecord) (m : ℕ → ℕ) (book : LeaseBook) (ranges : RangeIndexes) (row d : Row) (c : Refusal) (e : StepFault) → e ≡ Refused c →
+      IsProgress h rows first i number kept m book ranges → i < length rows → get_or rows i d ≡ row →
+      IfRefused e (λ x. (k : Known) → IsTracked h k kept m → IsLeast h k row x) → verdict_from h nothing first rows ≡ Some (number, c)
+  refused i number kept m book ranges row d c e is_refused p below is_row said =
+      refused_checked i (λ k. IsTracked h k kept m) row d c p.checked below is_row
+      (subst (λ (f : StepFault). IfRefused f (λ x. (k : Known) → IsTracked h k kept m → IsLeast h k row x)) is_refused said)
+      ∙ ap (λ n. Some (n, c)) (sym p.numbered)
 
-    pub refused : verdict_within h nothing first rows ≡ Some (number, c)
-    refused = refused_checked i (λ k. IsTracked h k kept m) row d c p.checked below is_row breaks ∙ ap (λ n. Some (n, c)) (sym p.numbered)
-
-    pub first_refused : IsFirstOfAll h first rows number c
-    first_refused =
-        subst (λ (n : ℕ). IsFirstOfAll h first rows n c) (sym p.numbered) (first_checked i (λ k. IsTracked h k kept m) row d c p.checked below is_row breaks)
-
-  module _ (i number : ℕ) (kept : Kept) (m : ℕ → ℕ) (book : LeaseBook) (p : IsProgress h rows first i number kept m book) (all : i ≡ length rows) where
+  module _ (i number : ℕ) (kept : TraceRecord) (m : ℕ → ℕ) (book : LeaseBook) (ranges : RangeIndexes) (p : IsProgress h rows first i number kept m book ranges) (all : i ≡ length rows) where
     pub ended : (leases : List Lease) → first + length rows ≤ without_end →
         ((past : List Row) → first + length past ≤ without_end → FollowsLeases h first past book → leases ≡ leases_of h first (reverse past)) → IsAccepted h rows first leases
-    ended leases room listed = ended_checked i (λ k. IsTracked h k kept m) book leases room p.checked all p.lent listed
-
-    pub none_refused : verdict_within h nothing first rows ≡ None
-    none_refused = ended_within i (λ k. IsTracked h k kept m) p.checked all
+    ended leases room listed = ended_checked i (λ k. IsTracked h k kept m) book leases room p.checked all p.lent.held listed
 
     -- after any rows the walk through each ring reads what was declared
     pub walked : IsHeader h → WalksRead h rows
-    walked headed = let kept_so = ended_placed i (λ k. IsTracked h k kept m) p.checked all in walks h headed rows kept_so.0 kept_so.1
+    walked headed = walks h headed rows (ended_clean i (λ k. IsTracked h k kept m) p.checked all)

@@ -12,6 +12,11 @@ use Rattle.traces.specs.Header.{IsHeader, is_driver_kind, shape_of}
 use Rattle.ring_knowledge.specs.Learned.{known}
 use Rattle.ownership_rules.specs.Clean.{IsClean}
 use Rattle.safety.specs.KeptHistories.{MayReadAll}
+use Rattle.safety.proofs.TestsPassed.{clean_tests}
+use Rattle.safety.proofs.DriverHistories.{driver_keeps}
+use Rattle.safety.proofs.DriverRings.{rings_of, endpoints_of}
+use Rattle.safety.proofs.StillPlacing.{still_reads}
+use Rattle.safety.proofs.KeptRings.{still_of}
 use Rattle.safety.proofs.Histories.{keeps_rings}
 use Rattle.safety.proofs.RingsOfHeader.{HasRing, has_ring, shape_allowed}
 use Rattle.ownership_checker.specs.Walks.{WalksRead}
@@ -21,9 +26,13 @@ earlier_clean : (h : Header) (xs ys : List Row) → IsClean h (xs ++ ys) → IsC
 earlier_clean h [] ys clean = clean
 earlier_clean h (x ∷ xs) ys clean = earlier_clean h xs ys clean.0
 
-earlier_placed : (h : Header) (xs ys : List Row) → MayReadAll h (xs ++ ys) → MayReadAll h ys
-earlier_placed h [] ys may = may
-earlier_placed h (x ∷ xs) ys may = earlier_placed h xs ys may.0
+-- completions of a clean history place endpoints where they may
+all_placed : (h : Header) → IsHeader h → (past : List Row) → IsClean h past → MayReadAll h past
+all_placed h is [] clean = tt
+all_placed h is (row ∷ past) clean =
+    let k = known h past in
+    let keeps = driver_keeps h is past clean.0 (clean_tests h k row clean.1).0 in
+    (all_placed h is past clean.0, still_reads h is k row (rings_of h k keeps) (endpoints_of h k keeps.states) (still_of h is k row keeps clean.1))
 
 split : (rows : List Row) (done : ℕ) → reverse rows ≡ reverse (drop done rows) ++ reverse (take done rows)
 split rows done = ap reverse (sym (take-append-drop done rows)) ∙ reverse-append (take done rows) (drop done rows)
@@ -31,12 +40,11 @@ split rows done = ap reverse (sym (take-append-drop done rows)) ∙ reverse-appe
 no_event_ring : (kind : RingKind) → is_driver_kind kind ≡ true → kind ≡ Evt → ⊥
 no_event_ring kind driver is = false≢true (sym (ap is_driver_kind is) ∙ driver)
 
-pub walks : (h : Header) → IsHeader h → (rows : List Row) → IsClean h (reverse rows) → MayReadAll h (reverse rows) → WalksRead h rows
-walks h is rows clean may done r within driver =
+pub walks : (h : Header) → IsHeader h → (rows : List Row) → IsClean h (reverse rows) → WalksRead h rows
+walks h is rows clean done r within driver =
     let past : List Row = reverse (take done rows) in
     let was_clean : IsClean h past = earlier_clean h (reverse (drop done rows)) past (subst (IsClean h) (split rows done) clean) in
-    let might : MayReadAll h past = earlier_placed h (reverse (drop done rows)) past (subst (MayReadAll h) (split rows done) may) in
-    let keeps = keeps_rings h is past was_clean might r driver in
+    let keeps = keeps_rings h is past was_clean (all_placed h is past was_clean) r driver in
     let has : HasRing h r = has_ring h r driver in
     walk_reads (shape_of h r) (shape_allowed h is r driver) (no_event_ring (shape_of h r).kind (ap (λ s. is_driver_kind s.kind) has.shape ∙ has.driver))
     (known h past).memory ((known h past).ring r) keeps

@@ -15,25 +15,6 @@ pub enum CheckFault {
     Memory,
 }
 
-/// Why a row isn't accepted.
-#[derive(Debug, Drop)]
-pub enum StepFault {
-    /// The least of the rules that the row breaks.
-    Refused(Refusal),
-    /// A growth of memory was refused.
-    Memory,
-}
-
-impl From<AllocError> for StepFault {
-    ghost use Rattle.ownership_checker.specs.declared.fault.StepFault.TheVariants.{Memory};
-
-    ghost from_gives = { λ f e. e ≡ Memory };
-
-    fn from(_error: AllocError) -> StepFault {
-        StepFault::Memory
-    }
-}
-
 impl From<AllocError> for CheckFault {
     ghost use Rattle.ownership_checker.specs.declared.fault.CheckFault.TheVariants.{Memory};
 

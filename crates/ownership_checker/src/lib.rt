@@ -2,19 +2,10 @@
 #![tactic(auto)]
 
 mod certificate;
-mod completions;
-mod doorbells;
 mod events;
 mod fault;
-mod given_commands;
-mod kept;
 mod leases;
-mod one_ring;
-mod refusals;
-mod registers;
-mod rings;
 mod row;
-mod table;
 #[cfg(test)]
 mod tests;
 mod trace_check;

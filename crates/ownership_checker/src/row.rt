@@ -1,133 +1,108 @@
-ghost use Rattle.std.specs.Prelude.{◌≡◌, ◌+◌, ◌≤◌, ℕ, Some, false, length, IfOk, IfErr, OnOk};
+//! A row, by its kind.
+ghost use Rattle.std.specs.Prelude.{◌≡◌, ◌+◌, ℕ, length, IfErr, OnOk};
 ghost use Rattle.traces.specs.Header.{IsHeader};
 ghost use Rattle.traces.specs.Limits.{most_lines};
-ghost use Rattle.traces.specs.declared.row.Row.TheVariants.{Sub, Write};
+ghost use Rattle.traces.specs.declared.row.Row.TheVariants.{Bell, Write};
 ghost use Rattle.ring_knowledge.specs.Known.{Known};
-ghost use Rattle.ownership_rules.specs.Refusal.{first_of};
-ghost use Rattle.ownership_checker.specs.Profile.{broken_within};
 ghost use Rattle.ring_finder.specs.Finding.{IsFinder};
-ghost use Rattle.ownership_checker.specs.Tracking.{Follows, IfRefused, IsRowStep, IsTracked, IsWithin};
+ghost use Rattle.trace_record.specs.Fresh.{IsWithin};
+ghost use Rattle.trace_record.specs.Steps.{IfRefused, IsLeast, IsRowStep};
+ghost use Rattle.ownership_checker.specs.Tracking.{IsLeastFrom, IsStepFrom, IsTracked};
 
-use crate::doorbells::check_doorbell;
 use crate::events::check_event;
-use crate::fault::StepFault;
-use crate::given_commands::gives_other_command;
-use crate::kept::Kept;
-use crate::one_ring::{declare_on, write_on};
-use crate::registers::check_register;
-use crate::table::is_in_table;
+use command_starts::note_write;
+use declaration_checks::check_declaration;
+use endpoint_checks::{is_bad_doorbell, ring_doorbell};
 use guest_memory::{Addr, WordMemory};
 use ownership_rules::Refusal;
-use ring_finder::{Finder, is_event_ring};
+use register_checks::check_register;
+use ring_finder::Finder;
+use trace_record::{StepFault, TraceRecord};
 use traces::{Header, Row};
-use trb::Block;
+use write_checks::check_write;
 
-/// Checks a row, and notes it; how many leases it begins.
+/// Checks a row, and notes it.
 pub fn check_row<M: WordMemory>(
     header: &Header,
     finder: &Finder,
-    kept: &mut Kept,
+    kept: &mut TraceRecord,
     memory: &mut M,
     row: &Row,
-) -> Result<u64, StepFault>
+) -> Result<(), StepFault>
     requires headed { IsHeader header.now }
     requires found { IsFinder header.now.rings finder.now }
     requires as_many { length kept.now.rings.items ≡ length header.now.rings }
     requires few_reads { IsWithin kept.now.events most_lines }
-    ensures ok { IfOk result (λ n. (k : Known) → IsTracked header.now k kept.old (M.words memory.old) →
-        IsRowStep header.now k row.now kept.new (M.words memory.new) n) }
-    ensures few { IfOk result (λ n. n ≤ 1) }
+    ensures ok { OnOk result ((k : Known) → IsTracked header.now k kept.old (M.words memory.old) →
+        IsRowStep header.now k row.now kept.new (M.words memory.new)) }
     ensures refused { IfErr result (λ e. IfRefused e (λ c. (k : Known) → IsTracked header.now k kept.old (M.words memory.old) →
-        first_of (broken_within header.now k row.now) ≡ Some c)) }
-    ensures reads { (n : ℕ) → IsWithin kept.old.events n → IsWithin kept.new.events (n + 1) }
+        IsLeast header.now k row.now c)) }
+    ensures reads { OnOk result ((n : ℕ) → IsWithin kept.old.events n → IsWithin kept.new.events (n + 1)) }
 {
     if kept.registers.is_stopped() {
         return Err(StepFault::Refused(Refusal::AfterStop));
     }
     match row {
-        Row::Sub { ring: id, blocks } => {
-            check_declaration(header, finder, kept, *id, blocks.as_slice())?;
-            Ok(0)
-        }
-        Row::Write { at, word } => check_write(header, finder, kept, memory, *at, *word),
+        Row::Sub { ring: id, blocks } => check_declaration(
+            header,
+            finder,
+            kept,
+            *id,
+            blocks.as_slice(),
+        ),
+        Row::Write { at, word } => check_word(header, finder, kept, memory, *at, *word),
         Row::Reg { register, value } => check_register(
             header, finder, kept, memory, *register, *value,
         ),
-        Row::Bell { slot, target } => {
-            check_doorbell(header, finder, kept, *slot, *target)?;
-            Ok(0)
-        }
-        Row::Read { event } => {
-            check_event(header, finder, kept, *event)?;
-            Ok(0)
-        }
+        Row::Bell { slot, target } => check_doorbell(header, finder, kept, memory, *slot, *target),
+        Row::Read { event } => check_event(header, finder, kept, memory, *event),
     }
 }
 
-/// Checks a declaration before the stop, and notes it; it begins no lease.
-fn check_declaration(
+/// Checks a write before the stop, makes it, and notes what it gives.
+fn check_word<M: WordMemory>(
     header: &Header,
     finder: &Finder,
-    kept: &mut Kept,
-    id: u8,
-    blocks: &[Block],
+    kept: &mut TraceRecord,
+    memory: &mut M,
+    at: Addr,
+    word: u32,
 ) -> Result<(), StepFault>
     requires headed { IsHeader header.now }
     requires found { IsFinder header.now.rings finder.now }
     requires as_many { length kept.now.rings.items ≡ length header.now.rings }
-    ensures ok { OnOk result ((k : Known) (memory : ℕ → ℕ) → Follows header.now k kept.old memory → k.stopped ≡ false →
-        IsRowStep header.now k (Sub id blocks.now) kept.new memory 0) }
-    ensures refused { IfErr result (λ e. IfRefused e (λ c. (k : Known) (memory : ℕ → ℕ) → Follows header.now k kept.old memory → k.stopped ≡ false →
-        first_of (broken_within header.now k (Sub id blocks.now)) ≡ Some c)) }
-    ensures events { kept.new.events ≡ kept.old.events }
+    ensures ok { OnOk result (IsStepFrom header.now kept.old (M.words memory.old) (Write at word) kept.new (M.words memory.new)) }
+    ensures refused { IfErr result (λ e. IfRefused e (IsLeastFrom header.now kept.old (M.words memory.old) (Write at word))) }
+    ensures events { OnOk result (kept.new.events ≡ kept.old.events) }
 {
-    let Some(number) = finder.ring_named(id) else {
-        return Err(StepFault::Refused(Refusal::NotDeclared));
-    };
-    let rings = header.rings.as_slice();
-    let ring = &rings[number];
-    if is_event_ring(ring) {
-        return Err(StepFault::Refused(Refusal::NotDeclared));
+    match check_write(header, finder, kept, memory, at, word) {
+        Ok(giving) => {
+            note_write(header, finder, kept, memory, at, word, giving.command)?;
+            Ok(())
+        }
+        Err(refusal) => Err(StepFault::Refused(refusal)),
     }
-    declare_on(&ring.shape, &mut kept.rings[number], blocks)
 }
 
-/// Checks a write before the stop, makes it, and notes what it gives; how many leases it begins.
-fn check_write<M: WordMemory>(
+/// Checks a doorbell before the stop, and notes it (xHCI 4.7, 4.8.3, 5.6).
+fn check_doorbell<M: WordMemory>(
     header: &Header,
     finder: &Finder,
-    kept: &mut Kept,
-    memory: &mut M,
-    at: Addr,
-    word: u32,
-) -> Result<u64, StepFault>
+    kept: &mut TraceRecord,
+    memory: &M,
+    slot: u8,
+    target: u8,
+) -> Result<(), StepFault>
     requires headed { IsHeader header.now }
     requires found { IsFinder header.now.rings finder.now }
     requires as_many { length kept.now.rings.items ≡ length header.now.rings }
-    ensures ok { IfOk result (λ n. (k : Known) → Follows header.now k kept.old (M.words memory.old) → k.stopped ≡ false →
-        IsRowStep header.now k (Write at word) kept.new (M.words memory.new) n) }
-    ensures few { IfOk result (λ n. n ≤ 1) }
-    ensures refused { IfErr result (λ e. IfRefused e (λ c. (k : Known) → Follows header.now k kept.old (M.words memory.old) → k.stopped ≡ false →
-        first_of (broken_within header.now k (Write at word)) ≡ Some c)) }
+    ensures ok { OnOk result (IsStepFrom header.now kept.old (M.words memory.now) (Bell slot target) kept.new (M.words memory.now)) }
+    ensures refused { IfErr result (λ e. IfRefused e (IsLeastFrom header.now kept.old (M.words memory.now) (Bell slot target))) }
     ensures events { kept.new.events ≡ kept.old.events }
 {
-    let Some(number) = finder.ring_at(header, at.get()) else {
-        if is_in_table(kept, at) {
-            return Err(StepFault::Refused(Refusal::WriteToOwned));
-        }
-        memory.set(at, word)?;
-        return Ok(0);
-    };
-    let rings = header.rings.as_slice();
-    let ring = &rings[number];
-    if is_event_ring(ring) {
-        return Err(StepFault::Refused(Refusal::WriteToOwned));
+    if is_bad_doorbell(header, kept, memory, slot, target) {
+        return Err(StepFault::Refused(Refusal::BadDoorbell));
     }
-    if gives_other_command(ring, &kept.rings[number], at, word) {
-        return Err(StepFault::Refused(Refusal::NotInProfile));
-    }
-    if is_in_table(kept, at) {
-        return Err(StepFault::Refused(Refusal::WriteToOwned));
-    }
-    write_on(&ring.shape, &mut kept.rings[number], memory, at, word)
+    ring_doorbell(finder, kept, slot, target);
+    Ok(())
 }

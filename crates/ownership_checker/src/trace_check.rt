@@ -3,19 +3,19 @@ ghost use Rattle.traces.specs.Header.{IsHeader};
 ghost use Rattle.traces.specs.Limits.{most_lines};
 ghost use Rattle.ring_knowledge.specs.Known.{nothing};
 ghost use Rattle.safety.specs.Headline.{IsHarmless};
-ghost use Rattle.ownership_checker.specs.Profile.{verdict_within};
-ghost use Rattle.ownership_checker.specs.Verdicts.{IfRefusedAt, IsAccepted, IsFirstOfAll};
+ghost use Rattle.ownership_rules.specs.Rules.{verdict_from};
+ghost use Rattle.ownership_checker.specs.Verdicts.{IfRefusedAt, IsAccepted};
 ghost use Rattle.ownership_checker.specs.Walks.{WalksRead};
 
 use crate::certificate::Certificate;
-use crate::fault::{CheckFault, StepFault};
-use crate::kept::Kept;
+use crate::fault::CheckFault;
 use crate::leases::note_leases;
 use crate::row::check_row;
 use guest_memory::{PageMemory, WordMemory};
-use lease_book::LeaseBook;
+use lease_book::{LeaseBook, RangeIndexes};
 use ring_finder::Finder;
 use std::alloc::Global;
+use trace_record::{StepFault, TraceRecord};
 use traces::{Header, Row, Trace};
 
 /// Checks the rows of a trace, `first` the number of the first; its leases.
@@ -30,20 +30,28 @@ fn check_rows<M: WordMemory + Drop>(
     requires within { first + length rows.now ≤ most_lines + 1 }
     requires zero { (a : ℕ) → M.words memory a ≡ 0 }
     ensures accepted { IfOk result (λ certificate. IsAccepted header.now rows.now first certificate.leases.items) }
-    ensures passed { OnOk result (verdict_within header.now nothing first rows.now ≡ None) }
     ensures walk { OnOk result (WalksRead header.now rows.now) }
-    ensures refused { IfErr result (λ e. IfRefusedAt e (λ row c. verdict_within header.now nothing first rows.now ≡ Some (row, c))) }
-    ensures first { IfErr result (λ e. IfRefusedAt e (IsFirstOfAll header.now first rows.now)) }
+    ensures refused { IfErr result (λ e. IfRefusedAt e (λ row c. verdict_from header.now nothing first rows.now ≡ Some (row, c))) }
 {
     let mut memory = memory;
     let finder = Finder::new(alloc, header)?;
-    let mut kept = Kept::new(alloc, header)?;
+    let mut kept = TraceRecord::new(alloc, header)?;
     let mut number = first;
     let mut book = LeaseBook::new(alloc, header)?;
+    let mut ranges = RangeIndexes::new(alloc);
     for row in rows {
-        note_leases(&mut book, header, &finder, &kept, number, row)?;
+        note_leases(
+            &mut book,
+            &mut ranges,
+            header,
+            &finder,
+            &kept,
+            &memory,
+            number,
+            row,
+        )?;
         match check_row(header, &finder, &mut kept, &mut memory, row) {
-            Ok(_) => {}
+            Ok(()) => {}
             Err(StepFault::Refused(refusal)) => return Err(CheckFault::Refused {
                 row: number,
                 refusal,
@@ -65,10 +73,8 @@ pub fn check_in<M: WordMemory + Drop>(
 ) -> Result<Certificate, CheckFault>
     requires zero { (a : ℕ) → M.words memory a ≡ 0 }
     ensures accepted { IfOk result (λ certificate. IsAccepted trace.now.header trace.now.rows trace.now.first certificate.leases.items) }
-    ensures passed { OnOk result (verdict_within trace.now.header nothing trace.now.first trace.now.rows ≡ None) }
     ensures refused { IfErr result (λ e. IfRefusedAt e (λ row c.
-        verdict_within trace.now.header nothing trace.now.first trace.now.rows ≡ Some (row, c))) }
-    ensures first { IfErr result (λ e. IfRefusedAt e (IsFirstOfAll trace.now.header trace.now.first trace.now.rows)) }
+        verdict_from trace.now.header nothing trace.now.first trace.now.rows ≡ Some (row, c))) }
     ensures walk { OnOk result (WalksRead trace.now.header trace.now.rows) }
     ensures harmless { OnOk result (IsHarmless trace.now.header trace.now.rows) }
 {
@@ -82,15 +88,12 @@ pub fn check_in<M: WordMemory + Drop>(
 }
 
 /// Checks a trace in one pass: its leases, or the first row that breaks a rule and the least of the rules that
-/// it breaks. For now each write that gives a command other than No Op and Enable Slot is refused with `NotInProfile`. A trace
-/// that is accepted is harmless: in each run of the controller's model beside its rows every world is safe. `Memory` is answered
-/// only where a growth was refused.
+/// it breaks. A trace that is accepted is harmless: in each run of the controller's model beside its rows every world is safe. `Memory`
+/// is answered only where a growth was refused.
 pub fn check(alloc: Global, trace: &Trace) -> Result<Certificate, CheckFault>
     ensures accepted { IfOk result (λ certificate. IsAccepted trace.now.header trace.now.rows trace.now.first certificate.leases.items) }
-    ensures passed { OnOk result (verdict_within trace.now.header nothing trace.now.first trace.now.rows ≡ None) }
     ensures refused { IfErr result (λ e. IfRefusedAt e (λ row c.
-        verdict_within trace.now.header nothing trace.now.first trace.now.rows ≡ Some (row, c))) }
-    ensures first { IfErr result (λ e. IfRefusedAt e (IsFirstOfAll trace.now.header trace.now.first trace.now.rows)) }
+        verdict_from trace.now.header nothing trace.now.first trace.now.rows ≡ Some (row, c))) }
     ensures walk { OnOk result (WalksRead trace.now.header trace.now.rows) }
     ensures harmless { OnOk result (IsHarmless trace.now.header trace.now.rows) }
 {

@@ -6,8 +6,8 @@ use Rattle.trace_reader.specs.Reading.{trace_of}
 use Rattle.trace_reader.specs.declared.fault.LineFault.{LineFault}
 use Rattle.ring_knowledge.specs.Known.{nothing}
 use Rattle.ring_knowledge.specs.declared.lease.Lease.{Lease}
-use Rattle.ownership_checker.specs.Profile.{verdict_within}
-use Rattle.ownership_checker.specs.Verdicts.{IsAccepted, IsFirstOfAll, IsHarmless}
+use Rattle.ownership_rules.specs.Rules.{verdict_from}
+use Rattle.ownership_checker.specs.Verdicts.{IsAccepted, IsHarmless}
 use Rattle.ownership_checker.specs.Walks.{WalksRead}
 use Rattle.answers.specs.Keeping.{IsKept, IsKeptInPart}
 use Rattle.answers.specs.declared.answer.Answer.{Answer}
@@ -19,8 +19,7 @@ IsCutShort contents before after trace = (leases : List Lease) × IsAccepted tra
 
 -- an answer is right of a trace that was read, and so is what was done where its certificate goes: how many leases it has, where no
 -- row breaks a rule, and then these were kept whole, a walk after any row reads what was declared, and no run of the controller's
--- model beside the rows does harm; or its first row that is outside the profile or breaks a rule, and the least rule that it breaks,
--- and then nothing was kept
+-- model beside the rows does harm; or its first row that breaks a rule, and the least rule that it breaks, and then nothing was kept
 abbrev pub IsVerdict : {C : Type 0} → (C → Option (List ℕ)) → Option C → Option C → Answer → Trace → Type 0
 IsVerdict contents before after (Accepted count) trace =
     (leases : List Lease) × IsAccepted trace.header trace.rows trace.first leases × (count ≡ length leases) × WalksRead trace.header trace.rows
@@ -29,8 +28,7 @@ IsVerdict contents before after (Written text) trace = ⊥
 IsVerdict contents before after (Decoded block) trace = ⊥
 IsVerdict contents before after (Replayed seen ending) trace = ⊥
 IsVerdict contents before after (Refused row refusal) trace =
-    (verdict_within trace.header nothing trace.first trace.rows ≡ Some (row, refusal)) × IsFirstOfAll trace.header trace.first trace.rows row refusal
-    × (after ≡ before)
+    (verdict_from trace.header nothing trace.first trace.rows ≡ Some (row, refusal)) × (after ≡ before)
 IsVerdict contents before after (Unfollowed line refusal) trace = ⊥
 IsVerdict contents before after (BadLine line fault) trace = ⊥
 IsVerdict contents before after BadWord trace = ⊥

@@ -1,23 +1,24 @@
-use Rattle.std.proofs.Common.{sym, ◌∙◌, subst}
-use Rattle.ownership_checker.specs.Tracking.{FollowsEvents}
-use Rattle.ownership_checker.proofs.EventRules.{early_event, no_events, misplaced_is, misplaced_event, placed_event}
+use Rattle.std.proofs.Common.{sym, ◌∙◌}
+use Rattle.ownership_checker.proofs.Keeping.{set_up}
+use Rattle.ownership_checker.proofs.EventRows.{by_place, by_transfer, by_completion, by_other, is_started}
 use Rattle.ownership_checker.proofs.events.is_impossible.Goals as goal
 
+pub returns-then-is_no_event : goal.returns-then-is_no_event
+returns-then-is_no_event c = λ k m f keeps. by_place c.args.header.now k c.args.event (sym (c.is_no_event.ensures c.args.header.now k m f (set_up c.args.header.now c.requires.headed k keeps)) ∙ c.if-is_no_event.true)
+
+pub returns-in-TransferEvent : goal.returns-in-TransferEvent
+returns-in-TransferEvent c = λ k m f keeps.
+    let placed = sym (c.is_no_event.ensures c.args.header.now k m f (set_up c.args.header.now c.requires.headed k keeps)) ∙ c.if-is_no_event.false in
+    by_transfer c.args.header.now k c.args.event placed c.is_impossible_transfer.result (sym c.kind.ensures ∙ c.in-TransferEvent.is) (c.is_impossible_transfer.ensures k m f keeps)
+
+pub returns-in-CommandCompletion : goal.returns-in-CommandCompletion
+returns-in-CommandCompletion c = λ k m f keeps.
+    let ready = set_up c.args.header.now c.requires.headed k keeps in
+    let placed = sym (c.is_no_event.ensures c.args.header.now k m f ready) ∙ c.if-is_no_event.false in
+    by_completion c.args.header.now k c.args.event placed c.is_impossible_completion.result (sym c.kind.ensures ∙ c.in-CommandCompletion.is)
+    (c.is_impossible_completion.ensures k m f ready (is_started c.args.header.now k c.args.event placed))
+
 pub returns-in_default : goal.returns-in_default
-returns-in_default c = λ k m f. sym (no_events c.args.header.now k c.args.event f.set_up (subst (FollowsEvents c.args.header.now k) c.in_default.is f.events))
-
-pub returns-then-not-is_started : goal.returns-then-not-is_started
-returns-then-not-is_started c = λ k m f. sym (early_event c.args.header.now k c.args.event (sym (c.is_started.ensures k f.registers) ∙ c.if-not-is_started.true))
-
-pub returns-then-is_misplaced : goal.returns-then-is_misplaced
-returns-then-is_misplaced c = λ k m f.
-    let place = subst (FollowsEvents c.args.header.now k) c.in-Some.is f.events in
-    c.if-is_misplaced.true ∙ sym (misplaced_event c.args.header.now k c.args.event (sym (c.is_started.ensures k f.registers) ∙ c.if-not-is_started.false)
-    (sym (misplaced_is c.args.header.now k c.args.event _ place) ∙ sym c.is_misplaced.ensures ∙ c.if-is_misplaced.true))
-
-pub returns-else-is_misplaced : goal.returns-else-is_misplaced
-returns-else-is_misplaced c = λ k m f.
-    let place = subst (FollowsEvents c.args.header.now k) c.in-Some.is f.events in
-    let on = sym (c.is_started.ensures k f.registers) ∙ c.if-not-is_started.false in
-    c.is_impossible_by_kind.ensures k m f on ∙ sym (placed_event c.args.header.now k c.args.event on
-    (sym (misplaced_is c.args.header.now k c.args.event _ place) ∙ sym c.is_misplaced.ensures ∙ c.if-is_misplaced.false))
+returns-in_default c = λ k m f keeps.
+    let placed = sym (c.is_no_event.ensures c.args.header.now k m f (set_up c.args.header.now c.requires.headed k keeps)) ∙ c.if-is_no_event.false in
+    by_other c.args.header.now k c.args.event placed (λ e. c.in_default.not-TransferEvent (c.kind.ensures ∙ e)) (λ e. c.in_default.not-CommandCompletion (c.kind.ensures ∙ e))

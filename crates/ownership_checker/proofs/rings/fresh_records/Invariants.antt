@@ -1,6 +1,0 @@
-use Rattle.ownership_checker.specs.Tracking.{IsFreshSo}
-use Rattle.ownership_checker.proofs.rings.fresh_records.Given as goal
-
--- a record of each ring so far
-abbrev pub invariant-loop-ring : goal.invariant-loop-ring
-invariant-loop-ring l = IsFreshSo l.rings l.records.items l.ring-index
