@@ -68,8 +68,7 @@ pub fn why_refused(refusal: Refusal) -> &'static str {
         Refusal::ImpossibleEvent => "no controller can have posted this event here",
         Refusal::BadErdp =>
             "the value of ERDP names no event place up to the one that is read next",
-        Refusal::NotInProfile =>
-            "the row has a form of the standard that this checker leaves out, or doesn't check yet",
+        Refusal::NotInProfile => "the row has a form of the standard that this checker leaves out",
         Refusal::AfterStop => "the row comes after the controller was stopped or reset",
         Refusal::BadMove => "the row binds or moves a ring to where it may not stand",
     }
