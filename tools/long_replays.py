@@ -139,6 +139,13 @@ class Run:
     def report(self, at, slot, endpoint, code=1):
         self.post('report', at, code, slot << 24 | endpoint << 16 | TRANSFER_EVENT << 10)
 
+    def stop(self, slot, endpoint, ring):
+        """A Stop Endpoint is given, taken and finished, with nothing taken of the ring."""
+        self.give_command(STOP_ENDPOINT, slot, 0, endpoint)
+        self.commands.take()
+        self.report(ring.address(0), slot, endpoint, 27)
+        self.post('finish', self.commands.address(self.commands.taken - 1), 1, slot << 24 | COMMAND_COMPLETION << 10)
+
     def new_slot(self):
         self.slots += 1
         self.command(ENABLE_SLOT, 0, done_slot=self.slots)
@@ -255,10 +262,7 @@ def moves(steps):
     run = Run(1, 64)
     run.start()
     (slot, index, ring), = run.bind_all()
-    run.give_command(STOP_ENDPOINT, slot, 0, index)
-    run.commands.take()
-    run.report(ring.address(0), slot, index, 27)
-    run.post('finish', run.commands.address(run.commands.taken - 1), 1, slot << 24 | COMMAND_COMPLETION << 10)
+    run.stop(slot, index, ring)
     while len(run.steps) < steps:
         for place in (ring.places - 1, 0):
             run.command(SET_TR_DEQUEUE, slot, ring.address(place) | 1, index)

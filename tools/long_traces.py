@@ -15,8 +15,7 @@ FILE gets about LINES lines, 1,046,000 where that is left out. KIND says what mo
 import sys
 
 import long_replays
-from long_replays import (ADDRESS_DEVICE, COMMAND_COMPLETION, CONTEXTS, EVENT, FIRST_RING, NO_OP, SEGMENT, SET_TR_DEQUEUE, STOP_ENDPOINT,
-                          Ring)
+from long_replays import (ADDRESS_DEVICE, COMMAND_COMPLETION, CONTEXTS, EVENT, FIRST_RING, NO_OP, SEGMENT, SET_TR_DEQUEUE, Ring)
 
 DISABLE_SLOT, EVALUATE_CONTEXT = 10, 13
 
@@ -103,10 +102,7 @@ def moves(lines):
     run = Run(1, 64, 4096)
     run.start()
     (slot, index, ring), = run.bind_all()
-    run.give_command(STOP_ENDPOINT, slot, 0, index)
-    run.commands.take()
-    run.report(ring.address(0), slot, index, 27)
-    run.post('finish', run.commands.address(run.commands.taken - 1), 1, slot << 24 | COMMAND_COMPLETION << 10)
+    run.stop(slot, index, ring)
     while len(run.rows) < lines:
         ring.give((0, 0, 0, NO_OP | 1 << 5))
         if ring.enqueued % ring.data:
