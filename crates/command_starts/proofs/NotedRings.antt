@@ -69,7 +69,8 @@ module _ (h : Header) (headed : IsHeader h) (a w : ℕ) (aligned : a % 4 ≡ 0) 
         false_unless (is_inside q.shape a) (λ e. apart.memory a e (sym (inside_is ring (among_at h.rings n ring at)) ∙ has))
 
     pub noted_here : (old new : RingRecord) (after : List RingRecord) → slice_get records n ≡ Some old → after ≡ set records n new →
-        ((v : RingView) → FollowsRing ring.shape v old → FollowsRing ring.shape (changed ring.shape v (Writes a w)) new) → FollowsRings h (with_word h k a w) after
+        (is_driver_kind ring.shape.kind ≡ true → FollowsRing ring.shape (k.ring ring.id) old → FollowsRing ring.shape (changed ring.shape (k.ring ring.id) (Writes a w)) new) →
+        FollowsRings h (with_word h k a w) after
     noted_here old new after was is noted = record {
       as_many = ap length is ∙ length-set records n new ∙ f.as_many;
       each = λ i q r there here driver.
@@ -78,7 +79,7 @@ module _ (h : Header) (headed : IsHeader h) (a w : ℕ) (aligned : a % 4 ≡ 0) 
                 let one : q ≡ ring = one_at h.rings n q ring (ap (λ j. slice_get h.rings j) (sym same.0) ∙ there) at in
                 let driver_too : is_driver_kind ring.shape.kind ≡ true = ap (λ (y : Ring). is_driver_kind y.shape.kind) (sym one) ∙ driver in
                 let now : FollowsRing ring.shape ((with_word h k a w).ring ring.id) new =
-                subst (λ (v : RingView). FollowsRing ring.shape v new) (sym (view_written ring (among_at h.rings n ring at))) (noted (k.ring ring.id) (f.each n ring old at was driver_too)) in
+                subst (λ (v : RingView). FollowsRing ring.shape v new) (sym (view_written ring (among_at h.rings n ring at))) (noted driver_too (f.each n ring old at was driver_too)) in
                 subst (λ (x : RingRecord). FollowsRing q.shape ((with_word h k a w).ring q.id) x) same.1
                 (subst (λ (y : Ring). FollowsRing y.shape ((with_word h k a w).ring y.id) new) (sym one) now)
             | inr other ↦

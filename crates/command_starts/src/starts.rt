@@ -9,8 +9,8 @@ ghost use Rattle.ownership_rules.specs.Rules.{broken};
 ghost use Rattle.safety.specs.Keeps.{DriverKeeps};
 ghost use Rattle.device_record.specs.Unfinished.{FollowsUnfinished};
 ghost use Rattle.range_words.specs.Holding.{HoldsAreas};
-ghost use Rattle.ring_finder.specs.Finding.{IsFinder};
 ghost use Rattle.trace_record.specs.FollowsTrace.{FollowsTrace, inputs_of};
+ghost use Rattle.trace_record.specs.WordPlaces.{IsPlacedSo};
 ghost use Rattle.command_starts.specs.Starting.{IsIdle, IsWith};
 
 use crate::devices::{add_area, device_taken, take_device};
@@ -19,33 +19,31 @@ use commands::Command;
 use device_record::UnfinishedCommands;
 use guest_memory::{Addr, WordMemory};
 use range_words::Areas;
-use ring_finder::Finder;
 use std::alloc::AllocError;
-use trace_record::TraceRecord;
+use trace_record::{TraceRecord, WordPlace};
 use traces::Header;
 
-/// Makes a write that breaks no rule, and notes what it gives (xHCI 4.9.2): `command` is the command that it gives, if it gives
+/// Makes a write that breaks no rule, and notes what it gives (xHCI 4.9.2): `place` is where the word lies, `command` the command that it gives, if it gives
 /// one, which is unfinished from now on. Its input context comes under lease, and the device context that it takes (xHCI 4.6.5).
 /// `AllocError` where memory is wanting; the record is then of no more use.
 pub fn note_write<M: WordMemory>(
     header: &Header,
-    finder: &Finder,
     t: &mut TraceRecord,
     memory: &mut M,
     at: Addr,
     word: u32,
+    place: WordPlace,
     command: Option<Command>,
 ) -> Result<(), AllocError>
-    requires headed { IsHeader header.now }
-    requires found { IsFinder header.now.rings finder.now }
-    ensures ok { OnOk result ((k : Known) → FollowsTrace header.now k t.old (M.words memory.old) → command ≡ command_given header.now k at word →
+    requires { IsHeader header.now }
+    ensures ok { OnOk result ((k : Known) → FollowsTrace header.now k t.old (M.words memory.old) → IsPlacedSo header.now k at word place → command ≡ command_given header.now k at word →
         DriverKeeps header.now k → broken header.now k (Write at word) ≡ [] → k.stopped ≡ false →
         FollowsTrace header.now (learned header.now k (Write at word)) t.new (M.words memory.new)) }
     ensures events { t.new.events ≡ t.old.events }
 {
     let taken = device_taken(&t.devices, &t.registers, memory, command);
     memory.set(at, word)?;
-    note_on_ring(header, finder, &mut t.rings, at, word);
+    note_on_ring(header, &mut t.rings, place);
     t.soiled.clear(at)?;
     note_given(&mut t.commands, &mut t.inputs, command)?;
     take_device(

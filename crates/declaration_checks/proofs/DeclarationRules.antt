@@ -14,7 +14,7 @@ use Rattle.ownership_rules.specs.Refusal.{first_of, first_broken, broken_of}
 use Rattle.ownership_rules.specs.Declarations.{declaration_tests, is_driver_ring}
 use Rattle.ownership_rules.specs.Rules.{broken, tests}
 use Rattle.declaration_checks.specs.OneRing.{room_tests}
-use Rattle.declaration_checks.proofs.FirstBroken.{first_broken-is}
+use Rattle.trace_record.proofs.FirstBroken.{first_broken-is}
 use Rattle.ring_finder.proofs.RingsApart.{IsAmong}
 use Rattle.ring_finder.proofs.HeaderRings.{ring_found, not_found, shape_there}
 

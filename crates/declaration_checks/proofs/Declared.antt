@@ -35,7 +35,7 @@ use Rattle.trace_record.specs.declared.trace_record.TraceRecord.{TraceRecord}
 use Rattle.trace_record.specs.FollowsTrace.{FollowsTrace, FollowsEvents, inputs_of}
 use Rattle.trace_record.specs.Steps.{IfRefused, IsLeast, IsRowStep}
 use Rattle.declaration_checks.specs.OneRing.{IsDeclared, room_tests}
-use Rattle.declaration_checks.proofs.FirstBroken.{nothing_broken}
+use Rattle.trace_record.proofs.FirstBroken.{nothing_broken}
 use Rattle.declaration_checks.proofs.DeclarationRules.{declared_nowhere, declared_on_events, declared_on_ring}
 
 -- in a list with a new element at n

@@ -1,4 +1,3 @@
-pub mod FirstBroken
 pub mod DeclarationRules
 pub mod FoundRing
 pub mod Declared

@@ -1,5 +1,3 @@
-mod FirstBroken
 mod RegisterTests
 mod StartRules
-mod SetUp
 mod RegisterRows

@@ -35,7 +35,7 @@ use Rattle.trace_record.specs.FollowsTrace.{FollowsEvents, FollowsTrace, device_
 use Rattle.trace_record.specs.Premises.{IsSetUp}
 use Rattle.trace_record.specs.Steps.{IsLeast, IsRowStep}
 use Rattle.register_checks.specs.EventReads.{IsMoved}
-use Rattle.register_checks.proofs.FirstBroken.{first_broken-is, nothing_broken}
+use Rattle.trace_record.proofs.FirstBroken.{first_broken-is, nothing_broken}
 
 -- all else stays as it was
 pub record IsElsewhereSame (k l : Known) : Type 0 where

@@ -1,6 +1,6 @@
 -- How many positions are given without a gap
-use Rattle.std.proofs.Common.{◌≡◌, ℕ, suc, zero, ◌+◌, ◌<◌, ◌≤◌, List, Bool, true, false, Option, Some, None, refl, ap, sym, ◌∙◌, arith, inl, inr, cond}
-use Rattle.std.specs.Prelude.{◌&&◌, ◌||◌, ◌%◌, not, is_some}
+use Rattle.std.proofs.Common.{◌≡◌, ℕ, suc, zero, ◌+◌, ◌<◌, ◌≤◌, List, Bool, true, false, refl, ap, sym, ◌∙◌, arith, inl, inr, cond}
+use Rattle.std.specs.Prelude.{◌&&◌, ◌||◌, ◌%◌, not}
 use Rattle.std.proofs.lemmas.Bool.{cases_lt, cases_eq, false≢true}
 use Rattle.trb.specs.declared.block.Block.{Block}
 use Rattle.segments.specs.declared.spot.Spot.{Spot}
@@ -9,8 +9,8 @@ use Rattle.segments.specs.Places.{place_count, is_crossing}
 use Rattle.segments.specs.RingView.{RingView, Declares, Writes, Reaches, Opens, Holds, changed, new_ring, floor_number, gives, gives_crossing}
 use Rattle.segments.specs.Ceiling.{is_step_given, is_way_given, first_not_given, given_count}
 use Rattle.ring_knowledge.specs.declared.ring_record.RingRecord.{RingRecord}
-use Rattle.ring_knowledge.specs.RingRecords.{FollowsMarks, FollowsRing, is_the}
-use Rattle.ring_knowledge.proofs.Noted.{noted_past, or_false}
+use Rattle.ring_knowledge.specs.RingRecords.{FollowsMarks, FollowsRing}
+use Rattle.ring_knowledge.proofs.Noted.{noted_past}
 use Rattle.ring_knowledge.proofs.WholeDescriptors.{step_not_given}
 
 -- the steps up to g are given, and that to g isn't
@@ -83,26 +83,3 @@ counts_on shape v r marks before counted_ more stop = record {
   steps = λ q h. elim (cases_lt q before) [ inl early ↦ counted_ q early | inr late ↦ more q late h ];
   stop = stop;
 }
-
--- a write that gives nothing
-pub nothing_more : (shape : Shape) (v : RingView) (r : RingRecord) → FollowsRing shape v r → (a w : ℕ) → ((p : ℕ) → gives shape r.floor p a w ≡ false) →
-    ((q : ℕ) → gives_crossing shape r.floor q a w ≡ false) → FollowsMarks shape (changed shape v (Writes a w)) r → FollowsRing shape (changed shape v (Writes a w)) r
-unfolding is_step_given is_way_given
-nothing_more shape v r known a w no_position no_crossing marks = record {
-  marks = marks;
-  steps = λ q h. same q ∙ known.steps q h;
-  stop = same r.count ∙ known.stop;
-}
-  where
-    none : (g h c x y : Bool) → h ≡ false → y ≡ false → ((g || h) && (not c || (x || y))) ≡ (g && (not c || x))
-    none g h c x y e f = ap (λ b. (g || b) && (not c || (x || y))) e ∙ ap (λ b. b && (not c || (x || y))) (or_false g) ∙ ap (λ b. g && (not c || (x || b))) f ∙ ap (λ b. g && (not c || b)) (or_false x)
-
-    same : (q : ℕ) → is_step_given shape (changed shape v (Writes a w)) q ≡ is_step_given shape v q
-    same q =
-        none (v.given q) (gives shape v.floor q a w) (is_crossing shape q) (v.crossed q) (gives_crossing shape v.floor q a w)
-        (ap (λ f. gives shape f q a w) known.marks.floor ∙ no_position q) (ap (λ f. gives_crossing shape f q a w) known.marks.floor ∙ no_crossing q)
-
--- nothing is named
-pub none_named : (o : Option ℕ) → is_some o ≡ false → (p : ℕ) → is_the o p ≡ false
-none_named None none p = refl
-none_named (Some m) none p = absurd (false≢true (sym none))

@@ -1,6 +1,6 @@
 -- What a write gives of a ring that a record follows
-use Rattle.std.proofs.Common.{◌≡◌, ℕ, ◌+◌, ◌%◌, ◌<◌, ◌≤◌, [], ◌∷◌, Bool, true, false, Some, refl, ap, sym, ◌∙◌, arith, get_or, cond}
-use Rattle.std.specs.Prelude.{◌&&◌, not, max}
+use Rattle.std.proofs.Common.{◌≡◌, ℕ, ◌+◌, ◌%◌, ◌<◌, ◌≤◌, [], ◌∷◌, Bool, true, false, Option, None, Some, refl, ap, sym, ◌∙◌, arith, get_or, cond}
+use Rattle.std.specs.Prelude.{◌&&◌, not, max, option_map, IfSome}
 use Rattle.std.proofs.lemmas.Bool.{and_parts, eq-eqb, ne_eqb}
 use Rattle.segments.specs.declared.place.Place.TheVariants.{Data as AtData, Link as AtLink}
 use Rattle.segments.specs.ShapeValue.{Shape}
@@ -12,7 +12,8 @@ use Rattle.segments.specs.Givings.{link_of}
 use Rattle.segments.proofs.Crossings.{is_crossing-from}
 use Rattle.ring_knowledge.specs.declared.ring_record.RingRecord.{RingRecord}
 use Rattle.ring_knowledge.specs.Marks.{is_noted}
-use Rattle.ring_knowledge.specs.RingRecords.{FollowsMarks, is_the, least_crossing}
+use Rattle.ring_knowledge.specs.declared.ring_record.RingGiving.TheVariants.{Position, Crossing}
+use Rattle.ring_knowledge.specs.RingRecords.{FollowsMarks, is_the, least_crossing, positions_of, crossings_of}
 use Rattle.ring_knowledge.proofs.Noted.{noted_due, false_unless}
 use Rattle.ring_knowledge.proofs.Ranges.{filter_none, filter_only}
 use Rattle.ring_knowledge.proofs.DueNumbers.{link_of-crossed}
@@ -121,3 +122,24 @@ module _ (shape : Shape) (v : RingView) (r : RingRecord) (follows : FollowsMarks
         and_false : (b : Bool) → (b && false) ≡ false
         and_false true = refl
         and_false false = refl
+
+    -- what is given of a place that isn't given yet: o is what the write would give
+    pub positions_found : (i : ℕ) (o : Option ℕ) → get_or r.given.items i false ≡ false → ((p : ℕ) → gives shape r.floor p a w ≡ is_the o p) →
+        IfSome o (λ q. (number r.floor ≤ q) × (q < number r.floor + place_count shape) × (q % place_count shape ≡ i)) → positions_given shape v a w ≡ positions_of (option_map Position o)
+    positions_found i None free gives_it due = positions_none gives_it
+    positions_found i (Some q) free gives_it due = positions_one i q free due.0 due.1 due.2 gives_it
+
+    -- and of such a Link
+    pub crossings_found : (j : ℕ) (o : Option ℕ) → get_or r.crossed.items j false ≡ false → ((q : ℕ) → gives_crossing shape r.floor q a w ≡ is_the o q) →
+        IfSome o (λ q. (max (number r.floor) 1 ≤ q) × (q < max (number r.floor) 1 + place_count shape) × (link_crossed shape q ≡ Some j)) → crossings_given shape v a w ≡ crossings_of (option_map Crossing o)
+    crossings_found j None free gives_it due = crossings_none gives_it
+    crossings_found j (Some q) free gives_it due = crossings_one j q free due.0 due.1 due.2 gives_it
+
+-- a position is no crossing
+pub no_crossing_named : (o : Option ℕ) → [] ≡ crossings_of (option_map Position o)
+no_crossing_named None = refl
+no_crossing_named (Some p) = refl
+
+pub no_position_named : (o : Option ℕ) → [] ≡ positions_of (option_map Crossing o)
+no_position_named None = refl
+no_position_named (Some q) = refl

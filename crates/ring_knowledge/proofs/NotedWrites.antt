@@ -1,20 +1,54 @@
 -- A record with the mark of what a write gives follows what is known after the write
-use Rattle.std.proofs.Common.{◌≡◌, ℕ, ◌+◌, ◌%◌, ◌<◌, ◌≤◌, List, Bool, true, false, Option, Some, None, refl, ap, sym, ◌∙◌, arith, inl, inr, length, set}
-use Rattle.std.specs.Prelude.{◌==◌, ◌&&◌, ◌||◌, max, is_some, IfSome}
+use Rattle.std.proofs.Common.{◌≡◌, ℕ, suc, zero, ◌+◌, ◌%◌, ◌<◌, ◌≤◌, List, [], ◌∷◌, Bool, true, false, None, Some, refl, get_or, ap, sym, ◌∙◌, arith, inl, inr, length, set, subst}
+use Rattle.std.specs.Prelude.{◌==◌, ◌&&◌, ◌||◌, not, Contains}
 use Rattle.std.proofs.Math.ListN.{length-set}
-use Rattle.std.proofs.lemmas.Bool.{cases_Bool, ne_eqb, false≢true}
+use Rattle.std.proofs.Math.Nat.{mod-lt}
+use Rattle.std.proofs.lemmas.Bool.{cases_Bool, cases_eq, eq-eqb, ne_eqb, false≢true}
 use Rattle.segments.specs.ShapeValue.{Shape}
 use Rattle.segments.specs.Places.{place_count, links, link_crossed, is_crossing}
-use Rattle.segments.specs.Spots.{number}
-use Rattle.segments.specs.RingView.{RingView, Writes, changed, floor_number, gives, gives_crossing}
+use Rattle.segments.specs.RingView.{RingView, Writes, changed, floor_number, gives, gives_crossing, positions_given, crossings_given}
+use Rattle.segments.specs.Ceiling.{is_step_given, is_way_given}
 use Rattle.segments.specs.Givings.{link_of}
 use Rattle.segments.proofs.Positions.{place_count_pos}
 use Rattle.segments.proofs.Crossings.{crossed_link, is_crossing-from}
+use Rattle.segments.proofs.Giving.{gives_is}
+use Rattle.segments.proofs.DueLists.{position_given, position_given_is, crossing_given, crossing_given_is}
 use Rattle.ring_knowledge.specs.declared.ring_record.RingRecord.{RingRecord}
 use Rattle.ring_knowledge.specs.Marks.{is_noted}
-use Rattle.ring_knowledge.specs.RingRecords.{FollowsMarks, is_the, least_crossing}
-use Rattle.ring_knowledge.proofs.Noted.{noted_more, noted_same}
+use Rattle.ring_knowledge.specs.RingRecords.{FollowsMarks, FollowsRing, least_crossing}
+use Rattle.ring_knowledge.proofs.Noted.{false_unless, noted_more}
 use Rattle.ring_knowledge.proofs.DueNumbers.{same_due, same_due_crossing, link_of-crossed}
+use Rattle.ring_knowledge.proofs.DueWrites.{GivesCrossing, gives_crossing-true}
+
+none_in : (n : ℕ) → Contains [] n → ⊥
+none_in n c = omega (arith, c.1)
+
+one_in : (m n : ℕ) → Contains (m ∷ []) n → n ≡ m
+one_in m n c = by c.0 c.1 c.2
+  where
+    by : (i : ℕ) → i < length (m ∷ []) → get_or (m ∷ []) i n ≡ n → n ≡ m
+    by zero below at = sym at
+    by (suc i) below at = absurd (omega (arith, below))
+
+none_some : (j : ℕ) → None ≡ Some j → ⊥
+none_some j e = cc
+
+-- the numbers that are given behind a write, where those of the list are given by it
+module _ (given gives_it : ℕ → Bool) (now : List ℕ) (there : (n : ℕ) → given n ≡ false → gives_it n ≡ true → Contains now n) where
+  pub none_more : now ≡ [] → (n : ℕ) → (given n || gives_it n) ≡ given n
+  none_more none n = elim (cases_Bool (given n)) [
+    | inl old ↦ rw old refl
+    | inr new ↦ rw (new, false_unless (gives_it n) (λ e. none_in n (subst (λ xs. Contains xs n) none (there n new e)))) refl
+  ]
+
+  pub one_more : (m : ℕ) → now ≡ m ∷ [] → gives_it m ≡ true → (n : ℕ) → (given n || gives_it n) ≡ (given n || (n == m))
+  one_more m one is n = elim (cases_eq n m) [
+    | inl same ↦ ap (λ b. given n || b) (ap gives_it same ∙ is ∙ sym (eq-eqb n m same))
+    | inr other ↦ elim (cases_Bool (given n)) [
+      | inl old ↦ rw old refl
+      | inr new ↦ ap (λ b. given n || b) (false_unless (gives_it n) (λ e. other (one_in m n (subst (λ xs. Contains xs n) one (there n new e)))) ∙ sym (ne_eqb n m other))
+    ]
+  ]
 
 -- a record with other marks and all else the same
 pub record HasMarks (r n : RingRecord) (given crossed : List Bool) : Type 0 where
@@ -25,111 +59,109 @@ pub record HasMarks (r n : RingRecord) (given crossed : List Bool) : Type 0 wher
   pub given_is : n.given.items ≡ given
   pub crossed_is : n.crossed.items ≡ crossed
 
-module _ (shape : Shape) (v : RingView) (r : RingRecord) (follows : FollowsMarks shape v r) (a w : ℕ) where
-  -- marks that note what was noted, and what the write gives
-  with_marks : (given crossed : List Bool) → length given ≡ length r.given.items → length crossed ≡ length r.crossed.items →
-      ((p : ℕ) → is_noted (floor_number v) (place_count shape) given (p % place_count shape) p
-      ≡ (is_noted (floor_number v) (place_count shape) r.given.items (p % place_count shape) p || gives shape r.floor p a w)) →
-      ((q : ℕ) → (is_crossing shape q && is_noted (least_crossing v) (place_count shape) crossed (link_of shape q) q)
-      ≡ ((is_crossing shape q && is_noted (least_crossing v) (place_count shape) r.crossed.items (link_of shape q) q) || gives_crossing shape r.floor q a w)) →
-      (n : RingRecord) → HasMarks r n given crossed → FollowsMarks shape (changed shape v (Writes a w)) n
-  with_marks given crossed places segments positions crossings n has = record {
-    allowed = follows.allowed;
-    queue = follows.queue ∙ sym has.blocks;
-    floor = follows.floor ∙ sym has.floor;
-    held = follows.held ∙ sym has.held;
-    begins = rw has.lengths follows.begins;
-    as_many = ap length has.lengths ∙ follows.as_many ∙ sym (ap length has.blocks);
-    whole = follows.whole ∙ sym (ap length has.blocks);
-    positive = follows.positive;
-    room = rw has.blocks follows.room;
-    places = ap length has.given_is ∙ places ∙ follows.places;
-    given = λ p.
-        ap (λ b. b || gives shape v.floor p a w) (follows.given p)
-        ∙ ap (λ f. is_noted (floor_number v) (place_count shape) r.given.items (p % place_count shape) p || gives shape f p a w) follows.floor
-        ∙ sym (positions p) ∙ ap (λ marks. is_noted (floor_number v) (place_count shape) marks (p % place_count shape) p) (sym has.given_is);
-    segments = omega (arith, follows.segments, segments, ap length has.crossed_is);
-    crossed = λ q.
-        ap (λ b. b || gives_crossing shape v.floor q a w) (follows.crossed q)
-        ∙ ap (λ f. (is_crossing shape q && is_noted (least_crossing v) (place_count shape) r.crossed.items (link_of shape q) q) || gives_crossing shape f q a w) follows.floor
-        ∙ sym (crossings q) ∙ ap (λ marks. is_crossing shape q && is_noted (least_crossing v) (place_count shape) marks (link_of shape q) q) (sym has.crossed_is);
-  }
+module _ (shape : Shape) (v : RingView) (a w : ℕ) where
+  -- what is given behind a write that gives this
+  positions_still : positions_given shape v a w ≡ [] → (p : ℕ) → (v.given p || gives shape v.floor p a w) ≡ v.given p
+  positions_still = none_more v.given (λ p. gives shape v.floor p a w) (positions_given shape v a w) (position_given shape v a w)
 
-  -- a write that gives nothing
-  pub nothing_noted : ((p : ℕ) → gives shape r.floor p a w ≡ false) → ((q : ℕ) → gives_crossing shape r.floor q a w ≡ false) →
-      FollowsMarks shape (changed shape v (Writes a w)) r
-  nothing_noted no_position no_crossing =
-      with_marks r.given.items r.crossed.items refl refl
-      (λ p. noted_same (is_noted (floor_number v) (place_count shape) r.given.items (p % place_count shape) p) (gives shape r.floor p a w) (no_position p))
-      (λ q. noted_same (is_crossing shape q && is_noted (least_crossing v) (place_count shape) r.crossed.items (link_of shape q) q) (gives_crossing shape r.floor q a w) (no_crossing q))
-      r (record { blocks = refl; lengths = refl; floor = refl; held = refl; given_is = refl; crossed_is = refl })
+  crossings_still : crossings_given shape v a w ≡ [] → (q : ℕ) → (v.crossed q || gives_crossing shape v.floor q a w) ≡ v.crossed q
+  crossings_still = none_more v.crossed (λ q. gives_crossing shape v.floor q a w) (crossings_given shape v a w) (crossing_given shape v a w)
 
-  -- a write that gives position m, which lies at place i
-  pub position_noted : (i m : ℕ) → i < place_count shape → number r.floor ≤ m → m < number r.floor + place_count shape → m % place_count shape ≡ i →
-      ((p : ℕ) → gives shape r.floor p a w ≡ is_the (Some m) p) → ((q : ℕ) → gives_crossing shape r.floor q a w ≡ false) →
-      (n : RingRecord) → HasMarks r n (set r.given.items i true) r.crossed.items → FollowsMarks shape (changed shape v (Writes a w)) n
-  position_noted i m inside low high here gives_it no_crossing n has =
-      let floor = ap number follows.floor in
-      let low' : floor_number v ≤ m = omega arith in
-      let high' : m < floor_number v + place_count shape = omega arith in
-      with_marks (set r.given.items i true) r.crossed.items (length-set r.given.items i true) refl
-      (λ p. noted_more (floor_number v) (place_count shape) r.given.items (p % place_count shape) i p m low' high' (omega (arith, follows.places))
-      (λ same. ap (λ n. n % place_count shape) same ∙ here)
-      (λ l u same. same_due (floor_number v) (place_count shape) p m (place_count_pos shape follows.allowed) l u low' high' (same ∙ sym here))
-      ∙ ap (λ b. is_noted (floor_number v) (place_count shape) r.given.items (p % place_count shape) p || b) (sym (gives_it p)))
-      (λ q. noted_same (is_crossing shape q && is_noted (least_crossing v) (place_count shape) r.crossed.items (link_of shape q) q) (gives_crossing shape r.floor q a w) (no_crossing q))
-      n has
+  position_gives : (m : ℕ) → positions_given shape v a w ≡ m ∷ [] → gives shape v.floor m a w ≡ true
+  position_gives m one = (position_given_is shape v a w m (subst (λ xs. Contains xs m) (sym one) (0, omega arith, refl))).1
 
-  -- a write that gives crossing m, over the Link of segment j
-  pub crossing_noted : (j m : ℕ) → j < length (links shape) → max (number r.floor) 1 ≤ m → m < max (number r.floor) 1 + place_count shape → link_crossed shape m ≡ Some j →
-      ((p : ℕ) → gives shape r.floor p a w ≡ false) → ((q : ℕ) → gives_crossing shape r.floor q a w ≡ is_the (Some m) q) →
-      (n : RingRecord) → HasMarks r n r.given.items (set r.crossed.items j true) → FollowsMarks shape (changed shape v (Writes a w)) n
-  crossing_noted j m inside low high over no_position gives_it n has =
-      let floor = ap number follows.floor in
-      let low' : least_crossing v ≤ m = omega arith in
-      let high' : m < least_crossing v + place_count shape = omega arith in
-      with_marks r.given.items (set r.crossed.items j true) refl (length-set r.crossed.items j true)
-      (λ p. noted_same (is_noted (floor_number v) (place_count shape) r.given.items (p % place_count shape) p) (gives shape r.floor p a w) (no_position p))
-      (λ q. elim (cases_Bool (is_crossing shape q)) [
-        | inl crossing ↦
-            let there = crossed_link shape q crossing in
-            let at = link_of-crossed shape q there.0 there.1 in
-            let of_m = link_of-crossed shape m j over in
-            ap (λ b. b && is_noted (least_crossing v) (place_count shape) (set r.crossed.items j true) (link_of shape q) q) crossing
-            ∙ noted_more (least_crossing v) (place_count shape) r.crossed.items (link_of shape q) j q m low' high' (omega (arith, follows.segments))
-            (λ same. ap (λ k. link_of shape k) same ∙ of_m)
-            (λ l u same. same_due_crossing shape follows.allowed (least_crossing v) j q m l u low' high' (there.1 ∙ ap (λ k. Some k) (sym at ∙ same)) over)
-            ∙ ap (λ b. (b && is_noted (least_crossing v) (place_count shape) r.crossed.items (link_of shape q) q) || (q == m)) (sym crossing)
-            ∙ ap (λ b. (is_crossing shape q && is_noted (least_crossing v) (place_count shape) r.crossed.items (link_of shape q) q) || b) (sym (gives_it q))
-        | inr none ↦
-            let other : (q == m) ≡ false = ne_eqb q m (λ same. false≢true (sym none ∙ ap (λ k. is_crossing shape k) same ∙ is_crossing-from shape m j over)) in
-            ap (λ b. b && is_noted (least_crossing v) (place_count shape) (set r.crossed.items j true) (link_of shape q) q) none
-            ∙ sym (ap (λ b. (b && is_noted (least_crossing v) (place_count shape) r.crossed.items (link_of shape q) q) || gives_crossing shape r.floor q a w) none ∙ gives_it q ∙ other)
-      ])
-      n has
+  crossing_gives : (m : ℕ) → crossings_given shape v a w ≡ m ∷ [] → gives_crossing shape v.floor m a w ≡ true
+  crossing_gives m one = (crossing_given_is shape v a w m (subst (λ xs. Contains xs m) (sym one) (0, omega arith, refl))).1
 
-  -- a write of a word of place i: o is the position that it gives
-  pub position_write : (i : ℕ) → i < place_count shape → (o : Option ℕ) → ((p : ℕ) → gives shape r.floor p a w ≡ is_the o p) →
-      IfSome o (λ m. (number r.floor ≤ m) × (m < number r.floor + place_count shape) × (m % place_count shape ≡ i)) →
-      ((q : ℕ) → gives_crossing shape r.floor q a w ≡ false) → is_some o ≡ true →
-      (n : RingRecord) → HasMarks r n (set r.given.items i true) r.crossed.items → FollowsMarks shape (changed shape v (Writes a w)) n
-  position_write i inside None gives_it due no_crossing some n has = absurd (false≢true some)
-  position_write i inside (Some m) gives_it due no_crossing some n has = position_noted i m inside due.0 due.1 due.2 gives_it no_crossing n has
+  positions_more : (m : ℕ) → positions_given shape v a w ≡ m ∷ [] → (p : ℕ) → (v.given p || gives shape v.floor p a w) ≡ (v.given p || (p == m))
+  positions_more m one = one_more v.given (λ p. gives shape v.floor p a w) (positions_given shape v a w) (position_given shape v a w) m one (position_gives m one)
 
-  pub other_write : (o : Option ℕ) → ((p : ℕ) → gives shape r.floor p a w ≡ is_the o p) → ((q : ℕ) → gives_crossing shape r.floor q a w ≡ false) → is_some o ≡ false →
-      FollowsMarks shape (changed shape v (Writes a w)) r
-  other_write None gives_it no_crossing none = nothing_noted gives_it no_crossing
-  other_write (Some m) gives_it no_crossing none = absurd (false≢true (sym none))
+  crossings_more : (m : ℕ) → crossings_given shape v a w ≡ m ∷ [] → (q : ℕ) → (v.crossed q || gives_crossing shape v.floor q a w) ≡ (v.crossed q || (q == m))
+  crossings_more m one = one_more v.crossed (λ q. gives_crossing shape v.floor q a w) (crossings_given shape v a w) (crossing_given shape v a w) m one (crossing_gives m one)
 
-  -- a write of a word of the Link of segment j: o is the crossing that it gives
-  pub crossing_write : (j : ℕ) → j < length (links shape) → (o : Option ℕ) → ((p : ℕ) → gives shape r.floor p a w ≡ false) →
-      ((q : ℕ) → gives_crossing shape r.floor q a w ≡ is_the o q) →
-      IfSome o (λ m. (max (number r.floor) 1 ≤ m) × (m < max (number r.floor) 1 + place_count shape) × (link_crossed shape m ≡ Some j)) → is_some o ≡ true →
-      (n : RingRecord) → HasMarks r n r.given.items (set r.crossed.items j true) → FollowsMarks shape (changed shape v (Writes a w)) n
-  crossing_write j inside None no_position gives_it due some n has = absurd (false≢true some)
-  crossing_write j inside (Some m) no_position gives_it due some n has = crossing_noted j m inside due.0 due.1 due.2 no_position gives_it n has
+  module _ (r : RingRecord) (follows : FollowsMarks shape v r) where
+    -- marks that note what is given behind the write
+    with_marks : (given crossed : List Bool) → length given ≡ length r.given.items → length crossed ≡ length r.crossed.items →
+        ((p : ℕ) → (v.given p || gives shape v.floor p a w) ≡ is_noted (floor_number v) (place_count shape) given (p % place_count shape) p) →
+        ((q : ℕ) → (v.crossed q || gives_crossing shape v.floor q a w) ≡ (is_crossing shape q && is_noted (least_crossing v) (place_count shape) crossed (link_of shape q) q)) →
+        (n : RingRecord) → HasMarks r n given crossed → FollowsMarks shape (changed shape v (Writes a w)) n
+    with_marks given crossed places segments positions crossings n has = record {
+      allowed = follows.allowed;
+      queue = follows.queue ∙ sym has.blocks;
+      floor = follows.floor ∙ sym has.floor;
+      held = follows.held ∙ sym has.held;
+      begins = rw has.lengths follows.begins;
+      as_many = ap length has.lengths ∙ follows.as_many ∙ sym (ap length has.blocks);
+      whole = follows.whole ∙ sym (ap length has.blocks);
+      positive = follows.positive;
+      room = rw has.blocks follows.room;
+      places = ap length has.given_is ∙ places ∙ follows.places;
+      given = λ p. positions p ∙ ap (λ marks. is_noted (floor_number v) (place_count shape) marks (p % place_count shape) p) (sym has.given_is);
+      segments = omega (arith, follows.segments, segments, ap length has.crossed_is);
+      crossed = λ q. crossings q ∙ ap (λ marks. is_crossing shape q && is_noted (least_crossing v) (place_count shape) marks (link_of shape q) q) (sym has.crossed_is);
+    }
 
-  pub other_link_write : (o : Option ℕ) → ((p : ℕ) → gives shape r.floor p a w ≡ false) → ((q : ℕ) → gives_crossing shape r.floor q a w ≡ is_the o q) → is_some o ≡ false →
-      FollowsMarks shape (changed shape v (Writes a w)) r
-  other_link_write None no_position gives_it none = nothing_noted no_position gives_it
-  other_link_write (Some m) no_position gives_it none = absurd (false≢true (sym none))
+    -- a write that gives nothing
+    pub nothing_noted : FollowsRing shape v r → positions_given shape v a w ≡ [] → crossings_given shape v a w ≡ [] → FollowsRing shape (changed shape v (Writes a w)) r
+    unfolding is_step_given is_way_given
+    nothing_noted known no_position no_crossing = record {
+      marks = with_marks r.given.items r.crossed.items refl refl (λ p. positions_still no_position p ∙ follows.given p) (λ q. crossings_still no_crossing q ∙ follows.crossed q)
+          r (record { blocks = refl; lengths = refl; floor = refl; held = refl; given_is = refl; crossed_is = refl });
+      steps = λ q h. same q ∙ known.steps q h;
+      stop = same r.count ∙ known.stop;
+    }
+      where
+        same : (q : ℕ) → is_step_given shape (changed shape v (Writes a w)) q ≡ is_step_given shape v q
+        same q =
+            ap (λ b. b && (not (is_crossing shape q) || (v.crossed q || gives_crossing shape v.floor q a w))) (positions_still no_position q)
+            ∙ ap (λ b. v.given q && (not (is_crossing shape q) || b)) (crossings_still no_crossing q)
+
+    -- a write that gives position m
+    pub position_noted : (m : ℕ) → positions_given shape v a w ≡ m ∷ [] → crossings_given shape v a w ≡ [] →
+        (n : RingRecord) → HasMarks r n (set r.given.items (m % place_count shape) true) r.crossed.items → FollowsMarks shape (changed shape v (Writes a w)) n
+    position_noted m one no_crossing n has =
+        let is = gives_is shape v.floor m a w (position_gives m one) in
+        let low = is.from in
+        let high = is.within in
+        let some = place_count_pos shape follows.allowed in
+        with_marks (set r.given.items (m % place_count shape) true) r.crossed.items (length-set r.given.items (m % place_count shape) true) refl
+        (λ p. positions_more m one p ∙ ap (λ b. b || (p == m)) (follows.given p)
+        ∙ sym (noted_more (floor_number v) (place_count shape) r.given.items (p % place_count shape) (m % place_count shape) p m low high (omega (arith, follows.places, some, mod-lt m some))
+        (λ same. ap (λ k. k % place_count shape) same)
+        (λ l u same. same_due (floor_number v) (place_count shape) p m some l u low high same)))
+        (λ q. crossings_still no_crossing q ∙ follows.crossed q)
+        n has
+
+    -- a crossing that is given leads over a Link
+    pub over_a_link : (m : ℕ) → crossings_given shape v a w ≡ m ∷ [] → link_crossed shape m ≡ None → ⊥
+    over_a_link m one none =
+        let found = gives_crossing-true shape follows.allowed v.floor m a w (crossing_gives m one) in
+        none_some found.0 (sym none ∙ found.1.over)
+
+    -- a write that gives crossing m, over the Link of segment j
+    pub crossing_noted : (j m : ℕ) → j < length (links shape) → link_crossed shape m ≡ Some j → positions_given shape v a w ≡ [] → crossings_given shape v a w ≡ m ∷ [] →
+        (n : RingRecord) → HasMarks r n r.given.items (set r.crossed.items j true) → FollowsMarks shape (changed shape v (Writes a w)) n
+    crossing_noted j m inside over no_position one n has =
+        let found = gives_crossing-true shape follows.allowed v.floor m a w (crossing_gives m one) in
+        let i : ℕ = found.0 in
+        let is : GivesCrossing shape follows.allowed v.floor m i a w = found.1 in
+        let low : least_crossing v ≤ m = is.from in
+        let high : m < least_crossing v + place_count shape = is.within in
+        with_marks r.given.items (set r.crossed.items j true) refl (length-set r.crossed.items j true)
+        (λ p. positions_still no_position p ∙ follows.given p)
+        (λ q. crossings_more m one q ∙ ap (λ b. b || (q == m)) (follows.crossed q) ∙ elim (cases_Bool (is_crossing shape q)) [
+          | inl crossing ↦
+              let there = crossed_link shape q crossing in
+              let at = link_of-crossed shape q there.0 there.1 in
+              let of_m = link_of-crossed shape m j over in
+              ap (λ b. (b && is_noted (least_crossing v) (place_count shape) r.crossed.items (link_of shape q) q) || (q == m)) crossing
+              ∙ sym (noted_more (least_crossing v) (place_count shape) r.crossed.items (link_of shape q) j q m low high (omega (arith, follows.segments))
+              (λ same. ap (λ k. link_of shape k) same ∙ of_m)
+              (λ l u same. same_due_crossing shape follows.allowed (least_crossing v) j q m l u low high (there.1 ∙ ap (λ k. Some k) (sym at ∙ same)) over))
+              ∙ ap (λ b. b && is_noted (least_crossing v) (place_count shape) (set r.crossed.items j true) (link_of shape q) q) (sym crossing)
+          | inr none ↦
+              let other : (q == m) ≡ false = ne_eqb q m (λ same. false≢true (sym none ∙ ap (λ k. is_crossing shape k) same ∙ is_crossing-from shape m j over)) in
+              ap (λ b. (b && is_noted (least_crossing v) (place_count shape) r.crossed.items (link_of shape q) q) || (q == m)) none ∙ other
+              ∙ ap (λ b. b && is_noted (least_crossing v) (place_count shape) (set r.crossed.items j true) (link_of shape q) q) (sym none)
+        ])
+        n has

@@ -9,4 +9,4 @@ mod tests;
 
 pub use lease::Lease;
 pub use register_record::RegisterRecord;
-pub use ring_record::{RingGiving, RingRecord, is_data_below};
+pub use ring_record::{RingGiving, RingRecord, WordStanding, is_data_below};

@@ -30,6 +30,15 @@ pub enum RingGiving {
     Crossing(u64),
 }
 
+/// How a word of a command or transfer ring stands.
+#[derive(Clone, Copy, Debug, PartialEq, Eq)]
+pub struct WordStanding {
+    /// The controller may own it: it lies in a block or a Link that is given and that the controller may not have passed.
+    pub is_lent: bool,
+    /// What its write gives of the ring, if it gives anything.
+    pub giving: Option<RingGiving>,
+}
+
 /// What one pass over a trace keeps of a command or transfer ring: what is declared, what is given, and how far its
 /// controller's dequeue pointer has surely come. Contracts compare it with the `RingView` that it follows.
 #[derive(Drop)]
@@ -96,32 +105,27 @@ impl RingRecord {
         Ok(())
     }
 
-    /// Whether the controller may own the word at an address: it lies in a block or a Link that is given and that the
-    /// controller may not have passed.
-    pub fn owns(&self, shape: &RingShape, at: Addr) -> bool
-        ensures { (v : RingView) → FollowsRing shape.now v self.now → result ≡
+    /// How the word at an address stands, and what its write gives.
+    pub fn look(&self, shape: &RingShape, at: Addr, word: u32) -> WordStanding
+        ensures lent { (v : RingView) → FollowsRing shape.now v self.now → result.is_lent ≡
             (list_any (λ p. overlap at 4 (address_of shape.now p) 16) (leased_positions shape.now v)
             || list_any (λ q. overlap at 4 (link_address shape.now q) 16) (leased_crossings shape.now v)) }
-    {
-        match shape.place_at(at.get()) {
-            Some(Place::Data { place, .. }) => is_marked(&self.given, place as usize),
-            Some(Place::Link { segment, .. }) => is_marked(&self.crossed, segment as usize),
-            None => false,
-        }
-    }
-
-    /// What the write of a word gives of the ring, if it gives anything.
-    pub fn given_by(&self, shape: &RingShape, at: Addr, word: u32) -> Option<RingGiving>
-        ensures positions { (v : RingView) → FollowsRing shape.now v self.now → positions_given shape.now v at word ≡ positions_of result }
-        ensures crossings { (v : RingView) → FollowsRing shape.now v self.now → crossings_given shape.now v at word ≡ crossings_of result }
+        ensures positions { (v : RingView) → FollowsRing shape.now v self.now → positions_given shape.now v at word ≡ positions_of result.giving }
+        ensures crossings { (v : RingView) → FollowsRing shape.now v self.now → crossings_given shape.now v at word ≡ crossings_of result.giving }
     {
         match shape.place_at(at.get()) {
             Some(Place::Data { place, word: index }) => {
                 if is_marked(&self.given, place as usize) {
-                    return None;
+                    return WordStanding {
+                        is_lent: true,
+                        giving: None,
+                    };
                 }
-                let position = self.position_by(shape, at, place, index, word)?;
-                Some(RingGiving::Position(position))
+                let position = self.position_by(shape, at, place, index, word);
+                WordStanding {
+                    is_lent: false,
+                    giving: position.map(RingGiving::Position),
+                }
             }
             Some(
                 Place::Link {
@@ -130,12 +134,21 @@ impl RingRecord {
                 },
             ) => {
                 if is_marked(&self.crossed, segment as usize) {
-                    return None;
+                    return WordStanding {
+                        is_lent: true,
+                        giving: None,
+                    };
                 }
-                let crossing = self.crossing_by(shape, at, segment, index, word)?;
-                Some(RingGiving::Crossing(crossing))
+                let crossing = self.crossing_by(shape, at, segment, index, word);
+                WordStanding {
+                    is_lent: false,
+                    giving: crossing.map(RingGiving::Crossing),
+                }
             }
-            None => None,
+            None => WordStanding {
+                is_lent: false,
+                giving: None,
+            },
         }
     }
 
@@ -243,28 +256,24 @@ impl RingRecord {
     }
 
     /// Notes what the write of a word gives of the ring, if it gives anything.
-    pub fn note_write(&mut self, shape: &RingShape, at: Addr, word: u32)
-        ensures { (v : RingView) → FollowsRing shape.now v self.old → FollowsRing shape.now (changed shape.now v (Writes at word)) self.new }
+    pub fn note_giving(&mut self, shape: &RingShape, giving: Option<RingGiving>)
+        ensures { (v : RingView) (at word : ℕ) → FollowsRing shape.now v self.old →
+            positions_given shape.now v at word ≡ positions_of giving → crossings_given shape.now v at word ≡ crossings_of giving →
+            FollowsRing shape.now (changed shape.now v (Writes at word)) self.new }
     {
-        match shape.place_at(at.get()) {
-            Some(Place::Data { place, word: index }) => {
-                if self.position_by(shape, at, place, index, word).is_some() {
-                    set_mark(&mut self.given, place as usize, true);
-                    self.count = self.first_not_given(shape, self.count);
-                }
+        match giving {
+            None => {}
+            Some(RingGiving::Position(position)) => {
+                let place = position % u64::from(shape.places());
+                set_mark(&mut self.given, place as usize, true);
+                self.count = self.first_not_given(shape, self.count);
             }
-            Some(
-                Place::Link {
-                    segment,
-                    word: index,
-                },
-            ) => {
-                if self.crossing_by(shape, at, segment, index, word).is_some() {
+            Some(RingGiving::Crossing(crossing)) => {
+                if let Some(segment) = shape.crossing(crossing) {
                     set_mark(&mut self.crossed, segment as usize, true);
                     self.count = self.first_not_given(shape, self.count);
                 }
             }
-            None => {}
         }
     }
 

@@ -9,6 +9,12 @@ fn at(value: u64) -> Result<Addr, Fail> {
     Ok(Addr::new(value).ok_or("no address of a word")?)
 }
 
+fn write(record: &mut RingRecord, shape: &RingShape, address: u64, word: u32) -> Result<(), Fail> {
+    let giving = record.look(shape, at(address)?, word).giving;
+    record.note_giving(shape, giving);
+    Ok(())
+}
+
 fn block(number: u32) -> Block {
     Block {
         w: [number, 0, 0, 0],
@@ -29,33 +35,33 @@ fn a_descriptor_over_a_link(rt: HostRuntime) -> Result<(), Fail> {
     assert_eq!(rt; record.declared(3), None);
 
     // the Cycle bit alone of a control word gives
-    assert_eq!(rt; record.given_by(&shape, at(0x8000c)?, 0), None);
-    assert_eq!(rt; record.given_by(&shape, at(0x80008)?, 1), None);
+    assert_eq!(rt; record.look(&shape, at(0x8000c)?, 0).giving, None);
+    assert_eq!(rt; record.look(&shape, at(0x80008)?, 1).giving, None);
     assert_eq!(rt;
-        record.given_by(&shape, at(0x8000c)?, 1),
+        record.look(&shape, at(0x8000c)?, 1).giving,
         Some(RingGiving::Position(0))
     );
     assert_eq!(rt;
-        record.given_by(&shape, at(0x8002c)?, 1),
+        record.look(&shape, at(0x8002c)?, 1).giving,
         Some(RingGiving::Crossing(2))
     );
     assert_eq!(rt;
-        record.given_by(&shape, at(0x8102c)?, 1),
+        record.look(&shape, at(0x8102c)?, 1).giving,
         Some(RingGiving::Crossing(4))
     );
-    assert_eq!(rt; record.given_by(&shape, at(0x8200c)?, 1), None);
+    assert_eq!(rt; record.look(&shape, at(0x8200c)?, 1).giving, None);
 
-    record.note_write(&shape, at(0x8001c)?, 1);
-    record.note_write(&shape, at(0x8100c)?, 1);
+    write(&mut record, &shape, 0x8001c, 1)?;
+    write(&mut record, &shape, 0x8100c, 1)?;
     assert!(rt; !record.is_whole(&shape, 0));
-    record.note_write(&shape, at(0x8002c)?, 1);
+    write(&mut record, &shape, 0x8002c, 1)?;
     assert!(rt; record.is_whole(&shape, 0));
-    assert_eq!(rt; record.given_by(&shape, at(0x8002c)?, 1), None);
-    assert!(rt; record.owns(&shape, at(0x80010)?));
-    assert!(rt; record.owns(&shape, at(0x80028)?));
-    assert!(rt; !record.owns(&shape, at(0x80000)?));
-    assert!(rt; !record.owns(&shape, at(0x81020)?));
-    assert!(rt; !record.owns(&shape, at(0x82000)?));
+    assert_eq!(rt; record.look(&shape, at(0x8002c)?, 1).giving, None);
+    assert!(rt; record.look(&shape, at(0x80010)?, 0).is_lent);
+    assert!(rt; record.look(&shape, at(0x80028)?, 0).is_lent);
+    assert!(rt; !record.look(&shape, at(0x80000)?, 0).is_lent);
+    assert!(rt; !record.look(&shape, at(0x81020)?, 0).is_lent);
+    assert!(rt; !record.look(&shape, at(0x82000)?, 0).is_lent);
     Ok(())
 }
 
@@ -85,7 +91,7 @@ fn events_and_moves(rt: HostRuntime) -> Result<(), Fail> {
     record.declare(&[block(1)])?;
     record.declare(&[block(2), block(3)])?;
     for control in [0x8100c, 0x8002c, 0x8001c, 0x8000c] {
-        record.note_write(&shape, at(control)?, 1);
+        write(&mut record, &shape, control, 1)?;
     }
     record.open();
     assert!(rt; crate::is_data_below(record.ceiling(), Spot::Data(2)));
@@ -116,7 +122,7 @@ fn events_and_moves(rt: HostRuntime) -> Result<(), Fail> {
     assert_eq!(rt; record.ceiling(), 3);
 
     record.declare(&[block(4)])?;
-    record.note_write(&shape, at(0x8101c)?, 1);
+    write(&mut record, &shape, 0x8101c, 1)?;
     record.open();
     record.break_off(&shape, Spot::Data(3));
     assert_eq!(rt; record.floor(), Spot::Link(4));
@@ -136,10 +142,10 @@ fn a_second_lap(rt: HostRuntime) -> Result<(), Fail> {
     assert!(rt; !record.is_open());
     assert_eq!(rt; record.given_count(), 0);
     for control in [0x8100c, 0x8001c, 0x8000c] {
-        record.note_write(&shape, at(control)?, 1);
+        write(&mut record, &shape, control, 1)?;
     }
     assert_eq!(rt; record.given_count(), 2);
-    record.note_write(&shape, at(0x8002c)?, 1);
+    write(&mut record, &shape, 0x8002c, 1)?;
     assert_eq!(rt; record.given_count(), 3);
     assert_eq!(rt; record.ceiling(), 0);
     record.open();
@@ -151,25 +157,25 @@ fn a_second_lap(rt: HostRuntime) -> Result<(), Fail> {
     record.reach(&shape, Spot::Data(3));
     assert_eq!(rt; record.floor(), Spot::Data(3));
     assert!(rt; record.has_room(&shape, 3));
-    assert!(rt; !record.owns(&shape, at(0x80010)?));
-    assert!(rt; !record.owns(&shape, at(0x80020)?));
+    assert!(rt; !record.look(&shape, at(0x80010)?, 0).is_lent);
+    assert!(rt; !record.look(&shape, at(0x80020)?, 0).is_lent);
 
     // the last position of the first lap, then the first of the second one, with the other cycle
     assert_eq!(rt;
-        record.given_by(&shape, at(0x8101c)?, 1),
+        record.look(&shape, at(0x8101c)?, 1).giving,
         Some(RingGiving::Position(3))
     );
     assert_eq!(rt;
-        record.given_by(&shape, at(0x8102c)?, 1),
+        record.look(&shape, at(0x8102c)?, 1).giving,
         Some(RingGiving::Crossing(4))
     );
-    assert_eq!(rt; record.given_by(&shape, at(0x8000c)?, 1), None);
+    assert_eq!(rt; record.look(&shape, at(0x8000c)?, 1).giving, None);
     assert_eq!(rt;
-        record.given_by(&shape, at(0x8000c)?, 0),
+        record.look(&shape, at(0x8000c)?, 0).giving,
         Some(RingGiving::Position(4))
     );
     assert_eq!(rt;
-        record.given_by(&shape, at(0x8002c)?, 0),
+        record.look(&shape, at(0x8002c)?, 0).giving,
         Some(RingGiving::Crossing(6))
     );
     Ok(())

@@ -1,9 +1,7 @@
 -- Before the first row, and what a search through the rings finds
-use Rattle.std.proofs.Common.{◌≡◌, ℕ, zero, suc, ◌+◌, ◌<◌, List, [], ◌∷◌, ◌++◌, Bool, true, false, Some, None, refl, ap, sym, ◌∙◌, inl, inr, length, get_or, subst, length-append}
-use Rattle.std.specs.Prelude.{◌⊎◌, slice_get, position, is_some}
-use Rattle.std.proofs.lemmas.Option.{slice_get-get_or, slice_get_read}
-use Rattle.std.proofs.lemmas.List.Quantifiers.{position-Some}
-use Rattle.segments.proofs.Search.{position-None}
+use Rattle.std.proofs.Common.{◌≡◌, ℕ, zero, suc, ◌+◌, ◌<◌, List, [], ◌∷◌, ◌++◌, true, false, Some, None, refl, ap, sym, ◌∙◌, inl, inr, length, get_or, subst, length-append}
+use Rattle.std.specs.Prelude.{◌⊎◌, slice_get, is_some}
+use Rattle.std.proofs.lemmas.Option.{slice_get_read}
 use Rattle.segments.specs.RingView.{new_ring, due_positions}
 use Rattle.traces.specs.declared.ring.Ring.{Ring}
 use Rattle.traces.specs.declared.header.Header.{Header}
@@ -19,7 +17,7 @@ use Rattle.event_ring.specs.EventRing.{EventCounts}
 use Rattle.trb.specs.declared.ring_kind.RingKind.TheVariants.{Evt}
 use Rattle.ring_knowledge.specs.RegisterRecords.{FollowsRegisters}
 use Rattle.trace_record.specs.declared.trace_record.TraceRecord.{TraceRecord}
-use Rattle.ring_finder.proofs.RingsApart.{IsAmong, among_at, each_among}
+use Rattle.ring_finder.proofs.RingsApart.{among_at, each_among}
 use Rattle.ring_finder.proofs.HeaderRings.{not_found, event_found}
 use Rattle.ring_finder.proofs.ListTests.{filter_nothing}
 use Rattle.contexts.specs.Contexts.{device_context_bytes, input_context_bytes}
@@ -116,18 +114,3 @@ place_first h headed i r item below event e shape_ counts =
 pub no_event_ring : (h : Header) → ((i : ℕ) (d : Ring) → i < length h.rings → is_event_kind (get_or h.rings i d).shape.kind ≡ false) → event_ring h ≡ None
 unfolding event_ring
 no_event_ring h none = not_found (λ q. is_event_kind q.shape.kind) h.rings (each_among (λ q. is_event_kind q.shape.kind) h.rings none)
-
--- what a search through the rings has found
-pub ring_here : (h : Header) (p : Ring → Bool) (xs : List Ring) (n : ℕ) (ring : Ring) → position p xs ≡ Some n → xs ≡ h.rings → ring ≡ get_or xs n ring → (slice_get h.rings n ≡ Some ring) × (p ring ≡ true)
-ring_here h p xs n ring e same item =
-    let some = position-Some p xs n ring e in
-    (ap (λ ys. slice_get ys n) (sym same) ∙ slice_get_read xs (length xs) n ring refl some.0 item, ap p item ∙ some.1)
-
-pub found_at : (p : Ring → Bool) (rs : List Ring) (n : ℕ) → position p rs ≡ Some n → (ring : Ring) × (slice_get rs n ≡ Some ring) × (p ring ≡ true)
-found_at p [] n e = absurd (cc)
-found_at p (x ∷ rest) n e =
-    let some = position-Some p (x ∷ rest) n x e in
-    (get_or (x ∷ rest) n x, slice_get-get_or (x ∷ rest) n x some.0, some.1)
-
-pub none_here : (h : Header) (p : Ring → Bool) (xs : List Ring) → position p xs ≡ None → xs ≡ h.rings → (q : Ring) → IsAmong q h.rings → p q ≡ false
-none_here h p xs e same = subst (λ (ys : List Ring). (q : Ring) → IsAmong q ys → p q ≡ false) same (each_among p xs (λ i d l. position-None p xs i d e l))

@@ -4,3 +4,5 @@ pub mod OneRingHas
 mod TableWords
 mod OpenAreas
 mod OpenEntries
+pub mod PlacedWords
+pub mod FirstBroken

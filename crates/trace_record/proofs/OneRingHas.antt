@@ -20,7 +20,7 @@ use Rattle.ring_finder.proofs.HeaderRings.{together, shape_allowed, shape_there,
 use Rattle.trace_record.proofs.WordsInside.{not_owned, gives_no_position, gives_no_crossing}
 use Rattle.trace_record.specs.Owned.{is_owned, rings_have}
 
-no_driver_event : (kind : RingKind) → is_driver_kind kind ≡ true → is_event_kind kind ≡ true → ⊥
+pub no_driver_event : (kind : RingKind) → is_driver_kind kind ≡ true → is_event_kind kind ≡ true → ⊥
 no_driver_event Cmd d e = absurd (cc)
 no_driver_event Evt d e = absurd (cc)
 no_driver_event Xfer d e = absurd (cc)

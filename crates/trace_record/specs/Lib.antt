@@ -3,3 +3,4 @@ pub mod Steps
 pub mod Premises
 pub mod Fresh
 pub mod Owned
+pub mod WordPlaces

@@ -1,5 +1,5 @@
 -- What follows of a driver that has kept the rules, and what the checks of rows rest on
-use Rattle.std.specs.Prelude.{◌≡◌, ◌≢◌, ℕ, ◌+◌, ◌%◌, ◌^◌, ◌≤◌, Option, None, Some, List, true, false, is_some}
+use Rattle.std.specs.Prelude.{◌≡◌, ℕ, ◌+◌, ◌%◌, ◌^◌, ◌≤◌, Some, true, false, is_some}
 use Rattle.std.specs.List.{All}
 use Rattle.contexts.specs.declared.size.ContextSize.{ContextSize}
 use Rattle.contexts.specs.Contexts.{input_context_bytes}
@@ -7,7 +7,7 @@ use Rattle.commands.specs.declared.command.Command.{Command}
 use Rattle.commands.specs.Command.{named_context}
 use Rattle.traces.specs.declared.header.Header.{Header}
 use Rattle.traces.specs.declared.ring.Ring.{Ring}
-use Rattle.traces.specs.declared.register.Register.TheVariants.{Config, Crcr, Dcbaap, Erstba, Erstsz}
+use Rattle.traces.specs.declared.register.Register.TheVariants.{Crcr, Erstsz}
 use Rattle.traces.specs.Header.{command_ring, event_ring, is_transfer_kind, ring_with}
 use Rattle.ring_knowledge.specs.Known.{Known}
 use Rattle.ring_knowledge.specs.Rings.{unfinished}

@@ -5,6 +5,8 @@ mod fault;
 mod fresh;
 mod owned;
 mod trace_record;
+mod word_place;
 
 pub use fault::StepFault;
 pub use trace_record::TraceRecord;
+pub use word_place::WordPlace;

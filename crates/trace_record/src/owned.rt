@@ -1,57 +1,45 @@
 ghost use Rattle.std.specs.Prelude.{◌≡◌, ◌<◌, ◌^◌, ℕ};
 ghost use Rattle.segments.specs.Places.{overlap};
 ghost use Rattle.event_ring.specs.EventRing.{table_bytes};
-ghost use Rattle.traces.specs.Header.{IsHeader, event_shape};
+ghost use Rattle.traces.specs.Header.{event_shape};
 ghost use Rattle.traces.specs.declared.header.Header.{Header as HeaderValue};
 ghost use Rattle.ring_knowledge.specs.Known.{Known};
 ghost use Rattle.ring_knowledge.specs.RegisterRecords.{FollowsRegisters};
 ghost use Rattle.device_record.specs.Devices.{FollowsDevices};
-ghost use Rattle.ring_finder.specs.Finding.{IsFinder};
-ghost use Rattle.ring_finder.specs.RecordsOfRings.{FollowsRings};
 ghost use Rattle.ownership_rules.specs.OpenLeases.{is_leased};
 ghost use Rattle.trace_record.specs.FollowsTrace.{FollowsEvents, FollowsTrace};
+ghost use Rattle.trace_record.specs.WordPlaces.{IsOwnedSo, IsPlaced};
 
 use crate::trace_record::TraceRecord;
+use crate::word_place::WordPlace;
 use event_ring::EventPlace;
 use guest_memory::Addr;
-use ring_finder::{Finder, is_event_ring};
-use traces::{Header, Register};
+use traces::{Register, Row};
 
 impl TraceRecord {
     ghost use Rattle.trace_record.specs.Owned.{entries_have, rings_have, table_has};
 
-    /// Whether the word at this address is under lease, so that the controller may read or change it at any moment: it is of
+    /// Whether the word that a row writes is under lease, so that the controller may read or change it at any moment: it is of
     /// a ring, the segment table, an input context, an entry of the DCBAA or a device context (xHCI 4.9.2, 4.9.4, 4.6.5, 6.1).
-    pub fn owns(&self, header: &Header, finder: &Finder, at: Addr) -> bool
-        requires headed { IsHeader header.now }
-        requires found { IsFinder header.now.rings finder.now }
-        ensures { (k : Known) (memory : ℕ → ℕ) → FollowsTrace header.now k self.now memory → result ≡ is_leased header.now k at }
+    /// Of another row: no.
+    pub fn owns(&self, row: &Row, place: WordPlace) -> bool
+        ensures { (h : HeaderValue) (k : Known) (memory : ℕ → ℕ) → FollowsTrace h k self.now memory → IsPlaced h k row.now place → IsOwnedSo h k row.now result }
     {
-        self.is_on_ring(header, finder, at)
+        match row {
+            Row::Write { at, .. } => self.is_leased(*at, place.is_lent),
+            _ => false,
+        }
+    }
+
+    /// Whether a word is under lease, where it is known whether a lease of its ring has it.
+    fn is_leased(&self, at: Addr, is_lent: bool) -> bool
+        ensures { (h : HeaderValue) (k : Known) (memory : ℕ → ℕ) → FollowsTrace h k self.now memory → is_lent ≡ rings_have h k at → result ≡ is_leased h k at }
+    {
+        is_lent
             || self.is_in_table(at)
             || self.inputs.touches(at.get(), 4)
             || self.is_in_entry(at)
             || self.contexts.touches(at.get(), 4)
-    }
-
-    /// Whether a ring has the word, and its lease is open: of the event ring all words are under lease.
-    fn is_on_ring(&self, header: &Header, finder: &Finder, at: Addr) -> bool
-        requires headed { IsHeader header.now }
-        requires found { IsFinder header.now.rings finder.now }
-        ensures { (k : Known) → FollowsRings header.now k self.now.rings.items → result ≡ rings_have header.now k at }
-    {
-        let Some(number) = finder.ring_at(header, at.get()) else {
-            return false;
-        };
-        let rings = header.rings.as_slice();
-        let ring = &rings[number];
-        if is_event_ring(ring) {
-            return true;
-        }
-        match self.rings.get(number) {
-            Some(known) => known.owns(&ring.shape, at),
-            None => false,
-        }
     }
 
     /// Whether the segment table is under lease and has a byte of the word (xHCI 6.5).

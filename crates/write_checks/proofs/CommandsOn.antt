@@ -23,7 +23,7 @@ use Rattle.ring_finder.proofs.RingsApart.{IsAmong, same_or_apart, other_number}
 use Rattle.ring_finder.proofs.HeaderRings.{together, shape_allowed, shape_there, find_some, id_below, not_found, ring_found}
 use Rattle.ring_finder.proofs.FoundRings.{command_found}
 use Rattle.write_checks.specs.WriteTests.{command_on}
-use Rattle.write_checks.proofs.WordsInside.{gives_no_position}
+use Rattle.trace_record.proofs.WordsInside.{gives_no_position}
 
 commands_among : (h : Header) (c : Ring) → command_ring h ≡ Some c → IsAmong c h.rings
 unfolding command_ring

@@ -1,4 +1,3 @@
-mod FirstBroken
 mod WrongLinks
 mod Given
 mod GivenTests
@@ -6,4 +5,3 @@ pub mod OnRing
 pub mod CommandsOn
 mod RingWrites
 mod WriteSteps
-pub mod WordsInside

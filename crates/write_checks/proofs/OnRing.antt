@@ -16,7 +16,7 @@ use Rattle.ownership_rules.specs.OpenLeases as leases
 use Rattle.ring_finder.proofs.ListTests.{false_unless, any_append, any_map}
 use Rattle.ring_finder.proofs.RingsApart.{IsAmong, Apart}
 use Rattle.ring_finder.proofs.HeaderRings.{together, shape_allowed, shape_there, event_here, all_from_one, nothing_from}
-use Rattle.write_checks.proofs.WordsInside.{gives_no_position, gives_no_crossing}
+use Rattle.trace_record.proofs.WordsInside.{gives_no_position, gives_no_crossing}
 
 or_true : (b : Bool) → (b || true) ≡ true
 or_true true = refl

@@ -28,7 +28,7 @@ use Rattle.ring_finder.proofs.ListTests.{or_false, any_append, any_map, any_nowh
 use Rattle.ring_finder.proofs.RingsApart.{IsAmong}
 use Rattle.ring_finder.proofs.HeaderRings.{shape_there}
 use Rattle.write_checks.specs.WriteTests.{GivesOnPosition, given_tests}
-use Rattle.write_checks.proofs.FirstBroken.{first_broken-is}
+use Rattle.trace_record.proofs.FirstBroken.{first_broken-is}
 use Rattle.write_checks.proofs.OnRing.{given_by_one, given_nowhere, leased_in_events}
 
 -- the tests of a word that isn't under lease, of what is given of one ring

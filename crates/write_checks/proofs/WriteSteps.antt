@@ -1,6 +1,6 @@
 -- What the check of a write answers
-use Rattle.std.proofs.Common.{◌≡◌, ℕ, ◌%◌, Bool, true, false, Option, None, Some, refl, ap, sym, ◌∙◌, subst, inl, inr}
-use Rattle.std.specs.Prelude.{if◌then◌else◌, slice_get, position}
+use Rattle.std.proofs.Common.{◌≡◌, ℕ, ◌%◌, Bool, true, false, Option, None, Some, refl, ap, sym, ◌∙◌, inl, inr}
+use Rattle.std.specs.Prelude.{if◌then◌else◌, slice_get}
 use Rattle.std.proofs.lemmas.Bool.{cases_Bool}
 use Rattle.std.proofs.Math.Path.{fun_ext}
 use Rattle.segments.specs.Places.{touches}
@@ -24,28 +24,22 @@ use Rattle.ring_finder.proofs.RingsApart.{IsAmong, among_at}
 use Rattle.trace_record.specs.declared.trace_record.TraceRecord.{TraceRecord}
 use Rattle.trace_record.specs.FollowsTrace.{FollowsTrace}
 use Rattle.write_checks.specs.WriteTests.{GivesOnPosition, command_on, given_tests}
-use Rattle.write_checks.specs.Allowed.{IsAllowed, IsGivenOn}
-use Rattle.write_checks.proofs.FirstBroken.{nothing_broken}
-use Rattle.write_checks.proofs.OnRing.{inside, inside_is, given_nowhere}
+use Rattle.write_checks.specs.Allowed.{IsAllowed}
+use Rattle.trace_record.proofs.FirstBroken.{nothing_broken}
+use Rattle.write_checks.proofs.OnRing.{inside, inside_is}
 use Rattle.write_checks.proofs.CommandsOn.{command_is, none_nowhere, stays_put}
 use Rattle.write_checks.proofs.RingWrites.{nothing_breaks, least_of_ring}
 
 none_some : {X Y : Type 0} (x : X) → None ≡ Some x → Y
 none_some x e = cc
 
-some_is : (r q : Ring) → Some r ≡ Some q → r ≡ q
-some_is r q e = cc
-
 -- no ring has the word
 pub nowhere_allowed : (h : Header) → IsHeader h → (k : Known) → k.stopped ≡ false → (a w : ℕ) → a % 4 ≡ 0 → is_leased h k a ≡ false →
-    ((q : Ring) → IsAmong q h.rings → touches q.shape a 4 ≡ false) → None ≡ position (λ r. touches r.shape a 4) h.rings →
-    IsAllowed h k a w (record { ring = None; giving = None; command = None })
-nowhere_allowed h headed k on a w aligned free none at =
+    ((q : Ring) → IsAmong q h.rings → touches q.shape a 4 ≡ false) → IsAllowed h k a w None
+nowhere_allowed h headed k on a w aligned free none =
     let no_command : command_given h k a w ≡ None = none_nowhere h headed k a w aligned (λ q among. sym (inside_is h headed k a aligned q among) ∙ none q among) in
     record {
       clean = nothing_broken (broken h k (Write a w)) (nothing_breaks h headed k on a w aligned none free no_command);
-      ring = at;
-      given = (refl, given_nowhere h headed k a aligned none w);
       command = no_command;
     }
 
@@ -79,11 +73,5 @@ module _ (h : Header) (headed : IsHeader h) (a w : ℕ) (aligned : a % 4 ≡ 0) 
         least_of_ring h headed k on a w aligned r among driver has free giving command told.positions told.crossings gives told.quiet still
         ∙ ap (λ words. first_broken (given_tests h k r words a w giving command)) (fun_ext f.words) ∙ sym is
 
-    pub allowed : None ≡ first_broken (given_tests h k r m a w giving command) → Some n ≡ position (λ q. touches q.shape a 4) h.rings →
-        IsAllowed h k a w (record { ring = Some n; giving = giving; command = command })
-    allowed well found = record {
-      clean = nothing_broken (broken h k (Write a w)) (judged None well);
-      ring = found;
-      given = λ q there. subst (λ (y : Ring). IsGivenOn k a w y giving) (some_is r q (sym at ∙ there)) (record { driver = driver; positions = told.positions; crossings = told.crossings });
-      command = gives;
-    }
+    pub allowed : None ≡ first_broken (given_tests h k r m a w giving command) → IsAllowed h k a w command
+    allowed well = record { clean = nothing_broken (broken h k (Write a w)) (judged None well); command = gives }

@@ -1,15 +1,16 @@
-ghost use Rattle.std.specs.Prelude.{◌≡◌, false, length, slice_get, position, Some, IfOk, IfErr, IfSome, IfNone};
-ghost use Rattle.segments.specs.Places.{touches};
+ghost use Rattle.std.specs.Prelude.{◌≡◌, false, IfOk, IfErr, IfSome, IfNone};
 ghost use Rattle.traces.specs.Header.{IsHeader};
 ghost use Rattle.traces.specs.declared.row.Row.TheVariants.{Write};
 ghost use Rattle.ring_knowledge.specs.Known.{Known};
 ghost use Rattle.ring_knowledge.specs.RingRecords.{FollowsRing};
 ghost use Rattle.ring_finder.specs.Finding.{IsFinder};
+ghost use Rattle.ownership_rules.specs.OpenLeases.{is_leased};
 ghost use Rattle.ownership_rules.specs.Refusal.{first_broken};
 ghost use Rattle.safety.specs.Keeps.{DriverKeeps};
 ghost use Rattle.trace_record.specs.FollowsTrace.{FollowsTrace};
 ghost use Rattle.trace_record.specs.Premises.{ContextsFit, FitsMemory};
 ghost use Rattle.trace_record.specs.Steps.{IsLeast};
+ghost use Rattle.trace_record.specs.WordPlaces.{IsPlacedSo};
 ghost use Rattle.context_checks.specs.Contents.{IsAligned};
 ghost use Rattle.write_checks.specs.WriteTests.{GivesOnPosition, IsDriver, given_tests, place_tests};
 ghost use Rattle.write_checks.specs.Allowed.{IsAllowed};
@@ -17,17 +18,17 @@ ghost use Rattle.write_checks.specs.Allowed.{IsAllowed};
 use crate::crossings::crossing_refusal;
 use crate::given_commands::{command_refusal, given_command};
 use crate::positions::position_refusal;
-use crate::write_giving::WriteGiving;
 use binding_checks::is_being_moved;
 use commands::Command;
 use guest_memory::{Addr, WordMemory};
 use ownership_rules::Refusal;
 use ring_finder::{Finder, is_event_ring};
 use ring_knowledge::{RingGiving, RingRecord};
-use trace_record::TraceRecord;
+use trace_record::{TraceRecord, WordPlace};
 use traces::{Header, Ring};
 
-/// Checks a write of memory before the stop: what it gives, or the least of the rules that it breaks.
+/// Checks a write of memory before the stop: the command that it gives, if it gives one, or the least of the rules that it breaks.
+/// `place` is where the word lies, and `owned` whether it is under lease.
 pub fn check_write<M: WordMemory>(
     header: &Header,
     finder: &Finder,
@@ -35,44 +36,49 @@ pub fn check_write<M: WordMemory>(
     memory: &M,
     at: Addr,
     word: u32,
-) -> Result<WriteGiving, Refusal>
+    place: WordPlace,
+    owned: bool,
+) -> Result<Option<Command>, Refusal>
     requires headed { IsHeader header.now }
     requires found { IsFinder header.now.rings finder.now }
-    requires as_many { length t.now.rings.items ≡ length header.now.rings }
-    ensures ok { IfOk result (λ g. (k : Known) → FollowsTrace header.now k t.now (M.words memory.now) → DriverKeeps header.now k → ContextsFit header.now k → k.stopped ≡ false →
-        IsAllowed header.now k at word g) }
-    ensures fits { IfOk result (λ g. IfSome g.command (FitsMemory header.now.context_size)) }
-    ensures ring { IfOk result (λ g. g.ring ≡ position (λ ring. touches ring.shape at 4) header.now.rings) }
+    ensures ok { IfOk result (λ command. (k : Known) → FollowsTrace header.now k t.now (M.words memory.now) → DriverKeeps header.now k → ContextsFit header.now k → k.stopped ≡ false →
+        IsPlacedSo header.now k at word place → owned ≡ is_leased header.now k at → IsAllowed header.now k at word command) }
+    ensures fits { IfOk result (λ command. IfSome command (FitsMemory header.now.context_size)) }
     ensures refused { IfErr result (λ c. (k : Known) → FollowsTrace header.now k t.now (M.words memory.now) → DriverKeeps header.now k → ContextsFit header.now k → k.stopped ≡ false →
-        IsLeast header.now k (Write at word) c) }
+        IsPlacedSo header.now k at word place → owned ≡ is_leased header.now k at → IsLeast header.now k (Write at word) c) }
 {
-    if t.owns(header, finder, at) {
+    if owned {
         return Err(Refusal::WriteToOwned);
     }
-    let Some(number) = finder.ring_at(header, at.get()) else {
-        return Ok(WriteGiving {
-            ring: None,
-            giving: None,
-            command: None,
-        });
+    let Some(number) = place.ring else {
+        return Ok(None);
     };
     let rings = header.rings.as_slice();
-    let ring = &rings[number];
+    let Some(ring) = rings.get(number) else {
+        return Ok(None);
+    };
+    let records = t.rings.as_slice();
+    let Some(known) = records.get(number) else {
+        return Ok(None);
+    };
     if is_event_ring(ring) {
         return Err(Refusal::WriteToOwned);
     }
-    let known = &t.rings[number];
-    let giving = known.given_by(&ring.shape, at, word);
-    let command = given_command(ring, known, giving);
+    let command = given_command(ring, known, place.giving);
     match giving_refusal(
-        header, finder, t, memory, at, word, ring, known, giving, command,
+        header,
+        finder,
+        t,
+        memory,
+        at,
+        word,
+        ring,
+        known,
+        place.giving,
+        command,
     ) {
         Some(refusal) => Err(refusal),
-        None => Ok(WriteGiving {
-            ring: Some(number),
-            giving,
-            command,
-        }),
+        None => Ok(command),
     }
 }
 

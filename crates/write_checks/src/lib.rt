@@ -6,7 +6,5 @@ mod checks;
 mod crossings;
 mod given_commands;
 mod positions;
-mod write_giving;
 
 pub use checks::check_write;
-pub use write_giving::WriteGiving;

@@ -1,0 +1,51 @@
+-- What the place of a word says
+use Rattle.std.proofs.Common.{◌≡◌, ℕ, true, Bool, Option, None, Some, refl, sym, ◌∙◌, subst}
+use Rattle.std.specs.Prelude.{slice_get}
+use Rattle.segments.specs.RingView.{positions_given, crossings_given}
+use Rattle.traces.specs.declared.ring.Ring.{Ring}
+use Rattle.traces.specs.declared.header.Header.{Header}
+use Rattle.traces.specs.declared.row.Row.{Row}
+use Rattle.traces.specs.declared.row.Row.TheVariants.{Write}
+use Rattle.traces.specs.Header.{is_driver_kind, is_event_kind}
+use Rattle.ring_knowledge.specs.declared.ring_record.RingGiving.{RingGiving}
+use Rattle.ring_knowledge.specs.Known.{Known}
+use Rattle.ring_knowledge.specs.RingRecords.{positions_of, crossings_of}
+use Rattle.trace_record.specs.declared.word_place.WordPlace.{WordPlace}
+use Rattle.trace_record.specs.WordPlaces.{IsGivenBy, IsGivenOn, IsOwnedSo, IsPlaced}
+use Rattle.trace_record.proofs.OneRingHas.{no_driver_event}
+
+module _ (h : Header) (k : Known) (at word n : ℕ) (ring : Ring) (here : slice_get h.rings n ≡ Some ring) where
+  same_ring : (q : Ring) → slice_get h.rings n ≡ Some q → ring ≡ q
+  same_ring q there = some_is (sym here ∙ there)
+    where
+      some_is : Some ring ≡ Some q → ring ≡ q
+      some_is e = cc
+
+  given_by_this : (giving : Option RingGiving) → IsGivenOn k at word ring giving → IsGivenBy h k at word (Some n) giving
+  given_by_this giving on = λ q there. subst (λ (y : Ring). IsGivenOn k at word y giving) (same_ring q there) on
+
+  -- of the event ring nothing is given
+  pub nothing_of_events : is_event_kind ring.shape.kind ≡ true → IsGivenBy h k at word (Some n) None
+  nothing_of_events event = given_by_this None (record {
+    positions = λ driver. absurd (no_driver_event ring.shape.kind driver event);
+    crossings = λ driver. absurd (no_driver_event ring.shape.kind driver event);
+    events = λ is. refl;
+  })
+
+  -- what is given of a command or transfer ring
+  pub given_on : is_driver_kind ring.shape.kind ≡ true → (giving : Option RingGiving) → positions_given ring.shape (k.ring ring.id) at word ≡ positions_of giving →
+      crossings_given ring.shape (k.ring ring.id) at word ≡ crossings_of giving → IsGivenBy h k at word (Some n) giving
+  given_on driver giving positions crossings = given_by_this giving (record {
+    positions = λ is. positions;
+    crossings = λ is. crossings;
+    events = λ event. absurd (no_driver_event ring.shape.kind driver event);
+  })
+
+-- nothing is said of a row that writes no memory
+pub placed_other : (h : Header) (k : Known) (row : Row) (p : WordPlace) → ((at word : ℕ) → row ≡ Write at word → ⊥) → IsPlaced h k row p
+placed_other h k (Write at word) p other = absurd (other at word refl)
+placed_other h k _ p other = tt
+
+pub owned_other : (h : Header) (k : Known) (row : Row) (owned : Bool) → ((at word : ℕ) → row ≡ Write at word → ⊥) → IsOwnedSo h k row owned
+owned_other h k (Write at word) owned other = absurd (other at word refl)
+owned_other h k _ owned other = tt

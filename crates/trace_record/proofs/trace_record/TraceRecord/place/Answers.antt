@@ -1,0 +1,11 @@
+use Rattle.std.proofs.Common.{sym, subst}
+use Rattle.traces.specs.declared.row.Row.{Row}
+use Rattle.trace_record.specs.WordPlaces.{IsPlaced}
+use Rattle.trace_record.proofs.PlacedWords.{placed_other}
+use Rattle.trace_record.proofs.trace_record.TraceRecord.place.Goals as goal
+
+pub returns-in-Write : goal.returns-in-Write
+returns-in-Write c = λ k memory f. subst (λ (row : Row). IsPlaced c.args.header.now k row c.word_place.result) (sym c.in-Write.is) (c.word_place.ensures k f.rings)
+
+pub returns-in_default : goal.returns-in_default
+returns-in_default c = λ k memory f. placed_other c.args.header.now k c.args.row.now _ c.in_default.not-Write

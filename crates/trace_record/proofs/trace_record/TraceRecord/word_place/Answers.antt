@@ -1,0 +1,55 @@
+use Rattle.std.proofs.Common.{◌≡◌, true, get_or, sym, ◌∙◌, ap, arith, refl, length}
+use Rattle.std.specs.Prelude.{not, position}
+use Rattle.std.proofs.lemmas.Option.{slice_get_read, slice_get_within}
+use Rattle.segments.specs.Places.{touches}
+use Rattle.traces.specs.Header.{is_driver_kind}
+use Rattle.ring_finder.proofs.FoundRings.{ring_here, none_here}
+use Rattle.ring_finder.proofs.RingsApart.{among_at}
+use Rattle.trace_record.proofs.OneRingHas.{rings_nowhere, rings_in_events, rings_here}
+use Rattle.trace_record.proofs.PlacedWords.{nothing_of_events, given_on}
+use Rattle.trace_record.proofs.trace_record.TraceRecord.word_place.Goals as goal
+
+pub returns-in_default : goal.returns-in_default
+returns-in_default c = λ k rings.
+    let h = c.args.header.now in
+    let none = none_here h (λ q. touches q.shape c.get.result 4) h.rings (sym c.ring_at.ensures ∙ c.in_default.is) refl in
+    record {
+      aligned = c.get.ensures.aligned;
+      ring = sym c.in_default.is ∙ c.ring_at.ensures ∙ ap (λ n. position (λ q. touches q.shape n 4) h.rings) c.get.ensures.same;
+      lent = rings_nowhere h c.requires.headed k c.args.at c.get.ensures.aligned (λ q among. ap (λ n. touches q.shape n 4) (sym c.get.ensures.same) ∙ none q among);
+      given = refl;
+    }
+
+pub returns-then-is_event_ring : goal.returns-then-is_event_ring
+returns-then-is_event_ring c = λ k rings.
+    let h = c.args.header.now in
+    let ring = c.index-rings-number.result in
+    let here = ring_here h (λ q. touches q.shape c.get.result 4) h.rings c.in-Some.number ring (sym c.ring_at.ensures ∙ c.in-Some.is) refl (c.index-rings-number.is ∙ ap (λ xs. get_or xs c.in-Some.number ring) c.as_slice-rings.ensures) in
+    let touched : touches ring.shape c.args.at 4 ≡ true = ap (λ n. touches ring.shape n 4) (sym c.get.ensures.same) ∙ here.1 in
+    let event = sym c.is_event_ring.ensures ∙ c.if-is_event_ring.true in
+    record {
+      aligned = c.get.ensures.aligned;
+      ring = sym c.in-Some.is ∙ c.ring_at.ensures ∙ ap (λ n. position (λ q. touches q.shape n 4) h.rings) c.get.ensures.same;
+      lent = rings_in_events h c.requires.headed k c.args.at c.get.ensures.aligned ring (among_at h.rings c.in-Some.number ring here.0) event touched;
+      given = nothing_of_events h k c.args.at c.args.word c.in-Some.number ring here.0 event;
+    }
+
+pub returns-in-Some-get : goal.returns-in-Some-get
+returns-in-Some-get c = λ k rings.
+    let h = c.args.header.now in
+    let ring = c.index-rings-number.result in
+    let here = ring_here h (λ q. touches q.shape c.get.result 4) h.rings c.in-Some.number ring (sym c.ring_at.ensures ∙ c.in-Some.is) refl (c.index-rings-number.is ∙ ap (λ xs. get_or xs c.in-Some.number ring) c.as_slice-rings.ensures) in
+    let touched : touches ring.shape c.args.at 4 ≡ true = ap (λ n. touches ring.shape n 4) (sym c.get.ensures.same) ∙ here.1 in
+    let driver : is_driver_kind ring.shape.kind ≡ true = ap not (sym c.is_event_ring.ensures ∙ c.if-is_event_ring.false) in
+    let items = c.args.self.now.rings.items in
+    let within = slice_get_within h.rings c.in-Some.number ring here.0 in
+    let there = slice_get_read items (length items) c.in-Some.number c.in-Some-get.known.now refl (omega (arith, rings.as_many, within)) (c.in-Some-get.ensures.lookup.1 ∙ ap (λ xs. get_or xs c.in-Some.number c.in-Some-get.known.now) c.deref.ensures.value) in
+    let follows = rings.each c.in-Some.number ring c.in-Some-get.known.now here.0 there driver in
+    record {
+      aligned = c.get.ensures.aligned;
+      ring = sym c.in-Some.is ∙ c.ring_at.ensures ∙ ap (λ n. position (λ q. touches q.shape n 4) h.rings) c.get.ensures.same;
+      lent = c.look-standing.ensures.lent (k.ring ring.id) follows
+          ∙ rings_here h c.requires.headed k c.args.at c.get.ensures.aligned ring (among_at h.rings c.in-Some.number ring here.0) driver touched;
+      given = given_on h k c.args.at c.args.word c.in-Some.number ring here.0 driver c.look-standing.result.giving
+          (c.look-standing.ensures.positions (k.ring ring.id) follows) (c.look-standing.ensures.crossings (k.ring ring.id) follows);
+    }

@@ -1,0 +1,43 @@
+-- Where the word of a row lies that writes memory, and whether it is under lease
+use Rattle.std.specs.Prelude.{◌≡◌, ℕ, ◌%◌, true, Bool, Option, None, Some, position, slice_get}
+use Rattle.segments.specs.Places.{touches}
+use Rattle.segments.specs.RingView.{positions_given, crossings_given}
+use Rattle.traces.specs.declared.ring.Ring.{Ring}
+use Rattle.traces.specs.declared.header.Header.{Header}
+use Rattle.traces.specs.declared.row.Row.{Row}
+use Rattle.traces.specs.declared.row.Row.TheVariants.{Write}
+use Rattle.traces.specs.Header.{is_driver_kind, is_event_kind}
+use Rattle.ring_knowledge.specs.declared.ring_record.RingGiving.{RingGiving}
+use Rattle.ring_knowledge.specs.Known.{Known}
+use Rattle.ring_knowledge.specs.RingRecords.{positions_of, crossings_of}
+use Rattle.ownership_rules.specs.OpenLeases.{is_leased}
+use Rattle.trace_record.specs.declared.word_place.WordPlace.{WordPlace}
+use Rattle.trace_record.specs.Owned.{rings_have}
+
+-- the write of a word gives this of a ring: of the event ring nothing
+pub record IsGivenOn (k : Known) (at word : ℕ) (ring : Ring) (giving : Option RingGiving) : Type 0 where
+  pub positions : is_driver_kind ring.shape.kind ≡ true → positions_given ring.shape (k.ring ring.id) at word ≡ positions_of giving
+  pub crossings : is_driver_kind ring.shape.kind ≡ true → crossings_given ring.shape (k.ring ring.id) at word ≡ crossings_of giving
+  pub events : is_event_kind ring.shape.kind ≡ true → giving ≡ None
+
+-- of the ring with this number in the header, if one has the word
+abbrev pub IsGivenBy : Header → Known → ℕ → ℕ → Option ℕ → Option RingGiving → Type 0
+IsGivenBy h k at word None giving = giving ≡ None
+IsGivenBy h k at word (Some n) giving = (ring : Ring) → slice_get h.rings n ≡ Some ring → IsGivenOn k at word ring giving
+
+-- the place of a word: its ring, whether a lease of the ring has it, and what its write gives of the ring
+pub record IsPlacedSo (h : Header) (k : Known) (at word : ℕ) (p : WordPlace) : Type 0 where
+  pub aligned : at % 4 ≡ 0
+  pub ring : p.ring ≡ position (λ ring. touches ring.shape at 4) h.rings
+  pub lent : p.is_lent ≡ rings_have h k at
+  pub given : IsGivenBy h k at word p.ring p.giving
+
+-- of a row that writes memory
+abbrev pub IsPlaced : Header → Known → Row → WordPlace → Type 0
+IsPlaced h k (Write at word) p = IsPlacedSo h k at word p
+IsPlaced h k _ p = Unit {0}
+
+-- whether the word is under lease that a row writes
+abbrev pub IsOwnedSo : Header → Known → Row → Bool → Type 0
+IsOwnedSo h k (Write at word) owned = owned ≡ is_leased h k at
+IsOwnedSo h k _ owned = Unit {0}
