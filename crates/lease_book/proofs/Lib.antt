@@ -13,6 +13,7 @@ pub mod Completing
 pub mod Writing
 pub mod Given
 pub mod Ordering
+pub mod NoIndexes
 pub mod FirstBook
 pub mod TableAlone
 pub mod FreePlaces
@@ -20,8 +21,6 @@ pub mod FreeLinks
 pub mod EndingRange
 pub mod RangePlaces
 pub mod FirstRanges
-pub mod OpenBlocks
-pub mod OpenLinks
 pub mod FreeRanges
 pub mod Narrowing
 pub mod Transferring

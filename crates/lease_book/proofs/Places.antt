@@ -1,5 +1,5 @@
 -- The tables find a lease that begins, and still all others
-use Rattle.std.specs.Prelude.{◌≡◌, ◌≢◌, ℕ, ◌+◌, ◌%◌, ◌==◌, ◌&&◌, ◌||◌, Bool, true, false, not, List, [], ◌∷◌, ◌++◌, length, map, take}
+use Rattle.std.specs.Prelude.{◌≡◌, ◌≢◌, ℕ, ◌+◌, ◌%◌, ◌==◌, ◌&&◌, ◌||◌, Bool, true, false, not, List, [], ◌∷◌, ◌++◌, length, map}
 use Rattle.std.specs.List.{list_any}
 use Rattle.std.proofs.Common.{arith, sym, ◌∙◌, ap, refl, inl, inr, subst}
 use Rattle.std.proofs.lemmas.Bool.{cases_Bool, eqb-true, eq-eqb, false≢true}
@@ -8,7 +8,6 @@ use Rattle.segments.specs.Givings.{link_of}
 use Rattle.traces.specs.declared.header.Header.{Header}
 use Rattle.traces.specs.Header.{shape_of}
 use Rattle.std.proofs.lemmas.List.{length-map}
-use Rattle.std.proofs.Math.Seq.{take-append_seam}
 use Rattle.ring_knowledge.specs.declared.lease.Lease.{Lease}
 use Rattle.ownership_rules.specs.OpenLeases.{Leased, Block, Link, Range, Use}
 use Rattle.ownership_rules.specs.Leases.{as_lease, without_end}
@@ -18,7 +17,7 @@ use Rattle.lease_book.specs.Lents.{Lent, is_unended, begun_at, lease_of, is_plac
 use Rattle.lease_book.specs.Books.{AllUnended, IsFound, HoldsLents}
 use Rattle.lease_book.specs.declared.lease_book.LeaseBook.{LeaseBook}
 use Rattle.lease_book.proofs.Growing.{map_append}
-use Rattle.lease_book.proofs.Unended.{all_begun, all_anew}
+use Rattle.lease_book.proofs.Unended.{all_begun}
 
 -- one index was put
 pub record IsPut (old new : IndexTables) (r n i : ℕ) : Type 0 where
@@ -72,19 +71,6 @@ module _ (h : Header) (old new other : IndexTables) (r p n : ℕ) (ts : List Len
       here : IsFound h other new (0 + length ts) (Link r p)
       here = (above, put.same ∙ omega arith)
 
--- tables that answer alike find the same
-abbrev pub AnswerAlike : IndexTables → IndexTables → Type 0
-AnswerAlike old new = (r n : ℕ) → index_at new r n ≡ index_at old r n
-
-pub still_found : (h : Header) (old_blocks new_blocks old_links new_links : IndexTables) (ts : List Lent) → AnswerAlike old_blocks new_blocks → AnswerAlike old_links new_links →
-    AllUnended (IsFound h old_blocks old_links) 0 ts → AllUnended (IsFound h new_blocks new_links) 0 ts
-still_found h old_blocks new_blocks old_links new_links ts blocks links = all_anew (IsFound h old_blocks old_links) (IsFound h new_blocks new_links) 0 ts step
-  where
-    step : (i : ℕ) (m : Leased) → IsFound h old_blocks old_links i m → IsFound h new_blocks new_links i m
-    step i (Block s q) was = blocks s (q % place_count (shape_of h s)) ∙ was
-    step i (Link s q) was = (was.0, links s (link_of (shape_of h s) q) ∙ was.1)
-    step i (Range m a e) was = tt
-
 -- the list, with what begins
 pub list_begun : (ts : List Lent) (row : ℕ) (l : Leased) (xs ys : List Lease) {x : Lease} → xs ≡ map lease_of ts → x ≡ as_lease row without_end l → ys ≡ xs ++ x ∷ [] →
     ys ≡ map lease_of (with_begun row ts (l ∷ []))
@@ -98,10 +84,6 @@ length_held h ts b known = ap length known.list ∙ length-map ts lease_of
 -- numbers that are equal name one place
 pub put_at : (old new : IndexTables) (r m n i j : ℕ) → m ≡ n → i ≡ j → IsPut old new r m i → IsPut old new r n j
 put_at old new r m n i j e f put = let P : ℕ → ℕ → Type 0 = λ m i. IsPut old new r m i in subst (λ (x : ℕ). P n x) f (subst (λ (x : ℕ). P x i) e put)
-
--- the list as it was, without what was pushed
-pub cut_back : (xs ys zs : List Lease) (x : Lease) (n : ℕ) → n ≡ length xs → ys ≡ xs ++ x ∷ [] → zs ≡ take n ys → zs ≡ xs
-cut_back xs ys zs x n e f g = g ∙ ap (take n) f ∙ ap (λ m. take m (xs ++ x ∷ [])) e ∙ take-append_seam xs (x ∷ [])
 
 -- a range shares no place
 pub range_found : (h : Header) (blocks links : IndexTables) (ts : List Lent) (row n a : ℕ) (e : Use) → AllUnended (IsFound h blocks links) 0 ts →

@@ -1,5 +1,5 @@
 -- The indexes find each range that is under lease, when one begins and when some end
-use Rattle.std.specs.Prelude.{◌≡◌, ◌≢◌, ℕ, ◌+◌, ◌==◌, ◌&&◌, ◌||◌, Bool, true, false, List, [], ◌∷◌, length, map, OnOk, OnErr, Result, Ok, Err}
+use Rattle.std.specs.Prelude.{◌≡◌, ◌≢◌, ℕ, ◌==◌, ◌&&◌, ◌||◌, Bool, true, false, List, [], ◌∷◌, length, map, OnOk, Result, Ok, Err}
 use Rattle.std.specs.List.{list_any}
 use Rattle.std.proofs.Common.{arith, sym, ◌∙◌, refl, subst}
 use Rattle.std.proofs.lemmas.Bool.{false≢true, eq-eqb}
@@ -9,18 +9,9 @@ use Rattle.lease_book.specs.declared.indexes.Indexes.{Indexes}
 use Rattle.lease_book.specs.declared.ranges.RangeIndexes.{RangeIndexes}
 use Rattle.lease_book.specs.IndexTables.{index_in}
 use Rattle.lease_book.specs.Lents.{Lent, is_unended, ended_where, with_begun}
-use Rattle.lease_book.specs.Books.{AllUnended}
 use Rattle.lease_book.specs.Ranges.{FindsRanges, IsRangeFound, IsUseFound, StandsAt, command_place, is_use_free, share_a_use, shares_use}
 use Rattle.lease_book.proofs.Places.{not_true}
-use Rattle.lease_book.proofs.Unended.{all_anew, all_begun, all_ended, both_false}
-
--- those that share nothing with one stay where they are
-all_apart : (F G : ℕ → Leased → Type 0) (S : Leased → Bool) (n : ℕ) (ts : List Lent) → ((i : ℕ) (m : Leased) → S m ≡ false → F i m → G i m) →
-    list_any (λ t. is_unended t && S t.leased) ts ≡ false → AllUnended F n ts → AllUnended G n ts
-all_apart F G S n [] f free all = tt
-all_apart F G S n (t ∷ ts) f free all =
-    let parts = both_false (is_unended t && S t.leased) (list_any (λ t. is_unended t && S t.leased) ts) free in
-    (λ u. f n t.leased (rw u at parts.0) (all.0 u), all_apart F G S (n + 1) ts f parts.1 all.1)
+use Rattle.lease_book.proofs.Unended.{all_anew, all_begun, all_ended}
 
 -- the ranges for other uses are found as before
 abbrev pub IsKept : Header → Use → RangeIndexes → RangeIndexes → Type 0
@@ -36,10 +27,6 @@ module _ (h : Header) (x y : RangeIndexes) (e : Use) (kept : IsKept h e x y) whe
   unfolding is_use_free
   range_begins row n a ts here all free =
       all_begun (IsRangeFound h x) (IsRangeFound h y) (shares_use h e) row (Range n a e) 0 ts step (subst (λ (i : ℕ). IsUseFound h y i e) (omega arith) here) (not_true _ free) all
-
-  pub ranges_stay : (ts : List Lent) → FindsRanges h ts x → is_use_free h ts e ≡ true → FindsRanges h ts y
-  unfolding is_use_free
-  ranges_stay ts all free = all_apart (IsRangeFound h x) (IsRangeFound h y) (shares_use h e) 0 ts step (not_true _ free) all
 
 other : (m n : ℕ) → (m == n) ≡ false → n ≢ m
 other m n apart e = false≢true (sym apart ∙ eq-eqb m n (sym e))
@@ -93,7 +80,3 @@ some_end h x over row ts all = all_ended (IsRangeFound h x) over row 0 ts all
 pub always_ok : {T E P : Type 0} (r : Result T E) → P → OnOk r P
 always_ok (Ok x) p = p
 always_ok (Err e) p = tt
-
-pub always_err : {T E P : Type 0} (r : Result T E) → P → OnErr r P
-always_err (Ok x) p = tt
-always_err (Err e) p = p

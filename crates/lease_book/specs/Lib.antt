@@ -4,6 +4,5 @@ pub mod Books
 pub mod Endings
 pub mod Opening
 pub mod Ranges
-pub mod OpenBlocks
 pub mod Coming
 pub mod LettingGo

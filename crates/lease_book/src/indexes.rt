@@ -1,4 +1,4 @@
-ghost use Rattle.std.specs.Prelude.{◌≡◌, ◌≢◌, ◌<◌, ℕ, length, slice_index, IfOk, OnOk, OnErr};
+ghost use Rattle.std.specs.Prelude.{◌≡◌, ◌≢◌, ◌<◌, ℕ, length, slice_index, IfOk, OnOk};
 
 use std::alloc::{AllocError, Global};
 
@@ -12,7 +12,9 @@ impl Indexes {
     ghost use Rattle.lease_book.specs.IndexTables.{index_in};
 
     /// No index is put.
-    pub fn new(alloc: Global) -> Indexes {
+    pub fn new(alloc: Global) -> Indexes
+        ensures { (m : ℕ) → index_in result m ≡ 0 }
+    {
         Indexes {
             indexes: Vec::new(alloc),
         }
@@ -25,11 +27,10 @@ impl Indexes {
         self.indexes.get(number as usize).copied().unwrap_or(0)
     }
 
-    /// Puts the index of a number. Want of memory changes none.
+    /// Puts the index of a number.
     pub fn put(&mut self, number: u32, index: usize) -> Result<(), AllocError>
         ensures same { OnOk result (index_in self.new number ≡ index) }
         ensures others { OnOk result ((m : ℕ) → m ≢ number → index_in self.new m ≡ index_in self.old m) }
-        ensures err { OnErr result ((m : ℕ) → index_in self.new m ≡ index_in self.old m) }
     {
         let at = number as usize;
         if at >= self.indexes.len() {
@@ -37,6 +38,16 @@ impl Indexes {
         }
         self.indexes[at] = index;
         Ok(())
+    }
+
+    /// No index is put any more for a number.
+    pub fn clear(&mut self, number: u32)
+        ensures same { index_in self.new number ≡ 0 }
+        ensures others { (m : ℕ) → m ≢ number → index_in self.new m ≡ index_in self.old m }
+    {
+        if let Some(index) = self.indexes.get_mut(number as usize) {
+            *index = 0;
+        }
     }
 }
 
@@ -51,7 +62,9 @@ impl IndexTables {
     ghost use Rattle.lease_book.specs.IndexTables.{index_at};
 
     /// No index is put.
-    pub fn new(alloc: Global) -> Result<IndexTables, AllocError> {
+    pub fn new(alloc: Global) -> Result<IndexTables, AllocError>
+        ensures { IfOk result (λ t. (r m : ℕ) → index_at t r m ≡ 0) }
+    {
         let mut rings = Vec::new(alloc);
         for _ in 0..256u32 {
             rings.push(Indexes::new(alloc))?;
@@ -66,13 +79,21 @@ impl IndexTables {
         self.rings[usize::from(ring)].get(number)
     }
 
-    /// Puts the index of a number. Want of memory changes none.
+    /// Puts the index of a number.
     pub fn put(&mut self, ring: u8, number: u32, index: usize) -> Result<(), AllocError>
         ensures same { OnOk result (index_at self.new ring number ≡ index) }
         ensures ring { OnOk result ((m : ℕ) → m ≢ number → index_at self.new ring m ≡ index_at self.old ring m) }
         ensures others { OnOk result ((r m : ℕ) → r ≢ ring → index_at self.new r m ≡ index_at self.old r m) }
-        ensures err { OnErr result ((r m : ℕ) → index_at self.new r m ≡ index_at self.old r m) }
     {
         self.rings[usize::from(ring)].put(number, index)
+    }
+
+    /// No index is put any more for a number.
+    pub fn clear(&mut self, ring: u8, number: u32)
+        ensures same { index_at self.new ring number ≡ 0 }
+        ensures ring { (m : ℕ) → m ≢ number → index_at self.new ring m ≡ index_at self.old ring m }
+        ensures others { (r m : ℕ) → r ≢ ring → index_at self.new r m ≡ index_at self.old r m }
+    {
+        self.rings[usize::from(ring)].clear(number);
     }
 }

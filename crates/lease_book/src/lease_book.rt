@@ -1,16 +1,15 @@
-ghost use Rattle.std.specs.Prelude.{◌≡◌, ◌+◌, ◌<◌, ◌≤◌, ℕ, [], ◌∷◌, true, List, length, map, reverse, slice_get, slice_set, OnOk, OnErr, IfOk};
-ghost use Rattle.segments.specs.Places.{is_crossing, place_count};
-ghost use Rattle.segments.specs.Givings.{link_of};
+ghost use Rattle.std.specs.Prelude.{◌≡◌, ◌+◌, ◌≤◌, ℕ, [], true, List, length, map, reverse, slice_get, slice_set, IfOk};
+ghost use Rattle.segments.specs.Places.{is_crossing};
 ghost use Rattle.traces.specs.declared.header.Header.{Header};
 ghost use Rattle.traces.specs.declared.row.Row.{Row};
 ghost use Rattle.traces.specs.Header.{shape_of};
 ghost use Rattle.ownership_rules.specs.OpenLeases.{Block, Link, Range, Use, same_leased};
 ghost use Rattle.ownership_rules.specs.Leases.{as_lease, leases, without_end};
 ghost use Rattle.lease_book.specs.Endings.{ended_at, is_open_as};
-ghost use Rattle.lease_book.specs.OpenBlocks.{is_open_block, is_open_link};
-ghost use Rattle.lease_book.specs.Lents.{Lent, ended_where, is_passed, is_place_free, with_begun};
+ghost use Rattle.lease_book.specs.Lents.{Lent, ended_where};
 
 use crate::indexes::IndexTables;
+use crate::lease_log::LeaseLog;
 use crate::opening::opening_leases;
 use ring_knowledge::Lease;
 use std::alloc::{AllocError, Global};
@@ -41,8 +40,6 @@ pub struct LeaseBook {
 
 impl LeaseBook {
     ghost use Rattle.lease_book.specs.Books.{FollowsLeases, HoldsLents};
-    ghost use Rattle.lease_book.specs.OpenBlocks.{is_block_lent, is_link_lent};
-    ghost use Rattle.lease_book.specs.Ranges.{StandsAt, is_lent};
 
     /// The book before the first row: the leases of the event ring's segments stand.
     pub fn new(alloc: Global, header: &Header) -> Result<LeaseBook, AllocError>
@@ -55,50 +52,8 @@ impl LeaseBook {
         })
     }
 
-    /// The lease of a block begins at a row.
-    pub fn begin_block(&mut self, row: u32, ring: &Ring, position: u64) -> Result<(), AllocError>
-        ensures ok { OnOk result ((h : Header) (ts : List Lent) → shape_of h ring.now.id ≡ ring.now.shape → HoldsLents h ts self.old →
-            is_place_free h ts (Block ring.now.id position) ≡ true → HoldsLents h (with_begun row ts (Block ring.now.id position ∷ [])) self.new) }
-        ensures err { OnErr result ((h : Header) (ts : List Lent) → HoldsLents h ts self.old → HoldsLents h ts self.new) }
-    {
-        let index = self.leases.len();
-        self.leases.push(block_lease(row, ring.id, position))?;
-        let place = (position % u64::from(ring.shape.places())) as u32;
-        if let Err(refused) = self.blocks.put(ring.id, place, index) {
-            self.leases.truncate(index);
-            return Err(refused);
-        }
-        Ok(())
-    }
-
-    /// The lease of a Link begins at a row; the Link is crossed on the way to a position.
-    pub fn begin_link(&mut self, row: u32, ring: &Ring, crossing: u64) -> Result<(), AllocError>
-        ensures ok { OnOk result ((h : Header) (ts : List Lent) → shape_of h ring.now.id ≡ ring.now.shape → is_crossing ring.now.shape crossing ≡ true → HoldsLents h ts self.old →
-            is_place_free h ts (Link ring.now.id crossing) ≡ true → HoldsLents h (with_begun row ts (Link ring.now.id crossing ∷ [])) self.new) }
-        ensures err { OnErr result ((h : Header) (ts : List Lent) → HoldsLents h ts self.old → HoldsLents h ts self.new) }
-    {
-        let index = self.leases.len();
-        self.leases.push(link_lease(row, ring.id, crossing))?;
-        let segment = ring.shape.crossing(crossing).unwrap_or(0);
-        if let Err(refused) = self.links.put(ring.id, segment, index) {
-            self.leases.truncate(index);
-            return Err(refused);
-        }
-        Ok(())
-    }
-
-    /// The lease of a range of bytes begins at a row.
-    pub fn begin_range(&mut self, row: u32, bytes: u32, address: u64) -> Result<(), AllocError>
-        ensures ok { OnOk result ((h : Header) (ts : List Lent) (purpose : Use) → HoldsLents h ts self.old →
-            HoldsLents h (with_begun row ts (Range bytes address purpose ∷ [])) self.new) }
-        ensures err { OnErr result ((h : Header) (ts : List Lent) → HoldsLents h ts self.old → HoldsLents h ts self.new) }
-    {
-        self.leases.push(range_lease(row, bytes, address))?;
-        Ok(())
-    }
-
     /// The lease of a block ends at a row, if it is open.
-    pub fn end_block(&mut self, row: u32, ring: &Ring, position: u64)
+    fn end_block(&mut self, row: u32, ring: &Ring, position: u64)
         ensures { (h : Header) (ts : List Lent) → shape_of h ring.now.id ≡ ring.now.shape → HoldsLents h ts self.old →
             HoldsLents h (map (ended_where (same_leased (Block ring.now.id position)) row) ts) self.new }
     {
@@ -113,7 +68,7 @@ impl LeaseBook {
     }
 
     /// The lease of a Link ends at a row, if it is open; the Link is crossed on the way to a position.
-    pub fn end_link(&mut self, row: u32, ring: &Ring, crossing: u64)
+    fn end_link(&mut self, row: u32, ring: &Ring, crossing: u64)
         requires { is_crossing ring.now.shape crossing ≡ true }
         ensures { (h : Header) (ts : List Lent) → shape_of h ring.now.id ≡ ring.now.shape → HoldsLents h ts self.old →
             HoldsLents h (map (ended_where (same_leased (Link ring.now.id crossing)) row) ts) self.new }
@@ -128,53 +83,42 @@ impl LeaseBook {
         );
     }
 
-    /// The lease of a range of bytes ends at a row; it is open, and stands at an index.
-    pub fn end_range(&mut self, index: usize, row: u32, bytes: u32, address: u64)
-        ensures { (h : Header) (ts : List Lent) (purpose : Use) → HoldsLents h ts self.old → StandsAt ts (Range bytes address purpose) index →
-            is_lent ts (Range bytes address purpose) ≡ true → HoldsLents h (map (ended_where (same_leased (Range bytes address purpose)) row) ts) self.new }
+    /// The leases, in their order.
+    pub fn into_leases(self) -> Vec<Lease>
+        ensures { (h : Header) (first : ℕ) (past : List Row) → first + length past ≤ without_end → FollowsLeases h first past self →
+            result.items ≡ leases h first (reverse past) }
     {
-        end_at(
-            &mut self.leases,
-            index,
-            row,
-            range_lease(row, bytes, address),
-        );
+        self.leases
+    }
+}
+
+impl LeaseLog for LeaseBook {
+    ghost use Rattle.lease_book.specs.Books.{HoldsLents};
+
+    ghost holds = { HoldsLents };
+
+    fn begin_block(&mut self, row: u32, ring: &Ring, position: u64) -> Result<(), AllocError> {
+        let index = self.leases.len();
+        self.leases.push(block_lease(row, ring.id, position))?;
+        let place = (position % u64::from(ring.shape.places())) as u32;
+        self.blocks.put(ring.id, place, index)?;
+        Ok(())
     }
 
-    /// The block at a place of a ring is under lease.
-    pub fn is_block_lent(&self, ring: &Ring, place: u32) -> bool
-        ensures { (h : Header) (ts : List Lent) → shape_of h ring.now.id ≡ ring.now.shape → HoldsLents h ts self.now → result ≡ is_block_lent h ts ring.now.id place }
-    {
-        let index = self.blocks.get(ring.id, place);
-        match lease_at(self.leases.as_slice(), index) {
-            Some(lease) => is_open_block(ring, place, lease),
-            None => false,
-        }
+    fn begin_link(&mut self, row: u32, ring: &Ring, crossing: u64) -> Result<(), AllocError> {
+        let index = self.leases.len();
+        self.leases.push(link_lease(row, ring.id, crossing))?;
+        let segment = ring.shape.crossing(crossing).unwrap_or(0);
+        self.links.put(ring.id, segment, index)?;
+        Ok(())
     }
 
-    /// The Link of a segment of a ring is under lease.
-    pub fn is_link_lent(&self, ring: &Ring, segment: u32) -> bool
-        ensures { (h : Header) (ts : List Lent) → shape_of h ring.now.id ≡ ring.now.shape → HoldsLents h ts self.now → result ≡ is_link_lent h ts ring.now.id segment }
-    {
-        let index = self.links.get(ring.id, segment);
-        match lease_at(self.leases.as_slice(), index) {
-            Some(lease) => is_open_link(ring, segment, lease),
-            None => false,
-        }
+    fn begin_range(&mut self, row: u32, bytes: u32, address: u64) -> Result<(), AllocError> {
+        self.leases.push(range_lease(row, bytes, address))?;
+        Ok(())
     }
 
-    /// How many leases there are, those that are over among them.
-    pub fn count(&self) -> usize
-        ensures { (h : Header) (ts : List Lent) → HoldsLents h ts self.now → result ≡ length ts }
-    {
-        self.leases.len()
-    }
-
-    /// The leases of the blocks and Links of a ring that the controller's dequeue pointer passes end at a row.
-    pub fn end_passed(&mut self, row: u32, ring: &Ring, from: u64, to: u64)
-        ensures { (h : Header) (ts : List Lent) → shape_of h ring.now.id ≡ ring.now.shape → from ≤ to → HoldsLents h ts self.old →
-            HoldsLents h (map (ended_where (is_passed ring.now.id from to) row) ts) self.new }
-    {
+    fn end_passed(&mut self, row: u32, ring: &Ring, from: u64, to: u64) {
         for number in from..to {
             self.end_block(row, ring, number);
             if ring.shape.crossing(number).is_some() {
@@ -183,12 +127,17 @@ impl LeaseBook {
         }
     }
 
-    /// The leases, in their order.
-    pub fn into_leases(self) -> Vec<Lease>
-        ensures { (h : Header) (first : ℕ) (past : List Row) → first + length past ≤ without_end → FollowsLeases h first past self →
-            result.items ≡ leases h first (reverse past) }
-    {
-        self.leases
+    fn end_range(&mut self, index: usize, row: u32, bytes: u32, address: u64) {
+        end_at(
+            &mut self.leases,
+            index,
+            row,
+            range_lease(row, bytes, address),
+        );
+    }
+
+    fn count(&self) -> usize {
+        self.leases.len()
     }
 }
 
@@ -256,36 +205,6 @@ fn is_open_as(sought: Lease, lease: Lease) -> bool
         && sought.kind == lease.kind
         && sought.ring == lease.ring
         && sought.pos == lease.pos
-}
-
-/// The lease has no end, and is that of the block at a place of a ring.
-#[tactic(auto, unfolding(crate::specs::OpenBlocks::is_open_block, ownership_rules::specs::Leases::without_end))]
-fn is_open_block(ring: &Ring, place: u32, lease: Lease) -> bool
-    ensures { result ≡ is_open_block ring.now.id (place_count ring.now.shape) place lease }
-{
-    lease.kind == BLOCK
-        && lease.ring == u32::from(ring.id)
-        && lease.pos % u64::from(ring.shape.places()) == u64::from(place)
-        && lease.to == WITHOUT_END
-}
-
-/// The lease has no end, and is that of the Link in a segment of a ring.
-#[tactic(auto, unfolding(crate::specs::OpenBlocks::is_open_link, ownership_rules::specs::Leases::without_end))]
-fn is_open_link(ring: &Ring, segment: u32, lease: Lease) -> bool
-    ensures { result ≡ is_open_link ring.now.shape ring.now.id segment lease }
-{
-    lease.kind == LINK
-        && lease.ring == u32::from(ring.id)
-        && segment_behind(ring, lease.pos) == segment
-        && lease.to == WITHOUT_END
-}
-
-/// The segment whose Link is crossed behind a position; 0 where none is.
-fn segment_behind(ring: &Ring, position: u64) -> u32
-    ensures { result ≡ link_of ring.now.shape (position + 1) }
-{
-    let crossing = position % u64::from(ring.shape.places()) + 1;
-    ring.shape.crossing(crossing).unwrap_or(0)
 }
 
 /// The lease at an index.

@@ -1,14 +1,13 @@
 //! Where the leases of ranges of bytes that end stand in the book (xHCI 4.6.5, 6.1).
-ghost use Rattle.std.specs.Prelude.{◌≡◌, ◌%◌, ℕ, [], ◌∷◌, true, List, map, OnOk, OnErr};
+ghost use Rattle.std.specs.Prelude.{◌≡◌, ◌%◌, ℕ, [], ◌∷◌, true, List, map, OnOk};
 ghost use Rattle.segments.specs.Places.{place_count};
 ghost use Rattle.traces.specs.declared.header.Header.{Header};
 ghost use Rattle.traces.specs.Header.{command_id, shape_of};
 ghost use Rattle.ownership_rules.specs.OpenLeases.{Range, Use, InputContext, SlotEntry, DeviceContext, same_leased};
-ghost use Rattle.lease_book.specs.Books.{HoldsLents};
 ghost use Rattle.lease_book.specs.Lents.{Lent, ended_where, lents, with_begun};
 
 use crate::indexes::Indexes;
-use crate::lease_book::LeaseBook;
+use crate::lease_log::LeaseLog;
 use std::alloc::{AllocError, Global};
 use traces::Ring;
 
@@ -38,21 +37,18 @@ impl RangeIndexes {
     }
 
     /// The lease of an input context begins at a row: that of the command at a position of the command ring.
-    pub fn begin_context(
+    pub fn begin_context<B: LeaseLog>(
         &mut self,
-        book: &mut LeaseBook,
+        book: &mut B,
         row: u32,
         ring: &Ring,
         position: u64,
         bytes: u32,
         address: u64,
     ) -> Result<(), AllocError>
-        ensures held { OnOk result ((h : Header) (ts : List Lent) (purpose : Use) → HoldsLents h ts book.old → HoldsLents h (with_begun row ts (Range bytes address purpose ∷ [])) book.new) }
-        ensures found { OnOk result ((h : Header) (ts : List Lent) → shape_of h (command_id h) ≡ ring.now.shape → HoldsLents h ts book.old → FindsRanges h ts self.old →
+        ensures held { OnOk result ((h : Header) (ts : List Lent) (purpose : Use) → B.holds h ts book.old → B.holds h (with_begun row ts (Range bytes address purpose ∷ [])) book.new) }
+        ensures found { OnOk result ((h : Header) (ts : List Lent) → shape_of h (command_id h) ≡ ring.now.shape → B.holds h ts book.old → FindsRanges h ts self.old →
             is_use_free h ts (InputContext position) ≡ true → FindsRanges h (with_begun row ts (Range bytes address (InputContext position) ∷ [])) self.new) }
-        ensures held_err { OnErr result ((h : Header) (ts : List Lent) → HoldsLents h ts book.old → HoldsLents h ts book.new) }
-        ensures found_err { OnErr result ((h : Header) (ts : List Lent) → shape_of h (command_id h) ≡ ring.now.shape → FindsRanges h ts self.old →
-            is_use_free h ts (InputContext position) ≡ true → FindsRanges h ts self.new) }
     {
         let index = book.count();
         self.contexts.put(place_on(ring, position), index)?;
@@ -60,38 +56,35 @@ impl RangeIndexes {
     }
 
     /// The lease of an input context ends at a row: that of the command at a position of the command ring. It is open.
-    pub fn end_context(
+    pub fn end_context<B: LeaseLog>(
         &self,
-        book: &mut LeaseBook,
+        book: &mut B,
         row: u32,
         ring: &Ring,
         position: u64,
         bytes: u32,
         address: u64,
     )
-        ensures { (h : Header) (ts : List Lent) → shape_of h (command_id h) ≡ ring.now.shape → HoldsLents h ts book.old → FindsRanges h ts self.now →
+        ensures { (h : Header) (ts : List Lent) → shape_of h (command_id h) ≡ ring.now.shape → B.holds h ts book.old → FindsRanges h ts self.now →
             is_lent ts (Range bytes address (InputContext position)) ≡ true →
-            HoldsLents h (map (ended_where (same_leased (Range bytes address (InputContext position))) row) ts) book.new }
+            B.holds h (map (ended_where (same_leased (Range bytes address (InputContext position))) row) ts) book.new }
     {
         let index = self.contexts.get(place_on(ring, position));
         book.end_range(index, row, bytes, address);
     }
 
     /// The lease of a slot's entry in the DCBAA begins at a row.
-    pub fn begin_entry(
+    pub fn begin_entry<B: LeaseLog>(
         &mut self,
-        book: &mut LeaseBook,
+        book: &mut B,
         row: u32,
         slot: u8,
         bytes: u32,
         address: u64,
     ) -> Result<(), AllocError>
-        ensures held { OnOk result ((h : Header) (ts : List Lent) (purpose : Use) → HoldsLents h ts book.old → HoldsLents h (with_begun row ts (Range bytes address purpose ∷ [])) book.new) }
-        ensures found { OnOk result ((h : Header) (ts : List Lent) → HoldsLents h ts book.old → FindsRanges h ts self.old →
+        ensures held { OnOk result ((h : Header) (ts : List Lent) (purpose : Use) → B.holds h ts book.old → B.holds h (with_begun row ts (Range bytes address purpose ∷ [])) book.new) }
+        ensures found { OnOk result ((h : Header) (ts : List Lent) → B.holds h ts book.old → FindsRanges h ts self.old →
             is_use_free h ts (SlotEntry slot) ≡ true → FindsRanges h (with_begun row ts (Range bytes address (SlotEntry slot) ∷ [])) self.new) }
-        ensures held_err { OnErr result ((h : Header) (ts : List Lent) → HoldsLents h ts book.old → HoldsLents h ts book.new) }
-        ensures found_err { OnErr result ((h : Header) (ts : List Lent) → FindsRanges h ts self.old →
-            is_use_free h ts (SlotEntry slot) ≡ true → FindsRanges h ts self.new) }
     {
         let index = book.count();
         self.entries.put(u32::from(slot), index)?;
@@ -99,30 +92,27 @@ impl RangeIndexes {
     }
 
     /// The lease of a slot's entry in the DCBAA ends at a row. It is open.
-    pub fn end_entry(&self, book: &mut LeaseBook, row: u32, slot: u8, bytes: u32, address: u64)
-        ensures { (h : Header) (ts : List Lent) → HoldsLents h ts book.old → FindsRanges h ts self.now →
+    pub fn end_entry<B: LeaseLog>(&self, book: &mut B, row: u32, slot: u8, bytes: u32, address: u64)
+        ensures { (h : Header) (ts : List Lent) → B.holds h ts book.old → FindsRanges h ts self.now →
             is_lent ts (Range bytes address (SlotEntry slot)) ≡ true →
-            HoldsLents h (map (ended_where (same_leased (Range bytes address (SlotEntry slot))) row) ts) book.new }
+            B.holds h (map (ended_where (same_leased (Range bytes address (SlotEntry slot))) row) ts) book.new }
     {
         let index = self.entries.get(u32::from(slot));
         book.end_range(index, row, bytes, address);
     }
 
     /// The lease of a slot's device context begins at a row.
-    pub fn begin_device(
+    pub fn begin_device<B: LeaseLog>(
         &mut self,
-        book: &mut LeaseBook,
+        book: &mut B,
         row: u32,
         slot: u8,
         bytes: u32,
         address: u64,
     ) -> Result<(), AllocError>
-        ensures held { OnOk result ((h : Header) (ts : List Lent) (purpose : Use) → HoldsLents h ts book.old → HoldsLents h (with_begun row ts (Range bytes address purpose ∷ [])) book.new) }
-        ensures found { OnOk result ((h : Header) (ts : List Lent) → HoldsLents h ts book.old → FindsRanges h ts self.old →
+        ensures held { OnOk result ((h : Header) (ts : List Lent) (purpose : Use) → B.holds h ts book.old → B.holds h (with_begun row ts (Range bytes address purpose ∷ [])) book.new) }
+        ensures found { OnOk result ((h : Header) (ts : List Lent) → B.holds h ts book.old → FindsRanges h ts self.old →
             is_use_free h ts (DeviceContext slot) ≡ true → FindsRanges h (with_begun row ts (Range bytes address (DeviceContext slot) ∷ [])) self.new) }
-        ensures held_err { OnErr result ((h : Header) (ts : List Lent) → HoldsLents h ts book.old → HoldsLents h ts book.new) }
-        ensures found_err { OnErr result ((h : Header) (ts : List Lent) → FindsRanges h ts self.old →
-            is_use_free h ts (DeviceContext slot) ≡ true → FindsRanges h ts self.new) }
     {
         let index = book.count();
         self.devices.put(u32::from(slot), index)?;
@@ -130,10 +120,17 @@ impl RangeIndexes {
     }
 
     /// The lease of a slot's device context ends at a row. It is open.
-    pub fn end_device(&self, book: &mut LeaseBook, row: u32, slot: u8, bytes: u32, address: u64)
-        ensures { (h : Header) (ts : List Lent) → HoldsLents h ts book.old → FindsRanges h ts self.now →
+    pub fn end_device<B: LeaseLog>(
+        &self,
+        book: &mut B,
+        row: u32,
+        slot: u8,
+        bytes: u32,
+        address: u64,
+    )
+        ensures { (h : Header) (ts : List Lent) → B.holds h ts book.old → FindsRanges h ts self.now →
             is_lent ts (Range bytes address (DeviceContext slot)) ≡ true →
-            HoldsLents h (map (ended_where (same_leased (Range bytes address (DeviceContext slot))) row) ts) book.new }
+            B.holds h (map (ended_where (same_leased (Range bytes address (DeviceContext slot))) row) ts) book.new }
     {
         let index = self.devices.get(u32::from(slot));
         book.end_range(index, row, bytes, address);

@@ -1,4 +1,4 @@
-use crate::{LeaseBook, RangeIndexes};
+use crate::{LeaseBook, LeaseLog, RangeIndexes};
 use contexts::ContextSize;
 use ring_knowledge::Lease;
 use segments::RingShape;
@@ -44,11 +44,8 @@ fn a_device_is_addressed_and_its_slot_disabled(rt: HostRuntime) -> Result<(), Fa
     ranges.begin_context(&mut book, 5, &commands, 4, 1056, 0x50000)?;
     ranges.begin_entry(&mut book, 5, 3, 8, 0x40018)?;
     ranges.begin_device(&mut book, 5, 3, 1024, 0x60000)?;
-    assert!(rt; book.is_block_lent(&commands, 1));
-    assert!(rt; !book.is_block_lent(&commands, 0));
-    book.end_block(7, &commands, 4);
+    book.end_passed(7, &commands, 4, 5);
     ranges.end_context(&mut book, 7, &commands, 4, 1056, 0x50000);
-    assert!(rt; !book.is_block_lent(&commands, 1));
     ranges.end_entry(&mut book, 9, 3, 8, 0x40018);
     ranges.end_device(&mut book, 9, 3, 1024, 0x60000);
     assert_eq!(rt; book.count(), 5);
@@ -74,13 +71,9 @@ fn a_link_is_crossed(rt: HostRuntime) -> Result<(), Fail> {
     book.begin_block(2, &commands, 2)?;
     book.begin_link(3, &commands, 3)?;
     book.begin_block(4, &commands, 3)?;
-    assert!(rt; book.is_link_lent(&commands, 0));
     book.end_passed(5, &commands, 2, 4);
-    assert!(rt; !book.is_link_lent(&commands, 0));
     book.begin_link(6, &commands, 6)?;
-    if commands.shape.crossing(6).is_some() {
-        book.end_link(8, &commands, 6);
-    }
+    book.end_passed(8, &commands, 6, 7);
     book.end_range(1, 9, 16, 0x30000);
     assert_eq!(rt;
         book.into_leases().as_slice(),

@@ -36,7 +36,6 @@ use Rattle.safety.proofs.SameDriver.{SameDriver, event_same}
 use Rattle.lease_book.specs.Lents.{Lent, ended_where, is_passed, lents}
 use Rattle.lease_book.specs.LettingGo.{let_go, slot_left, slot_ranges}
 use Rattle.lease_book.specs.Ranges.{is_lent}
-use Rattle.lease_book.specs.declared.lease_book.LeaseBook.{LeaseBook}
 use Rattle.lease_book.specs.declared.ranges.RangeIndexes.{RangeIndexes}
 use Rattle.lease_book.proofs.DevicesAfter.{completed_device}
 use Rattle.lease_book.proofs.Finishing.{finish_lent}
@@ -221,17 +220,18 @@ module _ (h : Header) (headed : IsHeader h) (first : ℕ) (past : List Row) (b :
         ∙ ap (λ (x : ℕ). map (ended_where (is_left (floors k) (floors k') (let_go h k (slot_left success o))) x) (lents h first past)) (sym next.numbered)
         ∙ sym (over_alike (λ l. is_behind h k n success o l || passed_one l) (is_left (floors k) (floors k') (let_go h k (slot_left success o))) number_ (lents h first past) left_is)
 
-    pub completion_ends : (book : LeaseBook) (x : RangeIndexes) (p r : ℕ) (s : Bool) (c : Option Command) → p ≡ n → r ≡ command_id h → s ≡ success → c ≡ o →
-        HoldsAll h (map (ended_where (is_passed r p (p + 1)) number_) (map (ended_where (is_behind h k p s c) number_) (lents h first past))) book x → FollowsBook h first (Read b ∷ past) book x
-    completion_ends book x p r s c at there tells says all =
-        subst (λ ts. HoldsAll h ts book x)
-        (ap (λ (y : ℕ). map (ended_where (is_passed r y (y + 1)) number_) (map (ended_where (is_behind h k y s c) number_) (lents h first past))) at
-        ∙ ap (λ (y : ℕ). map (ended_where (is_passed y n (n + 1)) number_) (map (ended_where (is_behind h k n s c) number_) (lents h first past))) there
-        ∙ ap (λ y. map (ended_where (is_passed (command_id h) n (n + 1)) number_) (map (ended_where (is_behind h k n y c) number_) (lents h first past))) tells
-        ∙ ap (λ y. map (ended_where (is_passed (command_id h) n (n + 1)) number_) (map (ended_where (is_behind h k n success y) number_) (lents h first past))) says
-        ∙ ap (λ (y : ℕ). map (ended_where (is_passed (command_id h) y (y + 1)) number_) (map (ended_where (is_behind h k n success o) number_) (lents h first past))) next_is
-        ∙ all_twice passed_one (is_behind h k n success o) number_ (lents h first past)
-        ∙ sym completed_lent) all
+    module _ {B : Type 0} {Holds : Header → List Lent → B → Type 0} where
+      pub completion_ends : (book : B) (x : RangeIndexes) (p r : ℕ) (s : Bool) (c : Option Command) → p ≡ n → r ≡ command_id h → s ≡ success → c ≡ o →
+          HoldsAll Holds h (map (ended_where (is_passed r p (p + 1)) number_) (map (ended_where (is_behind h k p s c) number_) (lents h first past))) book x → FollowsBook Holds h first (Read b ∷ past) book x
+      completion_ends book x p r s c at there tells says all =
+          subst (λ ts. HoldsAll Holds h ts book x)
+          (ap (λ (y : ℕ). map (ended_where (is_passed r y (y + 1)) number_) (map (ended_where (is_behind h k y s c) number_) (lents h first past))) at
+          ∙ ap (λ (y : ℕ). map (ended_where (is_passed y n (n + 1)) number_) (map (ended_where (is_behind h k n s c) number_) (lents h first past))) there
+          ∙ ap (λ y. map (ended_where (is_passed (command_id h) n (n + 1)) number_) (map (ended_where (is_behind h k n y c) number_) (lents h first past))) tells
+          ∙ ap (λ y. map (ended_where (is_passed (command_id h) n (n + 1)) number_) (map (ended_where (is_behind h k n success y) number_) (lents h first past))) says
+          ∙ ap (λ (y : ℕ). map (ended_where (is_passed (command_id h) y (y + 1)) number_) (map (ended_where (is_behind h k n success o) number_) (lents h first past))) next_is
+          ∙ all_twice passed_one (is_behind h k n success o) number_ (lents h first past)
+          ∙ sym completed_lent) all
 
   -- ---- what is let go is lent
 

@@ -22,9 +22,7 @@ use Rattle.ring_knowledge.specs.Known.{Known}
 use Rattle.ring_knowledge.specs.Writes.{entry_of}
 use Rattle.ownership_rules.specs.OpenLeases.{Leased, Range, DeviceContext, SlotEntry, is_among, range_of_command, range_of_device, range_of_entry, same_leased}
 use Rattle.ownership_rules.proofs.Among.{IsIn, both_ways, leased_is, leased_itself}
-use Rattle.lease_book.specs.declared.lease_book.LeaseBook.{LeaseBook}
 use Rattle.lease_book.specs.declared.ranges.RangeIndexes.{RangeIndexes}
-use Rattle.lease_book.specs.Books.{HoldsLents}
 use Rattle.lease_book.specs.Lents.{Lent, ended_where, is_passed}
 use Rattle.lease_book.specs.LettingGo.{slot_disabled, slot_left, slot_ranges}
 use Rattle.lease_book.specs.Ranges.{FindsRanges, is_lent}
@@ -51,25 +49,25 @@ none_of : (m : Leased) → is_among [] m ≡ false
 unfolding is_among
 none_of m = refl
 
-module _ (h : Header) (n : ℕ) (ts : List Lent) (book : LeaseBook) (x : RangeIndexes) where
-  pub none_ended : (ls : List Leased) → ls ≡ [] → HoldsAll h ts book x → HoldsAll h (map (ended_where (is_among ls) n) ts) book x
-  none_ended ls none all = subst (λ us. HoldsAll h us book x) (sym (ap (λ ms. map (ended_where (is_among ms) n) ts) none ∙ none_over (is_among []) n ts none_of)) all
+module _ {B : Type 0} {Holds : Header → List Lent → B → Type 0} (h : Header) (n : ℕ) (ts : List Lent) (book : B) (x : RangeIndexes) where
+  pub none_ended : (ls : List Leased) → ls ≡ [] → HoldsAll Holds h ts book x → HoldsAll Holds h (map (ended_where (is_among ls) n) ts) book x
+  none_ended ls none all = subst (λ us. HoldsAll Holds h us book x) (sym (ap (λ ms. map (ended_where (is_among ms) n) ts) none ∙ none_over (is_among []) n ts none_of)) all
 
-  pub one_ended : (ls : List Leased) (l : Leased) → ls ≡ l ∷ [] → HoldsAll h (map (ended_where (same_leased l) n) ts) book x → HoldsAll h (map (ended_where (is_among ls) n) ts) book x
-  one_ended ls l one all = subst (λ us. HoldsAll h us book x) (over_alike (same_leased l) (is_among (l ∷ [])) n ts (one_of l) ∙ ap (λ ms. map (ended_where (is_among ms) n) ts) (sym one)) all
+  pub one_ended : (ls : List Leased) (l : Leased) → ls ≡ l ∷ [] → HoldsAll Holds h (map (ended_where (same_leased l) n) ts) book x → HoldsAll Holds h (map (ended_where (is_among ls) n) ts) book x
+  one_ended ls l one all = subst (λ us. HoldsAll Holds h us book x) (over_alike (same_leased l) (is_among (l ∷ [])) n ts (one_of l) ∙ ap (λ ms. map (ended_where (is_among ms) n) ts) (sym one)) all
 
-  pub two_ended : (ls : List Leased) (a b : Leased) → ls ≡ a ∷ b ∷ [] → HoldsAll h (map (ended_where (same_leased b) n) (map (ended_where (same_leased a) n) ts)) book x →
-      HoldsAll h (map (ended_where (is_among ls) n) ts) book x
+  pub two_ended : (ls : List Leased) (a b : Leased) → ls ≡ a ∷ b ∷ [] → HoldsAll Holds h (map (ended_where (same_leased b) n) (map (ended_where (same_leased a) n) ts)) book x →
+      HoldsAll Holds h (map (ended_where (is_among ls) n) ts) book x
   two_ended ls a b two all =
-      subst (λ us. HoldsAll h us book x)
+      subst (λ us. HoldsAll Holds h us book x)
       (all_twice (same_leased b) (same_leased a) n ts
       ∙ over_alike (λ l. same_leased a l || same_leased b l) (is_among (a ∷ b ∷ [])) n ts (two_of a b)
       ∙ ap (λ ms. map (ended_where (is_among ms) n) ts) (sym two)) all
 
 -- with a lease that ends the indexes still find the others
-pub ends_all : (h : Header) (n : ℕ) (ts : List Lent) (book : LeaseBook) (x : RangeIndexes) (over : Leased → Bool) → HoldsLents h (map (ended_where over n) ts) book →
-    FindsRanges h ts x → HoldsAll h (map (ended_where over n) ts) book x
-ends_all h n ts book x over held found = record { held = held; found = some_end h x over n ts found }
+pub ends_all : {B : Type 0} (Holds : Header → List Lent → B → Type 0) (h : Header) (n : ℕ) (ts : List Lent) (book : B) (x : RangeIndexes) (over : Leased → Bool) → Holds h (map (ended_where over n) ts) book →
+    FindsRanges h ts x → HoldsAll Holds h (map (ended_where over n) ts) book x
+ends_all Holds h n ts book x over held found = record { held = held; found = some_end h x over n ts found }
 
 pub lent_of : (ts : List Lent) (ls : List Leased) (l : Leased) (rest : List Leased) → ls ≡ l ∷ rest → AreLent ts ls → is_lent ts l ≡ true
 lent_of ts ls l rest is lent = lent l (subst (λ ms. IsIn l ms) (sym is) (inl refl))
@@ -115,14 +113,14 @@ moved_is h k c s i p cycle r o is of at = ap (moved_by h k) is ∙ ap (λ x. mov
 pub moved_none : (h : Header) (k : Known) (c : Command) (s i p : ℕ) (cycle : Bool) → c ≡ SetTrDequeue s i p cycle → k.ring_of s i ≡ None → moved_by h k c ≡ None
 moved_none h k c s i p cycle is none = ap (moved_by h k) is ∙ ap (λ x. moved_ring h k x p cycle) none
 
-module _ (h : Header) (k : Known) (n : ℕ) (ts : List Lent) (book : LeaseBook) (x : RangeIndexes) where
-  pub none_past : (o : Option (ℕ × ℕ)) → o ≡ None → HoldsAll h ts book x → HoldsAll h (map (ended_where (is_moved_past k o) n) ts) book x
-  none_past o none all = subst (λ us. HoldsAll h us book x) (sym (ap (λ m. map (ended_where (is_moved_past k m) n) ts) none ∙ none_over (is_moved_past k None) n ts (λ l. refl))) all
+module _ {B : Type 0} {Holds : Header → List Lent → B → Type 0} (h : Header) (k : Known) (n : ℕ) (ts : List Lent) (book : B) (x : RangeIndexes) where
+  pub none_past : (o : Option (ℕ × ℕ)) → o ≡ None → HoldsAll Holds h ts book x → HoldsAll Holds h (map (ended_where (is_moved_past k o) n) ts) book x
+  none_past o none all = subst (λ us. HoldsAll Holds h us book x) (sym (ap (λ m. map (ended_where (is_moved_past k m) n) ts) none ∙ none_over (is_moved_past k None) n ts (λ l. refl))) all
 
-  pub some_past : (o : Option (ℕ × ℕ)) (r from to m : ℕ) → o ≡ Some (r, m) → from ≡ floor_number (k.ring r) → to ≡ m → HoldsAll h (map (ended_where (is_passed r from to) n) ts) book x →
-      HoldsAll h (map (ended_where (is_moved_past k o) n) ts) book x
+  pub some_past : (o : Option (ℕ × ℕ)) (r from to m : ℕ) → o ≡ Some (r, m) → from ≡ floor_number (k.ring r) → to ≡ m → HoldsAll Holds h (map (ended_where (is_passed r from to) n) ts) book x →
+      HoldsAll Holds h (map (ended_where (is_moved_past k o) n) ts) book x
   some_past o r from to m some same reached all =
-      subst (λ us. HoldsAll h us book x)
+      subst (λ us. HoldsAll Holds h us book x)
       (ap (λ (y : ℕ). map (ended_where (is_passed r y to) n) ts) same ∙ ap (λ (y : ℕ). map (ended_where (is_passed r (floor_number (k.ring r)) y) n) ts) reached
       ∙ sym (ap (λ z. map (ended_where (is_moved_past k z) n) ts) some)) all
 
@@ -148,22 +146,24 @@ endpoint_driven h headed k rings s i r q at among id =
 
 -- ---- all that a command leaves behind
 
-pub failed_behind : (h : Header) (k : Known) (n p : ℕ) (c : Command) (success : Bool) (ts : List Lent) (book : LeaseBook) (x : RangeIndexes) → success ≡ false →
-    HoldsAll h (map (ended_where (is_among (range_of_command h p (Some c))) n) ts) book x → HoldsAll h (map (ended_where (is_behind h k p success (Some c)) n) ts) book x
-failed_behind h k n p c true ts book x failed all = absurd (cc)
-failed_behind h k n p c false ts book x failed all =
-    subst (λ us. HoldsAll h us book x)
-    (over_alike (is_among (range_of_command h p (Some c))) (is_behind h k p false (Some c)) n ts
-    (λ l. sym (or_false _ ∙ ap (λ b. is_among (range_of_command h p (Some c)) l || b) (none_of l) ∙ or_false _))) all
+module _ {B : Type 0} {Holds : Header → List Lent → B → Type 0} where
+  pub failed_behind : (h : Header) (k : Known) (n p : ℕ) (c : Command) (success : Bool) (ts : List Lent) (book : B) (x : RangeIndexes) → success ≡ false →
+      HoldsAll Holds h (map (ended_where (is_among (range_of_command h p (Some c))) n) ts) book x → HoldsAll Holds h (map (ended_where (is_behind h k p success (Some c)) n) ts) book x
+  failed_behind h k n p c true ts book x failed all = absurd (cc)
+  failed_behind h k n p c false ts book x failed all =
+      subst (λ us. HoldsAll Holds h us book x)
+      (over_alike (is_among (range_of_command h p (Some c))) (is_behind h k p false (Some c)) n ts
+      (λ l. sym (or_false _ ∙ ap (λ b. is_among (range_of_command h p (Some c)) l || b) (none_of l) ∙ or_false _))) all
 
-pub succeeded_behind : (h : Header) (k : Known) (n p : ℕ) (c : Command) (success : Bool) (ts : List Lent) (book : LeaseBook) (x : RangeIndexes) → success ≡ true →
-    HoldsAll h (map (ended_where (is_moved_past k (moved_by h k c)) n) (map (ended_where (is_among (slot_let_go h k c)) n) (map (ended_where (is_among (range_of_command h p (Some c))) n) ts))) book x →
-    HoldsAll h (map (ended_where (is_behind h k p success (Some c)) n) ts) book x
-succeeded_behind h k n p c false ts book x succeeded all = absurd (cc)
-succeeded_behind h k n p c true ts book x succeeded all =
-    subst (λ us. HoldsAll h us book x)
-    (ap (map (ended_where (is_moved_past k (moved_by h k c)) n)) (all_twice (is_among (slot_let_go h k c)) (is_among (range_of_command h p (Some c))) n ts)
-    ∙ all_twice (is_moved_past k (moved_by h k c)) (λ l. is_among (range_of_command h p (Some c)) l || is_among (slot_let_go h k c) l) n ts) all
+module _ {B : Type 0} {Holds : Header → List Lent → B → Type 0} where
+  pub succeeded_behind : (h : Header) (k : Known) (n p : ℕ) (c : Command) (success : Bool) (ts : List Lent) (book : B) (x : RangeIndexes) → success ≡ true →
+      HoldsAll Holds h (map (ended_where (is_moved_past k (moved_by h k c)) n) (map (ended_where (is_among (slot_let_go h k c)) n) (map (ended_where (is_among (range_of_command h p (Some c))) n) ts))) book x →
+      HoldsAll Holds h (map (ended_where (is_behind h k p success (Some c)) n) ts) book x
+  succeeded_behind h k n p c false ts book x succeeded all = absurd (cc)
+  succeeded_behind h k n p c true ts book x succeeded all =
+      subst (λ us. HoldsAll Holds h us book x)
+      (ap (map (ended_where (is_moved_past k (moved_by h k c)) n)) (all_twice (is_among (slot_let_go h k c)) (is_among (range_of_command h p (Some c))) n ts)
+      ∙ all_twice (is_moved_past k (moved_by h k c)) (λ l. is_among (range_of_command h p (Some c)) l || is_among (slot_let_go h k c) l) n ts) all
 
 -- when the input context's lease has ended those of the slot are still lent
 pub slot_still : (h : Header) (k : Known) (n p : ℕ) (c : Command) (success : Bool) (ts : List Lent) → success ≡ true → AreLent ts (slot_ranges h k (slot_left success (Some c))) →

@@ -10,3 +10,4 @@ pub mod CompletionRows
 pub mod EntriesFit
 pub mod FloorsStay
 pub mod FloorsMove
+pub mod LentEvents

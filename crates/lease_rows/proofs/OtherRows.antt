@@ -27,9 +27,7 @@ use Rattle.safety.proofs.CleanRows.{register_facts}
 use Rattle.safety.proofs.CommandRing.{due_has_ring}
 use Rattle.safety.proofs.DriverHistories.{driver_keeps}
 use Rattle.lease_book.specs.Lents.{Lent, lents, with_begun}
-use Rattle.lease_book.specs.Books.{HoldsLents}
 use Rattle.lease_book.specs.Ranges.{FindsRanges}
-use Rattle.lease_book.specs.declared.lease_book.LeaseBook.{LeaseBook}
 use Rattle.lease_book.specs.declared.ranges.RangeIndexes.{RangeIndexes}
 use Rattle.lease_book.proofs.Members.{from_range}
 use Rattle.lease_book.proofs.RangePlaces.{others_begin}
@@ -114,8 +112,9 @@ declared_given h headed k d p at =
 
 module _ (h : Header) (headed : IsHeader h) (first : ℕ) (past : List Row) where
   -- the book still holds what is lent
-  pub held_still : (book : LeaseBook) (x : RangeIndexes) (row : Row) → lents h first (row ∷ past) ≡ lents h first past → FollowsBook h first past book x → FollowsBook h first (row ∷ past) book x
-  held_still book x row same held = subst (λ (ts : List Lent). HoldsAll h ts book x) (sym same) held
+  module _ {B : Type 0} {Holds : Header → List Lent → B → Type 0} where
+    pub held_still : (book : B) (x : RangeIndexes) (row : Row) → lents h first (row ∷ past) ≡ lents h first past → FollowsBook Holds h first past book x → FollowsBook Holds h first (row ∷ past) book x
+    held_still book x row same held = subst (λ (ts : List Lent). HoldsAll Holds h ts book x) (sym same) held
 
   unchanged : (row : Row) → first + length (row ∷ past) ≤ without_end → open_leases h (learned h (known h past) row) ≡ open_leases h (known h past) → lents h first (row ∷ past) ≡ lents h first past
   unchanged row room same = nothing_new h first past row room (λ l. ap (λ ls. is_among ls l) same)
@@ -139,21 +138,29 @@ module _ (h : Header) (headed : IsHeader h) (first : ℕ) (past : List Row) wher
         lent_table h first past v next.room (unwritten_before h (known h past) v (register_facts h (known h past) Erstba v next.clean).good)
         ∙ ap (λ n. with_begun n (lents h first past) (Range (table_bytes (event_shape h)) (base_address v) SegmentTable ∷ [])) (sym next.numbered)
 
-    pub table_begins : (r : Register) (v bytes : ℕ) (book : LeaseBook) (x : RangeIndexes) → r ≡ Erstba → bytes ≡ table_bytes (event_shape h) → IsCleanRow h first past (Reg r v) number t m →
-        HoldsLents h (with_begun number (lents h first past) (Range bytes (base_address v) SegmentTable ∷ [])) book → FindsRanges h (lents h first past) x → FollowsBook h first (Reg r v ∷ past) book x
-    table_begins r v bytes book x is same next held found =
+    pub table_begins : {B : Type 0} (Holds : Header → List Lent → B → Type 0) (r : Register) (v bytes : ℕ) (book : B) (x : RangeIndexes) → r ≡ Erstba → bytes ≡ table_bytes (event_shape h) → IsCleanRow h first past (Reg r v) number t m →
+        Holds h (with_begun number (lents h first past) (Range bytes (base_address v) SegmentTable ∷ [])) book → FindsRanges h (lents h first past) x → FollowsBook Holds h first (Reg r v ∷ past) book x
+    table_begins Holds r v bytes book x is same next held found =
         let table : IsCleanRow h first past (Reg Erstba v) number t m = subst (λ (q : Register). IsCleanRow h first past (Reg q v) number t m) is next in
-        let there : HoldsLents h (with_begun number (lents h first past) (Range (table_bytes (event_shape h)) (base_address v) SegmentTable ∷ [])) book =
-        subst (λ (n : ℕ). HoldsLents h (with_begun number (lents h first past) (Range n (base_address v) SegmentTable ∷ [])) book) same held in
-        let after : HoldsAll h (with_begun number (lents h first past) (Range (table_bytes (event_shape h)) (base_address v) SegmentTable ∷ [])) book x =
+        let there : Holds h (with_begun number (lents h first past) (Range (table_bytes (event_shape h)) (base_address v) SegmentTable ∷ [])) book =
+        subst (λ (n : ℕ). Holds h (with_begun number (lents h first past) (Range n (base_address v) SegmentTable ∷ [])) book) same held in
+        let after : HoldsAll Holds h (with_begun number (lents h first past) (Range (table_bytes (event_shape h)) (base_address v) SegmentTable ∷ [])) book x =
         record { held = there; found = others_begin h x number (Range (table_bytes (event_shape h)) (base_address v) SegmentTable) (lents h first past) (λ g y i. tt) found } in
-        subst (λ (q : Register). FollowsBook h first (Reg q v ∷ past) book x) (sym is) (subst (λ (ts : List Lent). HoldsAll h ts book x) (sym (table_lent v table)) after)
+        subst (λ (q : Register). FollowsBook Holds h first (Reg q v ∷ past) book x) (sym is) (subst (λ (ts : List Lent). HoldsAll Holds h ts book x) (sym (table_lent v table)) after)
 
     -- rows but those of registers
-    pub other_held : (book : LeaseBook) (x : RangeIndexes) (row : Row) → IsOtherRow row → ((r : Register) (v : ℕ) → row ≡ Reg r v → ⊥) → IsCleanRow h first past row number t m →
-        FollowsBook h first past book x → FollowsBook h first (row ∷ past) book x
+    pub other_held : {B : Type 0} {Holds : Header → List Lent → B → Type 0} (book : B) (x : RangeIndexes) (row : Row) → IsOtherRow row → ((r : Register) (v : ℕ) → row ≡ Reg r v → ⊥) → IsCleanRow h first past row number t m →
+        FollowsBook Holds h first past book x → FollowsBook Holds h first (row ∷ past) book x
     other_held book x (Sub r blocks) other none next held = held_still book x (Sub r blocks) (lent_sub r blocks next) held
     other_held book x (Write a w) other none next held = absurd other
     other_held book x (Reg r v) other none next held = absurd (none r v refl)
     other_held book x (Bell s i) other none next held = held_still book x (Bell s i) (lent_bell s i next) held
     other_held book x (Read b) other none next held = absurd other
+
+-- a row that is neither a write nor an event
+pub other_row : (row : Row) → ((a w : ℕ) → row ≡ Write a w → ⊥) → ((b : Trb) → row ≡ Read b → ⊥) → IsOtherRow row
+other_row (Sub r blocks) no_write no_event = tt
+other_row (Write a w) no_write no_event = absurd (no_write a w refl)
+other_row (Reg r v) no_write no_event = tt
+other_row (Bell s t) no_write no_event = tt
+other_row (Read b) no_write no_event = absurd (no_event b refl)

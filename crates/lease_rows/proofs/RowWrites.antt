@@ -46,12 +46,14 @@ use Rattle.lease_book.proofs.FreeRanges.{context_free, device_free, entry_free}
 use Rattle.lease_book.proofs.GivingCommands.{MayTake, device_taken, entry_taken, lent_commands}
 use Rattle.lease_book.proofs.Members.{from_range}
 use Rattle.lease_book.proofs.Writing.{lease_given}
-use Rattle.ring_finder.proofs.FoundRings.{command_found}
+use Rattle.ring_finder.proofs.FoundRings.{command_found, ring_here}
 use Rattle.ring_finder.proofs.HeaderRings.{shape_allowed, shape_there}
 use Rattle.ring_finder.proofs.ListTests.{and_false}
 use Rattle.ring_finder.proofs.RingsApart.{IsAmong, among_at, same_number}
 use Rattle.trace_record.specs.declared.trace_record.TraceRecord.{TraceRecord}
+use Rattle.trace_record.specs.declared.word_place.WordPlace.{WordPlace}
 use Rattle.trace_record.specs.FollowsTrace.{FollowsTrace}
+use Rattle.trace_record.specs.WordPlaces.{IsGivenBy, IsPlacedSo}
 use Rattle.lease_rows.specs.CleanRows.{IsCleanRow}
 use Rattle.lease_rows.specs.Taking.{EntryFits, SlotIsFree, command_taken, slot_taken}
 use Rattle.lease_rows.proofs.OtherRows.{among_drivers, are_shaped, driver_now}
@@ -291,21 +293,28 @@ module _ (h : Header) (headed : IsHeader h) (first : ℕ) (past : List Row) (a w
             link_free h (are_shaped h headed) first past (omega (arith, next.room)) q (among_drivers h q among driver) (shape_allowed h headed q among) (none_ahead q k r f) c parts.0 parts.1 parts.2
             (absent_if ((k.ring q.id).crossed c) given_there.0)
 
--- the ring that a row's word lies in, and its record
-pub record AtRing (h : Header) (k : Known) (a : ℕ) (q : Ring) (r : RingRecord) : Type 0 where
+-- the ring that a row's word lies in, its record, and what the write gives of it
+pub record AtRing (h : Header) (k : Known) (a w : ℕ) (q : Ring) (r : RingRecord) (giving : Option RingGiving) : Type 0 where
   pub among : IsAmong q h.rings
   pub driver : is_driver_kind q.shape.kind ≡ true
   pub has : touches q.shape a 4 ≡ true
   pub follows : FollowsRing q.shape (k.ring q.id) r
+  pub positions : positions_given q.shape (k.ring q.id) a w ≡ positions_of giving
+  pub crossings : crossings_given q.shape (k.ring q.id) a w ≡ crossings_of giving
 
-pub at_ring : (h : Header) (k : Known) (t : TraceRecord) (memory : ℕ → ℕ) → FollowsTrace h k t memory → (a b n : ℕ) (q : Ring) (r : RingRecord) → b ≡ a → slice_get h.rings n ≡ Some q → touches q.shape b 4 ≡ true →
-    is_event_kind q.shape.kind ≡ false → slice_get t.rings.items n ≡ Some r → AtRing h k a q r
-at_ring h k t memory follows a b n q r same here has other there = record {
-  among = among_at h.rings n q here;
-  driver = ap not other;
-  has = ap (λ (x : ℕ). touches q.shape x 4) (sym same) ∙ has;
-  follows = follows.rings.each n q r here there (ap not other);
-}
+pub at_ring : (h : Header) (k : Known) (t : TraceRecord) (memory : ℕ → ℕ) → FollowsTrace h k t memory → (a w n : ℕ) (p : WordPlace) (q : Ring) (r : RingRecord) → IsPlacedSo h k a w p → p.ring ≡ Some n →
+    q ≡ get_or h.rings n q → is_event_kind q.shape.kind ≡ false → slice_get t.rings.items n ≡ Some r → AtRing h k a w q r p.giving
+at_ring h k t memory follows a w n p q r placed is item other there =
+    let here = ring_here h (λ x. touches x.shape a 4) h.rings n q (sym placed.ring ∙ is) refl item in
+    let given = subst (λ (o : Option ℕ). IsGivenBy h k a w o p.giving) is placed.given q here.0 in
+    record {
+      among = among_at h.rings n q here.0;
+      driver = ap not other;
+      has = here.1;
+      follows = follows.rings.each n q r here.0 there (ap not other);
+      positions = given.positions (ap not other);
+      crossings = given.crossings (ap not other);
+    }
 
 -- the command that is declared at a position of the command ring
 pub command_at_is : (h : Header) (k : Known) (q : Ring) (p : ℕ) (o : Option Command) → command_id h ≡ q.id → o ≡ option_and_then command_of (slice_get (k.ring q.id).queue p) → rings.command_at h k p ≡ o

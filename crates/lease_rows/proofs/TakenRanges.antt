@@ -17,7 +17,6 @@ use Rattle.ring_knowledge.specs.Known.{Known}
 use Rattle.ring_knowledge.specs.Writes.{device_named, entry_of, no_device, taken_device}
 use Rattle.ownership_rules.specs.OpenLeases.{Leased, Range, Use, InputContext, SlotEntry, DeviceContext, range_of_command, range_of_context}
 use Rattle.ownership_rules.specs.Leases.{without_end}
-use Rattle.lease_book.specs.declared.lease_book.LeaseBook.{LeaseBook}
 use Rattle.lease_book.specs.declared.ranges.RangeIndexes.{RangeIndexes}
 use Rattle.lease_book.specs.Lents.{Lent, begun_at, is_unended, with_begun}
 use Rattle.lease_book.specs.Ranges.{is_use_free, shares_use}
@@ -58,15 +57,15 @@ still_free h n ts e l apart free =
     ∙ ap (λ b. b || (test fresh || false)) (none_of (list_any test ts) free)
     ∙ or_false (test fresh) ∙ ap (λ b. is_unended fresh && b) apart ∙ and_false (is_unended fresh))
 
-module _ (h : Header) (n : ℕ) (book : LeaseBook) (x : RangeIndexes) where
-  pub all_more : (ts : List Lent) (xs ys : List Leased) → HoldsAll h (with_begun n (with_begun n ts xs) ys) book x → HoldsAll h (with_begun n ts (xs ++ ys)) book x
-  all_more ts xs ys all = subst (λ us. HoldsAll h us book x) (begun_twice n ts xs ys) all
+module _ {B : Type 0} {Holds : Header → List Lent → B → Type 0} (h : Header) (n : ℕ) (book : B) (x : RangeIndexes) where
+  pub all_more : (ts : List Lent) (xs ys : List Leased) → HoldsAll Holds h (with_begun n (with_begun n ts xs) ys) book x → HoldsAll Holds h (with_begun n ts (xs ++ ys)) book x
+  all_more ts xs ys all = subst (λ us. HoldsAll Holds h us book x) (begun_twice n ts xs ys) all
 
-  pub none_more : (ts : List Lent) (ls : List Leased) → ls ≡ [] → HoldsAll h ts book x → HoldsAll h (with_begun n ts ls) book x
-  none_more ts ls none all = subst (λ us. HoldsAll h us book x) (sym (ap (with_begun n ts) none ∙ begun_none n ts)) all
+  pub none_more : (ts : List Lent) (ls : List Leased) → ls ≡ [] → HoldsAll Holds h ts book x → HoldsAll Holds h (with_begun n ts ls) book x
+  none_more ts ls none all = subst (λ us. HoldsAll Holds h us book x) (sym (ap (with_begun n ts) none ∙ begun_none n ts)) all
 
-  pub same_more : (ts : List Lent) (ls ms : List Leased) → ls ≡ ms → HoldsAll h (with_begun n ts ms) book x → HoldsAll h (with_begun n ts ls) book x
-  same_more ts ls ms same all = subst (λ ks. HoldsAll h (with_begun n ts ks) book x) (sym same) all
+  pub same_more : (ts : List Lent) (ls ms : List Leased) → ls ≡ ms → HoldsAll Holds h (with_begun n ts ms) book x → HoldsAll Holds h (with_begun n ts ls) book x
+  same_more ts ls ms same all = subst (λ ks. HoldsAll Holds h (with_begun n ts ks) book x) (sym same) all
 
 -- ---- the input context
 
@@ -110,7 +109,7 @@ slot_is h k o s entry d bytes some at same =
     ∙ ap (λ a. Range 8 a (SlotEntry s) ∷ Range (device_context_bytes h.context_size) d (DeviceContext s) ∷ []) (sym at)
     ∙ ap (λ n. Range 8 entry (SlotEntry s) ∷ Range n d (DeviceContext s) ∷ []) (sym same)
 
-pub none_taken : (h : Header) (n : ℕ) (book : LeaseBook) (x : RangeIndexes) (k : Known) (ts : List Lent) (o : Option (ℕ × ℕ)) → o ≡ None → HoldsAll h ts book x → HoldsAll h (with_begun n ts (slot_taken h k o)) book x
+pub none_taken : {B : Type 0} {Holds : Header → List Lent → B → Type 0} (h : Header) (n : ℕ) (book : B) (x : RangeIndexes) (k : Known) (ts : List Lent) (o : Option (ℕ × ℕ)) → o ≡ None → HoldsAll Holds h ts book x → HoldsAll Holds h (with_begun n ts (slot_taken h k o)) book x
 none_taken h n book x k ts o none all = none_more h n book x ts (slot_taken h k o) (ap (slot_taken h k) none) all
 
 -- an entry lies on words

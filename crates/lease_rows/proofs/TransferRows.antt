@@ -33,7 +33,6 @@ use Rattle.safety.specs.Keeps.{DriverKeeps, IsDriverRing, IsTransferRing}
 use Rattle.safety.proofs.Headers.{transfer_driver, transfer_not_command}
 use Rattle.lease_book.specs.Coming.{come_to}
 use Rattle.lease_book.specs.Lents.{Lent, ended_where, is_passed, lents}
-use Rattle.lease_book.specs.declared.lease_book.LeaseBook.{LeaseBook}
 use Rattle.lease_book.specs.declared.ranges.RangeIndexes.{RangeIndexes}
 use Rattle.lease_book.proofs.PassedLeases.{IsWithinLap}
 use Rattle.lease_book.proofs.Rows.{nothing_new}
@@ -172,10 +171,11 @@ module _ (h : Header) (headed : IsHeader h) (first : ℕ) (past : List Row) (b :
           transfer_lent h first past b next.room (record { ring = q.id; spot = spot }) (is_transfer (kind b) transfers) found (transfer_not_command h headed q.id transfer) comes (lap_now h headed k keeps)
           ∙ ap (λ (n : ℕ). map (ended_where (is_passed q.id (floor_number (k.ring q.id)) (come_to (code b) spot (floor_number (k.ring q.id)))) n) (lents h first past)) (sym next.numbered)
 
-      pub transfer_ends : (book : LeaseBook) (x : RangeIndexes) (from to : ℕ) → from ≡ floor_number (k.ring q.id) → to ≡ come_to (code b) spot (floor_number (k.ring q.id)) →
-          HoldsAll h (map (ended_where (is_passed q.id from to) number_) (lents h first past)) book x → FollowsBook h first (Read b ∷ past) book x
-      transfer_ends book x from to same reached all =
-          subst (λ (ts : List Lent). HoldsAll h ts book x)
-          (ap (λ (n : ℕ). map (ended_where (is_passed q.id n to) number_) (lents h first past)) same
-          ∙ ap (λ (n : ℕ). map (ended_where (is_passed q.id (floor_number (k.ring q.id)) n) number_) (lents h first past)) reached
-          ∙ sym passed_lent) all
+      module _ {B : Type 0} {Holds : Header → List Lent → B → Type 0} where
+        pub transfer_ends : (book : B) (x : RangeIndexes) (from to : ℕ) → from ≡ floor_number (k.ring q.id) → to ≡ come_to (code b) spot (floor_number (k.ring q.id)) →
+            HoldsAll Holds h (map (ended_where (is_passed q.id from to) number_) (lents h first past)) book x → FollowsBook Holds h first (Read b ∷ past) book x
+        transfer_ends book x from to same reached all =
+            subst (λ (ts : List Lent). HoldsAll Holds h ts book x)
+            (ap (λ (n : ℕ). map (ended_where (is_passed q.id n to) number_) (lents h first past)) same
+            ∙ ap (λ (n : ℕ). map (ended_where (is_passed q.id (floor_number (k.ring q.id)) n) number_) (lents h first past)) reached
+            ∙ sym passed_lent) all

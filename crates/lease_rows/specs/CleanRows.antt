@@ -1,4 +1,4 @@
--- A clean row behind a clean history, for the book of leases
+-- A clean row behind a clean history, for a log of leases
 use Rattle.std.specs.Prelude.{◌≡◌, ℕ, ◌+◌, ◌≤◌, List, [], ◌∷◌, length}
 use Rattle.traces.specs.declared.header.Header.{Header}
 use Rattle.traces.specs.declared.row.Row.{Row}
@@ -7,9 +7,7 @@ use Rattle.ring_knowledge.specs.Learned.{known}
 use Rattle.ownership_rules.specs.Clean.{IsClean}
 use Rattle.ownership_rules.specs.Leases.{without_end}
 use Rattle.ownership_rules.specs.Rules.{broken}
-use Rattle.lease_book.specs.declared.lease_book.LeaseBook.{LeaseBook}
 use Rattle.lease_book.specs.declared.ranges.RangeIndexes.{RangeIndexes}
-use Rattle.lease_book.specs.Books.{HoldsLents}
 use Rattle.lease_book.specs.Lents.{Lent, lents}
 use Rattle.lease_book.specs.Ranges.{FindsRanges}
 use Rattle.trace_record.specs.declared.trace_record.TraceRecord.{TraceRecord}
@@ -30,11 +28,11 @@ IsOtherRow (Write a w) = ⊥
 IsOtherRow (Read b) = ⊥
 IsOtherRow _ = Unit {0}
 
--- the book holds what was and is lent, and the indexes find the ranges among it
-pub record HoldsAll (h : Header) (ts : List Lent) (book : LeaseBook) (ranges : RangeIndexes) : Type 0 where
-  pub held : HoldsLents h ts book
+-- the log keeps what was and is lent, and the indexes find the ranges among it
+pub record HoldsAll {B : Type 0} (Holds : Header → List Lent → B → Type 0) (h : Header) (ts : List Lent) (book : B) (ranges : RangeIndexes) : Type 0 where
+  pub held : Holds h ts book
   pub found : FindsRanges h ts ranges
 
 -- that of the rows so far, the newest first; `first` is the number of the oldest
-abbrev pub FollowsBook : Header → ℕ → List Row → LeaseBook → RangeIndexes → Type 0
-FollowsBook h first past book ranges = HoldsAll h (lents h first past) book ranges
+abbrev pub FollowsBook : {B : Type 0} → (Header → List Lent → B → Type 0) → Header → ℕ → List Row → B → RangeIndexes → Type 0
+FollowsBook Holds h first past book ranges = HoldsAll Holds h (lents h first past) book ranges

@@ -6,13 +6,11 @@ ghost use Rattle.traces.specs.Header.{IsHeader};
 ghost use Rattle.traces.specs.declared.row.Row.{Row as RowValue};
 ghost use Rattle.traces.specs.declared.row.Row.TheVariants.{Read};
 ghost use Rattle.ring_finder.specs.Finding.{IsFinder};
-ghost use Rattle.ring_knowledge.specs.Learned.{known};
 ghost use Rattle.lease_rows.specs.CleanRows.{FollowsBook, IsCleanRow};
-ghost use Rattle.lease_rows.specs.LeftBehind.{EntriesFit, FloorsMove};
 
 use crate::left_behind::end_command;
 use crate::taking::command_at;
-use lease_book::{LeaseBook, RangeIndexes};
+use lease_book::{LeaseLog, RangeIndexes};
 use ring_finder::Finder;
 use trace_record::TraceRecord;
 use traces::Header;
@@ -21,8 +19,8 @@ use trb::Block;
 /// Notes the row of a number that reads a Command Completion Event; the record is that before it. The leases end of the command's
 /// block and of the Link before it, of its input context, of what a Disable Slot that succeeded lets go, and of what a ring passes
 /// that a Set TR Dequeue moved.
-pub fn note_completion(
-    book: &mut LeaseBook,
+pub(crate) fn note_completion<B: LeaseLog>(
+    book: &mut B,
     ranges: &RangeIndexes,
     header: &Header,
     finder: &Finder,
@@ -32,9 +30,9 @@ pub fn note_completion(
 )
     requires headed { IsHeader header.now }
     requires found { IsFinder header.now.rings finder.now }
-    ensures { (first : ℕ) (past : List RowValue) (memory : ℕ → ℕ) → kind event ≡ CommandCompletion → EntriesFit (known header.now past) →
-        FloorsMove header.now (known header.now past) event → IsCleanRow header.now first past (Read event) number t.now memory →
-        FollowsBook header.now first past book.old ranges.now → FollowsBook header.now first (Read event ∷ past) book.new ranges.now }
+    ensures { (first : ℕ) (past : List RowValue) (memory : ℕ → ℕ) → kind event ≡ CommandCompletion →
+        IsCleanRow header.now first past (Read event) number t.now memory →
+        FollowsBook B.holds header.now first past book.old ranges.now → FollowsBook B.holds header.now first (Read event ∷ past) book.new ranges.now }
 {
     let Some(place) = finder.commands else {
         return;

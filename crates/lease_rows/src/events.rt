@@ -13,7 +13,7 @@ ghost use Rattle.lease_book.specs.declared.ranges.RangeIndexes.{RangeIndexes};
 ghost use Rattle.ring_finder.specs.Finding.{IsFinder};
 ghost use Rattle.lease_rows.specs.CleanRows.{FollowsBook, IsCleanRow};
 
-use lease_book::LeaseBook;
+use lease_book::LeaseLog;
 use ring_finder::Finder;
 use segments::Spot;
 use trace_record::TraceRecord;
@@ -22,8 +22,8 @@ use trb::{Block, BlockKind};
 
 /// Notes the row of a number that reads an event, but a Command Completion Event; the record is that before it. A Transfer Event
 /// ends the leases of the blocks and Links that its ring's controller has passed. Where the leases of ranges stand stays.
-pub fn note_transfer(
-    book: &mut LeaseBook,
+pub(crate) fn note_transfer<B: LeaseLog>(
+    book: &mut B,
     header: &Header,
     finder: &Finder,
     t: &TraceRecord,
@@ -33,8 +33,8 @@ pub fn note_transfer(
     requires headed { IsHeader header.now }
     requires found { IsFinder header.now.rings finder.now }
     ensures { (first : ℕ) (past : List RowValue) (memory : ℕ → ℕ) (ranges : RangeIndexes) → kind event ≢ CommandCompletion →
-        IsCleanRow header.now first past (Read event) number t.now memory → FollowsBook header.now first past book.old ranges →
-        FollowsBook header.now first (Read event ∷ past) book.new ranges }
+        IsCleanRow header.now first past (Read event) number t.now memory → FollowsBook B.holds header.now first past book.old ranges →
+        FollowsBook B.holds header.now first (Read event ∷ past) book.new ranges }
 {
     if !is_transfer(event) {
         return;

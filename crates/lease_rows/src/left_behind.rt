@@ -15,14 +15,14 @@ ghost use Rattle.lease_rows.specs.LeftBehind.{AreLent, EntriesFit, MovesOn, is_b
 use crate::events::number_of;
 use crate::taking::{device_bytes, input_bytes, slot_entry};
 use commands::Command;
-use lease_book::{LeaseBook, RangeIndexes};
+use lease_book::{LeaseLog, RangeIndexes};
 use ring_finder::Finder;
 use trace_record::TraceRecord;
 use traces::{Header, Ring};
 
 /// The lease of the input context ends that the command at a position of the command ring names.
-pub(crate) fn end_context_of(
-    book: &mut LeaseBook,
+pub(crate) fn end_context_of<B: LeaseLog>(
+    book: &mut B,
     ranges: &RangeIndexes,
     header: &Header,
     number: u32,
@@ -31,8 +31,8 @@ pub(crate) fn end_context_of(
     command: Command,
 )
     ensures { (ts : List Lent) → shape_of header.now (command_id header.now) ≡ ring.now.shape → AreLent ts (range_of_command header.now position (Some command)) →
-        HoldsAll header.now ts book.old ranges.now →
-        HoldsAll header.now (map (ended_where (is_among (range_of_command header.now position (Some command))) number) ts) book.new ranges.now }
+        HoldsAll B.holds header.now ts book.old ranges.now →
+        HoldsAll B.holds header.now (map (ended_where (is_among (range_of_command header.now position (Some command))) number) ts) book.new ranges.now }
 {
     let Some(address) = command.input_context() else {
         return;
@@ -42,8 +42,8 @@ pub(crate) fn end_context_of(
 }
 
 /// The leases of the entry and the device context end of the slot that the command disables.
-pub(crate) fn end_slot_of(
-    book: &mut LeaseBook,
+pub(crate) fn end_slot_of<B: LeaseLog>(
+    book: &mut B,
     ranges: &RangeIndexes,
     header: &Header,
     t: &TraceRecord,
@@ -51,7 +51,7 @@ pub(crate) fn end_slot_of(
     command: Command,
 )
     ensures { (k : Known) (memory : ℕ → ℕ) (ts : List Lent) → FollowsTrace header.now k t.now memory → EntriesFit k → AreLent ts (slot_let_go header.now k command) →
-        HoldsAll header.now ts book.old ranges.now → HoldsAll header.now (map (ended_where (is_among (slot_let_go header.now k command)) number) ts) book.new ranges.now }
+        HoldsAll B.holds header.now ts book.old ranges.now → HoldsAll B.holds header.now (map (ended_where (is_among (slot_let_go header.now k command)) number) ts) book.new ranges.now }
 {
     let Command::DisableSlot { slot } = command else {
         return;
@@ -66,8 +66,8 @@ pub(crate) fn end_slot_of(
 }
 
 /// The leases of the blocks and Links end that a ring passes which the command moves.
-fn end_moved(
-    book: &mut LeaseBook,
+fn end_moved<B: LeaseLog>(
+    book: &mut B,
     header: &Header,
     finder: &Finder,
     t: &TraceRecord,
@@ -77,8 +77,8 @@ fn end_moved(
     requires headed { IsHeader header.now }
     requires found { IsFinder header.now.rings finder.now }
     ensures { (k : Known) (memory : ℕ → ℕ) (ts : List Lent) (ranges : RangesValue) → FollowsTrace header.now k t.now memory → EndpointRings header.now k →
-        MovesOn k (moved_by header.now k command) → HoldsAll header.now ts book.old ranges →
-        HoldsAll header.now (map (ended_where (is_moved_past k (moved_by header.now k command)) number) ts) book.new ranges }
+        MovesOn k (moved_by header.now k command) → HoldsAll B.holds header.now ts book.old ranges →
+        HoldsAll B.holds header.now (map (ended_where (is_moved_past k (moved_by header.now k command)) number) ts) book.new ranges }
 {
     let Command::SetTrDequeue {
         slot,
@@ -112,8 +112,8 @@ fn end_moved(
 }
 
 /// The leases end of what the completion of the command at a position of the command ring leaves behind, its own block and Link apart.
-pub(crate) fn end_command(
-    book: &mut LeaseBook,
+pub(crate) fn end_command<B: LeaseLog>(
+    book: &mut B,
     ranges: &RangeIndexes,
     header: &Header,
     finder: &Finder,
@@ -129,8 +129,8 @@ pub(crate) fn end_command(
     ensures { (k : Known) (memory : ℕ → ℕ) (ts : List Lent) → FollowsTrace header.now k t.now memory → EndpointRings header.now k → EntriesFit k →
         MovesOn k (moved_when header.now k success (Some command)) → shape_of header.now (command_id header.now) ≡ ring.now.shape →
         AreLent ts (range_of_command header.now position (Some command)) → AreLent ts (slot_ranges header.now k (slot_left success (Some command))) →
-        HoldsAll header.now ts book.old ranges.now →
-        HoldsAll header.now (map (ended_where (is_behind header.now k position success (Some command)) number) ts) book.new ranges.now }
+        HoldsAll B.holds header.now ts book.old ranges.now →
+        HoldsAll B.holds header.now (map (ended_where (is_behind header.now k position success (Some command)) number) ts) book.new ranges.now }
 {
     end_context_of(book, ranges, header, number, ring, position, command);
     if !success {

@@ -7,22 +7,22 @@ ghost use Rattle.lease_book.specs.declared.ranges.RangeIndexes.{RangeIndexes};
 ghost use Rattle.lease_rows.specs.CleanRows.{FollowsBook, IsCleanRow, IsOtherRow};
 ghost use Rattle.trace_record.specs.declared.trace_record.TraceRecord.{TraceRecord};
 
-use lease_book::LeaseBook;
+use lease_book::LeaseLog;
 use ring_finder::is_event_ring;
 use std::alloc::AllocError;
 use traces::{Header, Register, Row};
 
 /// Notes the row of a number, a declaration, a doorbell or a register's. Where the leases of ranges stand stays.
-pub fn note_other_row(
-    book: &mut LeaseBook,
+pub(crate) fn note_other_row<B: LeaseLog>(
+    book: &mut B,
     header: &Header,
     number: u32,
     row: &Row,
 ) -> Result<(), AllocError>
     requires { IsHeader header.now }
     ensures { OnOk result ((first : ℕ) (past : List RowValue) (t : TraceRecord) (memory : ℕ → ℕ) (ranges : RangeIndexes) → IsOtherRow row.now →
-        IsCleanRow header.now first past row.now number t memory → FollowsBook header.now first past book.old ranges →
-        FollowsBook header.now first (row.now ∷ past) book.new ranges) }
+        IsCleanRow header.now first past row.now number t memory → FollowsBook B.holds header.now first past book.old ranges →
+        FollowsBook B.holds header.now first (row.now ∷ past) book.new ranges) }
 {
     match row {
         Row::Reg { register, value } => note_table(book, header, number, *register, *value),
@@ -31,8 +31,8 @@ pub fn note_other_row(
 }
 
 /// The lease of the segment table begins, at the write of ERSTBA.
-fn note_table(
-    book: &mut LeaseBook,
+fn note_table<B: LeaseLog>(
+    book: &mut B,
     header: &Header,
     number: u32,
     register: Register,
@@ -40,8 +40,8 @@ fn note_table(
 ) -> Result<(), AllocError>
     requires { IsHeader header.now }
     ensures { OnOk result ((first : ℕ) (past : List RowValue) (t : TraceRecord) (memory : ℕ → ℕ) (ranges : RangeIndexes) →
-        IsCleanRow header.now first past (Reg register value) number t memory → FollowsBook header.now first past book.old ranges →
-        FollowsBook header.now first (Reg register value ∷ past) book.new ranges) }
+        IsCleanRow header.now first past (Reg register value) number t memory → FollowsBook B.holds header.now first past book.old ranges →
+        FollowsBook B.holds header.now first (Reg register value ∷ past) book.new ranges) }
 {
     match register {
         Register::Erstba => {

@@ -21,7 +21,7 @@ ghost use Rattle.trace_record.specs.FollowsTrace.{FollowsTrace};
 use commands::Command;
 use contexts::ContextSize;
 use guest_memory::{Addr, WordMemory};
-use lease_book::{LeaseBook, RangeIndexes};
+use lease_book::{LeaseLog, RangeIndexes};
 use ring_knowledge::{RegisterRecord, RingRecord};
 use std::alloc::AllocError;
 use trace_record::TraceRecord;
@@ -49,8 +49,8 @@ fn command_in(block: Block) -> Option<Command>
 }
 
 /// The ranges that the command at a position of the command ring takes come under lease.
-pub(crate) fn begin_command<M: WordMemory>(
-    book: &mut LeaseBook,
+pub(crate) fn begin_command<B: LeaseLog, M: WordMemory>(
+    book: &mut B,
     ranges: &mut RangeIndexes,
     header: &Header,
     t: &TraceRecord,
@@ -62,15 +62,15 @@ pub(crate) fn begin_command<M: WordMemory>(
 ) -> Result<(), AllocError>
     ensures { OnOk result ((k : Known) (ts : List Lent) → FollowsTrace header.now k t.now (M.words memory.now) → EntryFits k (taken_device k command) →
         shape_of header.now (command_id header.now) ≡ ring.now.shape → SlotIsFree header.now ts (taken_device k command) → is_use_free header.now ts (InputContext position) ≡ true →
-        HoldsAll header.now ts book.old ranges.old → HoldsAll header.now (with_begun number ts (command_taken header.now k position command)) book.new ranges.new) }
+        HoldsAll B.holds header.now ts book.old ranges.old → HoldsAll B.holds header.now (with_begun number ts (command_taken header.now k position command)) book.new ranges.new) }
 {
     begin_device_of(book, ranges, header, t, memory, number, command)?;
     begin_context_of(book, ranges, header, number, ring, position, command)
 }
 
 /// The entry and the device context of the slot come under lease to which the command gives one.
-fn begin_device_of<M: WordMemory>(
-    book: &mut LeaseBook,
+fn begin_device_of<B: LeaseLog, M: WordMemory>(
+    book: &mut B,
     ranges: &mut RangeIndexes,
     header: &Header,
     t: &TraceRecord,
@@ -80,7 +80,7 @@ fn begin_device_of<M: WordMemory>(
 ) -> Result<(), AllocError>
     ensures { OnOk result ((k : Known) (ts : List Lent) → FollowsTrace header.now k t.now (M.words memory.now) → EntryFits k (taken_device k command) →
         SlotIsFree header.now ts (taken_device k command) →
-        HoldsAll header.now ts book.old ranges.old → HoldsAll header.now (with_begun number ts (slot_taken header.now k (taken_device k command))) book.new ranges.new) }
+        HoldsAll B.holds header.now ts book.old ranges.old → HoldsAll B.holds header.now (with_begun number ts (slot_taken header.now k (taken_device k command))) book.new ranges.new) }
 {
     let Command::AddressDevice { slot, .. } = command else {
         return Ok(());
@@ -101,8 +101,8 @@ fn begin_device_of<M: WordMemory>(
 }
 
 /// The input context that the command at a position of the command ring names comes under lease.
-fn begin_context_of(
-    book: &mut LeaseBook,
+fn begin_context_of<B: LeaseLog>(
+    book: &mut B,
     ranges: &mut RangeIndexes,
     header: &Header,
     number: u32,
@@ -111,7 +111,7 @@ fn begin_context_of(
     command: Command,
 ) -> Result<(), AllocError>
     ensures { OnOk result ((ts : List Lent) → shape_of header.now (command_id header.now) ≡ ring.now.shape → is_use_free header.now ts (InputContext position) ≡ true →
-        HoldsAll header.now ts book.old ranges.old → HoldsAll header.now (with_begun number ts (range_of_command header.now position (Some command))) book.new ranges.new) }
+        HoldsAll B.holds header.now ts book.old ranges.old → HoldsAll B.holds header.now (with_begun number ts (range_of_command header.now position (Some command))) book.new ranges.new) }
 {
     match command.input_context() {
         None => Ok(()),

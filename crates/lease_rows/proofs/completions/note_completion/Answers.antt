@@ -14,16 +14,18 @@ use Rattle.lease_rows.proofs.GivenHere.{driven}
 use Rattle.lease_rows.proofs.OtherRows.{among_drivers}
 use Rattle.lease_rows.proofs.RowWrites.{command_at_is, record_there}
 use Rattle.lease_rows.proofs.CompletionRows.{command_behind, completion_ends, endpoint_rings, id, next_here, none_behind, shape_is, some_commands}
+use Rattle.lease_rows.proofs.LentEvents.{entries, floors}
 use Rattle.lease_rows.proofs.completions.note_completion.Goals as goal
 
 pub returns-in_default : goal.returns-in_default
-returns-in_default c = λ first past memory completes fit moves next all.
+returns-in_default g c = λ first past memory completes next all.
     absurd (some_commands c.args.header.now c.requires.headed first past c.args.event c.args.number c.args.t.now memory next completes (sym c.requires.found.commands ∙ c.in_default.is))
 
 pub returns-in-None : goal.returns-in-None
-returns-in-None c = λ first past memory completes fit moves next all.
+returns-in-None g c = λ first past memory completes next all.
     let h = c.args.header.now in
     let k = known h past in
+    let moves = floors h c.requires.headed first past c.args.event c.args.number c.args.t.now memory next completes in
     let q = c.in-Some-get.ring.now in
     let here = ring_here h (λ r. is_command_kind r.shape.kind) h.rings c.in-Some.place q (sym c.requires.found.commands ∙ c.in-Some.is) refl (c.in-Some-get.ensures.lookup.1 ∙ ap (λ xs. get_or xs c.in-Some.place q) c.as_slice-rings.ensures) in
     let among = among_at h.rings c.in-Some.place q here.0 in
@@ -37,7 +39,7 @@ returns-in-None c = λ first past memory completes fit moves next all.
     let said = command_at_is h k q p _ ring (c.command_at.ensures q.shape (k.ring q.id) follows) in
     completion_ends h c.requires.headed first past c.args.event c.args.number c.args.t.now memory next completes moves q among here.1 drives c.end_passed.new.self c.args.ranges.now p q.id (code c.args.event == 1) None at (sym ring) refl
     (sym (said ∙ c.in-None.is) ∙ ap (command_at h k) at)
-    (subst (λ (ts : List Lent). HoldsAll h (map (ended_where (is_passed q.id p (p + 1)) c.args.number) ts) c.end_passed.new.self c.args.ranges.now)
+    (subst (λ (ts : List Lent). HoldsAll g.B.LeaseLog.holds h (map (ended_where (is_passed q.id p (p + 1)) c.args.number) ts) c.end_passed.new.self c.args.ranges.now)
     (sym (none_behind h c.requires.headed first past c.args.event c.args.number c.args.t.now memory next completes p (code c.args.event == 1) (lents h first past)))
     (record {
       held = c.end_passed.ensures h (lents h first past) (shape_there h c.requires.headed q among) (omega arith) all.held;
@@ -45,9 +47,10 @@ returns-in-None c = λ first past memory completes fit moves next all.
     }))
 
 pub returns-in-Some-command_at : goal.returns-in-Some-command_at
-returns-in-Some-command_at c = λ first past memory completes fit moves next all.
+returns-in-Some-command_at g c = λ first past memory completes next all.
     let h = c.args.header.now in
     let k = known h past in
+    let moves = floors h c.requires.headed first past c.args.event c.args.number c.args.t.now memory next completes in
     let q = c.in-Some-get.ring.now in
     let here = ring_here h (λ r. is_command_kind r.shape.kind) h.rings c.in-Some.place q (sym c.requires.found.commands ∙ c.in-Some.is) refl (c.in-Some-get.ensures.lookup.1 ∙ ap (λ xs. get_or xs c.in-Some.place q) c.as_slice-rings.ensures) in
     let among = among_at h.rings c.in-Some.place q here.0 in
@@ -63,7 +66,7 @@ returns-in-Some-command_at c = λ first past memory completes fit moves next all
     let tells : s ≡ (code c.args.event == 1) = ap (λ (x : ℕ). x == 1) c.code-success.ensures in
     let says = sym (said ∙ c.in-Some-command_at.is) ∙ ap (command_at h k) at in
     let may = command_behind h c.requires.headed first past c.args.event c.args.number c.args.t.now memory next completes moves p s (Some c.in-Some-command_at.command) at tells says in
-    let ended = c.end_command.ensures k memory (lents h first past) next.followed (endpoint_rings h c.requires.headed first past c.args.event c.args.number c.args.t.now memory next completes) fit may.0 (shape_is h c.requires.headed first past c.args.event c.args.number c.args.t.now memory next completes moves q among here.1 drives) may.1 may.2 all in
+    let ended = c.end_command.ensures k memory (lents h first past) next.followed (endpoint_rings h c.requires.headed first past c.args.event c.args.number c.args.t.now memory next completes) (entries h c.requires.headed first past c.args.event c.args.number c.args.t.now memory next) may.0 (shape_is h c.requires.headed first past c.args.event c.args.number c.args.t.now memory next completes moves q among here.1 drives) may.1 may.2 all in
     completion_ends h c.requires.headed first past c.args.event c.args.number c.args.t.now memory next completes moves q among here.1 drives c.end_passed-in-Some-command_at.new.self c.args.ranges.now p q.id s (Some c.in-Some-command_at.command) at (sym ring) tells says
     (record {
       held = c.end_passed-in-Some-command_at.ensures h _ (shape_there h c.requires.headed q among) (omega arith) ended.held;

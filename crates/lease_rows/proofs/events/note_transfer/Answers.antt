@@ -16,12 +16,12 @@ use Rattle.lease_rows.proofs.TransferRows.{comes, driver_kind, keeps, other_lent
 use Rattle.lease_rows.proofs.events.note_transfer.Goals as goal
 
 pub returns-then-not-is_transfer : goal.returns-then-not-is_transfer
-returns-then-not-is_transfer c = λ first past memory ranges other next all.
+returns-then-not-is_transfer g c = λ first past memory ranges other next all.
     let h = c.args.header.now in
     held_still h c.requires.headed first past c.args.book.now ranges _ (other_lent h c.requires.headed first past c.args.event c.args.number c.args.t.now memory next (sym c.is_transfer.ensures ∙ c.if-not-is_transfer.true) other) all
 
 pub returns-in_default : goal.returns-in_default
-returns-in_default c = λ first past memory ranges other next all.
+returns-in_default g c = λ first past memory ranges other next all.
     let h = c.args.header.now in
     let k = known h past in
     let d = keeps h c.requires.headed first past c.args.event c.args.number c.args.t.now memory next in
@@ -30,7 +30,7 @@ returns-in_default c = λ first past memory ranges other next all.
     held_still h c.requires.headed first past c.args.book.now ranges _ (unbound_lent h c.requires.headed first past c.args.event c.args.number c.args.t.now memory next (sym c.is_transfer.ensures ∙ c.if-not-is_transfer.false) of) all
 
 pub returns-in_default-ring_named : goal.returns-in_default-ring_named
-returns-in_default-ring_named c = λ first past memory ranges other next all.
+returns-in_default-ring_named g c = λ first past memory ranges other next all.
     let h = c.args.header.now in
     let k = known h past in
     let d = keeps h c.requires.headed first past c.args.event c.args.number c.args.t.now memory next in
@@ -39,7 +39,7 @@ returns-in_default-ring_named c = λ first past memory ranges other next all.
     absurd (ring_of_header h k d _ _ c.in-Some.id of (sym (c.ring_named.ensures h.rings c.requires.found) ∙ c.in_default-ring_named.is))
 
 pub returns-in_default-named : goal.returns-in_default-named
-returns-in_default-named c = λ first past memory ranges other next all.
+returns-in_default-named g c = λ first past memory ranges other next all.
     let h = c.args.header.now in
     let k = known h past in
     let d = keeps h c.requires.headed first past c.args.event c.args.number c.args.t.now memory next in
@@ -59,7 +59,7 @@ returns-in_default-named c = λ first past memory ranges other next all.
     (unnamed_lent h c.requires.headed first past c.args.event c.args.number c.args.t.now memory next transfers c.in-Some.id of q among id (ap (λ (a : ℕ). named q.shape (k.ring q.id) a) (sym c.pointer.ensures) ∙ named_is ∙ c.in_default-named.is)) all
 
 pub returns : goal.returns
-returns c = λ first past memory ranges other next all.
+returns g c = λ first past memory ranges other next all.
     let h = c.args.header.now in
     let k = known h past in
     let d = keeps h c.requires.headed first past c.args.event c.args.number c.args.t.now memory next in

@@ -2,11 +2,11 @@ use Rattle.lease_rows.proofs.EndedRanges.{failed_behind, moves_when, slot_still,
 use Rattle.lease_rows.proofs.left_behind.end_command.Goals as goal
 
 pub returns-then-not-success : goal.returns-then-not-success
-returns-then-not-success c = λ k memory ts follows rings fit on shaped context slot all.
+returns-then-not-success g c = λ k memory ts follows rings fit on shaped context slot all.
     failed_behind c.args.header.now k c.args.number c.args.position c.args.command c.args.success ts c.end_context_of.new.book c.args.ranges.now c.if-not-success.true (c.end_context_of.ensures ts shaped context all)
 
 pub returns : goal.returns
-returns c = λ k memory ts follows rings fit on shaped context slot all.
+returns g c = λ k memory ts follows rings fit on shaped context slot all.
     let h = c.args.header.now in
     let succeeds = c.if-not-success.false in
     succeeded_behind h k c.args.number c.args.position c.args.command c.args.success ts c.end_moved.new.book c.args.ranges.now succeeds

@@ -1,5 +1,7 @@
-use Rattle.std.proofs.Common.{◌≡◌, vec_len}
+use Rattle.std.proofs.Common.{◌≡◌, ℕ, vec_len}
+use Rattle.std.specs.Prelude.{slice_get}
+use Rattle.lease_book.specs.IndexTables.{index_of}
 use Rattle.lease_book.proofs.indexes.IndexTables.new.Given as goal
 
 abbrev pub invariant-loop : goal.invariant-loop
-invariant-loop l = vec_len l.rings ≡ l.counter
+invariant-loop l = record { many : vec_len l.rings ≡ l.counter; none : (r m : ℕ) → index_of (slice_get l.rings.items r) m ≡ 0 }

@@ -3,24 +3,12 @@ use Rattle.segments.specs.Places.{place_count}
 use Rattle.ownership_rules.specs.OpenLeases.{InputContext}
 use Rattle.lease_book.specs.IndexTables.{index_in}
 use Rattle.lease_book.specs.Ranges.{command_place}
-use Rattle.lease_book.proofs.RangePlaces.{always_err, always_ok, context_put, range_begins, ranges_stay}
+use Rattle.lease_book.proofs.RangePlaces.{always_ok, context_put, range_begins}
 use Rattle.lease_book.proofs.ranges.RangeIndexes.begin_context.Goals as goal
 
-pub returns-in_err-put-clause-found_err : goal.returns-in_err-put-clause-found_err
-returns-in_err-put-clause-found_err c = always_err c.from_residual.result (λ h ts shape found free.
-    let place : c.place_on.result ≡ command_place h c.args.position = c.place_on.ensures ∙ ap (λ s. c.args.position % place_count s) (sym shape) in
-    ranges_stay h c.args.self.now (record { contexts = c.put.new.self; entries = c.args.self.now.entries; devices = c.args.self.now.devices }) (InputContext c.args.position)
-    (context_put h c.args.self.now c.put.new.self c.args.position c.place_on.result place (λ m apart. c.in_err-put.ensures.err m)) ts found free)
-
 pub returns-clause-found : goal.returns-clause-found
-returns-clause-found c = always_ok c.begin_range.result (λ h ts shape held found free.
+returns-clause-found g c = always_ok c.begin_range.result (λ h ts shape held found free.
     let place : c.place_on.result ≡ command_place h c.args.position = c.place_on.ensures ∙ ap (λ s. c.args.position % place_count s) (sym shape) in
     range_begins h c.args.self.now (record { contexts = c.put.new.self; entries = c.args.self.now.entries; devices = c.args.self.now.devices }) (InputContext c.args.position)
     (context_put h c.args.self.now c.put.new.self c.args.position c.place_on.result place c.in_ok-put.ensures.others) c.args.row c.args.bytes c.args.address ts
     (ap (index_in c.put.new.self) (sym place) ∙ c.in_ok-put.ensures.same ∙ c.count-index.ensures h ts held) found free)
-
-pub returns-clause-found_err : goal.returns-clause-found_err
-returns-clause-found_err c = always_err c.begin_range.result (λ h ts shape found free.
-    let place : c.place_on.result ≡ command_place h c.args.position = c.place_on.ensures ∙ ap (λ s. c.args.position % place_count s) (sym shape) in
-    ranges_stay h c.args.self.now (record { contexts = c.put.new.self; entries = c.args.self.now.entries; devices = c.args.self.now.devices }) (InputContext c.args.position)
-    (context_put h c.args.self.now c.put.new.self c.args.position c.place_on.result place c.in_ok-put.ensures.others) ts found free)

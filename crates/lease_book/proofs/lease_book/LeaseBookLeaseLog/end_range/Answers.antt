@@ -2,7 +2,7 @@ use Rattle.ownership_rules.specs.OpenLeases.{Range, same_leased}
 use Rattle.lease_book.specs.Books.{IsFound}
 use Rattle.lease_book.proofs.EndingRange.{range_ends}
 use Rattle.lease_book.proofs.Unended.{all_ended}
-use Rattle.lease_book.proofs.lease_book.LeaseBook.end_range.Goals as goal
+use Rattle.lease_book.proofs.lease_book.LeaseBookLeaseLog.end_range.Goals as goal
 
 pub returns : goal.returns
 returns c = λ h ts purpose known stands lent. record {

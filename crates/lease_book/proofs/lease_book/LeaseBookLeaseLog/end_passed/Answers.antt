@@ -6,8 +6,8 @@ use Rattle.lease_book.specs.declared.lease_book.LeaseBook.{LeaseBook}
 use Rattle.lease_book.specs.Lents.{Lent, ended_where, is_passed}
 use Rattle.lease_book.specs.Books.{HoldsLents, IsFound}
 use Rattle.lease_book.proofs.Passing.{all_twice, ended_alike, over_alike, none_over, none_passed, passed_block, passed_crossing}
-use Rattle.lease_book.proofs.lease_book.LeaseBook.end_passed.Goals as goal
-use Rattle.lease_book.proofs.lease_book.LeaseBook.end_passed.Goals.{then-is_some, else-is_some}
+use Rattle.lease_book.proofs.lease_book.LeaseBookLeaseLog.end_passed.Goals as goal
+use Rattle.lease_book.proofs.lease_book.LeaseBookLeaseLog.end_passed.Goals.{then-is_some, else-is_some}
 
 pub loop-number-init : goal.loop-number-init
 loop-number-init c = λ h ts shape known.

@@ -3,7 +3,7 @@ use Rattle.traces.specs.declared.header.Header.{Header}
 use Rattle.traces.specs.Header.{shape_of}
 use Rattle.lease_book.specs.Lents.{Lent, ended_where, is_passed}
 use Rattle.lease_book.specs.Books.{HoldsLents}
-use Rattle.lease_book.proofs.lease_book.LeaseBook.end_passed.Given as goal
+use Rattle.lease_book.proofs.lease_book.LeaseBookLeaseLog.end_passed.Given as goal
 
 abbrev pub invariant-loop-number : goal.invariant-loop-number
 invariant-loop-number l =

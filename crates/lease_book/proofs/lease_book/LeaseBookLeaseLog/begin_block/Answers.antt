@@ -1,12 +1,12 @@
-use Rattle.std.proofs.Common.{◌≡◌, ◌%◌, refl, ap, sym, ◌∙◌}
+use Rattle.std.proofs.Common.{◌≡◌, ◌%◌, ap, sym, ◌∙◌}
 use Rattle.ownership_rules.specs.OpenLeases.{Block}
 use Rattle.segments.specs.Places.{place_count}
 use Rattle.traces.specs.Header.{shape_of}
-use Rattle.lease_book.proofs.Places.{block_found, still_found, cut_back, list_begun, length_held, put_at}
-use Rattle.lease_book.proofs.lease_book.LeaseBook.begin_block.Goals as goal
+use Rattle.lease_book.proofs.Places.{block_found, list_begun, length_held, put_at}
+use Rattle.lease_book.proofs.lease_book.LeaseBookLeaseLog.begin_block.Goals as goal
 
-pub returns-clause-ok : goal.returns-clause-ok
-returns-clause-ok c = λ h ts shape known free.
+pub returns : goal.returns
+returns c = λ h ts shape known free.
     let place : c.args.position % c.from.result ≡ c.args.position % place_count (shape_of h c.args.ring.now.id) = ap (λ n. c.args.position % n) (c.from.ensures ∙ c.places.ensures.count ∙ ap place_count (sym shape)) in
     let index : c.len-index.result ≡ c.args.self.now.leases.len = c.len-index.ensures in
     record {
@@ -14,12 +14,5 @@ returns-clause-ok c = λ h ts shape known free.
       found =
           block_found h c.args.self.now.blocks c.put.new.self c.args.self.now.links c.args.ring.now.id c.args.position c.args.row ts known.found
           (put_at c.args.self.now.blocks c.put.new.self c.args.ring.now.id _ _ _ _ place (index ∙ c.args.self.now.leases.ok.0 ∙ length_held h ts c.args.self.now known)
-          (record { same = c.in_default.ensures.same; ring = c.in_default.ensures.ring; others = λ s m. c.in_default.ensures.others s m })) free;
-    }
-
-pub returns-in-Err-clause-err : goal.returns-in-Err-clause-err
-returns-in-Err-clause-err c = λ h ts known.
-    record {
-      list = cut_back c.args.self.now.leases.items _ _ _ _ (c.len-index.ensures ∙ c.args.self.now.leases.ok.0) c.in_ok-push.ensures.items c.truncate.ensures.items ∙ known.list;
-      found = still_found h c.args.self.now.blocks c.put.new.self c.args.self.now.links c.args.self.now.links ts c.in-Err.ensures.err (λ r n. refl) known.found;
+          (record { same = c.in_ok-put.ensures.same; ring = c.in_ok-put.ensures.ring; others = λ s m. c.in_ok-put.ensures.others s m })) free;
     }
