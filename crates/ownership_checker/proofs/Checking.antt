@@ -1,68 +1,32 @@
--- A trace, row by row: what was checked so far, and what the check answers
-use Rattle.std.proofs.Common.{◌≡◌, ℕ, ◌+◌, ◌-◌, ◌<◌, ◌≤◌, List, false, [], ◌∷◌, Option, Some, None, refl, ap, sym, ◌∙◌, arith, length, subst, get_or, add-zero}
-use Rattle.std.specs.Prelude.{slice_get, reverse, take, drop, option_map}
+-- A trace, row by row: what was checked and lent so far, and what the check answers
+use Rattle.std.proofs.Common.{◌≡◌, ℕ, Bool, ◌+◌, ◌<◌, ◌≤◌, List, [], ◌∷◌, ap, sym, ◌∙◌, arith, length, subst, get_or}
+use Rattle.std.specs.Prelude.{reverse, take}
 use Rattle.std.proofs.lemmas.Grind.{common_steps}
-use Rattle.std.proofs.lemmas.Option.{get_or_from_slice_get}
 use Rattle.traces.specs.declared.row.Row.{Row}
-use Rattle.traces.specs.Limits.{most_lines}
 use Rattle.traces.specs.declared.header.Header.{Header}
 use Rattle.traces.specs.Header.{IsHeader}
 use Rattle.ownership_checker.specs.Walks.{WalksRead}
 use Rattle.ownership_checker.proofs.Walks.{walks}
 use Rattle.ring_knowledge.specs.Known.{Known, nothing}
-use Rattle.ring_knowledge.specs.Learned.{learned, known}
-use Rattle.ownership_rules.specs.declared.refusal.Refusal.{Refusal}
-use Rattle.ownership_rules.specs.Refusal.{first_of}
-use Rattle.ownership_rules.specs.Rules.{broken, verdict_from, first_or}
-use Rattle.ownership_rules.specs.Clean.{IsClean}
-use Rattle.ownership_rules.specs.Leases.{leases as leases_of, without_end}
-use Rattle.safety.proofs.TestsPassed.{clean_tests}
-use Rattle.safety.proofs.NothingKept.{nothing_kept}
-use Rattle.safety.proofs.DriverHistories.{kept_driver}
+use Rattle.ring_knowledge.specs.Learned.{known}
 use Rattle.ring_knowledge.specs.declared.lease.Lease.{Lease}
+use Rattle.ownership_rules.specs.Leases.{leases as leases_of, without_end}
 use Rattle.lease_book.specs.declared.lease_book.LeaseBook.{LeaseBook}
-use Rattle.ownership_checker.specs.Verdicts.{IsAccepted}
 use Rattle.lease_book.specs.declared.ranges.RangeIndexes.{RangeIndexes}
-use Rattle.lease_book.specs.Books.{FollowsLeases}
+use Rattle.lease_book.specs.Books.{FollowsLeases, HoldsLents}
 use Rattle.lease_rows.specs.CleanRows.{FollowsBook, IsCleanRow}
 use Rattle.trace_record.specs.declared.trace_record.TraceRecord.{TraceRecord}
-use Rattle.trace_record.specs.declared.fault.StepFault.{StepFault}
-use Rattle.trace_record.specs.declared.fault.StepFault.TheVariants.{Refused}
 use Rattle.trace_record.specs.FollowsTrace.{FollowsTrace}
 use Rattle.trace_record.specs.Fresh.{IsWithin}
 use Rattle.trace_record.specs.Steps.{IfRefused, IsLeast, IsRowStep}
-use Rattle.ownership_checker.specs.Tracking.{IsTracked, IsChecked, IsProgress}
-
--- one row more: the newest first
-one_more : (rows : List Row) (i : ℕ) (d : Row) → i < length rows → reverse (take (i + 1) rows) ≡ get_or rows i d ∷ reverse (take i rows)
-one_more rows i d h = grind (arith, common_steps, h)
-
-left : (rows : List Row) (i : ℕ) (d : Row) → i < length rows → drop i rows ≡ get_or rows i d ∷ drop (i + 1) rows
-left rows i d h = grind (arith, common_steps, h)
-
-first_is : (cs : List Refusal) (n : ℕ) (c : Refusal) (later : Option (ℕ × Refusal)) → first_of cs ≡ Some c → first_or cs n later ≡ Some (n, c)
-unfolding first_or
-first_is [] n c later e = absurd (cc)
-first_is (d ∷ ds) n c later e = ap (λ o. option_map (λ x. (n, x)) o) e
-
-verdict_first : (h : Header) (k : Known) (n : ℕ) (row : Row) (rest : List Row) (c : Refusal) → first_of (broken h k row) ≡ Some c → verdict_from h k n (row ∷ rest) ≡ Some (n, c)
-unfolding verdict_from
-verdict_first h k n row rest c e = first_is (broken h k row) n c (verdict_from h (learned h k row) (n + 1) rest) e
-
-verdict_next : (h : Header) (k : Known) (n : ℕ) (row : Row) (rest : List Row) → broken h k row ≡ [] → verdict_from h k n (row ∷ rest) ≡ verdict_from h (learned h k row) (n + 1) rest
-unfolding verdict_from first_or
-verdict_next h k n row rest e = rw e refl
-
-nothing_first : (h : Header) → known h [] ≡ nothing
-unfolding known
-nothing_first h = refl
-
-known_next : (h : Header) (past : List Row) (row : Row) → known h (row ∷ past) ≡ learned h (known h past) row
-unfolding known
-known_next h past row = refl
-
-length_taken : (rows : List Row) (i : ℕ) → i < length rows → length (reverse (take i rows)) ≡ i
-length_taken rows i h = grind (arith, common_steps, h)
+use Rattle.trace_record.specs.WordPlaces.{IsOwnedSo, IsPlaced}
+use Rattle.trace_record.specs.declared.fault.StepFault.{StepFault}
+use Rattle.trace_record.specs.declared.fault.StepFault.TheVariants.{Refused, Memory}
+use Rattle.trace_record.specs.declared.word_place.WordPlace.{WordPlace}
+use Rattle.row_checks.specs.Accepted.{IsAccepted}
+use Rattle.row_checks.specs.Tracking.{IsTracked}
+use Rattle.row_checks.proofs.Passes as passes
+use Rattle.ownership_checker.specs.Tracking.{IsProgress}
 
 length_reversed : (rows : List Row) → length (reverse rows) ≡ length rows
 length_reversed rows = grind (arith, common_steps)
@@ -70,146 +34,59 @@ length_reversed rows = grind (arith, common_steps)
 reversed_twice : (rows : List Row) → reverse (reverse rows) ≡ rows
 reversed_twice rows = grind (arith, common_steps)
 
-take_all : (rows : List Row) → take (length rows) rows ≡ rows
-take_all rows = grind (arith, common_steps)
-
-drop_all : (rows : List Row) → drop (length rows) rows ≡ []
-drop_all rows = grind (arith, common_steps)
-
-none_taken : (rows : List Row) → reverse (take 0 rows) ≡ []
-none_taken rows = grind (arith, common_steps)
-
-none_dropped : (rows : List Row) → drop 0 rows ≡ rows
-none_dropped rows = grind (arith, common_steps)
-
-verdict_end : (h : Header) (k : Known) (n : ℕ) → verdict_from h k n [] ≡ None
-unfolding verdict_from
-verdict_end h k n = refl
-
--- the rows of a trace have numbers below that of no row
-pub room_for : (first n : ℕ) → first + n ≤ most_lines + 1 → first + n ≤ without_end
-unfolding without_end
-room_for first n few = omega (arith, few)
-
--- one row more that breaks no rule
-tracked_after : (h : Header) → IsHeader h → (k : Known) (row : Row) (kept after : TraceRecord) (m o : ℕ → ℕ) → IsTracked h k kept m → broken h k row ≡ [] → FollowsTrace h (learned h k row) after o →
-    IsTracked h (learned h k row) after o
-tracked_after h headed k row kept after m o t clean f =
-    record { follows = f; keeps = λ on. kept_driver h headed k row (t.keeps (clean_tests h k row clean).0) clean on }
+-- what is said of a row by the place of its word, where that is found
+pub by_place : (h : Header) (kept : TraceRecord) (m : ℕ → ℕ) (row : Row) (place : WordPlace) (owned : Bool) → ((k : Known) → FollowsTrace h k kept m → IsPlaced h k row place) →
+    ((k : Known) → FollowsTrace h k kept m → IsPlaced h k row place → IsOwnedSo h k row owned) → (e : StepFault) →
+    IfRefused e (λ c. (k : Known) → IsTracked h k kept m → IsPlaced h k row place → IsOwnedSo h k row owned → IsLeast h k row c) →
+    IfRefused e (λ c. (k : Known) → IsTracked h k kept m → IsLeast h k row c)
+by_place h kept m row place owned places owns (Refused c) said = λ k t. let placed = places k t.follows in said k t placed (owns k t.follows placed)
+by_place h kept m row place owned places owns Memory said = said
 
 -- a trace, row by row
 module _ (h : Header) (rows : List Row) (first : ℕ) where
-  -- before the first row
-  pub start_checked : (T : Known → Type 0) → T nothing → IsChecked h rows first 0 T
-  start_checked T t =
-      let start : known h (reverse (take 0 rows)) ≡ nothing = ap (λ xs. known h xs) (none_taken rows) ∙ nothing_first h in
-      record {
-        tracked = subst T (sym start) t;
-        clean = subst (λ (xs : List Row). IsClean h xs) (sym (none_taken rows)) tt;
-        verdict =
-            ap (λ n. verdict_from h nothing n rows) (sym (add-zero first))
-            ∙ ap (λ k. verdict_from h k (first + 0) rows) (sym start)
-            ∙ ap (λ xs. verdict_from h (known h (reverse (take 0 rows))) (first + 0) xs) (sym (none_dropped rows));
-      }
-
-  -- one row more
-  pub step_checked : (i : ℕ) (T U : Known → Type 0) (row d : Row) → IsChecked h rows first i T → i < length rows → get_or rows i d ≡ row →
-      ((k : Known) → T k → (broken h k row ≡ []) × U (learned h k row)) → IsChecked h rows first (i + 1) U
-  step_checked i T U row d c below is_row step =
-      let before = known h (reverse (take i rows)) in
-      let done = step before c.tracked in
-      let past : reverse (take (i + 1) rows) ≡ row ∷ reverse (take i rows) = one_more rows i d below ∙ ap (λ x. x ∷ reverse (take i rows)) is_row in
-      let rest : drop i rows ≡ row ∷ drop (i + 1) rows = left rows i d below ∙ ap (λ x. x ∷ drop (i + 1) rows) is_row in
-      let after : known h (reverse (take (i + 1) rows)) ≡ learned h before row = ap (λ xs. known h xs) past ∙ known_next h (reverse (take i rows)) row in
-      let next_number : first + i + 1 ≡ first + (i + 1) = omega arith in
-      record {
-        tracked = subst U (sym after) done.1;
-        clean = subst (λ (xs : List Row). IsClean h xs) (sym past) (c.clean, done.0);
-        verdict =
-            c.verdict ∙ ap (λ xs. verdict_from h before (first + i) xs) rest
-            ∙ verdict_next h before (first + i) row (drop (i + 1) rows) done.0
-            ∙ ap (λ k. verdict_from h k (first + i + 1) (drop (i + 1) rows)) (sym after)
-            ∙ ap (λ x. verdict_from h (known h (reverse (take (i + 1) rows))) x (drop (i + 1) rows)) next_number;
-      }
-
-  -- the first row that is refused
-  pub refused_checked : (i : ℕ) (T : Known → Type 0) (row d : Row) (c : Refusal) → IsChecked h rows first i T → i < length rows → get_or rows i d ≡ row →
-      ((k : Known) → T k → IsLeast h k row c) → verdict_from h nothing first rows ≡ Some (first + i, c)
-  refused_checked i T row d c so_far below is_row breaks =
-      let before = known h (reverse (take i rows)) in
-      let rest : drop i rows ≡ row ∷ drop (i + 1) rows = left rows i d below ∙ ap (λ x. x ∷ drop (i + 1) rows) is_row in
-      so_far.verdict ∙ ap (λ xs. verdict_from h before (first + i) xs) rest
-      ∙ verdict_first h before (first + i) row (drop (i + 1) rows) c (breaks before so_far.tracked)
-
-  -- behind the last row
-  pub ended_checked : (i : ℕ) (T : Known → Type 0) (book : LeaseBook) (leases : List Lease) → first + length rows ≤ without_end → IsChecked h rows first i T → i ≡ length rows →
-      FollowsLeases h first (reverse (take i rows)) book → ((past : List Row) → first + length past ≤ without_end → FollowsLeases h first past book → leases ≡ leases_of h first (reverse past)) →
-      IsAccepted h rows first leases
-  ended_checked i T book leases room c all held listed =
-      let whole : take i rows ≡ rows = ap (λ n. take n rows) all ∙ take_all rows in
-      let empty : drop i rows ≡ [] = ap (λ n. drop n rows) all ∙ drop_all rows in
-      let before = known h (reverse (take i rows)) in
-      let many : length (reverse rows) ≡ length rows = length_reversed rows in
-      record {
-        clean = subst (λ (xs : List Row). IsClean h (reverse xs)) whole c.clean;
-        verdict = c.verdict ∙ ap (λ xs. verdict_from h before (first + i) xs) empty ∙ verdict_end h before (first + i);
-        certified =
-            listed (reverse rows) (omega (arith, many, room)) (subst (λ (xs : List Row). FollowsLeases h first (reverse xs) book) whole held)
-            ∙ ap (λ xs. leases_of h first xs) (reversed_twice rows);
-      }
-
-  pub ended_clean : (i : ℕ) (T : Known → Type 0) → IsChecked h rows first i T → i ≡ length rows → IsClean h (reverse rows)
-  ended_clean i T c all = subst (λ (xs : List Row). IsClean h (reverse xs)) (ap (λ n. take n rows) all ∙ take_all rows) c.clean
-
   pub started : IsHeader h → (kept : TraceRecord) (m : ℕ → ℕ) (book : LeaseBook) (ranges : RangeIndexes) → FollowsTrace h nothing kept m → IsWithin kept.events 0 →
-      FollowsBook h first [] book ranges → IsProgress h rows first 0 first kept m book ranges
+      FollowsBook HoldsLents h first [] book ranges → IsProgress h rows first 0 first kept m book ranges
   started headed kept m book ranges f unread lent = record {
-    numbered = sym (add-zero first);
-    as_many = f.rings.as_many;
-    few_reads = unread;
-    checked = start_checked (λ k. IsTracked h k kept m) (record { follows = f; keeps = λ on. nothing_kept h headed });
-    lent = subst (λ (xs : List Row). FollowsBook h first xs book ranges) (sym (none_taken rows)) lent;
+    pass = passes.started h rows first headed kept m f unread;
+    lent = subst (λ (xs : List Row). FollowsBook HoldsLents h first xs book ranges) (sym (passes.none_taken rows)) lent;
   }
 
   pub stepped : IsHeader h → (i number : ℕ) (kept after : TraceRecord) (m o : ℕ → ℕ) (row d : Row) (book later : LeaseBook) (ranges further : RangeIndexes) → first + length rows ≤ without_end →
       IsProgress h rows first i number kept m book ranges → i < length rows → get_or rows i d ≡ row → IsWithin after.events (i + 1) →
       ((k : Known) → IsTracked h k kept m → IsRowStep h k row after o) →
-      ((past : List Row) → IsCleanRow h first past row number kept m → FollowsBook h first past book ranges → FollowsBook h first (row ∷ past) later further) →
+      ((past : List Row) → IsCleanRow h first past row number kept m → FollowsBook HoldsLents h first past book ranges → FollowsBook HoldsLents h first (row ∷ past) later further) →
       IsProgress h rows first (i + 1) (number + 1) after o later further
   stepped headed i number kept after m o row d book later ranges further room_ p below is_row reads_ step notes =
-      let numbered_ = p.numbered in
+      let numbered_ = p.pass.numbered in
       let past = reverse (take i rows) in
-      let many : length past ≡ i = length_taken rows i below in
-      let next : reverse (take (i + 1) rows) ≡ row ∷ past = one_more rows i d below ∙ ap (λ x. x ∷ past) is_row in
-      let done = step (known h past) p.checked.tracked in
+      let many : length past ≡ i = passes.length_taken rows i below in
+      let next : reverse (take (i + 1) rows) ≡ row ∷ past = passes.one_more rows i d below ∙ ap (λ x. x ∷ past) is_row in
       record {
-        numbered = omega arith;
-        as_many = done.followed.rings.as_many;
-        few_reads = reads_;
-        checked = step_checked i (λ k. IsTracked h k kept m) (λ k. IsTracked h k after o) row d p.checked below is_row
-            (λ k t. let here = step k t in (here.clean, tracked_after h headed k row kept after m o t here.clean here.followed));
-        lent = subst (λ (xs : List Row). FollowsBook h first xs later further) (sym next) (notes past (record {
+        pass = passes.stepped h rows first headed i number kept after m o row d p.pass below is_row reads_ step;
+        lent = subst (λ (xs : List Row). FollowsBook HoldsLents h first xs later further) (sym next) (notes past (record {
           numbered = omega (arith, numbered_, many);
           room = omega (arith, many, room_, below);
-          followed = p.checked.tracked.follows;
-          history = p.checked.clean;
-          clean = done.clean;
+          followed = p.pass.checked.tracked.follows;
+          history = p.pass.checked.clean;
+          clean = (step (known h past) p.pass.checked.tracked).clean;
         }) p.lent);
       }
 
-  pub refused : (i number : ℕ) (kept : TraceRecord) (m : ℕ → ℕ) (book : LeaseBook) (ranges : RangeIndexes) (row d : Row) (c : Refusal) (e : StepFault) → e ≡ Refused c →
-      IsProgress h rows first i number kept m book ranges → i < length rows → get_or rows i d ≡ row →
-      IfRefused e (λ x. (k : Known) → IsTracked h k kept m → IsLeast h k row x) → verdict_from h nothing first rows ≡ Some (number, c)
-  refused i number kept m book ranges row d c e is_refused p below is_row said =
-      refused_checked i (λ k. IsTracked h k kept m) row d c p.checked below is_row
-      (subst (λ (f : StepFault). IfRefused f (λ x. (k : Known) → IsTracked h k kept m → IsLeast h k row x)) is_refused said)
-      ∙ ap (λ n. Some (n, c)) (sym p.numbered)
-
+  -- behind the last row
   module _ (i number : ℕ) (kept : TraceRecord) (m : ℕ → ℕ) (book : LeaseBook) (ranges : RangeIndexes) (p : IsProgress h rows first i number kept m book ranges) (all : i ≡ length rows) where
     pub ended : (leases : List Lease) → first + length rows ≤ without_end →
         ((past : List Row) → first + length past ≤ without_end → FollowsLeases h first past book → leases ≡ leases_of h first (reverse past)) → IsAccepted h rows first leases
-    ended leases room listed = ended_checked i (λ k. IsTracked h k kept m) book leases room p.checked all p.lent.held listed
+    ended leases room listed =
+        let whole : take i rows ≡ rows = ap (λ n. take n rows) all ∙ passes.take_all rows in
+        let many : length (reverse rows) ≡ length rows = length_reversed rows in
+        record {
+          clean = passes.ended_clean h rows first i number kept m p.pass all;
+          verdict = passes.ended_verdict h rows first i number kept m p.pass all;
+          certified =
+              listed (reverse rows) (omega (arith, many, room)) (subst (λ (xs : List Row). FollowsLeases h first (reverse xs) book) whole p.lent.held)
+              ∙ ap (λ xs. leases_of h first xs) (reversed_twice rows);
+        }
 
     -- after any rows the walk through each ring reads what was declared
     pub walked : IsHeader h → WalksRead h rows
-    walked headed = walks h headed rows (ended_clean i (λ k. IsTracked h k kept m) p.checked all)
+    walked headed = walks h headed rows (passes.ended_clean h rows first i number kept m p.pass all)

@@ -19,12 +19,8 @@ use Rattle.safety.proofs.StillPlacing.{still_reads}
 use Rattle.safety.proofs.KeptRings.{still_of}
 use Rattle.safety.proofs.Histories.{keeps_rings}
 use Rattle.safety.proofs.RingsOfHeader.{HasRing, has_ring, shape_allowed}
+use Rattle.row_checks.proofs.CleanHistories.{earlier_clean}
 use Rattle.ownership_checker.specs.Walks.{WalksRead}
-
--- what a history keeps its beginning kept
-earlier_clean : (h : Header) (xs ys : List Row) → IsClean h (xs ++ ys) → IsClean h ys
-earlier_clean h [] ys clean = clean
-earlier_clean h (x ∷ xs) ys clean = earlier_clean h xs ys clean.0
 
 -- completions of a clean history place endpoints where they may
 all_placed : (h : Header) → IsHeader h → (past : List Row) → IsClean h past → MayReadAll h past

@@ -2,10 +2,7 @@
 #![tactic(auto)]
 
 mod certificate;
-mod events;
 mod fault;
-mod leases;
-mod row;
 #[cfg(test)]
 mod tests;
 mod trace_check;

@@ -9,11 +9,11 @@ ghost use Rattle.ownership_checker.specs.Walks.{WalksRead};
 
 use crate::certificate::Certificate;
 use crate::fault::CheckFault;
-use crate::leases::note_leases;
-use crate::row::check_row;
 use guest_memory::{PageMemory, WordMemory};
 use lease_book::{LeaseBook, RangeIndexes};
+use lease_rows::note_row;
 use ring_finder::Finder;
+use row_checks::check_row;
 use std::alloc::Global;
 use trace_record::{StepFault, TraceRecord};
 use traces::{Header, Row, Trace};
@@ -40,7 +40,9 @@ fn check_rows<M: WordMemory + Drop>(
     let mut book = LeaseBook::new(alloc, header)?;
     let mut ranges = RangeIndexes::new(alloc);
     for row in rows {
-        note_leases(
+        let place = kept.place(header, &finder, row);
+        let owned = kept.owns(row, place);
+        note_row(
             &mut book,
             &mut ranges,
             header,
@@ -49,8 +51,9 @@ fn check_rows<M: WordMemory + Drop>(
             &memory,
             number,
             row,
+            place,
         )?;
-        match check_row(header, &finder, &mut kept, &mut memory, row) {
+        match check_row(header, &finder, &mut kept, &mut memory, row, place, owned) {
             Ok(()) => {}
             Err(StepFault::Refused(refusal)) => return Err(CheckFault::Refused {
                 row: number,

@@ -1,8 +1,10 @@
 use Rattle.std.proofs.Common.{◌≡◌, Some, length, sym, subst, arith}
 use Rattle.ring_knowledge.specs.Known.{nothing}
+use Rattle.ring_knowledge.specs.Learned.{known}
 use Rattle.ownership_rules.specs.declared.refusal.Refusal.{Refusal}
 use Rattle.ownership_rules.specs.Rules.{verdict_from}
-use Rattle.ownership_checker.proofs.Checking.{started, stepped, refused, ended, room_for, walked}
+use Rattle.row_checks.proofs.Passes.{refused, room_for}
+use Rattle.ownership_checker.proofs.Checking.{started, stepped, by_place, ended, walked}
 use Rattle.ownership_checker.proofs.trace_check.check_rows.Goals as goal
 
 pub loop-row-init : goal.loop-row-init
@@ -14,15 +16,22 @@ pub loop-row-preserved : goal.loop-row-preserved
 loop-row-preserved g c =
     let p = c.loop-row.invariant in
     stepped c.args.header.now c.args.rows.now c.args.first c.requires.headed c.loop-row.row-index c.loop-row.number c.loop-row.kept c.check_row.new.kept
-    (g.M.WordMemory.words c.loop-row.memory) (g.M.WordMemory.words c.check_row.new.memory) c.row-item.result c.row-item.result c.loop-row.book c.note_leases.new.book c.loop-row.ranges c.note_leases.new.ranges
+    (g.M.WordMemory.words c.loop-row.memory) (g.M.WordMemory.words c.check_row.new.memory) c.row-item.result c.row-item.result c.loop-row.book c.note_row.new.book c.loop-row.ranges c.note_row.new.ranges
     (room_for c.args.first (length c.args.rows.now) c.requires.within) p c.loop-row-test.true (sym c.row-item.is)
-    (c.in-Ok.ensures.reads c.loop-row.row-index p.few_reads) c.in-Ok.ensures.ok (c.in_ok-note_leases.ensures c.args.first)
+    (c.in-Ok.ensures.reads c.loop-row.row-index p.pass.few_reads)
+    (λ k t.
+    let placed = c.place-place.ensures k (g.M.WordMemory.words c.loop-row.memory) t.follows in
+    c.in-Ok.ensures.ok k t placed (c.owns-owned.ensures c.args.header.now k (g.M.WordMemory.words c.loop-row.memory) t.follows placed))
+    (λ past clean held. c.in_ok-note_row.ensures c.args.first past (c.place-place.ensures (known c.args.header.now past) (g.M.WordMemory.words c.loop-row.memory) clean.followed) clean held)
 
 pub returns-in-Err-Refused-clause-refused : goal.returns-in-Err-Refused-clause-refused
 returns-in-Err-Refused-clause-refused g c =
     subst (λ (r : Refusal). verdict_from c.args.header.now nothing c.args.first c.args.rows.now ≡ Some (c.loop-row.number, r)) (sym c.in-Err-Refused.refusal-is)
-    (refused c.args.header.now c.args.rows.now c.args.first c.loop-row.row-index c.loop-row.number c.loop-row.kept (g.M.WordMemory.words c.loop-row.memory) c.loop-row.book c.loop-row.ranges
-    c.row-item.result c.row-item.result c.in-Err-Refused.refusal c.in-Err-Refused.field-0 c.in-Err-Refused.field-0-is c.loop-row.invariant c.loop-row-test.true (sym c.row-item.is) c.in-Err-Refused.ensures.refused)
+    (refused c.args.header.now c.args.rows.now c.args.first c.loop-row.row-index c.loop-row.number c.loop-row.kept (g.M.WordMemory.words c.loop-row.memory)
+    c.row-item.result c.row-item.result c.in-Err-Refused.refusal c.in-Err-Refused.field-0 c.in-Err-Refused.field-0-is c.loop-row.invariant.pass c.loop-row-test.true (sym c.row-item.is)
+    (by_place c.args.header.now c.loop-row.kept (g.M.WordMemory.words c.loop-row.memory) c.row-item.result c.place-place.result c.owns-owned.result
+    (λ k f. c.place-place.ensures k (g.M.WordMemory.words c.loop-row.memory) f) (λ k f placed. c.owns-owned.ensures c.args.header.now k (g.M.WordMemory.words c.loop-row.memory) f placed)
+    c.in-Err-Refused.field-0 c.in-Err-Refused.ensures.refused))
 
 pub returns-clause-accepted : goal.returns-clause-accepted
 returns-clause-accepted g c =

@@ -1,6 +1,6 @@
 use Rattle.std.proofs.Common.{sym, ◌∙◌}
-use Rattle.ownership_checker.proofs.EventRows.{impossible, left_out, event_step}
-use Rattle.ownership_checker.proofs.events.check_event.Goals as goal
+use Rattle.row_checks.proofs.EventRows.{impossible, left_out, event_step}
+use Rattle.row_checks.proofs.events.check_event.Goals as goal
 
 pub returns-then-is_impossible-clause-refused : goal.returns-then-is_impossible-clause-refused
 returns-then-is_impossible-clause-refused g c = λ k f keeps on.

@@ -1,6 +1,6 @@
 use Rattle.std.proofs.Common.{sym, ◌∙◌, refl}
-use Rattle.ownership_checker.proofs.EventRows.{noted_transfer, noted_completion, noted_other}
-use Rattle.ownership_checker.proofs.events.note_event.Goals as goal
+use Rattle.row_checks.proofs.EventRows.{noted_transfer, noted_completion, noted_other}
+use Rattle.row_checks.proofs.events.note_event.Goals as goal
 
 pub returns-in-TransferEvent-clause-followed : goal.returns-in-TransferEvent-clause-followed
 returns-in-TransferEvent-clause-followed g c = λ k f keeps clean.

@@ -1,5 +1,5 @@
 -- What is said of a row by its kind, and of any row after the stop
-use Rattle.std.proofs.Common.{◌≡◌, ℕ, true, false, Option, None, Some, ◌+◌, arith, Result, Ok, Err, refl, sym, subst}
+use Rattle.std.proofs.Common.{◌≡◌, ℕ, Bool, true, false, Option, None, Some, ◌+◌, arith, Result, Ok, Err, refl, sym, subst}
 use Rattle.std.specs.Prelude.{IfErr, IfOk, OnOk}
 use Rattle.event_ring.specs.EventPlaceValue.{EventState}
 use Rattle.traces.specs.declared.row.Row.{Row}
@@ -19,27 +19,55 @@ use Rattle.trace_record.specs.FollowsTrace.{FollowsTrace}
 use Rattle.trace_record.specs.Fresh.{IsWithin}
 use Rattle.trace_record.specs.Premises.{IsSetUp}
 use Rattle.trace_record.specs.Steps.{IfRefused, IsLeast, IsRowStep}
-use Rattle.ownership_checker.specs.Tracking.{IsTracked, IsStepFrom, IsLeastFrom}
-use Rattle.ownership_checker.proofs.Keeping.{set_up}
+use Rattle.trace_record.specs.WordPlaces.{IsOwnedSo, IsPlaced}
+use Rattle.trace_record.specs.declared.word_place.WordPlace.{WordPlace}
+use Rattle.row_checks.specs.Tracking.{IsTracked, IsStepFrom, IsLeastFrom}
+use Rattle.row_checks.proofs.Keeping.{set_up}
 
 -- any row after the stop
 pub stopped_refused : (h : Header) (k : Known) (row : Row) → k.stopped ≡ true → IsLeast h k row AfterStop
 unfolding broken
 stopped_refused h k row off = rw off refl
 
-module _ (h : Header) (kept : TraceRecord) (memory : ℕ → ℕ) (on : (k : Known) → FollowsTrace h k kept memory → k.stopped ≡ false) (row other : Row) (is : row ≡ other) where
-  -- what is said of a row before the stop is said of it as it stands in the trace
+module _ (h : Header) (kept : TraceRecord) (memory : ℕ → ℕ) (on : (k : Known) → FollowsTrace h k kept memory → k.stopped ≡ false) (row other : Row) (is : row ≡ other) (place : WordPlace) (owned : Bool) where
+  -- what is said of a row before the stop, of the word that it writes, is said of it as it stands in the trace
+  pub word_ok : {X : Type 0} (after : TraceRecord) (o : ℕ → ℕ) (result : Result X StepFault) →
+      OnOk result ((k : Known) → FollowsTrace h k kept memory → DriverKeeps h k → k.stopped ≡ false → IsPlaced h k other place → IsOwnedSo h k other owned → IsRowStep h k other after o) →
+      OnOk result ((k : Known) → IsTracked h k kept memory → IsPlaced h k row place → IsOwnedSo h k row owned → IsRowStep h k row after o)
+  word_ok after o (Ok n) said = λ k t placed leased.
+      let runs = on k t.follows in
+      subst (λ (w : Row). IsRowStep h k w after o) (sym is)
+      (said k t.follows (t.keeps runs) runs (subst (λ (w : Row). IsPlaced h k w place) is placed) (subst (λ (w : Row). IsOwnedSo h k w owned) is leased))
+  word_ok after o (Err e) said = said
+
+  of_word : (e : StepFault) →
+      IfRefused e (λ c. (k : Known) → FollowsTrace h k kept memory → DriverKeeps h k → k.stopped ≡ false → IsPlaced h k other place → IsOwnedSo h k other owned → IsLeast h k other c) →
+      IfRefused e (λ c. (k : Known) → IsTracked h k kept memory → IsPlaced h k row place → IsOwnedSo h k row owned → IsLeast h k row c)
+  of_word (Refused c) said = λ k t placed leased.
+      let runs = on k t.follows in
+      subst (λ (w : Row). IsLeast h k w c) (sym is)
+      (said k t.follows (t.keeps runs) runs (subst (λ (w : Row). IsPlaced h k w place) is placed) (subst (λ (w : Row). IsOwnedSo h k w owned) is leased))
+  of_word Memory said = said
+
+  pub word_bad : {X : Type 0} (result : Result X StepFault) →
+      IfErr result (λ e. IfRefused e (λ c. (k : Known) → FollowsTrace h k kept memory → DriverKeeps h k → k.stopped ≡ false → IsPlaced h k other place → IsOwnedSo h k other owned → IsLeast h k other c)) →
+      IfErr result (λ e. IfRefused e (λ c. (k : Known) → IsTracked h k kept memory → IsPlaced h k row place → IsOwnedSo h k row owned → IsLeast h k row c))
+  word_bad (Ok n) said = said
+  word_bad (Err e) said = of_word e said
+
+  -- what is said of another row
   pub row_ok : {X : Type 0} (after : TraceRecord) (o : ℕ → ℕ) (result : Result X StepFault) → OnOk result (IsStepFrom h kept memory other after o) →
-      OnOk result ((k : Known) → IsTracked h k kept memory → IsRowStep h k row after o)
-  row_ok after o (Ok n) said = λ k t. let runs = on k t.follows in subst (λ (w : Row). IsRowStep h k w after o) (sym is) (said k t.follows (t.keeps runs) runs)
+      OnOk result ((k : Known) → IsTracked h k kept memory → IsPlaced h k row place → IsOwnedSo h k row owned → IsRowStep h k row after o)
+  row_ok after o (Ok n) said = word_ok after o (Ok n) (λ k f keeps runs placed leased. said k f keeps runs)
   row_ok after o (Err e) said = said
 
-  of_row : (e : StepFault) → IfRefused e (IsLeastFrom h kept memory other) → IfRefused e (λ c. (k : Known) → IsTracked h k kept memory → IsLeast h k row c)
-  of_row (Refused c) said = λ k t. let runs = on k t.follows in subst (λ (w : Row). IsLeast h k w c) (sym is) (said k t.follows (t.keeps runs) runs)
+  of_row : (e : StepFault) → IfRefused e (IsLeastFrom h kept memory other) →
+      IfRefused e (λ c. (k : Known) → IsTracked h k kept memory → IsPlaced h k row place → IsOwnedSo h k row owned → IsLeast h k row c)
+  of_row (Refused c) said = of_word (Refused c) (λ k f keeps runs placed leased. said k f keeps runs)
   of_row Memory said = said
 
   pub row_bad : {X : Type 0} (result : Result X StepFault) → IfErr result (λ e. IfRefused e (IsLeastFrom h kept memory other)) →
-      IfErr result (λ e. IfRefused e (λ c. (k : Known) → IsTracked h k kept memory → IsLeast h k row c))
+      IfErr result (λ e. IfRefused e (λ c. (k : Known) → IsTracked h k kept memory → IsPlaced h k row place → IsOwnedSo h k row owned → IsLeast h k row c))
   row_bad (Ok n) said = said
   row_bad (Err e) said = of_row e said
 

@@ -13,7 +13,7 @@ ghost use Rattle.safety.specs.Keeps.{DriverKeeps};
 ghost use Rattle.trace_record.specs.FollowsTrace.{FollowsTrace};
 ghost use Rattle.trace_record.specs.Fresh.{IsWithin};
 ghost use Rattle.trace_record.specs.Steps.{IfRefused};
-ghost use Rattle.ownership_checker.specs.Tracking.{IsLeastFrom, IsStepFrom};
+ghost use Rattle.row_checks.specs.Tracking.{IsLeastFrom, IsStepFrom};
 
 use command_ends::{finish, is_impossible_completion};
 use endpoint_checks::{

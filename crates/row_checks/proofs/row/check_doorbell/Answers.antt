@@ -1,5 +1,5 @@
-use Rattle.ownership_checker.proofs.DoorbellRows.{refused, step}
-use Rattle.ownership_checker.proofs.row.check_doorbell.Goals as goal
+use Rattle.row_checks.proofs.DoorbellRows.{refused, step}
+use Rattle.row_checks.proofs.row.check_doorbell.Goals as goal
 
 pub returns-then-is_bad_doorbell-clause-refused : goal.returns-then-is_bad_doorbell-clause-refused
 returns-then-is_bad_doorbell-clause-refused g c =

@@ -15,9 +15,9 @@ use Rattle.trace_record.specs.declared.trace_record.TraceRecord.{TraceRecord}
 use Rattle.trace_record.specs.FollowsTrace.{FollowsTrace}
 use Rattle.trace_record.specs.Premises.{ContextsFit}
 use Rattle.trace_record.specs.Steps.{IsLeast}
-use Rattle.ownership_checker.specs.Tracking.{IsLeastFrom, IsStepFrom}
-use Rattle.ownership_checker.proofs.Keeping.{contexts_fit}
-use Rattle.declaration_checks.proofs.FirstBroken.{first_broken-is, nothing_broken}
+use Rattle.row_checks.specs.Tracking.{IsLeastFrom, IsStepFrom}
+use Rattle.row_checks.proofs.Keeping.{contexts_fit}
+use Rattle.trace_record.proofs.FirstBroken.{first_broken-is, nothing_broken}
 
 module _ (h : Header) (k : Known) (on : k.stopped ≡ false) (s t : ℕ) where
   tested : first_of (broken h k (Bell s t)) ≡ first_broken (doorbell_tests h k s t)

@@ -26,8 +26,8 @@ use Rattle.trace_record.specs.declared.trace_record.TraceRecord.{TraceRecord}
 use Rattle.trace_record.specs.FollowsTrace.{FollowsTrace}
 use Rattle.trace_record.specs.Steps.{IsLeast, IsRowStep}
 use Rattle.trace_record.specs.Premises.{IsSetUp}
-use Rattle.ownership_checker.proofs.Keeping.{set_up}
-use Rattle.declaration_checks.proofs.FirstBroken.{first_broken-is, nothing_broken}
+use Rattle.row_checks.proofs.Keeping.{set_up}
+use Rattle.trace_record.proofs.FirstBroken.{first_broken-is, nothing_broken}
 
 module _ (h : Header) (k : Known) (on : k.stopped ≡ false) (b : Block) where
   tested : first_of (broken h k (Read b)) ≡ first_broken (event_tests h k b)

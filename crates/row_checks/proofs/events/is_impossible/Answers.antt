@@ -1,7 +1,7 @@
 use Rattle.std.proofs.Common.{sym, ◌∙◌}
-use Rattle.ownership_checker.proofs.Keeping.{set_up}
-use Rattle.ownership_checker.proofs.EventRows.{by_place, by_transfer, by_completion, by_other, is_started}
-use Rattle.ownership_checker.proofs.events.is_impossible.Goals as goal
+use Rattle.row_checks.proofs.Keeping.{set_up}
+use Rattle.row_checks.proofs.EventRows.{by_place, by_transfer, by_completion, by_other, is_started}
+use Rattle.row_checks.proofs.events.is_impossible.Goals as goal
 
 pub returns-then-is_no_event : goal.returns-then-is_no_event
 returns-then-is_no_event c = λ k m f keeps. by_place c.args.header.now k c.args.event (sym (c.is_no_event.ensures c.args.header.now k m f (set_up c.args.header.now c.requires.headed k keeps)) ∙ c.if-is_no_event.true)

@@ -1,13 +1,17 @@
 //! A row, by its kind.
-ghost use Rattle.std.specs.Prelude.{◌≡◌, ◌+◌, ℕ, length, IfErr, OnOk};
+ghost use Rattle.std.specs.Prelude.{◌≡◌, ◌+◌, ℕ, false, length, IfErr, OnOk};
 ghost use Rattle.traces.specs.Header.{IsHeader};
 ghost use Rattle.traces.specs.Limits.{most_lines};
 ghost use Rattle.traces.specs.declared.row.Row.TheVariants.{Bell, Write};
 ghost use Rattle.ring_knowledge.specs.Known.{Known};
 ghost use Rattle.ring_finder.specs.Finding.{IsFinder};
+ghost use Rattle.ownership_rules.specs.OpenLeases.{is_leased};
+ghost use Rattle.safety.specs.Keeps.{DriverKeeps};
+ghost use Rattle.trace_record.specs.FollowsTrace.{FollowsTrace};
 ghost use Rattle.trace_record.specs.Fresh.{IsWithin};
 ghost use Rattle.trace_record.specs.Steps.{IfRefused, IsLeast, IsRowStep};
-ghost use Rattle.ownership_checker.specs.Tracking.{IsLeastFrom, IsStepFrom, IsTracked};
+ghost use Rattle.trace_record.specs.WordPlaces.{IsOwnedSo, IsPlaced, IsPlacedSo};
+ghost use Rattle.row_checks.specs.Tracking.{IsLeastFrom, IsStepFrom, IsTracked};
 
 use crate::events::check_event;
 use command_starts::note_write;
@@ -17,25 +21,29 @@ use guest_memory::{Addr, WordMemory};
 use ownership_rules::Refusal;
 use register_checks::check_register;
 use ring_finder::Finder;
-use trace_record::{StepFault, TraceRecord};
+use trace_record::{StepFault, TraceRecord, WordPlace};
 use traces::{Header, Row};
 use write_checks::check_write;
 
-/// Checks a row, and notes it.
+/// Checks a row, and notes it. Where it writes a word, `place` is where the word lies, and `owned` whether it is under lease.
 pub fn check_row<M: WordMemory>(
     header: &Header,
     finder: &Finder,
     kept: &mut TraceRecord,
     memory: &mut M,
     row: &Row,
+    place: WordPlace,
+    owned: bool,
 ) -> Result<(), StepFault>
     requires headed { IsHeader header.now }
     requires found { IsFinder header.now.rings finder.now }
     requires as_many { length kept.now.rings.items ≡ length header.now.rings }
     requires few_reads { IsWithin kept.now.events most_lines }
     ensures ok { OnOk result ((k : Known) → IsTracked header.now k kept.old (M.words memory.old) →
+        IsPlaced header.now k row.now place → IsOwnedSo header.now k row.now owned →
         IsRowStep header.now k row.now kept.new (M.words memory.new)) }
     ensures refused { IfErr result (λ e. IfRefused e (λ c. (k : Known) → IsTracked header.now k kept.old (M.words memory.old) →
+        IsPlaced header.now k row.now place → IsOwnedSo header.now k row.now owned →
         IsLeast header.now k row.now c)) }
     ensures reads { OnOk result ((n : ℕ) → IsWithin kept.old.events n → IsWithin kept.new.events (n + 1)) }
 {
@@ -50,7 +58,9 @@ pub fn check_row<M: WordMemory>(
             *id,
             blocks.as_slice(),
         ),
-        Row::Write { at, word } => check_word(header, finder, kept, memory, *at, *word),
+        Row::Write { at, word } => check_word(
+            header, finder, kept, memory, *at, *word, place, owned,
+        ),
         Row::Reg { register, value } => check_register(
             header, finder, kept, memory, *register, *value,
         ),
@@ -67,17 +77,20 @@ fn check_word<M: WordMemory>(
     memory: &mut M,
     at: Addr,
     word: u32,
+    place: WordPlace,
+    owned: bool,
 ) -> Result<(), StepFault>
     requires headed { IsHeader header.now }
     requires found { IsFinder header.now.rings finder.now }
-    requires as_many { length kept.now.rings.items ≡ length header.now.rings }
-    ensures ok { OnOk result (IsStepFrom header.now kept.old (M.words memory.old) (Write at word) kept.new (M.words memory.new)) }
-    ensures refused { IfErr result (λ e. IfRefused e (IsLeastFrom header.now kept.old (M.words memory.old) (Write at word))) }
+    ensures ok { OnOk result ((k : Known) → FollowsTrace header.now k kept.old (M.words memory.old) → DriverKeeps header.now k → k.stopped ≡ false →
+        IsPlacedSo header.now k at word place → owned ≡ is_leased header.now k at → IsRowStep header.now k (Write at word) kept.new (M.words memory.new)) }
+    ensures refused { IfErr result (λ e. IfRefused e (λ c. (k : Known) → FollowsTrace header.now k kept.old (M.words memory.old) → DriverKeeps header.now k → k.stopped ≡ false →
+        IsPlacedSo header.now k at word place → owned ≡ is_leased header.now k at → IsLeast header.now k (Write at word) c)) }
     ensures events { OnOk result (kept.new.events ≡ kept.old.events) }
 {
-    match check_write(header, finder, kept, memory, at, word) {
-        Ok(giving) => {
-            note_write(header, finder, kept, memory, at, word, giving.command)?;
+    match check_write(header, finder, kept, memory, at, word, place, owned) {
+        Ok(command) => {
+            note_write(header, kept, memory, at, word, place, command)?;
             Ok(())
         }
         Err(refusal) => Err(StepFault::Refused(refusal)),

@@ -1,0 +1,33 @@
+-- What breaks no rule broke none before
+use Rattle.std.specs.Prelude.{◌≡◌, ℕ, ◌+◌, ◌<◌, List, [], ◌∷◌, ◌++◌, length, take, drop, reverse, get_or}
+use Rattle.std.proofs.Common.{sym, ◌∙◌, ap, subst, arith}
+use Rattle.std.proofs.lemmas.Grind.{common_steps}
+use Rattle.std.proofs.lemmas.List.{reverse-append, take-append-drop}
+use Rattle.traces.specs.declared.header.Header.{Header}
+use Rattle.traces.specs.declared.row.Row.{Row}
+use Rattle.ring_knowledge.specs.Learned.{known}
+use Rattle.ownership_rules.specs.Clean.{IsClean}
+use Rattle.ownership_rules.specs.Rules.{broken}
+
+-- what a history keeps its beginning kept
+pub earlier_clean : (h : Header) (xs ys : List Row) → IsClean h (xs ++ ys) → IsClean h ys
+earlier_clean h [] ys clean = clean
+earlier_clean h (x ∷ xs) ys clean = earlier_clean h xs ys clean.0
+
+left : (rows : List Row) (i : ℕ) (d : Row) → i < length rows → drop i rows ≡ get_or rows i d ∷ drop (i + 1) rows
+left rows i d h = grind (arith, common_steps, h)
+
+turned : (x : Row) (xs ys : List Row) → reverse (x ∷ xs) ++ ys ≡ reverse xs ++ x ∷ ys
+turned x xs ys = grind (arith, common_steps)
+
+split : (rows : List Row) (i : ℕ) (d : Row) → i < length rows → reverse rows ≡ reverse (drop (i + 1) rows) ++ get_or rows i d ∷ reverse (take i rows)
+split rows i d below =
+    ap reverse (sym (take-append-drop i rows)) ∙ reverse-append (take i rows) (drop i rows)
+    ∙ ap (λ l. reverse l ++ reverse (take i rows)) (left rows i d below) ∙ turned (get_or rows i d) (drop (i + 1) rows) (reverse (take i rows))
+
+-- of the rows of a clean trace each breaks no rule
+pub clean_row : (h : Header) (rows : List Row) (i : ℕ) (row d : Row) → IsClean h (reverse rows) → i < length rows → get_or rows i d ≡ row → broken h (known h (reverse (take i rows))) row ≡ []
+clean_row h rows i row d clean below is_row =
+    let past : List Row = reverse (take i rows) in
+    let whole : reverse rows ≡ reverse (drop (i + 1) rows) ++ row ∷ past = split rows i d below ∙ ap (λ x. reverse (drop (i + 1) rows) ++ x ∷ past) is_row in
+    (earlier_clean h (reverse (drop (i + 1) rows)) (row ∷ past) (subst (IsClean h) whole clean)).1
