@@ -5,3 +5,5 @@ pub mod StepsOfRows
 pub mod Filling
 pub mod Walks
 pub mod PointerTables
+pub mod RingShapes
+pub mod WalkedNotes

@@ -4,20 +4,21 @@ ghost use Rattle.segments.specs.declared.spot.Spot.TheVariants.{Data, Link};
 ghost use Rattle.segments.specs.Spots.{next, rank};
 ghost use Rattle.traces.specs.declared.step.Step.TheVariants.{Look};
 ghost use Rattle.lazy_runs.specs.Lazy.{spots_before};
+ghost use Rattle.lazy_steps.specs.Shapes.{shape_behind};
 
 use segments::{RingShape, Spot};
 use std::alloc::AllocError;
 use traces::Step;
 
 /// Adds a look at a ring for each spot from the first one on before the other (xHCI 4.9.2).
-pub fn push_looks(
-    shape: &RingShape,
+pub(crate) fn push_looks(
+    shape: Option<&RingShape>,
     ring: u8,
     from: Spot,
     to: Spot,
     steps: &mut Vec<Step>,
 ) -> Result<(), AllocError>
-    ensures { OnOk result (steps.new.items ≡ steps.old.items ++ map (λ t. Look ring) (spots_before shape.now from to)) }
+    ensures { OnOk result (steps.new.items ≡ steps.old.items ++ map (λ t. Look ring) (spots_before (shape_behind shape.entry) from to)) }
 {
     let mut at = from;
     while is_before(at, to) {
@@ -40,9 +41,9 @@ pub(crate) fn is_before(first: Spot, second: Spot) -> bool
 }
 
 /// The spot that comes next (xHCI 4.9.2.1).
-fn next_spot(shape: &RingShape, spot: Spot) -> Spot
+fn next_spot(shape: Option<&RingShape>, spot: Spot) -> Spot
     requires { rank spot + 1 < 2 ^ 65 }
-    ensures { result ≡ next shape.now spot }
+    ensures { result ≡ next (shape_behind shape.entry) spot }
 {
     match spot {
         Spot::Data(position) => spot_behind(shape, position + 1),
@@ -51,12 +52,22 @@ fn next_spot(shape: &RingShape, spot: Spot) -> Spot
 }
 
 /// The spot at which a controller stands that has taken so many blocks.
-pub(crate) fn spot_behind(shape: &RingShape, blocks: u64) -> Spot
-    ensures { result ≡ (if is_crossing shape.now blocks then Link blocks else Data blocks) }
+pub(crate) fn spot_behind(shape: Option<&RingShape>, blocks: u64) -> Spot
+    ensures { result ≡ (if is_crossing (shape_behind shape.entry) blocks then Link blocks else Data blocks) }
 {
-    if shape.crossing(blocks).is_some() {
+    if is_crossing(shape, blocks) {
         Spot::Link(blocks)
     } else {
         Spot::Data(blocks)
+    }
+}
+
+/// A Link is crossed on the way to a position (xHCI 4.11.5.1).
+fn is_crossing(shape: Option<&RingShape>, position: u64) -> bool
+    ensures { result ≡ is_crossing (shape_behind shape.entry) position }
+{
+    match shape {
+        None => false,
+        Some(shape) => shape.crossing(position).is_some(),
     }
 }

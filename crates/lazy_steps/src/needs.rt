@@ -5,7 +5,7 @@ ghost use Rattle.lazy_steps.specs.Tables.{IsTable};
 use crate::note::Note;
 
 /// Fills into the notes how many blocks of their rings the notes behind them need.
-pub fn fill_needs(notes: &mut [Note])
+pub(crate) fn fill_needs(notes: &mut [Note])
     ensures { notes.new ≡ filled notes.old }
 {
     let mut needs = [0u64; 256];

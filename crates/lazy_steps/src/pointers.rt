@@ -1,56 +1,48 @@
-ghost use Rattle.std.specs.Prelude.{◌≡◌, ◌++◌, ℕ, OnOk, length};
+ghost use Rattle.std.specs.Prelude.{◌≡◌, ◌++◌, OnOk, length};
 ghost use Rattle.guest_memory.specs.Memory.{put};
-ghost use Rattle.traces.specs.Header.{shape_of};
-ghost use Rattle.traces.specs.declared.header.Header.{Header};
-ghost use Rattle.lazy_runs.specs.Lazy.{behind_taken, further, looks_to};
+ghost use Rattle.ring_finder.specs.Finding.{IsFinder};
+ghost use Rattle.lazy_runs.specs.Lazy.{further, looks_to};
+ghost use Rattle.lazy_steps.specs.Goals.{place_of};
 ghost use Rattle.lazy_steps.specs.Tables.{spot_in};
 
-use crate::looks::{is_before, push_looks, spot_behind};
-use segments::{RingShape, Spot};
+use crate::goal::{Goal, ring_shape};
+use crate::looks::{is_before, push_looks};
+use ring_finder::Finder;
+use segments::Spot;
 use std::alloc::AllocError;
-use traces::Step;
+use traces::{Header, Step};
 
-/// The spot at which a pointer stands when so many blocks are taken (xHCI 4.9.2).
-pub fn spot_taken(shape: &RingShape, blocks: u64) -> Spot
-    ensures { result ≡ behind_taken shape.now blocks }
-{
-    if blocks == 0 {
-        Spot::Data(0)
-    } else {
-        spot_behind(shape, blocks)
-    }
-}
-
-/// Adds the looks that bring a ring from its pointer, in a table by ring ID, to a spot.
-pub fn look_towards(
-    shape: &RingShape,
-    ring: u8,
-    spot: Spot,
+/// Adds the looks that bring a ring from its pointer, in a table by ring ID, to a goal.
+pub(crate) fn look_towards(
+    header: &Header,
+    finder: &Finder,
+    goal: Goal,
     pointers: &[Spot],
     steps: &mut Vec<Step>,
 ) -> Result<(), AllocError>
-    requires { length pointers.now ≡ 256 }
-    ensures { OnOk result ((h : Header) → shape.now ≡ shape_of h ring →
-        steps.new.items ≡ steps.old.items ++ looks_to h (spot_in pointers.now) (record { ring = ring; spot = spot })) }
+    requires found { IsFinder header.now.rings finder.now }
+    requires size { length pointers.now ≡ 256 }
+    ensures { OnOk result (steps.new.items ≡ steps.old.items ++ looks_to header.now (spot_in pointers.now) (place_of goal)) }
 {
-    let from = pointers[usize::from(ring)];
-    push_looks(shape, ring, from, spot, steps)
+    let shape = ring_shape(header, finder, goal.ring);
+    let from = pointers[usize::from(goal.ring)];
+    push_looks(shape, goal.ring, from, goal.spot, steps)
 }
 
-/// A ring's pointer stands at a spot, if it did not come further before.
-pub fn move_on(pointers: &mut [Spot], ring: u8, spot: Spot)
+/// A ring's pointer stands at a goal, if it did not come further before.
+pub(crate) fn move_on(pointers: &mut [Spot], goal: Goal)
     requires { length pointers.old ≡ 256 }
     ensures size { length pointers.new ≡ 256 }
-    ensures moved { spot_in pointers.new ≡ put (spot_in pointers.old) ring (further (spot_in pointers.old ring) spot) }
+    ensures moved { spot_in pointers.new ≡ put (spot_in pointers.old) goal.ring (further (spot_in pointers.old goal.ring) goal.spot) }
 {
-    let from = pointers[usize::from(ring)];
-    if is_before(from, spot) {
-        pointers[usize::from(ring)] = spot;
+    let from = pointers[usize::from(goal.ring)];
+    if is_before(from, goal.spot) {
+        pointers[usize::from(goal.ring)] = goal.spot;
     }
 }
 
 /// A ring's pointer stands at a spot, wherever it stood before.
-pub fn place(pointers: &mut [Spot], ring: u8, spot: Spot)
+pub(crate) fn place(pointers: &mut [Spot], ring: u8, spot: Spot)
     requires { length pointers.old ≡ 256 }
     ensures size { length pointers.new ≡ 256 }
     ensures placed { spot_in pointers.new ≡ put (spot_in pointers.old) ring spot }

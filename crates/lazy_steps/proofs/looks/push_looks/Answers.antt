@@ -5,12 +5,13 @@ use Rattle.segments.specs.Spots.{rank}
 use Rattle.traces.specs.declared.step.Step.{Step}
 use Rattle.traces.specs.declared.step.Step.TheVariants.{Look}
 use Rattle.lazy_runs.specs.Lazy.{spots_before}
+use Rattle.lazy_steps.specs.Shapes.{shape_behind}
 use Rattle.lazy_steps.proofs.Walks.{one_look, no_look}
 use Rattle.lazy_steps.proofs.looks.push_looks.Goals as goal
 
 pub loop-to-preserved : goal.loop-to-preserved
 loop-to-preserved c =
-    let shape = c.args.shape.now in
+    let shape = shape_behind c.args.shape in
     let ring = c.args.ring in
     let before : rank c.loop-to.at < rank c.args.to = grind (arith, nat_tests, c.loop-to-test.ensures) in
     let pushed : c.push.new.self.items ≡ c.loop-to.steps.items ++ Look ring ∷ [] = c.in_ok-push.ensures.items in
@@ -22,4 +23,4 @@ loop-to-preserved c =
 pub returns : goal.returns
 returns c =
     let past : rank c.args.to ≤ rank c.loop-to.at = grind (arith, nat_tests, c.loop-to-test.ensures) in
-    sym (no_look c.loop-to.steps.items c.args.ring c.args.shape.now c.loop-to.at c.args.to past) ∙ c.loop-to.invariant
+    sym (no_look c.loop-to.steps.items c.args.ring (shape_behind c.args.shape) c.loop-to.at c.args.to past) ∙ c.loop-to.invariant

@@ -3,6 +3,7 @@ use Rattle.segments.specs.ShapeValue.{Shape}
 use Rattle.traces.specs.declared.step.Step.{Step}
 use Rattle.traces.specs.declared.step.Step.TheVariants.{Look}
 use Rattle.lazy_runs.specs.Lazy.{looks_to, spots_before}
+use Rattle.lazy_steps.specs.Shapes.{shape_behind}
 use Rattle.lazy_steps.specs.Tables.{spot_in}
 use Rattle.lazy_steps.proofs.PointerTables.{on_ok}
 use Rattle.lazy_steps.proofs.pointers.look_towards.Goals as goal
@@ -11,11 +12,11 @@ pub returns : goal.returns
 unfolding looks_to
 returns c =
     let t = c.args.pointers.now in
-    let ring = c.args.ring in
+    let ring = c.args.goal.ring in
     let made : List Step = c.args.steps.now.items in
     on_ok c.push_looks.result _ _
-    (λ pushed h same.
+    (λ pushed.
     pushed
-    ∙ ap (λ n. made ++ map (λ u. Look ring) (spots_before c.args.shape.now (spot_in t n) c.args.spot)) c.from.ensures
-    ∙ ap (λ (s : Shape). made ++ map (λ u. Look ring) (spots_before s (spot_in t ring) c.args.spot)) same)
+    ∙ ap (λ n. made ++ map (λ u. Look ring) (spots_before (shape_behind c.ring_shape-shape.result) (spot_in t n) c.args.goal.spot)) c.from.ensures
+    ∙ ap (λ (s : Shape). made ++ map (λ u. Look ring) (spots_before s (spot_in t ring) c.args.goal.spot)) c.ring_shape-shape.ensures)
     c.push_looks.ensures

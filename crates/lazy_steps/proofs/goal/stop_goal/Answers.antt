@@ -1,0 +1,28 @@
+use Rattle.std.specs.Prelude.{◌≡◌, ◌+◌, ◌==◌, true, false}
+use Rattle.std.proofs.Common.{arith, sym, ◌∙◌}
+use Rattle.std.proofs.lemmas.Bool.{cond-true, cond-false}
+use Rattle.std.proofs.lemmas.Bool.Decides.{nat_tests}
+use Rattle.segments.specs.Spots.{number}
+use Rattle.ring_knowledge.specs.Rings.{RingSpot}
+use Rattle.lazy_runs.specs.Lazy.{stop_goal, taken_up_to}
+use Rattle.lazy_steps.specs.Goals.{place_of}
+use Rattle.lazy_steps.proofs.goal.stop_goal.Goals as goal
+use Rattle.lazy_steps.proofs.goal.stop_goal.Goals.{else-need-gt0-via-then-need-gt0+else-need-number_of, else-need-gt0-via-else-need-gt0}
+
+pub returns-then-need-number_of : goal.returns-then-need-number_of
+unfolding stop_goal
+returns-then-need-number_of c =
+    let at : RingSpot = place_of c.args.at in
+    let one_behind : c.args.need ≡ number at.spot + 1 = omega (arith, c.if-need-number_of.true, c.number_of.ensures) in
+    let it : (c.args.need == number at.spot + 1) ≡ true = grind (arith, nat_tests) in
+    c.taken_up_to.ensures ∙ sym (cond-true (c.args.need == number at.spot + 1) (taken_up_to c.args.header.now at.ring c.args.need) at it)
+
+pub returns-else-need-gt0 : goal.returns-else-need-gt0
+unfolding stop_goal
+returns-else-need-gt0 c =
+    let at : RingSpot = place_of c.args.at in
+    let other : (c.args.need == number at.spot + 1) ≡ false = elim c.else-need-gt0.branch [
+      | else-need-gt0-via-then-need-gt0+else-need-number_of w ↦ grind (arith, nat_tests, w.if-need-gt0.true, w.if-need-number_of.false, w.number_of.ensures)
+      | else-need-gt0-via-else-need-gt0 w ↦ grind (arith, nat_tests, w.if-need-gt0.false)
+    ] in
+    sym (cond-false (c.args.need == number at.spot + 1) (taken_up_to c.args.header.now at.ring c.args.need) at other)

@@ -1,0 +1,15 @@
+use Rattle.std.proofs.Common.{ℕ, ap, ◌∙◌}
+use Rattle.segments.specs.ShapeValue.{Shape}
+use Rattle.segments.specs.declared.spot.Spot.{Spot}
+use Rattle.ring_knowledge.specs.Rings.{RingSpot}
+use Rattle.lazy_runs.specs.Lazy.{behind_taken, taken_up_to}
+use Rattle.lazy_steps.proofs.goal.taken_up_to.Goals as goal
+
+spot_on : ℕ → Spot → RingSpot
+spot_on r s = record { ring = r; spot = s }
+
+pub returns : goal.returns
+unfolding taken_up_to spot_on
+returns c =
+    ap (λ (s : Spot). spot_on c.args.ring s) c.spot_taken.ensures
+    ∙ ap (λ (s : Shape). spot_on c.args.ring (behind_taken s c.args.blocks)) c.ring_shape-shape.ensures

@@ -1,0 +1,13 @@
+-- The notes of a row, before where rings stand is noted
+use Rattle.std.specs.Prelude.{◌≡◌, ℕ, ◌++◌, List, map, All}
+use Rattle.traces.specs.declared.header.Header.{Header}
+use Rattle.traces.specs.declared.row.Row.{Row}
+use Rattle.ring_knowledge.specs.Known.{Known}
+use Rattle.safety.specs.Keeps.{IsTransferRing}
+use Rattle.lazy_steps.specs.declared.note.Note.{Note}
+use Rattle.lazy_steps.specs.Notes.{placed_note, row_notes}
+
+-- with where these rings stand behind the row, all notes of the row are added
+pub record AreNoted (h : Header) (k : Known) (row : Row) (old new : List Note) (placed : List ℕ) : Type 0 where
+  pub notes : new ++ map (placed_note h k row) placed ≡ old ++ row_notes h k row
+  pub rings : All (IsTransferRing h) placed
