@@ -139,20 +139,27 @@ static void say_found(uint64_t at, uint64_t bytes)
         say('v', seq, at, word_at(at));
 }
 
-/* A ring from this block to its Link, if that is written, and on to where Links lead that weren't followed yet */
-static void watch_ring(uint64_t at)
+/*
+ * A ring from this block to its Link, if that is written, and on through all segments to which Links lead. A page may have been
+ * watched for something else, so that ends nothing; but what stands there need not be told again, except of the first segment.
+ */
+static void watch_ring(uint64_t first)
 {
+    uint64_t at = first;
     for (int segment = 0; segment < SEGMENTS; segment++) {
         uint64_t end = (at | (BOUNDARY - 1)) + 1, link = at;
         while (link < end && (word_at(link + 12) >> 10 != LINK || !long_at(link)))
             link += BLOCK;
         uint64_t bytes = link == end ? AHEAD : link + BLOCK - at;
-        bool known = link == end || (watched_at(at) && watched_at(link));
+        bool known = at != first && watched_at(at) && watched_at(at + bytes - 1);
         watch(at, bytes);
-        say_found(at, bytes);
-        if (known)
+        if (!known)
+            say_found(at, bytes);
+        if (link == end)
             break;
         at = long_at(link) & ~(uint64_t)(BLOCK - 1);
+        if (at == first)
+            break;
     }
 }
 
