@@ -1,0 +1,303 @@
+"""Traces of random drivers beside random controllers, picked by a seed.
+
+A driver makes one step after another: a command with its contexts, a descriptor, a write, a doorbell, an event, ERDP. A row that
+breaks no rule, by the plain rules, stands in the trace. One that breaks a rule is dropped; the trace up to it is remembered.
+"""
+import random
+
+import contexts
+from blocks import (ADDRESS_DEVICE, CONFIGURE_ENDPOINT, COMMAND_COMPLETION, DATA_STAGE, DISABLE_SLOT, ENABLE_SLOT, EVALUATE_CONTEXT,
+                    LINK, NORMAL, NO_OP, NO_OP_COMMAND, RESET_DEVICE, RESET_ENDPOINT, SETUP_STAGE, SET_TR_DEQUEUE, STATUS_STAGE,
+                    STOP_ENDPOINT, TRANSFER_EVENT, with_cycle)
+from known import Known
+from rings import Ring, Segment
+from rules import least_broken
+from trace import Declare, Doorbell, Event, Register, Trace, Write
+
+ARRAY, TABLE, INPUT_CONTEXTS, DEVICE_CONTEXTS = 0x50000, 0x40000, 0x60000, 0x70000
+SLOTS = (1, 2)
+COMMANDS = [ENABLE_SLOT, ADDRESS_DEVICE, CONFIGURE_ENDPOINT, EVALUATE_CONTEXT, STOP_ENDPOINT, SET_TR_DEQUEUE, RESET_ENDPOINT,
+            RESET_DEVICE, DISABLE_SLOT, NO_OP_COMMAND]
+# what a driver mostly asks for, by the state of the slot, and of the endpoint
+FITTING = {
+    'Disabled': [ENABLE_SLOT], 'Enabled': [ADDRESS_DEVICE], 'Default': [ADDRESS_DEVICE],
+    'Addressed': [CONFIGURE_ENDPOINT] * 6 + [EVALUATE_CONTEXT, DISABLE_SLOT, RESET_DEVICE],
+    'Configured': [CONFIGURE_ENDPOINT] * 2 + [RESET_DEVICE, DISABLE_SLOT],
+    'Running': [STOP_ENDPOINT], 'Halted': [RESET_ENDPOINT], 'Stopped': [SET_TR_DEQUEUE], 'Error': [SET_TR_DEQUEUE],
+}
+# how often a step of which a row was dropped is taken back whole
+TAKEN_BACK = 0.9
+
+
+class Dropped(Exception):
+    """A row that breaks a rule was dropped: the step ends."""
+
+
+def halves(number):
+    return number & 0xffffffff, number >> 32
+
+
+class Driver:
+    def __init__(self, seed):
+        self.pick = random.Random(seed)
+        self.trace = Trace(self.pick.choice([32, 64]), self.some_rings(), 0, [])
+        self.trace.first = 3 + len(self.trace.rings)
+        self.array = ARRAY if self.pick.random() < 0.8 else self.odd_address(64)
+        self.before = []
+        self.known = Known(self.trace, [])
+        # (rows, rule): traces whose last row breaks a rule, and no earlier one does
+        self.refused = []
+
+    def some_rings(self):
+        def ring(number, kind, base, counts):
+            return Ring(number, kind, [Segment(base + 0x1000 * i, count) for i, count in enumerate(counts)])
+        counts = lambda: [self.pick.randint(3, 6) for _ in range(self.pick.choice([1, 1, 2, 3]))]
+        events = [16] * self.pick.choice([1, 1, 2])
+        transfers = [ring(number, 'xfer', 0x100000 + 0x10000 * number, counts()) for number in range(2, 12)]
+        return [ring(0, 'cmd', 0x10000, counts()), ring(1, 'evt', 0x20000, events), *transfers]
+
+    def make(self, row):
+        """The row comes next, if it breaks no rule."""
+        broken = least_broken(self.known, row)
+        if broken is not None:
+            self.refused.append(([*self.trace.rows, row], broken))
+            raise Dropped
+        self.before.append(self.known)
+        self.trace.rows.append(row)
+        self.known = Known(self.trace, list(self.before))
+
+    def go_back(self, count):
+        """To the trace's first rows."""
+        if count < len(self.trace.rows):
+            self.known = self.before[count]
+            del self.before[count:], self.trace.rows[count:]
+
+    def some_address(self, area, boundary):
+        """That of one of the contexts in an area, mostly."""
+        return area + 0x1000 * self.pick.randrange(3) if self.pick.random() < 0.85 else self.odd_address(boundary)
+
+    def odd_address(self, boundary):
+        """Near something that may be under lease, or the end of memory."""
+        near = [TABLE, ARRAY, INPUT_CONTEXTS, DEVICE_CONTEXTS, (1 << 64) - 0x1000, *(ring.address(0) for ring in self.trace.rings)]
+        address = self.pick.choice(near) + self.pick.choice([0, 64, 0x800, 0xfc0]) - self.pick.choice([0, 0, 0x400, 0x800])
+        return address - address % boundary
+
+    def write(self, address, *words):
+        for i, word in enumerate(words):
+            if self.known.word(address + 4 * i) != word:
+                self.make(Write(address + 4 * i, word))
+
+    # ---- the set-up
+
+    def start(self):
+        segments = self.trace.event_segments
+        for i, segment in enumerate(segments):
+            self.write(TABLE + 16 * i, *halves(segment.base), segment.count)
+        self.make(Register('erstsz', len(segments)))
+        self.make(Register('erstba', TABLE))
+        self.make(Register('erdp', segments[0].base))
+        self.make(Register('crcr', self.trace.command_ring.address(0) + 1))
+        if self.pick.random() < 0.95:
+            self.make(Register('dcbaap', self.array))
+        self.make(Register('config', 8))
+        self.make(Register('usbcmd', 1))
+
+    # ---- giving what is declared
+
+    def give(self, ring):
+        """Gives what is declared and isn't given, mostly the first blocks of descriptors last."""
+        waiting = [p for p in range(self.known.floor(ring).number, self.known.declared(ring)) if not self.known.is_given(ring, p)]
+        crossings = [q for q in self.known.due_crossings(ring) if not self.known.is_crossing_given(ring, q)]
+        near = [q for q in crossings if q <= max(waiting, default=0) + 1]
+        for crossing in near[:self.pick.choice([0, 1, 1, 1, 2])]:
+            self.give_link(ring, crossing)
+        begins = [p for p in waiting if p in self.known.borders(ring)]
+        order = [p for p in waiting if p not in begins] + begins
+        for position in order[:self.pick.choice([1, 3, 8])]:
+            block = with_cycle(self.known.queue(ring)[position], ring.cycle(position))
+            self.write(ring.address(position), *block[:3])
+            self.make(Write(ring.address(position) + 12, block[3]))
+
+    def give_link(self, ring, crossing):
+        self.write(ring.link_address(crossing), *halves(ring.link_target(crossing)))
+        toggle = 2 if ring.toggles(crossing) else 0
+        self.make(Write(ring.link_address(crossing) + 12, LINK << 10 | toggle | ring.cycle(crossing - 1)))
+
+    def give_some(self):
+        self.give(self.pick.choice(self.trace.driver_rings))
+
+    # ---- commands
+
+    def command(self):
+        slot, endpoint = self.some_enabled_endpoint() if self.pick.random() < 0.5 else (self.pick.choice(SLOTS), self.some_endpoint())
+        kind = self.some_kind(slot, endpoint)
+        option = 1 if kind in (ADDRESS_DEVICE, CONFIGURE_ENDPOINT) and self.pick.random() < 0.2 else 0
+        number = 0
+        if kind in (ADDRESS_DEVICE, CONFIGURE_ENDPOINT, EVALUATE_CONTEXT):
+            number = self.some_address(INPUT_CONTEXTS, 16)
+            self.write_context(kind, slot, number)
+        if kind == SET_TR_DEQUEUE:
+            number = self.some_target(slot, endpoint)
+        if kind == ADDRESS_DEVICE and self.known.device(slot) is None:
+            self.write(self.array + 8 * slot, *halves(self.some_address(DEVICE_CONTEXTS, 64)))
+        low = kind << 10 | option << 9 | slot << 24 | (endpoint << 16 if kind in (STOP_ENDPOINT, SET_TR_DEQUEUE, RESET_ENDPOINT) else 0)
+        self.make(Declare(0, ((*halves(number), 0, low),)))
+        if self.pick.random() < 0.9:
+            self.give(self.trace.command_ring)
+        if self.pick.random() < 0.9:
+            self.make(Doorbell(0, 0))
+
+        if self.pick.random() < 0.5:
+            self.completion()
+
+    def some_kind(self, slot, endpoint):
+        if self.pick.random() < 0.1:
+            return self.pick.choice(COMMANDS)
+        state = self.known.endpoint_state(slot, endpoint)
+        if state == 'Disabled' or self.pick.random() < 0.2:
+            state = self.known.slot_state(slot)
+        return self.pick.choice(FITTING[state])
+
+    def some_endpoint(self):
+        return self.pick.choice([1, 1, 2, 3])
+
+    def some_enabled_endpoint(self):
+        """A slot and an endpoint, mostly one that isn't Disabled."""
+        endpoints = [(slot, endpoint) for slot in SLOTS for endpoint in (1, 2, 3)]
+        enabled = [at for at in endpoints if self.known.endpoint_state(*at) != 'Disabled']
+        return self.pick.choice(enabled if enabled and self.pick.random() < 0.95 else endpoints)
+
+    def some_target(self, slot, endpoint):
+        """A pointer and a cycle state on the endpoint's ring."""
+        ring = self.known.ring_of(slot, endpoint) or self.pick.choice(self.trace.driver_rings)
+        spots = ring.spots(self.known.floor(ring).number, self.known.declared(ring))
+        spot = self.pick.choice(spots)
+        return ring.spot_address(spot) | ring.spot_cycle(spot)
+
+    def write_context(self, kind, slot, context):
+        added = [1] if kind == ADDRESS_DEVICE else [i for i in (2, 3) if self.pick.random() < 0.6]
+        dropped = [i for i in (2, 3) if kind != ADDRESS_DEVICE and self.pick.random() < 0.4]
+        self.write(context, sum(1 << i for i in dropped), sum(1 << i for i in [0, *added]))
+        for index in added:
+            address = contexts.endpoint_context(self.known, context, index)
+            pointer = self.some_ring_for(slot, index) if self.pick.random() < 0.9 else self.some_target(slot, index)
+            kind_of_endpoint = 4 if index == 1 else self.pick.choice([2, 3, 6, 7, 2, 3, 6, 7, 0, 1])
+            self.write(address + 4, kind_of_endpoint << 3)
+            self.write(address + 8, *halves(pointer))
+
+    def some_ring_for(self, slot, index):
+        ring = self.known.ring_of(slot, index)
+        if index == 1 and ring and self.pick.random() < 0.7:
+            return ring.spot_address(self.known.floor(ring)) | ring.spot_cycle(self.known.floor(ring))
+        unused = [ring for ring in self.trace.rings if ring.kind == 'xfer' and not self.known.was_bound(ring)]
+        return self.pick.choice(unused or self.trace.driver_rings).address(0) | 1
+
+    # ---- descriptors, doorbells, writes
+
+    def descriptor(self):
+        forms = [[NO_OP], [NORMAL], [NORMAL] * 2, [NORMAL] * 3, [SETUP_STAGE], [DATA_STAGE, NORMAL], [STATUS_STAGE]]
+        kinds = self.pick.choice(forms)
+        blocks = [(self.pick.randrange(4) << 12, 0, 8, kind << 10 | (16 if i + 1 < len(kinds) else 0) | (64 if kind == SETUP_STAGE else 0))
+                  for i, kind in enumerate(kinds)]
+        used = [ring for ring in self.trace.rings if ring.kind == 'xfer' and self.known.was_bound(ring)]
+        ring = self.pick.choice(used or self.trace.rings[2:]) if self.pick.random() < 0.9 else self.pick.choice(self.trace.rings)
+        self.make(Declare(ring.number, tuple(blocks)))
+        if self.pick.random() < 0.8:
+            self.give(ring)
+
+    def doorbell(self):
+        self.make(self.pick.choice([Doorbell(0, 0), *[Doorbell(*self.some_enabled_endpoint())] * 4]))
+
+    def stray_write(self):
+        """A word of a block, a context, the array or the table."""
+        ring = self.pick.choice(self.trace.rings)
+        context = 0x1000 * self.pick.randrange(3)
+        areas = [self.pick.choice(ring.places), self.array, TABLE, INPUT_CONTEXTS + context, DEVICE_CONTEXTS + context]
+        address = self.pick.choice(areas) + 4 * self.pick.randrange(8)
+        self.make(Write(address, self.pick.choice([0, 1, self.known.word(address) ^ 1, self.pick.getrandbits(32)])))
+
+    def clear_device_context(self):
+        address = DEVICE_CONTEXTS + 0x1000 * self.pick.randrange(3)
+        for at in range(address, address + self.trace.device_context_bytes, 4):
+            if self.known.is_soiled(at):
+                self.make(Write(at, 0))
+
+    # ---- events
+
+    def event(self, number, code, low):
+        self.make(Event((*halves(number), code << 24, low | self.trace.event_ring.cycle(self.known.reads))))
+
+    def completion(self):
+        ring = self.trace.command_ring
+        command = self.known.command_at(self.known.next_command)
+        slot = command.slot if command and command.type != ENABLE_SLOT else self.pick.choice(SLOTS)
+        self.event(ring.address(self.known.next_command), self.pick.choice([1] * 9 + [11]), COMMAND_COMPLETION << 10 | slot << 24)
+
+    def transfer(self):
+        slot, endpoint = self.some_enabled_endpoint()
+        ring = self.known.ring_of(slot, endpoint)
+        if ring is None:
+            return
+        spots = ring.spots_from(self.known.floor(ring), self.known.declared(ring))
+        spot = self.pick.choice(spots[:self.pick.choice([1, 2, 3, 20])])
+        code = self.pick.choice([1, 1, 1, 1, 13, 6, 5, 26, 27])
+        self.event(ring.spot_address(spot), code, TRANSFER_EVENT << 10 | slot << 24 | endpoint << 16)
+
+    def other_event(self):
+        self.event(0, 1, self.pick.randrange(34, 40) << 10)
+
+    def read_on(self):
+        """ERDP goes to some event position up to the next one."""
+        position = self.pick.choice([self.known.reads, self.pick.randint(self.known.dequeue, self.known.reads + 1)])
+        self.make(Register('erdp', self.trace.event_ring.address(position) | self.pick.choice([0, 8])))
+
+    # ---- all of it
+
+    STEPS = [(command, 30), (descriptor, 20), (give_some, 8), (doorbell, 12), (stray_write, 4), (clear_device_context, 1),
+             (completion, 25), (transfer, 30), (other_event, 1), (read_on, 8)]
+
+    def try_step(self, step):
+        """A step one of whose rows is dropped is mostly dropped whole."""
+        count = len(self.trace.rows)
+        try:
+            step(self)
+        except Dropped:
+            if self.pick.random() < TAKEN_BACK:
+                self.go_back(count)
+
+    def drive(self, steps):
+        self.try_step(Driver.start)
+        for step in self.pick.choices(*zip(*self.STEPS), k=steps):
+            self.try_step(step)
+
+
+def fields_of(row):
+    if isinstance(row, Declare):
+        return ['sub', '%02x' % row.ring, *('%08x' % word for block in row.blocks for word in block)]
+    if isinstance(row, Write):
+        return ['w', '%016x' % row.address, '%08x' % row.word]
+    if isinstance(row, Register):
+        return ['reg', row.name, '%016x' % row.value]
+    if isinstance(row, Doorbell):
+        return ['db', '%02x' % row.slot, '%02x' % row.target]
+    return ['ev', *('%08x' % word for word in row.block)]
+
+
+def text_of(trace):
+    rings = [['ring', '%02x' % ring.number, ring.kind, *('%016x:%04x' % segment for segment in ring.segments)] for ring in trace.rings]
+    lines = [['xtrace', '1'], ['ctx', '20' if trace.context_bytes == 32 else '40'], *rings, *(fields_of(row) for row in trace.rows)]
+    return ''.join(' '.join(line) + '\n' for line in lines).encode()
+
+
+def driven(seed, steps, most_refused):
+    """The text of one driver's clean trace; and some texts whose last row breaks a rule, each with that rule's number."""
+    driver = Driver(seed)
+    driver.drive(steps)
+    # of each rule first the traces that were refused last
+    by_rule = {}
+    for rows, number in reversed(driver.refused):
+        by_rule.setdefault(number, []).append((rows, number))
+    picked = sorted((i, number) for number, refused in by_rule.items() for i in range(len(refused)))[:most_refused]
+    refused = [by_rule[number][i] for i, number in picked]
+    with_rows = lambda rows: text_of(Trace(driver.trace.context_bytes, driver.trace.rings, driver.trace.first, rows))
+    return with_rows(driver.trace.rows), [(with_rows(rows), number) for rows, number in refused]

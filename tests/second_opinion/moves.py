@@ -1,0 +1,59 @@
+"""Where a command may let an endpoint's ring begin, and where it may set its dequeue pointer (xHCI 4.6.5, 4.6.6, 4.6.10)."""
+import contexts
+from blocks import ADDRESS_DEVICE
+from rings import is_data
+
+
+def bindings_of(known, command):
+    """The pointers and cycle states of the rings that a command binds."""
+    added = contexts.endpoints_added_by(known, command)
+    if command.type == ADDRESS_DEVICE and known.endpoint_state(command.slot, 1) != 'Disabled':
+        return []
+    return [contexts.binding_in(known, command.pointer, index) for index in added]
+
+
+def rings_bound(known, command):
+    return [known.trace.ring_beginning_at(binding.pointer) for binding in bindings_of(known, command)]
+
+
+def is_unused(known, number):
+    """A transfer ring to which no endpoint was bound, and which no unfinished command binds."""
+    if number is None or known.was_bound(known.trace.ring(number)):
+        return False
+    return not any(number in rings_bound(known, other) for other in known.unfinished)
+
+
+def is_bad_binding(known, command):
+    rings = rings_bound(known, command)
+    begins = all(binding.cycle == 1 for binding in bindings_of(known, command))
+    return not begins or not all(is_unused(known, ring) for ring in rings) or len(set(rings)) != len(rings)
+
+
+def is_reached(known, ring, spot):
+    """Everything before the spot was given; for a block the crossing to it too."""
+    ways = range(1, spot.number + 1 if is_data(spot) else spot.number)
+    return all(known.is_given(ring, p) for p in range(spot.number)) and all(known.is_way_given(ring, q) for q in ways)
+
+
+def is_move(known, ring, binding, least, most):
+    """Pointer and cycle state name a spot, with a number from least to most, to which the ring may be moved."""
+    named = [spot for spot in ring.spots(least, most) if (ring.spot_address(spot), ring.spot_cycle(spot)) == binding]
+    return any(spot.number in known.borders(ring) and is_reached(known, ring, spot) for spot in named)
+
+
+def is_bad_dequeue(known, command):
+    """Set TR Dequeue goes to a border from the ceiling up to what is declared, of an endpoint at rest."""
+    ring = known.ring_of(command.slot, command.endpoint)
+    if known.endpoint_state(command.slot, command.endpoint) not in ('Stopped', 'Error') or ring is None:
+        return True
+    return not is_move(known, ring, (command.pointer, command.cycle), known.ceiling(ring), known.declared(ring))
+
+
+def is_bad_stay(known, command):
+    """A second Address Device leaves the pointer where it is, with nothing left on the ring."""
+    ring = known.ring_of(command.slot, 1)
+    if known.endpoint_state(command.slot, 1) == 'Disabled':
+        return False
+    if ring is None or known.declared(ring) != known.floor(ring).number:
+        return True
+    return not is_move(known, ring, contexts.binding_in(known, command.pointer, 1), known.declared(ring), known.declared(ring))

@@ -1,0 +1,135 @@
+"""One ring: its segments, where positions and Links lie, and where a dequeue pointer may stand (xHCI 4.9.2, 4.11.5.1, 6.5)."""
+from collections import namedtuple
+from dataclasses import dataclass
+from functools import cached_property
+
+Segment = namedtuple('Segment', 'base count')
+
+
+@dataclass(frozen=True)
+class Data:
+    """A spot: a dequeue pointer stands at the block of position `number`."""
+    number: int
+
+
+@dataclass(frozen=True)
+class Link:
+    """A spot: it stands at the Link that is crossed on the way to position `number`."""
+    number: int
+
+
+def is_data(spot):
+    return isinstance(spot, Data)
+
+
+def overlap(a, length_of_a, b, length_of_b):
+    """Both areas have a byte in common."""
+    return a < b + length_of_b and b < a + length_of_a
+
+
+class Ring:
+    """A ring of the header; kind is 'cmd', 'evt' or 'xfer'."""
+
+    def __init__(self, number, kind, segments):
+        self.number = number
+        self.kind = kind
+        self.segments = segments
+
+    @cached_property
+    def places(self):
+        """The addresses of the data blocks; the last block of each segment is its Link, but for an event ring."""
+        links = 0 if self.kind == 'evt' else 1
+        return [segment.base + 16 * i for segment in self.segments for i in range(segment.count - links)]
+
+    @cached_property
+    def place_count(self):
+        return len(self.places)
+
+    def address(self, position):
+        return self.places[position % self.place_count]
+
+    def cycle(self, position):
+        """The Cycle bit of a position: 1 in the first lap, and flipped from lap to lap."""
+        return 1 - position // self.place_count % 2
+
+    def segment_crossed(self, number):
+        """The segment whose Link is crossed on the way from position number - 1 to number; None where none is."""
+        if number == 0 or self.kind == 'evt':
+            return None
+        last = self.address(number - 1)
+        for i, segment in enumerate(self.segments):
+            if last == segment.base + 16 * (segment.count - 2):
+                return i
+        return None
+
+    def is_crossing(self, number):
+        return self.segment_crossed(number) is not None
+
+    def link_address(self, number):
+        segment = self.segments[self.segment_crossed(number)]
+        return segment.base + 16 * (segment.count - 1)
+
+    def link_target(self, number):
+        """Where the Link that is crossed to a position must lead."""
+        return self.segments[(self.segment_crossed(number) + 1) % len(self.segments)].base
+
+    def toggles(self, number):
+        """The Link that is crossed to a position is that of the last segment."""
+        return self.segment_crossed(number) == len(self.segments) - 1
+
+    def touches(self, start, length):
+        return any(overlap(start, length, segment.base, 16 * segment.count) for segment in self.segments)
+
+    # ---- spots
+
+    def is_spot(self, spot):
+        return is_data(spot) or self.is_crossing(spot.number)
+
+    def spot_address(self, spot):
+        return self.address(spot.number) if is_data(spot) else self.link_address(spot.number)
+
+    def spot_cycle(self, spot):
+        """The Consumer Cycle State with which a controller stands there."""
+        return self.cycle(spot.number if is_data(spot) else spot.number - 1)
+
+    def after(self, position):
+        """The spot behind a block: the Link there, if there is one, else the next block."""
+        return Link(position + 1) if self.is_crossing(position + 1) else Data(position + 1)
+
+    def spots(self, least, most):
+        """All spots with a number from least to most, in order."""
+        spots = [spot for number in range(least, most + 1) for spot in (Link(number), Data(number))]
+        return [spot for spot in spots if self.is_spot(spot)]
+
+    def spots_from(self, first, most):
+        """All spots from a first one on with a number up to most, in order."""
+        spots = self.spots(first.number, most)
+        return [spot for spot in spots if not (spot == Link(first.number) and is_data(first))]
+
+
+# ---- which segments make a ring
+
+def is_segment(kind, segment):
+    return (segment.base % (16 if kind == 'xfer' else 64) == 0
+            and (16 if kind == 'evt' else 2) <= segment.count <= 4096
+            and segment.base >> 16 == segment.base + 16 * segment.count - 1 >> 16)
+
+
+def segments_overlap(s, t):
+    return overlap(s.base, 16 * s.count, t.base, 16 * t.count)
+
+
+def is_shape(ring):
+    """The ring's segments make a ring."""
+    segments = ring.segments
+    return (len(segments) <= 64
+            and all(is_segment(ring.kind, segment) for segment in segments)
+            and ring.place_count >= 2
+            and not any(segments_overlap(s, t) for i, s in enumerate(segments) for t in segments[:i]))
+
+
+def clash(ring, other):
+    """The two rings can't stand in one trace."""
+    return (ring.number == other.number
+            or any(other.touches(segment.base, 16 * segment.count) for segment in ring.segments)
+            or ring.kind == other.kind != 'xfer')

@@ -1,0 +1,200 @@
+"""The rules, each a function named by its rule: whether a row breaks it, `known` being what is known after the earlier rows."""
+from blocks import (ADDRESS_DEVICE, COMMAND_COMPLETION, EVENT_TYPES, LINK, SET_TR_DEQUEUE, TRANSFER_EVENT, aligned, cycle,
+                    is_bad_command, is_bad_transfer, is_left_out_command, is_left_out_transfer, is_set, pointer, type_of, with_cycle)
+from commands import name_one_slot
+from events import is_impossible_completion, is_impossible_transfer, is_in_profile
+from given_commands import adds_left_out_endpoint, changes_endpoint, is_refused, moves_ring
+from leases import is_touched, open_leases
+from moves import is_bad_binding, is_bad_dequeue, is_bad_stay
+from registers import is_bad_crcr, is_bad_erstba, is_bad_erstsz, is_bad_usbcmd
+from trace import Declare, Doorbell, Event, Register, Write
+
+
+# ---- what a write gives
+
+def positions_given(known, write):
+    return [(ring, p) for ring in known.trace.driver_rings for p in known.positions_given_by(write, ring)]
+
+
+def links_given(known, write):
+    """The crossings that a write gives, each with its Link as it stands then."""
+    crossings = [(ring, q) for ring in known.trace.driver_rings for q in known.crossings_given_by(write, ring)]
+    return [(ring, q, known.block_with(write, ring.link_address(q))) for ring, q in crossings]
+
+
+# ---- 10 to 14: writes of blocks and Links
+
+def write_to_owned(known, row):
+    """The word is under lease."""
+    return any(is_touched(leased, row.address, 4) for leased in open_leases(known))
+
+
+def not_as_submitted(known, row):
+    """A block is given with other words than the declared ones with its position's cycle."""
+    def differs(ring, position):
+        declared = known.queue(ring)[position:position + 1]
+        stands = known.block_with(row, ring.address(position))
+        return any(with_cycle(block, ring.cycle(position)) != stands for block in declared)
+    return any(differs(ring, position) for ring, position in positions_given(known, row))
+
+
+def not_declared(known, row):
+    """A declaration is for no command or transfer ring; a position is given that isn't declared."""
+    if isinstance(row, Declare):
+        return known.trace.ring(row.ring) not in known.trace.driver_rings
+    return any(position >= known.declared(ring) for ring, position in positions_given(known, row))
+
+
+def not_whole(known, row):
+    """The first block of a descriptor is given before its other blocks, and the Links between."""
+    def is_part(ring, position):
+        others = range(position + 1, position + known.descriptor_length(ring, position))
+        return not all(known.is_given(ring, other) and known.is_way_given(ring, other) for other in others)
+    return any(is_part(ring, position) for ring, position in positions_given(known, row))
+
+
+def link_fault(known, row):
+    """A Link is given that is none, leads elsewhere than to the next segment, or toggles the cycle elsewhere than at the end."""
+    def is_wrong(ring, crossing, link):
+        leads = aligned(pointer(link), 16) == ring.link_target(crossing)
+        return not leads or type_of(link) != LINK or is_set(link[3], 1) != ring.toggles(crossing)
+    return any(is_wrong(*given) for given in links_given(known, row))
+
+
+# ---- 15 and 16: declarations
+
+def ring_full(known, row):
+    """No place would stay free of blocks that the controller may not have passed."""
+    ring = known.trace.ring(row.ring)
+    return known.declared(ring) + len(row.blocks) > ring.place_count - 1 + known.floor(ring).number
+
+
+def bad_descriptor(known, row):
+    """The blocks have no form of a descriptor of this ring."""
+    is_command = known.trace.ring(row.ring).kind == 'cmd'
+    return is_bad_command(row.blocks) if is_command else is_bad_transfer(row.blocks)
+
+
+# ---- 17 and 22: registers
+
+def bad_register(known, row):
+    """A set-up register is written too late, twice, too early or with a wrong value."""
+    if row.name == 'usbcmd':
+        return is_bad_usbcmd(known, row.value)
+    tests = {'crcr': is_bad_crcr, 'erstsz': is_bad_erstsz, 'erstba': is_bad_erstba}
+    if row.name in ('dcbaap', 'config', *tests) and known.is_started:
+        return True
+    return row.name in tests and tests[row.name](known, row.value)
+
+
+def bad_erdp(known, row):
+    """ERDP names no event place up to the one read next; before the start another than the first."""
+    ring = known.trace.event_ring
+    if row.name != 'erdp':
+        return False
+    last = known.reads if known.is_started else known.dequeue
+    return ring is None or aligned(row.value, 16) not in [ring.address(p) for p in range(known.dequeue, last + 1)]
+
+
+# ---- 18: doorbells
+
+def is_bad_bell(known, number, index):
+    return (not 1 <= index <= 31
+            or known.endpoint_state(number, index) not in ('Running', 'Stopped')
+            or known.must_move(number, index)
+            or any(changes_endpoint(known, command, number, index) for command in known.unfinished))
+
+
+def bad_doorbell(known, row):
+    """Before the start, for a target that there is none, or for an endpoint that may not be rung now."""
+    if not known.is_started:
+        return True
+    return row.target != 0 if row.slot == 0 else is_bad_bell(known, row.slot, row.target)
+
+
+# ---- 19, 20, 23 and 25: commands that are given
+
+def bad_command(known, row):
+    """A command is given that names a Disabled slot or endpoint, or has contexts in a wrong place or with wrong content."""
+    command = known.command_given_by(row)
+    return command is not None and is_refused(known, command)
+
+
+def busy(known, row):
+    """The slot has an unfinished command; an unfinished Address Device moves the ring of which a block is given."""
+    command = known.command_given_by(row)
+    if command is not None and any(name_one_slot(command, other) for other in known.unfinished):
+        return True
+    return any(moves_ring(known, other, ring) for ring, _ in positions_given(known, row) for other in known.unfinished)
+
+
+def not_in_profile(known, row):
+    """Blocks are declared, an endpoint is added, a Link is given, or an event is read that the profile leaves out."""
+    if isinstance(row, Declare):
+        is_command = known.trace.ring(row.ring).kind == 'cmd'
+        return any(is_left_out_command(block) for block in row.blocks) if is_command else is_left_out_transfer(row.blocks)
+    if isinstance(row, Event):
+        return type_of(row.block) == TRANSFER_EVENT and not is_in_profile(row.block)
+    command = known.command_given_by(row)
+    interrupts = any(is_set(link[3], 5) for _, _, link in links_given(known, row))
+    return interrupts or (command is not None and adds_left_out_endpoint(known, command))
+
+
+def bad_move(known, row):
+    """A command is given that binds a ring, or moves one, where it may not."""
+    command = known.command_given_by(row)
+    if command is None:
+        return False
+    tests = {SET_TR_DEQUEUE: is_bad_dequeue, ADDRESS_DEVICE: is_bad_stay}
+    return is_bad_binding(known, command) or (command.type in tests and tests[command.type](known, command))
+
+
+# ---- 21: events
+
+def impossible_event(known, row):
+    """No controller can have posted this event now."""
+    block, ring = row.block, known.trace.event_ring
+    if not known.is_started or known.reads - known.dequeue > ring.place_count - 2:
+        return True
+    if cycle(block) != ring.cycle(known.reads) or type_of(block) not in EVENT_TYPES:
+        return True
+    if type_of(block) == TRANSFER_EVENT:
+        return is_in_profile(block) and is_impossible_transfer(known, block)
+    return type_of(block) == COMMAND_COMPLETION and is_impossible_completion(known, block)
+
+
+# ---- 24: all rows
+
+def after_stop(known, row):
+    """The controller was stopped or reset by an earlier row."""
+    return known.is_stopped
+
+
+# ---- all rules, by the numbers that are printed
+
+RULES = {
+    10: write_to_owned, 11: not_as_submitted, 12: not_declared, 13: not_whole, 14: link_fault, 15: ring_full, 16: bad_descriptor,
+    17: bad_register, 18: bad_doorbell, 19: bad_command, 20: busy, 21: impossible_event, 22: bad_erdp, 23: not_in_profile,
+    24: after_stop, 25: bad_move,
+}
+
+# those of each kind of row, in ascending order: one may rest on those before it
+RULES_OF = {
+    Declare: [12, 15, 16, 23],
+    Write: [10, 11, 12, 13, 14, 19, 20, 23, 25],
+    Register: [17, 22],
+    Doorbell: [18],
+    Event: [21, 23],
+}
+
+
+def name_of(number):
+    """The name that is printed, as WriteToOwned."""
+    return ''.join(word.capitalize() for word in RULES[number].__name__.split('_'))
+
+
+def least_broken(known, row):
+    """The least rule that a row breaks; None where it breaks none. After the stop nothing else is looked at."""
+    if after_stop(known, row):
+        return 24
+    return next((number for number in RULES_OF[type(row)] if RULES[number](known, row)), None)

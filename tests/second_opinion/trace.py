@@ -1,0 +1,203 @@
+"""A trace of version 1, read from its text."""
+from dataclasses import dataclass
+
+from rings import Ring, Segment, clash, is_shape
+
+WIDE_REGISTERS = {'crcr', 'dcbaap', 'erstba', 'erdp'}
+REGISTERS = WIDE_REGISTERS | {'usbcmd', 'usbsts', 'dnctrl', 'config', 'iman', 'imod', 'erstsz'}
+RING_KINDS = {'cmd', 'evt', 'xfer'}
+FAULTS = {1: 'Header', 2: 'Row', 3: 'Number', 4: 'Limit', 5: 'Shape'}
+
+MOST_LINES, MOST_BYTES, MOST_BLOCKS = 1 << 20, 1 << 14, 256
+
+
+@dataclass(frozen=True)
+class Declare:
+    ring: int
+    blocks: tuple
+
+
+@dataclass(frozen=True)
+class Write:
+    address: int
+    word: int
+
+
+@dataclass(frozen=True)
+class Register:
+    name: str
+    value: int
+
+
+@dataclass(frozen=True)
+class Doorbell:
+    slot: int
+    target: int
+
+
+@dataclass(frozen=True)
+class Event:
+    block: tuple
+
+
+class BadLine(Exception):
+    """The first bad line, and the least fault there."""
+
+    def __init__(self, line, number):
+        super().__init__(f'line {line}: {number} {FAULTS[number]}')
+        self.line = line
+        self.number = number
+
+
+class BadNumber(Exception):
+    """A field is no number of its kind."""
+
+
+class Trace:
+    """A header and rows; `first` is the number of the first row's line."""
+
+    def __init__(self, context_bytes, rings, first, rows):
+        self.context_bytes = context_bytes
+        self.rings = rings
+        self.first = first
+        self.rows = rows
+
+    def ring(self, number):
+        return next((ring for ring in self.rings if ring.number == number), None)
+
+    def ring_of_kind(self, kind):
+        return next((ring for ring in self.rings if ring.kind == kind), None)
+
+    @property
+    def driver_rings(self):
+        """The command ring and the transfer rings: those on which the driver declares descriptors."""
+        return [ring for ring in self.rings if ring.kind != 'evt']
+
+    @property
+    def command_ring(self):
+        return self.ring_of_kind('cmd')
+
+    @property
+    def event_ring(self):
+        return self.ring_of_kind('evt')
+
+    @property
+    def event_segments(self):
+        return self.event_ring.segments if self.event_ring else []
+
+    def ring_beginning_at(self, address):
+        """The number of the transfer ring whose first block lies at an address, or None."""
+        return next((ring.number for ring in self.rings if ring.kind == 'xfer' and ring.address(0) == address), None)
+
+    def touches_ring(self, start, length):
+        return any(ring.touches(start, length) for ring in self.rings)
+
+    @property
+    def device_context_bytes(self):
+        return 32 * self.context_bytes
+
+    @property
+    def input_context_bytes(self):
+        return 33 * self.context_bytes
+
+
+# ---- lines
+
+def lines_of(text):
+    """The lines of a text, and of each whether a line feed ends it."""
+    pieces = text.split(b'\n')
+    lines = [(piece, True) for piece in pieces[:-1]]
+    return lines + [(pieces[-1], False)] if pieces[-1] else lines
+
+
+def has_form(fields):
+    """A known first word, known other words, and as many fields as it takes."""
+    word, rest = fields[0], fields[1:]
+    if word == 'sub':
+        return len(rest) > 1 and len(rest[1:]) % 4 == 0
+    if word == 'reg':
+        return len(rest) == 2 and rest[0] in REGISTERS
+    if word == 'ring':
+        return len(rest) > 2 and rest[1] in RING_KINDS
+    return len(rest) == {'w': 2, 'db': 2, 'ev': 4}.get(word, -1)
+
+
+def number(field, digits):
+    if len(field) != digits or any(character not in '0123456789abcdefABCDEF' for character in field):
+        raise BadNumber
+    return int(field, 16)
+
+
+def segment_of(field):
+    base, colon, count = field[:16], field[16:17], field[17:]
+    if colon != ':':
+        raise BadNumber
+    return Segment(number(base, 16), number(count, 4))
+
+
+def word_address(field):
+    address = number(field, 16)
+    if address % 4 != 0:
+        raise BadNumber
+    return address
+
+
+def register_value(name, field):
+    value = number(field, 16)
+    if name not in WIDE_REGISTERS and value >> 32 != 0:
+        raise BadNumber
+    return value
+
+
+def blocks_of(fields):
+    words = [number(field, 8) for field in fields]
+    return tuple(tuple(words[i:i + 4]) for i in range(0, len(words), 4))
+
+
+def said_by(fields):
+    """The row, or the ring, that a line of a right form says."""
+    word, rest = fields[0], fields[1:]
+    if word == 'sub':
+        return Declare(number(rest[0], 2), blocks_of(rest[1:]))
+    if word == 'w':
+        return Write(word_address(rest[0]), number(rest[1], 8))
+    if word == 'reg':
+        return Register(rest[0], register_value(rest[0], rest[1]))
+    if word == 'db':
+        return Doorbell(number(rest[0], 2), number(rest[1], 2))
+    if word == 'ev':
+        return Event(blocks_of(rest)[0])
+    return Ring(number(rest[0], 2), rest[1], [segment_of(field) for field in rest[2:]])
+
+
+def read_line(line, content, is_ended, rings, rows):
+    """What a line behind the first two says; `rings` and `rows` are what those before it said."""
+    if len(content) > MOST_BYTES:
+        raise BadLine(line, 4)
+    fields = content.decode('latin-1').split(' ')
+    if not is_ended or '' in fields or not has_form(fields) or (rows and fields[0] == 'ring'):
+        raise BadLine(line, 2)
+    try:
+        said = said_by(fields)
+    except BadNumber:
+        raise BadLine(line, 3) from None
+    if line > MOST_LINES or (isinstance(said, Declare) and len(said.blocks) > MOST_BLOCKS):
+        raise BadLine(line, 4)
+    if isinstance(said, Ring) and (not is_shape(said) or any(clash(said, ring) for ring in rings)):
+        raise BadLine(line, 5)
+    return said
+
+
+def read_trace(text):
+    """The trace of a text (bytes), or BadLine."""
+    lines = lines_of(text)
+    if not lines or lines[0] != (b'xtrace 1', True):
+        raise BadLine(1, 1)
+    if len(lines) < 2 or lines[1] not in ((b'ctx 20', True), (b'ctx 40', True)):
+        raise BadLine(2, 1)
+    rings, rows = [], []
+    for line, (content, is_ended) in enumerate(lines[2:], start=3):
+        said = read_line(line, content, is_ended, rings, rows)
+        (rings if isinstance(said, Ring) else rows).append(said)
+    context_bytes = 32 if lines[1][0] == b'ctx 20' else 64
+    return Trace(context_bytes, rings, len(lines) - len(rows) + 1, rows)
