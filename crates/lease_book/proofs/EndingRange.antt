@@ -13,13 +13,13 @@ use Rattle.lease_book.specs.Endings.{is_open_as, ended_at}
 use Rattle.lease_book.specs.Ranges.{StandsAt, is_lent}
 use Rattle.lease_book.proofs.Ending.{later_end, none_ends}
 
-either_holds : (x y : Bool) → (x || y) ≡ true → x ≡ false → y ≡ true
+pub either_holds : (x y : Bool) → (x || y) ≡ true → x ≡ false → y ≡ true
 either_holds true y e f = absurd (false≢true (sym f))
 either_holds false y e f = e
 
 module _ (l : Leased) (i : ℕ) where
   -- it is lent where it can stand
-  not_later : (n : ℕ) (ts : List Lent) → i < n → AllUnended (λ j m. m ≡ l → j ≡ i) n ts → list_any (λ t. is_unended t && same_leased l t.leased) ts ≡ true → ⊥
+  pub not_later : (n : ℕ) (ts : List Lent) → i < n → AllUnended (λ j m. m ≡ l → j ≡ i) n ts → list_any (λ t. is_unended t && same_leased l t.leased) ts ≡ true → ⊥
   not_later n [] early all some = false≢true some
   not_later n (t ∷ ts) early all some =
       elim (cases_Bool (is_unended t && same_leased l t.leased)) [
@@ -56,7 +56,7 @@ module _ (l : Leased) (row : ℕ) (x : Lease) (alike : (t : Lent) → is_unended
       ]
 
 -- a range's lease has the words of its own
-range_alike : (row n a : ℕ) (e : Use) (t : Lent) → is_unended t ≡ true → t.leased ≡ Range n a e → is_open_as (as_lease row without_end (Range n a e)) (lease_of t) ≡ true
+pub range_alike : (row n a : ℕ) (e : Use) (t : Lent) → is_unended t ≡ true → t.leased ≡ Range n a e → is_open_as (as_lease row without_end (Range n a e)) (lease_of t) ≡ true
 unfolding is_open_as lease_of as_lease is_unended
 range_alike row n a e t unended same = rw same (by (t.to == without_end) (n == n) (a == a) unended (eq-eqb n n refl) (eq-eqb a a refl))
   where

@@ -83,11 +83,15 @@ module _ (h : Header) where
       let found = from_map (λ (s : Segment). Range (16 * s.count) s.base EventSegment) (event_shape h).segments l at in
       subst IsRange (sym found.2) tt
 
+  -- what stands before the first row are ranges
+  pub first_are_ranges : (l : Leased) → IsIn l (in_turn (open_leases h nothing)) → IsRange l
+  first_are_ranges l at = segments_are l (subst (IsIn l) open_at_first (from_turn (open_leases h nothing) l at))
+
   pub first_found : (first : ℕ) (blocks links : IndexTables) → AllUnended (IsFound h blocks links) 0 (lents h first [])
   unfolding lents with_begun
   first_found first blocks links =
       all_anew (λ i l. IsRange l) (IsFound h blocks links) 0 (map (begun_at 0) (in_turn (open_leases h nothing))) found
-      (all_new IsRange 0 0 (in_turn (open_leases h nothing)) (λ l at. segments_are l (subst (IsIn l) open_at_first (from_turn (open_leases h nothing) l at))))
+      (all_new IsRange 0 0 (in_turn (open_leases h nothing)) first_are_ranges)
     where
       found : (i : ℕ) (l : Leased) → IsRange l → IsFound h blocks links i l
       found i (Block r p) is = absurd is

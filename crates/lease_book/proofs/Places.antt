@@ -30,7 +30,7 @@ not_true true h = absurd (false≢true h)
 not_true false h = refl
 
 -- at another place of the ring, or on another ring
-elsewhere : (old new : IndexTables) (r n i s m : ℕ) → IsPut old new r n i → (r == s && n == m) ≡ false → index_at new s m ≡ index_at old s m
+pub elsewhere : (old new : IndexTables) (r n i s m : ℕ) → IsPut old new r n i → (r == s && n == m) ≡ false → index_at new s m ≡ index_at old s m
 elsewhere old new r n i s m put apart =
     elim (cases_Bool (r == s)) [
       | inl same ↦

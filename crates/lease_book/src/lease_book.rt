@@ -95,7 +95,7 @@ impl LeaseBook {
 impl LeaseLog for LeaseBook {
     ghost use Rattle.lease_book.specs.Books.{HoldsLents};
 
-    ghost holds = { HoldsLents };
+    ghost holds = { λ list. HoldsLents };
 
     fn begin_block(&mut self, row: u32, ring: &Ring, position: u64) -> Result<(), AllocError> {
         let index = self.leases.len();
@@ -143,7 +143,7 @@ impl LeaseLog for LeaseBook {
 
 /// The lease of a block that begins at a row.
 #[tactic(auto, unfolding(ownership_rules::specs::Leases::as_lease, ownership_rules::specs::Leases::without_end))]
-fn block_lease(row: u32, ring: u8, position: u64) -> Lease
+pub fn block_lease(row: u32, ring: u8, position: u64) -> Lease
     ensures { result ≡ as_lease row without_end (Block ring position) }
 {
     Lease {
@@ -157,7 +157,7 @@ fn block_lease(row: u32, ring: u8, position: u64) -> Lease
 
 /// The lease of a Link that begins at a row.
 #[tactic(auto, unfolding(ownership_rules::specs::Leases::as_lease, ownership_rules::specs::Leases::without_end))]
-fn link_lease(row: u32, ring: u8, crossing: u64) -> Lease
+pub fn link_lease(row: u32, ring: u8, crossing: u64) -> Lease
     ensures { result ≡ as_lease row without_end (Link ring crossing) }
 {
     Lease {
@@ -171,7 +171,7 @@ fn link_lease(row: u32, ring: u8, crossing: u64) -> Lease
 
 /// The lease of a range of bytes that begins at a row.
 #[tactic(auto, unfolding(ownership_rules::specs::Leases::as_lease, ownership_rules::specs::Leases::without_end))]
-fn range_lease(row: u32, bytes: u32, address: u64) -> Lease
+pub fn range_lease(row: u32, bytes: u32, address: u64) -> Lease
     ensures { (purpose : Use) → result ≡ as_lease row without_end (Range bytes address purpose) }
 {
     Lease {

@@ -3,6 +3,7 @@ ghost use Rattle.std.specs.Prelude.{◌≡◌, ◌%◌, ℕ, [], ◌∷◌, true
 ghost use Rattle.segments.specs.Places.{place_count};
 ghost use Rattle.traces.specs.declared.header.Header.{Header};
 ghost use Rattle.traces.specs.Header.{command_id, shape_of};
+ghost use Rattle.ring_knowledge.specs.declared.lease.Lease.{Lease};
 ghost use Rattle.ownership_rules.specs.OpenLeases.{Range, Use, InputContext, SlotEntry, DeviceContext, same_leased};
 ghost use Rattle.lease_book.specs.Lents.{Lent, ended_where, lents, with_begun};
 
@@ -46,8 +47,8 @@ impl RangeIndexes {
         bytes: u32,
         address: u64,
     ) -> Result<(), AllocError>
-        ensures held { OnOk result ((h : Header) (ts : List Lent) (purpose : Use) → B.holds h ts book.old → B.holds h (with_begun row ts (Range bytes address purpose ∷ [])) book.new) }
-        ensures found { OnOk result ((h : Header) (ts : List Lent) → shape_of h (command_id h) ≡ ring.now.shape → B.holds h ts book.old → FindsRanges h ts self.old →
+        ensures held { OnOk result ((list : List Lease) (h : Header) (ts : List Lent) (purpose : Use) → B.holds list h ts book.old → B.holds list h (with_begun row ts (Range bytes address purpose ∷ [])) book.new) }
+        ensures found { OnOk result ((list : List Lease) (h : Header) (ts : List Lent) → shape_of h (command_id h) ≡ ring.now.shape → B.holds list h ts book.old → FindsRanges h ts self.old →
             is_use_free h ts (InputContext position) ≡ true → FindsRanges h (with_begun row ts (Range bytes address (InputContext position) ∷ [])) self.new) }
     {
         let index = book.count();
@@ -65,9 +66,9 @@ impl RangeIndexes {
         bytes: u32,
         address: u64,
     )
-        ensures { (h : Header) (ts : List Lent) → shape_of h (command_id h) ≡ ring.now.shape → B.holds h ts book.old → FindsRanges h ts self.now →
+        ensures { (list : List Lease) (h : Header) (ts : List Lent) → shape_of h (command_id h) ≡ ring.now.shape → B.holds list h ts book.old → FindsRanges h ts self.now →
             is_lent ts (Range bytes address (InputContext position)) ≡ true →
-            B.holds h (map (ended_where (same_leased (Range bytes address (InputContext position))) row) ts) book.new }
+            B.holds list h (map (ended_where (same_leased (Range bytes address (InputContext position))) row) ts) book.new }
     {
         let index = self.contexts.get(place_on(ring, position));
         book.end_range(index, row, bytes, address);
@@ -82,8 +83,8 @@ impl RangeIndexes {
         bytes: u32,
         address: u64,
     ) -> Result<(), AllocError>
-        ensures held { OnOk result ((h : Header) (ts : List Lent) (purpose : Use) → B.holds h ts book.old → B.holds h (with_begun row ts (Range bytes address purpose ∷ [])) book.new) }
-        ensures found { OnOk result ((h : Header) (ts : List Lent) → B.holds h ts book.old → FindsRanges h ts self.old →
+        ensures held { OnOk result ((list : List Lease) (h : Header) (ts : List Lent) (purpose : Use) → B.holds list h ts book.old → B.holds list h (with_begun row ts (Range bytes address purpose ∷ [])) book.new) }
+        ensures found { OnOk result ((list : List Lease) (h : Header) (ts : List Lent) → B.holds list h ts book.old → FindsRanges h ts self.old →
             is_use_free h ts (SlotEntry slot) ≡ true → FindsRanges h (with_begun row ts (Range bytes address (SlotEntry slot) ∷ [])) self.new) }
     {
         let index = book.count();
@@ -93,9 +94,9 @@ impl RangeIndexes {
 
     /// The lease of a slot's entry in the DCBAA ends at a row. It is open.
     pub fn end_entry<B: LeaseLog>(&self, book: &mut B, row: u32, slot: u8, bytes: u32, address: u64)
-        ensures { (h : Header) (ts : List Lent) → B.holds h ts book.old → FindsRanges h ts self.now →
+        ensures { (list : List Lease) (h : Header) (ts : List Lent) → B.holds list h ts book.old → FindsRanges h ts self.now →
             is_lent ts (Range bytes address (SlotEntry slot)) ≡ true →
-            B.holds h (map (ended_where (same_leased (Range bytes address (SlotEntry slot))) row) ts) book.new }
+            B.holds list h (map (ended_where (same_leased (Range bytes address (SlotEntry slot))) row) ts) book.new }
     {
         let index = self.entries.get(u32::from(slot));
         book.end_range(index, row, bytes, address);
@@ -110,8 +111,8 @@ impl RangeIndexes {
         bytes: u32,
         address: u64,
     ) -> Result<(), AllocError>
-        ensures held { OnOk result ((h : Header) (ts : List Lent) (purpose : Use) → B.holds h ts book.old → B.holds h (with_begun row ts (Range bytes address purpose ∷ [])) book.new) }
-        ensures found { OnOk result ((h : Header) (ts : List Lent) → B.holds h ts book.old → FindsRanges h ts self.old →
+        ensures held { OnOk result ((list : List Lease) (h : Header) (ts : List Lent) (purpose : Use) → B.holds list h ts book.old → B.holds list h (with_begun row ts (Range bytes address purpose ∷ [])) book.new) }
+        ensures found { OnOk result ((list : List Lease) (h : Header) (ts : List Lent) → B.holds list h ts book.old → FindsRanges h ts self.old →
             is_use_free h ts (DeviceContext slot) ≡ true → FindsRanges h (with_begun row ts (Range bytes address (DeviceContext slot) ∷ [])) self.new) }
     {
         let index = book.count();
@@ -128,9 +129,9 @@ impl RangeIndexes {
         bytes: u32,
         address: u64,
     )
-        ensures { (h : Header) (ts : List Lent) → B.holds h ts book.old → FindsRanges h ts self.now →
+        ensures { (list : List Lease) (h : Header) (ts : List Lent) → B.holds list h ts book.old → FindsRanges h ts self.now →
             is_lent ts (Range bytes address (DeviceContext slot)) ≡ true →
-            B.holds h (map (ended_where (same_leased (Range bytes address (DeviceContext slot))) row) ts) book.new }
+            B.holds list h (map (ended_where (same_leased (Range bytes address (DeviceContext slot))) row) ts) book.new }
     {
         let index = self.devices.get(u32::from(slot));
         book.end_range(index, row, bytes, address);

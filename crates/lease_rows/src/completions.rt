@@ -1,4 +1,5 @@
 //! Command Completion Events: what the command leaves behind is let go, and the command's own block and Link (xHCI 4.6, 4.11.4).
+ghost use Rattle.ring_knowledge.specs.declared.lease.Lease.{Lease};
 ghost use Rattle.std.specs.Prelude.{◌≡◌, ℕ, List, ◌∷◌};
 ghost use Rattle.trb.specs.declared.kind.BlockKind.TheVariants.{CommandCompletion};
 ghost use Rattle.trb.specs.Block.{kind};
@@ -30,9 +31,9 @@ pub(crate) fn note_completion<B: LeaseLog>(
 )
     requires headed { IsHeader header.now }
     requires found { IsFinder header.now.rings finder.now }
-    ensures { (first : ℕ) (past : List RowValue) (memory : ℕ → ℕ) → kind event ≡ CommandCompletion →
+    ensures { (list : List Lease) (first : ℕ) (past : List RowValue) (memory : ℕ → ℕ) → kind event ≡ CommandCompletion →
         IsCleanRow header.now first past (Read event) number t.now memory →
-        FollowsBook B.holds header.now first past book.old ranges.now → FollowsBook B.holds header.now first (Read event ∷ past) book.new ranges.now }
+        FollowsBook (B.holds list) header.now first past book.old ranges.now → FollowsBook (B.holds list) header.now first (Read event ∷ past) book.new ranges.now }
 {
     let Some(place) = finder.commands else {
         return;

@@ -1,4 +1,5 @@
 //! Events that are read: what a ring passes is let go (xHCI 4.9.2, 4.10.2, 6.4.2.1).
+ghost use Rattle.ring_knowledge.specs.declared.lease.Lease.{Lease};
 ghost use Rattle.std.specs.Prelude.{◌≡◌, ◌≢◌, ◌<◌, ◌^◌, ◌||◌, ℕ, List, ◌∷◌};
 ghost use Rattle.trb.specs.CompletionCode.{is_halting, is_stopping, is_success, is_trb_error};
 ghost use Rattle.trb.specs.declared.kind.BlockKind.TheVariants.{CommandCompletion};
@@ -32,9 +33,9 @@ pub(crate) fn note_transfer<B: LeaseLog>(
 )
     requires headed { IsHeader header.now }
     requires found { IsFinder header.now.rings finder.now }
-    ensures { (first : ℕ) (past : List RowValue) (memory : ℕ → ℕ) (ranges : RangeIndexes) → kind event ≢ CommandCompletion →
-        IsCleanRow header.now first past (Read event) number t.now memory → FollowsBook B.holds header.now first past book.old ranges →
-        FollowsBook B.holds header.now first (Read event ∷ past) book.new ranges }
+    ensures { (list : List Lease) (first : ℕ) (past : List RowValue) (memory : ℕ → ℕ) (ranges : RangeIndexes) → kind event ≢ CommandCompletion →
+        IsCleanRow header.now first past (Read event) number t.now memory → FollowsBook (B.holds list) header.now first past book.old ranges →
+        FollowsBook (B.holds list) header.now first (Read event ∷ past) book.new ranges }
 {
     if !is_transfer(event) {
         return;

@@ -1,4 +1,5 @@
 //! What the completion of a command leaves behind: ranges, and the blocks and Links of a ring that it moves (xHCI 4.6.4, 4.6.10).
+ghost use Rattle.ring_knowledge.specs.declared.lease.Lease.{Lease};
 ghost use Rattle.std.specs.Prelude.{◌≡◌, ◌==◌, ℕ, Bool, List, Some, map};
 ghost use Rattle.traces.specs.Header.{IsHeader, command_id, shape_of};
 ghost use Rattle.ring_knowledge.specs.Known.{Known};
@@ -30,9 +31,9 @@ pub(crate) fn end_context_of<B: LeaseLog>(
     position: u64,
     command: Command,
 )
-    ensures { (ts : List Lent) → shape_of header.now (command_id header.now) ≡ ring.now.shape → AreLent ts (range_of_command header.now position (Some command)) →
-        HoldsAll B.holds header.now ts book.old ranges.now →
-        HoldsAll B.holds header.now (map (ended_where (is_among (range_of_command header.now position (Some command))) number) ts) book.new ranges.now }
+    ensures { (list : List Lease) (ts : List Lent) → shape_of header.now (command_id header.now) ≡ ring.now.shape → AreLent ts (range_of_command header.now position (Some command)) →
+        HoldsAll (B.holds list) header.now ts book.old ranges.now →
+        HoldsAll (B.holds list) header.now (map (ended_where (is_among (range_of_command header.now position (Some command))) number) ts) book.new ranges.now }
 {
     let Some(address) = command.input_context() else {
         return;
@@ -50,8 +51,8 @@ pub(crate) fn end_slot_of<B: LeaseLog>(
     number: u32,
     command: Command,
 )
-    ensures { (k : Known) (memory : ℕ → ℕ) (ts : List Lent) → FollowsTrace header.now k t.now memory → EntriesFit k → AreLent ts (slot_let_go header.now k command) →
-        HoldsAll B.holds header.now ts book.old ranges.now → HoldsAll B.holds header.now (map (ended_where (is_among (slot_let_go header.now k command)) number) ts) book.new ranges.now }
+    ensures { (list : List Lease) (k : Known) (memory : ℕ → ℕ) (ts : List Lent) → FollowsTrace header.now k t.now memory → EntriesFit k → AreLent ts (slot_let_go header.now k command) →
+        HoldsAll (B.holds list) header.now ts book.old ranges.now → HoldsAll (B.holds list) header.now (map (ended_where (is_among (slot_let_go header.now k command)) number) ts) book.new ranges.now }
 {
     let Command::DisableSlot { slot } = command else {
         return;
@@ -76,9 +77,9 @@ fn end_moved<B: LeaseLog>(
 )
     requires headed { IsHeader header.now }
     requires found { IsFinder header.now.rings finder.now }
-    ensures { (k : Known) (memory : ℕ → ℕ) (ts : List Lent) (ranges : RangesValue) → FollowsTrace header.now k t.now memory → EndpointRings header.now k →
-        MovesOn k (moved_by header.now k command) → HoldsAll B.holds header.now ts book.old ranges →
-        HoldsAll B.holds header.now (map (ended_where (is_moved_past k (moved_by header.now k command)) number) ts) book.new ranges }
+    ensures { (list : List Lease) (k : Known) (memory : ℕ → ℕ) (ts : List Lent) (ranges : RangesValue) → FollowsTrace header.now k t.now memory → EndpointRings header.now k →
+        MovesOn k (moved_by header.now k command) → HoldsAll (B.holds list) header.now ts book.old ranges →
+        HoldsAll (B.holds list) header.now (map (ended_where (is_moved_past k (moved_by header.now k command)) number) ts) book.new ranges }
 {
     let Command::SetTrDequeue {
         slot,
@@ -126,11 +127,11 @@ pub(crate) fn end_command<B: LeaseLog>(
 )
     requires headed { IsHeader header.now }
     requires found { IsFinder header.now.rings finder.now }
-    ensures { (k : Known) (memory : ℕ → ℕ) (ts : List Lent) → FollowsTrace header.now k t.now memory → EndpointRings header.now k → EntriesFit k →
+    ensures { (list : List Lease) (k : Known) (memory : ℕ → ℕ) (ts : List Lent) → FollowsTrace header.now k t.now memory → EndpointRings header.now k → EntriesFit k →
         MovesOn k (moved_when header.now k success (Some command)) → shape_of header.now (command_id header.now) ≡ ring.now.shape →
         AreLent ts (range_of_command header.now position (Some command)) → AreLent ts (slot_ranges header.now k (slot_left success (Some command))) →
-        HoldsAll B.holds header.now ts book.old ranges.now →
-        HoldsAll B.holds header.now (map (ended_where (is_behind header.now k position success (Some command)) number) ts) book.new ranges.now }
+        HoldsAll (B.holds list) header.now ts book.old ranges.now →
+        HoldsAll (B.holds list) header.now (map (ended_where (is_behind header.now k position success (Some command)) number) ts) book.new ranges.now }
 {
     end_context_of(book, ranges, header, number, ring, position, command);
     if !success {

@@ -1,4 +1,5 @@
 //! Declarations, doorbells and registers: a lease begins with the write of ERSTBA alone (xHCI 5.5.2.3.2, 6.5).
+ghost use Rattle.ring_knowledge.specs.declared.lease.Lease.{Lease};
 ghost use Rattle.std.specs.Prelude.{◌≡◌, ◌≤◌, ℕ, List, ◌∷◌, length, OnOk};
 ghost use Rattle.traces.specs.Header.{IsHeader, event_shape};
 ghost use Rattle.traces.specs.declared.row.Row.{Row as RowValue};
@@ -20,9 +21,9 @@ pub(crate) fn note_other_row<B: LeaseLog>(
     row: &Row,
 ) -> Result<(), AllocError>
     requires { IsHeader header.now }
-    ensures { OnOk result ((first : ℕ) (past : List RowValue) (t : TraceRecord) (memory : ℕ → ℕ) (ranges : RangeIndexes) → IsOtherRow row.now →
-        IsCleanRow header.now first past row.now number t memory → FollowsBook B.holds header.now first past book.old ranges →
-        FollowsBook B.holds header.now first (row.now ∷ past) book.new ranges) }
+    ensures { OnOk result ((list : List Lease) (first : ℕ) (past : List RowValue) (t : TraceRecord) (memory : ℕ → ℕ) (ranges : RangeIndexes) → IsOtherRow row.now →
+        IsCleanRow header.now first past row.now number t memory → FollowsBook (B.holds list) header.now first past book.old ranges →
+        FollowsBook (B.holds list) header.now first (row.now ∷ past) book.new ranges) }
 {
     match row {
         Row::Reg { register, value } => note_table(book, header, number, *register, *value),
@@ -39,9 +40,9 @@ fn note_table<B: LeaseLog>(
     value: u64,
 ) -> Result<(), AllocError>
     requires { IsHeader header.now }
-    ensures { OnOk result ((first : ℕ) (past : List RowValue) (t : TraceRecord) (memory : ℕ → ℕ) (ranges : RangeIndexes) →
-        IsCleanRow header.now first past (Reg register value) number t memory → FollowsBook B.holds header.now first past book.old ranges →
-        FollowsBook B.holds header.now first (Reg register value ∷ past) book.new ranges) }
+    ensures { OnOk result ((list : List Lease) (first : ℕ) (past : List RowValue) (t : TraceRecord) (memory : ℕ → ℕ) (ranges : RangeIndexes) →
+        IsCleanRow header.now first past (Reg register value) number t memory → FollowsBook (B.holds list) header.now first past book.old ranges →
+        FollowsBook (B.holds list) header.now first (Reg register value ∷ past) book.new ranges) }
 {
     match register {
         Register::Erstba => {

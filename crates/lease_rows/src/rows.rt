@@ -1,4 +1,5 @@
 //! What a row does to the leases.
+ghost use Rattle.ring_knowledge.specs.declared.lease.Lease.{Lease};
 ghost use Rattle.std.specs.Prelude.{ℕ, ◌∷◌, List, OnOk};
 ghost use Rattle.traces.specs.Header.{IsHeader};
 ghost use Rattle.traces.specs.declared.row.Row.{Row as RowValue};
@@ -34,9 +35,9 @@ pub fn note_row<B: LeaseLog, M: WordMemory>(
 ) -> Result<(), AllocError>
     requires headed { IsHeader header.now }
     requires found { IsFinder header.now.rings finder.now }
-    ensures { OnOk result ((first : ℕ) (past : List RowValue) → IsPlaced header.now (known header.now past) row.now place →
+    ensures { OnOk result ((list : List Lease) (first : ℕ) (past : List RowValue) → IsPlaced header.now (known header.now past) row.now place →
         IsCleanRow header.now first past row.now number t.now (M.words memory.now) →
-        FollowsBook B.holds header.now first past book.old ranges.old → FollowsBook B.holds header.now first (row.now ∷ past) book.new ranges.new) }
+        FollowsBook (B.holds list) header.now first past book.old ranges.old → FollowsBook (B.holds list) header.now first (row.now ∷ past) book.new ranges.new) }
 {
     match row {
         Row::Write { .. } => note_write(book, ranges, header, t, memory, number, place),
@@ -60,8 +61,8 @@ fn note_event<B: LeaseLog>(
 )
     requires headed { IsHeader header.now }
     requires found { IsFinder header.now.rings finder.now }
-    ensures { (first : ℕ) (past : List RowValue) (memory : ℕ → ℕ) → IsCleanRow header.now first past (Read event) number t.now memory →
-        FollowsBook B.holds header.now first past book.old ranges.now → FollowsBook B.holds header.now first (Read event ∷ past) book.new ranges.now }
+    ensures { (list : List Lease) (first : ℕ) (past : List RowValue) (memory : ℕ → ℕ) → IsCleanRow header.now first past (Read event) number t.now memory →
+        FollowsBook (B.holds list) header.now first past book.old ranges.now → FollowsBook (B.holds list) header.now first (Read event ∷ past) book.new ranges.now }
 {
     match event.kind() {
         BlockKind::CommandCompletion => note_completion(

@@ -1,5 +1,6 @@
 //! The ranges that a command takes when it is given: its input context, and of a slot that takes a device context the entry and
 //! that context (xHCI 4.6.5, 6.1).
+ghost use Rattle.ring_knowledge.specs.declared.lease.Lease.{Lease};
 ghost use Rattle.std.specs.Prelude.{◌≡◌, ◌+◌, ◌%◌, ◌^◌, ◌≤◌, ℕ, true, List, [], ◌∷◌, ◌++◌, OnOk, option_and_then, slice_get};
 ghost use Rattle.guest_memory.specs.Memory.{long_at};
 ghost use Rattle.commands.specs.Command.{command_of};
@@ -60,9 +61,9 @@ pub(crate) fn begin_command<B: LeaseLog, M: WordMemory>(
     position: u64,
     command: Command,
 ) -> Result<(), AllocError>
-    ensures { OnOk result ((k : Known) (ts : List Lent) → FollowsTrace header.now k t.now (M.words memory.now) → EntryFits k (taken_device k command) →
+    ensures { OnOk result ((list : List Lease) (k : Known) (ts : List Lent) → FollowsTrace header.now k t.now (M.words memory.now) → EntryFits k (taken_device k command) →
         shape_of header.now (command_id header.now) ≡ ring.now.shape → SlotIsFree header.now ts (taken_device k command) → is_use_free header.now ts (InputContext position) ≡ true →
-        HoldsAll B.holds header.now ts book.old ranges.old → HoldsAll B.holds header.now (with_begun number ts (command_taken header.now k position command)) book.new ranges.new) }
+        HoldsAll (B.holds list) header.now ts book.old ranges.old → HoldsAll (B.holds list) header.now (with_begun number ts (command_taken header.now k position command)) book.new ranges.new) }
 {
     begin_device_of(book, ranges, header, t, memory, number, command)?;
     begin_context_of(book, ranges, header, number, ring, position, command)
@@ -78,9 +79,9 @@ fn begin_device_of<B: LeaseLog, M: WordMemory>(
     number: u32,
     command: Command,
 ) -> Result<(), AllocError>
-    ensures { OnOk result ((k : Known) (ts : List Lent) → FollowsTrace header.now k t.now (M.words memory.now) → EntryFits k (taken_device k command) →
+    ensures { OnOk result ((list : List Lease) (k : Known) (ts : List Lent) → FollowsTrace header.now k t.now (M.words memory.now) → EntryFits k (taken_device k command) →
         SlotIsFree header.now ts (taken_device k command) →
-        HoldsAll B.holds header.now ts book.old ranges.old → HoldsAll B.holds header.now (with_begun number ts (slot_taken header.now k (taken_device k command))) book.new ranges.new) }
+        HoldsAll (B.holds list) header.now ts book.old ranges.old → HoldsAll (B.holds list) header.now (with_begun number ts (slot_taken header.now k (taken_device k command))) book.new ranges.new) }
 {
     let Command::AddressDevice { slot, .. } = command else {
         return Ok(());
@@ -110,8 +111,8 @@ fn begin_context_of<B: LeaseLog>(
     position: u64,
     command: Command,
 ) -> Result<(), AllocError>
-    ensures { OnOk result ((ts : List Lent) → shape_of header.now (command_id header.now) ≡ ring.now.shape → is_use_free header.now ts (InputContext position) ≡ true →
-        HoldsAll B.holds header.now ts book.old ranges.old → HoldsAll B.holds header.now (with_begun number ts (range_of_command header.now position (Some command))) book.new ranges.new) }
+    ensures { OnOk result ((list : List Lease) (ts : List Lent) → shape_of header.now (command_id header.now) ≡ ring.now.shape → is_use_free header.now ts (InputContext position) ≡ true →
+        HoldsAll (B.holds list) header.now ts book.old ranges.old → HoldsAll (B.holds list) header.now (with_begun number ts (range_of_command header.now position (Some command))) book.new ranges.new) }
 {
     match command.input_context() {
         None => Ok(()),

@@ -1,4 +1,5 @@
 //! Writes of memory: what they give comes under lease (xHCI 4.9.2, 4.6.5).
+ghost use Rattle.ring_knowledge.specs.declared.lease.Lease.{Lease};
 ghost use Rattle.std.specs.Prelude.{◌≡◌, ℕ, List, ◌∷◌, OnOk};
 ghost use Rattle.traces.specs.Header.{IsHeader};
 ghost use Rattle.traces.specs.declared.row.Row.{Row as RowValue};
@@ -28,9 +29,9 @@ pub(crate) fn note_write<B: LeaseLog, M: WordMemory>(
     place: WordPlace,
 ) -> Result<(), AllocError>
     requires { IsHeader header.now }
-    ensures { OnOk result ((first : ℕ) (past : List RowValue) (at word : ℕ) → IsPlacedSo header.now (known header.now past) at word place →
+    ensures { OnOk result ((list : List Lease) (first : ℕ) (past : List RowValue) (at word : ℕ) → IsPlacedSo header.now (known header.now past) at word place →
         IsCleanRow header.now first past (Write at word) number t.now (M.words memory.now) →
-        FollowsBook B.holds header.now first past book.old ranges.old → FollowsBook B.holds header.now first (Write at word ∷ past) book.new ranges.new) }
+        FollowsBook (B.holds list) header.now first past book.old ranges.old → FollowsBook (B.holds list) header.now first (Write at word ∷ past) book.new ranges.new) }
 {
     let Some(index) = place.ring else {
         return Ok(());

@@ -1,5 +1,5 @@
 -- A trace, row by row: what was checked and lent so far, and what the check answers
-use Rattle.std.proofs.Common.{◌≡◌, ℕ, Bool, ◌+◌, ◌<◌, ◌≤◌, List, [], ◌∷◌, ap, sym, ◌∙◌, arith, length, subst, get_or}
+use Rattle.std.proofs.Common.{◌≡◌, ℕ, ◌+◌, ◌<◌, ◌≤◌, List, [], ◌∷◌, ap, sym, ◌∙◌, arith, length, subst, get_or}
 use Rattle.std.specs.Prelude.{reverse, take}
 use Rattle.std.proofs.lemmas.Grind.{common_steps}
 use Rattle.traces.specs.declared.row.Row.{Row}
@@ -18,11 +18,7 @@ use Rattle.lease_rows.specs.CleanRows.{FollowsBook, IsCleanRow}
 use Rattle.trace_record.specs.declared.trace_record.TraceRecord.{TraceRecord}
 use Rattle.trace_record.specs.FollowsTrace.{FollowsTrace}
 use Rattle.trace_record.specs.Fresh.{IsWithin}
-use Rattle.trace_record.specs.Steps.{IfRefused, IsLeast, IsRowStep}
-use Rattle.trace_record.specs.WordPlaces.{IsOwnedSo, IsPlaced}
-use Rattle.trace_record.specs.declared.fault.StepFault.{StepFault}
-use Rattle.trace_record.specs.declared.fault.StepFault.TheVariants.{Refused, Memory}
-use Rattle.trace_record.specs.declared.word_place.WordPlace.{WordPlace}
+use Rattle.trace_record.specs.Steps.{IsRowStep}
 use Rattle.row_checks.specs.Accepted.{IsAccepted}
 use Rattle.row_checks.specs.Tracking.{IsTracked}
 use Rattle.row_checks.proofs.Passes as passes
@@ -33,14 +29,6 @@ length_reversed rows = grind (arith, common_steps)
 
 reversed_twice : (rows : List Row) → reverse (reverse rows) ≡ rows
 reversed_twice rows = grind (arith, common_steps)
-
--- what is said of a row by the place of its word, where that is found
-pub by_place : (h : Header) (kept : TraceRecord) (m : ℕ → ℕ) (row : Row) (place : WordPlace) (owned : Bool) → ((k : Known) → FollowsTrace h k kept m → IsPlaced h k row place) →
-    ((k : Known) → FollowsTrace h k kept m → IsPlaced h k row place → IsOwnedSo h k row owned) → (e : StepFault) →
-    IfRefused e (λ c. (k : Known) → IsTracked h k kept m → IsPlaced h k row place → IsOwnedSo h k row owned → IsLeast h k row c) →
-    IfRefused e (λ c. (k : Known) → IsTracked h k kept m → IsLeast h k row c)
-by_place h kept m row place owned places owns (Refused c) said = λ k t. let placed = places k t.follows in said k t placed (owns k t.follows placed)
-by_place h kept m row place owned places owns Memory said = said
 
 -- a trace, row by row
 module _ (h : Header) (rows : List Row) (first : ℕ) where

@@ -1,5 +1,5 @@
 -- A pass over the rows of a trace: what was checked so far, and what that says of the whole
-use Rattle.std.proofs.Common.{◌≡◌, ℕ, ◌+◌, ◌-◌, ◌<◌, ◌≤◌, List, false, [], ◌∷◌, Option, Some, None, refl, ap, sym, ◌∙◌, arith, length, subst, get_or, add-zero}
+use Rattle.std.proofs.Common.{◌≡◌, ℕ, Bool, ◌+◌, ◌-◌, ◌<◌, ◌≤◌, List, false, [], ◌∷◌, Option, Some, None, refl, ap, sym, ◌∙◌, arith, length, subst, get_or, add-zero}
 use Rattle.std.specs.Prelude.{reverse, take, drop, option_map}
 use Rattle.std.proofs.lemmas.Grind.{common_steps}
 use Rattle.traces.specs.declared.row.Row.{Row}
@@ -18,7 +18,9 @@ use Rattle.safety.proofs.NothingKept.{nothing_kept}
 use Rattle.safety.proofs.DriverHistories.{kept_driver}
 use Rattle.trace_record.specs.declared.trace_record.TraceRecord.{TraceRecord}
 use Rattle.trace_record.specs.declared.fault.StepFault.{StepFault}
-use Rattle.trace_record.specs.declared.fault.StepFault.TheVariants.{Refused}
+use Rattle.trace_record.specs.declared.fault.StepFault.TheVariants.{Refused, Memory}
+use Rattle.trace_record.specs.declared.word_place.WordPlace.{WordPlace}
+use Rattle.trace_record.specs.WordPlaces.{IsOwnedSo, IsPlaced}
 use Rattle.trace_record.specs.FollowsTrace.{FollowsTrace}
 use Rattle.trace_record.specs.Fresh.{IsWithin}
 use Rattle.trace_record.specs.Steps.{IfRefused, IsLeast, IsRowStep}
@@ -81,6 +83,14 @@ tracked_after : (h : Header) → IsHeader h → (k : Known) (row : Row) (kept af
     IsTracked h (learned h k row) after o
 tracked_after h headed k row kept after m o t clean f =
     record { follows = f; keeps = λ on. kept_driver h headed k row (t.keeps (clean_tests h k row clean).0) clean on }
+
+-- what is said of a row by the place of its word, where that is found
+pub by_place : (h : Header) (kept : TraceRecord) (m : ℕ → ℕ) (row : Row) (place : WordPlace) (owned : Bool) → ((k : Known) → FollowsTrace h k kept m → IsPlaced h k row place) →
+    ((k : Known) → FollowsTrace h k kept m → IsPlaced h k row place → IsOwnedSo h k row owned) → (e : StepFault) →
+    IfRefused e (λ c. (k : Known) → IsTracked h k kept m → IsPlaced h k row place → IsOwnedSo h k row owned → IsLeast h k row c) →
+    IfRefused e (λ c. (k : Known) → IsTracked h k kept m → IsLeast h k row c)
+by_place h kept m row place owned places owns (Refused c) said = λ k t. let placed = places k t.follows in said k t placed (owns k t.follows placed)
+by_place h kept m row place owned places owns Memory said = said
 
 -- a trace, row by row
 module _ (h : Header) (rows : List Row) (first : ℕ) where

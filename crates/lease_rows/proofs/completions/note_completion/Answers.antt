@@ -18,11 +18,11 @@ use Rattle.lease_rows.proofs.LentEvents.{entries, floors}
 use Rattle.lease_rows.proofs.completions.note_completion.Goals as goal
 
 pub returns-in_default : goal.returns-in_default
-returns-in_default g c = λ first past memory completes next all.
+returns-in_default g c = λ list first past memory completes next all.
     absurd (some_commands c.args.header.now c.requires.headed first past c.args.event c.args.number c.args.t.now memory next completes (sym c.requires.found.commands ∙ c.in_default.is))
 
 pub returns-in-None : goal.returns-in-None
-returns-in-None g c = λ first past memory completes next all.
+returns-in-None g c = λ list first past memory completes next all.
     let h = c.args.header.now in
     let k = known h past in
     let moves = floors h c.requires.headed first past c.args.event c.args.number c.args.t.now memory next completes in
@@ -39,15 +39,15 @@ returns-in-None g c = λ first past memory completes next all.
     let said = command_at_is h k q p _ ring (c.command_at.ensures q.shape (k.ring q.id) follows) in
     completion_ends h c.requires.headed first past c.args.event c.args.number c.args.t.now memory next completes moves q among here.1 drives c.end_passed.new.self c.args.ranges.now p q.id (code c.args.event == 1) None at (sym ring) refl
     (sym (said ∙ c.in-None.is) ∙ ap (command_at h k) at)
-    (subst (λ (ts : List Lent). HoldsAll g.B.LeaseLog.holds h (map (ended_where (is_passed q.id p (p + 1)) c.args.number) ts) c.end_passed.new.self c.args.ranges.now)
+    (subst (λ (ts : List Lent). HoldsAll (g.B.LeaseLog.holds list) h (map (ended_where (is_passed q.id p (p + 1)) c.args.number) ts) c.end_passed.new.self c.args.ranges.now)
     (sym (none_behind h c.requires.headed first past c.args.event c.args.number c.args.t.now memory next completes p (code c.args.event == 1) (lents h first past)))
     (record {
-      held = c.end_passed.ensures h (lents h first past) (shape_there h c.requires.headed q among) (omega arith) all.held;
+      held = c.end_passed.ensures list h (lents h first past) (shape_there h c.requires.headed q among) (omega arith) all.held;
       found = some_end h c.args.ranges.now _ c.args.number (lents h first past) all.found;
     }))
 
 pub returns-in-Some-command_at : goal.returns-in-Some-command_at
-returns-in-Some-command_at g c = λ first past memory completes next all.
+returns-in-Some-command_at g c = λ list first past memory completes next all.
     let h = c.args.header.now in
     let k = known h past in
     let moves = floors h c.requires.headed first past c.args.event c.args.number c.args.t.now memory next completes in
@@ -66,9 +66,9 @@ returns-in-Some-command_at g c = λ first past memory completes next all.
     let tells : s ≡ (code c.args.event == 1) = ap (λ (x : ℕ). x == 1) c.code-success.ensures in
     let says = sym (said ∙ c.in-Some-command_at.is) ∙ ap (command_at h k) at in
     let may = command_behind h c.requires.headed first past c.args.event c.args.number c.args.t.now memory next completes moves p s (Some c.in-Some-command_at.command) at tells says in
-    let ended = c.end_command.ensures k memory (lents h first past) next.followed (endpoint_rings h c.requires.headed first past c.args.event c.args.number c.args.t.now memory next completes) (entries h c.requires.headed first past c.args.event c.args.number c.args.t.now memory next) may.0 (shape_is h c.requires.headed first past c.args.event c.args.number c.args.t.now memory next completes moves q among here.1 drives) may.1 may.2 all in
+    let ended = c.end_command.ensures list k memory (lents h first past) next.followed (endpoint_rings h c.requires.headed first past c.args.event c.args.number c.args.t.now memory next completes) (entries h c.requires.headed first past c.args.event c.args.number c.args.t.now memory next) may.0 (shape_is h c.requires.headed first past c.args.event c.args.number c.args.t.now memory next completes moves q among here.1 drives) may.1 may.2 all in
     completion_ends h c.requires.headed first past c.args.event c.args.number c.args.t.now memory next completes moves q among here.1 drives c.end_passed-in-Some-command_at.new.self c.args.ranges.now p q.id s (Some c.in-Some-command_at.command) at (sym ring) tells says
     (record {
-      held = c.end_passed-in-Some-command_at.ensures h _ (shape_there h c.requires.headed q among) (omega arith) ended.held;
+      held = c.end_passed-in-Some-command_at.ensures list h _ (shape_there h c.requires.headed q among) (omega arith) ended.held;
       found = some_end h c.args.ranges.now _ c.args.number _ ended.found;
     })

@@ -16,12 +16,12 @@ use Rattle.lease_rows.proofs.TransferRows.{comes, driver_kind, keeps, other_lent
 use Rattle.lease_rows.proofs.events.note_transfer.Goals as goal
 
 pub returns-then-not-is_transfer : goal.returns-then-not-is_transfer
-returns-then-not-is_transfer g c = λ first past memory ranges other next all.
+returns-then-not-is_transfer g c = λ list first past memory ranges other next all.
     let h = c.args.header.now in
     held_still h c.requires.headed first past c.args.book.now ranges _ (other_lent h c.requires.headed first past c.args.event c.args.number c.args.t.now memory next (sym c.is_transfer.ensures ∙ c.if-not-is_transfer.true) other) all
 
 pub returns-in_default : goal.returns-in_default
-returns-in_default g c = λ first past memory ranges other next all.
+returns-in_default g c = λ list first past memory ranges other next all.
     let h = c.args.header.now in
     let k = known h past in
     let d = keeps h c.requires.headed first past c.args.event c.args.number c.args.t.now memory next in
@@ -30,7 +30,7 @@ returns-in_default g c = λ first past memory ranges other next all.
     held_still h c.requires.headed first past c.args.book.now ranges _ (unbound_lent h c.requires.headed first past c.args.event c.args.number c.args.t.now memory next (sym c.is_transfer.ensures ∙ c.if-not-is_transfer.false) of) all
 
 pub returns-in_default-ring_named : goal.returns-in_default-ring_named
-returns-in_default-ring_named g c = λ first past memory ranges other next all.
+returns-in_default-ring_named g c = λ list first past memory ranges other next all.
     let h = c.args.header.now in
     let k = known h past in
     let d = keeps h c.requires.headed first past c.args.event c.args.number c.args.t.now memory next in
@@ -39,7 +39,7 @@ returns-in_default-ring_named g c = λ first past memory ranges other next all.
     absurd (ring_of_header h k d _ _ c.in-Some.id of (sym (c.ring_named.ensures h.rings c.requires.found) ∙ c.in_default-ring_named.is))
 
 pub returns-in_default-named : goal.returns-in_default-named
-returns-in_default-named g c = λ first past memory ranges other next all.
+returns-in_default-named g c = λ list first past memory ranges other next all.
     let h = c.args.header.now in
     let k = known h past in
     let d = keeps h c.requires.headed first past c.args.event c.args.number c.args.t.now memory next in
@@ -59,7 +59,7 @@ returns-in_default-named g c = λ first past memory ranges other next all.
     (unnamed_lent h c.requires.headed first past c.args.event c.args.number c.args.t.now memory next transfers c.in-Some.id of q among id (ap (λ (a : ℕ). named q.shape (k.ring q.id) a) (sym c.pointer.ensures) ∙ named_is ∙ c.in_default-named.is)) all
 
 pub returns : goal.returns
-returns g c = λ first past memory ranges other next all.
+returns g c = λ list first past memory ranges other next all.
     let h = c.args.header.now in
     let k = known h past in
     let d = keeps h c.requires.headed first past c.args.event c.args.number c.args.t.now memory next in
@@ -82,6 +82,6 @@ returns g c = λ first past memory ranges other next all.
     let rises = comes h c.requires.headed first past c.args.event c.args.number c.args.t.now memory next transfers c.in-Some.id of q among id spot is in
     transfer_ends h c.requires.headed first past c.args.event c.args.number c.args.t.now memory next transfers c.in-Some.id of q among id spot is c.end_passed.new.self ranges _ _ floor reached
     (record {
-      held = c.end_passed.ensures h (lents h first past) (shape_there h c.requires.headed q among) (omega (arith, rises, floor, reached)) all.held;
+      held = c.end_passed.ensures list h (lents h first past) (shape_there h c.requires.headed q among) (omega (arith, rises, floor, reached)) all.held;
       found = some_end h ranges _ c.args.number (lents h first past) all.found;
     })

@@ -13,21 +13,21 @@ use Rattle.lease_rows.proofs.EndedRanges.{endpoint_driven, endpoint_named, ends_
 use Rattle.lease_rows.proofs.left_behind.end_moved.Goals as goal
 
 pub returns-in_default : goal.returns-in_default
-returns-in_default g c = λ k memory ts ranges follows rings on all.
+returns-in_default g c = λ list k memory ts ranges follows rings on all.
     none_past c.args.header.now k c.args.number ts c.args.book.now ranges _ (moves_none c.args.header.now k c.args.command (λ s i p cycle is. c.in_default.not-SetTrDequeue s i p cycle is)) all
 
 pub returns-in_default-ring_of : goal.returns-in_default-ring_of
-returns-in_default-ring_of g c = λ k memory ts ranges follows rings on all.
+returns-in_default-ring_of g c = λ list k memory ts ranges follows rings on all.
     let h = c.args.header.now in
     let is = c.in-SetTrDequeue.is in
     none_past h k c.args.number ts c.args.book.now ranges _ (moved_none h k c.args.command _ _ _ _ is (sym (c.ring_of.ensures k follows.devices) ∙ c.in_default-ring_of.is)) all
 
 pub returns-in_default-ring_named : goal.returns-in_default-ring_named
-returns-in_default-ring_named g c = λ k memory ts ranges follows rings on all.
+returns-in_default-ring_named g c = λ list k memory ts ranges follows rings on all.
     absurd (endpoint_named c.args.header.now k rings _ _ c.in-Some.id (sym (c.ring_of.ensures k follows.devices) ∙ c.in-Some.is) (sym (c.ring_named.ensures c.args.header.now.rings c.requires.found) ∙ c.in_default-ring_named.is))
 
 pub returns-in_default-target : goal.returns-in_default-target
-returns-in_default-target g c = λ k memory ts ranges follows rings on all.
+returns-in_default-target g c = λ list k memory ts ranges follows rings on all.
     let h = c.args.header.now in
     let is = c.in-SetTrDequeue.is in
     let of = sym (c.ring_of.ensures k follows.devices) ∙ c.in-Some.is in
@@ -43,7 +43,7 @@ returns-in_default-target g c = λ k memory ts ranges follows rings on all.
     none_past h k c.args.number ts c.args.book.now ranges _ (moved_is h k c.args.command _ _ _ _ q.id _ is of_q (at ∙ c.in_default-target.is)) all
 
 pub returns : goal.returns
-returns g c = λ k memory ts ranges follows rings on all.
+returns g c = λ list k memory ts ranges follows rings on all.
     let h = c.args.header.now in
     let is = c.in-SetTrDequeue.is in
     let of = sym (c.ring_of.ensures k follows.devices) ∙ c.in-Some.is in
@@ -61,4 +61,4 @@ returns g c = λ k memory ts ranges follows rings on all.
     let reached = c.number_of-reached.ensures in
     let rises : floor_number (k.ring q.id) ≤ number c.in-Some-target.spot = subst (MovesOn k) some on in
     some_past h k c.args.number ts c.end_passed.new.self ranges _ q.id _ _ _ some floor reached
-    (ends_all g.B.LeaseLog.holds h c.args.number ts c.end_passed.new.self ranges _ (c.end_passed.ensures h ts (shape_there h c.requires.headed q among) (omega (arith, rises, floor, reached)) all.held) all.found)
+    (ends_all (g.B.LeaseLog.holds list) h c.args.number ts c.end_passed.new.self ranges _ (c.end_passed.ensures list h ts (shape_there h c.requires.headed q among) (omega (arith, rises, floor, reached)) all.held) all.found)

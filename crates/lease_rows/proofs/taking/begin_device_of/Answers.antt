@@ -9,18 +9,18 @@ use Rattle.lease_rows.proofs.TakenRanges.{all_more, same_more, slot_is, still_fr
 use Rattle.lease_rows.proofs.taking.begin_device_of.Goals as goal
 
 pub returns-in_default : goal.returns-in_default
-returns-in_default g c = λ k ts follows fits free all.
+returns-in_default g c = λ list k ts follows fits free all.
     none_taken c.args.header.now c.args.number c.args.book.now c.args.ranges.now k ts (taken_device k c.args.command) (takes_none k c.args.command (λ s bsr n is. c.in_default.not-AddressDevice s bsr n is)) all
 
 pub returns-then-is_some : goal.returns-then-is_some
-returns-then-is_some g c = λ k ts follows fits free all.
+returns-then-is_some g c = λ list k ts follows fits free all.
     none_taken c.args.header.now c.args.number c.args.book.now c.args.ranges.now k ts (taken_device k c.args.command)
     (takes_no_more k c.args.command c.in-AddressDevice.slot _ _ c.in-AddressDevice.is
     (ap is_some (sym (c.device.ensures k follows.devices)) ∙ sym c.is_some.ensures ∙ c.if-is_some.true)) all
 
 pub returns : goal.returns
 returns g c =
-    on_both c.begin_device.result (λ holds finds. λ k ts follows fits free all.
+    on_both c.begin_device.result (λ holds finds. λ list k ts follows fits free all.
     let h = c.args.header.now in
     let s : ℕ = c.in-AddressDevice.slot in
     let n : ℕ = c.args.number in
@@ -36,9 +36,9 @@ returns g c =
     same_more h n c.begin_device.new.book c.begin_device.new.self ts _ _
     (slot_is h k (taken_device k c.args.command) s c.slot_entry-entry.result c.long_at-device.result c.device_bytes.result (taken ∙ ap (λ (d : ℕ). Some (s, d)) device) at c.device_bytes.ensures)
     (all_more h n c.begin_device.new.book c.begin_device.new.self ts _ _
-    (let held = c.in_ok-begin_entry.ensures.held h ts (SlotEntry s) all.held in
+    (let held = c.in_ok-begin_entry.ensures.held list h ts (SlotEntry s) all.held in
     record {
-      held = holds h _ (DeviceContext s) held;
-      found = finds h _ held (c.in_ok-begin_entry.ensures.found h ts all.held all.found open_.0) (still_free h n ts (DeviceContext s) (Range 8 c.slot_entry-entry.result (SlotEntry s)) refl open_.1);
+      held = holds list h _ (DeviceContext s) held;
+      found = finds list h _ held (c.in_ok-begin_entry.ensures.found list h ts all.held all.found open_.0) (still_free h n ts (DeviceContext s) (Range 8 c.slot_entry-entry.result (SlotEntry s)) refl open_.1);
     })))
     c.begin_device.ensures.held c.begin_device.ensures.found

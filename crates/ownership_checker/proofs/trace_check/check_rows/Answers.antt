@@ -1,10 +1,10 @@
-use Rattle.std.proofs.Common.{◌≡◌, Some, length, sym, subst, arith}
+use Rattle.std.proofs.Common.{◌≡◌, [], Some, length, sym, subst, arith}
 use Rattle.ring_knowledge.specs.Known.{nothing}
 use Rattle.ring_knowledge.specs.Learned.{known}
 use Rattle.ownership_rules.specs.declared.refusal.Refusal.{Refusal}
 use Rattle.ownership_rules.specs.Rules.{verdict_from}
-use Rattle.row_checks.proofs.Passes.{refused, room_for}
-use Rattle.ownership_checker.proofs.Checking.{started, stepped, by_place, ended, walked}
+use Rattle.row_checks.proofs.Passes.{by_place, refused, room_for}
+use Rattle.ownership_checker.proofs.Checking.{started, stepped, ended, walked}
 use Rattle.ownership_checker.proofs.trace_check.check_rows.Goals as goal
 
 pub loop-row-init : goal.loop-row-init
@@ -22,7 +22,7 @@ loop-row-preserved g c =
     (λ k t.
     let placed = c.place-place.ensures k (g.M.WordMemory.words c.loop-row.memory) t.follows in
     c.in-Ok.ensures.ok k t placed (c.owns-owned.ensures c.args.header.now k (g.M.WordMemory.words c.loop-row.memory) t.follows placed))
-    (λ past clean held. c.in_ok-note_row.ensures c.args.first past (c.place-place.ensures (known c.args.header.now past) (g.M.WordMemory.words c.loop-row.memory) clean.followed) clean held)
+    (λ past clean held. c.in_ok-note_row.ensures [] c.args.first past (c.place-place.ensures (known c.args.header.now past) (g.M.WordMemory.words c.loop-row.memory) clean.followed) clean held)
 
 pub returns-in-Err-Refused-clause-refused : goal.returns-in-Err-Refused-clause-refused
 returns-in-Err-Refused-clause-refused g c =

@@ -6,7 +6,7 @@ use Rattle.lease_book.proofs.Places.{block_found, list_begun, length_held, put_a
 use Rattle.lease_book.proofs.lease_book.LeaseBookLeaseLog.begin_block.Goals as goal
 
 pub returns : goal.returns
-returns c = λ h ts shape known free.
+returns c = λ list h ts shape known free.
     let place : c.args.position % c.from.result ≡ c.args.position % place_count (shape_of h c.args.ring.now.id) = ap (λ n. c.args.position % n) (c.from.ensures ∙ c.places.ensures.count ∙ ap place_count (sym shape)) in
     let index : c.len-index.result ≡ c.args.self.now.leases.len = c.len-index.ensures in
     record {

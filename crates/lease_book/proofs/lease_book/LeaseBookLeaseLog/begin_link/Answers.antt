@@ -9,7 +9,7 @@ use Rattle.lease_book.proofs.lease_book.LeaseBookLeaseLog.begin_link.Goals as go
 
 pub returns : goal.returns
 unfolding link_of
-returns c = λ h ts shape crosses known free.
+returns c = λ list h ts shape crosses known free.
     let place : c.unwrap_or-segment.result ≡ link_of (shape_of h c.args.ring.now.id) c.args.crossing =
     c.unwrap_or-segment.ensures ∙ ap (λ o. unwrap_or o 0) (c.crossing.ensures.value ∙ ap (λ s. link_crossed s c.args.crossing) (sym shape)) in
     let index : c.len-index.result ≡ c.args.self.now.leases.len = c.len-index.ensures in

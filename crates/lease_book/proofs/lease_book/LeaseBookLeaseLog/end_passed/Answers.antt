@@ -41,7 +41,7 @@ loop-number-preserved c = λ h ts shape known.
     ]
 
 pub returns : goal.returns
-returns c = λ h ts shape rises known.
+returns c = λ list h ts shape rises known.
     let most = c.loop-number.auto.number-end rises in
     let end : c.loop-number.number ≡ c.args.to = omega (arith, most, c.loop-number-test.false) in
     subst (λ (n : ℕ). HoldsLents h (map (ended_where (is_passed c.args.ring.now.id c.args.from n) c.args.row) ts) c.loop-number.self) end (c.loop-number.invariant h ts shape known)
