@@ -6,10 +6,9 @@ mod lease_book;
 mod lease_log;
 mod opening;
 mod ranges;
-#[cfg(test)]
-mod tests;
 
 pub use indexes::{IndexTables, Indexes};
-pub use lease_book::LeaseBook;
+pub use lease_book::{LeaseBook, block_lease, link_lease, range_lease};
 pub use lease_log::LeaseLog;
+pub use opening::opening_leases;
 pub use ranges::RangeIndexes;

@@ -1,0 +1,15 @@
+use Rattle.std.proofs.Common.{◌∙◌, sym}
+use Rattle.std.proofs.lemmas.Bool.{false≢true}
+use Rattle.lease_book.specs.Lents.{lents}
+use Rattle.lease_book.proofs.Growing.{leases_are}
+use Rattle.certificate_log.proofs.Log.{tells_whole, whole_tells}
+use Rattle.certificate_log.proofs.certificate_log.CertificateLog.is_whole.Goals as goal
+
+pub returns-clause-yes : goal.returns-clause-yes
+returns-clause-yes c = λ list h first past room follows yes.
+    whole_tells list h (lents h first past) c.args.self.now.list c.args.self.now.blocks c.args.self.now.links follows (sym c.is_whole.ensures ∙ yes) ∙ sym (leases_are h first past room)
+
+pub returns-clause-no : goal.returns-clause-no
+returns-clause-no c = λ list h first past room follows no same.
+    false≢true (sym no ∙ c.is_whole.ensures
+    ∙ tells_whole list h (lents h first past) c.args.self.now.list c.args.self.now.blocks c.args.self.now.links follows (same ∙ leases_are h first past room))

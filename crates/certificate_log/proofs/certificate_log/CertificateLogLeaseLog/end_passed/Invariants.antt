@@ -1,0 +1,12 @@
+use Rattle.std.proofs.Common.{◌≡◌, List, map}
+use Rattle.traces.specs.declared.header.Header.{Header}
+use Rattle.traces.specs.Header.{shape_of}
+use Rattle.ring_knowledge.specs.declared.lease.Lease.{Lease}
+use Rattle.lease_book.specs.Lents.{Lent, ended_where, is_passed}
+use Rattle.certificate_log.specs.Logs.{FollowsCertificate}
+use Rattle.certificate_log.proofs.certificate_log.CertificateLogLeaseLog.end_passed.Given as goal
+
+abbrev pub invariant-loop-number : goal.invariant-loop-number
+invariant-loop-number l =
+    (list : List Lease) (h : Header) (ts : List Lent) → shape_of h l.ring.id ≡ l.ring.shape → FollowsCertificate list h ts l.fn.self →
+    FollowsCertificate list h (map (ended_where (is_passed l.ring.id l.from l.number) l.row) ts) l.self

@@ -1,0 +1,4 @@
+pub mod Agreement
+pub mod OpenPlaces
+pub mod Following
+pub mod Logs

@@ -1,0 +1,128 @@
+ghost use Rattle.std.specs.Prelude.{◌≡◌, ◌≢◌, ◌+◌, ◌≤◌, ℕ, [], ◌∷◌, true, false, List, length, map, reverse, IfOk};
+ghost use Rattle.segments.specs.Places.{is_crossing};
+ghost use Rattle.traces.specs.declared.header.Header.{Header as HeaderValue};
+ghost use Rattle.traces.specs.declared.row.Row.{Row};
+ghost use Rattle.traces.specs.Header.{shape_of};
+ghost use Rattle.ring_knowledge.specs.declared.lease.Lease.{Lease as LeaseValue};
+ghost use Rattle.ownership_rules.specs.OpenLeases.{Block, Link, same_leased};
+ghost use Rattle.ownership_rules.specs.Leases.{leases, without_end};
+ghost use Rattle.lease_book.specs.Lents.{Lent, ended_where, lents};
+
+use crate::followed::FollowedList;
+use lease_book::{IndexTables, LeaseLog, block_lease, link_lease, opening_leases, range_lease};
+use ring_knowledge::Lease;
+use std::alloc::{AllocError, Global};
+use traces::{Header, Ring};
+
+/// Follows the leases of a certificate, row by row, without building a list.
+#[derive(Drop)]
+pub struct CertificateLog<'a> {
+    list: FollowedList<'a>,
+    /// By ring and place: one more than the index of the open lease of the block there; 0: there is none.
+    blocks: IndexTables,
+    /// By ring and segment: the same of the open lease of the segment's Link.
+    links: IndexTables,
+}
+
+impl<'a> CertificateLog<'a> {
+    ghost use Rattle.certificate_log.specs.Logs.{FollowsCertificate};
+
+    /// The log before the first row: the leases of the event ring's segments have begun.
+    pub fn new(
+        alloc: Global,
+        header: &Header,
+        leases: &'a [Lease],
+    ) -> Result<CertificateLog<'a>, AllocError>
+        ensures { IfOk result (λ b. (first : ℕ) → FollowsCertificate leases.now header.now (lents header.now first []) b) }
+    {
+        let opening = opening_leases(alloc, header)?;
+        let mut list = FollowedList::new(leases);
+        for lease in opening.as_slice() {
+            list.begin(*lease)?;
+        }
+        Ok(CertificateLog {
+            list,
+            blocks: IndexTables::new(alloc)?,
+            links: IndexTables::new(alloc)?,
+        })
+    }
+
+    /// The list that it follows is the leases of the rows so far.
+    pub fn is_whole(&self) -> bool
+        ensures yes { (list : List LeaseValue) (h : HeaderValue) (first : ℕ) (past : List Row) → first + length past ≤ without_end →
+            FollowsCertificate list h (lents h first past) self.now → result ≡ true → list ≡ leases h first (reverse past) }
+        ensures no { (list : List LeaseValue) (h : HeaderValue) (first : ℕ) (past : List Row) → first + length past ≤ without_end →
+            FollowsCertificate list h (lents h first past) self.now → result ≡ false → list ≢ leases h first (reverse past) }
+    {
+        self.list.is_whole()
+    }
+
+    /// The lease of a block ends at a row, if it is open.
+    fn end_block(&mut self, row: u32, ring: &Ring, position: u64)
+        ensures { (list : List LeaseValue) (h : HeaderValue) (ts : List Lent) → shape_of h ring.now.id ≡ ring.now.shape → FollowsCertificate list h ts self.old →
+            FollowsCertificate list h (map (ended_where (same_leased (Block ring.now.id position)) row) ts) self.new }
+    {
+        let place = (position % u64::from(ring.shape.places())) as u32;
+        let number = self.blocks.get(ring.id, place);
+        let lease = block_lease(row, ring.id, position);
+        if number > 0 && self.list.end(number - 1, row, lease) {
+            self.blocks.clear(ring.id, place);
+        }
+    }
+
+    /// The lease of a Link ends at a row, if it is open; the Link is crossed on the way to a position.
+    fn end_link(&mut self, row: u32, ring: &Ring, crossing: u64)
+        requires { is_crossing ring.now.shape crossing ≡ true }
+        ensures { (list : List LeaseValue) (h : HeaderValue) (ts : List Lent) → shape_of h ring.now.id ≡ ring.now.shape → FollowsCertificate list h ts self.old →
+            FollowsCertificate list h (map (ended_where (same_leased (Link ring.now.id crossing)) row) ts) self.new }
+    {
+        let segment = ring.shape.crossing(crossing).unwrap_or(0);
+        let number = self.links.get(ring.id, segment);
+        let lease = link_lease(row, ring.id, crossing);
+        if number > 0 && self.list.end(number - 1, row, lease) {
+            self.links.clear(ring.id, segment);
+        }
+    }
+}
+
+impl LeaseLog for CertificateLog<'_> {
+    ghost use Rattle.certificate_log.specs.Logs.{FollowsCertificate};
+
+    ghost holds = { FollowsCertificate };
+
+    fn begin_block(&mut self, row: u32, ring: &Ring, position: u64) -> Result<(), AllocError> {
+        self.list.begin(block_lease(row, ring.id, position))?;
+        let place = (position % u64::from(ring.shape.places())) as u32;
+        self.blocks.put(ring.id, place, self.list.begun)?;
+        Ok(())
+    }
+
+    fn begin_link(&mut self, row: u32, ring: &Ring, crossing: u64) -> Result<(), AllocError> {
+        self.list.begin(link_lease(row, ring.id, crossing))?;
+        let segment = ring.shape.crossing(crossing).unwrap_or(0);
+        self.links.put(ring.id, segment, self.list.begun)?;
+        Ok(())
+    }
+
+    fn begin_range(&mut self, row: u32, bytes: u32, address: u64) -> Result<(), AllocError> {
+        self.list.begin(range_lease(row, bytes, address))?;
+        Ok(())
+    }
+
+    fn end_passed(&mut self, row: u32, ring: &Ring, from: u64, to: u64) {
+        for number in from..to {
+            self.end_block(row, ring, number);
+            if ring.shape.crossing(number).is_some() {
+                self.end_link(row, ring, number);
+            }
+        }
+    }
+
+    fn end_range(&mut self, index: usize, row: u32, bytes: u32, address: u64) {
+        self.list.end(index, row, range_lease(row, bytes, address));
+    }
+
+    fn count(&self) -> usize {
+        self.list.begun
+    }
+}

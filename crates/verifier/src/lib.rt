@@ -1,0 +1,6 @@
+//! The verifier of certificates.
+#![tactic(auto)]
+
+mod verifying;
+
+pub use verifying::verify;
