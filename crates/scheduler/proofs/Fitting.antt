@@ -1,0 +1,152 @@
+-- The lazy schedule of a clean trace names rings and blocks that there are
+use Rattle.std.proofs.Common.{◌≡◌, ℕ, ◌+◌, ◌<◌, ◌-◌, List, [], ◌∷◌, ◌++◌, Option, Some, None, refl, arith, length, subst, sym}
+use Rattle.std.specs.Prelude.{◌==◌, ◌&&◌, reverse, nat_lt, All, option_map}
+use Rattle.std.specs.List.{flat_map}
+use Rattle.std.proofs.lemmas.Bool.{and_parts, cond_both, eqb-true, ltb-true}
+use Rattle.std.proofs.lemmas.Option.{none-some, same_Some}
+use Rattle.std.proofs.lemmas.List.{get_or-reverse, length-reverse}
+use Rattle.std.proofs.lemmas.List.Elements.{All-append, All-cons, All-head, All-map, All-nil, All-tail}
+use Rattle.trb.specs.declared.block.Block.{Block}
+use Rattle.trb.specs.declared.kind.BlockKind.{BlockKind}
+use Rattle.trb.specs.declared.kind.BlockKind.TheVariants.{CommandCompletion, TransferEvent}
+use Rattle.trb.specs.Block.{IsBlock, code, endpoint, kind, pointer, slot}
+use Rattle.trb.specs.CompletionCode.{is_stopping}
+use Rattle.segments.specs.declared.spot.Spot.{Spot}
+use Rattle.segments.specs.Ceiling.{is_open, named}
+use Rattle.segments.specs.Shape.{is_shape}
+use Rattle.segments.specs.Spots.{number}
+use Rattle.commands.specs.declared.command.Command.{Command}
+use Rattle.commands.specs.declared.command.Command.TheVariants.{StopEndpoint}
+use Rattle.traces.specs.declared.header.Header.{Header}
+use Rattle.traces.specs.declared.row.Row.{Row}
+use Rattle.traces.specs.declared.row.Row.TheVariants.{Bell, Read, Reg, Sub, Write}
+use Rattle.traces.specs.declared.step.Step.{Step}
+use Rattle.traces.specs.declared.step.Step.TheVariants.{Look, NextRow}
+use Rattle.traces.specs.Header.{IsHeader, command_id, shape_of}
+use Rattle.traces.specs.Rows.{AreSteps, IsRow, IsStep}
+use Rattle.ring_knowledge.specs.Known.{Known}
+use Rattle.ring_knowledge.specs.Learned.{known, learned}
+use Rattle.ring_knowledge.specs.Rings.{RingSpot, command_at, event_at, next_command, spot_on}
+use Rattle.ownership_rules.specs.Clean.{IsClean}
+use Rattle.ownership_rules.specs.Rules.{broken}
+use Rattle.safety.specs.Keeps.{DriverKeeps, IsDriverRing}
+use Rattle.safety.proofs.CleanRows.{event_facts}
+use Rattle.safety.proofs.DriverHistories.{driver_keeps}
+use Rattle.safety.proofs.Headers.{header_parts, transfer_driver}
+use Rattle.safety.proofs.RingsOfHeader.{found_allowed, found_passes}
+use Rattle.safety.proofs.SafeContext.{command_is_ring}
+use Rattle.safety.proofs.TestsPassed.{clean_tests}
+use Rattle.lazy_runs.specs.Needs.{need}
+use Rattle.lazy_runs.specs.Lazy.{command_taken, goals, lazy_run, lazy_steps, looks_to, open_goals, pointers_at, post_of, report_goals, spots_before, steps_before, stop_goal, stopped_goals, taken_up_to}
+
+all_reverse : {X : Type 0} (P : X → Type 0) (xs : List X) → All P xs → All P (reverse xs)
+all_reverse P xs are = λ k d inside.
+    let below : k < length xs = omega (arith, length-reverse xs, inside) in
+    subst P (sym (get_or-reverse xs k d below)) (are (length xs - 1 - k) d (omega arith))
+
+abbrev IsLow : RingSpot → Type 0
+IsLow goal = goal.ring < 256
+
+module _ (h : Header) (headed : IsHeader h) where
+  low : (r : ℕ) → IsDriverRing h r → r < 256
+  low r is =
+      let there : is.ring.id ≡ r = eqb-true is.ring.id r (found_passes (λ q. q.id == r) h.rings is.ring is.found) in
+      let passes = found_allowed (λ q. q.id == r) (λ q. nat_lt q.id 256 && is_shape q.shape) h.rings is.ring is.found (header_parts h headed).0 in
+      let below : is.ring.id < 256 = ltb-true is.ring.id 256 (and_parts (nat_lt is.ring.id 256) (is_shape is.ring.shape) passes).0 in
+      omega arith
+
+  looks_are : (p : ℕ → Spot) (goal : RingSpot) → IsLow goal → AreSteps (looks_to h p goal)
+  unfolding looks_to
+  looks_are p goal is_low = All-map IsStep (λ (t : Spot). Look goal.ring) (spots_before (shape_of h goal.ring) (p goal.ring) goal.spot) (λ k d inside. is_low)
+
+  all_looks : (p : ℕ → Spot) (list : List RingSpot) → All IsLow list → AreSteps (flat_map (looks_to h p) list)
+  all_looks p [] are = All-nil IsStep
+  all_looks p (goal ∷ rest) are =
+      All-append IsStep (looks_to h p goal) (flat_map (looks_to h p) rest) (looks_are p goal (All-head IsLow goal rest are)) (all_looks p rest (All-tail IsLow goal rest are))
+
+  post_is : (k : BlockKind) (b : Block) → IsBlock b → IsStep (post_of h k b)
+  unfolding post_of
+  post_is TransferEvent b is = is
+  post_is CommandCompletion b is = is
+  post_is _ b is = is
+
+  one : (goal : RingSpot) → IsLow goal → All IsLow (goal ∷ [])
+  one goal is_low = All-cons IsLow goal [] is_low (All-nil IsLow)
+
+  stop_low : (at : RingSpot) (n : ℕ) → IsLow at → IsLow (stop_goal h at n)
+  unfolding stop_goal taken_up_to
+  stop_low at n is_low = cond_both (n == number at.spot + 1) (taken_up_to h at.ring n) at IsLow (λ _. is_low) (λ _. is_low)
+
+  module _ (k : Known) (d : DriverKeeps h k) (later : List Row) (b : Block) (command_low : command_id h < 256) where
+    command_goal_low : IsLow (command_taken h k)
+    unfolding command_taken taken_up_to
+    command_goal_low = command_low
+
+    bound_low : (s i r : ℕ) → k.ring_of s i ≡ Some r → r < 256
+    bound_low s i r bound = low r (transfer_driver h r (d.states.transfer s i r bound))
+
+    spot_low : (a : ℕ) (o : Option ℕ) → ((r : ℕ) → o ≡ Some r → r < 256) → (at : RingSpot) → spot_on h k a o ≡ Some at → IsLow at
+    unfolding spot_on
+    spot_low a None are at found = absurd (none-some at found)
+    spot_low a (Some r) are at found = by (named (shape_of h r) (k.ring r) a) found
+      where
+        by : (o : Option Spot) → option_map (λ t. record { ring = r; spot = t }) o ≡ Some at → IsLow at
+        by None none = absurd (none-some at none)
+        by (Some t) some = subst IsLow (same_Some (record { ring = r; spot = t }) at some) (are r refl)
+
+    report_low : (o : Option RingSpot) → ((at : RingSpot) → o ≡ Some at → IsLow at) → All IsLow (report_goals h k later b o)
+    unfolding report_goals taken_up_to
+    report_low None are = All-nil IsLow
+    report_low (Some at) are =
+        let n : ℕ = need h (learned h k (Read b)) at.ring later in
+        cond_both (is_stopping (code b)) (command_taken h k ∷ stop_goal h at n ∷ []) (taken_up_to h at.ring (number at.spot + 1) ∷ []) (All IsLow)
+        (λ _. All-cons IsLow (command_taken h k) (stop_goal h at n ∷ []) command_goal_low (one (stop_goal h at n) (stop_low at n (are at refl))))
+        (λ _. one (taken_up_to h at.ring (number at.spot + 1)) (are at refl))
+
+    open_low : (o : Option ℕ) → ((r : ℕ) → o ≡ Some r → r < 256) → All IsLow (open_goals h k later b o)
+    unfolding open_goals taken_up_to
+    open_low None are = All-nil IsLow
+    open_low (Some r) are =
+        let goal : RingSpot = taken_up_to h r (need h (learned h k (Read b)) r later) in
+        cond_both (is_open (k.ring r)) (goal ∷ []) [] (All IsLow) (λ _. one goal (are r refl)) (λ _. All-nil IsLow)
+
+    stopped_low : (o : Option Command) → All IsLow (stopped_goals h k later b o)
+    unfolding stopped_goals
+    stopped_low (Some (StopEndpoint s i)) =
+        cond_both (code b == 1) (open_goals h k later b (k.ring_of s i)) [] (All IsLow) (λ _. open_low (k.ring_of s i) (λ r bound. bound_low s i r bound)) (λ _. All-nil IsLow)
+    stopped_low _ = All-nil IsLow
+
+    goals_low : (of : BlockKind) → All IsLow (goals h k later of b)
+    unfolding goals event_at
+    goals_low TransferEvent =
+        report_low (event_at h k b) (λ at found. spot_low (pointer b) (k.ring_of (slot b) (endpoint b)) (λ r bound. bound_low (slot b) (endpoint b) r bound) at found)
+    goals_low CommandCompletion =
+        All-cons IsLow (command_taken h k) (stopped_goals h k later b (command_at h k (next_command h k))) command_goal_low (stopped_low (command_at h k (next_command h k)))
+    goals_low _ = All-nil IsLow
+
+  row_steps_are : (k : Known) (p : ℕ → Spot) (row : Row) (later : List Row) → DriverKeeps h k → IsRow row → broken h k row ≡ [] → AreSteps (steps_before h k p row later)
+  unfolding steps_before
+  row_steps_are k p (Read b) later d is clean =
+      let command_low : command_id h < 256 = low (command_id h) (command_is_ring h k d (event_facts h k b clean).started) in
+      All-append IsStep (flat_map (looks_to h p) (goals h k later (kind b) b)) (post_of h (kind b) b ∷ []) (all_looks p (goals h k later (kind b) b) (goals_low k d later b command_low (kind b)))
+      (All-cons IsStep (post_of h (kind b) b) [] (post_is (kind b) b is) (All-nil IsStep))
+  row_steps_are k p (Sub r blocks) later d is clean = All-nil IsStep
+  row_steps_are k p (Write a w) later d is clean = All-nil IsStep
+  row_steps_are k p (Reg r x) later d is clean = All-nil IsStep
+  row_steps_are k p (Bell s t) later d is clean = All-nil IsStep
+
+  run_is : (past later : List Row) → All IsRow past → IsClean h past → AreSteps (lazy_run h past later)
+  unfolding lazy_run
+  run_is [] later are clean = All-nil IsStep
+  run_is (row ∷ past) later are clean =
+      let k : Known = known h past in
+      let d : DriverKeeps h k = driver_keeps h headed past clean.0 (clean_tests h k row clean.1).0 in
+      let before : List Step = steps_before h k (pointers_at h past (row ∷ later)) row later in
+      All-cons IsStep NextRow (reverse before ++ lazy_run h past (row ∷ later)) tt
+      (All-append IsStep (reverse before) (lazy_run h past (row ∷ later))
+      (all_reverse IsStep before (row_steps_are k (pointers_at h past (row ∷ later)) row later d (All-head IsRow row past are) clean.1))
+      (run_is past (row ∷ later) (All-tail IsRow row past are) clean.0))
+
+  pub lazy_steps_are : (rows : List Row) → All IsRow rows → IsClean h (reverse rows) → AreSteps (lazy_steps h rows)
+  unfolding lazy_steps
+  lazy_steps_are rows are clean = all_reverse IsStep (lazy_run h (reverse rows) []) (run_is (reverse rows) [] (all_reverse IsRow rows are) clean)
