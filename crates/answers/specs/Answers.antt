@@ -7,13 +7,16 @@ use Rattle.trace_reader.specs.Faults.{fault_number, fault_name}
 use Rattle.trace_reader.specs.Values.{block_of}
 use Rattle.trace_reader.specs.declared.fault.ReadFault.{ReadFault}
 use Rattle.trace_reader.specs.declared.fault.ReadFault.TheVariants.{Line, Memory as OutOfMemory}
+use Rattle.certificate.specs.Spelling.{cert_fault_number, cert_fault_name}
+use Rattle.certificate.specs.declared.fault.CertFault.{CertFault}
+use Rattle.certificate.specs.declared.fault.CertFault.TheVariants.{Memory as NoLeaseMemory}
 use Rattle.plan_writer.specs.PlanRefusals.{refusal_number, refusal_name}
 use Rattle.plan_writer.specs.declared.fault.PlanFault.{PlanFault}
 use Rattle.plan_writer.specs.declared.fault.PlanFault.TheVariants.{Line as BadPlanLine, Refused as RefusedLine, Memory as NoPlanMemory}
 use Rattle.answers.specs.Decoding.{decoded_text}
 use Rattle.answers.specs.Replays.{end_status, replay_text}
 use Rattle.answers.specs.declared.answer.Answer.{Answer}
-use Rattle.answers.specs.declared.answer.Answer.TheVariants.{Accepted, Written, Decoded, Replayed, Refused, Unfollowed, BadLine, BadWord, Memory, Device}
+use Rattle.answers.specs.declared.answer.Answer.TheVariants.{Accepted, Written, Decoded, Replayed, Verified, Scheduled, Refused, Unfollowed, BadLine, BadWord, BadCertificate, TooLong, Memory, Device}
 use Rattle.answers.specs.declared.answer.Status.{Status}
 use Rattle.answers.specs.declared.answer.Status.TheVariants.{Clean, Unclean, Unreadable, Unanswered}
 
@@ -23,10 +26,14 @@ status_of (Accepted leases) = Clean
 status_of (Written trace) = Clean
 status_of (Decoded block) = Clean
 status_of (Replayed seen ending) = end_status ending
+status_of (Verified holds) = if holds then Clean else Unclean
+status_of (Scheduled schedule) = Clean
 status_of (Refused row refusal) = Unclean
 status_of (Unfollowed line refusal) = Unclean
 status_of (BadLine line fault) = Unreadable
 status_of BadWord = Unreadable
+status_of (BadCertificate fault) = Unreadable
+status_of TooLong = Unreadable
 status_of Memory = Unanswered
 status_of Device = Unanswered
 
@@ -56,10 +63,14 @@ text_of (Accepted leases) = codes "accepted: " ++ decimal leases ++ codes " leas
 text_of (Written trace) = trace.items
 text_of (Decoded block) = decoded_text block ++ 10 ∷ []
 text_of (Replayed seen ending) = replay_text seen.items ending
+text_of (Verified holds) = if holds then codes "yes\n" else codes "no\n"
+text_of (Scheduled schedule) = schedule.items
 text_of (Refused row refusal) = codes "row " ++ decimal row ++ codes ": " ++ decimal (rule.number_of refusal) ++ codes " " ++ rule.name_of refusal ++ 10 ∷ []
 text_of (Unfollowed line refusal) = codes "line " ++ decimal line ++ codes ": " ++ decimal (refusal_number refusal) ++ codes " " ++ refusal_name refusal ++ 10 ∷ []
 text_of (BadLine line fault) = codes "xhcitrace: line " ++ decimal line ++ codes ": " ++ decimal (fault_number fault) ++ codes " " ++ fault_name fault ++ 10 ∷ []
 text_of BadWord = codes "xhcitrace: 3 Number\n"
+text_of (BadCertificate fault) = codes "xhcitrace: " ++ decimal (cert_fault_number fault) ++ codes " " ++ cert_fault_name fault ++ 10 ∷ []
+text_of TooLong = codes "xhcitrace: 4 Limit\n"
 text_of Memory = memory_line
 text_of Device = device_line
 
@@ -81,6 +92,11 @@ answer_of_plan_fault (BadPlanLine line fault) = BadLine line fault
 answer_of_plan_fault (RefusedLine line refusal) = Unfollowed line refusal
 answer_of_plan_fault NoPlanMemory = Memory
 
+-- what is answered where bytes are no certificate
+abbrev pub answer_of_cert_fault : CertFault → Answer
+answer_of_cert_fault NoLeaseMemory = Memory
+answer_of_cert_fault fault = BadCertificate fault
+
 -- what is answered where a file can't be opened or read: want of memory is told as such, each other kind of error as the device's
 abbrev pub answer_of_kind : ErrorKind → Answer
 answer_of_kind NoMemory = Memory
@@ -88,13 +104,8 @@ answer_of_kind _ = Device
 
 -- an answer to four words is right: the block that they spell, or that one of them is no word; or that memory or the device failed
 abbrev pub IsBlockAnswer : List ℕ → List ℕ → List ℕ → List ℕ → Answer → Type 0
-IsBlockAnswer a b c d (Accepted leases) = ⊥
-IsBlockAnswer a b c d (Written text) = ⊥
 IsBlockAnswer a b c d (Decoded block) = block_of a b c d ≡ Some block
-IsBlockAnswer a b c d (Replayed seen ending) = ⊥
-IsBlockAnswer a b c d (Refused row refusal) = ⊥
-IsBlockAnswer a b c d (Unfollowed line refusal) = ⊥
-IsBlockAnswer a b c d (BadLine line fault) = ⊥
 IsBlockAnswer a b c d BadWord = block_of a b c d ≡ None
 IsBlockAnswer a b c d Memory = Unit {0}
 IsBlockAnswer a b c d Device = Unit {0}
+IsBlockAnswer a b c d _ = ⊥

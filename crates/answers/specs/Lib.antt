@@ -3,3 +3,4 @@ pub mod Telling
 pub mod Decoding
 pub mod Replays
 pub mod Keeping
+pub mod Inputs

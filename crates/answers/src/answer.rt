@@ -4,6 +4,7 @@ ghost use Rattle.answers.specs.Answers.{exit_number, status_of, text_of};
 
 use crate::decode::line_of;
 use crate::replay_lines::{ReplayEnd, replay_text};
+use certificate::CertFault;
 use controller_model::Seen;
 use ownership_rules::Refusal;
 use plan_writer::{PlanFault, PlanRefusal};
@@ -12,7 +13,7 @@ use std::io;
 use trace_reader::{LineFault, ReadFault};
 use trb::Block;
 
-/// The answer to a trace, a plan or a block.
+/// The answer to a trace, alone or beside a schedule or a certificate, to a plan or to a block.
 #[derive(Debug, Drop, PartialEq, Eq)]
 pub enum Answer {
     /// The trace is clean, with so many leases.
@@ -23,6 +24,10 @@ pub enum Answer {
     Decoded { block: Block },
     /// What the steps of a schedule showed, and how its replay ends.
     Replayed { seen: Vec<Seen>, ending: ReplayEnd },
+    /// Whether the certificate is that of the trace.
+    Verified { holds: bool },
+    /// The lazy schedule of the trace, as it is printed.
+    Scheduled { schedule: Vec<u8> },
     /// The first row that breaks a rule, by its line from 1, and the least rule that it breaks.
     Refused { row: u32, refusal: Refusal },
     /// The first line of a plan that can't be followed, from 1, and why.
@@ -31,6 +36,10 @@ pub enum Answer {
     BadLine { line: u32, fault: LineFault },
     /// A word of a block isn't 8 hex digits.
     BadWord,
+    /// The bytes are no certificate.
+    BadCertificate { fault: CertFault },
+    /// The schedule has more lines than a schedule may have.
+    TooLong,
     /// A growth of memory was refused.
     Memory,
     /// The trace couldn't be opened or read, or the answer couldn't be written.
@@ -40,11 +49,12 @@ pub enum Answer {
 /// How the program ends.
 #[derive(Clone, Copy, Debug, PartialEq, Eq)]
 pub enum Status {
-    /// The trace is accepted, the plan or the block is written, or the replay shows no harm.
+    /// The trace is accepted, the plan, the block or the schedule is written, the replay shows no harm, or the certificate holds.
     Clean,
-    /// A row breaks a rule, a line of a plan can't be followed, or a replay does harm or isn't possible.
+    /// A row breaks a rule, a line of a plan can't be followed, a replay does harm or isn't possible, or a certificate doesn't hold.
     Unclean,
-    /// The text is no trace or no block, or the arguments are wrong.
+    /// The text is no trace, no plan, no schedule or no block, the bytes are no certificate, a schedule would be too long, or the
+    /// arguments are wrong.
     Unreadable,
     /// Memory or a device failed.
     Unanswered,
@@ -73,6 +83,13 @@ fn numbered(
     format!(in alloc; "{head}{line}: {number} {name}")
 }
 
+/// What is told of bytes that are no certificate.
+fn named(alloc: Global, number: u8, name: &str) -> Result<String, AllocError>
+    ensures { IfOk result (λ text. string_bytes text ≡ codes "xhcitrace: " ++ (decimal number ++ (codes " " ++ name.now))) }
+{
+    format!(in alloc; "xhcitrace: {number} {name}")
+}
+
 /// What is written where memory is wanted: it needs none.
 pub const MEMORY_LINE: &str = "xhcitrace: 30 Memory\n";
 
@@ -84,11 +101,21 @@ impl Answer {
         ensures { result ≡ status_of self.now }
     {
         match self {
-            Answer::Accepted { .. } | Answer::Written { .. } | Answer::Decoded { .. } =>
-                Status::Clean,
+            Answer::Accepted { .. }
+            | Answer::Written { .. }
+            | Answer::Decoded { .. }
+            | Answer::Scheduled { .. } => Status::Clean,
             Answer::Replayed { ending, .. } => ending.status(),
+            Answer::Verified { holds } => if *holds {
+                Status::Clean
+            } else {
+                Status::Unclean
+            },
             Answer::Refused { .. } | Answer::Unfollowed { .. } => Status::Unclean,
-            Answer::BadLine { .. } | Answer::BadWord => Status::Unreadable,
+            Answer::BadLine { .. }
+            | Answer::BadWord
+            | Answer::BadCertificate { .. }
+            | Answer::TooLong => Status::Unreadable,
             Answer::Memory | Answer::Device => Status::Unanswered,
         }
     }
@@ -118,6 +145,11 @@ impl Answer {
             Answer::Written { trace } => Ok(trace),
             Answer::Decoded { block } => line_of(alloc, block),
             Answer::Replayed { seen, ending } => replay_text(alloc, &seen, ending),
+            Answer::Verified { holds } => {
+                let word = if holds { b"yes\n".as_slice() } else { b"no\n" };
+                Vec::from_slice(alloc, word)
+            }
+            Answer::Scheduled { schedule } => Ok(schedule),
             Answer::Refused { row, refusal } => {
                 ended(numbered(alloc, "row ", row, refusal.number(), refusal.name()))
             },
@@ -134,6 +166,10 @@ impl Answer {
                 ))
             },
             Answer::BadWord => Vec::from_slice(alloc, b"xhcitrace: 3 Number\n"),
+            Answer::BadCertificate { fault } => {
+                ended(named(alloc, fault.number(), fault.name()))
+            }
+            Answer::TooLong => Vec::from_slice(alloc, b"xhcitrace: 4 Limit\n"),
             Answer::Memory => Vec::from_slice(alloc, MEMORY_LINE.as_bytes()),
             Answer::Device => Vec::from_slice(alloc, DEVICE_LINE.as_bytes()),
         }
@@ -163,6 +199,19 @@ impl From<PlanFault> for Answer {
             PlanFault::Line { line, fault } => Answer::BadLine { line, fault },
             PlanFault::Refused { line, refusal } => Answer::Unfollowed { line, refusal },
             PlanFault::Memory => Answer::Memory,
+        }
+    }
+}
+
+impl From<CertFault> for Answer {
+    ghost use Rattle.answers.specs.Answers.{answer_of_cert_fault};
+
+    ghost from_gives = { λ fault answer. answer ≡ answer_of_cert_fault fault };
+
+    fn from(fault: CertFault) -> Answer {
+        match fault {
+            CertFault::Memory => Answer::Memory,
+            fault => Answer::BadCertificate { fault },
         }
     }
 }

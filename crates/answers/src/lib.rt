@@ -8,12 +8,10 @@ mod explain;
 mod keeping;
 mod replay_lines;
 mod telling;
-#[cfg(test)]
-mod tests;
 
 pub use answer::{Answer, Status};
 pub use decode::{BlockWords, run_decode};
-pub use explain::{Asked, note_on_plan, note_on_schedule, note_on_trace};
+pub use explain::{Asked, note_on_certificate, note_on_plan, note_on_schedule, note_on_trace};
 pub use keeping::keep;
 pub use replay_lines::ReplayEnd;
 pub use telling::{tell, tell_failure};

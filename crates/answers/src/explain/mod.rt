@@ -4,8 +4,6 @@ ghost use Rattle.answers.specs.Telling.{IsNote};
 
 mod bad_line;
 mod refused_row;
-#[cfg(test)]
-mod tests;
 mod words;
 
 use crate::answer::Answer;
@@ -14,7 +12,7 @@ use bad_line::{bad_plan_line, bad_schedule_line, bad_trace_line};
 use refused_row::refused_row;
 use std::alloc::{AllocError, Global};
 use std::io;
-use words::why_unfollowed;
+use words::{NOT_VERIFIED, TOO_LONG, why_no_certificate, why_unfollowed};
 
 /// What a command is asked for beside its answer.
 #[derive(Clone, Copy)]
@@ -40,6 +38,8 @@ pub fn note_on_trace(
     match answer {
         Answer::BadLine { line, fault } => bad_trace_line(alloc, text, *line, *fault),
         Answer::Refused { row, refusal } => refused_row(alloc, text, *row, *refusal),
+        Answer::Verified { holds: false } => format!(in alloc; "xhcitrace: {NOT_VERIFIED}\n"),
+        Answer::TooLong => format!(in alloc; "xhcitrace: {TOO_LONG}\n"),
         _ => Ok(String::new(alloc)),
     }
 }
@@ -80,6 +80,26 @@ pub fn note_on_schedule(
     }
     match answer {
         Answer::BadLine { line, fault } => bad_schedule_line(alloc, text, *line, *fault),
+        _ => Ok(String::new(alloc)),
+    }
+}
+
+/// What a person is told of an answer to the bytes of a certificate, beside its line.
+pub fn note_on_certificate(
+    alloc: Global,
+    asked: &Asked,
+    answer: &Answer,
+) -> Result<String, AllocError>
+    ensures { IfOk result (λ note. IsNote asked.now.explains (string_bytes note)) }
+{
+    if !asked.explains {
+        return Ok(String::new(alloc));
+    }
+    match answer {
+        Answer::BadCertificate { fault } => {
+            let why = why_no_certificate(*fault);
+            format!(in alloc; "xhcitrace: {why}\n")
+        }
         _ => Ok(String::new(alloc)),
     }
 }

@@ -1,4 +1,5 @@
 //! The rules of the texts and of ownership in plain words.
+use certificate::CertFault;
 use ownership_rules::Refusal;
 use plan_writer::PlanRefusal;
 
@@ -91,3 +92,22 @@ pub fn why_unfollowed(refusal: PlanRefusal) -> &'static str {
 /// What a line of a schedule may be.
 pub const STEPS: &str =
     "`row`, `look ID`, `report W W W W`, `finish W W W W`, `other W W W W` or `scrib ADDR WORD`";
+
+/// Why a certificate isn't that of its trace.
+pub const NOT_VERIFIED: &str =
+    "a row breaks a rule, which `xhcitrace check` names, or the certificate isn't the list of the trace's leases";
+
+/// Why a schedule isn't printed.
+pub const TOO_LONG: &str = "a schedule has at most 4194304 lines, and that of this trace has more";
+
+/// Why bytes are no certificate.
+pub fn why_no_certificate(fault: CertFault) -> &'static str {
+    match fault {
+        CertFault::Magic => "a certificate begins with the 8 bytes `XHCICRT1`",
+        CertFault::Length =>
+            "behind its first 8 bytes a certificate has 24 bytes for each lease, and nothing else",
+        CertFault::Field =>
+            "a lease has a kind up to 2, the ID of a ring up to 255 where it is of a ring, and an end after its first row",
+        CertFault::Memory => "memory is wanted",
+    }
+}
