@@ -2,26 +2,21 @@
 use Rattle.std.proofs.Common.{◌≡◌, ℕ, List, Option, Some, None, ◌⊎◌, inl, inr, Result, Ok, Err, subst}
 use Rattle.std.specs.Prelude.{IfErr, IfOk, IfSome}
 use Rattle.traces.specs.declared.trace.Trace.{Trace}
-use Rattle.xhci_cli.specs.CheckAnswers.{IsCheckAnswer, IsCutShort, IsHindered, IsTextOf, IsVerdict}
+use Rattle.answers.specs.Inputs.{IsTextOf}
+use Rattle.xhci_cli.specs.CheckAnswers.{IsCheckAnswer, IsCutShort, IsHindered, IsVerdict}
 use Rattle.answers.proofs.Writing.{begun}
 use Rattle.answers.specs.Keeping.{kept_bytes}
 use Rattle.certificate.specs.Spelling.{spelling}
 use Rattle.xhci_cli.specs.PlanAnswers.{IsPlanAnswer}
 use Rattle.answers.specs.declared.answer.Answer.{Answer}
-use Rattle.answers.specs.declared.answer.Answer.TheVariants.{Accepted, Written, Decoded, Replayed, Refused, Unfollowed, BadLine, BadWord, Memory, Device}
+use Rattle.answers.specs.declared.answer.Answer.TheVariants.{Accepted, Written, Refused, Unfollowed, BadLine, Memory, Device}
 
 pub verdict_right : {C : Type 0} (contents : C → Option (List ℕ)) (before after : Option C) (known : Option (List ℕ)) (a : Answer) (trace : Trace) → IsTextOf known trace →
     IsVerdict contents before after a trace → IsCheckAnswer contents before after known a
 verdict_right contents before after known (Accepted leases) trace text right = (trace, text, right)
-verdict_right contents before after known (Written bytes) trace text right = right
-verdict_right contents before after known (Decoded block) trace text right = right
-verdict_right contents before after known (Replayed seen ending) trace text right = right
 verdict_right contents before after known (Refused row refusal) trace text right = (trace, text, right)
-verdict_right contents before after known (Unfollowed line refusal) trace text right = right
-verdict_right contents before after known (BadLine line fault) trace text right = absurd right
-verdict_right contents before after known BadWord trace text right = right
 verdict_right contents before after known Memory trace text right = inl right
-verdict_right contents before after known Device trace text right = absurd right
+verdict_right contents before after known _ trace text right = absurd right
 
 -- what is right of bytes is right of an input of which nothing is known
 forget_hindered : {C : Type 0} (contents : C → Option (List ℕ)) (before after : Option C) (text : List ℕ) → IsHindered contents before after (Some text) → IsHindered contents before after None
@@ -30,15 +25,11 @@ forget_hindered contents before after text (inr cut) = inr (cut.0, tt, cut.2)
 
 forget_check : {C : Type 0} (contents : C → Option (List ℕ)) (before after : Option C) (text : List ℕ) (a : Answer) → IsCheckAnswer contents before after (Some text) a → IsCheckAnswer contents before after None a
 forget_check contents before after text (Accepted leases) right = (right.0, tt, right.2)
-forget_check contents before after text (Written bytes) right = right
-forget_check contents before after text (Decoded block) right = right
-forget_check contents before after text (Replayed seen ending) right = right
 forget_check contents before after text (Refused row refusal) right = (right.0, tt, right.2)
-forget_check contents before after text (Unfollowed line refusal) right = right
 forget_check contents before after text (BadLine line fault) right = (tt, right.1)
-forget_check contents before after text BadWord right = right
 forget_check contents before after text Memory right = forget_hindered contents before after text right
 forget_check contents before after text Device right = forget_hindered contents before after text right
+forget_check contents before after text _ right = absurd right
 
 pub check_held : {C : Type 0} (contents : C → Option (List ℕ)) (before after : Option C) (known : Option (List ℕ)) (text : List ℕ) (a : Answer) → IfSome known (λ xs. text ≡ xs) →
     IsCheckAnswer contents before after (Some text) a → IsCheckAnswer contents before after known a
@@ -63,27 +54,17 @@ hindered_right contents before after known (Err e) trace text cut = inr (trace, 
 pub hindered : {C : Type 0} (contents : C → Option (List ℕ)) (before after : Option C) (known : Option (List ℕ)) (a : Answer) → IsCheckAnswer contents before after known a → IsHindered contents before after known
 hindered contents before after known (Accepted leases) right =
     inr (right.0, right.1, (right.2.0, right.2.1, begun (kept_bytes contents before) (kept_bytes contents after) (spelling right.2.0) right.2.5))
-hindered contents before after known (Written bytes) right = absurd right
-hindered contents before after known (Decoded block) right = absurd right
-hindered contents before after known (Replayed seen ending) right = absurd right
 hindered contents before after known (Refused row refusal) right = inl right.2.1
-hindered contents before after known (Unfollowed line refusal) right = absurd right
 hindered contents before after known (BadLine line fault) right = inl right.1
-hindered contents before after known BadWord right = absurd right
 hindered contents before after known Memory right = right
 hindered contents before after known Device right = right
+hindered contents before after known _ right = absurd right
 
 forget_plan : (text : List ℕ) (a : Answer) → IsPlanAnswer (Some text) a → IsPlanAnswer None a
-forget_plan text (Accepted leases) right = right
 forget_plan text (Written bytes) right = (right.0, tt, right.2, right.3)
-forget_plan text (Decoded block) right = right
-forget_plan text (Replayed seen ending) right = right
-forget_plan text (Refused row refusal) right = right
 forget_plan text (Unfollowed line refusal) right = (right.0, tt, right.2)
 forget_plan text (BadLine line fault) right = tt
-forget_plan text BadWord right = right
-forget_plan text Memory right = tt
-forget_plan text Device right = tt
+forget_plan text _ right = right
 
 pub plan_held : (known : Option (List ℕ)) (text : List ℕ) (a : Answer) → IfSome known (λ xs. text ≡ xs) → IsPlanAnswer (Some text) a → IsPlanAnswer known a
 plan_held None text a same right = forget_plan text a right

@@ -1,17 +1,15 @@
 -- What is right to answer to the text of a trace, and to write where its certificate goes
-use Rattle.std.specs.Prelude.{◌≡◌, ◌⊎◌, ℕ, List, length, Option, Some, None, Ok, Err}
+use Rattle.std.specs.Prelude.{◌≡◌, ◌⊎◌, ℕ, List, length, Option, Some, None}
 use Rattle.traces.specs.declared.trace.Trace.{Trace}
-use Rattle.trace_reader.specs.Entries.{text_of as spelled}
-use Rattle.trace_reader.specs.Reading.{trace_of}
-use Rattle.trace_reader.specs.declared.fault.LineFault.{LineFault}
 use Rattle.ring_knowledge.specs.Known.{nothing}
 use Rattle.ring_knowledge.specs.declared.lease.Lease.{Lease}
 use Rattle.ownership_rules.specs.Rules.{verdict_from}
 use Rattle.ownership_checker.specs.Verdicts.{IsAccepted, IsHarmless}
 use Rattle.ownership_checker.specs.Walks.{WalksRead}
+use Rattle.answers.specs.Inputs.{IsFirstBad, IsTextOf}
 use Rattle.answers.specs.Keeping.{IsKept, IsKeptInPart}
 use Rattle.answers.specs.declared.answer.Answer.{Answer}
-use Rattle.answers.specs.declared.answer.Answer.TheVariants.{Accepted, Written, Decoded, Replayed, Refused, Unfollowed, BadLine, BadWord, Memory, Device}
+use Rattle.answers.specs.declared.answer.Answer.TheVariants.{Accepted, Refused, BadLine, Memory, Device}
 
 -- of the certificate of an accepted trace no more than a beginning was written
 abbrev pub IsCutShort : {C : Type 0} → (C → Option (List ℕ)) → Option C → Option C → Trace → Type 0
@@ -24,26 +22,10 @@ abbrev pub IsVerdict : {C : Type 0} → (C → Option (List ℕ)) → Option C �
 IsVerdict contents before after (Accepted count) trace =
     (leases : List Lease) × IsAccepted trace.header trace.rows trace.first leases × (count ≡ length leases) × WalksRead trace.header trace.rows
     × IsHarmless trace.header trace.rows × IsKept contents before after leases
-IsVerdict contents before after (Written text) trace = ⊥
-IsVerdict contents before after (Decoded block) trace = ⊥
-IsVerdict contents before after (Replayed seen ending) trace = ⊥
 IsVerdict contents before after (Refused row refusal) trace =
     (verdict_from trace.header nothing trace.first trace.rows ≡ Some (row, refusal)) × (after ≡ before)
-IsVerdict contents before after (Unfollowed line refusal) trace = ⊥
-IsVerdict contents before after (BadLine line fault) trace = ⊥
-IsVerdict contents before after BadWord trace = ⊥
 IsVerdict contents before after Memory trace = after ≡ before
-IsVerdict contents before after Device trace = ⊥
-
--- the known bytes of an input spell the trace; of bytes that aren't known nothing is said
-abbrev pub IsTextOf : Option (List ℕ) → Trace → Type 0
-IsTextOf None trace = Unit {0}
-IsTextOf (Some bytes) trace = trace_of bytes ≡ Ok (spelled trace)
-
--- the first bad line of the known bytes of an input, and the least of its faults
-abbrev pub IsFirstBad : Option (List ℕ) → ℕ → LineFault → Type 0
-IsFirstBad None line fault = Unit {0}
-IsFirstBad (Some bytes) line fault = trace_of bytes ≡ Err (line, fault)
+IsVerdict contents before after _ trace = ⊥
 
 -- where memory or the device failed nothing was kept, or the input holds a trace that is accepted and a beginning of its
 -- certificate was kept, which may be all of it
@@ -54,12 +36,8 @@ IsHindered contents before after known = (after ≡ before) ⊎ ((trace : Trace)
 -- where it holds none its first bad line, and then nothing was kept; or that memory or the device failed
 abbrev pub IsCheckAnswer : {C : Type 0} → (C → Option (List ℕ)) → Option C → Option C → Option (List ℕ) → Answer → Type 0
 IsCheckAnswer contents before after known (Accepted leases) = (trace : Trace) × IsTextOf known trace × IsVerdict contents before after (Accepted leases) trace
-IsCheckAnswer contents before after known (Written text) = ⊥
-IsCheckAnswer contents before after known (Decoded block) = ⊥
-IsCheckAnswer contents before after known (Replayed seen ending) = ⊥
 IsCheckAnswer contents before after known (Refused row refusal) = (trace : Trace) × IsTextOf known trace × IsVerdict contents before after (Refused row refusal) trace
-IsCheckAnswer contents before after known (Unfollowed line refusal) = ⊥
 IsCheckAnswer contents before after known (BadLine line fault) = IsFirstBad known line fault × (after ≡ before)
-IsCheckAnswer contents before after known BadWord = ⊥
 IsCheckAnswer contents before after known Memory = IsHindered contents before after known
 IsCheckAnswer contents before after known Device = IsHindered contents before after known
+IsCheckAnswer contents before after known _ = ⊥

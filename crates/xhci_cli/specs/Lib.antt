@@ -1,3 +1,5 @@
 pub mod CheckAnswers
 pub mod PlanAnswers
 pub mod ReplayAnswers
+pub mod ScheduleAnswers
+pub mod VerifyAnswers

@@ -5,7 +5,7 @@ use Rattle.trace_reader.specs.Plans.{PlanText, plan_of}
 use Rattle.trace_reader.specs.Spelling.{printed_trace}
 use Rattle.plan_writer.specs.Plans.{plan_refusal, plan_trace}
 use Rattle.answers.specs.declared.answer.Answer.{Answer}
-use Rattle.answers.specs.declared.answer.Answer.TheVariants.{Accepted, Written, Decoded, Replayed, Refused, Unfollowed, BadLine, BadWord, Memory, Device}
+use Rattle.answers.specs.declared.answer.Answer.TheVariants.{Written, Unfollowed, BadLine, Memory, Device}
 
 -- the known bytes of an input spell the plan; of bytes that aren't known nothing is said
 abbrev pub IsPlanIn : Option (List ℕ) → PlanText → Type 0
@@ -20,13 +20,9 @@ IsFirstBadInPlan (Some bytes) line fault = plan_of bytes ≡ Err (line, fault)
 -- an answer to an input is right: the trace of the plan that it holds, or the plan's first line that can't be followed; or where
 -- it holds none its first bad line; or that memory or the device failed
 abbrev pub IsPlanAnswer : Option (List ℕ) → Answer → Type 0
-IsPlanAnswer known (Accepted leases) = ⊥
 IsPlanAnswer known (Written text) = (plan : PlanText) × IsPlanIn known plan × (plan_refusal plan ≡ None) × (text.items ≡ printed_trace (plan_trace plan))
-IsPlanAnswer known (Decoded block) = ⊥
-IsPlanAnswer known (Replayed seen ending) = ⊥
-IsPlanAnswer known (Refused row refusal) = ⊥
 IsPlanAnswer known (Unfollowed line refusal) = (plan : PlanText) × IsPlanIn known plan × (plan_refusal plan ≡ Some (line, refusal))
 IsPlanAnswer known (BadLine line fault) = IsFirstBadInPlan known line fault
-IsPlanAnswer known BadWord = ⊥
 IsPlanAnswer known Memory = Unit {0}
 IsPlanAnswer known Device = Unit {0}
+IsPlanAnswer known _ = ⊥

@@ -1,24 +1,27 @@
 //! `xhcitrace`: checks recorded traces of USB host controller drivers.
 #![tactic(auto)]
 
-mod command_line;
+mod check_run;
 mod file_on_write;
+mod plan_run;
 mod replay_run;
-mod run;
-#[cfg(test)]
-mod tests;
+mod schedule_run;
+mod verify_run;
 
 use answers::{Asked, Status, run_decode, tell_failure};
+use check_run::run_check;
 use clap::ArgMatches;
 use command_line::{block_words, path};
 use file_on_write::FileOnWrite;
+use plan_run::run_write;
 use replay_run::run_replay;
-use run::{run_check, run_write};
+use schedule_run::run_schedule;
 use std::alloc::AllocError;
 use std::env;
 use std::fs::File;
 use std::io::{self, ErrorKind, IsTerminal, Read};
 use std::process::ExitCode;
+use verify_run::run_verify;
 
 fn main(rt: HostRuntime) -> ExitCode {
     match obey(&rt) {
@@ -86,6 +89,12 @@ fn status_of(rt: &HostRuntime, matches: &ArgMatches) -> Status {
     if let Some(replay) = matches.subcommand_matches("replay") {
         return replay_at(rt, replay, explains(rt, replay));
     }
+    if let Some(verify) = matches.subcommand_matches("verify") {
+        return verify_at(rt, verify, explains(rt, verify));
+    }
+    if let Some(schedule) = matches.subcommand_matches("schedule") {
+        return schedule_at(rt, path(schedule, "TRACE"), explains(rt, schedule));
+    }
     match matches.subcommand_matches("check") {
         Some(check) => check_at(
             rt,
@@ -147,6 +156,74 @@ fn write_at(rt: &HostRuntime, path: Option<&str>, explains: bool) -> Status {
             Err(error) => tell_failure(alloc, &asked, error, &mut out, &mut err),
         },
         None => run_write(alloc, &asked, &mut rt.stdin(), &mut out, &mut err),
+    }
+}
+
+/// Writes the lazy schedule of the trace in a file, or on standard input.
+fn schedule_at(rt: &HostRuntime, path: Option<&str>, explains: bool) -> Status {
+    let alloc = rt.alloc();
+    let mut out = rt.stdout();
+    let mut err = rt.stderr();
+    let input = path.unwrap_or("standard input");
+    let asked = Asked { input, explains };
+    match path {
+        Some(path) => match File::open(rt, path) {
+            Ok(mut file) => run_schedule(alloc, &asked, &mut file, &mut out, &mut err),
+            Err(error) => tell_failure(alloc, &asked, error, &mut out, &mut err),
+        },
+        None => run_schedule(alloc, &asked, &mut rt.stdin(), &mut out, &mut err),
+    }
+}
+
+/// Verifies the certificate in one file, which is read first, beside the trace in another; one of them may be standard input.
+fn verify_at(rt: &HostRuntime, matches: &ArgMatches, explains: bool) -> Status {
+    let certificate = path(matches, "CERT");
+    let input = path(matches, "TRACE").unwrap_or("standard input");
+    let asked = Asked { input, explains };
+    match certificate {
+        Some(certificate) => match File::open(rt, certificate) {
+            Ok(mut file) => verify_with(rt, matches, &asked, &mut file),
+            Err(error) => {
+                let opened = Asked {
+                    input: certificate,
+                    explains,
+                };
+                tell_failure(
+                    rt.alloc(),
+                    &opened,
+                    error,
+                    &mut rt.stdout(),
+                    &mut rt.stderr(),
+                )
+            }
+        },
+        None => verify_with(rt, matches, &asked, &mut rt.stdin()),
+    }
+}
+
+/// Verifies the certificate that an input holds beside the trace in a file, or on standard input.
+fn verify_with<R: Read>(
+    rt: &HostRuntime,
+    matches: &ArgMatches,
+    asked: &Asked,
+    certificate: &mut R,
+) -> Status {
+    let alloc = rt.alloc();
+    let mut out = rt.stdout();
+    let mut err = rt.stderr();
+    match path(matches, "TRACE") {
+        Some(path) => {
+            let trace = File::open(rt, path);
+            run_verify(alloc, asked, certificate, trace, &mut out, &mut err)
+        }
+        None => run_verify(
+            alloc,
+            asked,
+            certificate,
+            Ok(rt.stdin()),
+            &mut out,
+            &mut err,
+        ),
     }
 }
 

@@ -1,7 +1,8 @@
 //! Replays a schedule beside a trace, and writes the answer.
 ghost use Rattle.std.specs.Prelude.{Some, ◌≡◌, false, true};
 ghost use Rattle.answers.specs.Answers.{goes_out};
-ghost use Rattle.xhci_cli.specs.ReplayAnswers.{IsReplayAnswer, IsReplayBeside, IsReplayed, opened};
+ghost use Rattle.answers.specs.Inputs.{opened};
+ghost use Rattle.xhci_cli.specs.ReplayAnswers.{IsReplayAnswer, IsReplayBeside, IsReplayed};
 ghost use Rattle.answers.specs.Telling.{IsTold};
 
 use answers::{

@@ -1,5 +1,7 @@
-use Rattle.xhci_cli.specs.ReplayAnswers.{IsReplayBeside, opened}
-use Rattle.xhci_cli.proofs.Replayed.{beside_held, beside_opened}
+use Rattle.answers.specs.Inputs.{opened}
+use Rattle.xhci_cli.specs.ReplayAnswers.{IsReplayBeside}
+use Rattle.xhci_cli.proofs.Replayed.{beside_held}
+use Rattle.answers.proofs.Held.{opened_holds}
 use Rattle.answers.proofs.Told.{failure, read_is, told_right}
 use Rattle.xhci_cli.proofs.replay_run.run_beside.Goals as goal
 
@@ -13,7 +15,7 @@ returns-in-Ok-read_to_end-clause-told g c =
     let known = g.S.Read.remaining c.in-Ok.schedule in
     let held = beside_held c.args.trace.now known _ c.replay_answer-answer.result (read_is known _ _ c.new-text.ensures.items c.in-Ok-read_to_end.ensures.bytes)
     (rw c.deref.ensures.value at c.replay_answer-answer.ensures) in
-    let right = beside_opened g.S.Read.remaining c.args.schedule c.in-Ok.schedule c.args.trace.now c.replay_answer-answer.result c.in-Ok.is held in
+    let right = opened_holds (λ k. IsReplayBeside c.args.trace.now k c.replay_answer-answer.result) g.S.Read.remaining c.args.schedule c.in-Ok.schedule c.in-Ok.is held in
     told_right (λ a. IsReplayBeside c.args.trace.now (opened g.S.Read.remaining c.args.schedule) a) _ _ _ _ _ _ _ right tt c.tell.ensures.told
 
 pub returns-clause-told : goal.returns-clause-told

@@ -1,7 +1,8 @@
 use Rattle.std.proofs.Common.{inl, inr, subst, sym}
-use Rattle.xhci_cli.specs.ReplayAnswers.{IsReplayAnswer, IsUnread, opened}
+use Rattle.answers.specs.Inputs.{IsUnread, opened}
+use Rattle.xhci_cli.specs.ReplayAnswers.{IsReplayAnswer}
 use Rattle.answers.specs.declared.answer.Answer.{Answer}
-use Rattle.xhci_cli.proofs.Replayed.{text_held, unread_right}
+use Rattle.answers.proofs.Held.{text_held, unread_right}
 use Rattle.answers.proofs.Told.{failure, read_is, told_right}
 use Rattle.xhci_cli.proofs.replay_run.run_replay.Goals as goal
 

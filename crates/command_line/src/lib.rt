@@ -1,0 +1,226 @@
+//! The command line: what the program can be asked for, and what it is asked for.
+#![tactic(auto)]
+
+ghost use Rattle.clap.specs.Matches.{first_value, found_of};
+ghost use Rattle.std.specs.Prelude.{◌≡◌, ◌≢◌, ◌⊎◌, None, Some, IfNone, IfSome, codes};
+
+use answers::BlockWords;
+use clap::error::ErrorKind;
+use clap::{Arg, ArgAction, ArgMatches, Command, Error};
+use std::alloc::{AllocError, Global};
+
+const STATUSES: &str = "\
+Without a command it checks the trace on standard input.
+
+Exit status:
+  0  the trace is accepted; the plan, the block or the schedule is printed; a replay does no harm; a certificate is the trace's
+  1  a row breaks a rule (row R: C Name), a line of a plan can't be followed (line L: C Name), a replay does harm, or a
+     certificate isn't the trace's
+  2  a line is no line of a trace, a plan or a schedule (xhcitrace: line L: C Name), a file is no certificate, a word is no
+     number, a schedule would be too long (xhcitrace: 4 Limit), or the arguments are wrong
+  3  memory is wanted (xhcitrace: 30 Memory), or a file can't be opened, read or written (xhcitrace: 31 Device)";
+
+const CHECK: &str = "\
+Prints `accepted: N leases`, status 0, or the first row that breaks a rule of ownership as `row R: C Name`, status 1; on
+standard error the first bad line as `xhcitrace: line L: C Name`, status 2; else status 3. The certificate is the leases of the
+trace, and is written before `accepted` is; of every other trace no file is written.
+
+Examples:
+  xhcitrace check --explain examples/written_to_owned.xtrace
+  xhcitrace check --cert leases examples/two_descriptors.xtrace";
+
+const WRITE: &str = "\
+Prints the trace, status 0, or the first line that can't be followed as `line L: C Name`, status 1; on standard error the
+first bad line as `xhcitrace: line L: C Name`, status 2; else status 3.
+
+Example:
+  printf 'xplan 1\\nring 02 xfer 0000000000030000:0004\\nsub 02 00000000 00000000 00000000 00002020\\n' | xhcitrace write -";
+
+const REPLAY: &str = "\
+Prints `took ID ADDR W W W W` for each block that the controller takes, and then `no harm`, status 0, or `step S: harm K` or
+`step S: not possible`, status 1; on standard error the first bad line as `xhcitrace: line L: C Name`, status 2; else status 3.
+Steps count from 1. The harms:
+  1  it takes a block that wasn't declared, or not the next one      4  it looks outside the ring
+  2  it takes other words than the declared ones                     5  it posts over an unread event
+  3  it waits within a descriptor                                    6  an input context changed while its command is under way
+
+Example:
+  xhcitrace replay examples/write_after_the_doorbell.xtrace examples/write_after_the_doorbell.xsched";
+
+const SCHEDULE: &str = "\
+Prints the schedule, status 0, or the first row that breaks a rule of ownership as `row R: C Name`, status 1; on standard error
+the first bad line as `xhcitrace: line L: C Name`, or that the schedule is too long as `xhcitrace: 4 Limit`, status 2; else
+status 3. It has all rows, and directly before each event that is read the controller's steps that it needs. `replay` replays it
+and finds no harm, where the trace reads no success of a ring that the driver holds.
+
+Example:
+  xhcitrace schedule examples/control_transfer.xtrace";
+
+const VERIFY: &str = "\
+Prints `yes`, status 0, where the trace breaks no rule and the certificate is its leases, else `no`, status 1; on standard error
+that the file is no certificate as `xhcitrace: C Name`, or the first bad line of the trace as `xhcitrace: line L: C Name`,
+status 2; else status 3. The certificate is read first.
+
+Example:
+  xhcitrace check --cert leases examples/two_descriptors.xtrace && xhcitrace verify examples/two_descriptors.xtrace leases";
+
+const DECODE: &str = "\
+Prints one line, status 0; on standard error that a word isn't 8 hex digits, status 2; else status 3.
+
+Example:
+  xhcitrace decode 00030000 00000000 01000000 01018001";
+
+/// What the program can be asked for.
+pub fn command<'a>(alloc: Global) -> Result<Command<'a>, AllocError> {
+    Command::new(alloc, "xhcitrace")
+        .about("Checks recorded traces of drivers of USB host controllers (xHCI)")
+        .version("1.0")
+        .after_help(STATUSES)
+        .bin_name("xhcitrace")?
+        .subcommand(check(alloc)?)?
+        .subcommand(verify(alloc)?)?
+        .subcommand(schedule(alloc)?)?
+        .subcommand(replay(alloc)?)?
+        .subcommand(write(alloc)?)?
+        .subcommand(decode(alloc)?)
+}
+
+fn check<'a>(alloc: Global) -> Result<Command<'a>, AllocError> {
+    Command::new(alloc, "check")
+        .about("Checks a trace against the rules of ownership")
+        .after_help(CHECK)
+        .arg(file(
+            alloc,
+            "TRACE",
+            "The file of the trace; -, or none: standard input",
+        ))?
+        .arg(certificate(alloc))?
+        .arg(explain(alloc))
+}
+
+fn verify<'a>(alloc: Global) -> Result<Command<'a>, AllocError> {
+    Command::new(alloc, "verify")
+        .about("Verifies a certificate: whether a trace breaks no rule, and these are its leases")
+        .after_help(VERIFY)
+        .arg(needed(alloc, "TRACE", "The file of the trace; -: standard input"))?
+        .arg(needed(
+            alloc,
+            "CERT",
+            "The file of the certificate, which is read first; -: standard input",
+        ))?
+        .arg(explain(alloc))
+}
+
+fn schedule<'a>(alloc: Global) -> Result<Command<'a>, AllocError> {
+    Command::new(alloc, "schedule")
+        .about(
+            "Writes the lazy schedule of a trace: a run of the controller that reads all its rows",
+        )
+        .after_help(SCHEDULE)
+        .arg(file(
+            alloc,
+            "TRACE",
+            "The file of the trace; -, or none: standard input",
+        ))?
+        .arg(explain(alloc))
+}
+
+fn write<'a>(alloc: Global) -> Result<Command<'a>, AllocError> {
+    Command::new(alloc, "write")
+        .about("Writes the trace of a plan: what a driver writes that declares these descriptors")
+        .after_help(WRITE)
+        .arg(file(
+            alloc,
+            "PLAN",
+            "The file of the plan; -, or none: standard input",
+        ))?
+        .arg(explain(alloc))
+}
+
+fn replay<'a>(alloc: Global) -> Result<Command<'a>, AllocError> {
+    Command::new(alloc, "replay")
+        .about("Replays a schedule beside a trace: what the controller takes, and the first harm")
+        .after_help(REPLAY)
+        .arg(needed(
+            alloc,
+            "TRACE",
+            "The file of the trace, which is read first; -: standard input",
+        ))?
+        .arg(needed(
+            alloc,
+            "SCHEDULE",
+            "The file of the schedule; -: standard input",
+        ))?
+        .arg(explain(alloc))
+}
+
+fn decode<'a>(alloc: Global) -> Result<Command<'a>, AllocError> {
+    Command::new(alloc, "decode")
+        .about("Tells what a block (TRB) of four words says")
+        .after_help(DECODE)
+        .arg(word(alloc, "WORD0"))?
+        .arg(word(alloc, "WORD1"))?
+        .arg(word(alloc, "WORD2"))?
+        .arg(word(alloc, "WORD3"))?
+        .arg(explain(alloc))
+}
+
+/// What is told of arguments that aren't text.
+pub fn not_text(alloc: Global) -> Result<Error, AllocError> {
+    command(alloc)?.error(ErrorKind::InvalidValue, "an argument isn't UTF-8")
+}
+
+fn file<'a>(alloc: Global, name: &'a str, help: &'a str) -> Arg<'a> {
+    Arg::new(alloc, name).help(help)
+}
+
+fn needed<'a>(alloc: Global, name: &'a str, help: &'a str) -> Arg<'a> {
+    Arg::new(alloc, name).help(help).required(true)
+}
+
+fn explain<'a>(alloc: Global) -> Arg<'a> {
+    Arg::new(alloc, "explain")
+        .long("explain")
+        .action(ArgAction::SetTrue)
+        .help(
+            "Says in plain words what is wrong, on standard error (as it does where that is a terminal)",
+        )
+}
+
+fn certificate<'a>(alloc: Global) -> Arg<'a> {
+    Arg::new(alloc, "cert").long("cert").value_name("FILE").help(
+        "Writes the certificate of an accepted trace to FILE: which memory the controller owned, and when",
+    )
+}
+
+/// A word of the block that is to be decoded.
+fn word<'a>(alloc: Global, name: &'a str) -> Arg<'a> {
+    Arg::new(alloc, name)
+        .help("8 hex digits, the first word first")
+        .required(true)
+}
+
+/// The words of the block that is to be decoded, in their order.
+pub fn block_words<'a>(decode: &ArgMatches<'a>) -> Option<BlockWords<'a>>
+    ensures first { IfSome result (λ words. Some words.first.now ≡ first_value (found_of decode.now) (codes "WORD0")) }
+    ensures second { IfSome result (λ words. Some words.second.now ≡ first_value (found_of decode.now) (codes "WORD1")) }
+    ensures third { IfSome result (λ words. Some words.third.now ≡ first_value (found_of decode.now) (codes "WORD2")) }
+    ensures fourth { IfSome result (λ words. Some words.fourth.now ≡ first_value (found_of decode.now) (codes "WORD3")) }
+{
+    Some(BlockWords {
+        first: decode.get_str("WORD0")?,
+        second: decode.get_str("WORD1")?,
+        third: decode.get_str("WORD2")?,
+        fourth: decode.get_str("WORD3")?,
+    })
+}
+
+/// The file that is named so, where there is one and it isn't standard input.
+pub fn path<'a>(matches: &ArgMatches<'a>, name: &str) -> Option<&'a str>
+    ensures named { IfSome result (λ path. Some path.now ≡ first_value (found_of matches.now) name.now) }
+    ensures file { IfSome result (λ path. path.now ≢ codes "-") }
+    ensures input { IfNone result ((first_value (found_of matches.now) name.now ≡ None) ⊎ (first_value (found_of matches.now) name.now ≡ Some (codes "-"))) }
+{
+    let path = matches.get_str(name)?;
+    if path == "-" { None } else { Some(path) }
+}

@@ -1,0 +1,48 @@
+-- What is right to answer to the bytes of a certificate and the text of a trace
+use Rattle.std.specs.Prelude.{◌≡◌, ◌≢◌, ◌⊎◌, ℕ, Bool, true, false, List, Option, Some, None, Ok, Err}
+use Rattle.traces.specs.declared.trace.Trace.{Trace}
+use Rattle.ring_knowledge.specs.declared.lease.Lease.{Lease}
+use Rattle.certificate.specs.Spelling.{certificate_of}
+use Rattle.certificate.specs.declared.fault.CertFault.{CertFault}
+use Rattle.certificate.specs.declared.fault.CertFault.TheVariants.{Memory as NoLeaseMemory}
+use Rattle.row_checks.specs.Accepted.{IsAccepted, IsHarmless}
+use Rattle.answers.specs.Inputs.{IsTraceAnswer}
+use Rattle.answers.specs.declared.answer.Answer.{Answer}
+use Rattle.answers.specs.declared.answer.Answer.TheVariants.{Verified, BadCertificate, Memory, Device}
+
+-- the known bytes of an input spell the leases; of bytes that aren't known nothing is said
+abbrev pub IsCertificateOf : Option (List ℕ) → List Lease → Type 0
+IsCertificateOf None leases = Unit {0}
+IsCertificateOf (Some bytes) leases = certificate_of bytes ≡ Ok leases
+
+-- the least fault of the known bytes of an input, which are no certificate
+abbrev pub IsLeastFault : Option (List ℕ) → CertFault → Type 0
+IsLeastFault None fault = Unit {0}
+IsLeastFault (Some bytes) fault = certificate_of bytes ≡ Err fault
+
+-- yes: no row breaks a rule, these are the trace's leases, and no run of the controller's model beside the rows does harm;
+-- no: some row breaks a rule, or these aren't its leases
+abbrev pub IsVerified : Trace → List Lease → Bool → Type 0
+IsVerified trace leases true = IsAccepted trace.header trace.rows trace.first leases × IsHarmless trace.header trace.rows
+IsVerified trace leases false = ¬ IsAccepted trace.header trace.rows trace.first leases
+
+-- what is right to answer where no certificate is read: the least fault of its bytes, or that memory or the device failed
+abbrev pub IsUncertified : Option (List ℕ) → Answer → Type 0
+IsUncertified bytes (BadCertificate fault) = IsLeastFault bytes fault × (fault ≢ NoLeaseMemory)
+IsUncertified bytes Memory = Unit {0}
+IsUncertified bytes Device = Unit {0}
+IsUncertified bytes _ = ⊥
+
+-- what is right to answer to leases beside a trace: yes or no, or that memory was wanted
+abbrev pub IsVerdictOn : List Lease → Trace → Answer → Type 0
+IsVerdictOn leases trace (Verified holds) = IsVerified trace leases holds
+IsVerdictOn leases trace Memory = Unit {0}
+IsVerdictOn leases trace _ = ⊥
+
+-- what is right to answer to leases beside the text of a trace
+abbrev pub IsVerdictBeside : List Lease → Option (List ℕ) → Answer → Type 0
+IsVerdictBeside leases rows answer = IsTraceAnswer (IsVerdictOn leases) rows answer
+
+-- what is right to answer to the bytes of a certificate, which is read first, and the text of a trace
+abbrev pub IsVerifyAnswer : Option (List ℕ) → Option (List ℕ) → Answer → Type 0
+IsVerifyAnswer bytes rows answer = IsUncertified bytes answer ⊎ ((leases : List Lease) × IsCertificateOf bytes leases × IsVerdictBeside leases rows answer)

@@ -1,0 +1,75 @@
+//! Makes the lazy schedule of a trace, and writes the answer.
+ghost use Rattle.std.specs.Prelude.{Some, ◌≡◌, false, true, reverse};
+ghost use Rattle.answers.specs.Answers.{goes_out};
+ghost use Rattle.answers.specs.Telling.{IsTold};
+ghost use Rattle.ownership_rules.specs.Clean.{IsClean};
+ghost use Rattle.xhci_cli.specs.ScheduleAnswers.{IsScheduleAnswer, IsScheduled};
+
+use answers::{Answer, Asked, Status, note_on_trace, tell, tell_failure};
+use ownership_checker::{CheckFault, check};
+use scheduler::{ScheduleFault, lazy_schedule};
+use std::alloc::Global;
+use std::io::{Read, Write};
+use trace_reader::{print_schedule, read_trace};
+use traces::Trace;
+
+/// Writes the lazy schedule of the trace that `input` holds to `out`: all its rows, and directly before each event that is read the
+/// controller's steps that it needs. A row that breaks a rule is told there in its place, and what hinders the answer to `err`.
+pub fn run_schedule<R: Read, O: Write, E: Write>(
+    alloc: Global,
+    asked: &Asked,
+    input: &mut R,
+    out: &mut O,
+    err: &mut E,
+) -> Status
+    ensures told { (answer : Answer) × IsScheduleAnswer (R.remaining input.old) answer
+        × IsTold asked.now.explains answer result (O.contents out.old) (O.contents out.new) (E.contents err.old) (E.contents err.new) }
+    ensures out { result ≡ Status.Unreadable → out.new ≡ out.old }
+    ensures err { asked.now.explains ≡ false → goes_out result ≡ true → err.new ≡ err.old }
+{
+    let mut text = Vec::new(alloc);
+    match input.read_to_end(&mut text) {
+        Ok(_) => {
+            let answer = schedule_answer(alloc, &text);
+            let note = note_on_trace(alloc, asked, &text, &answer);
+            tell(alloc, asked.explains, answer, note, out, err)
+        }
+        Err(error) => tell_failure(alloc, asked, error, out, err),
+    }
+}
+
+/// The answer to the text of a trace.
+fn schedule_answer(alloc: Global, text: &[u8]) -> Answer
+    ensures { IsScheduleAnswer (Some text.now) result }
+{
+    match read_trace(alloc, text) {
+        Ok(trace) => checked_answer(alloc, &trace),
+        Err(fault) => Answer::from(fault),
+    }
+}
+
+/// The answer to a trace.
+fn checked_answer(alloc: Global, trace: &Trace) -> Answer
+    ensures { IsScheduled trace.now result }
+{
+    match check(alloc, trace) {
+        Ok(_) => clean_answer(alloc, trace),
+        Err(CheckFault::Refused { row, refusal }) => Answer::Refused { row, refusal },
+        Err(CheckFault::Memory) => Answer::Memory,
+    }
+}
+
+/// The answer to a trace that breaks no rule.
+fn clean_answer(alloc: Global, trace: &Trace) -> Answer
+    requires { IsClean trace.now.header (reverse trace.now.rows) }
+    ensures { IsScheduled trace.now result }
+{
+    match lazy_schedule(alloc, trace) {
+        Ok(schedule) => match print_schedule(alloc, &schedule) {
+            Ok(schedule) => Answer::Scheduled { schedule },
+            Err(error) => Answer::from(error),
+        },
+        Err(ScheduleFault::TooLong) => Answer::TooLong,
+        Err(ScheduleFault::Memory) => Answer::Memory,
+    }
+}

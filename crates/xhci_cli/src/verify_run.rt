@@ -1,0 +1,97 @@
+//! Verifies a certificate beside a trace, and writes the answer.
+ghost use Rattle.std.specs.Prelude.{Some, ◌≡◌, false, true};
+ghost use Rattle.answers.specs.Answers.{goes_out};
+ghost use Rattle.answers.specs.Inputs.{opened};
+ghost use Rattle.answers.specs.Telling.{IsTold};
+ghost use Rattle.xhci_cli.specs.VerifyAnswers.{IsVerdictBeside, IsVerdictOn, IsVerifyAnswer};
+
+use answers::{Answer, Asked, Status, note_on_certificate, note_on_trace, tell, tell_failure};
+use certificate::decode;
+use ring_knowledge::Lease;
+use std::alloc::Global;
+use std::io::{self, Read, Write};
+use trace_reader::read_trace;
+use traces::Trace;
+use verifier::verify;
+
+/// Verifies the certificate that `certificate` holds, which is read first, beside the trace that `trace` holds. `yes` or `no` goes to
+/// `out`, and what hinders it to `err`.
+pub fn run_verify<C: Read, R: Read + Drop, O: Write, E: Write>(
+    alloc: Global,
+    asked: &Asked,
+    certificate: &mut C,
+    trace: io::Result<R>,
+    out: &mut O,
+    err: &mut E,
+) -> Status
+    ensures told { (answer : Answer) × IsVerifyAnswer (C.remaining certificate.old) (opened R.remaining trace) answer
+        × IsTold asked.now.explains answer result (O.contents out.old) (O.contents out.new) (E.contents err.old) (E.contents err.new) }
+    ensures out { result ≡ Status.Unreadable → out.new ≡ out.old }
+    ensures err { asked.now.explains ≡ false → goes_out result ≡ true → err.new ≡ err.old }
+{
+    let mut bytes = Vec::new(alloc);
+    if let Err(error) = certificate.read_to_end(&mut bytes) {
+        let read = Asked {
+            input: "the certificate",
+            explains: asked.explains,
+        };
+        return tell_failure(alloc, &read, error, out, err);
+    }
+    match decode(alloc, &bytes) {
+        Ok(leases) => verify_beside(alloc, asked, &leases, trace, out, err),
+        Err(fault) => {
+            let answer = Answer::from(fault);
+            let note = note_on_certificate(alloc, asked, &answer);
+            tell(alloc, asked.explains, answer, note, out, err)
+        }
+    }
+}
+
+/// Verifies leases beside the trace that an input holds.
+fn verify_beside<R: Read + Drop, O: Write, E: Write>(
+    alloc: Global,
+    asked: &Asked,
+    leases: &[Lease],
+    trace: io::Result<R>,
+    out: &mut O,
+    err: &mut E,
+) -> Status
+    ensures told { (answer : Answer) × IsVerdictBeside leases.now (opened R.remaining trace) answer
+        × IsTold asked.now.explains answer result (O.contents out.old) (O.contents out.new) (E.contents err.old) (E.contents err.new) }
+    ensures out { result ≡ Status.Unreadable → out.new ≡ out.old }
+    ensures err { asked.now.explains ≡ false → goes_out result ≡ true → err.new ≡ err.old }
+{
+    let mut trace = match trace {
+        Ok(trace) => trace,
+        Err(error) => return tell_failure(alloc, asked, error, out, err),
+    };
+    let mut text = Vec::new(alloc);
+    match trace.read_to_end(&mut text) {
+        Ok(_) => {
+            let answer = verify_answer(alloc, leases, &text);
+            let note = note_on_trace(alloc, asked, &text, &answer);
+            tell(alloc, asked.explains, answer, note, out, err)
+        }
+        Err(error) => tell_failure(alloc, asked, error, out, err),
+    }
+}
+
+/// The answer to leases beside the text of a trace.
+fn verify_answer(alloc: Global, leases: &[Lease], text: &[u8]) -> Answer
+    ensures { IsVerdictBeside leases.now (Some text.now) result }
+{
+    match read_trace(alloc, text) {
+        Ok(trace) => verdict_on(alloc, leases, &trace),
+        Err(fault) => Answer::from(fault),
+    }
+}
+
+/// The answer to leases beside a trace.
+fn verdict_on(alloc: Global, leases: &[Lease], trace: &Trace) -> Answer
+    ensures { IsVerdictOn leases.now trace.now result }
+{
+    match verify(alloc, trace, leases) {
+        Ok(holds) => Answer::Verified { holds },
+        Err(error) => Answer::from(error),
+    }
+}
