@@ -8,6 +8,3 @@ mod writing;
 pub use fault::CertFault;
 pub use reading::decode;
 pub use writing::encode;
-
-#[cfg(test)]
-mod tests;

@@ -7,6 +7,3 @@ mod state;
 
 pub use command::Command;
 pub use state::{EndpointState, SlotState, State, after};
-
-#[cfg(test)]
-mod tests;

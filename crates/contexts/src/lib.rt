@@ -9,6 +9,3 @@ mod size;
 pub use endpoint::EndpointContext;
 pub use input::InputContext;
 pub use size::ContextSize;
-
-#[cfg(test)]
-mod tests;

@@ -23,9 +23,6 @@ use guest_memory::WordMemory;
 use traces::Header;
 use trb::{Block, BlockKind};
 
-#[cfg(test)]
-mod tests;
-
 /// Whether the words are those of a Command Completion Event that has a completion code (xHCI 6.4.2.2).
 fn is_completion(block: &Block) -> bool
     ensures { result ≡ (is_command_completion (kind block.now) && not (code block.now == 0)) }

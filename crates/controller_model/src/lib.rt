@@ -30,8 +30,6 @@ mod slots;
 mod stamps;
 mod steps;
 mod successes;
-#[cfg(test)]
-mod tests;
 mod trials;
 mod watches;
 mod world;

@@ -7,6 +7,3 @@ mod writes;
 
 pub use fault::{EnqueueFault, NotGiven};
 pub use producer::Producer;
-
-#[cfg(test)]
-mod tests;

@@ -5,8 +5,6 @@ mod changes;
 mod disabling;
 mod kept;
 mod questions;
-#[cfg(test)]
-mod tests;
 mod transfers;
 mod unfinished;
 

@@ -7,6 +7,3 @@ mod table;
 
 pub use event_place::EventPlace;
 pub use fault::{BadErdp, ImpossibleEvent, NoRoom};
-
-#[cfg(test)]
-mod tests;

@@ -4,8 +4,6 @@
 mod addr;
 mod memory;
 mod page;
-#[cfg(test)]
-mod tests;
 
 pub use addr::Addr;
 pub use memory::WordMemory;

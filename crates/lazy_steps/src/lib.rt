@@ -6,8 +6,6 @@ mod looks;
 mod needs;
 mod note;
 mod pointers;
-#[cfg(test)]
-mod tests;
 mod walk;
 
 pub use note::Note;

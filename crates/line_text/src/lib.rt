@@ -4,8 +4,6 @@
 mod fields;
 mod lines;
 mod numbers;
-#[cfg(test)]
-mod tests;
 
 pub use fields::{Fields, Survey};
 pub use lines::{Line, first_line};

@@ -3,8 +3,6 @@
 
 mod certificate;
 mod fault;
-#[cfg(test)]
-mod tests;
 mod trace_check;
 
 pub use certificate::Certificate;

@@ -3,8 +3,6 @@
 
 mod fault;
 mod print;
-#[cfg(test)]
-mod tests;
 mod write;
 
 pub use fault::{PlanFault, PlanRefusal};

@@ -4,8 +4,6 @@
 
 mod fault;
 mod replaying;
-#[cfg(test)]
-mod tests;
 
 pub use fault::ReplayFault;
 pub use replaying::replay;

@@ -4,8 +4,6 @@
 mod lease;
 mod register_record;
 mod ring_record;
-#[cfg(test)]
-mod tests;
 
 pub use lease::Lease;
 pub use register_record::RegisterRecord;

@@ -7,8 +7,6 @@ mod rules;
 mod segment;
 mod shape;
 mod spot;
-#[cfg(test)]
-mod tests;
 
 pub use fault::ShapeFault;
 pub use place::Place;

@@ -23,6 +23,3 @@ pub use traces::{
     Header, Plan, PlanLine, PlanLines, Register, Ring, Rings, Row, Rows, Schedule, Step, Steps,
     Trace,
 };
-
-#[cfg(test)]
-mod tests;

@@ -19,6 +19,3 @@ pub use fault::Fault;
 pub use flags::BlockFlags;
 pub use kind::BlockKind;
 pub use ring_kind::RingKind;
-
-#[cfg(test)]
-mod tests;

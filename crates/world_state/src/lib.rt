@@ -4,6 +4,3 @@
 mod harm;
 
 pub use harm::Harm;
-
-#[cfg(test)]
-mod tests;

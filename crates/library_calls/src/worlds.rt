@@ -1,8 +1,8 @@
 ghost use Rattle.std.specs.Prelude.{◌≡◌, IfOk, IsTrue, length};
 ghost use Rattle.traces.specs.Header.{IsHeader};
 
-use crate::{Seen, StepFault, World};
 use contexts::ContextSize;
+use controller_model::{Seen, StepFault, World};
 use guest_memory::{Addr, PageMemory, WordMemory};
 use segments::RingShape;
 use std::alloc::{AllocError, Global};

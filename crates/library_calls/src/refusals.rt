@@ -1,4 +1,4 @@
-use crate::Refusal;
+use ownership_rules::Refusal;
 use std::alloc::AllocError;
 
 #[test]

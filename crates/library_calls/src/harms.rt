@@ -1,4 +1,4 @@
-use crate::Harm;
+use world_state::Harm;
 
 #[test]
 fn the_numbers_of_harms(rt: HostRuntime) {

