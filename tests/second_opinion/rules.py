@@ -198,3 +198,10 @@ def least_broken(known, row):
     if after_stop(known, row):
         return 24
     return next((number for number in RULES_OF[type(row)] if RULES[number](known, row)), None)
+
+
+def all_broken(known, row):
+    """All rules that a row breaks, in ascending order. After the stop nothing else is looked at."""
+    if after_stop(known, row):
+        return [24]
+    return [number for number in RULES_OF[type(row)] if RULES[number](known, row)]

@@ -1,4 +1,4 @@
--- Worked replays with their endings, written by tools/worked_examples.py from worked cases
+-- Replays with their endings, one for each harm, by evaluation; tests/rows and tests/harms have these and more for the program
 use Rattle.std.specs.Prelude.{◌≡◌, List, [], ◌∷◌, refl}
 use Rattle.trb.specs.declared.ring_kind.RingKind.TheVariants.{Cmd, Evt, Xfer}
 use Rattle.contexts.specs.declared.size.ContextSize.TheVariants.{Bytes32}
@@ -7,8 +7,8 @@ use Rattle.traces.specs.declared.row.Row.{Row}
 use Rattle.traces.specs.declared.row.Row.TheVariants.{Sub, Write, Reg, Bell, Read}
 use Rattle.traces.specs.declared.register.Register.TheVariants.{Usbcmd, Crcr, Dcbaap, Config, Erstsz, Erstba, Erdp}
 use Rattle.traces.specs.declared.step.Step.{Step}
-use Rattle.traces.specs.declared.step.Step.TheVariants.{NextRow, Look, Report, Finish, Other}
-use Rattle.world_state.specs.declared.harm.Harm.TheVariants.{TakenOtherWords, WaitsInsideDescriptor}
+use Rattle.traces.specs.declared.step.Step.TheVariants.{NextRow, Look, Report, Finish, Other, Scribble}
+use Rattle.world_state.specs.declared.harm.Harm.TheVariants.{TakenOutOfOrder, TakenOtherWords, WaitsInsideDescriptor, LooksOutside, PostsOverUnread, InputContextChanged}
 use Rattle.controller_model.specs.Steps.{ending_of, NoHarm, NotPossible, Harmful}
 use Rattle.controller_model.specs.OnLiterals.{model_on_literals}
 
@@ -284,112 +284,24 @@ pub replay_waits_inside_a_descriptor : ending_of replay_waits_inside_a_descripto
 unfolding model_on_literals
 replay_waits_inside_a_descriptor = refl
 
-abbrev pub schedule_of_a_late_event_header : Header
-schedule_of_a_late_event_header = record { context_size = Bytes32; rings = record { id = 0; shape = record { kind = Cmd; segments = record { base = 65536; count = 16 } ∷ [] } } ∷ record { id = 1; shape = record { kind = Evt; segments = record { base = 131072; count = 16 } ∷ [] } } ∷ record { id = 2; shape = record { kind = Xfer; segments = record { base = 196608; count = 4 } ∷ [] } } ∷ [] }
+abbrev pub undeclared_blocks_may_be_given_header : Header
+undeclared_blocks_may_be_given_header = record { context_size = Bytes32; rings = record { id = 0; shape = record { kind = Cmd; segments = record { base = 65536; count = 16 } ∷ [] } } ∷ record { id = 1; shape = record { kind = Evt; segments = record { base = 131072; count = 16 } ∷ [] } } ∷ [] }
 
-abbrev pub schedule_of_a_late_event_rows : List Row
-schedule_of_a_late_event_rows =
+abbrev pub undeclared_blocks_may_be_given_rows : List Row
+undeclared_blocks_may_be_given_rows =
     Write 262144 131072
     ∷ Write 262152 16
     ∷ Reg Erstsz 1
     ∷ Reg Erstba 262144
     ∷ Reg Erdp 131072
     ∷ Reg Crcr 65537
-    ∷ Reg Dcbaap 327680
-    ∷ Reg Config 8
     ∷ Reg Usbcmd 1
-    ∷ Sub 0 (record { w = 0 ∷ 0 ∷ 0 ∷ 9216 ∷ [] } ∷ [])
-    ∷ Write 65548 9217
-    ∷ Bell 0 0
-    ∷ Read (record { w = 65536 ∷ 0 ∷ 16777216 ∷ 16811009 ∷ [] })
-    ∷ Write 327688 458752
-    ∷ Write 393220 3
-    ∷ Write 393284 32
-    ∷ Write 393288 196609
-    ∷ Sub 0 (record { w = 393216 ∷ 0 ∷ 0 ∷ 16788480 ∷ [] } ∷ [])
-    ∷ Write 65552 393216
-    ∷ Write 65564 16788481
-    ∷ Bell 0 0
-    ∷ Read (record { w = 65552 ∷ 0 ∷ 16777216 ∷ 16811009 ∷ [] })
-    ∷ Sub 2 (record { w = 0 ∷ 0 ∷ 0 ∷ 8224 ∷ [] } ∷ [])
-    ∷ Write 196620 8225
-    ∷ Bell 1 1
-    ∷ Sub 0 (record { w = 0 ∷ 0 ∷ 0 ∷ 16858112 ∷ [] } ∷ [])
-    ∷ Write 65580 16858113
-    ∷ Bell 0 0
-    ∷ Read (record { w = 65568 ∷ 0 ∷ 16777216 ∷ 16811009 ∷ [] })
-    ∷ Read (record { w = 196608 ∷ 0 ∷ 16777216 ∷ 16875521 ∷ [] })
-    ∷ []
-
-abbrev pub schedule_of_a_late_event_steps : List Step
-schedule_of_a_late_event_steps =
-    NextRow
-    ∷ NextRow
-    ∷ NextRow
-    ∷ NextRow
-    ∷ NextRow
-    ∷ NextRow
-    ∷ NextRow
-    ∷ NextRow
-    ∷ NextRow
-    ∷ NextRow
-    ∷ NextRow
-    ∷ NextRow
-    ∷ Look 0
-    ∷ Finish (record { w = 65536 ∷ 0 ∷ 16777216 ∷ 16811009 ∷ [] })
-    ∷ NextRow
-    ∷ NextRow
-    ∷ NextRow
-    ∷ NextRow
-    ∷ NextRow
-    ∷ NextRow
-    ∷ NextRow
-    ∷ NextRow
-    ∷ NextRow
-    ∷ Look 0
-    ∷ Finish (record { w = 65552 ∷ 0 ∷ 16777216 ∷ 16811009 ∷ [] })
-    ∷ NextRow
-    ∷ NextRow
-    ∷ NextRow
-    ∷ NextRow
-    ∷ NextRow
-    ∷ NextRow
-    ∷ NextRow
-    ∷ Look 0
-    ∷ Look 2
-    ∷ Finish (record { w = 65568 ∷ 0 ∷ 16777216 ∷ 16811009 ∷ [] })
-    ∷ NextRow
-    ∷ Report (record { w = 196608 ∷ 0 ∷ 16777216 ∷ 16875521 ∷ [] })
-    ∷ NextRow
-    ∷ []
-
-pub schedule_of_a_late_event : ending_of schedule_of_a_late_event_header schedule_of_a_late_event_rows schedule_of_a_late_event_steps ≡ NoHarm
-unfolding model_on_literals
-schedule_of_a_late_event = refl
-
-abbrev pub schedule_of_a_no_op_command_header : Header
-schedule_of_a_no_op_command_header = record { context_size = Bytes32; rings = record { id = 0; shape = record { kind = Cmd; segments = record { base = 65536; count = 16 } ∷ [] } } ∷ record { id = 1; shape = record { kind = Evt; segments = record { base = 131072; count = 16 } ∷ [] } } ∷ record { id = 2; shape = record { kind = Xfer; segments = record { base = 196608; count = 4 } ∷ [] } } ∷ [] }
-
-abbrev pub schedule_of_a_no_op_command_rows : List Row
-schedule_of_a_no_op_command_rows =
-    Write 262144 131072
-    ∷ Write 262152 16
-    ∷ Reg Erstsz 1
-    ∷ Reg Erstba 262144
-    ∷ Reg Erdp 131072
-    ∷ Reg Crcr 65537
-    ∷ Reg Dcbaap 327680
-    ∷ Reg Config 8
-    ∷ Reg Usbcmd 1
-    ∷ Sub 0 (record { w = 0 ∷ 0 ∷ 0 ∷ 23552 ∷ [] } ∷ [])
     ∷ Write 65548 23553
     ∷ Bell 0 0
-    ∷ Read (record { w = 65536 ∷ 0 ∷ 16777216 ∷ 33793 ∷ [] })
-    ∷ Reg Erdp 131088
     ∷ []
 
-abbrev pub schedule_of_a_no_op_command_steps : List Step
-schedule_of_a_no_op_command_steps =
+abbrev pub undeclared_blocks_may_be_given_steps : List Step
+undeclared_blocks_may_be_given_steps =
     NextRow
     ∷ NextRow
     ∷ NextRow
@@ -399,58 +311,75 @@ schedule_of_a_no_op_command_steps =
     ∷ NextRow
     ∷ NextRow
     ∷ NextRow
-    ∷ NextRow
-    ∷ NextRow
-    ∷ NextRow
     ∷ Look 0
-    ∷ Finish (record { w = 65536 ∷ 0 ∷ 16777216 ∷ 33793 ∷ [] })
-    ∷ NextRow
-    ∷ NextRow
     ∷ []
 
-pub schedule_of_a_no_op_command : ending_of schedule_of_a_no_op_command_header schedule_of_a_no_op_command_rows schedule_of_a_no_op_command_steps ≡ NoHarm
+pub undeclared_blocks_may_be_given_harmful : ending_of undeclared_blocks_may_be_given_header undeclared_blocks_may_be_given_rows undeclared_blocks_may_be_given_steps ≡ Harmful 10 TakenOutOfOrder
 unfolding model_on_literals
-schedule_of_a_no_op_command = refl
+undeclared_blocks_may_be_given_harmful = refl
 
-abbrev pub schedule_with_an_event_header : Header
-schedule_with_an_event_header = record { context_size = Bytes32; rings = record { id = 0; shape = record { kind = Cmd; segments = record { base = 65536; count = 16 } ∷ [] } } ∷ record { id = 1; shape = record { kind = Evt; segments = record { base = 131072; count = 16 } ∷ [] } } ∷ record { id = 2; shape = record { kind = Xfer; segments = record { base = 196608; count = 4 } ∷ [] } } ∷ [] }
+abbrev pub crcr_may_name_any_address_header : Header
+crcr_may_name_any_address_header = record { context_size = Bytes32; rings = record { id = 0; shape = record { kind = Cmd; segments = record { base = 65536; count = 16 } ∷ [] } } ∷ record { id = 1; shape = record { kind = Evt; segments = record { base = 131072; count = 16 } ∷ [] } } ∷ [] }
 
-abbrev pub schedule_with_an_event_rows : List Row
-schedule_with_an_event_rows =
+abbrev pub crcr_may_name_any_address_rows : List Row
+crcr_may_name_any_address_rows =
     Write 262144 131072
     ∷ Write 262152 16
     ∷ Reg Erstsz 1
     ∷ Reg Erstba 262144
     ∷ Reg Erdp 131072
-    ∷ Reg Crcr 65537
-    ∷ Reg Dcbaap 327680
-    ∷ Reg Config 8
+    ∷ Reg Crcr 327681
     ∷ Reg Usbcmd 1
-    ∷ Sub 0 (record { w = 0 ∷ 0 ∷ 0 ∷ 9216 ∷ [] } ∷ [])
-    ∷ Write 65548 9217
     ∷ Bell 0 0
-    ∷ Read (record { w = 65536 ∷ 0 ∷ 16777216 ∷ 16811009 ∷ [] })
-    ∷ Write 327688 458752
-    ∷ Write 393220 3
-    ∷ Write 393284 32
-    ∷ Write 393288 196609
-    ∷ Sub 0 (record { w = 393216 ∷ 0 ∷ 0 ∷ 16788480 ∷ [] } ∷ [])
-    ∷ Write 65552 393216
-    ∷ Write 65564 16788481
-    ∷ Bell 0 0
-    ∷ Read (record { w = 65552 ∷ 0 ∷ 16777216 ∷ 16811009 ∷ [] })
-    ∷ Sub 2 (record { w = 0 ∷ 0 ∷ 0 ∷ 8224 ∷ [] } ∷ [])
-    ∷ Write 196620 8225
-    ∷ Sub 2 (record { w = 0 ∷ 0 ∷ 0 ∷ 8224 ∷ [] } ∷ [])
-    ∷ Write 196636 8225
-    ∷ Bell 1 1
-    ∷ Read (record { w = 196608 ∷ 0 ∷ 16777216 ∷ 16875521 ∷ [] })
-    ∷ Sub 2 (record { w = 0 ∷ 0 ∷ 0 ∷ 8224 ∷ [] } ∷ [])
-    ∷ Write 196652 8225
     ∷ []
 
-abbrev pub schedule_with_an_event_steps : List Step
-schedule_with_an_event_steps =
+abbrev pub crcr_may_name_any_address_steps : List Step
+crcr_may_name_any_address_steps =
+    NextRow
+    ∷ NextRow
+    ∷ NextRow
+    ∷ NextRow
+    ∷ NextRow
+    ∷ NextRow
+    ∷ NextRow
+    ∷ NextRow
+    ∷ Look 0
+    ∷ []
+
+pub crcr_may_name_any_address_harmful : ending_of crcr_may_name_any_address_header crcr_may_name_any_address_rows crcr_may_name_any_address_steps ≡ Harmful 9 LooksOutside
+unfolding model_on_literals
+crcr_may_name_any_address_harmful = refl
+
+abbrev pub device_contexts_over_input_contexts_header : Header
+device_contexts_over_input_contexts_header = record { context_size = Bytes32; rings = record { id = 0; shape = record { kind = Cmd; segments = record { base = 65600; count = 3 } ∷ [] } } ∷ record { id = 1; shape = record { kind = Evt; segments = record { base = 65792; count = 17 } ∷ [] } } ∷ record { id = 2; shape = record { kind = Xfer; segments = record { base = 66080; count = 2 } ∷ record { base = 66128; count = 2 } ∷ record { base = 66160; count = 2 } ∷ [] } } ∷ record { id = 3; shape = record { kind = Xfer; segments = record { base = 66224; count = 4 } ∷ record { base = 66304; count = 4 } ∷ [] } } ∷ record { id = 4; shape = record { kind = Xfer; segments = record { base = 66384; count = 4 } ∷ [] } } ∷ [] }
+
+abbrev pub device_contexts_over_input_contexts_rows : List Row
+device_contexts_over_input_contexts_rows =
+    Write 66560 65792
+    ∷ Reg Config 4
+    ∷ Reg Crcr 65601
+    ∷ Write 66568 17
+    ∷ Reg Dcbaap 66624
+    ∷ Reg Erdp 65794
+    ∷ Reg Erstsz 1
+    ∷ Reg Erstba 66560
+    ∷ Reg Usbcmd 1
+    ∷ Sub 0 (record { w = 0 ∷ 0 ∷ 0 ∷ 9216 ∷ [] } ∷ [])
+    ∷ Write 65612 9217
+    ∷ Bell 0 0
+    ∷ Read (record { w = 65600 ∷ 0 ∷ 16777216 ∷ 16811009 ∷ [] })
+    ∷ Write 75204 3
+    ∷ Write 66632 75200
+    ∷ Write 75268 4294901792
+    ∷ Write 75272 66081
+    ∷ Sub 0 (record { w = 75200 ∷ 0 ∷ 0 ∷ 16788480 ∷ [] } ∷ [])
+    ∷ Sub 4 (record { w = 0 ∷ 0 ∷ 0 ∷ 8224 ∷ [] } ∷ [])
+    ∷ Write 65616 75200
+    ∷ Write 65628 16788481
+    ∷ []
+
+abbrev pub device_contexts_over_input_contexts_steps : List Step
+device_contexts_over_input_contexts_steps =
     NextRow
     ∷ NextRow
     ∷ NextRow
@@ -464,7 +393,7 @@ schedule_with_an_event_steps =
     ∷ NextRow
     ∷ NextRow
     ∷ Look 0
-    ∷ Finish (record { w = 65536 ∷ 0 ∷ 16777216 ∷ 16811009 ∷ [] })
+    ∷ Finish (record { w = 65600 ∷ 0 ∷ 16777216 ∷ 16811009 ∷ [] })
     ∷ NextRow
     ∷ NextRow
     ∷ NextRow
@@ -475,20 +404,69 @@ schedule_with_an_event_steps =
     ∷ NextRow
     ∷ NextRow
     ∷ Look 0
-    ∷ Finish (record { w = 65552 ∷ 0 ∷ 16777216 ∷ 16811009 ∷ [] })
-    ∷ NextRow
-    ∷ NextRow
-    ∷ NextRow
-    ∷ NextRow
-    ∷ NextRow
-    ∷ NextRow
-    ∷ Look 2
-    ∷ Report (record { w = 196608 ∷ 0 ∷ 16777216 ∷ 16875521 ∷ [] })
-    ∷ NextRow
-    ∷ NextRow
-    ∷ NextRow
+    ∷ Scribble 75712 4294967295
     ∷ []
 
-pub schedule_with_an_event : ending_of schedule_with_an_event_header schedule_with_an_event_rows schedule_with_an_event_steps ≡ NoHarm
+pub device_contexts_over_input_contexts_harmful : ending_of device_contexts_over_input_contexts_header device_contexts_over_input_contexts_rows device_contexts_over_input_contexts_steps ≡ Harmful 25 InputContextChanged
 unfolding model_on_literals
-schedule_with_an_event = refl
+device_contexts_over_input_contexts_harmful = refl
+
+abbrev pub erdp_past_what_was_read_header : Header
+erdp_past_what_was_read_header = record { context_size = Bytes32; rings = record { id = 0; shape = record { kind = Cmd; segments = record { base = 65600; count = 3 } ∷ [] } } ∷ record { id = 1; shape = record { kind = Evt; segments = record { base = 65792; count = 16 } ∷ [] } } ∷ record { id = 2; shape = record { kind = Xfer; segments = record { base = 66176; count = 7 } ∷ record { base = 66048; count = 7 } ∷ [] } } ∷ record { id = 3; shape = record { kind = Xfer; segments = record { base = 66288; count = 2 } ∷ record { base = 66320; count = 2 } ∷ record { base = 66368; count = 2 } ∷ record { base = 66416; count = 2 } ∷ [] } } ∷ record { id = 4; shape = record { kind = Xfer; segments = record { base = 66496; count = 4 } ∷ [] } } ∷ record { id = 5; shape = record { kind = Xfer; segments = record { base = 66624; count = 2 } ∷ record { base = 66592; count = 2 } ∷ record { base = 66656; count = 2 } ∷ record { base = 66560; count = 2 } ∷ [] } } ∷ record { id = 6; shape = record { kind = Xfer; segments = record { base = 66688; count = 3 } ∷ record { base = 66736; count = 3 } ∷ [] } } ∷ record { id = 7; shape = record { kind = Xfer; segments = record { base = 66832; count = 2 } ∷ record { base = 66896; count = 2 } ∷ record { base = 66800; count = 2 } ∷ [] } } ∷ [] }
+
+abbrev pub erdp_past_what_was_read_rows : List Row
+erdp_past_what_was_read_rows =
+    Reg Erdp 65800
+    ∷ Reg Crcr 65601
+    ∷ Write 67072 65792
+    ∷ Reg Config 12
+    ∷ Write 67080 16
+    ∷ Reg Erstsz 1
+    ∷ Reg Erstba 67072
+    ∷ Reg Usbcmd 1
+    ∷ Write 66272 66048
+    ∷ Sub 0 (record { w = 0 ∷ 0 ∷ 0 ∷ 9216 ∷ [] } ∷ [])
+    ∷ Write 65612 9217
+    ∷ Bell 0 0
+    ∷ Write 66304 66320
+    ∷ Reg Erdp 65884
+    ∷ []
+
+abbrev pub erdp_past_what_was_read_steps : List Step
+erdp_past_what_was_read_steps =
+    NextRow
+    ∷ NextRow
+    ∷ NextRow
+    ∷ NextRow
+    ∷ NextRow
+    ∷ NextRow
+    ∷ NextRow
+    ∷ NextRow
+    ∷ NextRow
+    ∷ NextRow
+    ∷ NextRow
+    ∷ Other (record { w = 2315381515 ∷ 1965134629 ∷ 2315381515 ∷ 39937 ∷ [] })
+    ∷ NextRow
+    ∷ NextRow
+    ∷ Look 0
+    ∷ Finish (record { w = 65600 ∷ 0 ∷ 16777216 ∷ 16811009 ∷ [] })
+    ∷ Other (record { w = 0 ∷ 0 ∷ 16777216 ∷ 34817 ∷ [] })
+    ∷ Other (record { w = 0 ∷ 0 ∷ 16777216 ∷ 34817 ∷ [] })
+    ∷ Other (record { w = 0 ∷ 0 ∷ 16777216 ∷ 34817 ∷ [] })
+    ∷ Other (record { w = 0 ∷ 0 ∷ 16777216 ∷ 34817 ∷ [] })
+    ∷ Other (record { w = 0 ∷ 0 ∷ 16777216 ∷ 34817 ∷ [] })
+    ∷ Other (record { w = 0 ∷ 0 ∷ 16777216 ∷ 34817 ∷ [] })
+    ∷ Other (record { w = 0 ∷ 0 ∷ 16777216 ∷ 34817 ∷ [] })
+    ∷ Other (record { w = 0 ∷ 0 ∷ 16777216 ∷ 34817 ∷ [] })
+    ∷ NextRow
+    ∷ Other (record { w = 0 ∷ 0 ∷ 16777216 ∷ 34817 ∷ [] })
+    ∷ Other (record { w = 0 ∷ 0 ∷ 16777216 ∷ 34817 ∷ [] })
+    ∷ Other (record { w = 0 ∷ 0 ∷ 16777216 ∷ 34817 ∷ [] })
+    ∷ Other (record { w = 0 ∷ 0 ∷ 16777216 ∷ 34817 ∷ [] })
+    ∷ Other (record { w = 0 ∷ 0 ∷ 16777216 ∷ 34817 ∷ [] })
+    ∷ Other (record { w = 0 ∷ 0 ∷ 16777216 ∷ 34817 ∷ [] })
+    ∷ []
+
+pub erdp_past_what_was_read_harmful : ending_of erdp_past_what_was_read_header erdp_past_what_was_read_rows erdp_past_what_was_read_steps ≡ Harmful 31 PostsOverUnread
+unfolding model_on_literals
+erdp_past_what_was_read_harmful = refl

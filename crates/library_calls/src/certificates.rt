@@ -1,34 +1,6 @@
-use certificate::{CertFault, decode, encode};
+use certificate::{decode, encode};
 use ring_knowledge::Lease;
-use std::alloc::AllocError;
 use std::test::Fail;
-
-#[test]
-fn the_numbers_and_names_of_faults(rt: HostRuntime) -> Result<(), AllocError> {
-    let alloc = rt.alloc();
-    let printed = [
-        (CertFault::Magic, "6 Magic"),
-        (CertFault::Length, "7 Length"),
-        (CertFault::Field, "8 Field"),
-        (CertFault::Memory, "30 Memory"),
-    ];
-    for (fault, expected) in printed {
-        let number = fault.number();
-        let line = format!(in alloc; "{number} {fault}")?;
-        assert_eq!(rt; line.as_str(), expected);
-    }
-    Ok(())
-}
-
-#[test]
-fn the_message_of_a_certificate_that_is_cut_off(rt: HostRuntime) -> Result<(), AllocError> {
-    let fault = CertFault::Length;
-    let number = fault.number();
-    let line = format!(in rt.alloc(); "xhcitrace: {number} {fault}")?;
-    assert_eq!(rt; line.as_str(), "xhcitrace: 7 Length");
-    assert_eq!(rt; fault.name(), "Length");
-    Ok(())
-}
 
 /// The leases of a trace with a No Op Command: an event segment, the segment table, the command's block.
 const LEASES: [Lease; 3] = [

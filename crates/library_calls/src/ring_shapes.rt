@@ -1,4 +1,4 @@
-use segments::{Place, RingShape, Segment, ShapeFault};
+use segments::{Place, RingShape, Segment};
 use std::test::Fail;
 use trb::RingKind;
 
@@ -39,17 +39,3 @@ fn a_ring_of_four_blocks(rt: HostRuntime) -> Result<(), Fail> {
     Ok(())
 }
 
-#[test]
-fn says_why_there_is_no_shape(rt: HostRuntime) -> Result<(), Fail> {
-    let fault = ShapeFault::Shape;
-    assert_eq!(rt;
-        format!(in rt.alloc(); "{fault}")?.as_str(),
-        "segments that make no ring"
-    );
-    let fault = ShapeFault::Memory;
-    assert_eq!(rt;
-        format!(in rt.alloc(); "{fault}")?.as_str(),
-        "memory is wanted"
-    );
-    Ok(())
-}

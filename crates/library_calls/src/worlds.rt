@@ -52,13 +52,6 @@ fn one_write(alloc: Global) -> Result<Trace, Fail> {
 }
 
 #[test]
-fn the_numbers_of_faults(rt: HostRuntime) {
-    assert_eq!(rt; StepFault::NotPossible.number(), 27);
-    assert_eq!(rt; StepFault::Spent.number(), 28);
-    assert_eq!(rt; StepFault::Memory.number(), 30);
-}
-
-#[test]
 fn makes_a_row_and_no_more(rt: HostRuntime) -> Result<(), Fail> {
     let alloc = rt.alloc();
     let trace = one_write(alloc)?;
