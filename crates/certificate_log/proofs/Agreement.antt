@@ -1,13 +1,6 @@
 -- How agreement goes on when a lease begins, and when some end
-use Rattle.std.specs.Prelude.{◌≡◌, ℕ, ◌==◌, ◌&&◌, ◌||◌, Bool, true, false, List, [], ◌∷◌, length, map, slice_get}
-use Rattle.std.proofs.Common.{sym, ◌∙◌, ap, refl, cond}
-use Rattle.std.proofs.lemmas.Bool.{and_parts, and_from, eq-eqb}
-use Rattle.ring_knowledge.specs.declared.lease.Lease.{Lease}
-use Rattle.ownership_rules.specs.OpenLeases.{Leased}
-use Rattle.ownership_rules.specs.Leases.{as_lease, without_end}
-use Rattle.lease_book.specs.Lents.{Lent, begun_at, ended_where, is_unended, lease_of, with_begun}
-use Rattle.lease_book.proofs.Ending.{later_end}
-use Rattle.certificate_log.specs.Agreement.{agree, agrees, begins_as, has_words_of, test_of}
+use Rattle.std.proofs.Common.{◌≡◌, ◌==◌, ◌&&◌, ◌||◌, ◌∷◌, ◌∙◌, ℕ, Bool, true, false, List, [], length, map, slice_get, sym, ap, refl, cond, eq-eqb}
+use Rattle.certificate_log.proofs.CitedWords.{and_parts, and_from, Lease, Leased, as_lease, without_end, Lent, begun_at, ended_where, is_unended, lease_of, with_begun, later_end, agree, agrees, begins_as, has_words_of, test_of}
 
 and_true : (b : Bool) → (b && true) ≡ b
 and_true true = refl

@@ -1,25 +1,6 @@
 -- The leases that stand before the first row begin, one by one
-use Rattle.std.specs.Prelude.{◌≡◌, ℕ, zero, suc, ◌+◌, ◌<◌, ◌≤◌, ◌%◌, false, List, [], ◌∷◌, ◌++◌, length, map}
-use Rattle.std.proofs.Common.{arith, sym, ◌∙◌, ap, refl, inl, inr, subst, get_or, take}
-use Rattle.std.proofs.lemmas.List.{get_or-map, length-map, take_all, take_more}
-use Rattle.segments.specs.Places.{place_count}
-use Rattle.segments.specs.Givings.{link_of}
-use Rattle.traces.specs.declared.header.Header.{Header}
-use Rattle.traces.specs.Header.{shape_of}
-use Rattle.ring_knowledge.specs.declared.lease.Lease.{Lease}
-use Rattle.ring_knowledge.specs.Known.{nothing}
-use Rattle.ownership_rules.specs.OpenLeases.{Leased, Block, Link, Range, Use, EventSegment, open_leases}
-use Rattle.ownership_rules.specs.Leases.{as_lease, without_end}
-use Rattle.ownership_rules.proofs.Among.{IsIn}
-use Rattle.lease_book.specs.declared.indexes.IndexTables.{IndexTables}
-use Rattle.lease_book.specs.IndexTables.{index_at}
-use Rattle.lease_book.specs.Lents.{Lent, begun_at, in_turn, lease_of, lents, share_a_place, with_begun}
-use Rattle.lease_book.proofs.FirstBook.{first_are_ranges}
-use Rattle.lease_book.proofs.RangesAlone.{IsRange}
-use Rattle.certificate_log.specs.declared.followed.FollowedList.{FollowedList}
-use Rattle.certificate_log.specs.Agreement.{agree}
-use Rattle.certificate_log.specs.OpenPlaces.{IsOnly, is_open_of, number_at}
-use Rattle.certificate_log.specs.Following.{Begins, FollowsList}
+use Rattle.std.proofs.Common.{◌≡◌, ◌+◌, ◌<◌, ◌≤◌, ◌%◌, ◌∷◌, ◌++◌, ◌∙◌, ℕ, zero, suc, false, List, [], length, map, arith, sym, ap, refl, inl, inr, subst, get_or, take, take_all}
+use Rattle.certificate_log.proofs.CitedWords.{get_or-map, length-map, take_more, place_count, link_of, Header, shape_of, Lease, nothing, Leased, Block, Link, Range, Use, EventSegment, open_leases, as_lease, without_end, IsIn, IndexTables, index_at, Lent, begun_at, in_turn, lease_of, lents, share_a_place, with_begun, first_are_ranges, IsRange, FollowedList, agree, IsOnly, is_open_of, number_at, Begins, FollowsList}
 use Rattle.certificate_log.proofs.Following.{goes_on}
 use Rattle.certificate_log.proofs.Standing.{range_none}
 use Rattle.certificate_log.proofs.Tables.{range_numbered}

@@ -1,14 +1,6 @@
 -- What the end of a lease changes
-use Rattle.std.specs.Prelude.{◌≡◌, ◌≢◌, ℕ, zero, suc, ◌==◌, ◌&&◌, ◌||◌, Bool, true, false, List, [], ◌∷◌, filter, length, map, slice_get}
-use Rattle.std.specs.List.{list_any}
-use Rattle.std.proofs.Common.{sym, ◌∙◌, ap, refl, inl, inr, cond}
-use Rattle.std.proofs.lemmas.Bool.{cases_Bool, and_parts, or_parts, or_from, eqb-true, false≢true}
-use Rattle.ring_knowledge.specs.declared.lease.Lease.{Lease}
-use Rattle.ownership_rules.specs.OpenLeases.{Leased}
-use Rattle.ownership_rules.specs.Leases.{without_end}
-use Rattle.lease_book.specs.Lents.{Lent, ended_where, is_unended, lease_of}
-use Rattle.certificate_log.specs.Agreement.{agree, agrees, begins_as, test_of}
-use Rattle.certificate_log.specs.OpenPlaces.{IsOnlyAt, is_open_of}
+use Rattle.std.proofs.Common.{◌≡◌, ◌≢◌, ◌==◌, ◌&&◌, ◌||◌, ◌∷◌, ◌∙◌, ℕ, zero, suc, Bool, true, false, List, [], filter, length, map, slice_get, sym, ap, refl, inl, inr, cond, eqb-true}
+use Rattle.certificate_log.proofs.CitedWords.{list_any, cases_Bool, and_parts, or_parts, or_from, false≢true, Lease, Leased, without_end, Lent, ended_where, is_unended, lease_of, agree, agrees, begins_as, test_of, IsOnlyAt, is_open_of}
 use Rattle.certificate_log.proofs.Agreement.{same_beginning}
 
 -- a row of the number of no row ends nothing

@@ -1,18 +1,6 @@
 -- One lease ends at a row, if it is open
-use Rattle.std.specs.Prelude.{◌≡◌, ◌≢◌, ℕ, suc, ◌-◌, ◌<◌, ◌==◌, ◌&&◌, Bool, true, false, not, List, map, slice_get}
-use Rattle.std.specs.List.{list_any}
-use Rattle.std.proofs.Common.{arith, sym, ◌∙◌, ap, inl, inr, subst}
-use Rattle.std.proofs.lemmas.Bool.{cases_Bool, and_parts, eqb-true, eq-eqb, false≢true}
-use Rattle.traces.specs.declared.header.Header.{Header}
-use Rattle.ring_knowledge.specs.declared.lease.Lease.{Lease}
-use Rattle.ownership_rules.specs.OpenLeases.{Leased, same_leased}
-use Rattle.ownership_rules.specs.Leases.{as_lease, without_end}
-use Rattle.lease_book.specs.declared.indexes.IndexTables.{IndexTables}
-use Rattle.lease_book.specs.Lents.{Lent, ended_where, share_a_place}
-use Rattle.certificate_log.specs.declared.followed.FollowedList.{FollowedList}
-use Rattle.certificate_log.specs.Agreement.{agree, has_words_of, test_of}
-use Rattle.certificate_log.specs.OpenPlaces.{IsCrossed, IsOnly, IsOnlyAt, is_open_of, number_at}
-use Rattle.certificate_log.specs.Following.{Ends, FollowsList}
+use Rattle.std.proofs.Common.{◌≡◌, ◌≢◌, ◌-◌, ◌<◌, ◌==◌, ◌&&◌, ◌∙◌, ℕ, suc, Bool, true, false, not, List, map, slice_get, arith, sym, ap, inl, inr, subst, eqb-true, eq-eqb}
+use Rattle.certificate_log.proofs.CitedWords.{list_any, cases_Bool, and_parts, false≢true, Header, Lease, Leased, same_leased, as_lease, without_end, IndexTables, Lent, ended_where, share_a_place, FollowedList, agree, has_words_of, test_of, IsCrossed, IsOnly, IsOnlyAt, is_open_of, number_at, Ends, FollowsList}
 use Rattle.certificate_log.proofs.Following.{ends_so, never, stays}
 use Rattle.certificate_log.proofs.OpenPlaces.{at_less, none_less}
 use Rattle.certificate_log.proofs.Standing.{apart_less}

@@ -1,22 +1,6 @@
 -- The list is followed when a lease begins, and when one ends
-use Rattle.std.specs.Prelude.{◌≡◌, ◌≢◌, ℕ, suc, ◌+◌, ◌-◌, ◌==◌, ◌&&◌, ◌||◌, Bool, true, false, not, List, [], ◌∷◌, ◌++◌, filter, length, map, slice_get}
-use Rattle.std.specs.List.{list_any}
-use Rattle.std.proofs.Common.{arith, sym, ◌∙◌, ap, refl, inl, inr, subst}
-use Rattle.std.proofs.lemmas.Bool.{cases_Bool, and_parts, false≢true}
-use Rattle.std.proofs.lemmas.List.{length-map}
-use Rattle.traces.specs.declared.header.Header.{Header}
-use Rattle.ring_knowledge.specs.declared.lease.Lease.{Lease}
-use Rattle.ownership_rules.specs.OpenLeases.{Leased, same_leased}
-use Rattle.ownership_rules.specs.Leases.{as_lease, without_end}
-use Rattle.ownership_rules.proofs.Among.{leased_is}
-use Rattle.lease_book.specs.declared.indexes.IndexTables.{IndexTables}
-use Rattle.lease_book.specs.Books.{AllUnended}
-use Rattle.lease_book.specs.Lents.{Lent, begun_at, ended_where, is_unended, share_a_place, with_begun}
-use Rattle.lease_book.proofs.Unended.{all_ended}
-use Rattle.certificate_log.specs.declared.followed.FollowedList.{FollowedList}
-use Rattle.certificate_log.specs.Agreement.{agree, begins_as, test_of}
-use Rattle.certificate_log.specs.OpenPlaces.{FindsPlaces, IsCrossed, IsOnly, IsOnlyAt, is_open_of, number_at}
-use Rattle.certificate_log.specs.Following.{Begins, Ends, FollowsList, KnowsOpen}
+use Rattle.std.proofs.Common.{◌≡◌, ◌≢◌, ◌+◌, ◌-◌, ◌==◌, ◌&&◌, ◌||◌, ◌∷◌, ◌++◌, ◌∙◌, ℕ, suc, Bool, true, false, not, List, [], filter, length, map, slice_get, arith, sym, ap, refl, inl, inr, subst}
+use Rattle.certificate_log.proofs.CitedWords.{list_any, cases_Bool, and_parts, false≢true, length-map, Header, Lease, Leased, same_leased, as_lease, without_end, leased_is, IndexTables, AllUnended, Lent, begun_at, ended_where, is_unended, share_a_place, with_begun, all_ended, FollowedList, agree, begins_as, test_of, FindsPlaces, IsCrossed, IsOnly, IsOnlyAt, is_open_of, number_at, Begins, Ends, FollowsList, KnowsOpen}
 use Rattle.certificate_log.proofs.Agreement.{agree_begun, agree_unended, begun_is_unended}
 use Rattle.certificate_log.proofs.Ending.{agree_ended, never_ends, none_ends, none_there, one_fewer, open_alike}
 use Rattle.certificate_log.proofs.OpenPlaces.{first_one, none_less, only_alike, only_more}

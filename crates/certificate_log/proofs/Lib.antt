@@ -10,3 +10,4 @@ pub mod EndingOne
 pub mod PassingOn
 pub mod Beginning
 pub mod Log
+pub mod CitedWords

@@ -1,17 +1,6 @@
 -- What a followed list tells: whether it is the leases of what was and is lent
-use Rattle.std.specs.Prelude.{◌≡◌, ◌==◌, ◌&&◌, Bool, true, false, not, List, filter, length, map}
-use Rattle.std.proofs.Common.{sym, ◌∙◌, ap, refl}
-use Rattle.std.proofs.lemmas.Bool.{and_parts, eqb-true, eq-eqb}
-use Rattle.std.proofs.lemmas.List.{length-map}
-use Rattle.traces.specs.declared.header.Header.{Header}
-use Rattle.ring_knowledge.specs.declared.lease.Lease.{Lease}
-use Rattle.ring_knowledge.specs.Learned.{known}
-use Rattle.ownership_rules.specs.Leases.{begun, leases}
-use Rattle.lease_book.specs.declared.indexes.IndexTables.{IndexTables}
-use Rattle.lease_book.specs.Lents.{Lent, is_unended, lease_of}
-use Rattle.certificate_log.specs.declared.followed.FollowedList.{FollowedList}
-use Rattle.certificate_log.specs.Agreement.{agree, is_endless}
-use Rattle.certificate_log.specs.Following.{FollowsList}
+use Rattle.std.proofs.Common.{◌≡◌, ◌==◌, ◌&&◌, ◌∙◌, Bool, true, false, not, List, filter, length, map, sym, ap, refl, eqb-true, eq-eqb}
+use Rattle.certificate_log.proofs.CitedWords.{and_parts, length-map, Header, Lease, known, begun, leases, IndexTables, Lent, is_unended, lease_of, FollowedList, agree, is_endless, FollowsList}
 use Rattle.certificate_log.proofs.Whole.{own_agree, own_count, whole}
 
 -- the list is that of what was lent where it agrees, has as many leases, and as many without an end

@@ -1,14 +1,6 @@
 -- Which lease stands at a place, when one begins and when one ends
-use Rattle.std.specs.Prelude.{◌≡◌, ◌≢◌, ℕ, zero, suc, ◌+◌, Bool, true, false, List, [], ◌∷◌, ◌++◌, length, map, slice_get}
-use Rattle.std.specs.List.{list_any}
-use Rattle.std.proofs.Common.{sym, ◌∙◌, refl, inl, inr}
-use Rattle.std.proofs.lemmas.Bool.{cases_Bool, and_parts, or_parts, or_from, false≢true}
-use Rattle.ring_knowledge.specs.declared.lease.Lease.{Lease}
-use Rattle.ownership_rules.specs.OpenLeases.{Leased}
-use Rattle.lease_book.specs.Lents.{Lent, is_unended}
-use Rattle.lease_book.specs.Books.{AllUnended}
-use Rattle.certificate_log.specs.Agreement.{agree, agrees, test_of}
-use Rattle.certificate_log.specs.OpenPlaces.{IsOnly, IsOnlyAt, is_open_of}
+use Rattle.std.proofs.Common.{◌≡◌, ◌≢◌, ◌+◌, ◌∷◌, ◌++◌, ◌∙◌, ℕ, zero, suc, Bool, true, false, List, [], length, map, slice_get, sym, refl, inl, inr}
+use Rattle.certificate_log.proofs.CitedWords.{list_any, cases_Bool, and_parts, or_parts, or_from, false≢true, Lease, Leased, Lent, is_unended, AllUnended, agree, agrees, test_of, IsOnly, IsOnlyAt, is_open_of}
 
 module _ (p q : Lent → Bool) (f : Lent → Lent) (same : (t : Lent) → q (f t) ≡ p t) where
   none_alike : (ts : List Lent) → list_any p ts ≡ false → list_any q (map f ts) ≡ false

@@ -1,21 +1,6 @@
 -- The walk along a ring passes a position at which no Link is crossed
-use Rattle.std.specs.Prelude.{◌≡◌, ℕ, ◌+◌, ◌≤◌, ◌||◌, Bool, false, not, List, map}
-use Rattle.std.proofs.Common.{sym, ◌∙◌, ap, refl, inl, inr, subst}
-use Rattle.std.proofs.lemmas.Bool.{cases_Bool, false≢true}
-use Rattle.std.proofs.lemmas.List.{length-map}
-use Rattle.segments.specs.Places.{is_crossing}
-use Rattle.traces.specs.declared.header.Header.{Header}
-use Rattle.traces.specs.Header.{shape_of}
-use Rattle.ring_knowledge.specs.declared.lease.Lease.{Lease}
-use Rattle.ownership_rules.specs.OpenLeases.{Leased, Block, Link, Range, same_leased}
-use Rattle.lease_book.specs.declared.indexes.IndexTables.{IndexTables}
-use Rattle.lease_book.specs.Books.{IsFound}
-use Rattle.lease_book.specs.Lents.{Lent, ended_where, is_passed}
-use Rattle.lease_book.proofs.Passing.{ended_alike, passed_block}
-use Rattle.certificate_log.specs.declared.followed.FollowedList.{FollowedList}
-use Rattle.certificate_log.specs.Agreement.{agree}
-use Rattle.certificate_log.specs.OpenPlaces.{IsCrossed, number_at}
-use Rattle.certificate_log.specs.Following.{FollowsList}
+use Rattle.std.proofs.Common.{◌≡◌, ◌+◌, ◌≤◌, ◌||◌, ◌∙◌, ℕ, Bool, false, not, List, map, sym, ap, refl, inl, inr, subst}
+use Rattle.certificate_log.proofs.CitedWords.{cases_Bool, false≢true, length-map, is_crossing, Header, shape_of, Lease, Leased, Block, Link, Range, same_leased, IndexTables, IsFound, Lent, ended_where, is_passed, ended_alike, passed_block, FollowedList, agree, IsCrossed, number_at, FollowsList}
 use Rattle.certificate_log.proofs.Agreement.{agree_unended}
 
 -- where the tables have its number, they find what is crossed

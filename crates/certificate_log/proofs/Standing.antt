@@ -1,20 +1,6 @@
 -- Where what is lent stands among what was and is lent
-use Rattle.std.specs.Prelude.{◌≡◌, ℕ, zero, suc, ◌+◌, ◌<◌, ◌%◌, ◌==◌, ◌&&◌, Bool, true, false, List, [], ◌∷◌}
-use Rattle.std.specs.List.{list_any}
-use Rattle.std.proofs.Common.{arith, sym, ◌∙◌, ap, refl, inl, inr, subst}
-use Rattle.std.proofs.lemmas.Bool.{cases_Bool, and_parts, eq-eqb, false≢true, or_from}
-use Rattle.segments.specs.Places.{place_count}
-use Rattle.segments.specs.Givings.{link_of}
-use Rattle.traces.specs.declared.header.Header.{Header}
-use Rattle.traces.specs.Header.{shape_of}
-use Rattle.ownership_rules.specs.OpenLeases.{Leased, Block, Link, Range, Use, same_leased}
-use Rattle.ownership_rules.proofs.Among.{leased_is}
-use Rattle.lease_book.specs.Books.{AllUnended}
-use Rattle.lease_book.specs.Lents.{Lent, is_place_free, is_unended, share_a_place}
-use Rattle.lease_book.specs.Ranges.{StandsAt, is_lent}
-use Rattle.lease_book.proofs.EndingRange.{either_holds, not_later}
-use Rattle.lease_book.proofs.Places.{not_true}
-use Rattle.certificate_log.specs.OpenPlaces.{IsOnlyAt, is_open_of}
+use Rattle.std.proofs.Common.{◌≡◌, ◌+◌, ◌<◌, ◌%◌, ◌==◌, ◌&&◌, ◌∷◌, ◌∙◌, ℕ, zero, suc, Bool, true, false, List, [], arith, sym, ap, refl, inl, inr, subst, eq-eqb}
+use Rattle.certificate_log.proofs.CitedWords.{list_any, cases_Bool, and_parts, false≢true, or_from, place_count, link_of, Header, shape_of, Leased, Block, Link, Range, Use, same_leased, leased_is, AllUnended, Lent, is_place_free, is_unended, share_a_place, StandsAt, is_lent, either_holds, not_later, not_true, IsOnlyAt, is_open_of}
 
 module _ (l : Leased) where
   abbrev is_this : Lent → Bool

@@ -1,17 +1,6 @@
 -- A number is put for the place of a lease
-use Rattle.std.specs.Prelude.{◌≡◌, ℕ, ◌%◌, ◌==◌, ◌&&◌, Bool, true, false}
-use Rattle.std.proofs.Common.{sym, ◌∙◌, ap, refl}
-use Rattle.std.proofs.lemmas.Bool.{and_parts, eqb-true, eq-eqb, false≢true}
-use Rattle.segments.specs.Places.{place_count}
-use Rattle.segments.specs.Givings.{link_of}
-use Rattle.traces.specs.declared.header.Header.{Header}
-use Rattle.traces.specs.Header.{shape_of}
-use Rattle.ownership_rules.specs.OpenLeases.{Leased, Block, Link, Range, Use}
-use Rattle.lease_book.specs.declared.indexes.IndexTables.{IndexTables}
-use Rattle.lease_book.specs.IndexTables.{index_at}
-use Rattle.lease_book.specs.Lents.{share_a_place}
-use Rattle.lease_book.proofs.Places.{IsPut, elsewhere}
-use Rattle.certificate_log.specs.OpenPlaces.{number_at}
+use Rattle.std.proofs.Common.{◌≡◌, ◌%◌, ◌==◌, ◌&&◌, ◌∙◌, ℕ, Bool, true, false, sym, ap, refl, eqb-true, eq-eqb}
+use Rattle.certificate_log.proofs.CitedWords.{and_parts, false≢true, place_count, link_of, Header, shape_of, Leased, Block, Link, Range, Use, IndexTables, index_at, share_a_place, IsPut, elsewhere, number_at}
 
 -- the number of its place, and of no other, is this one now
 pub record IsNumbered (h : Header) (blocks links new_blocks new_links : IndexTables) (l : Leased) (n : ℕ) : Type 0 where

@@ -1,18 +1,6 @@
 -- The endpoints that an input context adds, one after another
-use Rattle.std.proofs.Common.{◌≡◌, ℕ, suc, ◌+◌, ◌-◌, ◌<◌, ◌∙◌, true, false, List, [], ◌∷◌, Option, Some, None, map, filter, refl, ap, arith}
-use Rattle.std.specs.Prelude.{option_and_then}
-use Rattle.std.specs.List.{range_with_len}
-use Rattle.std.proofs.lemmas.Bool.{cond-true, cond-false}
-use Rattle.contexts.specs.declared.size.ContextSize.{ContextSize}
-use Rattle.contexts.specs.Contexts.{context_cycle, context_pointer, input_add_flag}
-use Rattle.commands.specs.declared.command.Command.{Command}
-use Rattle.commands.specs.declared.state.EndpointState.TheVariants.{Running}
-use Rattle.commands.specs.Changes.{Change, placed_by_context}
-use Rattle.traces.specs.declared.header.Header.{Header}
-use Rattle.traces.specs.Header.{ring_having}
-use Rattle.world_state.specs.World.{World}
-use Rattle.controller_model.specs.Bindings.{changed_by, changed_by_all, placed_on}
-use Rattle.controller_model.specs.Following.{places_from}
+use Rattle.std.proofs.Common.{◌≡◌, ◌+◌, ◌-◌, ◌<◌, ◌∙◌, ◌∷◌, ℕ, suc, true, false, List, [], Option, Some, None, map, filter, refl, ap, arith, option_and_then}
+use Rattle.controller_model.proofs.Words.{range_with_len, cond-true, cond-false, ContextSize, context_cycle, context_pointer, input_add_flag, Command, Running, Change, placed_by_context, Header, ring_having, World, changed_by, changed_by_all, placed_on, places_from}
 
 module _ (size : ContextSize) (memory : ℕ → ℕ) (s a i : ℕ) where
   range_is : i < 32 → range_with_len i (32 - i) ≡ i ∷ range_with_len (i + 1) (32 - (i + 1))

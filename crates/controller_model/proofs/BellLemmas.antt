@@ -1,14 +1,6 @@
 -- What the doorbell of the host controller does
-use Rattle.std.proofs.Common.{◌≡◌, ◌≢◌, ℕ, ◌<◌, ◌==◌, ◌&&◌, ◌∙◌, ap, sym, subst, true, false, Bool, List, [], ◌∷◌, Some, None, find, is_some, length, inl, inr, arith}
-use Rattle.std.proofs.lemmas.Bool.{cases_Bool, cond-true, cond-false, eq-eqb, ne_eqb}
-use Rattle.std.proofs.lemmas.Option.{slice_get_within}
-use Rattle.traces.specs.declared.ring.Ring.{Ring}
-use Rattle.traces.specs.declared.header.Header.{Header}
-use Rattle.traces.specs.Header.{command_id, command_ring, ring_with, is_command_kind, id_or_none}
-use Rattle.world_state.specs.World.{World}
-use Rattle.controller_model.specs.DriverRows.{activated, bell_row, endpoint_bell}
-use Rattle.controller_model.specs.declared.kept.RingState.{RingState}
-use Rattle.controller_model.specs.Following.{RingHeld, FollowsRing, FollowsRings}
+use Rattle.std.proofs.Common.{◌≡◌, ◌≢◌, ◌<◌, ◌==◌, ◌&&◌, ◌∙◌, ◌∷◌, ℕ, ap, sym, subst, true, false, Bool, List, [], Some, None, find, is_some, length, inl, inr, arith, eq-eqb, ne_eqb}
+use Rattle.controller_model.proofs.Words.{cases_Bool, cond-true, cond-false, slice_get_within, Ring, Header, command_id, command_ring, ring_with, is_command_kind, id_or_none, World, activated, bell_row, endpoint_bell, RingState, RingHeld, FollowsRing, FollowsRings}
 
 -- the world has the same of each ring
 pub follows_same : (h : Header) (before after : ℕ → RingHeld) (rings : List RingState) → length rings ≡ 256 → ((q : ℕ) → q < 256 → after q ≡ before q) →

@@ -1,14 +1,6 @@
 -- When an endpoint gets a ring
-use Rattle.std.proofs.Common.{◌≡◌, ℕ, ◌==◌, ◌&&◌, ◌∙◌, Bool, true, false, not, List, Option, Some, None, find, is_some, sym, ap, refl}
-use Rattle.std.proofs.lemmas.Bool.{cond-true, cond-false}
-use Rattle.commands.specs.declared.state.EndpointState.{EndpointState}
-use Rattle.segments.specs.Places.{is_inside}
-use Rattle.traces.specs.declared.ring.Ring.{Ring}
-use Rattle.traces.specs.declared.header.Header.{Header}
-use Rattle.traces.specs.Header.{id_of, is_transfer_kind, ring_having, ring_with}
-use Rattle.world_state.specs.World.{World}
-use Rattle.controller_model.specs.Bindings.{is_had_by_another, placed, placed_on}
-use Rattle.controller_model.specs.Following.{may_get}
+use Rattle.std.proofs.Common.{◌≡◌, ◌==◌, ◌&&◌, ◌∙◌, ℕ, Bool, true, false, not, List, Option, Some, None, find, is_some, sym, ap, refl}
+use Rattle.controller_model.proofs.Words.{cond-true, cond-false, EndpointState, is_inside, Ring, Header, id_of, is_transfer_kind, ring_having, ring_with, World, is_had_by_another, placed, placed_on, may_get}
 use Rattle.controller_model.proofs.BellLemmas.{found_by_id}
 
 id_known : (test : Ring → Bool) (rings : List Ring) (r : ℕ) (o : Option Ring) → find test rings ≡ o → id_of o ≡ Some r → is_some (find (λ x. x.id == r) rings) ≡ true

@@ -1,13 +1,6 @@
 -- What letting a ring go and getting one do to what the world has of each ring
-use Rattle.std.proofs.Common.{◌≡◌, ◌≢◌, ℕ, ◌==◌, ◌&&◌, ◌∷◌, ◌∙◌, if◌then◌else◌, not, Bool, true, false, Option, Some, None, length, refl, sym, ap}
-use Rattle.std.proofs.lemmas.Bool.{eq-eqb, ne_eqb, cond-true}
-use Rattle.guest_memory.specs.Memory.{put, put_pair}
-use Rattle.commands.specs.declared.state.EndpointState.{EndpointState}
-use Rattle.traces.specs.Header.{is_ring}
-use Rattle.world_state.specs.World.{World, Placed}
-use Rattle.world_state.specs.Takes.{takes_of}
-use Rattle.controller_model.specs.Bindings.{inactive, is_had_by_another, placed}
-use Rattle.controller_model.specs.Following.{ring_held, released, freed, bound}
+use Rattle.std.proofs.Common.{◌≡◌, ◌≢◌, ◌==◌, ◌&&◌, ◌∷◌, ◌∙◌, if◌then◌else◌, ℕ, not, Bool, true, false, Option, Some, None, length, refl, sym, ap, eq-eqb, ne_eqb}
+use Rattle.controller_model.proofs.Words.{cond-true, put, put_pair, EndpointState, is_ring, World, Placed, takes_of, inactive, is_had_by_another, placed, ring_held, released, freed, bound}
 use Rattle.controller_model.proofs.RingLemmas.{put_same, put_other}
 use Rattle.controller_model.proofs.HolderLemmas.{put_pair_id, put_pair_twice, put_pair_map}
 use Rattle.controller_model.proofs.HadByAnother.{any_same}

@@ -1,13 +1,7 @@
 -- A command that a block says is well: its addresses are on 16-byte boundaries, its indices below 32
-use Rattle.std.proofs.Common.{◌≡◌, ℕ, ◌*◌, ◌/◌, ◌%◌, ◌<◌, ◌^◌, Bool, true, false, if◌then◌else◌, Some, None, subst, arith}
-use Rattle.trb.specs.declared.block.Block.{Block}
-use Rattle.trb.specs.declared.kind.BlockKind.{BlockKind}
+use Rattle.std.proofs.Common.{◌≡◌, ◌*◌, ◌/◌, ◌%◌, ◌<◌, ◌^◌, if◌then◌else◌, ℕ, Bool, true, false, Some, None, subst, arith}
+use Rattle.controller_model.proofs.Words.{Block, BlockKind, kind, pointer, word, is_command_left_out, Command, command_by_kind, command_of, IsWell}
 use Rattle.trb.specs.declared.kind.BlockKind.TheVariants as kinds
-use Rattle.trb.specs.Block.{kind, pointer, word}
-use Rattle.trb.specs.Descriptor.{is_command_left_out}
-use Rattle.commands.specs.declared.command.Command.{Command}
-use Rattle.commands.specs.Command.{command_by_kind, command_of}
-use Rattle.controller_model.specs.Following.{IsWell}
 
 on_boundary : (p : ℕ) → p / 16 * 16 % 16 ≡ 0
 on_boundary p = omega arith

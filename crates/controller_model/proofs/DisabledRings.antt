@@ -1,17 +1,7 @@
 -- What is kept of rings while endpoints are disabled
-use Rattle.std.proofs.Common.{◌≡◌, ℕ, ◌<◌, ◌==◌, ◌&&◌, ◌∙◌, if◌then◌else◌, not, Bool, true, false, List, Option, Some, None, refl, sym, ap, subst, arith}
-use Rattle.guest_memory.specs.Memory.{put_pair}
-use Rattle.traces.specs.declared.header.Header.{Header}
-use Rattle.traces.specs.Header.{is_ring}
-use Rattle.world_state.specs.World.{World}
-use Rattle.controller_model.specs.declared.kept.Holder.{Holder}
-use Rattle.controller_model.specs.declared.kept.RingState.{RingState}
-use Rattle.controller_model.specs.Bindings.{disabled, has_one_of}
-use Rattle.controller_model.specs.declared.kept.Kept.{Kept}
-use Rattle.traces.specs.declared.row.Row.{Row}
-use Rattle.commands.specs.declared.state.EndpointState.TheVariants.{Disabled as Off}
+use Rattle.std.proofs.Common.{◌≡◌, ◌<◌, ◌==◌, ◌&&◌, ◌∙◌, if◌then◌else◌, ℕ, not, Bool, true, false, List, Option, Some, None, refl, sym, ap, subst, arith}
+use Rattle.controller_model.proofs.Words.{put_pair, Header, is_ring, World, Holder, RingState, disabled, has_one_of, Kept, Row, Off, Follows, FollowsHolder, FollowsRings, IsEndpoint, ring_held, turned_off}
 use Rattle.controller_model.proofs.HadByAnother.{any_same_in}
-use Rattle.controller_model.specs.Following.{Follows, FollowsHolder, FollowsRings, IsEndpoint, ring_held, turned_off}
 use Rattle.controller_model.proofs.HolderLemmas.{here, elsewhere, place_of, put_pair_here, put_pair_there, put_pair_map}
 
 holder_still : (had : ℕ → ℕ → Bool) (o : Option Holder) (s i : ℕ) → (IsEndpoint s i → had s i ≡ false) → FollowsHolder had o → FollowsHolder (put_pair had s i false) o

@@ -1,14 +1,6 @@
 -- Endpoints are disabled one after another
-use Rattle.std.proofs.Common.{◌≡◌, ℕ, suc, zero, ◌+◌, ◌<◌, ◌≤◌, ◌==◌, ◌&&◌, ◌||◌, ◌∙◌, if◌then◌else◌, not, Bool, true, false, List, [], ◌∷◌, Option, Some, None, refl, sym, ap, inl, inr, arith}
-use Rattle.std.specs.List.{list_any, range_with_len}
-use Rattle.std.specs.Prelude.{nat_lt}
-use Rattle.std.proofs.lemmas.Bool.{cases_eq, cases_lt, eq-eqb, ne_eqb, lt-ltb, le-ltb}
-use Rattle.guest_memory.specs.Memory.{put}
-use Rattle.commands.specs.declared.state.EndpointState.TheVariants.{Disabled as Off}
-use Rattle.traces.specs.Header.{is_ring}
-use Rattle.world_state.specs.World.{World}
-use Rattle.controller_model.specs.Bindings.{disabled, has_one_of}
-use Rattle.controller_model.specs.Following.{freed, turned_off}
+use Rattle.std.proofs.Common.{◌≡◌, ◌+◌, ◌<◌, ◌≤◌, ◌==◌, ◌&&◌, ◌||◌, ◌∙◌, if◌then◌else◌, ◌∷◌, ℕ, suc, zero, not, Bool, true, false, List, [], Option, Some, None, refl, sym, ap, inl, inr, arith, nat_lt, eq-eqb, ne_eqb, lt-ltb, le-ltb}
+use Rattle.controller_model.proofs.Words.{list_any, range_with_len, cases_eq, cases_lt, put, Off, is_ring, World, disabled, has_one_of, freed, turned_off}
 use Rattle.controller_model.proofs.HadByAnother.{any_none}
 use Rattle.controller_model.proofs.HolderLemmas.{put_pair_twice}
 

@@ -1,18 +1,6 @@
 -- What the success of each command leads to
-use Rattle.std.proofs.Common.{◌≡◌, ℕ, ◌∙◌, Bool, true, false, Option, Some, None, is_some, sym, ap}
-use Rattle.std.specs.Prelude.{option_and_then}
-use Rattle.guest_memory.specs.Memory.{put}
-use Rattle.contexts.specs.declared.size.ContextSize.{ContextSize}
-use Rattle.contexts.specs.Contexts.{added_endpoints, context_cycle, context_pointer, is_dropped}
-use Rattle.commands.specs.declared.command.Command.{Command}
-use Rattle.commands.specs.declared.command.Command.TheVariants.{NoOp, EnableSlot, DisableSlot, AddressDevice, ConfigureEndpoint, EvaluateContext, ResetEndpoint, StopEndpoint, SetTrDequeue, ResetDevice}
-use Rattle.commands.specs.declared.state.EndpointState.TheVariants.{Running, Stopped}
-use Rattle.commands.specs.Changes.{changes, slot_gone_on, is_above_control}
-use Rattle.traces.specs.declared.header.Header.{Header}
-use Rattle.traces.specs.Header.{ring_having}
-use Rattle.world_state.specs.World.{World}
-use Rattle.controller_model.specs.Bindings.{changed_by, changed_by_all, disabled, in_state, inactive, placed_on}
-use Rattle.controller_model.specs.Following.{places_from}
+use Rattle.std.proofs.Common.{◌≡◌, ◌∙◌, ℕ, Bool, true, false, Option, Some, None, is_some, sym, ap, option_and_then}
+use Rattle.controller_model.proofs.Words.{put, ContextSize, added_endpoints, context_cycle, context_pointer, is_dropped, Command, NoOp, EnableSlot, DisableSlot, AddressDevice, ConfigureEndpoint, EvaluateContext, ResetEndpoint, StopEndpoint, SetTrDequeue, ResetDevice, Running, Stopped, changes, slot_gone_on, is_above_control, Header, ring_having, World, changed_by, changed_by_all, disabled, in_state, inactive, placed_on, places_from}
 
 -- the slot's state goes on
 abbrev pub gone : Command → World → ℕ → World

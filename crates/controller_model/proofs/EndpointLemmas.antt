@@ -1,16 +1,6 @@
 -- One endpoint is changed, and what a doorbell does
-use Rattle.std.proofs.Common.{IsSome, ◌≡◌, ◌≢◌, ℕ, ◌+◌, ◌*◌, ◌<◌, ◌==◌, ◌&&◌, ◌||◌, ◌∙◌, ap, sym, subst, refl, true, false, Bool, List, Option, Some, None, length, slice_get, get_or, set, inl, inr, arith}
-use Rattle.std.proofs.lemmas.Bool.{cases_eq, cond-true, cond-false, eq-eqb, ne_eqb}
-use Rattle.guest_memory.specs.Memory.{put_pair}
-use Rattle.commands.specs.declared.state.EndpointState.{EndpointState}
-use Rattle.commands.specs.declared.state.EndpointState.TheVariants.{Running}
-use Rattle.commands.specs.States.{is_running, is_stopped}
-use Rattle.traces.specs.declared.header.Header.{Header}
-use Rattle.traces.specs.Header.{ring_with}
-use Rattle.world_state.specs.World.{World}
-use Rattle.controller_model.specs.DriverRows.{activated, endpoint_bell}
-use Rattle.controller_model.specs.declared.kept.Endpoint.{Endpoint}
-use Rattle.controller_model.specs.Following.{FollowsEndpoints}
+use Rattle.std.proofs.Common.{◌≡◌, ◌≢◌, ◌+◌, ◌*◌, ◌<◌, ◌==◌, ◌&&◌, ◌||◌, ◌∙◌, IsSome, ℕ, ap, sym, subst, refl, true, false, Bool, List, Option, Some, None, length, slice_get, get_or, set, inl, inr, arith, eq-eqb, ne_eqb}
+use Rattle.controller_model.proofs.Words.{cases_eq, cond-true, cond-false, put_pair, EndpointState, Running, is_running, is_stopped, Header, ring_with, World, activated, endpoint_bell, Endpoint, FollowsEndpoints}
 use Rattle.controller_model.proofs.RingLemmas.{read_at, slice_get-set_same, slice_get-set_other}
 
 pub put_pair_same : {A : Type 0} (f : ℕ → ℕ → A) (s i : ℕ) (x : A) → put_pair f s i x s i ≡ x

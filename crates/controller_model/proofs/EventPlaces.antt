@@ -1,22 +1,6 @@
 -- Which event position a written ERDP names in the model
-use Rattle.std.proofs.Common.{◌≡◌, ◌≢◌, ℕ, suc, ◌+◌, ◌-◌, ◌*◌, ◌%◌, ◌<◌, ◌==◌, ◌∙◌, true, false, Bool, List, [], ◌∷◌, Some, None, get_or, length, ap, sym, refl, arith}
-use Rattle.std.specs.List.{list_any}
-use Rattle.std.proofs.lemmas.Bool.{cond-true, cond-false, eq-eqb, ne_eqb, or_from}
-use Rattle.std.proofs.lemmas.List.Folds.{list_any_at}
-use Rattle.segments.specs.ShapeValue.{Shape}
-use Rattle.segments.specs.Shape.{IsShape}
-use Rattle.segments.specs.Places.{data_places, place_count, address_of}
-use Rattle.segments.specs.PlaceAt.{place_at}
-use Rattle.segments.specs.declared.place.Place.TheVariants.{Data}
-use Rattle.segments.proofs.PlaceAtLemmas.{place_at-Data, place_at-address_of}
-use Rattle.segments.proofs.Positions.{address_aligned, address_of-first}
-use Rattle.event_ring.specs.EventRing.{is_event_place, position_from}
-use Rattle.event_ring.proofs.DequeueLemmas.{position_from-place}
-use Rattle.traces.specs.declared.header.Header.{Header}
-use Rattle.traces.specs.Header.{event_ring, event_shape, shape_or}
-use Rattle.trb.specs.declared.ring_kind.RingKind.TheVariants.{Evt}
-use Rattle.world_state.specs.World.{World}
-use Rattle.controller_model.specs.DriverRows.{with_dequeue}
+use Rattle.std.proofs.Common.{◌≡◌, ◌≢◌, ◌+◌, ◌-◌, ◌*◌, ◌%◌, ◌<◌, ◌==◌, ◌∙◌, ◌∷◌, ℕ, suc, true, false, Bool, List, [], Some, None, get_or, length, ap, sym, refl, arith, eq-eqb, ne_eqb}
+use Rattle.controller_model.proofs.Words.{list_any, cond-true, cond-false, or_from, list_any_at, Shape, IsShape, data_places, place_count, address_of, place_at, Data, place_at-Data, place_at-address_of, address_aligned, address_of-first, is_event_place, position_from, position_from-place, Header, event_ring, event_shape, shape_or, Evt, World, with_dequeue}
 
 none_passes : (test : ℕ → Bool) (xs : List ℕ) → ((k : ℕ) → k < length xs → test (get_or xs k 0) ≡ false) → list_any test xs ≡ false
 none_passes test [] fails = refl

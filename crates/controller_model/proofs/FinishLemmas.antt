@@ -1,19 +1,6 @@
 -- A finish is a completion that is posted
 use Rattle.std.proofs.Common.{◌≡◌, ◌==◌, ◌&&◌, ◌∙◌, not, Bool, true, false, Option, Some, None, Ok, Err, option_map, ap, sym, subst, refl}
-use Rattle.std.proofs.lemmas.Bool.{cond-true, cond-false}
-use Rattle.trb.specs.declared.block.Block.{Block}
-use Rattle.trb.specs.Block.{code, kind, pointer, slot}
-use Rattle.trb.specs.Kind.{is_command_completion}
-use Rattle.commands.specs.Command.{command_of, may_answer_slot}
-use Rattle.traces.specs.declared.header.Header.{Header}
-use Rattle.world_state.specs.World.{World, UnderWay}
-use Rattle.controller_model.specs.declared.seen.Seen.{Seen}
-use Rattle.controller_model.specs.declared.fault.StepFault.{StepFault}
-use Rattle.controller_model.specs.declared.fault.StepFault.TheVariants.{NotPossible, Spent, Memory}
-use Rattle.controller_model.specs.Posts.{can_post}
-use Rattle.controller_model.specs.Finishes.{ended, ended_with, finished, finished_as}
-use Rattle.controller_model.specs.Completions.{IsPart, completed, completed_with}
-use Rattle.controller_model.specs.Following.{IsStep}
+use Rattle.controller_model.proofs.Words.{cond-true, cond-false, Block, code, kind, pointer, slot, is_command_completion, command_of, may_answer_slot, Header, World, UnderWay, Seen, StepFault, NotPossible, Spent, Memory, can_post, ended, ended_with, finished, finished_as, IsPart, completed, completed_with, IsStep}
 use Rattle.controller_model.proofs.ChangeLemmas.{Made}
 use Rattle.controller_model.proofs.ReportPosts.{map_choice}
 

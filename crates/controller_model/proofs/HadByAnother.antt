@@ -1,12 +1,6 @@
 -- Whether another endpoint has a ring, by who is kept as having it
-use Rattle.std.proofs.Common.{◌≡◌, ℕ, suc, zero, ◌+◌, ◌<◌, ◌≤◌, ◌==◌, ◌&&◌, ◌||◌, ◌∙◌, not, Bool, true, false, Option, Some, None, refl, sym, ap, inl, inr, arith}
-use Rattle.std.specs.List.{list_any, range_with_len}
-use Rattle.std.proofs.lemmas.Bool.{cases_lt, cases_Bool, eq-eqb, false≢true, or_from}
-use Rattle.traces.specs.Header.{is_ring}
-use Rattle.world_state.specs.World.{World}
-use Rattle.controller_model.specs.declared.kept.Holder.{Holder}
-use Rattle.controller_model.specs.Bindings.{is_had_by_another}
-use Rattle.controller_model.specs.Following.{FollowsHolder, IsEndpoint, is_other}
+use Rattle.std.proofs.Common.{◌≡◌, ◌+◌, ◌<◌, ◌≤◌, ◌==◌, ◌&&◌, ◌||◌, ◌∙◌, ℕ, suc, zero, not, Bool, true, false, Option, Some, None, refl, sym, ap, inl, inr, arith, eq-eqb}
+use Rattle.controller_model.proofs.Words.{list_any, range_with_len, cases_lt, cases_Bool, false≢true, or_from, is_ring, World, Holder, is_had_by_another, FollowsHolder, IsEndpoint, is_other}
 use Rattle.controller_model.proofs.HolderLemmas.{here, elsewhere, place_of}
 
 pub any_none : (test : ℕ → Bool) (from n : ℕ) → ((k : ℕ) → from ≤ k → k < from + n → test k ≡ false) → list_any test (range_with_len from n) ≡ false

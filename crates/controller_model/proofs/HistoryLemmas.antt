@@ -1,19 +1,6 @@
 -- One more thing that happens on a ring
-use Rattle.std.proofs.Common.{◌≡◌, ℕ, suc, ◌+◌, ◌-◌, ◌<◌, ◌≤◌, ◌==◌, ◌||◌, ◌++◌, if◌then◌else◌, not, [], ◌∷◌, List, Option, length, drop, true, false, refl, sym, ap, ◌∙◌, arith, length-append, inl, inr}
-use Rattle.std.proofs.lemmas.List.{drop-append-le, drop-drop, drop_all, length-drop}
-use Rattle.std.proofs.lemmas.Bool.{false≢true, cases_eq, eq-eqb, ne_eqb, cond-true, cond-false}
-use Rattle.trb.specs.declared.block.Block.{Block}
-use Rattle.segments.specs.ShapeValue.{Shape}
-use Rattle.segments.specs.Places.{address_of, cycle_of}
-use Rattle.segments.specs.Descriptors.{DeclaredBlock}
-use Rattle.world_state.specs.World.{RingEvent, Took, Placed}
-use Rattle.world_state.specs.Takes.{takes_of, next_take, was_placed, first_at, is_as_declared}
-use Rattle.world_state.specs.Harms.{is_right_place, is_out_of_order, has_other_words, is_end, is_inside_descriptor}
-use Rattle.std.proofs.Common.{slice_index_or}
-use Rattle.traces.specs.declared.header.Header.{Header}
-use Rattle.controller_model.specs.Posts.{is_last}
-use Rattle.controller_model.specs.declared.history.History.{History}
-use Rattle.controller_model.specs.Histories.{Keeps}
+use Rattle.std.proofs.Common.{◌≡◌, ◌+◌, ◌-◌, ◌<◌, ◌≤◌, ◌==◌, ◌||◌, ◌++◌, if◌then◌else◌, ◌∷◌, ◌∙◌, ℕ, suc, not, [], List, Option, length, drop, true, false, refl, sym, ap, arith, length-append, inl, inr, drop-drop, length-drop, eq-eqb, ne_eqb, slice_index_or}
+use Rattle.controller_model.proofs.Words.{drop-append-le, drop_all, false≢true, cases_eq, cond-true, cond-false, Block, Shape, address_of, cycle_of, DeclaredBlock, RingEvent, Took, Placed, takes_of, next_take, was_placed, first_at, is_as_declared, is_right_place, is_out_of_order, has_other_words, is_end, is_inside_descriptor, Header, is_last, History, Keeps}
 
 -- a bit by a test
 pub as_bit : (shape : Shape) (p : ℕ) → (if cycle_of shape p == 1 then 1 else 0) ≡ cycle_of shape p

@@ -40,3 +40,4 @@ pub mod CommandLemmas
 pub mod SuccessLemmas
 pub mod FinishLemmas
 pub mod StepLemmas
+pub mod Words

@@ -1,24 +1,7 @@
 -- Which way a look goes
-use Rattle.std.proofs.Common.{◌≡◌, ℕ, ◌==◌, ◌||◌, ◌&&◌, ◌∙◌, not, Bool, true, false, Option, Some, None, Ok, Err, is_some, option_map, ap, sym, subst, refl, inl, inr, arith}
-use Rattle.std.proofs.lemmas.Bool.{cond-true, cond-false, cases_eq, eq-eqb, ne_eqb}
-use Rattle.trb.specs.declared.block.Block.{Block}
-use Rattle.trb.specs.Block.{block_at, cycle, kind}
-use Rattle.trb.specs.Kind.{is_link}
-use Rattle.commands.specs.declared.command.Command.{Command}
-use Rattle.commands.specs.declared.command.Command.TheVariants.{NoOp, EnableSlot, DisableSlot, AddressDevice, ConfigureEndpoint, EvaluateContext, ResetEndpoint, StopEndpoint, SetTrDequeue, ResetDevice}
-use Rattle.std.proofs.Common.{Result, ◌↔◌}
-use Rattle.std.specs.Result.{result_ok}
-use Rattle.traces.specs.declared.header.Header.{Header}
-use Rattle.traces.specs.Header.{command_id}
-use Rattle.world_state.specs.World.{World}
-use Rattle.controller_model.specs.declared.seen.Seen.{Seen}
-use Rattle.controller_model.specs.declared.seen.Seen.TheVariants.{Waited, Crossed, Took}
-use Rattle.controller_model.specs.declared.fault.StepFault.{StepFault}
-use Rattle.controller_model.specs.declared.fault.StepFault.TheVariants.{NotPossible}
-use Rattle.controller_model.specs.Looks.{looked_at, looked, seen_by_look, crossed, taken, taken_on, command_begun, may_scribble}
-use Rattle.controller_model.specs.Showing.{look_shows}
-use Rattle.controller_model.specs.Following.{IsStep, addressed, is_it, under_way_of}
-use Rattle.controller_model.specs.declared.kept.Pending.{Pending}
+use Rattle.std.proofs.Common.{◌≡◌, ◌==◌, ◌||◌, ◌&&◌, ◌∙◌, ◌↔◌, ℕ, not, Bool, true, false, Option, Some, None, Ok, Err, is_some, option_map, ap, sym, subst, refl, inl, inr, arith, eq-eqb, ne_eqb, Result}
+use Rattle.controller_model.proofs.Words.{cond-true, cond-false, cases_eq, Block, block_at, cycle, kind, is_link, Command, NoOp, EnableSlot, DisableSlot, AddressDevice, ConfigureEndpoint, EvaluateContext, ResetEndpoint, StopEndpoint, SetTrDequeue, ResetDevice, result_ok, Header, command_id, World, Seen, Waited, Crossed, StepFault, NotPossible, looked_at, looked, seen_by_look, crossed, taken, taken_on, command_begun, may_scribble, look_shows, IsStep, addressed, is_it, under_way_of, Pending}
+use Rattle.controller_model.specs.declared.seen.Seen.TheVariants.{Took}
 
 -- a step as the definitions give it
 pub step_made : (o : Option World) (w : World) (seen shown : Seen) (P : World → Type 0) → o ≡ Some w → seen ≡ shown → P w → IsStep (Ok seen) o shown P

@@ -1,17 +1,6 @@
 -- What a look does to what is kept of a ring
-use Rattle.std.proofs.Common.{◌≡◌, ℕ, ◌+◌, ◌%◌, ◌^◌, ◌∷◌, ◌∙◌, Option, IsSome, true, if◌then◌else◌, ap, sym, subst}
-use Rattle.trb.specs.declared.block.Block.{Block}
-use Rattle.segments.specs.ShapeValue.{Shape}
-use Rattle.segments.specs.Descriptors.{DeclaredBlock, declared_at}
-use Rattle.traces.specs.declared.header.Header.{Header}
-use Rattle.traces.specs.Header.{shape_of, ring_with}
-use Rattle.world_state.specs.World.{Took}
-use Rattle.world_state.specs.Takes.{next_take}
-use Rattle.controller_model.specs.declared.kept.RingState.{RingState}
-use Rattle.controller_model.specs.declared.history.History.{History}
-use Rattle.controller_model.specs.Declarations.{Declares}
-use Rattle.controller_model.specs.Histories.{Keeps}
-use Rattle.controller_model.specs.Following.{RingHeld, FollowsRing, FollowsHolder, taken_held}
+use Rattle.std.proofs.Common.{◌≡◌, ◌+◌, ◌%◌, ◌^◌, ◌∷◌, ◌∙◌, if◌then◌else◌, ℕ, Option, IsSome, true, ap, sym, subst}
+use Rattle.controller_model.proofs.Words.{Block, Shape, DeclaredBlock, declared_at, Header, shape_of, ring_with, Took, next_take, RingState, History, Declares, Keeps, RingHeld, FollowsRing, FollowsHolder, taken_held}
 
 -- what a take says of its position, in the world's terms
 took_as : (h : Header) (r : ℕ) (held : RingHeld) (shape : Shape) (x : RingState) (b : Block) (d : Option DeclaredBlock) (p : ℕ) (after : History) → shape ≡ shape_of h r →

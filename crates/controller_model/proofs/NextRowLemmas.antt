@@ -1,15 +1,6 @@
 -- The rows that are left, and how one of them is made
-use Rattle.std.proofs.Common.{◌≡◌, ℕ, zero, suc, ◌+◌, ◌∙◌, List, [], ◌∷◌, drop, slice_get, Option, Some, None, Ok, Err, ap, sym, subst, refl, arith}
-use Rattle.std.proofs.lemmas.List.{drop-drop}
-use Rattle.traces.specs.declared.header.Header.{Header}
-use Rattle.traces.specs.declared.row.Row.{Row}
-use Rattle.world_state.specs.World.{World}
-use Rattle.controller_model.specs.declared.kept.Kept.{Kept}
-use Rattle.controller_model.specs.DriverRows.{row_done, next_row}
-use Rattle.controller_model.specs.declared.seen.Seen.{Seen}
-use Rattle.controller_model.specs.declared.fault.StepFault.{StepFault}
-use Rattle.controller_model.specs.declared.fault.StepFault.TheVariants.{NotPossible, Spent, Memory}
-use Rattle.controller_model.specs.Following.{Follows, IsStep}
+use Rattle.std.proofs.Common.{◌≡◌, ◌+◌, ◌∙◌, ◌∷◌, ℕ, zero, suc, List, [], drop, slice_get, Option, Some, None, Ok, Err, ap, sym, subst, refl, arith, drop-drop}
+use Rattle.controller_model.proofs.Words.{Header, Row, World, Kept, row_done, next_row, Seen, StepFault, NotPossible, Spent, Memory, Follows, IsStep}
 
 nothing_left : {X : Type 0} (xs : List X) (n : ℕ) → slice_get xs n ≡ None → drop n xs ≡ []
 nothing_left [] zero e = refl

@@ -1,18 +1,6 @@
 -- When an event may be posted
-use Rattle.std.proofs.Common.{◌≡◌, ℕ, ◌≤◌, ◌==◌, ◌&&◌, ◌∙◌, Bool, true, false, Some, None, ap, sym, arith}
-use Rattle.std.specs.Prelude.{nat_lt}
-use Rattle.std.proofs.lemmas.Bool.{cond-true, cond-false, lt-ltb}
-use Rattle.trb.specs.declared.block.Block.{Block}
-use Rattle.trb.specs.Block.{cycle, kind}
-use Rattle.trb.specs.Kind.{is_other_event}
-use Rattle.segments.specs.ShapeValue.{Shape}
-use Rattle.segments.specs.Places.{place_count, cycle_of}
-use Rattle.event_ring.specs.EventRing.{has_room}
-use Rattle.traces.specs.declared.header.Header.{Header}
-use Rattle.traces.specs.Header.{event_ring, event_shape, event_size, shape_or}
-use Rattle.trb.specs.declared.ring_kind.RingKind.TheVariants.{Evt}
-use Rattle.world_state.specs.World.{World}
-use Rattle.controller_model.specs.Posts.{can_post, posted, other_posted}
+use Rattle.std.proofs.Common.{◌≡◌, ◌≤◌, ◌==◌, ◌&&◌, ◌∙◌, ℕ, Bool, true, false, Some, None, ap, sym, arith, nat_lt, lt-ltb}
+use Rattle.controller_model.proofs.Words.{cond-true, cond-false, Block, cycle, kind, is_other_event, Shape, place_count, cycle_of, has_room, Header, event_ring, event_shape, event_size, shape_or, Evt, World, can_post, posted, other_posted}
 
 pub no_ring : (h : Header) (w : World) (b : Block) → None ≡ event_ring h → can_post h w b ≡ false
 unfolding can_post event_size event_shape

@@ -1,12 +1,6 @@
 -- When the driver may read an event
-use Rattle.std.proofs.Common.{◌≡◌, ◌+◌, ◌<◌, ◌≤◌, ◌&&◌, true, false, Some, None, ap}
-use Rattle.std.specs.Prelude.{nat_lt}
-use Rattle.std.proofs.lemmas.Bool.{cond-true, cond-false, lt-ltb, le-ltb}
-use Rattle.trb.specs.declared.block.Block.{Block}
-use Rattle.trb.specs.Block.{same_words}
-use Rattle.traces.specs.declared.header.Header.{Header}
-use Rattle.world_state.specs.World.{World, event_at}
-use Rattle.controller_model.specs.DriverRows.{event_read}
+use Rattle.std.proofs.Common.{◌≡◌, ◌+◌, ◌<◌, ◌≤◌, ◌&&◌, true, false, Some, None, ap, nat_lt, lt-ltb, le-ltb}
+use Rattle.controller_model.proofs.Words.{cond-true, cond-false, Block, same_words, Header, World, event_at, event_read}
 
 module _ (h : Header) (w : World) (e : Block) where
   pub read_nothing : w.posted ≤ w.reads → event_read h w e ≡ None

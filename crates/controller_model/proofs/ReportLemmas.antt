@@ -1,15 +1,6 @@
 -- What a Transfer Event does
-use Rattle.std.proofs.Common.{◌≡◌, ℕ, ◌+◌, ◌-◌, ◌<◌, ◌==◌, ◌&&◌, ◌∙◌, ◌∷◌, [], List, not, Bool, true, false, Some, None, length, position, option_map, ap, refl, arith}
-use Rattle.std.proofs.lemmas.Bool.{cond-true, cond-false, false≢true}
-use Rattle.trb.specs.CompletionCode.{is_success, is_halting, is_trb_error, is_stopping}
-use Rattle.commands.specs.declared.state.EndpointState.{EndpointState}
-use Rattle.commands.specs.declared.state.EndpointState.TheVariants.{Halted, Error}
-use Rattle.commands.specs.States.{is_running}
-use Rattle.traces.specs.declared.header.Header.{Header}
-use Rattle.world_state.specs.World.{World}
-use Rattle.world_state.specs.Takes.{unreported}
-use Rattle.controller_model.specs.Bindings.{inactive, in_state}
-use Rattle.controller_model.specs.Posts.{is_last, is_stop_under_way, report_code, report_error, report_stop, report_success, stopped_with, with_reported}
+use Rattle.std.proofs.Common.{◌≡◌, ◌+◌, ◌-◌, ◌<◌, ◌==◌, ◌&&◌, ◌∙◌, ◌∷◌, ℕ, [], List, not, Bool, true, false, Some, None, length, position, option_map, ap, refl, arith}
+use Rattle.controller_model.proofs.Words.{cond-true, cond-false, false≢true, is_success, is_halting, is_trb_error, is_stopping, EndpointState, Halted, Error, is_running, Header, World, unreported, inactive, in_state, is_last, is_stop_under_way, report_code, report_error, report_stop, report_success, stopped_with, with_reported}
 
 module _ (h : Header) (w : World) (r a : ℕ) where
   pub success_none : position (λ b. b == a) (unreported w r) ≡ None → report_success h w r a ≡ None

@@ -1,19 +1,6 @@
 -- What a Transfer Event says doesn't rest on its own post
-use Rattle.std.proofs.Common.{◌≡◌, ℕ, ◌+◌, ◌==◌, ◌&&◌, ◌∙◌, if◌then◌else◌, not, Bool, true, false, Option, Some, None, position, option_map, ap, refl}
-use Rattle.std.proofs.lemmas.Bool.{cond-true, cond-false}
-use Rattle.trb.specs.declared.block.Block.{Block}
-use Rattle.trb.specs.Bits.{is_set}
-use Rattle.trb.specs.Block.{code, endpoint, kind, pointer, slot, word}
-use Rattle.trb.specs.CompletionCode.{is_success, is_halting, is_trb_error, is_stopping}
-use Rattle.trb.specs.Kind.{is_transfer_event}
-use Rattle.commands.specs.declared.state.EndpointState.{EndpointState}
-use Rattle.commands.specs.declared.state.EndpointState.TheVariants.{Halted, Error}
-use Rattle.commands.specs.States.{is_running}
-use Rattle.traces.specs.declared.header.Header.{Header}
-use Rattle.world_state.specs.World.{World, stored, stored_block}
-use Rattle.world_state.specs.Takes.{unreported}
-use Rattle.controller_model.specs.Posts.{can_post, is_last, is_stop_under_way, posted, report_code, report_error, report_stop, report_success, reported, reported_on, stopped_with, with_reported}
-use Rattle.controller_model.specs.Following.{told}
+use Rattle.std.proofs.Common.{◌≡◌, ◌+◌, ◌==◌, ◌&&◌, ◌∙◌, if◌then◌else◌, ℕ, not, Bool, true, false, Option, Some, None, position, option_map, ap, refl}
+use Rattle.controller_model.proofs.Words.{cond-true, cond-false, Block, is_set, code, endpoint, kind, pointer, slot, word, is_success, is_halting, is_trb_error, is_stopping, is_transfer_event, EndpointState, Halted, Error, is_running, Header, World, stored, stored_block, unreported, can_post, is_last, is_stop_under_way, posted, report_code, report_error, report_stop, report_success, reported, reported_on, stopped_with, with_reported, told}
 
 map_twice : {A B C : Type 0} (f : B → C) (g : A → B) (o : Option A) → option_map (λ n. f (g n)) o ≡ option_map f (option_map g o)
 map_twice f g None = refl

@@ -1,33 +1,8 @@
 -- What a step at one ring does to the rings' harms
-use Rattle.std.proofs.Common.{◌≡◌, ◌≢◌, ℕ, ◌==◌, ◌&&◌, ◌||◌, ◌∙◌, if◌then◌else◌, is_some, not, Bool, true, false, List, [], ◌∷◌, Option, Some, None, option_map, ap, sym, subst, refl, inl, inr}
-use Rattle.std.specs.Prelude.{IsSome, find}
-use Rattle.std.specs.List.{list_any}
-use Rattle.std.proofs.lemmas.Bool.{eq-eqb, cases_Bool, cases_eq, cond-false, ne_eqb, cond-true}
-use Rattle.trb.specs.declared.block.Block.{Block}
-use Rattle.trb.specs.Block.{block_at, cycle, kind}
-use Rattle.trb.specs.Kind.{is_link}
-use Rattle.traces.specs.declared.header.Header.{Header}
-use Rattle.traces.specs.declared.ring.Ring.{Ring}
-use Rattle.traces.specs.declared.step.Step.TheVariants.{Look, NextRow}
-use Rattle.traces.specs.Header.{command_id, ring_with, shape_of, some_ring}
-use Rattle.world_state.specs.World.{World}
-use Rattle.world_state.specs.Harms.{has_other_words, is_inside_descriptor, is_out_of_order, waits}
-use Rattle.controller_model.specs.declared.safety.RingHarms.{RingHarms}
-use Rattle.controller_model.specs.Looks.{command_begun, crossed, looked, looked_at, seen_by_look, taken, taken_on}
-use Rattle.controller_model.specs.Steps.{counted, made, stepped, while_running}
-use Rattle.std.proofs.Common.{◌+◌, ◌%◌, arith}
-use Rattle.std.specs.Prelude.{nat_lt}
-use Rattle.guest_memory.specs.Memory.{put}
-use Rattle.trb.specs.Bits.{bits}
-use Rattle.trb.specs.Block.{same_words}
-use Rattle.traces.specs.declared.row.Row.{Row}
-use Rattle.traces.specs.declared.row.Row.TheVariants.{Sub, Write, Read}
-use Rattle.world_state.specs.World.{event_at, stored}
-use Rattle.controller_model.specs.DriverRows.{declared, event_read, next_row, row_done}
-use Rattle.controller_model.specs.Following.{RingHeld, ring_held}
+use Rattle.std.proofs.Common.{◌≡◌, ◌≢◌, ◌==◌, ◌&&◌, ◌||◌, ◌∙◌, if◌then◌else◌, ◌∷◌, ◌+◌, ◌%◌, ℕ, is_some, not, Bool, true, false, List, [], Option, Some, None, option_map, ap, sym, subst, refl, inl, inr, IsSome, find, eq-eqb, ne_eqb, arith, nat_lt}
+use Rattle.controller_model.proofs.Words.{list_any, cases_Bool, cases_eq, cond-false, cond-true, Block, block_at, cycle, kind, is_link, Header, Ring, Look, NextRow, command_id, ring_with, shape_of, some_ring, World, has_other_words, is_inside_descriptor, is_out_of_order, waits, RingHarms, command_begun, crossed, looked, looked_at, seen_by_look, taken, taken_on, counted, made, stepped, while_running, put, bits, same_words, Row, Sub, Write, Read, event_at, stored, declared, event_read, next_row, row_done, RingHeld, ring_held, ChangesOnly, HasRingHarms}
 use Rattle.controller_model.proofs.RingLemmas.{put_other}
 use Rattle.controller_model.proofs.NextRowLemmas.{behind}
-use Rattle.controller_model.specs.RingHarms.{ChangesOnly, HasRingHarms}
 use Rattle.controller_model.proofs.LookBranches.{looked_active, looked_inactive, waits as look_waits, crosses, refuses, takes, taken_transfer, taken_command}
 use Rattle.controller_model.proofs.RingSteps.{crossed_other, taken_other}
 

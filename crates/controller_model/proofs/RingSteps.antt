@@ -1,21 +1,6 @@
 -- What single changes of the world do to what it has of each ring
-use Rattle.std.proofs.Common.{◌≡◌, ◌≢◌, ℕ, ◌+◌, ◌∷◌, [], ◌++◌, Bool, true, List, Some, length, refl}
-use Rattle.std.proofs.Common.{◌-◌, ◌%◌, ◌^◌, if◌then◌else◌, false, ap, ◌∙◌}
-use Rattle.guest_memory.specs.Memory.{put}
-use Rattle.trb.specs.Block.{aligned, pointer, word}
-use Rattle.trb.specs.Bits.{is_set}
-use Rattle.traces.specs.Header.{shape_of}
-use Rattle.segments.specs.Descriptors.{declared_at}
-use Rattle.world_state.specs.Takes.{next_take, declared_next}
-use Rattle.controller_model.specs.Looks.{crossed, taken_on}
-use Rattle.controller_model.specs.Following.{taken_held}
-use Rattle.trb.specs.declared.block.Block.{Block}
-use Rattle.traces.specs.declared.header.Header.{Header}
-use Rattle.world_state.specs.World.{World, Took}
-use Rattle.controller_model.specs.DriverRows.{declared, activated}
-use Rattle.controller_model.specs.Bindings.{inactive}
-use Rattle.controller_model.specs.Posts.{with_reported}
-use Rattle.controller_model.specs.Following.{ring_held}
+use Rattle.std.proofs.Common.{◌≡◌, ◌≢◌, ◌+◌, ◌∷◌, ◌++◌, ◌-◌, ◌%◌, ◌^◌, if◌then◌else◌, ◌∙◌, ℕ, [], Bool, true, List, Some, length, refl, false, ap}
+use Rattle.controller_model.proofs.Words.{put, aligned, pointer, word, is_set, shape_of, declared_at, next_take, declared_next, crossed, taken_on, taken_held, Block, Header, World, Took, declared, activated, inactive, with_reported, ring_held}
 use Rattle.controller_model.proofs.RingLemmas.{put_same, put_other}
 
 pub declared_here : (h : Header) (w : World) (r : ℕ) (bs : List Block) →

@@ -1,17 +1,6 @@
 -- What rows do to what is kept
-use Rattle.std.proofs.Common.{subst, ◌≡◌, ℕ, ◌+◌, ◌<◌, ◌≤◌, ◌^◌, ◌∙◌, ap, sym, List, arith}
-use Rattle.std.proofs.Common.{◌==◌}
-use Rattle.std.proofs.lemmas.Bool.{cond-false, ne_eqb}
-use Rattle.traces.specs.declared.header.Header.{Header}
-use Rattle.traces.specs.declared.row.Row.{Row}
-use Rattle.world_state.specs.World.{World, stored, stored_block}
-use Rattle.std.proofs.Common.{◌%◌}
-use Rattle.trb.specs.declared.block.Block.{Block}
-use Rattle.trb.specs.Block.{word}
-use Rattle.controller_model.specs.declared.kept.Kept.{Kept}
-use Rattle.controller_model.specs.declared.stamps.Stamps.{Stamps}
-use Rattle.controller_model.specs.Held.{held, held_by, held_stored, held_block}
-use Rattle.controller_model.specs.Following.{Follows}
+use Rattle.std.proofs.Common.{◌≡◌, ◌+◌, ◌<◌, ◌≤◌, ◌^◌, ◌∙◌, ◌==◌, ◌%◌, subst, ℕ, ap, sym, List, arith, ne_eqb}
+use Rattle.controller_model.proofs.Words.{cond-false, Header, Row, World, stored, stored_block, Block, word, Kept, Stamps, held, held_by, held_stored, held_block, Follows}
 
 -- a word was stored: what memory then holds, and that none is beyond the last address
 pub record Stored (words : ℕ → ℕ) (stamps : Stamps) (w : World) : Type 0 where

@@ -1,29 +1,6 @@
 -- Which harms a world has
-use Rattle.std.proofs.Common.{◌≡◌, ℕ, zero, suc, ◌+◌, ◌-◌, ◌*◌, ◌/◌, ◌==◌, ◌&&◌, ◌||◌, ◌<◌, ◌≤◌, ◌∙◌, List, get_or, length, take, Bool, true, false, not, Option, Some, None, find, option_map, ap, sym, refl, arith}
-use Rattle.std.specs.Prelude.{[], ◌∷◌, nat_lt, nat_le, option_and_then}
-use Rattle.std.specs.List.{list_any, range_with_len}
-use Rattle.std.proofs.lemmas.Bool.{lt-ltb}
-use Rattle.std.proofs.lemmas.List.Folds.{list_any_more}
-use Rattle.trb.specs.declared.block.Block.{Block}
-use Rattle.trb.specs.declared.ring_kind.RingKind.TheVariants.{Evt}
-use Rattle.trb.specs.Block.{block_at, cycle}
-use Rattle.segments.specs.ShapeValue.{Shape}
-use Rattle.segments.specs.Places.{place_count}
-use Rattle.commands.specs.declared.command.Command.{Command}
-use Rattle.commands.specs.Command.{command_of, named_context}
-use Rattle.contexts.specs.Contexts.{input_context_bytes}
-use Rattle.traces.specs.declared.header.Header.{Header}
-use Rattle.traces.specs.declared.row.Row.{Row}
-use Rattle.traces.specs.Header.{event_ring, event_shape, event_size, shape_of, shape_or, some_ring}
-use Rattle.world_state.specs.World.{World}
-use Rattle.world_state.specs.declared.harm.Harm.{Harm}
-use Rattle.world_state.specs.declared.harm.Harm.TheVariants.{TakenOutOfOrder, TakenOtherWords, WaitsInsideDescriptor, LooksOutside, PostsOverUnread, InputContextChanged}
-use Rattle.world_state.specs.Harms.{harm_of, harms, waits, is_inside_descriptor, is_out_of_order, has_other_words, has_changed_context, is_context_changed, is_changed_since}
-use Rattle.controller_model.specs.declared.kept.RingState.{RingState}
-use Rattle.controller_model.specs.declared.kept.Kept.{Kept}
-use Rattle.controller_model.specs.declared.kept.Pending.{Pending}
-use Rattle.controller_model.specs.Held.{changed_at, written_at}
-use Rattle.controller_model.specs.Following.{Follows, FollowsRing, ring_held, under_way_of}
+use Rattle.std.proofs.Common.{◌≡◌, ◌+◌, ◌-◌, ◌*◌, ◌/◌, ◌==◌, ◌&&◌, ◌||◌, ◌<◌, ◌≤◌, ◌∙◌, ◌∷◌, ℕ, zero, suc, List, get_or, length, take, Bool, true, false, not, Option, Some, None, find, option_map, ap, sym, refl, arith, [], nat_lt, nat_le, option_and_then, lt-ltb}
+use Rattle.controller_model.proofs.Words.{list_any, range_with_len, list_any_more, Block, Evt, block_at, cycle, Shape, place_count, Command, command_of, named_context, input_context_bytes, Header, Row, event_ring, event_shape, event_size, shape_of, shape_or, some_ring, World, Harm, TakenOutOfOrder, TakenOtherWords, WaitsInsideDescriptor, LooksOutside, PostsOverUnread, InputContextChanged, harm_of, harms, waits, is_inside_descriptor, is_out_of_order, has_other_words, has_changed_context, is_context_changed, is_changed_since, RingState, Kept, Pending, changed_at, written_at, Follows, FollowsRing, ring_held, under_way_of}
 
 -- one more element of a list, as at a step of a loop
 pub any_more : {X : Type 0} (p : X → Bool) (xs : List X) (i : ℕ) (x : X) (a b : Bool) → i < length xs → x ≡ get_or xs i x → a ≡ list_any p (take i xs) → b ≡ p x →

@@ -1,11 +1,6 @@
 -- One slot is changed
-use Rattle.std.proofs.Common.{◌≡◌, ℕ, ◌<◌, ◌==◌, ◌||◌, ◌∙◌, ap, sym, subst, refl, true, false, Bool, List, Some, length, slice_get, get_or, set, inl, inr}
-use Rattle.std.proofs.lemmas.Bool.{cases_eq, eq-eqb, ne_eqb}
-use Rattle.std.proofs.Math.Bool.{or-true}
-use Rattle.guest_memory.specs.Memory.{put}
-use Rattle.commands.specs.declared.state.SlotState.{SlotState}
-use Rattle.controller_model.specs.declared.kept.Slot.{Slot}
-use Rattle.controller_model.specs.Following.{FollowsSlots}
+use Rattle.std.proofs.Common.{◌≡◌, ◌<◌, ◌==◌, ◌||◌, ◌∙◌, ℕ, ap, sym, subst, refl, true, false, Bool, List, Some, length, slice_get, get_or, set, inl, inr, eq-eqb, ne_eqb}
+use Rattle.controller_model.proofs.Words.{cases_eq, or-true, put, SlotState, Slot, FollowsSlots}
 use Rattle.controller_model.proofs.RingLemmas.{put_same, put_other, read_at, slice_get-set_same, slice_get-set_other}
 
 or_false : (b : Bool) → (b || false) ≡ b

@@ -1,15 +1,6 @@
 -- Which definition a step goes by
-use Rattle.std.proofs.Common.{◌≡◌, ◌≢◌, ℕ, ◌+◌, ◌∙◌, Bool, true, false, Option, Some, None, Ok, Err, option_map, ap, sym, subst, refl}
-use Rattle.std.proofs.lemmas.Bool.{cond-true, cond-false}
-use Rattle.traces.specs.declared.header.Header.{Header}
-use Rattle.traces.specs.declared.step.Step.{Step}
-use Rattle.traces.specs.declared.step.Step.TheVariants.{NextRow, Look, Report, Finish, Other, Scribble}
-use Rattle.world_state.specs.World.{World}
-use Rattle.controller_model.specs.declared.seen.Seen.{Seen}
-use Rattle.controller_model.specs.declared.fault.StepFault.{StepFault}
-use Rattle.controller_model.specs.declared.fault.StepFault.TheVariants.{NotPossible, Spent, Memory}
-use Rattle.controller_model.specs.Steps.{counted, made, stepped, while_running}
-use Rattle.controller_model.specs.Following.{IsStep}
+use Rattle.std.proofs.Common.{◌≡◌, ◌≢◌, ◌+◌, ◌∙◌, ℕ, Bool, true, false, Option, Some, None, Ok, Err, option_map, ap, sym, subst, refl}
+use Rattle.controller_model.proofs.Words.{cond-true, cond-false, Header, Step, NextRow, Look, Report, Finish, Other, Scribble, World, Seen, StepFault, NotPossible, Spent, Memory, counted, made, stepped, while_running, IsStep}
 
 module _ (h : Header) (w : World) where
   pub running : (o : Option World) → w.stopped ≡ false → while_running h w o ≡ o

@@ -1,23 +1,6 @@
 -- When a command can succeed
-use Rattle.std.proofs.Common.{◌≡◌, ℕ, ◌+◌, ◌≤◌, ◌^◌, ◌∙◌, ◌||◌, if◌then◌else◌, Bool, true, false, not, Option, Some, None, is_some, ap, refl}
-use Rattle.std.specs.Prelude.{nat_lt, option_and_then}
-use Rattle.std.proofs.lemmas.Bool.{cond-true, cond-false, ltb-false}
-use Rattle.contexts.specs.declared.size.ContextSize.{ContextSize}
-use Rattle.contexts.specs.Contexts.{context_cycle, context_pointer, input_context_bytes}
-use Rattle.commands.specs.declared.command.Command.{Command}
-use Rattle.commands.specs.declared.command.Command.TheVariants.{NoOp, EnableSlot, DisableSlot, AddressDevice, ConfigureEndpoint, EvaluateContext, ResetEndpoint, StopEndpoint, SetTrDequeue, ResetDevice}
-use Rattle.commands.specs.declared.state.EndpointState.TheVariants.{Running, Stopped}
-use Rattle.commands.specs.Command.{named_context}
-use Rattle.commands.specs.Changes.{changes}
-use Rattle.commands.specs.States.{can_succeed}
-use Rattle.traces.specs.declared.header.Header.{Header}
-use Rattle.traces.specs.declared.register.Register.TheVariants.{Config}
-use Rattle.traces.specs.Header.{ring_having}
-use Rattle.traces.specs.Register.{register_or_zero}
-use Rattle.world_state.specs.World.{World}
-use Rattle.controller_model.specs.Bindings.{changed_by, changed_by_all, effect, is_had_by_another, placed_on}
-use Rattle.controller_model.specs.Finishes.{passes_end, succeeded}
-use Rattle.controller_model.specs.Following.{HasRoom, may_get}
+use Rattle.std.proofs.Common.{◌≡◌, ◌+◌, ◌≤◌, ◌^◌, ◌∙◌, ◌||◌, if◌then◌else◌, ℕ, Bool, true, false, not, Option, Some, None, is_some, ap, refl, nat_lt, option_and_then, ltb-false}
+use Rattle.controller_model.proofs.Words.{cond-true, cond-false, ContextSize, context_cycle, context_pointer, input_context_bytes, Command, NoOp, EnableSlot, DisableSlot, AddressDevice, ConfigureEndpoint, EvaluateContext, ResetEndpoint, StopEndpoint, SetTrDequeue, ResetDevice, Running, Stopped, named_context, changes, can_succeed, Header, Config, ring_having, register_or_zero, World, changed_by, changed_by_all, effect, is_had_by_another, placed_on, passes_end, succeeded, HasRoom, may_get}
 use Rattle.controller_model.proofs.BindingLemmas.{may_get_is}
 use Rattle.controller_model.proofs.EffectLemmas.{gone}
 

@@ -1,18 +1,9 @@
 -- Whether another endpoint has a ring, by the rings of one slot's endpoints and who has it elsewhere
-use Rattle.std.proofs.Common.{◌≡◌, ◌≢◌, ℕ, suc, zero, [], ◌∷◌, length, set, slice_get, unwrap_or, ◌+◌, ◌<◌, ◌≤◌, ◌==◌, ◌&&◌, ◌||◌, ◌∙◌, not, Bool, true, false, List, Option, Some, None, refl, sym, ap, inl, inr, arith}
-use Rattle.std.specs.List.{list_any, range_with_len}
-use Rattle.std.proofs.lemmas.Bool.{cases_eq, cases_Bool, eq-eqb, ne_eqb}
-use Rattle.traces.specs.Header.{is_ring}
-use Rattle.world_state.specs.World.{World}
-use Rattle.controller_model.specs.declared.kept.Holder.{Holder}
-use Rattle.guest_memory.specs.Memory.{put_pair}
-use Rattle.commands.specs.declared.state.EndpointState.{EndpointState}
+use Rattle.std.proofs.Common.{◌≡◌, ◌≢◌, ◌∷◌, ◌+◌, ◌<◌, ◌≤◌, ◌==◌, ◌&&◌, ◌||◌, ◌∙◌, ℕ, suc, zero, [], length, set, slice_get, unwrap_or, not, Bool, true, false, List, Option, Some, None, refl, sym, ap, inl, inr, arith, eq-eqb, ne_eqb}
+use Rattle.controller_model.proofs.Words.{list_any, range_with_len, cases_eq, cases_Bool, is_ring, World, Holder, put_pair, EndpointState, is_had_by_another, placed, FollowsHolder, is_holder, Sees, has_own, is_elsewhere, own_ring}
 use Rattle.controller_model.proofs.RingLemmas.{slice_get-set_other}
 use Rattle.controller_model.proofs.EndpointLemmas.{put_pair_same, put_pair_index}
 use Rattle.controller_model.proofs.HolderLemmas.{put_pair_there}
-use Rattle.controller_model.specs.Bindings.{is_had_by_another, placed}
-use Rattle.controller_model.specs.Following.{FollowsHolder, is_holder}
-use Rattle.controller_model.specs.Trials.{Sees, has_own, is_elsewhere, own_ring}
 use Rattle.controller_model.proofs.HadByAnother.{any_none, any_one, any_same_in}
 
 and_false : (b : Bool) → (b && false) ≡ false

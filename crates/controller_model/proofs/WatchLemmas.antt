@@ -1,9 +1,6 @@
 -- Words that are watched: what a write of another word leaves
-use Rattle.std.proofs.Common.{◌≡◌, ◌≢◌, ℕ, zero, suc, ◌+◌, ◌-◌, ◌*◌, ◌/◌, ◌<◌, ◌≤◌, ◌==◌, ◌&&◌, ◌||◌, ◌∙◌, Bool, true, false, if◌then◌else◌, nat_le, nat_lt, ap, refl, sym, arith, inl, inr}
-use Rattle.std.specs.List.{list_any, range_with_len}
-use Rattle.std.proofs.lemmas.Bool.{cases_Bool, le-ltb, cond-true, cond-false, false≢true, and_from, or_left, or_right, eq-eqb, ne_eqb, le-leb, lt-ltb}
-use Rattle.guest_memory.specs.Memory.{put}
-use Rattle.controller_model.specs.Watches.{is_changed_behind, may_touch}
+use Rattle.std.proofs.Common.{◌≡◌, ◌≢◌, ◌+◌, ◌-◌, ◌*◌, ◌/◌, ◌<◌, ◌≤◌, ◌==◌, ◌&&◌, ◌||◌, ◌∙◌, if◌then◌else◌, ℕ, zero, suc, Bool, true, false, nat_le, nat_lt, ap, refl, sym, arith, inl, inr, le-ltb, eq-eqb, ne_eqb, le-leb, lt-ltb}
+use Rattle.controller_model.proofs.Words.{list_any, range_with_len, cases_Bool, cond-true, cond-false, false≢true, and_from, or_left, or_right, put, is_changed_behind, may_touch}
 use Rattle.controller_model.proofs.ScribbleLemmas.{none_in_range}
 
 -- tests that agree on a range find the same there

@@ -1,27 +1,7 @@
 -- A descriptor for which there is room may be declared
-use Rattle.std.specs.Prelude.{◌≡◌, ℕ, ◌+◌, ◌-◌, ◌^◌, ◌<◌, ◌≤◌, ◌==◌, ◌&&◌, ◌||◌, not, Bool, true, false, List, [], ◌∷◌, length, All, nat_le, nat_lt, Option, Some, None, if◌then◌else◌}
-use Rattle.std.specs.List.{list_any}
-use Rattle.std.proofs.Common.{arith, refl, sym}
-use Rattle.std.proofs.lemmas.Bool.{or_parts, false≢true}
-use Rattle.std.proofs.lemmas.Bool.Decides.{nat_tests}
-use Rattle.std.proofs.lemmas.List.Elements.{All-weaker, All-nil, All-cons}
-use Rattle.trb.specs.declared.block.Block.{Block}
-use Rattle.trb.specs.declared.kind.BlockKind.{BlockKind}
+use Rattle.std.proofs.Common.{◌≡◌, ◌+◌, ◌-◌, ◌^◌, ◌<◌, ◌≤◌, ◌==◌, ◌&&◌, ◌||◌, ◌∷◌, if◌then◌else◌, ℕ, not, Bool, true, false, List, [], length, All, nat_le, nat_lt, Option, Some, None, arith, refl, sym}
+use Rattle.cycle_ring.proofs.Words.{list_any, or_parts, false≢true, nat_tests, All-weaker, All-nil, All-cons, Block, BlockKind, Fault, BadDescriptor, RingKind, Cmd, Evt, Xfer, kind, is_link, is_transfer, is_command, is_left_out_command, fault_of, is_badly_formed, is_bad_descriptor, is_no_command, has_other_type, has_left_out_type, is_transfer_arrangement, IsShape, place_count, RingView, declared, floor_number, has_no_room, place_count_pos, Progress, has_room, IsAllowed, IsEnqueuedSo, MayBeDeclared}
 use Rattle.trb.specs.declared.kind.BlockKind.TheVariants.{Link}
-use Rattle.trb.specs.declared.fault.Fault.{Fault}
-use Rattle.trb.specs.declared.fault.Fault.TheVariants.{BadDescriptor}
-use Rattle.trb.specs.declared.ring_kind.RingKind.{RingKind}
-use Rattle.trb.specs.declared.ring_kind.RingKind.TheVariants.{Cmd, Evt, Xfer}
-use Rattle.trb.specs.Block.{kind}
-use Rattle.trb.specs.Kind.{is_link, is_transfer, is_command, is_left_out_command}
-use Rattle.trb.specs.Descriptor.{fault_of, is_badly_formed, is_bad_descriptor, is_no_command, has_other_type, has_left_out_type, is_transfer_arrangement}
-use Rattle.segments.specs.Shape.{IsShape}
-use Rattle.segments.specs.Places.{place_count}
-use Rattle.segments.specs.RingView.{RingView, declared, floor_number}
-use Rattle.segments.specs.Givings.{has_no_room}
-use Rattle.segments.proofs.Positions.{place_count_pos}
-use Rattle.cycle_ring.specs.Progress.{Progress, has_room, IsAllowed}
-use Rattle.cycle_ring.specs.RingRules.{IsEnqueuedSo, MayBeDeclared}
 
 has_room_on_ring : (p : Progress) (v : RingView) (n : ℕ) → IsShape p.shape → p.retired ≤ p.enqueued → has_room p n ≡ true → IsEnqueuedSo p v → has_no_room p.shape v n ≡ false
 unfolding has_no_room

@@ -1,16 +1,6 @@
 -- What enqueue appends, played into memory
-use Rattle.std.proofs.Common.{◌≡◌, ℕ, ◌+◌, ◌-◌, ◌^◌, ◌<◌, ◌≤◌, ◌&&◌, nat_le, nat_lt, true, List, ◌++◌, length, arith, subst, sym, ap, ◌∙◌, None}
-use Rattle.std.proofs.Math.Seq.{drop-append_seam}
-use Rattle.std.proofs.lemmas.Bool.Decides.{nat_tests}
-use Rattle.trb.specs.declared.block.Block.{Block}
-use Rattle.trb.specs.Descriptor.{fault_of}
-use Rattle.segments.specs.Shape.{IsShape}
-use Rattle.segments.specs.Places.{place_count}
-use Rattle.segments.proofs.Positions.{place_count_pos}
-use Rattle.cycle_ring.specs.Progress.{Progress, has_room}
-use Rattle.cycle_ring.specs.Writes.{writes_of}
-use Rattle.cycle_ring.specs.Played.{appended, BlocksStand, LinksStand, OthersStay, GivenLast}
-use Rattle.cycle_ring.specs.RingRules.{MayBeDeclared, KeepTheRing, FollowsPassed}
+use Rattle.std.proofs.Common.{◌≡◌, ◌+◌, ◌-◌, ◌^◌, ◌<◌, ◌≤◌, ◌&&◌, ◌++◌, ◌∙◌, ℕ, nat_le, nat_lt, true, List, length, arith, subst, sym, ap, None}
+use Rattle.cycle_ring.proofs.Words.{drop-append_seam, nat_tests, Block, fault_of, IsShape, place_count, place_count_pos, Progress, has_room, writes_of, appended, BlocksStand, LinksStand, OthersStay, GivenLast, MayBeDeclared, KeepTheRing, FollowsPassed}
 use Rattle.cycle_ring.proofs.Declared.{may_be_declared}
 use Rattle.cycle_ring.proofs.KeepsTheRing.{keep_the_ring}
 use Rattle.cycle_ring.proofs.DescriptorStands.{blocks_stand, links_stand, others_stay, given_last}

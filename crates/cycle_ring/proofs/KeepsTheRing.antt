@@ -1,25 +1,6 @@
 -- What a producer enqueues keeps the rules of its ring
-use Rattle.std.specs.Prelude.{◌≡◌, ℕ, suc, zero, ◌+◌, ◌<◌, ◌≤◌, ◌==◌, Bool, true, false, List, [], ◌∷◌, ◌++◌, length, sum, nat_lt, All, Some, slice_get}
-use Rattle.std.proofs.Common.{arith, refl, sym, ◌∙◌, ap, subst, inl, length-append}
-use Rattle.std.proofs.lemmas.Bool.{cond-true, cond-false, eq-eqb, ne_eqb, and_parts, and_from, and_right, or_left, false_from_ne_true, ltb-true, lt-ltb}
-use Rattle.std.proofs.lemmas.List.Elements.{All-head, All-tail}
-use Rattle.std.proofs.lemmas.List.Sums.{sum_by-cons}
-use Rattle.guest_memory.specs.Memory.{put}
-use Rattle.trb.specs.declared.block.Block.{Block}
-use Rattle.trb.specs.Block.{block_at, word}
-use Rattle.segments.specs.ShapeValue.{Shape}
-use Rattle.segments.specs.Shape.{IsShape}
-use Rattle.segments.specs.Places.{place_count, address_of, is_crossing}
-use Rattle.segments.specs.RingView.{RingView, Declares, Writes, changed, declared, floor_number, new_ring, gives_crossing}
-use Rattle.segments.specs.Descriptors.{length_from}
-use Rattle.segments.specs.Givings.{descriptor_length}
-use Rattle.segments.specs.RingKeeps.{RingKeeps, MayDeclare}
-use Rattle.segments.proofs.Declaring.{declares_keeps}
-use Rattle.segments.proofs.NewRing.{new_ring_keeps}
-use Rattle.cycle_ring.specs.Progress.{Progress, IsAllowed}
-use Rattle.cycle_ring.specs.Writes.{low_writes, control_write, block_at_position, way_writes, later_writes, writes_of}
-use Rattle.cycle_ring.specs.Played.{played}
-use Rattle.cycle_ring.specs.RingRules.{IsEnqueuedSo, viewed, KeepsTheRing, KeepTheRing, BeginsWithTheRing}
+use Rattle.std.proofs.Common.{◌≡◌, ◌+◌, ◌<◌, ◌≤◌, ◌==◌, ◌∷◌, ◌++◌, ◌∙◌, ℕ, suc, zero, Bool, true, false, List, [], length, sum, nat_lt, All, Some, slice_get, arith, refl, sym, ap, subst, inl, length-append, eq-eqb, ne_eqb, ltb-true, lt-ltb}
+use Rattle.cycle_ring.proofs.Words.{cond-true, cond-false, and_parts, and_from, and_right, or_left, false_from_ne_true, All-head, All-tail, sum_by-cons, put, Block, block_at, word, Shape, IsShape, place_count, address_of, is_crossing, RingView, Declares, Writes, changed, declared, floor_number, new_ring, gives_crossing, length_from, descriptor_length, RingKeeps, MayDeclare, declares_keeps, new_ring_keeps, Progress, IsAllowed, low_writes, control_write, block_at_position, way_writes, later_writes, writes_of, played, IsEnqueuedSo, viewed, KeepsTheRing, KeepTheRing, BeginsWithTheRing}
 use Rattle.cycle_ring.proofs.DescriptorStands.{blocks_stand}
 use Rattle.cycle_ring.proofs.Declared.{may_be_declared}
 use Rattle.cycle_ring.proofs.LinkBlocks.{cycle_written}

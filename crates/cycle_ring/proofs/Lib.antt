@@ -8,3 +8,4 @@ pub mod Stages
 pub mod LinkBlocks
 pub mod Runs
 pub mod KeepsTheRing
+pub mod Words

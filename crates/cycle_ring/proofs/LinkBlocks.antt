@@ -1,21 +1,6 @@
 -- The Link that a producer writes leads on, and a block stands once its four words are written
-use Rattle.std.specs.Prelude.{◌≡◌, ℕ, suc, zero, ◌+◌, ◌-◌, ◌*◌, ◌/◌, ◌%◌, ◌^◌, ◌<◌, ◌==◌, ◌||◌, Bool, true, false, not, [], ◌∷◌, Some, unwrap_or}
-use Rattle.std.proofs.Common.{arith, refl, sym, ◌∙◌, ap}
-use Rattle.std.proofs.lemmas.Bool.{eq-eqb}
-use Rattle.guest_memory.specs.Memory.{put}
-use Rattle.trb.specs.declared.block.Block.{Block}
-use Rattle.trb.specs.Bits.{is_set}
-use Rattle.trb.specs.Block.{aligned, block_at, word, with_cycle, kind, pointer}
-use Rattle.trb.specs.Kind.{is_link}
-use Rattle.trb.proofs.BlockLemmas.{cycle-with_cycle}
-use Rattle.segments.specs.ShapeValue.{Shape}
-use Rattle.segments.specs.Shape.{IsShape}
-use Rattle.segments.specs.Places.{cycle_of, link_crossed, link_address, link_target, toggles}
-use Rattle.segments.specs.Givings.{same, is_wrong_link, link_of, leads_wrong, interrupts}
-use Rattle.segments.proofs.Positions.{address_aligned, cycle_of_bit}
-use Rattle.segments.proofs.Crossings.{link_target-crossed}
-use Rattle.segments.proofs.MemoryWords.{put_here, put_elsewhere}
-use Rattle.cycle_ring.specs.Links.{link_control, link_block}
+use Rattle.std.proofs.Common.{◌≡◌, ◌+◌, ◌-◌, ◌*◌, ◌/◌, ◌%◌, ◌^◌, ◌<◌, ◌==◌, ◌||◌, ◌∷◌, ◌∙◌, ℕ, suc, zero, Bool, true, false, not, [], Some, unwrap_or, arith, refl, sym, ap, eq-eqb}
+use Rattle.cycle_ring.proofs.Words.{put, Block, is_set, aligned, block_at, word, with_cycle, kind, pointer, is_link, cycle-with_cycle, Shape, IsShape, cycle_of, link_crossed, link_address, link_target, toggles, same, is_wrong_link, link_of, leads_wrong, interrupts, address_aligned, cycle_of_bit, link_target-crossed, put_here, put_elsewhere, link_control, link_block}
 use Rattle.cycle_ring.proofs.PlayedLemmas.{block_at-words}
 
 -- the fields of a Link's control word

@@ -1,12 +1,6 @@
 -- What memory holds at an address after writes
-use Rattle.std.proofs.Common.{◌≡◌, ◌≢◌, ℕ, zero, suc, ◌+◌, List, [], ◌∷◌, arith, refl, ap, sym, ◌∙◌, inl, inr}
-use Rattle.std.specs.Prelude.{Contains, ◌==◌, ◌⊎◌}
-use Rattle.std.proofs.lemmas.Bool.{cases_Bool, eqb-true}
-use Rattle.std.proofs.lemmas.Bool.Decides.{nat_tests}
-use Rattle.guest_memory.specs.Memory.{put}
-use Rattle.trb.specs.declared.block.Block.{Block}
-use Rattle.trb.specs.Block.{block_at}
-use Rattle.cycle_ring.specs.Played.{played}
+use Rattle.std.proofs.Common.{◌≡◌, ◌≢◌, ◌+◌, ◌∷◌, ◌∙◌, ◌==◌, ◌⊎◌, ℕ, zero, suc, List, [], arith, refl, ap, sym, inl, inr, Contains, eqb-true}
+use Rattle.cycle_ring.proofs.Words.{cases_Bool, nat_tests, put, Block, block_at, played}
 
 -- an element is contained in front of others, and behind another
 pub Contains-here : {A : Type 0} (x : A) (xs : List A) → Contains (x ∷ xs) x

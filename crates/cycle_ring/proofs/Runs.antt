@@ -1,21 +1,6 @@
 -- The writes of a descriptor, one after another, keep the rules of the ring
-use Rattle.std.specs.Prelude.{◌≡◌, ℕ, suc, ◌+◌, ◌-◌, ◌<◌, ◌≤◌, ◌⊎◌, Bool, true, false, List, [], ◌∷◌, ◌++◌, length, Some, Option, slice_get, is_some}
-use Rattle.std.proofs.Common.{arith, refl, sym, ◌∙◌, ap, subst, inl, inr, append_assoc}
-use Rattle.guest_memory.specs.Memory.{put}
-use Rattle.trb.specs.declared.block.Block.{Block}
-use Rattle.trb.specs.Block.{word}
-use Rattle.segments.specs.ShapeValue.{Shape}
-use Rattle.segments.specs.Shape.{IsShape}
-use Rattle.segments.specs.Places.{address_of, cycle_of, link_crossed, link_address}
-use Rattle.segments.specs.RingView.{RingView, Writes, changed}
-use Rattle.segments.specs.RingKeeps.{RingKeeps}
-use Rattle.segments.proofs.Search.{cases_option}
-use Rattle.segments.proofs.Crossings.{is_crossing-from}
-use Rattle.segments.proofs.Writing.{writes_keeps}
-use Rattle.cycle_ring.specs.Links.{link_block}
-use Rattle.cycle_ring.specs.Writes.{low_writes, block_writes, block_at_position, way_writes, later_writes}
-use Rattle.cycle_ring.specs.Played.{played}
-use Rattle.cycle_ring.specs.RingRules.{viewed, AllMayWrite, AllWithoutInterrupt}
+use Rattle.std.proofs.Common.{◌≡◌, ◌+◌, ◌-◌, ◌<◌, ◌≤◌, ◌⊎◌, ◌∷◌, ◌++◌, ◌∙◌, ℕ, suc, Bool, true, false, List, [], length, Some, Option, slice_get, is_some, arith, refl, sym, ap, subst, inl, inr, append_assoc}
+use Rattle.cycle_ring.proofs.Words.{put, Block, word, Shape, IsShape, address_of, cycle_of, link_crossed, link_address, RingView, Writes, changed, RingKeeps, cases_option, is_crossing-from, writes_keeps, link_block, low_writes, block_writes, block_at_position, way_writes, later_writes, played, viewed, AllMayWrite, AllWithoutInterrupt}
 use Rattle.cycle_ring.proofs.MayWriteLemmas.{MayPut}
 use Rattle.cycle_ring.proofs.Stages.{Stage, low_word, later_control, link_low_word, link_control_word, no_way}
 use Rattle.cycle_ring.proofs.LinkBlocks.{link_cycle, leads_right, cycle_written, four_puts}

@@ -1,15 +1,6 @@
 -- The Address Device commands among the unfinished ones, counted by slot
-use Rattle.std.proofs.Common.{◌≡◌, ℕ, zero, suc, ◌<◌, ◌≤◌, ◌&&◌, ◌||◌, ◌∙◌, Bool, true, false, List, [], ◌∷◌, Option, Some, None, ap, sym, refl, arith, inl, inr, length, get_or, All}
-use Rattle.std.specs.Prelude.{nat_lt, filter, if◌then◌else◌}
-use Rattle.std.specs.List.{list_any, sum_by}
-use Rattle.std.proofs.lemmas.Bool.{cases_Bool, cases_lt, le-ltb, lt-ltb, eq-eqb, and_parts, false≢true}
-use Rattle.std.proofs.lemmas.List.Sums.{sum_by-le, sum_by-cons}
-use Rattle.commands.specs.declared.command.Command.{Command}
-use Rattle.commands.specs.declared.command.Command.TheVariants.{AddressDevice}
-use Rattle.device_record.specs.declared.unfinished.SlotCommand.{SlotCommand}
-use Rattle.device_record.specs.declared.unfinished.UnfinishedCommands.{UnfinishedCommands}
-use Rattle.device_record.specs.Addressing.{addressing_count, is_address_device, is_addressing}
-use Rattle.device_record.specs.Unfinished.{FollowsUnfinished, as_list, kept_of, names, no_command}
+use Rattle.std.proofs.Common.{◌≡◌, ◌<◌, ◌≤◌, ◌&&◌, ◌||◌, ◌∙◌, ◌∷◌, if◌then◌else◌, ℕ, zero, suc, Bool, true, false, List, [], Option, Some, None, ap, sym, refl, arith, inl, inr, length, get_or, All, nat_lt, filter, le-ltb, lt-ltb, eq-eqb}
+use Rattle.device_record.proofs.Words.{list_any, sum_by, cases_Bool, cases_lt, and_parts, false≢true, sum_by-le, sum_by-cons, Command, AddressDevice, SlotCommand, UnfinishedCommands, addressing_count, is_address_device, is_addressing, FollowsUnfinished, as_list, kept_of, names, no_command}
 use Rattle.device_record.proofs.NamedCommands.{found_of_slot}
 
 -- ---- how many there are

@@ -1,20 +1,6 @@
 -- A doorbell is rung
-use Rattle.std.proofs.Common.{◌≡◌, ℕ, ◌==◌, ◌≤◌, ◌&&◌, if◌then◌else◌, ◌∙◌, Bool, true, false, Option, Some, None, ap, sym, subst}
-use Rattle.std.specs.Prelude.{nat_lt, is_some, slice_index_or, ◌+◌, ◌*◌}
-use Rattle.std.proofs.lemmas.Bool.{cond-true, cond-false, eq-eqb, ne_eqb, le-ltb}
-use Rattle.guest_memory.specs.Memory.{put_pair}
-use Rattle.segments.specs.RingView.{Opens}
-use Rattle.commands.specs.States.{is_stopped}
-use Rattle.commands.specs.declared.state.EndpointState.TheVariants.{Running}
-use Rattle.traces.specs.declared.header.Header.{Header}
-use Rattle.traces.specs.Header.{command_id}
-use Rattle.ring_knowledge.specs.Known.{Known}
-use Rattle.ring_knowledge.specs.Rings.{on_ring}
-use Rattle.ring_knowledge.specs.Registers.{endpoint_rung, rung}
-use Rattle.device_record.specs.declared.kept.Endpoint.{Endpoint}
-use Rattle.device_record.specs.declared.kept.DeviceRecord.{DeviceRecord}
-use Rattle.device_record.specs.Endpoints.{rung_endpoint}
-use Rattle.device_record.specs.Devices.{FollowsDevices, IsWithEndpoint, endpoint_at, fresh_endpoint}
+use Rattle.std.proofs.Common.{◌≡◌, ◌==◌, ◌≤◌, ◌&&◌, if◌then◌else◌, ◌∙◌, ◌+◌, ◌*◌, ℕ, Bool, true, false, Option, Some, None, ap, sym, subst, nat_lt, is_some, slice_index_or, eq-eqb, ne_eqb, le-ltb}
+use Rattle.device_record.proofs.Words.{cond-true, cond-false, put_pair, Opens, is_stopped, Running, Header, command_id, Known, on_ring, endpoint_rung, rung, Endpoint, DeviceRecord, rung_endpoint, FollowsDevices, IsWithEndpoint, endpoint_at, fresh_endpoint}
 use Rattle.device_record.proofs.Steps.{follows_beside, follows_still, follows_state}
 
 module _ (h : Header) (k : Known) (s t : ℕ) where

@@ -1,11 +1,6 @@
 -- One field of what is kept, where one slot or one endpoint is kept anew
-use Rattle.std.proofs.Common.{◌≡◌, ℕ, ◌==◌, ◌&&◌, if◌then◌else◌, ◌∙◌, Bool, true, false, ap, sym, refl, inl, inr}
-use Rattle.std.proofs.lemmas.Bool.{cases_eq, cond-true, cond-false, eq-eqb, ne_eqb}
-use Rattle.guest_memory.specs.Memory.{put, put_pair}
-use Rattle.device_record.specs.declared.kept.Slot.{Slot}
-use Rattle.device_record.specs.declared.kept.Endpoint.{Endpoint}
-use Rattle.device_record.specs.declared.kept.DeviceRecord.{DeviceRecord}
-use Rattle.device_record.specs.Devices.{IsWithSlot, IsWithEndpoint, slot_at, endpoint_at}
+use Rattle.std.proofs.Common.{◌≡◌, ◌==◌, ◌&&◌, if◌then◌else◌, ◌∙◌, ℕ, Bool, true, false, ap, sym, refl, inl, inr, eq-eqb, ne_eqb}
+use Rattle.device_record.proofs.Words.{cases_eq, cond-true, cond-false, put, put_pair, Slot, Endpoint, DeviceRecord, IsWithSlot, IsWithEndpoint, slot_at, endpoint_at}
 
 and_false : (b : Bool) → (b && false) ≡ false
 and_false true = refl

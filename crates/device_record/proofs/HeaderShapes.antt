@@ -1,17 +1,6 @@
 -- In an allowed header a write gives one position of the command ring at most
-use Rattle.std.proofs.Common.{◌≡◌, ℕ, ◌==◌, ◌&&◌, ◌⊎◌, ◌∙◌, Bool, true, List, [], ◌∷◌, Option, Some, None, ap, sym, refl, inl, inr}
-use Rattle.std.specs.Prelude.{find, nat_lt, filter, not}
-use Rattle.std.specs.List.{list_all, range_with_len}
-use Rattle.std.proofs.lemmas.Bool.{cases_Bool, cond-true, cond-false, and_parts}
-use Rattle.std.proofs.lemmas.Option.{none-some, same_Some}
-use Rattle.segments.specs.Shape.{IsShape, is_shape}
-use Rattle.segments.specs.Places.{place_count}
-use Rattle.segments.specs.RingView.{floor_number, gives, due_positions, positions_given}
-use Rattle.traces.specs.declared.header.Header.{Header}
-use Rattle.traces.specs.declared.ring.Ring.{Ring}
-use Rattle.traces.specs.Header.{IsHeader, may_stand_together, ring_with, shape_of, shape_or, command_id}
-use Rattle.trb.specs.declared.ring_kind.RingKind.TheVariants.{Xfer}
-use Rattle.ring_knowledge.specs.Known.{Known}
+use Rattle.std.proofs.Common.{◌≡◌, ◌==◌, ◌&&◌, ◌⊎◌, ◌∙◌, ◌∷◌, ℕ, Bool, true, List, [], Option, Some, None, ap, sym, refl, inl, inr, find, nat_lt, filter, not}
+use Rattle.device_record.proofs.Words.{list_all, range_with_len, cases_Bool, cond-true, cond-false, and_parts, none-some, same_Some, IsShape, is_shape, place_count, floor_number, gives, due_positions, positions_given, Header, Ring, IsHeader, may_stand_together, ring_with, shape_of, shape_or, command_id, Xfer, Known}
 use Rattle.device_record.proofs.UnfinishedWritten.{GivesOne, allowed_gives}
 
 -- what each ring passes, the one that is found passes

@@ -1,8 +1,6 @@
 -- What passes a test of a list where one element more passes, or none
-use Rattle.std.proofs.Common.{◌≡◌, ◌++◌, ◌&&◌, ◌||◌, not, if◌then◌else◌, ◌∙◌, Bool, true, false, List, [], ◌∷◌, Option, Some, None, ap, sym, refl}
-use Rattle.std.specs.Prelude.{filter}
-use Rattle.std.specs.List.{filter_map, cons_option}
-use Rattle.std.proofs.lemmas.List.Elements.{filter_map-append}
+use Rattle.std.proofs.Common.{◌≡◌, ◌++◌, ◌&&◌, ◌||◌, if◌then◌else◌, ◌∙◌, ◌∷◌, not, Bool, true, false, List, [], Option, Some, None, ap, sym, refl, filter}
+use Rattle.device_record.proofs.Words.{filter_map, cons_option, filter_map-append}
 
 -- the new list is the old one with x at some place
 pub record Inserted {X : Type 0} (x : X) (old new : List X) : Type 0 where

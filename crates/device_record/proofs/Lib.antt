@@ -20,3 +20,4 @@ pub mod UnfinishedEvents
 pub mod UnfinishedRows
 pub mod TouchedEndpoints
 pub mod HeaderShapes
+pub mod Words

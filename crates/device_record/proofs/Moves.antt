@@ -1,14 +1,6 @@
 -- What moves or holds rings alone
 use Rattle.std.proofs.Common.{ℕ, Bool, Option, Some, None}
-use Rattle.segments.specs.declared.spot.Spot.{Spot}
-use Rattle.segments.specs.Moves.{target}
-use Rattle.traces.specs.declared.header.Header.{Header}
-use Rattle.traces.specs.Header.{shape_of}
-use Rattle.ring_knowledge.specs.Known.{Known}
-use Rattle.ring_knowledge.specs.Rings.{on_ring}
-use Rattle.ring_knowledge.specs.Completions.{set_to, moved_to, moved, held_at_ceiling}
-use Rattle.device_record.specs.declared.kept.DeviceRecord.{DeviceRecord}
-use Rattle.device_record.specs.Devices.{FollowsDevices}
+use Rattle.device_record.proofs.Words.{Spot, target, Header, shape_of, Known, on_ring, set_to, moved_to, moved, held_at_ceiling, DeviceRecord, FollowsDevices}
 use Rattle.device_record.proofs.Steps.{follows_beside}
 
 module _ (h : Header) (k : Known) (d : DeviceRecord) (f : FollowsDevices k d) where

@@ -1,15 +1,7 @@
 -- Which of the unfinished commands name a slot
-use Rattle.std.proofs.Common.{◌≡◌, ℕ, ◌==◌, ◌++◌, ◌||◌, if◌then◌else◌, ◌∙◌, Bool, true, false, List, [], ◌∷◌, Option, Some, None, ap, sym, refl, replicate}
-use Rattle.std.specs.Prelude.{filter, slice_index_or, is_some}
-use Rattle.std.specs.List.{list_any}
-use Rattle.std.proofs.lemmas.Bool.{eqb-true}
-use Rattle.std.proofs.lemmas.List.Elements.{filter-append}
-use Rattle.commands.specs.declared.command.Command.{Command}
-use Rattle.commands.specs.Command.{named_slot, name_one_slot, same_slot}
-use Rattle.device_record.specs.declared.unfinished.UnfinishedCommands.{UnfinishedCommands}
+use Rattle.std.proofs.Common.{◌≡◌, ◌==◌, ◌++◌, ◌||◌, if◌then◌else◌, ◌∙◌, ◌∷◌, ℕ, Bool, true, false, List, [], Option, Some, None, ap, sym, refl, replicate, filter, slice_index_or, is_some, eqb-true}
+use Rattle.device_record.proofs.Words.{list_any, filter-append, Command, named_slot, name_one_slot, same_slot, UnfinishedCommands, SlotCommand, FollowsUnfinished, IsOfSlot, as_list, is_slot, kept_of, names, no_command}
 use Rattle.device_record.proofs.NewRecord.{alike}
-use Rattle.device_record.specs.declared.unfinished.SlotCommand.{SlotCommand}
-use Rattle.device_record.specs.Unfinished.{FollowsUnfinished, IsOfSlot, as_list, is_slot, kept_of, names, no_command}
 
 none_step : {X : Type 0} (x : X) (ys : List X) (b r : Bool) → (b || r) ≡ false → (r ≡ false → ys ≡ []) → (if b then x ∷ ys else ys) ≡ []
 none_step x ys true r e rest = absurd (cc)

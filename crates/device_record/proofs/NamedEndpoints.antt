@@ -1,9 +1,6 @@
 -- The endpoints that a command disables are those of the test by which its success disables them
-use Rattle.std.specs.Prelude.{◌≡◌, ℕ, ◌&&◌, true, nat_le}
-use Rattle.commands.specs.Changes.{is_above_control}
-use Rattle.contexts.specs.Contexts.{has_flag, is_dropped}
-use Rattle.device_record.specs.declared.disabling.Named.TheVariants.{All, AboveControl, Dropped}
-use Rattle.device_record.specs.Endpoints.{named_by}
+use Rattle.std.proofs.Common.{◌≡◌, ◌&&◌, ℕ, true, nat_le}
+use Rattle.device_record.proofs.Words.{is_above_control, has_flag, is_dropped, All, AboveControl, Dropped, named_by}
 
 -- Disable Slot
 pub named_all : named_by All ≡ (λ i. true)

@@ -1,11 +1,6 @@
 -- Before the first row
-use Rattle.std.proofs.Common.{◌≡◌, ℕ, zero, suc, ◌+◌, ◌*◌, if◌then◌else◌, ◌∙◌, Bool, true, false, ap, sym, refl, replicate}
-use Rattle.std.specs.Prelude.{nat_lt, slice_index_or}
-use Rattle.ring_knowledge.specs.Known.{nothing}
-use Rattle.device_record.specs.declared.kept.Slot.{Slot}
-use Rattle.device_record.specs.declared.kept.Endpoint.{Endpoint}
-use Rattle.device_record.specs.declared.kept.DeviceRecord.{DeviceRecord}
-use Rattle.device_record.specs.Devices.{FollowsDevices, fresh_slot, fresh_endpoint, slot_at, endpoint_at}
+use Rattle.std.proofs.Common.{◌≡◌, ◌+◌, ◌*◌, if◌then◌else◌, ◌∙◌, ℕ, zero, suc, Bool, true, false, ap, sym, refl, replicate, nat_lt, slice_index_or}
+use Rattle.device_record.proofs.Words.{nothing, Slot, Endpoint, DeviceRecord, FollowsDevices, fresh_slot, fresh_endpoint, slot_at, endpoint_at}
 
 pub alike : {X : Type 0} (n i : ℕ) (x : X) → slice_index_or (replicate n x) i x ≡ x
 alike zero i x = refl

@@ -1,26 +1,6 @@
 -- Rows by which nothing changes that the record speaks of
-use Rattle.std.proofs.Common.{◌≡◌, ℕ, ◌+◌, ◌&&◌, ◌||◌, not, if◌then◌else◌, Bool, true, false, List, None, sym, subst, refl}
-use Rattle.std.specs.Prelude.{option_and_then}
-use Rattle.trb.specs.declared.block.Block.{Block}
-use Rattle.trb.specs.declared.kind.BlockKind.{BlockKind}
-use Rattle.trb.specs.declared.kind.BlockKind.TheVariants.{TransferEvent, CommandCompletion}
-use Rattle.trb.specs.Block.{kind}
-use Rattle.segments.specs.RingView.{RingChange}
-use Rattle.traces.specs.declared.header.Header.{Header}
-use Rattle.traces.specs.declared.register.Register.{Register}
-use Rattle.traces.specs.declared.register.Register.TheVariants.{Usbcmd}
-use Rattle.traces.specs.declared.row.Row.TheVariants.{Sub, Write, Reg, Bell, Read}
-use Rattle.traces.specs.Header.{command_id}
-use Rattle.traces.specs.Register.{run_bit, reset_bit}
-use Rattle.ring_knowledge.specs.Known.{Known}
-use Rattle.ring_knowledge.specs.Rings.{on_ring, command_at, next_command}
-use Rattle.ring_knowledge.specs.Writes.{taken_device, command_given, with_device, with_word, written}
-use Rattle.ring_knowledge.specs.Registers.{run_or_stop, valued, register_written}
-use Rattle.ring_knowledge.specs.Transfers.{transfer_read}
-use Rattle.ring_knowledge.specs.Completions.{finished, completed}
-use Rattle.ring_knowledge.specs.Learned.{event_read, learned}
-use Rattle.device_record.specs.declared.kept.DeviceRecord.{DeviceRecord}
-use Rattle.device_record.specs.Devices.{FollowsDevices}
+use Rattle.std.proofs.Common.{◌≡◌, ◌+◌, ◌&&◌, ◌||◌, if◌then◌else◌, ℕ, not, Bool, true, false, List, None, sym, subst, refl, option_and_then}
+use Rattle.device_record.proofs.Words.{Block, BlockKind, TransferEvent, CommandCompletion, kind, RingChange, Header, Register, Usbcmd, Sub, Write, Reg, Bell, Read, command_id, run_bit, reset_bit, Known, on_ring, command_at, next_command, taken_device, command_given, with_device, with_word, written, run_or_stop, valued, register_written, transfer_read, finished, completed, event_read, learned, DeviceRecord, FollowsDevices}
 use Rattle.device_record.proofs.Steps.{follows_beside}
 use Rattle.device_record.proofs.Bells.{follows_first}
 

@@ -1,20 +1,6 @@
 -- An endpoint gets a ring, or keeps its own
-use Rattle.std.proofs.Common.{◌≡◌, ℕ, ◌<◌, ◌==◌, if◌then◌else◌, ◌∙◌, Bool, true, false, List, Option, Some, None, ap, sym, subst, refl, length, inl, inr, get_or-set_same, get_or-set_other, arith}
-use Rattle.std.specs.Prelude.{slice_index_or, slice_set}
-use Rattle.std.proofs.lemmas.Bool.{cases_eq, cond-true, cond-false, eq-eqb, ne_eqb}
-use Rattle.guest_memory.specs.Memory.{put, put_pair}
-use Rattle.commands.specs.declared.state.EndpointState.{EndpointState}
-use Rattle.commands.specs.States.{is_off}
-use Rattle.segments.specs.declared.spot.Spot.TheVariants.{Data}
-use Rattle.traces.specs.declared.header.Header.{Header}
-use Rattle.traces.specs.Header.{ring_beginning_at}
-use Rattle.ring_knowledge.specs.Known.{Known}
-use Rattle.ring_knowledge.specs.Rings.{on_ring}
-use Rattle.ring_knowledge.specs.Completions.{bound_to, in_state, moved, pointed, set_to}
-use Rattle.device_record.specs.declared.kept.Endpoint.{Endpoint}
-use Rattle.device_record.specs.declared.kept.DeviceRecord.{DeviceRecord}
-use Rattle.device_record.specs.Endpoints.{placed_endpoint, ring_got}
-use Rattle.device_record.specs.Devices.{FollowsDevices, IsWithBound, IsWithEndpoint, endpoint_at}
+use Rattle.std.proofs.Common.{◌≡◌, ◌<◌, ◌==◌, if◌then◌else◌, ◌∙◌, ℕ, Bool, true, false, List, Option, Some, None, ap, sym, subst, refl, length, inl, inr, get_or-set_same, get_or-set_other, arith, slice_index_or, slice_set, eq-eqb, ne_eqb}
+use Rattle.device_record.proofs.Words.{cases_eq, cond-true, cond-false, put, put_pair, EndpointState, is_off, Data, Header, ring_beginning_at, Known, on_ring, bound_to, in_state, moved, pointed, set_to, Endpoint, DeviceRecord, placed_endpoint, ring_got, FollowsDevices, IsWithBound, IsWithEndpoint, endpoint_at}
 use Rattle.device_record.proofs.Moves.{follows_moved}
 use Rattle.device_record.proofs.Steps.{endpoints_same, states_same, devices_same, follows_beside, follows_halt, follows_placed}
 

@@ -1,14 +1,6 @@
 -- The record follows what is known where one slot, one endpoint or nothing of these is kept anew
-use Rattle.std.proofs.Common.{◌≡◌, ℕ, ◌∙◌, Option, Bool, false, ap, sym, refl}
-use Rattle.std.specs.Prelude.{slice_index_or}
-use Rattle.commands.specs.declared.state.SlotState.{SlotState}
-use Rattle.commands.specs.declared.state.EndpointState.{EndpointState}
-use Rattle.guest_memory.specs.Memory.{put, put_pair}
-use Rattle.ring_knowledge.specs.Known.{Known}
-use Rattle.device_record.specs.declared.kept.Slot.{Slot}
-use Rattle.device_record.specs.declared.kept.Endpoint.{Endpoint}
-use Rattle.device_record.specs.declared.kept.DeviceRecord.{DeviceRecord}
-use Rattle.device_record.specs.Devices.{FollowsDevices, IsWithSlot, IsWithEndpoint, slot_at, endpoint_at}
+use Rattle.std.proofs.Common.{◌≡◌, ◌∙◌, ℕ, Option, Bool, false, ap, sym, refl, slice_index_or}
+use Rattle.device_record.proofs.Words.{SlotState, EndpointState, put, put_pair, Known, Slot, Endpoint, DeviceRecord, FollowsDevices, IsWithSlot, IsWithEndpoint, slot_at, endpoint_at}
 use Rattle.device_record.proofs.Fields.{endpoint_put, endpoint_kept, slot_put, slot_kept}
 
 -- what the record doesn't speak of is that of another k'

@@ -1,13 +1,6 @@
 -- The success of a command touches endpoints of the slot alone that it names
-use Rattle.std.proofs.Common.{◌≡◌, ℕ, ◌==◌, ◌&&◌, ◌||◌, Bool, true, false, List, [], ◌∷◌, ◌∙◌, sym, refl}
-use Rattle.std.specs.Prelude.{map}
-use Rattle.std.specs.List.{list_any}
-use Rattle.std.proofs.lemmas.Bool.{false≢true}
-use Rattle.contexts.specs.declared.size.ContextSize.{ContextSize}
-use Rattle.contexts.specs.Contexts.{added_endpoints, is_dropped}
-use Rattle.commands.specs.declared.command.Command.TheVariants.{NoOp, EnableSlot, DisableSlot, AddressDevice, ConfigureEndpoint, EvaluateContext, ResetEndpoint, StopEndpoint, SetTrDequeue, ResetDevice}
-use Rattle.commands.specs.Changes.{is_above_control, placed_by_context, changes, touches}
-use Rattle.device_record.specs.Unfinished.{IsOfSlot}
+use Rattle.std.proofs.Common.{◌≡◌, ◌==◌, ◌&&◌, ◌||◌, ◌∷◌, ◌∙◌, ℕ, Bool, true, false, List, [], sym, refl, map}
+use Rattle.device_record.proofs.Words.{list_any, false≢true, ContextSize, added_endpoints, is_dropped, NoOp, EnableSlot, DisableSlot, AddressDevice, ConfigureEndpoint, EvaluateContext, ResetEndpoint, StopEndpoint, SetTrDequeue, ResetDevice, is_above_control, placed_by_context, changes, touches, IsOfSlot}
 
 one_of : (x b : Bool) → ((x && b) || false) ≡ true → x ≡ true
 one_of true b e = refl

@@ -1,17 +1,6 @@
 -- A Transfer Event is read
-use Rattle.std.proofs.Common.{◌≡◌, ℕ, if◌then◌else◌, Bool, true, false}
-use Rattle.guest_memory.specs.Memory.{put_pair}
-use Rattle.trb.specs.CompletionCode.{is_success, is_halting, is_trb_error, is_stopping}
-use Rattle.segments.specs.declared.spot.Spot.{Spot}
-use Rattle.commands.specs.declared.state.EndpointState.TheVariants.{Halted, Error}
-use Rattle.traces.specs.declared.header.Header.{Header}
-use Rattle.ring_knowledge.specs.Known.{Known}
-use Rattle.ring_knowledge.specs.Rings.{on_ring}
-use Rattle.ring_knowledge.specs.Transfers.{passed, broken_off, stopped_at, transferred}
-use Rattle.device_record.specs.declared.kept.Endpoint.{Endpoint}
-use Rattle.device_record.specs.declared.kept.DeviceRecord.{DeviceRecord}
-use Rattle.device_record.specs.Endpoints.{transferred_endpoint}
-use Rattle.device_record.specs.Devices.{FollowsDevices, IsWithEndpoint, endpoint_at}
+use Rattle.std.proofs.Common.{◌≡◌, if◌then◌else◌, ℕ, Bool, true, false}
+use Rattle.device_record.proofs.Words.{put_pair, is_success, is_halting, is_trb_error, is_stopping, Spot, Halted, Error, Header, Known, on_ring, passed, broken_off, stopped_at, transferred, Endpoint, DeviceRecord, transferred_endpoint, FollowsDevices, IsWithEndpoint, endpoint_at}
 use Rattle.device_record.proofs.Steps.{follows_beside, follows_still, follows_state, follows_halt, follows_stop_seen}
 
 module _ (h : Header) (k : Known) (s i : ℕ) (old new : DeviceRecord) (f : FollowsDevices k old) (x : Endpoint) (w : IsWithEndpoint old new s i x) (r : ℕ) (t : Spot) where

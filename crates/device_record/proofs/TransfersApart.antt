@@ -1,24 +1,6 @@
 -- A Transfer Event leaves a ring as it is that no endpoint has
-use Rattle.std.proofs.Common.{◌≡◌, ℕ, ◌+◌, ◌∙◌, if◌then◌else◌, true, Option, Some, None, ap, sym, refl}
-use Rattle.std.specs.Prelude.{◌≢◌}
-use Rattle.std.specs.Option.{option_map}
-use Rattle.std.proofs.lemmas.Bool.{cond_both}
-use Rattle.std.proofs.lemmas.Option.{none-some, same_Some}
-use Rattle.guest_memory.specs.Memory.{put_pair}
-use Rattle.trb.specs.declared.block.Block.{Block}
-use Rattle.trb.specs.Block.{code, slot, endpoint, pointer}
-use Rattle.trb.specs.CompletionCode.{is_success, is_halting, is_trb_error, is_stopping}
-use Rattle.segments.specs.declared.spot.Spot.{Spot}
-use Rattle.segments.specs.Spots.{number, after}
-use Rattle.segments.specs.RingView.{Reaches, Holds}
-use Rattle.segments.specs.Ceiling.{named, stopped_number}
-use Rattle.commands.specs.declared.state.EndpointState.{EndpointState}
-use Rattle.commands.specs.declared.state.EndpointState.TheVariants.{Halted, Error}
-use Rattle.traces.specs.declared.header.Header.{Header}
-use Rattle.traces.specs.Header.{shape_of}
-use Rattle.ring_knowledge.specs.Known.{Known}
-use Rattle.ring_knowledge.specs.Rings.{RingSpot, on_ring, spot_on, event_at}
-use Rattle.ring_knowledge.specs.Transfers.{passed, broken_off, stopped_at, transferred, transferred_at, transfer_read}
+use Rattle.std.proofs.Common.{◌≡◌, ◌+◌, ◌∙◌, if◌then◌else◌, ◌≢◌, ℕ, true, Option, Some, None, ap, sym, refl}
+use Rattle.device_record.proofs.Words.{option_map, cond_both, none-some, same_Some, put_pair, Block, code, slot, endpoint, pointer, is_success, is_halting, is_trb_error, is_stopping, Spot, number, after, Reaches, Holds, named, stopped_number, EndpointState, Halted, Error, Header, shape_of, Known, RingSpot, on_ring, spot_on, event_at, passed, broken_off, stopped_at, transferred, transferred_at, transfer_read}
 use Rattle.device_record.proofs.UnfinishedSame.{ring_elsewhere}
 use Rattle.device_record.proofs.RingApart.{NoEndpointHas}
 

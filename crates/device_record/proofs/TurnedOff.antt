@@ -1,15 +1,6 @@
 -- Endpoints of one slot are disabled, one after another
-use Rattle.std.proofs.Common.{◌≡◌, ℕ, ◌+◌, ◌*◌, ◌<◌, ◌≤◌, ◌==◌, ◌&&◌, ◌||◌, if◌then◌else◌, ◌∙◌, Bool, true, false, None, ap, sym, refl, inl, inr, arith}
-use Rattle.std.specs.Prelude.{nat_lt, slice_index_or}
-use Rattle.std.proofs.lemmas.Bool.{cases_eq, cases_lt, cond-false, eq-eqb, ne_eqb, lt-ltb, le-ltb}
-use Rattle.commands.specs.declared.state.EndpointState.TheVariants.{Disabled as Off}
-use Rattle.traces.specs.declared.header.Header.{Header}
-use Rattle.ring_knowledge.specs.Known.{Known}
-use Rattle.ring_knowledge.specs.Completions.{disabled}
-use Rattle.device_record.specs.declared.kept.Endpoint.{Endpoint}
-use Rattle.device_record.specs.declared.kept.DeviceRecord.{DeviceRecord}
-use Rattle.device_record.specs.Endpoints.{turned_off}
-use Rattle.device_record.specs.Devices.{FollowsDevices, IsDisabled, endpoint_at, fresh_endpoint}
+use Rattle.std.proofs.Common.{◌≡◌, ◌+◌, ◌*◌, ◌<◌, ◌≤◌, ◌==◌, ◌&&◌, ◌||◌, if◌then◌else◌, ◌∙◌, ℕ, Bool, true, false, None, ap, sym, refl, inl, inr, arith, nat_lt, slice_index_or, eq-eqb, ne_eqb, lt-ltb, le-ltb}
+use Rattle.device_record.proofs.Words.{cases_eq, cases_lt, cond-false, Off, Header, Known, disabled, Endpoint, DeviceRecord, turned_off, FollowsDevices, IsDisabled, endpoint_at, fresh_endpoint}
 use Rattle.device_record.proofs.Steps.{states_same, devices_same, bound_same}
 
 and_false : (b : Bool) → (b && false) ≡ false

@@ -1,20 +1,6 @@
 -- The unfinished commands behind an event
-use Rattle.std.proofs.Common.{◌≡◌, ℕ, ◌+◌, ◌<◌, ◌∙◌, true, ap, sym, refl}
-use Rattle.std.specs.List.{cons_option}
-use Rattle.trb.specs.declared.block.Block.{Block}
-use Rattle.trb.specs.declared.kind.BlockKind.{BlockKind}
-use Rattle.trb.specs.declared.kind.BlockKind.TheVariants.{TransferEvent, CommandCompletion}
-use Rattle.trb.specs.Block.{kind}
-use Rattle.segments.specs.Places.{place_count}
-use Rattle.segments.specs.RingView.{floor_number}
-use Rattle.traces.specs.declared.header.Header.{Header}
-use Rattle.traces.specs.declared.row.Row.TheVariants.{Read}
-use Rattle.traces.specs.Header.{shape_of, command_id}
-use Rattle.ring_knowledge.specs.Known.{Known}
-use Rattle.ring_knowledge.specs.Rings.{command_at, next_command, unfinished}
-use Rattle.ring_knowledge.specs.Transfers.{transfer_read}
-use Rattle.ring_knowledge.specs.Completions.{finished}
-use Rattle.ring_knowledge.specs.Learned.{event_read, learned}
+use Rattle.std.proofs.Common.{◌≡◌, ◌+◌, ◌<◌, ◌∙◌, ℕ, true, ap, sym, refl}
+use Rattle.device_record.proofs.Words.{cons_option, Block, BlockKind, TransferEvent, CommandCompletion, kind, place_count, floor_number, Header, Read, shape_of, command_id, Known, command_at, next_command, unfinished, transfer_read, finished, event_read, learned}
 use Rattle.device_record.proofs.RingApart.{NoEndpointHas, NeverBegins, finished_apart}
 use Rattle.device_record.proofs.TransfersApart.{transfer_apart}
 use Rattle.device_record.proofs.UnfinishedSame.{same_blocks, unfinished_same}

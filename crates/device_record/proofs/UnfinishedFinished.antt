@@ -1,19 +1,6 @@
 -- The unfinished commands behind a completion: the first is finished
-use Rattle.std.proofs.Common.{◌≡◌, ℕ, suc, zero, ◌+◌, ◌<◌, ◌∙◌, if◌then◌else◌, Bool, true, false, ◌∷◌, arith, ap, sym, refl}
-use Rattle.std.specs.Prelude.{filter, option_and_then, slice_get}
-use Rattle.std.specs.List.{filter_map, cons_option, range_with_len}
-use Rattle.trb.specs.declared.block.Block.{Block}
-use Rattle.segments.specs.ShapeValue.{Shape}
-use Rattle.segments.specs.Places.{place_count}
-use Rattle.segments.specs.Spots.{after}
-use Rattle.segments.specs.RingView.{RingView, Reaches, changed, floor_number, due_positions}
-use Rattle.segments.proofs.ReachedSpots.{number-after}
-use Rattle.commands.specs.Command.{command_of}
-use Rattle.traces.specs.declared.header.Header.{Header}
-use Rattle.traces.specs.Header.{shape_of, command_id}
-use Rattle.ring_knowledge.specs.Known.{Known}
-use Rattle.ring_knowledge.specs.Rings.{next_command, command_at, unfinished_positions, unfinished}
-use Rattle.ring_knowledge.specs.Completions.{finished, completed}
+use Rattle.std.proofs.Common.{◌≡◌, ◌+◌, ◌<◌, ◌∙◌, if◌then◌else◌, ◌∷◌, ℕ, suc, zero, Bool, true, false, arith, ap, sym, refl, filter, option_and_then, slice_get}
+use Rattle.device_record.proofs.Words.{filter_map, cons_option, range_with_len, Block, Shape, place_count, after, RingView, Reaches, changed, floor_number, due_positions, number-after, command_of, Header, shape_of, command_id, Known, next_command, command_at, unfinished_positions, unfinished, finished, completed}
 use Rattle.device_record.proofs.UnfinishedSame.{ring_here}
 
 -- ---- numbers of a range, and those of the range one further

@@ -1,25 +1,6 @@
 -- The record of unfinished commands follows what is known, row by row
-use Rattle.std.proofs.Common.{◌≡◌, ℕ, ◌+◌, ◌<◌, ◌++◌, ◌∙◌, true, false, List, [], ◌∷◌, Option, Some, None, ap, sym, subst}
-use Rattle.std.specs.List.{list_any, cons_option}
-use Rattle.trb.specs.declared.block.Block.{Block}
-use Rattle.trb.specs.declared.kind.BlockKind.TheVariants.{TransferEvent, CommandCompletion}
-use Rattle.trb.specs.Block.{kind}
-use Rattle.segments.specs.Places.{place_count}
-use Rattle.segments.specs.RingView.{declared, floor_number}
-use Rattle.commands.specs.declared.command.Command.{Command}
-use Rattle.commands.specs.Command.{name_one_slot}
-use Rattle.traces.specs.declared.header.Header.{Header}
-use Rattle.traces.specs.declared.register.Register.{Register}
-use Rattle.traces.specs.declared.row.Row.TheVariants.{Sub, Write, Reg, Bell, Read}
-use Rattle.traces.specs.Header.{shape_of, command_id}
-use Rattle.ring_knowledge.specs.Known.{Known, nothing}
-use Rattle.ring_knowledge.specs.Rings.{command_at, next_command, unfinished}
-use Rattle.ring_knowledge.specs.Writes.{command_given}
-use Rattle.ring_knowledge.specs.Transfers.{transfer_read}
-use Rattle.ring_knowledge.specs.Completions.{finished}
-use Rattle.ring_knowledge.specs.Learned.{learned}
-use Rattle.device_record.specs.declared.unfinished.UnfinishedCommands.{UnfinishedCommands}
-use Rattle.device_record.specs.Unfinished.{FollowsUnfinished}
+use Rattle.std.proofs.Common.{◌≡◌, ◌+◌, ◌<◌, ◌++◌, ◌∙◌, ◌∷◌, ℕ, true, false, List, [], Option, Some, None, ap, sym, subst}
+use Rattle.device_record.proofs.Words.{list_any, cons_option, Block, TransferEvent, CommandCompletion, kind, place_count, declared, floor_number, Command, name_one_slot, Header, Register, Sub, Write, Reg, Bell, Read, shape_of, command_id, Known, nothing, command_at, next_command, unfinished, command_given, transfer_read, finished, learned, UnfinishedCommands, FollowsUnfinished}
 use Rattle.device_record.proofs.Inserted.{Inserted}
 use Rattle.device_record.proofs.UnfinishedSame.{none_at_first, unfinished_declared, unfinished_register, unfinished_rung}
 use Rattle.device_record.proofs.UnfinishedWritten.{GivesOne, written_with, written_without}

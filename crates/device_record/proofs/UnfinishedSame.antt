@@ -1,22 +1,6 @@
 -- Where the command ring is as it was but for what holds it, the same commands are unfinished
-use Rattle.std.proofs.Common.{◌≡◌, ℕ, ◌==◌, ◌<◌, ◌&&◌, ◌||◌, not, ◌∙◌, if◌then◌else◌, true, List, [], Option, Some, None, ap, sym, subst, refl, inl, inr}
-use Rattle.std.specs.Prelude.{filter, option_and_then, slice_get, ◌≢◌, ◌++◌}
-use Rattle.std.specs.List.{filter_map}
-use Rattle.std.proofs.lemmas.Bool.{cases_eq, cond-true, cond-false, cond_both, eq-eqb, ne_eqb}
-use Rattle.trb.specs.declared.block.Block.{Block}
-use Rattle.segments.specs.RingView.{RingView, RingChange, Declares, Opens, changed, declared, due_positions, new_ring}
-use Rattle.segments.proofs.Declaring.{slice_get-append}
-use Rattle.commands.specs.Command.{command_of}
-use Rattle.traces.specs.declared.header.Header.{Header}
-use Rattle.traces.specs.declared.register.Register.{Register}
-use Rattle.traces.specs.declared.register.Register.TheVariants.{Usbcmd}
-use Rattle.traces.specs.declared.row.Row.TheVariants.{Sub, Reg, Bell}
-use Rattle.traces.specs.Header.{shape_of, command_id}
-use Rattle.traces.specs.Register.{run_bit, reset_bit}
-use Rattle.ring_knowledge.specs.Known.{Known, nothing}
-use Rattle.ring_knowledge.specs.Rings.{on_ring, command_at, unfinished_positions, unfinished}
-use Rattle.ring_knowledge.specs.Registers.{run_or_stop, valued, register_written, endpoint_rung, rung}
-use Rattle.ring_knowledge.specs.Learned.{learned}
+use Rattle.std.proofs.Common.{◌≡◌, ◌==◌, ◌<◌, ◌&&◌, ◌||◌, ◌∙◌, if◌then◌else◌, ◌≢◌, ◌++◌, ℕ, not, true, List, [], Option, Some, None, ap, sym, subst, refl, inl, inr, filter, option_and_then, slice_get, eq-eqb, ne_eqb}
+use Rattle.device_record.proofs.Words.{filter_map, cases_eq, cond-true, cond-false, cond_both, Block, RingView, RingChange, Declares, Opens, changed, declared, due_positions, new_ring, slice_get-append, command_of, Header, Register, Usbcmd, Sub, Reg, Bell, shape_of, command_id, run_bit, reset_bit, Known, nothing, on_ring, command_at, unfinished_positions, unfinished, run_or_stop, valued, register_written, endpoint_rung, rung, learned}
 use Rattle.device_record.proofs.Inserted.{mapped_same, filter_nothing}
 
 -- what is declared, given and passed of a ring

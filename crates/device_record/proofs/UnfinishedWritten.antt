@@ -1,21 +1,6 @@
 -- The unfinished commands behind a write: with the one that it gives, if it gives one
-use Rattle.std.proofs.Common.{◌≡◌, ℕ, ◌∙◌, ◌||◌, ◌⊎◌, List, [], ◌∷◌, Option, Some, None, ap, sym, subst, refl, inl, inr}
-use Rattle.std.specs.Prelude.{filter, option_and_then, slice_get}
-use Rattle.std.specs.List.{filter_map}
-use Rattle.std.proofs.lemmas.Option.{none-some}
-use Rattle.segments.specs.ShapeValue.{Shape}
-use Rattle.segments.specs.Shape.{IsShape}
-use Rattle.segments.specs.RingView.{RingView, Writes, changed, gives, due_positions, positions_given}
-use Rattle.segments.proofs.OneGiving.{positions_given-one}
-use Rattle.commands.specs.declared.command.Command.{Command}
-use Rattle.commands.specs.Command.{command_of}
-use Rattle.traces.specs.declared.header.Header.{Header}
-use Rattle.traces.specs.declared.row.Row.TheVariants.{Write}
-use Rattle.traces.specs.Header.{shape_of, command_id}
-use Rattle.ring_knowledge.specs.Known.{Known}
-use Rattle.ring_knowledge.specs.Rings.{command_at, unfinished_positions, unfinished}
-use Rattle.ring_knowledge.specs.Writes.{taken_device, command_given, with_device, with_word, written}
-use Rattle.ring_knowledge.specs.Learned.{learned}
+use Rattle.std.proofs.Common.{◌≡◌, ◌∙◌, ◌||◌, ◌⊎◌, ◌∷◌, ℕ, List, [], Option, Some, None, ap, sym, subst, refl, inl, inr, filter, option_and_then, slice_get}
+use Rattle.device_record.proofs.Words.{filter_map, none-some, Shape, IsShape, RingView, Writes, changed, gives, due_positions, positions_given, positions_given-one, Command, command_of, Header, Write, shape_of, command_id, Known, command_at, unfinished_positions, unfinished, taken_device, command_given, with_device, with_word, written, learned}
 use Rattle.device_record.proofs.Inserted.{Inserted, filter_as_before, filter_with_one, mapped_with_one, mapped_as_before}
 
 module _ (h : Header) (k : Known) (a w : ℕ) where

@@ -1,14 +1,6 @@
 -- The counts of an event ring stay in order
-use Rattle.std.specs.Prelude.{◌≡◌, ◌≢◌, ℕ, ◌+◌, ◌%◌, ◌^◌, ◌<◌, ◌≤◌, ◌==◌, true, nat_lt}
-use Rattle.std.proofs.Common.{arith, sym, ◌∙◌, ap, inl, inr}
-use Rattle.std.proofs.lemmas.Bool.{cases_eq, eq-eqb, not-true, and_parts, false≢true}
-use Rattle.std.proofs.Math.Nat.{add-mod_right}
-use Rattle.segments.specs.Places.{place_count, address_of}
-use Rattle.segments.specs.Shape.{IsShape}
-use Rattle.segments.proofs.ShapeFacts.{shape_facts}
-use Rattle.segments.proofs.Positions.{same_position}
-use Rattle.event_ring.specs.EventRing.{EventCounts, AreInOrder, has_room}
-use Rattle.event_ring.specs.EventPlaceValue.{EventState, may_post}
+use Rattle.std.proofs.Common.{◌≡◌, ◌≢◌, ◌+◌, ◌%◌, ◌^◌, ◌<◌, ◌≤◌, ◌==◌, ◌∙◌, ℕ, true, nat_lt, arith, sym, ap, inl, inr, eq-eqb}
+use Rattle.event_ring.proofs.Words.{cases_eq, not-true, and_parts, false≢true, add-mod_right, place_count, address_of, IsShape, shape_facts, same_position, EventCounts, AreInOrder, has_room, EventState, may_post}
 
 pub posted_in_order : (size : ℕ) (c : EventCounts) → 2 ≤ size → has_room size c.posted c.dequeue ≡ true → AreInOrder size c →
     AreInOrder size (record c { posted = c.posted + 1 })

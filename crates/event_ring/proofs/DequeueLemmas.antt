@@ -1,23 +1,6 @@
 -- Which event position a written ERDP names: the least one at its place
-use Rattle.std.specs.Prelude.{◌≡◌, ◌≢◌, ℕ, suc, ◌+◌, ◌-◌, ◌*◌, ◌/◌, ◌%◌, ◌<◌, ◌≤◌, ◌==◌, Bool, true, false, List, [], ◌∷◌, length, nat_lt, nat_le, Some, None, find, unwrap_or, slice_get}
-use Rattle.std.specs.List.{list_any, range_with_len, position_or_len}
-use Rattle.std.proofs.Common.{arith, sym, ◌∙◌, ap, refl, inl, inr, get_or}
-use Rattle.std.proofs.lemmas.Bool.{cases_lt, and_from, and_right, or_from, ne_eqb, le-leb, lt-leb, lt-ltb, eq-eqb, eqb-true, false_from_ne_true}
-use Rattle.std.proofs.lemmas.List.FromFn.{get_or-range_with_len, length-range_with_len}
-use Rattle.std.proofs.lemmas.List.Folds.{list_any_at, find_at}
-use Rattle.std.proofs.lemmas.List.Sums.{position_or_len_is}
-use Rattle.std.proofs.lemmas.Option.{slice_get-get_or, none-some}
-use Rattle.std.proofs.Math.Nat.{mod-lt, mod-eq_of_lt, add-mod_right, div-add-mod'}
-use Rattle.std.proofs.lemmas.Nat.{mod-mul-add}
-use Rattle.segments.specs.ShapeValue.{Shape}
-use Rattle.segments.specs.Places.{place_count, address_of}
-use Rattle.segments.specs.PlaceAt.{place_at}
-use Rattle.segments.specs.declared.place.Place.TheVariants.{Data, Link}
-use Rattle.segments.specs.Shape.{IsShape}
-use Rattle.segments.proofs.PlaceAtLemmas.{place_at-Data, place_at-address_of}
-use Rattle.segments.proofs.Positions.{address_aligned, place_count_pos, same_in_lap, same_place_of, address_of-mod}
-use Rattle.event_ring.specs.EventPlaceValue.{EventState, may_dequeue, dequeued_at}
-use Rattle.event_ring.specs.EventRing.{erdp_address, position_from, is_reached_within}
+use Rattle.std.proofs.Common.{◌≡◌, ◌≢◌, ◌+◌, ◌-◌, ◌*◌, ◌/◌, ◌%◌, ◌<◌, ◌≤◌, ◌==◌, ◌∷◌, ◌∙◌, ℕ, suc, Bool, true, false, List, [], length, nat_lt, nat_le, Some, None, find, unwrap_or, slice_get, arith, sym, ap, refl, inl, inr, get_or, ne_eqb, le-leb, lt-ltb, eq-eqb, eqb-true}
+use Rattle.event_ring.proofs.Words.{list_any, range_with_len, position_or_len, cases_lt, and_from, and_right, or_from, lt-leb, false_from_ne_true, get_or-range_with_len, length-range_with_len, list_any_at, find_at, position_or_len_is, slice_get-get_or, none-some, mod-lt, mod-eq_of_lt, add-mod_right, div-add-mod', mod-mul-add, Shape, place_count, address_of, place_at, Data, Link, IsShape, place_at-Data, place_at-address_of, address_aligned, place_count_pos, same_in_lap, same_place_of, address_of-mod, EventState, may_dequeue, dequeued_at, erdp_address, position_from, is_reached_within}
 
 -- how far the next number with remainder i is ahead of p
 abbrev pub ahead : ℕ → ℕ → ℕ → ℕ

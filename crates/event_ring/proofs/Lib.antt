@@ -1,3 +1,4 @@
 pub mod DequeueLemmas
 pub mod CountLemmas
 pub mod TableLemmas
+pub mod Words

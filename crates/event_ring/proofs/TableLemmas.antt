@@ -1,10 +1,6 @@
 -- The segment table, entry by entry
-use Rattle.std.specs.Prelude.{◌≡◌, ℕ, ◌+◌, ◌*◌, ◌/◌, ◌%◌, ◌^◌, ◌<◌, ◌==◌, ◌&&◌, Bool, true, false, not, List, length}
-use Rattle.std.proofs.Common.{◌∙◌, ap, arith, refl, drop, get_or}
-use Rattle.std.proofs.lemmas.List.{at_drop_more}
-use Rattle.guest_memory.specs.Memory.{long_at}
-use Rattle.segments.specs.declared.segment.Segment.{Segment}
-use Rattle.event_ring.specs.EventRing.{lists}
+use Rattle.std.proofs.Common.{◌≡◌, ◌+◌, ◌*◌, ◌/◌, ◌%◌, ◌^◌, ◌<◌, ◌==◌, ◌&&◌, ◌∙◌, ℕ, Bool, true, false, not, List, length, ap, arith, refl, drop, get_or}
+use Rattle.event_ring.proofs.Words.{at_drop_more, long_at, Segment, lists}
 
 not_all : (a b rest : Bool) → not (a && b) ≡ true → (a && b && rest) ≡ false
 not_all true true rest h = cc

@@ -1,26 +1,7 @@
 -- The success of an Address Device: the default control endpoint's ring is bound, or stays where it is
-use Rattle.std.specs.Prelude.{ℕ, ◌<◌, Bool, [], ◌∷◌}
-use Rattle.std.proofs.Common.{arith, refl, inl, inr}
-use Rattle.std.proofs.lemmas.Bool.{cases_Bool}
-use Rattle.commands.specs.declared.command.Command.{Command}
-use Rattle.commands.specs.declared.command.Command.TheVariants.{AddressDevice}
-use Rattle.commands.specs.declared.state.EndpointState.TheVariants.{Running}
-use Rattle.commands.specs.Changes.{SlotGoesOn, Places, changes}
-use Rattle.commands.specs.States.{is_off}
-use Rattle.contexts.specs.Contexts.{context_pointer, context_cycle}
-use Rattle.traces.specs.declared.header.Header.{Header}
-use Rattle.traces.specs.Header.{IsHeader}
-use Rattle.world_state.specs.World.{World}
-use Rattle.ring_knowledge.specs.Known.{Known}
-use Rattle.ring_knowledge.specs.Rings.{next_command}
+use Rattle.std.proofs.Common.{◌<◌, ◌∷◌, ℕ, Bool, [], arith, refl, inl, inr}
+use Rattle.lazy_runs.proofs.Words.{cases_Bool, Command, AddressDevice, Running, SlotGoesOn, Places, changes, is_off, context_pointer, context_cycle, Header, IsHeader, World, Known, next_command, DriverKeeps, CommandKeeps, Stands, bad_context_parts, bad_command_context, same_context, address_same, slot_above, first_binds, second_moves, slot_binds, slot_moves, slot_was, StatesMatch}
 use Rattle.ring_knowledge.specs.Completions as completions
-use Rattle.safety.specs.Keeps.{DriverKeeps, CommandKeeps}
-use Rattle.safety.specs.Stands.{Stands}
-use Rattle.safety.proofs.Areas.{bad_context_parts, bad_command_context}
-use Rattle.safety.proofs.ContextWords.{same_context, address_same}
-use Rattle.safety.proofs.EndpointsOff.{slot_above}
-use Rattle.safety.proofs.FinishAddress.{first_binds, second_moves, slot_binds, slot_moves, slot_was}
-use Rattle.safety.proofs.FinishChanges.{StatesMatch}
 use Rattle.lazy_runs.proofs.ChangesGo.{ChangeGoes, ListGoes, no_change_goes, change_then_goes, change_goes}
 use Rattle.lazy_runs.proofs.PlacesGo.{bind_goes, move_goes}
 use Rattle.lazy_runs.proofs.RingsGo.{AtFloors}

@@ -1,13 +1,6 @@
 -- A run whose events are all read: the world agrees with what is known now
-use Rattle.std.specs.Prelude.{◌≡◌, ◌+◌, List, [], ◌∷◌, length}
-use Rattle.std.proofs.Common.{arith}
-use Rattle.trb.specs.declared.block.Block.{Block}
-use Rattle.traces.specs.declared.header.Header.{Header}
-use Rattle.traces.specs.declared.row.Row.{Row}
-use Rattle.world_state.specs.World.{World}
-use Rattle.ring_knowledge.specs.Learned.{known}
-use Rattle.safety.specs.Matches.{Agrees}
-use Rattle.safety.specs.Invariant.{Runs, reading}
+use Rattle.std.proofs.Common.{◌≡◌, ◌+◌, ◌∷◌, List, [], length, arith}
+use Rattle.lazy_runs.proofs.Words.{Block, Header, Row, World, known, Agrees, Runs, reading}
 
 module _ (h : Header) where
   by : (past : List Row) (w : World) (unread : List Block) → w.posted ≡ w.reads → Agrees h (known h (reading unread past)) unread w → Agrees h (known h past) [] w

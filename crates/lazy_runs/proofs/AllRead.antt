@@ -1,13 +1,7 @@
 -- Behind all rows of a trace nothing is left to read: from the law of the lazy run behind each row
-use Rattle.std.specs.Prelude.{◌≡◌, List, [], ◌++◌, All, reverse}
-use Rattle.std.proofs.Common.{sym, ◌∙◌, ap, subst}
-use Rattle.std.proofs.lemmas.List.{append-nil, reverse-reverse}
-use Rattle.traces.specs.declared.header.Header.{Header}
-use Rattle.traces.specs.declared.row.Row.{Row}
-use Rattle.traces.specs.Rows.{IsRow}
-use Rattle.controller_model.specs.Steps.{reached}
+use Rattle.std.proofs.Common.{◌≡◌, ◌++◌, ◌∙◌, List, [], All, reverse, sym, ap, subst, append-nil}
+use Rattle.lazy_runs.proofs.Words.{reverse-reverse, Header, Row, IsRow, reached, ContainsAll, GoesSoFar, LazyLaw, AllAreRead}
 use Rattle.lazy_runs.specs.Lazy as lazy
-use Rattle.lazy_runs.specs.Law.{ContainsAll, GoesSoFar, LazyLaw, AllAreRead}
 
 module _ (h : Header) where
   -- the rows, told from their history

@@ -1,16 +1,8 @@
 -- The lazy run before the first row
-use Rattle.std.specs.Prelude.{List, []}
-use Rattle.std.proofs.Common.{refl, inl}
-use Rattle.std.proofs.lemmas.Bool.{false≢true}
-use Rattle.std.proofs.lemmas.Option.{none-some}
-use Rattle.segments.specs.Ceiling.{is_open}
-use Rattle.traces.specs.declared.header.Header.{Header}
-use Rattle.traces.specs.declared.row.Row.{Row}
-use Rattle.world_state.specs.World.{opening}
+use Rattle.std.proofs.Common.{List, [], refl, inl}
+use Rattle.lazy_runs.proofs.Words.{false≢true, none-some, is_open, Header, Row, opening, nothing, opens}
 use Rattle.controller_model.specs.Steps as steps
-use Rattle.ring_knowledge.specs.Known.{nothing}
 use Rattle.ring_knowledge.specs.Learned as learns
-use Rattle.safety.proofs.Opens.{opens}
 use Rattle.lazy_runs.specs.Lazy as lazy
 use Rattle.lazy_runs.proofs.Follows.{Follows, Carries}
 

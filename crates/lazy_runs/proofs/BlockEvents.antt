@@ -1,36 +1,6 @@
 -- A Transfer Event of a success or an error: the lazy run brings its ring behind the block that it names, reports it, and reads it
-use Rattle.std.specs.Prelude.{◌≡◌, ◌≢◌, ℕ, ◌≤◌, ◌&&◌, ◌||◌, true, false, List, [], ◌∷◌, ◌++◌, reverse, Option, Some}
-use Rattle.std.proofs.Common.{arith, sym, ◌∙◌, ap, subst}
-use Rattle.std.proofs.lemmas.Bool.{false≢true, not-false, and_from}
-use Rattle.trb.specs.declared.block.Block.{Block}
-use Rattle.trb.specs.Block.{IsBlock, kind, code, slot, endpoint}
-use Rattle.trb.specs.Kind.{is_transfer_event}
-use Rattle.trb.specs.CompletionCode.{is_success, is_halting, is_trb_error, is_stopping}
-use Rattle.segments.specs.declared.spot.Spot.{Spot}
-use Rattle.segments.specs.declared.spot.Spot.TheVariants.{Data}
-use Rattle.segments.specs.Ceiling.{is_open}
-use Rattle.segments.specs.RingView.{RingView, floor_number}
-use Rattle.segments.specs.RingKeeps.{MayReach}
-use Rattle.segments.specs.Spots.{rank, number, after}
-use Rattle.segments.proofs.Named.{ceiling_within}
-use Rattle.segments.proofs.ReachedSpots.{after_reached}
-use Rattle.segments.proofs.SpotOrder.{next_later}
-use Rattle.traces.specs.declared.header.Header.{Header}
-use Rattle.traces.specs.declared.row.Row.{Row}
-use Rattle.traces.specs.declared.row.Row.TheVariants.{Read}
-use Rattle.traces.specs.Header.{IsHeader, shape_of, command_id}
-use Rattle.world_state.specs.World.{World}
-use Rattle.controller_model.specs.Steps.{reached}
-use Rattle.ring_knowledge.specs.Known.{Known}
-use Rattle.ring_knowledge.specs.Learned.{learned, known}
-use Rattle.ring_knowledge.specs.Rings.{RingSpot}
-use Rattle.ring_knowledge.specs.Transfers.{transferred}
-use Rattle.ownership_rules.specs.Clean.{IsClean}
-use Rattle.safety.specs.Keeps.{IsDriverRing, DriverKeeps}
-use Rattle.safety.specs.Matches.{Agrees}
-use Rattle.safety.proofs.Headers.{transfer_driver, ring_shape}
-use Rattle.lazy_runs.specs.LateEvents.{is_held_ring, is_late}
-use Rattle.lazy_runs.specs.Lazy.{lazy_run, pointers_at, brought}
+use Rattle.std.proofs.Common.{◌≡◌, ◌≢◌, ◌≤◌, ◌&&◌, ◌||◌, ◌∷◌, ◌++◌, ◌∙◌, ℕ, true, false, List, [], reverse, Option, Some, arith, sym, ap, subst}
+use Rattle.lazy_runs.proofs.Words.{false≢true, not-false, and_from, Block, IsBlock, kind, code, slot, endpoint, is_transfer_event, is_success, is_halting, is_trb_error, is_stopping, Spot, Data, is_open, RingView, floor_number, MayReach, rank, number, after, ceiling_within, after_reached, next_later, Header, Row, Read, IsHeader, shape_of, command_id, World, reached, Known, learned, known, RingSpot, transferred, IsClean, IsDriverRing, DriverKeeps, Agrees, transfer_driver, ring_shape, is_held_ring, is_late, lazy_run, pointers_at, brought}
 use Rattle.lazy_runs.proofs.Follows.{StandsAt, IsActiveIfOpen, Follows, Carries}
 use Rattle.lazy_runs.proofs.Preparing.{AllFit}
 use Rattle.lazy_runs.proofs.ReportPossible.{Reports, names, ahead, success_reports, error_reports}

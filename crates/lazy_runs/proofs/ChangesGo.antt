@@ -1,27 +1,8 @@
 -- The changes of a command's success, one after the other: each is possible, and the rings go as they should
-use Rattle.std.specs.Prelude.{◌≡◌, ℕ, ◌==◌, ◌&&◌, not, if◌then◌else◌, Bool, true, false, List, [], ◌∷◌, Option, Some, None, option_and_then}
-use Rattle.std.proofs.Common.{refl, sym, ◌∙◌, ap, subst, inl, inr}
-use Rattle.std.proofs.lemmas.Bool.{cases_eq, and_from, and_parts, or_parts, or_from, eqb-true, eq-eqb, false≢true, false_from_ne_true, not_from_false}
-use Rattle.std.proofs.lemmas.Option.{none-some}
-use Rattle.segments.specs.declared.spot.Spot.{Spot}
-use Rattle.segments.specs.Ceiling.{is_open, ceiling}
-use Rattle.segments.specs.RingView.{RingView, Holds}
-use Rattle.commands.specs.declared.command.Command.{Command}
-use Rattle.commands.specs.declared.state.EndpointState.TheVariants.{Stopped}
-use Rattle.commands.specs.Changes.{Change, SlotGoesOn, DeviceLeft, Disables, Places, Stops, Resets}
-use Rattle.traces.specs.declared.header.Header.{Header}
-use Rattle.traces.specs.Header.{command_id, is_ring, shape_of}
-use Rattle.world_state.specs.World.{World}
-use Rattle.world_state.specs.Takes.{next_take}
+use Rattle.std.proofs.Common.{◌≡◌, ◌==◌, ◌&&◌, if◌then◌else◌, ◌∷◌, ◌∙◌, ℕ, not, Bool, true, false, List, [], Option, Some, None, option_and_then, refl, sym, ap, subst, inl, inr, eqb-true, eq-eqb}
+use Rattle.lazy_runs.proofs.Words.{cases_eq, and_from, and_parts, or_parts, or_from, false≢true, false_from_ne_true, not_from_false, none-some, Spot, is_open, ceiling, RingView, Holds, Command, Stopped, Change, SlotGoesOn, DeviceLeft, Disables, Places, Stops, Resets, Header, command_id, is_ring, shape_of, World, next_take, Known, on_ring, ring_here, ring_elsewhere, StatesMatch, ChangeKeeps, none_keeps, both_keep, IsNoPlacing, AreNoPlacings, change_keeps, cond_is, put_off, none_in_range}
 use Rattle.controller_model.specs.Bindings as bindings
-use Rattle.ring_knowledge.specs.Known.{Known}
 use Rattle.ring_knowledge.specs.Completions as completions
-use Rattle.ring_knowledge.specs.Rings.{on_ring}
-use Rattle.safety.proofs.DriverRows.{ring_here, ring_elsewhere}
-use Rattle.safety.proofs.FinishChanges.{StatesMatch, ChangeKeeps, none_keeps, both_keep}
-use Rattle.safety.proofs.FinishSlots.{IsNoPlacing, AreNoPlacings, change_keeps}
-use Rattle.safety.proofs.LookKinds.{cond_is, put_off}
-use Rattle.safety.proofs.SafeContext.{none_in_range}
 use Rattle.lazy_runs.specs.Needs as needs
 use Rattle.lazy_runs.proofs.Follows.{StandsAt, IsActiveIfOpen}
 use Rattle.lazy_runs.proofs.RingsGo.{HadBefore, AtFloors, RingsGo}

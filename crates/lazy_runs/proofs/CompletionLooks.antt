@@ -1,48 +1,8 @@
 -- The world directly before the controller finishes a command: the next command is taken, and no more than that
-use Rattle.std.specs.Prelude.{◌≡◌, ◌≢◌, ◌⊎◌, ℕ, suc, ◌+◌, ◌≤◌, ◌==◌, if◌then◌else◌, true, List, [], ◌∷◌, ◌++◌, reverse, Option, Some, None}
-use Rattle.std.specs.List.{flat_map}
-use Rattle.std.proofs.Common.{arith, refl, sym, ◌∙◌, ap, subst, inl, inr}
-use Rattle.std.proofs.lemmas.Bool.{cases_Bool, cases_eq, cases_lt, cond-true, cond-false}
-use Rattle.guest_memory.specs.Memory.{put}
-use Rattle.trb.specs.declared.block.Block.{Block}
-use Rattle.trb.specs.Block.{kind, code, slot}
-use Rattle.trb.specs.Kind.{is_command_completion}
-use Rattle.segments.specs.declared.spot.Spot.{Spot}
-use Rattle.segments.specs.declared.spot.Spot.TheVariants.{Data, Link}
-use Rattle.segments.specs.ShapeValue.{Shape}
-use Rattle.segments.specs.RingView.{Reaches, Holds}
-use Rattle.segments.specs.Spots.{IsSpot, number, rank, after}
-use Rattle.segments.specs.Ceiling.{is_open, ceiling}
-use Rattle.segments.specs.RingKeeps.{MayReach}
-use Rattle.segments.proofs.Crossings.{crossing_positive}
-use Rattle.segments.proofs.ReachedSpots.{after_reached, number-after}
-use Rattle.segments.proofs.SpotOrder.{rank_least, rank_most}
-use Rattle.commands.specs.declared.command.Command.{Command}
-use Rattle.commands.specs.declared.command.Command.TheVariants.{NoOp, EnableSlot, DisableSlot, AddressDevice, ConfigureEndpoint, EvaluateContext, ResetEndpoint, StopEndpoint, SetTrDequeue, ResetDevice}
-use Rattle.commands.specs.declared.state.EndpointState.TheVariants.{Stopped}
-use Rattle.commands.specs.Changes.{changes}
-use Rattle.traces.specs.declared.header.Header.{Header}
-use Rattle.traces.specs.declared.row.Row.{Row}
-use Rattle.traces.specs.declared.row.Row.TheVariants.{Read}
-use Rattle.traces.specs.declared.step.Step.{Step}
-use Rattle.traces.specs.Header.{IsHeader, shape_of, command_id}
-use Rattle.world_state.specs.World.{World, UnderWay}
-use Rattle.controller_model.specs.Steps.{reached}
-use Rattle.ring_knowledge.specs.Known.{Known}
-use Rattle.ring_knowledge.specs.Rings.{RingSpot, command_at, next_command}
-use Rattle.ring_knowledge.specs.Learned.{event_read, learned, known}
+use Rattle.std.proofs.Common.{◌≡◌, ◌≢◌, ◌⊎◌, ◌+◌, ◌≤◌, ◌==◌, if◌then◌else◌, ◌∷◌, ◌++◌, ◌∙◌, ℕ, suc, true, List, [], reverse, Option, Some, None, arith, refl, sym, ap, subst, inl, inr}
+use Rattle.lazy_runs.proofs.Words.{flat_map, cases_Bool, cases_eq, cases_lt, cond-true, cond-false, put, Block, kind, code, slot, is_command_completion, Spot, Data, Link, Shape, Reaches, Holds, IsSpot, number, rank, after, is_open, ceiling, MayReach, crossing_positive, after_reached, number-after, rank_least, rank_most, Command, NoOp, EnableSlot, DisableSlot, AddressDevice, ConfigureEndpoint, EvaluateContext, ResetEndpoint, StopEndpoint, SetTrDequeue, ResetDevice, Stopped, changes, Header, Row, Read, Step, IsHeader, shape_of, command_id, World, UnderWay, reached, Known, RingSpot, command_at, next_command, event_read, learned, known, IsClean, DriverKeeps, Agrees, UnderWayMatches, TakenCommand, ring_here, ring_elsewhere, completion_kind, transfer_not_command, put_at, put_off, next_is, IsTimely, need}
 use Rattle.ring_knowledge.specs.Completions as completions
-use Rattle.ownership_rules.specs.Clean.{IsClean}
-use Rattle.safety.specs.Keeps.{DriverKeeps}
-use Rattle.safety.specs.Matches.{Agrees, UnderWayMatches, TakenCommand}
-use Rattle.safety.proofs.DriverRows.{ring_here, ring_elsewhere}
-use Rattle.safety.proofs.FinishKinds.{completion_kind}
-use Rattle.safety.proofs.Headers.{transfer_not_command}
-use Rattle.safety.proofs.LookKinds.{put_at, put_off}
-use Rattle.safety.proofs.SafeContext.{next_is}
 use Rattle.lazy_runs.specs.Lazy as lazy
-use Rattle.lazy_runs.specs.LateEvents.{IsTimely}
-use Rattle.lazy_runs.specs.Needs.{need}
 use Rattle.lazy_runs.proofs.AllEventsRead.{agrees_now}
 use Rattle.lazy_runs.proofs.CompletionSays.{CompletionSays, CommandsOpen, commands_open}
 use Rattle.lazy_runs.proofs.Follows.{StandsAt}

@@ -1,37 +1,8 @@
 -- The lazy run directly before a finish: the command is under way, and the controller can end it as a clean event says
-use Rattle.std.specs.Prelude.{◌≡◌, ℕ, ◌==◌, ◌&&◌, not, true, List, [], ◌∷◌, ◌++◌, reverse, Some, None}
-use Rattle.std.proofs.Common.{sym, ◌∙◌, ap, subst}
-use Rattle.std.proofs.lemmas.Bool.{and_from, cond-true, eq-eqb, not_from_false}
-use Rattle.trb.specs.declared.block.Block.{Block}
-use Rattle.trb.specs.Block.{kind, code, pointer, slot}
-use Rattle.trb.specs.Kind.{is_command_completion}
-use Rattle.segments.specs.declared.spot.Spot.{Spot}
-use Rattle.segments.specs.Places.{cycle_of}
-use Rattle.segments.specs.Ceiling.{is_open}
-use Rattle.segments.proofs.Positions.{cycle_of_bit}
-use Rattle.commands.specs.Command.{command_of, may_answer_slot}
-use Rattle.traces.specs.declared.header.Header.{Header}
-use Rattle.traces.specs.declared.row.Row.{Row}
-use Rattle.traces.specs.declared.row.Row.TheVariants.{Read}
-use Rattle.traces.specs.declared.step.Step.{Step}
-use Rattle.traces.specs.Header.{IsHeader, shape_of, command_id}
-use Rattle.world_state.specs.World.{World, UnderWay}
-use Rattle.controller_model.specs.Posts.{can_post}
+use Rattle.std.proofs.Common.{◌≡◌, ◌==◌, ◌&&◌, ◌∷◌, ◌++◌, ◌∙◌, ℕ, not, true, List, [], reverse, Some, None, sym, ap, subst, eq-eqb}
+use Rattle.lazy_runs.proofs.Words.{and_from, cond-true, not_from_false, Block, kind, code, pointer, slot, is_command_completion, Spot, cycle_of, is_open, cycle_of_bit, command_of, may_answer_slot, Header, Row, Read, Step, IsHeader, shape_of, command_id, World, UnderWay, can_post, reached, Known, known, next_command, IsClean, was_stop_seen, DriverKeeps, Agrees, driver_keeps, next_at_floor, AtFloor, command_at_is, command_of-with_cycle, IsTimely}
 use Rattle.controller_model.specs.Finishes as finishes
-use Rattle.controller_model.specs.Steps.{reached}
-use Rattle.ring_knowledge.specs.Known.{Known}
-use Rattle.ring_knowledge.specs.Learned.{known}
-use Rattle.ring_knowledge.specs.Rings.{next_command}
-use Rattle.ownership_rules.specs.Clean.{IsClean}
-use Rattle.ownership_rules.specs.Events.{was_stop_seen}
-use Rattle.safety.specs.Keeps.{DriverKeeps}
-use Rattle.safety.specs.Matches.{Agrees}
-use Rattle.safety.proofs.DriverHistories.{driver_keeps}
-use Rattle.safety.proofs.KeptRings.{next_at_floor}
-use Rattle.safety.proofs.SafeContext.{AtFloor, command_at_is}
-use Rattle.safety.proofs.SameCommand.{command_of-with_cycle}
 use Rattle.lazy_runs.specs.Lazy as lazy
-use Rattle.lazy_runs.specs.LateEvents.{IsTimely}
 use Rattle.lazy_runs.proofs.AllEventsRead.{agrees_now}
 use Rattle.lazy_runs.proofs.CompletionLooks.{IsTaken, is_taken, prepared, rings_stay}
 use Rattle.lazy_runs.proofs.CompletionSays.{CompletionSays, completion_says, commands_open}

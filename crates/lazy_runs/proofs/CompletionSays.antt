@@ -1,30 +1,6 @@
 -- What a clean Command Completion Event says: the next command was given, and a controller can have finished it so
-use Rattle.std.specs.Prelude.{◌≡◌, ◌<◌, ◌==◌, if◌then◌else◌, true, false, not, [], Option, Some, None}
-use Rattle.std.proofs.Common.{refl, sym, ◌∙◌, ap, inl, inr, arith}
-use Rattle.std.proofs.lemmas.Bool.{false≢true, or_parts, and_parts, not-false, ltb-true, eqb-true}
-use Rattle.trb.specs.declared.block.Block.{Block}
-use Rattle.trb.specs.Block.{kind, code, pointer, slot}
-use Rattle.trb.specs.Kind.{is_command_completion}
-use Rattle.segments.specs.ShapeValue.{Shape}
-use Rattle.segments.specs.RingView.{RingView}
-use Rattle.segments.specs.Places.{address_of}
-use Rattle.segments.specs.Ceiling.{ceiling, given_count, is_open}
-use Rattle.commands.specs.declared.command.Command.{Command}
-use Rattle.commands.specs.Command.{may_answer_slot}
-use Rattle.commands.specs.States.{can_succeed}
-use Rattle.traces.specs.declared.header.Header.{Header}
-use Rattle.traces.specs.declared.row.Row.TheVariants.{Read}
-use Rattle.traces.specs.declared.register.Register.TheVariants.{Config}
-use Rattle.traces.specs.Header.{shape_of, command_id}
-use Rattle.traces.specs.Register.{register_or_zero}
-use Rattle.ring_knowledge.specs.Known.{Known}
-use Rattle.ring_knowledge.specs.Rings.{command_at, next_command}
-use Rattle.ownership_rules.specs.Events.{may_be_taken, can_finish, is_impossible_by_kind, is_impossible_completion, was_stop_seen}
-use Rattle.ownership_rules.specs.Rules.{broken}
-use Rattle.safety.specs.Keeps.{DriverKeeps}
-use Rattle.safety.proofs.CleanRows.{EventFacts, event_facts}
-use Rattle.safety.proofs.FinishKinds.{completion_kind}
-use Rattle.safety.proofs.NoWait.{ceiling_open, ceiling_held}
+use Rattle.std.proofs.Common.{◌≡◌, ◌<◌, ◌==◌, if◌then◌else◌, ◌∙◌, true, false, not, [], Option, Some, None, refl, sym, ap, inl, inr, arith, ltb-true, eqb-true}
+use Rattle.lazy_runs.proofs.Words.{false≢true, or_parts, and_parts, not-false, Block, kind, code, pointer, slot, is_command_completion, Shape, RingView, address_of, ceiling, given_count, is_open, Command, may_answer_slot, can_succeed, Header, Read, Config, shape_of, command_id, register_or_zero, Known, command_at, next_command, may_be_taken, can_finish, is_impossible_by_kind, is_impossible_completion, was_stop_seen, broken, DriverKeeps, EventFacts, event_facts, completion_kind, ceiling_open, ceiling_held}
 
 pub record CompletionSays (h : Header) (k : Known) (b : Block) : Type 0 where
   pub started : k.started ≡ true

@@ -1,42 +1,11 @@
 -- The step of a row with a Command Completion Event, where the controller can finish its command and rings go as they should
-use Rattle.std.specs.Prelude.{◌≡◌, ◌≢◌, ℕ, ◌+◌, ◌<◌, true, false, List, [], ◌∷◌, ◌++◌, reverse, Some, None, option_map, option_and_then}
-use Rattle.std.proofs.Common.{arith, refl, sym, ◌∙◌, ap, subst, inl, inr}
-use Rattle.std.proofs.lemmas.Bool.{cases_Bool, cond-false, cond-true, false≢true}
-use Rattle.std.proofs.lemmas.List.{reverse-append}
-use Rattle.trb.specs.declared.block.Block.{Block}
-use Rattle.trb.specs.Block.{IsBlock, block_at, kind, same_words}
-use Rattle.trb.specs.Kind.{is_command_completion}
-use Rattle.segments.specs.declared.spot.Spot.{Spot}
-use Rattle.segments.specs.Places.{address_of}
-use Rattle.segments.specs.Ceiling.{is_open}
-use Rattle.segments.specs.RingView.{RingView}
-use Rattle.traces.specs.declared.header.Header.{Header}
-use Rattle.traces.specs.declared.row.Row.{Row}
-use Rattle.traces.specs.declared.row.Row.TheVariants.{Read}
-use Rattle.traces.specs.declared.step.Step.{Step}
-use Rattle.traces.specs.declared.step.Step.TheVariants.{NextRow, Finish}
-use Rattle.traces.specs.Header.{IsHeader, command_id, event_shape}
-use Rattle.world_state.specs.World.{World, event_at}
+use Rattle.std.proofs.Common.{◌≡◌, ◌≢◌, ◌+◌, ◌<◌, ◌∷◌, ◌++◌, ◌∙◌, ℕ, true, false, List, [], reverse, Some, None, option_map, option_and_then, arith, refl, sym, ap, subst, inl, inr}
+use Rattle.lazy_runs.proofs.Words.{cases_Bool, cond-false, cond-true, false≢true, reverse-append, Block, IsBlock, block_at, kind, same_words, is_command_completion, Spot, address_of, is_open, RingView, Header, Row, Read, Step, NextRow, Finish, IsHeader, command_id, event_shape, World, event_at, read_made, Known, learned, known, IsClean, DriverKeeps, RingState, state_of, Agrees, Runs, driver_keeps, run_keeps, completion_kind, finish_is, finish_runs, transfer_not_command, one_more, runs_rest, words_itself, post_keeps, read_runs}
 use Rattle.world_state.specs.World as of_world
 use Rattle.controller_model.specs.DriverRows as driver
 use Rattle.controller_model.specs.Posts as posts
 use Rattle.controller_model.specs.Finishes as finishes
 use Rattle.controller_model.specs.Steps as steps
-use Rattle.controller_model.proofs.ReadLemmas.{read_made}
-use Rattle.ring_knowledge.specs.Known.{Known}
-use Rattle.ring_knowledge.specs.Learned.{learned, known}
-use Rattle.ownership_rules.specs.Clean.{IsClean}
-use Rattle.safety.specs.Keeps.{DriverKeeps}
-use Rattle.safety.specs.Matches.{RingState, state_of, Agrees}
-use Rattle.safety.specs.Invariant.{Runs}
-use Rattle.safety.proofs.DriverHistories.{driver_keeps, run_keeps}
-use Rattle.safety.proofs.FinishKinds.{completion_kind, finish_is}
-use Rattle.safety.proofs.FinishRuns.{finish_runs}
-use Rattle.safety.proofs.Headers.{transfer_not_command}
-use Rattle.safety.proofs.HeadlineFrom.{one_more, runs_rest}
-use Rattle.safety.proofs.LookedRing.{words_itself}
-use Rattle.safety.proofs.Posted.{post_keeps}
-use Rattle.safety.proofs.ReadRow.{read_runs}
 use Rattle.lazy_runs.specs.Lazy as lazy
 use Rattle.lazy_runs.specs.Needs as needs
 use Rattle.lazy_runs.proofs.AllEventsRead.{agrees_now}

@@ -1,21 +1,6 @@
 -- The step of a row that reads a Command Completion Event, whatever its command and its code
-use Rattle.std.specs.Prelude.{◌≡◌, ◌==◌, true, false, List, Some}
-use Rattle.std.proofs.Common.{refl, ◌∙◌, ap, subst, inl, inr}
-use Rattle.std.proofs.lemmas.Bool.{cases_Bool}
-use Rattle.trb.specs.declared.block.Block.{Block}
-use Rattle.trb.specs.Block.{code, slot}
-use Rattle.trb.specs.Kind.{is_command_completion}
-use Rattle.commands.specs.declared.command.Command.{Command}
-use Rattle.commands.specs.declared.command.Command.TheVariants.{NoOp, EnableSlot, DisableSlot, AddressDevice, ConfigureEndpoint, EvaluateContext, ResetEndpoint, StopEndpoint, SetTrDequeue, ResetDevice}
-use Rattle.commands.specs.Command.{command_of}
-use Rattle.traces.specs.declared.header.Header.{Header}
-use Rattle.traces.specs.declared.row.Row.{Row}
-use Rattle.traces.specs.Header.{IsHeader}
-use Rattle.ring_knowledge.specs.Learned.{known}
-use Rattle.ring_knowledge.specs.Rings.{next_command}
-use Rattle.safety.specs.Keeps.{CommandKeeps}
-use Rattle.safety.proofs.FinishSlots.{PlacesNone}
-use Rattle.safety.proofs.NumberedChanges.{command_numbered}
+use Rattle.std.proofs.Common.{◌≡◌, ◌==◌, ◌∙◌, true, false, List, Some, refl, ap, subst, inl, inr}
+use Rattle.lazy_runs.proofs.Words.{cases_Bool, Block, code, slot, is_command_completion, Command, NoOp, EnableSlot, DisableSlot, AddressDevice, ConfigureEndpoint, EvaluateContext, ResetEndpoint, StopEndpoint, SetTrDequeue, ResetDevice, command_of, Header, Row, IsHeader, known, next_command, CommandKeeps, PlacesNone, command_numbered}
 use Rattle.lazy_runs.proofs.AddressCompletions.{address_effect}
 use Rattle.lazy_runs.proofs.CompletionReady.{ReadyToFinish, ready_to_finish, floors_then}
 use Rattle.lazy_runs.proofs.ConfigureCompletions.{configure_effect}

@@ -1,33 +1,7 @@
 -- The success of a Configure Endpoint: the rings of the endpoints that it adds are bound
-use Rattle.std.specs.Prelude.{◌≡◌, ℕ, ◌<◌, Bool, false, List, [], ◌∷◌, map, All}
-use Rattle.std.specs.List.{list_any}
-use Rattle.std.proofs.Common.{refl, sym, ◌∙◌, ap, get_or}
-use Rattle.std.proofs.lemmas.Bool.{or_parts}
-use Rattle.std.proofs.lemmas.List.Elements.{All-head, All-tail}
-use Rattle.segments.specs.declared.spot.Spot.TheVariants.{Data}
-use Rattle.commands.specs.declared.command.Command.{Command}
-use Rattle.commands.specs.declared.command.Command.TheVariants.{ConfigureEndpoint}
-use Rattle.commands.specs.declared.state.EndpointState.TheVariants.{Running}
-use Rattle.commands.specs.Changes.{Change, SlotGoesOn, Disables, Places, changes, placed_by_context}
-use Rattle.contexts.specs.Contexts.{added_endpoints, is_dropped, context_pointer, context_cycle}
-use Rattle.traces.specs.declared.header.Header.{Header}
-use Rattle.traces.specs.Header.{IsHeader, is_ring}
-use Rattle.world_state.specs.World.{World}
-use Rattle.ring_knowledge.specs.Known.{Known}
-use Rattle.ring_knowledge.specs.Rings.{next_command}
+use Rattle.std.proofs.Common.{◌≡◌, ◌<◌, ◌∷◌, ◌∙◌, ℕ, Bool, false, List, [], map, All, refl, sym, ap, get_or}
+use Rattle.lazy_runs.proofs.Words.{list_any, or_parts, All-head, All-tail, Data, Command, ConfigureEndpoint, Running, Change, SlotGoesOn, Disables, Places, changes, placed_by_context, added_endpoints, is_dropped, context_pointer, context_cycle, Header, IsHeader, is_ring, World, Known, next_command, is_among, has_repeats, ring_bound, binding_in, DriverKeeps, CommandKeeps, Stands, bad_context_parts, bad_command_context, same_context, configure_same, slot_above, StatesMatch, were_bound, may_add, numbered, apart, WereBound, MayAdd, ring_at, bound_next, may_behind, binds_placed, PlacedTo, each_fails, any_of_map}
 use Rattle.ring_knowledge.specs.Completions as completions
-use Rattle.ownership_rules.specs.Moves.{is_among, has_repeats, ring_bound, binding_in}
-use Rattle.safety.specs.Keeps.{DriverKeeps, CommandKeeps}
-use Rattle.safety.specs.Stands.{Stands}
-use Rattle.safety.proofs.Areas.{bad_context_parts, bad_command_context}
-use Rattle.safety.proofs.ContextWords.{same_context, configure_same}
-use Rattle.safety.proofs.EndpointsOff.{slot_above}
-use Rattle.safety.proofs.FinishChanges.{StatesMatch}
-use Rattle.safety.proofs.FinishConfigure.{were_bound, may_add, numbered, apart}
-use Rattle.safety.proofs.PlaceEach.{WereBound, MayAdd, ring_at, bound_next, may_behind}
-use Rattle.safety.proofs.PlacedKnown.{binds_placed}
-use Rattle.safety.proofs.Placing.{PlacedTo}
-use Rattle.safety.proofs.TestsPassed.{each_fails, any_of_map}
 use Rattle.lazy_runs.proofs.ChangesGo.{ChangeGoes, ListGoes, no_change_goes, change_then_goes, change_goes}
 use Rattle.lazy_runs.proofs.PlacesGo.{bind_goes}
 use Rattle.lazy_runs.proofs.RingsGo.{AtFloors}

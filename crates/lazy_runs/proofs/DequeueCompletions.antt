@@ -1,20 +1,7 @@
 -- The success of a Set TR Dequeue: the ring stands where it was moved
-use Rattle.std.specs.Prelude.{ℕ, Bool, []}
-use Rattle.std.proofs.Common.{refl}
-use Rattle.commands.specs.declared.command.Command.{Command}
-use Rattle.commands.specs.declared.command.Command.TheVariants.{SetTrDequeue}
-use Rattle.commands.specs.declared.state.EndpointState.TheVariants.{Stopped}
-use Rattle.commands.specs.Changes.{Change, Places, changes}
-use Rattle.traces.specs.declared.header.Header.{Header}
-use Rattle.traces.specs.Header.{IsHeader}
-use Rattle.world_state.specs.World.{World}
-use Rattle.ring_knowledge.specs.Known.{Known}
-use Rattle.ring_knowledge.specs.Rings.{next_command}
+use Rattle.std.proofs.Common.{ℕ, Bool, [], refl}
+use Rattle.lazy_runs.proofs.Words.{Command, SetTrDequeue, Stopped, Change, Places, changes, Header, IsHeader, World, Known, next_command, DriverKeeps, CommandKeeps, StatesMatch, may_move, MayMove}
 use Rattle.ring_knowledge.specs.Completions as completions
-use Rattle.safety.specs.Keeps.{DriverKeeps, CommandKeeps}
-use Rattle.safety.proofs.FinishChanges.{StatesMatch}
-use Rattle.safety.proofs.FinishDequeue.{may_move}
-use Rattle.safety.proofs.PlaceKeeps.{MayMove}
 use Rattle.lazy_runs.proofs.ChangesGo.{ChangeGoes, no_change_goes, change_then_goes}
 use Rattle.lazy_runs.proofs.PlacesGo.{move_goes}
 use Rattle.lazy_runs.proofs.RingsGo.{AtFloors}

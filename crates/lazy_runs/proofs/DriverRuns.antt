@@ -1,16 +1,8 @@
 -- The lazy run makes no step of the controller for a row of the driver: it goes from one row to the next
-use Rattle.std.specs.Prelude.{◌≡◌, ℕ, List, ◌∷◌, ◌++◌, reverse, Some, option_map, option_and_then}
-use Rattle.std.proofs.Common.{refl, ◌∙◌, ap}
-use Rattle.traces.specs.declared.header.Header.{Header}
-use Rattle.traces.specs.declared.row.Row.{Row}
-use Rattle.traces.specs.declared.row.Row.TheVariants.{Sub, Write, Reg, Bell, Read}
-use Rattle.traces.specs.declared.step.Step.{Step}
-use Rattle.traces.specs.declared.step.Step.TheVariants.{NextRow}
-use Rattle.world_state.specs.World.{World}
+use Rattle.std.proofs.Common.{◌≡◌, ◌∷◌, ◌++◌, ◌∙◌, ℕ, List, reverse, Some, option_map, option_and_then, refl, ap}
+use Rattle.lazy_runs.proofs.Words.{Header, Row, Sub, Write, Reg, Bell, Read, Step, NextRow, World, IsDriverRow, one_more}
 use Rattle.controller_model.specs.DriverRows as driver
 use Rattle.controller_model.specs.Steps as steps
-use Rattle.safety.specs.KeptHistories.{IsDriverRow}
-use Rattle.safety.proofs.HeadlineFrom.{one_more}
 use Rattle.lazy_runs.specs.Lazy as lazy
 use Rattle.lazy_runs.proofs.RowsLeave.{done, row_is_done}
 

@@ -1,35 +1,6 @@
 -- The induction's step for a row of the driver
-use Rattle.std.specs.Prelude.{◌≡◌, ◌≢◌, ◌⊎◌, ℕ, ◌≤◌, true, false, List, [], ◌∷◌, ◌++◌, All, reverse, Some}
-use Rattle.std.proofs.Common.{arith, sym, ◌∙◌, ap, subst, inl, inr}
-use Rattle.std.proofs.lemmas.Bool.{cases_Bool, false≢true}
-use Rattle.segments.specs.declared.spot.Spot.{Spot}
-use Rattle.segments.specs.declared.spot.Spot.TheVariants.{Data, Link}
-use Rattle.segments.specs.ShapeValue.{Shape}
-use Rattle.segments.specs.Spots.{number, rank}
-use Rattle.traces.specs.declared.header.Header.{Header}
-use Rattle.traces.specs.declared.row.Row.{Row}
-use Rattle.traces.specs.Header.{IsHeader, shape_of, command_id}
-use Rattle.traces.specs.Rows.{IsRow}
-use Rattle.world_state.specs.World.{World, RingEvent}
-use Rattle.world_state.specs.Takes.{next_take}
-use Rattle.controller_model.specs.Steps.{counted, reached}
-use Rattle.ring_knowledge.specs.Known.{Known}
-use Rattle.ring_knowledge.specs.Learned.{learned, known}
-use Rattle.ownership_rules.specs.Clean.{IsClean}
-use Rattle.safety.specs.Keeps.{DriverKeeps}
-use Rattle.safety.specs.KeptHistories.{IsDriverRow}
-use Rattle.safety.specs.Matches.{Agrees, CommandMatches}
-use Rattle.safety.specs.Invariant.{Runs}
-use Rattle.safety.proofs.DriverHistories.{driver_keeps}
-use Rattle.safety.proofs.HeadlineFrom.{runs_rest}
-use Rattle.safety.proofs.Headers.{transfer_not_command}
-use Rattle.safety.proofs.HeldFurther.{more_law}
-use Rattle.safety.proofs.RowRuns.{row_runs}
-use Rattle.safety.proofs.RowsLeft.{row_left}
-use Rattle.safety.proofs.Squares.{square_law}
-use Rattle.safety.proofs.StillRings.{still_rings}
-use Rattle.lazy_runs.specs.Lazy.{lazy_run, pointers_at}
-use Rattle.lazy_runs.specs.Law.{AreAtFloors}
+use Rattle.std.proofs.Common.{◌≡◌, ◌≢◌, ◌⊎◌, ◌≤◌, ◌∷◌, ◌++◌, ◌∙◌, ℕ, true, false, List, [], All, reverse, Some, arith, sym, ap, subst, inl, inr}
+use Rattle.lazy_runs.proofs.Words.{cases_Bool, false≢true, Spot, Data, Link, Shape, number, rank, Header, Row, IsHeader, shape_of, command_id, IsRow, World, RingEvent, next_take, counted, reached, Known, learned, known, IsClean, DriverKeeps, IsDriverRow, Agrees, CommandMatches, Runs, driver_keeps, runs_rest, transfer_not_command, more_law, row_runs, row_left, square_law, still_rings, lazy_run, pointers_at, AreAtFloors}
 use Rattle.lazy_runs.proofs.AllEventsRead.{agrees_now}
 use Rattle.lazy_runs.proofs.DriverRuns.{with_rest, pointers_same, driver_reached}
 use Rattle.lazy_runs.proofs.Follows.{StandsAt, IsActiveIfOpen, Follows, Carries}

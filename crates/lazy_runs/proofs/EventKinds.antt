@@ -1,23 +1,6 @@
 -- The lazy law from the laws of the events that need steps of a ring: Transfer Events and Command Completion Events
-use Rattle.std.specs.Prelude.{◌≡◌, Bool, true, List, ◌∷◌, ◌++◌, ◌||◌, All, reverse, Some}
-use Rattle.std.proofs.Common.{inl, inr}
-use Rattle.std.proofs.lemmas.Bool.{or_cases}
-use Rattle.trb.specs.declared.block.Block.{Block}
-use Rattle.trb.specs.declared.kind.BlockKind.{BlockKind}
-use Rattle.trb.specs.Block.{IsBlock, kind}
-use Rattle.trb.specs.Kind.{is_transfer_event, is_command_completion, is_other_event}
-use Rattle.traces.specs.declared.header.Header.{Header}
-use Rattle.traces.specs.declared.row.Row.{Row}
-use Rattle.traces.specs.declared.row.Row.TheVariants.{Read}
-use Rattle.traces.specs.Header.{IsHeader}
-use Rattle.traces.specs.Rows.{IsRow}
-use Rattle.world_state.specs.World.{World}
-use Rattle.controller_model.specs.Steps.{reached}
-use Rattle.ring_knowledge.specs.Learned.{known}
-use Rattle.ownership_rules.specs.Clean.{IsClean}
-use Rattle.lazy_runs.specs.LateEvents.{IsTimely}
-use Rattle.lazy_runs.specs.Lazy.{lazy_run}
-use Rattle.lazy_runs.specs.Law.{LazyLaw, AllAreRead}
+use Rattle.std.proofs.Common.{◌≡◌, ◌∷◌, ◌++◌, ◌||◌, Bool, true, List, All, reverse, Some, inl, inr}
+use Rattle.lazy_runs.proofs.Words.{or_cases, Block, BlockKind, IsBlock, kind, is_transfer_event, is_command_completion, is_other_event, Header, Row, Read, IsHeader, IsRow, World, reached, known, IsClean, IsTimely, lazy_run, LazyLaw, AllAreRead}
 use Rattle.lazy_runs.proofs.Follows.{Follows, Carries, EventLaw}
 use Rattle.lazy_runs.proofs.Induction.{lazy_from_events, all_read_from_events}
 use Rattle.lazy_runs.proofs.MayPost.{is_event_read}

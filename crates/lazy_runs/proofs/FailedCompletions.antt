@@ -1,31 +1,8 @@
 -- The completion of a command that doesn't succeed: it leaves all rings of endpoints
-use Rattle.std.specs.Prelude.{◌≡◌, ℕ, ◌+◌, ◌==◌, ◌&&◌, if◌then◌else◌, not, true, false, List, ◌∷◌, ◌++◌, reverse, Some, None, option_map}
-use Rattle.std.proofs.Common.{refl, sym, ◌∙◌, subst}
-use Rattle.std.proofs.lemmas.Bool.{and_left, and_right, cond-false, not-true}
-use Rattle.trb.specs.declared.block.Block.{Block}
-use Rattle.trb.specs.Block.{IsBlock, kind, code, slot}
-use Rattle.trb.specs.Kind.{is_command_completion}
-use Rattle.commands.specs.declared.command.Command.{Command}
-use Rattle.commands.specs.Command.{command_of}
-use Rattle.traces.specs.declared.header.Header.{Header}
-use Rattle.traces.specs.declared.row.Row.{Row}
-use Rattle.traces.specs.declared.row.Row.TheVariants.{Read}
-use Rattle.traces.specs.Header.{IsHeader, command_id}
-use Rattle.world_state.specs.World.{World}
+use Rattle.std.proofs.Common.{◌≡◌, ◌+◌, ◌==◌, ◌&&◌, if◌then◌else◌, ◌∷◌, ◌++◌, ◌∙◌, ℕ, not, true, false, List, reverse, Some, None, option_map, refl, sym, subst}
+use Rattle.lazy_runs.proofs.Words.{and_left, and_right, cond-false, not-true, Block, IsBlock, kind, code, slot, is_command_completion, Command, command_of, Header, Row, Read, IsHeader, command_id, World, posted, reached, Known, learned, known, command_at, next_command, IsClean, was_stop_seen, learned_read, let_go, next_known, seen_after, failed_read, put_off, IsTimely, lazy_run}
 use Rattle.world_state.specs.World as of_world
 use Rattle.controller_model.specs.Finishes as finishes
-use Rattle.controller_model.specs.Posts.{posted}
-use Rattle.controller_model.specs.Steps.{reached}
-use Rattle.ring_knowledge.specs.Known.{Known}
-use Rattle.ring_knowledge.specs.Learned.{learned, known}
-use Rattle.ring_knowledge.specs.Rings.{command_at, next_command}
-use Rattle.ownership_rules.specs.Clean.{IsClean}
-use Rattle.ownership_rules.specs.Events.{was_stop_seen}
-use Rattle.safety.proofs.EventRead.{learned_read}
-use Rattle.safety.proofs.FinishKinds.{let_go, next_known, seen_after, failed_read}
-use Rattle.safety.proofs.LookKinds.{put_off}
-use Rattle.lazy_runs.specs.LateEvents.{IsTimely}
-use Rattle.lazy_runs.specs.Lazy.{lazy_run}
 use Rattle.lazy_runs.specs.Needs as needs
 use Rattle.lazy_runs.proofs.CompletionReady.{ReadyToFinish, ready_to_finish, floors_then, finish_posted, spots_then}
 use Rattle.lazy_runs.proofs.CompletionStep.{CompletionLearns, FinishLeaves, completion_step}

@@ -1,28 +1,7 @@
 -- What an induction over the rows has to carry beside the lazy law: all events are read, the schedule knows where the pointers stand,
 -- also that of the command ring, and a ring that is open is active. Without it neither a look nor a post is known to be possible
-use Rattle.std.specs.Prelude.{◌≡◌, ◌⊎◌, ℕ, true, false, List, ◌∷◌, ◌++◌, All, reverse, Some}
-use Rattle.std.proofs.Common.{inl, inr}
-use Rattle.trb.specs.declared.block.Block.{Block}
-use Rattle.trb.specs.Block.{IsBlock}
-use Rattle.segments.specs.declared.spot.Spot.{Spot}
-use Rattle.segments.specs.declared.spot.Spot.TheVariants.{Data}
-use Rattle.segments.specs.Ceiling.{is_open}
-use Rattle.segments.specs.Spots.{IsSpot, number, spot_address, spot_cycle}
-use Rattle.traces.specs.declared.header.Header.{Header}
-use Rattle.traces.specs.declared.row.Row.{Row}
-use Rattle.traces.specs.declared.row.Row.TheVariants.{Read}
-use Rattle.traces.specs.Header.{IsHeader, shape_of, command_id}
-use Rattle.traces.specs.Rows.{IsRow}
-use Rattle.world_state.specs.World.{World}
-use Rattle.world_state.specs.Takes.{next_take}
-use Rattle.controller_model.specs.Steps.{reached}
-use Rattle.ring_knowledge.specs.Known.{Known}
-use Rattle.ring_knowledge.specs.Learned.{known}
-use Rattle.ownership_rules.specs.Clean.{IsClean}
-use Rattle.safety.specs.Invariant.{Runs}
-use Rattle.lazy_runs.specs.LateEvents.{IsTimely}
-use Rattle.lazy_runs.specs.Lazy.{lazy_run, pointers_at}
-use Rattle.lazy_runs.specs.Law.{AreAtFloors, LazyLaw}
+use Rattle.std.proofs.Common.{◌≡◌, ◌⊎◌, ◌∷◌, ◌++◌, ℕ, true, false, List, All, reverse, Some, inl, inr}
+use Rattle.lazy_runs.proofs.Words.{Block, IsBlock, Spot, Data, is_open, IsSpot, number, spot_address, spot_cycle, Header, Row, Read, IsHeader, shape_of, command_id, IsRow, World, next_take, reached, Known, known, IsClean, Runs, IsTimely, lazy_run, pointers_at, AreAtFloors, LazyLaw}
 
 abbrev pub IsActiveIfOpen : Known → World → ℕ → Type 0
 IsActiveIfOpen k w r = is_open (k.ring r) ≡ true → w.is_active r ≡ true

@@ -1,23 +1,7 @@
 -- A look at what is given moves the pointer on: a block that is given is taken, and a Link that is given is followed
-use Rattle.std.specs.Prelude.{◌≡◌, ◌==◌, ◌&&◌, ℕ, true, false, not, if◌then◌else◌, Option, Some, None, is_some}
-use Rattle.std.proofs.Common.{sym, ◌∙◌, ap}
-use Rattle.std.proofs.lemmas.Bool.{cond-false, cond-true, eq-eqb}
-use Rattle.trb.specs.Block.{block_at, cycle, kind}
-use Rattle.trb.specs.Kind.{is_link}
-use Rattle.segments.specs.declared.spot.Spot.TheVariants.{Data, Link}
-use Rattle.traces.specs.declared.header.Header.{Header}
-use Rattle.traces.specs.Header.{IsHeader, shape_of, command_id}
-use Rattle.world_state.specs.World.{World}
+use Rattle.std.proofs.Common.{◌≡◌, ◌==◌, ◌&&◌, if◌then◌else◌, ◌∙◌, ℕ, true, false, not, Option, Some, None, is_some, sym, ap, eq-eqb}
+use Rattle.lazy_runs.proofs.Words.{cond-false, cond-true, block_at, cycle, kind, is_link, Data, Link, Header, IsHeader, shape_of, command_id, World, Known, IsDriverRing, DriverKeeps, Stands, RingMatches, state_of, takeable, crossable, ring_shape, seen, block_no_link, link_is, stands_at, block_found}
 use Rattle.controller_model.specs.Looks as looks
-use Rattle.ring_knowledge.specs.Known.{Known}
-use Rattle.safety.specs.Keeps.{IsDriverRing, DriverKeeps}
-use Rattle.safety.specs.Stands.{Stands}
-use Rattle.safety.specs.Matches.{RingMatches, state_of}
-use Rattle.safety.proofs.AtSpots.{takeable, crossable}
-use Rattle.safety.proofs.Headers.{ring_shape}
-use Rattle.safety.proofs.LookKinds.{seen}
-use Rattle.safety.proofs.LookSpots.{block_no_link, link_is}
-use Rattle.safety.proofs.Safe.{stands_at, block_found}
 
 module _ (h : Header) (is : IsHeader h) (k : Known) (w : World) (d : DriverKeeps h k) (s : Stands h k w) (r : ℕ) (ring : IsDriverRing h r) (on : w.is_active r ≡ true) where
   shows_cycle : cycle (seen w r) ≡ w.cycle_state r → not (cycle (seen w r) == w.cycle_state r) ≡ false

@@ -1,22 +1,6 @@
 -- The lazy law by induction over the rows, from the step of a row that reads an event
-use Rattle.std.specs.Prelude.{◌≡◌, List, [], ◌∷◌, ◌++◌, All, reverse, Some}
-use Rattle.std.proofs.Common.{sym, ◌∙◌, subst, inl, inr}
-use Rattle.std.proofs.lemmas.Bool.{false≢true}
-use Rattle.std.proofs.lemmas.List.Elements.{All-cons, All-head, All-nil, All-tail}
-use Rattle.traces.specs.declared.header.Header.{Header}
-use Rattle.traces.specs.declared.row.Row.{Row}
-use Rattle.traces.specs.declared.row.Row.TheVariants.{Sub, Write, Reg, Bell, Read}
-use Rattle.traces.specs.Header.{IsHeader}
-use Rattle.traces.specs.Rows.{IsRow}
-use Rattle.world_state.specs.World.{World}
-use Rattle.controller_model.specs.Steps.{reached}
-use Rattle.ring_knowledge.specs.Learned.{known}
-use Rattle.ownership_rules.specs.Clean.{IsClean}
-use Rattle.safety.proofs.HeadlineFrom.{later_clean, one_more}
-use Rattle.safety.proofs.TestsPassed.{clean_tests}
-use Rattle.lazy_runs.specs.LateEvents.{IsTimely}
-use Rattle.lazy_runs.specs.Lazy.{lazy_run}
-use Rattle.lazy_runs.specs.Law.{LazyLaw, AllAreRead}
+use Rattle.std.proofs.Common.{◌≡◌, ◌∷◌, ◌++◌, ◌∙◌, List, [], All, reverse, Some, sym, subst, inl, inr}
+use Rattle.lazy_runs.proofs.Words.{false≢true, All-cons, All-head, All-nil, All-tail, Header, Row, Sub, Write, Reg, Bell, Read, IsHeader, IsRow, World, reached, known, IsClean, later_clean, one_more, clean_tests, IsTimely, lazy_run, LazyLaw, AllAreRead}
 use Rattle.lazy_runs.proofs.AllRead.{all_are_read}
 use Rattle.lazy_runs.proofs.Beginning.{begins}
 use Rattle.lazy_runs.proofs.DriverSteps.{driver_step}

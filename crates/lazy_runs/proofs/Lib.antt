@@ -44,3 +44,4 @@ pub mod AddressCompletions
 pub mod ConfigureCompletions
 pub mod Completions
 pub mod LazyRuns
+pub mod Words

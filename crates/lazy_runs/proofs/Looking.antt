@@ -1,21 +1,6 @@
 -- The looks of the lazy schedule at one ring are a run, and bring the ring to its spot
-use Rattle.std.specs.Prelude.{◌≡◌, ◌≢◌, ℕ, ◌+◌, ◌<◌, ◌≤◌, true, List, ◌++◌, reverse, Some}
-use Rattle.segments.specs.declared.spot.Spot.{Spot}
-use Rattle.segments.specs.Spots.{rank, number}
-use Rattle.segments.specs.RingKeeps.{MayReach}
-use Rattle.traces.specs.declared.header.Header.{Header}
-use Rattle.traces.specs.declared.row.Row.{Row}
-use Rattle.traces.specs.declared.step.Step.{Step}
-use Rattle.traces.specs.Header.{IsHeader, shape_of, command_id}
-use Rattle.world_state.specs.World.{World}
-use Rattle.controller_model.specs.Steps.{reached}
-use Rattle.ring_knowledge.specs.Known.{Known}
-use Rattle.ring_knowledge.specs.Learned.{known}
-use Rattle.ring_knowledge.specs.Rings.{RingSpot, next_command}
-use Rattle.ownership_rules.specs.Clean.{IsClean}
-use Rattle.safety.specs.Matches.{state_of}
-use Rattle.safety.specs.Invariant.{Runs}
-use Rattle.lazy_runs.specs.Lazy.{further, looks_to}
+use Rattle.std.proofs.Common.{◌≡◌, ◌≢◌, ◌+◌, ◌<◌, ◌≤◌, ◌++◌, ℕ, true, List, reverse, Some}
+use Rattle.lazy_runs.proofs.Words.{Spot, rank, number, MayReach, Header, Row, Step, IsHeader, shape_of, command_id, World, reached, Known, known, RingSpot, next_command, IsClean, state_of, Runs, further, looks_to}
 use Rattle.lazy_runs.proofs.Follows.{StandsAt}
 
 -- what the looks at ring r leave

@@ -1,16 +1,6 @@
 -- A look is possible at any active ring but the command ring while a command is under way
-use Rattle.std.specs.Prelude.{◌≡◌, ◌==◌, ◌&&◌, ℕ, Bool, true, false, not, List, ◌∷◌, if◌then◌else◌, Some, None, is_some, option_map, option_and_then}
-use Rattle.std.proofs.Common.{refl, ◌∙◌, ap}
-use Rattle.std.proofs.lemmas.Bool.{cond-false, cond-true}
-use Rattle.trb.specs.declared.block.Block.{Block}
-use Rattle.trb.specs.Block.{block_at, cycle, kind}
-use Rattle.trb.specs.Kind.{is_link}
-use Rattle.traces.specs.declared.header.Header.{Header}
-use Rattle.traces.specs.declared.row.Row.{Row}
-use Rattle.traces.specs.declared.step.Step.{Step}
-use Rattle.traces.specs.declared.step.Step.TheVariants.{Look}
-use Rattle.traces.specs.Header.{command_id}
-use Rattle.world_state.specs.World.{World}
+use Rattle.std.proofs.Common.{◌≡◌, ◌==◌, ◌&&◌, ◌∷◌, if◌then◌else◌, ◌∙◌, ℕ, Bool, true, false, not, List, Some, None, is_some, option_map, option_and_then, refl, ap}
+use Rattle.lazy_runs.proofs.Words.{cond-false, cond-true, Block, block_at, cycle, kind, is_link, Header, Row, Step, Look, command_id, World}
 use Rattle.controller_model.specs.Looks as looks
 use Rattle.controller_model.specs.Steps as steps
 

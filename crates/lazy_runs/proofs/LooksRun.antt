@@ -1,27 +1,6 @@
 -- The looks of the lazy schedule at one ring are a run: by induction over the spots on the way
-use Rattle.std.specs.Prelude.{◌≡◌, ℕ, suc, zero, ◌+◌, ◌-◌, ◌*◌, ◌<◌, ◌≤◌, List, [], ◌∷◌, ◌++◌, filter, map, nat_lt, reverse, Some}
-use Rattle.std.proofs.Common.{arith, refl, sym, ◌∙◌, ap, subst, inl, inr}
-use Rattle.std.proofs.lemmas.Bool.{cases_lt, cond-true, cond-false, lt-ltb, le-ltb}
-use Rattle.std.proofs.lemmas.List.{append_assoc, reverse-append}
-use Rattle.segments.specs.declared.spot.Spot.{Spot}
-use Rattle.segments.specs.ShapeValue.{Shape}
-use Rattle.segments.specs.Spots.{IsSpot, number, rank, next, spots_from}
-use Rattle.segments.proofs.SpotOrder.{rank_least, rank_most, same_rank, next_later, next_least}
-use Rattle.traces.specs.declared.header.Header.{Header}
-use Rattle.traces.specs.declared.row.Row.{Row}
-use Rattle.traces.specs.declared.step.Step.{Step}
-use Rattle.traces.specs.declared.step.Step.TheVariants.{Look}
-use Rattle.traces.specs.Header.{IsHeader, shape_of}
-use Rattle.world_state.specs.World.{World}
-use Rattle.controller_model.specs.Steps.{reached, counted}
-use Rattle.ring_knowledge.specs.Known.{Known}
-use Rattle.ring_knowledge.specs.Learned.{known}
-use Rattle.ownership_rules.specs.Clean.{IsClean}
-use Rattle.safety.specs.Keeps.{DriverKeeps}
-use Rattle.safety.specs.Matches.{Agrees}
-use Rattle.safety.specs.Invariant.{Runs}
-use Rattle.safety.proofs.DriverHistories.{driver_keeps, run_keeps}
-use Rattle.safety.proofs.LookRuns.{look_runs}
+use Rattle.std.proofs.Common.{◌≡◌, ◌+◌, ◌-◌, ◌*◌, ◌<◌, ◌≤◌, ◌∷◌, ◌++◌, ◌∙◌, ℕ, suc, zero, List, [], filter, map, nat_lt, reverse, Some, arith, refl, sym, ap, subst, inl, inr, lt-ltb, le-ltb, append_assoc}
+use Rattle.lazy_runs.proofs.Words.{cases_lt, cond-true, cond-false, reverse-append, Spot, Shape, IsSpot, number, rank, next, spots_from, rank_least, rank_most, same_rank, next_later, next_least, Header, Row, Step, Look, IsHeader, shape_of, World, reached, counted, Known, known, IsClean, DriverKeeps, Agrees, Runs, driver_keeps, run_keeps, look_runs}
 use Rattle.lazy_runs.specs.Lazy as lazy
 use Rattle.lazy_runs.proofs.AllEventsRead.{agrees_now}
 use Rattle.lazy_runs.proofs.Follows.{StandsAt}

@@ -1,28 +1,6 @@
 -- Where all events are read, the controller can post an event that is possible
-use Rattle.std.specs.Prelude.{◌≡◌, ◌+◌, ◌-◌, ◌<◌, ◌≤◌, ◌==◌, ◌&&◌, ◌||◌, ◌%◌, ℕ, nat_lt, not, true, false, []}
-use Rattle.std.proofs.Common.{arith, sym, ◌∙◌, ap}
-use Rattle.std.proofs.lemmas.Bool.{and_from, or_parts, not-false, ne_eqb, lt-ltb, ltb-false, not_from_false}
-use Rattle.trb.specs.declared.block.Block.{Block}
-use Rattle.trb.specs.Block.{cycle, kind}
-use Rattle.trb.specs.Kind.{is_event}
-use Rattle.segments.specs.Places.{place_count, cycle_of}
-use Rattle.segments.proofs.Positions.{same_in_lap}
-use Rattle.segments.proofs.ShapeFacts.{shape_facts}
-use Rattle.event_ring.specs.EventRing.{has_room}
-use Rattle.traces.specs.declared.header.Header.{Header}
-use Rattle.traces.specs.declared.row.Row.TheVariants.{Read}
-use Rattle.traces.specs.Header.{IsHeader, event_shape, event_size}
-use Rattle.world_state.specs.World.{World}
-use Rattle.controller_model.specs.Posts.{can_post}
-use Rattle.ring_knowledge.specs.Known.{Known}
-use Rattle.ownership_rules.specs.Events.{is_past_room, is_impossible_by_kind, is_impossible, event_tests}
-use Rattle.ownership_rules.specs.Rules.{tests, broken}
-use Rattle.safety.specs.Keeps.{DriverKeeps}
-use Rattle.safety.specs.Matches.{Agrees}
-use Rattle.safety.proofs.CleanRows.{EventFacts, event_facts}
-use Rattle.safety.proofs.Headers.{EventRing, event_ring_is}
-use Rattle.safety.proofs.Posting.{size_is}
-use Rattle.safety.proofs.TestsPassed.{AllFail, tests_fail}
+use Rattle.std.proofs.Common.{◌≡◌, ◌+◌, ◌-◌, ◌<◌, ◌≤◌, ◌==◌, ◌&&◌, ◌||◌, ◌%◌, ◌∙◌, ℕ, nat_lt, not, true, false, [], arith, sym, ap, ne_eqb, lt-ltb, ltb-false}
+use Rattle.lazy_runs.proofs.Words.{and_from, or_parts, not-false, not_from_false, Block, cycle, kind, is_event, place_count, cycle_of, same_in_lap, shape_facts, has_room, Header, Read, IsHeader, event_shape, event_size, World, can_post, Known, is_past_room, is_impossible_by_kind, is_impossible, event_tests, tests, broken, DriverKeeps, Agrees, EventFacts, event_facts, EventRing, event_ring_is, size_is, AllFail, tests_fail}
 
 room_left : (size posted dequeue : ℕ) → dequeue ≤ posted → posted + 2 ≤ dequeue + size → has_room size posted dequeue ≡ true
 room_left size posted dequeue low high =

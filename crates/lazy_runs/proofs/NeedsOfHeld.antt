@@ -1,37 +1,9 @@
 -- The need of a ring that is held is 0, where no event is late: until its doorbell no success of its blocks is read
-use Rattle.std.specs.Prelude.{◌≡◌, ◌≢◌, ℕ, ◌+◌, ◌==◌, ◌&&◌, not, max, Bool, false, if◌then◌else◌, List, [], ◌∷◌, ◌++◌, reverse, Option, Some, None, option_map}
-use Rattle.std.proofs.Common.{refl, sym, ◌∙◌, ap, subst}
-use Rattle.std.proofs.lemmas.Bool.{cond_both, cond-false, false≢true, ne_eqb, eq-eqb, not_from_false}
-use Rattle.trb.specs.declared.block.Block.{Block}
-use Rattle.trb.specs.declared.kind.BlockKind.{BlockKind}
-use Rattle.trb.specs.declared.kind.BlockKind.TheVariants.{TransferEvent, CommandCompletion}
-use Rattle.trb.specs.Block.{kind, code, pointer, slot, endpoint}
-use Rattle.trb.specs.CompletionCode.{is_success, is_halting, is_trb_error, is_stopping}
-use Rattle.segments.specs.declared.spot.Spot.{Spot}
-use Rattle.segments.specs.declared.spot.Spot.TheVariants.{Data}
-use Rattle.segments.specs.Spots.{number, after}
-use Rattle.segments.specs.RingView.{RingView, Opens, Holds, Reaches}
-use Rattle.segments.specs.Ceiling.{is_open, ceiling, named, stopped_number}
-use Rattle.segments.specs.Moves.{target}
-use Rattle.commands.specs.declared.command.Command.{Command}
-use Rattle.commands.specs.declared.command.Command.TheVariants.{StopEndpoint}
-use Rattle.commands.specs.States.{is_off}
-use Rattle.commands.specs.Changes.{Change, SlotGoesOn, DeviceLeft, Disables, Places, Stops, Resets, changes}
-use Rattle.traces.specs.declared.header.Header.{Header}
-use Rattle.traces.specs.declared.row.Row.{Row}
-use Rattle.traces.specs.declared.row.Row.TheVariants.{Sub, Write, Reg, Bell, Read}
-use Rattle.traces.specs.Header.{shape_of, command_id, is_ring, ring_beginning_at}
-use Rattle.ring_knowledge.specs.Known.{Known}
-use Rattle.ring_knowledge.specs.Rings.{RingSpot, on_ring, spot_on, event_at, command_at, next_command}
-use Rattle.ring_knowledge.specs.Registers.{endpoint_rung, rung}
+use Rattle.std.proofs.Common.{◌≡◌, ◌≢◌, ◌+◌, ◌==◌, ◌&&◌, if◌then◌else◌, ◌∷◌, ◌++◌, ◌∙◌, ℕ, not, max, Bool, false, List, [], reverse, Option, Some, None, option_map, refl, sym, ap, subst, ne_eqb, eq-eqb}
+use Rattle.lazy_runs.proofs.Words.{cond_both, cond-false, false≢true, not_from_false, Block, BlockKind, TransferEvent, CommandCompletion, kind, code, pointer, slot, endpoint, is_success, is_halting, is_trb_error, is_stopping, Spot, Data, number, after, RingView, Opens, Holds, Reaches, is_open, ceiling, named, stopped_number, target, Command, StopEndpoint, is_off, Change, SlotGoesOn, DeviceLeft, Disables, Places, Stops, Resets, changes, Header, Row, Sub, Write, Reg, Bell, Read, shape_of, command_id, is_ring, ring_beginning_at, Known, RingSpot, on_ring, spot_on, command_at, next_command, endpoint_rung, rung, event_read, learned, known, one_more, declaration_leaves, write_leaves, register_leaves, view_after, is_report_of_success, is_held_ring, is_late, IsTimely, number_behind, begins_anew, number_reported, need}
+use Rattle.ring_knowledge.specs.Rings.{event_at}
 use Rattle.ring_knowledge.specs.Transfers as transfers
 use Rattle.ring_knowledge.specs.Completions as completions
-use Rattle.ring_knowledge.specs.Learned.{event_read, learned, known}
-use Rattle.safety.proofs.HeadlineFrom.{one_more}
-use Rattle.safety.proofs.RowFrames.{declaration_leaves, write_leaves, register_leaves}
-use Rattle.safety.proofs.SameDriver.{view_after}
-use Rattle.lazy_runs.specs.LateEvents.{is_report_of_success, is_held_ring, is_late, IsTimely}
-use Rattle.lazy_runs.specs.Needs.{number_behind, begins_anew, number_reported, need}
 
 abbrev pub IsHeld : Known → ℕ → Type 0
 IsHeld k r = is_open (k.ring r) ≡ false

@@ -1,30 +1,7 @@
 -- One look at what is given: the ring stands at its next spot, and all else stays
-use Rattle.std.specs.Prelude.{◌≡◌, ◌≢◌, ℕ, ◌+◌, ◌<◌, ◌≤◌, ◌==◌, ◌&&◌, if◌then◌else◌, Bool, true, false, [], Option, Some, None, is_some}
-use Rattle.std.proofs.Common.{arith, refl, sym, ◌∙◌, ap, subst, inl, inr}
-use Rattle.std.proofs.lemmas.Bool.{cases_Bool, cases_eq, cond-false, ne_eqb, and_left, and_right}
-use Rattle.trb.specs.declared.block.Block.{Block}
-use Rattle.trb.specs.Block.{cycle, kind}
-use Rattle.trb.specs.Kind.{is_link}
-use Rattle.segments.specs.declared.spot.Spot.{Spot}
-use Rattle.segments.specs.declared.spot.Spot.TheVariants.{Data, Link}
-use Rattle.segments.specs.Spots.{number, rank, next, after}
-use Rattle.segments.proofs.SpotOrder.{rank_most}
-use Rattle.traces.specs.declared.header.Header.{Header}
-use Rattle.traces.specs.Header.{IsHeader, shape_of, command_id}
-use Rattle.world_state.specs.World.{World, UnderWay}
+use Rattle.std.proofs.Common.{◌≡◌, ◌≢◌, ◌+◌, ◌<◌, ◌≤◌, ◌==◌, ◌&&◌, if◌then◌else◌, ◌∙◌, ℕ, Bool, true, false, [], Option, Some, None, is_some, arith, refl, sym, ap, subst, inl, inr, ne_eqb}
+use Rattle.lazy_runs.proofs.Words.{cases_Bool, cases_eq, cond-false, and_left, and_right, Block, cycle, kind, is_link, Spot, Data, Link, number, rank, next, after, rank_most, Header, IsHeader, shape_of, command_id, World, UnderWay, counted, Known, next_command, DriverKeeps, RingState, RingMatches, UnderWayMatches, Agrees, state_of, Takeable, Crossable, takeable, crossable, ring_shape, seen, only_crossed, only_taken, only_begun, behind_link, behind_block, TakeDone, CrossDone, take_done, cross_done, block_no_link, link_is, OnlyRing, looked_left, stands_at, block_found}
 use Rattle.controller_model.specs.Looks as looks
-use Rattle.controller_model.specs.Steps.{counted}
-use Rattle.ring_knowledge.specs.Known.{Known}
-use Rattle.ring_knowledge.specs.Rings.{next_command}
-use Rattle.safety.specs.Keeps.{DriverKeeps}
-use Rattle.safety.specs.Matches.{RingState, RingMatches, UnderWayMatches, Agrees, state_of}
-use Rattle.safety.proofs.AtSpots.{Takeable, Crossable, takeable, crossable}
-use Rattle.safety.proofs.Headers.{ring_shape}
-use Rattle.safety.proofs.LookKinds.{seen, only_crossed, only_taken, only_begun, behind_link, behind_block}
-use Rattle.safety.proofs.LookSpots.{TakeDone, CrossDone, take_done, cross_done, block_no_link, link_is}
-use Rattle.safety.proofs.OnlyRing.{OnlyRing}
-use Rattle.safety.proofs.RowsLeft.{looked_left}
-use Rattle.safety.proofs.Safe.{stands_at, block_found}
 use Rattle.lazy_runs.proofs.Follows.{StandsAt}
 use Rattle.lazy_runs.proofs.GivenLooks.{block_taken, link_followed}
 use Rattle.lazy_runs.proofs.Looking.{MayBring, LooksLeave}

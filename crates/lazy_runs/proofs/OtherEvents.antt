@@ -1,41 +1,10 @@
 -- An event of the controller itself: the lazy run posts it directly before it is read, and needs no look for it
-use Rattle.std.specs.Prelude.{◌≡◌, ◌+◌, ◌<◌, ◌==◌, ◌&&◌, ℕ, true, false, List, [], ◌∷◌, ◌++◌, reverse, Some, None, option_map, option_and_then}
-use Rattle.std.specs.List.{flat_map}
-use Rattle.std.proofs.Common.{arith, refl, sym, ◌∙◌, ap, subst, inl}
-use Rattle.std.proofs.lemmas.Bool.{and_from, cond-false, cond-true, false≢true}
-use Rattle.trb.specs.declared.block.Block.{Block}
-use Rattle.trb.specs.declared.kind.BlockKind.{BlockKind}
+use Rattle.std.proofs.Common.{◌≡◌, ◌+◌, ◌<◌, ◌==◌, ◌&&◌, ◌∷◌, ◌++◌, ◌∙◌, ℕ, true, false, List, [], reverse, Some, None, option_map, option_and_then, arith, refl, sym, ap, subst, inl}
+use Rattle.lazy_runs.proofs.Words.{flat_map, and_from, cond-false, cond-true, false≢true, Block, BlockKind, IsBlock, kind, code, slot, same_words, is_command_completion, is_other_event, Spot, is_open, Header, Row, Read, Step, NextRow, Other, IsHeader, command_id, World, event_at, stored, stored_block, read_made, Known, command_at, next_command, learned, known, IsClean, DriverKeeps, Agrees, Runs, driver_keeps, run_keeps, learned_read, one_more, runs_rest, words_itself, says_nothing, other_runs, post_keeps, read_runs, with_reads}
 use Rattle.trb.specs.declared.kind.BlockKind.TheVariants as kinds
-use Rattle.trb.specs.Block.{IsBlock, kind, code, slot, same_words}
-use Rattle.trb.specs.Kind.{is_command_completion, is_other_event}
-use Rattle.segments.specs.declared.spot.Spot.{Spot}
-use Rattle.segments.specs.Ceiling.{is_open}
-use Rattle.traces.specs.declared.header.Header.{Header}
-use Rattle.traces.specs.declared.row.Row.{Row}
-use Rattle.traces.specs.declared.row.Row.TheVariants.{Read}
-use Rattle.traces.specs.declared.step.Step.{Step}
-use Rattle.traces.specs.declared.step.Step.TheVariants.{NextRow, Other}
-use Rattle.traces.specs.Header.{IsHeader, command_id}
-use Rattle.world_state.specs.World.{World, event_at, stored, stored_block}
 use Rattle.controller_model.specs.DriverRows as driver
 use Rattle.controller_model.specs.Posts as posts
 use Rattle.controller_model.specs.Steps as steps
-use Rattle.controller_model.proofs.ReadLemmas.{read_made}
-use Rattle.ring_knowledge.specs.Known.{Known}
-use Rattle.ring_knowledge.specs.Rings.{command_at, next_command}
-use Rattle.ring_knowledge.specs.Learned.{learned, known}
-use Rattle.ownership_rules.specs.Clean.{IsClean}
-use Rattle.safety.specs.Keeps.{DriverKeeps}
-use Rattle.safety.specs.Matches.{Agrees}
-use Rattle.safety.specs.Invariant.{Runs}
-use Rattle.safety.proofs.DriverHistories.{driver_keeps, run_keeps}
-use Rattle.safety.proofs.EventRead.{learned_read}
-use Rattle.safety.proofs.HeadlineFrom.{one_more, runs_rest}
-use Rattle.safety.proofs.LookedRing.{words_itself}
-use Rattle.safety.proofs.Other.{says_nothing, other_runs}
-use Rattle.safety.proofs.Posted.{post_keeps}
-use Rattle.safety.proofs.ReadRow.{read_runs}
-use Rattle.safety.proofs.WithReads.{with_reads}
 use Rattle.lazy_runs.specs.Lazy as lazy
 use Rattle.lazy_runs.specs.Needs as needs
 use Rattle.lazy_runs.proofs.AllEventsRead.{agrees_now}

@@ -1,43 +1,8 @@
 -- A change that binds or moves a ring is possible, and the ring stands at its floor then
-use Rattle.std.specs.Prelude.{◌≡◌, ◌≢◌, ℕ, ◌<◌, ◌≤◌, ◌==◌, ◌&&◌, not, if◌then◌else◌, Bool, true, false, List, [], ◌∷◌, find, Option, Some, None}
-use Rattle.std.specs.List.{list_any, range_with_len}
-use Rattle.std.proofs.Common.{arith, refl, sym, ◌∙◌, ap, subst, inl, inr}
-use Rattle.std.proofs.lemmas.Bool.{cases_eq, and_from, and_parts, cond-true, cond-false, eq-eqb, ne_eqb, false≢true, false_from_ne_true, not-true}
-use Rattle.std.proofs.lemmas.Option.{none-some, same_Some}
-use Rattle.segments.specs.declared.spot.Spot.{Spot}
-use Rattle.segments.specs.declared.spot.Spot.TheVariants.{Data}
-use Rattle.segments.specs.Places.{is_inside}
-use Rattle.segments.specs.RingView.{RingView}
-use Rattle.segments.specs.Spots.{IsSpot, number, rank, spot_address}
-use Rattle.segments.specs.Ceiling.{is_open, ceiling}
-use Rattle.segments.proofs.Search.{cases_option}
-use Rattle.segments.proofs.SpotOrder.{rank_least, rank_most}
-use Rattle.commands.specs.declared.command.Command.{Command}
-use Rattle.commands.specs.declared.state.EndpointState.{EndpointState}
-use Rattle.commands.specs.Changes.{Places}
-use Rattle.commands.specs.States.{is_off}
-use Rattle.traces.specs.declared.header.Header.{Header}
-use Rattle.traces.specs.declared.ring.Ring.{Ring}
-use Rattle.traces.specs.Header.{IsHeader, shape_of, command_id, id_of, is_ring, is_transfer_kind, ring_beginning_at, ring_having}
-use Rattle.world_state.specs.World.{World}
+use Rattle.std.proofs.Common.{◌≡◌, ◌≢◌, ◌<◌, ◌≤◌, ◌==◌, ◌&&◌, if◌then◌else◌, ◌∷◌, ◌∙◌, ℕ, not, Bool, true, false, List, [], find, Option, Some, None, arith, refl, sym, ap, subst, inl, inr, eq-eqb, ne_eqb}
+use Rattle.lazy_runs.proofs.Words.{list_any, range_with_len, cases_eq, and_from, and_parts, cond-true, cond-false, false≢true, false_from_ne_true, not-true, none-some, same_Some, Spot, Data, is_inside, RingView, IsSpot, number, rank, spot_address, is_open, ceiling, cases_option, rank_least, rank_most, Command, EndpointState, Places, is_off, Header, Ring, IsHeader, shape_of, command_id, id_of, is_ring, is_transfer_kind, ring_beginning_at, ring_having, World, Known, IsIn, IsTransferRing, RingState, state_of, BoundRing, StatesMatch, ChangeKeeps, found_in, shape_is, ring_shape, transfer_driver, transfer_not_command, cond_is, MoveSpot, move_spot, Beginning, beginning_is, moved_having, spot_inside, ceiling_held, MayBind, MayMove, bind_keeps, move_keeps, binds_placed, moves_placed, placed_state, placed_world, placed_world_is, placed_here, placed_elsewhere, rest_active, rest_still, PlacedTo, none_in_range}
 use Rattle.controller_model.specs.Bindings as bindings
-use Rattle.ring_knowledge.specs.Known.{Known}
 use Rattle.ring_knowledge.specs.Completions as completions
-use Rattle.ownership_rules.proofs.Among.{IsIn}
-use Rattle.safety.specs.Keeps.{IsTransferRing}
-use Rattle.safety.specs.Matches.{RingState, state_of, BoundRing}
-use Rattle.safety.proofs.FinishChanges.{StatesMatch, ChangeKeeps}
-use Rattle.safety.proofs.Headers.{found_in, shape_is, ring_shape, transfer_driver, transfer_not_command}
-use Rattle.safety.proofs.LookKinds.{cond_is}
-use Rattle.safety.proofs.MoveSpots.{MoveSpot, move_spot}
-use Rattle.safety.proofs.NamedRings.{Beginning, beginning_is, moved_having, spot_inside}
-use Rattle.safety.proofs.NoWait.{ceiling_held}
-use Rattle.safety.proofs.PlaceKeeps.{MayBind, MayMove, bind_keeps, move_keeps}
-use Rattle.safety.proofs.PlacedKnown.{binds_placed, moves_placed}
-use Rattle.safety.proofs.PlacedRing.{placed_state}
-use Rattle.safety.proofs.PlacedWorld.{placed_world, placed_world_is, placed_here, placed_elsewhere, rest_active, rest_still}
-use Rattle.safety.proofs.Placing.{PlacedTo}
-use Rattle.safety.proofs.SafeContext.{none_in_range}
 use Rattle.lazy_runs.specs.Needs as needs
 use Rattle.lazy_runs.proofs.ChangesGo.{ChangeGoes, is_ring_is}
 use Rattle.lazy_runs.proofs.Follows.{StandsAt, IsActiveIfOpen}

@@ -1,26 +1,6 @@
 -- The looks for an event, at one ring after the other, are a run: each ring comes to its goal
-use Rattle.std.specs.Prelude.{◌≡◌, ◌≢◌, ℕ, ◌<◌, List, [], ◌∷◌, ◌++◌, map, reverse, Some}
-use Rattle.std.specs.List.{flat_map}
-use Rattle.std.proofs.Common.{refl, sym, ◌∙◌, ap, subst, inl, inr}
-use Rattle.std.proofs.lemmas.Bool.{cases_eq}
-use Rattle.std.proofs.lemmas.List.{append_assoc, reverse-append}
-use Rattle.guest_memory.specs.Memory.{put}
-use Rattle.segments.specs.declared.spot.Spot.{Spot}
-use Rattle.segments.specs.Spots.{rank}
-use Rattle.traces.specs.declared.header.Header.{Header}
-use Rattle.traces.specs.declared.row.Row.{Row}
-use Rattle.traces.specs.declared.step.Step.{Step}
-use Rattle.traces.specs.declared.step.Step.TheVariants.{Look}
-use Rattle.traces.specs.Header.{IsHeader, shape_of, command_id}
-use Rattle.world_state.specs.World.{World}
-use Rattle.world_state.specs.Takes.{next_take}
-use Rattle.controller_model.specs.Steps.{reached}
-use Rattle.ring_knowledge.specs.Learned.{known}
-use Rattle.ring_knowledge.specs.Rings.{RingSpot}
-use Rattle.ownership_rules.specs.Clean.{IsClean}
-use Rattle.safety.specs.Matches.{RingState, state_of}
-use Rattle.safety.specs.Invariant.{Runs}
-use Rattle.safety.proofs.LookKinds.{put_at, put_off}
+use Rattle.std.proofs.Common.{◌≡◌, ◌≢◌, ◌<◌, ◌∷◌, ◌++◌, ◌∙◌, ℕ, List, [], map, reverse, Some, refl, sym, ap, subst, inl, inr, append_assoc}
+use Rattle.lazy_runs.proofs.Words.{flat_map, cases_eq, reverse-append, put, Spot, rank, Header, Row, Step, Look, IsHeader, shape_of, command_id, World, next_take, reached, known, RingSpot, IsClean, RingState, state_of, Runs, put_at, put_off}
 use Rattle.lazy_runs.specs.Lazy as lazy
 use Rattle.lazy_runs.proofs.Follows.{StandsAt}
 use Rattle.lazy_runs.proofs.Looking.{MayBring, Looked, LooksLeave}

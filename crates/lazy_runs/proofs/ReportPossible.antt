@@ -1,45 +1,9 @@
 -- The controller can report what a Transfer Event that breaks no rule says, where its ring stands directly behind the block that it
 -- names, or for a stop at the spot that it names
-use Rattle.std.specs.Prelude.{◌≡◌, ◌≢◌, ℕ, suc, zero, ◌+◌, ◌-◌, ◌<◌, ◌≤◌, ◌==◌, ◌&&◌, ◌||◌, Bool, true, false, not, List, [], length, map, Option, Some, None, position, option_map}
-use Rattle.std.specs.List.{range_with_len}
-use Rattle.std.proofs.Common.{arith, refl, sym, ◌∙◌, ap, subst, inl, inr, get_or}
-use Rattle.std.proofs.lemmas.Bool.{cases_Bool, and_from, cond-true, cond-false, false≢true, not_from_false, eq-eqb}
-use Rattle.std.proofs.lemmas.List.FromFn.{length-map-range_with_len, get_or-map-range_with_len}
-use Rattle.guest_memory.specs.Memory.{put, put_pair}
-use Rattle.trb.specs.declared.block.Block.{Block}
-use Rattle.trb.specs.Bits.{is_set}
-use Rattle.trb.specs.Block.{IsBlock, word, kind, code, pointer, slot, endpoint}
-use Rattle.trb.specs.Kind.{is_transfer_event}
-use Rattle.trb.specs.CompletionCode.{is_success, is_halting, is_trb_error}
-use Rattle.segments.specs.declared.spot.Spot.{Spot}
-use Rattle.segments.specs.ShapeValue.{Shape}
-use Rattle.segments.specs.Places.{address_of}
-use Rattle.segments.specs.Spots.{number, after, spot_address}
-use Rattle.segments.specs.RingView.{declared, floor_number}
-use Rattle.segments.specs.Ceiling.{named}
-use Rattle.segments.specs.RingKeeps.{RingKeeps}
-use Rattle.segments.proofs.Named.{named_ahead}
-use Rattle.segments.proofs.Search.{position-None}
-use Rattle.segments.proofs.NamedSpots.{IsNamed, named_spot-Some}
-use Rattle.commands.specs.declared.state.EndpointState.{EndpointState}
-use Rattle.commands.specs.declared.state.EndpointState.TheVariants.{Halted, Error}
-use Rattle.commands.specs.States.{is_running}
-use Rattle.traces.specs.declared.header.Header.{Header}
-use Rattle.traces.specs.declared.row.Row.TheVariants.{Read}
-use Rattle.traces.specs.Header.{IsHeader, shape_of, command_id}
-use Rattle.world_state.specs.World.{World}
+use Rattle.std.proofs.Common.{◌≡◌, ◌≢◌, ◌+◌, ◌-◌, ◌<◌, ◌≤◌, ◌==◌, ◌&&◌, ◌||◌, ◌∙◌, ℕ, suc, zero, Bool, true, false, not, List, [], length, map, Option, Some, None, position, option_map, arith, refl, sym, ap, subst, inl, inr, get_or, eq-eqb}
+use Rattle.lazy_runs.proofs.Words.{range_with_len, cases_Bool, and_from, cond-true, cond-false, false≢true, not_from_false, length-map-range_with_len, get_or-map-range_with_len, put, put_pair, Block, is_set, IsBlock, word, kind, code, pointer, slot, endpoint, is_transfer_event, is_success, is_halting, is_trb_error, Spot, Shape, address_of, number, after, spot_address, declared, floor_number, named, RingKeeps, named_ahead, position-None, IsNamed, named_spot-Some, EndpointState, Halted, Error, is_running, Header, Read, IsHeader, shape_of, command_id, World, unreported, Known, broken, IsDriverRing, DriverKeeps, state_of, BoundRing, Agrees, transfer_driver, transfer_not_command, put_off, number_after, PostKeeps, post_keeps, open_takes}
 use Rattle.world_state.specs.World as of_world
-use Rattle.world_state.specs.Takes.{unreported}
 use Rattle.controller_model.specs.Posts as posts
-use Rattle.ring_knowledge.specs.Known.{Known}
-use Rattle.ownership_rules.specs.Rules.{broken}
-use Rattle.safety.specs.Keeps.{IsDriverRing, DriverKeeps}
-use Rattle.safety.specs.Matches.{state_of, BoundRing, Agrees}
-use Rattle.safety.proofs.Headers.{transfer_driver, transfer_not_command}
-use Rattle.safety.proofs.LookKinds.{put_off}
-use Rattle.safety.proofs.LookedRing.{number_after}
-use Rattle.safety.proofs.Posted.{PostKeeps, post_keeps}
-use Rattle.safety.proofs.ReportedRing.{open_takes}
 use Rattle.lazy_runs.proofs.Follows.{StandsAt}
 use Rattle.lazy_runs.proofs.MayPost.{may_post}
 use Rattle.lazy_runs.proofs.ReportStep.{ReportLeaves}

@@ -1,41 +1,10 @@
 -- A Transfer Event: behind its looks the lazy run reports it, and then it is read. What the report and the row leave as it was
-use Rattle.std.specs.Prelude.{◌≡◌, ◌≢◌, ◌+◌, ◌<◌, ◌==◌, ◌&&◌, ℕ, true, false, List, [], ◌∷◌, ◌++◌, reverse, Some, None, option_map, option_and_then}
-use Rattle.std.proofs.Common.{arith, refl, sym, ◌∙◌, ap, subst, inl, inr}
-use Rattle.std.proofs.lemmas.Bool.{cases_eq, cond-false, false≢true}
-use Rattle.std.proofs.lemmas.List.{reverse-append}
-use Rattle.trb.specs.declared.block.Block.{Block}
-use Rattle.trb.specs.Block.{IsBlock, kind, code, slot, same_words, block_at}
-use Rattle.trb.specs.Kind.{is_transfer_event, is_command_completion}
-use Rattle.segments.specs.declared.spot.Spot.{Spot}
-use Rattle.segments.specs.Ceiling.{is_open}
-use Rattle.segments.specs.Places.{address_of}
-use Rattle.traces.specs.declared.header.Header.{Header}
-use Rattle.traces.specs.declared.row.Row.{Row}
-use Rattle.traces.specs.declared.row.Row.TheVariants.{Read}
-use Rattle.traces.specs.declared.step.Step.{Step}
-use Rattle.traces.specs.declared.step.Step.TheVariants.{NextRow, Report}
-use Rattle.traces.specs.Header.{IsHeader, command_id, event_shape}
-use Rattle.world_state.specs.World.{World, event_at}
+use Rattle.std.proofs.Common.{◌≡◌, ◌≢◌, ◌+◌, ◌<◌, ◌==◌, ◌&&◌, ◌∷◌, ◌++◌, ◌∙◌, ℕ, true, false, List, [], reverse, Some, None, option_map, option_and_then, arith, refl, sym, ap, subst, inl, inr}
+use Rattle.lazy_runs.proofs.Words.{cases_eq, cond-false, false≢true, reverse-append, Block, IsBlock, kind, code, slot, same_words, block_at, is_transfer_event, is_command_completion, Spot, is_open, address_of, Header, Row, Read, Step, NextRow, Report, IsHeader, command_id, event_shape, World, event_at, read_made, Known, command_at, next_command, learned, known, IsClean, DriverKeeps, Agrees, Runs, event_facts, driver_keeps, run_keeps, one_more, runs_rest, words_itself, post_keeps, read_runs, report_runs, report_is, transfer_kind}
 use Rattle.world_state.specs.World as of_world
 use Rattle.controller_model.specs.DriverRows as driver
 use Rattle.controller_model.specs.Posts as posts
 use Rattle.controller_model.specs.Steps as steps
-use Rattle.controller_model.proofs.ReadLemmas.{read_made}
-use Rattle.ring_knowledge.specs.Known.{Known}
-use Rattle.ring_knowledge.specs.Rings.{command_at, next_command}
-use Rattle.ring_knowledge.specs.Learned.{learned, known}
-use Rattle.ownership_rules.specs.Clean.{IsClean}
-use Rattle.safety.specs.Keeps.{DriverKeeps}
-use Rattle.safety.specs.Matches.{Agrees}
-use Rattle.safety.specs.Invariant.{Runs}
-use Rattle.safety.proofs.CleanRows.{event_facts}
-use Rattle.safety.proofs.DriverHistories.{driver_keeps, run_keeps}
-use Rattle.safety.proofs.HeadlineFrom.{one_more, runs_rest}
-use Rattle.safety.proofs.LookedRing.{words_itself}
-use Rattle.safety.proofs.Posted.{post_keeps}
-use Rattle.safety.proofs.ReadRow.{read_runs}
-use Rattle.safety.proofs.ReportRuns.{report_runs}
-use Rattle.safety.proofs.ReportSuccess.{report_is, transfer_kind}
 use Rattle.lazy_runs.specs.Lazy as lazy
 use Rattle.lazy_runs.specs.Needs as needs
 use Rattle.lazy_runs.proofs.AllEventsRead.{agrees_now}

@@ -1,9 +1,6 @@
 -- What the completion of a command leaves of rings: each that an endpoint has stands at its floor, and is active if it is open
-use Rattle.std.specs.Prelude.{◌≡◌, ℕ, Bool, false, Some}
-use Rattle.traces.specs.declared.header.Header.{Header}
-use Rattle.traces.specs.Header.{command_id}
-use Rattle.world_state.specs.World.{World}
-use Rattle.ring_knowledge.specs.Known.{Known}
+use Rattle.std.proofs.Common.{◌≡◌, ℕ, Bool, false, Some}
+use Rattle.lazy_runs.proofs.Words.{Header, command_id, World, Known}
 use Rattle.lazy_runs.proofs.Follows.{StandsAt, IsActiveIfOpen}
 
 -- an endpoint had ring r before, and its floor stays

@@ -1,32 +1,7 @@
 -- What a row of the driver leaves as it was known: floors, and which ring an endpoint has. A ring that it opens is active then
-use Rattle.std.specs.Prelude.{◌≡◌, ℕ, ◌==◌, ◌&&◌, ◌||◌, nat_lt, not, Bool, true, false, if◌then◌else◌, [], Option, Some, None, is_none}
-use Rattle.std.proofs.Common.{refl, sym, ◌∙◌, ap, subst, inl, inr}
-use Rattle.std.proofs.lemmas.Bool.{cases_Bool, cond_both, cond-true, cond-false, or_parts, and_from, not-false}
-use Rattle.guest_memory.specs.Memory.{put_pair}
-use Rattle.segments.specs.RingView.{RingView, Opens}
-use Rattle.segments.specs.Ceiling.{is_open}
-use Rattle.commands.specs.declared.state.EndpointState.TheVariants.{Running}
-use Rattle.commands.specs.States.{is_running, is_stopped}
-use Rattle.traces.specs.declared.header.Header.{Header}
-use Rattle.traces.specs.declared.row.Row.{Row}
-use Rattle.traces.specs.declared.row.Row.TheVariants.{Sub, Write, Reg, Bell, Read}
-use Rattle.traces.specs.declared.register.Register.{Register}
-use Rattle.traces.specs.declared.register.Register.TheVariants.{Usbcmd, Erdp}
-use Rattle.traces.specs.Header.{command_id}
-use Rattle.traces.specs.Register.{run_bit, reset_bit}
-use Rattle.world_state.specs.World.{World}
+use Rattle.std.proofs.Common.{◌≡◌, ◌==◌, ◌&&◌, ◌||◌, if◌then◌else◌, ◌∙◌, ℕ, nat_lt, not, Bool, true, false, [], Option, Some, None, is_none, refl, sym, ap, subst, inl, inr}
+use Rattle.lazy_runs.proofs.Words.{cases_Bool, cond_both, cond-true, cond-false, or_parts, and_from, not-false, put_pair, RingView, Opens, is_open, Running, is_running, is_stopped, Header, Row, Sub, Write, Reg, Bell, Read, Register, Usbcmd, Erdp, command_id, run_bit, reset_bit, World, Known, on_ring, run_or_stop, valued, register_written, endpoint_rung, rung, learned, is_bad_bell, is_touched, broken, IsDriverRow, BellFacts, bell_facts, put_at, declaration_leaves, write_leaves, register_leaves, bell_leaves, view_after}
 use Rattle.controller_model.specs.DriverRows as driver
-use Rattle.ring_knowledge.specs.Known.{Known}
-use Rattle.ring_knowledge.specs.Rings.{on_ring}
-use Rattle.ring_knowledge.specs.Registers.{run_or_stop, valued, register_written, endpoint_rung, rung}
-use Rattle.ring_knowledge.specs.Learned.{learned}
-use Rattle.ownership_rules.specs.Doorbells.{is_bad_bell, is_touched}
-use Rattle.ownership_rules.specs.Rules.{broken}
-use Rattle.safety.specs.KeptHistories.{IsDriverRow}
-use Rattle.safety.proofs.CleanRows.{BellFacts, bell_facts}
-use Rattle.safety.proofs.LookKinds.{put_at}
-use Rattle.safety.proofs.RowFrames.{declaration_leaves, write_leaves, register_leaves, bell_leaves}
-use Rattle.safety.proofs.SameDriver.{view_after}
 use Rattle.lazy_runs.proofs.RowsLeave.{row_leaves, done}
 
 open_before : (v w : RingView) → w.held ≡ v.held → is_open w ≡ true → is_open v ≡ true

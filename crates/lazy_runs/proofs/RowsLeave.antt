@@ -1,23 +1,7 @@
 -- What a row of the driver leaves as it is in the world: only the start moves a pointer, and that of the command ring alone
-use Rattle.std.specs.Prelude.{◌≡◌, ◌≢◌, ℕ, ◌==◌, ◌&&◌, ◌||◌, ◌⊎◌, not, Bool, true, false, if◌then◌else◌, List, Option, Some, None}
-use Rattle.std.proofs.Common.{refl, sym, ◌∙◌, ap, inl, inr}
-use Rattle.std.proofs.lemmas.Bool.{cases_eq, cond_both, false≢true}
-use Rattle.guest_memory.specs.Memory.{put, put_pair}
-use Rattle.trb.specs.declared.block.Block.{Block}
-use Rattle.commands.specs.declared.state.EndpointState.TheVariants.{Running}
-use Rattle.commands.specs.States.{is_running, is_stopped}
-use Rattle.event_ring.specs.EventRing.{position_from, erdp_address, is_event_place}
-use Rattle.traces.specs.declared.header.Header.{Header}
-use Rattle.traces.specs.declared.row.Row.{Row}
-use Rattle.traces.specs.declared.row.Row.TheVariants.{Sub, Write, Reg, Bell, Read}
-use Rattle.traces.specs.declared.register.Register.{Register}
-use Rattle.traces.specs.declared.register.Register.TheVariants.{Usbcmd, Erdp, Crcr}
-use Rattle.traces.specs.Header.{command_id, event_shape}
-use Rattle.traces.specs.Register.{register_or_zero, run_bit, reset_bit, base_address, ring_cycle_state}
-use Rattle.world_state.specs.World.{World, stored}
+use Rattle.std.proofs.Common.{◌≡◌, ◌≢◌, ◌==◌, ◌&&◌, ◌||◌, ◌⊎◌, if◌then◌else◌, ◌∙◌, ℕ, not, Bool, true, false, List, Option, Some, None, refl, sym, ap, inl, inr}
+use Rattle.lazy_runs.proofs.Words.{cases_eq, cond_both, false≢true, put, put_pair, Block, Running, is_running, is_stopped, position_from, erdp_address, is_event_place, Header, Row, Sub, Write, Reg, Bell, Read, Register, Usbcmd, Erdp, Crcr, command_id, event_shape, register_or_zero, run_bit, reset_bit, base_address, ring_cycle_state, World, stored, IsDriverRow, put_at, put_off}
 use Rattle.controller_model.specs.DriverRows as driver
-use Rattle.safety.specs.KeptHistories.{IsDriverRow}
-use Rattle.safety.proofs.LookKinds.{put_at, put_off}
 
 -- the pointer of ring r stays, and so does its cycle state
 pub record PointerStays (w v : World) (r : ℕ) : Type 0 where

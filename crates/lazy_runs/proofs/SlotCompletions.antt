@@ -1,16 +1,7 @@
 -- The success of a command that places no ring: No Op, Enable Slot, Disable Slot, Evaluate Context, Reset Endpoint, Stop Endpoint,
 -- Reset Device, and a Configure Endpoint that deconfigures
-use Rattle.std.specs.Prelude.{◌≡◌, ℕ, true}
-use Rattle.std.proofs.Common.{refl}
-use Rattle.contexts.specs.declared.size.ContextSize.{ContextSize}
-use Rattle.commands.specs.declared.command.Command.{Command}
-use Rattle.commands.specs.declared.command.Command.TheVariants.{NoOp, EnableSlot, DisableSlot, ConfigureEndpoint, EvaluateContext, ResetEndpoint, StopEndpoint, ResetDevice}
-use Rattle.commands.specs.Changes.{changes}
-use Rattle.traces.specs.declared.header.Header.{Header}
-use Rattle.world_state.specs.World.{World}
-use Rattle.ring_knowledge.specs.Known.{Known}
-use Rattle.safety.proofs.FinishChanges.{StatesMatch}
-use Rattle.safety.proofs.FinishSlots.{AreNoPlacings, PlacesNone}
+use Rattle.std.proofs.Common.{◌≡◌, ℕ, true, refl}
+use Rattle.lazy_runs.proofs.Words.{ContextSize, Command, NoOp, EnableSlot, DisableSlot, ConfigureEndpoint, EvaluateContext, ResetEndpoint, StopEndpoint, ResetDevice, changes, Header, World, Known, StatesMatch, AreNoPlacings, PlacesNone}
 use Rattle.lazy_runs.proofs.ChangesGo.{changes_go}
 use Rattle.lazy_runs.proofs.RingsGo.{AtFloors}
 use Rattle.lazy_runs.proofs.SucceededCompletions.{EffectGoes}

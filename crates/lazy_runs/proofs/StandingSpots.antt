@@ -1,21 +1,6 @@
 -- A ring that stands at a spot matches what is known of it there
-use Rattle.std.specs.Prelude.{◌≡◌, ◌≢◌, ℕ, true, [], Some}
-use Rattle.std.proofs.Common.{sym, ◌∙◌, ap, subst, inl, inr}
-use Rattle.std.proofs.lemmas.Bool.{cases_Bool, cases_eq, false≢true}
-use Rattle.segments.specs.declared.spot.Spot.{Spot}
-use Rattle.segments.specs.declared.spot.Spot.TheVariants.{Data, Link}
-use Rattle.segments.specs.ShapeValue.{Shape}
-use Rattle.segments.specs.Spots.{IsSpot, number, spot_address}
-use Rattle.segments.specs.Shape.{IsShape}
-use Rattle.segments.proofs.SpotOrder.{data_not_link}
-use Rattle.traces.specs.declared.header.Header.{Header}
-use Rattle.traces.specs.Header.{IsHeader, shape_of, command_id}
-use Rattle.world_state.specs.World.{World}
-use Rattle.ring_knowledge.specs.Known.{Known}
-use Rattle.safety.specs.Keeps.{IsDriverRing, DriverKeeps}
-use Rattle.safety.specs.Matches.{RingMatches, Unreported, UnderWayMatches, Agrees, state_of}
-use Rattle.safety.proofs.Headers.{transfer_driver, ring_shape}
-use Rattle.safety.proofs.SafeContext.{command_is_ring}
+use Rattle.std.proofs.Common.{◌≡◌, ◌≢◌, ◌∙◌, ℕ, true, [], Some, sym, ap, subst, inl, inr}
+use Rattle.lazy_runs.proofs.Words.{cases_Bool, cases_eq, false≢true, Spot, Data, Link, Shape, IsSpot, number, spot_address, IsShape, data_not_link, Header, IsHeader, shape_of, command_id, World, Known, IsDriverRing, DriverKeeps, RingMatches, Unreported, UnderWayMatches, Agrees, state_of, transfer_driver, ring_shape, command_is_ring}
 use Rattle.lazy_runs.proofs.Follows.{StandsAt}
 
 -- two spots with one address and one number are one

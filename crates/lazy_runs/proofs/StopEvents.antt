@@ -1,38 +1,6 @@
 -- A Transfer Event of a stop: the lazy run takes its Stop Endpoint, brings its ring to the spot that it names, reports it, and reads it
-use Rattle.std.specs.Prelude.{◌≡◌, ◌≢◌, ℕ, ◌+◌, ◌≤◌, ◌==◌, ◌||◌, true, false, List, [], ◌∷◌, ◌++◌, reverse, Some}
-use Rattle.std.proofs.Common.{arith, sym, ◌∙◌, ap, subst, inl, inr}
-use Rattle.std.proofs.lemmas.Bool.{cases_lt, cond-true, cond-false, false≢true, ne_eqb}
-use Rattle.guest_memory.specs.Memory.{put}
-use Rattle.trb.specs.declared.block.Block.{Block}
-use Rattle.trb.specs.Block.{IsBlock, kind, code, slot, endpoint}
-use Rattle.trb.specs.Kind.{is_transfer_event}
-use Rattle.trb.specs.CompletionCode.{is_success, is_halting, is_trb_error, is_stopping}
-use Rattle.segments.specs.declared.spot.Spot.{Spot}
-use Rattle.segments.specs.Ceiling.{is_open}
-use Rattle.segments.specs.Spots.{rank, number, after}
-use Rattle.segments.proofs.ReachedSpots.{after_reached, number-after, stop_spot_reached}
-use Rattle.segments.proofs.SpotOrder.{rank_least, rank_most}
-use Rattle.traces.specs.declared.header.Header.{Header}
-use Rattle.traces.specs.declared.row.Row.{Row}
-use Rattle.traces.specs.declared.row.Row.TheVariants.{Read}
-use Rattle.traces.specs.Header.{IsHeader, shape_of, command_id}
-use Rattle.world_state.specs.World.{World}
-use Rattle.controller_model.specs.Steps.{reached}
-use Rattle.ring_knowledge.specs.Known.{Known}
-use Rattle.ring_knowledge.specs.Learned.{learned, known}
-use Rattle.ring_knowledge.specs.Rings.{RingSpot, next_command}
-use Rattle.ring_knowledge.specs.Transfers.{transferred}
-use Rattle.ownership_rules.specs.Clean.{IsClean}
-use Rattle.safety.specs.Keeps.{DriverKeeps}
-use Rattle.safety.specs.Matches.{Agrees}
-use Rattle.safety.proofs.CleanRows.{event_facts}
-use Rattle.safety.proofs.Headers.{transfer_not_command}
-use Rattle.safety.proofs.LookKinds.{put_at, put_off}
-use Rattle.safety.proofs.SafeContext.{next_is}
-use Rattle.safety.proofs.StopRead.{StopCode}
-use Rattle.lazy_runs.specs.LateEvents.{IsTimely}
-use Rattle.lazy_runs.specs.Lazy.{lazy_run, pointers_at, goals, brought, further, report_goals, command_taken, taken_up_to, stop_goal}
-use Rattle.lazy_runs.specs.Needs.{need}
+use Rattle.std.proofs.Common.{◌≡◌, ◌≢◌, ◌+◌, ◌≤◌, ◌==◌, ◌||◌, ◌∷◌, ◌++◌, ◌∙◌, ℕ, true, false, List, [], reverse, Some, arith, sym, ap, subst, inl, inr, ne_eqb}
+use Rattle.lazy_runs.proofs.Words.{cases_lt, cond-true, cond-false, false≢true, put, Block, IsBlock, kind, code, slot, endpoint, is_transfer_event, is_success, is_halting, is_trb_error, is_stopping, Spot, is_open, rank, number, after, after_reached, number-after, stop_spot_reached, rank_least, rank_most, Header, Row, Read, IsHeader, shape_of, command_id, World, reached, Known, learned, known, RingSpot, next_command, transferred, IsClean, DriverKeeps, Agrees, event_facts, transfer_not_command, put_at, put_off, next_is, StopCode, IsTimely, lazy_run, pointers_at, goals, brought, further, report_goals, command_taken, taken_up_to, stop_goal, need}
 use Rattle.lazy_runs.proofs.LooksRun.{further_then, further_not}
 use Rattle.lazy_runs.proofs.CompletionSays.{CommandsOpen, commands_open}
 use Rattle.lazy_runs.proofs.Follows.{StandsAt, IsActiveIfOpen, Follows, Carries}

@@ -1,34 +1,8 @@
 -- The controller can report a stop that breaks no rule, where its Stop Endpoint is taken and the ring stands at the spot that it names
-use Rattle.std.specs.Prelude.{◌≡◌, ℕ, ◌+◌, ◌-◌, ◌<◌, ◌≤◌, ◌==◌, ◌&&◌, true, false, not, [], length, Option, Some, None}
-use Rattle.std.proofs.Common.{arith, refl, sym, ◌∙◌, ap, subst, inl, inr}
-use Rattle.std.proofs.lemmas.Bool.{cases_Bool, and_parts, and_from, cond-true, cond-false, ltb-true, eq-eqb, not_from_true}
-use Rattle.trb.specs.declared.block.Block.{Block}
-use Rattle.trb.specs.Block.{IsBlock, kind, code, pointer, slot, endpoint}
-use Rattle.trb.specs.Kind.{is_transfer_event}
-use Rattle.segments.specs.declared.spot.Spot.{Spot}
-use Rattle.segments.specs.Spots.{number}
-use Rattle.segments.specs.Ceiling.{ceiling}
-use Rattle.segments.proofs.Positions.{cycle_of_bit}
-use Rattle.commands.specs.Command.{command_of, is_stop_of}
-use Rattle.commands.specs.States.{is_running}
-use Rattle.traces.specs.declared.header.Header.{Header}
-use Rattle.traces.specs.declared.row.Row.TheVariants.{Read}
-use Rattle.traces.specs.Header.{IsHeader, shape_of, command_id}
-use Rattle.world_state.specs.World.{World, UnderWay}
+use Rattle.std.proofs.Common.{◌≡◌, ◌+◌, ◌-◌, ◌<◌, ◌≤◌, ◌==◌, ◌&&◌, ◌∙◌, ℕ, true, false, not, [], length, Option, Some, None, arith, refl, sym, ap, subst, inl, inr, ltb-true, eq-eqb}
+use Rattle.lazy_runs.proofs.Words.{cases_Bool, and_parts, and_from, cond-true, cond-false, not_from_true, Block, IsBlock, kind, code, pointer, slot, endpoint, is_transfer_event, Spot, number, ceiling, cycle_of_bit, command_of, is_stop_of, is_running, Header, Read, IsHeader, shape_of, command_id, World, UnderWay, unreported, Known, command_at, next_command, is_stopping_now, may_be_taken, broken, DriverKeeps, UnderWayMatches, CommandMatches, Agrees, event_facts, put_off, at_floor, command_is_ring, command_at_is, command_of-with_cycle, StopCode}
 use Rattle.world_state.specs.World as of_world
-use Rattle.world_state.specs.Takes.{unreported}
 use Rattle.controller_model.specs.Posts as posts
-use Rattle.ring_knowledge.specs.Known.{Known}
-use Rattle.ring_knowledge.specs.Rings.{command_at, next_command}
-use Rattle.ownership_rules.specs.Events.{is_stopping_now, may_be_taken}
-use Rattle.ownership_rules.specs.Rules.{broken}
-use Rattle.safety.specs.Keeps.{DriverKeeps}
-use Rattle.safety.specs.Matches.{UnderWayMatches, CommandMatches, Agrees}
-use Rattle.safety.proofs.CleanRows.{event_facts}
-use Rattle.safety.proofs.LookKinds.{put_off}
-use Rattle.safety.proofs.SafeContext.{at_floor, command_is_ring, command_at_is}
-use Rattle.safety.proofs.SameCommand.{command_of-with_cycle}
-use Rattle.safety.proofs.StopRead.{StopCode}
 use Rattle.lazy_runs.proofs.CompletionSays.{commands_open}
 use Rattle.lazy_runs.proofs.Follows.{StandsAt}
 use Rattle.lazy_runs.proofs.ReportPossible.{Reports, report_at}

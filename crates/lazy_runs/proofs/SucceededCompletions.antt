@@ -1,44 +1,10 @@
 -- The success of a command, from its changes: the lazy run goes on
-use Rattle.std.specs.Prelude.{◌≡◌, ℕ, ◌+◌, ◌==◌, ◌&&◌, ◌||◌, if◌then◌else◌, not, true, false, List, [], ◌∷◌, Option, Some, None, is_some, option_map, unwrap_or}
-use Rattle.std.proofs.Common.{refl, sym, ◌∙◌, ap, subst}
-use Rattle.std.proofs.lemmas.Bool.{or_from, or_parts, cond-false, cond-true, not_from_true}
-use Rattle.trb.specs.declared.block.Block.{Block}
-use Rattle.trb.specs.Block.{IsBlock, kind, code, slot}
-use Rattle.trb.specs.Kind.{is_command_completion}
-use Rattle.segments.specs.declared.spot.Spot.{Spot}
-use Rattle.segments.specs.Spots.{after}
-use Rattle.segments.specs.RingView.{Reaches}
-use Rattle.commands.specs.declared.command.Command.{Command}
-use Rattle.commands.specs.declared.state.EndpointState.{EndpointState}
-use Rattle.commands.specs.Changes.{changes}
-use Rattle.commands.specs.Command.{command_of, named_context, named_slot, named_endpoint}
-use Rattle.commands.specs.States.{can_succeed, slot_success, endpoint_success, slot_meant, endpoint_meant, is_slot_enabled}
-use Rattle.traces.specs.declared.header.Header.{Header}
-use Rattle.traces.specs.declared.row.Row.{Row}
-use Rattle.traces.specs.declared.row.Row.TheVariants.{Read}
-use Rattle.traces.specs.declared.register.Register.TheVariants.{Config}
-use Rattle.traces.specs.Header.{IsHeader, shape_of, command_id}
-use Rattle.traces.specs.Register.{register_or_zero}
-use Rattle.world_state.specs.World.{World}
+use Rattle.std.proofs.Common.{◌≡◌, ◌+◌, ◌==◌, ◌&&◌, ◌||◌, if◌then◌else◌, ◌∷◌, ◌∙◌, ℕ, not, true, false, List, [], Option, Some, None, is_some, option_map, unwrap_or, refl, sym, ap, subst}
+use Rattle.lazy_runs.proofs.Words.{or_from, or_parts, cond-false, cond-true, not_from_true, Block, IsBlock, kind, code, slot, is_command_completion, Spot, after, Reaches, Command, EndpointState, changes, command_of, named_context, named_slot, named_endpoint, can_succeed, slot_success, endpoint_success, slot_meant, endpoint_meant, is_slot_enabled, Header, Row, Read, Config, IsHeader, shape_of, command_id, register_or_zero, World, posted, Known, event_read, learned, known, on_ring, command_at, next_command, is_bad_area, has_bad_context, IsClean, CommandKeeps, Agrees, bad_command_context, ring_elsewhere, StatesMatch, ChangeKeeps, LeavesRest, states_match, let_go, completion_kind, seen_after, stop_ended_is, next_unfinished, are_numbered}
 use Rattle.world_state.specs.World as of_world
 use Rattle.controller_model.specs.Bindings as bindings
 use Rattle.controller_model.specs.Finishes as finishes
-use Rattle.controller_model.specs.Posts.{posted}
-use Rattle.ring_knowledge.specs.Known.{Known}
-use Rattle.ring_knowledge.specs.Learned.{event_read, learned, known}
-use Rattle.ring_knowledge.specs.Rings.{on_ring, command_at, next_command}
 use Rattle.ring_knowledge.specs.Completions as completions
-use Rattle.ownership_rules.specs.Areas.{is_bad_area}
-use Rattle.ownership_rules.specs.Commands.{has_bad_context}
-use Rattle.ownership_rules.specs.Clean.{IsClean}
-use Rattle.safety.specs.Keeps.{CommandKeeps}
-use Rattle.safety.specs.Matches.{Agrees}
-use Rattle.safety.proofs.Areas.{bad_command_context}
-use Rattle.safety.proofs.DriverRows.{ring_elsewhere}
-use Rattle.safety.proofs.FinishChanges.{StatesMatch, ChangeKeeps, LeavesRest, states_match}
-use Rattle.safety.proofs.FinishKinds.{let_go, completion_kind, seen_after, stop_ended_is}
-use Rattle.safety.proofs.KeptRings.{next_unfinished}
-use Rattle.safety.proofs.NumberedHistories.{are_numbered}
 use Rattle.lazy_runs.specs.Needs as needs
 use Rattle.lazy_runs.proofs.ChangesGo.{ListGoes}
 use Rattle.lazy_runs.proofs.CompletionReady.{ReadyToFinish, finish_posted, spots_then}

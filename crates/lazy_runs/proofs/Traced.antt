@@ -1,19 +1,6 @@
 -- The world directly before the controller posts an event: each ring stands where the schedule says
-use Rattle.std.specs.Prelude.{◌≡◌, ℕ, true, List, ◌∷◌, ◌++◌, reverse, Some}
-use Rattle.std.specs.List.{flat_map}
-use Rattle.std.proofs.Common.{sym, subst}
-use Rattle.trb.specs.declared.block.Block.{Block}
-use Rattle.trb.specs.Block.{kind}
-use Rattle.segments.specs.declared.spot.Spot.{Spot}
-use Rattle.traces.specs.declared.header.Header.{Header}
-use Rattle.traces.specs.declared.row.Row.{Row}
-use Rattle.traces.specs.declared.row.Row.TheVariants.{Read}
-use Rattle.traces.specs.declared.step.Step.{Step}
-use Rattle.traces.specs.Header.{command_id}
-use Rattle.world_state.specs.World.{World}
-use Rattle.controller_model.specs.Steps.{reached}
-use Rattle.ring_knowledge.specs.Learned.{known}
-use Rattle.safety.specs.Invariant.{Runs}
+use Rattle.std.proofs.Common.{◌≡◌, ◌∷◌, ◌++◌, ℕ, true, List, reverse, Some, sym, subst}
+use Rattle.lazy_runs.proofs.Words.{flat_map, Block, kind, Spot, Header, Row, Read, Step, command_id, World, reached, known, Runs}
 use Rattle.lazy_runs.specs.Lazy as lazy
 use Rattle.lazy_runs.proofs.Follows.{StandsAt, IsActiveIfOpen, Follows}
 

@@ -1,12 +1,6 @@
 -- The law of Transfer Events, whatever their code: the lazy run goes on behind each
-use Rattle.std.specs.Prelude.{◌||◌, ◌∷◌, reverse}
-use Rattle.std.proofs.Common.{inl, inr}
-use Rattle.std.proofs.lemmas.Bool.{cases_Bool}
-use Rattle.trb.specs.Block.{code}
-use Rattle.trb.specs.CompletionCode.{is_success, is_halting, is_trb_error}
-use Rattle.trb.specs.Kind.{is_transfer_event}
-use Rattle.traces.specs.declared.header.Header.{Header}
-use Rattle.traces.specs.declared.row.Row.TheVariants.{Read}
+use Rattle.std.proofs.Common.{◌||◌, ◌∷◌, reverse, inl, inr}
+use Rattle.lazy_runs.proofs.Words.{cases_Bool, code, is_success, is_halting, is_trb_error, is_transfer_event, Header, Read}
 use Rattle.lazy_runs.proofs.BlockEvents.{success_carries, error_carries}
 use Rattle.lazy_runs.proofs.EventKinds.{EventLawOf}
 use Rattle.lazy_runs.proofs.NeedsOfHeld.{timely_before}

@@ -1,28 +1,7 @@
 -- What a Transfer Event says that breaks no rule, by its code: the spot that it names, and what the controller did there
-use Rattle.std.specs.Prelude.{◌≡◌, ℕ, ◌<◌, ◌&&◌, ◌||◌, not, Bool, true, false, [], Option, Some, None, option_map}
-use Rattle.std.proofs.Common.{refl, sym, ◌∙◌, ap, inl, inr}
-use Rattle.std.proofs.lemmas.Bool.{and_cases, and_parts, or_parts, or_cases, or_from, not-false, not-true, false≢true, ltb-true}
-use Rattle.std.proofs.lemmas.Option.{none-some, same_Some}
-use Rattle.trb.specs.declared.block.Block.{Block}
-use Rattle.trb.specs.Bits.{is_set}
-use Rattle.trb.specs.Block.{word, kind, code, pointer, slot, endpoint}
-use Rattle.trb.specs.Kind.{is_transfer_event}
-use Rattle.trb.specs.CompletionCode.{is_success, is_halting, is_trb_error, is_stopping, is_transfer_code}
-use Rattle.segments.specs.declared.spot.Spot.{Spot}
-use Rattle.segments.specs.declared.spot.Spot.TheVariants.{Data, Link}
-use Rattle.segments.specs.Ceiling.{ceiling, named, is_data_below, is_open, is_stop_spot}
-use Rattle.commands.specs.States.{is_off, is_running}
-use Rattle.traces.specs.declared.header.Header.{Header}
-use Rattle.traces.specs.declared.row.Row.TheVariants.{Read}
-use Rattle.traces.specs.Header.{shape_of}
-use Rattle.ring_knowledge.specs.Known.{Known}
-use Rattle.ring_knowledge.specs.Rings.{RingSpot, spot_on, event_at}
-use Rattle.ownership_rules.specs.Events.{is_in_profile, is_working, is_stopping_now, can_report, can_report_at, is_impossible_by_kind, is_impossible_transfer}
-use Rattle.ownership_rules.specs.Rules.{broken}
-use Rattle.safety.proofs.CleanRows.{event_facts}
-use Rattle.safety.proofs.ReportSuccess.{transfer_kind}
-use Rattle.safety.proofs.StopRead.{StopCode}
-use Rattle.safety.proofs.Transfers.{chain, spot_is}
+use Rattle.std.proofs.Common.{◌≡◌, ◌<◌, ◌&&◌, ◌||◌, ◌∙◌, ℕ, not, Bool, true, false, [], Option, Some, None, option_map, refl, sym, ap, inl, inr, ltb-true}
+use Rattle.lazy_runs.proofs.Words.{and_cases, and_parts, or_parts, or_cases, or_from, not-false, not-true, false≢true, none-some, same_Some, Block, is_set, word, kind, code, pointer, slot, endpoint, is_transfer_event, is_success, is_halting, is_trb_error, is_stopping, is_transfer_code, Spot, Data, Link, ceiling, named, is_data_below, is_open, is_stop_spot, is_off, is_running, Header, Read, shape_of, Known, RingSpot, spot_on, is_in_profile, is_working, is_stopping_now, can_report, can_report_at, is_impossible_by_kind, is_impossible_transfer, broken, event_facts, transfer_kind, StopCode, chain, spot_is}
+use Rattle.ring_knowledge.specs.Rings.{event_at}
 
 module _ (h : Header) where
   -- the ring of its endpoint, and the spot there that it names

@@ -1,32 +1,6 @@
 -- For a Transfer Event the schedule brings its ring behind the block that it names, and what is known of the ring then
-use Rattle.std.specs.Prelude.{◌≡◌, ◌≢◌, ℕ, suc, ◌+◌, ◌≤◌, ◌==◌, ◌||◌, nat_lt, true, false, List, [], ◌∷◌, Some}
-use Rattle.std.proofs.Common.{arith, refl, sym, ◌∙◌, ap, subst, inl, inr}
-use Rattle.std.proofs.lemmas.Bool.{cases_lt, cond_both, cond-true, cond-false, or_cases, lt-ltb, le-ltb, eqb-true, false≢true}
-use Rattle.trb.specs.declared.block.Block.{Block}
-use Rattle.trb.specs.Block.{kind, code, slot, endpoint}
-use Rattle.trb.specs.Kind.{is_transfer_event}
-use Rattle.trb.specs.CompletionCode.{is_success, is_halting, is_trb_error, is_stopping}
-use Rattle.segments.specs.declared.spot.Spot.{Spot}
-use Rattle.segments.specs.ShapeValue.{Shape}
-use Rattle.segments.specs.Spots.{number, rank, after}
-use Rattle.segments.specs.RingView.{Reaches, Holds}
-use Rattle.segments.specs.Ceiling.{is_open, stopped_number}
-use Rattle.segments.proofs.SpotOrder.{same_rank}
-use Rattle.traces.specs.declared.header.Header.{Header}
-use Rattle.traces.specs.declared.row.Row.{Row}
-use Rattle.traces.specs.declared.row.Row.TheVariants.{Read}
-use Rattle.traces.specs.Header.{shape_of}
-use Rattle.ring_knowledge.specs.Known.{Known}
-use Rattle.ring_knowledge.specs.Rings.{RingSpot, on_ring}
-use Rattle.ring_knowledge.specs.Learned.{event_read, learned}
-use Rattle.ring_knowledge.specs.Transfers.{passed, broken_off, stopped_at, transferred, transferred_at, transfer_read}
-use Rattle.safety.proofs.DriverRows.{ring_here}
-use Rattle.safety.proofs.EventRead.{learned_read}
-use Rattle.safety.proofs.LookKinds.{put_at, put_off}
-use Rattle.safety.proofs.ReportSuccess.{transfer_kind}
-use Rattle.safety.proofs.TransferLeaves.{TransferLeaves, transferred_leaves}
-use Rattle.safety.proofs.WithReads.{with_reads}
-use Rattle.lazy_runs.specs.Lazy.{behind_taken, further, taken_up_to, report_goals, goals, brought}
+use Rattle.std.proofs.Common.{◌≡◌, ◌≢◌, ◌+◌, ◌≤◌, ◌==◌, ◌||◌, ◌∷◌, ◌∙◌, ℕ, suc, nat_lt, true, false, List, [], Some, arith, refl, sym, ap, subst, inl, inr, lt-ltb, le-ltb, eqb-true}
+use Rattle.lazy_runs.proofs.Words.{cases_lt, cond_both, cond-true, cond-false, or_cases, false≢true, Block, kind, code, slot, endpoint, is_transfer_event, is_success, is_halting, is_trb_error, is_stopping, Spot, Shape, number, rank, after, Reaches, Holds, is_open, stopped_number, same_rank, Header, Row, Read, shape_of, Known, RingSpot, on_ring, event_read, learned, passed, broken_off, stopped_at, transferred, transferred_at, transfer_read, ring_here, learned_read, put_at, put_off, transfer_kind, TransferLeaves, transferred_leaves, with_reads, behind_taken, further, taken_up_to, report_goals, goals, brought}
 use Rattle.lazy_runs.proofs.ReportStep.{EventLearns}
 use Rattle.lazy_runs.proofs.TransferFacts.{TransferFacts, NamesBlock}
 

@@ -1,24 +1,6 @@
 -- A Transfer Event: from its goals and its report to the run behind its row
-use Rattle.std.specs.Prelude.{◌≡◌, ◌≢◌, ℕ, true, List, [], ◌∷◌, ◌++◌, reverse, Some}
-use Rattle.std.specs.List.{flat_map}
-use Rattle.std.proofs.Common.{sym, ◌∙◌, ap, subst}
-use Rattle.trb.specs.declared.block.Block.{Block}
-use Rattle.trb.specs.Block.{IsBlock, kind}
-use Rattle.trb.specs.Kind.{is_transfer_event}
-use Rattle.segments.specs.declared.spot.Spot.{Spot}
-use Rattle.traces.specs.declared.header.Header.{Header}
-use Rattle.traces.specs.declared.row.Row.{Row}
-use Rattle.traces.specs.declared.row.Row.TheVariants.{Read}
-use Rattle.traces.specs.Header.{IsHeader, command_id}
-use Rattle.world_state.specs.World.{World}
-use Rattle.controller_model.specs.Steps.{reached}
-use Rattle.ring_knowledge.specs.Learned.{learned, known}
-use Rattle.ring_knowledge.specs.Rings.{RingSpot}
-use Rattle.ownership_rules.specs.Clean.{IsClean}
-use Rattle.safety.specs.Keeps.{DriverKeeps}
-use Rattle.safety.specs.Matches.{Agrees}
-use Rattle.safety.proofs.DriverHistories.{driver_keeps}
-use Rattle.lazy_runs.specs.Lazy.{lazy_run, pointers_at, goals, brought, looks_to}
+use Rattle.std.proofs.Common.{◌≡◌, ◌≢◌, ◌∷◌, ◌++◌, ◌∙◌, ℕ, true, List, [], reverse, Some, sym, ap, subst}
+use Rattle.lazy_runs.proofs.Words.{flat_map, Block, IsBlock, kind, is_transfer_event, Spot, Header, Row, Read, IsHeader, command_id, World, reached, learned, known, RingSpot, IsClean, DriverKeeps, Agrees, driver_keeps, lazy_run, pointers_at, goals, brought, looks_to}
 use Rattle.lazy_runs.proofs.AllEventsRead.{agrees_now}
 use Rattle.lazy_runs.proofs.Follows.{IsActiveIfOpen, Follows, Carries}
 use Rattle.lazy_runs.proofs.Preparing.{AllFit, AreApart, AllBrought, goals_reached}

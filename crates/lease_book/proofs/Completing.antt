@@ -1,30 +1,8 @@
 -- The completion of a command that leases no range: the lease of its block ends, and that of the Link that is passed
-use Rattle.std.specs.Prelude.{◌≡◌, ◌≢◌, ℕ, ◌+◌, ◌==◌, ◌&&◌, Bool, true, false, not, List, [], ◌∷◌, ◌++◌, filter, Some}
-use Rattle.std.specs.List.{flat_map, range_with_len}
-use Rattle.std.proofs.Common.{zero, suc, arith, sym, ◌∙◌, ap, refl, inl, inr, cond}
-use Rattle.std.proofs.lemmas.Bool.{cases_Bool, eqb-true, eq-eqb}
-use Rattle.trb.specs.declared.block.Block.{Block as Trb}
-use Rattle.trb.specs.declared.kind.BlockKind.TheVariants.{CommandCompletion}
-use Rattle.trb.specs.Block.{code, kind}
-use Rattle.segments.specs.declared.spot.Spot.{Spot}
-use Rattle.segments.specs.ShapeValue.{Shape}
-use Rattle.segments.specs.Places.{is_crossing, place_count}
-use Rattle.segments.specs.Spots.{after, number}
-use Rattle.segments.specs.RingView.{Reaches as ReachesSpot, due_positions, floor_number}
-use Rattle.traces.specs.declared.header.Header.{Header}
-use Rattle.traces.specs.declared.ring.Ring.{Ring}
-use Rattle.traces.specs.declared.row.Row.TheVariants.{Read}
-use Rattle.traces.specs.declared.register.Register.TheVariants.{Dcbaap, Erstba}
-use Rattle.traces.specs.Header.{command_id, driver_rings, shape_of}
-use Rattle.commands.specs.declared.command.Command.TheVariants.{NoOp}
-use Rattle.commands.specs.Changes.{changes}
-use Rattle.ring_knowledge.specs.Known.{Known}
-use Rattle.ring_knowledge.specs.Learned.{learned, event_read}
+use Rattle.std.proofs.Common.{◌≡◌, ◌≢◌, ◌+◌, ◌==◌, ◌&&◌, ◌∷◌, ◌++◌, ◌∙◌, ℕ, Bool, true, false, not, List, [], filter, Some, zero, suc, arith, sym, ap, refl, inl, inr, cond, eqb-true, eq-eqb}
+use Rattle.lease_book.proofs.Words.{flat_map, range_with_len, cases_Bool, Trb, CommandCompletion, code, kind, Spot, Shape, is_crossing, place_count, after, number, ReachesSpot, due_positions, floor_number, Header, Ring, Read, Dcbaap, Erstba, command_id, driver_rings, shape_of, NoOp, changes, Known, learned, event_read, Leased, context_ranges, device_ranges, entry_ranges, open_leases, open_ranges, range_of_command, range_of_context, range_of_device, segment_ranges, slots, table_range, is_among, IsIn, is_passed}
 use Rattle.ring_knowledge.specs.Rings as rings
 use Rattle.ring_knowledge.specs.Completions as completions
-use Rattle.ownership_rules.specs.OpenLeases.{Leased, context_ranges, device_ranges, entry_ranges, open_leases, open_ranges, range_of_command, range_of_context, range_of_device, segment_ranges, slots, table_range, is_among}
-use Rattle.ownership_rules.proofs.Among.{IsIn}
-use Rattle.lease_book.specs.Lents.{is_passed}
 use Rattle.lease_book.proofs.SameLeases.{command_same, entries_kept, flat_alike}
 use Rattle.lease_book.proofs.PassedLeases.{IsWithinLap, passes}
 

@@ -1,16 +1,6 @@
 -- The lease of a range ends at the index where it stands
-use Rattle.std.specs.Prelude.{◌≡◌, ℕ, ◌+◌, ◌<◌, ◌==◌, ◌&&◌, ◌||◌, Bool, true, false, List, [], ◌∷◌, map}
-use Rattle.std.specs.List.{list_any}
-use Rattle.std.proofs.Common.{zero, suc, arith, sym, ◌∙◌, ap, refl, inl, inr, subst}
-use Rattle.std.proofs.lemmas.Bool.{cases_Bool, and_parts, eq-eqb, false≢true}
-use Rattle.ring_knowledge.specs.declared.lease.Lease.{Lease}
-use Rattle.ownership_rules.specs.OpenLeases.{Leased, Range, Use, same_leased}
-use Rattle.ownership_rules.specs.Leases.{as_lease, without_end}
-use Rattle.ownership_rules.proofs.Among.{leased_is}
-use Rattle.lease_book.specs.Lents.{Lent, lease_of, is_unended, ended_where}
-use Rattle.lease_book.specs.Books.{AllUnended}
-use Rattle.lease_book.specs.Endings.{is_open_as, ended_at}
-use Rattle.lease_book.specs.Ranges.{StandsAt, is_lent}
+use Rattle.std.proofs.Common.{◌≡◌, ◌+◌, ◌<◌, ◌==◌, ◌&&◌, ◌||◌, ◌∷◌, ◌∙◌, ℕ, Bool, true, false, List, [], map, zero, suc, arith, sym, ap, refl, inl, inr, subst, eq-eqb}
+use Rattle.lease_book.proofs.Words.{list_any, cases_Bool, and_parts, false≢true, Lease, Leased, Range, Use, same_leased, as_lease, without_end, leased_is, Lent, lease_of, is_unended, ended_where, AllUnended, is_open_as, ended_at, StandsAt, is_lent}
 use Rattle.lease_book.proofs.Ending.{later_end, none_ends}
 
 pub either_holds : (x y : Bool) → (x || y) ≡ true → x ≡ false → y ≡ true

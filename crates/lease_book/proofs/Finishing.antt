@@ -1,15 +1,6 @@
 -- What is lent after the end of a command: what its completion passes and lets go of ends, and nothing begins
-use Rattle.std.specs.Prelude.{◌≡◌, ℕ, ◌+◌, ◌≤◌, List, ◌∷◌, length, map, Option}
-use Rattle.traces.specs.declared.header.Header.{Header}
-use Rattle.traces.specs.declared.ring.Ring.{Ring}
-use Rattle.traces.specs.declared.row.Row.{Row}
-use Rattle.traces.specs.Header.{driver_rings}
-use Rattle.ring_knowledge.specs.Known.{Known}
-use Rattle.ring_knowledge.specs.Learned.{known, learned}
-use Rattle.ownership_rules.specs.Leases.{without_end}
-use Rattle.ownership_rules.proofs.Among.{IsIn}
-use Rattle.lease_book.specs.Lents.{ended_where, lents}
-use Rattle.lease_book.specs.LettingGo.{let_go}
+use Rattle.std.proofs.Common.{◌≡◌, ◌+◌, ◌≤◌, ◌∷◌, ℕ, List, length, map, Option}
+use Rattle.lease_book.proofs.Words.{Header, Ring, Row, driver_rings, Known, known, learned, without_end, IsIn, ended_where, lents, let_go}
 use Rattle.lease_book.proofs.LettingGo.{Finishes, ranges_narrow}
 use Rattle.lease_book.proofs.Narrowing.{floors, is_left, narrows}
 use Rattle.lease_book.proofs.PassedLeases.{Moves}

@@ -1,24 +1,7 @@
 -- Before the first row the event segments are under lease, and nothing else
-use Rattle.std.specs.Prelude.{◌≡◌, ℕ, ◌*◌, ◌&&◌, Bool, true, false, List, [], ◌∷◌, ◌++◌, filter, map}
-use Rattle.std.specs.List.{flat_map}
-use Rattle.std.proofs.Common.{subst, sym, ◌∙◌, ap, refl}
-use Rattle.std.proofs.lemmas.List.{append-nil}
-use Rattle.segments.specs.Places.{is_crossing}
-use Rattle.segments.specs.RingView.{due_crossings, due_positions, leased_crossings, leased_positions, new_ring}
-use Rattle.segments.specs.declared.segment.Segment.{Segment}
-use Rattle.traces.specs.declared.header.Header.{Header}
-use Rattle.traces.specs.declared.ring.Ring.{Ring}
-use Rattle.traces.specs.declared.register.Register.TheVariants.{Erstba}
-use Rattle.traces.specs.Header.{command_id, driver_rings, event_shape, shape_of}
-use Rattle.ring_knowledge.specs.Known.{nothing}
+use Rattle.std.proofs.Common.{◌≡◌, ◌*◌, ◌&&◌, ◌∷◌, ◌++◌, ◌∙◌, ℕ, Bool, true, false, List, [], filter, map, subst, sym, ap, refl, append-nil}
+use Rattle.lease_book.proofs.Words.{flat_map, is_crossing, due_crossings, due_positions, leased_crossings, leased_positions, new_ring, Segment, Header, Ring, Erstba, command_id, driver_rings, event_shape, shape_of, nothing, Leased, Block, Link, Range, EventSegment, context_ranges, device_ranges, entry_ranges, open_leases, open_on, open_ranges, range_of_command, range_of_device, range_of_entry, segment_ranges, slots, table_range, as_lease, in_order, without_end, IsIn, IndexTables, begun_at, in_turn, lease_of, lents, with_begun, AllUnended, IsFound, segment_lease}
 use Rattle.ring_knowledge.specs.Rings as rings
-use Rattle.ownership_rules.specs.OpenLeases.{Leased, Block, Link, Range, EventSegment, context_ranges, device_ranges, entry_ranges, open_leases, open_on, open_ranges, range_of_command, range_of_device, range_of_entry, segment_ranges, slots, table_range}
-use Rattle.ownership_rules.specs.Leases.{as_lease, in_order, without_end}
-use Rattle.ownership_rules.proofs.Among.{IsIn}
-use Rattle.lease_book.specs.declared.indexes.IndexTables.{IndexTables}
-use Rattle.lease_book.specs.Lents.{begun_at, in_turn, lease_of, lents, with_begun}
-use Rattle.lease_book.specs.Books.{AllUnended, IsFound}
-use Rattle.lease_book.specs.Opening.{segment_lease}
 use Rattle.lease_book.proofs.Growing.{map_map, sorted}
 use Rattle.lease_book.proofs.Rows.{all_new, from_turn}
 use Rattle.lease_book.proofs.SameLeases.{flat_none}

@@ -1,15 +1,6 @@
 -- Before the first row no range that ends is under lease
-use Rattle.std.specs.Prelude.{ℕ, ◌*◌, [], map}
-use Rattle.std.proofs.Common.{sym, subst}
-use Rattle.segments.specs.declared.segment.Segment.{Segment}
-use Rattle.traces.specs.declared.header.Header.{Header}
-use Rattle.traces.specs.Header.{event_shape}
-use Rattle.ring_knowledge.specs.Known.{nothing}
-use Rattle.ownership_rules.specs.OpenLeases.{Leased, Block, Link, Range, EventSegment, SegmentTable, InputContext, SlotEntry, DeviceContext, open_leases, segment_ranges}
-use Rattle.ownership_rules.proofs.Among.{IsIn}
-use Rattle.lease_book.specs.declared.ranges.RangeIndexes.{RangeIndexes}
-use Rattle.lease_book.specs.Lents.{begun_at, in_turn, lents, with_begun}
-use Rattle.lease_book.specs.Ranges.{FindsRanges, IsRangeFound}
+use Rattle.std.proofs.Common.{◌*◌, ℕ, [], map, sym, subst}
+use Rattle.lease_book.proofs.Words.{Segment, Header, event_shape, nothing, Leased, Block, Link, Range, EventSegment, SegmentTable, InputContext, SlotEntry, DeviceContext, open_leases, segment_ranges, IsIn, RangeIndexes, begun_at, in_turn, lents, with_begun, FindsRanges, IsRangeFound}
 use Rattle.lease_book.proofs.FirstBook.{open_at_first}
 use Rattle.lease_book.proofs.Rows.{all_new, from_turn}
 use Rattle.lease_book.proofs.Members.{from_map}

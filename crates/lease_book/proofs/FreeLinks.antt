@@ -1,26 +1,6 @@
 -- No lease that is open shares its Link with a due crossing that isn't given
-use Rattle.std.specs.Prelude.{◌≡◌, ℕ, ◌+◌, ◌<◌, ◌≤◌, ◌==◌, ◌&&◌, true, false, not, nat_lt, List, length, max, Some}
-use Rattle.std.specs.List.{flat_map}
-use Rattle.std.proofs.Common.{arith, sym, ◌∙◌, ap, refl, inl, inr, subst}
-use Rattle.std.proofs.lemmas.Bool.{cases_Bool, eqb-true, false≢true, and_parts}
-use Rattle.std.proofs.lemmas.Bool.Decides.{nat_tests}
-use Rattle.segments.specs.ShapeValue.{Shape}
-use Rattle.segments.specs.Shape.{IsShape}
-use Rattle.segments.specs.Places.{is_crossing, place_count}
-use Rattle.segments.specs.Givings.{link_of}
-use Rattle.segments.specs.RingView.{RingView, floor_number}
-use Rattle.segments.proofs.Crossings.{crossed_link, crossing_positive}
-use Rattle.traces.specs.declared.header.Header.{Header}
-use Rattle.traces.specs.declared.ring.Ring.{Ring}
-use Rattle.traces.specs.declared.row.Row.{Row}
-use Rattle.traces.specs.Header.{driver_rings, shape_of}
-use Rattle.ring_knowledge.specs.Known.{Known}
-use Rattle.ring_knowledge.specs.Learned.{known}
-use Rattle.ring_knowledge.proofs.DueNumbers.{link_of-crossed, same_due_crossing}
-use Rattle.ownership_rules.specs.OpenLeases.{Leased, Block, Link, Range, is_among, open_leases, open_on, open_ranges}
-use Rattle.ownership_rules.specs.Leases.{without_end}
-use Rattle.ownership_rules.proofs.Among.{IsIn, among_is}
-use Rattle.lease_book.specs.Lents.{is_place_free, lents, share_a_place}
+use Rattle.std.proofs.Common.{◌≡◌, ◌+◌, ◌<◌, ◌≤◌, ◌==◌, ◌&&◌, ◌∙◌, ℕ, true, false, not, nat_lt, List, length, max, Some, arith, sym, ap, refl, inl, inr, subst, eqb-true}
+use Rattle.lease_book.proofs.Words.{flat_map, cases_Bool, false≢true, and_parts, nat_tests, Shape, IsShape, is_crossing, place_count, link_of, RingView, floor_number, crossed_link, crossing_positive, Header, Ring, Row, driver_rings, shape_of, Known, known, link_of-crossed, same_due_crossing, Leased, Block, Link, Range, is_among, open_leases, open_on, open_ranges, without_end, IsIn, among_is, is_place_free, lents, share_a_place}
 use Rattle.lease_book.proofs.FreePlaces.{none_shares}
 use Rattle.lease_book.proofs.Members.{InOn, block, link, from_flat_map, in_either, in_on}
 use Rattle.lease_book.proofs.RangesAlone.{IsRange, open_are_ranges}

@@ -1,23 +1,6 @@
 -- No lease that is open shares its place with a position that isn't given
-use Rattle.std.specs.Prelude.{◌≡◌, ℕ, ◌+◌, ◌%◌, ◌<◌, ◌≤◌, ◌==◌, ◌&&◌, Bool, true, false, not, List, [], ◌∷◌, length}
-use Rattle.std.specs.List.{flat_map, list_any}
-use Rattle.std.proofs.Common.{sym, ◌∙◌, ap, refl, inl, inr, subst}
-use Rattle.std.proofs.lemmas.Bool.{cases_Bool, eqb-true, false≢true, and_parts}
-use Rattle.segments.specs.ShapeValue.{Shape}
-use Rattle.segments.specs.Places.{place_count}
-use Rattle.segments.specs.RingView.{floor_number}
-use Rattle.traces.specs.declared.header.Header.{Header}
-use Rattle.traces.specs.declared.ring.Ring.{Ring}
-use Rattle.traces.specs.declared.row.Row.{Row}
-use Rattle.traces.specs.Header.{driver_rings, shape_of}
-use Rattle.ring_knowledge.specs.Known.{Known}
-use Rattle.ring_knowledge.specs.Learned.{known}
-use Rattle.ring_knowledge.proofs.DueNumbers.{same_due}
-use Rattle.ownership_rules.specs.OpenLeases.{Leased, Block, Link, Range, is_among, open_leases, open_on, open_ranges}
-use Rattle.ownership_rules.specs.Leases.{without_end}
-use Rattle.ownership_rules.proofs.Among.{IsIn, among_is}
-use Rattle.lease_book.specs.Lents.{Lent, is_place_free, is_unended, lents, share_a_place}
-use Rattle.lease_book.specs.Books.{AllUnended}
+use Rattle.std.proofs.Common.{◌≡◌, ◌+◌, ◌%◌, ◌<◌, ◌≤◌, ◌==◌, ◌&&◌, ◌∷◌, ◌∙◌, ℕ, Bool, true, false, not, List, [], length, sym, ap, refl, inl, inr, subst, eqb-true}
+use Rattle.lease_book.proofs.Words.{flat_map, list_any, cases_Bool, false≢true, and_parts, Shape, place_count, floor_number, Header, Ring, Row, driver_rings, shape_of, Known, known, same_due, Leased, Block, Link, Range, is_among, open_leases, open_on, open_ranges, without_end, IsIn, among_is, Lent, is_place_free, is_unended, lents, share_a_place, AllUnended}
 use Rattle.lease_book.proofs.Members.{InOn, block, link, from_flat_map, in_either, in_on}
 use Rattle.lease_book.proofs.RangesAlone.{IsRange, open_are_ranges}
 use Rattle.lease_book.proofs.Rows.{unended_open}

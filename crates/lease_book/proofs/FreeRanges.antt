@@ -1,28 +1,8 @@
 -- Where a slot has no device, no range is lent for its entry in the DCBAA, nor for its device context; where a due position isn't given, none
 -- for the input context of its command
-use Rattle.std.specs.Prelude.{◌≡◌, ℕ, ◌+◌, ◌*◌, ◌<◌, ◌≤◌, ◌==◌, true, false, not, List, [], ◌∷◌, ◌++◌, length, Option, Some, None}
-use Rattle.std.specs.List.{flat_map, range_with_len}
-use Rattle.std.proofs.Common.{sym, ◌∙◌, ap, refl, inl, inr, subst}
-use Rattle.std.proofs.lemmas.Bool.{cases_Bool, eqb-true, false≢true}
-use Rattle.commands.specs.declared.command.Command.{Command}
-use Rattle.commands.specs.Command.{named_context}
-use Rattle.segments.specs.declared.segment.Segment.{Segment}
-use Rattle.segments.specs.Places.{place_count}
-use Rattle.segments.specs.RingView.{RingView, due_positions, floor_number}
-use Rattle.traces.specs.declared.header.Header.{Header}
-use Rattle.traces.specs.declared.ring.Ring.{Ring}
-use Rattle.traces.specs.declared.row.Row.{Row}
-use Rattle.traces.specs.declared.register.Register.TheVariants.{Erstba}
-use Rattle.traces.specs.Header.{command_id, driver_rings, event_shape, shape_of}
-use Rattle.ring_knowledge.specs.Known.{Known}
-use Rattle.ring_knowledge.specs.Learned.{known}
+use Rattle.std.proofs.Common.{◌≡◌, ◌+◌, ◌*◌, ◌<◌, ◌≤◌, ◌==◌, ◌∷◌, ◌++◌, ◌∙◌, ℕ, true, false, not, List, [], length, Option, Some, None, sym, ap, refl, inl, inr, subst, eqb-true}
+use Rattle.lease_book.proofs.Words.{flat_map, range_with_len, cases_Bool, false≢true, Command, named_context, Segment, place_count, RingView, due_positions, floor_number, Header, Ring, Row, Erstba, command_id, driver_rings, event_shape, shape_of, Known, known, same_due, Leased, Block, Link, Range, EventSegment, SegmentTable, InputContext, SlotEntry, DeviceContext, is_among, open_leases, open_on, open_ranges, segment_ranges, table_range, context_ranges, range_of_command, range_of_context, entry_ranges, range_of_entry, device_ranges, range_of_device, slots, without_end, IsIn, among_is, from_filter, lents, command_place, is_use_free, shares_use}
 use Rattle.ring_knowledge.specs.Rings as rings
-use Rattle.ring_knowledge.proofs.DueNumbers.{same_due}
-use Rattle.ownership_rules.specs.OpenLeases.{Leased, Block, Link, Range, EventSegment, SegmentTable, InputContext, SlotEntry, DeviceContext, is_among, open_leases, open_on, open_ranges, segment_ranges, table_range, context_ranges, range_of_command, range_of_context, entry_ranges, range_of_entry, device_ranges, range_of_device, slots}
-use Rattle.ownership_rules.specs.Leases.{without_end}
-use Rattle.ownership_rules.proofs.Among.{IsIn, among_is, from_filter}
-use Rattle.lease_book.specs.Lents.{lents}
-use Rattle.lease_book.specs.Ranges.{command_place, is_use_free, shares_use}
 use Rattle.lease_book.proofs.FreePlaces.{none_shares}
 use Rattle.lease_book.proofs.Members.{InOn, block, link, from_flat_map, from_map, from_range, in_either, in_on}
 use Rattle.lease_book.proofs.Rows.{unended_open}

@@ -1,22 +1,7 @@
 -- What is lent after a write that takes no device context: what it gives begins, and nothing ends
-use Rattle.std.specs.Prelude.{◌≡◌, ℕ, ◌+◌, ◌≤◌, ◌||◌, Bool, true, false, not, List, [], ◌∷◌, ◌++◌, filter, length, map, None, option_and_then}
-use Rattle.std.specs.List.{flat_map, range_with_len}
-use Rattle.std.proofs.Common.{sym, ◌∙◌, ap, refl, inl, inr}
-use Rattle.std.proofs.lemmas.Bool.{cases_Bool, false≢true, or_left}
-use Rattle.segments.specs.Places.{place_count}
-use Rattle.segments.specs.RingView.{due_positions, floor_number, gives}
-use Rattle.traces.specs.declared.header.Header.{Header}
-use Rattle.traces.specs.declared.row.Row.{Row}
-use Rattle.traces.specs.declared.register.Register.TheVariants.{Erstba}
-use Rattle.traces.specs.declared.row.Row.TheVariants.{Write}
-use Rattle.traces.specs.Header.{command_id, shape_of}
-use Rattle.ring_knowledge.specs.Known.{Known}
-use Rattle.ring_knowledge.specs.Learned.{known, learned}
+use Rattle.std.proofs.Common.{◌≡◌, ◌+◌, ◌≤◌, ◌||◌, ◌∷◌, ◌++◌, ◌∙◌, ℕ, Bool, true, false, not, List, [], filter, length, map, None, option_and_then, sym, ap, refl, inl, inr}
+use Rattle.lease_book.proofs.Words.{flat_map, range_with_len, cases_Bool, false≢true, or_left, place_count, due_positions, floor_number, gives, Header, Row, Erstba, Write, command_id, shape_of, Known, known, learned, command_given, entry_of, taken_device, with_device, with_word, written, context_ranges, device_ranges, entry_ranges, is_among, open_leases, open_ranges, range_of_command, range_of_entry, segment_ranges, table_range, begun, without_end, in_turn, lents, with_begun}
 use Rattle.ring_knowledge.specs.Rings as rings
-use Rattle.ring_knowledge.specs.Writes.{command_given, entry_of, taken_device, with_device, with_word, written}
-use Rattle.ownership_rules.specs.OpenLeases.{context_ranges, device_ranges, entry_ranges, is_among, open_leases, open_ranges, range_of_command, range_of_entry, segment_ranges, table_range}
-use Rattle.ownership_rules.specs.Leases.{begun, without_end}
-use Rattle.lease_book.specs.Lents.{in_turn, lents, with_begun}
 use Rattle.lease_book.proofs.Rows.{only_begun}
 use Rattle.lease_book.proofs.Writing.{AreShaped, all_kept, lease_given, new_leases}
 

@@ -1,29 +1,8 @@
 -- What is lent after any write: what it gives begins, with the input context of the command that it gives, and the entry and the device
 -- context of a slot that takes one; nothing ends
-use Rattle.std.specs.Prelude.{◌≡◌, ◌≢◌, ℕ, ◌+◌, ◌<◌, ◌≤◌, ◌==◌, ◌&&◌, ◌||◌, if◌then◌else◌, Bool, true, false, not, List, [], ◌∷◌, ◌++◌, filter, length, map, Option, Some, None, option_and_then, slice_get}
-use Rattle.std.specs.List.{flat_map, range_with_len}
-use Rattle.std.proofs.Common.{zero, suc, arith, sym, ◌∙◌, ap, refl, inl, inr, subst}
-use Rattle.std.proofs.lemmas.Bool.{cases_Bool, eqb-true, eq-eqb, false≢true, or_left}
-use Rattle.std.proofs.lemmas.List.{append-nil}
-use Rattle.std.proofs.lemmas.List.Elements.{filter-append}
-use Rattle.segments.specs.Places.{place_count}
-use Rattle.segments.specs.RingView.{RingView, due_positions, floor_number, gives, leased_crossings, leased_positions, positions_given}
-use Rattle.commands.specs.Command.{command_of}
-use Rattle.contexts.specs.Contexts.{device_context_bytes}
-use Rattle.traces.specs.declared.header.Header.{Header}
-use Rattle.traces.specs.declared.ring.Ring.{Ring}
-use Rattle.traces.specs.declared.row.Row.{Row}
-use Rattle.traces.specs.declared.row.Row.TheVariants.{Write}
-use Rattle.traces.specs.declared.register.Register.TheVariants.{Erstba}
-use Rattle.traces.specs.Header.{command_id, driver_rings, shape_of}
-use Rattle.ring_knowledge.specs.Known.{Known}
-use Rattle.ring_knowledge.specs.Learned.{known, learned}
+use Rattle.std.proofs.Common.{◌≡◌, ◌≢◌, ◌+◌, ◌<◌, ◌≤◌, ◌==◌, ◌&&◌, ◌||◌, if◌then◌else◌, ◌∷◌, ◌++◌, ◌∙◌, ℕ, Bool, true, false, not, List, [], filter, length, map, Option, Some, None, option_and_then, slice_get, zero, suc, arith, sym, ap, refl, inl, inr, subst, eqb-true, eq-eqb, append-nil}
+use Rattle.lease_book.proofs.Words.{flat_map, range_with_len, cases_Bool, false≢true, or_left, filter-append, place_count, RingView, due_positions, floor_number, gives, leased_crossings, leased_positions, positions_given, command_of, device_context_bytes, Header, Ring, Row, Write, Erstba, command_id, driver_rings, shape_of, Known, known, learned, command_given, entry_of, taken_device, with_device, with_word, written, Leased, Block, Link, Range, Use, InputContext, SlotEntry, DeviceContext, context_ranges, device_ranges, entry_ranges, is_among, open_leases, open_on, open_ranges, range_of_command, range_of_device, range_of_entry, segment_ranges, slots, table_range, begun, without_end, IsIn, among_is, from_filter, in_among, in_filter, in_turn, lents, with_begun}
 use Rattle.ring_knowledge.specs.Rings as rings
-use Rattle.ring_knowledge.specs.Writes.{command_given, entry_of, taken_device, with_device, with_word, written}
-use Rattle.ownership_rules.specs.OpenLeases.{Leased, Block, Link, Range, Use, InputContext, SlotEntry, DeviceContext, context_ranges, device_ranges, entry_ranges, is_among, open_leases, open_on, open_ranges, range_of_command, range_of_device, range_of_entry, segment_ranges, slots, table_range}
-use Rattle.ownership_rules.specs.Leases.{begun, without_end}
-use Rattle.ownership_rules.proofs.Among.{IsIn, among_is, from_filter, in_among, in_filter}
-use Rattle.lease_book.specs.Lents.{in_turn, lents, with_begun}
 use Rattle.lease_book.proofs.FreeRanges.{of_open}
 use Rattle.lease_book.proofs.LettingGo.{HasUse, use_of_command}
 use Rattle.lease_book.proofs.Members.{from_flat_map, from_range, in_either, in_flat_map, in_left, in_right}

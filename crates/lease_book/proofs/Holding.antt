@@ -1,19 +1,6 @@
 -- The book still holds what was and is lent, when a lease ends
-use Rattle.std.specs.Prelude.{◌≡◌, ℕ, ◌%◌, ◌<◌, List, map}
-use Rattle.std.proofs.Common.{arith, sym, ◌∙◌, ap}
-use Rattle.segments.specs.Places.{place_count}
-use Rattle.segments.specs.Givings.{link_of}
-use Rattle.segments.proofs.Crossings.{crossing_positive}
-use Rattle.traces.specs.declared.header.Header.{Header}
-use Rattle.traces.specs.Header.{shape_of}
-use Rattle.ring_knowledge.specs.declared.lease.Lease.{Lease}
-use Rattle.ownership_rules.specs.OpenLeases.{Leased, Block, Link, Range, same_leased}
-use Rattle.ownership_rules.specs.Leases.{as_lease, without_end}
-use Rattle.lease_book.specs.declared.lease_book.LeaseBook.{LeaseBook}
-use Rattle.lease_book.specs.Lents.{Lent, lease_of, ended_where}
-use Rattle.lease_book.specs.IndexTables.{index_at}
-use Rattle.lease_book.specs.Books.{IsFound, HoldsLents}
-use Rattle.lease_book.specs.Endings.{ended_at, is_open_as}
+use Rattle.std.proofs.Common.{◌≡◌, ◌%◌, ◌<◌, ◌∙◌, ℕ, List, map, arith, sym, ap}
+use Rattle.lease_book.proofs.Words.{place_count, link_of, crossing_positive, Header, shape_of, Lease, Leased, Block, Link, Range, same_leased, as_lease, without_end, LeaseBook, Lent, lease_of, ended_where, index_at, IsFound, HoldsLents, ended_at, is_open_as}
 use Rattle.lease_book.proofs.Ending.{IsPositive, block_alike, link_alike, one_ends}
 
 module _ (h : Header) (ts : List Lent) (b : LeaseBook) (known : HoldsLents h ts b) (r p n m : ℕ) (x : Lease) (ys : List Lease) where

@@ -1,24 +1,7 @@
 -- A command comes to its end: the range of its input context is let go, and with a slot that is disabled those of its entry and device context
-use Rattle.std.specs.Prelude.{◌≡◌, ◌≢◌, ℕ, ◌+◌, ◌<◌, ◌≤◌, ◌==◌, ◌&&◌, if◌then◌else◌, Bool, true, false, not, nat_lt, List, [], ◌∷◌, ◌++◌, ◌*◌, filter, Option, Some, None}
-use Rattle.std.specs.List.{flat_map, range_with_len}
-use Rattle.std.proofs.Common.{arith, sym, ◌∙◌, ap, refl, inl, inr, subst, ◌⊎◌}
-use Rattle.std.proofs.lemmas.Bool.{cases_Bool, eqb-true, eq-eqb, ltb-true, false≢true, and_parts, and_from}
-use Rattle.std.proofs.lemmas.Bool.Decides.{nat_tests}
-use Rattle.segments.specs.declared.segment.Segment.{Segment}
-use Rattle.segments.specs.Places.{place_count}
-use Rattle.segments.specs.RingView.{RingView, due_positions, floor_number}
-use Rattle.commands.specs.declared.command.Command.{Command}
-use Rattle.commands.specs.Command.{named_context}
-use Rattle.contexts.specs.Contexts.{device_context_bytes}
-use Rattle.traces.specs.declared.header.Header.{Header}
-use Rattle.traces.specs.declared.register.Register.TheVariants.{Erstba}
-use Rattle.traces.specs.Header.{command_id, driver_rings, event_shape, shape_of}
-use Rattle.ring_knowledge.specs.Known.{Known}
+use Rattle.std.proofs.Common.{◌≡◌, ◌≢◌, ◌+◌, ◌<◌, ◌≤◌, ◌==◌, ◌&&◌, if◌then◌else◌, ◌∷◌, ◌++◌, ◌*◌, ◌∙◌, ◌⊎◌, ℕ, Bool, true, false, not, nat_lt, List, [], filter, Option, Some, None, arith, sym, ap, refl, inl, inr, subst, eqb-true, eq-eqb, ltb-true}
+use Rattle.lease_book.proofs.Words.{flat_map, range_with_len, cases_Bool, false≢true, and_parts, and_from, nat_tests, Segment, place_count, RingView, due_positions, floor_number, Command, named_context, device_context_bytes, Header, Erstba, command_id, driver_rings, event_shape, shape_of, Known, entry_of, Leased, Block, Link, Range, Use, EventSegment, SegmentTable, InputContext, SlotEntry, DeviceContext, context_ranges, device_ranges, entry_ranges, is_among, open_leases, open_on, open_ranges, range_of_command, range_of_context, range_of_device, range_of_entry, segment_ranges, slots, table_range, IsIn, among_is, both_ways, from_filter, in_among, in_filter, devices_without, let_go, slot_ranges}
 use Rattle.ring_knowledge.specs.Rings as rings
-use Rattle.ring_knowledge.specs.Writes.{entry_of}
-use Rattle.ownership_rules.specs.OpenLeases.{Leased, Block, Link, Range, Use, EventSegment, SegmentTable, InputContext, SlotEntry, DeviceContext, context_ranges, device_ranges, entry_ranges, is_among, open_leases, open_on, open_ranges, range_of_command, range_of_context, range_of_device, range_of_entry, segment_ranges, slots, table_range}
-use Rattle.ownership_rules.proofs.Among.{IsIn, among_is, both_ways, from_filter, in_among, in_filter}
-use Rattle.lease_book.specs.LettingGo.{devices_without, let_go, slot_ranges}
 use Rattle.lease_book.proofs.Members.{from_flat_map, from_map, from_range, in_either, in_flat_map, in_left, in_range, in_right}
 use Rattle.lease_book.proofs.PassedLeases.{IsWithinLap, not_false}
 use Rattle.lease_book.proofs.RangesAlone.{IsRange}

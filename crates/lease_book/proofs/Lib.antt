@@ -29,3 +29,4 @@ pub mod DevicesAfter
 pub mod Finishing
 pub mod GivingCommands
 pub mod OpenLent
+pub mod Words

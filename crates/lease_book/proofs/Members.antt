@@ -1,15 +1,6 @@
 -- What stands in a list that is made of others, and which leases are open on a ring
-use Rattle.std.specs.Prelude.{◌≡◌, ℕ, ◌+◌, ◌<◌, ◌≤◌, ◌==◌, ◌&&◌, true, List, [], ◌∷◌, ◌++◌, map}
-use Rattle.std.specs.List.{flat_map, range_with_len}
-use Rattle.std.proofs.Common.{zero, suc, arith, sym, ◌∙◌, ap, refl, inl, inr, subst, ◌⊎◌}
-use Rattle.std.proofs.lemmas.Bool.{cases_Bool, eqb-true, eq-eqb, false≢true}
-use Rattle.segments.specs.Places.{is_crossing, place_count}
-use Rattle.segments.specs.RingView.{RingView, due_crossings, due_positions, floor_number, leased_crossings, leased_positions}
-use Rattle.traces.specs.declared.header.Header.{Header}
-use Rattle.traces.specs.declared.ring.Ring.{Ring}
-use Rattle.ring_knowledge.specs.Known.{Known}
-use Rattle.ownership_rules.specs.OpenLeases.{Leased, Block, Link, open_on}
-use Rattle.ownership_rules.proofs.Among.{IsIn, from_filter, in_filter}
+use Rattle.std.proofs.Common.{◌≡◌, ◌+◌, ◌<◌, ◌≤◌, ◌==◌, ◌&&◌, ◌∷◌, ◌++◌, ◌∙◌, ◌⊎◌, ℕ, true, List, [], map, zero, suc, arith, sym, ap, refl, inl, inr, subst, eqb-true, eq-eqb}
+use Rattle.lease_book.proofs.Words.{flat_map, range_with_len, cases_Bool, false≢true, is_crossing, place_count, RingView, due_crossings, due_positions, floor_number, leased_crossings, leased_positions, Header, Ring, Known, Leased, Block, Link, open_on, IsIn, from_filter, in_filter}
 
 pub in_left : {X : Type 0} (x : X) (xs ys : List X) → IsIn x xs → IsIn x (xs ++ ys)
 in_left x [] ys at = absurd at

@@ -1,18 +1,6 @@
 -- Floors of rings move on, and some ranges are let go: the leases of the blocks and Links that are passed end, and of these ranges
-use Rattle.std.specs.Prelude.{◌≡◌, ℕ, ◌≤◌, ◌==◌, ◌&&◌, ◌||◌, Bool, true, false, not, nat_le, nat_lt, List, [], ◌++◌}
-use Rattle.std.specs.List.{flat_map}
-use Rattle.std.proofs.Common.{arith, sym, ◌∙◌, ap, refl, inl, inr}
-use Rattle.std.proofs.lemmas.Bool.{cases_Bool, eqb-true, and_parts, and_from}
-use Rattle.std.proofs.lemmas.Bool.Decides.{nat_tests}
-use Rattle.segments.specs.Places.{is_crossing}
-use Rattle.segments.specs.RingView.{floor_number}
-use Rattle.traces.specs.declared.header.Header.{Header}
-use Rattle.traces.specs.declared.ring.Ring.{Ring}
-use Rattle.traces.specs.Header.{driver_rings}
-use Rattle.ring_knowledge.specs.Known.{Known}
-use Rattle.ownership_rules.specs.OpenLeases.{Leased, Block, Link, Range, is_among, open_leases, open_on, open_ranges}
-use Rattle.ownership_rules.proofs.Among.{IsIn, among_is, both_ways, in_among}
-use Rattle.lease_book.specs.Lents.{is_passed}
+use Rattle.std.proofs.Common.{◌≡◌, ◌≤◌, ◌==◌, ◌&&◌, ◌||◌, ◌++◌, ◌∙◌, ℕ, Bool, true, false, not, nat_le, nat_lt, List, [], arith, sym, ap, refl, inl, inr, eqb-true}
+use Rattle.lease_book.proofs.Words.{flat_map, cases_Bool, and_parts, and_from, nat_tests, is_crossing, floor_number, Header, Ring, driver_rings, Known, Leased, Block, Link, Range, is_among, open_leases, open_on, open_ranges, IsIn, among_is, both_ways, in_among, is_passed}
 use Rattle.lease_book.proofs.Members.{InOn, block, link, from_flat_map, in_either, in_flat_map, in_left, in_on, in_right, on_in}
 use Rattle.lease_book.proofs.PassedLeases.{Moves, block_was, link_was, not_false}
 use Rattle.lease_book.proofs.RangesAlone.{IsRange, open_are_ranges}

@@ -1,17 +1,6 @@
 -- What is open is lent and not over
-use Rattle.std.specs.Prelude.{◌≡◌, ℕ, ◌+◌, ◌==◌, ◌&&◌, ◌||◌, Bool, true, false, not, List, [], ◌∷◌, ◌++◌, length, map, filter}
-use Rattle.std.specs.List.{list_any}
-use Rattle.std.proofs.Common.{sym, ◌∙◌, ap, refl, inl, inr, cond}
-use Rattle.std.proofs.lemmas.Bool.{cases_Bool, and_parts, and_from, false≢true, eq-eqb}
-use Rattle.traces.specs.declared.header.Header.{Header}
-use Rattle.traces.specs.declared.row.Row.{Row}
-use Rattle.ring_knowledge.specs.Known.{Known, nothing}
-use Rattle.ring_knowledge.specs.Learned.{learned, known}
-use Rattle.ownership_rules.specs.OpenLeases.{Leased, is_among, open_leases, same_leased}
-use Rattle.ownership_rules.specs.Leases.{begun, without_end}
-use Rattle.ownership_rules.proofs.Among.{IsIn, among_is, in_filter, leased_is, leased_itself}
-use Rattle.lease_book.specs.Lents.{Lent, begun_at, ended_where, grown, in_turn, is_unended, lents, precedes, with_begun, with_leased}
-use Rattle.lease_book.specs.Ranges.{is_lent}
+use Rattle.std.proofs.Common.{◌≡◌, ◌+◌, ◌==◌, ◌&&◌, ◌||◌, ◌∷◌, ◌++◌, ◌∙◌, ℕ, Bool, true, false, not, List, [], length, map, filter, sym, ap, refl, inl, inr, cond, eq-eqb}
+use Rattle.lease_book.proofs.Words.{list_any, cases_Bool, and_parts, and_from, false≢true, Header, Row, Known, nothing, learned, known, Leased, is_among, open_leases, same_leased, begun, without_end, IsIn, among_is, in_filter, leased_is, leased_itself, Lent, begun_at, ended_where, grown, in_turn, is_unended, lents, precedes, with_begun, with_leased, is_lent}
 
 to_with : (l : Leased) (ls : List Leased) (m : Leased) → IsIn m (l ∷ ls) → IsIn m (with_leased l ls)
 unfolding with_leased

@@ -1,15 +1,6 @@
 -- One number after another is passed
-use Rattle.std.specs.Prelude.{◌≡◌, ℕ, ◌+◌, ◌≤◌, ◌==◌, ◌&&◌, ◌||◌, Bool, true, false, nat_le, nat_lt, List, [], ◌∷◌, map}
-use Rattle.std.proofs.Common.{arith, sym, ◌∙◌, ap, refl, inl, inr, cond}
-use Rattle.std.proofs.lemmas.Bool.{cases_Bool, eqb-true, false≢true, and_parts}
-use Rattle.std.proofs.lemmas.Bool.Decides.{nat_tests}
-use Rattle.segments.specs.Places.{is_crossing}
-use Rattle.traces.specs.declared.header.Header.{Header}
-use Rattle.traces.specs.Header.{shape_of}
-use Rattle.ownership_rules.specs.OpenLeases.{Leased, Block, Link, Range, same_leased}
-use Rattle.lease_book.specs.declared.indexes.IndexTables.{IndexTables}
-use Rattle.lease_book.specs.Lents.{Lent, is_unended, ended_where, is_passed}
-use Rattle.lease_book.specs.Books.{AllUnended, IsFound}
+use Rattle.std.proofs.Common.{◌≡◌, ◌+◌, ◌≤◌, ◌==◌, ◌&&◌, ◌||◌, ◌∷◌, ◌∙◌, ℕ, Bool, true, false, nat_le, nat_lt, List, [], map, arith, sym, ap, refl, inl, inr, cond, eqb-true}
+use Rattle.lease_book.proofs.Words.{cases_Bool, false≢true, and_parts, nat_tests, is_crossing, Header, shape_of, Leased, Block, Link, Range, same_leased, IndexTables, Lent, is_unended, ended_where, is_passed, AllUnended, IsFound}
 
 -- to end by one test, and then by another, is to end by both
 ended_twice : (p q : Leased → Bool) (n : ℕ) (t : Lent) → ended_where p n (ended_where q n t) ≡ ended_where (λ l. q l || p l) n t

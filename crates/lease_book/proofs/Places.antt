@@ -1,21 +1,6 @@
 -- The tables find a lease that begins, and still all others
-use Rattle.std.specs.Prelude.{◌≡◌, ◌≢◌, ℕ, ◌+◌, ◌%◌, ◌==◌, ◌&&◌, ◌||◌, Bool, true, false, not, List, [], ◌∷◌, ◌++◌, length, map}
-use Rattle.std.specs.List.{list_any}
-use Rattle.std.proofs.Common.{arith, sym, ◌∙◌, ap, refl, inl, inr, subst}
-use Rattle.std.proofs.lemmas.Bool.{cases_Bool, eqb-true, eq-eqb, false≢true}
-use Rattle.segments.specs.Places.{place_count, is_crossing}
-use Rattle.segments.specs.Givings.{link_of}
-use Rattle.traces.specs.declared.header.Header.{Header}
-use Rattle.traces.specs.Header.{shape_of}
-use Rattle.std.proofs.lemmas.List.{length-map}
-use Rattle.ring_knowledge.specs.declared.lease.Lease.{Lease}
-use Rattle.ownership_rules.specs.OpenLeases.{Leased, Block, Link, Range, Use}
-use Rattle.ownership_rules.specs.Leases.{as_lease, without_end}
-use Rattle.lease_book.specs.declared.indexes.IndexTables.{IndexTables}
-use Rattle.lease_book.specs.IndexTables.{index_at}
-use Rattle.lease_book.specs.Lents.{Lent, is_unended, begun_at, lease_of, is_place_free, share_a_place, with_begun}
-use Rattle.lease_book.specs.Books.{AllUnended, IsFound, HoldsLents}
-use Rattle.lease_book.specs.declared.lease_book.LeaseBook.{LeaseBook}
+use Rattle.std.proofs.Common.{◌≡◌, ◌≢◌, ◌+◌, ◌%◌, ◌==◌, ◌&&◌, ◌||◌, ◌∷◌, ◌++◌, ◌∙◌, ℕ, Bool, true, false, not, List, [], length, map, arith, sym, ap, refl, inl, inr, subst, eqb-true, eq-eqb}
+use Rattle.lease_book.proofs.Words.{list_any, cases_Bool, false≢true, place_count, is_crossing, link_of, Header, shape_of, length-map, Lease, Leased, Block, Link, Range, Use, as_lease, without_end, IndexTables, index_at, Lent, is_unended, begun_at, lease_of, is_place_free, share_a_place, with_begun, AllUnended, IsFound, HoldsLents, LeaseBook}
 use Rattle.lease_book.proofs.Growing.{map_append}
 use Rattle.lease_book.proofs.Unended.{all_begun}
 

@@ -1,15 +1,6 @@
 -- The indexes find each range that is under lease, when one begins and when some end
-use Rattle.std.specs.Prelude.{◌≡◌, ◌≢◌, ℕ, ◌==◌, ◌&&◌, ◌||◌, Bool, true, false, List, [], ◌∷◌, length, map, OnOk, Result, Ok, Err}
-use Rattle.std.specs.List.{list_any}
-use Rattle.std.proofs.Common.{arith, sym, ◌∙◌, refl, subst}
-use Rattle.std.proofs.lemmas.Bool.{false≢true, eq-eqb}
-use Rattle.traces.specs.declared.header.Header.{Header}
-use Rattle.ownership_rules.specs.OpenLeases.{Leased, Block, Link, Range, Use, EventSegment, SegmentTable, InputContext, SlotEntry, DeviceContext}
-use Rattle.lease_book.specs.declared.indexes.Indexes.{Indexes}
-use Rattle.lease_book.specs.declared.ranges.RangeIndexes.{RangeIndexes}
-use Rattle.lease_book.specs.IndexTables.{index_in}
-use Rattle.lease_book.specs.Lents.{Lent, is_unended, ended_where, with_begun}
-use Rattle.lease_book.specs.Ranges.{FindsRanges, IsRangeFound, IsUseFound, StandsAt, command_place, is_use_free, share_a_use, shares_use}
+use Rattle.std.proofs.Common.{◌≡◌, ◌≢◌, ◌==◌, ◌&&◌, ◌||◌, ◌∷◌, ◌∙◌, ℕ, Bool, true, false, List, [], length, map, OnOk, Result, Ok, Err, arith, sym, refl, subst, eq-eqb}
+use Rattle.lease_book.proofs.Words.{list_any, false≢true, Header, Leased, Block, Link, Range, Use, EventSegment, SegmentTable, InputContext, SlotEntry, DeviceContext, Indexes, RangeIndexes, index_in, Lent, is_unended, ended_where, with_begun, FindsRanges, IsRangeFound, IsUseFound, StandsAt, command_place, is_use_free, share_a_use, shares_use}
 use Rattle.lease_book.proofs.Places.{not_true}
 use Rattle.lease_book.proofs.Unended.{all_anew, all_begun, all_ended}
 

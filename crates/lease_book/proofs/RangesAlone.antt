@@ -1,17 +1,8 @@
 -- The leases that lie on no command or transfer ring are ranges
-use Rattle.std.specs.Prelude.{ℕ, List, [], ◌∷◌, ◌++◌, map, Option, Some, None}
-use Rattle.std.specs.List.{flat_map}
-use Rattle.std.proofs.Common.{sym, subst, refl, inl, inr}
-use Rattle.commands.specs.declared.command.Command.{Command}
-use Rattle.commands.specs.Command.{named_context}
-use Rattle.traces.specs.declared.header.Header.{Header}
-use Rattle.traces.specs.declared.register.Register.TheVariants.{Erstba}
-use Rattle.traces.specs.Header.{event_shape}
-use Rattle.ring_knowledge.specs.Known.{Known}
+use Rattle.std.proofs.Common.{◌∷◌, ◌++◌, ℕ, List, [], map, Option, Some, None, sym, subst, refl, inl, inr}
+use Rattle.lease_book.proofs.Words.{flat_map, Command, named_context, Header, Erstba, event_shape, Known, Leased, Block, Link, Range, open_on, open_leases, open_ranges, segment_ranges, table_range, context_ranges, range_of_command, range_of_context, entry_ranges, range_of_entry, device_ranges, range_of_device, slots, IsIn}
 use Rattle.ring_knowledge.specs.Rings as rings
 use Rattle.ownership_rules.specs.OpenLeases
-use Rattle.ownership_rules.specs.OpenLeases.{Leased, Block, Link, Range, open_on, open_leases, open_ranges, segment_ranges, table_range, context_ranges, range_of_command, range_of_context, entry_ranges, range_of_entry, device_ranges, range_of_device, slots}
-use Rattle.ownership_rules.proofs.Among.{IsIn}
 
 abbrev pub IsRange : Leased → Type 0
 IsRange (Block r p) = ⊥

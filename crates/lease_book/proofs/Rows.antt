@@ -1,18 +1,6 @@
 -- What is lent after one more row, by which leases are open after it
-use Rattle.std.specs.Prelude.{◌≡◌, ℕ, ◌+◌, ◌<◌, ◌≤◌, ◌==◌, ◌&&◌, Bool, true, false, not, List, [], ◌∷◌, ◌++◌, length, map, filter}
-use Rattle.std.proofs.Common.{arith, sym, ◌∙◌, ap, refl, inl, inr, cond}
-use Rattle.std.proofs.lemmas.Bool.{false≢true, and_parts}
-use Rattle.std.proofs.lemmas.Bool.Decides.{nat_tests}
-use Rattle.std.proofs.lemmas.List.{append-nil}
-use Rattle.traces.specs.declared.header.Header.{Header}
-use Rattle.traces.specs.declared.row.Row.{Row}
-use Rattle.ring_knowledge.specs.Known.{Known, nothing}
-use Rattle.ring_knowledge.specs.Learned.{learned, known}
-use Rattle.ownership_rules.specs.OpenLeases.{Leased, is_among, open_leases}
-use Rattle.ownership_rules.specs.Leases.{begun, without_end}
-use Rattle.ownership_rules.proofs.Among.{IsIn, from_filter, in_among}
-use Rattle.lease_book.specs.Lents.{Lent, is_unended, begun_at, precedes, with_leased, in_turn, ended_where, with_begun, grown, lents}
-use Rattle.lease_book.specs.Books.{AllUnended}
+use Rattle.std.proofs.Common.{◌≡◌, ◌+◌, ◌<◌, ◌≤◌, ◌==◌, ◌&&◌, ◌∷◌, ◌++◌, ◌∙◌, ℕ, Bool, true, false, not, List, [], length, map, filter, arith, sym, ap, refl, inl, inr, cond, append-nil}
+use Rattle.lease_book.proofs.Words.{false≢true, and_parts, nat_tests, Header, Row, Known, nothing, learned, known, Leased, is_among, open_leases, begun, without_end, IsIn, from_filter, in_among, Lent, is_unended, begun_at, precedes, with_leased, in_turn, ended_where, with_begun, grown, lents, AllUnended}
 use Rattle.lease_book.proofs.Passing.{ended_alike, none_over}
 
 -- what stands in order stood there before

@@ -1,28 +1,7 @@
 -- The write of ERSTBA begins the lease of the segment table, and no other
-use Rattle.std.specs.Prelude.{◌≡◌, ℕ, ◌+◌, ◌≤◌, Bool, true, not, List, [], ◌∷◌, ◌++◌, filter, length, Option, Some, None}
-use Rattle.std.specs.List.{flat_map}
-use Rattle.std.proofs.Common.{sym, ◌∙◌, ap, subst, refl, inl, inr}
-use Rattle.std.proofs.lemmas.Bool.{cases_Bool}
-use Rattle.std.proofs.lemmas.List.Elements.{filter-append}
-use Rattle.commands.specs.declared.command.Command.{Command}
-use Rattle.commands.specs.Command.{named_context}
-use Rattle.event_ring.specs.EventRing.{table_bytes}
-use Rattle.traces.specs.declared.header.Header.{Header}
-use Rattle.traces.specs.declared.ring.Ring.{Ring}
-use Rattle.traces.specs.declared.row.Row.{Row}
-use Rattle.traces.specs.declared.row.Row.TheVariants.{Reg}
-use Rattle.traces.specs.declared.register.Register.TheVariants.{Erstba}
-use Rattle.traces.specs.Header.{driver_rings, event_shape}
-use Rattle.traces.specs.Register.{base_address}
-use Rattle.ring_knowledge.specs.Known.{Known}
-use Rattle.ring_knowledge.specs.Learned.{known, learned}
-use Rattle.ring_knowledge.specs.Registers.{register_written, valued}
-use Rattle.ring_knowledge.specs.Writes.{entry_of}
+use Rattle.std.proofs.Common.{◌≡◌, ◌+◌, ◌≤◌, ◌∷◌, ◌++◌, ◌∙◌, ℕ, Bool, true, not, List, [], filter, length, Option, Some, None, sym, ap, subst, refl, inl, inr}
+use Rattle.lease_book.proofs.Words.{flat_map, cases_Bool, filter-append, Command, named_context, table_bytes, Header, Ring, Row, Reg, Erstba, driver_rings, event_shape, base_address, Known, known, learned, register_written, valued, entry_of, Leased, Block, Link, Range, EventSegment, SegmentTable, InputContext, SlotEntry, DeviceContext, context_ranges, device_ranges, entry_ranges, is_among, open_leases, open_on, open_ranges, range_of_command, range_of_context, range_of_device, range_of_entry, segment_ranges, slots, table_range, begun, without_end, IsIn, among_is, in_among, in_turn, lents, with_begun, with_leased}
 use Rattle.ring_knowledge.specs.Rings as rings
-use Rattle.ownership_rules.specs.OpenLeases.{Leased, Block, Link, Range, EventSegment, SegmentTable, InputContext, SlotEntry, DeviceContext, context_ranges, device_ranges, entry_ranges, is_among, open_leases, open_on, open_ranges, range_of_command, range_of_context, range_of_device, range_of_entry, segment_ranges, slots, table_range}
-use Rattle.ownership_rules.specs.Leases.{begun, without_end}
-use Rattle.ownership_rules.proofs.Among.{IsIn, among_is, in_among}
-use Rattle.lease_book.specs.Lents.{in_turn, lents, with_begun, with_leased}
 use Rattle.lease_book.proofs.Members.{InOn, block, link, from_flat_map, from_map, in_either, in_left, in_on, in_right}
 use Rattle.lease_book.proofs.Rows.{none_new, only_begun}
 

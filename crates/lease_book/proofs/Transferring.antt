@@ -1,36 +1,7 @@
 -- What is lent after a Transfer Event: the leases end of what it tells to be passed on the ring of its endpoint
-use Rattle.std.specs.Prelude.{◌≡◌, ◌≢◌, ℕ, ◌+◌, ◌≤◌, ◌==◌, ◌&&◌, Bool, true, false, not, List, [], ◌∷◌, ◌++◌, length, map, Some, filter, option_and_then, slice_get}
-use Rattle.std.specs.List.{flat_map}
-use Rattle.std.proofs.Common.{arith, sym, ◌∙◌, ap, refl, inl, inr, subst}
-use Rattle.std.proofs.lemmas.Bool.{cases_Bool, eqb-true, eq-eqb}
-use Rattle.trb.specs.declared.block.Block.{Block as Trb}
-use Rattle.trb.specs.declared.kind.BlockKind.TheVariants.{TransferEvent}
-use Rattle.trb.specs.Block.{code, endpoint, kind, slot}
-use Rattle.trb.specs.CompletionCode.{is_halting, is_stopping, is_success, is_trb_error}
-use Rattle.segments.specs.declared.spot.Spot.{Spot}
-use Rattle.segments.specs.ShapeValue.{Shape}
-use Rattle.segments.specs.Spots.{number}
-use Rattle.segments.specs.RingView.{RingView, due_positions, floor_number}
-use Rattle.segments.proofs.ReachedSpots.{number-after}
-use Rattle.commands.specs.Command.{command_of}
-use Rattle.traces.specs.declared.header.Header.{Header}
-use Rattle.traces.specs.declared.ring.Ring.{Ring}
-use Rattle.traces.specs.declared.row.Row.{Row}
-use Rattle.traces.specs.declared.row.Row.TheVariants.{Read}
-use Rattle.traces.specs.declared.register.Register.TheVariants.{Dcbaap, Erstba}
-use Rattle.traces.specs.Header.{command_id, driver_rings, shape_of}
-use Rattle.commands.specs.declared.state.EndpointState.{EndpointState}
-use Rattle.commands.specs.declared.state.EndpointState.TheVariants.{Error, Halted}
-use Rattle.ring_knowledge.specs.Known.{Known}
-use Rattle.ring_knowledge.specs.Learned.{event_read, known, learned}
+use Rattle.std.proofs.Common.{◌≡◌, ◌≢◌, ◌+◌, ◌≤◌, ◌==◌, ◌&&◌, ◌∷◌, ◌++◌, ◌∙◌, ℕ, Bool, true, false, not, List, [], length, map, Some, filter, option_and_then, slice_get, arith, sym, ap, refl, inl, inr, subst, eqb-true, eq-eqb}
+use Rattle.lease_book.proofs.Words.{flat_map, cases_Bool, Trb, TransferEvent, code, endpoint, kind, slot, is_halting, is_stopping, is_success, is_trb_error, Spot, Shape, number, RingView, due_positions, floor_number, number-after, command_of, Header, Ring, Row, Read, Dcbaap, Erstba, command_id, driver_rings, shape_of, EndpointState, Error, Halted, Known, event_read, known, learned, RingSpot, event_at, broken_off, passed, stopped_at, transfer_read, transferred, transferred_at, Leased, context_ranges, device_ranges, entry_ranges, open_leases, open_ranges, range_of_command, range_of_device, segment_ranges, slots, table_range, is_among, without_end, IsIn, come_to, ended_where, is_passed, lents}
 use Rattle.ring_knowledge.specs.Rings as rings
-use Rattle.ring_knowledge.specs.Rings.{RingSpot, event_at}
-use Rattle.ring_knowledge.specs.Transfers.{broken_off, passed, stopped_at, transfer_read, transferred, transferred_at}
-use Rattle.ownership_rules.specs.OpenLeases.{Leased, context_ranges, device_ranges, entry_ranges, open_leases, open_ranges, range_of_command, range_of_device, segment_ranges, slots, table_range, is_among}
-use Rattle.ownership_rules.specs.Leases.{without_end}
-use Rattle.ownership_rules.proofs.Among.{IsIn}
-use Rattle.lease_book.specs.Coming.{come_to}
-use Rattle.lease_book.specs.Lents.{ended_where, is_passed, lents}
 use Rattle.lease_book.proofs.Narrowing.{Narrows, floors, narrows, one_ring_left}
 use Rattle.lease_book.proofs.PassedLeases.{IsWithinLap, Moves}
 use Rattle.lease_book.proofs.Rows.{only_ended}

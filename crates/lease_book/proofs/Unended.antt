@@ -1,11 +1,6 @@
 -- Where the leases that aren't over stand in the list, when one begins and when some end
-use Rattle.std.specs.Prelude.{◌≡◌, ℕ, ◌+◌, ◌&&◌, ◌||◌, Bool, true, false, List, [], ◌∷◌, length, map}
-use Rattle.std.specs.List.{list_any}
-use Rattle.std.proofs.Common.{arith, sym, refl, cond, subst}
-use Rattle.std.proofs.lemmas.Bool.{false≢true}
-use Rattle.ownership_rules.specs.OpenLeases.{Leased}
-use Rattle.lease_book.specs.Lents.{Lent, is_unended, begun_at, ended_where, with_begun}
-use Rattle.lease_book.specs.Books.{AllUnended}
+use Rattle.std.proofs.Common.{◌≡◌, ◌+◌, ◌&&◌, ◌||◌, ◌∷◌, ℕ, Bool, true, false, List, [], length, map, arith, sym, refl, cond, subst}
+use Rattle.lease_book.proofs.Words.{list_any, false≢true, Leased, Lent, is_unended, begun_at, ended_where, with_begun, AllUnended}
 
 pub both_false : (x y : Bool) → (x || y) ≡ false → (x ≡ false) × (y ≡ false)
 both_false true y h = absurd (false≢true (sym h))

@@ -1,22 +1,7 @@
 -- The leases that a write begins: those of what it gives
-use Rattle.std.specs.Prelude.{◌≡◌, ℕ, ◌+◌, ◌<◌, ◌≤◌, ◌&&◌, ◌||◌, Bool, true, false, not, List, [], ◌∷◌, ◌++◌, filter, map}
-use Rattle.std.specs.List.{flat_map, range_with_len}
-use Rattle.std.proofs.Common.{zero, suc, arith, sym, ◌∙◌, ap, refl, inl, inr, cond, subst}
-use Rattle.std.proofs.lemmas.Bool.{cases_Bool, and_parts, and_from, or_left}
-use Rattle.std.proofs.lemmas.List.{append-nil}
-use Rattle.std.proofs.lemmas.List.Elements.{filter-append}
-use Rattle.segments.specs.ShapeValue.{Shape}
-use Rattle.segments.specs.Places.{is_crossing, place_count}
-use Rattle.segments.specs.RingView.{RingView, Writes, changed, crossings_given, due_crossings, due_positions, floor_number, gives, gives_crossing, is_crossing_due, leased_crossings, leased_positions, positions_given}
-use Rattle.traces.specs.declared.header.Header.{Header}
-use Rattle.traces.specs.declared.ring.Ring.{Ring}
-use Rattle.traces.specs.Header.{driver_rings, shape_of}
-use Rattle.ring_knowledge.specs.Known.{Known}
+use Rattle.std.proofs.Common.{◌≡◌, ◌+◌, ◌<◌, ◌≤◌, ◌&&◌, ◌||◌, ◌∷◌, ◌++◌, ◌∙◌, ℕ, Bool, true, false, not, List, [], filter, map, zero, suc, arith, sym, ap, refl, inl, inr, cond, subst, append-nil}
+use Rattle.lease_book.proofs.Words.{flat_map, range_with_len, cases_Bool, and_parts, and_from, or_left, filter-append, Shape, is_crossing, place_count, RingView, Writes, changed, crossings_given, due_crossings, due_positions, floor_number, gives, gives_crossing, is_crossing_due, leased_crossings, leased_positions, positions_given, Header, Ring, driver_rings, shape_of, Known, Given, Position, Crossing, with_word, Leased, Block, Link, is_among, open_leases, open_on, open_ranges, IsIn, among_is, both_ways, in_among}
 use Rattle.ring_knowledge.specs.Rings as rings
-use Rattle.ring_knowledge.specs.Rings.{Given, Position, Crossing}
-use Rattle.ring_knowledge.specs.Writes.{with_word}
-use Rattle.ownership_rules.specs.OpenLeases.{Leased, Block, Link, is_among, open_leases, open_on, open_ranges}
-use Rattle.ownership_rules.proofs.Among.{IsIn, among_is, both_ways, in_among}
 use Rattle.lease_book.proofs.Growing.{map_append, map_map}
 use Rattle.lease_book.proofs.Rows.{none_new}
 use Rattle.lease_book.proofs.SameLeases.{flat_alike}

@@ -1,58 +1,8 @@
 -- What is lent after the completion of a command
-use Rattle.std.proofs.Common.{◌≡◌, ◌≢◌, ℕ, ◌+◌, List, ◌∷◌, ◌++◌, Bool, true, false, None, Some, Option, refl, ap, sym, ◌∙◌, arith, inl, inr, subst}
-use Rattle.std.specs.Prelude.{◌&&◌, ◌||◌, ◌==◌, filter, map, nat_le, nat_lt}
-use Rattle.std.specs.List.{position}
-use Rattle.std.proofs.lemmas.Bool.{cases_Bool, eqb-true, eq-eqb, false≢true}
-use Rattle.std.proofs.lemmas.Bool.Decides.{nat_tests}
+use Rattle.std.proofs.Common.{◌≡◌, ◌≢◌, ◌+◌, ◌∷◌, ◌++◌, ◌∙◌, ◌&&◌, ◌||◌, ◌==◌, ℕ, List, Bool, true, false, None, Some, Option, refl, ap, sym, arith, inl, inr, subst, filter, map, nat_le, nat_lt, eqb-true, eq-eqb}
+use Rattle.lease_rows.proofs.Words.{position, cases_Bool, false≢true, nat_tests, CommandCompletion, code, kind, is_command_completion, Command, Shape, place_count, RingView, due_positions, floor_number, due_is, number-after, Ring, Header, Row, Read, Erstba, IsHeader, command_id, driver_rings, is_command_kind, shape_of, Known, completed, event_read, known, learned, Leased, Block, Link, Range, Use, context_ranges, device_ranges, entry_ranges, is_among, open_leases, open_on, open_ranges, range_of_command, range_of_device, range_of_entry, segment_ranges, slots, table_range, flat_map, range_with_len, IsIn, in_among, in_filter, DriverKeeps, EventFacts, event_facts, floors_grow, CompletionFacts, completion_facts, next_at_floor, command_is_ring, SameDriver, event_same, Lent, ended_where, is_passed, lents, let_go, slot_left, slot_ranges, is_lent, RangeIndexes, completed_device, finish_lent, Finishes, gone_are_ranges, in_either, in_flat_map, in_left, in_range, in_right, floors, is_left, open_lent, IsWithinLap, Moves, all_twice, none_over, over_alike, command_found, no_command_ring, shape_there, any_append, false_unless, or_false, IsAmong, same_number, TraceRecord, EndpointRings, FollowsBook, HoldsAll, IsCleanRow, AreLent, FloorsMove, MovesOn, IsMovedTo, IsOtherRing, is_behind, is_moved_past, moved_when}
 use Rattle.trb.specs.declared.block.Block as blocks
-use Rattle.trb.specs.declared.kind.BlockKind.TheVariants.{CommandCompletion}
-use Rattle.trb.specs.Block.{code, kind}
-use Rattle.trb.specs.Kind.{is_command_completion}
-use Rattle.commands.specs.declared.command.Command.{Command}
-use Rattle.segments.specs.ShapeValue.{Shape}
-use Rattle.segments.specs.Places.{place_count}
-use Rattle.segments.specs.RingView.{RingView, due_positions, floor_number}
-use Rattle.segments.proofs.Giving.{due_is}
-use Rattle.segments.proofs.ReachedSpots.{number-after}
-use Rattle.traces.specs.declared.ring.Ring.{Ring}
-use Rattle.traces.specs.declared.header.Header.{Header}
-use Rattle.traces.specs.declared.row.Row.{Row}
-use Rattle.traces.specs.declared.row.Row.TheVariants.{Read}
-use Rattle.traces.specs.declared.register.Register.TheVariants.{Erstba}
-use Rattle.traces.specs.Header.{IsHeader, command_id, driver_rings, is_command_kind, shape_of}
-use Rattle.ring_knowledge.specs.Known.{Known}
-use Rattle.ring_knowledge.specs.Completions.{completed}
-use Rattle.ring_knowledge.specs.Learned.{event_read, known, learned}
 use Rattle.ring_knowledge.specs.Rings as rings
-use Rattle.ownership_rules.specs.OpenLeases.{Leased, Block, Link, Range, Use, context_ranges, device_ranges, entry_ranges, is_among, open_leases, open_on, open_ranges, range_of_command, range_of_device, range_of_entry, segment_ranges, slots, table_range}
-use Rattle.std.specs.List.{flat_map, range_with_len}
-use Rattle.ownership_rules.proofs.Among.{IsIn, in_among, in_filter}
-use Rattle.safety.specs.Keeps.{DriverKeeps}
-use Rattle.safety.proofs.CleanRows.{EventFacts, event_facts}
-use Rattle.safety.proofs.FloorsGrow.{floors_grow}
-use Rattle.safety.proofs.KeptRings.{CompletionFacts, completion_facts, next_at_floor}
-use Rattle.safety.proofs.SafeContext.{command_is_ring}
-use Rattle.safety.proofs.SameDriver.{SameDriver, event_same}
-use Rattle.lease_book.specs.Lents.{Lent, ended_where, is_passed, lents}
-use Rattle.lease_book.specs.LettingGo.{let_go, slot_left, slot_ranges}
-use Rattle.lease_book.specs.Ranges.{is_lent}
-use Rattle.lease_book.specs.declared.ranges.RangeIndexes.{RangeIndexes}
-use Rattle.lease_book.proofs.DevicesAfter.{completed_device}
-use Rattle.lease_book.proofs.Finishing.{finish_lent}
-use Rattle.lease_book.proofs.LettingGo.{Finishes, gone_are_ranges}
-use Rattle.lease_book.proofs.Members.{in_either, in_flat_map, in_left, in_range, in_right}
-use Rattle.lease_book.proofs.Narrowing.{floors, is_left}
-use Rattle.lease_book.proofs.OpenLent.{open_lent}
-use Rattle.lease_book.proofs.PassedLeases.{IsWithinLap, Moves}
-use Rattle.lease_book.proofs.Passing.{all_twice, none_over, over_alike}
-use Rattle.ring_finder.proofs.FoundRings.{command_found, no_command_ring}
-use Rattle.ring_finder.proofs.HeaderRings.{shape_there}
-use Rattle.ring_finder.proofs.ListTests.{any_append, false_unless, or_false}
-use Rattle.ring_finder.proofs.RingsApart.{IsAmong, same_number}
-use Rattle.trace_record.specs.declared.trace_record.TraceRecord.{TraceRecord}
-use Rattle.trace_record.specs.Premises.{EndpointRings}
-use Rattle.lease_rows.specs.CleanRows.{FollowsBook, HoldsAll, IsCleanRow}
-use Rattle.lease_rows.specs.LeftBehind.{AreLent, FloorsMove, MovesOn, IsMovedTo, IsOtherRing, is_behind, is_moved_past, moved_when}
 use Rattle.lease_rows.proofs.GivenHere.{command_id_is, no_ring}
 use Rattle.lease_rows.proofs.OtherRows.{driver_now}
 use Rattle.lease_rows.proofs.TransferRows.{lap_now}

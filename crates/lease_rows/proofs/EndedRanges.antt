@@ -1,37 +1,6 @@
 -- The leases of ranges that a completion lets go end, one after another
-use Rattle.std.proofs.Common.{◌≡◌, ℕ, List, [], ◌∷◌, ◌++◌, Bool, true, false, None, Some, Option, refl, ap, sym, ◌∙◌, subst, inl, inr}
-use Rattle.std.specs.Prelude.{◌&&◌, ◌||◌, ◌==◌, map}
-use Rattle.contexts.specs.Contexts.{device_context_bytes}
-use Rattle.commands.specs.declared.command.Command.{Command}
-use Rattle.commands.specs.declared.command.Command.TheVariants.{DisableSlot, SetTrDequeue}
-use Rattle.std.specs.List.{position}
-use Rattle.trb.specs.declared.ring_kind.RingKind.{RingKind}
-use Rattle.trb.specs.declared.ring_kind.RingKind.TheVariants.{Cmd, Evt, Xfer}
-use Rattle.segments.specs.declared.spot.Spot.{Spot}
-use Rattle.segments.specs.Moves.{target}
-use Rattle.segments.specs.RingView.{floor_number}
-use Rattle.traces.specs.declared.ring.Ring.{Ring}
-use Rattle.traces.specs.Header.{IsHeader, is_driver_kind, is_transfer_kind, ring_with, shape_of}
-use Rattle.lease_book.proofs.LettingGo.{slot_apart}
-use Rattle.ring_finder.proofs.FoundRings.{none_here}
-use Rattle.ring_finder.proofs.HeaderRings.{not_found, ring_found}
-use Rattle.ring_finder.proofs.RingsApart.{IsAmong}
-use Rattle.trace_record.specs.Premises.{EndpointRings}
-use Rattle.traces.specs.declared.header.Header.{Header}
-use Rattle.ring_knowledge.specs.Known.{Known}
-use Rattle.ring_knowledge.specs.Writes.{entry_of}
-use Rattle.ownership_rules.specs.OpenLeases.{Leased, Range, DeviceContext, SlotEntry, is_among, range_of_command, range_of_device, range_of_entry, same_leased}
-use Rattle.ownership_rules.proofs.Among.{IsIn, both_ways, leased_is, leased_itself}
-use Rattle.lease_book.specs.declared.ranges.RangeIndexes.{RangeIndexes}
-use Rattle.lease_book.specs.Lents.{Lent, ended_where, is_passed}
-use Rattle.lease_book.specs.LettingGo.{slot_disabled, slot_left, slot_ranges}
-use Rattle.lease_book.specs.Ranges.{FindsRanges, is_lent}
-use Rattle.lease_book.proofs.OpenLent.{still_lent}
-use Rattle.lease_book.proofs.Passing.{all_twice, none_over, over_alike}
-use Rattle.lease_book.proofs.RangePlaces.{some_end}
-use Rattle.ring_finder.proofs.ListTests.{and_false, or_false}
-use Rattle.lease_rows.specs.CleanRows.{HoldsAll}
-use Rattle.lease_rows.specs.LeftBehind.{AreLent, MovesOn, is_behind, is_moved_past, moved_by, moved_on, moved_ring, moved_when, slot_let_go}
+use Rattle.std.proofs.Common.{◌≡◌, ◌∷◌, ◌++◌, ◌∙◌, ◌&&◌, ◌||◌, ◌==◌, ℕ, List, [], Bool, true, false, None, Some, Option, refl, ap, sym, subst, inl, inr, map}
+use Rattle.lease_rows.proofs.Words.{device_context_bytes, Command, DisableSlot, SetTrDequeue, position, RingKind, Cmd, Evt, Xfer, Spot, target, floor_number, Ring, IsHeader, is_driver_kind, is_transfer_kind, ring_with, shape_of, slot_apart, none_here, not_found, ring_found, IsAmong, EndpointRings, Header, Known, entry_of, Leased, Range, DeviceContext, SlotEntry, is_among, range_of_command, range_of_device, range_of_entry, same_leased, IsIn, both_ways, leased_is, leased_itself, RangeIndexes, Lent, ended_where, is_passed, slot_disabled, slot_left, slot_ranges, FindsRanges, is_lent, still_lent, all_twice, none_over, over_alike, some_end, and_false, or_false, HoldsAll, AreLent, MovesOn, is_behind, is_moved_past, moved_by, moved_on, moved_ring, moved_when, slot_let_go}
 
 turned : (l m : Leased) → same_leased l m ≡ same_leased m l
 turned l m =

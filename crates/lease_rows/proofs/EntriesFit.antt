@@ -1,35 +1,6 @@
 -- The entry of each slot with a device context ends within the address space: it was tested when the context was taken
-use Rattle.std.specs.Prelude.{◌≡◌, ℕ, ◌+◌, ◌^◌, ◌≤◌, true, false, List, [], ◌∷◌, Option, Some}
-use Rattle.std.proofs.Common.{refl, sym, ◌∙◌, ap, subst, inl, inr}
-use Rattle.std.proofs.lemmas.Bool.{cases_Bool, false≢true, ltb-false}
-use Rattle.std.proofs.lemmas.Option.{none-some}
-use Rattle.segments.proofs.Search.{cases_option}
-use Rattle.traces.specs.declared.header.Header.{Header}
-use Rattle.traces.specs.declared.register.Register.{Register}
-use Rattle.traces.specs.declared.register.Register.TheVariants.{Dcbaap}
-use Rattle.traces.specs.declared.row.Row.{Row}
-use Rattle.traces.specs.declared.row.Row.TheVariants.{Sub, Write, Reg, Bell, Read}
-use Rattle.traces.specs.Header.{IsHeader}
-use Rattle.traces.specs.Register.{with_register}
-use Rattle.ring_knowledge.specs.Known.{Known, nothing}
-use Rattle.ring_knowledge.specs.Learned.{known, learned}
-use Rattle.ring_knowledge.specs.Writes.{entry_of}
-use Rattle.ownership_rules.specs.Clean.{IsClean}
-use Rattle.ownership_rules.specs.Registers.{is_bad_register}
-use Rattle.ownership_rules.specs.Rules.{broken}
-use Rattle.safety.specs.Keeps.{DriverKeeps}
-use Rattle.safety.proofs.AreaFacts.{area_parts}
-use Rattle.safety.proofs.CleanRows.{register_facts}
-use Rattle.safety.proofs.DeviceFrames.{entry_same}
-use Rattle.safety.proofs.DriverHistories.{driver_keeps}
-use Rattle.safety.proofs.EndpointPut.{at_number}
-use Rattle.safety.proofs.EventBehind.{event_behind}
-use Rattle.safety.proofs.KeptRegisters.{registered}
-use Rattle.safety.proofs.RowFrames.{bell_leaves, declaration_leaves, register_leaves, write_leaves}
-use Rattle.safety.proofs.TestsPassed.{clean_tests}
-use Rattle.safety.proofs.WriteBeside.{rules_of}
-use Rattle.safety.proofs.WrittenKnown.{after_write, taken, written_device, written_device_none}
-use Rattle.lease_rows.specs.LeftBehind.{EntriesFit}
+use Rattle.std.proofs.Common.{◌≡◌, ◌+◌, ◌^◌, ◌≤◌, ◌∷◌, ◌∙◌, ℕ, true, false, List, [], Option, Some, refl, sym, ap, subst, inl, inr, ltb-false}
+use Rattle.lease_rows.proofs.Words.{cases_Bool, false≢true, none-some, cases_option, Header, Register, Dcbaap, Row, Sub, Write, Reg, Bell, Read, IsHeader, with_register, Known, nothing, known, learned, entry_of, IsClean, is_bad_register, broken, DriverKeeps, area_parts, register_facts, entry_same, driver_keeps, at_number, event_behind, registered, bell_leaves, declaration_leaves, register_leaves, write_leaves, clean_tests, rules_of, after_write, taken, written_device, written_device_none, EntriesFit}
 
 -- no device context more, and the same array of entries
 still_fit : (k l : Known) → l.register Dcbaap ≡ k.register Dcbaap → ((s d : ℕ) → l.device s ≡ Some d → k.device s ≡ Some d) → EntriesFit k → EntriesFit l

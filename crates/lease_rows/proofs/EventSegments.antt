@@ -1,11 +1,6 @@
 -- The segments of the event ring, by its place among the rings
-use Rattle.std.proofs.Common.{◌≡◌, ℕ, ◌<◌, true, false, refl, ap, sym, length, get_or}
-use Rattle.std.proofs.lemmas.Option.{slice_get_read}
-use Rattle.traces.specs.declared.ring.Ring.{Ring}
-use Rattle.traces.specs.declared.header.Header.{Header}
-use Rattle.traces.specs.Header.{IsHeader, is_event_kind, event_shape, event_ring}
-use Rattle.ring_finder.proofs.RingsApart.{among_at, each_among}
-use Rattle.ring_finder.proofs.HeaderRings.{not_found, event_here}
+use Rattle.std.proofs.Common.{◌≡◌, ◌<◌, ℕ, true, false, refl, ap, sym, length, get_or}
+use Rattle.lease_rows.proofs.Words.{slice_get_read, Ring, Header, IsHeader, is_event_kind, event_shape, event_ring, among_at, each_among, not_found, event_here}
 
 pub event_count : (h : Header) → IsHeader h → (i : ℕ) (r : Ring) → r ≡ get_or h.rings i r → i < length h.rings → is_event_kind r.shape.kind ≡ true → length r.shape.segments ≡ length (event_shape h).segments
 event_count h headed i r item below event =

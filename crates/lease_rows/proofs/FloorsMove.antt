@@ -1,41 +1,8 @@
 -- The completion of a command moves the ring of a Set TR Dequeue on, and no other but the command ring
-use Rattle.std.specs.Prelude.{◌≡◌, ◌≢◌, ℕ, ◌≤◌, ◌==◌, if◌then◌else◌, Bool, true, false, List, [], ◌∷◌, map, Option, None, Some}
-use Rattle.std.proofs.Common.{refl, sym, ◌∙◌, ap, subst}
-use Rattle.std.proofs.lemmas.Bool.{cond-false, eqb-true}
+use Rattle.std.proofs.Common.{◌≡◌, ◌≢◌, ◌≤◌, ◌==◌, if◌then◌else◌, ◌∷◌, ◌∙◌, ℕ, Bool, true, false, List, [], map, Option, None, Some, refl, sym, ap, subst, eqb-true}
+use Rattle.lease_rows.proofs.Words.{cond-false, CommandCompletion, kind, code, slot, is_command_completion, Spot, number, after, RingView, Reaches, Holds, floor_number, target, target_ahead, added_endpoints, is_dropped, context_pointer, context_cycle, Command, NoOp, EnableSlot, DisableSlot, AddressDevice, ConfigureEndpoint, EvaluateContext, ResetEndpoint, StopEndpoint, SetTrDequeue, ResetDevice, Stopped, is_off, Change, SlotGoesOn, DeviceLeft, Disables, Places, Stops, Resets, changes, is_above_control, placed_by_context, Header, Read, IsHeader, shape_of, command_id, ring_beginning_at, Known, on_ring, command_at, next_command, set_to, bound_to, moved_to, moved, pointed, in_state, changed_by, changed_by_all, succeeded, stop_ended, finished, completed, event_read, learned, has_repeats, binds, binding_in, ring_bound, broken, DriverKeeps, MayChangeAll, StillHolds, transfer_not_command, may_move, ring_elsewhere, may_change, still_of, all_ready, dropped, map_map, view_after, FloorsMove, MovesOn, IsMovedTo, IsOtherRing, moved_on, moved_ring, moved_by, moved_when}
 use Rattle.trb.specs.declared.block.Block.{Block}
-use Rattle.trb.specs.declared.kind.BlockKind.TheVariants.{CommandCompletion}
-use Rattle.trb.specs.Block.{kind, code, slot}
-use Rattle.trb.specs.Kind.{is_command_completion}
-use Rattle.segments.specs.declared.spot.Spot.{Spot}
-use Rattle.segments.specs.Spots.{number, after}
-use Rattle.segments.specs.RingView.{RingView, Reaches, Holds, floor_number}
-use Rattle.segments.specs.Moves.{target}
-use Rattle.segments.proofs.Named.{target_ahead}
-use Rattle.contexts.specs.Contexts.{added_endpoints, is_dropped, context_pointer, context_cycle}
-use Rattle.commands.specs.declared.command.Command.{Command}
-use Rattle.commands.specs.declared.command.Command.TheVariants.{NoOp, EnableSlot, DisableSlot, AddressDevice, ConfigureEndpoint, EvaluateContext, ResetEndpoint, StopEndpoint, SetTrDequeue, ResetDevice}
-use Rattle.commands.specs.declared.state.EndpointState.TheVariants.{Stopped}
-use Rattle.commands.specs.States.{is_off}
-use Rattle.commands.specs.Changes.{Change, SlotGoesOn, DeviceLeft, Disables, Places, Stops, Resets, changes, is_above_control, placed_by_context}
-use Rattle.traces.specs.declared.header.Header.{Header}
-use Rattle.traces.specs.declared.row.Row.TheVariants.{Read}
-use Rattle.traces.specs.Header.{IsHeader, shape_of, command_id, ring_beginning_at}
-use Rattle.ring_knowledge.specs.Known.{Known}
-use Rattle.ring_knowledge.specs.Rings.{on_ring, command_at, next_command}
-use Rattle.ring_knowledge.specs.Completions.{set_to, bound_to, moved_to, moved, pointed, in_state, changed_by, changed_by_all, succeeded, stop_ended, finished, completed}
-use Rattle.ring_knowledge.specs.Learned.{event_read, learned}
-use Rattle.ownership_rules.specs.Moves.{has_repeats, binds, binding_in, ring_bound}
-use Rattle.ownership_rules.specs.Rules.{broken}
-use Rattle.safety.specs.Keeps.{DriverKeeps}
-use Rattle.safety.specs.Placings.{MayChangeAll, StillHolds}
-use Rattle.safety.proofs.Headers.{transfer_not_command}
-use Rattle.safety.proofs.FinishDequeue.{may_move}
-use Rattle.safety.proofs.DriverRows.{ring_here, ring_elsewhere}
-use Rattle.safety.proofs.FloorsGrow.{may_change}
-use Rattle.safety.proofs.KeptRings.{still_of}
-use Rattle.safety.proofs.Placings.{all_ready, dropped, map_map}
-use Rattle.safety.proofs.SameDriver.{view_after}
-use Rattle.lease_rows.specs.LeftBehind.{FloorsMove, MovesOn, IsMovedTo, IsOtherRing, moved_on, moved_ring, moved_by, moved_when}
+use Rattle.safety.proofs.DriverRows.{ring_here}
 use Rattle.lease_rows.proofs.FloorsStay.{ChangesStay, FloorsStay, StaysHere, stay_none, changes_stay, each_stays, address_stays, hold_stays}
 
 -- the ring is moved to the number

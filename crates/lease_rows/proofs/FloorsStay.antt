@@ -1,36 +1,8 @@
 -- The changes that leave the number of each ring's floor as it is
-use Rattle.std.specs.Prelude.{◌≡◌, ℕ, suc, ◌+◌, ◌-◌, ◌≤◌, ◌&&◌, ◌||◌, Bool, true, false, List, [], ◌∷◌, map, find, All, Option, None, Some}
-use Rattle.std.specs.List.{list_any, range_with_len, flat_map}
-use Rattle.std.proofs.Common.{arith, refl, sym, ◌∙◌, ap, subst, get_or, inl, inr}
-use Rattle.std.proofs.lemmas.Bool.{cases_Bool, cond_both, cond-true, cond-false, or_parts, false≢true}
-use Rattle.std.proofs.lemmas.Option.{same_Some}
-use Rattle.std.proofs.lemmas.List.Elements.{All-head, All-tail}
-use Rattle.segments.specs.declared.spot.Spot.{Spot}
+use Rattle.std.proofs.Common.{◌≡◌, ◌+◌, ◌-◌, ◌≤◌, ◌&&◌, ◌||◌, ◌∷◌, ◌∙◌, ℕ, suc, Bool, true, false, List, [], map, find, All, Option, None, Some, arith, refl, sym, ap, subst, get_or, inl, inr}
+use Rattle.lease_rows.proofs.Words.{list_any, range_with_len, flat_map, cases_Bool, cond_both, cond-true, cond-false, or_parts, false≢true, same_Some, All-head, All-tail, Spot, Shape, number, RingView, Reaches, Holds, declared, floor_number, ceiling, is_target, may_move_to, spots_between, target, is_move, floor_given, given_count_declared, context_pointer, context_cycle, Command, AddressDevice, Stopped, is_off, Change, SlotGoesOn, DeviceLeft, Disables, Places, Stops, Resets, placed_by_context, Header, IsHeader, shape_of, is_ring, ring_beginning_at, Known, on_ring, set_to, bound_to, moved_to, moved, pointed, disabled, in_state, held_at_ceiling, changed_by, changed_by_all, has_repeats, DriverKeeps, MayChangeAll, StillHolds, ring_shape, transfer_driver, Ready, ring_at, the_some, ready_next, view_after, each_fails, any_of_map}
 use Rattle.segments.specs.declared.spot.Spot.TheVariants.{Data, Link}
-use Rattle.segments.specs.ShapeValue.{Shape}
-use Rattle.segments.specs.Spots.{number}
-use Rattle.segments.specs.RingView.{RingView, Reaches, Holds, declared, floor_number}
-use Rattle.segments.specs.Ceiling.{ceiling}
-use Rattle.segments.specs.Moves.{is_target, may_move_to, spots_between, target, is_move}
-use Rattle.segments.proofs.Reaching.{floor_given, given_count_declared}
-use Rattle.contexts.specs.Contexts.{context_pointer, context_cycle}
-use Rattle.commands.specs.declared.command.Command.{Command}
-use Rattle.commands.specs.declared.command.Command.TheVariants.{AddressDevice}
-use Rattle.commands.specs.declared.state.EndpointState.TheVariants.{Stopped}
-use Rattle.commands.specs.States.{is_off}
-use Rattle.commands.specs.Changes.{Change, SlotGoesOn, DeviceLeft, Disables, Places, Stops, Resets, placed_by_context}
-use Rattle.traces.specs.declared.header.Header.{Header}
-use Rattle.traces.specs.Header.{IsHeader, shape_of, is_ring, ring_beginning_at}
-use Rattle.ring_knowledge.specs.Known.{Known}
-use Rattle.ring_knowledge.specs.Rings.{on_ring}
-use Rattle.ring_knowledge.specs.Completions.{set_to, bound_to, moved_to, moved, pointed, disabled, in_state, held_at_ceiling, changed_by, changed_by_all}
-use Rattle.ownership_rules.specs.Moves.{has_repeats, is_among}
-use Rattle.safety.specs.Keeps.{DriverKeeps}
-use Rattle.safety.specs.Placings.{MayChangeAll, StillHolds}
-use Rattle.safety.proofs.Headers.{ring_shape, transfer_driver}
-use Rattle.safety.proofs.Placings.{Ready, ring_at, the_some, ready_next}
-use Rattle.safety.proofs.SameDriver.{view_after}
-use Rattle.safety.proofs.TestsPassed.{each_fails, any_of_map}
+use Rattle.ownership_rules.specs.Moves.{is_among}
 
 -- ---- a pointer and a cycle state that name a spot at the floor's number
 

@@ -1,22 +1,7 @@
 -- What a write gives, by the ring that has the word
-use Rattle.std.proofs.Common.{◌≡◌, ℕ, ◌%◌, [], ◌++◌, true, false, Option, Some, None, refl, ap, sym, ◌∙◌, arith, inl, inr}
-use Rattle.std.specs.Prelude.{◌==◌, map}
-use Rattle.std.proofs.lemmas.Bool.{false≢true}
-use Rattle.std.proofs.lemmas.List.{append-nil}
-use Rattle.trb.specs.declared.ring_kind.RingKind.{RingKind}
-use Rattle.trb.specs.declared.ring_kind.RingKind.TheVariants.{Cmd, Evt, Xfer}
-use Rattle.segments.specs.Places.{is_inside, touches}
-use Rattle.segments.specs.RingView.{positions_given, crossings_given, due_positions}
-use Rattle.segments.proofs.InsideLemmas.{touches-word}
-use Rattle.traces.specs.declared.ring.Ring.{Ring}
-use Rattle.traces.specs.declared.header.Header.{Header}
-use Rattle.traces.specs.Header.{IsHeader, command_id, command_ring, driver_rings, id_or_none, is_command_kind, is_driver_kind, is_event_kind, ring_with, shape_of, shape_or}
-use Rattle.ring_knowledge.specs.Known.{Known}
-use Rattle.ring_knowledge.specs.Rings.{Position, Crossing, given_of, given_by}
-use Rattle.ring_finder.proofs.ListTests.{false_unless}
-use Rattle.ring_finder.proofs.RingsApart.{IsAmong, Apart, other_number, same_or_apart}
-use Rattle.ring_finder.proofs.HeaderRings.{all_from_one, find_some, id_below, not_found, nothing_from, shape_allowed, shape_there, together}
-use Rattle.ring_finder.proofs.FoundRings.{command_found}
+use Rattle.std.proofs.Common.{◌≡◌, ◌%◌, ◌++◌, ◌∙◌, ◌==◌, ℕ, [], true, false, Option, Some, None, refl, ap, sym, arith, inl, inr, map, append-nil}
+use Rattle.lease_rows.proofs.Words.{false≢true, RingKind, Cmd, Evt, Xfer, is_inside, touches, positions_given, crossings_given, due_positions, touches-word, Ring, Header, IsHeader, command_id, command_ring, driver_rings, id_or_none, is_command_kind, is_driver_kind, is_event_kind, ring_with, shape_of, shape_or, Known, given_of, given_by, false_unless, IsAmong, Apart, other_number, same_or_apart, all_from_one, find_some, id_below, not_found, nothing_from, shape_allowed, shape_there, together, command_found}
+use Rattle.ring_knowledge.specs.Rings.{Position, Crossing}
 use Rattle.lease_rows.proofs.WordsApart.{gives_no_position, gives_no_crossing}
 
 no_driver_event : (kind : RingKind) → is_driver_kind kind ≡ true → is_event_kind kind ≡ true → ⊥

@@ -1,16 +1,7 @@
 -- What the leases of a completion rest on, behind a clean history
 use Rattle.std.proofs.Common.{◌≡◌, ℕ, List}
+use Rattle.lease_rows.proofs.Words.{kind, CommandCompletion, Row, Read, Header, IsHeader, known, TraceRecord, IsCleanRow, EntriesFit, FloorsMove}
 use Rattle.trb.specs.declared.block.Block.{Block}
-use Rattle.trb.specs.Block.{kind}
-use Rattle.trb.specs.declared.kind.BlockKind.TheVariants.{CommandCompletion}
-use Rattle.traces.specs.declared.row.Row.{Row}
-use Rattle.traces.specs.declared.row.Row.TheVariants.{Read}
-use Rattle.traces.specs.declared.header.Header.{Header}
-use Rattle.traces.specs.Header.{IsHeader}
-use Rattle.ring_knowledge.specs.Learned.{known}
-use Rattle.trace_record.specs.declared.trace_record.TraceRecord.{TraceRecord}
-use Rattle.lease_rows.specs.CleanRows.{IsCleanRow}
-use Rattle.lease_rows.specs.LeftBehind.{EntriesFit, FloorsMove}
 use Rattle.lease_rows.proofs.EntriesFit.{entries_fit}
 use Rattle.lease_rows.proofs.FloorsMove.{floors_move}
 use Rattle.lease_rows.proofs.OtherRows.{driver_now}

@@ -11,3 +11,4 @@ pub mod EntriesFit
 pub mod FloorsStay
 pub mod FloorsMove
 pub mod LentEvents
+pub mod Words

@@ -1,44 +1,7 @@
 -- What is lent after a clean declaration, doorbell or register write
-use Rattle.std.proofs.Common.{◌≡◌, ℕ, ◌+◌, ◌<◌, ◌≤◌, List, [], ◌∷◌, Bool, true, false, None, Some, Option, Result, Ok, Err, refl, ap, sym, ◌∙◌, inl, inr, subst, length}
-use Rattle.std.specs.Prelude.{OnOk, ◌≢◌, ◌⊎◌, ◌||◌, is_some, nat_le, nat_lt}
-use Rattle.std.proofs.lemmas.Bool.{and_from, le-leb, lt-ltb}
-use Rattle.trb.specs.declared.block.Block.{Block as Trb}
-use Rattle.event_ring.specs.EventRing.{table_bytes}
-use Rattle.segments.specs.Places.{place_count}
-use Rattle.segments.specs.RingView.{due_positions, floor_number}
-use Rattle.traces.specs.declared.ring.Ring.{Ring}
-use Rattle.traces.specs.declared.header.Header.{Header}
-use Rattle.traces.specs.declared.row.Row.{Row}
-use Rattle.traces.specs.declared.row.Row.TheVariants.{Sub, Write, Reg, Bell, Read}
-use Rattle.traces.specs.declared.register.Register.{Register}
-use Rattle.traces.specs.declared.register.Register.TheVariants.{Usbcmd, Usbsts, Dnctrl, Crcr, Dcbaap, Config, Iman, Imod, Erstsz, Erstba, Erdp}
-use Rattle.traces.specs.Header.{IsHeader, command_id, driver_rings, event_shape, is_driver_kind, shape_of}
-use Rattle.traces.specs.Register.{base_address}
-use Rattle.ring_knowledge.specs.Known.{Known}
-use Rattle.ring_knowledge.specs.Learned.{learned, known}
+use Rattle.std.proofs.Common.{◌≡◌, ◌+◌, ◌<◌, ◌≤◌, ◌∷◌, ◌∙◌, ◌≢◌, ◌⊎◌, ◌||◌, ℕ, List, [], Bool, true, false, None, Some, Option, Result, Ok, Err, refl, ap, sym, inl, inr, subst, length, OnOk, is_some, nat_le, nat_lt, le-leb, lt-ltb}
+use Rattle.lease_rows.proofs.Words.{and_from, Trb, table_bytes, place_count, due_positions, floor_number, Ring, Header, Row, Sub, Write, Reg, Bell, Read, Register, Usbcmd, Usbsts, Dnctrl, Crcr, Dcbaap, Config, Iman, Imod, Erstsz, Erstba, Erdp, IsHeader, command_id, driver_rings, event_shape, is_driver_kind, shape_of, base_address, Known, learned, known, is_bad_register, is_written, without_end, Range, SegmentTable, is_among, open_leases, IsIn, from_filter, in_filter, DriverKeeps, clean_tests, register_facts, due_has_ring, driver_keeps, Lent, lents, with_begun, FindsRanges, RangeIndexes, from_range, others_begin, nothing_new, bell_same, reg_same, sub_same, lent_table, AreShaped, shape_there, IsAmong, TraceRecord, FollowsBook, HoldsAll, IsCleanRow, IsOtherRow}
 use Rattle.ring_knowledge.specs.Rings as rings
-use Rattle.ownership_rules.specs.Registers.{is_bad_register, is_written}
-use Rattle.ownership_rules.specs.Leases.{without_end}
-use Rattle.ownership_rules.specs.OpenLeases.{Range, SegmentTable, is_among, open_leases}
-use Rattle.ownership_rules.proofs.Among.{IsIn, from_filter, in_filter}
-use Rattle.safety.specs.Keeps.{DriverKeeps}
-use Rattle.safety.proofs.TestsPassed.{clean_tests}
-use Rattle.safety.proofs.CleanRows.{register_facts}
-use Rattle.safety.proofs.CommandRing.{due_has_ring}
-use Rattle.safety.proofs.DriverHistories.{driver_keeps}
-use Rattle.lease_book.specs.Lents.{Lent, lents, with_begun}
-use Rattle.lease_book.specs.Ranges.{FindsRanges}
-use Rattle.lease_book.specs.declared.ranges.RangeIndexes.{RangeIndexes}
-use Rattle.lease_book.proofs.Members.{from_range}
-use Rattle.lease_book.proofs.RangePlaces.{others_begin}
-use Rattle.lease_book.proofs.Rows.{nothing_new}
-use Rattle.lease_book.proofs.SameLeases.{bell_same, reg_same, sub_same}
-use Rattle.lease_book.proofs.TableAlone.{lent_table}
-use Rattle.lease_book.proofs.Writing.{AreShaped}
-use Rattle.ring_finder.proofs.HeaderRings.{shape_there}
-use Rattle.ring_finder.proofs.RingsApart.{IsAmong}
-use Rattle.trace_record.specs.declared.trace_record.TraceRecord.{TraceRecord}
-use Rattle.lease_rows.specs.CleanRows.{FollowsBook, HoldsAll, IsCleanRow, IsOtherRow}
 
 -- from what an answer promises to what follows
 pub on_more : {X E P Q : Type 0} (answer : Result X E) → (P → Q) → OnOk answer P → OnOk answer Q

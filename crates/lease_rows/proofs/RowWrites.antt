@@ -1,61 +1,7 @@
 -- What is lent after a clean write: what it gives comes under lease, at a free place, and the ranges that its command takes
-use Rattle.std.proofs.Common.{◌≡◌, ℕ, ◌+◌, ◌<◌, ◌≤◌, ◌%◌, ◌^◌, List, [], ◌∷◌, ◌++◌, Bool, true, false, None, Some, Option, refl, ap, sym, ◌∙◌, arith, inl, inr, subst}
-use Rattle.std.specs.Prelude.{◌==◌, ◌&&◌, ◌||◌, nat_le, nat_lt, length, not, map, max, option_and_then, slice_get}
-use Rattle.std.specs.List.{flat_map}
-use Rattle.std.proofs.lemmas.Bool.{and_parts, eqb-true, ltb-true, leb-true, or_cases}
-use Rattle.std.proofs.lemmas.Bool.Decides.{nat_tests}
-use Rattle.std.proofs.lemmas.Option.{slice_get_read}
-use Rattle.std.proofs.Common.{get_or}
-use Rattle.guest_memory.specs.Memory.{put}
-use Rattle.contexts.specs.declared.size.ContextSize.{ContextSize}
-use Rattle.contexts.specs.declared.size.ContextSize.TheVariants.{Bytes32, Bytes64}
-use Rattle.contexts.specs.Contexts.{device_context_bytes, input_context_bytes}
-use Rattle.commands.specs.declared.command.Command.{Command}
-use Rattle.commands.specs.Command.{command_of, named_context}
-use Rattle.segments.specs.Places.{is_crossing, is_inside, place_count, touches}
-use Rattle.segments.specs.RingView.{crossings_given, due_crossings, due_positions, floor_number, gives, gives_crossing, is_crossing_due, positions_given}
-use Rattle.segments.specs.Givings.{link_of}
-use Rattle.traces.specs.declared.ring.Ring.{Ring}
-use Rattle.traces.specs.declared.header.Header.{Header}
-use Rattle.traces.specs.declared.row.Row.{Row}
-use Rattle.traces.specs.declared.row.Row.TheVariants.{Write}
-use Rattle.traces.specs.Header.{IsHeader, command_id, is_command_kind, is_driver_kind, is_event_kind, shape_of}
-use Rattle.ring_knowledge.specs.declared.ring_record.RingGiving.{RingGiving}
-use Rattle.ring_knowledge.specs.declared.ring_record.RingGiving.TheVariants.{Position, Crossing}
-use Rattle.ring_knowledge.specs.declared.ring_record.RingRecord.{RingRecord}
-use Rattle.ring_knowledge.specs.RingRecords.{FollowsRing, crossings_of, least_crossing, positions_of}
-use Rattle.ring_knowledge.specs.Known.{Known}
-use Rattle.ring_knowledge.specs.Learned.{known}
+use Rattle.std.proofs.Common.{◌≡◌, ◌+◌, ◌<◌, ◌≤◌, ◌%◌, ◌^◌, ◌∷◌, ◌++◌, ◌∙◌, ◌==◌, ◌&&◌, ◌||◌, ℕ, List, [], Bool, true, false, None, Some, Option, refl, ap, sym, arith, inl, inr, subst, nat_le, nat_lt, length, not, map, max, option_and_then, slice_get, eqb-true, ltb-true, leb-true, get_or}
+use Rattle.lease_rows.proofs.Words.{flat_map, and_parts, or_cases, nat_tests, slice_get_read, put, ContextSize, Bytes32, Bytes64, device_context_bytes, input_context_bytes, Command, command_of, named_context, is_crossing, is_inside, place_count, touches, crossings_given, due_crossings, due_positions, floor_number, gives, gives_crossing, is_crossing_due, positions_given, link_of, Ring, Header, Row, Write, IsHeader, command_id, is_command_kind, is_driver_kind, is_event_kind, shape_of, RingGiving, Position, Crossing, RingRecord, FollowsRing, crossings_of, least_crossing, positions_of, Known, known, command_given, entry_of, taken_device, noted_past, Leased, Block, Link, Range, InputContext, SlotEntry, DeviceContext, range_of_command, range_of_context, as_lease, comes_before, without_end, IsIn, from_filter, DriverKeeps, area_parts, written_devices, taking, rules_of, written_device, Lent, in_turn, is_place_free, lents, precedes, with_begun, with_leased, is_use_free, NoneAhead, link_free, block_free, context_free, device_free, entry_free, MayTake, device_taken, entry_taken, lent_commands, from_range, lease_given, command_found, ring_here, shape_allowed, shape_there, and_false, IsAmong, among_at, same_number, TraceRecord, WordPlace, FollowsTrace, IsGivenBy, IsPlacedSo, IsCleanRow, EntryFits, SlotIsFree, command_taken, slot_taken}
 use Rattle.ring_knowledge.specs.Rings as rings
-use Rattle.ring_knowledge.specs.Writes.{command_given, entry_of, taken_device}
-use Rattle.ring_knowledge.proofs.Noted.{noted_past}
-use Rattle.ownership_rules.specs.OpenLeases.{Leased, Block, Link, Range, InputContext, SlotEntry, DeviceContext, range_of_command, range_of_context}
-use Rattle.ownership_rules.specs.Leases.{as_lease, comes_before, without_end}
-use Rattle.ownership_rules.proofs.Among.{IsIn, from_filter}
-use Rattle.safety.specs.Keeps.{DriverKeeps}
-use Rattle.safety.proofs.AreaFacts.{area_parts}
-use Rattle.safety.proofs.DevicesWritten.{written_devices}
-use Rattle.safety.proofs.KeptClean.{taking}
-use Rattle.safety.proofs.WriteBeside.{rules_of}
-use Rattle.safety.proofs.WrittenKnown.{written_device}
-use Rattle.lease_book.specs.Lents.{Lent, in_turn, is_place_free, lents, precedes, with_begun, with_leased}
-use Rattle.lease_book.specs.Ranges.{is_use_free}
-use Rattle.lease_book.proofs.FreeLinks.{NoneAhead, link_free}
-use Rattle.lease_book.proofs.FreePlaces.{block_free}
-use Rattle.lease_book.proofs.FreeRanges.{context_free, device_free, entry_free}
-use Rattle.lease_book.proofs.GivingCommands.{MayTake, device_taken, entry_taken, lent_commands}
-use Rattle.lease_book.proofs.Members.{from_range}
-use Rattle.lease_book.proofs.Writing.{lease_given}
-use Rattle.ring_finder.proofs.FoundRings.{command_found, ring_here}
-use Rattle.ring_finder.proofs.HeaderRings.{shape_allowed, shape_there}
-use Rattle.ring_finder.proofs.ListTests.{and_false}
-use Rattle.ring_finder.proofs.RingsApart.{IsAmong, among_at, same_number}
-use Rattle.trace_record.specs.declared.trace_record.TraceRecord.{TraceRecord}
-use Rattle.trace_record.specs.declared.word_place.WordPlace.{WordPlace}
-use Rattle.trace_record.specs.FollowsTrace.{FollowsTrace}
-use Rattle.trace_record.specs.WordPlaces.{IsGivenBy, IsPlacedSo}
-use Rattle.lease_rows.specs.CleanRows.{IsCleanRow}
-use Rattle.lease_rows.specs.Taking.{EntryFits, SlotIsFree, command_taken, slot_taken}
 use Rattle.lease_rows.proofs.OtherRows.{among_drivers, are_shaped, driver_now}
 use Rattle.lease_rows.proofs.GivenHere.{command_id_is, commanded_elsewhere, commanded_here, commanded_nowhere, given_by_one, given_nowhere}
 use Rattle.lease_rows.proofs.TakenRanges.{begun_none, still_free}

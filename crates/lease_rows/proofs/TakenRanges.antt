@@ -1,29 +1,6 @@
 -- The ranges that a command takes, one after another
-use Rattle.std.proofs.Common.{◌≡◌, ℕ, ◌+◌, ◌/◌, ◌%◌, ◌^◌, List, [], ◌∷◌, ◌++◌, Bool, true, false, None, Some, Option, Ok, Err, Result, refl, ap, sym, ◌∙◌, subst, append_assoc, arith}
-use Rattle.std.specs.Prelude.{◌↔◌, ◌*◌, ◌&&◌, ◌||◌, not, is_some}
-use Rattle.std.specs.Result.{result_ok}
-use Rattle.std.specs.List.{list_any}
-use Rattle.std.proofs.lemmas.List.{append-nil}
-use Rattle.trb.specs.declared.fault.Fault.{Fault}
-use Rattle.contexts.specs.Contexts.{device_context_bytes, input_context_bytes, slot_entry}
-use Rattle.guest_memory.specs.Memory.{long_at}
-use Rattle.traces.specs.declared.register.Register.TheVariants.{Dcbaap}
-use Rattle.traces.specs.Register.{register_or_zero}
-use Rattle.commands.specs.declared.command.Command.{Command}
-use Rattle.commands.specs.declared.command.Command.TheVariants.{AddressDevice}
-use Rattle.commands.specs.Command.{named_context}
-use Rattle.traces.specs.declared.header.Header.{Header}
-use Rattle.ring_knowledge.specs.Known.{Known}
-use Rattle.ring_knowledge.specs.Writes.{device_named, entry_of, no_device, taken_device}
-use Rattle.ownership_rules.specs.OpenLeases.{Leased, Range, Use, InputContext, SlotEntry, DeviceContext, range_of_command, range_of_context}
-use Rattle.ownership_rules.specs.Leases.{without_end}
-use Rattle.lease_book.specs.declared.ranges.RangeIndexes.{RangeIndexes}
-use Rattle.lease_book.specs.Lents.{Lent, begun_at, is_unended, with_begun}
-use Rattle.lease_book.specs.Ranges.{is_use_free, shares_use}
-use Rattle.lease_book.proofs.Growing.{map_append}
-use Rattle.ring_finder.proofs.ListTests.{and_false, any_append, or_false}
-use Rattle.lease_rows.specs.CleanRows.{HoldsAll}
-use Rattle.lease_rows.specs.Taking.{slot_taken}
+use Rattle.std.proofs.Common.{◌≡◌, ◌+◌, ◌/◌, ◌%◌, ◌^◌, ◌∷◌, ◌++◌, ◌∙◌, ◌↔◌, ◌*◌, ◌&&◌, ◌||◌, ℕ, List, [], Bool, true, false, None, Some, Option, Ok, Err, Result, refl, ap, sym, subst, append_assoc, arith, not, is_some, append-nil}
+use Rattle.lease_rows.proofs.Words.{result_ok, list_any, Fault, device_context_bytes, input_context_bytes, slot_entry, long_at, Dcbaap, register_or_zero, Command, AddressDevice, named_context, Header, Known, device_named, entry_of, no_device, taken_device, Leased, Range, Use, InputContext, SlotEntry, DeviceContext, range_of_command, range_of_context, without_end, RangeIndexes, Lent, begun_at, is_unended, with_begun, is_use_free, shares_use, map_append, and_false, any_append, or_false, HoldsAll, slot_taken}
 
 -- what a block says that was read
 pub read_is : (o : Option Command) (r : Result Command Fault) → ((c : Command) → (r ≡ Ok c) ↔ (o ≡ Some c)) → result_ok r ≡ o

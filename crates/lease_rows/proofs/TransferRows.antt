@@ -1,49 +1,7 @@
 -- What is lent after an event but a completion: a Transfer Event ends the leases of what its ring passes
-use Rattle.std.proofs.Common.{◌≡◌, ◌≢◌, ℕ, ◌+◌, ◌≤◌, List, ◌∷◌, true, false, None, Some, Option, refl, ap, sym, ◌∙◌, arith, inl, inr, subst}
-use Rattle.std.specs.Prelude.{◌&&◌, ◌||◌, ◌==◌, if◌then◌else◌, map}
-use Rattle.std.specs.List.{position}
-use Rattle.std.specs.Option.{option_map}
-use Rattle.std.proofs.lemmas.Bool.{cond_both, and_parts}
+use Rattle.std.proofs.Common.{◌≡◌, ◌≢◌, ◌+◌, ◌≤◌, ◌∷◌, ◌∙◌, ◌&&◌, ◌||◌, ◌==◌, if◌then◌else◌, ℕ, List, true, false, None, Some, Option, refl, ap, sym, arith, inl, inr, subst, map}
+use Rattle.lease_rows.proofs.Words.{position, option_map, cond_both, and_parts, BlockKind, TransferEvent, CommandCompletion, code, endpoint, kind, pointer, slot, is_transfer_event, is_halting, is_stopping, is_success, is_trb_error, Spot, Shape, is_crossing, number, named, RingKeeps, floor_number, named_ahead, Ring, Header, Row, Read, IsHeader, driver_rings, is_driver_kind, ring_with, shape_of, Known, event_read, known, learned, RingSpot, event_at, spot_on, transfer_read, transferred_at, is_among, open_leases, IsIn, DriverKeeps, IsDriverRing, IsTransferRing, transfer_driver, transfer_not_command, come_to, Lent, ended_where, is_passed, lents, RangeIndexes, IsWithinLap, nothing_new, command_same, entries_kept, open_same, transfer_lent, none_here, not_found, ring_found, shape_there, false_unless, IsAmong, TraceRecord, FollowsBook, HoldsAll, IsCleanRow}
 use Rattle.trb.specs.declared.block.Block as blocks
-use Rattle.trb.specs.declared.kind.BlockKind.{BlockKind}
-use Rattle.trb.specs.declared.kind.BlockKind.TheVariants.{TransferEvent, CommandCompletion}
-use Rattle.trb.specs.Block.{code, endpoint, kind, pointer, slot}
-use Rattle.trb.specs.Kind.{is_transfer_event}
-use Rattle.trb.specs.CompletionCode.{is_halting, is_stopping, is_success, is_trb_error}
-use Rattle.segments.specs.declared.spot.Spot.{Spot}
-use Rattle.segments.specs.ShapeValue.{Shape}
-use Rattle.segments.specs.Places.{is_crossing}
-use Rattle.segments.specs.Spots.{number}
-use Rattle.segments.specs.Ceiling.{named}
-use Rattle.segments.specs.RingKeeps.{RingKeeps}
-use Rattle.segments.specs.RingView.{floor_number}
-use Rattle.segments.proofs.Named.{named_ahead}
-use Rattle.traces.specs.declared.ring.Ring.{Ring}
-use Rattle.traces.specs.declared.header.Header.{Header}
-use Rattle.traces.specs.declared.row.Row.{Row}
-use Rattle.traces.specs.declared.row.Row.TheVariants.{Read}
-use Rattle.traces.specs.Header.{IsHeader, driver_rings, is_driver_kind, ring_with, shape_of}
-use Rattle.ring_knowledge.specs.Known.{Known}
-use Rattle.ring_knowledge.specs.Learned.{event_read, known, learned}
-use Rattle.ring_knowledge.specs.Rings.{RingSpot, event_at, spot_on}
-use Rattle.ring_knowledge.specs.Transfers.{transfer_read, transferred_at}
-use Rattle.ownership_rules.specs.OpenLeases.{is_among, open_leases}
-use Rattle.ownership_rules.proofs.Among.{IsIn}
-use Rattle.safety.specs.Keeps.{DriverKeeps, IsDriverRing, IsTransferRing}
-use Rattle.safety.proofs.Headers.{transfer_driver, transfer_not_command}
-use Rattle.lease_book.specs.Coming.{come_to}
-use Rattle.lease_book.specs.Lents.{Lent, ended_where, is_passed, lents}
-use Rattle.lease_book.specs.declared.ranges.RangeIndexes.{RangeIndexes}
-use Rattle.lease_book.proofs.PassedLeases.{IsWithinLap}
-use Rattle.lease_book.proofs.Rows.{nothing_new}
-use Rattle.lease_book.proofs.SameLeases.{command_same, entries_kept, open_same}
-use Rattle.lease_book.proofs.Transferring.{transfer_lent}
-use Rattle.ring_finder.proofs.FoundRings.{none_here}
-use Rattle.ring_finder.proofs.HeaderRings.{not_found, ring_found, shape_there}
-use Rattle.ring_finder.proofs.ListTests.{false_unless}
-use Rattle.ring_finder.proofs.RingsApart.{IsAmong}
-use Rattle.trace_record.specs.declared.trace_record.TraceRecord.{TraceRecord}
-use Rattle.lease_rows.specs.CleanRows.{FollowsBook, HoldsAll, IsCleanRow}
 use Rattle.lease_rows.proofs.OtherRows.{driver_now, from_drivers}
 
 -- one event more was read

@@ -1,16 +1,7 @@
 -- The write of a word outside a ring gives nothing of the ring
-use Rattle.std.proofs.Common.{◌≡◌, ℕ, ◌+◌, ◌/◌, ◌%◌, ◌<◌, ◌≤◌, [], true, false, ap, sym, ◌∙◌, arith}
-use Rattle.std.specs.Prelude.{◌-◌, ◌==◌, ◌&&◌, not, nat_le}
-use Rattle.std.proofs.lemmas.Bool.{false≢true, eqb-true}
-use Rattle.segments.specs.declared.place.Place.TheVariants.{Data, Link}
-use Rattle.segments.specs.ShapeValue.{Shape}
-use Rattle.segments.specs.Shape.{IsShape}
-use Rattle.segments.specs.Places.{place_count, address_of, cycle_of, is_inside, is_crossing, link_address}
-use Rattle.segments.specs.RingView.{RingView, gives, gives_crossing, is_due, is_crossing_due, positions_given, crossings_given, due_positions, due_crossings, floor_number}
-use Rattle.segments.proofs.Positions.{place_below}
-use Rattle.segments.proofs.PlaceAtLemmas.{place_at-data, place_at-link, is_inside-place_at}
-use Rattle.segments.proofs.Crossings.{crosses, crossed_link, link_address_is}
-use Rattle.ring_finder.proofs.ListTests.{false_unless, and_left, and_right, and_false, filter_nothing}
+use Rattle.std.proofs.Common.{◌≡◌, ◌+◌, ◌/◌, ◌%◌, ◌<◌, ◌≤◌, ◌∙◌, ◌-◌, ◌==◌, ◌&&◌, ℕ, [], true, false, ap, sym, arith, not, nat_le, eqb-true}
+use Rattle.lease_rows.proofs.Words.{false≢true, Data, Shape, IsShape, place_count, address_of, cycle_of, is_inside, is_crossing, link_address, RingView, gives, gives_crossing, is_due, is_crossing_due, positions_given, crossings_given, due_positions, due_crossings, floor_number, place_below, place_at-data, place_at-link, is_inside-place_at, crosses, crossed_link, link_address_is, false_unless, and_left, and_right, and_false, filter_nothing}
+use Rattle.segments.specs.declared.place.Place.TheVariants.{Link}
 
 module _ (shape : Shape) (allowed : IsShape shape) (a : ℕ) (aligned : a % 4 ≡ 0) where
   block_inside : (p : ℕ) → address_of shape p ≤ a → a < address_of shape p + 16 → is_inside shape a ≡ true

@@ -1,6 +1,5 @@
 -- How far a line's fields are counted
-use Rattle.std.proofs.Common.{◌≡◌, ℕ, ◌+◌, Bool, List, length}
-use Rattle.std.specs.Prelude.{◌||◌}
+use Rattle.std.proofs.Common.{◌≡◌, ◌+◌, ◌||◌, ℕ, Bool, List, length}
 use Rattle.line_text.specs.Fields.{has_empty_field}
 
 pub record AreCounted (fields rest : List (List ℕ)) (n : ℕ) (found : Bool) : Type 0 where

@@ -1,7 +1,6 @@
 -- A list that is cut at each element that passes a test, by its first such element
-use Rattle.std.proofs.Common.{◌≡◌, ℕ, suc, zero, ◌+◌, ◌-◌, ◌<◌, ◌≤◌, List, [], ◌∷◌, Bool, true, false, refl, ap, sym, ◌∙◌, arith, length, slice_index, take, drop}
+use Rattle.std.proofs.Common.{◌≡◌, ◌+◌, ◌-◌, ◌<◌, ◌≤◌, ◌∷◌, ◌∙◌, ℕ, suc, zero, List, [], Bool, true, false, refl, ap, sym, arith, length, slice_index, take, drop, cond}
 use Rattle.std.specs.List.{slice_split, onto_first, count_by}
-use Rattle.std.specs.Prelude.{cond}
 use Rattle.std.proofs.lemmas.List.Sums.{sum_by-cons}
 use Rattle.line_text.specs.Fields.{fields_of, is_space}
 use Rattle.std.proofs.lemmas.Grind.{common_steps}

@@ -1,7 +1,6 @@
 -- Open leases have words of their own: a Link's crossing has a position before it
-use Rattle.std.specs.Prelude.{ℕ, ◌<◌, ◌&&◌, List, [], ◌∷◌, ◌++◌, filter, map, Option, Some, None}
+use Rattle.std.proofs.Common.{◌<◌, ◌&&◌, ◌∷◌, ◌++◌, ℕ, List, [], filter, map, Option, Some, None, sym, subst, refl, inl, inr}
 use Rattle.std.specs.List.{flat_map}
-use Rattle.std.proofs.Common.{sym, subst, refl, inl, inr}
 use Rattle.std.proofs.lemmas.Bool.{and_parts}
 use Rattle.segments.specs.Places.{is_crossing}
 use Rattle.segments.specs.RingView.{leased_crossings, leased_positions, due_crossings}

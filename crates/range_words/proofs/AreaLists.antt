@@ -1,17 +1,6 @@
 -- Areas by their first addresses, in rising order
-use Rattle.std.proofs.Common.{◌≡◌, ℕ, ◌+◌, ◌-◌, ◌<◌, ◌≤◌, List, ◌∷◌, ◌++◌, true, false, refl, arith, length, get_or, inl, inr, sym, ◌∙◌, leb}
-use Rattle.std.specs.Prelude.{nat_lt, Err}
-use Rattle.std.specs.Ordering.{nat_cmp}
-use Rattle.std.specs.List.{list_any, insert, remove, Contains}
-use Rattle.std.specs.List.Sorted.{IsNonDecreasingBy, IsPartitionPoint, IsPermutation, IsBinarySearchResult}
-use Rattle.std.proofs.lemmas.Bool.{cases_lt, cases_Bool}
-use Rattle.std.proofs.lemmas.Bool.Decides.{nat_tests}
-use Rattle.std.proofs.lemmas.List.{get_or_default}
-use Rattle.std.proofs.lemmas.List.Folds.{list_any_at}
-use Rattle.std.proofs.lemmas.List.Elements.{Contains-append_right}
-use Rattle.std.proofs.lemmas.List.Edits.{length-remove, get_or-remove_below, get_or-remove_above}
-use Rattle.std.proofs.lemmas.List.Sorted.{IsNonDecreasingBy-insert, IsPermutation-insert, IsPermutation-cons, IsPermutation-middle, IsPermutation-trans, Contains-permutation, searched}
-use Rattle.segments.specs.Places.{overlap}
+use Rattle.std.proofs.Common.{◌≡◌, ◌+◌, ◌-◌, ◌<◌, ◌≤◌, ◌∷◌, ◌++◌, ◌∙◌, ℕ, List, true, false, refl, arith, length, get_or, inl, inr, sym, leb, nat_lt, Err}
+use Rattle.range_words.proofs.Words.{nat_cmp, list_any, insert, remove, Contains, IsNonDecreasingBy, IsPartitionPoint, IsPermutation, IsBinarySearchResult, cases_lt, cases_Bool, nat_tests, get_or_default, list_any_at, Contains-append_right, length-remove, get_or-remove_below, get_or-remove_above, IsNonDecreasingBy-insert, IsPermutation-insert, IsPermutation-cons, IsPermutation-middle, IsPermutation-trans, Contains-permutation, searched, overlap}
 use Rattle.range_words.proofs.AnyTests.{any_none}
 
 -- those that start before an end are the first ones; of them only the last can touch

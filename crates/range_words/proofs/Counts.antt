@@ -1,11 +1,6 @@
 -- Lists in which each number stands equally often are the same but for their order
-use Rattle.std.proofs.Common.{◌≡◌, ℕ, ◌<◌, List, [], ◌∷◌, ◌++◌, arith, length, get_or, suc, inl, inr, sym, cond, eqb}
-use Rattle.std.specs.List.{sum_by, remove}
-use Rattle.std.specs.List.Sorted.{IsPermutation}
-use Rattle.std.proofs.lemmas.Bool.{cases_eq}
-use Rattle.std.proofs.lemmas.Bool.Decides.{nat_tests}
-use Rattle.std.proofs.lemmas.List.Sums.{sum_by-cons}
-use Rattle.std.proofs.lemmas.List.Sorted.{IsPermutation-refl, IsPermutation-cons, IsPermutation-sym, IsPermutation-trans, IsPermutation-remove, IsPermutation-middle, sum_by-IsPermutation}
+use Rattle.std.proofs.Common.{◌≡◌, ◌<◌, ◌∷◌, ◌++◌, ℕ, List, [], arith, length, get_or, suc, inl, inr, sym, cond, eqb}
+use Rattle.range_words.proofs.Words.{sum_by, remove, IsPermutation, cases_eq, nat_tests, sum_by-cons, IsPermutation-refl, IsPermutation-cons, IsPermutation-sym, IsPermutation-trans, IsPermutation-remove, IsPermutation-middle, sum_by-IsPermutation}
 
 -- 1 for v, and 0 for another number
 abbrev one_for : ℕ → ℕ → ℕ

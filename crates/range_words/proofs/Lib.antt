@@ -2,3 +2,4 @@ mod AnyTests
 mod Counts
 mod AreaLists
 mod WordTests
+pub mod Words

@@ -1,8 +1,6 @@
 -- Words from an address on
-use Rattle.std.proofs.Common.{◌≡◌, ℕ, ◌<◌, Bool, true, false, arith, ◌∙◌, ap}
-use Rattle.std.specs.List.{list_any, range_with_len}
-use Rattle.std.proofs.lemmas.List.FromFn.{length-range_with_len, get_or-range_with_len}
-use Rattle.std.proofs.lemmas.List.Folds.{list_any_at}
+use Rattle.std.proofs.Common.{◌≡◌, ◌<◌, ◌∙◌, ℕ, Bool, true, false, arith, ap}
+use Rattle.range_words.proofs.Words.{list_any, range_with_len, length-range_with_len, get_or-range_with_len, list_any_at}
 use Rattle.range_words.proofs.AnyTests.{any_none}
 
 -- one of the first numbers passes a test

@@ -1,16 +1,6 @@
 -- A finder finds the transfer ring that begins at an address, as a walk over all would
-use Rattle.std.proofs.Common.{◌≡◌, ℕ, ◌%◌, ◌<◌, List, [], ◌∷◌, Bool, true, false, Option, Some, None, refl, ap, sym, ◌∙◌, arith, inl, inr, length, get_or, subst}
-use Rattle.std.specs.Prelude.{◌==◌, ◌&&◌, find, position}
-use Rattle.std.proofs.lemmas.Bool.{cases_Bool, false≢true, eqb-true, and_parts}
-use Rattle.std.proofs.lemmas.List.Quantifiers.{position-Some}
-use Rattle.segments.specs.Places.{address_of, is_inside, touches}
-use Rattle.segments.proofs.Elsewhere.{address_inside}
-use Rattle.segments.proofs.Positions.{address_aligned}
-use Rattle.segments.proofs.InsideLemmas.{touches-word}
-use Rattle.segments.proofs.Search.{position-None}
-use Rattle.traces.specs.declared.ring.Ring.{Ring}
-use Rattle.traces.specs.declared.header.Header.{Header}
-use Rattle.traces.specs.Header.{IsHeader, id_of, is_transfer_kind, ring_beginning_at}
+use Rattle.std.proofs.Common.{◌≡◌, ◌%◌, ◌<◌, ◌∷◌, ◌∙◌, ◌==◌, ◌&&◌, ℕ, List, [], Bool, true, false, Option, Some, None, refl, ap, sym, arith, inl, inr, length, get_or, subst, find, position, eqb-true}
+use Rattle.ring_finder.proofs.Words.{cases_Bool, false≢true, and_parts, position-Some, address_of, is_inside, touches, address_inside, address_aligned, touches-word, position-None, Ring, Header, IsHeader, id_of, is_transfer_kind, ring_beginning_at}
 use Rattle.ring_finder.proofs.ListTests.{false_unless}
 use Rattle.ring_finder.proofs.RingsApart.{IsAmong, among_get, each_among, same_or_apart}
 use Rattle.ring_finder.proofs.HeaderRings.{not_found, shape_allowed, together}

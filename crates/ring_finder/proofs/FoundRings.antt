@@ -1,12 +1,6 @@
 -- What a search through the rings of a header has found
-use Rattle.std.proofs.Common.{◌≡◌, ℕ, List, Bool, true, false, None, Some, refl, ap, sym, ◌∙◌, subst, get_or, length}
-use Rattle.std.specs.Prelude.{slice_get, position}
-use Rattle.std.proofs.lemmas.Option.{slice_get_read}
-use Rattle.std.proofs.lemmas.List.Quantifiers.{position-Some}
-use Rattle.segments.proofs.Search.{position-None}
-use Rattle.traces.specs.declared.ring.Ring.{Ring}
-use Rattle.traces.specs.declared.header.Header.{Header}
-use Rattle.traces.specs.Header.{IsHeader, command_ring, is_command_kind}
+use Rattle.std.proofs.Common.{◌≡◌, ◌∙◌, ℕ, List, Bool, true, false, None, Some, refl, ap, sym, subst, get_or, length, slice_get, position}
+use Rattle.ring_finder.proofs.Words.{slice_get_read, position-Some, position-None, Ring, Header, IsHeader, command_ring, is_command_kind}
 use Rattle.ring_finder.proofs.ListTests.{false_unless}
 use Rattle.ring_finder.proofs.RingsApart.{IsAmong, each_among}
 use Rattle.ring_finder.proofs.HeaderRings.{find_only, not_found, together}

@@ -5,3 +5,4 @@ pub mod Numbers
 pub mod Starts
 pub mod FoundRings
 pub mod Beginnings
+pub mod Words

@@ -1,8 +1,6 @@
 -- Tests over lists that are put together or filtered
-use Rattle.std.proofs.Common.{◌≡◌, List, [], ◌∷◌, ◌++◌, Bool, true, false, refl, ap, ◌∙◌, inl, inr}
-use Rattle.std.specs.Prelude.{◌||◌, ◌&&◌, not, map, filter}
-use Rattle.std.specs.List.{list_any, flat_map}
-use Rattle.std.proofs.lemmas.Bool.{cases_Bool}
+use Rattle.std.proofs.Common.{◌≡◌, ◌∷◌, ◌++◌, ◌∙◌, ◌||◌, ◌&&◌, List, [], Bool, true, false, refl, ap, inl, inr, not, map, filter}
+use Rattle.ring_finder.proofs.Words.{list_any, flat_map, cases_Bool}
 
 -- what isn't true is false
 pub false_unless : (b : Bool) → (b ≡ true → ⊥) → b ≡ false

@@ -1,17 +1,7 @@
 -- A finder finds the ring of an ID that a walk over all would find
-use Rattle.std.proofs.Common.{◌≡◌, ℕ, ◌+◌, ◌<◌, List, [], ◌∷◌, Bool, true, false, Option, Some, None, refl, ap, sym, ◌∙◌, arith, inl, inr, length, get_or, set, Bor}
-use Rattle.std.specs.Prelude.{◌==◌, slice_get, position, unwrap_or}
-use Rattle.std.specs.Option.{option_copied, option_flatten, option_map}
-use Rattle.std.proofs.lemmas.Bool.{cases_eq, eqb-true}
-use Rattle.std.proofs.lemmas.Option.{slice_get-get_or, slice_get_within, get_or_from_slice_get}
-use Rattle.std.proofs.lemmas.List.{get_or-set_same, get_or-set_other}
-use Rattle.std.proofs.Math.ListN.{length-set}
-use Rattle.segments.proofs.Search.{position_only, position_nowhere}
-use Rattle.traces.specs.declared.ring.Ring.{Ring}
-use Rattle.traces.specs.Header.{may_stand_together}
+use Rattle.std.proofs.Common.{◌≡◌, ◌+◌, ◌<◌, ◌∷◌, ◌∙◌, ◌==◌, ℕ, List, [], Bool, true, false, Option, Some, None, refl, ap, sym, arith, inl, inr, length, get_or, set, Bor, slice_get, position, unwrap_or, eqb-true, get_or-set_same, get_or-set_other}
+use Rattle.ring_finder.proofs.Words.{option_copied, option_flatten, option_map, cases_eq, slice_get-get_or, slice_get_within, get_or_from_slice_get, length-set, position_only, position_nowhere, Ring, may_stand_together, Finder, AreNumbers, IsFinder}
 use Rattle.ring_finder.proofs.RingsApart.{Apart, numbers_apart, same_number}
-use Rattle.ring_finder.specs.declared.finder.Finder.{Finder}
-use Rattle.ring_finder.specs.Finding.{AreNumbers, IsFinder}
 
 pub some_ring : (q r : Ring) → Some q ≡ Some r → q ≡ r
 some_ring q r e = cc

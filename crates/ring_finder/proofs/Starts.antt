@@ -1,29 +1,9 @@
 -- A finder finds the ring that has an address, as a walk over all would
-use Rattle.std.proofs.Common.{◌≡◌, ℕ, zero, suc, ◌+◌, ◌-◌, ◌*◌, ◌%◌, ◌<◌, ◌≤◌, List, [], ◌∷◌, ◌++◌, Bool, true, false, Some, None, refl, ap, sym, ◌∙◌, arith, inl, inr, length, get_or, map, take, append_assoc, add-zero, zero-add, leb, leb-true}
-use Rattle.std.specs.Prelude.{◌||◌, slice_get, position}
-use Rattle.std.specs.List.{Contains, list_any}
-use Rattle.std.specs.List.Sorted.{IsNonDecreasingBy, IsPartitionPoint}
-use Rattle.std.proofs.lemmas.Bool.{cases_Bool, cases_eq, cases_lt, false≢true, le-leb}
-use Rattle.std.proofs.lemmas.Option.{slice_get-get_or, slice_get_within, get_or_from_slice_get}
-use Rattle.std.proofs.lemmas.List.{take_more, length-take, append-nil}
-use Rattle.std.proofs.lemmas.List.Sorted.{Contains-permutation, IsPermutation-sym}
-use Rattle.std.proofs.lemmas.List.Elements.{Contains-get_or, Contains-append_left, Contains-append_right, Contains-append_cases}
-use Rattle.segments.proofs.Blocks.{segment_at}
-use Rattle.segments.proofs.ShapeFacts.{shape_facts}
-use Rattle.segments.specs.declared.segment.Segment.{Segment}
-use Rattle.segments.specs.Shape.{IsShape}
-use Rattle.segments.specs.Places.{is_inside, segment_has, touches}
-use Rattle.segments.proofs.InsideLemmas.{touches-word}
-use Rattle.segments.proofs.PlaceAtLemmas.{is_in-true, is_in-parts}
-use Rattle.traces.specs.declared.ring.Ring.{Ring}
-use Rattle.traces.specs.declared.header.Header.{Header}
-use Rattle.traces.specs.Header.{IsHeader}
+use Rattle.std.proofs.Common.{◌≡◌, ◌+◌, ◌-◌, ◌*◌, ◌%◌, ◌<◌, ◌≤◌, ◌∷◌, ◌++◌, ◌∙◌, ◌||◌, ℕ, zero, suc, List, [], Bool, true, false, Some, None, refl, ap, sym, arith, inl, inr, length, get_or, map, take, append_assoc, add-zero, zero-add, leb, leb-true, slice_get, position, le-leb, length-take, append-nil}
+use Rattle.ring_finder.proofs.Words.{Contains, list_any, IsNonDecreasingBy, IsPartitionPoint, cases_Bool, cases_eq, cases_lt, false≢true, slice_get-get_or, slice_get_within, get_or_from_slice_get, take_more, Contains-permutation, IsPermutation-sym, Contains-get_or, Contains-append_left, Contains-append_right, Contains-append_cases, segment_at, shape_facts, Segment, IsShape, is_inside, segment_has, touches, touches-word, is_in-true, is_in-parts, Ring, Header, IsHeader, Start, Finder, IsFinder, IsRingBefore, start_of, starts_from}
 use Rattle.ring_finder.proofs.RingsApart.{numbers_apart, among_at}
 use Rattle.ring_finder.proofs.HeaderRings.{together, shape_allowed}
 use Rattle.ring_finder.proofs.Numbers.{one_position, no_position, some_ring}
-use Rattle.ring_finder.specs.declared.finder.Start.{Start}
-use Rattle.ring_finder.specs.declared.finder.Finder.{Finder}
-use Rattle.ring_finder.specs.Finding.{IsFinder, IsRingBefore, start_of, starts_from}
 
 or_true : (b : Bool) → (b || true) ≡ true
 or_true true = refl

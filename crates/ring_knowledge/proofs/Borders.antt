@@ -1,12 +1,6 @@
 -- Borders between descriptors, by how long the descriptor is that begins at a position
-use Rattle.std.proofs.Common.{◌≡◌, ℕ, ◌+◌, ◌<◌, List, [], ◌∷◌, true, ap, sym, ◌∙◌, arith, inl, inr, length, slice_index}
-use Rattle.std.specs.Prelude.{◌==◌, ◌||◌, sum}
-use Rattle.std.proofs.lemmas.Bool.{cases_eq, cond-true, cond-false, eq-eqb, ne_eqb, or_left}
-use Rattle.segments.specs.ShapeValue.{Shape}
-use Rattle.segments.specs.RingView.{RingView}
-use Rattle.segments.specs.Descriptors.{is_border, length_from}
-use Rattle.ring_knowledge.specs.declared.ring_record.RingRecord.{RingRecord}
-use Rattle.ring_knowledge.specs.RingRecords.{ArePositive, FollowsMarks}
+use Rattle.std.proofs.Common.{◌≡◌, ◌+◌, ◌<◌, ◌∷◌, ◌∙◌, ◌==◌, ◌||◌, ℕ, List, [], true, ap, sym, arith, inl, inr, length, slice_index, sum, eq-eqb, ne_eqb}
+use Rattle.ring_knowledge.proofs.Words.{cases_eq, cond-true, cond-false, or_left, Shape, RingView, is_border, length_from, RingRecord, ArePositive, FollowsMarks}
 use Rattle.ring_knowledge.proofs.DeclaredMore.{sum-cons}
 
 -- where a descriptor begins, there is a border

@@ -1,19 +1,6 @@
 -- A record with one descriptor more follows what is declared with it
-use Rattle.std.proofs.Common.{◌≡◌, ℕ, suc, zero, ◌+◌, ◌-◌, ◌<◌, ◌≤◌, List, [], ◌∷◌, ◌++◌, true, false, refl, ap, sym, ◌∙◌, arith, length, set, inl, inr, length-append}
-use Rattle.std.specs.Prelude.{◌==◌, not, sum, slice_index, replicate, nat_le, take}
-use Rattle.std.proofs.lemmas.List.Sums.{sum_by-cons}
-use Rattle.std.proofs.lemmas.Bool.{cases_eq, cases_lt, ltb-false, lt-ltb, le-ltb, le-leb, lt-leb}
-use Rattle.std.proofs.lemmas.Bool.Decides.{nat_tests}
-use Rattle.std.proofs.lemmas.Grind.{common_steps}
-use Rattle.trb.specs.declared.block.Block.{Block}
-use Rattle.segments.specs.ShapeValue.{Shape}
-use Rattle.segments.specs.Places.{place_count}
-use Rattle.segments.proofs.Positions.{place_count_pos}
-use Rattle.segments.specs.RingView.{RingView, Declares, changed, declared, floor_number}
-use Rattle.segments.specs.Descriptors.{length_from}
-use Rattle.segments.specs.Givings.{has_no_room}
-use Rattle.ring_knowledge.specs.declared.ring_record.RingRecord.{RingRecord}
-use Rattle.ring_knowledge.specs.RingRecords.{ArePositive, FollowsMarks}
+use Rattle.std.proofs.Common.{◌≡◌, ◌+◌, ◌-◌, ◌<◌, ◌≤◌, ◌∷◌, ◌++◌, ◌∙◌, ◌==◌, ℕ, suc, zero, List, [], true, false, refl, ap, sym, arith, length, set, inl, inr, length-append, not, sum, slice_index, replicate, nat_le, take, ltb-false, lt-ltb, le-ltb, le-leb}
+use Rattle.ring_knowledge.proofs.Words.{sum_by-cons, cases_eq, cases_lt, lt-leb, nat_tests, common_steps, Block, Shape, place_count, place_count_pos, RingView, Declares, changed, declared, floor_number, length_from, has_no_room, RingRecord, ArePositive, FollowsMarks}
 
 pub sum-cons : (d : ℕ) (ds : List ℕ) → sum (d ∷ ds) ≡ d + sum ds
 sum-cons d ds = sum_by-cons (λ x. x) d ds

@@ -1,15 +1,6 @@
 -- The number that is due at a place, and the crossing that is due at a Link
-use Rattle.std.proofs.Common.{◌≡◌, ℕ, ◌+◌, ◌-◌, ◌*◌, ◌/◌, ◌%◌, ◌<◌, ◌≤◌, refl, sym, arith, inl, inr, length, slice_index, Some}
-use Rattle.std.specs.Prelude.{max}
-use Rattle.std.proofs.lemmas.Bool.{cases_lt}
-use Rattle.std.proofs.lemmas.Nat.{mod-mul-add}
-use Rattle.std.proofs.Math.Nat.{mod-lt, div-add-mod'}
-use Rattle.segments.specs.ShapeValue.{Shape}
-use Rattle.segments.specs.Shape.{IsShape}
-use Rattle.segments.specs.Places.{place_count, links, ends, link_crossed}
-use Rattle.segments.specs.Givings.{link_of}
-use Rattle.segments.proofs.Positions.{same_in_lap}
-use Rattle.segments.proofs.Crossings.{Crosses, crosses-from, end_in_lap, same_crossing}
+use Rattle.std.proofs.Common.{◌≡◌, ◌+◌, ◌-◌, ◌*◌, ◌/◌, ◌%◌, ◌<◌, ◌≤◌, ℕ, refl, sym, arith, inl, inr, length, slice_index, Some, max}
+use Rattle.ring_knowledge.proofs.Words.{cases_lt, mod-mul-add, mod-lt, div-add-mod', Shape, IsShape, place_count, links, ends, link_crossed, link_of, same_in_lap, Crosses, crosses-from, end_in_lap, same_crossing}
 
 -- the least number from another one on with a remainder, on this side of the next multiple and behind it
 pub rest_here : (least count rest : ℕ) → rest < count → least % count ≤ rest → (least + (rest - least % count)) % count ≡ rest

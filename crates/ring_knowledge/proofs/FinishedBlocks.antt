@@ -1,18 +1,6 @@
 -- The spot behind a finished block is reached, and nothing is given a lap ahead of the floor
-use Rattle.std.proofs.Common.{◌≡◌, ℕ, ◌+◌, ◌-◌, ◌<◌, ◌≤◌, ◌%◌, true, false, refl, ap, sym, ◌∙◌, arith, inl, inr}
-use Rattle.std.specs.Prelude.{◌||◌, not, max}
-use Rattle.std.proofs.lemmas.Bool.{cases_eq, and_parts}
-use Rattle.segments.specs.ShapeValue.{Shape}
-use Rattle.segments.specs.Places.{place_count, is_crossing}
-use Rattle.segments.specs.Spots.{after}
-use Rattle.segments.specs.RingView.{RingView, floor_number}
-use Rattle.segments.specs.Ceiling.{is_way_given, is_step_given, given_count}
-use Rattle.segments.specs.Moves.{is_reached, are_given, are_ways_given}
-use Rattle.segments.specs.Givings.{link_of}
-use Rattle.segments.proofs.GivenCount.{given_below}
-use Rattle.segments.proofs.SpotOrder.{after_is}
-use Rattle.ring_knowledge.specs.declared.ring_record.RingRecord.{RingRecord}
-use Rattle.ring_knowledge.specs.RingRecords.{FollowsMarks, least_crossing}
+use Rattle.std.proofs.Common.{◌≡◌, ◌+◌, ◌-◌, ◌<◌, ◌≤◌, ◌%◌, ◌∙◌, ◌||◌, ℕ, true, false, refl, ap, sym, arith, inl, inr, not, max}
+use Rattle.ring_knowledge.proofs.Words.{cases_eq, and_parts, Shape, place_count, is_crossing, after, RingView, floor_number, is_way_given, is_step_given, given_count, is_reached, are_given, are_ways_given, link_of, given_below, after_is, RingRecord, FollowsMarks, least_crossing}
 use Rattle.ring_knowledge.proofs.Noted.{noted_within}
 use Rattle.ring_knowledge.proofs.Ranges.{all_from}
 

@@ -1,15 +1,6 @@
 -- How many positions are given without a gap
-use Rattle.std.proofs.Common.{◌≡◌, ℕ, suc, zero, ◌+◌, ◌<◌, ◌≤◌, List, Bool, true, false, refl, ap, sym, ◌∙◌, arith, inl, inr, cond}
-use Rattle.std.specs.Prelude.{◌&&◌, ◌||◌, ◌%◌, not}
-use Rattle.std.proofs.lemmas.Bool.{cases_lt, cases_eq, false≢true}
-use Rattle.trb.specs.declared.block.Block.{Block}
-use Rattle.segments.specs.declared.spot.Spot.{Spot}
-use Rattle.segments.specs.ShapeValue.{Shape}
-use Rattle.segments.specs.Places.{place_count, is_crossing}
-use Rattle.segments.specs.RingView.{RingView, Declares, Writes, Reaches, Opens, Holds, changed, new_ring, floor_number, gives, gives_crossing}
-use Rattle.segments.specs.Ceiling.{is_step_given, is_way_given, first_not_given, given_count}
-use Rattle.ring_knowledge.specs.declared.ring_record.RingRecord.{RingRecord}
-use Rattle.ring_knowledge.specs.RingRecords.{FollowsMarks, FollowsRing}
+use Rattle.std.proofs.Common.{◌≡◌, ◌+◌, ◌<◌, ◌≤◌, ◌∙◌, ◌&&◌, ◌||◌, ◌%◌, ℕ, suc, zero, List, Bool, true, false, refl, ap, sym, arith, inl, inr, cond, not}
+use Rattle.ring_knowledge.proofs.Words.{cases_lt, cases_eq, false≢true, Block, Spot, Shape, place_count, is_crossing, RingView, Declares, Writes, Reaches, Opens, Holds, changed, new_ring, floor_number, gives, gives_crossing, is_step_given, is_way_given, first_not_given, given_count, RingRecord, FollowsMarks, FollowsRing}
 use Rattle.ring_knowledge.proofs.Noted.{noted_past}
 use Rattle.ring_knowledge.proofs.WholeDescriptors.{step_not_given}
 

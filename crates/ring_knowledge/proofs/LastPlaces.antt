@@ -1,15 +1,6 @@
 -- The data place before a Link
-use Rattle.std.proofs.Common.{◌≡◌, ℕ, ◌+◌, ◌-◌, ◌*◌, ◌/◌, ◌%◌, ◌<◌, ◌≤◌, Some, None, ap, sym, ◌∙◌, arith, length, slice_index}
-use Rattle.segments.specs.declared.place.Place.{Place}
-use Rattle.segments.specs.declared.place.Place.TheVariants.{Data as AtData, Link as AtLink}
-use Rattle.segments.specs.ShapeValue.{Shape}
-use Rattle.segments.specs.Shape.{IsShape}
-use Rattle.segments.specs.Places.{data_count, data_places, place_count, links, ends}
-use Rattle.segments.specs.PlaceAt.{place_at}
-use Rattle.segments.proofs.Blocks.{segment_at, before, before-next}
-use Rattle.segments.proofs.DataPlaces.{link_is, block_is, link_aligned}
-use Rattle.segments.proofs.Crossings.{end_is, end_in_lap}
-use Rattle.segments.proofs.PlaceAtLemmas.{place_at-data}
+use Rattle.std.proofs.Common.{◌≡◌, ◌+◌, ◌-◌, ◌*◌, ◌/◌, ◌%◌, ◌<◌, ◌≤◌, ◌∙◌, ℕ, Some, None, ap, sym, arith, length, slice_index}
+use Rattle.ring_knowledge.proofs.Words.{Place, AtData, AtLink, Shape, IsShape, data_count, data_places, place_count, links, ends, place_at, segment_at, before, before-next, link_is, block_is, link_aligned, end_is, end_in_lap, place_at-data}
 
 -- the block 16 bytes before a Link is that of the last data place before it
 pub record IsLast (shape : Shape) (j word : ℕ) : Type 0 where

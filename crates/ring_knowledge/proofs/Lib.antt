@@ -21,3 +21,4 @@ pub mod StopSpots
 pub mod Borders
 pub mod MoveTests
 pub mod PassedBlocks
+pub mod Words

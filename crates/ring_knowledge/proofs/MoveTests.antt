@@ -1,20 +1,6 @@
 -- The test of a move, at the one spot that a pointer and a cycle state name
-use Rattle.std.proofs.Common.{◌≡◌, ℕ, ◌+◌, ◌-◌, ◌<◌, ◌≤◌, List, [], ◌∷◌, Bool, true, false, Some, None, refl, ap, sym, ◌∙◌, arith, inl, inr}
-use Rattle.std.specs.Prelude.{◌&&◌, ◌||◌, All, find}
-use Rattle.std.specs.List.{list_any, flat_map, range_with_len}
-use Rattle.std.proofs.lemmas.Bool.{cases_Bool, cond-true, cond-false, and_parts, or_cases, false≢true}
-use Rattle.std.proofs.lemmas.Option.{none-some}
-use Rattle.std.proofs.lemmas.List.Elements.{All-head, All-tail, All-weaker}
-use Rattle.segments.specs.declared.spot.Spot.{Spot}
-use Rattle.segments.specs.declared.spot.Spot.TheVariants.{Data, Link}
-use Rattle.segments.specs.ShapeValue.{Shape}
-use Rattle.segments.specs.Shape.{IsShape}
-use Rattle.segments.specs.Places.{place_count}
-use Rattle.segments.specs.Spots.{number}
-use Rattle.segments.specs.RingView.{RingView}
-use Rattle.segments.specs.Moves.{is_target, spots_between, may_move_to, is_move}
-use Rattle.segments.proofs.Named.{found_is}
-use Rattle.segments.proofs.MoveTargets.{between}
+use Rattle.std.proofs.Common.{◌≡◌, ◌+◌, ◌-◌, ◌<◌, ◌≤◌, ◌∷◌, ◌∙◌, ◌&&◌, ◌||◌, ℕ, List, [], Bool, true, false, Some, None, refl, ap, sym, arith, inl, inr, All, find}
+use Rattle.ring_knowledge.proofs.Words.{list_any, flat_map, range_with_len, cases_Bool, cond-true, cond-false, and_parts, or_cases, false≢true, none-some, All-head, All-tail, All-weaker, Spot, Data, Link, Shape, IsShape, place_count, number, RingView, is_target, spots_between, may_move_to, is_move, found_is, between}
 use Rattle.ring_knowledge.proofs.SpotsBetween.{target_parts, one_between}
 
 module _ (f g : Spot → Bool) where

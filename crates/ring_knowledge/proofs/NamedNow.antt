@@ -1,16 +1,6 @@
 -- What an event names, and where a pointer and a cycle state stand, by the first spot at an address
-use Rattle.std.proofs.Common.{◌≡◌, ◌≢◌, ℕ, ◌<◌, ◌≤◌, Bool, Option, Some, None, ap, sym, ◌∙◌, arith, inl, inr, subst}
-use Rattle.std.specs.Prelude.{◌^◌, IfSome, find}
-use Rattle.segments.specs.declared.spot.Spot.{Spot}
-use Rattle.segments.specs.ShapeValue.{Shape}
-use Rattle.segments.specs.Spots.{IsSpot, number, spot_address, named_spot}
-use Rattle.segments.specs.RingView.{RingView, declared, floor_number}
-use Rattle.segments.specs.Ceiling.{named}
-use Rattle.segments.specs.Moves.{is_target, spots_between, target}
-use Rattle.segments.proofs.Search.{cases_option}
-use Rattle.segments.proofs.SpotOrder.{rank_least, rank_most}
-use Rattle.segments.proofs.NamedSpots.{IsNamed, named_spot-Some, named_spot-is}
-use Rattle.ring_knowledge.specs.SpotsAt.{IsFirstAt}
+use Rattle.std.proofs.Common.{◌≡◌, ◌≢◌, ◌<◌, ◌≤◌, ◌∙◌, ◌^◌, ℕ, Bool, Option, Some, None, ap, sym, arith, inl, inr, subst, IfSome, find}
+use Rattle.ring_knowledge.proofs.Words.{Spot, Shape, IsSpot, number, spot_address, named_spot, RingView, declared, floor_number, named, is_target, spots_between, target, cases_option, rank_least, rank_most, IsNamed, named_spot-Some, named_spot-is, IsFirstAt}
 
 module _ (shape : Shape) (v : RingView) (is : IsSpot shape v.floor) (address : ℕ) where
   -- no spot lies at the address

@@ -1,23 +1,6 @@
 -- A new record follows a ring on which nothing happened
-use Rattle.std.proofs.Common.{◌≡◌, ℕ, ◌+◌, ◌-◌, ◌*◌, ◌≤◌, ◌%◌, List, [], Bool, true, false, Some, refl, ap, sym, ◌∙◌, arith, inl, inr, length, get_or}
-use Rattle.std.specs.Prelude.{replicate, ◌&&◌}
-use Rattle.std.proofs.lemmas.Bool.{cases_lt, cases_Bool}
-use Rattle.std.proofs.lemmas.Grind.{common_steps}
-use Rattle.std.proofs.lemmas.List.{length-map}
-use Rattle.trb.specs.declared.ring_kind.RingKind.{RingKind}
-use Rattle.trb.specs.declared.ring_kind.RingKind.TheVariants.{Cmd, Evt, Xfer}
-use Rattle.segments.specs.declared.segment.Segment.{Segment}
-use Rattle.segments.specs.declared.spot.Spot.TheVariants.{Data}
-use Rattle.segments.specs.ShapeValue.{Shape}
-use Rattle.segments.specs.Shape.{IsShape}
-use Rattle.segments.specs.Places.{place_count, links_of, is_crossing}
-use Rattle.segments.specs.RingView.{new_ring}
-use Rattle.segments.specs.Descriptors.{length_from}
-use Rattle.segments.specs.Givings.{link_of}
-use Rattle.segments.proofs.Crossings.{crossing_positive}
-use Rattle.ring_knowledge.specs.declared.ring_record.RingRecord.{RingRecord}
-use Rattle.ring_knowledge.specs.Marks.{is_noted}
-use Rattle.ring_knowledge.specs.RingRecords.{FollowsMarks}
+use Rattle.std.proofs.Common.{◌≡◌, ◌+◌, ◌-◌, ◌*◌, ◌≤◌, ◌%◌, ◌∙◌, ◌&&◌, ℕ, List, [], Bool, true, false, Some, refl, ap, sym, arith, inl, inr, length, get_or, replicate}
+use Rattle.ring_knowledge.proofs.Words.{cases_lt, cases_Bool, common_steps, length-map, RingKind, Cmd, Evt, Xfer, Segment, Data, Shape, IsShape, place_count, links_of, is_crossing, new_ring, length_from, link_of, crossing_positive, RingRecord, is_noted, FollowsMarks}
 use Rattle.ring_knowledge.proofs.Noted.{noted_due, noted_past}
 
 -- no more Links than segments

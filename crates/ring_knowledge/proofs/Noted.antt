@@ -1,9 +1,6 @@
 -- Which numbers a list of marks notes as given
-use Rattle.std.proofs.Common.{◌≡◌, ℕ, ◌+◌, ◌<◌, ◌≤◌, List, Bool, true, false, refl, ap, sym, ◌∙◌, arith, inl, inr, length, get_or, set}
-use Rattle.std.specs.Prelude.{◌==◌, ◌||◌}
-use Rattle.std.proofs.lemmas.Bool.{cases_lt, cases_eq, lt-ltb, le-ltb, eq-eqb, ne_eqb}
-use Rattle.std.proofs.lemmas.List.{get_or-set_same, get_or-set_other}
-use Rattle.ring_knowledge.specs.Marks.{is_noted}
+use Rattle.std.proofs.Common.{◌≡◌, ◌+◌, ◌<◌, ◌≤◌, ◌∙◌, ◌==◌, ◌||◌, ℕ, List, Bool, true, false, refl, ap, sym, arith, inl, inr, length, get_or, set, lt-ltb, le-ltb, eq-eqb, ne_eqb, get_or-set_same, get_or-set_other}
+use Rattle.ring_knowledge.proofs.Words.{cases_lt, cases_eq, is_noted}
 
 pub or_true : (b : Bool) → (b || true) ≡ true
 or_true true = refl

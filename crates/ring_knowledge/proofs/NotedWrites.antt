@@ -1,21 +1,6 @@
 -- A record with the mark of what a write gives follows what is known after the write
-use Rattle.std.proofs.Common.{◌≡◌, ℕ, suc, zero, ◌+◌, ◌%◌, ◌<◌, ◌≤◌, List, [], ◌∷◌, Bool, true, false, None, Some, refl, get_or, ap, sym, ◌∙◌, arith, inl, inr, length, set, subst}
-use Rattle.std.specs.Prelude.{◌==◌, ◌&&◌, ◌||◌, not, Contains}
-use Rattle.std.proofs.Math.ListN.{length-set}
-use Rattle.std.proofs.Math.Nat.{mod-lt}
-use Rattle.std.proofs.lemmas.Bool.{cases_Bool, cases_eq, eq-eqb, ne_eqb, false≢true}
-use Rattle.segments.specs.ShapeValue.{Shape}
-use Rattle.segments.specs.Places.{place_count, links, link_crossed, is_crossing}
-use Rattle.segments.specs.RingView.{RingView, Writes, changed, floor_number, gives, gives_crossing, positions_given, crossings_given}
-use Rattle.segments.specs.Ceiling.{is_step_given, is_way_given}
-use Rattle.segments.specs.Givings.{link_of}
-use Rattle.segments.proofs.Positions.{place_count_pos}
-use Rattle.segments.proofs.Crossings.{crossed_link, is_crossing-from}
-use Rattle.segments.proofs.Giving.{gives_is}
-use Rattle.segments.proofs.DueLists.{position_given, position_given_is, crossing_given, crossing_given_is}
-use Rattle.ring_knowledge.specs.declared.ring_record.RingRecord.{RingRecord}
-use Rattle.ring_knowledge.specs.Marks.{is_noted}
-use Rattle.ring_knowledge.specs.RingRecords.{FollowsMarks, FollowsRing, least_crossing}
+use Rattle.std.proofs.Common.{◌≡◌, ◌+◌, ◌%◌, ◌<◌, ◌≤◌, ◌∷◌, ◌∙◌, ◌==◌, ◌&&◌, ◌||◌, ℕ, suc, zero, List, [], Bool, true, false, None, Some, refl, get_or, ap, sym, arith, inl, inr, length, set, subst, not, Contains, eq-eqb, ne_eqb}
+use Rattle.ring_knowledge.proofs.Words.{length-set, mod-lt, cases_Bool, cases_eq, false≢true, Shape, place_count, links, link_crossed, is_crossing, RingView, Writes, changed, floor_number, gives, gives_crossing, positions_given, crossings_given, is_step_given, is_way_given, link_of, place_count_pos, crossed_link, is_crossing-from, gives_is, position_given, position_given_is, crossing_given, crossing_given_is, RingRecord, is_noted, FollowsMarks, FollowsRing, least_crossing}
 use Rattle.ring_knowledge.proofs.Noted.{false_unless, noted_more}
 use Rattle.ring_knowledge.proofs.DueNumbers.{same_due, same_due_crossing, link_of-crossed}
 use Rattle.ring_knowledge.proofs.DueWrites.{GivesCrossing, gives_crossing-true}

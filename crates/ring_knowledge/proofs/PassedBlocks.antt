@@ -1,19 +1,6 @@
 -- The spots that events and completions let a record reach
-use Rattle.std.proofs.Common.{◌≡◌, ℕ, ◌+◌, ◌<◌, ◌≤◌, true, Some, refl, ap, ◌∙◌, arith, inl, inr}
-use Rattle.segments.specs.declared.spot.Spot.{Spot}
-use Rattle.segments.specs.declared.spot.Spot.TheVariants.{Data, Link}
-use Rattle.segments.specs.ShapeValue.{Shape}
-use Rattle.segments.specs.Shape.{IsShape}
-use Rattle.segments.specs.Spots.{number, after}
-use Rattle.segments.specs.RingView.{RingView, Holds, changed, declared, floor_number}
-use Rattle.segments.specs.Ceiling.{ceiling, given_count, is_data_below, is_way_given, named}
-use Rattle.segments.specs.Moves.{is_reached, are_given, are_ways_given}
-use Rattle.segments.specs.RingKeeps.{RingKeeps}
-use Rattle.segments.proofs.SpotOrder.{after_is}
-use Rattle.segments.proofs.Reaching.{given_count_declared}
-use Rattle.segments.proofs.Named.{named_ahead, below_is, ceiling_within}
-use Rattle.ring_knowledge.specs.declared.ring_record.RingRecord.{RingRecord}
-use Rattle.ring_knowledge.specs.RingRecords.{FollowsRing}
+use Rattle.std.proofs.Common.{◌≡◌, ◌+◌, ◌<◌, ◌≤◌, ◌∙◌, ℕ, true, Some, refl, ap, arith, inl, inr}
+use Rattle.ring_knowledge.proofs.Words.{Spot, Data, Link, Shape, IsShape, number, after, RingView, Holds, changed, declared, floor_number, ceiling, given_count, is_data_below, is_way_given, named, is_reached, are_given, are_ways_given, RingKeeps, after_is, given_count_declared, named_ahead, below_is, ceiling_within, RingRecord, FollowsRing}
 use Rattle.ring_knowledge.proofs.GivenCount.{count_is}
 use Rattle.ring_knowledge.proofs.StopSpots.{reached_block, reached_link, way_without}
 

@@ -1,22 +1,6 @@
 -- A record whose floor has moved on: the marks of what the controller has passed are cleared
-use Rattle.std.proofs.Common.{◌≡◌, ℕ, ◌+◌, ◌-◌, ◌%◌, ◌<◌, ◌≤◌, List, Bool, true, false, Some, ap, sym, ◌∙◌, arith, inl, inr, length}
-use Rattle.std.specs.Prelude.{◌&&◌, ◌||◌, not, max}
-use Rattle.std.proofs.lemmas.Bool.{cases_lt, cases_Bool, and_parts, false≢true}
-use Rattle.std.proofs.Math.Nat.{add-mod_right}
-use Rattle.segments.specs.declared.spot.Spot.{Spot}
-use Rattle.segments.specs.declared.spot.Spot.TheVariants.{Data, Link}
-use Rattle.segments.specs.ShapeValue.{Shape}
-use Rattle.segments.specs.Places.{place_count, link_crossed, is_crossing}
-use Rattle.segments.specs.Spots.{number}
-use Rattle.segments.specs.RingView.{RingView, Reaches, changed, floor_number}
-use Rattle.segments.specs.Ceiling.{is_way_given}
-use Rattle.segments.specs.Moves.{is_reached, are_given, are_ways_given}
-use Rattle.segments.specs.Givings.{link_of}
-use Rattle.segments.proofs.Positions.{place_count_pos}
-use Rattle.segments.proofs.Crossings.{crossed_link, crossing_positive, is_crossing-from, link_crossed-lap}
-use Rattle.ring_knowledge.specs.declared.ring_record.RingRecord.{RingRecord}
-use Rattle.ring_knowledge.specs.Marks.{AreCleared, is_noted}
-use Rattle.ring_knowledge.specs.RingRecords.{FollowsMarks, least_crossing}
+use Rattle.std.proofs.Common.{◌≡◌, ◌+◌, ◌-◌, ◌%◌, ◌<◌, ◌≤◌, ◌∙◌, ◌&&◌, ◌||◌, ℕ, List, Bool, true, false, Some, ap, sym, arith, inl, inr, length, not, max}
+use Rattle.ring_knowledge.proofs.Words.{cases_lt, cases_Bool, and_parts, false≢true, add-mod_right, Spot, Data, Link, Shape, place_count, link_crossed, is_crossing, number, RingView, Reaches, changed, floor_number, is_way_given, is_reached, are_given, are_ways_given, link_of, place_count_pos, crossed_link, crossing_positive, is_crossing-from, link_crossed-lap, RingRecord, AreCleared, is_noted, FollowsMarks, least_crossing}
 use Rattle.ring_knowledge.proofs.Ranges.{all_each}
 use Rattle.ring_knowledge.proofs.Noted.{noted_below, noted_due, noted_past}
 use Rattle.ring_knowledge.proofs.DueNumbers.{same_due, same_due_crossing, link_of-crossed}

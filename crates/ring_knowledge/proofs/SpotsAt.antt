@@ -1,20 +1,6 @@
 -- The first spot from another one on at an address, by the place of the address
-use Rattle.std.proofs.Common.{◌≡◌, ◌≢◌, ℕ, ◌+◌, ◌%◌, ◌<◌, ◌≤◌, Some, None, refl, ap, sym, ◌∙◌, arith, inl, inr, slice_index}
-use Rattle.std.proofs.lemmas.Bool.{cases_lt}
-use Rattle.segments.specs.declared.place.Place.TheVariants.{Data as AtData, Link as AtLink}
-use Rattle.segments.specs.declared.spot.Spot.{Spot}
-use Rattle.segments.specs.declared.spot.Spot.TheVariants.{Data, Link}
-use Rattle.segments.specs.ShapeValue.{Shape}
-use Rattle.segments.specs.Shape.{IsShape}
-use Rattle.segments.specs.Places.{place_count, address_of, links, link_crossed, link_address}
-use Rattle.segments.specs.PlaceAt.{place_at}
-use Rattle.segments.specs.Spots.{IsSpot, number, rank, spot_address}
-use Rattle.segments.proofs.DataPlaces.{link_aligned}
-use Rattle.segments.proofs.Positions.{address_aligned, address_of-mod, same_position}
-use Rattle.segments.proofs.PlaceAtLemmas.{place_at-Data, place_at-Link, place_at-None, place_at-None_link}
-use Rattle.segments.proofs.Crossings.{crosses, crossed_link, crossing_positive, is_crossing-from, link_address_is, same_crossing_at}
-use Rattle.segments.proofs.SpotOrder.{rank_least, rank_most, data_not_link}
-use Rattle.ring_knowledge.specs.SpotsAt.{IsFirstAt}
+use Rattle.std.proofs.Common.{◌≡◌, ◌≢◌, ◌+◌, ◌%◌, ◌<◌, ◌≤◌, ◌∙◌, ℕ, Some, None, refl, ap, sym, arith, inl, inr, slice_index}
+use Rattle.ring_knowledge.proofs.Words.{cases_lt, AtData, AtLink, Spot, Data, Link, Shape, IsShape, place_count, address_of, links, link_crossed, link_address, place_at, IsSpot, number, rank, spot_address, link_aligned, address_aligned, address_of-mod, same_position, place_at-Data, place_at-Link, place_at-None, place_at-None_link, crosses, crossed_link, crossing_positive, is_crossing-from, link_address_is, same_crossing_at, rank_least, rank_most, data_not_link, IsFirstAt}
 
 module _ (shape : Shape) (is : IsShape shape) (address : ℕ) where
   -- no spot lies off the boundaries of blocks

@@ -1,17 +1,6 @@
 -- The one spot, with a number between two that are less than a lap apart, at which a pointer and a cycle state stand
-use Rattle.std.proofs.Common.{◌≡◌, ◌≢◌, ℕ, suc, zero, ◌+◌, ◌-◌, ◌<◌, ◌≤◌, List, [], ◌∷◌, refl, Bool, true, false, Some, None, ap, sym, ◌∙◌, arith, inl, inr}
-use Rattle.std.specs.Prelude.{◌==◌, ◌&&◌, if◌then◌else◌, find}
-use Rattle.std.specs.List.{flat_map, range_with_len}
-use Rattle.std.proofs.lemmas.Bool.{cases_lt, cases_eq, cases_Bool, cond-true, cond-false, and_parts, and_from, eqb-true, eq-eqb, false≢true, false_from_ne_true}
-use Rattle.segments.specs.declared.spot.Spot.{Spot}
-use Rattle.segments.specs.declared.spot.Spot.TheVariants.{Data, Link}
-use Rattle.segments.specs.ShapeValue.{Shape}
-use Rattle.segments.specs.Shape.{IsShape}
-use Rattle.segments.specs.Places.{place_count}
-use Rattle.segments.specs.Spots.{IsSpot, is_spot, number, rank, spot_address, spot_cycle}
-use Rattle.segments.specs.Moves.{is_target, spots_between}
-use Rattle.segments.proofs.SpotOrder.{rank_least, rank_most, same_spot}
-use Rattle.ring_knowledge.specs.SpotsAt.{IsFirstAt}
+use Rattle.std.proofs.Common.{◌≡◌, ◌≢◌, ◌+◌, ◌-◌, ◌<◌, ◌≤◌, ◌∷◌, ◌∙◌, ◌==◌, ◌&&◌, if◌then◌else◌, ℕ, suc, zero, List, [], refl, Bool, true, false, Some, None, ap, sym, arith, inl, inr, find, eqb-true, eq-eqb}
+use Rattle.ring_knowledge.proofs.Words.{flat_map, range_with_len, cases_lt, cases_eq, cases_Bool, cond-true, cond-false, and_parts, and_from, false≢true, false_from_ne_true, Spot, Data, Link, Shape, IsShape, place_count, IsSpot, is_spot, number, rank, spot_address, spot_cycle, is_target, spots_between, rank_least, rank_most, same_spot, IsFirstAt}
 
 -- ---- a search among the spots with n numbers from a on
 

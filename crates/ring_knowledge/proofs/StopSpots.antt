@@ -1,19 +1,6 @@
 -- A spot at which a controller may have stopped is one before which all is given, on a ring that a record follows
-use Rattle.std.proofs.Common.{◌≡◌, ◌≢◌, ℕ, suc, zero, ◌+◌, ◌-◌, ◌<◌, ◌≤◌, Bool, true, false, None, Some, refl, ap, sym, ◌∙◌, arith, inl, inr}
-use Rattle.std.specs.Prelude.{◌==◌, ◌&&◌, ◌||◌, not, is_some, nat_lt, nat_le}
-use Rattle.std.proofs.lemmas.Bool.{cases_lt, cases_eq, and_parts, and_from, or_cases, or_left, or_right, lt-ltb, le-ltb, le-leb, leb-true, ltb-true, eq-eqb, eqb-true, ne_eqb, false≢true}
-use Rattle.segments.specs.declared.spot.Spot.{Spot}
-use Rattle.segments.specs.declared.spot.Spot.TheVariants.{Data, Link}
-use Rattle.segments.specs.ShapeValue.{Shape}
-use Rattle.segments.specs.Places.{place_count, is_crossing, link_crossed}
-use Rattle.segments.specs.RingView.{RingView}
-use Rattle.segments.specs.Ceiling.{is_way_given, is_step_given, given_count, is_stop_spot, stopped_number}
-use Rattle.segments.specs.Moves.{is_reached, are_given, are_ways_given}
-use Rattle.segments.specs.Givings.{link_of}
-use Rattle.segments.proofs.Crossings.{is_crossing-from}
-use Rattle.ring_knowledge.specs.declared.ring_record.RingRecord.{RingRecord}
-use Rattle.ring_knowledge.specs.Marks.{is_noted}
-use Rattle.ring_knowledge.specs.RingRecords.{FollowsMarks, FollowsRing, least_crossing}
+use Rattle.std.proofs.Common.{◌≡◌, ◌≢◌, ◌+◌, ◌-◌, ◌<◌, ◌≤◌, ◌∙◌, ◌==◌, ◌&&◌, ◌||◌, ℕ, suc, zero, Bool, true, false, None, Some, refl, ap, sym, arith, inl, inr, not, is_some, nat_lt, nat_le, lt-ltb, le-ltb, le-leb, leb-true, ltb-true, eq-eqb, eqb-true, ne_eqb}
+use Rattle.ring_knowledge.proofs.Words.{cases_lt, cases_eq, and_parts, and_from, or_cases, or_left, or_right, false≢true, Spot, Data, Link, Shape, place_count, is_crossing, link_crossed, RingView, is_way_given, is_step_given, given_count, is_stop_spot, stopped_number, is_reached, are_given, are_ways_given, link_of, is_crossing-from, RingRecord, is_noted, FollowsMarks, FollowsRing, least_crossing}
 use Rattle.ring_knowledge.proofs.Ranges.{all_from, all_each}
 use Rattle.ring_knowledge.proofs.DueNumbers.{link_of-crossed}
 use Rattle.ring_knowledge.proofs.GivenCount.{count_is}

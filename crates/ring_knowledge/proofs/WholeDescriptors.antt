@@ -1,16 +1,6 @@
 -- Whether the further blocks of a descriptor are given, on a ring that a record follows
-use Rattle.std.proofs.Common.{◌≡◌, ℕ, ◌+◌, ◌-◌, ◌%◌, ◌<◌, ◌≤◌, List, Bool, true, false, Some, None, refl, ap, sym, ◌∙◌, arith, slice_index}
-use Rattle.std.specs.Prelude.{◌&&◌, ◌||◌, not, is_some}
-use Rattle.std.specs.List.{list_all, range_with_len}
-use Rattle.segments.specs.ShapeValue.{Shape}
-use Rattle.segments.specs.Places.{place_count, link_crossed, is_crossing}
-use Rattle.segments.specs.RingView.{RingView, floor_number}
-use Rattle.segments.specs.Ceiling.{is_step_given, is_way_given}
-use Rattle.segments.specs.Givings.{is_not_whole, descriptor_length, link_of}
-use Rattle.segments.proofs.Crossings.{is_crossing-from}
-use Rattle.ring_knowledge.specs.declared.ring_record.RingRecord.{RingRecord}
-use Rattle.ring_knowledge.specs.Marks.{is_noted}
-use Rattle.ring_knowledge.specs.RingRecords.{FollowsMarks, least_crossing}
+use Rattle.std.proofs.Common.{◌≡◌, ◌+◌, ◌-◌, ◌%◌, ◌<◌, ◌≤◌, ◌∙◌, ◌&&◌, ◌||◌, ℕ, List, Bool, true, false, Some, None, refl, ap, sym, arith, slice_index, not, is_some}
+use Rattle.ring_knowledge.proofs.Words.{list_all, range_with_len, Shape, place_count, link_crossed, is_crossing, RingView, floor_number, is_step_given, is_way_given, is_not_whole, descriptor_length, link_of, is_crossing-from, RingRecord, is_noted, FollowsMarks, least_crossing}
 use Rattle.ring_knowledge.proofs.Ranges.{all_from, all_each}
 use Rattle.ring_knowledge.proofs.DueNumbers.{link_of-crossed}
 

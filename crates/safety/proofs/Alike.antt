@@ -1,22 +1,7 @@
 -- Two knowledges of which an event says the same: what it reads and what it changes is alike, but that in one more may be given,
 -- and rings may be held at greater numbers
-use Rattle.std.specs.Prelude.{◌≡◌, ℕ, ◌≤◌, ◌==◌, ◌&&◌, true, not, nat_lt, Option, None, Some, unwrap_or, is_none}
-use Rattle.std.proofs.Common.{arith, refl, sym, ap, subst, inl, inr}
-use Rattle.std.proofs.lemmas.Bool.{cases_eq, false≢true, and_parts, and_from, or_cases, or_left, or_right, ltb-true, lt-ltb, leb-true, le-leb, eqb-true, eq-eqb}
-use Rattle.segments.specs.declared.spot.Spot.{Spot}
-use Rattle.segments.specs.declared.spot.Spot.TheVariants.{Data, Link}
-use Rattle.segments.specs.ShapeValue.{Shape}
-use Rattle.segments.specs.Places.{is_crossing}
-use Rattle.segments.specs.Spots.{number}
-use Rattle.segments.specs.RingView.{RingView, RingChange, Reaches, Holds, changed, floor_number}
-use Rattle.segments.specs.Ceiling.{given_count, ceiling, is_way_given, is_open, is_data_below, is_stop_spot, stopped_number}
-use Rattle.segments.proofs.StepFacts.{GivesMore, step_more}
-use Rattle.segments.proofs.GivenCount.{given_count_grows}
-use Rattle.traces.specs.declared.header.Header.{Header}
-use Rattle.traces.specs.Header.{shape_of}
-use Rattle.ring_knowledge.specs.Known.{Known}
-use Rattle.ring_knowledge.specs.Rings.{on_ring}
-use Rattle.safety.specs.Beneath.{IsHeldMore}
+use Rattle.std.proofs.Common.{◌≡◌, ◌≤◌, ◌==◌, ◌&&◌, ℕ, true, not, nat_lt, Option, None, Some, unwrap_or, is_none, arith, refl, sym, ap, subst, inl, inr, ltb-true, lt-ltb, leb-true, le-leb, eqb-true, eq-eqb}
+use Rattle.safety.proofs.Words.{cases_eq, false≢true, and_parts, and_from, or_cases, or_left, or_right, Spot, Data, Link, Shape, is_crossing, number, RingView, RingChange, Reaches, Holds, changed, floor_number, given_count, ceiling, is_way_given, is_open, is_data_below, is_stop_spot, stopped_number, GivesMore, step_more, given_count_grows, Header, shape_of, Known, on_ring, IsHeldMore}
 use Rattle.safety.proofs.DriverRows.{ring_here, ring_elsewhere}
 
 pub record RingAlike (v w : RingView) : Type 0 where

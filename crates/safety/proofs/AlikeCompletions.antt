@@ -1,28 +1,6 @@
 -- A Command Completion Event that is possible at one of two knowledges that are alike: it is possible at the other, and leaves both alike
-use Rattle.std.specs.Prelude.{◌≡◌, ℕ, ◌==◌, ◌||◌, if◌then◌else◌, true, false, not, List, Option, None, Some}
-use Rattle.std.proofs.Common.{arith, refl, sym, ◌∙◌, ap, subst, inl, inr}
-use Rattle.std.proofs.lemmas.Bool.{false≢true, and_parts, and_from, or_parts, or_from, not-false, not_from_true, ltb-true, lt-ltb}
-use Rattle.trb.specs.declared.block.Block.{Block}
-use Rattle.trb.specs.Block.{pointer, code, slot}
-use Rattle.segments.specs.declared.spot.Spot.{Spot}
-use Rattle.segments.specs.Places.{address_of}
-use Rattle.segments.specs.Spots.{number, after}
-use Rattle.segments.specs.RingView.{Reaches}
-use Rattle.segments.specs.Ceiling.{ceiling}
-use Rattle.segments.proofs.Search.{cases_option}
-use Rattle.commands.specs.declared.command.Command.{Command}
-use Rattle.commands.specs.declared.command.Command.TheVariants.{StopEndpoint}
-use Rattle.commands.specs.Command.{may_answer_slot, is_stop_of}
-use Rattle.commands.specs.States.{can_succeed}
-use Rattle.commands.specs.Changes.{Change, changes}
-use Rattle.traces.specs.declared.header.Header.{Header}
-use Rattle.traces.specs.declared.register.Register.TheVariants.{Config}
-use Rattle.traces.specs.Header.{shape_of, command_id}
-use Rattle.traces.specs.Register.{register_or_zero}
-use Rattle.ring_knowledge.specs.Known.{Known}
-use Rattle.ring_knowledge.specs.Rings.{on_ring, command_at, next_command}
-use Rattle.ring_knowledge.specs.Completions.{changed_by_all, succeeded, stop_ended, finished, completed}
-use Rattle.ownership_rules.specs.Events.{was_stop_seen, can_finish, may_be_taken, is_stopping_now, is_impossible_completion}
+use Rattle.std.proofs.Common.{◌≡◌, ◌==◌, ◌||◌, if◌then◌else◌, ◌∙◌, ℕ, true, false, not, List, Option, None, Some, arith, refl, sym, ap, subst, inl, inr, ltb-true, lt-ltb}
+use Rattle.safety.proofs.Words.{false≢true, and_parts, and_from, or_parts, or_from, not-false, not_from_true, Block, pointer, code, slot, Spot, address_of, number, after, Reaches, ceiling, cases_option, Command, StopEndpoint, may_answer_slot, is_stop_of, can_succeed, Change, changes, Header, Config, shape_of, command_id, register_or_zero, Known, on_ring, command_at, next_command, changed_by_all, succeeded, stop_ended, finished, completed, was_stop_seen, can_finish, may_be_taken, is_stopping_now, is_impossible_completion}
 use Rattle.safety.proofs.Alike.{Alike, ceiling_more, reached_alike}
 use Rattle.safety.proofs.AlikeTransfers.{both_sides, seen_put}
 use Rattle.safety.proofs.AlikeChanges.{TargetsAre, changes_alike}

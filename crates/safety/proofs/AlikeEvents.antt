@@ -1,24 +1,6 @@
 -- An event that may be read at one of two knowledges that are alike: it may be read at the other, and leaves both alike
-use Rattle.std.specs.Prelude.{◌≡◌, ℕ, ◌-◌, ◌≤◌, ◌==◌, ◌&&◌, ◌||◌, false, not, [], Some}
-use Rattle.std.proofs.Common.{arith, refl, ◌∙◌, ap}
-use Rattle.std.proofs.lemmas.Bool.{or_parts, or_from, not-false, le-ltb, ltb-false}
-use Rattle.trb.specs.declared.block.Block.{Block}
-use Rattle.trb.specs.declared.kind.BlockKind.{BlockKind}
-use Rattle.trb.specs.declared.kind.BlockKind.TheVariants.{TransferEvent, CommandCompletion}
-use Rattle.trb.specs.Block.{kind, cycle}
-use Rattle.trb.specs.Kind.{is_event, is_transfer_event}
-use Rattle.segments.specs.declared.spot.Spot.{Spot}
-use Rattle.segments.specs.Places.{cycle_of}
-use Rattle.segments.specs.Ceiling.{named}
-use Rattle.traces.specs.declared.header.Header.{Header}
-use Rattle.traces.specs.declared.row.Row.TheVariants.{Read}
-use Rattle.traces.specs.declared.register.Register.TheVariants.{Config}
-use Rattle.traces.specs.Header.{shape_of, event_shape, event_size}
-use Rattle.traces.specs.Register.{register_or_zero}
-use Rattle.ring_knowledge.specs.Known.{Known}
-use Rattle.ring_knowledge.specs.Learned.{event_read, learned}
-use Rattle.ownership_rules.specs.Events.{is_in_profile, is_impossible_by_kind, is_past_room, is_impossible, event_tests}
-use Rattle.ownership_rules.specs.Rules.{tests, broken}
+use Rattle.std.proofs.Common.{◌≡◌, ◌-◌, ◌≤◌, ◌==◌, ◌&&◌, ◌||◌, ◌∙◌, ℕ, false, not, [], Some, arith, refl, ap, le-ltb, ltb-false}
+use Rattle.safety.proofs.Words.{or_parts, or_from, not-false, Block, BlockKind, TransferEvent, CommandCompletion, kind, cycle, is_event, is_transfer_event, Spot, cycle_of, named, Header, Read, Config, shape_of, event_shape, event_size, register_or_zero, Known, event_read, learned, is_in_profile, is_impossible_by_kind, is_past_room, is_impossible, event_tests, tests, broken}
 use Rattle.safety.proofs.TestsPassed.{AllFail, clean_tests, tests_fail}
 use Rattle.safety.proofs.EventRead.{event_broken}
 use Rattle.safety.proofs.Alike.{Alike}

@@ -1,24 +1,6 @@
 -- Areas and ranges under lease that have no byte in common
-use Rattle.std.specs.Prelude.{◌≡◌, ◌≢◌, ℕ, ◌+◌, ◌*◌, ◌/◌, ◌^◌, ◌<◌, ◌≤◌, ◌⊎◌, ◌||◌, Bool, false, List, [], ◌∷◌, nat_lt, nat_le, Option, None, Some}
-use Rattle.std.specs.List.{list_any, flat_map}
-use Rattle.std.proofs.Common.{arith, refl, sym, ◌∙◌, inl, inr}
-use Rattle.std.proofs.lemmas.Bool.{cases_lt, and_left, and_right, or_parts, or_from, and_parts, and_cases, false≢true, false_from_ne_true, lt-ltb, le-ltb, ltb-true, leb-true}
-use Rattle.std.proofs.lemmas.List.Folds.{list_any-append}
-use Rattle.segments.specs.Places.{is_in, overlap}
-use Rattle.contexts.specs.Contexts.{device_context_bytes, input_context_bytes}
-use Rattle.commands.specs.declared.command.Command.{Command}
-use Rattle.commands.specs.Command.{named_context}
-use Rattle.event_ring.specs.EventRing.{table_bytes}
-use Rattle.traces.specs.Header.{event_shape}
-use Rattle.traces.specs.Register.{base_address}
-use Rattle.traces.specs.declared.register.Register.TheVariants.{Erstba}
-use Rattle.traces.specs.declared.header.Header.{Header}
-use Rattle.traces.specs.Header.{touches_ring}
-use Rattle.ring_knowledge.specs.Known.{Known}
-use Rattle.ring_knowledge.specs.Writes.{entry_of}
-use Rattle.ownership_rules.specs.OpenLeases.{Range, SegmentTable, Use, InputContext, SlotEntry, DeviceContext, slots, covers, lease_start, lease_bytes, range_of_device, device_ranges, open_ranges, open_leases, is_leased}
-use Rattle.ownership_rules.specs.Areas.{is_bad_area, is_in_range_lease, is_soiled}
-use Rattle.safety.specs.Keeps.{IsUnfinished}
+use Rattle.std.proofs.Common.{◌≡◌, ◌≢◌, ◌+◌, ◌*◌, ◌/◌, ◌^◌, ◌<◌, ◌≤◌, ◌⊎◌, ◌||◌, ◌∷◌, ◌∙◌, ℕ, Bool, false, List, [], nat_lt, nat_le, Option, None, Some, arith, refl, sym, inl, inr, lt-ltb, le-ltb, ltb-true, leb-true}
+use Rattle.safety.proofs.Words.{list_any, flat_map, cases_lt, and_left, and_right, or_parts, or_from, and_parts, and_cases, false≢true, false_from_ne_true, list_any-append, is_in, overlap, device_context_bytes, input_context_bytes, Command, named_context, table_bytes, event_shape, base_address, Erstba, Header, touches_ring, Known, entry_of, Range, SegmentTable, Use, InputContext, SlotEntry, DeviceContext, slots, covers, lease_start, lease_bytes, range_of_device, device_ranges, open_ranges, open_leases, is_leased, is_bad_area, is_in_range_lease, is_soiled, IsUnfinished}
 use Rattle.safety.proofs.SafeContext.{none_in_range}
 use Rattle.safety.proofs.UnfinishedLists.{fails_in, context_leased, device_listed, device_leased, entry_leased, table_leased}
 

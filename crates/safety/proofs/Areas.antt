@@ -1,21 +1,7 @@
 -- Where an unfinished command's input context lies: in no ring, and clean
-use Rattle.std.specs.Prelude.{◌≡◌, ℕ, suc, zero, ◌+◌, ◌*◌, ◌/◌, ◌<◌, ◌≤◌, Bool, true, false, nat_lt, Some}
-use Rattle.std.specs.List.{list_any, range_with_len}
-use Rattle.std.proofs.Common.{arith, sym, ◌∙◌, ap, inl, inr}
-use Rattle.std.proofs.lemmas.Bool.{cases_eq, false_from_ne_true, false≢true, or_parts, and_parts, and_from, lt-ltb, leb-true, ltb-true}
-use Rattle.segments.specs.ShapeValue.{Shape}
-use Rattle.segments.specs.Places.{is_inside, overlap, segment_has, touches}
-use Rattle.commands.specs.declared.command.Command.{Command}
-use Rattle.commands.specs.Command.{named_context}
-use Rattle.contexts.specs.Contexts.{input_context_bytes}
-use Rattle.traces.specs.declared.header.Header.{Header}
-use Rattle.traces.specs.declared.ring.Ring.{Ring}
-use Rattle.traces.specs.Header.{touches_ring}
-use Rattle.ring_knowledge.specs.Known.{Known}
-use Rattle.ownership_rules.specs.Areas.{is_bad_area, is_soiled}
-use Rattle.ownership_rules.specs.Commands.{is_bad_command, has_bad_context}
-use Rattle.ownership_rules.proofs.Among.{IsIn, any_of, some_of}
-use Rattle.safety.specs.Keeps.{IsUnfinished, DriverKeeps}
+use Rattle.std.proofs.Common.{◌≡◌, ◌+◌, ◌*◌, ◌/◌, ◌<◌, ◌≤◌, ◌∙◌, ℕ, suc, zero, Bool, true, false, nat_lt, Some, arith, sym, ap, inl, inr, lt-ltb, leb-true, ltb-true}
+use Rattle.safety.proofs.Words.{list_any, range_with_len, cases_eq, false_from_ne_true, false≢true, or_parts, and_parts, and_from, Shape, is_inside, overlap, segment_has, Command, named_context, input_context_bytes, Header, Ring, touches_ring, Known, is_bad_area, is_soiled, is_bad_command, has_bad_context, IsIn, any_of, some_of, IsUnfinished, DriverKeeps}
+use Rattle.segments.specs.Places.{touches}
 use Rattle.safety.proofs.Stored.{IsInNoContext}
 
 none_of_range : (test : ℕ → Bool) (a n : ℕ) → list_any test (range_with_len a n) ≡ false → (i : ℕ) → a ≤ i → i < a + n → test i ≡ false

@@ -1,28 +1,6 @@
 -- What a controller finds at its pointer's spot on a ring of a rule-keeping driver: a block or a Link that was given, or the other cycle
-use Rattle.std.specs.Prelude.{◌≡◌, ◌≢◌, ℕ, ◌+◌, ◌-◌, ◌%◌, ◌<◌, ◌≤◌, true, false, Some, slice_get, []}
-use Rattle.std.proofs.Common.{arith, refl, sym, ◌∙◌, ap, inl, inr, get_or}
-use Rattle.std.proofs.lemmas.Bool.{cases_lt, false≢true, and_from}
-use Rattle.std.proofs.lemmas.Option.{slice_get-get_or}
-use Rattle.trb.specs.declared.block.Block.{Block}
-use Rattle.trb.specs.Block.{block_at, cycle, kind, with_cycle}
-use Rattle.trb.specs.Kind.{is_link}
-use Rattle.trb.proofs.BlockLemmas.{cycle-with_cycle}
-use Rattle.segments.specs.declared.spot.Spot.{Spot}
-use Rattle.segments.specs.declared.spot.Spot.TheVariants.{Data, Link}
-use Rattle.segments.specs.ShapeValue.{Shape}
-use Rattle.segments.specs.Places.{place_count, address_of, cycle_of, link_crossed, link_address}
-use Rattle.segments.specs.Spots.{IsSpot, rank, number}
-use Rattle.segments.specs.Shape.{IsShape}
-use Rattle.segments.specs.RingView.{RingView, declared, floor_number, is_crossing_due}
-use Rattle.segments.specs.Ceiling.{given_count, is_way_given, is_step_given}
-use Rattle.segments.specs.Givings.{is_wrong_link}
-use Rattle.segments.specs.RingKeeps.{RingKeeps}
-use Rattle.segments.proofs.Positions.{cycle_of_bit}
-use Rattle.segments.proofs.Crossings.{crossed_link}
-use Rattle.segments.proofs.SpotOrder.{rank_least, rank_most}
-use Rattle.segments.proofs.Giving.{due_from, crossing_due_from}
-use Rattle.segments.proofs.GivenCount.{given_count_stops}
-use Rattle.segments.proofs.Reaching.{given_count_near}
+use Rattle.std.proofs.Common.{◌≡◌, ◌≢◌, ◌+◌, ◌-◌, ◌%◌, ◌<◌, ◌≤◌, ◌∙◌, ℕ, true, false, Some, slice_get, [], arith, refl, sym, ap, inl, inr, get_or}
+use Rattle.safety.proofs.Words.{cases_lt, false≢true, and_from, slice_get-get_or, Block, block_at, cycle, kind, with_cycle, is_link, cycle-with_cycle, Spot, Data, Link, Shape, place_count, address_of, cycle_of, link_crossed, link_address, IsSpot, rank, number, IsShape, RingView, declared, floor_number, is_crossing_due, given_count, is_way_given, is_step_given, is_wrong_link, RingKeeps, cycle_of_bit, crossed_link, rank_least, rank_most, due_from, crossing_due_from, given_count_stops, given_count_near}
 
 -- where the pointer of a controller may stand
 pub record MayStand (shape : Shape) (v : RingView) (t : Spot) : Type 0 where

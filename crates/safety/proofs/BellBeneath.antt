@@ -1,31 +1,6 @@
 -- The command ring's first doorbell beneath an event that isn't read yet: the two may change places
-use Rattle.std.specs.Prelude.{◌≡◌, ℕ, ◌-◌, ◌==◌, ◌&&◌, ◌||◌, if◌then◌else◌, Bool, true, false, not, [], ◌∷◌, Some, is_none, nat_lt}
-use Rattle.std.proofs.Common.{arith, refl, sym, ◌∙◌, ap, subst}
-use Rattle.std.proofs.lemmas.Bool.{false≢true, and_parts, or_parts, or_from, not-false, not_from_true, cond-true, cond-false, ltb-true}
-use Rattle.trb.specs.declared.block.Block.{Block}
-use Rattle.trb.specs.declared.kind.BlockKind.{BlockKind}
-use Rattle.trb.specs.declared.kind.BlockKind.TheVariants.{TransferEvent, CommandCompletion}
-use Rattle.trb.specs.Block.{kind, cycle}
-use Rattle.trb.specs.Kind.{is_event, is_transfer_event, is_command_completion}
-use Rattle.segments.specs.Places.{cycle_of}
-use Rattle.segments.specs.RingView.{Opens}
-use Rattle.segments.specs.Ceiling.{ceiling, is_open}
-use Rattle.segments.proofs.Named.{ceiling_held}
-use Rattle.commands.specs.Command.{is_stop_of}
-use Rattle.traces.specs.declared.header.Header.{Header}
-use Rattle.traces.specs.declared.row.Row.TheVariants.{Bell, Read}
-use Rattle.traces.specs.Header.{IsHeader, shape_of, command_id, event_shape, event_size}
-use Rattle.ring_knowledge.specs.Known.{Known}
-use Rattle.ring_knowledge.specs.Rings.{on_ring, command_at, next_command}
-use Rattle.ring_knowledge.specs.Registers.{endpoint_rung, rung}
-use Rattle.ring_knowledge.specs.Learned.{event_read, learned}
-use Rattle.ownership_rules.specs.Events.{is_in_profile, may_be_taken, is_stopping_now, is_past_room, is_impossible_by_kind, is_impossible, event_tests}
-use Rattle.ownership_rules.specs.Doorbells.{is_bad_bell, is_bad_doorbell, doorbell_tests}
-use Rattle.ownership_rules.specs.Rules.{tests, broken}
-use Rattle.ownership_rules.specs.Refusal.{broken_of}
-use Rattle.ownership_rules.specs.declared.refusal.Refusal.TheVariants.{AfterStop, BadDoorbell}
-use Rattle.safety.specs.Keeps.{DriverKeeps}
-use Rattle.safety.specs.Beneath.{HeldMore, is_open_if, Square}
+use Rattle.std.proofs.Common.{◌≡◌, ◌-◌, ◌==◌, ◌&&◌, ◌||◌, if◌then◌else◌, ◌∷◌, ◌∙◌, ℕ, Bool, true, false, not, [], Some, is_none, nat_lt, arith, refl, sym, ap, subst, ltb-true}
+use Rattle.safety.proofs.Words.{false≢true, and_parts, or_parts, or_from, not-false, not_from_true, cond-true, cond-false, Block, BlockKind, TransferEvent, CommandCompletion, kind, cycle, is_event, is_transfer_event, is_command_completion, cycle_of, Opens, ceiling, is_open, ceiling_held, is_stop_of, Header, Bell, Read, IsHeader, shape_of, command_id, event_shape, event_size, Known, on_ring, command_at, next_command, endpoint_rung, rung, event_read, learned, is_in_profile, may_be_taken, is_stopping_now, is_past_room, is_impossible_by_kind, is_impossible, event_tests, is_bad_bell, is_bad_doorbell, doorbell_tests, tests, broken, broken_of, AfterStop, BadDoorbell, DriverKeeps, HeldMore, is_open_if, Square}
 use Rattle.safety.proofs.TestsPassed.{AllFail, clean_tests, tests_fail}
 use Rattle.safety.proofs.EventRead.{event_broken}
 use Rattle.safety.proofs.CleanRows.{EventFacts, event_facts, BellFacts, bell_facts}

@@ -1,24 +1,6 @@
 -- A take with which an endpoint halts or goes to Error: what the event names, and the ring behind it
-use Rattle.std.specs.Prelude.{◌≡◌, ℕ, ◌+◌, ◌-◌, ◌<◌, ◌≤◌, true, false, List, [], ◌∷◌, length, drop, map, Some}
-use Rattle.std.specs.List.{range_with_len}
-use Rattle.std.proofs.Common.{arith, refl, sym, ◌∙◌, ap, get_or, length-drop}
-use Rattle.std.proofs.lemmas.Bool.{false≢true, eqb-true}
-use Rattle.std.proofs.lemmas.List.{drop-drop}
-use Rattle.std.proofs.lemmas.List.FromFn.{get_or-map-range_with_len}
-use Rattle.segments.specs.declared.spot.Spot.{Spot}
-use Rattle.segments.specs.declared.spot.Spot.TheVariants.{Data}
-use Rattle.segments.specs.ShapeValue.{Shape}
-use Rattle.segments.specs.Places.{address_of}
-use Rattle.segments.specs.Spots.{number, after}
-use Rattle.segments.specs.Shape.{IsShape}
-use Rattle.segments.specs.RingView.{RingView, floor_number}
-use Rattle.segments.specs.Ceiling.{is_way_given, named}
-use Rattle.segments.specs.RingKeeps.{RingKeeps}
-use Rattle.traces.specs.declared.header.Header.{Header}
-use Rattle.world_state.specs.World.{RingEvent, Took, Placed}
-use Rattle.world_state.specs.Takes.{takes_of}
-use Rattle.controller_model.specs.Posts.{is_last}
-use Rattle.safety.specs.Matches.{Newest, RingState, RingMatches, Unreported}
+use Rattle.std.proofs.Common.{◌≡◌, ◌+◌, ◌-◌, ◌<◌, ◌≤◌, ◌∷◌, ◌∙◌, ℕ, true, false, List, [], length, drop, map, Some, arith, refl, sym, ap, get_or, length-drop, eqb-true, drop-drop}
+use Rattle.safety.proofs.Words.{range_with_len, false≢true, get_or-map-range_with_len, Spot, Data, Shape, address_of, number, after, IsShape, RingView, floor_number, is_way_given, named, RingKeeps, Header, RingEvent, Took, Placed, takes_of, is_last, Newest, RingState, RingMatches, Unreported}
 use Rattle.safety.proofs.NoWait.{ceiling_held}
 use Rattle.safety.proofs.LookedRing.{number_after}
 use Rattle.safety.proofs.ReportedRing.{open_takes, drop_range, low, count, named_near, floor_before}

@@ -1,19 +1,6 @@
 -- What a register write, a doorbell or an event that breaks no rule says
-use Rattle.std.specs.Prelude.{◌≡◌, ℕ, ◌==◌, ◌&&◌, ◌||◌, if◌then◌else◌, not, true, false, []}
-use Rattle.std.proofs.lemmas.Bool.{or_parts, not-false}
-use Rattle.trb.specs.declared.block.Block.{Block}
-use Rattle.trb.specs.Block.{kind, cycle}
-use Rattle.trb.specs.Kind.{is_transfer_event, is_event}
-use Rattle.segments.specs.Places.{cycle_of}
-use Rattle.traces.specs.declared.header.Header.{Header}
-use Rattle.traces.specs.declared.register.Register.{Register}
-use Rattle.traces.specs.declared.row.Row.TheVariants.{Reg, Bell, Read}
-use Rattle.traces.specs.Header.{event_shape}
-use Rattle.ring_knowledge.specs.Known.{Known}
-use Rattle.ownership_rules.specs.Registers.{is_bad_register, is_bad_erdp, register_tests}
-use Rattle.ownership_rules.specs.Doorbells.{is_bad_bell, is_bad_doorbell, doorbell_tests}
-use Rattle.ownership_rules.specs.Events.{is_in_profile, is_impossible_by_kind, is_past_room, is_impossible, event_tests}
-use Rattle.ownership_rules.specs.Rules.{tests, broken}
+use Rattle.std.proofs.Common.{◌≡◌, ◌==◌, ◌&&◌, ◌||◌, if◌then◌else◌, ℕ, not, true, false, []}
+use Rattle.safety.proofs.Words.{or_parts, not-false, Block, kind, cycle, is_transfer_event, is_event, cycle_of, Header, Register, Reg, Bell, Read, event_shape, Known, is_bad_register, is_bad_erdp, register_tests, is_bad_bell, is_bad_doorbell, doorbell_tests, is_in_profile, is_impossible_by_kind, is_past_room, is_impossible, event_tests, tests, broken}
 use Rattle.safety.proofs.TestsPassed.{AllFail, tests_fail}
 
 pub record RegisterFacts (h : Header) (k : Known) (r : Register) (v : ℕ) : Type 0 where

@@ -1,29 +1,7 @@
 -- A write that gives a command and an event that isn't read yet: the event stays possible, the command is unfinished behind it, and what
 -- is known is the same both ways but for the numbers at which rings are held
-use Rattle.std.specs.Prelude.{◌≡◌, ◌≢◌, ℕ, ◌⊎◌, Bool, false, true, [], Option, None, Some, option_and_then, slice_get}
-use Rattle.std.proofs.Common.{arith, refl, sym, ◌∙◌, ap, subst, inl, inr}
-use Rattle.std.proofs.Math.Path.{fun_ext}
-use Rattle.std.proofs.lemmas.Bool.{or_right}
-use Rattle.std.proofs.lemmas.Option.{none-some, same_Some}
-use Rattle.trb.specs.declared.block.Block.{Block}
-use Rattle.segments.specs.Places.{is_inside}
-use Rattle.segments.specs.RingView.{RingView, Writes, changed, is_due, gives, positions_given}
-use Rattle.segments.proofs.Search.{cases_option}
-use Rattle.segments.proofs.Giving.{gives_is}
-use Rattle.segments.proofs.Elsewhere.{address_inside}
-use Rattle.segments.proofs.DueLists.{position_given_is}
-use Rattle.commands.specs.declared.command.Command.{Command}
-use Rattle.commands.specs.declared.command.Command.TheVariants.{NoOp, EnableSlot, DisableSlot, AddressDevice, ConfigureEndpoint, EvaluateContext, ResetEndpoint, StopEndpoint, SetTrDequeue, ResetDevice}
-use Rattle.traces.specs.declared.header.Header.{Header}
-use Rattle.traces.specs.declared.row.Row.TheVariants.{Write, Read}
-use Rattle.traces.specs.Header.{IsHeader, shape_of, command_id}
-use Rattle.ring_knowledge.specs.Known.{Known}
-use Rattle.ring_knowledge.specs.Rings.{command_at}
-use Rattle.ring_knowledge.specs.Writes.{with_device, with_word, written, taken_device, device_named, no_device, command_given}
-use Rattle.ring_knowledge.specs.Learned.{learned}
-use Rattle.ownership_rules.specs.Rules.{broken}
-use Rattle.safety.specs.Beneath.{IsHeldMore, HeldMore}
-use Rattle.safety.specs.Keeps.{IsDriverRing, IsUnfinished, CommandKeeps, DriverKeeps}
+use Rattle.std.proofs.Common.{◌≡◌, ◌≢◌, ◌⊎◌, ◌∙◌, ℕ, Bool, false, true, [], Option, None, Some, option_and_then, slice_get, arith, refl, sym, ap, subst, inl, inr}
+use Rattle.safety.proofs.Words.{fun_ext, or_right, none-some, same_Some, Block, is_inside, RingView, Writes, changed, is_due, gives, positions_given, cases_option, gives_is, address_inside, position_given_is, Command, NoOp, EnableSlot, DisableSlot, AddressDevice, ConfigureEndpoint, EvaluateContext, ResetEndpoint, StopEndpoint, SetTrDequeue, ResetDevice, Header, Write, Read, IsHeader, shape_of, command_id, Known, command_at, with_device, with_word, written, taken_device, device_named, no_device, command_given, learned, broken, IsHeldMore, HeldMore, IsDriverRing, IsUnfinished, CommandKeeps, DriverKeeps}
 use Rattle.safety.proofs.TestsPassed.{clean_tests}
 use Rattle.safety.proofs.CleanRows.{event_facts}
 use Rattle.safety.proofs.Headers.{ring_shape}

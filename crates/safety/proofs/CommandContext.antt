@@ -1,23 +1,7 @@
 -- Behind an event that is read before it, a command that a write gives has the same input context, and may move the same rings
-use Rattle.std.specs.Prelude.{◌≡◌, ℕ, false, Bool, Option, Some, None, []}
-use Rattle.std.proofs.Common.{refl, ◌∙◌, ap, subst}
-use Rattle.std.proofs.lemmas.Bool.{or_parts, or_from}
-use Rattle.trb.specs.declared.block.Block.{Block}
-use Rattle.commands.specs.declared.command.Command.{Command}
-use Rattle.commands.specs.declared.command.Command.TheVariants.{SetTrDequeue}
-use Rattle.contexts.specs.Contexts.{input_context_bytes}
-use Rattle.traces.specs.declared.header.Header.{Header}
-use Rattle.traces.specs.declared.row.Row.TheVariants.{Write, Read}
-use Rattle.traces.specs.Header.{IsHeader}
-use Rattle.ring_knowledge.specs.Known.{Known}
-use Rattle.ring_knowledge.specs.Writes.{command_given}
-use Rattle.ring_knowledge.specs.Learned.{learned}
+use Rattle.std.proofs.Common.{◌≡◌, ◌∙◌, ℕ, false, Bool, Option, Some, None, [], refl, ap, subst}
+use Rattle.safety.proofs.Words.{or_parts, or_from, Block, Command, SetTrDequeue, input_context_bytes, Header, Write, Read, IsHeader, Known, command_given, learned, is_bad_area, is_soiled, covers, device_ranges, is_bad_dequeue, is_bad_move, broken, DriverKeeps, MovesIf}
 use Rattle.ownership_rules.specs.Commands as commands
-use Rattle.ownership_rules.specs.Areas.{is_bad_area, is_soiled}
-use Rattle.ownership_rules.specs.OpenLeases.{covers, device_ranges}
-use Rattle.ownership_rules.specs.Moves.{is_bad_dequeue, is_bad_move}
-use Rattle.ownership_rules.specs.Rules.{broken}
-use Rattle.safety.specs.Keeps.{DriverKeeps, MovesIf}
 use Rattle.safety.proofs.AreaFacts.{AreaParts, area_parts, area_from, clean_same}
 use Rattle.safety.proofs.WriteBeside.{context_parts, context_from}
 use Rattle.safety.proofs.LeasesBehind.{Behind, devices_fewer, none_fewer}

@@ -1,22 +1,8 @@
 -- Behind an event that is read before it, a command that a write gives names a slot and an endpoint that are there, and its contexts lie and
 -- say what they may
-use Rattle.std.specs.Prelude.{◌≡◌, ℕ, ◌==◌, ◌&&◌, ◌||◌, not, true, false, [], Option, None, Some}
-use Rattle.std.proofs.Common.{refl, ◌∙◌}
-use Rattle.std.proofs.lemmas.Bool.{or_parts, or_from}
-use Rattle.trb.specs.declared.block.Block.{Block}
-use Rattle.contexts.specs.Contexts.{input_add_flag}
-use Rattle.commands.specs.declared.command.Command.{Command}
-use Rattle.commands.specs.declared.command.Command.TheVariants.{NoOp, EnableSlot, DisableSlot, AddressDevice, ConfigureEndpoint, EvaluateContext, ResetEndpoint, StopEndpoint, SetTrDequeue, ResetDevice}
-use Rattle.commands.specs.Command.{named_slot, named_endpoint, named_context}
-use Rattle.traces.specs.declared.header.Header.{Header}
-use Rattle.traces.specs.declared.row.Row.TheVariants.{Write, Read}
-use Rattle.traces.specs.Header.{IsHeader}
-use Rattle.ring_knowledge.specs.Known.{Known}
-use Rattle.ring_knowledge.specs.Writes.{command_given}
-use Rattle.ring_knowledge.specs.Learned.{learned}
+use Rattle.std.proofs.Common.{◌≡◌, ◌==◌, ◌&&◌, ◌||◌, ◌∙◌, ℕ, not, true, false, [], Option, None, Some, refl}
+use Rattle.safety.proofs.Words.{or_parts, or_from, Block, input_add_flag, Command, NoOp, EnableSlot, DisableSlot, AddressDevice, ConfigureEndpoint, EvaluateContext, ResetEndpoint, StopEndpoint, SetTrDequeue, ResetDevice, named_slot, named_endpoint, named_context, Header, Write, Read, IsHeader, Known, command_given, learned, broken, DriverKeeps}
 use Rattle.ownership_rules.specs.Commands as commands
-use Rattle.ownership_rules.specs.Rules.{broken}
-use Rattle.safety.specs.Keeps.{DriverKeeps}
 use Rattle.safety.proofs.GivenBehind.{between, own_between, facts}
 use Rattle.safety.proofs.CommandContext.{context_behind}
 use Rattle.safety.proofs.DeviceBehind.{device_behind}

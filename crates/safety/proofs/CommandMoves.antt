@@ -1,24 +1,6 @@
 -- Behind an event that is read before it, a command that a write gives may move its rings as before
-use Rattle.std.specs.Prelude.{◌≡◌, ℕ, ◌==◌, ◌&&◌, not, Bool, false, Some, []}
-use Rattle.std.proofs.Common.{refl, sym, ◌∙◌, ap, subst, inl, inr}
-use Rattle.std.proofs.lemmas.Bool.{or_from, and_parts, false≢true, false_from_ne_true, not_from_true, eq-eqb}
-use Rattle.trb.specs.declared.block.Block.{Block}
-use Rattle.segments.specs.RingView.{declared, floor_number}
-use Rattle.segments.specs.Moves.{is_move}
-use Rattle.segments.proofs.Search.{cases_option}
-use Rattle.commands.specs.declared.command.Command.{Command}
-use Rattle.commands.specs.declared.command.Command.TheVariants.{NoOp, EnableSlot, DisableSlot, AddressDevice, ConfigureEndpoint, EvaluateContext, ResetEndpoint, StopEndpoint, SetTrDequeue, ResetDevice}
-use Rattle.commands.specs.States.{is_off}
-use Rattle.contexts.specs.Contexts.{context_pointer, context_cycle}
-use Rattle.traces.specs.declared.header.Header.{Header}
-use Rattle.traces.specs.declared.row.Row.TheVariants.{Write, Read}
-use Rattle.traces.specs.Header.{IsHeader, shape_of}
-use Rattle.ring_knowledge.specs.Known.{Known}
-use Rattle.ring_knowledge.specs.Writes.{command_given}
-use Rattle.ring_knowledge.specs.Learned.{learned}
-use Rattle.ownership_rules.specs.Moves.{binding_in, is_bad_stay, is_bad_move}
-use Rattle.ownership_rules.specs.Rules.{broken}
-use Rattle.safety.specs.Keeps.{DriverKeeps, StaysIf}
+use Rattle.std.proofs.Common.{◌≡◌, ◌==◌, ◌&&◌, ◌∙◌, ℕ, not, Bool, false, Some, [], refl, sym, ap, subst, inl, inr, eq-eqb}
+use Rattle.safety.proofs.Words.{or_from, and_parts, false≢true, false_from_ne_true, not_from_true, Block, declared, floor_number, is_move, cases_option, Command, NoOp, EnableSlot, DisableSlot, AddressDevice, ConfigureEndpoint, EvaluateContext, ResetEndpoint, StopEndpoint, SetTrDequeue, ResetDevice, is_off, context_pointer, context_cycle, Header, Write, Read, IsHeader, shape_of, Known, command_given, learned, binding_in, is_bad_stay, is_bad_move, broken, DriverKeeps, StaysIf}
 use Rattle.safety.proofs.TestsPassed.{clean_tests}
 use Rattle.safety.proofs.DriverHistories.{kept_driver}
 use Rattle.safety.proofs.RowBeneath.{read_on}

@@ -1,18 +1,6 @@
 -- Where a command may be unfinished the header has a command ring
-use Rattle.std.specs.Prelude.{◌≡◌, ℕ, true, Option, Some, None, find}
-use Rattle.std.proofs.Common.{arith, refl, ap, inl, inr}
-use Rattle.trb.specs.declared.ring_kind.RingKind.{RingKind}
-use Rattle.trb.specs.declared.ring_kind.RingKind.TheVariants.{Cmd, Evt, Xfer}
-use Rattle.segments.specs.declared.spot.Spot.{Spot}
-use Rattle.segments.specs.Places.{place_count}
-use Rattle.segments.specs.RingView.{is_due}
-use Rattle.segments.proofs.Giving.{due_is}
-use Rattle.segments.proofs.Search.{cases_option}
-use Rattle.traces.specs.declared.header.Header.{Header}
-use Rattle.traces.specs.declared.ring.Ring.{Ring}
-use Rattle.traces.specs.Header.{IsHeader, ring_with, shape_of, shape_or, command_ring, command_id, id_or_none, is_command_kind, is_driver_kind}
-use Rattle.std.proofs.lemmas.Bool.{false≢true}
-use Rattle.safety.specs.Keeps.{IsDriverRing}
+use Rattle.std.proofs.Common.{◌≡◌, ℕ, true, Option, Some, None, find, arith, refl, ap, inl, inr}
+use Rattle.safety.proofs.Words.{RingKind, Cmd, Evt, Xfer, Spot, place_count, is_due, due_is, cases_option, Header, Ring, IsHeader, ring_with, shape_of, shape_or, command_ring, command_id, id_or_none, is_command_kind, is_driver_kind, false≢true, IsDriverRing}
 use Rattle.safety.proofs.RingsOfHeader.{found_passes}
 use Rattle.safety.proofs.RingIds.{found_again, together, none_has_256}
 

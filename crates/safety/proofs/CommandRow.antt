@@ -1,27 +1,7 @@
 -- Behind an event that is read before it, a write that gives a command breaks no rule: what is tested of its bindings and its slot
-use Rattle.std.specs.Prelude.{◌≡◌, ℕ, ◌||◌, not, true, false, List, [], ◌∷◌, map, All, Some, is_some}
-use Rattle.std.specs.List.{list_any}
-use Rattle.std.proofs.Common.{refl, sym, ◌∙◌, ap, subst, inl, inr}
-use Rattle.std.proofs.lemmas.Bool.{or_from, not_from_true, not_from_false, false≢true, false_from_ne_true, eq-eqb}
-use Rattle.std.proofs.lemmas.List.Elements.{All-head, All-tail}
-use Rattle.segments.proofs.Search.{cases_option}
-use Rattle.trb.specs.declared.block.Block.{Block}
-use Rattle.segments.specs.RingView.{is_due}
-use Rattle.commands.specs.declared.command.Command.{Command}
-use Rattle.commands.specs.declared.command.Command.TheVariants.{NoOp, EnableSlot, DisableSlot, AddressDevice, ConfigureEndpoint, EvaluateContext, ResetEndpoint, StopEndpoint, SetTrDequeue, ResetDevice}
-use Rattle.commands.specs.Command.{name_one_slot}
-use Rattle.traces.specs.declared.header.Header.{Header}
-use Rattle.traces.specs.declared.row.Row.TheVariants.{Write, Read}
-use Rattle.traces.specs.Header.{IsHeader, shape_of, command_id, is_ring}
-use Rattle.ring_knowledge.specs.Known.{Known}
-use Rattle.ring_knowledge.specs.Rings.{unfinished}
-use Rattle.ring_knowledge.specs.Writes.{command_given}
-use Rattle.ring_knowledge.specs.Learned.{learned}
+use Rattle.std.proofs.Common.{◌≡◌, ◌||◌, ◌∷◌, ◌∙◌, ℕ, not, true, false, List, [], map, All, Some, is_some, refl, sym, ap, subst, inl, inr, eq-eqb}
+use Rattle.safety.proofs.Words.{list_any, or_from, not_from_true, not_from_false, false≢true, false_from_ne_true, All-head, All-tail, cases_option, Block, is_due, Command, NoOp, EnableSlot, DisableSlot, AddressDevice, ConfigureEndpoint, EvaluateContext, ResetEndpoint, StopEndpoint, SetTrDequeue, ResetDevice, name_one_slot, Header, Write, Read, IsHeader, shape_of, command_id, is_ring, Known, unfinished, command_given, learned, Binding, binding_in, binds, ring_bound, binds_ring, has_repeats, is_used, is_unused_ring, is_bad_binding, broken, IsIn, some_of, any_of, IsUnfinished, CommandKeeps, DriverKeeps}
 use Rattle.ownership_rules.specs.Commands as commands
-use Rattle.ownership_rules.specs.Moves.{Binding, binding_in, binds, ring_bound, binds_ring, has_repeats, is_used, is_unused_ring, is_bad_binding}
-use Rattle.ownership_rules.specs.Rules.{broken}
-use Rattle.ownership_rules.proofs.Among.{IsIn, some_of, any_of}
-use Rattle.safety.specs.Keeps.{IsUnfinished, CommandKeeps, DriverKeeps}
 use Rattle.safety.proofs.LeasesBehind.{none_fewer}
 use Rattle.safety.proofs.WriteBeside.{beside_old}
 use Rattle.safety.proofs.CommandsBeside.{binds_ring_beside}

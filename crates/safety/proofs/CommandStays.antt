@@ -1,20 +1,6 @@
 -- Behind an event that is read before it, a second Address Device that a write gives finds nothing left on its ring
-use Rattle.std.specs.Prelude.{◌≡◌, ℕ, Bool, length, Some, []}
-use Rattle.std.proofs.Common.{arith, sym, ◌∙◌, ap, inl, inr}
-use Rattle.std.proofs.lemmas.Bool.{cases_lt}
-use Rattle.trb.specs.declared.block.Block.{Block}
-use Rattle.segments.specs.RingView.{RingView, declared, floor_number}
-use Rattle.commands.specs.declared.command.Command.{Command}
-use Rattle.commands.specs.declared.command.Command.TheVariants.{AddressDevice}
-use Rattle.commands.specs.Command.{named_slot}
-use Rattle.traces.specs.declared.header.Header.{Header}
-use Rattle.traces.specs.declared.row.Row.TheVariants.{Write, Read}
-use Rattle.traces.specs.Header.{IsHeader}
-use Rattle.ring_knowledge.specs.Known.{Known}
-use Rattle.ring_knowledge.specs.Writes.{command_given}
-use Rattle.ring_knowledge.specs.Learned.{learned}
-use Rattle.ownership_rules.specs.Rules.{broken}
-use Rattle.safety.specs.Keeps.{DriverKeeps}
+use Rattle.std.proofs.Common.{◌≡◌, ◌∙◌, ℕ, Bool, length, Some, [], arith, sym, ap, inl, inr}
+use Rattle.safety.proofs.Words.{cases_lt, Block, RingView, declared, floor_number, Command, AddressDevice, named_slot, Header, Write, Read, IsHeader, Known, command_given, learned, broken, DriverKeeps}
 use Rattle.safety.proofs.RowFrames.{write_leaves}
 use Rattle.safety.proofs.EventBehind.{event_behind}
 use Rattle.safety.proofs.UnfinishedBehind.{rings_behind}

@@ -1,21 +1,7 @@
 -- Behind an event that is read before it, a write that gives a good command breaks no rule
-use Rattle.std.specs.Prelude.{◌≡◌, ℕ, ◌∷◌, Bool, false, [], Some}
-use Rattle.std.proofs.Common.{◌∙◌, ap}
-use Rattle.std.proofs.lemmas.Bool.{cond-false, or_from}
-use Rattle.trb.specs.declared.block.Block.{Block}
-use Rattle.commands.specs.declared.command.Command.{Command}
-use Rattle.traces.specs.declared.header.Header.{Header}
-use Rattle.traces.specs.declared.row.Row.TheVariants.{Write, Read}
-use Rattle.traces.specs.Header.{IsHeader}
-use Rattle.ring_knowledge.specs.Known.{Known}
-use Rattle.ring_knowledge.specs.Writes.{command_given}
-use Rattle.ring_knowledge.specs.Learned.{learned}
+use Rattle.std.proofs.Common.{◌≡◌, ◌∷◌, ◌∙◌, ℕ, Bool, false, [], Some, ap}
+use Rattle.safety.proofs.Words.{cond-false, or_from, Block, Command, Header, Write, Read, IsHeader, Known, command_given, learned, broken_of, AfterStop, some_command, holds_of, write_tests, tests, broken, DriverKeeps}
 use Rattle.ownership_rules.specs.Commands as commands
-use Rattle.ownership_rules.specs.Refusal.{broken_of}
-use Rattle.ownership_rules.specs.declared.refusal.Refusal.TheVariants.{AfterStop}
-use Rattle.ownership_rules.specs.Writes.{some_command, holds_of, write_tests}
-use Rattle.ownership_rules.specs.Rules.{tests, broken}
-use Rattle.safety.specs.Keeps.{DriverKeeps}
 use Rattle.safety.proofs.TestsPassed.{clean_tests}
 use Rattle.safety.proofs.RowBeneath.{read_on}
 use Rattle.safety.proofs.WriteBehind.{RingRules, rules_behind, command_behind, broken_none}

@@ -1,18 +1,7 @@
 -- What the rules say of a command holds still where nothing that the command reads has changed
-use Rattle.std.specs.Prelude.{◌≡◌, ◌≢◌, ℕ, ◌<◌, ◌==◌, ◌&&◌, ◌||◌, not, if◌then◌else◌, Bool, false, [], ◌∷◌, map, Option, None, Some, is_none}
-use Rattle.std.specs.List.{list_any}
-use Rattle.std.proofs.Common.{arith, refl, ◌∙◌, ap}
-use Rattle.std.proofs.lemmas.Bool.{or_parts, or_from, and_left}
-use Rattle.commands.specs.declared.command.Command.{Command}
-use Rattle.commands.specs.declared.command.Command.TheVariants.{AddressDevice, ConfigureEndpoint, ResetEndpoint, StopEndpoint, SetTrDequeue}
-use Rattle.commands.specs.Command.{named_slot, named_endpoint, named_context}
-use Rattle.commands.specs.States.{is_disabled, is_off}
-use Rattle.contexts.specs.Contexts.{added_endpoints, input_add_flag}
-use Rattle.traces.specs.declared.header.Header.{Header}
-use Rattle.traces.specs.Header.{is_ring}
-use Rattle.ring_knowledge.specs.Known.{Known}
+use Rattle.std.proofs.Common.{◌≡◌, ◌≢◌, ◌<◌, ◌==◌, ◌&&◌, ◌||◌, if◌then◌else◌, ◌∷◌, ◌∙◌, ℕ, not, Bool, false, [], map, Option, None, Some, is_none, arith, refl, ap}
+use Rattle.safety.proofs.Words.{list_any, or_parts, or_from, and_left, Command, AddressDevice, ConfigureEndpoint, ResetEndpoint, StopEndpoint, SetTrDequeue, named_slot, named_endpoint, named_context, is_disabled, is_off, added_endpoints, input_add_flag, Header, is_ring, Known, binding_in, binds, ring_bound, binds_ring}
 use Rattle.ownership_rules.specs.Commands as commands
-use Rattle.ownership_rules.specs.Moves.{binding_in, binds, ring_bound, binds_ring}
 use Rattle.safety.proofs.ContextReads.{AgreeIn, any_same, map_same, added_indices, added_same, add_flag_same, drop_flag_same, type_same, streams_same, pointer_same, cycle_same}
 
 none_is : (o : Option ℕ) → o ≢ None → is_none o ≡ false

@@ -1,29 +1,7 @@
 -- A completion keeps what is kept of the commands that stay unfinished
-use Rattle.std.specs.Prelude.{◌≡◌, ◌≢◌, ℕ, ◌==◌, not, if◌then◌else◌, true, false, nat_lt, Option, None, Some, is_some}
-use Rattle.std.proofs.Common.{arith, refl, sym, ◌∙◌, ap, subst, inl, inr}
-use Rattle.std.proofs.lemmas.Bool.{cases_Bool, cond-true, cond-false, or_parts, and_parts, not-false, eq-eqb, false≢true, ltb-true}
-use Rattle.trb.specs.declared.block.Block.{Block}
-use Rattle.trb.specs.Block.{code, slot}
-use Rattle.segments.specs.declared.spot.Spot.{Spot}
-use Rattle.segments.specs.Spots.{after}
-use Rattle.segments.specs.RingView.{Reaches}
-use Rattle.segments.specs.Ceiling.{ceiling}
-use Rattle.commands.specs.declared.command.Command.{Command}
-use Rattle.commands.specs.declared.command.Command.TheVariants.{NoOp, EnableSlot, DisableSlot, AddressDevice, ConfigureEndpoint, EvaluateContext, ResetEndpoint, StopEndpoint, SetTrDequeue, ResetDevice}
-use Rattle.commands.specs.declared.state.SlotState.{SlotState}
-use Rattle.commands.specs.declared.state.SlotState.TheVariants.{Disabled, Enabled, Default, Addressed, Configured}
-use Rattle.commands.specs.Command.{named_slot, same_slot, may_answer_slot}
-use Rattle.commands.specs.States.{is_disabled, can_succeed, slot_success}
-use Rattle.traces.specs.declared.header.Header.{Header}
-use Rattle.traces.specs.declared.register.Register.TheVariants.{Config}
-use Rattle.traces.specs.Header.{IsHeader, shape_of, command_id}
-use Rattle.traces.specs.Register.{register_or_zero}
-use Rattle.ring_knowledge.specs.Known.{Known}
-use Rattle.ring_knowledge.specs.Rings.{command_at, next_command, on_ring}
-use Rattle.ring_knowledge.specs.Completions.{succeeded, stop_ended, finished, completed}
+use Rattle.std.proofs.Common.{◌≡◌, ◌≢◌, ◌==◌, if◌then◌else◌, ◌∙◌, ℕ, not, true, false, nat_lt, Option, None, Some, is_some, arith, refl, sym, ap, subst, inl, inr, eq-eqb, ltb-true}
+use Rattle.safety.proofs.Words.{cases_Bool, cond-true, cond-false, or_parts, and_parts, not-false, false≢true, Block, code, slot, Spot, after, Reaches, ceiling, Command, NoOp, EnableSlot, DisableSlot, AddressDevice, ConfigureEndpoint, EvaluateContext, ResetEndpoint, StopEndpoint, SetTrDequeue, ResetDevice, SlotState, Disabled, Enabled, Default, Addressed, Configured, named_slot, same_slot, may_answer_slot, is_disabled, can_succeed, slot_success, Header, Config, IsHeader, shape_of, command_id, register_or_zero, Known, command_at, next_command, on_ring, succeeded, stop_ended, finished, completed, may_be_taken, can_finish, was_stop_seen, is_impossible_completion, IsDriverRing, IsUnfinished, DriverKeeps, CommandsKeep}
 use Rattle.ownership_rules.specs.Commands as commands
-use Rattle.ownership_rules.specs.Events.{may_be_taken, can_finish, was_stop_seen, is_impossible_completion}
-use Rattle.safety.specs.Keeps.{IsDriverRing, IsUnfinished, DriverKeeps}
 use Rattle.safety.proofs.Headers.{ring_shape}
 use Rattle.safety.proofs.NoWait.{ceiling_given}
 use Rattle.safety.proofs.SafeContext.{AtFloor, at_floor, command_is_ring}
@@ -32,7 +10,6 @@ use Rattle.safety.proofs.TakenDevices.{slot_above, slot_named}
 use Rattle.safety.proofs.OtherSlots.{OtherSlots, both_others, on_others, same_others}
 use Rattle.safety.proofs.SlotCommands.{changed_slot, OfCommand, Commands, of_slot, success_others}
 use Rattle.safety.proofs.CommandsStay.{own_keeps, pair_keeps, commands_stay}
-use Rattle.safety.specs.KeptStep.{CommandsKeep}
 use Rattle.safety.proofs.CommandsFinished.{beside_finished, rings_finished, unfinished_before}
 
 enabled_before : (s : SlotState) → is_some (slot_success EnableSlot s) ≡ true → is_disabled s ≡ true

@@ -1,18 +1,6 @@
 -- A declaration keeps what is kept of unfinished commands
-use Rattle.std.specs.Prelude.{◌≡◌, ℕ, ◌<◌, List, option_and_then, slice_get}
-use Rattle.std.proofs.Common.{arith, refl, sym, ◌∙◌, ap, subst, inl, inr}
-use Rattle.std.proofs.lemmas.Bool.{cases_eq}
-use Rattle.trb.specs.declared.block.Block.{Block}
-use Rattle.segments.specs.Spots.{number}
-use Rattle.segments.specs.RingView.{RingView, Declares, declared, is_due}
-use Rattle.segments.proofs.Declaring.{slice_get-append}
-use Rattle.commands.specs.declared.command.Command.{Command}
-use Rattle.commands.specs.Command.{command_of}
-use Rattle.traces.specs.declared.header.Header.{Header}
-use Rattle.traces.specs.Header.{IsHeader, shape_of, command_id}
-use Rattle.ring_knowledge.specs.Known.{Known}
-use Rattle.ring_knowledge.specs.Rings.{on_ring, command_at}
-use Rattle.safety.specs.Keeps.{IsUnfinished, CommandKeeps, DriverKeeps}
+use Rattle.std.proofs.Common.{◌≡◌, ◌<◌, ◌∙◌, ℕ, List, option_and_then, slice_get, arith, refl, sym, ap, subst, inl, inr}
+use Rattle.safety.proofs.Words.{cases_eq, Block, number, RingView, Declares, declared, is_due, slice_get-append, Command, command_of, Header, IsHeader, shape_of, command_id, Known, on_ring, command_at, IsUnfinished, CommandKeeps, DriverKeeps}
 use Rattle.safety.proofs.DriverRows.{ring_here, ring_elsewhere}
 use Rattle.safety.proofs.DeclaredMoves.{MovesStay, moves_declares, moves_stand}
 use Rattle.safety.proofs.CommandRing.{due_has_ring}

@@ -1,29 +1,10 @@
 -- A completion keeps what is kept of the commands that stay unfinished
-use Rattle.std.specs.Prelude.{◌≡◌, ◌≢◌, ℕ, true, false, Some, option_and_then, slice_get}
-use Rattle.std.proofs.Common.{arith, sym, ◌∙◌, ap, subst}
-use Rattle.std.proofs.lemmas.List.Folds.{Any-from_list_any}
-use Rattle.std.proofs.lemmas.Bool.{false≢true}
-use Rattle.trb.specs.declared.block.Block.{Block}
-use Rattle.segments.specs.declared.spot.Spot.{Spot}
-use Rattle.segments.specs.Spots.{after}
-use Rattle.segments.specs.RingView.{RingView, Reaches, changed, is_due}
-use Rattle.segments.proofs.Giving.{due_is, due_from}
-use Rattle.segments.proofs.ReachedSpots.{number-after}
-use Rattle.commands.specs.declared.command.Command.{Command}
-use Rattle.commands.specs.Command.{command_of, named_slot}
-use Rattle.commands.specs.States.{is_disabled, is_off, is_at_rest}
-use Rattle.traces.specs.declared.header.Header.{Header}
-use Rattle.traces.specs.Header.{IsHeader, shape_of, command_id, is_ring}
-use Rattle.ring_knowledge.specs.Known.{Known}
-use Rattle.ring_knowledge.specs.Rings.{command_at, next_command}
-use Rattle.ring_knowledge.specs.Completions.{finished, completed}
-use Rattle.contexts.specs.Contexts.{input_context_bytes}
+use Rattle.std.proofs.Common.{◌≡◌, ◌≢◌, ◌∙◌, ℕ, true, false, Some, option_and_then, slice_get, arith, sym, ap, subst}
+use Rattle.safety.proofs.Words.{Any-from_list_any, false≢true, Block, Spot, after, RingView, Reaches, changed, is_due, due_is, due_from, number-after, Command, command_of, named_slot, is_disabled, is_off, is_at_rest, Header, IsHeader, shape_of, command_id, is_ring, Known, command_at, next_command, finished, completed, input_context_bytes, Binding, binds, ring_bound, binds_ring, IsDriverRing, IsUnfinished, CommandKeeps, DriverKeeps}
 use Rattle.ownership_rules.specs.Commands as commands
-use Rattle.ownership_rules.specs.Moves.{Binding, binds, ring_bound, binds_ring}
 use Rattle.safety.specs.EndpointsKeep as endpoints
 use Rattle.safety.proofs.RingIds.{beginning_transfer, command_not_transfer}
 use Rattle.safety.proofs.GivenCommands.{ring_is}
-use Rattle.safety.specs.Keeps.{IsDriverRing, IsUnfinished, CommandKeeps, DriverKeeps}
 use Rattle.safety.proofs.Headers.{transfer_not_command}
 use Rattle.safety.proofs.DriverRows.{ring_here}
 use Rattle.safety.proofs.DriverRings.{endpoints_of}

@@ -1,16 +1,6 @@
 -- A register write keeps what is kept of unfinished commands
-use Rattle.std.specs.Prelude.{◌≡◌, ℕ}
-use Rattle.std.proofs.Common.{refl, sym, ap, subst}
-use Rattle.commands.specs.declared.command.Command.{Command}
-use Rattle.commands.specs.States.{is_off}
-use Rattle.traces.specs.declared.header.Header.{Header}
-use Rattle.traces.specs.declared.register.Register.{Register}
-use Rattle.traces.specs.declared.row.Row.TheVariants.{Reg}
-use Rattle.traces.specs.Header.{command_id}
-use Rattle.ring_knowledge.specs.Known.{Known}
-use Rattle.ring_knowledge.specs.Learned.{learned}
-use Rattle.safety.specs.Keeps.{IsUnfinished}
-use Rattle.safety.specs.KeptStep.{CommandsKeep}
+use Rattle.std.proofs.Common.{◌≡◌, ℕ, refl, sym, ap, subst}
+use Rattle.safety.proofs.Words.{Command, is_off, Header, Register, Reg, command_id, Known, learned, IsUnfinished, CommandsKeep}
 use Rattle.safety.proofs.WithReads.{with_reads}
 use Rattle.safety.proofs.RowFrames.{register_leaves}
 use Rattle.safety.proofs.SameDriver.{SameGiven}

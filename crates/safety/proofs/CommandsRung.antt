@@ -1,25 +1,6 @@
 -- A doorbell keeps what is kept of unfinished commands: none of them touches the endpoint
-use Rattle.std.specs.Prelude.{◌≡◌, ◌≢◌, ℕ, ◌==◌, ◌&&◌, not, if◌then◌else◌, Bool, true, false, [], Option, None, Some}
-use Rattle.std.proofs.Common.{refl, sym, ◌∙◌, ap, subst, inl, inr}
-use Rattle.std.proofs.lemmas.Bool.{cases_eq, cond_both, cond-false, or_parts, or_left, and_from, eq-eqb, false≢true}
-use Rattle.guest_memory.specs.Memory.{put_pair}
-use Rattle.segments.specs.RingView.{Opens}
-use Rattle.segments.specs.Spots.{number}
-use Rattle.commands.specs.declared.command.Command.{Command}
-use Rattle.commands.specs.declared.command.Command.TheVariants.{SetTrDequeue}
-use Rattle.commands.specs.declared.state.EndpointState.{EndpointState}
-use Rattle.commands.specs.declared.state.EndpointState.TheVariants.{Disabled as Off, Running, Halted, Stopped, Error}
-use Rattle.commands.specs.States.{is_off, is_stopped, is_at_rest}
-use Rattle.commands.specs.Changes.{changes}
-use Rattle.traces.specs.declared.header.Header.{Header}
-use Rattle.traces.specs.declared.row.Row.TheVariants.{Bell}
-use Rattle.traces.specs.Header.{IsHeader, shape_of, command_id}
-use Rattle.ring_knowledge.specs.Known.{Known}
-use Rattle.ring_knowledge.specs.Rings.{on_ring}
-use Rattle.ring_knowledge.specs.Registers.{endpoint_rung, rung}
-use Rattle.ownership_rules.specs.Doorbells.{touches_endpoint, is_touched, is_bad_bell, is_bad_doorbell, doorbell_tests}
-use Rattle.ownership_rules.specs.Rules.{tests, broken}
-use Rattle.safety.specs.Keeps.{IsUnfinished, CommandKeeps, DriverKeeps}
+use Rattle.std.proofs.Common.{◌≡◌, ◌≢◌, ◌==◌, ◌&&◌, if◌then◌else◌, ◌∙◌, ℕ, not, Bool, true, false, [], Option, None, Some, refl, sym, ap, subst, inl, inr, eq-eqb}
+use Rattle.safety.proofs.Words.{cases_eq, cond_both, cond-false, or_parts, or_left, and_from, false≢true, put_pair, Opens, number, Command, SetTrDequeue, EndpointState, Off, Running, Halted, Stopped, Error, is_off, is_stopped, is_at_rest, changes, Header, Bell, IsHeader, shape_of, command_id, Known, on_ring, endpoint_rung, rung, touches_endpoint, is_touched, is_bad_bell, is_bad_doorbell, doorbell_tests, tests, broken, IsUnfinished, CommandKeeps, DriverKeeps}
 use Rattle.safety.proofs.TestsPassed.{AllFail, tests_fail}
 use Rattle.safety.proofs.DriverRows.{ring_here, ring_elsewhere}
 use Rattle.safety.proofs.Headers.{transfer_not_command}

@@ -1,18 +1,7 @@
 -- What is kept of unfinished commands is kept where slots, endpoints, contexts and device contexts are as they were
-use Rattle.std.specs.Prelude.{◌≡◌, ℕ, Bool, true, false, Option, None, Some}
-use Rattle.std.proofs.Common.{refl, sym, ◌∙◌, ap, subst}
-use Rattle.std.proofs.lemmas.Bool.{or_parts}
-use Rattle.commands.specs.declared.command.Command.{Command}
-use Rattle.commands.specs.declared.command.Command.TheVariants.{AddressDevice, SetTrDequeue}
-use Rattle.commands.specs.Command.{named_context}
-use Rattle.commands.specs.States.{is_disabled, is_off, is_at_rest}
-use Rattle.traces.specs.declared.header.Header.{Header}
-use Rattle.traces.specs.Header.{shape_of}
-use Rattle.ring_knowledge.specs.Known.{Known}
-use Rattle.ownership_rules.specs.OpenLeases.{device_ranges}
-use Rattle.ownership_rules.specs.Areas.{is_bad_area, is_soiled}
+use Rattle.std.proofs.Common.{◌≡◌, ◌∙◌, ℕ, Bool, true, false, Option, None, Some, refl, sym, ap, subst}
+use Rattle.safety.proofs.Words.{or_parts, Command, AddressDevice, SetTrDequeue, named_context, is_disabled, is_off, is_at_rest, Header, shape_of, Known, device_ranges, is_bad_area, is_soiled, IsUnfinished, CommandKeeps}
 use Rattle.ownership_rules.specs.Commands as commands
-use Rattle.safety.specs.Keeps.{IsUnfinished, CommandKeeps}
 use Rattle.safety.proofs.CommandsBeside.{Beside}
 use Rattle.safety.proofs.CommandsStay.{Standing, MovesAhead, RingsBeside, own_keeps, pair_keeps, commands_stay}
 

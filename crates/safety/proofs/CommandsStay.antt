@@ -1,22 +1,7 @@
 -- What is kept of unfinished commands is kept where nothing that they read has changed
-use Rattle.std.specs.Prelude.{◌≡◌, ◌≢◌, ℕ, ◌≤◌, not, Bool, true, false, map, All, Option, None, Some, is_some}
-use Rattle.std.proofs.Common.{arith, refl, sym, ◌∙◌, ap, subst}
-use Rattle.std.proofs.lemmas.Bool.{or_parts, or_from, not-false, not_from_true}
-use Rattle.segments.specs.ShapeValue.{Shape}
-use Rattle.segments.specs.RingView.{RingView, declared, floor_number}
-use Rattle.segments.specs.Ceiling.{ceiling}
-use Rattle.segments.specs.Moves.{is_move}
-use Rattle.commands.specs.declared.command.Command.{Command}
-use Rattle.commands.specs.declared.command.Command.TheVariants.{NoOp, EnableSlot, DisableSlot, AddressDevice, ConfigureEndpoint, EvaluateContext, ResetEndpoint, StopEndpoint, SetTrDequeue, ResetDevice}
-use Rattle.commands.specs.Command.{named_slot, same_slot}
-use Rattle.commands.specs.States.{is_at_rest}
-use Rattle.contexts.specs.Contexts.{context_pointer, context_cycle}
-use Rattle.traces.specs.declared.header.Header.{Header}
-use Rattle.traces.specs.Header.{shape_of}
-use Rattle.ring_knowledge.specs.Known.{Known}
+use Rattle.std.proofs.Common.{◌≡◌, ◌≢◌, ◌≤◌, ◌∙◌, ℕ, not, Bool, true, false, map, All, Option, None, Some, is_some, arith, refl, sym, ap, subst}
+use Rattle.safety.proofs.Words.{or_parts, or_from, not-false, not_from_true, Shape, RingView, declared, floor_number, ceiling, is_move, Command, NoOp, EnableSlot, DisableSlot, AddressDevice, ConfigureEndpoint, EvaluateContext, ResetEndpoint, StopEndpoint, SetTrDequeue, ResetDevice, named_slot, same_slot, is_at_rest, context_pointer, context_cycle, Header, shape_of, Known, binds, ring_bound, binds_ring, has_repeats, is_bad_dequeue, is_bad_move, IsUnfinished, Stays, StaysIf, MovesIf, CommandKeeps}
 use Rattle.ownership_rules.specs.Commands as commands
-use Rattle.ownership_rules.specs.Moves.{binds, ring_bound, binds_ring, has_repeats, is_bad_dequeue, is_bad_move}
-use Rattle.safety.specs.Keeps.{IsUnfinished, Stays, StaysIf, MovesIf, CommandKeeps}
 use Rattle.safety.proofs.ContextReads.{pointer_same, cycle_same}
 use Rattle.safety.proofs.CommandsBeside.{Beside, good_beside, in_profile_beside, binds_beside, binds_ring_beside}
 

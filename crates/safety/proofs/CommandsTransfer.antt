@@ -1,30 +1,6 @@
 -- A Transfer Event keeps what is kept of unfinished commands
-use Rattle.std.specs.Prelude.{◌≡◌, ◌≢◌, ℕ, ◌==◌, ◌&&◌, ◌||◌, not, Bool, true, false, nat_lt, Option, None, Some}
-use Rattle.std.proofs.Common.{arith, refl, sym, ◌∙◌, ap, subst, inl, inr}
-use Rattle.std.proofs.lemmas.Bool.{cases_Bool, cases_eq, and_parts, and_cases, or_parts, not-false, false≢true, eqb-true, eq-eqb, ltb-true}
-use Rattle.trb.specs.declared.block.Block.{Block}
-use Rattle.trb.specs.Block.{code, slot, endpoint, pointer}
-use Rattle.trb.specs.CompletionCode.{is_success, is_halting, is_trb_error}
-use Rattle.segments.specs.declared.spot.Spot.{Spot}
-use Rattle.segments.specs.Spots.{number}
-use Rattle.segments.specs.Ceiling.{ceiling, is_data_below, is_stop_spot}
-use Rattle.segments.proofs.Search.{cases_option}
-use Rattle.segments.proofs.GivenCount.{given_below}
-use Rattle.segments.proofs.StepFacts.{step_is}
-use Rattle.segments.proofs.Named.{ceiling_within, below_is, IsAhead, named_ahead}
-use Rattle.commands.specs.declared.command.Command.{Command}
-use Rattle.commands.specs.declared.command.Command.TheVariants.{NoOp, EnableSlot, DisableSlot, AddressDevice, ConfigureEndpoint, EvaluateContext, ResetEndpoint, StopEndpoint, SetTrDequeue, ResetDevice}
-use Rattle.commands.specs.Command.{is_stop_of}
-use Rattle.commands.specs.declared.state.EndpointState.{EndpointState}
-use Rattle.commands.specs.declared.state.EndpointState.TheVariants.{Disabled as Off, Running, Halted, Stopped, Error}
-use Rattle.commands.specs.States.{is_off, is_running, is_at_rest}
-use Rattle.traces.specs.declared.header.Header.{Header}
-use Rattle.traces.specs.Header.{IsHeader, shape_of, command_id}
-use Rattle.ring_knowledge.specs.Known.{Known}
-use Rattle.ring_knowledge.specs.Rings.{RingSpot, event_at, command_at, next_command}
-use Rattle.ring_knowledge.specs.Transfers.{transferred, transferred_at, transfer_read}
-use Rattle.ownership_rules.specs.Events.{is_in_profile, is_working, may_be_taken, is_stopping_now, can_report, can_report_at, is_impossible_transfer}
-use Rattle.safety.specs.Keeps.{IsDriverRing, IsUnfinished, Stays, DriverKeeps}
+use Rattle.std.proofs.Common.{◌≡◌, ◌≢◌, ◌==◌, ◌&&◌, ◌||◌, ◌∙◌, ℕ, not, Bool, true, false, nat_lt, Option, None, Some, arith, refl, sym, ap, subst, inl, inr, eqb-true, eq-eqb, ltb-true}
+use Rattle.safety.proofs.Words.{cases_Bool, cases_eq, and_parts, and_cases, or_parts, not-false, false≢true, Block, code, slot, endpoint, pointer, is_success, is_halting, is_trb_error, Spot, number, ceiling, is_data_below, is_stop_spot, cases_option, given_below, step_is, ceiling_within, below_is, IsAhead, named_ahead, Command, NoOp, EnableSlot, DisableSlot, AddressDevice, ConfigureEndpoint, EvaluateContext, ResetEndpoint, StopEndpoint, SetTrDequeue, ResetDevice, is_stop_of, EndpointState, Off, Running, Halted, Stopped, Error, is_off, is_running, is_at_rest, Header, IsHeader, shape_of, command_id, Known, RingSpot, event_at, command_at, next_command, transferred, transferred_at, transfer_read, is_in_profile, is_working, may_be_taken, is_stopping_now, can_report, can_report_at, is_impossible_transfer, IsDriverRing, IsUnfinished, Stays, DriverKeeps, CommandsKeep}
 use Rattle.safety.proofs.Headers.{ring_shape, transfer_driver, transfer_not_command}
 use Rattle.safety.proofs.NoWait.{ceiling_given}
 use Rattle.safety.proofs.SafeContext.{AtFloor, at_floor}
@@ -36,7 +12,6 @@ use Rattle.safety.proofs.TransferLeaves.{TransferLeaves, transferred_leaves}
 use Rattle.safety.proofs.MovesSame.{ahead_held, unfinished_view}
 use Rattle.safety.proofs.CommandsStay.{Standing, MovesAhead}
 use Rattle.safety.proofs.CommandsSame.{SameStates, RingsStay, same_stay}
-use Rattle.safety.specs.KeptStep.{CommandsKeep}
 
 stop_is : (s i : ℕ) (o : Option Command) → is_stop_of s i o ≡ true → o ≡ Some (StopEndpoint s i)
 stop_is s i None h = absurd (false≢true h)

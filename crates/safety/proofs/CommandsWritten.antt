@@ -1,36 +1,7 @@
 -- A write keeps what is kept of unfinished commands, and of the command that it gives holds what was tested
-use Rattle.std.specs.Prelude.{◌≡◌, ◌≢◌, ℕ, ◌<◌, ◌==◌, not, Bool, true, false, [], Option, None, Some}
-use Rattle.std.specs.List.{list_any}
-use Rattle.std.proofs.Common.{arith, refl, sym, ◌∙◌, ap, subst, inl, inr}
-use Rattle.std.proofs.lemmas.Bool.{or_parts, or_from, and_from, cases_lt, le-leb, not_from_false, eq-eqb, eqb-true, false≢true, false_from_ne_true}
-use Rattle.std.proofs.lemmas.List.Elements.{All-contains}
-use Rattle.segments.specs.ShapeValue.{Shape}
-use Rattle.segments.specs.RingView.{RingView, Writes, changed, declared, floor_number, gives, positions_given}
-use Rattle.segments.specs.Ceiling.{ceiling}
-use Rattle.segments.specs.Givings.{is_not_declared}
-use Rattle.segments.specs.RingKeeps.{MayWrite}
-use Rattle.segments.proofs.Search.{cases_option}
-use Rattle.segments.proofs.Giving.{gives_is}
-use Rattle.segments.proofs.DueLists.{position_given}
-use Rattle.segments.proofs.OneGiving.{gives_one}
-use Rattle.segments.proofs.MovesStay.{move-writes}
-use Rattle.segments.proofs.Named.{ceiling_held}
-use Rattle.commands.specs.declared.command.Command.{Command}
-use Rattle.commands.specs.declared.command.Command.TheVariants.{AddressDevice}
-use Rattle.commands.specs.declared.state.EndpointState.{EndpointState}
-use Rattle.commands.specs.declared.state.EndpointState.TheVariants.{Disabled as Off}
-use Rattle.commands.specs.Command.{named_slot, same_slot, name_one_slot}
-use Rattle.commands.specs.States.{is_off, is_at_rest, is_running}
-use Rattle.traces.specs.declared.header.Header.{Header}
-use Rattle.traces.specs.declared.row.Row.TheVariants.{Write}
-use Rattle.traces.specs.Header.{IsHeader, shape_of, command_id, is_ring}
-use Rattle.ring_knowledge.specs.Known.{Known}
-use Rattle.ring_knowledge.specs.Rings.{unfinished}
+use Rattle.std.proofs.Common.{◌≡◌, ◌≢◌, ◌<◌, ◌==◌, ◌∙◌, ℕ, not, Bool, true, false, [], Option, None, Some, arith, refl, sym, ap, subst, inl, inr, le-leb, eq-eqb, eqb-true}
+use Rattle.safety.proofs.Words.{list_any, or_parts, or_from, and_from, cases_lt, not_from_false, false≢true, false_from_ne_true, All-contains, Shape, RingView, Writes, changed, declared, floor_number, gives, positions_given, ceiling, is_not_declared, MayWrite, cases_option, gives_is, position_given, gives_one, move-writes, ceiling_held, Command, AddressDevice, EndpointState, Off, named_slot, same_slot, name_one_slot, is_off, is_at_rest, is_running, Header, Write, IsHeader, shape_of, command_id, is_ring, Known, unfinished, binds_ring, is_used, moves_ring, is_being_moved, write_tests, tests, broken, IsDriverRing, IsUnfinished, DriverKeeps, CommandsKeep}
 use Rattle.ownership_rules.specs.Commands as commands
-use Rattle.ownership_rules.specs.Moves.{binds_ring, is_used, moves_ring, is_being_moved}
-use Rattle.ownership_rules.specs.Writes.{write_tests}
-use Rattle.ownership_rules.specs.Rules.{tests, broken}
-use Rattle.safety.specs.Keeps.{IsDriverRing, IsUnfinished, DriverKeeps}
 use Rattle.safety.proofs.TestsPassed.{AllFail, tests_fail}
 use Rattle.safety.proofs.RingsOfHeader.{has_ring}
 use Rattle.safety.proofs.Headers.{ring_shape, transfer_driver}
@@ -44,7 +15,6 @@ use Rattle.safety.proofs.WriteBeside.{beside_old, beside_new}
 use Rattle.safety.proofs.CommandsTransfer.{rest_not_running}
 use Rattle.safety.proofs.CommandsBeside.{Beside}
 use Rattle.safety.proofs.CommandsStay.{Standing, MovesAhead, OwnKeeps, PairKeeps, RingsBeside, own_keeps, pair_keeps, commands_stay}
-use Rattle.safety.specs.KeptStep.{CommandsKeep}
 
 -- ---- one ring
 

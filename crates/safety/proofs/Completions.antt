@@ -1,35 +1,7 @@
 -- A Command Completion Event that may be read keeps what the rules keep of each ring, so long as it places endpoints where it may
-use Rattle.std.specs.Prelude.{◌≡◌, ℕ, ◌<◌, ◌≤◌, ◌==◌, ◌||◌, not, if◌then◌else◌, nat_lt, Bool, false, List, [], ◌∷◌, Option, None, Some}
-use Rattle.std.proofs.Common.{arith, refl, sym, subst}
-use Rattle.std.proofs.lemmas.Bool.{cond_both, or_parts, not-false, ltb-true, eqb-true}
-use Rattle.trb.specs.declared.block.Block.{Block}
-use Rattle.trb.specs.Block.{code, slot, pointer}
-use Rattle.segments.specs.declared.spot.Spot.{Spot}
-use Rattle.segments.specs.declared.spot.Spot.TheVariants.{Data}
-use Rattle.segments.specs.Places.{address_of}
-use Rattle.segments.specs.Spots.{number, after}
-use Rattle.segments.specs.RingView.{RingView, Reaches, Holds, floor_number}
-use Rattle.segments.specs.Ceiling.{ceiling}
-use Rattle.segments.specs.Moves.{target}
-use Rattle.segments.specs.RingKeeps.{MayReach}
-use Rattle.segments.proofs.Reaching.{holds_keeps, reaches_keeps, reaches_and_holds_keeps, reached_given}
-use Rattle.segments.proofs.ReachedSpots.{after_reached, number-after, move_reached}
-use Rattle.segments.proofs.Named.{ceiling_held, ceiling_within, IsAhead, target_ahead, start_reached}
-use Rattle.commands.specs.declared.command.Command.{Command}
-use Rattle.commands.specs.declared.command.Command.TheVariants.{StopEndpoint}
-use Rattle.commands.specs.declared.state.EndpointState.{EndpointState}
-use Rattle.commands.specs.declared.state.EndpointState.TheVariants.{Stopped}
-use Rattle.commands.specs.States.{is_off}
-use Rattle.commands.specs.Changes.{Change, SlotGoesOn, DeviceLeft, Disables, Places, Stops, Resets, changes}
-use Rattle.traces.specs.declared.header.Header.{Header}
-use Rattle.traces.specs.Header.{IsHeader, shape_of, command_id, ring_beginning_at}
-use Rattle.ring_knowledge.specs.Known.{Known}
-use Rattle.ring_knowledge.specs.Rings.{command_at, next_command}
-use Rattle.ring_knowledge.specs.Completions.{set_to, bound_to, moved_to, moved, pointed, disabled, in_state, held_at_ceiling, changed_by, changed_by_all, succeeded, stop_ended, finished, completed}
-use Rattle.ownership_rules.specs.Events.{may_be_taken, can_finish, is_impossible_completion}
-use Rattle.safety.specs.RingsKeep.{IsDriverRing, RingsKeep}
-use Rattle.safety.specs.EndpointsKeep.{EndpointsKeep}
-use Rattle.safety.specs.Placings.{MayPoint, MayChange, MayChangeAll, MayFinish}
+use Rattle.std.proofs.Common.{◌≡◌, ◌<◌, ◌≤◌, ◌==◌, ◌||◌, if◌then◌else◌, ◌∷◌, ℕ, not, nat_lt, Bool, false, List, [], Option, None, Some, arith, refl, sym, subst, ltb-true, eqb-true}
+use Rattle.safety.proofs.Words.{cond_both, or_parts, not-false, Block, code, slot, pointer, Spot, Data, address_of, number, after, RingView, Reaches, Holds, floor_number, ceiling, target, MayReach, holds_keeps, reaches_keeps, reaches_and_holds_keeps, reached_given, after_reached, number-after, move_reached, ceiling_held, ceiling_within, IsAhead, target_ahead, start_reached, Command, StopEndpoint, EndpointState, Stopped, is_off, Change, SlotGoesOn, DeviceLeft, Disables, Places, Stops, Resets, changes, Header, IsHeader, shape_of, command_id, ring_beginning_at, Known, command_at, next_command, set_to, bound_to, moved_to, moved, pointed, disabled, in_state, held_at_ceiling, changed_by, changed_by_all, succeeded, stop_ended, finished, completed, may_be_taken, can_finish, is_impossible_completion, RingsKeep, EndpointsKeep, MayPoint, MayChange, MayChangeAll, MayFinish}
+use Rattle.safety.specs.RingsKeep.{IsDriverRing}
 use Rattle.safety.proofs.RingsOfHeader.{shape_allowed}
 use Rattle.safety.proofs.EndpointHistories.{finish_elsewhere}
 use Rattle.safety.proofs.DriverRows.{same_keeps, on_ring_keeps, on_ring_twice_keeps}

@@ -1,11 +1,6 @@
 -- What is read of an input context is the same where its words are
-use Rattle.std.specs.Prelude.{◌≡◌, ℕ, suc, zero, ◌+◌, ◌<◌, ◌≤◌, ◌||◌, Bool, List, [], ◌∷◌, map, filter}
-use Rattle.std.specs.List.{list_any, range_with_len}
-use Rattle.std.proofs.Common.{arith, refl, ◌∙◌, ap}
-use Rattle.std.proofs.lemmas.Bool.{cond_both}
-use Rattle.contexts.specs.declared.size.ContextSize.{ContextSize}
-use Rattle.contexts.specs.declared.size.ContextSize.TheVariants.{Bytes32, Bytes64}
-use Rattle.contexts.specs.Contexts.{input_context_bytes, input_endpoint, input_add_flag, input_drop_flag, has_flag, added_endpoints, endpoint_type, endpoint_streams, context_pointer, context_cycle}
+use Rattle.std.proofs.Common.{◌≡◌, ◌+◌, ◌<◌, ◌≤◌, ◌||◌, ◌∷◌, ◌∙◌, ℕ, suc, zero, Bool, List, [], map, filter, arith, refl, ap}
+use Rattle.safety.proofs.Words.{list_any, range_with_len, cond_both, ContextSize, Bytes32, Bytes64, input_context_bytes, input_endpoint, input_add_flag, input_drop_flag, has_flag, added_endpoints, endpoint_type, endpoint_streams, context_pointer, context_cycle}
 
 -- each is the index of an endpoint
 abbrev pub AreIndices : List ℕ → Type 0

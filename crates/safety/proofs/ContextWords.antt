@@ -1,23 +1,7 @@
 -- The input context of a command that is given stands in the world as the driver wrote it: its success does what is known
-use Rattle.std.specs.Prelude.{◌≡◌, ℕ, suc, zero, ◌+◌, ◌*◌, ◌/◌, ◌^◌, ◌<◌, ◌≤◌, ◌&&◌, Bool, false, List, [], ◌∷◌, map, filter, nat_le, nat_lt, All}
-use Rattle.std.specs.List.{range_with_len}
-use Rattle.std.proofs.Common.{arith, refl, sym, ◌∙◌, ap, inl, inr}
-use Rattle.std.proofs.lemmas.Bool.{cases_eq, false_from_ne_true, false≢true, and_parts, and_from, lt-ltb, ltb-true}
-use Rattle.std.proofs.lemmas.List.Elements.{All-nil, All-cons, All-head, All-tail, All-filter}
-use Rattle.segments.specs.ShapeValue.{Shape}
-use Rattle.segments.specs.Places.{overlap, touches}
-use Rattle.commands.specs.declared.command.Command.TheVariants.{AddressDevice, ConfigureEndpoint}
-use Rattle.commands.specs.declared.state.EndpointState.TheVariants.{Running}
-use Rattle.commands.specs.Changes.{SlotGoesOn, Disables, Places, changes, placed_by_context}
-use Rattle.contexts.specs.declared.size.ContextSize.{ContextSize}
-use Rattle.contexts.specs.declared.size.ContextSize.TheVariants.{Bytes32, Bytes64}
-use Rattle.contexts.specs.Contexts.{input_context_bytes, has_flag, input_add_flag, input_endpoint, added_endpoints, is_dropped}
-use Rattle.traces.specs.declared.header.Header.{Header}
-use Rattle.traces.specs.Header.{IsHeader, event_size, touches_ring}
-use Rattle.world_state.specs.World.{World}
-use Rattle.ring_knowledge.specs.Known.{Known}
-use Rattle.ownership_rules.proofs.Among.{any_of, some_of}
-use Rattle.safety.specs.Stands.{Stands, touches_events}
+use Rattle.std.proofs.Common.{◌≡◌, ◌+◌, ◌*◌, ◌/◌, ◌^◌, ◌<◌, ◌≤◌, ◌&&◌, ◌∷◌, ◌∙◌, ℕ, suc, zero, Bool, false, List, [], map, filter, nat_le, nat_lt, All, arith, refl, sym, ap, inl, inr, lt-ltb, ltb-true}
+use Rattle.safety.proofs.Words.{range_with_len, cases_eq, false_from_ne_true, false≢true, and_parts, and_from, All-nil, All-cons, All-head, All-tail, All-filter, Shape, overlap, AddressDevice, ConfigureEndpoint, Running, SlotGoesOn, Disables, Places, changes, placed_by_context, ContextSize, Bytes32, Bytes64, input_context_bytes, has_flag, input_add_flag, input_endpoint, added_endpoints, is_dropped, Header, IsHeader, event_size, touches_ring, World, Known, any_of, some_of, Stands, touches_events}
+use Rattle.segments.specs.Places.{touches}
 use Rattle.safety.proofs.Headers.{EventRing, event_ring_is, no_events}
 use Rattle.safety.proofs.Areas.{ContextLies, clean_word, ring_untouched}
 

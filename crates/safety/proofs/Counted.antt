@@ -1,13 +1,7 @@
 -- Behind a step, once it is counted
-use Rattle.std.specs.Prelude.{◌≡◌, List}
-use Rattle.trb.specs.declared.block.Block.{Block}
-use Rattle.traces.specs.declared.header.Header.{Header}
-use Rattle.world_state.specs.World.{World}
+use Rattle.std.proofs.Common.{◌≡◌, List}
+use Rattle.safety.proofs.Words.{Block, Header, World, counted, Known, Stands, EventsStand, Matches, Agrees}
 use Rattle.world_state.specs.World as of_world
-use Rattle.controller_model.specs.Steps.{counted}
-use Rattle.ring_knowledge.specs.Known.{Known}
-use Rattle.safety.specs.Stands.{Stands, EventsStand}
-use Rattle.safety.specs.Matches.{Matches, Agrees}
 use Rattle.safety.proofs.Stored.{Late}
 
 module _ (h : Header) where

@@ -1,31 +1,6 @@
 -- A declaration beneath an event that isn't read yet: the two may change places
-use Rattle.std.specs.Prelude.{◌≡◌, ℕ, ◌+◌, ◌-◌, ◌≤◌, ◌<◌, ◌++◌, Bool, true, false, not, List, [], ◌∷◌, length, Some, option_and_then, slice_get}
-use Rattle.std.proofs.Common.{arith, refl, sym, ◌∙◌, ap, subst, inl, inr, length-append}
-use Rattle.std.proofs.lemmas.Bool.{ltb-true, ltb-false, le-ltb, cond-false}
-use Rattle.std.proofs.lemmas.Option.{none-some, slice_get_within}
-use Rattle.trb.specs.declared.block.Block.{Block}
-use Rattle.segments.specs.RingView.{RingView, Declares, changed, declared, floor_number}
-use Rattle.segments.specs.Places.{place_count}
-use Rattle.segments.specs.Ceiling.{ceiling}
-use Rattle.segments.specs.Givings.{has_no_room}
-use Rattle.trb.specs.Descriptor.{is_bad_descriptor, is_left_out}
-use Rattle.segments.proofs.Search.{cases_option}
-use Rattle.segments.proofs.Declaring.{slice_get-append}
-use Rattle.commands.specs.declared.command.Command.{Command}
-use Rattle.commands.specs.Command.{command_of}
-use Rattle.traces.specs.declared.header.Header.{Header}
-use Rattle.traces.specs.declared.row.Row.TheVariants.{Sub, Read}
-use Rattle.traces.specs.Header.{IsHeader, ring_with, shape_of, command_id}
-use Rattle.ring_knowledge.specs.Known.{Known}
-use Rattle.ring_knowledge.specs.Rings.{on_ring, command_at, next_command}
-use Rattle.ring_knowledge.specs.Learned.{learned}
-use Rattle.ownership_rules.specs.Declarations.{is_driver_ring, declaration_tests}
-use Rattle.ownership_rules.specs.Events.{may_be_taken}
-use Rattle.ownership_rules.specs.Refusal.{broken_of}
-use Rattle.ownership_rules.specs.declared.refusal.Refusal.TheVariants.{AfterStop, NotDeclared, RingFull, BadDescriptor, NotInProfile}
-use Rattle.ownership_rules.specs.Rules.{tests, broken}
-use Rattle.safety.specs.Keeps.{DriverKeeps, IsUnfinished}
-use Rattle.safety.specs.Beneath.{IsHeldMore, HeldMore, Square}
+use Rattle.std.proofs.Common.{◌≡◌, ◌+◌, ◌-◌, ◌≤◌, ◌<◌, ◌++◌, ◌∷◌, ◌∙◌, ℕ, Bool, true, false, not, List, [], length, Some, option_and_then, slice_get, arith, refl, sym, ap, subst, inl, inr, length-append, ltb-true, ltb-false, le-ltb}
+use Rattle.safety.proofs.Words.{cond-false, none-some, slice_get_within, Block, RingView, Declares, changed, declared, floor_number, place_count, ceiling, has_no_room, is_bad_descriptor, is_left_out, cases_option, slice_get-append, Command, command_of, Header, Sub, Read, IsHeader, ring_with, shape_of, command_id, Known, on_ring, command_at, next_command, learned, is_driver_ring, declaration_tests, may_be_taken, broken_of, AfterStop, NotDeclared, RingFull, BadDescriptor, NotInProfile, tests, broken, DriverKeeps, IsUnfinished, IsHeldMore, HeldMore, Square}
 use Rattle.safety.proofs.TestsPassed.{AllFail, clean_tests, tests_fail}
 use Rattle.safety.proofs.Headers.{transfer_driver}
 use Rattle.safety.proofs.CleanRows.{EventFacts, event_facts}

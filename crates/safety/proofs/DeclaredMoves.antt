@@ -1,13 +1,6 @@
 -- Spots to which a ring may be moved stay such, behind a declaration too
-use Rattle.std.specs.Prelude.{◌≡◌, ℕ, Bool, true, List, unwrap_or}
-use Rattle.std.proofs.Common.{arith, sym, ap, length-append}
-use Rattle.trb.specs.declared.block.Block.{Block}
-use Rattle.segments.specs.ShapeValue.{Shape}
-use Rattle.segments.specs.RingView.{RingView, Declares, changed, declared, floor_number}
-use Rattle.segments.specs.Ceiling.{ceiling}
-use Rattle.segments.specs.Moves.{is_move}
-use Rattle.segments.proofs.Declaring.{given_count-declares}
-use Rattle.segments.proofs.MovesStay.{move-declares}
+use Rattle.std.proofs.Common.{◌≡◌, ℕ, Bool, true, List, unwrap_or, arith, sym, ap, length-append}
+use Rattle.safety.proofs.Words.{Block, Shape, RingView, Declares, changed, declared, floor_number, ceiling, is_move, given_count-declares, move-declares}
 
 -- spots to which a ring may be moved stay such: at the floor, and from the ceiling up to what is declared
 pub record MovesStay (shape : Shape) (v w : RingView) : Type 0 where

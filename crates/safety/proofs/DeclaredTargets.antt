@@ -1,19 +1,6 @@
 -- Where more is declared of rings, the targets to which an unfinished command moves them are the same
-use Rattle.std.specs.Prelude.{◌≡◌, ℕ, zero, suc, ◌+◌, ◌-◌, ◌≤◌, ◌&&◌, Bool, true, List, [], ◌∷◌, find, Some}
-use Rattle.std.specs.List.{list_any, range_with_len, flat_map}
-use Rattle.std.proofs.Common.{arith, sym, ◌∙◌, ap, inl, inr}
-use Rattle.std.proofs.lemmas.Bool.{cases_Bool, cases_lt, cond-true, cond-false, false≢true, and_parts, or_cases}
-use Rattle.std.proofs.lemmas.Option.{none-some}
-use Rattle.segments.specs.declared.spot.Spot.{Spot}
-use Rattle.segments.specs.declared.spot.Spot.TheVariants.{Data, Link}
-use Rattle.segments.specs.ShapeValue.{Shape}
-use Rattle.segments.specs.Spots.{IsSpot, number, named_spot}
-use Rattle.segments.specs.RingView.{RingView, declared, floor_number}
-use Rattle.segments.specs.Ceiling.{named}
-use Rattle.segments.specs.Moves.{is_target, spots_between, target, may_move_to, is_move}
-use Rattle.segments.proofs.SpotOrder.{rank_least, rank_most}
-use Rattle.segments.proofs.NamedSpots.{IsNamed, named_spot-Some, named_spot-is}
-use Rattle.segments.proofs.MovesStay.{move_more}
+use Rattle.std.proofs.Common.{◌≡◌, ◌+◌, ◌-◌, ◌≤◌, ◌&&◌, ◌∷◌, ◌∙◌, ℕ, zero, suc, Bool, true, List, [], find, Some, arith, sym, ap, inl, inr}
+use Rattle.safety.proofs.Words.{list_any, range_with_len, flat_map, cases_Bool, cases_lt, cond-true, cond-false, false≢true, and_parts, or_cases, none-some, Spot, Data, Link, Shape, IsSpot, number, named_spot, RingView, declared, floor_number, named, is_target, spots_between, target, may_move_to, is_move, rank_least, rank_most, IsNamed, named_spot-Some, named_spot-is, move_more}
 
 -- ---- one ring, of which more is declared
 

@@ -1,24 +1,7 @@
 -- A declaration that breaks no rule is one that its ring allows
-use Rattle.std.specs.Prelude.{◌≡◌, ℕ, ◌<◌, ◌==◌, ◌&&◌, ◌||◌, not, true, false, List, [], ◌∷◌, length, All}
-use Rattle.std.specs.List.{list_any}
-use Rattle.std.proofs.Common.{arith, refl, sym}
-use Rattle.std.proofs.lemmas.Bool.{or_parts, not-false, false≢true}
-use Rattle.std.proofs.lemmas.List.Elements.{All-weaker}
-use Rattle.trb.specs.declared.block.Block.{Block}
-use Rattle.trb.specs.declared.kind.BlockKind.{BlockKind}
+use Rattle.std.proofs.Common.{◌≡◌, ◌<◌, ◌==◌, ◌&&◌, ◌||◌, ◌∷◌, ℕ, not, true, false, List, [], length, All, arith, refl, sym}
+use Rattle.safety.proofs.Words.{list_any, or_parts, not-false, false≢true, All-weaker, Block, BlockKind, RingKind, Cmd, Evt, Xfer, kind, is_link, is_transfer, is_command, is_left_out_command, is_badly_formed, is_bad_descriptor, is_no_command, has_other_type, has_left_out_type, is_transfer_arrangement, MayDeclare, Header, Sub, ring_with, shape_of, Known, is_driver_ring, declaration_tests, tests, broken}
 use Rattle.trb.specs.declared.kind.BlockKind.TheVariants.{Link}
-use Rattle.trb.specs.declared.ring_kind.RingKind.{RingKind}
-use Rattle.trb.specs.declared.ring_kind.RingKind.TheVariants.{Cmd, Evt, Xfer}
-use Rattle.trb.specs.Block.{kind}
-use Rattle.trb.specs.Kind.{is_link, is_transfer, is_command, is_left_out_command}
-use Rattle.trb.specs.Descriptor.{is_badly_formed, is_bad_descriptor, is_no_command, has_other_type, has_left_out_type, is_transfer_arrangement}
-use Rattle.segments.specs.RingKeeps.{MayDeclare}
-use Rattle.traces.specs.declared.header.Header.{Header}
-use Rattle.traces.specs.declared.row.Row.TheVariants.{Sub}
-use Rattle.traces.specs.Header.{ring_with, shape_of}
-use Rattle.ring_knowledge.specs.Known.{Known}
-use Rattle.ownership_rules.specs.Declarations.{is_driver_ring, declaration_tests}
-use Rattle.ownership_rules.specs.Rules.{tests, broken}
 use Rattle.safety.proofs.TestsPassed.{AllFail, tests_fail, each_fails}
 
 command_no_link : (k : BlockKind) → (not (is_command k) && not (is_left_out_command k)) ≡ false → is_link k ≡ false

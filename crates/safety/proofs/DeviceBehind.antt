@@ -1,24 +1,7 @@
 -- Behind an event that is read before it, an Address Device that a write gives takes its device context where it may still
-use Rattle.std.specs.Prelude.{◌≡◌, ℕ, ◌%◌, ◌==◌, ◌||◌, not, Bool, false, [], Some, is_none}
-use Rattle.std.proofs.Common.{sym, ◌∙◌, ap, inl, inr}
-use Rattle.std.proofs.lemmas.Bool.{and_cases, and_right, or_parts, or_from, false≢true}
-use Rattle.trb.specs.declared.block.Block.{Block}
-use Rattle.segments.specs.Places.{overlap}
-use Rattle.commands.specs.declared.command.Command.{Command}
-use Rattle.commands.specs.declared.command.Command.TheVariants.{AddressDevice}
-use Rattle.contexts.specs.Contexts.{device_context_bytes, input_context_bytes}
-use Rattle.traces.specs.declared.header.Header.{Header}
-use Rattle.traces.specs.declared.register.Register.TheVariants.{Dcbaap}
-use Rattle.traces.specs.declared.row.Row.TheVariants.{Write, Read}
-use Rattle.traces.specs.Header.{IsHeader}
-use Rattle.ring_knowledge.specs.Known.{Known}
-use Rattle.ring_knowledge.specs.Writes.{command_given, device_named, entry_of}
-use Rattle.ring_knowledge.specs.Learned.{learned}
-use Rattle.ownership_rules.specs.Areas.{is_bad_area, is_in_range_lease, is_soiled}
+use Rattle.std.proofs.Common.{◌≡◌, ◌%◌, ◌==◌, ◌||◌, ◌∙◌, ℕ, not, Bool, false, [], Some, is_none, sym, ap, inl, inr}
+use Rattle.safety.proofs.Words.{and_cases, and_right, or_parts, or_from, false≢true, Block, overlap, Command, AddressDevice, device_context_bytes, input_context_bytes, Header, Dcbaap, Write, Read, IsHeader, Known, command_given, device_named, entry_of, learned, is_bad_area, is_in_range_lease, is_soiled, covers, open_ranges, broken, DriverKeeps}
 use Rattle.ownership_rules.specs.Commands as commands
-use Rattle.ownership_rules.specs.OpenLeases.{covers, open_ranges}
-use Rattle.ownership_rules.specs.Rules.{broken}
-use Rattle.safety.specs.Keeps.{DriverKeeps}
 use Rattle.safety.proofs.LeasesBehind.{Behind, entry_stays, none_fewer, ranges_fewer}
 use Rattle.safety.proofs.EventBehind.{event_behind}
 use Rattle.safety.proofs.CommandsBeside.{leased_device}

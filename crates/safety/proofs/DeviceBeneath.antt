@@ -1,20 +1,6 @@
 -- A device context that a write takes: an event reads nothing of it
-use Rattle.std.specs.Prelude.{◌≡◌, ◌≢◌, ℕ, ◌||◌, Bool, [], Option, None, Some}
-use Rattle.std.proofs.Common.{arith, refl, sym, ◌∙◌, ap}
-use Rattle.std.proofs.lemmas.Option.{none-some, same_Some}
-use Rattle.trb.specs.declared.block.Block.{Block}
-use Rattle.segments.specs.Places.{is_in}
-use Rattle.contexts.specs.Contexts.{device_context_bytes}
-use Rattle.commands.specs.Changes.{changes}
-use Rattle.traces.specs.declared.header.Header.{Header}
-use Rattle.traces.specs.declared.row.Row.TheVariants.{Read}
-use Rattle.traces.specs.declared.register.Register.TheVariants.{Config}
-use Rattle.traces.specs.Header.{command_id}
-use Rattle.traces.specs.Register.{register_or_zero}
-use Rattle.ring_knowledge.specs.Known.{Known}
-use Rattle.ring_knowledge.specs.Rings.{next_command}
-use Rattle.ring_knowledge.specs.Writes.{with_device}
-use Rattle.ownership_rules.specs.Rules.{broken}
+use Rattle.std.proofs.Common.{◌≡◌, ◌≢◌, ◌||◌, ◌∙◌, ℕ, Bool, [], Option, None, Some, arith, refl, sym, ap}
+use Rattle.safety.proofs.Words.{none-some, same_Some, Block, is_in, device_context_bytes, changes, Header, Read, Config, command_id, register_or_zero, Known, next_command, with_device, broken}
 use Rattle.safety.proofs.EndpointPut.{at_number}
 use Rattle.safety.proofs.SameDriver.{SameDriver}
 use Rattle.safety.proofs.Alike.{Alike, held_same}

@@ -1,16 +1,6 @@
 -- What is kept of device contexts under lease is kept where none is added, and no word and no base address changes
-use Rattle.std.specs.Prelude.{◌≡◌, ℕ, Some, is_some}
-use Rattle.std.proofs.Common.{refl, sym, ◌∙◌, ap}
-use Rattle.segments.specs.Places.{overlap}
-use Rattle.contexts.specs.Contexts.{device_context_bytes}
-use Rattle.traces.specs.declared.header.Header.{Header}
-use Rattle.traces.specs.declared.register.Register.TheVariants.{Dcbaap, Erstba}
-use Rattle.traces.specs.Header.{touches_ring}
-use Rattle.ring_knowledge.specs.Known.{Known}
-use Rattle.ring_knowledge.specs.Writes.{device_named, entry_of}
-use Rattle.ownership_rules.specs.Areas.{is_soiled}
-use Rattle.safety.specs.Keeps.{DeviceKeeps}
-use Rattle.safety.specs.KeptStep.{DevicesKeep}
+use Rattle.std.proofs.Common.{◌≡◌, ◌∙◌, ℕ, Some, is_some, refl, sym, ap}
+use Rattle.safety.proofs.Words.{overlap, device_context_bytes, Header, Dcbaap, Erstba, touches_ring, Known, device_named, entry_of, is_soiled, DeviceKeeps, DevicesKeep}
 use Rattle.safety.proofs.AreaFacts.{clean_same}
 
 pub record SameForDevices (k l : Known) : Type 0 where

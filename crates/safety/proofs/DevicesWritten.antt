@@ -1,30 +1,6 @@
 -- A write keeps what is kept of device contexts under lease, and of the one that it takes holds what was tested
-use Rattle.std.specs.Prelude.{◌≡◌, ◌≢◌, ℕ, ◌+◌, ◌*◌, ◌^◌, ◌<◌, ◌≤◌, ◌==◌, ◌&&◌, ◌⊎◌, not, true, false, List, [], Contains, nat_le, nat_lt, Option, Some, None, is_some, option_and_then, slice_get, unwrap_or}
-use Rattle.std.proofs.Common.{arith, refl, sym, ◌∙◌, ap, subst, inl, inr}
-use Rattle.std.proofs.lemmas.Bool.{cases_lt, and_left, and_from, and_parts, or_from, or_left, or_right, false≢true, lt-ltb, le-leb, leb-true, ltb-true, not_from_false, ne_eqb}
-use Rattle.std.proofs.lemmas.Option.{none-some, same_Some, slice_get_within, get_or_from_slice_get}
-use Rattle.trb.specs.declared.block.Block.{Block}
-use Rattle.segments.specs.Places.{is_in, is_inside, overlap}
-use Rattle.segments.specs.RingView.{positions_given}
-use Rattle.segments.proofs.Search.{cases_option}
-use Rattle.segments.proofs.Elsewhere.{address_inside}
-use Rattle.segments.proofs.Giving.{gives_is}
-use Rattle.segments.proofs.DueLists.{position_given_is}
-use Rattle.segments.proofs.MemoryWords.{put_elsewhere}
-use Rattle.commands.specs.declared.command.Command.{Command}
-use Rattle.commands.specs.Command.{command_of, named_slot}
-use Rattle.contexts.specs.Contexts.{device_context, device_context_bytes, slot_entry}
-use Rattle.traces.specs.declared.header.Header.{Header}
-use Rattle.traces.specs.declared.register.Register.TheVariants.{Dcbaap, Erstba}
-use Rattle.traces.specs.declared.row.Row.TheVariants.{Write}
-use Rattle.traces.specs.Header.{IsHeader, shape_of, command_id, touches_ring}
-use Rattle.traces.specs.Register.{register_or_zero}
-use Rattle.ring_knowledge.specs.Known.{Known}
-use Rattle.ring_knowledge.specs.Rings.{command_at}
-use Rattle.ring_knowledge.specs.Writes.{device_named, entry_of, command_given}
-use Rattle.ownership_rules.specs.Areas.{is_soiled}
-use Rattle.ownership_rules.specs.Rules.{broken}
-use Rattle.safety.specs.Keeps.{IsDriverRing, DeviceKeeps, DriverKeeps}
+use Rattle.std.proofs.Common.{◌≡◌, ◌≢◌, ◌+◌, ◌*◌, ◌^◌, ◌<◌, ◌≤◌, ◌==◌, ◌&&◌, ◌⊎◌, ◌∙◌, ℕ, not, true, false, List, [], Contains, nat_le, nat_lt, Option, Some, None, is_some, option_and_then, slice_get, unwrap_or, arith, refl, sym, ap, subst, inl, inr, lt-ltb, le-leb, leb-true, ltb-true, ne_eqb}
+use Rattle.safety.proofs.Words.{cases_lt, and_left, and_from, and_parts, or_from, or_left, or_right, false≢true, not_from_false, none-some, same_Some, slice_get_within, get_or_from_slice_get, Block, is_in, is_inside, overlap, positions_given, cases_option, address_inside, gives_is, position_given_is, put_elsewhere, Command, command_of, named_slot, device_context, device_context_bytes, slot_entry, Header, Dcbaap, Erstba, Write, IsHeader, shape_of, command_id, touches_ring, register_or_zero, Known, command_at, device_named, entry_of, command_given, is_soiled, broken, IsDriverRing, DeviceKeeps, DriverKeeps, DevicesKeep}
 use Rattle.safety.proofs.Headers.{ring_shape}
 use Rattle.safety.proofs.CommandRing.{due_has_ring}
 use Rattle.safety.proofs.Areas.{clean_word}
@@ -35,7 +11,6 @@ use Rattle.safety.proofs.RowFrames.{write_leaves}
 use Rattle.safety.proofs.WrittenKnown.{command_slot_low, after_write, taken, written_memory, written_device, written_device_none, written_soiled, written_soiled_none}
 use Rattle.safety.proofs.WriteBeside.{is_free, rules_of}
 use Rattle.safety.proofs.DeviceFrames.{entry_same}
-use Rattle.safety.specs.KeptStep.{DevicesKeep}
 
 named_from : (k l : Known) (s : ℕ) → l.register Dcbaap ≡ k.register Dcbaap → ((x : ℕ) → entry_of k s ≤ x → x < entry_of k s + 8 → l.memory x ≡ k.memory x) → device_named l s ≡ device_named k s
 unfolding device_named entry_of

@@ -1,19 +1,8 @@
 -- The change of endpoints that are disabled: they have no ring, and what ring they had is inactive
-use Rattle.std.specs.Prelude.{◌≡◌, ◌⊎◌, ℕ, suc, zero, ◌+◌, ◌<◌, ◌≤◌, ◌==◌, ◌&&◌, if◌then◌else◌, Bool, true, false, not, Option, Some, None}
-use Rattle.std.specs.List.{list_any, range_with_len}
-use Rattle.std.proofs.Common.{arith, refl, sym, ◌∙◌, ap, subst, inl, inr}
-use Rattle.std.proofs.lemmas.Bool.{cases_Bool, cases_eq, false≢true, and_from, and_left, and_right, and_parts, or_left, or_right, cond-false, eq-eqb, eqb-true, ne_eqb}
-use Rattle.std.proofs.lemmas.Option.{none-some, same_Some}
-use Rattle.commands.specs.declared.command.Command.{Command}
-use Rattle.commands.specs.declared.state.EndpointState.TheVariants.{Disabled as Off}
-use Rattle.commands.specs.Changes.{Disables}
-use Rattle.traces.specs.declared.header.Header.{Header}
-use Rattle.traces.specs.Header.{is_ring, shape_of, command_id}
-use Rattle.world_state.specs.World.{World}
+use Rattle.std.proofs.Common.{◌≡◌, ◌⊎◌, ◌+◌, ◌<◌, ◌≤◌, ◌==◌, ◌&&◌, if◌then◌else◌, ◌∙◌, ℕ, suc, zero, Bool, true, false, not, Option, Some, None, arith, refl, sym, ap, subst, inl, inr, eq-eqb, eqb-true, ne_eqb}
+use Rattle.safety.proofs.Words.{list_any, range_with_len, cases_Bool, cases_eq, false≢true, and_from, and_left, and_right, and_parts, or_left, or_right, cond-false, none-some, same_Some, Command, Off, Disables, Header, is_ring, shape_of, command_id, World, Known, RingState, state_of, BoundRing, FreeRing, EndpointRing}
 use Rattle.controller_model.specs.Bindings as bindings
-use Rattle.ring_knowledge.specs.Known.{Known}
 use Rattle.ring_knowledge.specs.Completions as completions
-use Rattle.safety.specs.Matches.{RingState, state_of, BoundRing, FreeRing, EndpointRing}
 use Rattle.safety.proofs.SafeContext.{none_in_range}
 use Rattle.safety.proofs.LookKinds.{cond_is}
 use Rattle.safety.proofs.FinishChanges.{StatesMatch, ChangeKeeps}

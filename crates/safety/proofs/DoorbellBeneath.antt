@@ -1,16 +1,6 @@
 -- A doorbell of a ring that is held beneath an event that isn't read yet: the two may change places
-use Rattle.std.specs.Prelude.{◌≡◌, ℕ, ◌==◌, true, false, [], Some, is_none}
-use Rattle.std.proofs.Common.{sym, ◌∙◌, ap, inl, inr}
-use Rattle.std.proofs.lemmas.Bool.{cases_Bool, cond-true, false≢true}
-use Rattle.trb.specs.declared.block.Block.{Block}
-use Rattle.segments.specs.Ceiling.{is_open}
-use Rattle.traces.specs.declared.header.Header.{Header}
-use Rattle.traces.specs.declared.row.Row.TheVariants.{Bell, Read}
-use Rattle.traces.specs.Header.{IsHeader, command_id}
-use Rattle.ring_knowledge.specs.Known.{Known}
-use Rattle.ownership_rules.specs.Rules.{broken}
-use Rattle.safety.specs.Keeps.{DriverKeeps}
-use Rattle.safety.specs.Beneath.{is_open_if, is_idle, Square}
+use Rattle.std.proofs.Common.{◌≡◌, ◌==◌, ◌∙◌, ℕ, true, false, [], Some, is_none, sym, ap, inl, inr}
+use Rattle.safety.proofs.Words.{cases_Bool, cond-true, false≢true, Block, is_open, Header, Bell, Read, IsHeader, command_id, Known, broken, DriverKeeps, is_open_if, is_idle, Square}
 use Rattle.safety.proofs.BellBeneath.{command_square}
 use Rattle.safety.proofs.RungBeneath.{rung_ring, bell_square}
 

@@ -1,26 +1,6 @@
 -- A declaration, a write and the opening of a ring leave its pointer where it is
-use Rattle.std.specs.Prelude.{◌≡◌, ℕ, ◌+◌, ◌-◌, ◌<◌, ◌≤◌, ◌==◌, ◌||◌, not, Bool, true, false, List, [], ◌∷◌, ◌++◌, length, sum, Option, None, Some, slice_get}
-use Rattle.std.proofs.Common.{arith, refl, sym, ◌∙◌, ap, inl, inr}
-use Rattle.std.proofs.lemmas.Bool.{or_left, or_parts, not-false, false≢true, ne_eqb}
-use Rattle.std.proofs.lemmas.Option.{slice_get_within}
-use Rattle.std.proofs.lemmas.List.Sums.{sum_by-cons}
-use Rattle.trb.specs.declared.block.Block.{Block}
-use Rattle.segments.specs.ShapeValue.{Shape}
-use Rattle.segments.specs.Shape.{IsShape}
-use Rattle.segments.specs.Descriptors.{DeclaredBlock, is_border, declared_at}
-use Rattle.segments.specs.RingView.{RingView, Declares, Writes, Opens, changed, declared, gives_crossing}
-use Rattle.segments.specs.Ceiling.{ceiling, given_count, is_step_given, is_way_given}
-use Rattle.segments.specs.RingKeeps.{RingKeeps}
-use Rattle.segments.proofs.Search.{cases_option}
-use Rattle.segments.proofs.GivenCount.{given_count_same}
-use Rattle.segments.proofs.Declaring.{given_count-declares, slice_get-append}
-use Rattle.segments.proofs.Writing.{given_count-writes}
-use Rattle.segments.proofs.Named.{ceiling_within}
-use Rattle.segments.proofs.MovesStay.{is_border-push}
-use Rattle.world_state.specs.World.{RingEvent, Took, Placed}
-use Rattle.world_state.specs.Takes.{is_as_declared, next_take}
-use Rattle.world_state.specs.Harms.{has_other_words}
-use Rattle.safety.specs.Matches.{Newest}
+use Rattle.std.proofs.Common.{◌≡◌, ◌+◌, ◌-◌, ◌<◌, ◌≤◌, ◌==◌, ◌||◌, ◌∷◌, ◌++◌, ◌∙◌, ℕ, not, Bool, true, false, List, [], length, sum, Option, None, Some, slice_get, arith, refl, sym, ap, inl, inr, ne_eqb}
+use Rattle.safety.proofs.Words.{or_left, or_parts, not-false, false≢true, slice_get_within, sum_by-cons, Block, Shape, IsShape, DeclaredBlock, is_border, declared_at, RingView, Declares, Writes, Opens, changed, declared, gives_crossing, ceiling, given_count, is_step_given, is_way_given, RingKeeps, cases_option, given_count_same, given_count-declares, slice_get-append, given_count-writes, ceiling_within, is_border-push, RingEvent, Took, Placed, is_as_declared, next_take, has_other_words, Newest}
 use Rattle.safety.proofs.NoWait.{ceiling_open, ceiling_held, declared_some}
 use Rattle.safety.proofs.RingGoesOn.{RingGoesOn}
 

@@ -1,19 +1,6 @@
 -- A clean history keeps what a driver keeps
-use Rattle.std.specs.Prelude.{◌≡◌, false, List, [], ◌∷◌}
-use Rattle.std.proofs.Common.{◌∙◌}
-use Rattle.trb.specs.declared.block.Block.{Block}
-use Rattle.trb.specs.Block.{kind}
-use Rattle.traces.specs.declared.header.Header.{Header}
-use Rattle.traces.specs.declared.row.Row.{Row}
-use Rattle.traces.specs.Header.{IsHeader}
-use Rattle.traces.specs.declared.row.Row.TheVariants.{Read}
-use Rattle.world_state.specs.World.{World}
-use Rattle.ring_knowledge.specs.Known.{Known}
-use Rattle.ring_knowledge.specs.Learned.{learned, known}
-use Rattle.ownership_rules.specs.Clean.{IsClean}
-use Rattle.safety.specs.Keeps.{DriverKeeps}
-use Rattle.safety.specs.KeptStep.{KeptByRows}
-use Rattle.safety.specs.Invariant.{reading, Runs}
+use Rattle.std.proofs.Common.{◌≡◌, ◌∷◌, ◌∙◌, false, List, []}
+use Rattle.safety.proofs.Words.{Block, kind, Header, Row, IsHeader, Read, World, Known, learned, known, IsClean, DriverKeeps, KeptByRows, reading, Runs}
 use Rattle.safety.proofs.SameDriver.{event_same}
 use Rattle.safety.proofs.TestsPassed.{clean_tests}
 use Rattle.safety.proofs.KeptCommandRing.{kept_crcr, kept_crcr_written, kept_sized, kept_erstsz_written}

@@ -1,12 +1,6 @@
 -- The rings and endpoints of what a driver keeps, as the laws of rings take them
-use Rattle.std.specs.Prelude.{◌≡◌, ℕ, true, Option, Some, None}
-use Rattle.std.proofs.Common.{refl, ◌∙◌, ap}
-use Rattle.std.proofs.lemmas.Bool.{false≢true}
-use Rattle.traces.specs.declared.header.Header.{Header}
-use Rattle.traces.specs.declared.ring.Ring.{Ring}
-use Rattle.traces.specs.Header.{ring_with, is_driver_kind, is_transfer_kind}
-use Rattle.ring_knowledge.specs.Known.{Known}
-use Rattle.ownership_rules.specs.Declarations.{is_driver_ring}
+use Rattle.std.proofs.Common.{◌≡◌, ◌∙◌, ℕ, true, Option, Some, None, refl, ap}
+use Rattle.safety.proofs.Words.{false≢true, Header, Ring, ring_with, is_driver_kind, is_transfer_kind, Known, is_driver_ring}
 use Rattle.safety.specs.Keeps as keeps
 use Rattle.safety.specs.RingsKeep as rings
 use Rattle.safety.specs.EndpointsKeep as endpoints

@@ -1,26 +1,7 @@
 -- Declarations, writes, register writes and doorbells keep what the rules keep of each ring
-use Rattle.std.specs.Prelude.{◌≡◌, ◌≢◌, ℕ, ◌==◌, ◌&&◌, ◌||◌, not, true, if◌then◌else◌, List, [], Option, None, Some, option_and_then}
-use Rattle.std.proofs.Common.{refl, sym, ◌∙◌, ap, subst, inl, inr}
-use Rattle.std.proofs.lemmas.Bool.{cases_eq, cond-true, cond-false, eq-eqb, ne_eqb, cond_both}
-use Rattle.trb.specs.declared.block.Block.{Block}
-use Rattle.segments.specs.RingView.{RingView, RingChange, Declares, Opens, changed}
-use Rattle.segments.specs.RingKeeps.{RingKeeps}
-use Rattle.segments.proofs.NewRing.{new_ring_keeps}
-use Rattle.segments.proofs.Declaring.{declares_keeps}
-use Rattle.segments.proofs.Writing.{writes_keeps}
-use Rattle.segments.proofs.Reaching.{opens_keeps}
-use Rattle.traces.specs.declared.header.Header.{Header}
-use Rattle.traces.specs.declared.register.Register.{Register}
-use Rattle.traces.specs.declared.register.Register.TheVariants.{Erdp, Usbcmd}
-use Rattle.traces.specs.declared.row.Row.TheVariants.{Sub, Write}
-use Rattle.traces.specs.Header.{IsHeader, shape_of, command_id}
-use Rattle.traces.specs.Register.{run_bit, reset_bit}
-use Rattle.ring_knowledge.specs.Known.{Known, nothing}
-use Rattle.ring_knowledge.specs.Rings.{on_ring}
-use Rattle.ring_knowledge.specs.Writes.{with_device, with_word, written, command_given, taken_device}
-use Rattle.ring_knowledge.specs.Registers.{run_or_stop, valued, register_written, endpoint_rung, rung}
-use Rattle.ownership_rules.specs.Rules.{broken}
-use Rattle.safety.specs.RingsKeep.{IsDriverRing, RingsKeep}
+use Rattle.std.proofs.Common.{◌≡◌, ◌≢◌, ◌==◌, ◌&&◌, ◌||◌, if◌then◌else◌, ◌∙◌, ℕ, not, true, List, [], Option, None, Some, option_and_then, refl, sym, ap, subst, inl, inr, eq-eqb, ne_eqb}
+use Rattle.safety.proofs.Words.{cases_eq, cond-true, cond-false, cond_both, Block, RingView, RingChange, Declares, Opens, changed, RingKeeps, new_ring_keeps, declares_keeps, writes_keeps, opens_keeps, Header, Register, Erdp, Usbcmd, Sub, Write, IsHeader, shape_of, command_id, run_bit, reset_bit, Known, nothing, on_ring, with_device, with_word, written, command_given, taken_device, run_or_stop, valued, register_written, endpoint_rung, rung, broken, RingsKeep}
+use Rattle.safety.specs.RingsKeep.{IsDriverRing}
 use Rattle.safety.proofs.RingsOfHeader.{shape_allowed}
 use Rattle.safety.proofs.Declaring.{may_declare}
 use Rattle.safety.proofs.Writing.{may_write}

@@ -1,28 +1,9 @@
 -- The doorbell of an endpoint whose ring is held wakes it; a Transfer Event that was possible before is so behind it, and leaves it woken
-use Rattle.std.specs.Prelude.{◌≡◌, ◌≢◌, ℕ, ◌==◌, ◌&&◌, ◌||◌, true, false, Some, nat_lt, slice_get, option_and_then}
-use Rattle.std.proofs.Common.{refl, sym, ◌∙◌, ap, inl, inr}
-use Rattle.std.proofs.lemmas.Bool.{false≢true, and_parts, cond-false, or_cases, cond_both, eqb-true}
-use Rattle.guest_memory.specs.Memory.{put_pair}
-use Rattle.segments.specs.RingView.{Opens}
-use Rattle.commands.specs.declared.state.EndpointState.TheVariants.{Running}
-use Rattle.commands.specs.States.{is_running, is_stopped}
-use Rattle.traces.specs.declared.header.Header.{Header}
-use Rattle.ring_knowledge.specs.Known.{Known}
-use Rattle.ring_knowledge.specs.Rings.{on_ring}
-use Rattle.ring_knowledge.specs.Registers.{endpoint_rung}
+use Rattle.std.proofs.Common.{◌≡◌, ◌≢◌, ◌==◌, ◌&&◌, ◌||◌, ◌∙◌, ℕ, true, false, Some, nat_lt, slice_get, option_and_then, refl, sym, ap, inl, inr, eqb-true}
+use Rattle.safety.proofs.Words.{false≢true, and_parts, cond-false, or_cases, cond_both, put_pair, Opens, Running, is_running, is_stopped, Header, Known, on_ring, endpoint_rung, DriverKeeps, floor_number, ceiling, is_open, ceiling_within, Block, command_of, is_stop_of, IsHeader, shape_of, command_id, command_at, next_command, transfer_read, is_in_profile, may_be_taken, is_stopping_now, is_impossible_transfer}
 use Rattle.safety.proofs.DriverRows.{ring_here, ring_elsewhere}
 use Rattle.safety.proofs.Headers.{ring_shape, transfer_driver, transfer_not_command}
-use Rattle.safety.specs.Keeps.{DriverKeeps}
 use Rattle.safety.proofs.WokenTransfers.{transfer_woken}
-use Rattle.segments.specs.RingView.{floor_number}
-use Rattle.segments.specs.Ceiling.{ceiling, is_open}
-use Rattle.segments.proofs.Named.{ceiling_within}
-use Rattle.trb.specs.declared.block.Block.{Block}
-use Rattle.commands.specs.Command.{command_of, is_stop_of}
-use Rattle.traces.specs.Header.{IsHeader, shape_of, command_id}
-use Rattle.ring_knowledge.specs.Rings.{command_at, next_command}
-use Rattle.ring_knowledge.specs.Transfers.{transfer_read}
-use Rattle.ownership_rules.specs.Events.{is_in_profile, may_be_taken, is_stopping_now, is_impossible_transfer}
 use Rattle.safety.proofs.EndpointPut.{at_pair}
 use Rattle.safety.proofs.SameDriver.{SameDriver, on_ring_same}
 use Rattle.safety.proofs.StatesRung.{running_is}

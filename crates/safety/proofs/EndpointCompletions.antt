@@ -1,34 +1,7 @@
 -- Behind the doorbell of an endpoint whose ring is held, and that no unfinished command touches, each event may be read that might be
 -- before, and leaves the endpoint woken
-use Rattle.std.specs.Prelude.{◌≡◌, ◌≢◌, ℕ, ◌==◌, ◌&&◌, ◌||◌, Bool, true, false, not, [], Option, None, Some, nat_lt, slice_get, option_and_then}
-use Rattle.std.proofs.Common.{refl, sym, ◌∙◌, ap, subst}
-use Rattle.std.proofs.lemmas.Bool.{false≢true, or_parts, or_from, not-false}
-use Rattle.trb.specs.declared.block.Block.{Block}
-use Rattle.trb.specs.declared.kind.BlockKind.{BlockKind}
-use Rattle.trb.specs.declared.kind.BlockKind.TheVariants.{TransferEvent, CommandCompletion}
-use Rattle.trb.specs.Block.{kind, pointer, code, slot}
-use Rattle.trb.specs.Kind.{is_transfer_event}
-use Rattle.segments.specs.Places.{address_of}
-use Rattle.segments.specs.RingView.{RingView, floor_number}
-use Rattle.segments.specs.Ceiling.{ceiling, is_open}
-use Rattle.commands.specs.declared.command.Command.{Command}
-use Rattle.commands.specs.Command.{command_of}
-use Rattle.commands.specs.Changes.{changes}
-use Rattle.commands.specs.States.{is_running, is_stopped}
-use Rattle.traces.specs.declared.header.Header.{Header}
-use Rattle.traces.specs.declared.register.Register.TheVariants.{Config}
-use Rattle.traces.specs.declared.row.Row.TheVariants.{Read}
-use Rattle.traces.specs.Header.{IsHeader, shape_of, command_id}
-use Rattle.traces.specs.Register.{register_or_zero}
-use Rattle.ring_knowledge.specs.Known.{Known}
-use Rattle.ring_knowledge.specs.Rings.{command_at, next_command}
-use Rattle.ring_knowledge.specs.Registers.{endpoint_rung}
-use Rattle.ring_knowledge.specs.Completions.{completed}
-use Rattle.ring_knowledge.specs.Learned.{event_read}
-use Rattle.ownership_rules.specs.Doorbells.{touches_endpoint, is_touched}
-use Rattle.ownership_rules.specs.Events.{is_in_profile, may_be_taken, can_finish, is_impossible_completion, is_impossible_by_kind}
-use Rattle.ownership_rules.specs.Rules.{broken}
-use Rattle.safety.specs.Keeps.{CommandKeeps, DriverKeeps}
+use Rattle.std.proofs.Common.{◌≡◌, ◌≢◌, ◌==◌, ◌&&◌, ◌||◌, ◌∙◌, ℕ, Bool, true, false, not, [], Option, None, Some, nat_lt, slice_get, option_and_then, refl, sym, ap, subst}
+use Rattle.safety.proofs.Words.{false≢true, or_parts, or_from, not-false, Block, BlockKind, TransferEvent, CommandCompletion, kind, pointer, code, slot, is_transfer_event, address_of, RingView, floor_number, ceiling, is_open, Command, command_of, changes, is_running, is_stopped, Header, Config, Read, IsHeader, shape_of, command_id, register_or_zero, Known, command_at, next_command, endpoint_rung, completed, event_read, touches_endpoint, is_touched, is_in_profile, may_be_taken, can_finish, is_impossible_completion, is_impossible_by_kind, broken, CommandKeeps, DriverKeeps}
 use Rattle.safety.proofs.BellBeneath.{ReadWoken, read_woken}
 use Rattle.safety.proofs.CleanRows.{EventFacts, event_facts}
 use Rattle.safety.proofs.DriverRings.{endpoints_of}

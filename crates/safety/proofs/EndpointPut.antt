@@ -1,8 +1,6 @@
 -- A table of endpoints with another entry at one of them
-use Rattle.std.specs.Prelude.{◌≡◌, ℕ, ◌==◌, ◌&&◌}
-use Rattle.std.proofs.Common.{sym, ◌∙◌}
-use Rattle.std.proofs.lemmas.Bool.{cond_both, and_parts, and_from, eqb-true, eq-eqb, false≢true}
-use Rattle.guest_memory.specs.Memory.{put, put_pair}
+use Rattle.std.proofs.Common.{◌≡◌, ◌==◌, ◌&&◌, ◌∙◌, ℕ, sym, eqb-true, eq-eqb}
+use Rattle.safety.proofs.Words.{cond_both, and_parts, and_from, false≢true, put, put_pair}
 
 pub at_pair : {A : Type 0} (P : A → Type 0) (f : ℕ → ℕ → A) (s i : ℕ) (x : A) (t j : ℕ) → (t ≡ s → j ≡ i → P x) → ((t ≡ s → j ≡ i → ⊥) → P (f t j)) → P (put_pair f s i x t j)
 at_pair P f s i x t j here there =

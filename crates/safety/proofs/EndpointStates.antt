@@ -1,14 +1,7 @@
 -- States of endpoints that change alike in what is known and in the world
-use Rattle.std.specs.Prelude.{◌≡◌, ℕ, Bool, List}
-use Rattle.std.proofs.Common.{refl}
-use Rattle.commands.specs.declared.state.EndpointState.{EndpointState}
-use Rattle.traces.specs.declared.header.Header.{Header}
-use Rattle.trb.specs.declared.block.Block.{Block}
-use Rattle.world_state.specs.World.{World}
+use Rattle.std.proofs.Common.{◌≡◌, ℕ, Bool, List, refl}
+use Rattle.safety.proofs.Words.{EndpointState, Header, Block, World, Known, Stands, EventsStand, Matches}
 use Rattle.world_state.specs.World as of_world
-use Rattle.ring_knowledge.specs.Known.{Known}
-use Rattle.safety.specs.Stands.{Stands, EventsStand}
-use Rattle.safety.specs.Matches.{Matches}
 use Rattle.safety.proofs.Learns.{under_way_same, unfinished_same}
 
 -- with these states of endpoints, and these endpoints whose ring must be moved

@@ -1,25 +1,7 @@
 -- Any history keeps endpoints on transfer rings that were bound
-use Rattle.std.specs.Prelude.{◌≡◌, ◌≢◌, ◌⊎◌, ℕ, ◌==◌, ◌&&◌, if◌then◌else◌, Bool, true, false, List, [], ◌∷◌, Option, None, Some}
-use Rattle.std.proofs.Common.{refl, sym, ◌∙◌, ap, subst, inl, inr}
-use Rattle.std.proofs.lemmas.Bool.{cases_Bool, cases_eq, cond-true, cond-false, cond_both, eq-eqb, ne_eqb, false≢true}
-use Rattle.std.proofs.lemmas.Option.{none-some, same_Some}
-use Rattle.guest_memory.specs.Memory.{put}
-use Rattle.segments.specs.declared.spot.Spot.{Spot}
-use Rattle.segments.specs.declared.spot.Spot.TheVariants.{Data}
-use Rattle.segments.specs.Spots.{number}
-use Rattle.segments.specs.RingView.{RingView, RingChange, Reaches, Holds, changed}
-use Rattle.segments.specs.Ceiling.{ceiling}
-use Rattle.segments.specs.Moves.{target}
-use Rattle.commands.specs.declared.command.Command.{Command}
-use Rattle.commands.specs.declared.state.EndpointState.TheVariants.{Stopped}
-use Rattle.commands.specs.States.{is_off}
-use Rattle.commands.specs.Changes.{Change, SlotGoesOn, DeviceLeft, Disables, Places, Stops, Resets}
-use Rattle.traces.specs.declared.header.Header.{Header}
-use Rattle.traces.specs.Header.{IsHeader, shape_of, ring_beginning_at}
-use Rattle.ring_knowledge.specs.Known.{Known}
-use Rattle.ring_knowledge.specs.Rings.{on_ring}
-use Rattle.ring_knowledge.specs.Completions.{set_to, bound_to, moved_to, moved, pointed, disabled, in_state, held_at_ceiling, changed_by, changed_by_all}
-use Rattle.safety.specs.EndpointsKeep.{IsTransferRing, EndpointsKeep}
+use Rattle.std.proofs.Common.{◌≡◌, ◌≢◌, ◌⊎◌, ◌==◌, ◌&&◌, if◌then◌else◌, ◌∷◌, ◌∙◌, ℕ, Bool, true, false, List, [], Option, None, Some, refl, sym, ap, subst, inl, inr, eq-eqb, ne_eqb}
+use Rattle.safety.proofs.Words.{cases_Bool, cases_eq, cond-true, cond-false, cond_both, false≢true, none-some, same_Some, put, Spot, Data, number, RingView, RingChange, Reaches, Holds, changed, ceiling, target, Command, Stopped, is_off, Change, SlotGoesOn, DeviceLeft, Disables, Places, Stops, Resets, Header, IsHeader, shape_of, ring_beginning_at, Known, on_ring, set_to, bound_to, moved_to, moved, pointed, disabled, in_state, held_at_ceiling, changed_by, changed_by_all, EndpointsKeep}
+use Rattle.safety.specs.EndpointsKeep.{IsTransferRing}
 use Rattle.safety.proofs.RingIds.{beginning_transfer}
 use Rattle.safety.proofs.DriverRows.{ring_here, ring_elsewhere}
 

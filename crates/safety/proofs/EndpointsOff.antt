@@ -1,19 +1,6 @@
 -- A slot that a command names has a number above 0, and an endpoint that is off has no ring
-use Rattle.std.specs.Prelude.{◌≡◌, ◌≢◌, ℕ, ◌<◌, ◌||◌, true, false, Some, None}
-use Rattle.std.proofs.Common.{arith, refl, sym, ◌∙◌, ap, inl, inr}
-use Rattle.std.proofs.lemmas.Bool.{cases_lt, or_parts, false≢true}
-use Rattle.segments.proofs.Search.{cases_option}
-use Rattle.commands.specs.declared.command.Command.{Command}
-use Rattle.commands.specs.declared.state.SlotState.{SlotState}
-use Rattle.commands.specs.declared.state.SlotState.TheVariants.{Disabled}
-use Rattle.commands.specs.declared.state.EndpointState.{EndpointState}
-use Rattle.commands.specs.declared.state.EndpointState.TheVariants.{Disabled as Off}
-use Rattle.commands.specs.Command.{named_slot, named_endpoint, named_context}
-use Rattle.commands.specs.States.{is_disabled, is_off}
-use Rattle.traces.specs.declared.header.Header.{Header}
-use Rattle.ring_knowledge.specs.Known.{Known}
-use Rattle.ownership_rules.specs.Commands.{is_bad_command, names_disabled_slot, names_disabled_endpoint, has_bad_context, has_bad_content}
-use Rattle.safety.specs.Keeps.{DriverKeeps}
+use Rattle.std.proofs.Common.{◌≡◌, ◌≢◌, ◌<◌, ◌||◌, ◌∙◌, ℕ, true, false, Some, None, arith, refl, sym, ap, inl, inr}
+use Rattle.safety.proofs.Words.{cases_lt, or_parts, false≢true, cases_option, Command, SlotState, Disabled, EndpointState, Off, named_slot, named_endpoint, named_context, is_disabled, is_off, Header, Known, is_bad_command, names_disabled_slot, names_disabled_endpoint, has_bad_context, has_bad_content, DriverKeeps}
 
 off_is : (state : EndpointState) → is_off state ≡ true → state ≡ Off
 off_is Off off = refl

@@ -1,29 +1,7 @@
 -- What stands behind an event that may be read: rings whose floors moved on, and no device context more
-use Rattle.std.specs.Prelude.{◌≡◌, ℕ, ◌==◌, if◌then◌else◌, [], List, ◌∷◌, Option, None, Some}
-use Rattle.std.proofs.Common.{refl, sym, ◌∙◌, ap, subst, inl, inr}
-use Rattle.std.proofs.lemmas.Bool.{cond_both}
-use Rattle.std.proofs.lemmas.Option.{none-some}
-use Rattle.trb.specs.declared.block.Block.{Block}
-use Rattle.trb.specs.declared.kind.BlockKind.{BlockKind}
-use Rattle.trb.specs.declared.kind.BlockKind.TheVariants.{TransferEvent, CommandCompletion}
-use Rattle.trb.specs.Block.{kind, code, slot}
-use Rattle.trb.specs.Kind.{is_command_completion}
-use Rattle.segments.specs.RingKeeps.{RingKeeps}
-use Rattle.commands.specs.declared.command.Command.{Command}
-use Rattle.commands.specs.declared.command.Command.TheVariants.{StopEndpoint}
-use Rattle.commands.specs.Changes.{Change, SlotGoesOn, DeviceLeft, Disables, Places, Stops, Resets, changes}
-use Rattle.traces.specs.declared.header.Header.{Header}
-use Rattle.traces.specs.declared.row.Row.TheVariants.{Read}
-use Rattle.traces.specs.Header.{IsHeader, shape_of, command_id}
-use Rattle.ring_knowledge.specs.Known.{Known}
-use Rattle.ring_knowledge.specs.Rings.{on_ring, command_at, next_command}
-use Rattle.ring_knowledge.specs.Completions.{disabled, changed_by, changed_by_all, succeeded, stop_ended, finished, completed}
-use Rattle.ring_knowledge.specs.Learned.{event_read, learned}
-use Rattle.ownership_rules.specs.Rules.{broken}
-use Rattle.safety.specs.RingsKeep.{IsDriverRing, RingsKeep}
-use Rattle.safety.specs.EndpointsKeep.{EndpointsKeep}
-use Rattle.safety.specs.Keeps.{DriverKeeps}
-use Rattle.safety.specs.KeptHistories.{MayRead}
+use Rattle.std.proofs.Common.{◌≡◌, ◌==◌, if◌then◌else◌, ◌∷◌, ◌∙◌, ℕ, [], List, Option, None, Some, refl, sym, ap, subst, inl, inr}
+use Rattle.safety.proofs.Words.{cond_both, none-some, Block, BlockKind, TransferEvent, CommandCompletion, kind, code, slot, is_command_completion, RingKeeps, Command, StopEndpoint, Change, SlotGoesOn, DeviceLeft, Disables, Places, Stops, Resets, changes, Header, Read, IsHeader, shape_of, command_id, Known, on_ring, command_at, next_command, disabled, changed_by, changed_by_all, succeeded, stop_ended, finished, completed, event_read, learned, broken, RingsKeep, EndpointsKeep, DriverKeeps, MayRead}
+use Rattle.safety.specs.RingsKeep.{IsDriverRing}
 use Rattle.safety.proofs.Histories.{row_keeps}
 use Rattle.safety.proofs.StillPlacing.{still_reads}
 use Rattle.safety.proofs.RingsOfHeader.{shape_allowed}

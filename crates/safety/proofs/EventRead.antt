@@ -1,28 +1,8 @@
 -- When a posted event is possible where it will be read, and what reading it adds
-use Rattle.std.specs.Prelude.{◌≡◌, ◌+◌, ◌-◌, ◌≤◌, ◌==◌, ◌&&◌, Bool, true, false, not, List, [], ◌∷◌, ◌++◌, All}
-use Rattle.std.proofs.Common.{arith, refl, sym, ◌∙◌, ap, subst}
-use Rattle.std.proofs.lemmas.Bool.{cond-false, or_from, not_from_true, le-ltb, eq-eqb}
-use Rattle.trb.specs.declared.block.Block.{Block}
-use Rattle.std.proofs.lemmas.List.Elements.{All-append, All-cons, All-nil}
-use Rattle.trb.specs.Block.{IsBlock, cycle, kind}
-use Rattle.trb.specs.Kind.{is_event, is_transfer_event}
-use Rattle.segments.specs.Places.{cycle_of}
-use Rattle.traces.specs.declared.header.Header.{Header}
-use Rattle.traces.specs.declared.row.Row.{Row}
-use Rattle.traces.specs.declared.row.Row.TheVariants.{Read}
-use Rattle.traces.specs.Header.{event_shape, event_size}
-use Rattle.world_state.specs.World.{World}
-use Rattle.ring_knowledge.specs.Known.{Known}
-use Rattle.ring_knowledge.specs.Learned.{event_read, learned, known}
-use Rattle.ownership_rules.specs.Refusal.{broken_of}
-use Rattle.ownership_rules.specs.declared.refusal.Refusal.TheVariants.{AfterStop, ImpossibleEvent, NotInProfile}
-use Rattle.ownership_rules.specs.Rules.{broken}
+use Rattle.std.proofs.Common.{◌≡◌, ◌+◌, ◌-◌, ◌≤◌, ◌==◌, ◌&&◌, ◌∷◌, ◌++◌, ◌∙◌, Bool, true, false, not, List, [], All, arith, refl, sym, ap, subst, le-ltb, eq-eqb}
+use Rattle.safety.proofs.Words.{cond-false, or_from, not_from_true, Block, All-append, All-cons, All-nil, IsBlock, cycle, kind, is_event, is_transfer_event, cycle_of, Header, Row, Read, event_shape, event_size, World, Known, event_read, learned, known, broken_of, AfterStop, ImpossibleEvent, NotInProfile, broken, IsClean, is_in_profile, is_impossible_by_kind, is_past_room, is_impossible, Stands, reading}
 use Rattle.ownership_rules.specs.Rules as of_rules
-use Rattle.ownership_rules.specs.Clean.{IsClean}
-use Rattle.ownership_rules.specs.Events.{is_in_profile, is_impossible_by_kind, is_past_room, is_impossible}
 use Rattle.ownership_rules.specs.Events as of_events
-use Rattle.safety.specs.Stands.{Stands}
-use Rattle.safety.specs.Invariant.{reading}
 use Rattle.safety.proofs.Posting.{CanPost}
 use Rattle.safety.proofs.WithReads.{with_reads, reading_more}
 

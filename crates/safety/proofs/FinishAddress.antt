@@ -1,43 +1,9 @@
 -- The controller finishes an Address Device with success: the run goes on
-use Rattle.std.specs.Prelude.{◌≡◌, ℕ, ◌<◌, ◌≤◌, ◌==◌, Bool, true, false, List, [], ◌∷◌, All, Some, is_some}
-use Rattle.std.specs.List.{list_any}
-use Rattle.std.proofs.Common.{arith, refl, sym, ◌∙◌, ap, subst, inl, inr}
-use Rattle.std.proofs.lemmas.Bool.{cases_Bool, cases_lt, or_left, cond-true, eq-eqb, false≢true}
-use Rattle.std.proofs.lemmas.List.Elements.{All-head}
-use Rattle.trb.specs.declared.block.Block.{Block}
-use Rattle.trb.specs.Block.{IsBlock, code, slot}
-use Rattle.segments.specs.ShapeValue.{Shape}
-use Rattle.segments.specs.Shape.{IsShape}
-use Rattle.segments.specs.RingView.{RingView, floor_number}
-use Rattle.segments.specs.Ceiling.{given_count}
-use Rattle.segments.specs.RingKeeps.{RingKeeps}
-use Rattle.segments.proofs.Search.{cases_option}
-use Rattle.segments.proofs.GivenCount.{given_below}
-use Rattle.segments.proofs.StepFacts.{step_is}
-use Rattle.segments.proofs.Reaching.{floor_given, given_count_declared}
-use Rattle.segments.proofs.Named.{ceiling_within}
-use Rattle.commands.specs.declared.command.Command.{Command}
-use Rattle.commands.specs.declared.command.Command.TheVariants.{AddressDevice}
-use Rattle.commands.specs.declared.state.EndpointState.TheVariants.{Running}
-use Rattle.commands.specs.Command.{command_of}
-use Rattle.commands.specs.Changes.{SlotGoesOn, Places, changes}
-use Rattle.commands.specs.States.{is_off}
-use Rattle.contexts.specs.Contexts.{context_pointer, context_cycle}
-use Rattle.traces.specs.declared.header.Header.{Header}
-use Rattle.traces.specs.declared.row.Row.{Row}
-use Rattle.traces.specs.Header.{IsHeader, shape_of, is_ring, ring_beginning_at}
-use Rattle.world_state.specs.World.{World, UnderWay}
+use Rattle.std.proofs.Common.{◌≡◌, ◌<◌, ◌≤◌, ◌==◌, ◌∷◌, ◌∙◌, ℕ, Bool, true, false, List, [], All, Some, is_some, arith, refl, sym, ap, subst, inl, inr, eq-eqb}
+use Rattle.safety.proofs.Words.{list_any, cases_Bool, cases_lt, or_left, cond-true, false≢true, All-head, Block, IsBlock, code, slot, Shape, IsShape, RingView, floor_number, given_count, RingKeeps, cases_option, given_below, step_is, floor_given, given_count_declared, ceiling_within, Command, AddressDevice, Running, command_of, SlotGoesOn, Places, changes, is_off, context_pointer, context_cycle, Header, Row, IsHeader, shape_of, is_ring, ring_beginning_at, World, UnderWay, counted, Known, known, next_command, binding_in, binds, ring_bound, binds_ring, DriverKeeps, CommandKeeps, Stays, Stands, Runs, reading}
 use Rattle.controller_model.specs.Bindings as bindings
 use Rattle.controller_model.specs.Finishes as finishes
-use Rattle.controller_model.specs.Steps.{counted}
-use Rattle.ring_knowledge.specs.Known.{Known}
-use Rattle.ring_knowledge.specs.Learned.{known}
-use Rattle.ring_knowledge.specs.Rings.{next_command}
 use Rattle.ring_knowledge.specs.Completions as completions
-use Rattle.ownership_rules.specs.Moves.{binding_in, binds, ring_bound, binds_ring}
-use Rattle.safety.specs.Keeps.{DriverKeeps, CommandKeeps, Stays}
-use Rattle.safety.specs.Stands.{Stands}
-use Rattle.safety.specs.Invariant.{Runs, reading}
 use Rattle.safety.proofs.Headers.{ring_shape, transfer_driver}
 use Rattle.safety.proofs.Areas.{bad_context_parts, bad_command_context}
 use Rattle.safety.proofs.ContextWords.{same_context, address_same}

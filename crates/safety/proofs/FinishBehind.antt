@@ -1,20 +1,7 @@
 -- Behind the success of a command: its changes are made, the event is posted, and the command ring's floor moves on
-use Rattle.std.specs.Prelude.{◌≡◌, ◌≢◌, ℕ, Bool, true, List, option_and_then, slice_get}
-use Rattle.std.proofs.Common.{sym, ◌∙◌, ap, subst, inl, inr}
-use Rattle.std.proofs.lemmas.Bool.{cases_eq, false≢true}
-use Rattle.trb.specs.declared.block.Block.{Block}
-use Rattle.segments.specs.RingView.{floor_number, is_due}
-use Rattle.commands.specs.declared.command.Command.{Command}
-use Rattle.commands.specs.Command.{command_of}
-use Rattle.traces.specs.declared.header.Header.{Header}
-use Rattle.traces.specs.Header.{shape_of, command_id}
-use Rattle.world_state.specs.World.{World}
+use Rattle.std.proofs.Common.{◌≡◌, ◌≢◌, ◌∙◌, ℕ, Bool, true, List, option_and_then, slice_get, sym, ap, subst, inl, inr}
+use Rattle.safety.proofs.Words.{cases_eq, false≢true, Block, floor_number, is_due, Command, command_of, Header, shape_of, command_id, World, Known, command_at, next_command, IsUnfinished, Stands, EventsStand, state_of, RingMatches, BoundRing, EndpointRing, Matches}
 use Rattle.world_state.specs.World as of_world
-use Rattle.ring_knowledge.specs.Known.{Known}
-use Rattle.ring_knowledge.specs.Rings.{command_at, next_command}
-use Rattle.safety.specs.Keeps.{IsUnfinished}
-use Rattle.safety.specs.Stands.{Stands, EventsStand}
-use Rattle.safety.specs.Matches.{state_of, RingMatches, BoundRing, EndpointRing, Matches}
 use Rattle.safety.proofs.SafeContext.{next_is}
 use Rattle.safety.proofs.LookKinds.{put_at, put_off}
 use Rattle.safety.proofs.FloorMoves.{floor_behind}

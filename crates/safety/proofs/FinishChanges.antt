@@ -1,13 +1,6 @@
 -- What the changes of a command's success keep: that states, endpoints and their rings are known as they are in the world
-use Rattle.std.specs.Prelude.{◌≡◌, ◌≢◌, ℕ, ◌<◌, true, false, [], Some, None}
-use Rattle.std.proofs.Common.{arith, refl, sym, ◌∙◌, ap, inl, inr}
-use Rattle.std.proofs.lemmas.Option.{none-some}
-use Rattle.traces.specs.declared.header.Header.{Header}
-use Rattle.traces.specs.Header.{IsHeader, command_id}
-use Rattle.world_state.specs.World.{World}
-use Rattle.ring_knowledge.specs.Known.{Known}
-use Rattle.safety.specs.Keeps.{DriverKeeps}
-use Rattle.safety.specs.Matches.{state_of, EndpointRing, Matches}
+use Rattle.std.proofs.Common.{◌≡◌, ◌≢◌, ◌<◌, ◌∙◌, ℕ, true, false, [], Some, None, arith, refl, sym, ap, inl, inr}
+use Rattle.safety.proofs.Words.{none-some, Header, IsHeader, command_id, World, Known, DriverKeeps, state_of, EndpointRing, Matches}
 use Rattle.safety.proofs.Headers.{transfer_not_command}
 
 -- the endpoints that have rings have numbers of slots and endpoints: 8 and 5 bits

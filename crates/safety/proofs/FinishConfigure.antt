@@ -1,34 +1,9 @@
 -- The controller finishes a Configure Endpoint with success: the run goes on
-use Rattle.std.specs.Prelude.{◌≡◌, ℕ, ◌<◌, ◌≤◌, ◌==◌, ◌&&◌, ◌||◌, if◌then◌else◌, Bool, true, false, List, ◌∷◌, map, length, All, Some, None, is_some}
-use Rattle.std.proofs.Common.{arith, refl, sym, ◌∙◌, ap, subst, inl, inr, get_or}
-use Rattle.std.proofs.lemmas.Bool.{cases_Bool, and_from, and_right, cond-true, cond-false, eq-eqb, leb-true, false≢true}
-use Rattle.std.proofs.lemmas.Option.{none-some}
-use Rattle.std.proofs.lemmas.List.{length-map, get_or-map}
-use Rattle.std.proofs.lemmas.List.Elements.{All-weaker}
-use Rattle.trb.specs.declared.block.Block.{Block}
-use Rattle.trb.specs.Block.{IsBlock, code, slot}
-use Rattle.commands.specs.declared.command.Command.{Command}
-use Rattle.commands.specs.declared.command.Command.TheVariants.{ConfigureEndpoint}
-use Rattle.commands.specs.Command.{command_of}
-use Rattle.commands.specs.Changes.{Change, SlotGoesOn, Disables, changes, placed_by_context}
-use Rattle.commands.specs.States.{is_off}
-use Rattle.contexts.specs.Contexts.{added_endpoints, is_dropped, context_cycle}
-use Rattle.traces.specs.declared.header.Header.{Header}
-use Rattle.traces.specs.declared.row.Row.{Row}
-use Rattle.traces.specs.Header.{IsHeader}
-use Rattle.world_state.specs.World.{World, UnderWay}
+use Rattle.std.proofs.Common.{◌≡◌, ◌<◌, ◌≤◌, ◌==◌, ◌&&◌, ◌||◌, if◌then◌else◌, ◌∷◌, ◌∙◌, ℕ, Bool, true, false, List, map, length, All, Some, None, is_some, arith, refl, sym, ap, subst, inl, inr, get_or, eq-eqb, leb-true}
+use Rattle.safety.proofs.Words.{cases_Bool, and_from, and_right, cond-true, cond-false, false≢true, none-some, length-map, get_or-map, All-weaker, Block, IsBlock, code, slot, Command, ConfigureEndpoint, command_of, Change, SlotGoesOn, Disables, changes, placed_by_context, is_off, added_endpoints, is_dropped, context_cycle, Header, Row, IsHeader, World, UnderWay, counted, Known, known, next_command, binding_in, binds, ring_bound, has_repeats, DriverKeeps, CommandKeeps, StillHolds, Stands, Runs, reading}
 use Rattle.controller_model.specs.Bindings as bindings
 use Rattle.controller_model.specs.Finishes as finishes
-use Rattle.controller_model.specs.Steps.{counted}
-use Rattle.ring_knowledge.specs.Known.{Known}
-use Rattle.ring_knowledge.specs.Learned.{known}
-use Rattle.ring_knowledge.specs.Rings.{next_command}
 use Rattle.ring_knowledge.specs.Completions as completions
-use Rattle.ownership_rules.specs.Moves.{binding_in, binds, ring_bound, has_repeats}
-use Rattle.safety.specs.Keeps.{DriverKeeps, CommandKeeps}
-use Rattle.safety.specs.Placings.{StillHolds}
-use Rattle.safety.specs.Stands.{Stands}
-use Rattle.safety.specs.Invariant.{Runs, reading}
 use Rattle.safety.proofs.LookKinds.{cond_is}
 use Rattle.safety.proofs.Areas.{bad_context_parts, bad_command_context}
 use Rattle.safety.proofs.GivenCommands.{added_above, content_good, are_free}

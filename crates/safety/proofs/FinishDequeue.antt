@@ -1,34 +1,10 @@
 -- The controller finishes a Set TR Dequeue with success: the run goes on
-use Rattle.std.specs.Prelude.{◌≡◌, ℕ, ◌==◌, not, Bool, true, false, List, [], Option, Some, None}
-use Rattle.std.proofs.Common.{arith, refl, sym}
-use Rattle.std.proofs.lemmas.Bool.{or_parts, not-false, false≢true}
-use Rattle.trb.specs.declared.block.Block.{Block}
-use Rattle.trb.specs.Block.{IsBlock, code, slot}
+use Rattle.std.proofs.Common.{◌≡◌, ◌==◌, ℕ, not, Bool, true, false, List, [], Option, Some, None, arith, refl, sym}
+use Rattle.safety.proofs.Words.{or_parts, not-false, false≢true, Block, IsBlock, code, slot, ceiling, is_move, ceiling_within, Command, SetTrDequeue, EndpointState, Off, Stopped, command_of, Places, changes, is_off, is_at_rest, Header, Row, IsHeader, shape_of, World, UnderWay, counted, Known, known, next_command, is_bad_dequeue, is_bad_move, DriverKeeps, CommandKeeps, Runs, reading}
 use Rattle.segments.specs.RingView.{declared}
-use Rattle.segments.specs.Ceiling.{ceiling}
-use Rattle.segments.specs.Moves.{is_move}
-use Rattle.segments.proofs.Named.{ceiling_within}
-use Rattle.commands.specs.declared.command.Command.{Command}
-use Rattle.commands.specs.declared.command.Command.TheVariants.{SetTrDequeue}
-use Rattle.commands.specs.declared.state.EndpointState.{EndpointState}
-use Rattle.commands.specs.declared.state.EndpointState.TheVariants.{Disabled as Off, Stopped}
-use Rattle.commands.specs.Command.{command_of}
-use Rattle.commands.specs.Changes.{Places, changes}
-use Rattle.commands.specs.States.{is_off, is_at_rest}
-use Rattle.traces.specs.declared.header.Header.{Header}
-use Rattle.traces.specs.declared.row.Row.{Row}
-use Rattle.traces.specs.Header.{IsHeader, shape_of}
-use Rattle.world_state.specs.World.{World, UnderWay}
 use Rattle.controller_model.specs.Bindings as bindings
 use Rattle.controller_model.specs.Finishes as finishes
-use Rattle.controller_model.specs.Steps.{counted}
-use Rattle.ring_knowledge.specs.Known.{Known}
-use Rattle.ring_knowledge.specs.Learned.{known}
-use Rattle.ring_knowledge.specs.Rings.{next_command}
 use Rattle.ring_knowledge.specs.Completions as completions
-use Rattle.ownership_rules.specs.Moves.{is_bad_dequeue, is_bad_move}
-use Rattle.safety.specs.Keeps.{DriverKeeps, CommandKeeps}
-use Rattle.safety.specs.Invariant.{Runs, reading}
 use Rattle.safety.proofs.Headers.{ring_shape, transfer_driver}
 use Rattle.safety.proofs.PlaceKeeps.{MayMove, move_keeps}
 use Rattle.safety.proofs.FinishChanges.{StatesMatch, states_match}

@@ -1,35 +1,8 @@
 -- The controller finishes the command under way with another code than success: the run goes on
-use Rattle.std.specs.Prelude.{◌≡◌, ℕ, ◌+◌, ◌<◌, ◌==◌, Bool, true, false, not, List, [], ◌∷◌, ◌++◌, Option, Some, None, is_some}
-use Rattle.std.proofs.Common.{arith, refl, sym, ◌∙◌, ap, subst}
-use Rattle.std.proofs.lemmas.Bool.{false≢true, and_from, and_left, or_from, or_left, or_right, cond-true, cond-false, not_from_true, not_from_false, lt-ltb, eq-eqb}
-use Rattle.trb.specs.declared.block.Block.{Block}
-use Rattle.trb.specs.declared.kind.BlockKind.{BlockKind}
-use Rattle.trb.specs.Block.{IsBlock, code, kind, pointer, slot}
-use Rattle.trb.specs.Kind.{is_transfer_event, is_command_completion}
-use Rattle.segments.specs.Places.{address_of}
-use Rattle.segments.specs.Ceiling.{ceiling}
-use Rattle.segments.proofs.Positions.{cycle_of_bit}
-use Rattle.commands.specs.declared.command.Command.{Command}
-use Rattle.commands.specs.Command.{command_of, may_answer_slot}
-use Rattle.commands.specs.States.{can_succeed}
-use Rattle.traces.specs.declared.header.Header.{Header}
-use Rattle.traces.specs.declared.row.Row.{Row}
-use Rattle.traces.specs.declared.row.Row.TheVariants.{Read}
-use Rattle.traces.specs.declared.register.Register.TheVariants.{Config}
-use Rattle.traces.specs.Header.{IsHeader, shape_of, command_id}
-use Rattle.traces.specs.Register.{register_or_zero}
-use Rattle.world_state.specs.World.{World, UnderWay}
+use Rattle.std.proofs.Common.{◌≡◌, ◌+◌, ◌<◌, ◌==◌, ◌∷◌, ◌++◌, ◌∙◌, ℕ, Bool, true, false, not, List, [], Option, Some, None, is_some, arith, refl, sym, ap, subst, lt-ltb, eq-eqb}
+use Rattle.safety.proofs.Words.{false≢true, and_from, and_left, or_from, or_left, or_right, cond-true, cond-false, not_from_true, not_from_false, Block, BlockKind, IsBlock, code, kind, pointer, slot, is_transfer_event, is_command_completion, address_of, ceiling, cycle_of_bit, Command, command_of, may_answer_slot, can_succeed, Header, Row, Read, Config, IsHeader, shape_of, command_id, register_or_zero, World, UnderWay, posted, counted, Known, event_read, learned, known, command_at, next_command, is_in_profile, is_impossible_by_kind, is_impossible_completion, may_be_taken, can_finish, was_stop_seen, DriverKeeps, CommandMatches, UnderWayMatches, Agrees, Runs, reading}
 use Rattle.world_state.specs.World as of_world
-use Rattle.controller_model.specs.Posts.{posted}
 use Rattle.controller_model.specs.Finishes as finishes
-use Rattle.controller_model.specs.Steps.{counted}
-use Rattle.ring_knowledge.specs.Known.{Known}
-use Rattle.ring_knowledge.specs.Learned.{event_read, learned, known}
-use Rattle.ring_knowledge.specs.Rings.{command_at, next_command}
-use Rattle.ownership_rules.specs.Events.{is_in_profile, is_impossible_by_kind, is_impossible_completion, may_be_taken, can_finish, was_stop_seen}
-use Rattle.safety.specs.Keeps.{DriverKeeps}
-use Rattle.safety.specs.Matches.{CommandMatches, UnderWayMatches, Agrees}
-use Rattle.safety.specs.Invariant.{Runs, reading}
 use Rattle.safety.proofs.Headers.{ring_shape}
 use Rattle.safety.proofs.SameCommand.{command_of-with_cycle}
 use Rattle.safety.proofs.NoWait.{ceiling_given}

@@ -1,25 +1,9 @@
 -- The command that succeeds is one that was given: what was tested of it then holds still
-use Rattle.std.specs.Prelude.{◌≡◌, ◌==◌, true, false, List, [], ◌∷◌, Some}
-use Rattle.std.proofs.Common.{sym, ◌∙◌, ap, subst}
-use Rattle.std.proofs.lemmas.Option.{same_Some}
-use Rattle.trb.specs.declared.block.Block.{Block}
-use Rattle.trb.specs.Block.{IsBlock, code, slot}
-use Rattle.commands.specs.declared.command.Command.{Command}
-use Rattle.commands.specs.Command.{command_of}
-use Rattle.commands.specs.Changes.{Change}
-use Rattle.traces.specs.declared.header.Header.{Header}
-use Rattle.traces.specs.declared.row.Row.{Row}
-use Rattle.traces.specs.Header.{IsHeader}
-use Rattle.world_state.specs.World.{World, UnderWay}
+use Rattle.std.proofs.Common.{◌≡◌, ◌==◌, ◌∷◌, ◌∙◌, true, false, List, [], Some, sym, ap, subst}
+use Rattle.safety.proofs.Words.{same_Some, Block, IsBlock, code, slot, Command, command_of, Change, Header, Row, IsHeader, World, UnderWay, counted, Known, known, next_command, DriverKeeps, CommandKeeps, Runs, reading}
 use Rattle.controller_model.specs.Bindings as bindings
 use Rattle.controller_model.specs.Finishes as finishes
-use Rattle.controller_model.specs.Steps.{counted}
-use Rattle.ring_knowledge.specs.Known.{Known}
-use Rattle.ring_knowledge.specs.Learned.{known}
-use Rattle.ring_knowledge.specs.Rings.{next_command}
 use Rattle.ring_knowledge.specs.Completions as completions
-use Rattle.safety.specs.Keeps.{DriverKeeps, CommandKeeps}
-use Rattle.safety.specs.Invariant.{Runs, reading}
 use Rattle.safety.proofs.FinishKinds.{finish_is}
 use Rattle.safety.proofs.FinishFails.{floor, of_block, here_is}
 use Rattle.safety.proofs.FinishChanges.{StatesMatch, ChangeKeeps, none_keeps, both_keep}

@@ -1,23 +1,7 @@
 -- Behind the completion of a command that had no effect: the command ring's floor moves on, and no command is under way
-use Rattle.std.specs.Prelude.{◌≡◌, ◌≢◌, ℕ, ◌+◌, Bool, true, false, List, option_and_then, slice_get}
-use Rattle.std.proofs.Common.{arith, refl, sym, ◌∙◌, ap, subst, inl, inr}
-use Rattle.std.proofs.lemmas.Bool.{cases_eq}
-use Rattle.trb.specs.declared.block.Block.{Block}
-use Rattle.segments.specs.declared.spot.Spot.{Spot}
-use Rattle.segments.specs.Spots.{after, number}
-use Rattle.segments.specs.RingView.{floor_number, is_due}
-use Rattle.segments.proofs.Giving.{due_is, due_from}
-use Rattle.commands.specs.declared.command.Command.{Command}
-use Rattle.commands.specs.Command.{command_of}
-use Rattle.traces.specs.declared.header.Header.{Header}
-use Rattle.traces.specs.Header.{IsHeader, shape_of, command_id}
-use Rattle.world_state.specs.World.{World}
+use Rattle.std.proofs.Common.{◌≡◌, ◌≢◌, ◌+◌, ◌∙◌, ℕ, Bool, true, false, List, option_and_then, slice_get, arith, refl, sym, ap, subst, inl, inr}
+use Rattle.safety.proofs.Words.{cases_eq, Block, Spot, after, number, floor_number, is_due, due_is, due_from, Command, command_of, Header, IsHeader, shape_of, command_id, World, Known, command_at, next_command, IsDriverRing, DriverKeeps, IsUnfinished, Stands, EventsStand, state_of, RingMatches, BoundRing, EndpointRing, Matches}
 use Rattle.world_state.specs.World as of_world
-use Rattle.ring_knowledge.specs.Known.{Known}
-use Rattle.ring_knowledge.specs.Rings.{command_at, next_command}
-use Rattle.safety.specs.Keeps.{IsDriverRing, DriverKeeps, IsUnfinished}
-use Rattle.safety.specs.Stands.{Stands, EventsStand}
-use Rattle.safety.specs.Matches.{state_of, RingMatches, BoundRing, EndpointRing, Matches}
 use Rattle.safety.proofs.SafeContext.{command_is_ring, next_is}
 use Rattle.safety.proofs.LookKinds.{put_at, put_off}
 use Rattle.safety.proofs.LookedRing.{number_after}

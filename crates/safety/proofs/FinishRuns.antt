@@ -1,22 +1,7 @@
 -- However the controller finishes the command under way, the run goes on
-use Rattle.std.specs.Prelude.{◌≡◌, ◌==◌, true, false, List, Option, None, Some, option_map}
-use Rattle.std.proofs.Common.{refl, sym, ◌∙◌, ap, inl, inr}
-use Rattle.std.proofs.lemmas.Bool.{cases_Bool, cond-true}
-use Rattle.std.proofs.lemmas.Option.{none-some}
-use Rattle.trb.specs.declared.block.Block.{Block}
-use Rattle.trb.specs.Block.{IsBlock, code, slot}
-use Rattle.commands.specs.declared.command.Command.{Command}
-use Rattle.commands.specs.declared.command.Command.TheVariants.{NoOp, EnableSlot, DisableSlot, AddressDevice, ConfigureEndpoint, EvaluateContext, ResetEndpoint, StopEndpoint, SetTrDequeue, ResetDevice}
-use Rattle.commands.specs.Command.{command_of}
-use Rattle.traces.specs.declared.header.Header.{Header}
-use Rattle.traces.specs.declared.row.Row.{Row}
-use Rattle.traces.specs.Header.{IsHeader}
-use Rattle.world_state.specs.World.{World, UnderWay}
+use Rattle.std.proofs.Common.{◌≡◌, ◌==◌, ◌∙◌, true, false, List, Option, None, Some, option_map, refl, sym, ap, inl, inr}
+use Rattle.safety.proofs.Words.{cases_Bool, cond-true, none-some, Block, IsBlock, code, slot, Command, NoOp, EnableSlot, DisableSlot, AddressDevice, ConfigureEndpoint, EvaluateContext, ResetEndpoint, StopEndpoint, SetTrDequeue, ResetDevice, command_of, Header, Row, IsHeader, World, UnderWay, counted, known, DriverKeeps, Runs, reading}
 use Rattle.controller_model.specs.Finishes as finishes
-use Rattle.controller_model.specs.Steps.{counted}
-use Rattle.ring_knowledge.specs.Learned.{known}
-use Rattle.safety.specs.Keeps.{DriverKeeps}
-use Rattle.safety.specs.Invariant.{Runs, reading}
 use Rattle.safety.proofs.FinishKinds.{IsFinish, finish_is}
 use Rattle.safety.proofs.FinishFails.{finish_failure_runs}
 use Rattle.safety.proofs.FinishSlots.{finish_slots_runs}

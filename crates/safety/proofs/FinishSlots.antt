@@ -1,26 +1,9 @@
 -- The controller finishes with success a command that places no endpoint on a ring: the run goes on
-use Rattle.std.specs.Prelude.{◌≡◌, ℕ, ◌==◌, true, false, List, [], ◌∷◌, Option, Some, None, option_and_then}
-use Rattle.std.proofs.Common.{refl, ◌∙◌, ap, subst}
-use Rattle.std.proofs.lemmas.Option.{none-some, same_Some}
-use Rattle.trb.specs.declared.block.Block.{Block}
-use Rattle.trb.specs.Block.{IsBlock, code, slot}
-use Rattle.commands.specs.declared.command.Command.{Command}
-use Rattle.commands.specs.declared.command.Command.TheVariants.{NoOp, EnableSlot, DisableSlot, AddressDevice, ConfigureEndpoint, EvaluateContext, ResetEndpoint, StopEndpoint, SetTrDequeue, ResetDevice}
-use Rattle.commands.specs.Command.{command_of}
-use Rattle.commands.specs.Changes.{Change, SlotGoesOn, DeviceLeft, Disables, Places, Stops, Resets, changes}
-use Rattle.contexts.specs.declared.size.ContextSize.{ContextSize}
-use Rattle.traces.specs.declared.header.Header.{Header}
-use Rattle.traces.specs.declared.row.Row.{Row}
-use Rattle.traces.specs.Header.{IsHeader}
-use Rattle.world_state.specs.World.{World, UnderWay}
+use Rattle.std.proofs.Common.{◌≡◌, ◌==◌, ◌∷◌, ◌∙◌, ℕ, true, false, List, [], Option, Some, None, option_and_then, refl, ap, subst}
+use Rattle.safety.proofs.Words.{none-some, same_Some, Block, IsBlock, code, slot, Command, NoOp, EnableSlot, DisableSlot, AddressDevice, ConfigureEndpoint, EvaluateContext, ResetEndpoint, StopEndpoint, SetTrDequeue, ResetDevice, command_of, Change, SlotGoesOn, DeviceLeft, Disables, Places, Stops, Resets, changes, ContextSize, Header, Row, IsHeader, World, UnderWay, counted, Known, known, DriverKeeps, Runs, reading}
 use Rattle.controller_model.specs.Bindings as bindings
 use Rattle.controller_model.specs.Finishes as finishes
-use Rattle.controller_model.specs.Steps.{counted}
-use Rattle.ring_knowledge.specs.Known.{Known}
-use Rattle.ring_knowledge.specs.Learned.{known}
 use Rattle.ring_knowledge.specs.Completions as completions
-use Rattle.safety.specs.Keeps.{DriverKeeps}
-use Rattle.safety.specs.Invariant.{Runs, reading}
 use Rattle.safety.proofs.FinishChanges.{StatesMatch, ChangeKeeps, none_keeps, both_keep, states_match}
 use Rattle.safety.proofs.FinishSuccess.{EffectKeeps, finish_success_runs}
 use Rattle.safety.proofs.SlotChanges.{slot_keeps, device_keeps, reset_keeps}

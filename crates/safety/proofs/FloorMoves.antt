@@ -1,17 +1,6 @@
 -- A floor that moves on behind a block that the controller has passed: the ring's pointer stands as it did
-use Rattle.std.specs.Prelude.{◌≡◌, ℕ, ◌<◌, ◌≤◌, true, List, [], ◌∷◌}
-use Rattle.std.proofs.Common.{arith, refl, ◌∙◌, inl, inr}
-use Rattle.segments.specs.declared.spot.Spot.{Spot}
-use Rattle.segments.specs.declared.spot.Spot.TheVariants.{Data}
-use Rattle.segments.specs.ShapeValue.{Shape}
-use Rattle.segments.specs.Spots.{number, after}
-use Rattle.segments.specs.RingView.{RingView, floor_number}
-use Rattle.segments.specs.Ceiling.{ceiling, is_way_given, is_step_given}
-use Rattle.segments.proofs.Search.{cases_option}
-use Rattle.segments.proofs.SpotOrder.{rank_least, next_least}
-use Rattle.segments.proofs.GivenCount.{given_count_grows}
-use Rattle.world_state.specs.World.{RingEvent, Took, Placed}
-use Rattle.safety.specs.Matches.{Newest, RingState, RingMatches}
+use Rattle.std.proofs.Common.{◌≡◌, ◌<◌, ◌≤◌, ◌∷◌, ◌∙◌, ℕ, true, List, [], arith, refl, inl, inr}
+use Rattle.safety.proofs.Words.{Spot, Data, Shape, number, after, RingView, floor_number, ceiling, is_way_given, is_step_given, cases_option, rank_least, next_least, given_count_grows, RingEvent, Took, Placed, Newest, RingState, RingMatches}
 use Rattle.safety.proofs.NoWait.{ceiling_open, ceiling_held}
 use Rattle.safety.proofs.LookedRing.{number_after}
 

@@ -1,43 +1,6 @@
 -- An event that may be read moves no floor back
-use Rattle.std.specs.Prelude.{◌≡◌, ℕ, ◌+◌, ◌≤◌, ◌==◌, if◌then◌else◌, Bool, true, List, [], ◌∷◌, Option, None, Some}
-use Rattle.std.proofs.Common.{arith, refl, sym, ◌∙◌, ap, subst, inl, inr}
-use Rattle.std.specs.Option.{option_map}
-use Rattle.std.proofs.lemmas.Bool.{cond_both, eqb-true}
-use Rattle.std.proofs.lemmas.Option.{none-some, same_Some}
-use Rattle.segments.proofs.Search.{cases_option}
-use Rattle.guest_memory.specs.Memory.{put_pair}
-use Rattle.trb.specs.declared.block.Block.{Block}
-use Rattle.trb.specs.declared.kind.BlockKind.{BlockKind}
-use Rattle.trb.specs.declared.kind.BlockKind.TheVariants.{TransferEvent, CommandCompletion}
-use Rattle.trb.specs.Block.{kind, code, slot, endpoint, pointer}
-use Rattle.trb.specs.Kind.{is_command_completion}
-use Rattle.trb.specs.CompletionCode.{is_success, is_halting, is_trb_error, is_stopping}
-use Rattle.segments.specs.declared.spot.Spot.{Spot}
-use Rattle.segments.specs.declared.spot.Spot.TheVariants.{Data}
-use Rattle.segments.specs.Spots.{number, after}
-use Rattle.segments.specs.RingView.{Reaches, Holds, floor_number}
-use Rattle.segments.specs.Ceiling.{ceiling, named, stopped_number}
-use Rattle.segments.specs.Moves.{target}
-use Rattle.segments.proofs.ReachedSpots.{number-after}
-use Rattle.segments.proofs.Named.{IsAhead, named_ahead, target_ahead}
-use Rattle.commands.specs.declared.command.Command.{Command}
-use Rattle.commands.specs.declared.command.Command.TheVariants.{StopEndpoint}
-use Rattle.commands.specs.declared.state.EndpointState.{EndpointState}
-use Rattle.commands.specs.declared.state.EndpointState.TheVariants.{Halted, Error, Stopped}
-use Rattle.commands.specs.States.{is_off}
-use Rattle.commands.specs.Changes.{Change, SlotGoesOn, DeviceLeft, Disables, Places, Stops, Resets, changes}
-use Rattle.traces.specs.declared.header.Header.{Header}
-use Rattle.traces.specs.declared.row.Row.TheVariants.{Read}
-use Rattle.traces.specs.Header.{IsHeader, shape_of, command_id, ring_beginning_at}
-use Rattle.ring_knowledge.specs.Known.{Known}
-use Rattle.ring_knowledge.specs.Rings.{RingSpot, on_ring, spot_on, event_at, command_at, next_command}
-use Rattle.ring_knowledge.specs.Transfers.{passed, broken_off, stopped_at, transferred, transferred_at, transfer_read}
-use Rattle.ring_knowledge.specs.Completions.{set_to, bound_to, moved_to, moved, pointed, disabled, in_state, held_at_ceiling, changed_by, changed_by_all, succeeded, stop_ended, finished, completed}
-use Rattle.ring_knowledge.specs.Learned.{event_read, learned}
-use Rattle.ownership_rules.specs.Rules.{broken}
-use Rattle.safety.specs.Keeps.{DriverKeeps}
-use Rattle.safety.specs.EndpointsKeep.{EndpointsKeep}
-use Rattle.safety.specs.Placings.{MayPoint, MayChange, MayChangeAll}
+use Rattle.std.proofs.Common.{◌≡◌, ◌+◌, ◌≤◌, ◌==◌, if◌then◌else◌, ◌∷◌, ◌∙◌, ℕ, Bool, true, List, [], Option, None, Some, arith, refl, sym, ap, subst, inl, inr, eqb-true}
+use Rattle.safety.proofs.Words.{option_map, cond_both, none-some, same_Some, cases_option, put_pair, Block, BlockKind, TransferEvent, CommandCompletion, kind, code, slot, endpoint, pointer, is_command_completion, is_success, is_halting, is_trb_error, is_stopping, Spot, Data, number, after, Reaches, Holds, floor_number, ceiling, named, stopped_number, target, number-after, IsAhead, named_ahead, target_ahead, Command, StopEndpoint, EndpointState, Halted, Error, Stopped, is_off, Change, SlotGoesOn, DeviceLeft, Disables, Places, Stops, Resets, changes, Header, Read, IsHeader, shape_of, command_id, ring_beginning_at, Known, RingSpot, on_ring, spot_on, event_at, command_at, next_command, passed, broken_off, stopped_at, transferred, transferred_at, transfer_read, set_to, bound_to, moved_to, moved, pointed, disabled, in_state, held_at_ceiling, changed_by, changed_by_all, succeeded, stop_ended, finished, completed, event_read, learned, broken, DriverKeeps, EndpointsKeep, MayPoint, MayChange, MayChangeAll}
 use Rattle.safety.proofs.Headers.{transfer_driver}
 use Rattle.safety.proofs.DriverRings.{rings_of, endpoints_of}
 use Rattle.safety.proofs.EndpointHistories.{finish_elsewhere}

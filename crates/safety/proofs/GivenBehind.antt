@@ -1,29 +1,7 @@
 -- What is kept of a command that a write gives holds behind an event that is read before the write, but for its device context
-use Rattle.std.specs.Prelude.{◌≡◌, ℕ, true, [], length, Some, slice_get}
-use Rattle.std.proofs.Common.{arith, refl, sym, ◌∙◌, ap}
-use Rattle.std.proofs.lemmas.Bool.{false≢true, false_from_ne_true}
-use Rattle.trb.specs.declared.block.Block.{Block}
-use Rattle.segments.specs.Spots.{number}
-use Rattle.segments.specs.RingView.{declared, floor_number, positions_given}
-use Rattle.segments.specs.Ceiling.{ceiling}
-use Rattle.segments.specs.Descriptors.{is_border}
-use Rattle.segments.proofs.StepFacts.{GivesMore}
-use Rattle.segments.proofs.MovesStay.{move_more}
-use Rattle.segments.proofs.Giving.{gives_is}
-use Rattle.segments.proofs.DueLists.{position_given_is}
-use Rattle.commands.specs.declared.command.Command.{Command}
-use Rattle.commands.specs.Command.{named_context}
-use Rattle.commands.specs.States.{is_disabled, is_off, is_at_rest}
-use Rattle.traces.specs.declared.header.Header.{Header}
-use Rattle.traces.specs.declared.row.Row.TheVariants.{Write, Read}
-use Rattle.traces.specs.Header.{IsHeader, shape_of, command_id}
-use Rattle.ring_knowledge.specs.Known.{Known}
-use Rattle.ring_knowledge.specs.Rings.{command_at}
-use Rattle.ring_knowledge.specs.Writes.{command_given}
-use Rattle.ring_knowledge.specs.Learned.{learned}
+use Rattle.std.proofs.Common.{◌≡◌, ◌∙◌, ℕ, true, [], length, Some, slice_get, arith, refl, sym, ap}
+use Rattle.safety.proofs.Words.{false≢true, false_from_ne_true, Block, number, declared, floor_number, positions_given, ceiling, is_border, GivesMore, move_more, gives_is, position_given_is, Command, named_context, is_disabled, is_off, is_at_rest, Header, Write, Read, IsHeader, shape_of, command_id, Known, command_at, command_given, learned, broken, IsTransferRing, CommandKeeps, DriverKeeps}
 use Rattle.ownership_rules.specs.Commands as commands
-use Rattle.ownership_rules.specs.Rules.{broken}
-use Rattle.safety.specs.Keeps.{IsTransferRing, CommandKeeps, DriverKeeps}
 use Rattle.safety.proofs.Headers.{transfer_driver, transfer_not_command}
 use Rattle.safety.proofs.CommandRing.{due_has_ring}
 use Rattle.safety.proofs.ContextReads.{AgreeIn}

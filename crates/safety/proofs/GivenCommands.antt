@@ -1,26 +1,7 @@
 -- What the rules test of a command that a write gives: its bindings and its moves may be made
-use Rattle.std.specs.Prelude.{◌≡◌, ℕ, ◌≤◌, ◌==◌, ◌||◌, not, Bool, true, false, map, nat_le, All, Option, None, Some, suc, zero, ◌+◌}
-use Rattle.std.specs.List.{list_any, range_with_len}
-use Rattle.std.proofs.Common.{arith, refl, sym, ◌∙◌, ap, subst, inl, inr, get_or}
-use Rattle.std.proofs.lemmas.Bool.{or_parts, and_from, or_cases, or_left, or_right, not-false, not-true, eqb-true, le-leb, false≢true}
-use Rattle.std.proofs.lemmas.Option.{same_Some}
-use Rattle.std.proofs.lemmas.List.Elements.{All-nil, All-cons, All-filter, All-get_or, All-weaker}
-use Rattle.std.proofs.lemmas.List.Folds.{Any-from_list_any}
-use Rattle.segments.specs.RingView.{declared, floor_number}
-use Rattle.segments.specs.Moves.{is_move}
-use Rattle.contexts.specs.Contexts.{input_drop_flag, input_add_flag, added_endpoints, is_dropped}
-use Rattle.commands.specs.declared.command.Command.{Command}
-use Rattle.commands.specs.declared.command.Command.TheVariants.{NoOp, EnableSlot, DisableSlot, AddressDevice, ConfigureEndpoint, EvaluateContext, ResetEndpoint, StopEndpoint, SetTrDequeue, ResetDevice}
-use Rattle.commands.specs.Command.{named_slot, named_endpoint, named_context}
-use Rattle.commands.specs.States.{is_off}
-use Rattle.traces.specs.declared.header.Header.{Header}
-use Rattle.traces.specs.Header.{shape_of, is_ring}
-use Rattle.ring_knowledge.specs.Known.{Known}
-use Rattle.ring_knowledge.specs.Rings.{unfinished}
+use Rattle.std.proofs.Common.{◌≡◌, ◌≤◌, ◌==◌, ◌||◌, ◌+◌, ◌∙◌, ℕ, not, Bool, true, false, map, nat_le, All, Option, None, Some, suc, zero, arith, refl, sym, ap, subst, inl, inr, get_or, eqb-true, le-leb}
+use Rattle.safety.proofs.Words.{list_any, range_with_len, or_parts, and_from, or_cases, or_left, or_right, not-false, not-true, false≢true, same_Some, All-nil, All-cons, All-filter, All-get_or, All-weaker, Any-from_list_any, declared, floor_number, is_move, input_drop_flag, input_add_flag, added_endpoints, is_dropped, Command, NoOp, EnableSlot, DisableSlot, AddressDevice, ConfigureEndpoint, EvaluateContext, ResetEndpoint, StopEndpoint, SetTrDequeue, ResetDevice, named_slot, named_endpoint, named_context, is_off, Header, shape_of, is_ring, Known, unfinished, Binding, binds, ring_bound, binds_ring, is_used, is_unused_ring, has_repeats, is_bad_binding, is_bad_stay, holds_of, AreFree}
 use Rattle.ownership_rules.specs.Commands as commands
-use Rattle.ownership_rules.specs.Moves.{Binding, binds, ring_bound, binds_ring, is_used, is_unused_ring, has_repeats, is_bad_binding, is_bad_stay}
-use Rattle.ownership_rules.specs.Writes.{holds_of}
-use Rattle.safety.specs.Placings.{AreFree}
 use Rattle.safety.proofs.TestsPassed.{each_fails}
 
 pub ring_is : (r : ℕ) (o : Option ℕ) → is_ring r o ≡ true → o ≡ Some r

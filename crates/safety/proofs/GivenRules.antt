@@ -1,27 +1,7 @@
 -- What the rules say of a command that a write gives
-use Rattle.std.specs.Prelude.{◌≡◌, ℕ, ◌==◌, ◌||◌, not, Bool, true, false, [], map, All, Option, None, Some, is_some}
-use Rattle.std.specs.List.{list_any}
-use Rattle.std.proofs.Common.{arith, refl, sym, ◌∙◌, ap, subst, inl, inr}
-use Rattle.std.proofs.lemmas.Bool.{and_cases, or_parts, not-false, not-true, eqb-true, false≢true, false_from_ne_true}
-use Rattle.std.proofs.lemmas.List.Elements.{All-get_or, All-weaker}
-use Rattle.std.proofs.lemmas.List.Folds.{Any-from_list_any}
-use Rattle.segments.specs.RingView.{declared, floor_number}
-use Rattle.segments.specs.Moves.{is_move}
-use Rattle.commands.specs.declared.command.Command.{Command}
-use Rattle.commands.specs.declared.command.Command.TheVariants.{NoOp, EnableSlot, DisableSlot, AddressDevice, ConfigureEndpoint, EvaluateContext, ResetEndpoint, StopEndpoint, SetTrDequeue, ResetDevice}
-use Rattle.commands.specs.declared.state.EndpointState.{EndpointState}
-use Rattle.commands.specs.declared.state.EndpointState.TheVariants.{Disabled as Off}
-use Rattle.commands.specs.States.{is_off}
-use Rattle.traces.specs.declared.header.Header.{Header}
-use Rattle.traces.specs.declared.row.Row.TheVariants.{Write}
-use Rattle.traces.specs.Header.{IsHeader, shape_of, is_ring}
-use Rattle.ring_knowledge.specs.Known.{Known}
-use Rattle.ring_knowledge.specs.Writes.{command_given}
+use Rattle.std.proofs.Common.{◌≡◌, ◌==◌, ◌||◌, ◌∙◌, ℕ, not, Bool, true, false, [], map, All, Option, None, Some, is_some, arith, refl, sym, ap, subst, inl, inr, eqb-true}
+use Rattle.safety.proofs.Words.{list_any, and_cases, or_parts, not-false, not-true, false≢true, false_from_ne_true, All-get_or, All-weaker, Any-from_list_any, declared, floor_number, is_move, Command, NoOp, EnableSlot, DisableSlot, AddressDevice, ConfigureEndpoint, EvaluateContext, ResetEndpoint, StopEndpoint, SetTrDequeue, ResetDevice, EndpointState, Off, is_off, Header, Write, IsHeader, shape_of, is_ring, Known, command_given, Binding, binding_in, binds, ring_bound, binds_ring, is_used, is_unused_ring, has_repeats, is_bad_binding, is_bad_stay, is_bad_move, some_command, write_tests, tests, broken, StaysIf, MovesIf, DriverKeeps}
 use Rattle.ownership_rules.specs.Commands as commands
-use Rattle.ownership_rules.specs.Moves.{Binding, binding_in, binds, ring_bound, binds_ring, is_used, is_unused_ring, has_repeats, is_bad_binding, is_bad_stay, is_bad_move}
-use Rattle.ownership_rules.specs.Writes.{some_command, write_tests}
-use Rattle.ownership_rules.specs.Rules.{tests, broken}
-use Rattle.safety.specs.Keeps.{StaysIf, MovesIf, DriverKeeps}
 use Rattle.safety.proofs.TestsPassed.{AllFail, tests_fail, each_fails}
 use Rattle.safety.proofs.Headers.{transfer_driver}
 use Rattle.safety.proofs.GivenCommands.{ring_is, GoodBindings, good_bindings, never_bound, content_good, stays, fails_of}

@@ -1,16 +1,6 @@
 -- A write that gives a command and an event that isn't read yet may change places
-use Rattle.std.specs.Prelude.{◌≡◌, ℕ, [], Some}
-use Rattle.std.proofs.Common.{refl}
-use Rattle.trb.specs.declared.block.Block.{Block}
-use Rattle.commands.specs.declared.command.Command.{Command}
-use Rattle.traces.specs.declared.header.Header.{Header}
-use Rattle.traces.specs.declared.row.Row.TheVariants.{Write, Read}
-use Rattle.traces.specs.Header.{IsHeader}
-use Rattle.ring_knowledge.specs.Known.{Known}
-use Rattle.ring_knowledge.specs.Writes.{command_given}
-use Rattle.ownership_rules.specs.Rules.{broken}
-use Rattle.safety.specs.Keeps.{DriverKeeps}
-use Rattle.safety.specs.Beneath.{Square}
+use Rattle.std.proofs.Common.{◌≡◌, ℕ, [], Some, refl}
+use Rattle.safety.proofs.Words.{Block, Command, Header, Write, Read, IsHeader, Known, command_given, broken, DriverKeeps, Square}
 use Rattle.safety.proofs.CommandBeneath.{command_event, command_after}
 use Rattle.safety.proofs.CommandTests.{row_behind}
 use Rattle.safety.proofs.CommandGood.{good_behind}

@@ -1,23 +1,7 @@
 -- What a write gives of a ring it gives also behind an event: what is due only there is a lap behind what is leased, and what was
 -- due only before is passed, hence given
-use Rattle.std.specs.Prelude.{◌≡◌, ℕ, ◌+◌, ◌-◌, ◌<◌, ◌≤◌, ◌⊎◌, ◌||◌, Bool, true, false, nat_lt}
-use Rattle.std.proofs.Common.{arith, refl, sym, ◌∙◌, ap, inl, inr}
-use Rattle.std.proofs.lemmas.Bool.{cases_lt, cases_eq, false≢true, and_from, lt-ltb}
-use Rattle.std.proofs.lemmas.List.Elements.{All-contains}
-use Rattle.segments.specs.ShapeValue.{Shape}
-use Rattle.segments.specs.Shape.{IsShape}
-use Rattle.segments.specs.Places.{place_count, address_of, is_crossing, link_address, overlap}
-use Rattle.segments.specs.declared.spot.Spot.TheVariants.{Link}
-use Rattle.segments.specs.Spots.{rank}
-use Rattle.segments.specs.RingView.{RingView, floor_number, gives, gives_crossing, leased_positions, leased_crossings}
-use Rattle.segments.specs.RingKeeps.{RingKeeps, MayWrite}
-use Rattle.segments.proofs.Positions.{address_of-lap}
-use Rattle.segments.proofs.Crossings.{is_crossing-lap, link_address-lap}
-use Rattle.segments.proofs.SpotOrder.{rank_least}
-use Rattle.segments.proofs.Reaching.{crossed_due}
-use Rattle.segments.proofs.Giving.{IsCrossingDue, due_from, gives_is, gives_from, crossing_due_from, gives_crossing_is, gives_crossing_from}
-use Rattle.segments.proofs.DueLists.{leased_position, leased_crossing}
-use Rattle.ownership_rules.proofs.Among.{both_ways}
+use Rattle.std.proofs.Common.{◌≡◌, ◌+◌, ◌-◌, ◌<◌, ◌≤◌, ◌⊎◌, ◌||◌, ◌∙◌, ℕ, Bool, true, false, nat_lt, arith, refl, sym, ap, inl, inr, lt-ltb}
+use Rattle.safety.proofs.Words.{cases_lt, cases_eq, false≢true, and_from, All-contains, Shape, IsShape, place_count, address_of, is_crossing, link_address, overlap, Link, rank, RingView, floor_number, gives, gives_crossing, leased_positions, leased_crossings, RingKeeps, MayWrite, address_of-lap, is_crossing-lap, link_address-lap, rank_least, crossed_due, IsCrossingDue, due_from, gives_is, gives_from, crossing_due_from, gives_crossing_is, gives_crossing_from, leased_position, leased_crossing, both_ways}
 use Rattle.safety.proofs.SameDriver.{SameGiven}
 
 -- the control word of a block has a byte in common with it

@@ -1,22 +1,7 @@
 -- The rings of a header: allowed, and apart from the event ring
-use Rattle.std.specs.Prelude.{◌≡◌, ℕ, ◌==◌, ◌%◌, ◌<◌, ◌≤◌, ◌&&◌, ◌⊎◌, Bool, true, false, not, List, [], ◌∷◌, nat_lt, Option, Some, None, find}
-use Rattle.std.specs.List.{list_all, list_any}
-use Rattle.std.proofs.Common.{arith, refl, sym, ◌∙◌, ap, subst, inl, inr}
-use Rattle.std.proofs.lemmas.Bool.{cases_Bool, eq-eqb, eqb-true, ltb-true, false≢true, cond-true, cond-false, and_parts, or_parts, not-true, not_from_true, false_from_ne_true}
-use Rattle.std.proofs.lemmas.Option.{none-some, same_Some}
-use Rattle.trb.specs.declared.ring_kind.RingKind.{RingKind}
-use Rattle.trb.specs.declared.ring_kind.RingKind.TheVariants.{Cmd, Evt, Xfer}
-use Rattle.segments.specs.ShapeValue.{Shape}
-use Rattle.segments.specs.Places.{is_inside, place_count, touches}
-use Rattle.segments.specs.Shape.{IsShape, is_shape}
-use Rattle.segments.proofs.ShapeFacts.{shape_facts}
-use Rattle.segments.proofs.Search.{cases_option}
-use Rattle.segments.proofs.InsideLemmas.{rings_apart, touches-word}
-use Rattle.traces.specs.declared.header.Header.{Header}
-use Rattle.traces.specs.declared.ring.Ring.{Ring}
-use Rattle.traces.specs.Header.{IsHeader, may_stand_together, clash, ring_with, shape_of, shape_or, event_ring, event_shape, event_size, command_ring, command_id, id_or_none, is_command_kind, is_event_kind, is_driver_kind, is_transfer_kind}
-use Rattle.ownership_rules.proofs.Among.{IsIn, any_of}
-use Rattle.safety.specs.Keeps.{IsDriverRing, IsTransferRing}
+use Rattle.std.proofs.Common.{◌≡◌, ◌==◌, ◌%◌, ◌<◌, ◌≤◌, ◌&&◌, ◌⊎◌, ◌∷◌, ◌∙◌, ℕ, Bool, true, false, not, List, [], nat_lt, Option, Some, None, find, arith, refl, sym, ap, subst, inl, inr, eq-eqb, eqb-true, ltb-true}
+use Rattle.safety.proofs.Words.{list_all, list_any, cases_Bool, false≢true, cond-true, cond-false, and_parts, or_parts, not-true, not_from_true, false_from_ne_true, none-some, same_Some, RingKind, Cmd, Evt, Xfer, Shape, is_inside, place_count, IsShape, is_shape, shape_facts, cases_option, rings_apart, touches-word, Header, Ring, IsHeader, may_stand_together, clash, ring_with, shape_of, shape_or, event_ring, event_shape, event_size, command_ring, command_id, id_or_none, is_command_kind, is_event_kind, is_driver_kind, is_transfer_kind, IsIn, any_of, IsDriverRing, IsTransferRing}
+use Rattle.segments.specs.Places.{touches}
 
 -- what a search finds passes, and is one of the list
 pub found_in : {X : Type 0} (p : X → Bool) (xs : List X) (x : X) → find p xs ≡ Some x → IsIn x xs × (p x ≡ true)

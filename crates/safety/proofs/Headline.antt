@@ -1,7 +1,5 @@
 -- The headline: a clean trace is harmless beside every run of the controller model
-use Rattle.traces.specs.declared.header.Header.{Header}
-use Rattle.traces.specs.Header.{IsHeader}
-use Rattle.safety.specs.Headline.{Headline}
+use Rattle.safety.proofs.Words.{Header, IsHeader, Headline}
 use Rattle.safety.proofs.DriverHistories.{driver_keeps}
 use Rattle.safety.proofs.HeadlineFrom.{headline_from}
 use Rattle.safety.proofs.HeldFurther.{more_law}

@@ -1,36 +1,13 @@
 -- The headline, from what a clean history keeps and a law for the driver's rows: each world of a run beside clean rows is safe
-use Rattle.std.specs.Prelude.{◌≡◌, false, List, [], ◌∷◌, ◌++◌, Option, Some, None, All, reverse, option_map, option_and_then}
-use Rattle.std.proofs.Common.{refl, sym, ◌∙◌, ap, subst, inl, inr}
-use Rattle.std.proofs.lemmas.Bool.{cases_Bool, cond-false, cond-true, false≢true}
-use Rattle.std.proofs.lemmas.List.{append_assoc, append-nil, reverse-append}
-use Rattle.std.proofs.lemmas.List.Elements.{All-cons, All-head, All-nil, All-tail}
-use Rattle.std.proofs.lemmas.Option.{none-some, same_Some}
-use Rattle.trb.specs.declared.block.Block.{Block}
-use Rattle.trb.specs.Block.{IsBlock}
-use Rattle.traces.specs.declared.header.Header.{Header}
-use Rattle.traces.specs.declared.row.Row.{Row}
-use Rattle.traces.specs.declared.row.Row.TheVariants.{Sub, Write, Reg, Bell, Read}
-use Rattle.traces.specs.declared.step.Step.{Step}
-use Rattle.traces.specs.declared.step.Step.TheVariants.{NextRow, Look, Report, Finish, Other, Scribble}
-use Rattle.traces.specs.Header.{IsHeader}
-use Rattle.traces.specs.Rows.{IsRow, IsStep}
-use Rattle.world_state.specs.World.{World, opening}
+use Rattle.std.proofs.Common.{◌≡◌, ◌∷◌, ◌++◌, ◌∙◌, false, List, [], Option, Some, None, All, reverse, option_map, option_and_then, refl, sym, ap, subst, inl, inr, append_assoc, append-nil}
+use Rattle.safety.proofs.Words.{cases_Bool, cond-false, cond-true, false≢true, reverse-append, All-cons, All-head, All-nil, All-tail, none-some, same_Some, Block, IsBlock, Header, Row, Sub, Write, Reg, Bell, Read, Step, NextRow, Look, Report, Finish, Other, Scribble, IsHeader, IsRow, IsStep, World, opening, IsSafe, Known, learned, known, broken, IsClean, IsHarmless, DriverKeeps, IsDriverRow, Agrees, Runs, reading}
 use Rattle.world_state.specs.World as of_world
-use Rattle.world_state.specs.Harms.{IsSafe}
 use Rattle.controller_model.specs.DriverRows as driver
 use Rattle.controller_model.specs.Looks as looks
 use Rattle.controller_model.specs.Posts as posts
 use Rattle.controller_model.specs.Finishes as finishes
 use Rattle.controller_model.specs.Steps as steps
-use Rattle.ring_knowledge.specs.Known.{Known}
-use Rattle.ring_knowledge.specs.Learned.{learned, known}
-use Rattle.ownership_rules.specs.Rules.{broken}
-use Rattle.ownership_rules.specs.Clean.{IsClean}
-use Rattle.safety.specs.Headline.{IsHarmless}
-use Rattle.safety.specs.Keeps.{DriverKeeps}
-use Rattle.safety.specs.KeptHistories.{IsDriverRow}
-use Rattle.safety.specs.Matches.{Agrees}
-use Rattle.safety.specs.Invariant.{Runs, Holds, reading}
+use Rattle.safety.specs.Invariant.{Holds}
 use Rattle.safety.proofs.FinishRuns.{finish_runs}
 use Rattle.safety.proofs.LookRuns.{look_runs}
 use Rattle.safety.proofs.Opens.{opens}

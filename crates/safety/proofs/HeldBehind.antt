@@ -1,28 +1,6 @@
 -- An event leaves an endpoint whose ring is held, where no unfinished command touches it: its doorbell stays one that may be rung
-use Rattle.std.specs.Prelude.{◌≡◌, ℕ, ◌==◌, ◌&&◌, ◌||◌, not, nat_lt, true, false, [], is_none, Option, None, Some}
-use Rattle.std.proofs.Common.{refl, sym, ◌∙◌, ap, subst, inl, inr}
-use Rattle.std.proofs.lemmas.Bool.{cases_Bool, cond-true, and_parts, and_from, or_parts, or_from, not-false, eqb-true, eq-eqb, false≢true}
-use Rattle.std.proofs.lemmas.Option.{same_Some}
-use Rattle.trb.specs.declared.block.Block.{Block}
-use Rattle.trb.specs.declared.kind.BlockKind.{BlockKind}
-use Rattle.trb.specs.declared.kind.BlockKind.TheVariants.{TransferEvent, CommandCompletion}
-use Rattle.trb.specs.Block.{kind, code, slot, endpoint}
-use Rattle.trb.specs.Kind.{is_transfer_event, is_command_completion}
-use Rattle.trb.specs.CompletionCode.{is_success, is_halting, is_trb_error}
-use Rattle.segments.specs.declared.spot.Spot.{Spot}
-use Rattle.segments.specs.Ceiling.{ceiling, is_data_below, is_open, is_stop_spot}
-use Rattle.commands.specs.States.{is_running, is_stopped}
-use Rattle.traces.specs.declared.header.Header.{Header}
-use Rattle.traces.specs.declared.row.Row.TheVariants.{Read}
-use Rattle.traces.specs.Header.{IsHeader, shape_of}
-use Rattle.ring_knowledge.specs.Known.{Known}
-use Rattle.ring_knowledge.specs.Rings.{RingSpot, event_at}
-use Rattle.ring_knowledge.specs.Transfers.{transferred, transferred_at, transfer_read}
-use Rattle.ring_knowledge.specs.Learned.{event_read, learned}
-use Rattle.ownership_rules.specs.Doorbells.{is_touched, is_bad_bell}
-use Rattle.ownership_rules.specs.Events.{is_in_profile, is_working, is_stopping_now, can_report, can_report_at, is_impossible_by_kind}
-use Rattle.ownership_rules.specs.Rules.{broken}
-use Rattle.safety.specs.Keeps.{DriverKeeps}
+use Rattle.std.proofs.Common.{◌≡◌, ◌==◌, ◌&&◌, ◌||◌, ◌∙◌, ℕ, not, nat_lt, true, false, [], is_none, Option, None, Some, refl, sym, ap, subst, inl, inr, eqb-true, eq-eqb}
+use Rattle.safety.proofs.Words.{cases_Bool, cond-true, and_parts, and_from, or_parts, or_from, not-false, false≢true, same_Some, Block, BlockKind, TransferEvent, CommandCompletion, kind, code, slot, endpoint, is_transfer_event, is_command_completion, is_success, is_halting, is_trb_error, Spot, ceiling, is_data_below, is_open, is_stop_spot, is_running, is_stopped, Header, Read, IsHeader, shape_of, Known, RingSpot, event_at, transferred, transferred_at, transfer_read, event_read, learned, is_touched, is_bad_bell, is_in_profile, is_working, is_stopping_now, can_report, can_report_at, is_impossible_by_kind, broken, DriverKeeps}
 use Rattle.safety.proofs.CleanRows.{EventFacts, event_facts}
 use Rattle.safety.proofs.KeptRings.{completion_facts}
 use Rattle.safety.proofs.StatesTransfer.{reported}

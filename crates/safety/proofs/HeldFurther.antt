@@ -1,26 +1,6 @@
 -- Where rings are held at greater numbers, the same events are possible, and what they lead to is the same but for these numbers
-use Rattle.std.specs.Prelude.{◌≡◌, ℕ, ◌+◌, List, [], ◌∷◌, length, Bool, find, option_and_then, slice_get}
-use Rattle.std.proofs.Common.{arith, refl, sym, ◌∙◌, ap}
-use Rattle.std.proofs.Math.Path.{fun_ext}
-use Rattle.trb.specs.declared.block.Block.{Block}
-use Rattle.trb.specs.Block.{kind}
-use Rattle.segments.specs.Spots.{number, named_spot}
-use Rattle.segments.specs.RingView.{RingView, floor_number}
-use Rattle.segments.specs.Ceiling.{named}
-use Rattle.segments.specs.Moves.{is_target, spots_between, target}
-use Rattle.commands.specs.declared.command.Command.{Command}
-use Rattle.commands.specs.Command.{command_of}
-use Rattle.commands.specs.Changes.{Change, SlotGoesOn, DeviceLeft, Disables, Places, Stops, Resets, changes}
-use Rattle.traces.specs.declared.header.Header.{Header}
-use Rattle.traces.specs.declared.row.Row.TheVariants.{Read}
-use Rattle.traces.specs.declared.register.Register.TheVariants.{Config}
-use Rattle.traces.specs.Header.{shape_of, command_id}
-use Rattle.traces.specs.Register.{register_or_zero}
-use Rattle.ring_knowledge.specs.Known.{Known}
-use Rattle.ring_knowledge.specs.Rings.{command_at, next_command}
-use Rattle.ring_knowledge.specs.Learned.{event_read, learned}
-use Rattle.ring_knowledge.specs.Completions.{changed_by}
-use Rattle.safety.specs.Beneath.{IsHeldMore, HeldMore, MoreLaw}
+use Rattle.std.proofs.Common.{◌≡◌, ◌+◌, ◌∷◌, ◌∙◌, ℕ, List, [], length, Bool, find, option_and_then, slice_get, arith, refl, sym, ap}
+use Rattle.safety.proofs.Words.{fun_ext, Block, kind, number, named_spot, RingView, floor_number, named, is_target, spots_between, target, Command, command_of, Change, SlotGoesOn, DeviceLeft, Disables, Places, Stops, Resets, changes, Header, Read, Config, shape_of, command_id, register_or_zero, Known, command_at, next_command, event_read, learned, changed_by, IsHeldMore, HeldMore, MoreLaw}
 use Rattle.safety.proofs.SameDriver.{SameDriver, both_drivers, change_same, event_same}
 use Rattle.safety.proofs.Alike.{Alike}
 use Rattle.safety.proofs.AlikeChanges.{TargetIs, TargetsAre, change_alike}

@@ -1,9 +1,6 @@
 -- Held at greater numbers, and again at greater ones
-use Rattle.std.specs.Prelude.{ℕ, Option, None, Some}
-use Rattle.std.proofs.Common.{arith, refl, ◌∙◌, ap}
-use Rattle.segments.specs.RingView.{RingView}
-use Rattle.ring_knowledge.specs.Known.{Known}
-use Rattle.safety.specs.Beneath.{IsHeldMore, RingHeldMore, HeldMore}
+use Rattle.std.proofs.Common.{◌∙◌, ℕ, Option, None, Some, arith, refl, ap}
+use Rattle.safety.proofs.Words.{RingView, Known, IsHeldMore, RingHeldMore, HeldMore}
 
 held_same : (o : Option ℕ) → IsHeldMore o o
 held_same None = tt

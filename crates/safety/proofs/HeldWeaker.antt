@@ -1,19 +1,6 @@
 -- Where rings may be held at greater numbers, what is known agrees with the world all the more
-use Rattle.std.specs.Prelude.{◌≡◌, ℕ, List, option_and_then, slice_get}
-use Rattle.std.proofs.Common.{refl, sym, ◌∙◌, ap, subst}
-use Rattle.trb.specs.declared.block.Block.{Block}
-use Rattle.segments.specs.RingView.{RingView, is_due}
-use Rattle.commands.specs.declared.command.Command.{Command}
-use Rattle.commands.specs.Command.{command_of}
-use Rattle.traces.specs.declared.header.Header.{Header}
-use Rattle.traces.specs.Header.{shape_of, command_id}
-use Rattle.world_state.specs.World.{World}
-use Rattle.ring_knowledge.specs.Known.{Known}
-use Rattle.ring_knowledge.specs.Rings.{command_at, next_command}
-use Rattle.safety.specs.Keeps.{IsUnfinished}
-use Rattle.safety.specs.Stands.{Stands}
-use Rattle.safety.specs.Matches.{Matches, Agrees}
-use Rattle.safety.specs.Beneath.{RingHeldMore, HeldMore}
+use Rattle.std.proofs.Common.{◌≡◌, ◌∙◌, ℕ, List, option_and_then, slice_get, refl, sym, ap, subst}
+use Rattle.safety.proofs.Words.{Block, RingView, is_due, Command, command_of, Header, shape_of, command_id, World, Known, command_at, next_command, IsUnfinished, Stands, Matches, Agrees, RingHeldMore, HeldMore}
 use Rattle.safety.proofs.RingGoesOn.{RingGoesOn, held_goes_on, newest_same}
 use Rattle.safety.proofs.MatchesGoesOn.{KnownGoesOn, same_controller, matches_go_on}
 

@@ -1,26 +1,6 @@
 -- A clean history keeps what the rules keep of each ring
-use Rattle.std.specs.Prelude.{◌≡◌, ◌&&◌, ◌||◌, ◌==◌, not, true, false, List, [], ◌∷◌}
-use Rattle.std.proofs.Common.{refl}
-use Rattle.std.proofs.lemmas.Bool.{or_parts, not-false}
-use Rattle.trb.specs.declared.block.Block.{Block}
-use Rattle.trb.specs.declared.kind.BlockKind.{BlockKind}
-use Rattle.trb.specs.declared.kind.BlockKind.TheVariants.{TransferEvent, CommandCompletion}
-use Rattle.trb.specs.Block.{kind, cycle}
-use Rattle.trb.specs.Kind.{is_transfer_event, is_command_completion, is_event}
-use Rattle.segments.specs.Places.{cycle_of}
-use Rattle.traces.specs.declared.header.Header.{Header}
-use Rattle.traces.specs.declared.row.Row.{Row}
-use Rattle.traces.specs.declared.row.Row.TheVariants.{Sub, Write, Reg, Bell, Read}
-use Rattle.traces.specs.Header.{IsHeader, event_shape}
-use Rattle.ring_knowledge.specs.Known.{Known}
-use Rattle.ring_knowledge.specs.Learned.{event_read, learned, known}
-use Rattle.ownership_rules.specs.Events.{is_in_profile, is_impossible_by_kind, is_past_room, is_impossible, event_tests}
-use Rattle.ownership_rules.specs.Rules.{tests, broken}
-use Rattle.ownership_rules.specs.Clean.{IsClean}
-use Rattle.safety.specs.RingsKeep.{RingsKeep}
-use Rattle.safety.specs.EndpointsKeep.{EndpointsKeep}
-use Rattle.safety.specs.Placings.{MayFinish}
-use Rattle.safety.specs.KeptHistories.{MayRead, MayReadAll, AreDriverRows}
+use Rattle.std.proofs.Common.{◌≡◌, ◌&&◌, ◌||◌, ◌==◌, ◌∷◌, not, true, false, List, [], refl}
+use Rattle.safety.proofs.Words.{or_parts, not-false, Block, BlockKind, TransferEvent, CommandCompletion, kind, cycle, is_transfer_event, is_command_completion, is_event, cycle_of, Header, Row, Sub, Write, Reg, Bell, Read, IsHeader, event_shape, Known, event_read, learned, known, is_in_profile, is_impossible_by_kind, is_past_room, is_impossible, event_tests, tests, broken, IsClean, RingsKeep, EndpointsKeep, MayFinish, MayRead, MayReadAll, AreDriverRows}
 use Rattle.safety.proofs.TestsPassed.{AllFail, tests_fail}
 use Rattle.safety.proofs.DriverRows.{same_keeps, nothing_keeps, declared_keeps, written_keeps, register_keeps, rung_keeps}
 use Rattle.safety.proofs.Transfers.{transfer_keeps}

@@ -1,26 +1,7 @@
 -- No word of a ring is soiled, behind each row
-use Rattle.std.specs.Prelude.{◌≡◌, ℕ, ◌+◌, ◌==◌, ◌&&◌, not, Bool, true, false, [], Option, None, Some, is_none, option_and_then}
-use Rattle.std.proofs.Common.{refl, sym, ◌∙◌, ap, inl, inr}
-use Rattle.std.proofs.lemmas.Bool.{and_parts, and_left, or_from, or_parts, and_cases, false_from_ne_true, false≢true, leb-true, ltb-true}
-use Rattle.std.proofs.lemmas.Option.{none-some, same_Some}
-use Rattle.trb.specs.declared.block.Block.{Block}
-use Rattle.trb.specs.Block.{kind}
-use Rattle.segments.specs.Places.{is_in, is_inside}
-use Rattle.commands.specs.declared.command.Command.{Command}
-use Rattle.commands.specs.declared.command.Command.TheVariants.{NoOp, EnableSlot, DisableSlot, AddressDevice, ConfigureEndpoint, EvaluateContext, ResetEndpoint, StopEndpoint, SetTrDequeue, ResetDevice}
-use Rattle.contexts.specs.Contexts.{device_context_bytes}
-use Rattle.traces.specs.declared.header.Header.{Header}
-use Rattle.traces.specs.declared.row.Row.TheVariants.{Sub, Write, Reg, Bell, Read}
-use Rattle.traces.specs.Header.{shape_of, touches_ring}
-use Rattle.ring_knowledge.specs.Known.{Known}
-use Rattle.ring_knowledge.specs.Writes.{device_named, no_device, taken_device, command_given, with_device, with_word, written}
-use Rattle.ring_knowledge.specs.Learned.{learned}
-use Rattle.ownership_rules.specs.Areas.{is_bad_area}
+use Rattle.std.proofs.Common.{◌≡◌, ◌+◌, ◌==◌, ◌&&◌, ◌∙◌, ℕ, not, Bool, true, false, [], Option, None, Some, is_none, option_and_then, refl, sym, ap, inl, inr, leb-true, ltb-true}
+use Rattle.safety.proofs.Words.{and_parts, and_left, or_from, or_parts, and_cases, false_from_ne_true, false≢true, none-some, same_Some, Block, kind, is_in, is_inside, Command, NoOp, EnableSlot, DisableSlot, AddressDevice, ConfigureEndpoint, EvaluateContext, ResetEndpoint, StopEndpoint, SetTrDequeue, ResetDevice, device_context_bytes, Header, Sub, Write, Reg, Bell, Read, shape_of, touches_ring, Known, device_named, no_device, taken_device, command_given, with_device, with_word, written, learned, is_bad_area, some_command, write_tests, tests, broken, IsDriverRing, KeptByRows}
 use Rattle.ownership_rules.specs.Commands as commands
-use Rattle.ownership_rules.specs.Writes.{some_command, write_tests}
-use Rattle.ownership_rules.specs.Rules.{tests, broken}
-use Rattle.safety.specs.Keeps.{IsDriverRing}
-use Rattle.safety.specs.KeptStep.{KeptByRows}
 use Rattle.safety.proofs.Headers.{found_in, shape_is}
 use Rattle.safety.proofs.TestsPassed.{AllFail, tests_fail}
 use Rattle.safety.proofs.GivenCommands.{content_good, fails_of}

@@ -1,24 +1,6 @@
 -- What CRCR and ERSTSZ say is kept by each row
-use Rattle.std.specs.Prelude.{◌≡◌, ℕ, ◌<◌, ◌==◌, ◌||◌, not, true, false, Option, None, Some, is_some, is_none}
-use Rattle.std.proofs.Common.{arith, refl, sym, ◌∙◌, ap, inl, inr}
-use Rattle.std.proofs.lemmas.Bool.{or_parts, not-false, false≢true, eqb-true}
-use Rattle.std.proofs.lemmas.Option.{same_Some}
-use Rattle.trb.specs.declared.block.Block.{Block}
-use Rattle.trb.specs.Block.{kind}
-use Rattle.segments.specs.ShapeValue.{Shape}
-use Rattle.segments.specs.Places.{address_of}
-use Rattle.traces.specs.declared.header.Header.{Header}
-use Rattle.traces.specs.declared.ring.Ring.{Ring}
-use Rattle.traces.specs.declared.register.Register.{Register}
-use Rattle.traces.specs.declared.register.Register.TheVariants.{Crcr, Erstsz}
-use Rattle.traces.specs.declared.row.Row.TheVariants.{Sub, Write, Reg, Bell, Read}
-use Rattle.traces.specs.Header.{IsHeader, is_command_kind, ring_with, shape_of, command_ring, command_id, event_ring, event_size}
-use Rattle.traces.specs.Register.{with_register, base_address, ring_cycle_state, command_stop, command_abort}
-use Rattle.ring_knowledge.specs.Known.{Known}
-use Rattle.ring_knowledge.specs.Learned.{learned}
-use Rattle.ownership_rules.specs.Registers.{is_written, is_no_first_block, is_bad_crcr, is_bad_size, is_bad_register}
-use Rattle.safety.specs.Keeps.{IsDriverRing, CommandRingNamed}
-use Rattle.safety.specs.KeptStep.{KeptByRows}
+use Rattle.std.proofs.Common.{◌≡◌, ◌<◌, ◌==◌, ◌||◌, ◌∙◌, ℕ, not, true, false, Option, None, Some, is_some, is_none, arith, refl, sym, ap, inl, inr, eqb-true}
+use Rattle.safety.proofs.Words.{or_parts, not-false, false≢true, same_Some, Block, kind, Shape, address_of, Header, Ring, Register, Crcr, Erstsz, Sub, Write, Reg, Bell, Read, IsHeader, is_command_kind, ring_with, shape_of, command_ring, command_id, event_ring, event_size, with_register, base_address, ring_cycle_state, command_stop, command_abort, Known, learned, is_written, is_no_first_block, is_bad_crcr, is_bad_size, is_bad_register, IsDriverRing, CommandRingNamed, KeptByRows}
 use Rattle.safety.proofs.Headers.{shape_is, command_found, command_named, event_ring_size}
 use Rattle.safety.proofs.RingIds.{found_again, together}
 use Rattle.safety.proofs.SameDriver.{event_same}

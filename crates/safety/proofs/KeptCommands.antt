@@ -1,43 +1,8 @@
 -- The command ring holds commands, each alone in its descriptor, and is open from its first doorbell on: kept by each row
-use Rattle.std.specs.Prelude.{◌≡◌, ℕ, ◌-◌, ◌<◌, ◌⊎◌, ◌==◌, ◌&&◌, ◌||◌, not, nat_lt, true, false, List, [], ◌++◌, length, All, Option, None, Some, is_some, slice_get}
-use Rattle.std.specs.List.{list_any, list_all}
-use Rattle.std.proofs.Common.{arith, refl, sym, ◌∙◌, ap, subst, inl, inr, get_or, length-append}
-use Rattle.std.proofs.lemmas.Bool.{cases_lt, cond_both, cond-false, and_cases, and_parts, or_parts, not-false, false≢true, eqb-true, ltb-true}
-use Rattle.std.proofs.lemmas.Option.{slice_get_within, get_or_from_slice_get}
-use Rattle.std.proofs.lemmas.List.{get_or-append_right}
-use Rattle.std.proofs.lemmas.List.Elements.{All-push, All-get_or}
-use Rattle.trb.specs.declared.block.Block.{Block}
-use Rattle.trb.specs.declared.kind.BlockKind.{BlockKind}
+use Rattle.std.proofs.Common.{◌≡◌, ◌-◌, ◌<◌, ◌⊎◌, ◌==◌, ◌&&◌, ◌||◌, ◌++◌, ◌∙◌, ℕ, not, nat_lt, true, false, List, [], length, All, Option, None, Some, is_some, slice_get, arith, refl, sym, ap, subst, inl, inr, get_or, length-append, eqb-true, ltb-true}
+use Rattle.safety.proofs.Words.{list_any, list_all, cases_lt, cond_both, cond-false, and_cases, and_parts, or_parts, not-false, false≢true, slice_get_within, get_or_from_slice_get, get_or-append_right, All-push, All-get_or, Block, BlockKind, RingKind, Cmd, Evt, Xfer, kind, is_command, is_left_out_command, is_command_completion, is_badly_formed, is_no_command, is_command_left_out, has_left_out_field, is_bad_descriptor, is_left_out, Data, Shape, is_shape, RingView, Declares, Opens, Reaches, changed, after, ceiling, cases_option, slice_get-append, ceiling_held, command_of, command_by_kind, Header, Sub, Write, Reg, Bell, Read, IsHeader, may_stand_together, is_command_kind, ring_with, shape_of, command_ring, command_id, Known, on_ring, command_at, next_command, endpoint_rung, rung, finished, completed, event_read, learned, is_driver_ring, declaration_tests, tests, broken, CommandRingKeeps, KeptByRows, EndpointsKeep}
 use Rattle.trb.specs.declared.kind.BlockKind.TheVariants as kinds
-use Rattle.trb.specs.declared.ring_kind.RingKind.{RingKind}
-use Rattle.trb.specs.declared.ring_kind.RingKind.TheVariants.{Cmd, Evt, Xfer}
-use Rattle.trb.specs.Block.{kind}
-use Rattle.trb.specs.Kind.{is_command, is_left_out_command, is_command_completion}
-use Rattle.trb.specs.Descriptor.{is_badly_formed, is_no_command, is_command_left_out, has_left_out_field, is_bad_descriptor, is_left_out}
-use Rattle.segments.specs.declared.spot.Spot.TheVariants.{Data}
-use Rattle.segments.specs.ShapeValue.{Shape}
-use Rattle.segments.specs.Shape.{is_shape}
-use Rattle.segments.specs.RingView.{RingView, Declares, Opens, Reaches, changed}
-use Rattle.segments.specs.Spots.{after}
-use Rattle.segments.specs.Ceiling.{ceiling}
-use Rattle.segments.proofs.Search.{cases_option}
-use Rattle.segments.proofs.Declaring.{slice_get-append}
-use Rattle.segments.proofs.Named.{ceiling_held}
-use Rattle.commands.specs.Command.{command_of, command_by_kind}
-use Rattle.traces.specs.declared.header.Header.{Header}
-use Rattle.traces.specs.declared.row.Row.TheVariants.{Sub, Write, Reg, Bell, Read}
-use Rattle.traces.specs.Header.{IsHeader, may_stand_together, is_command_kind, ring_with, shape_of, command_ring, command_id}
-use Rattle.ring_knowledge.specs.Known.{Known}
-use Rattle.ring_knowledge.specs.Rings.{on_ring, command_at, next_command}
-use Rattle.ring_knowledge.specs.Registers.{endpoint_rung, rung}
-use Rattle.ring_knowledge.specs.Completions.{finished, completed}
-use Rattle.ring_knowledge.specs.Learned.{event_read, learned}
-use Rattle.ownership_rules.specs.Declarations.{is_driver_ring, declaration_tests}
-use Rattle.ownership_rules.specs.Rules.{tests, broken}
-use Rattle.safety.specs.Keeps.{CommandRingKeeps}
-use Rattle.safety.specs.KeptStep.{KeptByRows}
 use Rattle.safety.specs.RingsKeep.{IsDriverRing}
-use Rattle.safety.specs.EndpointsKeep.{EndpointsKeep}
 use Rattle.safety.proofs.TestsPassed.{AllFail, tests_fail, each_fails}
 use Rattle.safety.proofs.RingsOfHeader.{HasRing, has_ring, found_allowed}
 use Rattle.safety.proofs.Headers.{command_found, command_named, shape_is}

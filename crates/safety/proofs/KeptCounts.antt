@@ -1,25 +1,6 @@
 -- How many events were read and where ERDP stands, behind each row
-use Rattle.std.specs.Prelude.{◌≡◌, ℕ, ◌+◌, ◌-◌, ◌<◌, ◌≤◌, ◌&&◌, ◌||◌, not, if◌then◌else◌, true, false}
-use Rattle.std.proofs.Common.{arith, refl, sym, ◌∙◌, ap}
-use Rattle.std.proofs.lemmas.Bool.{cond_both, cond-false, not-false, ltb-false, false≢true}
-use Rattle.trb.specs.declared.block.Block.{Block}
-use Rattle.trb.specs.Block.{kind}
-use Rattle.segments.proofs.ShapeFacts.{shape_facts}
-use Rattle.segments.specs.Places.{place_count}
-use Rattle.event_ring.specs.EventRing.{erdp_address}
-use Rattle.traces.specs.declared.header.Header.{Header}
-use Rattle.traces.specs.declared.register.Register.{Register}
-use Rattle.traces.specs.declared.register.Register.TheVariants.{Erdp, Usbcmd}
-use Rattle.traces.specs.declared.row.Row.TheVariants.{Sub, Write, Reg, Bell, Read}
-use Rattle.traces.specs.Header.{event_shape, event_size}
-use Rattle.traces.specs.Register.{run_bit, reset_bit}
-use Rattle.ring_knowledge.specs.Known.{Known}
-use Rattle.ring_knowledge.specs.Registers.{run_or_stop, valued, register_written}
-use Rattle.ring_knowledge.specs.Learned.{learned}
-use Rattle.ownership_rules.specs.Registers.{may_pass, is_bad_erdp}
-use Rattle.ownership_rules.specs.Events.{is_past_room}
-use Rattle.safety.specs.Keeps.{Unstarted}
-use Rattle.safety.specs.KeptStep.{KeptByRows}
+use Rattle.std.proofs.Common.{◌≡◌, ◌+◌, ◌-◌, ◌<◌, ◌≤◌, ◌&&◌, ◌||◌, if◌then◌else◌, ◌∙◌, ℕ, not, true, false, arith, refl, sym, ap, ltb-false}
+use Rattle.safety.proofs.Words.{cond_both, cond-false, not-false, false≢true, Block, kind, shape_facts, place_count, erdp_address, Header, Register, Erdp, Usbcmd, Sub, Write, Reg, Bell, Read, event_shape, event_size, run_bit, reset_bit, Known, run_or_stop, valued, register_written, learned, may_pass, is_bad_erdp, is_past_room, Unstarted, KeptByRows}
 use Rattle.safety.proofs.Headers.{EventRing, event_ring_is}
 use Rattle.safety.proofs.ErdpMoves.{position_within}
 use Rattle.safety.proofs.SameDriver.{event_same}

@@ -1,20 +1,6 @@
 -- Which registers were written, and with what, is kept by each row
-use Rattle.std.specs.Prelude.{◌≡◌, ℕ, ◌&&◌, ◌||◌, ◌⊎◌, if◌then◌else◌, not, true, false, [], ◌∷◌, Option, None, Some, is_some, is_none}
-use Rattle.std.specs.List.{list_any}
-use Rattle.std.proofs.Common.{refl, sym, ◌∙◌, ap, inl, inr}
-use Rattle.std.proofs.lemmas.Bool.{cases_Bool, cond_both, cond-true, cond-false, or_parts, and_cases, not_from_false, false≢true}
-use Rattle.trb.specs.declared.ring_kind.RingKind.{RingKind}
-use Rattle.trb.specs.declared.ring_kind.RingKind.TheVariants.{Cmd, Evt, Xfer}
-use Rattle.traces.specs.declared.header.Header.{Header}
-use Rattle.traces.specs.declared.register.Register.{Register}
-use Rattle.traces.specs.declared.register.Register.TheVariants.{Usbcmd, Crcr, Erstsz, Erstba, Erdp}
-use Rattle.traces.specs.declared.row.Row.TheVariants.{Reg}
-use Rattle.traces.specs.Header.{is_command_kind, is_driver_kind}
-use Rattle.traces.specs.Register.{with_register, same_register, run_bit, reset_bit}
-use Rattle.ring_knowledge.specs.Known.{Known}
-use Rattle.ring_knowledge.specs.Registers.{run_or_stop, valued, register_written}
-use Rattle.ring_knowledge.specs.Learned.{learned}
-use Rattle.ownership_rules.specs.Registers.{is_unwritten, is_late_reset, is_early_start, is_bad_register}
+use Rattle.std.proofs.Common.{◌≡◌, ◌&&◌, ◌||◌, ◌⊎◌, if◌then◌else◌, ◌∷◌, ◌∙◌, ℕ, not, true, false, [], Option, None, Some, is_some, is_none, refl, sym, ap, inl, inr}
+use Rattle.safety.proofs.Words.{list_any, cases_Bool, cond_both, cond-true, cond-false, or_parts, and_cases, not_from_false, false≢true, RingKind, Cmd, Evt, Xfer, Header, Register, Usbcmd, Crcr, Erstsz, Erstba, Erdp, Reg, is_command_kind, is_driver_kind, with_register, same_register, run_bit, reset_bit, Known, run_or_stop, valued, register_written, learned, is_unwritten, is_late_reset, is_early_start, is_bad_register}
 
 pub command_drives : (kind : RingKind) → is_command_kind kind ≡ true → is_driver_kind kind ≡ true
 command_drives Cmd is = refl

@@ -1,30 +1,7 @@
 -- What the rules keep of each ring is kept by each row: of a command that succeeds holds still what was tested when it was given
-use Rattle.std.specs.Prelude.{◌≡◌, ℕ, ◌<◌, ◌==◌, not, true, false, [], Some, is_some}
-use Rattle.std.proofs.Common.{arith, sym, ◌∙◌, ap}
-use Rattle.std.proofs.lemmas.Bool.{or_parts, not-false, ltb-true}
-use Rattle.std.proofs.lemmas.List.Elements.{All-weaker}
-use Rattle.trb.specs.declared.block.Block.{Block}
-use Rattle.trb.specs.Block.{kind, pointer, code}
-use Rattle.trb.specs.Kind.{is_command_completion}
-use Rattle.segments.specs.Places.{address_of}
-use Rattle.segments.specs.Ceiling.{ceiling}
-use Rattle.segments.specs.RingKeeps.{RingKeeps}
-use Rattle.commands.specs.declared.command.Command.{Command}
-use Rattle.commands.specs.declared.command.Command.TheVariants.{NoOp, EnableSlot, DisableSlot, AddressDevice, ConfigureEndpoint, EvaluateContext, ResetEndpoint, StopEndpoint, SetTrDequeue, ResetDevice}
-use Rattle.traces.specs.declared.header.Header.{Header}
-use Rattle.traces.specs.declared.row.Row.{Row}
-use Rattle.traces.specs.declared.row.Row.TheVariants.{Sub, Write, Reg, Bell, Read}
-use Rattle.traces.specs.Header.{IsHeader, shape_of, command_id}
-use Rattle.ring_knowledge.specs.Known.{Known}
-use Rattle.ring_knowledge.specs.Rings.{command_at, next_command}
-use Rattle.ownership_rules.specs.Events.{may_be_taken, can_finish, is_impossible_completion, is_impossible_by_kind}
-use Rattle.ownership_rules.specs.Rules.{broken}
+use Rattle.std.proofs.Common.{◌≡◌, ◌<◌, ◌==◌, ◌∙◌, ℕ, not, true, false, [], Some, is_some, arith, sym, ap, ltb-true}
+use Rattle.safety.proofs.Words.{or_parts, not-false, All-weaker, Block, kind, pointer, code, is_command_completion, address_of, ceiling, RingKeeps, Command, NoOp, EnableSlot, DisableSlot, AddressDevice, ConfigureEndpoint, EvaluateContext, ResetEndpoint, StopEndpoint, SetTrDequeue, ResetDevice, Header, Row, Sub, Write, Reg, Bell, Read, IsHeader, shape_of, command_id, Known, command_at, next_command, may_be_taken, can_finish, is_impossible_completion, is_impossible_by_kind, broken, IsDriverRing, IsUnfinished, CommandKeeps, MovesIf, StaysIf, DriverKeeps, KeptByRows, StillReads, MovesOn, StillHolds, RingsKeep}
 use Rattle.ownership_rules.specs.Moves as moves
-use Rattle.safety.specs.Keeps.{IsDriverRing, IsUnfinished, CommandKeeps, MovesIf, StaysIf, DriverKeeps}
-use Rattle.safety.specs.KeptStep.{KeptByRows}
-use Rattle.safety.specs.KeptHistories.{StillReads}
-use Rattle.safety.specs.Placings.{MovesOn, StillHolds}
-use Rattle.safety.specs.RingsKeep.{RingsKeep}
 use Rattle.safety.proofs.Headers.{ring_shape}
 use Rattle.safety.proofs.GivenCommands.{content_good, are_free}
 use Rattle.safety.proofs.NoWait.{ceiling_given}

@@ -1,20 +1,7 @@
 -- Each row keeps what is known of states
-use Rattle.std.specs.Prelude.{◌≡◌, ◌&&◌, not, true, false}
-use Rattle.std.proofs.Common.{refl}
-use Rattle.std.proofs.lemmas.Bool.{not-false}
-use Rattle.trb.specs.declared.block.Block.{Block}
-use Rattle.trb.specs.declared.kind.BlockKind.{BlockKind}
+use Rattle.std.proofs.Common.{◌≡◌, ◌&&◌, not, true, false, refl}
+use Rattle.safety.proofs.Words.{not-false, Block, BlockKind, kind, is_transfer_event, is_command_completion, Header, Sub, Write, Reg, Bell, Read, IsHeader, shape_of, command_id, Known, event_read, learned, is_in_profile, is_impossible_by_kind, StatesKeep, DriverKeeps, KeptByRows}
 use Rattle.trb.specs.declared.kind.BlockKind.TheVariants as kinds
-use Rattle.trb.specs.Block.{kind}
-use Rattle.trb.specs.Kind.{is_transfer_event, is_command_completion}
-use Rattle.traces.specs.declared.header.Header.{Header}
-use Rattle.traces.specs.declared.row.Row.TheVariants.{Sub, Write, Reg, Bell, Read}
-use Rattle.traces.specs.Header.{IsHeader, shape_of, command_id}
-use Rattle.ring_knowledge.specs.Known.{Known}
-use Rattle.ring_knowledge.specs.Learned.{event_read, learned}
-use Rattle.ownership_rules.specs.Events.{is_in_profile, is_impossible_by_kind}
-use Rattle.safety.specs.Keeps.{StatesKeep, DriverKeeps}
-use Rattle.safety.specs.KeptStep.{KeptByRows}
 use Rattle.safety.proofs.EndpointHistories.{row_keeps}
 use Rattle.safety.proofs.DriverRings.{endpoints_of}
 use Rattle.safety.proofs.CleanRows.{EventFacts, event_facts}

@@ -1,20 +1,6 @@
 -- What is kept of unfinished commands is kept by each row
-use Rattle.std.specs.Prelude.{◌≡◌, ◌&&◌, not, true, false}
-use Rattle.std.proofs.Common.{subst, sym}
-use Rattle.std.proofs.lemmas.Bool.{not-false}
-use Rattle.trb.specs.declared.block.Block.{Block}
-use Rattle.trb.specs.declared.kind.BlockKind.{BlockKind}
-use Rattle.trb.specs.declared.kind.BlockKind.TheVariants.{TransferEvent, CommandCompletion}
-use Rattle.trb.specs.Block.{kind}
-use Rattle.trb.specs.Kind.{is_transfer_event}
-use Rattle.traces.specs.declared.header.Header.{Header}
-use Rattle.traces.specs.declared.row.Row.TheVariants.{Sub, Write, Reg, Bell, Read}
-use Rattle.traces.specs.Header.{IsHeader}
-use Rattle.ring_knowledge.specs.Known.{Known}
-use Rattle.ring_knowledge.specs.Learned.{event_read, learned}
-use Rattle.ownership_rules.specs.Events.{is_in_profile, is_impossible_by_kind}
-use Rattle.safety.specs.Keeps.{DriverKeeps}
-use Rattle.safety.specs.KeptStep.{CommandsKeep, KeptByRows}
+use Rattle.std.proofs.Common.{◌≡◌, ◌&&◌, not, true, false, subst, sym}
+use Rattle.safety.proofs.Words.{not-false, Block, BlockKind, TransferEvent, CommandCompletion, kind, is_transfer_event, Header, Sub, Write, Reg, Bell, Read, IsHeader, Known, event_read, learned, is_in_profile, is_impossible_by_kind, DriverKeeps, CommandsKeep, KeptByRows}
 use Rattle.safety.proofs.EventRead.{learned_read}
 use Rattle.safety.proofs.CleanRows.{EventFacts, event_facts}
 use Rattle.safety.proofs.CommandsRegister.{register_commands, reads_commands}

@@ -1,24 +1,6 @@
 -- One ring about which more is known, and which has changed in the world: all else that is said of both stays
-use Rattle.std.specs.Prelude.{◌≡◌, ◌≢◌, ℕ, ◌+◌, false, Option, Some, None, option_and_then, slice_get}
-use Rattle.std.proofs.Common.{refl, sym, ◌∙◌, ap, subst, inl, inr}
-use Rattle.std.proofs.lemmas.Bool.{cases_eq, false≢true}
-use Rattle.std.proofs.lemmas.Option.{none-some}
-use Rattle.trb.specs.Block.{with_cycle}
-use Rattle.segments.specs.declared.spot.Spot.{Spot}
-use Rattle.segments.specs.Places.{address_of, cycle_of}
-use Rattle.segments.specs.RingView.{RingView, floor_number, is_due}
-use Rattle.commands.specs.declared.command.Command.{Command}
-use Rattle.commands.specs.declared.command.Command.TheVariants.{StopEndpoint}
-use Rattle.commands.specs.Command.{command_of, named_context}
-use Rattle.traces.specs.declared.header.Header.{Header}
-use Rattle.traces.specs.Header.{shape_of, command_id}
-use Rattle.world_state.specs.World.{World, UnderWay}
-use Rattle.ring_knowledge.specs.Known.{Known}
-use Rattle.ring_knowledge.specs.Rings.{command_at, next_command}
-use Rattle.ownership_rules.specs.Events.{was_stop_seen}
-use Rattle.safety.specs.Keeps.{DriverKeeps, IsUnfinished}
-use Rattle.safety.specs.Stands.{Stands}
-use Rattle.safety.specs.Matches.{RingState, state_of, RingMatches, BoundRing, FreeRing, EndpointRing, UnderWayMatches, TakenCommand, Matches}
+use Rattle.std.proofs.Common.{◌≡◌, ◌≢◌, ◌+◌, ◌∙◌, ℕ, false, Option, Some, None, option_and_then, slice_get, refl, sym, ap, subst, inl, inr}
+use Rattle.safety.proofs.Words.{cases_eq, false≢true, none-some, with_cycle, Spot, address_of, cycle_of, RingView, floor_number, is_due, Command, StopEndpoint, command_of, named_context, Header, shape_of, command_id, World, UnderWay, Known, command_at, next_command, was_stop_seen, DriverKeeps, IsUnfinished, Stands, RingState, state_of, RingMatches, BoundRing, FreeRing, EndpointRing, UnderWayMatches, TakenCommand, Matches}
 use Rattle.safety.proofs.OnlyRing.{OnlyRing, unchanged_only}
 
 pub record LearnsRing (k m : Known) (r : ℕ) (x : RingView) : Type 0 where

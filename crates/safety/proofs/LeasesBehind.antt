@@ -1,20 +1,7 @@
 -- An event begins no lease: behind it no word is under lease that wasn't before
-use Rattle.std.specs.Prelude.{◌≡◌, ℕ, suc, zero, ◌+◌, ◌<◌, ◌≤◌, ◌⊎◌, ◌==◌, ◌&&◌, Bool, true, false, List, [], ◌∷◌, ◌++◌, map, Option, None, Some}
-use Rattle.std.specs.List.{list_any, flat_map, range_with_len}
-use Rattle.std.proofs.Common.{arith, refl, sym, ◌∙◌, ap, subst, inl, inr}
-use Rattle.std.proofs.lemmas.Bool.{false≢true, false_from_ne_true, and_parts, and_from, or_parts, eq-eqb}
-use Rattle.segments.specs.ShapeValue.{Shape}
-use Rattle.segments.specs.Places.{place_count, is_crossing}
-use Rattle.segments.specs.RingView.{RingView, floor_number, due_positions, due_crossings, leased_positions, leased_crossings}
-use Rattle.traces.specs.declared.header.Header.{Header}
-use Rattle.traces.specs.declared.ring.Ring.{Ring}
-use Rattle.traces.specs.declared.register.Register.TheVariants.{Erstba}
-use Rattle.traces.specs.Header.{IsHeader, shape_of, command_id, driver_rings, is_driver_kind, clash}
-use Rattle.ring_knowledge.specs.Known.{Known}
-use Rattle.ring_knowledge.specs.Rings.{command_at, unfinished_positions}
-use Rattle.ring_knowledge.specs.Writes.{entry_of}
-use Rattle.ownership_rules.specs.OpenLeases.{Leased, Block, Link, Range, SlotEntry, slots, covers, segment_ranges, table_range, range_of_command, context_ranges, range_of_entry, entry_ranges, range_of_device, device_ranges, open_ranges, open_on, open_leases, is_leased}
-use Rattle.ownership_rules.proofs.Among.{IsIn, some_of, any_of, in_filter, from_filter}
+use Rattle.std.proofs.Common.{◌≡◌, ◌+◌, ◌<◌, ◌≤◌, ◌⊎◌, ◌==◌, ◌&&◌, ◌∷◌, ◌++◌, ◌∙◌, ℕ, suc, zero, Bool, true, false, List, [], map, Option, None, Some, arith, refl, sym, ap, subst, inl, inr, eq-eqb}
+use Rattle.safety.proofs.Words.{list_any, flat_map, range_with_len, false≢true, false_from_ne_true, and_parts, and_from, or_parts, Shape, place_count, is_crossing, RingView, floor_number, due_positions, due_crossings, leased_positions, leased_crossings, Header, Ring, Erstba, IsHeader, shape_of, command_id, driver_rings, is_driver_kind, clash, Known, command_at, unfinished_positions, entry_of, Leased, Range, SlotEntry, slots, covers, segment_ranges, table_range, range_of_command, context_ranges, range_of_entry, entry_ranges, range_of_device, device_ranges, open_ranges, open_on, open_leases, is_leased, IsIn, some_of, any_of, in_filter, from_filter}
+use Rattle.ownership_rules.specs.OpenLeases.{Block, Link}
 use Rattle.safety.specs.RingsKeep.{IsDriverRing}
 use Rattle.safety.proofs.RingsOfHeader.{HasRing, has_ring}
 use Rattle.safety.proofs.Headers.{found_in, header_parts, together}

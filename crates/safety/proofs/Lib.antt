@@ -204,3 +204,4 @@ pub mod Headline
 pub mod CommandGood
 pub mod GivenSquare
 pub mod WriteSquare
+pub mod Words

@@ -1,22 +1,6 @@
 -- The controller looks at the block at a ring's pointer, and waits, follows a Link or takes it: the run goes on
-use Rattle.std.specs.Prelude.{◌≡◌, ◌≢◌, ℕ, ◌==◌, ◌||◌, true, false, not, List, Option}
-use Rattle.std.proofs.Common.{arith, refl, sym, ◌∙◌, ap, subst, inl, inr, add-zero}
-use Rattle.std.proofs.lemmas.Bool.{cond-false, ne_eqb, or_from, not_from_true}
-use Rattle.trb.specs.declared.block.Block.{Block}
-use Rattle.segments.specs.declared.spot.Spot.{Spot}
-use Rattle.segments.specs.declared.spot.Spot.TheVariants.{Data}
-use Rattle.segments.specs.Places.{is_inside}
-use Rattle.segments.specs.Spots.{after, spot_address}
-use Rattle.segments.specs.Descriptors.{DeclaredBlock, declared_at}
-use Rattle.world_state.specs.Takes.{next_take}
-use Rattle.traces.specs.declared.header.Header.{Header}
-use Rattle.traces.specs.Header.{IsHeader, shape_of, command_id}
-use Rattle.world_state.specs.World.{World}
-use Rattle.controller_model.specs.Looks.{seen_by_look, crossed, taken, taken_on}
-use Rattle.controller_model.specs.Steps.{counted}
-use Rattle.ring_knowledge.specs.Known.{Known}
-use Rattle.safety.specs.Keeps.{IsDriverRing, DriverKeeps}
-use Rattle.safety.specs.Matches.{RingState, state_of, RingMatches, Unreported, BoundRing, Matches, Agrees}
+use Rattle.std.proofs.Common.{◌≡◌, ◌≢◌, ◌==◌, ◌||◌, ◌∙◌, ℕ, true, false, not, List, Option, arith, refl, sym, ap, subst, inl, inr, add-zero, ne_eqb}
+use Rattle.safety.proofs.Words.{cond-false, or_from, not_from_true, Block, Spot, Data, is_inside, after, spot_address, DeclaredBlock, declared_at, next_take, Header, IsHeader, shape_of, command_id, World, seen_by_look, crossed, taken, taken_on, counted, Known, IsDriverRing, DriverKeeps, RingState, state_of, RingMatches, Unreported, BoundRing, Matches, Agrees}
 use Rattle.safety.proofs.Headers.{transfer_driver, ring_shape}
 use Rattle.safety.proofs.RingMemory.{spot_lies}
 use Rattle.safety.proofs.Counted.{agrees_counted}

@@ -1,28 +1,6 @@
 -- The controller looks at the command ring: it waits, follows a Link, or takes the next command
-use Rattle.std.specs.Prelude.{◌≡◌, ◌≢◌, ℕ, ◌+◌, ◌==◌, ◌&&◌, ◌||◌, ◌⊎◌, Bool, true, false, not, List, Option, Some, None, is_some, slice_get}
-use Rattle.std.proofs.Common.{arith, refl, sym, ◌∙◌, ap, subst, inl, inr}
-use Rattle.std.proofs.lemmas.Bool.{false≢true, cond-true, eq-eqb, and_cases, or_cases, eqb-true}
-use Rattle.std.proofs.lemmas.Option.{same_Some}
-use Rattle.trb.specs.declared.block.Block.{Block}
-use Rattle.trb.specs.Block.{with_cycle}
-use Rattle.segments.specs.declared.spot.Spot.{Spot}
-use Rattle.segments.specs.declared.spot.Spot.TheVariants.{Data, Link}
-use Rattle.segments.specs.Places.{address_of, cycle_of, is_inside}
-use Rattle.segments.specs.Spots.{after}
-use Rattle.segments.proofs.Positions.{cycle_of_bit}
-use Rattle.commands.specs.declared.command.Command.{Command}
-use Rattle.commands.specs.declared.command.Command.TheVariants.{NoOp, EnableSlot, DisableSlot, AddressDevice, ConfigureEndpoint, EvaluateContext, ResetEndpoint, StopEndpoint, SetTrDequeue, ResetDevice}
-use Rattle.commands.specs.Command.{command_of}
-use Rattle.traces.specs.declared.header.Header.{Header}
-use Rattle.traces.specs.Header.{IsHeader, shape_of, command_id}
-use Rattle.world_state.specs.World.{World, UnderWay}
-use Rattle.controller_model.specs.Looks.{seen_by_look, crossed, taken, taken_on, command_begun, may_scribble}
-use Rattle.controller_model.specs.Steps.{counted}
-use Rattle.ring_knowledge.specs.Known.{Known}
-use Rattle.ring_knowledge.specs.Rings.{next_command}
-use Rattle.ownership_rules.specs.Events.{was_stop_seen}
-use Rattle.safety.specs.Keeps.{IsDriverRing, IsUnfinished, DriverKeeps}
-use Rattle.safety.specs.Matches.{RingState, state_of, RingMatches, CommandMatches, UnderWayMatches, TakenCommand, Agrees}
+use Rattle.std.proofs.Common.{◌≡◌, ◌≢◌, ◌+◌, ◌==◌, ◌&&◌, ◌||◌, ◌⊎◌, ◌∙◌, ℕ, Bool, true, false, not, List, Option, Some, None, is_some, slice_get, arith, refl, sym, ap, subst, inl, inr, eq-eqb, eqb-true}
+use Rattle.safety.proofs.Words.{false≢true, cond-true, and_cases, or_cases, same_Some, Block, with_cycle, Spot, Data, Link, address_of, cycle_of, is_inside, after, cycle_of_bit, Command, NoOp, EnableSlot, DisableSlot, AddressDevice, ConfigureEndpoint, EvaluateContext, ResetEndpoint, StopEndpoint, SetTrDequeue, ResetDevice, command_of, Header, IsHeader, shape_of, command_id, World, UnderWay, seen_by_look, crossed, taken, taken_on, command_begun, may_scribble, counted, Known, next_command, was_stop_seen, IsDriverRing, IsUnfinished, DriverKeeps, RingState, state_of, RingMatches, CommandMatches, UnderWayMatches, TakenCommand, Agrees}
 use Rattle.safety.proofs.SameCommand.{command_of-with_cycle}
 use Rattle.safety.proofs.SafeContext.{AtFloor, at_floor, command_is_ring, command_at_is}
 use Rattle.safety.proofs.OnlyRing.{OnlyRing, matches_command}

@@ -1,21 +1,7 @@
 -- The three ways in which a look ends, and what each changes
-use Rattle.std.specs.Prelude.{◌≡◌, ◌≢◌, ℕ, ◌+◌, ◌-◌, ◌%◌, ◌^◌, ◌==◌, ◌&&◌, ◌⊎◌, if◌then◌else◌, Bool, true, false, not, List, ◌∷◌, Some, None, is_some}
-use Rattle.std.proofs.Common.{refl, ◌∙◌, ap, inl, inr, cond}
-use Rattle.std.proofs.lemmas.Bool.{cond-true, cond-false, eq-eqb, ne_eqb, not-false, eqb-true}
-use Rattle.std.proofs.lemmas.Option.{same_Some}
-use Rattle.guest_memory.specs.Memory.{put}
-use Rattle.trb.specs.declared.block.Block.{Block}
-use Rattle.trb.specs.Bits.{is_set}
-use Rattle.trb.specs.Block.{aligned, block_at, cycle, kind, pointer, word}
-use Rattle.trb.specs.Kind.{is_link}
-use Rattle.segments.specs.Descriptors.{declared_at}
-use Rattle.traces.specs.declared.header.Header.{Header}
-use Rattle.traces.specs.Header.{command_id, shape_of}
-use Rattle.world_state.specs.World.{World, RingEvent, Took}
-use Rattle.world_state.specs.Takes.{next_take}
+use Rattle.std.proofs.Common.{◌≡◌, ◌≢◌, ◌+◌, ◌-◌, ◌%◌, ◌^◌, ◌==◌, ◌&&◌, ◌⊎◌, if◌then◌else◌, ◌∷◌, ◌∙◌, ℕ, Bool, true, false, not, List, Some, None, is_some, refl, ap, inl, inr, cond, eq-eqb, ne_eqb, eqb-true}
+use Rattle.safety.proofs.Words.{cond-true, cond-false, not-false, same_Some, put, Block, is_set, aligned, block_at, cycle, kind, pointer, word, is_link, declared_at, Header, command_id, shape_of, World, RingEvent, Took, next_take, looked, looked_at, seen_by_look, crossed, taken, taken_on, command_begun, RingState, state_of}
 use Rattle.world_state.specs.Takes as of_takes
-use Rattle.controller_model.specs.Looks.{looked, looked_at, seen_by_look, crossed, taken, taken_on, command_begun}
-use Rattle.safety.specs.Matches.{RingState, state_of}
 use Rattle.safety.proofs.OnlyRing.{OnlyRing}
 
 pub put_at : {A : Type 0} (f : ℕ → A) (n : ℕ) (x : A) → put f n x n ≡ x

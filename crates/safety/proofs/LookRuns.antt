@@ -1,19 +1,6 @@
 -- Behind a look the run goes on
-use Rattle.std.specs.Prelude.{◌≡◌, ◌≢◌, ℕ, List, Some}
-use Rattle.std.proofs.Common.{sym, ◌∙◌, ap, inl, inr}
-use Rattle.std.proofs.lemmas.Bool.{cases_Bool, cases_eq, false≢true}
-use Rattle.trb.specs.declared.block.Block.{Block}
-use Rattle.traces.specs.declared.header.Header.{Header}
-use Rattle.traces.specs.declared.row.Row.{Row}
-use Rattle.traces.specs.Header.{IsHeader, command_id}
-use Rattle.world_state.specs.World.{World}
-use Rattle.controller_model.specs.Looks.{looked}
-use Rattle.controller_model.specs.Steps.{counted}
-use Rattle.ring_knowledge.specs.Known.{Known}
-use Rattle.ring_knowledge.specs.Learned.{known}
-use Rattle.safety.specs.Keeps.{DriverKeeps}
-use Rattle.safety.specs.Matches.{Agrees}
-use Rattle.safety.specs.Invariant.{Runs, reading}
+use Rattle.std.proofs.Common.{◌≡◌, ◌≢◌, ◌∙◌, ℕ, List, Some, sym, ap, inl, inr}
+use Rattle.safety.proofs.Words.{cases_Bool, cases_eq, false≢true, Block, Header, Row, IsHeader, command_id, World, looked, counted, Known, known, DriverKeeps, Agrees, Runs, reading}
 use Rattle.safety.proofs.LookKinds.{looked_is}
 use Rattle.safety.proofs.Look.{transfer_looks}
 use Rattle.safety.proofs.LookCommand.{command_looks}

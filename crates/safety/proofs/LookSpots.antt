@@ -1,28 +1,6 @@
 -- A look at a ring of a rule-keeping driver: what it finds, and where the pointer stands behind it
-use Rattle.std.specs.Prelude.{◌≡◌, ℕ, ◌+◌, ◌-◌, ◌%◌, ◌^◌, ◌<◌, ◌≤◌, if◌then◌else◌, true, false, ◌∷◌}
-use Rattle.std.proofs.Common.{arith, refl, sym, ◌∙◌, ap, subst, inl, inr}
-use Rattle.std.proofs.lemmas.Bool.{cases_Bool, false≢true}
-use Rattle.std.proofs.Math.Nat.{mod-eq_of_lt}
-use Rattle.trb.specs.Bits.{is_set}
-use Rattle.trb.specs.Block.{aligned, block_at, cycle, kind, pointer, word}
-use Rattle.trb.specs.Kind.{is_link}
-use Rattle.trb.proofs.BlockLemmas.{kind-with_cycle}
-use Rattle.segments.specs.declared.spot.Spot.{Spot}
-use Rattle.segments.specs.declared.spot.Spot.TheVariants.{Data, Link}
-use Rattle.segments.specs.Places.{address_of, cycle_of, link_address}
-use Rattle.segments.specs.Spots.{after, spot_address}
-use Rattle.segments.specs.Descriptors.{declared_at}
-use Rattle.segments.specs.Ceiling.{ceiling}
-use Rattle.segments.proofs.Positions.{cycle_of_bit}
-use Rattle.segments.proofs.SpotOrder.{next_is_spot, spot_address-after}
-use Rattle.traces.specs.declared.header.Header.{Header}
-use Rattle.traces.specs.Header.{IsHeader, shape_of}
-use Rattle.world_state.specs.World.{World, Took}
-use Rattle.world_state.specs.Takes.{next_take}
-use Rattle.ring_knowledge.specs.Known.{Known}
-use Rattle.safety.specs.Keeps.{IsDriverRing, DriverKeeps}
-use Rattle.safety.specs.Stands.{Stands}
-use Rattle.safety.specs.Matches.{RingMatches, state_of}
+use Rattle.std.proofs.Common.{◌≡◌, ◌+◌, ◌-◌, ◌%◌, ◌^◌, ◌<◌, ◌≤◌, if◌then◌else◌, ◌∷◌, ◌∙◌, ℕ, true, false, arith, refl, sym, ap, subst, inl, inr}
+use Rattle.safety.proofs.Words.{cases_Bool, false≢true, mod-eq_of_lt, is_set, aligned, block_at, cycle, kind, pointer, word, is_link, kind-with_cycle, Spot, Data, Link, address_of, cycle_of, link_address, after, spot_address, declared_at, ceiling, cycle_of_bit, next_is_spot, spot_address-after, Header, IsHeader, shape_of, World, Took, next_take, Known, IsDriverRing, DriverKeeps, Stands, RingMatches, state_of}
 use Rattle.safety.proofs.Headers.{ring_shape}
 use Rattle.safety.proofs.AtSpots.{Takeable, Crossable, takeable, crossable, waits_at_block, waits_at_link}
 use Rattle.safety.proofs.NoWait.{ceiling_open}

@@ -1,29 +1,6 @@
 -- One ring behind a look: a Link that is followed, a block that is taken
-use Rattle.std.specs.Prelude.{◌≡◌, ℕ, suc, zero, ◌+◌, ◌-◌, ◌≤◌, ◌==◌, if◌then◌else◌, Bool, true, false, not, List, [], ◌∷◌, ◌++◌, length, drop, map, Option, Some}
-use Rattle.std.specs.List.{range_with_len}
-use Rattle.std.proofs.Common.{arith, refl, sym, ◌∙◌, ap, inl, inr, length-append}
-use Rattle.std.proofs.lemmas.Bool.{cases_Bool, false≢true, cond-true, cond-false, or_parts, or_from, or_left, or_right, not_from_true, not_from_false, not-false, eqb-true, eq-eqb, and_from}
-use Rattle.std.proofs.lemmas.List.FromFn.{map-range_with_len_more}
-use Rattle.trb.specs.declared.ring_kind.RingKind.TheVariants.{Evt}
-use Rattle.trb.specs.declared.block.Block.{Block}
-use Rattle.trb.specs.Bits.{is_set}
-use Rattle.trb.specs.Block.{aligned, block_at, kind, pointer, same_words, with_cycle, word}
-use Rattle.trb.specs.Kind.{is_link}
-use Rattle.segments.specs.declared.spot.Spot.TheVariants.{Data, Link}
-use Rattle.segments.specs.ShapeValue.{Shape}
-use Rattle.segments.specs.Places.{address_of, cycle_of, is_crossing, link_target, toggles}
-use Rattle.segments.specs.Spots.{number, after}
-use Rattle.segments.specs.Shape.{IsShape}
-use Rattle.segments.specs.Descriptors.{DeclaredBlock, declared_at, is_border}
-use Rattle.segments.specs.RingView.{RingView, floor_number}
-use Rattle.segments.specs.Ceiling.{ceiling, is_way_given}
-use Rattle.segments.specs.Givings.{is_wrong_link, same}
-use Rattle.segments.proofs.Crossings.{cycle_of-crossed, link_target-crossed}
-use Rattle.segments.proofs.SpotOrder.{next_is_spot, next_later, spot_address-after, spot_cycle-after, rank_least}
-use Rattle.world_state.specs.World.{RingEvent, Took, Placed}
-use Rattle.world_state.specs.Takes.{takes_of, next_take, was_placed, is_as_declared}
-use Rattle.world_state.specs.Harms.{is_right_place, is_out_of_order, has_other_words}
-use Rattle.safety.specs.Matches.{Newest, RingState, RingMatches, Unreported}
+use Rattle.std.proofs.Common.{◌≡◌, ◌+◌, ◌-◌, ◌≤◌, ◌==◌, if◌then◌else◌, ◌∷◌, ◌++◌, ◌∙◌, ℕ, suc, zero, Bool, true, false, not, List, [], length, drop, map, Option, Some, arith, refl, sym, ap, inl, inr, length-append, eqb-true, eq-eqb}
+use Rattle.safety.proofs.Words.{range_with_len, cases_Bool, false≢true, cond-true, cond-false, or_parts, or_from, or_left, or_right, not_from_true, not_from_false, not-false, and_from, map-range_with_len_more, Evt, Block, is_set, aligned, block_at, kind, pointer, same_words, with_cycle, word, is_link, Data, Link, Shape, address_of, cycle_of, is_crossing, link_target, toggles, number, after, IsShape, DeclaredBlock, declared_at, is_border, RingView, floor_number, ceiling, is_way_given, is_wrong_link, same, cycle_of-crossed, link_target-crossed, next_is_spot, next_later, spot_address-after, spot_cycle-after, rank_least, RingEvent, Took, Placed, takes_of, next_take, was_placed, is_as_declared, is_right_place, is_out_of_order, has_other_words, Newest, RingState, RingMatches, Unreported}
 use Rattle.safety.proofs.AtSpots.{Takeable, Crossable}
 use Rattle.safety.proofs.NoWait.{declared_some}
 

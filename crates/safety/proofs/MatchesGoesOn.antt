@@ -1,16 +1,6 @@
 -- Where more is known of rings whose pointers stay, and the controller did nothing, what it did is still what is known of it
-use Rattle.std.specs.Prelude.{◌≡◌, ◌≢◌, ℕ, None, Some}
-use Rattle.std.proofs.Common.{refl, sym, ◌∙◌, ap, subst, inl, inr}
-use Rattle.segments.specs.Places.{address_of}
-use Rattle.segments.specs.Spots.{number}
-use Rattle.commands.specs.declared.command.Command.{Command}
-use Rattle.commands.specs.Command.{named_context}
-use Rattle.traces.specs.declared.header.Header.{Header}
-use Rattle.traces.specs.Header.{shape_of, command_id}
-use Rattle.world_state.specs.World.{World, UnderWay}
-use Rattle.ring_knowledge.specs.Known.{Known}
-use Rattle.safety.specs.Keeps.{IsUnfinished}
-use Rattle.safety.specs.Matches.{Newest, state_of, RingMatches, BoundRing, FreeRing, EndpointRing, UnderWayMatches, CommandMatches, IsUnchanged, Matches}
+use Rattle.std.proofs.Common.{◌≡◌, ◌≢◌, ◌∙◌, ℕ, None, Some, refl, sym, ap, subst, inl, inr}
+use Rattle.safety.proofs.Words.{address_of, number, Command, named_context, Header, shape_of, command_id, World, UnderWay, Known, IsUnfinished, Newest, state_of, RingMatches, BoundRing, FreeRing, EndpointRing, UnderWayMatches, CommandMatches, IsUnchanged, Matches}
 use Rattle.safety.proofs.RingGoesOn.{RingGoesOn, bound_on, matches_on}
 use Rattle.safety.proofs.UnderWayGoesOn.{NextStays, under_way_on}
 

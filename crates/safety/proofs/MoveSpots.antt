@@ -1,24 +1,6 @@
 -- The spot to which a ring may be moved is the one that its pointer and cycle state name
-use Rattle.std.specs.Prelude.{◌≡◌, ℕ, suc, zero, ◌+◌, ◌-◌, ◌*◌, ◌<◌, ◌≤◌, ◌==◌, ◌&&◌, if◌then◌else◌, Bool, true, false, List, [], ◌∷◌, Some, find}
-use Rattle.std.specs.List.{range_with_len, flat_map}
-use Rattle.std.proofs.Common.{arith, sym, ◌∙◌, ap, subst, inl, inr}
-use Rattle.std.proofs.lemmas.Bool.{cases_Bool, cases_lt, cases_eq, and_parts, eqb-true, cond-true, cond-false, false≢true}
-use Rattle.std.proofs.lemmas.List.Elements.{All-get_or}
-use Rattle.std.proofs.lemmas.List.Folds.{Any-from_list_any}
-use Rattle.segments.specs.declared.spot.Spot.{Spot}
-use Rattle.segments.specs.declared.spot.Spot.TheVariants.{Data, Link}
-use Rattle.segments.specs.ShapeValue.{Shape}
-use Rattle.segments.specs.Spots.{IsSpot, is_spot, rank, number, spot_address, spot_cycle}
-use Rattle.segments.specs.Shape.{IsShape}
-use Rattle.segments.specs.RingView.{RingView, declared, floor_number}
-use Rattle.segments.specs.Ceiling.{is_way_given}
-use Rattle.segments.specs.Descriptors.{is_border}
-use Rattle.segments.specs.Moves.{is_target, spots_between, target, is_reached, may_move_to, is_move}
-use Rattle.segments.specs.RingKeeps.{RingKeeps}
-use Rattle.segments.proofs.SpotOrder.{rank_least, rank_most, same_spot}
-use Rattle.segments.proofs.Named.{found_is}
-use Rattle.segments.proofs.MoveTargets.{between}
-use Rattle.segments.proofs.ReachedSpots.{move_reached}
+use Rattle.std.proofs.Common.{◌≡◌, ◌+◌, ◌-◌, ◌*◌, ◌<◌, ◌≤◌, ◌==◌, ◌&&◌, if◌then◌else◌, ◌∷◌, ◌∙◌, ℕ, suc, zero, Bool, true, false, List, [], Some, find, arith, sym, ap, subst, inl, inr, eqb-true}
+use Rattle.safety.proofs.Words.{range_with_len, flat_map, cases_Bool, cases_lt, cases_eq, and_parts, cond-true, cond-false, false≢true, All-get_or, Any-from_list_any, Spot, Data, Link, Shape, IsSpot, is_spot, rank, number, spot_address, spot_cycle, IsShape, RingView, declared, floor_number, is_way_given, is_border, is_target, spots_between, target, is_reached, may_move_to, is_move, RingKeeps, rank_least, rank_most, same_spot, found_is, between, move_reached}
 use Rattle.safety.proofs.LookedRing.{way_crossed, way_plain}
 
 -- among the spots of a range of numbers one that passes is found, if there is one

@@ -1,21 +1,6 @@
 -- A ring on which nothing more is declared or given may be moved where it could be before
-use Rattle.std.specs.Prelude.{◌≡◌, ℕ, ◌≤◌, Bool, true, length, Some, option_and_then, slice_get}
-use Rattle.std.proofs.Common.{arith, sym, ◌∙◌, ap}
-use Rattle.segments.specs.ShapeValue.{Shape}
-use Rattle.segments.specs.RingView.{RingView, declared, floor_number, is_due}
-use Rattle.segments.specs.Ceiling.{ceiling}
-use Rattle.segments.specs.Descriptors.{is_border}
-use Rattle.segments.specs.Moves.{is_move}
-use Rattle.segments.proofs.StepFacts.{GivesMore}
-use Rattle.segments.proofs.MovesStay.{move_more}
-use Rattle.segments.proofs.Named.{ceiling_held}
-use Rattle.commands.specs.declared.command.Command.{Command}
-use Rattle.commands.specs.Command.{command_of}
-use Rattle.traces.specs.declared.header.Header.{Header}
-use Rattle.traces.specs.Header.{shape_of, command_id}
-use Rattle.ring_knowledge.specs.Known.{Known}
-use Rattle.ring_knowledge.specs.Rings.{command_at}
-use Rattle.safety.specs.Keeps.{IsUnfinished}
+use Rattle.std.proofs.Common.{◌≡◌, ◌≤◌, ◌∙◌, ℕ, Bool, true, length, Some, option_and_then, slice_get, arith, sym, ap}
+use Rattle.safety.proofs.Words.{Shape, RingView, declared, floor_number, is_due, ceiling, is_border, is_move, GivesMore, move_more, ceiling_held, Command, command_of, Header, shape_of, command_id, Known, command_at, IsUnfinished}
 use Rattle.safety.proofs.CommandsStay.{Standing, MovesAhead}
 use Rattle.safety.proofs.SameDriver.{SameGiven}
 

@@ -1,19 +1,6 @@
 -- The ring that a pointer names: one that begins there, or has it inside, is the only one
-use Rattle.std.specs.Prelude.{◌≡◌, ℕ, ◌+◌, ◌==◌, ◌&&◌, true, Option, None, Some, find}
-use Rattle.std.proofs.Common.{arith, refl, sym, ◌∙◌, ap, inl, inr}
-use Rattle.std.proofs.lemmas.Bool.{and_parts, eqb-true}
-use Rattle.std.proofs.lemmas.Option.{none-some, same_Some}
-use Rattle.segments.specs.declared.spot.Spot.{Spot}
-use Rattle.segments.specs.declared.spot.Spot.TheVariants.{Data, Link}
-use Rattle.segments.specs.ShapeValue.{Shape}
-use Rattle.segments.specs.Places.{address_of, is_inside, link_address}
-use Rattle.segments.specs.Spots.{IsSpot, spot_address}
-use Rattle.segments.specs.Shape.{IsShape}
-use Rattle.segments.proofs.Elsewhere.{address_inside, link_address_inside}
-use Rattle.traces.specs.declared.header.Header.{Header}
-use Rattle.traces.specs.declared.ring.Ring.{Ring}
-use Rattle.traces.specs.Header.{IsHeader, ring_with, shape_of, id_of, is_transfer_kind, ring_beginning_at, ring_having}
-use Rattle.safety.specs.Keeps.{IsTransferRing}
+use Rattle.std.proofs.Common.{◌≡◌, ◌+◌, ◌==◌, ◌&&◌, ◌∙◌, ℕ, true, Option, None, Some, find, arith, refl, sym, ap, inl, inr, eqb-true}
+use Rattle.safety.proofs.Words.{and_parts, none-some, same_Some, Spot, Data, Link, Shape, address_of, is_inside, link_address, IsSpot, spot_address, IsShape, address_inside, link_address_inside, Header, Ring, IsHeader, ring_with, shape_of, id_of, is_transfer_kind, ring_beginning_at, ring_having, IsTransferRing}
 use Rattle.safety.proofs.Headers.{found_in, together, clash_apart, header_parts, shape_is, ring_shape, transfer_driver}
 use Rattle.safety.proofs.RingIds.{found_again}
 

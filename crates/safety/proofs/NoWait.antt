@@ -1,27 +1,6 @@
 -- Inside a descriptor the controller never waits: all of a descriptor whose first block is given is given
-use Rattle.std.specs.Prelude.{◌≡◌, ℕ, ◌+◌, ◌-◌, ◌≤◌, true, false, List, [], ◌∷◌, Some, None, slice_get}
-use Rattle.std.proofs.Common.{arith, refl, sym, ◌∙◌, ap, inl, inr, get_or}
-use Rattle.std.proofs.lemmas.Bool.{false≢true, not-true}
-use Rattle.std.proofs.lemmas.Option.{slice_get-get_or}
-use Rattle.trb.specs.declared.block.Block.{Block}
-use Rattle.trb.specs.Block.{block_at, cycle}
-use Rattle.segments.specs.declared.spot.Spot.{Spot}
-use Rattle.segments.specs.declared.spot.Spot.TheVariants.{Data, Link}
-use Rattle.segments.specs.ShapeValue.{Shape}
-use Rattle.segments.specs.Spots.{number, spot_address, spot_cycle}
-use Rattle.segments.specs.Shape.{IsShape}
-use Rattle.segments.specs.Descriptors.{DeclaredBlock, is_border, declared_at, length_from}
-use Rattle.segments.specs.RingView.{RingView, declared}
-use Rattle.segments.specs.Ceiling.{ceiling, given_count, is_step_given}
-use Rattle.segments.specs.Givings.{descriptor_length}
-use Rattle.segments.specs.RingKeeps.{RingKeeps}
-use Rattle.segments.proofs.Search.{cases_option}
-use Rattle.segments.proofs.GivenCount.{given_below}
-use Rattle.segments.proofs.StepFacts.{step_is, whole_is}
-use Rattle.segments.proofs.Reaching.{given_count_declared}
-use Rattle.world_state.specs.World.{RingEvent, Took, Placed}
-use Rattle.world_state.specs.Harms.{is_end, is_inside_descriptor}
-use Rattle.safety.specs.Matches.{Newest}
+use Rattle.std.proofs.Common.{◌≡◌, ◌+◌, ◌-◌, ◌≤◌, ◌∷◌, ◌∙◌, ℕ, true, false, List, [], Some, None, slice_get, arith, refl, sym, ap, inl, inr, get_or}
+use Rattle.safety.proofs.Words.{false≢true, not-true, slice_get-get_or, Block, block_at, cycle, Spot, Data, Link, Shape, number, spot_address, spot_cycle, IsShape, DeclaredBlock, is_border, declared_at, length_from, RingView, declared, ceiling, given_count, is_step_given, descriptor_length, RingKeeps, cases_option, given_below, step_is, whole_is, given_count_declared, RingEvent, Took, Placed, is_end, is_inside_descriptor, Newest}
 use Rattle.safety.proofs.Descriptors.{Surrounds, surrounded}
 use Rattle.safety.proofs.AtSpots.{MayStand, takeable, crossable}
 

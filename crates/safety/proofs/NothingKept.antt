@@ -1,15 +1,6 @@
 -- Before the first row a driver keeps everything
-use Rattle.std.specs.Prelude.{◌≡◌, []}
-use Rattle.std.proofs.Common.{arith, refl, sym, ◌∙◌, inl, inr}
-use Rattle.std.proofs.lemmas.Bool.{false≢true}
-use Rattle.std.proofs.lemmas.Option.{none-some, slice_get_past}
-use Rattle.std.proofs.lemmas.List.Elements.{All-nil}
-use Rattle.traces.specs.declared.header.Header.{Header}
-use Rattle.traces.specs.Header.{IsHeader}
-use Rattle.ring_knowledge.specs.Known.{nothing}
-use Rattle.ring_knowledge.specs.Learned.{known}
-use Rattle.safety.specs.Keeps.{CommandRingKeeps, StatesKeep, Unstarted, DriverKeeps}
-use Rattle.safety.specs.EndpointsKeep.{EndpointsKeep}
+use Rattle.std.proofs.Common.{◌≡◌, ◌∙◌, [], arith, refl, sym, inl, inr}
+use Rattle.safety.proofs.Words.{false≢true, none-some, slice_get_past, All-nil, Header, IsHeader, nothing, known, CommandRingKeeps, StatesKeep, Unstarted, DriverKeeps, EndpointsKeep}
 use Rattle.safety.proofs.DriverRows.{nothing_keeps}
 use Rattle.safety.proofs.EndpointHistories.{keeps_endpoints}
 use Rattle.safety.proofs.DriverRings.{driver_test}

@@ -1,29 +1,7 @@
 -- The endpoints that a command names have numbers of slots and endpoints, and so has each endpoint that a success gives a ring
-use Rattle.std.specs.Prelude.{◌≡◌, ℕ, suc, zero, ◌+◌, ◌<◌, ◌≤◌, ◌==◌, ◌&&◌, if◌then◌else◌, Bool, true, false, List, [], ◌∷◌, map, filter, Option, None, Some}
-use Rattle.std.specs.List.{range_with_len}
-use Rattle.std.proofs.Common.{arith, refl, sym, ◌∙◌, ap, subst, inl, inr}
-use Rattle.std.proofs.lemmas.Bool.{cond_both, eqb-true, and_parts}
-use Rattle.std.proofs.lemmas.Option.{none-some, same_Some}
-use Rattle.trb.specs.declared.block.Block.{Block}
-use Rattle.trb.specs.declared.kind.BlockKind.{BlockKind}
+use Rattle.std.proofs.Common.{◌≡◌, ◌+◌, ◌<◌, ◌≤◌, ◌==◌, ◌&&◌, if◌then◌else◌, ◌∷◌, ◌∙◌, ℕ, suc, zero, Bool, true, false, List, [], map, filter, Option, None, Some, arith, refl, sym, ap, subst, inl, inr, eqb-true}
+use Rattle.safety.proofs.Words.{range_with_len, cond_both, and_parts, none-some, same_Some, Block, BlockKind, kind, slot, endpoint, is_command_left_out, Spot, target, Command, NoOp, EnableSlot, DisableSlot, AddressDevice, ConfigureEndpoint, EvaluateContext, ResetEndpoint, StopEndpoint, SetTrDequeue, ResetDevice, Stopped, is_off, command_by_kind, command_of, Change, SlotGoesOn, DeviceLeft, Disables, Places, Stops, Resets, changes, placed_by_context, ContextSize, input_add_flag, added_endpoints, Header, shape_of, ring_beginning_at, Known, on_ring, set_to, bound_to, moved_to, moved, pointed, disabled, in_state, held_at_ceiling, changed_by, changed_by_all}
 use Rattle.trb.specs.declared.kind.BlockKind.TheVariants as kinds
-use Rattle.trb.specs.Block.{kind, slot, endpoint}
-use Rattle.trb.specs.Descriptor.{is_command_left_out}
-use Rattle.segments.specs.declared.spot.Spot.{Spot}
-use Rattle.segments.specs.Moves.{target}
-use Rattle.commands.specs.declared.command.Command.{Command}
-use Rattle.commands.specs.declared.command.Command.TheVariants.{NoOp, EnableSlot, DisableSlot, AddressDevice, ConfigureEndpoint, EvaluateContext, ResetEndpoint, StopEndpoint, SetTrDequeue, ResetDevice}
-use Rattle.commands.specs.declared.state.EndpointState.TheVariants.{Stopped}
-use Rattle.commands.specs.States.{is_off}
-use Rattle.commands.specs.Command.{command_by_kind, command_of}
-use Rattle.commands.specs.Changes.{Change, SlotGoesOn, DeviceLeft, Disables, Places, Stops, Resets, changes, placed_by_context}
-use Rattle.contexts.specs.declared.size.ContextSize.{ContextSize}
-use Rattle.contexts.specs.Contexts.{input_add_flag, added_endpoints}
-use Rattle.traces.specs.declared.header.Header.{Header}
-use Rattle.traces.specs.Header.{shape_of, ring_beginning_at}
-use Rattle.ring_knowledge.specs.Known.{Known}
-use Rattle.ring_knowledge.specs.Rings.{on_ring}
-use Rattle.ring_knowledge.specs.Completions.{set_to, bound_to, moved_to, moved, pointed, disabled, in_state, held_at_ceiling, changed_by, changed_by_all}
 use Rattle.safety.proofs.LookKinds.{cond_is}
 use Rattle.safety.proofs.FinishChanges.{AreNumbered}
 

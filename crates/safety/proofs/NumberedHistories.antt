@@ -1,35 +1,6 @@
 -- In any history the endpoints that have rings have numbers of slots and endpoints
-use Rattle.std.specs.Prelude.{◌≡◌, ℕ, ◌==◌, ◌&&◌, ◌||◌, not, if◌then◌else◌, Bool, true, List, [], ◌∷◌, Option, None, Some, option_and_then, slice_get}
-use Rattle.std.proofs.Common.{refl}
-use Rattle.std.proofs.lemmas.Bool.{cond_both}
-use Rattle.std.proofs.lemmas.Option.{none-some}
-use Rattle.guest_memory.specs.Memory.{put_pair}
-use Rattle.trb.specs.declared.block.Block.{Block}
-use Rattle.trb.specs.declared.kind.BlockKind.{BlockKind}
-use Rattle.trb.specs.declared.kind.BlockKind.TheVariants.{TransferEvent, CommandCompletion}
-use Rattle.trb.specs.Block.{kind, code, slot, endpoint}
-use Rattle.trb.specs.CompletionCode.{is_success, is_halting, is_trb_error, is_stopping}
-use Rattle.segments.specs.declared.spot.Spot.{Spot}
-use Rattle.segments.specs.RingView.{Declares, Opens}
-use Rattle.commands.specs.declared.command.Command.{Command}
-use Rattle.commands.specs.declared.command.Command.TheVariants.{StopEndpoint}
-use Rattle.commands.specs.declared.state.EndpointState.TheVariants.{Halted, Error}
-use Rattle.commands.specs.Command.{command_of}
-use Rattle.commands.specs.Changes.{changes}
-use Rattle.traces.specs.declared.header.Header.{Header}
-use Rattle.traces.specs.declared.register.Register.{Register}
-use Rattle.traces.specs.declared.register.Register.TheVariants.{Erdp, Usbcmd}
-use Rattle.traces.specs.declared.row.Row.{Row}
-use Rattle.traces.specs.declared.row.Row.TheVariants.{Sub, Write, Reg, Bell, Read}
-use Rattle.traces.specs.Header.{command_id}
-use Rattle.traces.specs.Register.{run_bit, reset_bit}
-use Rattle.ring_knowledge.specs.Known.{Known, nothing}
-use Rattle.ring_knowledge.specs.Rings.{RingSpot, on_ring, event_at, command_at, next_command}
-use Rattle.ring_knowledge.specs.Writes.{with_device, with_word, written, command_given, taken_device}
-use Rattle.ring_knowledge.specs.Registers.{run_or_stop, valued, register_written, endpoint_rung, rung}
-use Rattle.ring_knowledge.specs.Transfers.{passed, broken_off, stopped_at, transferred, transferred_at, transfer_read}
-use Rattle.ring_knowledge.specs.Completions.{succeeded, stop_ended, finished, completed}
-use Rattle.ring_knowledge.specs.Learned.{event_read, learned, known}
+use Rattle.std.proofs.Common.{◌≡◌, ◌==◌, ◌&&◌, ◌||◌, if◌then◌else◌, ◌∷◌, ℕ, not, Bool, true, List, [], Option, None, Some, option_and_then, slice_get, refl}
+use Rattle.safety.proofs.Words.{cond_both, none-some, put_pair, Block, BlockKind, TransferEvent, CommandCompletion, kind, code, slot, endpoint, is_success, is_halting, is_trb_error, is_stopping, Spot, Declares, Opens, Command, StopEndpoint, Halted, Error, command_of, changes, Header, Register, Erdp, Usbcmd, Row, Sub, Write, Reg, Bell, Read, command_id, run_bit, reset_bit, Known, nothing, RingSpot, on_ring, event_at, command_at, next_command, with_device, with_word, written, command_given, taken_device, run_or_stop, valued, register_written, endpoint_rung, rung, passed, broken_off, stopped_at, transferred, transferred_at, transfer_read, succeeded, stop_ended, finished, completed, event_read, learned, known}
 use Rattle.safety.proofs.FinishChanges.{AreNumbered}
 use Rattle.safety.proofs.NumberedChanges.{IsNumbered, command_numbered, changes_numbered, same_numbered, all_numbered}
 

@@ -1,19 +1,7 @@
 -- A world in which one ring alone has changed: all else that is said of it stays
-use Rattle.std.specs.Prelude.{◌≡◌, ◌≢◌, ℕ, ◌+◌, ◌*◌, true, false, List, length, Option, Some, None}
-use Rattle.std.proofs.Common.{arith, sym, ◌∙◌, ap, subst, inl, inr}
-use Rattle.std.proofs.lemmas.Bool.{cases_eq, false≢true}
-use Rattle.std.proofs.lemmas.Option.{none-some}
-use Rattle.trb.specs.declared.block.Block.{Block}
-use Rattle.trb.specs.Block.{block_at}
-use Rattle.segments.specs.Places.{address_of}
-use Rattle.commands.specs.Command.{named_context}
-use Rattle.traces.specs.declared.header.Header.{Header}
-use Rattle.traces.specs.Header.{shape_of, command_id, event_shape}
-use Rattle.world_state.specs.World.{World, event_at}
-use Rattle.ring_knowledge.specs.Known.{Known}
-use Rattle.safety.specs.Keeps.{DriverKeeps}
-use Rattle.safety.specs.Stands.{Stands, EventsStand}
-use Rattle.safety.specs.Matches.{RingState, state_of, RingMatches, BoundRing, FreeRing, EndpointRing, CommandMatches, UnderWayMatches, IsUnchanged, Matches}
+use Rattle.std.proofs.Common.{◌≡◌, ◌≢◌, ◌+◌, ◌*◌, ◌∙◌, ℕ, true, false, List, length, Option, Some, None, arith, sym, ap, subst, inl, inr}
+use Rattle.safety.proofs.Words.{cases_eq, false≢true, none-some, Block, block_at, address_of, named_context, Header, shape_of, command_id, event_shape, World, Known, DriverKeeps, Stands, EventsStand, RingState, state_of, RingMatches, BoundRing, FreeRing, EndpointRing, CommandMatches, UnderWayMatches, IsUnchanged, Matches}
+use Rattle.world_state.specs.World.{event_at}
 use Rattle.safety.proofs.Stored.{Late}
 
 pub record OnlyRing (w v : World) (r : ℕ) (s : RingState) : Type 0 where

@@ -1,19 +1,7 @@
 -- Before the first row: nothing is known, nothing is posted, and the opening world agrees with that
-use Rattle.std.specs.Prelude.{◌≡◌, ℕ, ◌≤◌, false, List, []}
-use Rattle.std.proofs.Common.{arith, refl, inr}
-use Rattle.std.proofs.lemmas.Bool.{false≢true}
-use Rattle.std.proofs.lemmas.List.Elements.{All-nil}
-use Rattle.std.proofs.lemmas.Option.{none-some}
-use Rattle.trb.specs.Block.{IsBlock}
-use Rattle.traces.specs.declared.header.Header.{Header}
-use Rattle.traces.specs.declared.row.Row.{Row}
-use Rattle.world_state.specs.World.{opening}
+use Rattle.std.proofs.Common.{◌≡◌, ◌≤◌, ℕ, false, List, [], arith, refl, inr}
+use Rattle.safety.proofs.Words.{false≢true, All-nil, none-some, IsBlock, Header, Row, opening, nothing, known, Stands, EventsStand, Matches, Runs}
 use Rattle.world_state.specs.Harms as of_harms
-use Rattle.ring_knowledge.specs.Known.{nothing}
-use Rattle.ring_knowledge.specs.Learned.{known}
-use Rattle.safety.specs.Stands.{Stands, EventsStand}
-use Rattle.safety.specs.Matches.{Matches}
-use Rattle.safety.specs.Invariant.{Runs}
 
 module _ (h : Header) (rows : List Row) where
   stands : Stands h nothing (opening rows)

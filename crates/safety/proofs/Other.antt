@@ -1,26 +1,7 @@
 -- An event of the controller itself is posted: the run goes on
-use Rattle.std.specs.Prelude.{◌≡◌, ◌+◌, ◌&&◌, ◌||◌, true, false, not, List, [], ◌∷◌, ◌++◌, Some}
-use Rattle.std.proofs.Common.{refl, sym, ◌∙◌, ap, subst}
-use Rattle.std.proofs.lemmas.Bool.{false≢true, and_parts, and_left, or_right}
-use Rattle.std.proofs.lemmas.Option.{cond_some}
-use Rattle.trb.specs.declared.block.Block.{Block}
-use Rattle.trb.specs.declared.kind.BlockKind.{BlockKind}
+use Rattle.std.proofs.Common.{◌≡◌, ◌+◌, ◌&&◌, ◌||◌, ◌∷◌, ◌++◌, ◌∙◌, true, false, not, List, [], Some, refl, sym, ap, subst}
+use Rattle.safety.proofs.Words.{false≢true, and_parts, and_left, or_right, cond_some, Block, BlockKind, IsBlock, kind, is_transfer_event, is_command_completion, is_other_event, Header, Row, Read, IsHeader, World, can_post, posted, other_posted, counted, Known, event_read, learned, known, is_in_profile, is_impossible_by_kind, DriverKeeps, Agrees, Runs, reading}
 use Rattle.trb.specs.declared.kind.BlockKind.TheVariants as kinds
-use Rattle.trb.specs.Block.{IsBlock, kind}
-use Rattle.trb.specs.Kind.{is_transfer_event, is_command_completion, is_other_event}
-use Rattle.traces.specs.declared.header.Header.{Header}
-use Rattle.traces.specs.declared.row.Row.{Row}
-use Rattle.traces.specs.declared.row.Row.TheVariants.{Read}
-use Rattle.traces.specs.Header.{IsHeader}
-use Rattle.world_state.specs.World.{World}
-use Rattle.controller_model.specs.Posts.{can_post, posted, other_posted}
-use Rattle.controller_model.specs.Steps.{counted}
-use Rattle.ring_knowledge.specs.Known.{Known}
-use Rattle.ring_knowledge.specs.Learned.{event_read, learned, known}
-use Rattle.ownership_rules.specs.Events.{is_in_profile, is_impossible_by_kind}
-use Rattle.safety.specs.Keeps.{DriverKeeps}
-use Rattle.safety.specs.Matches.{Agrees}
-use Rattle.safety.specs.Invariant.{Runs, reading}
 use Rattle.safety.proofs.Counted.{agrees_counted}
 use Rattle.safety.proofs.WithReads.{with_reads, stands_with_reads, matches_with_reads}
 use Rattle.safety.proofs.Posted.{post_keeps}

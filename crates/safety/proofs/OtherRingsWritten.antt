@@ -1,16 +1,6 @@
 -- A word of one ring gives nothing of another
-use Rattle.std.specs.Prelude.{◌≡◌, ◌≢◌, ℕ, ◌==◌, true}
-use Rattle.std.proofs.Common.{arith, sym, ◌∙◌, ap, inl, inr}
-use Rattle.std.proofs.lemmas.Bool.{or_cases, eqb-true}
-use Rattle.segments.specs.Places.{is_inside}
-use Rattle.segments.specs.RingView.{RingView, Writes, changed, gives, gives_crossing}
-use Rattle.segments.proofs.Giving.{gives_is, gives_crossing_is}
-use Rattle.segments.proofs.StepFacts.{GivesMore}
-use Rattle.segments.proofs.Elsewhere.{address_inside, link_address_inside}
-use Rattle.traces.specs.declared.header.Header.{Header}
-use Rattle.traces.specs.declared.ring.Ring.{Ring}
-use Rattle.traces.specs.Header.{IsHeader, shape_of}
-use Rattle.safety.specs.Keeps.{IsDriverRing}
+use Rattle.std.proofs.Common.{◌≡◌, ◌≢◌, ◌==◌, ◌∙◌, ℕ, true, arith, sym, ap, inl, inr, eqb-true}
+use Rattle.safety.proofs.Words.{or_cases, is_inside, RingView, Writes, changed, gives, gives_crossing, gives_is, gives_crossing_is, GivesMore, address_inside, link_address_inside, Header, Ring, IsHeader, shape_of, IsDriverRing}
 use Rattle.safety.proofs.Headers.{found_in, together, clash_apart, shape_is, header_parts, ring_shape}
 
 module _ (h : Header) (is : IsHeader h) (r c : ℕ) (d : IsDriverRing h r) (g : IsDriverRing h c) (other : r ≢ c) where

@@ -1,25 +1,6 @@
 -- The success of a command leaves other slots, and the rings that it doesn't name
-use Rattle.std.specs.Prelude.{◌≡◌, ◌≢◌, ℕ, ◌==◌, ◌&&◌, Bool, true, false, List, [], ◌∷◌, Option, None, Some}
-use Rattle.std.proofs.Common.{refl, sym, ◌∙◌, ap, subst}
-use Rattle.std.proofs.lemmas.Bool.{cond_both, cond-false, ne_eqb, and_left}
-use Rattle.std.proofs.lemmas.Option.{none-some}
-use Rattle.guest_memory.specs.Memory.{put_pair}
-use Rattle.segments.specs.declared.spot.Spot.{Spot}
-use Rattle.segments.specs.declared.spot.Spot.TheVariants.{Data}
-use Rattle.segments.specs.Spots.{number}
-use Rattle.segments.specs.RingView.{RingChange, Reaches, Holds}
-use Rattle.segments.specs.Ceiling.{ceiling}
-use Rattle.segments.specs.Moves.{target}
-use Rattle.commands.specs.declared.command.Command.{Command}
-use Rattle.commands.specs.declared.state.EndpointState.{EndpointState}
-use Rattle.commands.specs.declared.state.EndpointState.TheVariants.{Disabled as Off, Stopped}
-use Rattle.commands.specs.States.{is_off}
-use Rattle.commands.specs.Changes.{Change, SlotGoesOn, DeviceLeft, Disables, Places, Stops, Resets}
-use Rattle.traces.specs.declared.header.Header.{Header}
-use Rattle.traces.specs.Header.{shape_of, ring_beginning_at}
-use Rattle.ring_knowledge.specs.Known.{Known}
-use Rattle.ring_knowledge.specs.Rings.{on_ring}
-use Rattle.ring_knowledge.specs.Completions.{set_to, bound_to, moved_to, moved, pointed, disabled, in_state, held_at_ceiling, changed_by, changed_by_all}
+use Rattle.std.proofs.Common.{◌≡◌, ◌≢◌, ◌==◌, ◌&&◌, ◌∷◌, ◌∙◌, ℕ, Bool, true, false, List, [], Option, None, Some, refl, sym, ap, subst, ne_eqb}
+use Rattle.safety.proofs.Words.{cond_both, cond-false, and_left, none-some, put_pair, Spot, Data, number, RingChange, Reaches, Holds, ceiling, target, Command, EndpointState, Off, Stopped, is_off, Change, SlotGoesOn, DeviceLeft, Disables, Places, Stops, Resets, Header, shape_of, ring_beginning_at, Known, on_ring, set_to, bound_to, moved_to, moved, pointed, disabled, in_state, held_at_ceiling, changed_by, changed_by_all}
 use Rattle.safety.proofs.DriverRows.{ring_elsewhere}
 use Rattle.safety.proofs.EndpointPut.{at_pair, at_number}
 

@@ -1,23 +1,7 @@
 -- A command's success places the rings of several endpoints, one after the other
-use Rattle.std.specs.Prelude.{◌≡◌, ◌≢◌, ℕ, ◌<◌, ◌==◌, ◌&&◌, Bool, true, false, List, [], ◌∷◌, map, All, Option, Some}
-use Rattle.std.specs.List.{list_any}
-use Rattle.std.proofs.Common.{refl, sym, ◌∙◌, ap, inl, inr, get_or}
-use Rattle.std.proofs.lemmas.Bool.{cases_Bool, cases_eq, and_right, or_parts, cond-true, cond-false, eq-eqb, ne_eqb, false≢true}
-use Rattle.std.proofs.lemmas.List.Elements.{All-head, All-tail}
-use Rattle.std.proofs.lemmas.Option.{same_Some}
-use Rattle.segments.specs.declared.spot.Spot.TheVariants.{Data}
-use Rattle.commands.specs.declared.command.Command.{Command}
-use Rattle.commands.specs.declared.state.EndpointState.{EndpointState}
-use Rattle.commands.specs.declared.state.EndpointState.TheVariants.{Running}
-use Rattle.commands.specs.Changes.{Change, Places, placed_by_context}
-use Rattle.commands.specs.States.{is_off}
-use Rattle.contexts.specs.Contexts.{context_pointer, context_cycle}
-use Rattle.traces.specs.declared.header.Header.{Header}
-use Rattle.traces.specs.Header.{IsHeader, is_ring, ring_beginning_at}
-use Rattle.world_state.specs.World.{World}
-use Rattle.ring_knowledge.specs.Known.{Known}
+use Rattle.std.proofs.Common.{◌≡◌, ◌≢◌, ◌<◌, ◌==◌, ◌&&◌, ◌∷◌, ◌∙◌, ℕ, Bool, true, false, List, [], map, All, Option, Some, refl, sym, ap, inl, inr, get_or, eq-eqb, ne_eqb}
+use Rattle.safety.proofs.Words.{list_any, cases_Bool, cases_eq, and_right, or_parts, cond-true, cond-false, false≢true, All-head, All-tail, same_Some, Data, Command, EndpointState, Running, Change, Places, placed_by_context, is_off, context_pointer, context_cycle, Header, IsHeader, is_ring, ring_beginning_at, World, Known, is_among, has_repeats}
 use Rattle.ring_knowledge.specs.Completions as completions
-use Rattle.ownership_rules.specs.Moves.{is_among, has_repeats}
 use Rattle.safety.proofs.TestsPassed.{each_fails, any_of_map}
 use Rattle.safety.proofs.PlacedKnown.{binds_placed}
 use Rattle.safety.proofs.PlaceKeeps.{MayBind, bind_keeps}

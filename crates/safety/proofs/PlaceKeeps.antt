@@ -1,35 +1,8 @@
 -- A command's success places the ring of an endpoint, in the world as in what is known
-use Rattle.std.specs.Prelude.{◌≡◌, ◌≢◌, ℕ, ◌<◌, ◌≤◌, if◌then◌else◌, Bool, true, false, List, [], ◌∷◌, Some, None}
-use Rattle.std.proofs.Common.{arith, refl, sym, ◌∙◌, ap, subst, inl, inr}
-use Rattle.std.proofs.lemmas.Bool.{cond-true, false≢true}
-use Rattle.std.proofs.lemmas.Option.{none-some, same_Some}
-use Rattle.segments.specs.declared.spot.Spot.{Spot}
-use Rattle.segments.specs.declared.spot.Spot.TheVariants.{Data}
-use Rattle.segments.specs.ShapeValue.{Shape}
-use Rattle.segments.specs.Places.{is_crossing}
-use Rattle.segments.specs.Spots.{IsSpot, spot_address, spot_cycle}
-use Rattle.segments.specs.Shape.{IsShape}
-use Rattle.segments.specs.Descriptors.{is_border}
-use Rattle.segments.specs.RingView.{RingView, declared, floor_number}
-use Rattle.segments.specs.Ceiling.{ceiling}
-use Rattle.segments.specs.Moves.{is_move}
-use Rattle.segments.specs.RingKeeps.{RingKeeps}
-use Rattle.segments.proofs.Positions.{place_count_pos}
-use Rattle.segments.proofs.SpotOrder.{rank_least, rank_most}
-use Rattle.commands.specs.declared.command.Command.{Command}
-use Rattle.commands.specs.declared.state.EndpointState.{EndpointState}
-use Rattle.commands.specs.Changes.{Places}
-use Rattle.commands.specs.States.{is_off}
-use Rattle.traces.specs.declared.header.Header.{Header}
-use Rattle.traces.specs.Header.{IsHeader, shape_of, command_id, ring_beginning_at, ring_having}
-use Rattle.world_state.specs.World.{World, RingEvent}
-use Rattle.world_state.specs.Takes.{next_take}
-use Rattle.world_state.specs.Harms.{is_out_of_order, has_other_words}
+use Rattle.std.proofs.Common.{◌≡◌, ◌≢◌, ◌<◌, ◌≤◌, if◌then◌else◌, ◌∷◌, ◌∙◌, ℕ, Bool, true, false, List, [], Some, None, arith, refl, sym, ap, subst, inl, inr}
+use Rattle.safety.proofs.Words.{cond-true, false≢true, none-some, same_Some, Spot, Data, Shape, is_crossing, IsSpot, spot_address, spot_cycle, IsShape, is_border, RingView, declared, floor_number, ceiling, is_move, RingKeeps, place_count_pos, rank_least, rank_most, Command, EndpointState, Places, is_off, Header, IsHeader, shape_of, command_id, ring_beginning_at, ring_having, World, RingEvent, next_take, is_out_of_order, has_other_words, Known, IsTransferRing, state_of, RingMatches, BoundRing}
 use Rattle.controller_model.specs.Bindings as bindings
-use Rattle.ring_knowledge.specs.Known.{Known}
 use Rattle.ring_knowledge.specs.Completions as completions
-use Rattle.safety.specs.Keeps.{IsTransferRing}
-use Rattle.safety.specs.Matches.{state_of, RingMatches, BoundRing}
 use Rattle.safety.proofs.Headers.{ring_shape, transfer_driver, transfer_not_command}
 use Rattle.safety.proofs.LookedRing.{way_plain}
 use Rattle.safety.proofs.MoveSpots.{MoveSpot, move_spot}

@@ -1,22 +1,6 @@
 -- What is known of an endpoint whose ring a command placed: it is bound anew, or moved
-use Rattle.std.specs.Prelude.{◌≡◌, ◌≢◌, ℕ, ◌==◌, ◌&&◌, Bool, true, false, Some}
-use Rattle.std.proofs.Common.{refl, sym, ◌∙◌, ap, subst, inl, inr}
-use Rattle.std.proofs.lemmas.Bool.{cases_Bool, and_parts, eqb-true, cond-true, cond-false}
-use Rattle.guest_memory.specs.Memory.{put, put_pair}
-use Rattle.segments.specs.declared.spot.Spot.{Spot}
-use Rattle.segments.specs.declared.spot.Spot.TheVariants.{Data}
-use Rattle.segments.specs.RingView.{RingView}
-use Rattle.segments.specs.Spots.{number}
-use Rattle.segments.specs.Moves.{target}
-use Rattle.commands.specs.declared.command.Command.{Command}
-use Rattle.commands.specs.declared.state.EndpointState.{EndpointState}
-use Rattle.commands.specs.Changes.{Places}
-use Rattle.commands.specs.States.{is_off}
-use Rattle.traces.specs.declared.header.Header.{Header}
-use Rattle.traces.specs.Header.{IsHeader, shape_of, ring_beginning_at}
-use Rattle.ring_knowledge.specs.Known.{Known}
-use Rattle.ring_knowledge.specs.Rings.{on_ring}
-use Rattle.ring_knowledge.specs.Completions.{set_to, bound_to, moved_to, moved, pointed, in_state, changed_by}
+use Rattle.std.proofs.Common.{◌≡◌, ◌≢◌, ◌==◌, ◌&&◌, ◌∙◌, ℕ, Bool, true, false, Some, refl, sym, ap, subst, inl, inr, eqb-true}
+use Rattle.safety.proofs.Words.{cases_Bool, and_parts, cond-true, cond-false, put, put_pair, Spot, Data, RingView, number, target, Command, EndpointState, Places, is_off, Header, IsHeader, shape_of, ring_beginning_at, Known, on_ring, set_to, bound_to, moved_to, moved, pointed, in_state, changed_by}
 use Rattle.safety.proofs.LookKinds.{put_at, put_off}
 use Rattle.safety.proofs.Placings.{pointed_is}
 use Rattle.safety.proofs.PlacedRing.{set_view}

@@ -1,24 +1,6 @@
 -- A ring whose dequeue pointer is set to a spot: what the pointer names, and the ring behind it
-use Rattle.std.specs.Prelude.{◌≡◌, ℕ, ◌+◌, ◌-◌, ◌<◌, ◌≤◌, ◌==◌, ◌&&◌, true, false, List, ◌∷◌, length, map, Some}
-use Rattle.std.specs.List.{range_with_len}
-use Rattle.std.proofs.Common.{arith, refl, ◌∙◌, ap, inl, inr}
-use Rattle.std.proofs.lemmas.Bool.{false≢true, false_from_ne_true, or_cases, or_left, or_right, and_parts, and_from, eq-eqb, eqb-true}
-use Rattle.std.proofs.lemmas.List.{drop_all}
-use Rattle.segments.specs.declared.spot.Spot.{Spot}
-use Rattle.segments.specs.declared.spot.Spot.TheVariants.{Data, Link}
-use Rattle.segments.specs.ShapeValue.{Shape}
-use Rattle.segments.specs.Places.{place_count, address_of, is_crossing, link_address}
-use Rattle.segments.specs.Spots.{IsSpot, number, spot_address, spot_cycle}
-use Rattle.segments.specs.Shape.{IsShape}
-use Rattle.segments.specs.Descriptors.{is_border}
-use Rattle.segments.specs.RingView.{RingView}
-use Rattle.segments.specs.Ceiling.{is_way_given}
-use Rattle.segments.proofs.SpotOrder.{rank_least, rank_most, same_spot}
-use Rattle.world_state.specs.World.{RingEvent, Placed}
-use Rattle.world_state.specs.Takes.{takes_of, is_place, first_at, next_take}
-use Rattle.world_state.specs.Harms.{is_out_of_order, has_other_words}
-use Rattle.controller_model.proofs.FirstFound.{first_at-found}
-use Rattle.safety.specs.Matches.{RingState, RingMatches, Unreported}
+use Rattle.std.proofs.Common.{◌≡◌, ◌+◌, ◌-◌, ◌<◌, ◌≤◌, ◌==◌, ◌&&◌, ◌∷◌, ◌∙◌, ℕ, true, false, List, length, map, Some, arith, refl, ap, inl, inr, eq-eqb, eqb-true}
+use Rattle.safety.proofs.Words.{range_with_len, false≢true, false_from_ne_true, or_cases, or_left, or_right, and_parts, and_from, drop_all, Spot, Data, Link, Shape, place_count, address_of, is_crossing, link_address, IsSpot, number, spot_address, spot_cycle, IsShape, is_border, RingView, is_way_given, rank_least, rank_most, same_spot, RingEvent, Placed, takes_of, is_place, first_at, next_take, is_out_of_order, has_other_words, first_at-found, RingState, RingMatches, Unreported}
 use Rattle.safety.proofs.NoWait.{ceiling_held}
 
 -- the pointer is known to be at a spot, and the ring is held there

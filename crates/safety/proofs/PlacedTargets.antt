@@ -1,30 +1,6 @@
 -- Where more is declared of rings, an unfinished command places endpoints at the same targets
-use Rattle.std.specs.Prelude.{◌≡◌, ℕ, zero, suc, ◌+◌, ◌≤◌, ◌==◌, ◌&&◌, ◌||◌, if◌then◌else◌, not, Bool, true, false, List, [], ◌∷◌, map, filter, All, Option, Some, None}
-use Rattle.std.specs.List.{range_with_len}
-use Rattle.std.proofs.Common.{arith, refl, sym, ◌∙◌, ap}
-use Rattle.std.proofs.lemmas.Bool.{cond-true, cond_both, false≢true, or_parts, not-false, eq-eqb}
-use Rattle.std.proofs.lemmas.List.Elements.{All-head, All-tail, All-weaker}
-use Rattle.segments.specs.declared.spot.Spot.{Spot}
-use Rattle.segments.specs.RingView.{declared, floor_number}
-use Rattle.segments.specs.Ceiling.{ceiling}
-use Rattle.segments.specs.Moves.{target, is_move}
-use Rattle.segments.proofs.Reaching.{given_count_declared, floor_given}
-use Rattle.segments.proofs.Named.{ceiling_within}
-use Rattle.commands.specs.declared.command.Command.{Command}
-use Rattle.commands.specs.declared.command.Command.TheVariants.{NoOp, EnableSlot, DisableSlot, AddressDevice, ConfigureEndpoint, EvaluateContext, ResetEndpoint, StopEndpoint, SetTrDequeue, ResetDevice}
-use Rattle.commands.specs.declared.state.EndpointState.{EndpointState}
-use Rattle.commands.specs.declared.state.EndpointState.TheVariants.{Disabled as Off, Running}
-use Rattle.commands.specs.States.{is_off, is_at_rest}
-use Rattle.commands.specs.Changes.{Change, SlotGoesOn, Disables, Places, changes, placed_by_context}
-use Rattle.contexts.specs.Contexts.{added_endpoints, input_add_flag, is_dropped, context_pointer, context_cycle}
-use Rattle.traces.specs.declared.header.Header.{Header}
-use Rattle.traces.specs.Header.{IsHeader, shape_of, ring_beginning_at}
-use Rattle.ring_knowledge.specs.Known.{Known}
-use Rattle.ring_knowledge.specs.Rings.{on_ring}
-use Rattle.ring_knowledge.specs.Completions.{set_to, bound_to, moved_to, moved, pointed, disabled, in_state, changed_by}
-use Rattle.ownership_rules.specs.Moves.{is_bad_dequeue, is_bad_move}
-use Rattle.safety.specs.Keeps.{IsDriverRing, DriverKeeps}
-use Rattle.safety.specs.Placings.{StillHolds}
+use Rattle.std.proofs.Common.{◌≡◌, ◌+◌, ◌≤◌, ◌==◌, ◌&&◌, ◌||◌, if◌then◌else◌, ◌∷◌, ◌∙◌, ℕ, zero, suc, not, Bool, true, false, List, [], map, filter, All, Option, Some, None, arith, refl, sym, ap, eq-eqb}
+use Rattle.safety.proofs.Words.{range_with_len, cond-true, cond_both, false≢true, or_parts, not-false, All-head, All-tail, All-weaker, Spot, declared, floor_number, ceiling, target, is_move, given_count_declared, floor_given, ceiling_within, Command, NoOp, EnableSlot, DisableSlot, AddressDevice, ConfigureEndpoint, EvaluateContext, ResetEndpoint, StopEndpoint, SetTrDequeue, ResetDevice, EndpointState, Off, Running, is_off, is_at_rest, Change, SlotGoesOn, Disables, Places, changes, placed_by_context, added_endpoints, input_add_flag, is_dropped, context_pointer, context_cycle, Header, IsHeader, shape_of, ring_beginning_at, Known, on_ring, set_to, bound_to, moved_to, moved, pointed, disabled, in_state, changed_by, is_bad_dequeue, is_bad_move, IsDriverRing, DriverKeeps, StillHolds}
 use Rattle.safety.proofs.Headers.{ring_shape, transfer_driver}
 use Rattle.safety.proofs.EndpointPut.{at_pair}
 use Rattle.safety.proofs.AlikeChanges.{TargetsAre}

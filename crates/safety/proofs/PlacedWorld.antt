@@ -1,13 +1,6 @@
 -- An endpoint whose ring is placed at an address: what changes in the world
-use Rattle.std.specs.Prelude.{◌≡◌, ◌≢◌, ℕ, if◌then◌else◌, Bool, false, List, ◌∷◌, length, Option, Some, None}
-use Rattle.std.proofs.Common.{refl, ◌∙◌, ap, inl, inr}
-use Rattle.std.proofs.lemmas.Option.{none-some, same_Some}
-use Rattle.guest_memory.specs.Memory.{put, put_pair}
-use Rattle.commands.specs.declared.state.EndpointState.{EndpointState}
-use Rattle.world_state.specs.World.{World, RingEvent, Placed}
-use Rattle.world_state.specs.Takes.{takes_of}
-use Rattle.controller_model.specs.Bindings.{is_had_by_another, inactive, placed, placed_on}
-use Rattle.safety.specs.Matches.{RingState, state_of}
+use Rattle.std.proofs.Common.{◌≡◌, ◌≢◌, if◌then◌else◌, ◌∷◌, ◌∙◌, ℕ, Bool, false, List, length, Option, Some, None, refl, ap, inl, inr}
+use Rattle.safety.proofs.Words.{none-some, same_Some, put, put_pair, EndpointState, World, RingEvent, Placed, takes_of, is_had_by_another, inactive, placed, placed_on, RingState, state_of}
 use Rattle.safety.proofs.LookKinds.{cond_is, put_at, put_off}
 use Rattle.safety.proofs.PlacedRing.{placed_state}
 

@@ -1,18 +1,6 @@
 -- One endpoint's ring is placed in the world as it is in what is known: both match still
-use Rattle.std.specs.Prelude.{◌≡◌, ◌≢◌, ℕ, ◌<◌, ◌⊎◌, ◌==◌, ◌&&◌, if◌then◌else◌, Bool, true, Option, Some}
-use Rattle.std.proofs.Common.{arith, refl, sym, ◌∙◌, ap, subst, inl, inr}
-use Rattle.std.proofs.lemmas.Bool.{cases_Bool, cases_eq, and_parts, eqb-true, eq-eqb, and_from, cond-true, cond-false, false≢true}
-use Rattle.std.proofs.lemmas.Option.{same_Some}
-use Rattle.guest_memory.specs.Memory.{put_pair}
-use Rattle.segments.specs.declared.spot.Spot.{Spot}
-use Rattle.commands.specs.declared.state.EndpointState.{EndpointState}
-use Rattle.commands.specs.declared.state.SlotState.{SlotState}
-use Rattle.segments.specs.RingView.{RingView}
-use Rattle.traces.specs.declared.header.Header.{Header}
-use Rattle.traces.specs.Header.{shape_of, command_id}
-use Rattle.world_state.specs.World.{World}
-use Rattle.ring_knowledge.specs.Known.{Known}
-use Rattle.safety.specs.Matches.{RingState, state_of, RingMatches, Unreported, BoundRing, FreeRing, EndpointRing}
+use Rattle.std.proofs.Common.{◌≡◌, ◌≢◌, ◌<◌, ◌⊎◌, ◌==◌, ◌&&◌, if◌then◌else◌, ◌∙◌, ℕ, Bool, true, Option, Some, arith, refl, sym, ap, subst, inl, inr, eqb-true, eq-eqb}
+use Rattle.safety.proofs.Words.{cases_Bool, cases_eq, and_parts, and_from, cond-true, cond-false, false≢true, same_Some, put_pair, Spot, EndpointState, SlotState, RingView, Header, shape_of, command_id, World, Known, RingState, state_of, RingMatches, Unreported, BoundRing, FreeRing, EndpointRing}
 use Rattle.safety.proofs.SlotChanges.{same_put_pair}
 use Rattle.safety.proofs.FinishChanges.{known_changed, StatesMatch, LeavesRest, ChangeKeeps}
 use Rattle.safety.proofs.PlacedRing.{set_view, placed_state}

@@ -1,22 +1,8 @@
 -- Behind a post: the event lies behind the unread ones, and nothing else that the driver or the controller did has changed
-use Rattle.std.specs.Prelude.{◌≡◌, ℕ, suc, zero, ◌+◌, ◌<◌, ◌≤◌, ◌⊎◌, true, List, [], ◌∷◌, ◌++◌, length, Some, slice_get}
-use Rattle.std.proofs.Common.{arith, refl, ◌∙◌, ap, inl, inr, length-append}
-use Rattle.std.proofs.lemmas.Option.{same_Some, none-some}
-use Rattle.trb.specs.declared.block.Block.{Block}
-use Rattle.trb.specs.Block.{IsBlock, block_at}
-use Rattle.segments.specs.Places.{place_count, address_of}
-use Rattle.segments.proofs.ShapeFacts.{shape_facts}
-use Rattle.event_ring.proofs.CountLemmas.{posted_in_order}
-use Rattle.traces.specs.declared.header.Header.{Header}
-use Rattle.traces.specs.Header.{IsHeader, event_shape, event_size}
-use Rattle.world_state.specs.World.{World, event_at, stored_block}
+use Rattle.std.proofs.Common.{◌≡◌, ◌+◌, ◌<◌, ◌≤◌, ◌⊎◌, ◌∷◌, ◌++◌, ◌∙◌, ℕ, suc, zero, true, List, [], length, Some, slice_get, arith, refl, ap, inl, inr, length-append}
+use Rattle.safety.proofs.Words.{same_Some, none-some, Block, IsBlock, block_at, place_count, address_of, shape_facts, posted_in_order, Header, IsHeader, event_shape, event_size, World, stored_block, can_post, posted, Known, AreInOrder, DriverKeeps, Stands, EventsStand, Matches, Agrees}
+use Rattle.world_state.specs.World.{event_at}
 use Rattle.world_state.specs.World as of_world
-use Rattle.controller_model.specs.Posts.{can_post, posted}
-use Rattle.ring_knowledge.specs.Known.{Known}
-use Rattle.event_ring.specs.EventRing.{AreInOrder}
-use Rattle.safety.specs.Keeps.{DriverKeeps}
-use Rattle.safety.specs.Stands.{Stands, EventsStand}
-use Rattle.safety.specs.Matches.{Matches, Agrees}
 use Rattle.safety.proofs.Headers.{EventRing, event_ring_is}
 use Rattle.safety.proofs.RingMemory.{same_block_at}
 use Rattle.safety.proofs.Stored.{Late}

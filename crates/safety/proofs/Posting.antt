@@ -1,23 +1,6 @@
 -- An event that is posted: it lies behind the unread ones, and nothing else that the driver or the controller did changes
-use Rattle.std.specs.Prelude.{◌≡◌, ◌≢◌, ℕ, ◌+◌, ◌%◌, ◌<◌, ◌==◌, ◌&&◌, true, List, [], ◌∷◌, length, nat_lt, slice_index}
-use Rattle.std.proofs.Common.{arith, refl, sym, ◌∙◌, ap, inr, add-zero}
-use Rattle.std.proofs.lemmas.Bool.{and_parts, ltb-true, eqb-true}
-use Rattle.trb.specs.declared.block.Block.{Block}
-use Rattle.trb.specs.Block.{IsBlock, block_at, cycle, word}
-use Rattle.segments.specs.Places.{place_count, address_of, cycle_of, is_inside}
-use Rattle.segments.proofs.Positions.{address_aligned, place_count_pos, same_in_lap, same_place_of}
-use Rattle.segments.proofs.Elsewhere.{address_inside}
-use Rattle.segments.proofs.InsideLemmas.{touches-word}
-use Rattle.event_ring.specs.EventRing.{has_room}
-use Rattle.traces.specs.declared.header.Header.{Header}
-use Rattle.traces.specs.Header.{event_shape, event_size}
-use Rattle.contexts.specs.Contexts.{input_context_bytes}
-use Rattle.world_state.specs.World.{World, stored, stored_block}
-use Rattle.controller_model.specs.Posts.{can_post}
-use Rattle.ring_knowledge.specs.Known.{Known}
-use Rattle.safety.specs.Keeps.{DriverKeeps}
-use Rattle.safety.specs.Stands.{Stands, touches_events}
-use Rattle.safety.specs.Matches.{Matches}
+use Rattle.std.proofs.Common.{◌≡◌, ◌≢◌, ◌+◌, ◌%◌, ◌<◌, ◌==◌, ◌&&◌, ◌∷◌, ◌∙◌, ℕ, true, List, [], length, nat_lt, slice_index, arith, refl, sym, ap, inr, add-zero, ltb-true, eqb-true}
+use Rattle.safety.proofs.Words.{and_parts, Block, IsBlock, block_at, cycle, word, place_count, address_of, cycle_of, is_inside, address_aligned, place_count_pos, same_in_lap, same_place_of, address_inside, touches-word, has_room, Header, event_shape, event_size, input_context_bytes, World, stored, stored_block, can_post, Known, DriverKeeps, Stands, touches_events, Matches}
 use Rattle.safety.proofs.Headers.{EventRing}
 use Rattle.safety.proofs.Stored.{Late, IsInNoContext, late_stored, matches_stored, stands_stored, memory_stored, memory_here}
 use Rattle.safety.proofs.Areas.{byte_apart, context_lies, ring_untouched}

@@ -1,25 +1,10 @@
 -- The driver reads an event: it is the oldest unread one, and the run goes on
-use Rattle.std.specs.Prelude.{◌≡◌, ℕ, ◌+◌, ◌<◌, ◌==◌, ◌&&◌, true, false, List, [], ◌∷◌, nat_lt, Some, All, slice_get}
+use Rattle.std.proofs.Common.{◌≡◌, ◌+◌, ◌<◌, ◌==◌, ◌&&◌, ◌∷◌, ◌∙◌, ℕ, true, false, List, [], nat_lt, Some, All, slice_get, arith, refl, sym, ap, subst, eqb-true, ltb-true}
+use Rattle.safety.proofs.Words.{and_parts, All-head, All-tail, cond_some, Block, IsBlock, kind, same_words, word, Header, Row, Read, World, counted, Known, learned, known, IsClean, EventsStand, Agrees, Runs, reading}
 use native.Mathlib.Numerals.{unary_clauses}
-use Rattle.std.proofs.Common.{arith, refl, sym, ◌∙◌, ap, subst}
-use Rattle.std.proofs.lemmas.Bool.{and_parts, eqb-true, ltb-true}
-use Rattle.std.proofs.lemmas.List.Elements.{All-head, All-tail}
-use Rattle.std.proofs.lemmas.Option.{cond_some}
-use Rattle.trb.specs.declared.block.Block.{Block}
-use Rattle.trb.specs.Block.{IsBlock, kind, same_words, word}
-use Rattle.traces.specs.declared.header.Header.{Header}
-use Rattle.traces.specs.declared.row.Row.{Row}
-use Rattle.traces.specs.declared.row.Row.TheVariants.{Read}
-use Rattle.world_state.specs.World.{World, event_at}
+use Rattle.world_state.specs.World.{event_at}
 use Rattle.world_state.specs.World as of_world
 use Rattle.controller_model.specs.DriverRows as driver
-use Rattle.controller_model.specs.Steps.{counted}
-use Rattle.ring_knowledge.specs.Known.{Known}
-use Rattle.ring_knowledge.specs.Learned.{learned, known}
-use Rattle.ownership_rules.specs.Clean.{IsClean}
-use Rattle.safety.specs.Stands.{EventsStand}
-use Rattle.safety.specs.Matches.{Agrees}
-use Rattle.safety.specs.Invariant.{Runs, reading}
 use Rattle.safety.proofs.Counted.{agrees_counted}
 use Rattle.safety.proofs.EventRead.{learned_read}
 use Rattle.safety.proofs.Posting.{four_of}

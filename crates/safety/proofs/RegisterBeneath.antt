@@ -1,31 +1,6 @@
 -- A register write beneath an event that isn't read yet: the two may change places
-use Rattle.std.specs.Prelude.{◌≡◌, ℕ, zero, suc, ◌+◌, ◌-◌, ◌≤◌, ◌==◌, ◌&&◌, ◌||◌, if◌then◌else◌, Bool, true, false, not, [], ◌∷◌, nat_lt, Some, unwrap_or}
-use Rattle.std.specs.List.{list_any, range_with_len}
-use Rattle.std.proofs.Common.{arith, refl, sym, ◌∙◌, ap, subst, inl, inr}
-use Rattle.std.proofs.lemmas.Bool.{cases_Bool, and_parts, and_from, or_parts, or_cases, or_left, or_right, cond-true, cond-false, not-false, not_from_true, false≢true}
-use Rattle.trb.specs.declared.block.Block.{Block}
-use Rattle.trb.specs.Block.{kind, cycle}
-use Rattle.trb.specs.Kind.{is_event}
-use Rattle.segments.specs.ShapeValue.{Shape}
-use Rattle.segments.specs.Places.{place_count, address_of, cycle_of}
-use Rattle.event_ring.specs.EventRing.{position_from, is_reached_within, erdp_address}
-use Rattle.traces.specs.declared.header.Header.{Header}
-use Rattle.traces.specs.declared.register.Register.{Register}
-use Rattle.traces.specs.declared.register.Register.TheVariants.{Usbcmd, Crcr, Dcbaap, Config, Erstsz, Erstba, Erdp}
-use Rattle.traces.specs.declared.row.Row.TheVariants.{Reg, Read}
-use Rattle.traces.specs.Header.{event_shape}
-use Rattle.traces.specs.Register.{with_register, same_register, run_bit, reset_bit}
-use Rattle.ring_knowledge.specs.Known.{Known}
-use Rattle.ring_knowledge.specs.Registers.{run_or_stop, valued, register_written}
-use Rattle.ring_knowledge.specs.Rings.{command_at, next_command}
-use Rattle.ring_knowledge.specs.Learned.{learned}
-use Rattle.commands.specs.Changes.{changes}
-use Rattle.ownership_rules.specs.Registers.{may_pass, is_late_reset, is_early_start, is_bad_register, is_bad_erdp, register_tests}
-use Rattle.ownership_rules.specs.Events.{is_impossible_by_kind, is_past_room, is_impossible, event_tests}
-use Rattle.ownership_rules.specs.Rules.{tests, broken}
-use Rattle.ownership_rules.specs.Refusal.{broken_of}
-use Rattle.ownership_rules.specs.declared.refusal.Refusal.TheVariants.{AfterStop, BadRegister, BadErdp}
-use Rattle.safety.specs.Beneath.{HeldMore, Square}
+use Rattle.std.proofs.Common.{◌≡◌, ◌+◌, ◌-◌, ◌≤◌, ◌==◌, ◌&&◌, ◌||◌, if◌then◌else◌, ◌∷◌, ◌∙◌, ℕ, zero, suc, Bool, true, false, not, [], nat_lt, Some, unwrap_or, arith, refl, sym, ap, subst, inl, inr}
+use Rattle.safety.proofs.Words.{list_any, range_with_len, cases_Bool, and_parts, and_from, or_parts, or_cases, or_left, or_right, cond-true, cond-false, not-false, not_from_true, false≢true, Block, kind, cycle, is_event, Shape, place_count, address_of, cycle_of, position_from, is_reached_within, erdp_address, Header, Register, Usbcmd, Crcr, Dcbaap, Config, Erstsz, Erstba, Erdp, Reg, Read, event_shape, with_register, same_register, run_bit, reset_bit, Known, run_or_stop, valued, register_written, command_at, next_command, learned, changes, may_pass, is_late_reset, is_early_start, is_bad_register, is_bad_erdp, register_tests, is_impossible_by_kind, is_past_room, is_impossible, event_tests, tests, broken, broken_of, AfterStop, BadRegister, BadErdp, HeldMore, Square}
 use Rattle.safety.proofs.TestsPassed.{AllFail, clean_tests, tests_fail}
 use Rattle.safety.proofs.ErdpMoves.{position_within}
 use Rattle.safety.proofs.SameDriver.{SameDriver, both_drivers}

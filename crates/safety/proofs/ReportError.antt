@@ -1,36 +1,6 @@
 -- The controller reports that an endpoint has halted, or gone to Error: the run goes on
-use Rattle.std.specs.Prelude.{◌≡◌, ◌≢◌, ℕ, ◌+◌, ◌<◌, ◌==◌, ◌&&◌, ◌||◌, if◌then◌else◌, Bool, true, false, not, List, [], ◌∷◌, ◌++◌, length, drop, Some, None}
-use Rattle.std.proofs.Common.{arith, refl, sym, ◌∙◌, ap, subst, inl, inr}
-use Rattle.std.proofs.lemmas.Bool.{cases_Bool, false≢true, and_parts, and_from, and_right, or_from, or_left, or_right, cond-true, cond-false, not_from_true}
-use Rattle.std.proofs.lemmas.Option.{none-some, same_Some}
-use Rattle.guest_memory.specs.Memory.{put, put_pair}
-use Rattle.trb.specs.declared.block.Block.{Block}
-use Rattle.trb.specs.Block.{IsBlock, code, endpoint, kind, pointer, slot}
-use Rattle.trb.specs.Kind.{is_transfer_event, is_command_completion, is_other_event}
-use Rattle.trb.specs.CompletionCode.{is_success, is_halting, is_trb_error, is_transfer_code}
-use Rattle.segments.specs.declared.spot.Spot.TheVariants.{Data}
-use Rattle.segments.specs.Spots.{after}
-use Rattle.segments.specs.RingView.{RingView, Holds}
-use Rattle.segments.specs.Ceiling.{ceiling, is_data_below, is_open}
-use Rattle.commands.specs.declared.state.EndpointState.{EndpointState}
-use Rattle.commands.specs.declared.state.EndpointState.TheVariants.{Disabled as Off, Halted, Error}
-use Rattle.commands.specs.States.{is_off, is_running}
-use Rattle.traces.specs.declared.header.Header.{Header}
-use Rattle.traces.specs.declared.row.Row.{Row}
-use Rattle.traces.specs.declared.row.Row.TheVariants.{Read}
-use Rattle.traces.specs.Header.{IsHeader, shape_of, command_id}
-use Rattle.world_state.specs.World.{World, RingEvent}
-use Rattle.world_state.specs.Takes.{takes_of, unreported}
-use Rattle.controller_model.specs.Posts.{posted, is_last, with_reported, report_error, report_code, reported}
-use Rattle.controller_model.specs.Steps.{counted}
-use Rattle.ring_knowledge.specs.Known.{Known}
-use Rattle.ring_knowledge.specs.Learned.{event_read, learned, known}
-use Rattle.ring_knowledge.specs.Rings.{event_at, on_ring}
-use Rattle.ring_knowledge.specs.Transfers.{passed, broken_off, transferred, transferred_at, transfer_read}
-use Rattle.ownership_rules.specs.Events.{is_in_profile, is_working, is_impossible_by_kind, is_impossible_transfer, can_report, can_report_at}
-use Rattle.safety.specs.Keeps.{DriverKeeps}
-use Rattle.safety.specs.Matches.{RingState, state_of, BoundRing, Agrees}
-use Rattle.safety.specs.Invariant.{Runs, reading}
+use Rattle.std.proofs.Common.{◌≡◌, ◌≢◌, ◌+◌, ◌<◌, ◌==◌, ◌&&◌, ◌||◌, if◌then◌else◌, ◌∷◌, ◌++◌, ◌∙◌, ℕ, Bool, true, false, not, List, [], length, drop, Some, None, arith, refl, sym, ap, subst, inl, inr}
+use Rattle.safety.proofs.Words.{cases_Bool, false≢true, and_parts, and_from, and_right, or_from, or_left, or_right, cond-true, cond-false, not_from_true, none-some, same_Some, put, put_pair, Block, IsBlock, code, endpoint, kind, pointer, slot, is_transfer_event, is_command_completion, is_other_event, is_success, is_halting, is_trb_error, is_transfer_code, Data, after, RingView, Holds, ceiling, is_data_below, is_open, EndpointState, Off, Halted, Error, is_off, is_running, Header, Row, Read, IsHeader, shape_of, command_id, World, RingEvent, takes_of, unreported, posted, is_last, with_reported, report_error, report_code, reported, counted, Known, event_read, learned, known, event_at, on_ring, passed, broken_off, transferred, transferred_at, transfer_read, is_in_profile, is_working, is_impossible_by_kind, is_impossible_transfer, can_report, can_report_at, DriverKeeps, RingState, state_of, BoundRing, Agrees, Runs, reading}
 use Rattle.safety.proofs.Headers.{transfer_driver, transfer_not_command, ring_shape}
 use Rattle.safety.proofs.Counted.{agrees_counted}
 use Rattle.safety.proofs.WithReads.{with_reads}

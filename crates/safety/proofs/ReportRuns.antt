@@ -1,20 +1,6 @@
 -- Whatever the controller reports of a take, the run goes on
-use Rattle.std.specs.Prelude.{◌≡◌, ℕ, false, List, Some}
-use Rattle.std.proofs.Common.{sym, ◌∙◌, inl, inr}
-use Rattle.std.proofs.lemmas.Bool.{cases_Bool, cond-false, or_left, or_right}
-use Rattle.std.proofs.lemmas.Option.{none-some}
-use Rattle.trb.specs.declared.block.Block.{Block}
-use Rattle.trb.specs.Block.{IsBlock, code, endpoint, pointer, slot}
-use Rattle.trb.specs.CompletionCode.{is_success, is_halting, is_trb_error, is_stopping}
-use Rattle.traces.specs.declared.header.Header.{Header}
-use Rattle.traces.specs.declared.row.Row.{Row}
-use Rattle.traces.specs.Header.{IsHeader}
-use Rattle.world_state.specs.World.{World}
-use Rattle.controller_model.specs.Posts.{posted, report_code, reported}
-use Rattle.controller_model.specs.Steps.{counted}
-use Rattle.ring_knowledge.specs.Learned.{known}
-use Rattle.safety.specs.Keeps.{DriverKeeps}
-use Rattle.safety.specs.Invariant.{Runs, reading}
+use Rattle.std.proofs.Common.{◌≡◌, ◌∙◌, ℕ, false, List, Some, sym, inl, inr}
+use Rattle.safety.proofs.Words.{cases_Bool, cond-false, or_left, or_right, none-some, Block, IsBlock, code, endpoint, pointer, slot, is_success, is_halting, is_trb_error, is_stopping, Header, Row, IsHeader, World, posted, report_code, reported, counted, known, DriverKeeps, Runs, reading}
 use Rattle.safety.proofs.ReportSuccess.{report_is, report_success_runs}
 use Rattle.safety.proofs.ReportError.{report_error_runs}
 use Rattle.safety.proofs.ReportStop.{report_stop_runs}

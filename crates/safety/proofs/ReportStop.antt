@@ -1,35 +1,7 @@
 -- The controller reports that an endpoint has stopped: the run goes on
-use Rattle.std.specs.Prelude.{◌≡◌, ◌≢◌, ℕ, ◌+◌, ◌-◌, ◌<◌, ◌==◌, ◌&&◌, ◌||◌, Bool, true, false, not, List, [], ◌∷◌, ◌++◌, length, Option, Some, None}
-use Rattle.std.proofs.Common.{arith, refl, sym, ◌∙◌, ap, subst, inl, inr}
-use Rattle.std.proofs.lemmas.Bool.{false≢true, and_right, and_from, or_left, cond-false, cond-true, not_from_true, eq-eqb, lt-ltb}
-use Rattle.guest_memory.specs.Memory.{put_pair}
-use Rattle.trb.specs.declared.block.Block.{Block}
-use Rattle.trb.specs.Block.{IsBlock, code, endpoint, kind, pointer, slot}
-use Rattle.trb.specs.Kind.{is_transfer_event, is_command_completion, is_other_event}
-use Rattle.segments.specs.declared.spot.Spot.{Spot}
-use Rattle.segments.specs.declared.spot.Spot.TheVariants.{Data}
-use Rattle.segments.specs.ShapeValue.{Shape}
-use Rattle.segments.specs.RingView.{RingView, Reaches, Holds, floor_number}
-use Rattle.segments.specs.Ceiling.{ceiling, given_count, is_stop_spot, named, stopped_number}
-use Rattle.segments.proofs.Positions.{cycle_of_bit}
-use Rattle.segments.proofs.SpotOrder.{rank_least}
-use Rattle.commands.specs.Command.{command_of, is_stop_of}
-use Rattle.commands.specs.States.{is_running}
-use Rattle.traces.specs.declared.header.Header.{Header}
-use Rattle.traces.specs.declared.row.Row.{Row}
-use Rattle.traces.specs.declared.row.Row.TheVariants.{Read}
-use Rattle.traces.specs.Header.{IsHeader, shape_of, command_id}
-use Rattle.world_state.specs.World.{World, UnderWay}
+use Rattle.std.proofs.Common.{◌≡◌, ◌≢◌, ◌+◌, ◌-◌, ◌<◌, ◌==◌, ◌&&◌, ◌||◌, ◌∷◌, ◌++◌, ◌∙◌, ℕ, Bool, true, false, not, List, [], length, Option, Some, None, arith, refl, sym, ap, subst, inl, inr, eq-eqb, lt-ltb}
+use Rattle.safety.proofs.Words.{false≢true, and_right, and_from, or_left, cond-false, cond-true, not_from_true, put_pair, Block, IsBlock, code, endpoint, kind, pointer, slot, is_transfer_event, is_command_completion, is_other_event, Spot, Data, Shape, RingView, Reaches, Holds, floor_number, ceiling, given_count, is_stop_spot, named, stopped_number, cycle_of_bit, rank_least, command_of, is_stop_of, is_running, Header, Row, Read, IsHeader, shape_of, command_id, World, UnderWay, is_stop_under_way, with_stopped, posted, report_code, report_stop, reported, counted, Known, learned, known, command_at, next_command, on_ring, is_in_profile, DriverKeeps, RingState, state_of, BoundRing, RingMatches, Unreported, UnderWayMatches, CommandMatches, Agrees, Runs, reading}
 use Rattle.world_state.specs.World as of_world
-use Rattle.controller_model.specs.Posts.{is_stop_under_way, with_stopped, posted, report_code, report_stop, reported}
-use Rattle.controller_model.specs.Steps.{counted}
-use Rattle.ring_knowledge.specs.Known.{Known}
-use Rattle.ring_knowledge.specs.Learned.{learned, known}
-use Rattle.ring_knowledge.specs.Rings.{command_at, next_command, on_ring}
-use Rattle.ownership_rules.specs.Events.{is_in_profile}
-use Rattle.safety.specs.Keeps.{DriverKeeps}
-use Rattle.safety.specs.Matches.{RingState, state_of, BoundRing, RingMatches, Unreported, UnderWayMatches, CommandMatches, Agrees}
-use Rattle.safety.specs.Invariant.{Runs, reading}
 use Rattle.safety.proofs.Headers.{transfer_driver, transfer_not_command, ring_shape}
 use Rattle.safety.proofs.SameCommand.{command_of-with_cycle}
 use Rattle.safety.proofs.NoWait.{ceiling_given}

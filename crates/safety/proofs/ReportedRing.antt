@@ -1,28 +1,6 @@
 -- A take that is reported: what the event names, and the ring behind it
-use Rattle.std.specs.Prelude.{◌≡◌, ℕ, suc, zero, ◌+◌, ◌-◌, ◌<◌, ◌≤◌, ◌==◌, true, List, [], ◌∷◌, length, drop, map, Some, position}
-use Rattle.std.specs.List.{range_with_len}
-use Rattle.std.proofs.Common.{arith, refl, sym, ◌∙◌, ap, inl, inr, get_or, length-drop}
-use Rattle.std.proofs.lemmas.Bool.{eqb-true}
-use Rattle.std.proofs.lemmas.List.{drop-drop}
-use Rattle.std.proofs.lemmas.List.Quantifiers.{position-Some}
-use Rattle.std.proofs.lemmas.List.FromFn.{length-map-range_with_len, get_or-map-range_with_len}
-use Rattle.segments.specs.declared.spot.Spot.{Spot}
-use Rattle.segments.specs.declared.spot.Spot.TheVariants.{Data}
-use Rattle.segments.specs.ShapeValue.{Shape}
-use Rattle.segments.specs.Places.{address_of}
-use Rattle.segments.specs.Spots.{rank, number, after}
-use Rattle.segments.specs.Shape.{IsShape}
-use Rattle.segments.specs.RingView.{RingView, declared, floor_number}
-use Rattle.segments.specs.Ceiling.{ceiling, is_way_given, is_step_given, named}
-use Rattle.segments.specs.RingKeeps.{RingKeeps}
-use Rattle.segments.proofs.Search.{cases_option}
-use Rattle.segments.proofs.SpotOrder.{rank_least, rank_most, next_least}
-use Rattle.segments.proofs.NamedSpots.{named_spot-near}
-use Rattle.segments.proofs.GivenCount.{given_count_grows}
-use Rattle.segments.proofs.Reaching.{given_count_declared, given_count_near}
-use Rattle.world_state.specs.World.{RingEvent, Took, Placed}
-use Rattle.world_state.specs.Takes.{takes_of}
-use Rattle.safety.specs.Matches.{Newest, RingState, RingMatches, Unreported}
+use Rattle.std.proofs.Common.{◌≡◌, ◌+◌, ◌-◌, ◌<◌, ◌≤◌, ◌==◌, ◌∷◌, ◌∙◌, ℕ, suc, zero, true, List, [], length, drop, map, Some, position, arith, refl, sym, ap, inl, inr, get_or, length-drop, eqb-true, drop-drop}
+use Rattle.safety.proofs.Words.{range_with_len, position-Some, length-map-range_with_len, get_or-map-range_with_len, Spot, Data, Shape, address_of, rank, number, after, IsShape, RingView, declared, floor_number, ceiling, is_way_given, is_step_given, named, RingKeeps, cases_option, rank_least, rank_most, next_least, named_spot-near, given_count_grows, given_count_declared, given_count_near, RingEvent, Took, Placed, takes_of, Newest, RingState, RingMatches, Unreported}
 use Rattle.safety.proofs.NoWait.{ceiling_given, ceiling_open, ceiling_held}
 use Rattle.safety.proofs.LookedRing.{number_after}
 

@@ -1,15 +1,7 @@
 -- A ring that is opened, and that the controller may look at
-use Rattle.std.specs.Prelude.{◌≡◌, ℕ, Bool, true, List, Option, None}
-use Rattle.std.proofs.Common.{refl}
-use Rattle.segments.specs.declared.spot.Spot.{Spot}
-use Rattle.segments.specs.RingView.{RingView, Opens, changed}
-use Rattle.traces.specs.declared.header.Header.{Header}
-use Rattle.traces.specs.Header.{shape_of}
-use Rattle.world_state.specs.World.{World, RingEvent}
+use Rattle.std.proofs.Common.{◌≡◌, ℕ, Bool, true, List, Option, None, refl}
+use Rattle.safety.proofs.Words.{Spot, RingView, Opens, changed, Header, shape_of, World, RingEvent, Known, on_ring, RingState, state_of, RingMatches, BoundRing}
 use Rattle.controller_model.specs.DriverRows as driver
-use Rattle.ring_knowledge.specs.Known.{Known}
-use Rattle.ring_knowledge.specs.Rings.{on_ring}
-use Rattle.safety.specs.Matches.{RingState, state_of, RingMatches, BoundRing}
 use Rattle.safety.proofs.LookKinds.{put_at, put_off}
 use Rattle.safety.proofs.OnlyRing.{OnlyRing}
 use Rattle.safety.proofs.Learns.{LearnsRing}

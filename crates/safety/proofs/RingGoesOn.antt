@@ -1,18 +1,6 @@
 -- A ring of which more is known while its pointer stays: what is said of it in the world stays
-use Rattle.std.specs.Prelude.{◌≡◌, ℕ, ◌≤◌, ◌-◌, ◌||◌, not, Bool, true, false, List, [], ◌∷◌, map, Option, None, Some}
-use Rattle.std.specs.List.{range_with_len}
-use Rattle.std.proofs.Common.{arith, refl, sym, ◌∙◌, ap, subst}
-use Rattle.segments.specs.ShapeValue.{Shape}
-use Rattle.segments.specs.declared.spot.Spot.{Spot}
-use Rattle.segments.specs.Places.{address_of, is_crossing}
-use Rattle.segments.specs.Spots.{number, rank}
-use Rattle.segments.specs.Descriptors.{is_border, declared_at}
-use Rattle.segments.specs.RingView.{RingView, floor_number}
-use Rattle.segments.specs.Ceiling.{ceiling, is_way_given, is_step_given}
-use Rattle.segments.proofs.GivenCount.{given_count_same}
-use Rattle.world_state.specs.World.{RingEvent, Took, Placed}
-use Rattle.safety.specs.Matches.{Newest, RingState, RingMatches, Unreported, BoundRing}
-use Rattle.safety.specs.Beneath.{IsHeldMore}
+use Rattle.std.proofs.Common.{◌≡◌, ◌≤◌, ◌-◌, ◌||◌, ◌∷◌, ◌∙◌, ℕ, not, Bool, true, false, List, [], map, Option, None, Some, arith, refl, sym, ap, subst}
+use Rattle.safety.proofs.Words.{range_with_len, Shape, Spot, address_of, is_crossing, number, rank, is_border, declared_at, RingView, floor_number, ceiling, is_way_given, is_step_given, given_count_same, RingEvent, Took, Placed, Newest, RingState, RingMatches, Unreported, BoundRing, IsHeldMore}
 use Rattle.safety.proofs.NoWait.{ceiling_open, ceiling_held}
 
 -- the floor is the same, and no less is given

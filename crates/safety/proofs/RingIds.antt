@@ -1,19 +1,9 @@
 -- No two rings of a header have one ID, so each is found by its own
-use Rattle.std.specs.Prelude.{◌≡◌, ℕ, ◌*◌, ◌<◌, ◌==◌, ◌&&◌, ◌||◌, not, Bool, true, false, List, [], ◌∷◌, nat_lt, Option, Some, None, find}
-use Rattle.std.specs.List.{list_any, list_all}
-use Rattle.std.proofs.Common.{arith, refl, sym, ◌∙◌, ap, subst, inl, inr}
-use Rattle.std.proofs.lemmas.Bool.{cases_Bool, cond-true, cond-false, false≢true, and_parts, or_parts, not-true, eq-eqb, eqb-true, ltb-true}
-use Rattle.std.proofs.lemmas.Option.{none-some, same_Some}
-use Rattle.trb.specs.declared.ring_kind.RingKind.{RingKind}
-use Rattle.trb.specs.declared.ring_kind.RingKind.TheVariants.{Cmd, Evt, Xfer}
-use Rattle.segments.specs.Places.{address_of, touches}
-use Rattle.segments.specs.Shape.{is_shape}
-use Rattle.traces.specs.declared.header.Header.{Header}
-use Rattle.traces.specs.declared.ring.Ring.{Ring}
-use Rattle.traces.specs.Header.{IsHeader, clash, may_stand_together, is_command_kind, is_event_kind, is_transfer_kind, is_driver_kind, ring_with, id_of, id_or_none, command_ring, command_id, ring_beginning_at}
-use Rattle.ownership_rules.specs.Declarations.{is_driver_ring}
+use Rattle.std.proofs.Common.{◌≡◌, ◌*◌, ◌<◌, ◌==◌, ◌&&◌, ◌||◌, ◌∷◌, ◌∙◌, ℕ, not, Bool, true, false, List, [], nat_lt, Option, Some, None, find, arith, refl, sym, ap, subst, inl, inr, eq-eqb, eqb-true, ltb-true}
+use Rattle.safety.proofs.Words.{list_any, list_all, cases_Bool, cond-true, cond-false, false≢true, and_parts, or_parts, not-true, none-some, same_Some, RingKind, Cmd, Evt, Xfer, address_of, is_shape, Header, Ring, IsHeader, clash, may_stand_together, is_command_kind, is_event_kind, is_transfer_kind, is_driver_kind, ring_with, id_of, id_or_none, command_ring, command_id, ring_beginning_at, is_driver_ring, is_transfer_ring}
+use Rattle.segments.specs.Places.{touches}
 use Rattle.safety.specs.RingsKeep.{IsDriverRing}
-use Rattle.safety.specs.EndpointsKeep.{is_transfer_ring, IsTransferRing}
+use Rattle.safety.specs.EndpointsKeep.{IsTransferRing}
 use Rattle.safety.proofs.RingsOfHeader.{found_passes, found_allowed}
 
 -- what all rings fail the one that is found fails

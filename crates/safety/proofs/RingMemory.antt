@@ -1,24 +1,6 @@
 -- The blocks and Links of a ring stand in the world as the driver wrote them
-use Rattle.std.specs.Prelude.{◌≡◌, ℕ, ◌+◌, ◌%◌, ◌^◌, ◌<◌, ◌≤◌, true, [], ◌∷◌}
-use Rattle.std.proofs.Common.{arith, sym, ap, ◌∙◌, add-zero}
-use Rattle.trb.specs.declared.block.Block.{Block}
-use Rattle.trb.specs.Block.{block_at}
-use Rattle.segments.specs.declared.spot.Spot.{Spot}
-use Rattle.segments.specs.declared.spot.Spot.TheVariants.{Data, Link}
-use Rattle.segments.specs.ShapeValue.{Shape}
-use Rattle.segments.specs.Places.{is_inside}
-use Rattle.segments.specs.Spots.{IsSpot, spot_address}
-use Rattle.segments.specs.Shape.{IsShape}
-use Rattle.segments.proofs.DataPlaces.{link_aligned, link_ends}
-use Rattle.segments.proofs.Positions.{address_aligned, address_ends}
-use Rattle.segments.proofs.Crossings.{crossed_link, crosses, link_address_is}
-use Rattle.segments.proofs.Elsewhere.{address_inside, link_address_inside}
-use Rattle.traces.specs.declared.header.Header.{Header}
-use Rattle.traces.specs.Header.{IsHeader, shape_of}
-use Rattle.world_state.specs.World.{World}
-use Rattle.ring_knowledge.specs.Known.{Known}
-use Rattle.safety.specs.Keeps.{IsDriverRing, DriverKeeps}
-use Rattle.safety.specs.Stands.{Stands}
+use Rattle.std.proofs.Common.{◌≡◌, ◌+◌, ◌%◌, ◌^◌, ◌<◌, ◌≤◌, ◌∷◌, ◌∙◌, ℕ, true, [], arith, sym, ap, add-zero}
+use Rattle.safety.proofs.Words.{Block, block_at, Spot, Data, Link, Shape, is_inside, IsSpot, spot_address, IsShape, link_aligned, link_ends, address_aligned, address_ends, crossed_link, crosses, link_address_is, address_inside, link_address_inside, Header, IsHeader, shape_of, World, Known, IsDriverRing, DriverKeeps, Stands}
 use Rattle.safety.proofs.Headers.{ring_shape, ring_not_event}
 
 four_words : (a b c d e f g h : ℕ) → a ≡ e → b ≡ f → c ≡ g → d ≡ h →

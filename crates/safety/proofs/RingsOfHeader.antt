@@ -1,16 +1,6 @@
 -- The command and transfer rings of a header, each found by its ID
-use Rattle.std.specs.Prelude.{◌≡◌, ℕ, ◌==◌, ◌&&◌, ◌++◌, Bool, true, false, List, [], ◌∷◌, nat_lt, Option, Some, None, find, filter}
-use Rattle.std.specs.List.{list_any, list_all, flat_map}
-use Rattle.std.proofs.Common.{refl, sym, ◌∙◌, ap, inl, inr}
-use Rattle.std.proofs.lemmas.Bool.{cases_Bool, cond-true, cond-false, false≢true, and_parts, or_parts, eqb-true}
-use Rattle.std.proofs.lemmas.Option.{none-some, same_Some}
-use Rattle.std.proofs.lemmas.List.Folds.{list_any-append}
-use Rattle.segments.specs.Shape.{IsShape, is_shape}
-use Rattle.trb.specs.declared.ring_kind.RingKind.TheVariants.{Xfer}
-use Rattle.traces.specs.declared.header.Header.{Header}
-use Rattle.traces.specs.declared.ring.Ring.{Ring}
-use Rattle.traces.specs.Header.{IsHeader, may_stand_together, is_driver_kind, ring_with, shape_of, shape_or, driver_rings}
-use Rattle.ownership_rules.specs.Declarations.{is_driver_ring}
+use Rattle.std.proofs.Common.{◌≡◌, ◌==◌, ◌&&◌, ◌++◌, ◌∷◌, ◌∙◌, ℕ, Bool, true, false, List, [], nat_lt, Option, Some, None, find, filter, refl, sym, ap, inl, inr, eqb-true}
+use Rattle.safety.proofs.Words.{list_any, list_all, flat_map, cases_Bool, cond-true, cond-false, false≢true, and_parts, or_parts, none-some, same_Some, list_any-append, IsShape, is_shape, Xfer, Header, Ring, IsHeader, may_stand_together, is_driver_kind, ring_with, shape_of, shape_or, driver_rings, is_driver_ring}
 use Rattle.safety.specs.RingsKeep.{IsDriverRing}
 
 -- what is found passes the test, and whatever each ring passes

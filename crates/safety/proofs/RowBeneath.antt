@@ -1,33 +1,8 @@
 -- A driver's row beneath the events that aren't read yet: they stay possible, and what is known when they are read differs from what
 -- the row adds to it at the end in the numbers at which rings are held, if at all
-use Rattle.std.specs.Prelude.{◌≡◌, ◌+◌, ◌-◌, ◌≤◌, ℕ, false, List, [], ◌∷◌, length, All, Some}
-use Rattle.std.proofs.Common.{arith, refl, sym, ◌∙◌, ap, subst}
-use Rattle.std.proofs.lemmas.Bool.{cond_both, not-false}
-use Rattle.std.proofs.lemmas.List.Elements.{All-cons, All-head, All-tail}
-use Rattle.std.proofs.lemmas.Option.{same_Some}
-use Rattle.trb.specs.declared.block.Block.{Block}
-use Rattle.trb.specs.Block.{IsBlock, kind}
-use Rattle.event_ring.specs.EventRing.{erdp_address, is_reached_within}
-use Rattle.traces.specs.declared.header.Header.{Header}
-use Rattle.traces.specs.declared.row.Row.{Row}
-use Rattle.traces.specs.declared.row.Row.TheVariants.{Sub, Write, Reg, Bell, Read}
-use Rattle.traces.specs.declared.register.Register.{Register}
-use Rattle.traces.specs.declared.register.Register.TheVariants.{Erdp}
-use Rattle.traces.specs.Header.{IsHeader, event_shape}
-use Rattle.traces.specs.Rows.{IsRow}
-use Rattle.world_state.specs.World.{World, stored}
+use Rattle.std.proofs.Common.{◌≡◌, ◌+◌, ◌-◌, ◌≤◌, ◌∷◌, ◌∙◌, ℕ, false, List, [], length, All, Some, arith, refl, sym, ap, subst}
+use Rattle.safety.proofs.Words.{cond_both, not-false, All-cons, All-head, All-tail, same_Some, Block, IsBlock, kind, erdp_address, is_reached_within, Header, Row, Sub, Write, Reg, Bell, Read, Register, Erdp, IsHeader, event_shape, IsRow, World, stored, counted, Known, learned, known, may_pass, is_bad_erdp, broken, IsClean, DriverKeeps, IsDriverRow, Agrees, Runs, reading, HeldMore, is_idle, Square, SquareLaw, MoreLaw}
 use Rattle.controller_model.specs.DriverRows as driver
-use Rattle.controller_model.specs.Steps.{counted}
-use Rattle.ring_knowledge.specs.Known.{Known}
-use Rattle.ring_knowledge.specs.Learned.{learned, known}
-use Rattle.ownership_rules.specs.Registers.{may_pass, is_bad_erdp}
-use Rattle.ownership_rules.specs.Rules.{broken}
-use Rattle.ownership_rules.specs.Clean.{IsClean}
-use Rattle.safety.specs.Keeps.{DriverKeeps}
-use Rattle.safety.specs.KeptHistories.{IsDriverRow}
-use Rattle.safety.specs.Matches.{Agrees}
-use Rattle.safety.specs.Invariant.{Runs, reading}
-use Rattle.safety.specs.Beneath.{HeldMore, is_idle, Square, SquareLaw, MoreLaw}
 use Rattle.safety.proofs.TestsPassed.{clean_tests}
 use Rattle.safety.proofs.CleanRows.{register_facts}
 use Rattle.safety.proofs.KeptCounts.{read_counts}

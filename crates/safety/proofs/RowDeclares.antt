@@ -1,34 +1,9 @@
 -- A declaration where all events are read: what is known agrees with the world
-use Rattle.std.specs.Prelude.{◌≡◌, ◌≢◌, ℕ, ◌<◌, ◌++◌, true, false, List, [], ◌∷◌, length, sum, Option, None, Some, option_and_then, slice_get}
-use Rattle.std.proofs.Common.{arith, refl, sym, ◌∙◌, ap, subst, inl, inr}
-use Rattle.std.proofs.lemmas.Bool.{cases_Bool, cases_eq}
-use Rattle.std.proofs.lemmas.Option.{none-some}
-use Rattle.guest_memory.specs.Memory.{put}
-use Rattle.trb.specs.declared.block.Block.{Block}
-use Rattle.segments.specs.Places.{address_of}
-use Rattle.segments.specs.RingView.{RingView, Declares, changed, declared, is_due}
-use Rattle.segments.specs.RingKeeps.{MayDeclare}
-use Rattle.segments.proofs.Declaring.{slice_get-append}
-use Rattle.segments.proofs.Named.{ceiling_within}
-use Rattle.segments.proofs.Reaching.{given_count_declared}
-use Rattle.commands.specs.declared.command.Command.{Command}
-use Rattle.commands.specs.Command.{command_of, named_context}
-use Rattle.traces.specs.declared.header.Header.{Header}
-use Rattle.traces.specs.declared.row.Row.TheVariants.{Sub}
-use Rattle.traces.specs.Header.{IsHeader, shape_of, command_id}
-use Rattle.world_state.specs.World.{World, UnderWay}
+use Rattle.std.proofs.Common.{◌≡◌, ◌≢◌, ◌<◌, ◌++◌, ◌∷◌, ◌∙◌, ℕ, true, false, List, [], length, sum, Option, None, Some, option_and_then, slice_get, arith, refl, sym, ap, subst, inl, inr}
+use Rattle.safety.proofs.Words.{cases_Bool, cases_eq, none-some, put, Block, address_of, RingView, Declares, changed, declared, is_due, MayDeclare, slice_get-append, ceiling_within, given_count_declared, Command, command_of, named_context, Header, Sub, IsHeader, shape_of, command_id, World, UnderWay, has_other_words, counted, Known, learned, on_ring, command_at, next_command, broken, IsDriverRing, IsUnfinished, DriverKeeps, Stands, EventsStand, Newest, UnderWayMatches, IsUnchanged, Matches, Agrees}
 use Rattle.world_state.specs.World as of_world
 use Rattle.world_state.specs.Harms as of_harms
-use Rattle.world_state.specs.Harms.{has_other_words}
 use Rattle.controller_model.specs.DriverRows as driver
-use Rattle.controller_model.specs.Steps.{counted}
-use Rattle.ring_knowledge.specs.Known.{Known}
-use Rattle.ring_knowledge.specs.Learned.{learned}
-use Rattle.ring_knowledge.specs.Rings.{on_ring, command_at, next_command}
-use Rattle.ownership_rules.specs.Rules.{broken}
-use Rattle.safety.specs.Keeps.{IsDriverRing, IsUnfinished, DriverKeeps}
-use Rattle.safety.specs.Stands.{Stands, EventsStand}
-use Rattle.safety.specs.Matches.{Newest, UnderWayMatches, IsUnchanged, Matches, Agrees}
 use Rattle.safety.proofs.Headers.{ring_shape}
 use Rattle.safety.proofs.CommandRing.{due_has_ring}
 use Rattle.safety.proofs.Declaring.{may_declare}

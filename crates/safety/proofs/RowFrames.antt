@@ -1,20 +1,6 @@
 -- What each row of the driver leaves as it is
-use Rattle.std.specs.Prelude.{◌≡◌, ℕ, ◌==◌, ◌&&◌, ◌||◌, not, true, if◌then◌else◌, List, Option, None, Some, option_and_then}
-use Rattle.std.proofs.Common.{refl, sym, subst}
-use Rattle.std.proofs.lemmas.Bool.{cond_both}
-use Rattle.trb.specs.declared.block.Block.{Block}
-use Rattle.segments.specs.RingView.{RingView, Declares, Opens, Writes, changed}
-use Rattle.traces.specs.declared.header.Header.{Header}
-use Rattle.traces.specs.declared.register.Register.{Register}
-use Rattle.traces.specs.declared.register.Register.TheVariants.{Erdp, Usbcmd}
-use Rattle.traces.specs.declared.row.Row.TheVariants.{Sub, Write, Reg, Bell}
-use Rattle.traces.specs.Header.{shape_of, command_id}
-use Rattle.traces.specs.Register.{run_bit, reset_bit}
-use Rattle.ring_knowledge.specs.Known.{Known}
-use Rattle.ring_knowledge.specs.Rings.{on_ring}
-use Rattle.ring_knowledge.specs.Writes.{with_device, with_word, written, command_given, taken_device}
-use Rattle.ring_knowledge.specs.Registers.{run_or_stop, valued, register_written, endpoint_rung, rung}
-use Rattle.ring_knowledge.specs.Learned.{learned}
+use Rattle.std.proofs.Common.{◌≡◌, ◌==◌, ◌&&◌, ◌||◌, if◌then◌else◌, ℕ, not, true, List, Option, None, Some, option_and_then, refl, sym, subst}
+use Rattle.safety.proofs.Words.{cond_both, Block, RingView, Declares, Opens, Writes, changed, Header, Register, Erdp, Usbcmd, Sub, Write, Reg, Bell, shape_of, command_id, run_bit, reset_bit, Known, on_ring, with_device, with_word, written, command_given, taken_device, run_or_stop, valued, register_written, endpoint_rung, rung, learned}
 use Rattle.safety.proofs.SameDriver.{view_after}
 
 pub record SameRegisters (k l : Known) : Type 0 where

@@ -1,29 +1,7 @@
 -- The doorbell of a ring that is open: nothing is learned, and where all events are read the world agrees with what is known as before
-use Rattle.std.specs.Prelude.{◌≡◌, ℕ, ◌==◌, ◌||◌, not, nat_lt, true, false, List, [], Option, None, Some, is_none}
-use Rattle.std.proofs.Common.{refl, sym, ◌∙◌, ap, subst, inl, inr}
-use Rattle.std.proofs.lemmas.Bool.{cases_Bool, cases_eq, cond-true, cond-false, or_parts, not-false, false≢true}
-use Rattle.guest_memory.specs.Memory.{put, put_pair}
-use Rattle.trb.specs.declared.block.Block.{Block}
-use Rattle.segments.specs.RingView.{RingView, Opens, changed}
-use Rattle.segments.specs.Ceiling.{is_open}
-use Rattle.commands.specs.declared.state.EndpointState.{EndpointState}
-use Rattle.commands.specs.declared.state.EndpointState.TheVariants.{Disabled as Off, Running, Halted, Error}
-use Rattle.commands.specs.States.{is_running, is_stopped}
-use Rattle.traces.specs.declared.header.Header.{Header}
-use Rattle.traces.specs.declared.row.Row.TheVariants.{Bell}
-use Rattle.traces.specs.Header.{IsHeader, shape_of, command_id}
-use Rattle.world_state.specs.World.{World}
+use Rattle.std.proofs.Common.{◌≡◌, ◌==◌, ◌||◌, ◌∙◌, ℕ, not, nat_lt, true, false, List, [], Option, None, Some, is_none, refl, sym, ap, subst, inl, inr}
+use Rattle.safety.proofs.Words.{cases_Bool, cases_eq, cond-true, cond-false, or_parts, not-false, false≢true, put, put_pair, Block, RingView, Opens, changed, is_open, EndpointState, Off, Running, Halted, Error, is_running, is_stopped, Header, Bell, IsHeader, shape_of, command_id, World, counted, Known, learned, on_ring, endpoint_rung, rung, is_bad_bell, is_touched, broken, DriverKeeps, Agrees, is_open_if, is_idle, MayRing}
 use Rattle.controller_model.specs.DriverRows as driver
-use Rattle.controller_model.specs.Steps.{counted}
-use Rattle.ring_knowledge.specs.Known.{Known}
-use Rattle.ring_knowledge.specs.Learned.{learned}
-use Rattle.ring_knowledge.specs.Rings.{on_ring}
-use Rattle.ring_knowledge.specs.Registers.{endpoint_rung, rung}
-use Rattle.ownership_rules.specs.Doorbells.{is_bad_bell, is_touched}
-use Rattle.ownership_rules.specs.Rules.{broken}
-use Rattle.safety.specs.Keeps.{DriverKeeps}
-use Rattle.safety.specs.Matches.{Agrees}
-use Rattle.safety.specs.Beneath.{is_open_if, is_idle, MayRing}
 use Rattle.safety.proofs.CleanRows.{BellFacts, bell_facts}
 use Rattle.safety.proofs.RowRegister.{agrees_once_counted}
 use Rattle.safety.proofs.LookKinds.{put_at, put_off}

@@ -1,30 +1,10 @@
 -- A write of a register where all events are read: what is known agrees with the world
-use Rattle.std.specs.Prelude.{◌≡◌, ℕ, suc, zero, ◌%◌, length, slice_index, nat_lt, ◌+◌, ◌*◌, ◌<◌, ◌≤◌, ◌==◌, if◌then◌else◌, Bool, true, List, [], ◌∷◌, Option, None, Some, option_and_then, slice_get}
-use Rattle.std.proofs.Common.{arith, refl, sym, ◌∙◌, ap, subst}
-use Rattle.std.specs.List.{list_any, range_with_len}
-use Rattle.std.proofs.Math.Nat.{mod-lt}
-use Rattle.ownership_rules.proofs.Among.{some_of}
-use Rattle.std.proofs.lemmas.Bool.{and_parts, ltb-true, or_left, or_right, cond-true}
-use Rattle.trb.specs.declared.block.Block.{Block}
-use Rattle.commands.specs.declared.command.Command.{Command}
-use Rattle.commands.specs.Command.{command_of, named_context}
-use Rattle.segments.specs.ShapeValue.{Shape}
-use Rattle.segments.specs.RingView.{is_due}
-use Rattle.traces.specs.declared.header.Header.{Header}
-use Rattle.traces.specs.declared.register.Register.{Register}
-use Rattle.traces.specs.Header.{shape_of, command_id, event_shape, event_size}
-use Rattle.traces.specs.Register.{with_register, same_register}
-use Rattle.segments.specs.Places.{address_of, place_count, data_places}
-use Rattle.event_ring.specs.EventRing.{AreInOrder, position_from, is_reached_within, is_event_place}
-use Rattle.world_state.specs.World.{World, UnderWay}
+use Rattle.std.proofs.Common.{◌≡◌, ◌%◌, ◌+◌, ◌*◌, ◌<◌, ◌≤◌, ◌==◌, if◌then◌else◌, ◌∷◌, ◌∙◌, ℕ, suc, zero, length, slice_index, nat_lt, Bool, true, List, [], Option, None, Some, option_and_then, slice_get, arith, refl, sym, ap, subst, ltb-true}
+use Rattle.safety.proofs.Words.{list_any, range_with_len, mod-lt, some_of, and_parts, or_left, or_right, cond-true, Block, Command, command_of, named_context, Shape, is_due, Header, Register, shape_of, command_id, event_shape, event_size, with_register, same_register, address_of, place_count, data_places, AreInOrder, position_from, is_reached_within, is_event_place, World, UnderWay, counted, Known, IsUnfinished, IsUnchanged, Matches, Agrees}
 use Rattle.world_state.specs.World as of_world
 use Rattle.controller_model.specs.DriverRows as driver
-use Rattle.controller_model.specs.Steps.{counted}
-use Rattle.ring_knowledge.specs.Known.{Known}
 use Rattle.ring_knowledge.specs.Rings as of_rings
 use Rattle.ring_knowledge.specs.Registers as registers
-use Rattle.safety.specs.Keeps.{IsUnfinished}
-use Rattle.safety.specs.Matches.{IsUnchanged, Matches, Agrees}
 use Rattle.safety.proofs.RingGoesOn.{RingGoesOn, newest_same}
 use Rattle.safety.proofs.DriverGoesOn.{goes_same}
 use Rattle.safety.proofs.ErdpMoves.{position_within}

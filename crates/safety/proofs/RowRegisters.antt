@@ -1,25 +1,8 @@
 -- A write of any register, but one that stops the controller, where all events are read: what is known agrees with the world
-use Rattle.std.specs.Prelude.{◌≡◌, ℕ, ◌&&◌, ◌||◌, if◌then◌else◌, not, true, false, List, [], Option, None, Some, is_some}
-use Rattle.std.proofs.Common.{refl, sym, ◌∙◌, ap, subst, inl, inr}
-use Rattle.std.proofs.lemmas.Bool.{cases_Bool, cond-true, cond-false, not_from_false, not_from_true, false≢true}
-use Rattle.trb.specs.declared.block.Block.{Block}
-use Rattle.event_ring.specs.EventRing.{erdp_address}
-use Rattle.traces.specs.declared.header.Header.{Header}
-use Rattle.traces.specs.declared.register.Register.{Register}
-use Rattle.traces.specs.declared.register.Register.TheVariants.{Usbcmd, Crcr, Erdp}
-use Rattle.traces.specs.declared.row.Row.TheVariants.{Reg}
-use Rattle.traces.specs.Header.{IsHeader}
-use Rattle.traces.specs.Register.{run_bit, reset_bit}
-use Rattle.world_state.specs.World.{World}
+use Rattle.std.proofs.Common.{◌≡◌, ◌&&◌, ◌||◌, if◌then◌else◌, ◌∙◌, ℕ, not, true, false, List, [], Option, None, Some, is_some, refl, sym, ap, subst, inl, inr}
+use Rattle.safety.proofs.Words.{cases_Bool, cond-true, cond-false, not_from_false, not_from_true, false≢true, Block, erdp_address, Header, Register, Usbcmd, Crcr, Erdp, Reg, IsHeader, run_bit, reset_bit, World, counted, Known, learned, is_bad_register, broken, Unstarted, CommandRingNamed, DriverKeeps, Agrees}
 use Rattle.controller_model.specs.DriverRows as driver
-use Rattle.controller_model.specs.Steps.{counted}
-use Rattle.ring_knowledge.specs.Known.{Known}
-use Rattle.ring_knowledge.specs.Learned.{learned}
 use Rattle.ring_knowledge.specs.Registers as registers
-use Rattle.ownership_rules.specs.Registers.{is_bad_register}
-use Rattle.ownership_rules.specs.Rules.{broken}
-use Rattle.safety.specs.Keeps.{Unstarted, CommandRingNamed, DriverKeeps}
-use Rattle.safety.specs.Matches.{Agrees}
 use Rattle.safety.proofs.CleanRows.{register_facts}
 use Rattle.safety.proofs.KeptRegisters.{starts_written}
 use Rattle.safety.proofs.RowRegister.{ErdpReached, agrees_once_counted, valued_agrees, erdp_agrees}

@@ -1,30 +1,7 @@
 -- Behind a row of the driver the run goes on, whatever is unread
-use Rattle.std.specs.Prelude.{◌≡◌, ℕ, ◌==◌, ◌&&◌, if◌then◌else◌, not, true, false, List, [], ◌∷◌, All, Some}
-use Rattle.std.proofs.Common.{refl, sym, ◌∙◌, ap, subst, inl, inr}
-use Rattle.std.proofs.lemmas.Bool.{cases_Bool, cond-true, and_from, not-false}
-use Rattle.std.proofs.lemmas.List.Elements.{All-cons, All-head, All-tail}
-use Rattle.std.proofs.lemmas.Option.{same_Some}
-use Rattle.trb.specs.declared.block.Block.{Block}
-use Rattle.trb.specs.Block.{IsBlock}
-use Rattle.segments.specs.Ceiling.{is_open}
-use Rattle.traces.specs.declared.header.Header.{Header}
-use Rattle.traces.specs.declared.row.Row.{Row}
-use Rattle.traces.specs.declared.row.Row.TheVariants.{Sub, Write, Reg, Bell, Read}
-use Rattle.traces.specs.Header.{IsHeader, command_id}
-use Rattle.traces.specs.Rows.{IsRow}
-use Rattle.world_state.specs.World.{World}
+use Rattle.std.proofs.Common.{◌≡◌, ◌==◌, ◌&&◌, if◌then◌else◌, ◌∷◌, ◌∙◌, ℕ, not, true, false, List, [], All, Some, refl, sym, ap, subst, inl, inr}
+use Rattle.safety.proofs.Words.{cases_Bool, cond-true, and_from, not-false, All-cons, All-head, All-tail, same_Some, Block, IsBlock, is_open, Header, Row, Sub, Write, Reg, Bell, Read, IsHeader, command_id, IsRow, World, counted, Known, learned, known, is_bad_bell, broken, IsClean, DriverKeeps, IsDriverRow, Agrees, Runs, reading, is_idle, is_open_if, MayRing, SquareLaw, MoreLaw}
 use Rattle.controller_model.specs.DriverRows as driver
-use Rattle.controller_model.specs.Steps.{counted}
-use Rattle.ring_knowledge.specs.Known.{Known}
-use Rattle.ring_knowledge.specs.Learned.{learned, known}
-use Rattle.ownership_rules.specs.Doorbells.{is_bad_bell}
-use Rattle.ownership_rules.specs.Rules.{broken}
-use Rattle.ownership_rules.specs.Clean.{IsClean}
-use Rattle.safety.specs.Keeps.{DriverKeeps}
-use Rattle.safety.specs.KeptHistories.{IsDriverRow}
-use Rattle.safety.specs.Matches.{Agrees}
-use Rattle.safety.specs.Invariant.{Runs, reading}
-use Rattle.safety.specs.Beneath.{is_idle, is_open_if, MayRing, SquareLaw, MoreLaw}
 use Rattle.safety.proofs.CleanRows.{BellFacts, bell_facts}
 use Rattle.safety.proofs.KeptCounts.{read_counts}
 use Rattle.safety.proofs.RowBeneath.{KeptByHistories, clean_under, awake_runs, read_on}

@@ -1,30 +1,11 @@
 -- The start of the controller: what is known agrees with the world
-use Rattle.std.specs.Prelude.{◌≡◌, ◌≢◌, ℕ, Bool, true, false, List, [], ◌∷◌, None, Some}
-use Rattle.std.proofs.Common.{arith, refl, sym, ◌∙◌, ap, subst, inl, inr}
-use Rattle.std.proofs.lemmas.Bool.{false≢true}
-use Rattle.trb.specs.declared.block.Block.{Block}
-use Rattle.segments.specs.ShapeValue.{Shape}
-use Rattle.segments.specs.declared.spot.Spot.TheVariants.{Data}
-use Rattle.segments.specs.Places.{address_of, cycle_of}
-use Rattle.segments.specs.Spots.{rank, number}
-use Rattle.segments.specs.Descriptors.{is_border}
-use Rattle.segments.specs.RingView.{RingView}
-use Rattle.segments.specs.Ceiling.{is_way_given}
-use Rattle.segments.proofs.Positions.{place_count_pos, cycle_of-first}
-use Rattle.commands.specs.declared.command.Command.{Command}
-use Rattle.traces.specs.declared.header.Header.{Header}
-use Rattle.traces.specs.declared.register.Register.TheVariants.{Crcr}
-use Rattle.traces.specs.Header.{IsHeader, shape_of, command_id}
-use Rattle.traces.specs.Register.{register_or_zero, base_address, ring_cycle_state}
-use Rattle.world_state.specs.World.{World, RingEvent}
+use Rattle.std.proofs.Common.{◌≡◌, ◌≢◌, ◌∷◌, ◌∙◌, ℕ, Bool, true, false, List, [], None, Some, arith, refl, sym, ap, subst, inl, inr}
+use Rattle.safety.proofs.Words.{false≢true, Block, Shape, Data, address_of, cycle_of, rank, number, is_border, RingView, is_way_given, place_count_pos, cycle_of-first, Command, Header, Crcr, IsHeader, shape_of, command_id, register_or_zero, base_address, ring_cycle_state, World, RingEvent, Known, IsUnfinished, Unstarted, CommandRingNamed, Newest, RingState, state_of, RingMatches, BoundRing, FreeRing, EndpointRing, UnderWayMatches, CommandMatches, NotStarted, Matches, Agrees}
 use Rattle.world_state.specs.World as of_world
 use Rattle.world_state.specs.Takes as takes
 use Rattle.world_state.specs.Harms as harms
 use Rattle.controller_model.specs.DriverRows as driver
-use Rattle.ring_knowledge.specs.Known.{Known}
 use Rattle.ring_knowledge.specs.Rings as of_rings
-use Rattle.safety.specs.Keeps.{IsUnfinished, Unstarted, CommandRingNamed}
-use Rattle.safety.specs.Matches.{Newest, RingState, state_of, RingMatches, BoundRing, FreeRing, EndpointRing, UnderWayMatches, CommandMatches, NotStarted, Matches, Agrees}
 use Rattle.safety.proofs.Headers.{ring_shape}
 use Rattle.safety.proofs.LookKinds.{put_at, put_off}
 

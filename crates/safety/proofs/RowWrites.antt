@@ -1,38 +1,8 @@
 -- A write of memory where all events are read: what is known agrees with the world
-use Rattle.std.specs.Prelude.{◌≡◌, ◌≢◌, ℕ, ◌+◌, ◌*◌, ◌/◌, ◌<◌, ◌⊎◌, ◌==◌, ◌&&◌, ◌||◌, not, nat_lt, Bool, true, false, List, [], ◌++◌, Option, None, Some, option_and_then, slice_get}
-use Rattle.std.specs.List.{list_any, flat_map}
-use Rattle.std.proofs.Common.{arith, refl, sym, ◌∙◌, ap, subst, inl, inr, add-zero}
-use Rattle.std.proofs.lemmas.Bool.{cases_eq, or_parts, or_cases, and_from, lt-ltb, false≢true, ne_eqb, not_from_false}
-use Rattle.std.proofs.lemmas.List.Folds.{list_any-append}
-use Rattle.std.proofs.lemmas.Option.{slice_get_within}
-use Rattle.guest_memory.specs.Memory.{put}
-use Rattle.trb.specs.declared.block.Block.{Block}
-use Rattle.segments.specs.Places.{address_of, is_in, is_inside}
-use Rattle.segments.specs.RingView.{Writes, changed, is_due, gives}
-use Rattle.segments.proofs.MemoryWords.{put_here, put_elsewhere}
-use Rattle.segments.proofs.Giving.{gives_is}
-use Rattle.segments.proofs.Elsewhere.{address_inside}
-use Rattle.commands.specs.declared.command.Command.{Command}
-use Rattle.commands.specs.Command.{command_of, named_context}
-use Rattle.contexts.specs.Contexts.{device_context_bytes, input_context_bytes}
-use Rattle.traces.specs.declared.header.Header.{Header}
-use Rattle.traces.specs.declared.row.Row.TheVariants.{Write}
-use Rattle.traces.specs.declared.register.Register.TheVariants.{Erstba}
-use Rattle.traces.specs.Header.{IsHeader, shape_of, command_id, event_shape, driver_rings}
-use Rattle.world_state.specs.World.{World, UnderWay, event_at, stored}
+use Rattle.std.proofs.Common.{◌≡◌, ◌≢◌, ◌+◌, ◌*◌, ◌/◌, ◌<◌, ◌⊎◌, ◌==◌, ◌&&◌, ◌||◌, ◌++◌, ◌∙◌, ℕ, not, nat_lt, Bool, true, false, List, [], Option, None, Some, option_and_then, slice_get, arith, refl, sym, ap, subst, inl, inr, add-zero, lt-ltb, ne_eqb}
+use Rattle.safety.proofs.Words.{list_any, flat_map, cases_eq, or_parts, or_cases, and_from, false≢true, not_from_false, list_any-append, slice_get_within, put, Block, address_of, is_in, is_inside, Writes, changed, is_due, gives, put_here, put_elsewhere, gives_is, address_inside, Command, command_of, named_context, device_context_bytes, input_context_bytes, Header, Write, Erstba, IsHeader, shape_of, command_id, event_shape, driver_rings, World, UnderWay, stored, counted, Known, learned, command_at, next_command, with_device, with_word, written, command_given, taken_device, Leased, Range, InputContext, covers, lease_start, lease_bytes, segment_ranges, table_range, context_ranges, entry_ranges, device_ranges, open_on, open_ranges, open_leases, is_leased, write_tests, tests, broken, IsIn, IsUnfinished, DriverKeeps, Stands, EventsStand, touches_events, IsUnchanged, Matches, Agrees}
+use Rattle.world_state.specs.World.{event_at}
 use Rattle.world_state.specs.World as of_world
-use Rattle.controller_model.specs.Steps.{counted}
-use Rattle.ring_knowledge.specs.Known.{Known}
-use Rattle.ring_knowledge.specs.Learned.{learned}
-use Rattle.ring_knowledge.specs.Rings.{command_at, next_command}
-use Rattle.ring_knowledge.specs.Writes.{with_device, with_word, written, command_given, taken_device}
-use Rattle.ownership_rules.specs.OpenLeases.{Leased, Range, InputContext, covers, lease_start, lease_bytes, segment_ranges, table_range, context_ranges, entry_ranges, device_ranges, open_on, open_ranges, open_leases, is_leased}
-use Rattle.ownership_rules.specs.Writes.{write_tests}
-use Rattle.ownership_rules.specs.Rules.{tests, broken}
-use Rattle.ownership_rules.proofs.Among.{IsIn}
-use Rattle.safety.specs.Keeps.{IsUnfinished, DriverKeeps}
-use Rattle.safety.specs.Stands.{Stands, EventsStand, touches_events}
-use Rattle.safety.specs.Matches.{IsUnchanged, Matches, Agrees}
 use Rattle.safety.proofs.TestsPassed.{AllFail, tests_fail, any_of_map}
 use Rattle.safety.proofs.UnfinishedLists.{fails_in, in_ranges, context_leased}
 use Rattle.safety.proofs.Headers.{EventRing, event_ring_is}

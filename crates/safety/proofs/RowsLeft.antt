@@ -1,31 +1,8 @@
 -- The rows still to come are those that no row was made of: no step of the controller touches them, and a row takes the first
-use Rattle.std.specs.Prelude.{◌≡◌, ℕ, ◌+◌, ◌==◌, ◌&&◌, if◌then◌else◌, Bool, true, false, not, List, [], ◌∷◌, Option, Some, None, option_map, option_and_then, is_some, position, ◌||◌, ◌-◌, length, nat_lt}
-use Rattle.std.specs.List.{list_any, range_with_len}
-use Rattle.std.proofs.Common.{refl, sym, ◌∙◌, ap}
-use Rattle.std.proofs.lemmas.Option.{none-some, same_Some}
-use Rattle.trb.specs.declared.block.Block.{Block}
-use Rattle.trb.specs.Bits.{is_set}
-use Rattle.trb.specs.Block.{block_at, code, cycle, endpoint, kind, pointer, same_words, slot, word}
-use Rattle.trb.specs.CompletionCode.{is_success, is_halting, is_trb_error, is_stopping}
-use Rattle.trb.specs.Kind.{is_command_completion, is_link, is_other_event, is_transfer_event}
-use Rattle.guest_memory.specs.Memory.{put, put_pair}
-use Rattle.commands.specs.declared.command.Command.{Command}
-use Rattle.commands.specs.declared.state.EndpointState.{EndpointState}
-use Rattle.commands.specs.declared.state.EndpointState.TheVariants.{Running, Stopped, Halted, Error}
-use Rattle.commands.specs.Command.{command_of, may_answer_slot, named_context}
-use Rattle.commands.specs.States.{can_succeed, is_running, is_stopped}
-use Rattle.commands.specs.Changes.{Change, SlotGoesOn, DeviceLeft, Disables, Places, Stops, Resets, changes, slot_gone_on}
-use Rattle.event_ring.specs.EventRing.{position_from, erdp_address, is_event_place}
-use Rattle.traces.specs.declared.header.Header.{Header}
-use Rattle.traces.specs.declared.row.Row.{Row}
-use Rattle.traces.specs.declared.row.Row.TheVariants.{Sub, Write, Reg, Bell, Read}
-use Rattle.traces.specs.declared.register.Register.{Register}
-use Rattle.traces.specs.declared.register.Register.TheVariants.{Usbcmd, Usbsts, Dnctrl, Crcr, Dcbaap, Config, Iman, Imod, Erstsz, Erstba, Erdp}
-use Rattle.traces.specs.Header.{command_id, event_shape, ring_having}
-use Rattle.traces.specs.Register.{register_or_zero, run_bit, reset_bit}
-use Rattle.world_state.specs.World.{World, UnderWay, event_at}
+use Rattle.std.proofs.Common.{◌≡◌, ◌+◌, ◌==◌, ◌&&◌, if◌then◌else◌, ◌∷◌, ◌||◌, ◌-◌, ◌∙◌, ℕ, Bool, true, false, not, List, [], Option, Some, None, option_map, option_and_then, is_some, position, length, nat_lt, refl, sym, ap}
+use Rattle.safety.proofs.Words.{list_any, range_with_len, none-some, same_Some, Block, is_set, block_at, code, cycle, endpoint, kind, pointer, same_words, slot, word, is_success, is_halting, is_trb_error, is_stopping, is_command_completion, is_link, is_other_event, is_transfer_event, put, put_pair, Command, EndpointState, Running, Stopped, Halted, Error, command_of, may_answer_slot, named_context, can_succeed, is_running, is_stopped, Change, SlotGoesOn, DeviceLeft, Disables, Places, Stops, Resets, changes, slot_gone_on, position_from, erdp_address, is_event_place, Header, Row, Sub, Write, Reg, Bell, Read, Register, Usbcmd, Usbsts, Dnctrl, Crcr, Dcbaap, Config, Iman, Imod, Erstsz, Erstba, Erdp, command_id, event_shape, ring_having, register_or_zero, run_bit, reset_bit, World, UnderWay, unreported}
+use Rattle.world_state.specs.World.{event_at}
 use Rattle.world_state.specs.World as of_world
-use Rattle.world_state.specs.Takes.{unreported}
 use Rattle.controller_model.specs.DriverRows as driver
 use Rattle.controller_model.specs.Looks as looks
 use Rattle.controller_model.specs.Posts as posts

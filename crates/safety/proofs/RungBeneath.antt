@@ -1,22 +1,6 @@
 -- The doorbell of an endpoint whose ring is held beneath an event that isn't read yet: the two may change places
-use Rattle.std.specs.Prelude.{◌≡◌, ℕ, ◌==◌, ◌||◌, true, false, not, [], Option, None, Some}
-use Rattle.std.proofs.Common.{refl, sym, ◌∙◌, ap, subst}
-use Rattle.std.proofs.lemmas.Bool.{cond-false, false≢true}
-use Rattle.trb.specs.declared.block.Block.{Block}
-use Rattle.segments.specs.RingView.{Opens}
-use Rattle.segments.specs.Ceiling.{is_open}
-use Rattle.commands.specs.States.{is_running, is_stopped}
-use Rattle.traces.specs.declared.header.Header.{Header}
-use Rattle.traces.specs.declared.row.Row.TheVariants.{Bell, Read}
-use Rattle.traces.specs.Header.{IsHeader, command_id}
-use Rattle.ring_knowledge.specs.Known.{Known}
-use Rattle.ring_knowledge.specs.Rings.{on_ring}
-use Rattle.ring_knowledge.specs.Registers.{endpoint_rung, rung}
-use Rattle.ring_knowledge.specs.Learned.{learned}
-use Rattle.ownership_rules.specs.Doorbells.{is_touched, is_bad_bell}
-use Rattle.ownership_rules.specs.Rules.{broken}
-use Rattle.safety.specs.Keeps.{DriverKeeps}
-use Rattle.safety.specs.Beneath.{HeldMore, is_open_if, is_idle, Square}
+use Rattle.std.proofs.Common.{◌≡◌, ◌==◌, ◌||◌, ◌∙◌, ℕ, true, false, not, [], Option, None, Some, refl, sym, ap, subst}
+use Rattle.safety.proofs.Words.{cond-false, false≢true, Block, Opens, is_open, is_running, is_stopped, Header, Bell, Read, IsHeader, command_id, Known, on_ring, endpoint_rung, rung, learned, is_touched, is_bad_bell, broken, DriverKeeps, HeldMore, is_open_if, is_idle, Square}
 use Rattle.safety.proofs.TestsPassed.{clean_tests}
 use Rattle.safety.proofs.CleanRows.{EventFacts, event_facts, BellFacts, bell_facts}
 use Rattle.safety.proofs.SameDriver.{SameDriver, both_drivers}

@@ -1,27 +1,6 @@
 -- A world that agrees with what a rule-keeping driver's rows lead to is safe: harm by harm
-use Rattle.std.specs.Prelude.{◌≡◌, ℕ, ◌+◌, ◌-◌, ◌<◌, ◌≤◌, ◌==◌, ◌&&◌, Bool, false, not, List, [], ◌∷◌, nat_lt, nat_le, None, find, option_map}
-use Rattle.std.specs.List.{list_any}
-use Rattle.std.proofs.Common.{arith, refl, sym, ◌∙◌, ap, inl, inr}
-use Rattle.std.proofs.lemmas.Bool.{cases_Bool, cases_eq, and_left, and_right, eq-eqb, or_from, le-ltb, lt-leb, not_from_true}
-use Rattle.trb.specs.declared.block.Block.{Block}
-use Rattle.trb.specs.Block.{block_at, cycle}
-use Rattle.segments.specs.Spots.{number, spot_address}
-use Rattle.segments.specs.declared.spot.Spot.{Spot}
-use Rattle.segments.proofs.Reaching.{given_count_declared}
-use Rattle.traces.specs.declared.header.Header.{Header}
-use Rattle.traces.specs.declared.ring.Ring.{Ring}
-use Rattle.traces.specs.declared.row.Row.{Row}
-use Rattle.traces.specs.Header.{IsHeader, shape_of, command_id, event_size, some_ring}
-use Rattle.world_state.specs.declared.harm.Harm.{Harm}
-use Rattle.world_state.specs.declared.harm.Harm.TheVariants.{TakenOutOfOrder, TakenOtherWords, WaitsInsideDescriptor, LooksOutside, PostsOverUnread, InputContextChanged}
-use Rattle.world_state.specs.World.{World}
-use Rattle.world_state.specs.Harms.{is_out_of_order, has_other_words, is_inside_descriptor, waits, harms, harm_of, IsSafe, has_changed_context}
-use Rattle.ring_knowledge.specs.Known.{Known}
-use Rattle.ring_knowledge.specs.Learned.{known}
-use Rattle.safety.specs.Keeps.{IsDriverRing, DriverKeeps}
-use Rattle.safety.specs.Stands.{Stands}
-use Rattle.safety.specs.Matches.{RingMatches, state_of, Agrees}
-use Rattle.safety.specs.Invariant.{Runs, reading}
+use Rattle.std.proofs.Common.{◌≡◌, ◌+◌, ◌-◌, ◌<◌, ◌≤◌, ◌==◌, ◌&&◌, ◌∷◌, ◌∙◌, ℕ, Bool, false, not, List, [], nat_lt, nat_le, None, find, option_map, arith, refl, sym, ap, inl, inr, eq-eqb, le-ltb}
+use Rattle.safety.proofs.Words.{list_any, cases_Bool, cases_eq, and_left, and_right, or_from, lt-leb, not_from_true, Block, block_at, cycle, number, spot_address, Spot, given_count_declared, Header, Ring, Row, IsHeader, shape_of, command_id, event_size, some_ring, Harm, TakenOutOfOrder, TakenOtherWords, WaitsInsideDescriptor, LooksOutside, PostsOverUnread, InputContextChanged, World, is_out_of_order, has_other_words, is_inside_descriptor, waits, harms, harm_of, IsSafe, has_changed_context, Known, known, IsDriverRing, DriverKeeps, Stands, RingMatches, state_of, Agrees, Runs, reading}
 use Rattle.safety.proofs.Headers.{transfer_driver, ring_shape}
 use Rattle.safety.proofs.AtSpots.{MayStand}
 use Rattle.safety.proofs.NoWait.{ceiling_given, inside_no_border, cycle_inside}

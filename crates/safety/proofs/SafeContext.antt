@@ -1,32 +1,6 @@
 -- The input context of the command under way is as it was when the command was given
-use Rattle.std.specs.Prelude.{◌≡◌, ℕ, suc, zero, ◌+◌, ◌*◌, ◌/◌, ◌<◌, ◌≤◌, Bool, true, false, [], nat_lt, Option, Some, None, is_some, option_and_then, slice_get}
-use Rattle.std.specs.List.{list_any, range_with_len}
-use Rattle.std.proofs.Common.{arith, refl, sym, ◌∙◌, ap, inl, inr, get_or}
-use Rattle.std.proofs.lemmas.Bool.{false≢true, or_from, le-ltb}
-use Rattle.std.proofs.lemmas.Option.{slice_get-get_or}
-use Rattle.trb.specs.declared.block.Block.{Block}
-use Rattle.segments.specs.declared.spot.Spot.{Spot}
-use Rattle.segments.specs.Places.{address_of}
-use Rattle.segments.specs.RingView.{floor_number, is_due}
-use Rattle.segments.specs.Ceiling.{given_count}
-use Rattle.segments.proofs.Search.{cases_option}
-use Rattle.segments.proofs.Positions.{cycle_of_bit}
-use Rattle.segments.proofs.Giving.{due_from}
-use Rattle.segments.proofs.GivenCount.{given_below}
-use Rattle.segments.proofs.StepFacts.{step_is}
-use Rattle.segments.proofs.Reaching.{given_count_declared, given_count_near}
-use Rattle.commands.specs.declared.command.Command.{Command}
-use Rattle.commands.specs.Command.{command_of, named_context}
-use Rattle.contexts.specs.Contexts.{input_context_bytes}
-use Rattle.traces.specs.declared.header.Header.{Header}
-use Rattle.traces.specs.declared.register.Register.TheVariants.{Crcr}
-use Rattle.traces.specs.Header.{IsHeader, shape_of, command_id}
-use Rattle.world_state.specs.World.{World, UnderWay}
-use Rattle.world_state.specs.Harms.{is_changed_since, is_context_changed, has_changed_context}
-use Rattle.ring_knowledge.specs.Known.{Known}
-use Rattle.ring_knowledge.specs.Rings.{command_at, next_command}
-use Rattle.safety.specs.Keeps.{IsDriverRing, DriverKeeps}
-use Rattle.safety.specs.Matches.{RingMatches, state_of, UnderWayMatches, IsUnchanged, Matches}
+use Rattle.std.proofs.Common.{◌≡◌, ◌+◌, ◌*◌, ◌/◌, ◌<◌, ◌≤◌, ◌∙◌, ℕ, suc, zero, Bool, true, false, [], nat_lt, Option, Some, None, is_some, option_and_then, slice_get, arith, refl, sym, ap, inl, inr, get_or, le-ltb}
+use Rattle.safety.proofs.Words.{list_any, range_with_len, false≢true, or_from, slice_get-get_or, Block, Spot, address_of, floor_number, is_due, given_count, cases_option, cycle_of_bit, due_from, given_below, step_is, given_count_declared, given_count_near, Command, command_of, named_context, input_context_bytes, Header, Crcr, IsHeader, shape_of, command_id, World, UnderWay, is_changed_since, is_context_changed, has_changed_context, Known, command_at, next_command, IsDriverRing, DriverKeeps, RingMatches, state_of, UnderWayMatches, IsUnchanged, Matches}
 use Rattle.safety.proofs.Headers.{ring_shape}
 use Rattle.safety.proofs.SameCommand.{command_of-with_cycle}
 use Rattle.safety.proofs.NoWait.{ceiling_given}

@@ -1,14 +1,7 @@
 -- A block is the same command with either Cycle bit
-use Rattle.std.specs.Prelude.{◌≡◌, ℕ, ◌<◌, ◌||◌, if◌then◌else◌, None}
-use Rattle.std.proofs.Common.{refl, ◌∙◌, ap}
-use Rattle.trb.specs.declared.block.Block.{Block}
-use Rattle.trb.specs.declared.kind.BlockKind.{BlockKind}
+use Rattle.std.proofs.Common.{◌≡◌, ◌<◌, ◌||◌, if◌then◌else◌, ◌∙◌, ℕ, None, refl, ap}
+use Rattle.safety.proofs.Words.{Block, BlockKind, with_cycle, kind, is_left_out_command, has_left_out_field, is_command_left_out, kind-with_cycle, slot-with_cycle, endpoint-with_cycle, is_set-with_cycle, command_of, command_by_kind}
 use Rattle.trb.specs.declared.kind.BlockKind.TheVariants as kinds
-use Rattle.trb.specs.Block.{with_cycle, kind}
-use Rattle.trb.specs.Kind.{is_left_out_command}
-use Rattle.trb.specs.Descriptor.{has_left_out_field, is_command_left_out}
-use Rattle.trb.proofs.BlockLemmas.{kind-with_cycle, slot-with_cycle, endpoint-with_cycle, is_set-with_cycle}
-use Rattle.commands.specs.Command.{command_of, command_by_kind}
 
 module _ (b : Block) (c : ℕ) (is_bit : c < 2) where
   fields_same : (k : BlockKind) → has_left_out_field k (with_cycle b c) ≡ has_left_out_field k b

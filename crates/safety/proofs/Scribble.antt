@@ -1,30 +1,9 @@
 -- The controller writes a word of a device context that it may write: the run goes on
-use Rattle.std.specs.Prelude.{◌≡◌, ◌≢◌, ℕ, ◌+◌, ◌*◌, ◌<◌, ◌≤◌, true, false, List, nat_lt, nat_le, Option, Some, None, slice_get, unwrap_or}
-use Rattle.std.specs.List.{list_any, range_with_len}
-use Rattle.std.proofs.Common.{arith, refl, sym, ◌∙◌, ap, subst, inl, inr, add-zero}
-use Rattle.std.proofs.lemmas.Bool.{cases_lt, lt-ltb, false≢true, false_from_ne_true, and_parts, and_from, leb-true, ltb-true}
-use Rattle.std.proofs.lemmas.Option.{cond_some, slice_get_within}
-use Rattle.trb.specs.declared.block.Block.{Block}
-use Rattle.segments.specs.Places.{address_of, is_in, is_inside, overlap, touches}
-use Rattle.segments.specs.ShapeValue.{Shape}
-use Rattle.segments.proofs.Elsewhere.{address_inside}
-use Rattle.contexts.specs.Contexts.{device_context, device_context_bytes, slot_entry}
-use Rattle.traces.specs.declared.header.Header.{Header}
-use Rattle.traces.specs.declared.row.Row.{Row}
-use Rattle.traces.specs.declared.register.Register.TheVariants.{Dcbaap}
-use Rattle.traces.specs.Header.{IsHeader, event_shape, event_size, touches_ring}
-use Rattle.traces.specs.Register.{register_or_zero}
-use Rattle.world_state.specs.World.{World, event_at, stored}
+use Rattle.std.proofs.Common.{◌≡◌, ◌≢◌, ◌+◌, ◌*◌, ◌<◌, ◌≤◌, ◌∙◌, ℕ, true, false, List, nat_lt, nat_le, Option, Some, None, slice_get, unwrap_or, arith, refl, sym, ap, subst, inl, inr, add-zero, lt-ltb, leb-true, ltb-true}
+use Rattle.safety.proofs.Words.{list_any, range_with_len, cases_lt, false≢true, false_from_ne_true, and_parts, and_from, cond_some, slice_get_within, Block, address_of, is_in, is_inside, overlap, Shape, address_inside, device_context, device_context_bytes, slot_entry, Header, Row, Dcbaap, IsHeader, event_shape, event_size, touches_ring, register_or_zero, World, stored, is_scribbled, scribbled, counted, Known, known, device_named, entry_of, any_of, some_of, DeviceKeeps, DriverKeeps, EventsStand, touches_events, Agrees, Runs, reading}
+use Rattle.segments.specs.Places.{touches}
+use Rattle.world_state.specs.World.{event_at}
 use Rattle.world_state.specs.World as of_world
-use Rattle.controller_model.specs.Steps.{is_scribbled, scribbled, counted}
-use Rattle.ring_knowledge.specs.Known.{Known}
-use Rattle.ring_knowledge.specs.Learned.{known}
-use Rattle.ring_knowledge.specs.Writes.{device_named, entry_of}
-use Rattle.ownership_rules.proofs.Among.{any_of, some_of}
-use Rattle.safety.specs.Keeps.{DeviceKeeps, DriverKeeps}
-use Rattle.safety.specs.Stands.{EventsStand, touches_events}
-use Rattle.safety.specs.Matches.{Agrees}
-use Rattle.safety.specs.Invariant.{Runs, reading}
 use Rattle.safety.proofs.Headers.{EventRing, event_ring_is, no_events}
 use Rattle.safety.proofs.RingMemory.{same_block_at}
 use Rattle.safety.proofs.Stored.{late_stored, matches_stored, stands_stored, memory_stored}

@@ -1,22 +1,6 @@
 -- The success of an unfinished command changes its own slot alone, and binds only rings that it names
-use Rattle.std.specs.Prelude.{◌≡◌, ℕ, not, if◌then◌else◌, Bool, true, false, List, [], ◌∷◌, map, Some}
-use Rattle.std.specs.List.{list_any}
-use Rattle.std.proofs.Common.{refl, ◌∙◌, ap, inl, inr}
-use Rattle.std.proofs.lemmas.Bool.{or_parts, or_left, not-false, eq-eqb, false≢true}
-use Rattle.commands.specs.declared.command.Command.{Command}
-use Rattle.commands.specs.declared.command.Command.TheVariants.{NoOp, EnableSlot, DisableSlot, AddressDevice, ConfigureEndpoint, EvaluateContext, ResetEndpoint, StopEndpoint, SetTrDequeue, ResetDevice}
-use Rattle.commands.specs.declared.state.EndpointState.{EndpointState}
-use Rattle.commands.specs.declared.state.EndpointState.TheVariants.{Disabled as Off, Running, Halted, Stopped, Error}
-use Rattle.commands.specs.States.{is_off, is_at_rest}
-use Rattle.commands.specs.Changes.{changes, placed_by_context}
-use Rattle.contexts.specs.Contexts.{added_endpoints, context_pointer}
-use Rattle.traces.specs.declared.header.Header.{Header}
-use Rattle.traces.specs.Header.{command_id, is_ring, ring_beginning_at}
-use Rattle.ring_knowledge.specs.Known.{Known}
-use Rattle.ring_knowledge.specs.Completions.{changed_by, succeeded}
-use Rattle.ownership_rules.specs.Moves.{binding_in, binds, ring_bound, binds_ring, is_bad_dequeue, is_bad_move}
-use Rattle.ownership_rules.proofs.Among.{IsIn, any_of}
-use Rattle.safety.specs.Keeps.{MovesIf}
+use Rattle.std.proofs.Common.{◌≡◌, if◌then◌else◌, ◌∷◌, ◌∙◌, ℕ, not, Bool, true, false, List, [], map, Some, refl, ap, inl, inr, eq-eqb}
+use Rattle.safety.proofs.Words.{list_any, or_parts, or_left, not-false, false≢true, Command, NoOp, EnableSlot, DisableSlot, AddressDevice, ConfigureEndpoint, EvaluateContext, ResetEndpoint, StopEndpoint, SetTrDequeue, ResetDevice, EndpointState, Off, Running, Halted, Stopped, Error, is_off, is_at_rest, changes, placed_by_context, added_endpoints, context_pointer, Header, command_id, is_ring, ring_beginning_at, Known, changed_by, succeeded, binding_in, binds, ring_bound, binds_ring, is_bad_dequeue, is_bad_move, IsIn, any_of, MovesIf}
 use Rattle.safety.proofs.TestsPassed.{any_of_map}
 use Rattle.safety.proofs.OtherSlots.{OtherSlots, Within, AllOnly, changes_others}
 

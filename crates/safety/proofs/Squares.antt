@@ -1,7 +1,5 @@
 -- A driver's row and an event that isn't read yet may change places, whatever kind of row it is
-use Rattle.traces.specs.declared.header.Header.{Header}
-use Rattle.traces.specs.declared.row.Row.TheVariants.{Sub, Write, Reg, Bell, Read}
-use Rattle.safety.specs.Beneath.{SquareLaw}
+use Rattle.safety.proofs.Words.{Header, Sub, Write, Reg, Bell, Read, SquareLaw}
 use Rattle.safety.proofs.DeclarationBeneath.{declaration_square}
 use Rattle.safety.proofs.DoorbellBeneath.{doorbell_square}
 use Rattle.safety.proofs.RegisterBeneath.{register_square}

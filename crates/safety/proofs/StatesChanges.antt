@@ -1,19 +1,6 @@
 -- What the success of a command changes keeps what is kept of endpoints, change by change
-use Rattle.std.specs.Prelude.{◌≡◌, ◌≢◌, ℕ, ◌==◌, ◌&&◌, if◌then◌else◌, Bool, true, false, List, [], ◌∷◌, Option, None, Some}
-use Rattle.std.proofs.Common.{refl, sym, ◌∙◌, ap, inl, inr}
-use Rattle.std.proofs.lemmas.Option.{none-some}
-use Rattle.segments.specs.RingView.{Holds}
-use Rattle.segments.specs.Ceiling.{ceiling}
-use Rattle.commands.specs.declared.command.Command.{Command}
-use Rattle.commands.specs.declared.state.EndpointState.{EndpointState}
-use Rattle.commands.specs.declared.state.EndpointState.TheVariants.{Disabled as Off, Running, Stopped}
-use Rattle.commands.specs.Changes.{Change, SlotGoesOn, DeviceLeft, Disables, Places, Stops, Resets}
-use Rattle.traces.specs.declared.header.Header.{Header}
-use Rattle.traces.specs.Header.{IsHeader, shape_of}
-use Rattle.ring_knowledge.specs.Known.{Known}
-use Rattle.ring_knowledge.specs.Rings.{on_ring}
-use Rattle.ring_knowledge.specs.Completions.{disabled, in_state, held_at_ceiling, changed_by, changed_by_all}
-use Rattle.safety.specs.EndpointsKeep.{EndpointsKeep}
+use Rattle.std.proofs.Common.{◌≡◌, ◌≢◌, ◌==◌, ◌&&◌, if◌then◌else◌, ◌∷◌, ◌∙◌, ℕ, Bool, true, false, List, [], Option, None, Some, refl, sym, ap, inl, inr}
+use Rattle.safety.proofs.Words.{none-some, Holds, ceiling, Command, EndpointState, Off, Running, Stopped, Change, SlotGoesOn, DeviceLeft, Disables, Places, Stops, Resets, Header, IsHeader, shape_of, Known, on_ring, disabled, in_state, held_at_ceiling, changed_by, changed_by_all, EndpointsKeep}
 use Rattle.safety.proofs.DriverRows.{ring_here, ring_elsewhere}
 use Rattle.safety.proofs.Endpoints.{change_keeps}
 use Rattle.safety.proofs.EndpointPut.{at_pair}

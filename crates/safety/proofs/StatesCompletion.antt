@@ -1,26 +1,6 @@
 -- A Command Completion Event keeps what is known of states
-use Rattle.std.specs.Prelude.{◌≡◌, ℕ, ◌==◌, if◌then◌else◌, true, Option, None, Some}
-use Rattle.std.proofs.Common.{refl, sym, ◌∙◌, ap}
-use Rattle.std.proofs.lemmas.Bool.{cond_both, cond-true, and_parts, false≢true}
-use Rattle.std.proofs.lemmas.Option.{same_Some}
-use Rattle.trb.specs.declared.block.Block.{Block}
-use Rattle.trb.specs.Block.{code, slot}
-use Rattle.segments.specs.declared.spot.Spot.{Spot}
-use Rattle.segments.specs.Spots.{after}
-use Rattle.segments.specs.RingView.{Reaches}
-use Rattle.commands.specs.declared.command.Command.{Command}
-use Rattle.commands.specs.declared.command.Command.TheVariants.{StopEndpoint}
-use Rattle.commands.specs.Command.{may_answer_slot}
-use Rattle.commands.specs.Changes.{changes}
-use Rattle.traces.specs.declared.header.Header.{Header}
-use Rattle.traces.specs.declared.register.Register.TheVariants.{Config}
-use Rattle.traces.specs.Header.{IsHeader, shape_of, command_id}
-use Rattle.traces.specs.Register.{register_or_zero}
-use Rattle.ring_knowledge.specs.Known.{Known}
-use Rattle.ring_knowledge.specs.Rings.{on_ring, command_at, next_command}
-use Rattle.ring_knowledge.specs.Completions.{succeeded, stop_ended, finished, completed}
-use Rattle.ownership_rules.specs.Events.{can_finish}
-use Rattle.safety.specs.Keeps.{CommandKeeps, DriverKeeps}
+use Rattle.std.proofs.Common.{◌≡◌, ◌==◌, if◌then◌else◌, ◌∙◌, ℕ, true, Option, None, Some, refl, sym, ap}
+use Rattle.safety.proofs.Words.{cond_both, cond-true, and_parts, false≢true, same_Some, Block, code, slot, Spot, after, Reaches, Command, StopEndpoint, may_answer_slot, changes, Header, Config, IsHeader, shape_of, command_id, register_or_zero, Known, on_ring, command_at, next_command, succeeded, stop_ended, finished, completed, can_finish, CommandKeeps, DriverKeeps}
 use Rattle.safety.proofs.DriverRings.{endpoints_of}
 use Rattle.safety.proofs.SameDriver.{view_after}
 use Rattle.safety.proofs.KeptRings.{CompletionFacts, next_unfinished, command_holds}

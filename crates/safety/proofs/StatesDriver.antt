@@ -1,33 +1,6 @@
 -- Declarations, writes of memory and of registers keep what is known of states
-use Rattle.std.specs.Prelude.{◌≡◌, ◌≢◌, ℕ, ◌≤◌, ◌⊎◌, ◌==◌, false, Bool, List, [], Option, None, Some, option_and_then, slice_get}
-use Rattle.std.proofs.Common.{arith, refl, sym, ◌∙◌, ap, subst, inl, inr}
-use Rattle.std.proofs.lemmas.Bool.{cond-false, ne_eqb, or_parts, false≢true}
-use Rattle.std.proofs.lemmas.Option.{none-some, slice_get_within}
-use Rattle.trb.specs.declared.block.Block.{Block}
-use Rattle.segments.specs.ShapeValue.{Shape}
-use Rattle.segments.specs.RingView.{RingView, Declares, Writes, changed, floor_number}
-use Rattle.segments.specs.Ceiling.{ceiling}
-use Rattle.segments.proofs.Search.{cases_option}
-use Rattle.segments.proofs.Declaring.{slice_get-append}
-use Rattle.segments.proofs.Writing.{given_count-writes}
-use Rattle.segments.proofs.Named.{ceiling_held, ceiling_open}
-use Rattle.commands.specs.declared.command.Command.{Command}
-use Rattle.commands.specs.declared.command.Command.TheVariants.{AddressDevice, StopEndpoint}
-use Rattle.commands.specs.declared.state.SlotState.{SlotState}
-use Rattle.commands.specs.declared.state.SlotState.TheVariants.{Disabled, Enabled, Configured}
-use Rattle.commands.specs.Command.{command_of, named_slot}
-use Rattle.commands.specs.States.{is_disabled}
-use Rattle.traces.specs.declared.header.Header.{Header}
-use Rattle.traces.specs.declared.register.Register.{Register}
-use Rattle.traces.specs.declared.row.Row.TheVariants.{Sub, Write, Reg}
-use Rattle.traces.specs.Header.{IsHeader, shape_of, command_id}
-use Rattle.ring_knowledge.specs.Known.{Known}
-use Rattle.ring_knowledge.specs.Rings.{command_at, next_command}
-use Rattle.ring_knowledge.specs.Writes.{with_device, with_word, written, command_given, taken_device}
-use Rattle.ring_knowledge.specs.Learned.{learned}
-use Rattle.ownership_rules.specs.Commands.{names_disabled_slot, is_bad_command}
-use Rattle.ownership_rules.specs.Rules.{broken}
-use Rattle.safety.specs.Keeps.{StatesKeep, DriverKeeps}
+use Rattle.std.proofs.Common.{◌≡◌, ◌≢◌, ◌≤◌, ◌⊎◌, ◌==◌, ◌∙◌, ℕ, false, Bool, List, [], Option, None, Some, option_and_then, slice_get, arith, refl, sym, ap, subst, inl, inr, ne_eqb}
+use Rattle.safety.proofs.Words.{cond-false, or_parts, false≢true, none-some, slice_get_within, Block, Shape, RingView, Declares, Writes, changed, floor_number, ceiling, cases_option, slice_get-append, given_count-writes, ceiling_held, ceiling_open, Command, AddressDevice, StopEndpoint, SlotState, Disabled, Enabled, Configured, command_of, named_slot, is_disabled, Header, Register, Sub, Write, Reg, IsHeader, shape_of, command_id, Known, command_at, next_command, with_device, with_word, written, command_given, taken_device, learned, names_disabled_slot, is_bad_command, broken, StatesKeep, DriverKeeps}
 use Rattle.safety.proofs.EndpointHistories.{row_keeps}
 use Rattle.safety.proofs.DeclaredMoves.{ceiling_declares}
 use Rattle.safety.proofs.DriverRings.{endpoints_of}

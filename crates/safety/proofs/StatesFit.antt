@@ -1,26 +1,7 @@
 -- What the success of an unfinished command changes fits the endpoints
-use Rattle.std.specs.Prelude.{◌≡◌, ◌≢◌, ℕ, ◌≤◌, nat_le, Bool, true, false, List, [], ◌∷◌, map, All, Some, is_some}
-use Rattle.std.specs.List.{list_any}
-use Rattle.std.proofs.Common.{arith, refl, sym, ◌∙◌, ap, subst, inl, inr, get_or}
-use Rattle.std.proofs.lemmas.Bool.{cond-true, and_parts, or_parts, or_left, eq-eqb, leb-true, false≢true}
-use Rattle.std.proofs.lemmas.List.Elements.{All-head, All-tail}
-use Rattle.commands.specs.declared.command.Command.{Command}
-use Rattle.commands.specs.declared.command.Command.TheVariants.{NoOp, EnableSlot, DisableSlot, AddressDevice, ConfigureEndpoint, EvaluateContext, ResetEndpoint, StopEndpoint, SetTrDequeue, ResetDevice}
-use Rattle.commands.specs.declared.state.SlotState.{SlotState}
-use Rattle.commands.specs.declared.state.SlotState.TheVariants.{Disabled}
-use Rattle.commands.specs.declared.state.EndpointState.{EndpointState}
-use Rattle.commands.specs.declared.state.EndpointState.TheVariants.{Running, Halted, Stopped, Error}
-use Rattle.commands.specs.Changes.{Change, SlotGoesOn, changes, placed_by_context}
-use Rattle.commands.specs.Command.{named_slot, named_endpoint}
-use Rattle.commands.specs.States.{is_disabled, is_off, slot_success, endpoint_success, slot_meant, endpoint_meant, is_slot_enabled, can_succeed}
-use Rattle.contexts.specs.Contexts.{added_endpoints, context_pointer}
-use Rattle.traces.specs.declared.header.Header.{Header}
-use Rattle.traces.specs.Header.{IsHeader, is_ring, ring_beginning_at}
-use Rattle.ring_knowledge.specs.Known.{Known}
-use Rattle.ring_knowledge.specs.Completions.{changed_by}
-use Rattle.ownership_rules.specs.Moves.{Binding, is_among, has_repeats, binding_in, binds, ring_bound, binds_ring}
+use Rattle.std.proofs.Common.{◌≡◌, ◌≢◌, ◌≤◌, ◌∷◌, ◌∙◌, ℕ, nat_le, Bool, true, false, List, [], map, All, Some, is_some, arith, refl, sym, ap, subst, inl, inr, get_or, eq-eqb, leb-true}
+use Rattle.safety.proofs.Words.{list_any, cond-true, and_parts, or_parts, or_left, false≢true, All-head, All-tail, Command, NoOp, EnableSlot, DisableSlot, AddressDevice, ConfigureEndpoint, EvaluateContext, ResetEndpoint, StopEndpoint, SetTrDequeue, ResetDevice, SlotState, Disabled, EndpointState, Running, Halted, Stopped, Error, Change, SlotGoesOn, changes, placed_by_context, named_slot, named_endpoint, is_disabled, is_off, slot_success, endpoint_success, slot_meant, endpoint_meant, is_slot_enabled, can_succeed, added_endpoints, context_pointer, Header, IsHeader, is_ring, ring_beginning_at, Known, changed_by, Binding, is_among, has_repeats, binding_in, binds, ring_bound, binds_ring, StillHolds}
 use Rattle.ownership_rules.specs.Commands as commands
-use Rattle.safety.specs.Placings.{StillHolds}
 use Rattle.safety.proofs.TestsPassed.{each_fails, any_of_map}
 use Rattle.safety.proofs.GivenCommands.{added_above}
 use Rattle.safety.proofs.Placings.{ring_at, Ready, the_some, ready_next, map_map, dropped, all_ready}

@@ -1,11 +1,6 @@
 -- Only one endpoint and its ring change: what is kept of states is kept
-use Rattle.std.specs.Prelude.{◌≡◌, ◌≢◌, ℕ, ◌⊎◌, true, None, Some}
-use Rattle.std.proofs.Common.{sym, ◌∙◌, ap, subst, inl, inr}
-use Rattle.std.proofs.lemmas.Bool.{cases_eq}
-use Rattle.std.proofs.lemmas.Option.{same_Some, none-some}
-use Rattle.commands.specs.declared.state.EndpointState.TheVariants.{Disabled as Off, Running}
-use Rattle.traces.specs.declared.header.Header.{Header}
-use Rattle.ring_knowledge.specs.Known.{Known}
+use Rattle.std.proofs.Common.{◌≡◌, ◌≢◌, ◌⊎◌, ◌∙◌, ℕ, true, None, Some, sym, ap, subst, inl, inr}
+use Rattle.safety.proofs.Words.{cases_eq, same_Some, none-some, Off, Running, Header, Known}
 use Rattle.safety.proofs.StatesParts.{EndpointsStand, StopsNext, SeenStand}
 
 -- that of slot s with index i, which has ring r

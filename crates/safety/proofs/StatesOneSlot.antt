@@ -1,13 +1,6 @@
 -- One slot behind the success of a command that concerns it
-use Rattle.std.specs.Prelude.{◌≡◌, ◌≢◌, ℕ, ◌⊎◌, Bool, true, false, Option, None, Some, is_some, unwrap_or}
-use Rattle.std.proofs.Common.{refl, sym, ◌∙◌, inl, inr}
-use Rattle.std.proofs.lemmas.Bool.{false≢true}
-use Rattle.std.proofs.lemmas.Option.{none-some}
-use Rattle.commands.specs.declared.command.Command.{Command}
-use Rattle.commands.specs.declared.command.Command.TheVariants.{EnableSlot, DisableSlot, AddressDevice, ConfigureEndpoint, ResetDevice}
-use Rattle.commands.specs.declared.state.SlotState.{SlotState}
-use Rattle.commands.specs.declared.state.SlotState.TheVariants.{Disabled, Enabled, Default, Addressed, Configured}
-use Rattle.commands.specs.States.{slot_success}
+use Rattle.std.proofs.Common.{◌≡◌, ◌≢◌, ◌⊎◌, ◌∙◌, ℕ, Bool, true, false, Option, None, Some, is_some, unwrap_or, refl, sym, inl, inr}
+use Rattle.safety.proofs.Words.{false≢true, none-some, Command, EnableSlot, DisableSlot, AddressDevice, ConfigureEndpoint, ResetDevice, SlotState, Disabled, Enabled, Default, Addressed, Configured, slot_success}
 use Rattle.safety.proofs.StatesParts.{SlotStands}
 
 -- the state behind it

@@ -1,21 +1,6 @@
 -- What is kept of states, in three parts: endpoints and their rings, slots, and Stopped events that were read
-use Rattle.std.specs.Prelude.{◌≡◌, ◌≢◌, ℕ, ◌<◌, ◌⊎◌, nat_lt, true, Option, None, Some}
-use Rattle.std.proofs.Common.{refl, sym, ◌∙◌, ap, subst}
-use Rattle.std.proofs.lemmas.Bool.{and_parts, and_from, ltb-true, lt-ltb, eqb-true, eq-eqb, false≢true}
-use Rattle.segments.specs.Ceiling.{ceiling}
-use Rattle.commands.specs.declared.command.Command.{Command}
-use Rattle.commands.specs.declared.command.Command.TheVariants.{StopEndpoint}
-use Rattle.commands.specs.declared.state.SlotState.{SlotState}
-use Rattle.commands.specs.declared.state.SlotState.TheVariants.{Disabled, Enabled, Configured}
-use Rattle.commands.specs.declared.state.EndpointState.TheVariants.{Disabled as Off, Running}
-use Rattle.commands.specs.Command.{is_stop_of}
-use Rattle.traces.specs.declared.header.Header.{Header}
-use Rattle.traces.specs.Header.{shape_of, command_id}
-use Rattle.ring_knowledge.specs.Known.{Known}
-use Rattle.ring_knowledge.specs.Rings.{command_at, next_command}
-use Rattle.ownership_rules.specs.Events.{may_be_taken, is_stopping_now}
-use Rattle.safety.specs.Keeps.{StatesKeep}
-use Rattle.safety.specs.EndpointsKeep.{EndpointsKeep}
+use Rattle.std.proofs.Common.{◌≡◌, ◌≢◌, ◌<◌, ◌⊎◌, ◌∙◌, ℕ, nat_lt, true, Option, None, Some, refl, sym, ap, subst, ltb-true, lt-ltb, eqb-true, eq-eqb}
+use Rattle.safety.proofs.Words.{and_parts, and_from, false≢true, ceiling, Command, StopEndpoint, SlotState, Disabled, Enabled, Configured, Off, Running, is_stop_of, Header, shape_of, command_id, Known, command_at, next_command, may_be_taken, is_stopping_now, StatesKeep, EndpointsKeep}
 use Rattle.safety.proofs.DriverRings.{transfer_ring, transfer_test}
 
 pub record EndpointsStand (k : Known) : Type 0 where

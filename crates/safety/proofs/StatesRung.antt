@@ -1,28 +1,6 @@
 -- A doorbell keeps what is known of states
-use Rattle.std.specs.Prelude.{◌≡◌, ◌≢◌, ℕ, ◌==◌, ◌&&◌, ◌||◌, not, nat_lt, true, false, [], Option, None, Some}
-use Rattle.std.proofs.Common.{arith, refl, sym, ◌∙◌, ap, subst, inl, inr}
-use Rattle.std.proofs.lemmas.Bool.{cond_both, cond-false, or_parts, or_cases, or_left, and_from, not-false, eq-eqb, false≢true}
-use Rattle.guest_memory.specs.Memory.{put_pair}
-use Rattle.segments.specs.ShapeValue.{Shape}
-use Rattle.segments.specs.RingView.{RingView, Opens, changed}
-use Rattle.segments.specs.Ceiling.{is_step_given, is_way_given}
-use Rattle.segments.proofs.GivenCount.{given_count_same}
-use Rattle.segments.proofs.Named.{ceiling_open}
-use Rattle.commands.specs.declared.command.Command.TheVariants.{StopEndpoint}
-use Rattle.commands.specs.declared.state.EndpointState.{EndpointState}
-use Rattle.commands.specs.declared.state.EndpointState.TheVariants.{Disabled as Off, Running}
-use Rattle.commands.specs.Changes.{changes}
-use Rattle.commands.specs.States.{is_running, is_stopped}
-use Rattle.traces.specs.declared.header.Header.{Header}
-use Rattle.traces.specs.declared.row.Row.TheVariants.{Bell}
-use Rattle.traces.specs.Header.{IsHeader, shape_of, command_id}
-use Rattle.ring_knowledge.specs.Known.{Known}
-use Rattle.ring_knowledge.specs.Rings.{on_ring, next_command}
-use Rattle.ring_knowledge.specs.Registers.{endpoint_rung, rung}
-use Rattle.ring_knowledge.specs.Learned.{learned}
-use Rattle.ownership_rules.specs.Doorbells.{touches_endpoint, is_touched, is_bad_bell}
-use Rattle.ownership_rules.specs.Rules.{broken}
-use Rattle.safety.specs.Keeps.{StatesKeep, DriverKeeps}
+use Rattle.std.proofs.Common.{◌≡◌, ◌≢◌, ◌==◌, ◌&&◌, ◌||◌, ◌∙◌, ℕ, not, nat_lt, true, false, [], Option, None, Some, arith, refl, sym, ap, subst, inl, inr, eq-eqb}
+use Rattle.safety.proofs.Words.{cond_both, cond-false, or_parts, or_cases, or_left, and_from, not-false, false≢true, put_pair, Shape, RingView, Opens, changed, is_step_given, is_way_given, given_count_same, ceiling_open, StopEndpoint, EndpointState, Off, Running, changes, is_running, is_stopped, Header, Bell, IsHeader, shape_of, command_id, Known, on_ring, next_command, endpoint_rung, rung, learned, touches_endpoint, is_touched, is_bad_bell, broken, StatesKeep, DriverKeeps}
 use Rattle.safety.proofs.RingIds.{command_not_transfer}
 use Rattle.safety.proofs.DriverRows.{ring_here, ring_elsewhere}
 use Rattle.safety.proofs.EndpointHistories.{row_keeps}

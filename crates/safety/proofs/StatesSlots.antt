@@ -1,18 +1,6 @@
 -- The success of a command keeps what is kept of slots
-use Rattle.std.specs.Prelude.{◌≡◌, ◌≢◌, ℕ, ◌<◌, ◌==◌, ◌&&◌, if◌then◌else◌, nat_le, nat_lt, Bool, true, false, List, [], ◌∷◌, map, Option, None, Some}
-use Rattle.std.proofs.Common.{arith, refl, sym, ◌∙◌, ap, subst, inl, inr}
-use Rattle.std.proofs.lemmas.Bool.{cases_Bool, cases_eq, cond-true, cond-false, and_parts, and_from, and_right, eq-eqb, leb-false, ltb-true}
-use Rattle.std.proofs.lemmas.Option.{none-some}
-use Rattle.commands.specs.declared.command.Command.{Command}
-use Rattle.commands.specs.declared.command.Command.TheVariants.{EnableSlot, DisableSlot, AddressDevice, ConfigureEndpoint}
-use Rattle.commands.specs.declared.state.SlotState.{SlotState}
-use Rattle.commands.specs.declared.state.EndpointState.{EndpointState}
-use Rattle.commands.specs.declared.state.EndpointState.TheVariants.{Disabled as Off, Running}
-use Rattle.commands.specs.Changes.{Change, SlotGoesOn, DeviceLeft, Disables, Places, placed_by_context, is_above_control}
-use Rattle.contexts.specs.Contexts.{added_endpoints, is_dropped, context_pointer, context_cycle}
-use Rattle.traces.specs.declared.header.Header.{Header}
-use Rattle.ring_knowledge.specs.Known.{Known}
-use Rattle.ring_knowledge.specs.Completions.{disabled, pointed, changed_by, changed_by_all}
+use Rattle.std.proofs.Common.{◌≡◌, ◌≢◌, ◌<◌, ◌==◌, ◌&&◌, if◌then◌else◌, ◌∷◌, ◌∙◌, ℕ, nat_le, nat_lt, Bool, true, false, List, [], map, Option, None, Some, arith, refl, sym, ap, subst, inl, inr, eq-eqb, leb-false, ltb-true}
+use Rattle.safety.proofs.Words.{cases_Bool, cases_eq, cond-true, cond-false, and_parts, and_from, and_right, none-some, Command, EnableSlot, DisableSlot, AddressDevice, ConfigureEndpoint, SlotState, EndpointState, Off, Running, Change, SlotGoesOn, DeviceLeft, Disables, Places, placed_by_context, is_above_control, added_endpoints, is_dropped, context_pointer, context_cycle, Header, Known, disabled, pointed, changed_by, changed_by_all}
 use Rattle.safety.proofs.EndpointPut.{at_pair}
 use Rattle.safety.proofs.StatesParts.{EndpointsStand, SlotStands, SlotsStand}
 use Rattle.safety.proofs.StatesPlaced.{IsPlaced, placed_is}

@@ -1,18 +1,7 @@
 -- The success of an unfinished command keeps what is kept of endpoints and slots
-use Rattle.std.specs.Prelude.{◌≡◌, ◌≢◌, ℕ, Bool, true, false, List, [], ◌∷◌, Some}
-use Rattle.std.proofs.Common.{refl, ◌∙◌, inl, inr}
-use Rattle.commands.specs.declared.command.Command.{Command}
-use Rattle.commands.specs.declared.command.Command.TheVariants.{NoOp, EnableSlot, DisableSlot, AddressDevice, ConfigureEndpoint, EvaluateContext, ResetEndpoint, StopEndpoint, SetTrDequeue, ResetDevice}
-use Rattle.commands.specs.declared.state.EndpointState.TheVariants.{Stopped}
-use Rattle.commands.specs.Command.{named_slot}
-use Rattle.commands.specs.Changes.{Change, Places, Stops, Resets, changes}
-use Rattle.traces.specs.declared.header.Header.{Header}
-use Rattle.traces.specs.Header.{IsHeader}
-use Rattle.ring_knowledge.specs.Known.{Known}
-use Rattle.ring_knowledge.specs.Completions.{pointed, changed_by, changed_by_all, succeeded}
+use Rattle.std.proofs.Common.{◌≡◌, ◌≢◌, ◌∷◌, ◌∙◌, ℕ, Bool, true, false, List, [], Some, refl, inl, inr}
+use Rattle.safety.proofs.Words.{Command, NoOp, EnableSlot, DisableSlot, AddressDevice, ConfigureEndpoint, EvaluateContext, ResetEndpoint, StopEndpoint, SetTrDequeue, ResetDevice, Stopped, named_slot, Change, Places, Stops, Resets, changes, Header, IsHeader, Known, pointed, changed_by, changed_by_all, succeeded, StillHolds, EndpointsKeep}
 use Rattle.ownership_rules.specs.Commands as commands
-use Rattle.safety.specs.Placings.{StillHolds}
-use Rattle.safety.specs.EndpointsKeep.{EndpointsKeep}
 use Rattle.safety.proofs.StatesParts.{EndpointsStand, SlotsStand, slots_same}
 use Rattle.safety.proofs.StatesPlaced.{IsPlaced, placed_is, IsMoved, pointed_on, on_is, some_ring}
 use Rattle.safety.proofs.StatesChanges.{RestsThere, FitAll, changes_stand}

@@ -1,19 +1,6 @@
 -- No event holds the command ring
-use Rattle.std.specs.Prelude.{◌≡◌, true, None}
-use Rattle.std.proofs.Common.{refl, ◌∙◌, ap}
-use Rattle.trb.specs.declared.block.Block.{Block}
-use Rattle.trb.specs.declared.kind.BlockKind.{BlockKind}
-use Rattle.trb.specs.declared.kind.BlockKind.TheVariants.{TransferEvent, CommandCompletion}
-use Rattle.trb.specs.Block.{kind}
-use Rattle.segments.specs.RingView.{RingView}
-use Rattle.segments.specs.Ceiling.{is_open}
-use Rattle.traces.specs.declared.header.Header.{Header}
-use Rattle.traces.specs.declared.row.Row.TheVariants.{Read}
-use Rattle.traces.specs.Header.{IsHeader, command_id}
-use Rattle.ring_knowledge.specs.Known.{Known}
-use Rattle.ring_knowledge.specs.Learned.{event_read, learned}
-use Rattle.safety.specs.Keeps.{DriverKeeps}
-use Rattle.safety.specs.EndpointsKeep.{EndpointsKeep}
+use Rattle.std.proofs.Common.{◌≡◌, ◌∙◌, true, None, refl, ap}
+use Rattle.safety.proofs.Words.{Block, BlockKind, TransferEvent, CommandCompletion, kind, RingView, is_open, Header, Read, IsHeader, command_id, Known, event_read, learned, DriverKeeps, EndpointsKeep}
 use Rattle.safety.proofs.DriverRings.{endpoints_of}
 use Rattle.safety.proofs.TransferFrames.{transfer_command}
 use Rattle.safety.proofs.KeptCommands.{completed_view}

@@ -1,16 +1,6 @@
 -- A clean history keeps what the rules keep of each ring, so long as what was tested of a command holds still when it succeeds
-use Rattle.std.specs.Prelude.{List, [], ◌∷◌}
-use Rattle.trb.specs.Block.{slot}
-use Rattle.traces.specs.declared.header.Header.{Header}
-use Rattle.traces.specs.declared.row.Row.{Row}
-use Rattle.traces.specs.declared.row.Row.TheVariants.{Sub, Write, Reg, Bell, Read}
-use Rattle.traces.specs.Header.{IsHeader}
-use Rattle.ring_knowledge.specs.Known.{Known}
-use Rattle.ring_knowledge.specs.Learned.{known}
-use Rattle.ownership_rules.specs.Clean.{IsClean}
-use Rattle.safety.specs.RingsKeep.{RingsKeep}
-use Rattle.safety.specs.EndpointsKeep.{EndpointsKeep}
-use Rattle.safety.specs.KeptHistories.{MayRead, StillReads, StillReadsAll}
+use Rattle.std.proofs.Common.{◌∷◌, List, []}
+use Rattle.safety.proofs.Words.{slot, Header, Row, Sub, Write, Reg, Bell, Read, IsHeader, Known, known, IsClean, RingsKeep, EndpointsKeep, MayRead, StillReads, StillReadsAll}
 use Rattle.safety.proofs.DriverRows.{nothing_keeps}
 use Rattle.safety.proofs.EndpointHistories.{keeps_endpoints}
 use Rattle.safety.proofs.Placings.{still_places}

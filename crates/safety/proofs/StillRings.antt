@@ -1,36 +1,6 @@
 -- Behind an event an endpoint whose doorbell does nothing stays one
-use Rattle.std.specs.Prelude.{◌≡◌, ℕ, ◌==◌, ◌&&◌, ◌||◌, not, if◌then◌else◌, Bool, true, false, [], Option, None, Some}
-use Rattle.std.specs.List.{list_any}
-use Rattle.std.proofs.Common.{refl, sym, ◌∙◌, ap, subst, inl, inr}
-use Rattle.std.proofs.lemmas.Bool.{cases_Bool, cond_both, and_parts, or_from, eqb-true, eq-eqb, and_from, not-false, false≢true, false_from_ne_true}
-use Rattle.guest_memory.specs.Memory.{put_pair}
-use Rattle.trb.specs.declared.block.Block.{Block}
-use Rattle.trb.specs.declared.kind.BlockKind.{BlockKind}
-use Rattle.trb.specs.declared.kind.BlockKind.TheVariants.{TransferEvent, CommandCompletion}
-use Rattle.trb.specs.Block.{kind, code, slot, endpoint}
-use Rattle.trb.specs.Kind.{is_transfer_event, is_command_completion}
-use Rattle.trb.specs.CompletionCode.{is_success, is_halting, is_trb_error, is_stopping}
-use Rattle.segments.specs.declared.spot.Spot.{Spot}
-use Rattle.segments.specs.Spots.{number, after}
-use Rattle.segments.specs.Ceiling.{ceiling, is_data_below, is_stop_spot}
-use Rattle.commands.specs.declared.command.Command.{Command}
-use Rattle.commands.specs.declared.command.Command.TheVariants.{StopEndpoint}
-use Rattle.commands.specs.declared.state.EndpointState.{EndpointState}
-use Rattle.commands.specs.declared.state.EndpointState.TheVariants.{Halted, Error}
-use Rattle.commands.specs.Changes.{changes, touches}
-use Rattle.traces.specs.declared.header.Header.{Header}
-use Rattle.traces.specs.declared.row.Row.TheVariants.{Read}
-use Rattle.traces.specs.Header.{IsHeader, shape_of}
-use Rattle.ring_knowledge.specs.Known.{Known}
-use Rattle.ring_knowledge.specs.Rings.{RingSpot, on_ring, event_at, next_command, unfinished}
-use Rattle.ring_knowledge.specs.Transfers.{passed, broken_off, stopped_at, transferred, transferred_at, transfer_read}
-use Rattle.ring_knowledge.specs.Learned.{event_read, learned}
-use Rattle.ownership_rules.specs.Doorbells.{touches_endpoint, is_touched}
-use Rattle.ownership_rules.specs.Events.{is_in_profile, is_working, is_stopping_now, can_report, can_report_at, is_impossible_by_kind}
-use Rattle.ownership_rules.specs.Rules.{broken}
-use Rattle.ownership_rules.proofs.Among.{some_of, any_of}
-use Rattle.safety.specs.Keeps.{DriverKeeps}
-use Rattle.safety.specs.Beneath.{IsIdleEndpoint, MayRing}
+use Rattle.std.proofs.Common.{◌≡◌, ◌==◌, ◌&&◌, ◌||◌, if◌then◌else◌, ◌∙◌, ℕ, not, Bool, true, false, [], Option, None, Some, refl, sym, ap, subst, inl, inr, eqb-true, eq-eqb}
+use Rattle.safety.proofs.Words.{list_any, cases_Bool, cond_both, and_parts, or_from, and_from, not-false, false≢true, false_from_ne_true, put_pair, Block, BlockKind, TransferEvent, CommandCompletion, kind, code, slot, endpoint, is_transfer_event, is_command_completion, is_success, is_halting, is_trb_error, is_stopping, Spot, number, after, ceiling, is_data_below, is_stop_spot, Command, StopEndpoint, EndpointState, Halted, Error, changes, touches, Header, Read, IsHeader, shape_of, Known, RingSpot, on_ring, event_at, next_command, unfinished, passed, broken_off, stopped_at, transferred, transferred_at, transfer_read, event_read, learned, touches_endpoint, is_touched, is_in_profile, is_working, is_stopping_now, can_report, can_report_at, is_impossible_by_kind, broken, some_of, any_of, DriverKeeps, IsIdleEndpoint, MayRing}
 use Rattle.safety.proofs.CleanRows.{EventFacts, event_facts}
 use Rattle.safety.proofs.EndpointPut.{at_pair}
 use Rattle.safety.proofs.KeptRings.{completion_facts, next_unfinished}

@@ -1,31 +1,8 @@
 -- What the report of a stop is, and what is known of the ring and of its Stop Endpoint behind it
-use Rattle.std.specs.Prelude.{◌≡◌, ℕ, ◌+◌, ◌-◌, ◌≤◌, ◌==◌, ◌&&◌, ◌||◌, ◌⊎◌, Bool, true, not, List, length, nat_lt, nat_le, drop, Option, Some, None}
-use Rattle.std.proofs.Common.{arith, refl, sym, ◌∙◌, ap, inl, inr}
-use Rattle.std.proofs.lemmas.Bool.{false≢true, and_parts, and_from, not-false, eqb-true, eq-eqb, cases_lt, lt-ltb, le-leb, or_left, or_right}
-use Rattle.std.proofs.lemmas.Option.{none-some, same_Some}
-use Rattle.guest_memory.specs.Memory.{put}
-use Rattle.trb.specs.declared.block.Block.{Block}
-use Rattle.segments.specs.declared.spot.Spot.{Spot}
-use Rattle.segments.specs.declared.spot.Spot.TheVariants.{Data, Link}
-use Rattle.segments.specs.ShapeValue.{Shape}
-use Rattle.segments.specs.Spots.{number}
-use Rattle.segments.specs.RingView.{RingView, Reaches, Holds}
-use Rattle.segments.specs.Ceiling.{given_count, is_way_given, is_stop_spot}
-use Rattle.commands.specs.declared.command.Command.{Command}
-use Rattle.commands.specs.declared.command.Command.TheVariants.{NoOp, EnableSlot, DisableSlot, AddressDevice, ConfigureEndpoint, EvaluateContext, ResetEndpoint, StopEndpoint, SetTrDequeue, ResetDevice}
-use Rattle.commands.specs.Command.{is_stop_of}
-use Rattle.commands.specs.States.{is_running}
-use Rattle.traces.specs.declared.header.Header.{Header}
-use Rattle.world_state.specs.World.{World, UnderWay}
+use Rattle.std.proofs.Common.{◌≡◌, ◌+◌, ◌-◌, ◌≤◌, ◌==◌, ◌&&◌, ◌||◌, ◌⊎◌, ◌∙◌, ℕ, Bool, true, not, List, length, nat_lt, nat_le, drop, Option, Some, None, arith, refl, sym, ap, inl, inr, eqb-true, eq-eqb, lt-ltb, le-leb}
+use Rattle.safety.proofs.Words.{false≢true, and_parts, and_from, not-false, cases_lt, or_left, or_right, none-some, same_Some, put, Block, Spot, Data, Link, Shape, number, RingView, Reaches, Holds, given_count, is_way_given, is_stop_spot, Command, NoOp, EnableSlot, DisableSlot, AddressDevice, ConfigureEndpoint, EvaluateContext, ResetEndpoint, StopEndpoint, SetTrDequeue, ResetDevice, is_stop_of, is_running, Header, World, UnderWay, takes_of, unreported, is_last, is_stop_under_way, with_stopped, with_reported, stopped_with, report_stop, Known, command_at, next_command, on_ring, was_stop_seen, Stands, EventsStand, state_of, UnderWayMatches, TakenCommand, Matches}
 use Rattle.world_state.specs.World as of_world
-use Rattle.world_state.specs.Takes.{takes_of, unreported}
-use Rattle.controller_model.specs.Posts.{is_last, is_stop_under_way, with_stopped, with_reported, stopped_with, report_stop}
-use Rattle.ring_knowledge.specs.Known.{Known}
-use Rattle.ring_knowledge.specs.Rings.{command_at, next_command, on_ring}
 use Rattle.ring_knowledge.specs.Rings as of_rings
-use Rattle.ownership_rules.specs.Events.{was_stop_seen}
-use Rattle.safety.specs.Stands.{Stands, EventsStand}
-use Rattle.safety.specs.Matches.{state_of, UnderWayMatches, TakenCommand, Matches}
 use Rattle.safety.proofs.WithReads.{with_reads}
 use Rattle.safety.proofs.LookKinds.{cond_is, put_at, put_off}
 use Rattle.safety.proofs.Learns.{LearnsRing}

@@ -1,25 +1,6 @@
 -- When a Stopped event is possible where it will be read, and what reading it adds
-use Rattle.std.specs.Prelude.{◌≡◌, ◌≢◌, ℕ, ◌||◌, true, false, not, Some}
-use Rattle.std.proofs.Common.{◌∙◌, ap}
-use Rattle.std.proofs.lemmas.Bool.{and_from, and_right, or_from, or_right, cond-true, cond-false, not_from_true}
-use Rattle.guest_memory.specs.Memory.{put_pair}
-use Rattle.trb.specs.declared.block.Block.{Block}
-use Rattle.trb.specs.Block.{code, endpoint, kind, slot}
-use Rattle.trb.specs.Kind.{is_transfer_event}
-use Rattle.trb.specs.CompletionCode.{is_success, is_halting, is_trb_error, is_stopping, is_transfer_code}
-use Rattle.segments.specs.declared.spot.Spot.{Spot}
-use Rattle.segments.specs.RingView.{Reaches, Holds}
-use Rattle.segments.specs.Ceiling.{is_stop_spot, stopped_number}
-use Rattle.commands.specs.declared.state.EndpointState.TheVariants.{Disabled as Off}
-use Rattle.commands.specs.Command.{is_stop_of}
-use Rattle.commands.specs.States.{is_off}
-use Rattle.traces.specs.declared.header.Header.{Header}
-use Rattle.traces.specs.Header.{shape_of}
-use Rattle.ring_knowledge.specs.Known.{Known}
-use Rattle.ring_knowledge.specs.Learned.{event_read}
-use Rattle.ring_knowledge.specs.Rings.{event_at, command_at, next_command, on_ring}
-use Rattle.ring_knowledge.specs.Transfers.{stopped_at, transferred, transferred_at, transfer_read}
-use Rattle.ownership_rules.specs.Events.{is_in_profile, is_working, is_stopping_now, may_be_taken, is_impossible_by_kind, is_impossible_transfer, can_report, can_report_at}
+use Rattle.std.proofs.Common.{◌≡◌, ◌≢◌, ◌||◌, ◌∙◌, ℕ, true, false, not, Some, ap}
+use Rattle.safety.proofs.Words.{and_from, and_right, or_from, or_right, cond-true, cond-false, not_from_true, put_pair, Block, code, endpoint, kind, slot, is_transfer_event, is_success, is_halting, is_trb_error, is_stopping, is_transfer_code, Spot, Reaches, Holds, is_stop_spot, stopped_number, Off, is_stop_of, is_off, Header, shape_of, Known, event_read, event_at, command_at, next_command, on_ring, stopped_at, transferred, transferred_at, transfer_read, is_in_profile, is_working, is_stopping_now, may_be_taken, is_impossible_by_kind, is_impossible_transfer, can_report, can_report_at}
 use Rattle.safety.proofs.ReportSuccess.{transfer_kind, not_off}
 
 -- the code is that of a Stopped event alone

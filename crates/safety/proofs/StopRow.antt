@@ -1,28 +1,9 @@
 -- The driver stops the controller: the run has ended, and its world is safe
-use Rattle.std.specs.Prelude.{◌≡◌, ℕ, ◌&&◌, ◌||◌, Bool, true, false, not, List, ◌∷◌, [], Some, if◌then◌else◌}
-use Rattle.std.proofs.Common.{refl, sym, ◌∙◌, ap, subst, inl, inr}
-use Rattle.std.proofs.lemmas.Bool.{cases_Bool, cond-false, cond-true, false≢true}
-use Rattle.std.proofs.lemmas.Option.{same_Some}
-use Rattle.trb.specs.declared.block.Block.{Block}
-use Rattle.trb.specs.Block.{kind}
-use Rattle.traces.specs.declared.header.Header.{Header}
-use Rattle.traces.specs.declared.row.Row.{Row}
-use Rattle.traces.specs.declared.row.Row.TheVariants.{Sub, Write, Reg, Bell, Read}
-use Rattle.traces.specs.declared.register.Register.{Register}
-use Rattle.traces.specs.declared.register.Register.TheVariants.{Usbcmd, Usbsts, Dnctrl, Crcr, Dcbaap, Config, Iman, Imod, Erstsz, Erstba, Erdp}
-use Rattle.traces.specs.Header.{IsHeader}
-use Rattle.traces.specs.Register.{run_bit, reset_bit}
-use Rattle.world_state.specs.World.{World}
-use Rattle.world_state.specs.Harms.{IsSafe}
+use Rattle.std.proofs.Common.{◌≡◌, ◌&&◌, ◌||◌, ◌∷◌, if◌then◌else◌, ◌∙◌, ℕ, Bool, true, false, not, List, [], Some, refl, sym, ap, subst, inl, inr}
+use Rattle.safety.proofs.Words.{cases_Bool, cond-false, cond-true, false≢true, same_Some, Block, kind, Header, Row, Sub, Write, Reg, Bell, Read, Register, Usbcmd, Usbsts, Dnctrl, Crcr, Dcbaap, Config, Iman, Imod, Erstsz, Erstba, Erdp, IsHeader, run_bit, reset_bit, World, IsSafe, counted, Known, learned, known, IsClean, DriverKeeps, Runs, Ended, reading}
 use Rattle.world_state.specs.Harms as of_harms
 use Rattle.controller_model.specs.DriverRows as driver
-use Rattle.controller_model.specs.Steps.{counted}
-use Rattle.ring_knowledge.specs.Known.{Known}
-use Rattle.ring_knowledge.specs.Learned.{learned, known}
 use Rattle.ring_knowledge.specs.Registers as registers
-use Rattle.ownership_rules.specs.Clean.{IsClean}
-use Rattle.safety.specs.Keeps.{DriverKeeps}
-use Rattle.safety.specs.Invariant.{Runs, Ended, reading}
 use Rattle.safety.proofs.EventRead.{learned_read}
 use Rattle.safety.proofs.ReadRow.{read_on}
 use Rattle.safety.proofs.RowFrames.{declaration_leaves, write_leaves, bell_leaves}

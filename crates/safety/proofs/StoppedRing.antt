@@ -1,24 +1,6 @@
 -- A ring whose endpoint was stopped at a spot: what the event names, and the ring behind it
-use Rattle.std.specs.Prelude.{◌≡◌, ℕ, ◌+◌, ◌-◌, ◌≤◌, ◌⊎◌, false, List, [], ◌∷◌, drop, map, min, Some}
-use Rattle.std.specs.List.{range_with_len}
-use Rattle.std.proofs.Common.{arith, refl, sym, ◌∙◌, ap, inl, inr, length-drop}
-use Rattle.std.proofs.lemmas.Bool.{false≢true}
-use Rattle.std.proofs.lemmas.List.{drop-drop}
-use Rattle.segments.specs.declared.spot.Spot.{Spot}
-use Rattle.segments.specs.declared.spot.Spot.TheVariants.{Data, Link}
-use Rattle.segments.specs.ShapeValue.{Shape}
-use Rattle.segments.specs.Places.{address_of}
-use Rattle.segments.specs.Spots.{rank, number}
-use Rattle.segments.specs.Shape.{IsShape}
-use Rattle.segments.specs.RingView.{RingView, declared, floor_number}
-use Rattle.segments.specs.Ceiling.{given_count, is_way_given, named, stopped_number}
-use Rattle.segments.specs.RingKeeps.{RingKeeps}
-use Rattle.segments.proofs.SpotOrder.{rank_least, rank_most}
-use Rattle.segments.proofs.NamedSpots.{named_spot-near}
-use Rattle.segments.proofs.Reaching.{given_count_declared, given_count_near}
-use Rattle.world_state.specs.World.{RingEvent, Took, Placed}
-use Rattle.world_state.specs.Takes.{takes_of}
-use Rattle.safety.specs.Matches.{Newest, RingState, RingMatches, Unreported}
+use Rattle.std.proofs.Common.{◌≡◌, ◌+◌, ◌-◌, ◌≤◌, ◌⊎◌, ◌∷◌, ◌∙◌, ℕ, false, List, [], drop, map, min, Some, arith, refl, sym, ap, inl, inr, length-drop, drop-drop}
+use Rattle.safety.proofs.Words.{range_with_len, false≢true, Spot, Data, Link, Shape, address_of, rank, number, IsShape, RingView, declared, floor_number, given_count, is_way_given, named, stopped_number, RingKeeps, rank_least, rank_most, named_spot-near, given_count_declared, given_count_near, RingEvent, Took, Placed, takes_of, Newest, RingState, RingMatches, Unreported}
 use Rattle.safety.proofs.NoWait.{ceiling_given, ceiling_held}
 use Rattle.safety.proofs.ReportedRing.{drop_range, low, count}
 

@@ -1,20 +1,6 @@
 -- A word that the controller writes: what stands in the world and what the controller did stay
-use Rattle.std.specs.Prelude.{◌≡◌, ◌≢◌, ℕ, ◌+◌, ◌*◌, ◌/◌, ◌<◌, ◌≤◌, ◌==◌, ◌⊎◌, true, Option, Some, None}
-use Rattle.std.proofs.Common.{arith, refl, sym, ◌∙◌, ap, inl, inr}
-use Rattle.std.proofs.lemmas.Bool.{cases_Bool, cases_eq, false≢true, cond-true, cond-false}
-use Rattle.guest_memory.specs.Memory.{put}
-use Rattle.segments.proofs.MemoryWords.{put_here, put_elsewhere}
-use Rattle.commands.specs.declared.command.Command.{Command}
-use Rattle.commands.specs.Command.{named_context}
-use Rattle.contexts.specs.Contexts.{input_context_bytes}
-use Rattle.traces.specs.declared.header.Header.{Header}
-use Rattle.traces.specs.Header.{shape_of, command_id}
-use Rattle.segments.specs.Places.{address_of}
-use Rattle.world_state.specs.World.{World, stored}
-use Rattle.ring_knowledge.specs.Known.{Known}
-use Rattle.safety.specs.Keeps.{IsUnfinished}
-use Rattle.safety.specs.Stands.{Stands, touches_events}
-use Rattle.safety.specs.Matches.{IsUnchanged, Matches}
+use Rattle.std.proofs.Common.{◌≡◌, ◌≢◌, ◌+◌, ◌*◌, ◌/◌, ◌<◌, ◌≤◌, ◌==◌, ◌⊎◌, ◌∙◌, ℕ, true, Option, Some, None, arith, refl, sym, ap, inl, inr}
+use Rattle.safety.proofs.Words.{cases_Bool, cases_eq, false≢true, cond-true, cond-false, put, put_here, put_elsewhere, Command, named_context, input_context_bytes, Header, shape_of, command_id, address_of, World, stored, Known, IsUnfinished, Stands, touches_events, IsUnchanged, Matches}
 
 -- within a step a stamp is at most that of the step
 abbrev pub Late : World → Type 0

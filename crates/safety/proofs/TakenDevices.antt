@@ -1,20 +1,7 @@
 -- What the rules say of a device context that a write takes
-use Rattle.std.specs.Prelude.{◌≡◌, ℕ, ◌%◌, ◌<◌, ◌==◌, ◌||◌, not, Bool, true, false, suc, zero, Option, None, Some, is_none, is_some}
-use Rattle.std.proofs.Common.{arith, refl, sym, ◌∙◌, ap, subst, inl, inr}
-use Rattle.std.proofs.lemmas.Bool.{and_cases, or_parts, not-false, false≢true, eqb-true}
-use Rattle.segments.specs.Places.{overlap}
-use Rattle.commands.specs.declared.command.Command.{Command}
-use Rattle.commands.specs.declared.command.Command.TheVariants.{AddressDevice}
-use Rattle.commands.specs.Command.{named_slot, named_endpoint, named_context}
-use Rattle.commands.specs.States.{is_disabled}
-use Rattle.contexts.specs.Contexts.{device_context_bytes, input_context_bytes}
-use Rattle.traces.specs.declared.header.Header.{Header}
-use Rattle.traces.specs.declared.register.Register.TheVariants.{Dcbaap}
-use Rattle.ring_knowledge.specs.Known.{Known}
-use Rattle.ring_knowledge.specs.Writes.{device_named, entry_of}
-use Rattle.ownership_rules.specs.Areas.{is_bad_area, is_in_range_lease, is_soiled}
+use Rattle.std.proofs.Common.{◌≡◌, ◌%◌, ◌<◌, ◌==◌, ◌||◌, ◌∙◌, ℕ, not, Bool, true, false, suc, zero, Option, None, Some, is_none, is_some, arith, refl, sym, ap, subst, inl, inr, eqb-true}
+use Rattle.safety.proofs.Words.{and_cases, or_parts, not-false, false≢true, overlap, Command, AddressDevice, named_slot, named_endpoint, named_context, is_disabled, device_context_bytes, input_context_bytes, Header, Dcbaap, Known, device_named, entry_of, is_bad_area, is_in_range_lease, is_soiled, DriverKeeps}
 use Rattle.ownership_rules.specs.Commands as commands
-use Rattle.safety.specs.Keeps.{DriverKeeps}
 use Rattle.safety.proofs.GivenCommands.{content_good}
 use Rattle.safety.proofs.KeptClean.{CleanTaking}
 

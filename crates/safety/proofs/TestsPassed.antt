@@ -1,16 +1,6 @@
 -- A row that breaks no rule fails none of its tests
-use Rattle.std.specs.Prelude.{◌≡◌, ◌||◌, Bool, true, false, List, [], ◌∷◌, map, All}
-use Rattle.std.proofs.Common.{refl, sym, ◌∙◌, ap, inl, inr, get_or}
-use Rattle.std.specs.List.{list_any}
-use Rattle.std.proofs.lemmas.Bool.{cases_Bool, cond-true, cond-false, false≢true, false_from_ne_true}
-use Rattle.std.proofs.lemmas.List.Folds.{list_any_at}
-use Rattle.traces.specs.declared.header.Header.{Header}
-use Rattle.traces.specs.declared.row.Row.{Row}
-use Rattle.ring_knowledge.specs.Known.{Known}
-use Rattle.ownership_rules.specs.declared.refusal.Refusal.{Refusal}
-use Rattle.ownership_rules.specs.declared.refusal.Refusal.TheVariants.{AfterStop}
-use Rattle.ownership_rules.specs.Refusal.{Test, broken_of}
-use Rattle.ownership_rules.specs.Rules.{tests, broken}
+use Rattle.std.proofs.Common.{◌≡◌, ◌||◌, ◌∷◌, ◌∙◌, Bool, true, false, List, [], map, All, refl, sym, ap, inl, inr, get_or}
+use Rattle.safety.proofs.Words.{list_any, cases_Bool, cond-true, cond-false, false≢true, false_from_ne_true, list_any_at, Header, Row, Known, Refusal, AfterStop, Test, broken_of, tests, broken}
 
 some_none : (c : Refusal) (cs : List Refusal) → c ∷ cs ≡ [] → ⊥
 some_none c cs e = cc

@@ -1,22 +1,6 @@
 -- What a Transfer Event leaves as it is
-use Rattle.std.specs.Prelude.{◌≡◌, ◌≢◌, ℕ, ◌+◌, ◌&&◌, ◌||◌, if◌then◌else◌, Bool, true, false}
-use Rattle.std.proofs.Common.{refl, sym, ◌∙◌, ap}
-use Rattle.std.proofs.lemmas.Bool.{cond_both, and_parts, or_left, or_right, or_from, false≢true}
-use Rattle.guest_memory.specs.Memory.{put_pair}
-use Rattle.trb.specs.CompletionCode.{is_success, is_halting, is_trb_error, is_stopping}
-use Rattle.segments.specs.declared.spot.Spot.{Spot}
-use Rattle.segments.specs.Spots.{number, after}
-use Rattle.segments.specs.RingView.{RingChange, Reaches, Holds}
-use Rattle.segments.specs.Ceiling.{ceiling, is_data_below, is_open, is_stop_spot, stopped_number}
-use Rattle.commands.specs.declared.state.EndpointState.{EndpointState}
-use Rattle.commands.specs.declared.state.EndpointState.TheVariants.{Halted, Error}
-use Rattle.commands.specs.States.{is_off, is_running}
-use Rattle.traces.specs.declared.header.Header.{Header}
-use Rattle.traces.specs.Header.{shape_of}
-use Rattle.ring_knowledge.specs.Known.{Known}
-use Rattle.ring_knowledge.specs.Rings.{on_ring}
-use Rattle.ring_knowledge.specs.Transfers.{passed, broken_off, stopped_at, transferred}
-use Rattle.ownership_rules.specs.Events.{is_working, is_stopping_now, can_report}
+use Rattle.std.proofs.Common.{◌≡◌, ◌≢◌, ◌+◌, ◌&&◌, ◌||◌, if◌then◌else◌, ◌∙◌, ℕ, Bool, true, false, refl, sym, ap}
+use Rattle.safety.proofs.Words.{cond_both, and_parts, or_left, or_right, or_from, false≢true, put_pair, is_success, is_halting, is_trb_error, is_stopping, Spot, number, after, RingChange, Reaches, Holds, ceiling, is_data_below, is_open, is_stop_spot, stopped_number, EndpointState, Halted, Error, is_off, is_running, Header, shape_of, Known, on_ring, passed, broken_off, stopped_at, transferred, is_working, is_stopping_now, can_report}
 use Rattle.safety.proofs.DriverRows.{ring_here, ring_elsewhere}
 use Rattle.safety.proofs.EndpointPut.{at_pair}
 use Rattle.safety.proofs.Transfers.{chain}

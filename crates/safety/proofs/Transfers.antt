@@ -1,31 +1,7 @@
 -- A Transfer Event that may be read keeps what the rules keep of each ring
-use Rattle.std.specs.Prelude.{◌≡◌, ℕ, ◌+◌, ◌<◌, ◌≤◌, ◌&&◌, ◌||◌, not, if◌then◌else◌, Bool, true, false, Option, None, Some}
-use Rattle.std.specs.Option.{option_map}
-use Rattle.std.proofs.Common.{arith, refl, sym, ◌∙◌, subst, inl, inr}
-use Rattle.std.proofs.lemmas.Bool.{cond_both, and_parts, and_cases, or_left, or_right, or_parts, or_from, not-false, false≢true}
-use Rattle.std.proofs.lemmas.Option.{none-some, same_Some}
-use Rattle.guest_memory.specs.Memory.{put_pair}
-use Rattle.trb.specs.declared.block.Block.{Block}
-use Rattle.trb.specs.Block.{pointer, code, slot, endpoint}
-use Rattle.trb.specs.CompletionCode.{is_success, is_halting, is_trb_error, is_stopping}
-use Rattle.segments.specs.declared.spot.Spot.{Spot}
-use Rattle.segments.specs.Spots.{number, after}
-use Rattle.segments.specs.RingView.{Reaches, Holds, floor_number}
-use Rattle.segments.specs.Ceiling.{ceiling, named, is_data_below, is_stop_spot, stopped_number}
-use Rattle.segments.specs.RingKeeps.{RingKeeps}
-use Rattle.segments.proofs.Reaching.{reaches_keeps, reaches_and_holds_keeps, holds_and_reaches_keeps}
-use Rattle.segments.proofs.ReachedSpots.{after_reached, number-after, stop_spot_reached, stopped_within}
-use Rattle.segments.proofs.Named.{ceiling_held, ceiling_within, below_is, IsAhead, named_ahead}
-use Rattle.commands.specs.declared.state.EndpointState.{EndpointState}
-use Rattle.commands.specs.declared.state.EndpointState.TheVariants.{Halted, Error}
-use Rattle.traces.specs.declared.header.Header.{Header}
-use Rattle.traces.specs.Header.{IsHeader, shape_of}
-use Rattle.ring_knowledge.specs.Known.{Known}
-use Rattle.ring_knowledge.specs.Rings.{RingSpot, on_ring, spot_on, event_at}
-use Rattle.ring_knowledge.specs.Transfers.{passed, broken_off, stopped_at, transferred, transferred_at, transfer_read}
-use Rattle.ownership_rules.specs.Events.{is_in_profile, is_working, is_stopping_now, can_report, can_report_at, is_impossible_transfer}
-use Rattle.commands.specs.States.{is_off}
-use Rattle.safety.specs.RingsKeep.{IsDriverRing, RingsKeep}
+use Rattle.std.proofs.Common.{◌≡◌, ◌+◌, ◌<◌, ◌≤◌, ◌&&◌, ◌||◌, if◌then◌else◌, ◌∙◌, ℕ, not, Bool, true, false, Option, None, Some, arith, refl, sym, subst, inl, inr}
+use Rattle.safety.proofs.Words.{option_map, cond_both, and_parts, and_cases, or_left, or_right, or_parts, or_from, not-false, false≢true, none-some, same_Some, put_pair, Block, pointer, code, slot, endpoint, is_success, is_halting, is_trb_error, is_stopping, Spot, number, after, Reaches, Holds, floor_number, ceiling, named, is_data_below, is_stop_spot, stopped_number, RingKeeps, reaches_keeps, reaches_and_holds_keeps, holds_and_reaches_keeps, after_reached, number-after, stop_spot_reached, stopped_within, ceiling_held, ceiling_within, below_is, IsAhead, named_ahead, EndpointState, Halted, Error, Header, IsHeader, shape_of, Known, RingSpot, on_ring, spot_on, event_at, passed, broken_off, stopped_at, transferred, transferred_at, transfer_read, is_in_profile, is_working, is_stopping_now, can_report, can_report_at, is_impossible_transfer, is_off, RingsKeep}
+use Rattle.safety.specs.RingsKeep.{IsDriverRing}
 use Rattle.safety.proofs.RingsOfHeader.{shape_allowed}
 use Rattle.safety.proofs.DriverRows.{same_keeps, on_ring_keeps, on_ring_twice_keeps}
 

@@ -1,20 +1,6 @@
 -- Where the command ring's pointer stays and its next command is the same, so is what is said of the command under way
-use Rattle.std.specs.Prelude.{◌≡◌, ◌+◌, Option, None, Some, option_and_then, slice_get}
-use Rattle.std.proofs.Common.{refl, sym, ◌∙◌, ap}
-use Rattle.trb.specs.Block.{with_cycle}
-use Rattle.segments.specs.declared.spot.Spot.{Spot}
-use Rattle.segments.specs.Places.{address_of, cycle_of}
-use Rattle.segments.specs.Spots.{number}
-use Rattle.commands.specs.declared.command.Command.{Command}
-use Rattle.commands.specs.declared.command.Command.TheVariants.{StopEndpoint}
-use Rattle.commands.specs.Command.{command_of}
-use Rattle.traces.specs.declared.header.Header.{Header}
-use Rattle.traces.specs.Header.{shape_of, command_id}
-use Rattle.world_state.specs.World.{UnderWay}
-use Rattle.ring_knowledge.specs.Known.{Known}
-use Rattle.ring_knowledge.specs.Rings.{command_at, next_command}
-use Rattle.ownership_rules.specs.Events.{was_stop_seen}
-use Rattle.safety.specs.Matches.{UnderWayMatches, TakenCommand}
+use Rattle.std.proofs.Common.{◌≡◌, ◌+◌, ◌∙◌, Option, None, Some, option_and_then, slice_get, refl, sym, ap}
+use Rattle.safety.proofs.Words.{with_cycle, Spot, address_of, cycle_of, number, Command, StopEndpoint, command_of, Header, shape_of, command_id, UnderWay, Known, command_at, next_command, was_stop_seen, UnderWayMatches, TakenCommand}
 
 module _ (h : Header) (k m : Known) (floor : (m.ring (command_id h)).floor ≡ (k.ring (command_id h)).floor) (stop_seen : m.stop_seen ≡ k.stop_seen) where
   pub next_same : next_command h m ≡ next_command h k

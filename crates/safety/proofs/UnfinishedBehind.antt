@@ -1,35 +1,6 @@
 -- Behind an event the commands that stay unfinished were unfinished before, and their slots have the same rings
-use Rattle.std.specs.Prelude.{◌≡◌, ◌≢◌, ℕ, ◌==◌, if◌then◌else◌, not, true, List, [], ◌∷◌, Option, None, Some}
-use Rattle.std.specs.List.{filter_map, range_with_len, cons_option}
-use Rattle.std.proofs.Common.{refl, sym, ◌∙◌, ap, subst, inl, inr}
-use Rattle.std.proofs.lemmas.Bool.{cases_Bool, false≢true, and_parts, and_from, cond-true, cond-false}
-use Rattle.trb.specs.declared.block.Block.{Block}
-use Rattle.trb.specs.declared.kind.BlockKind.{BlockKind}
-use Rattle.trb.specs.declared.kind.BlockKind.TheVariants.{TransferEvent, CommandCompletion}
-use Rattle.trb.specs.Block.{kind, code, slot}
-use Rattle.segments.specs.Places.{place_count}
-use Rattle.segments.specs.RingView.{floor_number, due_positions}
-use Rattle.segments.proofs.Giving.{due_from}
-use Rattle.commands.specs.declared.command.Command.{Command}
-use Rattle.commands.specs.declared.command.Command.TheVariants.{AddressDevice}
-use Rattle.commands.specs.declared.state.EndpointState.{EndpointState}
-use Rattle.commands.specs.declared.state.EndpointState.TheVariants.{Disabled as Off}
-use Rattle.commands.specs.Command.{named_slot}
-use Rattle.commands.specs.States.{can_succeed, is_off}
-use Rattle.traces.specs.declared.header.Header.{Header}
-use Rattle.traces.specs.declared.row.Row.TheVariants.{Read}
-use Rattle.traces.specs.declared.register.Register.TheVariants.{Config}
-use Rattle.traces.specs.Header.{IsHeader, shape_of, command_id, is_ring}
-use Rattle.traces.specs.Register.{register_or_zero}
-use Rattle.ring_knowledge.specs.Known.{Known}
-use Rattle.ring_knowledge.specs.Rings.{command_at, next_command, unfinished_positions, unfinished}
-use Rattle.ring_knowledge.specs.Completions.{succeeded, completed}
-use Rattle.ring_knowledge.specs.Learned.{event_read, learned}
-use Rattle.ownership_rules.specs.Events.{was_stop_seen}
-use Rattle.ownership_rules.specs.Moves.{moves_ring, is_being_moved}
-use Rattle.ownership_rules.specs.Rules.{broken}
-use Rattle.ownership_rules.proofs.Among.{IsIn, some_of, any_of, from_filter}
-use Rattle.safety.specs.Keeps.{IsDriverRing, IsUnfinished, DriverKeeps}
+use Rattle.std.proofs.Common.{◌≡◌, ◌≢◌, ◌==◌, if◌then◌else◌, ◌∷◌, ◌∙◌, ℕ, not, true, List, [], Option, None, Some, refl, sym, ap, subst, inl, inr}
+use Rattle.safety.proofs.Words.{filter_map, range_with_len, cons_option, cases_Bool, false≢true, and_parts, and_from, cond-true, cond-false, Block, BlockKind, TransferEvent, CommandCompletion, kind, code, slot, place_count, floor_number, due_positions, due_from, Command, AddressDevice, EndpointState, Off, named_slot, can_succeed, is_off, Header, Read, Config, IsHeader, shape_of, command_id, is_ring, register_or_zero, Known, command_at, next_command, unfinished_positions, unfinished, succeeded, completed, event_read, learned, was_stop_seen, moves_ring, is_being_moved, broken, IsIn, some_of, any_of, from_filter, IsDriverRing, IsUnfinished, DriverKeeps, is_command_completion}
 use Rattle.safety.proofs.CleanRows.{EventFacts, event_facts}
 use Rattle.safety.proofs.KeptRings.{CompletionFacts, completion_facts, next_unfinished}
 use Rattle.safety.proofs.SafeContext.{command_is_ring}
@@ -42,7 +13,6 @@ use Rattle.safety.proofs.UnfinishedLists.{in_filter_map}
 use Rattle.safety.proofs.LeasesBehind.{Behind, from_range, unfinished_fewer}
 use Rattle.safety.proofs.EventBehind.{event_behind}
 use Rattle.safety.proofs.HeldFurther.{command_same}
-use Rattle.trb.specs.Kind.{is_command_completion}
 
 from_filter_map : {X Y : Type 0} (f : X → Option Y) (xs : List X) (y : Y) → IsIn y (filter_map f xs) → (x : X) × IsIn x xs × (f x ≡ Some y)
 from_filter_map f [] y at = absurd at

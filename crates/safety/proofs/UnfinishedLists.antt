@@ -1,26 +1,6 @@
 -- Unfinished commands and leases stand in the lists that the rules go through
-use Rattle.std.specs.Prelude.{◌≡◌, ℕ, suc, zero, ◌+◌, ◌<◌, ◌≤◌, Bool, false, List, [], ◌∷◌, ◌++◌, Option, None, Some}
-use Rattle.std.specs.List.{list_any, range_with_len, flat_map, filter_map, cons_option}
-use Rattle.std.proofs.Common.{arith, refl, sym, ◌∙◌, ap, subst, inl, inr}
-use Rattle.std.proofs.lemmas.Bool.{cases_eq, false≢true, false_from_ne_true}
-use Rattle.segments.specs.Places.{place_count}
-use Rattle.segments.specs.RingView.{due_positions, floor_number}
-use Rattle.segments.proofs.Giving.{due_is}
-use Rattle.commands.specs.declared.command.Command.{Command}
-use Rattle.commands.specs.Command.{named_context}
-use Rattle.contexts.specs.Contexts.{device_context_bytes, input_context_bytes}
-use Rattle.event_ring.specs.EventRing.{table_bytes}
-use Rattle.traces.specs.Header.{event_shape, driver_rings}
-use Rattle.traces.specs.Register.{base_address}
-use Rattle.traces.specs.declared.header.Header.{Header}
-use Rattle.traces.specs.Header.{shape_of, command_id}
-use Rattle.ring_knowledge.specs.Known.{Known}
-use Rattle.ring_knowledge.specs.Rings.{command_at, unfinished_positions, unfinished}
-use Rattle.ring_knowledge.specs.Writes.{entry_of}
-use Rattle.ownership_rules.specs.OpenLeases.{Leased, Range, SegmentTable, InputContext, SlotEntry, DeviceContext, slots, range_of_entry, entry_ranges, range_of_context, range_of_command, context_ranges, range_of_device, device_ranges, table_range, segment_ranges, open_ranges, open_leases, open_on}
-use Rattle.traces.specs.declared.register.Register.TheVariants.{Erstba}
-use Rattle.ownership_rules.proofs.Among.{IsIn, any_of, in_filter}
-use Rattle.safety.specs.Keeps.{IsUnfinished}
+use Rattle.std.proofs.Common.{◌≡◌, ◌+◌, ◌<◌, ◌≤◌, ◌∷◌, ◌++◌, ◌∙◌, ℕ, suc, zero, Bool, false, List, [], Option, None, Some, arith, refl, sym, ap, subst, inl, inr}
+use Rattle.safety.proofs.Words.{list_any, range_with_len, flat_map, filter_map, cons_option, cases_eq, false≢true, false_from_ne_true, place_count, due_positions, floor_number, due_is, Command, named_context, device_context_bytes, input_context_bytes, table_bytes, event_shape, driver_rings, base_address, Header, shape_of, command_id, Known, command_at, unfinished_positions, unfinished, entry_of, Leased, Range, SegmentTable, InputContext, SlotEntry, DeviceContext, slots, range_of_entry, entry_ranges, range_of_context, range_of_command, context_ranges, range_of_device, device_ranges, table_range, segment_ranges, open_ranges, open_leases, open_on, Erstba, IsIn, any_of, in_filter, IsUnfinished}
 
 pub in_range : (a n x : ℕ) → a ≤ x → x < a + n → IsIn x (range_with_len a n)
 in_range a zero x low high = absurd (omega arith)

@@ -1,20 +1,6 @@
 -- The success of a command that doesn't touch an endpoint leaves its state, its ring, whether that must be moved, and where it is held
-use Rattle.std.specs.Prelude.{◌≡◌, ◌≢◌, ℕ, ◌==◌, ◌&&◌, Bool, false, List, [], ◌∷◌, Option, None, Some}
-use Rattle.std.specs.List.{list_any}
-use Rattle.std.proofs.Common.{refl, sym, ◌∙◌, ap, inl, inr}
-use Rattle.std.proofs.lemmas.Bool.{cases_Bool, false≢true, and_from, or_parts, eq-eqb}
-use Rattle.segments.specs.RingView.{Holds}
-use Rattle.segments.specs.Ceiling.{ceiling}
-use Rattle.commands.specs.declared.command.Command.{Command}
-use Rattle.commands.specs.declared.state.EndpointState.{EndpointState}
-use Rattle.commands.specs.declared.state.EndpointState.TheVariants.{Stopped}
-use Rattle.commands.specs.Changes.{Change, SlotGoesOn, DeviceLeft, Disables, Places, Stops, Resets, touches}
-use Rattle.commands.specs.States.{is_off}
-use Rattle.traces.specs.declared.header.Header.{Header}
-use Rattle.traces.specs.Header.{IsHeader, shape_of}
-use Rattle.ring_knowledge.specs.Known.{Known}
-use Rattle.ring_knowledge.specs.Completions.{pointed, disabled, in_state, held_at_ceiling, changed_by, changed_by_all}
-use Rattle.safety.specs.EndpointsKeep.{EndpointsKeep}
+use Rattle.std.proofs.Common.{◌≡◌, ◌≢◌, ◌==◌, ◌&&◌, ◌∷◌, ◌∙◌, ℕ, Bool, false, List, [], Option, None, Some, refl, sym, ap, inl, inr, eq-eqb}
+use Rattle.safety.proofs.Words.{list_any, cases_Bool, false≢true, and_from, or_parts, Holds, ceiling, Command, EndpointState, Stopped, Change, SlotGoesOn, DeviceLeft, Disables, Places, Stops, Resets, touches, is_off, Header, IsHeader, shape_of, Known, pointed, disabled, in_state, held_at_ceiling, changed_by, changed_by_all, EndpointsKeep}
 use Rattle.safety.proofs.DriverRows.{ring_elsewhere}
 use Rattle.safety.proofs.Endpoints.{change_keeps}
 use Rattle.safety.proofs.StatesParts.{EndpointsStand}

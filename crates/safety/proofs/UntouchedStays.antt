@@ -1,20 +1,6 @@
 -- A change that doesn't touch an endpoint leaves its state, which ring it has, and whether that must be moved
-use Rattle.std.specs.Prelude.{◌≡◌, ℕ, ◌==◌, ◌&&◌, Bool, false, Option, None, Some}
-use Rattle.std.proofs.Common.{refl, ◌∙◌}
-use Rattle.std.proofs.lemmas.Bool.{cond_both, cond-false}
-use Rattle.guest_memory.specs.Memory.{put_pair}
-use Rattle.segments.specs.declared.spot.Spot.{Spot}
-use Rattle.segments.specs.Moves.{target}
-use Rattle.commands.specs.declared.command.Command.{Command}
-use Rattle.commands.specs.declared.state.EndpointState.{EndpointState}
-use Rattle.commands.specs.declared.state.EndpointState.TheVariants.{Disabled as Off, Stopped}
-use Rattle.commands.specs.Changes.{Change, SlotGoesOn, DeviceLeft, Disables, Places, Stops, Resets, touches}
-use Rattle.commands.specs.States.{is_off}
-use Rattle.traces.specs.declared.header.Header.{Header}
-use Rattle.traces.specs.Header.{shape_of, ring_beginning_at}
-use Rattle.ring_knowledge.specs.Known.{Known}
-use Rattle.ring_knowledge.specs.Rings.{on_ring}
-use Rattle.ring_knowledge.specs.Completions.{set_to, bound_to, moved_to, moved, pointed, disabled, in_state, held_at_ceiling, changed_by}
+use Rattle.std.proofs.Common.{◌≡◌, ◌==◌, ◌&&◌, ◌∙◌, ℕ, Bool, false, Option, None, Some, refl}
+use Rattle.safety.proofs.Words.{cond_both, cond-false, put_pair, Spot, target, Command, EndpointState, Off, Stopped, Change, SlotGoesOn, DeviceLeft, Disables, Places, Stops, Resets, touches, is_off, Header, shape_of, ring_beginning_at, Known, on_ring, set_to, bound_to, moved_to, moved, pointed, disabled, in_state, held_at_ceiling, changed_by}
 
 pub record EndpointStays (k l : Known) (s i : ℕ) : Type 0 where
   pub state : l.endpoint_state s i ≡ k.endpoint_state s i

@@ -1,21 +1,8 @@
 -- Other events counted as read, with nothing else that they say
-use Rattle.std.specs.Prelude.{◌≡◌, ℕ, List, [], ◌∷◌, ◌++◌, Option, Some, None}
-use Rattle.std.proofs.Common.{refl, sym, ◌∙◌}
-use Rattle.trb.specs.declared.block.Block.{Block}
-use Rattle.segments.specs.declared.spot.Spot.{Spot}
-use Rattle.commands.specs.declared.command.Command.{Command}
-use Rattle.commands.specs.declared.command.Command.TheVariants.{StopEndpoint}
-use Rattle.traces.specs.declared.header.Header.{Header}
-use Rattle.traces.specs.declared.row.Row.{Row}
-use Rattle.traces.specs.declared.row.Row.TheVariants.{Read}
-use Rattle.world_state.specs.World.{World, UnderWay}
-use Rattle.ring_knowledge.specs.Known.{Known}
+use Rattle.std.proofs.Common.{◌≡◌, ◌∷◌, ◌++◌, ◌∙◌, ℕ, List, [], Option, Some, None, refl, sym}
+use Rattle.safety.proofs.Words.{Block, Spot, Command, StopEndpoint, Header, Row, Read, World, UnderWay, Known, IsUnfinished, Stands, UnderWayMatches, TakenCommand, Matches, reading}
 use Rattle.ring_knowledge.specs.Rings as of_rings
 use Rattle.ownership_rules.specs.Events as of_events
-use Rattle.safety.specs.Keeps.{IsUnfinished}
-use Rattle.safety.specs.Stands.{Stands}
-use Rattle.safety.specs.Matches.{UnderWayMatches, TakenCommand, Matches}
-use Rattle.safety.specs.Invariant.{reading}
 
 abbrev pub with_reads : Known → ℕ → Known
 with_reads k n = record k { reads = n }

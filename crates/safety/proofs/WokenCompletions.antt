@@ -1,27 +1,7 @@
 -- A Command Completion Event that is possible where an endpoint's ring is held and no unfinished command touches it: it is so where the
 -- ring was woken, and leaves it woken
-use Rattle.std.specs.Prelude.{◌≡◌, ◌≢◌, ℕ, ◌==◌, ◌&&◌, if◌then◌else◌, Bool, true, false, not, List, Some, is_some, option_and_then, slice_get}
-use Rattle.std.specs.List.{list_any}
-use Rattle.std.proofs.Common.{refl, sym, ◌∙◌, ap, subst, inl, inr}
-use Rattle.std.proofs.lemmas.Bool.{cases_Bool, and_parts, and_from, or_parts, cond-true, cond-false}
-use Rattle.trb.specs.declared.block.Block.{Block}
-use Rattle.trb.specs.Block.{code, slot}
-use Rattle.segments.specs.Spots.{after}
-use Rattle.segments.specs.RingView.{RingView, Reaches, floor_number}
-use Rattle.commands.specs.declared.command.Command.{Command}
-use Rattle.commands.specs.declared.command.Command.TheVariants.{NoOp, EnableSlot, DisableSlot, AddressDevice, ConfigureEndpoint, EvaluateContext, ResetEndpoint, StopEndpoint, SetTrDequeue, ResetDevice}
-use Rattle.commands.specs.Command.{command_of, may_answer_slot, named_slot, named_endpoint}
-use Rattle.commands.specs.States.{can_succeed, slot_meant, endpoint_meant, slot_success, endpoint_success, is_slot_enabled}
-use Rattle.commands.specs.Changes.{Change, changes, touches}
-use Rattle.traces.specs.declared.header.Header.{Header}
-use Rattle.traces.specs.declared.register.Register.TheVariants.{Config}
-use Rattle.traces.specs.Header.{IsHeader, shape_of, command_id}
-use Rattle.traces.specs.Register.{register_or_zero}
-use Rattle.ring_knowledge.specs.Known.{Known}
-use Rattle.ring_knowledge.specs.Rings.{on_ring, command_at, next_command}
-use Rattle.ring_knowledge.specs.Completions.{changed_by_all, succeeded, stop_ended, finished, completed}
-use Rattle.ownership_rules.specs.Doorbells.{touches_endpoint}
-use Rattle.ownership_rules.specs.Events.{was_stop_seen, can_finish}
+use Rattle.std.proofs.Common.{◌≡◌, ◌≢◌, ◌==◌, ◌&&◌, if◌then◌else◌, ◌∙◌, ℕ, Bool, true, false, not, List, Some, is_some, option_and_then, slice_get, refl, sym, ap, subst, inl, inr}
+use Rattle.safety.proofs.Words.{list_any, cases_Bool, and_parts, and_from, or_parts, cond-true, cond-false, Block, code, slot, after, RingView, Reaches, floor_number, Command, NoOp, EnableSlot, DisableSlot, AddressDevice, ConfigureEndpoint, EvaluateContext, ResetEndpoint, StopEndpoint, SetTrDequeue, ResetDevice, command_of, may_answer_slot, named_slot, named_endpoint, can_succeed, slot_meant, endpoint_meant, slot_success, endpoint_success, is_slot_enabled, Change, changes, touches, Header, Config, IsHeader, shape_of, command_id, register_or_zero, Known, on_ring, command_at, next_command, changed_by_all, succeeded, stop_ended, finished, completed, touches_endpoint, was_stop_seen, can_finish}
 use Rattle.safety.proofs.AlikeChanges.{both_sides_if}
 use Rattle.safety.proofs.SameDriver.{SameDriver}
 use Rattle.safety.proofs.StatesChanges.{FitAll}

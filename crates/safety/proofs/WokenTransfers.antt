@@ -1,30 +1,6 @@
 -- A Transfer Event that is possible where a ring is held: it is so where the ring was woken, and leaves it woken
-use Rattle.std.specs.Prelude.{◌≡◌, ◌≢◌, ℕ, ◌+◌, ◌≤◌, ◌&&◌, ◌||◌, if◌then◌else◌, Bool, true, false, not, Option, None, Some}
-use Rattle.std.proofs.Common.{arith, refl, sym, ◌∙◌, ap, subst, inl, inr}
-use Rattle.std.proofs.lemmas.Bool.{cases_Bool, cases_eq, false≢true, and_parts, and_from, or_parts, or_from, not-false, not_from_true, ltb-true, lt-ltb}
-use Rattle.std.proofs.lemmas.Option.{same_Some}
-use Rattle.std.specs.Option.{option_map}
-use Rattle.guest_memory.specs.Memory.{put_pair}
-use Rattle.trb.specs.declared.block.Block.{Block}
-use Rattle.trb.specs.Block.{pointer, code, slot, endpoint}
-use Rattle.trb.specs.CompletionCode.{is_success, is_halting, is_trb_error, is_stopping}
-use Rattle.segments.specs.declared.spot.Spot.{Spot}
-use Rattle.segments.specs.declared.spot.Spot.TheVariants.{Data, Link}
-use Rattle.segments.specs.ShapeValue.{Shape}
-use Rattle.segments.specs.Spots.{number, after}
-use Rattle.segments.specs.RingView.{RingView, Reaches, Opens, Holds, changed}
-use Rattle.segments.specs.Ceiling.{given_count, ceiling, is_data_below, is_open, is_stop_spot, is_step_given, is_way_given, stopped_number}
-use Rattle.segments.proofs.GivenCount.{given_count_same}
-use Rattle.segments.proofs.Named.{ceiling_open}
-use Rattle.commands.specs.declared.state.EndpointState.{EndpointState}
-use Rattle.commands.specs.declared.state.EndpointState.TheVariants.{Halted, Error}
-use Rattle.commands.specs.States.{is_off, is_running}
-use Rattle.traces.specs.declared.header.Header.{Header}
-use Rattle.traces.specs.Header.{shape_of}
-use Rattle.ring_knowledge.specs.Known.{Known}
-use Rattle.ring_knowledge.specs.Rings.{RingSpot, on_ring, spot_on, event_at}
-use Rattle.ring_knowledge.specs.Transfers.{passed, broken_off, stopped_at, transferred, transferred_at, transfer_read}
-use Rattle.ownership_rules.specs.Events.{is_in_profile, is_working, is_stopping_now, can_report, can_report_at, is_impossible_transfer}
+use Rattle.std.proofs.Common.{◌≡◌, ◌≢◌, ◌+◌, ◌≤◌, ◌&&◌, ◌||◌, if◌then◌else◌, ◌∙◌, ℕ, Bool, true, false, not, Option, None, Some, arith, refl, sym, ap, subst, inl, inr, ltb-true, lt-ltb}
+use Rattle.safety.proofs.Words.{cases_Bool, cases_eq, false≢true, and_parts, and_from, or_parts, or_from, not-false, not_from_true, same_Some, option_map, put_pair, Block, pointer, code, slot, endpoint, is_success, is_halting, is_trb_error, is_stopping, Spot, Data, Link, Shape, number, after, RingView, Reaches, Opens, Holds, changed, given_count, ceiling, is_data_below, is_open, is_stop_spot, is_step_given, is_way_given, stopped_number, given_count_same, ceiling_open, EndpointState, Halted, Error, is_off, is_running, Header, shape_of, Known, RingSpot, on_ring, spot_on, event_at, passed, broken_off, stopped_at, transferred, transferred_at, transfer_read, is_in_profile, is_working, is_stopping_now, can_report, can_report_at, is_impossible_transfer}
 use Rattle.safety.proofs.AlikeTransfers.{both_sides, chain_from}
 use Rattle.safety.proofs.AlikeChanges.{both_sides_if}
 use Rattle.safety.proofs.SameDriver.{SameDriver}

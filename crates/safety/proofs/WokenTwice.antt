@@ -1,11 +1,6 @@
 -- Two knowledges that are the same one with its ring woken: they are the same
-use Rattle.std.specs.Prelude.{◌≡◌, ℕ, Bool}
-use Rattle.std.proofs.Common.{sym, ◌∙◌, ap, subst, inl, inr}
-use Rattle.std.proofs.Math.Path.{fun_ext}
-use Rattle.std.proofs.lemmas.Bool.{cases_Bool, cases_eq}
-use Rattle.traces.specs.declared.header.Header.{Header}
-use Rattle.ring_knowledge.specs.Known.{Known}
-use Rattle.safety.specs.Beneath.{HeldMore}
+use Rattle.std.proofs.Common.{◌≡◌, ◌∙◌, ℕ, Bool, sym, ap, subst, inl, inr}
+use Rattle.safety.proofs.Words.{fun_ext, cases_Bool, cases_eq, Header, Known, HeldMore}
 use Rattle.safety.proofs.SameDriver.{SameDriver}
 use Rattle.safety.proofs.Alike.{held_same}
 use Rattle.safety.proofs.HeldFurther.{SameStates, held_more}

@@ -1,37 +1,6 @@
 -- Behind an event that may be read a write gives the same command as before it, and breaks no rule that speaks of no command
-use Rattle.std.specs.Prelude.{◌≡◌, ℕ, ◌+◌, ◌<◌, ◌&&◌, not, Bool, true, false, List, [], ◌∷◌, ◌++◌, length, map, slice_get, nat_le, None, option_and_then}
-use Rattle.std.specs.List.{list_any, range_with_len}
-use Rattle.std.proofs.Common.{arith, refl, sym, ◌∙◌, ap, subst, inl, inr}
-use Rattle.std.proofs.Math.Path.{fun_ext}
-use Rattle.std.proofs.lemmas.Bool.{not-true, cases_Bool, cond-false, false≢true, false_from_ne_true, and_parts, and_from, or_parts, or_from}
-use Rattle.guest_memory.specs.Memory.{put}
-use Rattle.trb.specs.declared.block.Block.{Block}
-use Rattle.trb.specs.Block.{block_at}
-use Rattle.segments.specs.ShapeValue.{Shape}
-use Rattle.segments.specs.Places.{place_count, address_of, cycle_of}
-use Rattle.segments.specs.RingView.{RingView, floor_number, gives, gives_crossing, due_positions, due_crossings, positions_given, crossings_given}
-use Rattle.segments.specs.RingKeeps.{MayWrite}
-use Rattle.segments.specs.Descriptors.{length_from}
-use Rattle.segments.specs.Givings.{is_declared_as, is_other_than_declared, is_not_declared, descriptor_length, is_not_whole, leads_wrong, interrupts}
-use Rattle.segments.proofs.Giving.{gives_is, gives_crossing_is}
-use Rattle.segments.proofs.OneGiving.{positions_given-one}
-use Rattle.segments.proofs.StepFacts.{whole_more}
-use Rattle.commands.specs.declared.command.Command.{Command}
-use Rattle.traces.specs.declared.header.Header.{Header}
-use Rattle.traces.specs.declared.row.Row.TheVariants.{Write, Read}
-use Rattle.traces.specs.Header.{IsHeader, shape_of, command_id, driver_rings}
-use Rattle.ring_knowledge.specs.Known.{Known}
-use Rattle.ring_knowledge.specs.Rings.{Given, Position, Crossing, given_of, given_by, command_at}
-use Rattle.ring_knowledge.specs.Writes.{command_given}
-use Rattle.ring_knowledge.specs.Learned.{learned}
-use Rattle.ownership_rules.specs.Refusal.{Test, broken_of}
-use Rattle.ownership_rules.specs.declared.refusal.Refusal.TheVariants.{AfterStop}
-use Rattle.ownership_rules.specs.Rules.{tests, broken}
-use Rattle.ownership_rules.specs.Writes.{on_position, on_crossing, holds_of, some_given, some_crossed, some_command, write_tests}
-use Rattle.ownership_rules.specs.OpenLeases.{is_leased}
-use Rattle.ownership_rules.specs.Moves.{is_being_moved}
-use Rattle.ownership_rules.proofs.Among.{IsIn, some_of, any_of, in_filter, from_filter}
-use Rattle.safety.specs.Keeps.{DriverKeeps}
+use Rattle.std.proofs.Common.{◌≡◌, ◌+◌, ◌<◌, ◌&&◌, ◌∷◌, ◌++◌, ◌∙◌, ℕ, not, Bool, true, false, List, [], length, map, slice_get, nat_le, None, option_and_then, arith, refl, sym, ap, subst, inl, inr}
+use Rattle.safety.proofs.Words.{list_any, range_with_len, fun_ext, not-true, cases_Bool, cond-false, false≢true, false_from_ne_true, and_parts, and_from, or_parts, or_from, put, Block, block_at, Shape, place_count, address_of, cycle_of, RingView, floor_number, gives, gives_crossing, due_positions, due_crossings, positions_given, crossings_given, MayWrite, length_from, is_declared_as, is_other_than_declared, is_not_declared, descriptor_length, is_not_whole, leads_wrong, interrupts, gives_is, gives_crossing_is, positions_given-one, whole_more, Command, Header, Write, Read, IsHeader, shape_of, command_id, driver_rings, Known, Given, Position, Crossing, given_of, given_by, command_at, command_given, learned, Test, broken_of, AfterStop, tests, broken, on_position, on_crossing, holds_of, some_given, some_crossed, some_command, write_tests, is_leased, is_being_moved, IsIn, some_of, any_of, in_filter, from_filter, DriverKeeps}
 use Rattle.safety.proofs.TestsPassed.{AllFail, clean_tests, tests_fail}
 use Rattle.safety.proofs.Writing.{may_write}
 use Rattle.safety.proofs.UnfinishedLists.{in_range}

@@ -1,30 +1,7 @@
 -- A write leaves what unfinished commands read of contexts and device contexts
-use Rattle.std.specs.Prelude.{◌≡◌, ◌≢◌, ℕ, ◌+◌, ◌*◌, ◌/◌, ◌<◌, ◌≤◌, ◌==◌, ◌&&◌, not, Bool, true, false, [], nat_le, nat_lt, Option, None, Some, option_and_then}
-use Rattle.std.proofs.Common.{arith, refl, sym, ◌∙◌, ap, inl, inr}
-use Rattle.std.proofs.lemmas.Bool.{or_parts, or_from, and_left, and_from, false≢true, lt-ltb, le-leb}
-use Rattle.std.proofs.lemmas.Option.{none-some, same_Some}
-use Rattle.segments.specs.Places.{is_in, is_inside, overlap}
-use Rattle.segments.proofs.Search.{cases_option}
-use Rattle.segments.proofs.Elsewhere.{address_inside}
-use Rattle.segments.proofs.Giving.{gives_is}
-use Rattle.segments.proofs.MemoryWords.{put_elsewhere}
-use Rattle.commands.specs.declared.command.Command.{Command}
-use Rattle.commands.specs.declared.command.Command.TheVariants.{AddressDevice}
-use Rattle.commands.specs.Command.{named_context}
-use Rattle.commands.specs.States.{is_disabled, is_off}
-use Rattle.contexts.specs.Contexts.{device_context_bytes, input_context_bytes}
-use Rattle.traces.specs.declared.header.Header.{Header}
-use Rattle.traces.specs.declared.row.Row.TheVariants.{Write}
-use Rattle.traces.specs.Header.{IsHeader, shape_of, command_id}
-use Rattle.ring_knowledge.specs.Known.{Known}
-use Rattle.ring_knowledge.specs.Learned.{learned}
-use Rattle.ring_knowledge.specs.Writes.{no_device, taken_device, device_named, command_given}
-use Rattle.ownership_rules.specs.Areas.{is_bad_area, is_soiled}
+use Rattle.std.proofs.Common.{◌≡◌, ◌≢◌, ◌+◌, ◌*◌, ◌/◌, ◌<◌, ◌≤◌, ◌==◌, ◌&&◌, ◌∙◌, ℕ, not, Bool, true, false, [], nat_le, nat_lt, Option, None, Some, option_and_then, arith, refl, sym, ap, inl, inr, lt-ltb, le-leb}
+use Rattle.safety.proofs.Words.{or_parts, or_from, and_left, and_from, false≢true, none-some, same_Some, is_in, is_inside, overlap, cases_option, address_inside, gives_is, put_elsewhere, Command, AddressDevice, named_context, is_disabled, is_off, device_context_bytes, input_context_bytes, Header, Write, IsHeader, shape_of, command_id, Known, learned, no_device, taken_device, device_named, command_given, is_bad_area, is_soiled, tests, broken, write_tests, is_leased, IsUnfinished, CommandKeeps, DriverKeeps}
 use Rattle.ownership_rules.specs.Commands as commands
-use Rattle.ownership_rules.specs.Rules.{tests, broken}
-use Rattle.ownership_rules.specs.Writes.{write_tests}
-use Rattle.ownership_rules.specs.OpenLeases.{is_leased}
-use Rattle.safety.specs.Keeps.{IsUnfinished, CommandKeeps, DriverKeeps}
 use Rattle.safety.proofs.TestsPassed.{AllFail, tests_fail}
 use Rattle.safety.proofs.Headers.{ring_shape}
 use Rattle.safety.proofs.Areas.{clean_word}

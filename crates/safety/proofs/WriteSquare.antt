@@ -1,19 +1,6 @@
 -- A write and an event that isn't read yet may change places, whether the write gives a command or not
-use Rattle.std.specs.Prelude.{◌≡◌, ℕ, false, []}
-use Rattle.std.proofs.Common.{inl, inr}
-use Rattle.trb.specs.declared.block.Block.{Block}
-use Rattle.segments.proofs.Search.{cases_option}
-use Rattle.traces.specs.declared.header.Header.{Header}
-use Rattle.traces.specs.declared.row.Row.TheVariants.{Write, Read}
-use Rattle.traces.specs.Header.{IsHeader}
-use Rattle.traces.specs.Rows.{IsRow}
-use Rattle.ring_knowledge.specs.Known.{Known}
-use Rattle.ring_knowledge.specs.Writes.{command_given}
-use Rattle.ring_knowledge.specs.Learned.{learned}
-use Rattle.ownership_rules.specs.Rules.{broken}
-use Rattle.safety.specs.Keeps.{DriverKeeps}
-use Rattle.safety.specs.KeptHistories.{IsDriverRow}
-use Rattle.safety.specs.Beneath.{is_idle, Square}
+use Rattle.std.proofs.Common.{◌≡◌, ℕ, false, [], inl, inr}
+use Rattle.safety.proofs.Words.{Block, cases_option, Header, Write, Read, IsHeader, IsRow, Known, command_given, learned, broken, DriverKeeps, IsDriverRow, is_idle, Square}
 use Rattle.safety.proofs.WriteBeneath.{write_square}
 use Rattle.safety.proofs.GivenSquare.{given_square}
 

@@ -1,21 +1,7 @@
 -- A write that breaks no rule is one that each ring allows
-use Rattle.std.specs.Prelude.{◌≡◌, ℕ, Bool, false, List, [], ◌++◌, map, All}
-use Rattle.std.specs.List.{list_any, flat_map}
-use Rattle.std.proofs.Common.{sym, ◌∙◌, ap, subst}
-use Rattle.std.proofs.lemmas.Bool.{or_parts}
-use Rattle.std.proofs.lemmas.List.Folds.{list_any-append}
-use Rattle.segments.specs.Places.{address_of, link_address, overlap}
-use Rattle.segments.specs.RingView.{positions_given, crossings_given, leased_positions, leased_crossings}
-use Rattle.segments.specs.Givings.{is_other_than_declared, is_not_declared, is_not_whole, leads_wrong}
-use Rattle.segments.specs.RingKeeps.{MayWrite}
-use Rattle.traces.specs.declared.header.Header.{Header}
-use Rattle.traces.specs.declared.row.Row.TheVariants.{Write}
-use Rattle.traces.specs.Header.{shape_of, driver_rings}
-use Rattle.ring_knowledge.specs.Known.{Known}
-use Rattle.ring_knowledge.specs.Rings.{Given, Position, Crossing, given_of, given_by}
-use Rattle.ownership_rules.specs.OpenLeases.{Block, Link, covers, lease_start, lease_bytes, open_on, open_ranges, open_leases, is_leased}
-use Rattle.ownership_rules.specs.Writes.{on_position, on_crossing, some_given, some_crossed, write_tests}
-use Rattle.ownership_rules.specs.Rules.{tests, broken}
+use Rattle.std.proofs.Common.{◌≡◌, ◌++◌, ◌∙◌, ℕ, Bool, false, List, [], map, All, sym, ap, subst}
+use Rattle.safety.proofs.Words.{list_any, flat_map, or_parts, list_any-append, address_of, link_address, overlap, positions_given, crossings_given, leased_positions, leased_crossings, is_other_than_declared, is_not_declared, is_not_whole, leads_wrong, MayWrite, Header, Write, shape_of, driver_rings, Known, Given, Position, Crossing, given_of, given_by, covers, lease_start, lease_bytes, open_on, open_ranges, open_leases, is_leased, on_position, on_crossing, some_given, some_crossed, write_tests, tests, broken}
+use Rattle.ownership_rules.specs.OpenLeases.{Block, Link}
 use Rattle.safety.specs.RingsKeep.{IsDriverRing}
 use Rattle.safety.proofs.TestsPassed.{AllFail, tests_fail, each_fails, any_of_map}
 use Rattle.safety.proofs.RingsOfHeader.{HasRing, has_ring, none_of_ring}

@@ -1,30 +1,7 @@
 -- What is known behind a write: the word, what it gives, and the device context that it takes
-use Rattle.std.specs.Prelude.{◌≡◌, ℕ, ◌<◌, ◌==◌, ◌&&◌, ◌||◌, ◌⊎◌, not, true, false, zero, suc, [], ◌∷◌, Contains, Option, None, Some, option_and_then, slice_get, unwrap_or}
-use Rattle.std.proofs.Common.{arith, refl, sym, ◌∙◌, ap, subst, inl, inr}
-use Rattle.std.proofs.lemmas.Bool.{cases_Bool, cond_both, or_cases, false≢true}
-use Rattle.std.proofs.lemmas.Nat.{mod_below}
-use Rattle.std.proofs.lemmas.Option.{none-some, same_Some}
-use Rattle.guest_memory.specs.Memory.{put}
-use Rattle.trb.specs.declared.block.Block.{Block}
-use Rattle.trb.specs.declared.kind.BlockKind.{BlockKind}
+use Rattle.std.proofs.Common.{◌≡◌, ◌<◌, ◌==◌, ◌&&◌, ◌||◌, ◌⊎◌, ◌∷◌, ◌∙◌, ℕ, not, true, false, zero, suc, [], Contains, Option, None, Some, option_and_then, slice_get, unwrap_or, arith, refl, sym, ap, subst, inl, inr}
+use Rattle.safety.proofs.Words.{cases_Bool, cond_both, or_cases, false≢true, mod_below, none-some, same_Some, put, Block, BlockKind, kind, slot, is_command_left_out, is_in, RingView, Writes, changed, is_due, gives, positions_given, position_given, positions_given-one, Command, command_of, command_by_kind, named_slot, device_context_bytes, Header, Write, IsHeader, shape_of, command_id, Known, learned, command_at, with_device, with_word, written, taken_device, command_given, IsDriverRing, IsUnfinished}
 use Rattle.trb.specs.declared.kind.BlockKind.TheVariants as kinds
-use Rattle.trb.specs.Block.{kind, slot}
-use Rattle.trb.specs.Descriptor.{is_command_left_out}
-use Rattle.segments.specs.Places.{is_in}
-use Rattle.segments.specs.RingView.{RingView, Writes, changed, is_due, gives, positions_given}
-use Rattle.segments.proofs.DueLists.{position_given}
-use Rattle.segments.proofs.OneGiving.{positions_given-one}
-use Rattle.commands.specs.declared.command.Command.{Command}
-use Rattle.commands.specs.Command.{command_of, command_by_kind, named_slot}
-use Rattle.contexts.specs.Contexts.{device_context_bytes}
-use Rattle.traces.specs.declared.header.Header.{Header}
-use Rattle.traces.specs.declared.row.Row.TheVariants.{Write}
-use Rattle.traces.specs.Header.{IsHeader, shape_of, command_id}
-use Rattle.ring_knowledge.specs.Known.{Known}
-use Rattle.ring_knowledge.specs.Learned.{learned}
-use Rattle.ring_knowledge.specs.Rings.{command_at}
-use Rattle.ring_knowledge.specs.Writes.{with_device, with_word, written, taken_device, command_given}
-use Rattle.safety.specs.Keeps.{IsDriverRing, IsUnfinished}
 use Rattle.safety.proofs.Headers.{ring_shape}
 use Rattle.safety.proofs.CommandRing.{due_has_ring}
 

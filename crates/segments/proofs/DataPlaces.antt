@@ -1,17 +1,6 @@
 -- Where data places and Links of a ring lie: on 16 byte boundaries, inside its segments, and apart
-use Rattle.std.specs.Prelude.{◌≡◌, ℕ, suc, ◌+◌, ◌-◌, ◌*◌, ◌%◌, ◌^◌, ◌<◌, ◌≤◌, true, List, [], ◌∷◌, length, slice_index}
-use Rattle.std.specs.List.{sum_by}
-use Rattle.std.proofs.Common.{arith, sym, ◌∙◌, ap, refl, inl, inr, get_or, add-zero}
-use Rattle.std.proofs.lemmas.Bool.{cases_lt, le-leb, lt-ltb, and_from}
-use Rattle.std.proofs.lemmas.List.{length-map, get_or-map}
-use Rattle.std.proofs.lemmas.List.Folds.{list_any_at}
-use Rattle.std.proofs.lemmas.List.Sums.{sum_by-cons}
-use Rattle.trb.specs.declared.ring_kind.RingKind.{RingKind}
-use Rattle.trb.specs.declared.ring_kind.RingKind.TheVariants.{Cmd, Evt, Xfer}
-use Rattle.segments.specs.declared.segment.Segment.{Segment}
-use Rattle.segments.specs.ShapeValue.{Shape}
-use Rattle.segments.specs.Places.{data_count, data_places, place_count, links_of, links, segment_has, is_inside}
-use Rattle.segments.specs.Shape.{IsShape, are_apart}
+use Rattle.std.proofs.Common.{◌≡◌, ◌+◌, ◌-◌, ◌*◌, ◌%◌, ◌^◌, ◌<◌, ◌≤◌, ◌∷◌, ◌∙◌, ℕ, suc, true, List, [], length, slice_index, arith, sym, ap, refl, inl, inr, get_or, add-zero, le-leb, lt-ltb}
+use Rattle.segments.proofs.Words.{sum_by, cases_lt, and_from, length-map, get_or-map, list_any_at, sum_by-cons, RingKind, Cmd, Evt, Xfer, Segment, Shape, data_count, data_places, place_count, links_of, links, segment_has, is_inside, IsShape, are_apart}
 use Rattle.segments.proofs.Blocks.{segment_at, places_of, before, LiesAt, place_lies, block_lies, same_segment, length-places_of-cons}
 use Rattle.segments.proofs.ShapeFacts.{IsSegment, shape_facts}
 

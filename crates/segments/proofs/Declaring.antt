@@ -1,21 +1,6 @@
 -- A declaration keeps the rules of a ring
-use Rattle.std.specs.Prelude.{◌≡◌, ℕ, ◌+◌, ◌-◌, ◌<◌, ◌≤◌, false, List, [], ◌∷◌, ◌++◌, length, sum, Some, slice_get, All}
-use Rattle.std.proofs.Common.{arith, refl, sym, ◌∙◌, ap, subst, inl, inr, get_or, length-append}
-use Rattle.std.proofs.lemmas.Bool.{cases_lt, ltb-false}
-use Rattle.std.proofs.lemmas.Option.{slice_get-get_or, slice_get_within, get_or_from_slice_get}
-use Rattle.std.proofs.lemmas.List.{get_or_append_left, get_or-append_right}
-use Rattle.std.proofs.lemmas.List.Elements.{All-push, All-get_or}
-use Rattle.std.proofs.lemmas.List.Sums.{sum_by_push}
-use Rattle.trb.specs.declared.block.Block.{Block}
-use Rattle.trb.specs.Block.{kind}
-use Rattle.trb.specs.Kind.{is_link}
-use Rattle.segments.specs.ShapeValue.{Shape}
-use Rattle.segments.specs.Places.{place_count}
-use Rattle.segments.specs.Shape.{IsShape}
-use Rattle.segments.specs.RingView.{RingView, Declares, changed, declared, floor_number}
-use Rattle.segments.specs.Ceiling.{is_step_given, is_way_given, given_count}
-use Rattle.segments.specs.Givings.{has_no_room, descriptor_length}
-use Rattle.segments.specs.RingKeeps.{RingKeeps, MayDeclare, MayHold}
+use Rattle.std.proofs.Common.{◌≡◌, ◌+◌, ◌-◌, ◌<◌, ◌≤◌, ◌∷◌, ◌++◌, ◌∙◌, ℕ, false, List, [], length, sum, Some, slice_get, All, arith, refl, sym, ap, subst, inl, inr, get_or, length-append, ltb-false}
+use Rattle.segments.proofs.Words.{cases_lt, slice_get-get_or, slice_get_within, get_or_from_slice_get, get_or_append_left, get_or-append_right, All-push, All-get_or, sum_by_push, Block, kind, is_link, Shape, place_count, IsShape, RingView, Declares, changed, declared, floor_number, is_step_given, is_way_given, given_count, has_no_room, descriptor_length, RingKeeps, MayDeclare, MayHold}
 use Rattle.segments.proofs.Positions.{place_count_pos}
 use Rattle.segments.proofs.GivenCount.{given_count_same}
 use Rattle.segments.proofs.StepFacts.{whole_more, length_from-push}

@@ -1,17 +1,6 @@
 -- What happens outside a ring's segments changes nothing of what the rules keep of it
-use Rattle.std.specs.Prelude.{◌≡◌, ℕ, ◌+◌, ◌%◌, ◌<◌, ◌*◌, true, false, List, [], ◌∷◌, length, nat_lt, All, Contains}
-use Rattle.std.proofs.Common.{arith, refl, sym, ◌∙◌, ap, subst, get_or}
-use Rattle.std.proofs.lemmas.Bool.{false≢true, false_from_ne_true, lt-ltb, and_from}
-use Rattle.std.proofs.lemmas.Bool.Decides.{nat_tests}
-use Rattle.std.proofs.lemmas.List.Folds.{list_any_at}
-use Rattle.std.proofs.lemmas.List.Elements.{Contains-get_or, All-nil}
-use Rattle.guest_memory.specs.Memory.{put}
-use Rattle.segments.specs.ShapeValue.{Shape}
-use Rattle.segments.specs.Places.{data_count, place_count, address_of, is_crossing, link_address, is_inside, overlap, touches}
-use Rattle.segments.specs.Shape.{IsShape}
-use Rattle.segments.specs.RingView.{RingView, Writes, changed, positions_given, crossings_given, leased_positions, leased_crossings}
-use Rattle.segments.specs.Givings.{is_other_than_declared, is_not_declared, is_not_whole, is_wrong_link, leads_wrong}
-use Rattle.segments.specs.RingKeeps.{RingKeeps, MayWrite}
+use Rattle.std.proofs.Common.{◌≡◌, ◌+◌, ◌%◌, ◌<◌, ◌*◌, ◌∷◌, ◌∙◌, ℕ, true, false, List, [], length, nat_lt, All, Contains, arith, refl, sym, ap, subst, get_or, lt-ltb}
+use Rattle.segments.proofs.Words.{false≢true, false_from_ne_true, and_from, nat_tests, list_any_at, Contains-get_or, All-nil, put, Shape, data_count, place_count, address_of, is_crossing, link_address, is_inside, overlap, touches, IsShape, RingView, Writes, changed, positions_given, crossings_given, leased_positions, leased_crossings, is_other_than_declared, is_not_declared, is_not_whole, is_wrong_link, leads_wrong, RingKeeps, MayWrite}
 use Rattle.segments.proofs.Blocks.{segment_at}
 use Rattle.segments.proofs.DataPlaces.{IsPlace, place_is, link_is, place_inside, link_inside}
 use Rattle.segments.proofs.Positions.{place_below}

@@ -1,16 +1,6 @@
 -- What is given of a ring ends with a descriptor
-use Rattle.std.specs.Prelude.{◌≡◌, ℕ, ◌+◌, ◌<◌, ◌≤◌, ◌⊎◌, ◌==◌, true, List, [], ◌∷◌, All, sum}
-use Rattle.std.proofs.Common.{arith, refl, sym, ◌∙◌, inl, inr}
-use Rattle.std.proofs.lemmas.Bool.{cases_eq, cases_lt, cond-true, cond-false, eq-eqb, ne_eqb, or_left, or_right, false≢true}
-use Rattle.std.proofs.lemmas.List.Elements.{All-head, All-tail}
-use Rattle.std.proofs.lemmas.List.Sums.{sum_by-cons}
-use Rattle.segments.specs.ShapeValue.{Shape}
-use Rattle.segments.specs.Shape.{IsShape}
-use Rattle.segments.specs.RingView.{RingView}
-use Rattle.segments.specs.Ceiling.{given_count}
-use Rattle.segments.specs.Descriptors.{is_border, length_from}
-use Rattle.segments.specs.Givings.{descriptor_length}
-use Rattle.segments.specs.RingKeeps.{RingKeeps}
+use Rattle.std.proofs.Common.{◌≡◌, ◌+◌, ◌<◌, ◌≤◌, ◌⊎◌, ◌==◌, ◌∷◌, ◌∙◌, ℕ, true, List, [], All, sum, arith, refl, sym, inl, inr, eq-eqb, ne_eqb}
+use Rattle.segments.proofs.Words.{cases_eq, cases_lt, cond-true, cond-false, or_left, or_right, false≢true, All-head, All-tail, sum_by-cons, Shape, IsShape, RingView, given_count, is_border, length_from, descriptor_length, RingKeeps}
 use Rattle.segments.proofs.GivenCount.{given_below, given_count_stops}
 use Rattle.segments.proofs.StepFacts.{step_is, whole_is}
 use Rattle.segments.proofs.Reaching.{given_count_near, given_count_declared}

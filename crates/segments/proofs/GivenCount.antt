@@ -1,11 +1,6 @@
 -- How much of a ring is given: the number below which all steps are given, and the first that isn't
-use Rattle.std.specs.Prelude.{◌≡◌, ℕ, suc, zero, ◌+◌, ◌<◌, ◌≤◌, true, false}
-use Rattle.std.proofs.Common.{arith, refl, sym, ◌∙◌, ap, inl, inr}
-use Rattle.std.proofs.lemmas.Bool.{cases_Bool, cases_lt, cases_eq, cases_order, cond-true, cond-false, false≢true}
-use Rattle.segments.specs.ShapeValue.{Shape}
-use Rattle.segments.specs.Places.{place_count}
-use Rattle.segments.specs.RingView.{RingView, floor_number}
-use Rattle.segments.specs.Ceiling.{is_step_given, first_not_given, given_count}
+use Rattle.std.proofs.Common.{◌≡◌, ◌+◌, ◌<◌, ◌≤◌, ◌∙◌, ℕ, suc, zero, true, false, arith, refl, sym, ap, inl, inr}
+use Rattle.segments.proofs.Words.{cases_Bool, cases_lt, cases_eq, cases_order, cond-true, cond-false, false≢true, Shape, place_count, RingView, floor_number, is_step_given, first_not_given, given_count}
 
 -- ---- the first step that isn't given, of n from q on
 

@@ -1,12 +1,6 @@
 -- What it says that a position or a crossing is due, and that a write gives it
-use Rattle.std.specs.Prelude.{◌≡◌, ℕ, ◌+◌, ◌-◌, ◌%◌, ◌<◌, ◌≤◌, ◌⊎◌, ◌==◌, ◌&&◌, ◌||◌, true, nat_le, nat_lt}
-use Rattle.std.proofs.Common.{refl, inl, inr}
-use Rattle.std.proofs.lemmas.Bool.{and_parts, and_from, or_cases, or_left, or_right, leb-true, le-leb, ltb-true, lt-ltb, eqb-true, eq-eqb}
-use Rattle.segments.specs.declared.spot.Spot.{Spot}
-use Rattle.segments.specs.ShapeValue.{Shape}
-use Rattle.segments.specs.Places.{place_count, address_of, cycle_of, is_crossing, link_address}
-use Rattle.segments.specs.Spots.{number}
-use Rattle.segments.specs.RingView.{is_due, is_crossing_due, gives, gives_crossing}
+use Rattle.std.proofs.Common.{◌≡◌, ◌+◌, ◌-◌, ◌%◌, ◌<◌, ◌≤◌, ◌⊎◌, ◌==◌, ◌&&◌, ◌||◌, ℕ, true, nat_le, nat_lt, refl, inl, inr, leb-true, le-leb, ltb-true, lt-ltb, eqb-true, eq-eqb}
+use Rattle.segments.proofs.Words.{and_parts, and_from, or_cases, or_left, or_right, Spot, Shape, place_count, address_of, cycle_of, is_crossing, link_address, number, is_due, is_crossing_due, gives, gives_crossing}
 
 pub due_is : (shape : Shape) (floor : Spot) (p : ℕ) → is_due shape floor p ≡ true → (number floor ≤ p) × (p < number floor + place_count shape)
 due_is shape floor p h =

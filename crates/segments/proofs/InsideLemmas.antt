@@ -1,14 +1,6 @@
 -- Bytes and words inside a ring's segments, and rings that are apart
-use Rattle.std.specs.Prelude.{◌≡◌, ℕ, suc, ◌+◌, ◌*◌, ◌%◌, ◌<◌, ◌||◌, Bool, true, false, List, [], ◌∷◌, length, nat_lt, is_some}
-use Rattle.std.specs.List.{list_any}
-use Rattle.std.proofs.Common.{arith, sym, ◌∙◌, ap, refl, inl, inr, get_or}
-use Rattle.std.proofs.lemmas.Bool.{cases_Bool, false≢true, or_parts, and_from, lt-ltb}
-use Rattle.std.proofs.lemmas.Bool.Decides.{nat_tests}
-use Rattle.segments.specs.declared.segment.Segment.{Segment}
-use Rattle.segments.specs.ShapeValue.{Shape}
-use Rattle.segments.specs.Places.{overlap, segment_has, is_in, is_inside, touches}
-use Rattle.segments.specs.PlaceAt.{place_at}
-use Rattle.segments.specs.Shape.{IsShape, segments_overlap}
+use Rattle.std.proofs.Common.{◌≡◌, ◌+◌, ◌*◌, ◌%◌, ◌<◌, ◌||◌, ◌∷◌, ◌∙◌, ℕ, suc, Bool, true, false, List, [], length, nat_lt, is_some, arith, sym, ap, refl, inl, inr, get_or, lt-ltb}
+use Rattle.segments.proofs.Words.{list_any, cases_Bool, false≢true, or_parts, and_from, nat_tests, Segment, Shape, overlap, segment_has, is_in, is_inside, touches, place_at, IsShape, segments_overlap}
 use Rattle.segments.proofs.Blocks.{segment_at}
 use Rattle.segments.proofs.ShapeFacts.{shape_facts}
 use Rattle.segments.proofs.PlaceAtLemmas.{is_in-parts, place_at-inside, is_inside-place_at}

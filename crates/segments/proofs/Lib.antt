@@ -31,3 +31,4 @@ pub mod RingsApart
 mod WalkExamples
 pub mod MoveTargets
 pub mod MovesStay
+pub mod Words

@@ -1,16 +1,7 @@
 -- Steps of the walks over a ring's segments, from the first one on. The walks see the segments as a slice of their own
-use Rattle.std.specs.Prelude.{◌≡◌, ◌≢◌, ℕ, ◌+◌, ◌-◌, ◌*◌, ◌/◌, ◌%◌, ◌<◌, ◌≤◌, if◌then◌else◌, nat_lt, true, false, List, length, slice_index, Some, None}
-use Rattle.std.proofs.Common.{arith, sym, ◌∙◌, ap, inl, inr, below_more}
-use Rattle.std.proofs.lemmas.Bool.{false≢true}
-use Rattle.std.proofs.Math.Nat.{mod-lt}
-use Rattle.trb.specs.declared.ring_kind.RingKind.{RingKind}
-use Rattle.trb.specs.declared.ring_kind.RingKind.TheVariants.{Evt}
-use Rattle.segments.specs.declared.segment.Segment.{Segment}
-use Rattle.segments.specs.ShapeValue.{Shape}
-use Rattle.segments.specs.Places.{data_count, place_count, address_of, links, ends, link_crossed, is_in}
-use Rattle.segments.specs.PlaceAt.{place_at}
+use Rattle.std.proofs.Common.{◌≡◌, ◌≢◌, ◌+◌, ◌-◌, ◌*◌, ◌/◌, ◌%◌, ◌<◌, ◌≤◌, if◌then◌else◌, ◌∙◌, ℕ, nat_lt, true, false, List, length, slice_index, Some, None, arith, sym, ap, inl, inr, below_more}
+use Rattle.segments.proofs.Words.{false≢true, mod-lt, RingKind, Evt, Segment, Shape, data_count, place_count, address_of, links, ends, link_crossed, is_in, place_at, IsShape}
 use Rattle.segments.specs.declared.place.Place.TheVariants.{Data, Link}
-use Rattle.segments.specs.Shape.{IsShape}
 use Rattle.segments.proofs.Blocks.{segment_at, places_of, before, before-zero, before-next, before-all, before_within, block_lies}
 use Rattle.segments.proofs.DataPlaces.{link_is, length-links}
 use Rattle.segments.proofs.Crossings.{end_is, crosses, crosses-from, no_crossing, is_crossing-from}

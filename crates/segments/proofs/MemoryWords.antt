@@ -1,11 +1,6 @@
 -- Words of a block before and after a write
-use Rattle.std.specs.Prelude.{◌≡◌, ◌≢◌, ℕ, ◌+◌, ◌<◌, ◌==◌, ◌&&◌, true, false, [], ◌∷◌, nat_lt}
-use Rattle.std.proofs.Common.{arith, refl, sym, ◌∙◌, ap, add-zero}
-use Rattle.std.proofs.lemmas.Bool.{cond-true, cond-false, eq-eqb, ne_eqb, eqb-true, and_from, and_parts, lt-ltb, false≢true}
-use Rattle.guest_memory.specs.Memory.{put}
-use Rattle.trb.specs.declared.block.Block.{Block}
-use Rattle.trb.specs.Block.{block_at, same_words, word, with_cycle}
-use Rattle.segments.specs.Places.{overlap}
+use Rattle.std.proofs.Common.{◌≡◌, ◌≢◌, ◌+◌, ◌<◌, ◌==◌, ◌&&◌, ◌∷◌, ◌∙◌, ℕ, true, false, [], nat_lt, arith, refl, sym, ap, add-zero, eq-eqb, ne_eqb, eqb-true, lt-ltb}
+use Rattle.segments.proofs.Words.{cond-true, cond-false, and_from, and_parts, false≢true, put, Block, block_at, same_words, word, with_cycle, overlap}
 
 pub put_here : (memory : ℕ → ℕ) (a w : ℕ) → put memory a w a ≡ w
 put_here memory a w = cond-true (a == a) w (memory a) (eq-eqb a a refl)

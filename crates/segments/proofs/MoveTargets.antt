@@ -1,19 +1,6 @@
 -- The spot that a pointer and a cycle state name is the one to which the ring may be moved
-use Rattle.std.specs.Prelude.{◌≡◌, ℕ, suc, zero, ◌+◌, ◌-◌, ◌≤◌, ◌==◌, ◌&&◌, if◌then◌else◌, Bool, true, List, [], ◌∷◌, All, Some}
-use Rattle.std.specs.List.{range_with_len, flat_map}
-use Rattle.std.proofs.Common.{arith, sym, ◌∙◌, ap, subst, inl, inr}
-use Rattle.std.proofs.lemmas.Bool.{cases_lt, and_parts, eqb-true}
-use Rattle.std.proofs.lemmas.List.Elements.{All-nil, All-cons, All-get_or}
-use Rattle.std.proofs.lemmas.List.Folds.{Any-from_list_any}
-use Rattle.segments.specs.declared.spot.Spot.{Spot}
-use Rattle.segments.specs.declared.spot.Spot.TheVariants.{Data, Link}
-use Rattle.segments.specs.ShapeValue.{Shape}
-use Rattle.segments.specs.Spots.{IsSpot, is_spot, rank, number, spot_address, spot_cycle}
-use Rattle.segments.specs.Shape.{IsShape}
-use Rattle.segments.specs.RingView.{RingView, declared, floor_number}
-use Rattle.segments.specs.Descriptors.{is_border}
-use Rattle.segments.specs.Moves.{is_target, spots_between, target, is_reached, may_move_to, is_move}
-use Rattle.segments.specs.RingKeeps.{RingKeeps}
+use Rattle.std.proofs.Common.{◌≡◌, ◌+◌, ◌-◌, ◌≤◌, ◌==◌, ◌&&◌, if◌then◌else◌, ◌∷◌, ◌∙◌, ℕ, suc, zero, Bool, true, List, [], All, Some, arith, sym, ap, subst, inl, inr, eqb-true}
+use Rattle.segments.proofs.Words.{range_with_len, flat_map, cases_lt, and_parts, All-nil, All-cons, All-get_or, Any-from_list_any, Spot, Data, Link, Shape, IsSpot, is_spot, rank, number, spot_address, spot_cycle, IsShape, RingView, declared, floor_number, is_border, is_target, spots_between, target, is_reached, may_move_to, is_move, RingKeeps}
 use Rattle.segments.proofs.SpotOrder.{rank_least, rank_most, same_spot}
 use Rattle.segments.proofs.Named.{found_is}
 

@@ -1,20 +1,6 @@
 -- A spot to which a ring may be moved stays one, whatever is declared, written or reached since
-use Rattle.std.specs.Prelude.{◌≡◌, ℕ, suc, zero, ◌+◌, ◌-◌, ◌<◌, ◌≤◌, ◌==◌, ◌&&◌, ◌||◌, not, Bool, true, List, [], ◌∷◌, ◌++◌, length}
-use Rattle.std.specs.List.{list_any, range_with_len, flat_map}
-use Rattle.std.proofs.Common.{arith, sym, ◌∙◌, ap, subst, inl, inr}
-use Rattle.std.proofs.lemmas.Bool.{cases_eq, and_parts, and_from, or_cases, or_left, or_right}
-use Rattle.std.proofs.lemmas.List.Elements.{All-get_or}
-use Rattle.std.proofs.lemmas.List.Folds.{Any-from_list_any}
-use Rattle.trb.specs.declared.block.Block.{Block}
-use Rattle.segments.specs.declared.spot.Spot.{Spot}
-use Rattle.segments.specs.declared.spot.Spot.TheVariants.{Data, Link}
-use Rattle.segments.specs.ShapeValue.{Shape}
-use Rattle.segments.specs.Places.{is_crossing}
-use Rattle.segments.specs.Spots.{number}
-use Rattle.segments.specs.RingView.{RingView, Declares, Writes, changed}
-use Rattle.segments.specs.Ceiling.{is_way_given}
-use Rattle.segments.specs.Descriptors.{is_border}
-use Rattle.segments.specs.Moves.{is_target, spots_between, are_given, are_ways_given, is_reached, may_move_to, is_move}
+use Rattle.std.proofs.Common.{◌≡◌, ◌+◌, ◌-◌, ◌<◌, ◌≤◌, ◌==◌, ◌&&◌, ◌||◌, ◌∷◌, ◌++◌, ◌∙◌, ℕ, suc, zero, not, Bool, true, List, [], length, arith, sym, ap, subst, inl, inr}
+use Rattle.segments.proofs.Words.{list_any, range_with_len, flat_map, cases_eq, and_parts, and_from, or_cases, or_left, or_right, All-get_or, Any-from_list_any, Block, Spot, Data, Link, Shape, is_crossing, number, RingView, Declares, Writes, changed, is_way_given, is_border, is_target, spots_between, are_given, are_ways_given, is_reached, may_move_to, is_move}
 use Rattle.segments.proofs.StepFacts.{GivesMore, in_range_all, all_in_range}
 use Rattle.segments.proofs.Writing.{writes_more}
 use Rattle.segments.proofs.MoveTargets.{between}

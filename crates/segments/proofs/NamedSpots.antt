@@ -1,13 +1,6 @@
 -- Which spot an event names: the least one from a spot on with this address
-use Rattle.std.specs.Prelude.{◌≡◌, ◌≢◌, ℕ, suc, zero, ◌+◌, ◌-◌, ◌*◌, ◌<◌, ◌≤◌, ◌==◌, ◌&&◌, Bool, true, false, nat_le, Some, None, find}
-use Rattle.std.proofs.Common.{arith, sym, ◌∙◌, ap, refl, subst, inl, inr}
-use Rattle.std.proofs.lemmas.Bool.{cases_Bool, cases_eq, cond-true, cond-false, false≢true, eqb-true, eq-eqb, leb-true, le-leb, and_parts, and_from}
-use Rattle.std.proofs.lemmas.Option.{none-some, same_Some}
-use Rattle.segments.specs.declared.spot.Spot.{Spot}
-use Rattle.segments.specs.ShapeValue.{Shape}
-use Rattle.segments.specs.Places.{place_count}
-use Rattle.segments.specs.Spots.{IsSpot, rank, number, next, spot_address, spots_from, named_spot}
-use Rattle.segments.specs.Shape.{IsShape}
+use Rattle.std.proofs.Common.{◌≡◌, ◌≢◌, ◌+◌, ◌-◌, ◌*◌, ◌<◌, ◌≤◌, ◌==◌, ◌&&◌, ◌∙◌, ℕ, suc, zero, Bool, true, false, nat_le, Some, None, find, arith, sym, ap, refl, subst, inl, inr, eqb-true, eq-eqb, leb-true, le-leb}
+use Rattle.segments.proofs.Words.{cases_Bool, cases_eq, cond-true, cond-false, false≢true, and_parts, and_from, none-some, same_Some, Spot, Shape, place_count, IsSpot, rank, number, next, spot_address, spots_from, named_spot, IsShape}
 use Rattle.segments.proofs.Search.{cases_option}
 use Rattle.segments.proofs.SpotOrder.{rank_least, rank_most, same_rank, next_is_spot, next_later, next_least, same_spot}
 

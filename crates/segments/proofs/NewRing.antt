@@ -1,15 +1,6 @@
 -- Before anything happens on a ring the rules are kept
-use Rattle.std.specs.Prelude.{◌≡◌, ℕ, ◌+◌, ◌-◌, ◌%◌, ◌<◌, ◌≤◌, ◌≢◌}
-use Rattle.std.proofs.Common.{arith, refl, inl, inr}
-use Rattle.std.proofs.lemmas.Bool.{false≢true}
-use Rattle.std.proofs.lemmas.Option.{none-some, same_Some}
-use Rattle.std.proofs.lemmas.List.Elements.{All-nil}
-use Rattle.segments.specs.declared.spot.Spot.TheVariants.{Data}
-use Rattle.segments.specs.ShapeValue.{Shape}
-use Rattle.segments.specs.Places.{place_count, address_of, cycle_of, link_address}
-use Rattle.segments.specs.Shape.{IsShape}
-use Rattle.segments.specs.RingView.{new_ring}
-use Rattle.segments.specs.RingKeeps.{RingKeeps}
+use Rattle.std.proofs.Common.{◌≡◌, ◌+◌, ◌-◌, ◌%◌, ◌<◌, ◌≤◌, ◌≢◌, ℕ, arith, refl, inl, inr}
+use Rattle.segments.proofs.Words.{false≢true, none-some, same_Some, All-nil, Data, Shape, place_count, address_of, cycle_of, link_address, IsShape, new_ring, RingKeeps}
 use Rattle.segments.proofs.Positions.{place_count_pos, cycle_of-first}
 use Rattle.segments.proofs.Crossings.{crossing_positive}
 use Rattle.segments.proofs.Giving.{due_is, crossing_due_is}

@@ -1,13 +1,6 @@
 -- A word gives one position or one crossing at most: a place has one due position, a Link one due crossing
-use Rattle.std.specs.Prelude.{◌≡◌, ℕ, suc, zero, ◌+◌, ◌<◌, ◌≤◌, ◌⊎◌, ◌&&◌, not, Bool, true, [], ◌∷◌, Contains, filter}
-use Rattle.std.specs.List.{range_with_len}
-use Rattle.std.proofs.Common.{arith, refl, sym, ◌∙◌, ap, inl, inr}
-use Rattle.std.proofs.lemmas.Bool.{cases_Bool, cases_lt, cond-true, cond-false, and_parts, false_from_ne_true}
-use Rattle.segments.specs.declared.spot.Spot.{Spot}
-use Rattle.segments.specs.ShapeValue.{Shape}
-use Rattle.segments.specs.Places.{place_count, link_address}
-use Rattle.segments.specs.Shape.{IsShape}
-use Rattle.segments.specs.RingView.{RingView, floor_number, gives, gives_crossing, due_positions, due_crossings, positions_given, crossings_given}
+use Rattle.std.proofs.Common.{◌≡◌, ◌+◌, ◌<◌, ◌≤◌, ◌⊎◌, ◌&&◌, ◌∷◌, ◌∙◌, ℕ, suc, zero, not, Bool, true, [], Contains, filter, arith, refl, sym, ap, inl, inr}
+use Rattle.segments.proofs.Words.{range_with_len, cases_Bool, cases_lt, cond-true, cond-false, and_parts, false_from_ne_true, Spot, Shape, place_count, link_address, IsShape, RingView, floor_number, gives, gives_crossing, due_positions, due_crossings, positions_given, crossings_given}
 use Rattle.segments.proofs.Positions.{same_position_near}
 use Rattle.segments.proofs.Crossings.{same_crossing_at, crossing_positive}
 use Rattle.segments.proofs.SpotOrder.{data_not_link}

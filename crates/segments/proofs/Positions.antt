@@ -1,12 +1,6 @@
 -- Positions from lap to lap: their addresses and Cycle bits, xHCI 4.9.2
-use Rattle.std.specs.Prelude.{◌≡◌, ◌≢◌, ℕ, ◌+◌, ◌-◌, ◌*◌, ◌/◌, ◌%◌, ◌^◌, ◌<◌, ◌≤◌, slice_index}
-use Rattle.std.proofs.Common.{arith, sym, ap, refl, inl, inr}
-use Rattle.std.proofs.lemmas.Bool.{cases_order, cases_lt}
-use Rattle.std.proofs.lemmas.Nat.{mul-le, div-mul-add, mod-mul-add}
-use Rattle.std.proofs.Math.Nat.{add-mod_right, add-div_right, mod-lt, mod-eq_of_lt, div-eq_of_lt, div-add-mod, div-add-mod', add-mul-mod_self_right}
-use Rattle.segments.specs.ShapeValue.{Shape}
-use Rattle.segments.specs.Places.{data_places, place_count, address_of, cycle_of}
-use Rattle.segments.specs.Shape.{IsShape}
+use Rattle.std.proofs.Common.{◌≡◌, ◌≢◌, ◌+◌, ◌-◌, ◌*◌, ◌/◌, ◌%◌, ◌^◌, ◌<◌, ◌≤◌, ℕ, slice_index, arith, sym, ap, refl, inl, inr}
+use Rattle.segments.proofs.Words.{cases_order, cases_lt, mul-le, div-mul-add, mod-mul-add, add-mod_right, add-div_right, mod-lt, mod-eq_of_lt, div-eq_of_lt, div-add-mod, div-add-mod', add-mul-mod_self_right, Shape, data_places, place_count, address_of, cycle_of, IsShape}
 use Rattle.segments.proofs.ShapeFacts.{shape_facts}
 use Rattle.segments.proofs.DataPlaces.{places_apart, place_aligned, place_ends}
 

@@ -1,16 +1,6 @@
 -- Spots that the controller's pointer may be known to have reached: behind a finished block, where it stopped, where it is moved
-use Rattle.std.specs.Prelude.{◌≡◌, ℕ, ◌+◌, ◌-◌, ◌<◌, ◌≤◌, ◌==◌, ◌&&◌, not, true, nat_lt}
-use Rattle.std.proofs.Common.{arith, refl, sym, ◌∙◌, ap, subst, inl, inr}
-use Rattle.std.proofs.lemmas.Bool.{cases_eq, and_parts, or_cases, not-true, ltb-true, leb-true, eqb-true, false≢true}
-use Rattle.segments.specs.declared.spot.Spot.{Spot}
-use Rattle.segments.specs.declared.spot.Spot.TheVariants.{Data, Link}
-use Rattle.segments.specs.ShapeValue.{Shape}
-use Rattle.segments.specs.Places.{is_crossing}
-use Rattle.segments.specs.Spots.{IsSpot, number, after}
-use Rattle.segments.specs.RingView.{RingView, floor_number}
-use Rattle.segments.specs.Ceiling.{is_way_given, is_step_given, given_count, is_stop_spot, stopped_number}
-use Rattle.segments.specs.Moves.{are_given, are_ways_given, is_reached}
-use Rattle.segments.specs.RingKeeps.{MayReach}
+use Rattle.std.proofs.Common.{◌≡◌, ◌+◌, ◌-◌, ◌<◌, ◌≤◌, ◌==◌, ◌&&◌, ◌∙◌, ℕ, not, true, nat_lt, arith, refl, sym, ap, subst, inl, inr, ltb-true, leb-true, eqb-true}
+use Rattle.segments.proofs.Words.{cases_eq, and_parts, or_cases, not-true, false≢true, Spot, Data, Link, Shape, is_crossing, IsSpot, number, after, RingView, floor_number, is_way_given, is_step_given, given_count, is_stop_spot, stopped_number, are_given, are_ways_given, is_reached, MayReach}
 use Rattle.segments.proofs.Crossings.{crossing_positive}
 use Rattle.segments.proofs.SpotOrder.{after_is}
 use Rattle.segments.proofs.GivenCount.{given_below}

@@ -1,19 +1,6 @@
 -- A spot that is reached, a ring that is opened or held: what the rules keep of a ring stays
-use Rattle.std.specs.Prelude.{◌≡◌, ◌≢◌, ℕ, ◌+◌, ◌-◌, ◌%◌, ◌<◌, ◌≤◌, true, false, [], Option, None, Some}
-use Rattle.std.proofs.Common.{arith, refl, sym, ◌∙◌, ap, inl, inr, get_or}
-use Rattle.std.proofs.lemmas.Bool.{cases_lt, cases_eq, false≢true}
-use Rattle.std.proofs.lemmas.Option.{none-some, same_Some, slice_get-get_or}
-use Rattle.trb.specs.declared.block.Block.{Block}
-use Rattle.trb.specs.Block.{word, with_cycle}
-use Rattle.segments.specs.declared.spot.Spot.{Spot}
-use Rattle.segments.specs.ShapeValue.{Shape}
-use Rattle.segments.specs.Places.{place_count, address_of, cycle_of, is_crossing, link_address}
-use Rattle.segments.specs.Spots.{number}
-use Rattle.segments.specs.Shape.{IsShape}
-use Rattle.segments.specs.RingView.{RingView, Reaches, Opens, Holds, changed, declared, floor_number, is_due, is_crossing_due}
-use Rattle.segments.specs.Ceiling.{is_step_given, is_way_given, given_count}
-use Rattle.segments.specs.Givings.{descriptor_length}
-use Rattle.segments.specs.RingKeeps.{RingKeeps, MayReach, MayHold}
+use Rattle.std.proofs.Common.{◌≡◌, ◌≢◌, ◌+◌, ◌-◌, ◌%◌, ◌<◌, ◌≤◌, ◌∙◌, ℕ, true, false, [], Option, None, Some, arith, refl, sym, ap, inl, inr, get_or}
+use Rattle.segments.proofs.Words.{cases_lt, cases_eq, false≢true, none-some, same_Some, slice_get-get_or, Block, word, with_cycle, Spot, Shape, place_count, address_of, cycle_of, is_crossing, link_address, number, IsShape, RingView, Reaches, Opens, Holds, changed, declared, floor_number, is_due, is_crossing_due, is_step_given, is_way_given, given_count, descriptor_length, RingKeeps, MayReach, MayHold}
 use Rattle.segments.proofs.Positions.{place_count_pos, address_of-lap, cycle_of_bit, cycle_of_flips}
 use Rattle.segments.proofs.Crossings.{crossed_link, is_crossing-lap, link_address-lap}
 use Rattle.segments.proofs.SpotOrder.{rank_least}

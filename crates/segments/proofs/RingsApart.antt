@@ -1,13 +1,6 @@
 -- Rings that lie apart: a word inside one gives nothing of another, and touches none of its leases
-use Rattle.std.specs.Prelude.{◌≡◌, ℕ, ◌%◌, ◌<◌, ◌≢◌, true, false, List, [], length, AllPairs}
-use Rattle.std.proofs.Common.{arith, ◌∙◌, inl, inr, get_or}
-use Rattle.std.proofs.lemmas.Bool.{cases_lt, false_from_ne_true}
-use Rattle.guest_memory.specs.Memory.{put}
-use Rattle.segments.specs.ShapeValue.{Shape}
-use Rattle.segments.specs.Places.{is_inside, touches}
-use Rattle.segments.specs.Shape.{IsShape}
-use Rattle.segments.specs.RingView.{RingView, Writes, changed, positions_given, crossings_given}
-use Rattle.segments.specs.RingKeeps.{RingKeeps, MayWrite}
+use Rattle.std.proofs.Common.{◌≡◌, ◌%◌, ◌<◌, ◌≢◌, ◌∙◌, ℕ, true, false, List, [], length, AllPairs, arith, inl, inr, get_or}
+use Rattle.segments.proofs.Words.{cases_lt, false_from_ne_true, put, Shape, is_inside, touches, IsShape, RingView, Writes, changed, positions_given, crossings_given, RingKeeps, MayWrite}
 use Rattle.segments.proofs.InsideLemmas.{rings_overlap, rings_apart, touches-word}
 use Rattle.segments.proofs.Elsewhere.{positions_given-outside, crossings_given-outside, outside_may_write, writes_outside_keeps}
 

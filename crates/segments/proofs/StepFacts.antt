@@ -1,17 +1,6 @@
 -- Steps that are given, and descriptors all of whose blocks are
-use Rattle.std.specs.Prelude.{◌≡◌, ℕ, suc, zero, ◌+◌, ◌-◌, ◌<◌, ◌≤◌, ◌==◌, ◌||◌, not, Bool, true, false, List, [], ◌∷◌, ◌++◌, sum}
-use Rattle.std.specs.List.{list_all, range_with_len}
-use Rattle.std.proofs.Common.{arith, refl, sym, ◌∙◌, ap, inl, inr, get_or}
-use Rattle.std.proofs.lemmas.Bool.{cases_Bool, cases_eq, cond-true, cond-false, false≢true, and_parts, and_from, or_left, or_right, not_from_false, not_from_true, not-false, not-true, eq-eqb, ne_eqb, or_cases}
-use Rattle.std.proofs.lemmas.List.Folds.{list_all_at}
-use Rattle.std.proofs.lemmas.List.Sums.{sum_by-cons}
-use Rattle.std.proofs.lemmas.List.FromFn.{length-range_with_len, get_or-range_with_len}
-use Rattle.segments.specs.ShapeValue.{Shape}
-use Rattle.segments.specs.Places.{is_crossing}
-use Rattle.segments.specs.RingView.{RingView}
-use Rattle.segments.specs.Ceiling.{is_way_given, is_step_given}
-use Rattle.segments.specs.Descriptors.{length_from}
-use Rattle.segments.specs.Givings.{descriptor_length, is_not_whole}
+use Rattle.std.proofs.Common.{◌≡◌, ◌+◌, ◌-◌, ◌<◌, ◌≤◌, ◌==◌, ◌||◌, ◌∷◌, ◌++◌, ◌∙◌, ℕ, suc, zero, not, Bool, true, false, List, [], sum, arith, refl, sym, ap, inl, inr, get_or, eq-eqb, ne_eqb}
+use Rattle.segments.proofs.Words.{list_all, range_with_len, cases_Bool, cases_eq, cond-true, cond-false, false≢true, and_parts, and_from, or_left, or_right, not_from_false, not_from_true, not-false, not-true, or_cases, list_all_at, sum_by-cons, length-range_with_len, get_or-range_with_len, Shape, is_crossing, RingView, is_way_given, is_step_given, length_from, descriptor_length, is_not_whole}
 
 -- ---- a step
 

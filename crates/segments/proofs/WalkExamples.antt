@@ -1,15 +1,6 @@
 -- What a controller reads of a small ring, on numbers
-use Rattle.std.specs.Prelude.{◌≡◌, ℕ, ◌∷◌, [], map, refl, true}
-use Rattle.guest_memory.specs.Memory.{put}
-use Rattle.trb.specs.declared.block.Block.{Block}
-use Rattle.trb.specs.declared.ring_kind.RingKind.TheVariants.{Xfer}
-use Rattle.segments.specs.declared.spot.Spot.TheVariants.{Data, Link}
-use Rattle.segments.specs.ShapeValue.{Shape, shape_of}
-use Rattle.segments.specs.RingView.{RingView, Declares, Writes, changed, new_ring}
-use Rattle.segments.specs.Ceiling.{given_count}
-use Rattle.segments.specs.Descriptors.{is_border}
-use Rattle.segments.specs.Walk.{looks, walk, data_of, laid_between, standing}
-use Rattle.segments.specs.OnLiterals.{views_on_literals}
+use Rattle.std.proofs.Common.{◌≡◌, ◌∷◌, ℕ, [], map, refl, true}
+use Rattle.segments.proofs.Words.{put, Block, Xfer, Data, Link, Shape, shape_of, RingView, Declares, Writes, changed, new_ring, given_count, is_border, looks, walk, data_of, laid_between, standing, views_on_literals}
 
 -- two segments of two blocks: a data place and a Link each
 abbrev small : Shape

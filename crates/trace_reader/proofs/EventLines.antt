@@ -1,19 +1,6 @@
 -- The four words of an event, in a row of a trace
-use Rattle.std.proofs.Common.{◌≡◌, ℕ, List, Bool, true, false, Option, Some, None, Result, Ok, Err, refl, ap, ◌∙◌, cond, length}
-use Rattle.std.specs.Prelude.{◌==◌}
-use Rattle.std.specs.Option.{option_map, option_map_or}
-use Rattle.trb.specs.declared.block.Block.{Block}
-use Rattle.trace_reader.specs.declared.fault.LineError.{LineError}
-use Rattle.trace_reader.specs.declared.fault.LineError.TheVariants.{Fault, Memory}
-use Rattle.trace_reader.specs.declared.fault.LineFault.{LineFault}
-use Rattle.trace_reader.specs.declared.fault.LineFault.TheVariants.{Number}
-use Rattle.traces.specs.declared.row.Row.TheVariants.{Read}
-use Rattle.trace_reader.specs.Entries.{Answers, said_by}
-use Rattle.trace_reader.specs.Grammar.{form_as}
-use Rattle.trace_reader.specs.LineAnswers.{AnswersBy, valued_by}
-use Rattle.trace_reader.specs.Schedules.{event_form}
-use Rattle.trace_reader.specs.TraceLines.{event_line, said_of}
-use Rattle.trace_reader.specs.Values.{Said, SaysRow, event_of}
+use Rattle.std.proofs.Common.{◌≡◌, ◌∙◌, ◌==◌, ℕ, List, Bool, true, false, Option, Some, None, Result, Ok, Err, refl, ap, cond, length}
+use Rattle.trace_reader.proofs.Words.{option_map, option_map_or, Block, LineError, Fault, Memory, LineFault, Number, Read, Answers, said_by, form_as, AnswersBy, valued_by, event_form, event_line, said_of, Said, SaysRow, event_of}
 
 as_said : Result Block LineFault → Result Said LineFault
 as_said (Ok event) = Ok (SaysRow (Read event))

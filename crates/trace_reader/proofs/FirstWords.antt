@@ -1,15 +1,6 @@
 -- The form of a line by its first word
-use Rattle.std.proofs.Common.{◌≡◌, ℕ, List, [], ◌∷◌, Bool, true, false, Option, Some, None, refl, ap, sym, ◌∙◌, cond}
-use Rattle.std.specs.Prelude.{codes, Err}
-use Rattle.std.specs.Option.{option_and_then, option_map_or}
-use Rattle.trace_reader.specs.declared.fault.LineFault.TheVariants.{Row as BadRow}
-use Rattle.std.specs.Str.{bytes_eq}
-use Rattle.trace_reader.specs.declared.entry.FirstWord.{FirstWord}
-use Rattle.trace_reader.specs.declared.entry.FirstWord.TheVariants.{Sub as SubWord, W, Reg as RegWord, Db, Ev, Ring as RingWord}
-use Rattle.trace_reader.specs.Entries.{form_behind, said_by, said_by_fields, unless_begun, word_named}
-use Rattle.trace_reader.specs.Grammar.{Line, are_fields, form_as}
-use Rattle.trace_reader.specs.TraceLines.{Form, form_of, is_ring_form, sub_line, write_line, reg_line, bell_line, event_line, ring_line}
-use Rattle.trace_reader.specs.Values.{Said}
+use Rattle.std.proofs.Common.{◌≡◌, ◌∷◌, ◌∙◌, ℕ, List, [], Bool, true, false, Option, Some, None, refl, ap, sym, cond, codes, Err}
+use Rattle.trace_reader.proofs.Words.{option_and_then, option_map_or, BadRow, bytes_eq, FirstWord, SubWord, W, RegWord, Db, Ev, RingWord, form_behind, said_by, said_by_fields, unless_begun, word_named, Line, are_fields, form_as, Form, form_of, is_ring_form, sub_line, write_line, reg_line, bell_line, event_line, ring_line, Said}
 
 by_tests : (sub w reg db ev ring : Bool) (fields : List (List ℕ)) →
     option_and_then (λ l. form_as l fields) (cond sub (Some sub_line) (cond w (Some write_line) (cond reg (Some reg_line) (cond db (Some bell_line) (cond ev (Some event_line) (cond ring (Some ring_line) None))))))

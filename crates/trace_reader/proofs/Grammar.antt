@@ -1,20 +1,7 @@
 -- The one law of lines that are data: what is read of a line is spelled by it, and what is spelled is read
-use Rattle.std.proofs.Common.{◌≡◌, ◌≢◌, ℕ, ◌<◌, ◌^◌, inl, inr, true, List, [], ◌∷◌, length, map, Some, All, refl, sym, ap, ◌∙◌, subst, arith, eq-eqb, w8, w32, w64}
-use Rattle.std.specs.Prelude.{is_some}
-use Rattle.std.specs.List.{flat_map}
-use Rattle.std.specs.Option.{option_map, option_and_then}
-use Rattle.std.specs.Str.{bytes_eq}
-use Rattle.std.proofs.lemmas.Bool.{and_parts, and_from, cases_Bool}
-use Rattle.line_text.specs.Numbers.{digits_of}
-use Rattle.line_text.proofs.Digits.{bytes_of_8, bytes_of_32, bytes_of_64}
-use Rattle.trb.specs.Block.{IsBlock}
-use Rattle.trb.specs.RingKind.{ring_name}
-use Rattle.traces.specs.Register.{is_wide, register_name}
-use Rattle.traces.specs.Rows.{IsWordAddress}
-use Rattle.trace_reader.specs.Forms.{register_named}
-use Rattle.trace_reader.specs.Grammar.{Kind, Byte, Number, Long, WordAddress, KindOfRing, Tail, Nothing, Event, RegisterValue, Blocks, Segments, Told, Behind, Values, is_known, are_behind, are_fields, told, behind, values, Line, FormOf, form_as, line_named, form_in, value_in}
-use Rattle.trace_reader.specs.Spelling.{Field, Word, Digits, may_be_written, are_written, block_fields, segment_field}
-use Rattle.trace_reader.specs.Values.{register_value_of}
+use Rattle.std.proofs.Common.{◌≡◌, ◌≢◌, ◌<◌, ◌^◌, ◌∷◌, ◌∙◌, ℕ, inl, inr, true, List, [], length, map, Some, All, refl, sym, ap, subst, arith, eq-eqb, w8, w32, w64, is_some}
+use Rattle.trace_reader.proofs.Words.{flat_map, option_map, option_and_then, bytes_eq, and_parts, and_from, cases_Bool, digits_of, bytes_of_8, bytes_of_32, bytes_of_64, IsBlock, ring_name, is_wide, register_name, IsWordAddress, register_named, Kind, Byte, Long, WordAddress, KindOfRing, Tail, Nothing, Event, RegisterValue, Blocks, Segments, Told, Behind, Values, is_known, are_behind, are_fields, told, behind, values, Line, FormOf, form_as, line_named, value_in, Field, Word, Digits, may_be_written, are_written, block_fields, segment_field, register_value_of}
+use Rattle.trace_reader.specs.Grammar.{Number, form_in}
 use Rattle.trace_reader.proofs.SpelledFields.{both_there, both_of, mapped_there, then_there, cond_there, same_bytes, are_same_bytes, number_written, number_read}
 use Rattle.trace_reader.proofs.SpelledWords.{address_there, address_of_number, two_of, two_written, kind_word, word_kind, register_word, word_register, value_there, value_of_number, some_blocks, four_for_each}
 use Rattle.trace_reader.proofs.SpelledSegments.{FitsSegment, segments_written, segments_read}

@@ -26,3 +26,4 @@ pub mod EventLines
 pub mod SpelledSchedules
 pub mod ScheduleSteps
 pub mod Examples
+pub mod Words

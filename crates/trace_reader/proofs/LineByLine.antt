@@ -1,19 +1,7 @@
 -- Lines that don't depend on each other: what they say, and that they spell it
-use Rattle.std.proofs.Common.{◌≡◌, ℕ, ◌+◌, ◌≤◌, ◌||◌, inl, inr, Bool, true, false, not, cond, List, [], ◌∷◌, length, map, Option, Some, None, Result, Ok, Err, All, is_none, refl, ap, subst, arith, le-ltb}
-use Rattle.std.specs.Option.{option_and_then, option_map_or}
-use Rattle.std.proofs.lemmas.Bool.{and_parts, and_from, cases_Bool, not-false, or_parts}
-use Rattle.std.proofs.lemmas.List.Elements.{All-cons, All-head, All-nil, All-tail}
-use Rattle.line_text.specs.Fields.{fields_of, has_empty_field}
-use Rattle.line_text.specs.Lines.{TextLine}
-use Rattle.line_text.proofs.Joins.{length-fields_of, spaced_length}
-use Rattle.trace_reader.specs.declared.fault.LineFault.{LineFault}
-use Rattle.trace_reader.specs.declared.fault.LineFault.TheVariants.{Row as BadRow, Number}
-use Rattle.trace_reader.specs.Entries.{content_fault}
-use Rattle.traces.specs.Limits.{most_bytes}
-use Rattle.trace_reader.specs.LineAnswers.{faulted_by, valued_by}
-use Rattle.trace_reader.specs.LineByLine.{has_no_form, line_says, lines_say, next_value, unless_fault, value_in}
-use Rattle.trace_reader.specs.Reading.{is_too_long}
-use Rattle.trace_reader.specs.Spelling.{Field, are_written, is_written, lines_written, printed}
+use Rattle.std.proofs.Common.{◌≡◌, ◌+◌, ◌≤◌, ◌||◌, ◌∷◌, ℕ, inl, inr, Bool, true, false, not, cond, List, [], length, map, Option, Some, None, Result, Ok, Err, All, is_none, refl, ap, subst, arith, le-ltb}
+use Rattle.trace_reader.proofs.Words.{option_and_then, option_map_or, and_parts, and_from, cases_Bool, not-false, or_parts, All-cons, All-head, All-nil, All-tail, fields_of, has_empty_field, TextLine, length-fields_of, spaced_length, LineFault, BadRow, Number, content_fault, most_bytes, faulted_by, valued_by, has_no_form, line_says, lines_say, next_value, unless_fault, is_too_long, Field, are_written, is_written, lines_written, printed}
+use Rattle.trace_reader.specs.LineByLine.{value_in}
 use Rattle.trace_reader.proofs.SpelledFields.{AllSound, all_filled, then_there, written_lengths}
 use Rattle.trace_reader.proofs.SpelledLines.{ok_there}
 

@@ -1,20 +1,6 @@
 -- What a line says by its fields
-use Rattle.std.proofs.Common.{◌≡◌, ℕ, ◌<◌, ◌≤◌, List, Bool, true, false, ◌||◌, ◌&&◌, Option, Some, None, Result, Ok, Err, refl, ap, sym, ◌∙◌, cond, length, nat_lt, arith}
-use Rattle.std.specs.Prelude.{is_none}
-use Rattle.std.specs.Option.{option_and_then, option_map_or}
-use Rattle.std.proofs.lemmas.Bool.Decides.{nat_tests}
-use Rattle.line_text.specs.Fields.{fields_of, has_empty_field}
-use Rattle.line_text.specs.Lines.{TextLine}
-use Rattle.trace_reader.specs.declared.fault.LineFault.{LineFault}
-use Rattle.trace_reader.specs.declared.fault.LineFault.TheVariants.{Row as BadRow, Number, Limit}
-use Rattle.trace_reader.specs.declared.fault.LineError.{LineError}
-use Rattle.trace_reader.specs.declared.fault.LineError.TheVariants.{Fault, Memory}
-use Rattle.trace_reader.specs.Entries.{Answers, content_fault, said_by, said_by_fields, said_by_line, unless_begun}
-use Rattle.trace_reader.specs.TraceLines.{Form, form_of, is_ring_form}
-use Rattle.traces.specs.Limits.{most_lines, most_bytes}
-use Rattle.trace_reader.specs.Reading.{State, form_in, is_bad_row, is_past_limit, is_too_long, is_too_much, next_number, said_in}
-use Rattle.trace_reader.specs.TraceLines.{said_of}
-use Rattle.trace_reader.specs.Values.{Said}
+use Rattle.std.proofs.Common.{◌≡◌, ◌<◌, ◌≤◌, ◌||◌, ◌&&◌, ◌∙◌, ℕ, List, Bool, true, false, Option, Some, None, Result, Ok, Err, refl, ap, sym, cond, length, nat_lt, arith, is_none}
+use Rattle.trace_reader.proofs.Words.{option_and_then, option_map_or, nat_tests, fields_of, has_empty_field, TextLine, LineFault, BadRow, Number, Limit, LineError, Fault, Memory, Answers, content_fault, said_by, said_by_fields, said_by_line, unless_begun, Form, form_of, is_ring_form, most_lines, most_bytes, State, form_in, is_bad_row, is_past_limit, is_too_long, is_too_much, next_number, said_in, said_of, Said}
 
 -- a line with this number may not say too much, or be past the limit
 abbrev pub limited : ℕ → Result Said LineFault → Result Said LineFault

@@ -1,10 +1,6 @@
 -- A line by its fields in a row
-use Rattle.std.proofs.Common.{◌≡◌, List, [], ◌∷◌, ◌++◌, refl, ap, map, arith}
-use Rattle.std.specs.List.{flat_map, join_with_byte}
-use Rattle.std.proofs.lemmas.Grind.{common_steps}
-use Rattle.trace_reader.specs.Printing.{in_a_row}
-use Rattle.trace_reader.specs.Spelling.{Field, printed, printed_line, printed_trace, ring_fields, row_fields, size_fields, trace_lines, version_fields}
-use Rattle.trace_reader.specs.Reading.{TraceText}
+use Rattle.std.proofs.Common.{◌≡◌, ◌∷◌, ◌++◌, List, [], refl, ap, map, arith}
+use Rattle.trace_reader.proofs.Words.{flat_map, join_with_byte, common_steps, in_a_row, Field, printed, printed_line, printed_trace, ring_fields, row_fields, size_fields, trace_lines, version_fields, TraceText}
 
 joined : (fields : List Field) → join_with_byte 32 (map printed fields) ≡ in_a_row fields
 joined [] = refl

@@ -1,15 +1,6 @@
 -- One line more of a text whose lines don't depend on each other
-use Rattle.std.proofs.Common.{◌≡◌, ℕ, ◌+◌, List, [], ◌∷◌, ◌++◌, Option, Some, None, Result, Ok, Err, refl, ap, sym, ◌∙◌, length, arith}
-use Rattle.std.specs.Option.{option_map_or}
-use Rattle.std.proofs.lemmas.Grind.{common_steps}
-use Rattle.line_text.specs.Fields.{fields_of}
-use Rattle.line_text.specs.Lines.{TextLine, lines_of}
-use Rattle.trace_reader.specs.declared.fault.LineError.{LineError}
-use Rattle.trace_reader.specs.declared.fault.LineError.TheVariants.{Fault, Memory}
-use Rattle.trace_reader.specs.declared.fault.LineFault.{LineFault}
-use Rattle.trace_reader.specs.Entries.{IfBadLine, at_line, content_fault}
-use Rattle.trace_reader.specs.LineAnswers.{AnswersBy, faulted_by, valued_by}
-use Rattle.trace_reader.specs.LineByLine.{line_says, lines_say, next_value}
+use Rattle.std.proofs.Common.{◌≡◌, ◌+◌, ◌∷◌, ◌++◌, ◌∙◌, ℕ, List, [], Option, Some, None, Result, Ok, Err, refl, ap, sym, length, arith}
+use Rattle.trace_reader.proofs.Words.{option_map_or, common_steps, fields_of, TextLine, lines_of, LineError, Fault, Memory, LineFault, IfBadLine, at_line, content_fault, AnswersBy, faulted_by, valued_by, line_says, lines_say, next_value}
 use Rattle.trace_reader.proofs.LineByLine.{by_content}
 
 -- ---- a line

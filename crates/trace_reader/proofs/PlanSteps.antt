@@ -1,14 +1,6 @@
 -- The first two lines of a plan
-use Rattle.std.proofs.Common.{◌≡◌, ℕ, List, [], ◌∷◌, true, false, Ok, Err, refl, length, arith}
-use Rattle.line_text.specs.Lines.{TextLine, lines_of}
-use Rattle.trace_reader.specs.declared.fault.LineError.{LineError}
-use Rattle.trace_reader.specs.declared.fault.LineError.TheVariants.{Fault, Memory}
-use Rattle.trace_reader.specs.declared.fault.LineFault.TheVariants.{Header as BadHeader, Row as BadRow}
-use Rattle.traces.specs.declared.ring.Ring.{Ring}
-use Rattle.trace_reader.specs.Entries.{IfBadLine, at_line}
-use Rattle.trace_reader.specs.LineAnswers.{AnswersBy}
-use Rattle.trace_reader.specs.LineByLine.{lines_say}
-use Rattle.trace_reader.specs.Plans.{is_plan_version, plan_behind, plan_line, plan_of, plan_ring, with_ring}
+use Rattle.std.proofs.Common.{◌≡◌, ◌∷◌, ℕ, List, [], true, false, Ok, Err, refl, length, arith}
+use Rattle.trace_reader.proofs.Words.{TextLine, lines_of, LineError, Fault, Memory, BadHeader, BadRow, Ring, IfBadLine, at_line, AnswersBy, lines_say, is_plan_version, plan_behind, plan_line, plan_of, plan_ring, with_ring}
 
 pub no_text : (text : List ℕ) → length text ≡ 0 → plan_of text ≡ Err (1, BadHeader)
 unfolding plan_of lines_of

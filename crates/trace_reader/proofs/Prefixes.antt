@@ -1,8 +1,6 @@
 -- What was read so far, before what is still to be read
-use Rattle.std.proofs.Common.{◌≡◌, List, [], ◌∷◌, ◌++◌, Option, Some, None, refl, ap, sym, ◌∙◌, map, arith}
-use Rattle.std.specs.Option.{option_map}
-use Rattle.std.proofs.lemmas.Grind.{common_steps}
-use Rattle.trace_reader.specs.Values.{cons}
+use Rattle.std.proofs.Common.{◌≡◌, ◌∷◌, ◌++◌, ◌∙◌, List, [], Option, Some, None, refl, ap, sym, map, arith}
+use Rattle.trace_reader.proofs.Words.{option_map, common_steps, cons}
 
 -- all of them, where the later ones are there
 abbrev pub behind : {A : Type 0} → List A → Option (List A) → Option (List A)

@@ -1,19 +1,6 @@
 -- What is printed of a trace spells the trace
-use Rattle.std.proofs.Common.{◌≡◌, ℕ, ◌<◌, true, false, List, [], ◌∷◌, ◌++◌, length, map, Ok, All, IsTrue, refl, ap, ◌∙◌, arith, append_assoc, codes, ne_eqb}
-use Rattle.std.specs.List.{flat_map, join_with_byte}
-use Rattle.std.proofs.lemmas.Bool.{and_from}
-use Rattle.std.proofs.lemmas.List.Elements.{All-weaker}
-use Rattle.contexts.specs.declared.size.ContextSize.{ContextSize}
-use Rattle.contexts.specs.declared.size.ContextSize.TheVariants.{Bytes32, Bytes64}
-use Rattle.line_text.specs.Fields.{fields_of, is_space}
-use Rattle.line_text.specs.Lines.{is_line_feed, lines_of}
-use Rattle.line_text.proofs.Joins.{All-join, AreFields, fields_of-join, lines_of-ended, lines_of-nothing}
-use Rattle.traces.specs.declared.ring.Ring.{Ring}
-use Rattle.traces.specs.declared.row.Row.{Row}
-use Rattle.traces.specs.declared.row.Row.TheVariants.{Sub, Write, Reg, Bell, Read}
-use Rattle.trace_reader.specs.Reading.{TraceText, trace_of}
-use Rattle.trace_reader.specs.Spelling.{Field, are_written, lines_written, printed, printed_line, printed_trace, ring_fields, row_fields, size_fields, spells, trace_lines, version_fields}
-use Rattle.trace_reader.specs.Valid.{IsTrace}
+use Rattle.std.proofs.Common.{◌≡◌, ◌<◌, ◌∷◌, ◌++◌, ◌∙◌, ℕ, true, false, List, [], length, map, Ok, All, IsTrue, refl, ap, arith, append_assoc, codes, ne_eqb}
+use Rattle.trace_reader.proofs.Words.{flat_map, join_with_byte, and_from, All-weaker, ContextSize, Bytes32, Bytes64, fields_of, is_space, is_line_feed, lines_of, All-join, AreFields, fields_of-join, lines_of-ended, lines_of-nothing, Ring, Row, Sub, Write, Reg, Bell, Read, TraceText, trace_of, Field, are_written, lines_written, printed, printed_line, printed_trace, ring_fields, row_fields, size_fields, spells, trace_lines, version_fields, IsTrace}
 use Rattle.trace_reader.proofs.SpelledFields.{AllSound, plain_fields, written_as_printed}
 use Rattle.trace_reader.proofs.SpelledSizes.{ring_sound, row_sound, sound_named}
 use Rattle.trace_reader.proofs.Spelled.{read_if_spelled}

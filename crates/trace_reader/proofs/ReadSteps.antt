@@ -1,19 +1,6 @@
 -- One line more of a text
-use Rattle.std.proofs.Common.{◌≡◌, ℕ, ◌-◌, ◌≤◌, List, [], ◌∷◌, ◌++◌, Bool, true, false, Option, Some, None, Result, Ok, Err, refl, ap, ◌∙◌, cond, length, nat_lt, arith}
-use Rattle.std.specs.Prelude.{is_none, ◌==◌}
-use Rattle.std.specs.Option.{option_map_or}
-use Rattle.std.proofs.lemmas.Bool.Decides.{nat_tests}
-use Rattle.std.proofs.lemmas.Grind.{common_steps}
-use Rattle.contexts.specs.declared.size.ContextSize.{ContextSize}
-use Rattle.line_text.specs.Lines.{TextLine, lines_of}
-use Rattle.trace_reader.specs.declared.fault.LineFault.{LineFault}
-use Rattle.trace_reader.specs.declared.fault.LineFault.TheVariants.{Header as BadHeader, Row as BadRow, Number, Limit, Shape}
-use Rattle.trace_reader.specs.declared.fault.LineError.{LineError}
-use Rattle.trace_reader.specs.declared.fault.LineError.TheVariants.{Fault, Memory}
-use Rattle.traces.specs.declared.row.Row.{Row}
-use Rattle.trace_reader.specs.Entries.{Answers, IfBadLine, IfFault, at_line, placed, said_by_line, took_in}
-use Rattle.trace_reader.specs.Reading.{State, after, go_on, is_bad_number, is_bad_row, is_bad_shape, is_misplaced, is_past_limit, is_too_long, is_version, line_fault, next_number, read_line, read_lines, row_fault, said_in, size_of, start, trace_of, whole, with_row, with_said}
-use Rattle.trace_reader.specs.Values.{Said}
+use Rattle.std.proofs.Common.{◌≡◌, ◌-◌, ◌≤◌, ◌∷◌, ◌++◌, ◌∙◌, ◌==◌, ℕ, List, [], Bool, true, false, Option, Some, None, Result, Ok, Err, refl, ap, cond, length, nat_lt, arith, is_none}
+use Rattle.trace_reader.proofs.Words.{option_map_or, nat_tests, common_steps, ContextSize, TextLine, lines_of, LineFault, BadHeader, BadRow, Number, Limit, Shape, LineError, Fault, Memory, Row, Answers, IfBadLine, IfFault, at_line, placed, said_by_line, took_in, State, after, go_on, is_bad_number, is_bad_row, is_bad_shape, is_misplaced, is_past_limit, is_too_long, is_version, line_fault, next_number, read_line, read_lines, row_fault, said_in, size_of, start, trace_of, whole, with_row, with_said, Said}
 
 -- the rows so far, before what later lines say
 abbrev pub prepend : List Row → Result (State × List Row) (ℕ × LineFault) → Result (State × List Row) (ℕ × LineFault)

@@ -1,19 +1,6 @@
 -- A ring's line by its fields, in a trace and in a plan
-use Rattle.std.proofs.Common.{◌≡◌, ℕ, List, [], ◌∷◌, Bool, true, false, Option, Some, None, Result, Ok, Err, refl, ap, ◌∙◌, cond, codes}
-use Rattle.std.specs.Option.{option_map, option_map_or}
-use Rattle.std.specs.Str.{bytes_eq}
-use Rattle.trace_reader.specs.declared.entry.RingEntry.{RingEntry}
-use Rattle.trace_reader.specs.declared.fault.LineError.{LineError}
-use Rattle.trace_reader.specs.declared.fault.LineError.TheVariants.{Fault, Memory}
-use Rattle.trace_reader.specs.declared.fault.LineFault.{LineFault}
-use Rattle.trace_reader.specs.declared.fault.LineFault.TheVariants.{Number}
-use Rattle.traces.specs.declared.ring.Ring.{Ring}
-use Rattle.trace_reader.specs.Entries.{Answers, ring_of, said_by, unless_begun}
-use Rattle.trace_reader.specs.Grammar.{Values, are_fields, form_as, values}
-use Rattle.trace_reader.specs.LineAnswers.{AnswersBy, valued_by}
-use Rattle.trace_reader.specs.Plans.{ring_alone, ring_line_form, ring_value}
-use Rattle.trace_reader.specs.TraceLines.{ring_as, ring_line, said_of}
-use Rattle.trace_reader.specs.Values.{Said, SaysRing}
+use Rattle.std.proofs.Common.{◌≡◌, ◌∷◌, ◌∙◌, ℕ, List, [], Bool, true, false, Option, Some, None, Result, Ok, Err, refl, ap, cond, codes}
+use Rattle.trace_reader.proofs.Words.{option_map, option_map_or, bytes_eq, RingEntry, LineError, Fault, Memory, LineFault, Number, Ring, Answers, ring_of, said_by, unless_begun, Values, are_fields, form_as, values, AnswersBy, valued_by, ring_alone, ring_line_form, ring_value, ring_as, ring_line, said_of, Said, SaysRing}
 
 -- ---- in a trace
 

@@ -1,13 +1,6 @@
 -- The first line of a schedule, and its printed lines
-use Rattle.std.proofs.Common.{◌≡◌, ℕ, List, [], ◌∷◌, ◌++◌, false, true, Err, refl, ap, length, map, codes, arith}
-use Rattle.std.specs.List.{flat_map}
-use Rattle.line_text.specs.Lines.{TextLine, lines_of}
-use Rattle.trace_reader.specs.declared.fault.LineFault.TheVariants.{Header as BadHeader}
-use Rattle.traces.specs.declared.step.Step.{Step}
-use Rattle.trace_reader.specs.LineByLine.{lines_say}
-use Rattle.trace_reader.specs.Schedules.{is_schedule_version, schedule_of, step_line}
-use Rattle.trace_reader.specs.ScheduleSpelling.{printed_schedule, schedule_lines, schedule_version_fields, step_fields}
-use Rattle.trace_reader.specs.Spelling.{printed_line}
+use Rattle.std.proofs.Common.{◌≡◌, ◌∷◌, ◌++◌, ℕ, List, [], false, true, Err, refl, ap, length, map, codes, arith}
+use Rattle.trace_reader.proofs.Words.{flat_map, TextLine, lines_of, BadHeader, Step, lines_say, is_schedule_version, schedule_of, step_line, printed_schedule, schedule_lines, schedule_version_fields, step_fields, printed_line}
 use Rattle.trace_reader.proofs.LinePieces.{line_of}
 
 pub no_text : (text : List ℕ) → length text ≡ 0 → schedule_of text ≡ Err (1, BadHeader)

@@ -1,22 +1,6 @@
 -- What is read of a text is the valid trace that the text spells
-use Rattle.std.proofs.Common.{◌≡◌, ℕ, ◌-◌, ◌≤◌, ◌&&◌, ◌↔◌, Bool, true, false, inl, inr, cond, List, [], ◌∷◌, ◌++◌, length, nat_lt, Option, Some, None, Result, Ok, Err, IsTrue, is_none, refl, sym, ap, ◌∙◌, subst, arith, codes, ltb-false, le-ltb}
-use Rattle.std.specs.List.{join_with_byte, list_all}
-use Rattle.std.specs.Str.{bytes_eq}
-use Rattle.std.proofs.lemmas.Bool.{and_parts, and_from, cases_Bool}
-use Rattle.contexts.specs.declared.size.ContextSize.{ContextSize}
-use Rattle.contexts.specs.declared.size.ContextSize.TheVariants.{Bytes32, Bytes64}
-use Rattle.line_text.specs.Fields.{fields_of}
-use Rattle.line_text.specs.Lines.{TextLine, lines_of}
-use Rattle.line_text.proofs.Joins.{join-fields_of}
-use Rattle.trace_reader.specs.declared.fault.LineFault.{LineFault}
-use Rattle.trace_reader.specs.declared.fault.LineFault.TheVariants.{Header as BadHeader}
-use Rattle.traces.specs.declared.ring.Ring.{Ring}
-use Rattle.traces.specs.declared.row.Row.{Row}
-use Rattle.traces.specs.Header.{may_stand_together}
-use Rattle.traces.specs.Limits.{most_lines}
-use Rattle.trace_reader.specs.Reading.{State, TraceText, after, is_version, line_fault, next_number, read_line, read_lines, size_of, start, trace_of, whole, with_size}
-use Rattle.trace_reader.specs.Spelling.{Field, Word, are_written, is_written, lines_written, size_fields, size_word, spells, trace_lines, version_fields}
-use Rattle.trace_reader.specs.Valid.{IsTrace}
+use Rattle.std.proofs.Common.{◌≡◌, ◌-◌, ◌≤◌, ◌&&◌, ◌↔◌, ◌∷◌, ◌++◌, ◌∙◌, ℕ, Bool, true, false, inl, inr, cond, List, [], length, nat_lt, Option, Some, None, Result, Ok, Err, IsTrue, is_none, refl, sym, ap, subst, arith, codes, ltb-false, le-ltb}
+use Rattle.trace_reader.proofs.Words.{join_with_byte, list_all, bytes_eq, and_parts, and_from, cases_Bool, ContextSize, Bytes32, Bytes64, fields_of, TextLine, lines_of, join-fields_of, LineFault, BadHeader, Ring, Row, may_stand_together, most_lines, State, TraceText, after, is_version, line_fault, next_number, read_line, read_lines, size_of, start, trace_of, whole, with_size, Field, Word, are_written, is_written, lines_written, size_fields, size_word, spells, trace_lines, version_fields, IsTrace}
 use Rattle.trace_reader.proofs.SpelledFields.{same_bytes, are_same_bytes, then_are}
 use Rattle.trace_reader.proofs.SpelledWords.{word_first}
 use Rattle.trace_reader.proofs.SpelledLines.{ok_there, there}

@@ -1,19 +1,7 @@
 -- Fields of a line, and how they are written
-use Rattle.std.proofs.Common.{◌≡◌, ℕ, suc, ◌+◌, ◌<◌, ◌^◌, Bool, true, false, List, [], ◌∷◌, ◌++◌, length, map, cond, Option, Some, None, All, refl, ap, arith, option_map, ◌∙◌}
+use Rattle.std.proofs.Common.{◌≡◌, ◌+◌, ◌<◌, ◌^◌, ◌∷◌, ◌++◌, ◌∙◌, ℕ, suc, Bool, true, false, List, [], length, map, cond, Option, Some, None, All, refl, ap, arith, option_map}
+use Rattle.trace_reader.proofs.Words.{Width, byte_len, option_and_then, bytes_eq, str_to_ascii_lowercase, and_parts, and_from, nat_tests, bytes_eq-Decides, All-weaker, All-cons, All-nil, is_empty, has_empty_field, digits_of, number_of, HasBytes, said, spelled, digits_are_lower, digits_stay_lower, length-digits_of, is_lower_digit, spaced_length, Field, Word, Digits, printed, may_be_written, are_written, both}
 use mir.Val.{bits}
-use Rattle.std.specs.Int.{Width, byte_len}
-use Rattle.std.specs.Option.{option_and_then}
-use Rattle.std.specs.Str.{bytes_eq, str_to_ascii_lowercase}
-use Rattle.std.proofs.lemmas.Bool.{and_parts, and_from}
-use Rattle.std.proofs.lemmas.Bool.Decides.{nat_tests}
-use Rattle.std.proofs.lemmas.Slice.Eq.{bytes_eq-Decides}
-use Rattle.std.proofs.lemmas.List.Elements.{All-weaker, All-cons, All-nil}
-use Rattle.line_text.specs.Fields.{is_empty, has_empty_field}
-use Rattle.line_text.specs.Numbers.{digits_of, number_of}
-use Rattle.line_text.proofs.Digits.{HasBytes, said, spelled, digits_are_lower, digits_stay_lower, length-digits_of, is_lower_digit}
-use Rattle.line_text.proofs.Joins.{spaced_length}
-use Rattle.trace_reader.specs.Spelling.{Field, Word, Digits, printed, may_be_written, are_written}
-use Rattle.trace_reader.specs.Values.{both}
 
 -- ---- tests and options
 

@@ -1,18 +1,7 @@
 -- Which rings may stand together, ring by ring, and what their shapes say of their lines
-use Rattle.std.proofs.Common.{◌≡◌, ℕ, ◌+◌, ◌*◌, ◌<◌, ◌≤◌, ◌==◌, ◌&&◌, ◌||◌, Bool, true, false, not, inl, inr, List, [], ◌∷◌, ◌++◌, length, nat_lt, nat_le, All, refl, sym, ap, ◌∙◌, arith, append_assoc, eqb-true, eq-eqb, leb-true}
-use Rattle.std.specs.List.{list_any, list_all}
-use Rattle.std.proofs.lemmas.Bool.{and_parts, and_from, not-true, or_parts, cases_Bool, ne_eqb, eqb-false}
-use Rattle.std.proofs.lemmas.Bool.Decides.{nat_tests}
-use Rattle.std.proofs.lemmas.List.Folds.{list_any-append}
-use Rattle.std.proofs.lemmas.List.Sums.{AllPass-from_list_all}
-use Rattle.std.proofs.lemmas.List.Elements.{All-weaker}
-use Rattle.trb.specs.declared.ring_kind.RingKind.{RingKind}
-use Rattle.segments.specs.Places.{overlap, place_count}
-use Rattle.segments.specs.Shape.{is_shape, is_segment, most_segments}
+use Rattle.std.proofs.Common.{◌≡◌, ◌+◌, ◌*◌, ◌<◌, ◌≤◌, ◌==◌, ◌&&◌, ◌||◌, ◌∷◌, ◌++◌, ◌∙◌, ℕ, Bool, true, false, not, inl, inr, List, [], length, nat_lt, nat_le, All, refl, sym, ap, arith, append_assoc, eqb-true, eq-eqb, leb-true, ne_eqb}
+use Rattle.trace_reader.proofs.Words.{list_any, list_all, and_parts, and_from, not-true, or_parts, cases_Bool, eqb-false, nat_tests, list_any-append, AllPass-from_list_all, All-weaker, RingKind, overlap, place_count, is_shape, is_segment, most_segments, Segment, clash, is_command_kind, is_event_kind, may_stand_together, Ring}
 use Rattle.segments.specs.ShapeValue.{Shape}
-use Rattle.segments.specs.declared.segment.Segment.{Segment}
-use Rattle.traces.specs.Header.{clash, is_command_kind, is_event_kind, may_stand_together}
-use Rattle.traces.specs.declared.ring.Ring.{Ring}
 use Rattle.trace_reader.proofs.SpelledSaid.{FitsRing}
 use Rattle.trace_reader.proofs.SpelledSegments.{FitsSegment}
 

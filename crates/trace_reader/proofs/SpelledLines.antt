@@ -1,24 +1,6 @@
 -- A line without a fault: what it says, and that it spells it
-use Rattle.std.proofs.Common.{◌≡◌, ℕ, ◌≤◌, ◌&&◌, ◌||◌, Bool, true, false, not, cond, List, length, map, nat_lt, Option, Some, None, Ok, Err, is_none, refl, sym, ap, ◌∙◌, arith, le-ltb, ltb-false, ne_eqb}
-use Rattle.std.specs.List.{list_any}
-use Rattle.std.specs.Option.{option_and_then, option_map_or}
-use Rattle.std.proofs.lemmas.Bool.{not-false, or_parts}
-use Rattle.line_text.specs.Fields.{fields_of, has_empty_field}
-use Rattle.line_text.specs.Lines.{TextLine}
-use Rattle.line_text.proofs.Joins.{length-fields_of, spaced_length}
-use Rattle.segments.specs.Shape.{is_shape}
-use Rattle.trace_reader.specs.declared.fault.LineFault.{LineFault}
-use Rattle.trace_reader.specs.declared.fault.LineFault.TheVariants.{Row as BadRow, Number, Limit, Shape}
-use Rattle.traces.specs.declared.ring.Ring.{Ring}
-use Rattle.traces.specs.declared.row.Row.{Row}
-use Rattle.traces.specs.declared.row.Row.TheVariants.{Sub, Write, Reg, Bell, Read}
-use Rattle.trace_reader.specs.TraceLines.{Form, is_ring_form}
-use Rattle.traces.specs.Header.{clash}
-use Rattle.traces.specs.Limits.{most_lines, most_bytes, most_declared}
-use Rattle.trace_reader.specs.Reading.{State, next_number, form_in, said_in, is_bad_row, is_bad_number, is_too_much, is_past_limit, is_too_long, is_misplaced, is_bad_shape, row_fault, line_fault, with_said, after, read_line}
-use Rattle.trace_reader.specs.Spelling.{printed}
-use Rattle.trace_reader.specs.TraceLines.{said_of}
-use Rattle.trace_reader.specs.Values.{Said, SaysRow, SaysRing}
+use Rattle.std.proofs.Common.{◌≡◌, ◌≤◌, ◌&&◌, ◌||◌, ◌∙◌, ℕ, Bool, true, false, not, cond, List, length, map, nat_lt, Option, Some, None, Ok, Err, is_none, refl, sym, ap, arith, le-ltb, ltb-false, ne_eqb}
+use Rattle.trace_reader.proofs.Words.{list_any, option_and_then, option_map_or, not-false, or_parts, fields_of, has_empty_field, TextLine, length-fields_of, spaced_length, is_shape, LineFault, BadRow, Number, Limit, Shape, Ring, Row, Sub, Write, Reg, Bell, Read, Form, is_ring_form, clash, most_lines, most_bytes, most_declared, State, next_number, form_in, said_in, is_bad_row, is_bad_number, is_too_much, is_past_limit, is_too_long, is_misplaced, is_bad_shape, row_fault, line_fault, with_said, after, read_line, printed, said_of, Said, SaysRow, SaysRing}
 use Rattle.trace_reader.proofs.SpelledFields.{AllSound, all_filled, then_there, written_lengths}
 use Rattle.trace_reader.proofs.SpelledSaid.{FitsSaid, IsRead, IsSpelled, fields_said, read_from_spelled, says_ring, spelled_from_read}
 use Rattle.trace_reader.proofs.SpelledHeaders.{shape_says}

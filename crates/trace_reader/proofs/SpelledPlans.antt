@@ -1,27 +1,8 @@
 -- What is read of a text is the valid plan that the text spells
-use Rattle.std.proofs.Common.{◌≡◌, ℕ, ◌<◌, ◌≤◌, ◌^◌, inl, inr, Bool, true, false, not, cond, List, [], ◌∷◌, length, map, nat_lt, Some, None, Result, Ok, Err, All, IsTrue, refl, sym, ap, ◌∙◌, arith, codes, le-ltb, ltb-false}
-use Rattle.std.specs.Str.{bytes_eq}
-use Rattle.std.proofs.lemmas.Bool.{and_parts, and_from, cases_Bool, not-false, or_parts}
-use Rattle.line_text.specs.Fields.{fields_of}
-use Rattle.line_text.specs.Lines.{TextLine, lines_of}
-use Rattle.line_text.proofs.Joins.{spaced_length}
-use Rattle.segments.specs.Shape.{is_shape}
-use Rattle.trb.specs.Block.{IsBlock}
-use Rattle.trb.specs.declared.ring_kind.RingKind.{RingKind}
-use Rattle.trb.specs.declared.ring_kind.RingKind.TheVariants.{Cmd, Evt, Xfer}
-use Rattle.trace_reader.specs.declared.fault.LineFault.{LineFault}
-use Rattle.trace_reader.specs.declared.fault.LineFault.TheVariants.{Limit, Shape}
-use Rattle.traces.specs.declared.plan.PlanLine.{PlanLine}
-use Rattle.traces.specs.declared.plan.PlanLine.TheVariants.{Sub, Ret}
-use Rattle.traces.specs.declared.ring.Ring.{Ring}
-use Rattle.traces.specs.Header.{is_event_kind}
-use Rattle.traces.specs.Limits.{most_bytes, most_declared, most_lines}
-use Rattle.trace_reader.specs.LineByLine.{lines_say}
-use Rattle.trace_reader.specs.Plans.{PlanText, declares_too_much, is_no_plan_ring, is_past_plan_limit, is_plan_version, plan_form_of, plan_in, plan_line, plan_line_fault, plan_of, plan_ring, plan_ring_fault, plan_value, ret_line, ring_alone, ring_line_form, ring_value, plan_sub_line, with_ring}
+use Rattle.std.proofs.Common.{◌≡◌, ◌<◌, ◌≤◌, ◌^◌, ◌∷◌, ◌∙◌, ℕ, inl, inr, Bool, true, false, not, cond, List, [], length, map, nat_lt, Some, None, Result, Ok, Err, All, IsTrue, refl, sym, ap, arith, codes, le-ltb, ltb-false}
+use Rattle.trace_reader.proofs.Words.{bytes_eq, and_parts, and_from, cases_Bool, not-false, or_parts, fields_of, TextLine, lines_of, spaced_length, is_shape, IsBlock, RingKind, Cmd, Evt, Xfer, LineFault, Limit, Shape, PlanLine, Ret, Ring, is_event_kind, most_bytes, most_declared, most_lines, lines_say, PlanText, declares_too_much, is_no_plan_ring, is_past_plan_limit, is_plan_version, plan_form_of, plan_in, plan_line, plan_line_fault, plan_of, plan_ring, plan_ring_fault, plan_value, ret_line, ring_alone, ring_line_form, ring_value, plan_sub_line, with_ring, IsPlan, plan_line_fields, plan_text_lines, plan_version_fields, spells_plan, IsPlanLine, are_written, is_written, lines_written, printed, ring_fields}
+use Rattle.traces.specs.declared.plan.PlanLine.TheVariants.{Sub}
 use Rattle.trace_reader.proofs.Grammar.{AnySort, AreLines, IsSaid, table_read, table_written}
-use Rattle.trace_reader.specs.PlanSpelling.{IsPlan, plan_line_fields, plan_text_lines, plan_version_fields, spells_plan}
-use Rattle.traces.specs.PlanLines.{IsPlanLine}
-use Rattle.trace_reader.specs.Spelling.{are_written, is_written, lines_written, printed, ring_fields}
 use Rattle.trace_reader.proofs.LineByLine.{AreSpelled, IsSpelling, line_read, line_spells, lines_read, lines_spell}
 use Rattle.trace_reader.proofs.Spelled.{two_words, words_written}
 use Rattle.trace_reader.proofs.SpelledFields.{AllSound, are_same_bytes}

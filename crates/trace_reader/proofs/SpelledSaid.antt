@@ -1,16 +1,6 @@
 -- What a line of a trace says, and how it is written
-use Rattle.std.proofs.Common.{◌≡◌, ◌≢◌, ℕ, ◌<◌, ◌^◌, Bool, true, false, List, length, Some, All, refl}
-use Rattle.traces.specs.Register.{is_wide}
-use Rattle.traces.specs.Rows.{IsRow}
-use Rattle.traces.specs.declared.ring.Ring.{Ring}
-use Rattle.traces.specs.declared.row.Row.{Row}
-use Rattle.traces.specs.declared.row.Row.TheVariants.{Sub, Write, Reg, Bell, Read}
-use Rattle.std.specs.Str.{bytes_eq}
-use Rattle.std.specs.Prelude.{codes}
-use Rattle.trace_reader.specs.Grammar.{Line}
-use Rattle.trace_reader.specs.Spelling.{Field, are_written, row_fields, ring_fields}
-use Rattle.trace_reader.specs.TraceLines.{Form, form_of, is_ring_form, said_lines, said_of, sub_line, write_line, reg_line, bell_line, event_line, ring_line}
-use Rattle.trace_reader.specs.Values.{Said, SaysRow, SaysRing}
+use Rattle.std.proofs.Common.{◌≡◌, ◌≢◌, ◌<◌, ◌^◌, ℕ, Bool, true, false, List, length, Some, All, refl, codes}
+use Rattle.trace_reader.proofs.Words.{is_wide, IsRow, Ring, Row, Sub, Write, Reg, Bell, Read, bytes_eq, Line, Field, are_written, row_fields, ring_fields, Form, form_of, is_ring_form, said_lines, said_of, sub_line, write_line, reg_line, bell_line, event_line, ring_line, Said, SaysRow, SaysRing}
 use Rattle.trace_reader.proofs.Grammar.{AreLines, IsSaid, table_read, table_written}
 use Rattle.trace_reader.proofs.SpelledSegments.{FitsSegment}
 

@@ -1,20 +1,7 @@
 -- What is read of a text is the valid schedule that the text spells
-use Rattle.std.proofs.Common.{◌≡◌, ℕ, ◌<◌, ◌≤◌, inl, inr, Bool, true, false, cond, List, [], ◌∷◌, length, map, Some, None, Result, Ok, IsTrue, refl, sym, ◌∙◌, arith, codes, le-ltb, ltb-false}
-use Rattle.std.specs.Str.{bytes_eq}
-use Rattle.std.proofs.lemmas.Bool.{and_parts, and_from, cases_Bool}
-use Rattle.line_text.specs.Fields.{fields_of}
-use Rattle.line_text.specs.Lines.{TextLine, lines_of}
-use Rattle.line_text.proofs.Joins.{spaced_length}
-use Rattle.trace_reader.specs.declared.fault.LineFault.{LineFault}
-use Rattle.trace_reader.specs.declared.fault.LineFault.TheVariants.{Limit}
-use Rattle.traces.specs.declared.step.Step.{Step}
-use Rattle.traces.specs.declared.step.Step.TheVariants.{NextRow, Look, Report, Finish, Other, Scribble}
-use Rattle.traces.specs.Limits.{most_bytes, most_schedule_lines}
-use Rattle.traces.specs.Rows.{IsStep}
-use Rattle.trace_reader.specs.Schedules.{finish_line, is_past_schedule_limit, is_schedule_version, look_line, other_line, report_line, row_line, schedule_in, schedule_of, scrib_line, step_fault, step_form_of, step_line, step_lines, step_value}
+use Rattle.std.proofs.Common.{◌≡◌, ◌<◌, ◌≤◌, ◌∷◌, ◌∙◌, ℕ, inl, inr, Bool, true, false, cond, List, [], length, map, Some, None, Result, Ok, IsTrue, refl, sym, arith, codes, le-ltb, ltb-false}
+use Rattle.trace_reader.proofs.Words.{bytes_eq, and_parts, and_from, cases_Bool, fields_of, TextLine, lines_of, spaced_length, LineFault, Limit, Step, NextRow, Look, Report, Finish, Other, Scribble, most_bytes, most_schedule_lines, IsStep, finish_line, is_past_schedule_limit, is_schedule_version, look_line, other_line, report_line, row_line, schedule_in, schedule_of, scrib_line, step_fault, step_form_of, step_line, step_lines, step_value, IsSchedule, printed_schedule, schedule_lines, schedule_version_fields, spells_schedule, step_fields, are_written, is_written, lines_written, printed}
 use Rattle.trace_reader.proofs.Grammar.{AnySort, AreLines, IsSaid, table_read, table_written}
-use Rattle.trace_reader.specs.ScheduleSpelling.{IsSchedule, printed_schedule, schedule_lines, schedule_version_fields, spells_schedule, step_fields}
-use Rattle.trace_reader.specs.Spelling.{are_written, is_written, lines_written, printed}
 use Rattle.trace_reader.proofs.LineByLine.{AreSpelled, IsSpelling, line_read, line_spells, lines_read, lines_spell}
 use Rattle.trace_reader.proofs.Printed.{AllSoundLines, IsSoundLine, printed_lines, sound_lines_map}
 use Rattle.trace_reader.proofs.Spelled.{two_words, words_written}

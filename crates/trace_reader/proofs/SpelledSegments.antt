@@ -1,16 +1,6 @@
 -- Fields that say segments, and how segments are written
-use Rattle.std.proofs.Common.{◌≡◌, ℕ, suc, ◌<◌, ◌^◌, ◌==◌, ◌&&◌, Bool, true, false, List, [], ◌∷◌, ◌++◌, length, slice_index, take, drop, map, Option, Some, None, All, refl, sym, ap, ◌∙◌, subst, arith, length-append, drop-cons, take-append-drop, append_assoc, cond, codes, eqb-true, eq-eqb, w16, w64, take_at, drop_at}
-use Rattle.std.specs.Char.{to_ascii_lowercase}
-use Rattle.std.specs.Str.{str_to_ascii_lowercase}
-use Rattle.std.proofs.lemmas.Bool.{and_parts, and_from}
-use Rattle.std.proofs.lemmas.Bool.Decides.{nat_tests}
-use Rattle.std.proofs.lemmas.List.{length-map, map-append, take-map, drop-map, get_or_at, get_or-map}
-use Rattle.std.proofs.lemmas.List.Elements.{All-cons, All-nil, All-head, All-tail}
-use Rattle.line_text.specs.Numbers.{digits_of, number_of}
-use Rattle.line_text.proofs.Digits.{bytes_of_16, bytes_of_64, length-digits_of, said, spelled}
-use Rattle.segments.specs.declared.segment.Segment.{Segment}
-use Rattle.trace_reader.specs.Spelling.{may_be_written, are_written, segment_field}
-use Rattle.trace_reader.specs.Values.{both, segment_of, segments_of}
+use Rattle.std.proofs.Common.{◌≡◌, ◌<◌, ◌^◌, ◌==◌, ◌&&◌, ◌∷◌, ◌++◌, ◌∙◌, ℕ, suc, Bool, true, false, List, [], length, slice_index, take, drop, map, Option, Some, None, All, refl, sym, ap, subst, arith, length-append, drop-cons, take-append-drop, append_assoc, cond, codes, eqb-true, eq-eqb, w16, w64, take_at, drop_at}
+use Rattle.trace_reader.proofs.Words.{to_ascii_lowercase, str_to_ascii_lowercase, and_parts, and_from, nat_tests, length-map, map-append, take-map, drop-map, get_or_at, get_or-map, All-cons, All-nil, All-head, All-tail, digits_of, number_of, bytes_of_16, bytes_of_64, length-digits_of, said, spelled, Segment, may_be_written, are_written, segment_field, both, segment_of, segments_of}
 use Rattle.trace_reader.proofs.SpelledFields.{same_bytes, are_same_bytes, both_there, both_of}
 
 -- ---- a segment

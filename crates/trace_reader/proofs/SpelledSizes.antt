@@ -1,28 +1,6 @@
 -- The fields of rows and rings: none is empty or has a space, and all fit a line
-use Rattle.std.proofs.Common.{◌≡◌, ℕ, ◌*◌, ◌<◌, ◌≤◌, true, List, [], ◌∷◌, ◌++◌, length, map, All, refl, ap, ◌∙◌, arith, length-append, codes, nat_lt, w8, w16, w32, w64, ltb-true}
-use Rattle.std.specs.List.{flat_map, list_all}
-use Rattle.std.specs.Char.{to_ascii_lowercase}
-use Rattle.std.specs.Str.{str_to_ascii_lowercase}
-use Rattle.std.proofs.lemmas.List.{map-append}
-use Rattle.std.proofs.lemmas.List.Sums.{AllPass-from_list_all}
-use Rattle.std.proofs.lemmas.List.Elements.{All-weaker, All-append, All-head, All-tail}
-use Rattle.line_text.specs.Numbers.{digits_of}
-use Rattle.line_text.proofs.Digits.{digits_stay_lower, length-digits_of}
-use Rattle.line_text.proofs.Joins.{spaced_length}
-use Rattle.trb.specs.Block.{IsBlock}
-use Rattle.trb.specs.RingKind.{ring_name}
-use Rattle.trb.specs.declared.block.Block.{Block}
-use Rattle.trb.specs.declared.ring_kind.RingKind.{RingKind}
-use Rattle.trb.specs.declared.ring_kind.RingKind.TheVariants.{Cmd, Evt, Xfer}
-use Rattle.segments.specs.declared.segment.Segment.{Segment}
-use Rattle.traces.specs.Register.{register_name}
-use Rattle.traces.specs.Limits.{most_bytes, most_declared}
-use Rattle.trace_reader.specs.Spelling.{Word, Digits, printed, block_fields, segment_field, row_fields, ring_fields}
-use Rattle.traces.specs.declared.register.Register.{Register}
-use Rattle.traces.specs.declared.register.Register.TheVariants.{Usbcmd, Usbsts, Dnctrl, Crcr, Dcbaap, Config, Iman, Imod, Erstsz, Erstba, Erdp}
-use Rattle.traces.specs.declared.ring.Ring.{Ring}
-use Rattle.traces.specs.declared.row.Row.{Row}
-use Rattle.traces.specs.declared.row.Row.TheVariants.{Sub, Write, Reg, Bell, Read}
+use Rattle.std.proofs.Common.{◌≡◌, ◌*◌, ◌<◌, ◌≤◌, ◌∷◌, ◌++◌, ◌∙◌, ℕ, true, List, [], length, map, All, refl, ap, arith, length-append, codes, nat_lt, w8, w16, w32, w64, ltb-true}
+use Rattle.trace_reader.proofs.Words.{flat_map, list_all, to_ascii_lowercase, str_to_ascii_lowercase, map-append, AllPass-from_list_all, All-weaker, All-append, All-head, All-tail, digits_of, digits_stay_lower, length-digits_of, spaced_length, IsBlock, ring_name, Block, RingKind, Cmd, Evt, Xfer, Segment, register_name, most_bytes, most_declared, Word, Digits, printed, block_fields, segment_field, row_fields, ring_fields, Register, Usbcmd, Usbsts, Dnctrl, Crcr, Dcbaap, Config, Iman, Imod, Erstsz, Erstba, Erdp, Ring, Row, Sub, Write, Reg, Bell, Read}
 use Rattle.trace_reader.proofs.SpelledFields.{IsSound, AllSound, sound_word, sound_digits, sound_append, sound_map, plain_digits, are_same_bytes, spaced_length-append}
 use Rattle.trace_reader.proofs.SpelledValues.{word_field}
 

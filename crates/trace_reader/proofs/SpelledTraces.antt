@@ -1,22 +1,6 @@
 -- What is read of a text's lines, and what the lines spell
-use Rattle.std.proofs.Common.{◌≡◌, ℕ, ◌+◌, ◌≤◌, ◌&&◌, Bool, true, false, not, List, [], ◌∷◌, ◌++◌, length, map, nat_lt, Option, Some, None, Result, Ok, Err, All, refl, sym, ap, ◌∙◌, subst, arith, append_assoc, append-nil, le-ltb, ltb-true, lt-ltb}
-use Rattle.std.specs.List.{list_any, list_all}
-use Rattle.std.proofs.lemmas.Bool.{and_parts, and_from, not-false, or_parts, or_from}
-use Rattle.std.proofs.lemmas.List.Elements.{All-cons, All-head, All-nil, All-tail}
-use Rattle.line_text.specs.Fields.{fields_of}
-use Rattle.line_text.specs.Lines.{TextLine}
-use Rattle.segments.specs.Shape.{is_shape}
-use Rattle.trace_reader.specs.declared.fault.LineFault.{LineFault}
-use Rattle.traces.specs.declared.ring.Ring.{Ring}
-use Rattle.traces.specs.declared.row.Row.{Row}
-use Rattle.traces.specs.declared.row.Row.TheVariants.{Sub, Write, Reg, Bell, Read}
-use Rattle.traces.specs.Header.{clash, may_stand_together}
-use Rattle.traces.specs.Limits.{most_lines, most_declared}
-use Rattle.trace_reader.specs.Reading.{State, go_on, is_misplaced, is_too_much, next_number, read_line, read_lines, with_row, with_said}
-use Rattle.traces.specs.Rows.{IsRow}
-use Rattle.trace_reader.specs.Spelling.{Field, are_written, is_written, lines_written, ring_fields, row_fields}
-use Rattle.traces.specs.Rows.{FitsLine}
-use Rattle.trace_reader.specs.Values.{Said, SaysRow, SaysRing}
+use Rattle.std.proofs.Common.{◌≡◌, ◌+◌, ◌≤◌, ◌&&◌, ◌∷◌, ◌++◌, ◌∙◌, ℕ, Bool, true, false, not, List, [], length, map, nat_lt, Option, Some, None, Result, Ok, Err, All, refl, sym, ap, subst, arith, append_assoc, append-nil, le-ltb, ltb-true, lt-ltb}
+use Rattle.trace_reader.proofs.Words.{list_any, list_all, and_parts, and_from, not-false, or_parts, or_from, All-cons, All-head, All-nil, All-tail, fields_of, TextLine, is_shape, LineFault, Ring, Row, Sub, Write, Reg, Bell, Read, clash, may_stand_together, most_lines, most_declared, State, go_on, is_misplaced, is_too_much, next_number, read_line, read_lines, with_row, with_said, IsRow, Field, are_written, is_written, lines_written, ring_fields, row_fields, FitsLine, Said, SaysRow, SaysRing}
 use Rattle.trace_reader.proofs.SpelledSaid.{FitsText}
 use Rattle.trace_reader.proofs.SpelledHeaders.{no_clash, ring_fits, together_with}
 use Rattle.trace_reader.proofs.SpelledLines.{IsGood, few_blocks, read_from_good, step_from_read}

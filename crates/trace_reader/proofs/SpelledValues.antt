@@ -1,14 +1,6 @@
 -- What number fields say, and how the numbers are written
-use Rattle.std.proofs.Common.{◌≡◌, ℕ, zero, suc, ◌*◌, ◌<◌, ◌^◌, ◌&&◌, Bool, true, false, List, [], ◌∷◌, ◌++◌, length, slice_index, map, Some, All, refl, ap, ◌∙◌, arith, subst, append-nil, w32}
-use Rattle.std.specs.List.{flat_map}
-use Rattle.std.proofs.lemmas.Bool.{and_parts}
-use Rattle.std.proofs.lemmas.List.Elements.{All-cons, All-nil, All-head, All-tail}
-use Rattle.line_text.specs.Numbers.{digits_of, number_of}
-use Rattle.line_text.proofs.Digits.{bytes_of_32}
-use Rattle.trb.specs.Block.{IsBlock}
-use Rattle.trb.specs.declared.block.Block.{Block}
-use Rattle.trace_reader.specs.Spelling.{Field, Digits, may_be_written, are_written, block_fields}
-use Rattle.trace_reader.specs.Values.{block_of, blocks_of, event_of}
+use Rattle.std.proofs.Common.{◌≡◌, ◌*◌, ◌<◌, ◌^◌, ◌&&◌, ◌∷◌, ◌++◌, ◌∙◌, ℕ, zero, suc, Bool, true, false, List, [], length, slice_index, map, Some, All, refl, ap, arith, subst, append-nil, w32}
+use Rattle.trace_reader.proofs.Words.{flat_map, and_parts, All-cons, All-nil, All-head, All-tail, digits_of, number_of, bytes_of_32, IsBlock, Block, Field, Digits, may_be_written, are_written, block_fields, block_of, blocks_of, event_of}
 use Rattle.trace_reader.proofs.SpelledFields.{both_there, both_of, mapped_there, number_written, number_read}
 
 -- the digits of a word

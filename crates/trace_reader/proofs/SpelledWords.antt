@@ -1,18 +1,6 @@
 -- Words of a line, and the values of single fields
-use Rattle.std.proofs.Common.{◌≡◌, ◌≢◌, ℕ, ◌*◌, ◌%◌, ◌<◌, ◌^◌, ◌==◌, ◌||◌, inl, inr, true, cond, List, [], ◌∷◌, length, Some, None, refl, sym, ap, ◌∙◌, subst, arith, codes, nat_lt, eqb-true, eq-eqb, w64}
-use Rattle.std.specs.Str.{bytes_eq}
-use Rattle.std.proofs.lemmas.Bool.{and_parts, cases_Bool, ltb-true, lt-ltb, or_cases}
-use Rattle.line_text.specs.Numbers.{number_of}
-use Rattle.trb.specs.RingKind.{ring_name}
-use Rattle.trb.specs.declared.block.Block.{Block}
-use Rattle.trb.specs.declared.ring_kind.RingKind.{RingKind}
-use Rattle.trb.specs.declared.ring_kind.RingKind.TheVariants.{Cmd, Evt, Xfer}
-use Rattle.traces.specs.Register.{is_wide, register_name}
-use Rattle.traces.specs.declared.register.Register.{Register}
-use Rattle.traces.specs.declared.register.Register.TheVariants.{Usbcmd, Usbsts, Dnctrl, Crcr, Dcbaap, Config, Iman, Imod, Erstsz, Erstba, Erdp}
-use Rattle.trace_reader.specs.Forms.{are_blocks, kind_named, named, register_named}
-use Rattle.trace_reader.specs.Spelling.{Field, Word, may_be_written, are_written}
-use Rattle.trace_reader.specs.Values.{register_value_of, word_address_of}
+use Rattle.std.proofs.Common.{◌≡◌, ◌≢◌, ◌*◌, ◌%◌, ◌<◌, ◌^◌, ◌==◌, ◌||◌, ◌∷◌, ◌∙◌, ℕ, inl, inr, true, cond, List, [], length, Some, None, refl, sym, ap, subst, arith, codes, nat_lt, eqb-true, eq-eqb, w64, ltb-true, lt-ltb}
+use Rattle.trace_reader.proofs.Words.{bytes_eq, and_parts, cases_Bool, or_cases, number_of, ring_name, Block, RingKind, Cmd, Evt, Xfer, is_wide, register_name, Register, Usbcmd, Usbsts, Dnctrl, Crcr, Dcbaap, Config, Iman, Imod, Erstsz, Erstba, Erdp, are_blocks, kind_named, named, register_named, Field, Word, may_be_written, are_written, register_value_of, word_address_of}
 use Rattle.trace_reader.proofs.SpelledFields.{same_bytes, cond_there, then_there, then_are}
 use Rattle.trace_reader.proofs.SpelledValues.{only}
 

@@ -1,13 +1,7 @@
 -- A refused text spells no trace
-use Rattle.std.proofs.Common.{◌≡◌, ℕ, List, Bool, true, false, Result, Ok, Err, refl, sym, ◌∙◌}
-use Rattle.std.specs.Prelude.{IfOk, IfErr}
-use Rattle.trace_reader.specs.declared.fault.LineFault.{LineFault}
-use Rattle.trace_reader.specs.declared.fault.ReadFault.{ReadFault}
+use Rattle.std.proofs.Common.{◌≡◌, ◌∙◌, ℕ, List, Bool, true, false, Result, Ok, Err, refl, sym, IfOk, IfErr}
+use Rattle.trace_reader.proofs.Words.{LineFault, ReadFault, IfBadLine, TraceText, trace_of, spells, IsTrace}
 use Rattle.trace_reader.specs.declared.fault.ReadFault.TheVariants.{Line, Memory}
-use Rattle.trace_reader.specs.Entries.{IfBadLine}
-use Rattle.trace_reader.specs.Reading.{TraceText, trace_of}
-use Rattle.trace_reader.specs.Spelling.{spells}
-use Rattle.trace_reader.specs.Valid.{IsTrace}
 use Rattle.trace_reader.proofs.Spelled.{read_if_spelled}
 
 -- what is refused is no value that is spelled, where each valid one that is spelled is read

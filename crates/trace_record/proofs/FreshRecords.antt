@@ -1,32 +1,6 @@
 -- Before the first row, and what a search through the rings finds
-use Rattle.std.proofs.Common.{◌≡◌, ℕ, zero, suc, ◌+◌, ◌<◌, List, [], ◌∷◌, ◌++◌, true, false, Some, None, refl, ap, sym, ◌∙◌, inl, inr, length, get_or, subst, length-append}
-use Rattle.std.specs.Prelude.{◌⊎◌, slice_get, is_some}
-use Rattle.std.proofs.lemmas.Option.{slice_get_read}
-use Rattle.segments.specs.RingView.{new_ring, due_positions}
-use Rattle.traces.specs.declared.ring.Ring.{Ring}
-use Rattle.traces.specs.declared.header.Header.{Header}
-use Rattle.traces.specs.Header.{IsHeader, is_event_kind, event_shape, event_ring, shape_or, shape_of, command_id}
-use Rattle.ring_knowledge.specs.declared.ring_record.RingRecord.{RingRecord}
-use Rattle.ring_knowledge.specs.RingRecords.{FollowsRing}
-use Rattle.ring_knowledge.specs.Known.{nothing}
-use Rattle.trace_record.specs.FollowsTrace.{FollowsTrace, FollowsEvents, FollowsPlace, inputs_of, device_contexts}
-use Rattle.trace_record.specs.Fresh.{AreFresh, IsFreshSo}
-use Rattle.event_ring.specs.EventPlaceValue.{EventState}
-use Rattle.device_record.specs.Devices.{FollowsDevices}
-use Rattle.event_ring.specs.EventRing.{EventCounts}
-use Rattle.trb.specs.declared.ring_kind.RingKind.TheVariants.{Evt}
-use Rattle.ring_knowledge.specs.RegisterRecords.{FollowsRegisters}
-use Rattle.trace_record.specs.declared.trace_record.TraceRecord.{TraceRecord}
-use Rattle.ring_finder.proofs.RingsApart.{among_at, each_among}
-use Rattle.ring_finder.proofs.HeaderRings.{not_found, event_found}
-use Rattle.ring_finder.proofs.ListTests.{filter_nothing}
-use Rattle.contexts.specs.Contexts.{device_context_bytes, input_context_bytes}
-use Rattle.device_record.specs.Unfinished.{FollowsUnfinished}
-use Rattle.ring_knowledge.specs.Rings.{unfinished, unfinished_positions}
-use Rattle.range_words.specs.declared.soiled.SoiledWords.{SoiledWords}
-use Rattle.range_words.specs.Holding.{HoldsAreas, HoldsSoiled}
-use Rattle.ownership_rules.specs.OpenLeases.{slots}
-use Rattle.commands.specs.declared.command.Command.{Command}
+use Rattle.std.proofs.Common.{◌≡◌, ◌+◌, ◌<◌, ◌∷◌, ◌++◌, ◌∙◌, ◌⊎◌, ℕ, zero, suc, List, [], true, false, Some, None, refl, ap, sym, inl, inr, length, get_or, subst, length-append, slice_get, is_some}
+use Rattle.trace_record.proofs.Words.{slice_get_read, new_ring, due_positions, Ring, Header, IsHeader, is_event_kind, event_shape, event_ring, shape_or, shape_of, command_id, RingRecord, FollowsRing, nothing, FollowsTrace, FollowsEvents, FollowsPlace, inputs_of, device_contexts, AreFresh, IsFreshSo, EventState, FollowsDevices, EventCounts, Evt, FollowsRegisters, TraceRecord, among_at, each_among, not_found, event_found, filter_nothing, device_context_bytes, input_context_bytes, FollowsUnfinished, unfinished, unfinished_positions, SoiledWords, HoldsAreas, HoldsSoiled, slots, Command}
 
 one_at : (rs : List Ring) (i : ℕ) (q r : Ring) → slice_get rs i ≡ Some q → slice_get rs i ≡ Some r → q ≡ r
 one_at rs i q r e f = some_is (sym e ∙ f)

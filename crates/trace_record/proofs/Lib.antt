@@ -6,3 +6,4 @@ mod OpenAreas
 mod OpenEntries
 pub mod PlacedWords
 pub mod FirstBroken
+pub mod Words

@@ -1,24 +1,8 @@
 -- Of the rings of a header only the one that has a word can own it, or give something by its write
-use Rattle.std.proofs.Common.{◌≡◌, ℕ, ◌%◌, [], ◌++◌, Bool, true, false, Option, Some, None, refl, ap, sym, ◌∙◌, inl, inr}
-use Rattle.std.specs.Prelude.{◌||◌, map}
-use Rattle.std.specs.List.{list_any}
-use Rattle.std.proofs.lemmas.List.{append-nil}
-use Rattle.trb.specs.declared.ring_kind.RingKind.{RingKind}
-use Rattle.trb.specs.declared.ring_kind.RingKind.TheVariants.{Cmd, Evt, Xfer}
-use Rattle.segments.specs.Places.{is_inside, touches, overlap, address_of, link_address}
-use Rattle.segments.specs.RingView.{positions_given, crossings_given, leased_positions, leased_crossings}
-use Rattle.segments.proofs.InsideLemmas.{touches-word}
-use Rattle.traces.specs.declared.ring.Ring.{Ring}
-use Rattle.traces.specs.declared.header.Header.{Header}
-use Rattle.traces.specs.Header.{IsHeader, is_driver_kind, is_event_kind, shape_or, driver_rings, event_ring, event_shape}
-use Rattle.ring_knowledge.specs.Known.{Known}
-use Rattle.ring_knowledge.specs.Rings.{Position, Crossing, given_of, given_by}
+use Rattle.std.proofs.Common.{◌≡◌, ◌%◌, ◌++◌, ◌∙◌, ◌||◌, ℕ, [], Bool, true, false, Option, Some, None, refl, ap, sym, inl, inr, map, append-nil}
+use Rattle.trace_record.proofs.Words.{list_any, RingKind, Cmd, Evt, Xfer, is_inside, touches, overlap, address_of, link_address, positions_given, crossings_given, leased_positions, leased_crossings, touches-word, Ring, Header, IsHeader, is_driver_kind, is_event_kind, shape_or, driver_rings, event_ring, event_shape, Known, Position, Crossing, given_of, given_by, false_unless, or_false, any_append, any_map, IsAmong, Apart, same_or_apart, together, shape_allowed, shape_there, event_here, find_some, one_driver, no_driver, all_from_one, nothing_from, is_owned, rings_have}
 use Rattle.ownership_rules.specs.OpenLeases as leases
-use Rattle.ring_finder.proofs.ListTests.{false_unless, or_false, any_append, any_map}
-use Rattle.ring_finder.proofs.RingsApart.{IsAmong, Apart, same_or_apart}
-use Rattle.ring_finder.proofs.HeaderRings.{together, shape_allowed, shape_there, event_here, find_some, one_driver, no_driver, all_from_one, nothing_from}
 use Rattle.trace_record.proofs.WordsInside.{not_owned, gives_no_position, gives_no_crossing}
-use Rattle.trace_record.specs.Owned.{is_owned, rings_have}
 
 pub no_driver_event : (kind : RingKind) → is_driver_kind kind ≡ true → is_event_kind kind ≡ true → ⊥
 no_driver_event Cmd d e = absurd (cc)

@@ -1,20 +1,8 @@
 -- The contexts under lease, by the addresses at which they start
-use Rattle.std.proofs.Common.{◌≡◌, ℕ, List, [], ◌∷◌, ◌++◌, Bool, true, false, Option, Some, None, refl, ap, sym, ◌∙◌}
-use Rattle.std.specs.Prelude.{◌||◌}
-use Rattle.std.specs.List.{list_any, filter_map, flat_map, cons_option}
-use Rattle.segments.specs.Places.{overlap}
-use Rattle.commands.specs.declared.command.Command.{Command}
-use Rattle.commands.specs.Command.{named_context}
-use Rattle.contexts.specs.Contexts.{device_context_bytes, input_context_bytes}
-use Rattle.traces.specs.declared.header.Header.{Header}
-use Rattle.traces.specs.declared.register.Register.TheVariants.{Erstba}
-use Rattle.traces.specs.Header.{driver_rings}
-use Rattle.ring_knowledge.specs.Known.{Known}
+use Rattle.std.proofs.Common.{◌≡◌, ◌∷◌, ◌++◌, ◌∙◌, ◌||◌, ℕ, List, [], Bool, true, false, Option, Some, None, refl, ap, sym}
+use Rattle.trace_record.proofs.Words.{list_any, filter_map, flat_map, cons_option, overlap, Command, named_context, device_context_bytes, input_context_bytes, Header, Erstba, driver_rings, Known, or_false, any_append, any_flat_map, inputs_of, device_contexts, rings_have, table_has, entries_have}
 use Rattle.ring_knowledge.specs.Rings as rings
 use Rattle.ownership_rules.specs.OpenLeases as leases
-use Rattle.ring_finder.proofs.ListTests.{or_false, any_append, any_flat_map}
-use Rattle.trace_record.specs.FollowsTrace.{inputs_of, device_contexts}
-use Rattle.trace_record.specs.Owned.{rings_have, table_has, entries_have}
 
 or_groups : (d s t c e v : Bool) → (d || ((((s || t) || c) || e) || v)) ≡ (((((d || s) || t) || c) || e) || v)
 or_groups true s t c e v = refl

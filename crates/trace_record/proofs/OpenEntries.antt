@@ -1,18 +1,7 @@
 -- The entries of the DCBAA under lease, by the slot whose entry has a word
-use Rattle.std.proofs.Common.{◌≡◌, ◌≢◌, ℕ, zero, suc, ◌+◌, ◌-◌, ◌*◌, ◌/◌, ◌%◌, ◌<◌, ◌≤◌, List, [], ◌∷◌, Bool, true, false, Option, Some, None, refl, ap, sym, ◌∙◌, arith, inl, inr}
-use Rattle.std.specs.Prelude.{◌||◌, ◌&&◌, ◌⊎◌, is_some}
-use Rattle.std.specs.List.{list_any, range_with_len}
-use Rattle.std.proofs.lemmas.Bool.{cases_eq}
-use Rattle.std.proofs.lemmas.Bool.Decides.{nat_tests}
-use Rattle.segments.specs.Places.{overlap}
-use Rattle.traces.specs.declared.header.Header.{Header}
-use Rattle.traces.specs.declared.register.Register.TheVariants.{Dcbaap}
-use Rattle.traces.specs.Register.{register_or_zero}
-use Rattle.ring_knowledge.specs.Known.{Known}
-use Rattle.ring_knowledge.specs.Writes.{entry_of}
+use Rattle.std.proofs.Common.{◌≡◌, ◌≢◌, ◌+◌, ◌-◌, ◌*◌, ◌/◌, ◌%◌, ◌<◌, ◌≤◌, ◌∷◌, ◌∙◌, ◌||◌, ◌&&◌, ◌⊎◌, ℕ, zero, suc, List, [], Bool, true, false, Option, Some, None, refl, ap, sym, arith, inl, inr, is_some}
+use Rattle.trace_record.proofs.Words.{list_any, range_with_len, cases_eq, nat_tests, overlap, Header, Dcbaap, register_or_zero, Known, entry_of, or_false, and_false, any_flat_map, entries_have}
 use Rattle.ownership_rules.specs.OpenLeases as leases
-use Rattle.ring_finder.proofs.ListTests.{or_false, and_false, any_flat_map}
-use Rattle.trace_record.specs.Owned.{entries_have}
 
 range_none : (p : ℕ → Bool) (first n : ℕ) → ((s : ℕ) → first ≤ s → s < first + n → p s ≡ false) → list_any p (range_with_len first n) ≡ false
 range_none p first zero none = refl

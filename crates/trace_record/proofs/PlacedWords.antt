@@ -1,17 +1,6 @@
 -- What the place of a word says
-use Rattle.std.proofs.Common.{◌≡◌, ℕ, true, Bool, Option, None, Some, refl, sym, ◌∙◌, subst}
-use Rattle.std.specs.Prelude.{slice_get}
-use Rattle.segments.specs.RingView.{positions_given, crossings_given}
-use Rattle.traces.specs.declared.ring.Ring.{Ring}
-use Rattle.traces.specs.declared.header.Header.{Header}
-use Rattle.traces.specs.declared.row.Row.{Row}
-use Rattle.traces.specs.declared.row.Row.TheVariants.{Write}
-use Rattle.traces.specs.Header.{is_driver_kind, is_event_kind}
-use Rattle.ring_knowledge.specs.declared.ring_record.RingGiving.{RingGiving}
-use Rattle.ring_knowledge.specs.Known.{Known}
-use Rattle.ring_knowledge.specs.RingRecords.{positions_of, crossings_of}
-use Rattle.trace_record.specs.declared.word_place.WordPlace.{WordPlace}
-use Rattle.trace_record.specs.WordPlaces.{IsGivenBy, IsGivenOn, IsOwnedSo, IsPlaced}
+use Rattle.std.proofs.Common.{◌≡◌, ◌∙◌, ℕ, true, Bool, Option, None, Some, refl, sym, subst, slice_get}
+use Rattle.trace_record.proofs.Words.{positions_given, crossings_given, Ring, Header, Row, Write, is_driver_kind, is_event_kind, RingGiving, Known, positions_of, crossings_of, WordPlace, IsGivenBy, IsGivenOn, IsOwnedSo, IsPlaced}
 use Rattle.trace_record.proofs.OneRingHas.{no_driver_event}
 
 module _ (h : Header) (k : Known) (at word n : ℕ) (ring : Ring) (here : slice_get h.rings n ≡ Some ring) where

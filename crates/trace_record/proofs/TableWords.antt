@@ -1,14 +1,6 @@
 -- Whether the segment table, which is under lease, has a word
-use Rattle.std.proofs.Common.{◌≡◌, ℕ, Bool, false, Option, Some, None, ap, sym, ◌∙◌}
-use Rattle.std.specs.List.{list_any}
-use Rattle.trb.specs.declared.ring_kind.RingKind.TheVariants.{Evt}
-use Rattle.segments.specs.Places.{overlap}
-use Rattle.event_ring.specs.EventRing.{table_bytes}
-use Rattle.traces.specs.declared.header.Header.{Header}
-use Rattle.traces.specs.Header.{event_ring, event_shape, shape_or}
-use Rattle.traces.specs.Register.{base_address}
-use Rattle.ownership_rules.specs.OpenLeases.{covers, table_range, lease_start, lease_bytes}
-use Rattle.ring_finder.proofs.ListTests.{or_false}
+use Rattle.std.proofs.Common.{◌≡◌, ◌∙◌, ℕ, Bool, false, Option, Some, None, ap, sym}
+use Rattle.trace_record.proofs.Words.{list_any, Evt, overlap, table_bytes, Header, event_ring, event_shape, shape_or, base_address, covers, table_range, lease_start, lease_bytes, or_false}
 
 pub has_word : (h : Header) (a : ℕ) (o : Option ℕ) (v : ℕ) (b : Bool) → o ≡ Some v → b ≡ overlap a 4 (base_address v) (table_bytes (event_shape h)) → b ≡ list_any (covers h a 4) (table_range h o)
 unfolding table_range covers lease_start lease_bytes

@@ -1,6 +1,5 @@
 -- Masks and single bits of a word
-use Rattle.std.proofs.Common.{◌≡◌, ℕ, ◌+◌, ◌-◌, ◌*◌, ◌/◌, ◌%◌, ◌^◌, ◌<◌, Bool, true, false, bit_and, bit_or, arith, ◌∙◌, lit<}
-use Rattle.std.specs.Prelude.{if◌then◌else◌}
+use Rattle.std.proofs.Common.{◌≡◌, ◌+◌, ◌-◌, ◌*◌, ◌/◌, ◌%◌, ◌^◌, ◌<◌, ◌∙◌, if◌then◌else◌, ℕ, Bool, true, false, bit_and, bit_or, arith, lit<}
 use Rattle.std.specs.Int.{from_bool}
 use Rattle.std.proofs.lemmas.Nat.{one_shl, and_mask, or_shifted}
 use Rattle.std.proofs.lemmas.Nat.Bits.{and_high_mask}

@@ -1,6 +1,5 @@
 -- A block with another Cycle bit has all else as it was
-use Rattle.std.proofs.Common.{lit<, ◌≡◌, ℕ, ◌+◌, ◌-◌, ◌/◌, ◌%◌, ◌^◌, ◌<◌, arith, refl, sym, ap, ◌∙◌, suc, zero, ◌==◌, [], ◌∷◌}
-use Rattle.std.proofs.lemmas.Nat.{shr-shr}
+use Rattle.std.proofs.Common.{◌≡◌, ◌+◌, ◌-◌, ◌/◌, ◌%◌, ◌^◌, ◌<◌, ◌∙◌, ◌==◌, ◌∷◌, lit<, ℕ, arith, refl, sym, ap, suc, zero, [], shr-shr}
 use Rattle.trb.specs.declared.block.Block.{Block}
 use Rattle.trb.specs.Bits.{bits, is_set}
 use Rattle.trb.specs.Kind.{kind_numbered}

@@ -1,11 +1,10 @@
 -- A set of flags contains a flag where that bit of its word is 1
-use Rattle.std.proofs.Common.{◌≡◌, ℕ, zero, suc, ◌*◌, ◌^◌, ◌<◌, ◌==◌, true, get_or, bit_and, arith, refl, ap, ◌∙◌}
-use Rattle.std.specs.Prelude.{All}
+use Rattle.std.proofs.Common.{◌≡◌, ◌*◌, ◌^◌, ◌<◌, ◌==◌, ◌∙◌, ℕ, zero, suc, true, get_or, bit_and, arith, refl, ap, All, eqb-true, pow_pos}
 use Rattle.std.specs.Int.{bit_at}
-use Rattle.std.proofs.lemmas.Bool.{agree_below_at, eqb-true}
+use Rattle.std.proofs.lemmas.Bool.{agree_below_at}
 use Rattle.std.proofs.lemmas.Bool.Decides.{nat_tests}
 use Rattle.std.proofs.lemmas.List.{get_or_default}
-use Rattle.std.proofs.lemmas.Nat.{and_assoc, pow_pos}
+use Rattle.std.proofs.lemmas.Nat.{and_assoc}
 use Rattle.std.proofs.lemmas.Nat.Bits.{and_pow, bit_at-lt}
 use Rattle.trb.specs.declared.flags.BlockFlags.{BlockFlags}
 use Rattle.trb.specs.Bits.{is_set}

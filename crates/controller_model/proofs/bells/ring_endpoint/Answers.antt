@@ -1,9 +1,5 @@
 use Rattle.std.proofs.Common.{◌||◌, ◌∙◌, ap, sym, subst}
-use Rattle.commands.specs.States.{is_running, is_stopped}
-use Rattle.world_state.specs.World.{World}
-use Rattle.controller_model.specs.Bindings.{in_state}
-use Rattle.controller_model.specs.DriverRows.{activated}
-use Rattle.controller_model.specs.Following.{Follows}
+use Rattle.controller_model.proofs.Words.{is_running, is_stopped, World, in_state, activated, Follows}
 use Rattle.controller_model.proofs.EndpointLemmas.{bell_none, bell_idle, bell_rings}
 use Rattle.controller_model.proofs.bells.ring_endpoint.Goals as goal
 

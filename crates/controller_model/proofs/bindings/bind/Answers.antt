@@ -1,13 +1,5 @@
-use Rattle.std.proofs.Common.{◌≡◌, ℕ, ◌<◌, ◌+◌, ◌*◌, ◌∷◌, true, Option, Some, IsSome, length, refl, sym, subst, arith}
-use Rattle.std.proofs.lemmas.Bool.{false≢true}
-use Rattle.guest_memory.specs.Memory.{put_pair}
-use Rattle.segments.specs.ShapeValue.{Shape}
-use Rattle.traces.specs.Header.{is_ring, ring_with}
-use Rattle.world_state.specs.World.{Placed}
-use Rattle.world_state.specs.Takes.{takes_of}
-use Rattle.controller_model.specs.declared.kept.Holder.{Holder}
-use Rattle.controller_model.specs.Histories.{Keeps}
-use Rattle.controller_model.specs.Following.{ring_held, bound, FollowsHolder}
+use Rattle.std.proofs.Common.{◌≡◌, ◌<◌, ◌+◌, ◌*◌, ◌∷◌, ℕ, true, Option, Some, IsSome, length, refl, sym, subst, arith}
+use Rattle.controller_model.proofs.Words.{false≢true, put_pair, Shape, is_ring, ring_with, Placed, takes_of, Holder, Keeps, ring_held, bound, FollowsHolder}
 use Rattle.controller_model.proofs.RingLemmas.{read_at, follows_change}
 use Rattle.controller_model.proofs.EndpointLemmas.{endpoints_set}
 use Rattle.controller_model.proofs.HolderLemmas.{holder_taken}

@@ -1,9 +1,5 @@
 use Rattle.std.proofs.Common.{◌≡◌, ◌∙◌, is_some, ap, sym, subst, refl}
-use Rattle.std.proofs.lemmas.Bool.{false≢true}
-use Rattle.trb.specs.declared.ring_kind.RingKind.TheVariants.{Xfer}
-use Rattle.traces.specs.Header.{ring_having, shape_of, shape_or}
-use Rattle.world_state.specs.World.{World}
-use Rattle.controller_model.specs.Following.{Follows, bound, freed}
+use Rattle.controller_model.proofs.Words.{false≢true, Xfer, ring_having, shape_of, shape_or, World, Follows, bound, freed}
 use Rattle.controller_model.proofs.BindingSteps.{placed_is, freed_has, freed_had}
 use Rattle.controller_model.proofs.BindingLemmas.{having_known, placed_none, placed_some}
 use Rattle.controller_model.proofs.bindings.place.Goals as goal

@@ -1,11 +1,5 @@
-use Rattle.std.proofs.Common.{◌≡◌, ℕ, ◌<◌, ◌+◌, ◌*◌, ◌∙◌, true, false, Option, None, Some, length, set, refl, ap, sym, subst, arith}
-use Rattle.std.proofs.lemmas.Bool.{false≢true, eq-eqb}
-use Rattle.guest_memory.specs.Memory.{put_pair}
-use Rattle.traces.specs.Header.{is_ring}
-use Rattle.commands.specs.declared.state.EndpointState.{EndpointState}
-use Rattle.controller_model.specs.declared.kept.Endpoint.{Endpoint}
-use Rattle.controller_model.specs.declared.kept.Holder.{Holder}
-use Rattle.controller_model.specs.Following.{ring_held, released, FollowsHolder, FollowsEndpoints}
+use Rattle.std.proofs.Common.{◌≡◌, ◌<◌, ◌+◌, ◌*◌, ◌∙◌, ℕ, true, false, Option, None, Some, length, set, refl, ap, sym, subst, arith, eq-eqb}
+use Rattle.controller_model.proofs.Words.{false≢true, put_pair, is_ring, EndpointState, Endpoint, Holder, ring_held, released, FollowsHolder, FollowsEndpoints}
 use Rattle.controller_model.proofs.RingLemmas.{read_at, follows_change}
 use Rattle.controller_model.proofs.EndpointLemmas.{endpoints_set}
 use Rattle.controller_model.proofs.HolderLemmas.{holder_left, put_pair_id}

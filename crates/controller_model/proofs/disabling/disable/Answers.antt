@@ -1,8 +1,5 @@
-use Rattle.std.proofs.Common.{ℕ, ◌≡◌, ◌==◌, ◌&&◌, ◌∙◌, sym, subst, refl, arith}
-use Rattle.std.specs.Prelude.{nat_lt}
-use Rattle.world_state.specs.World.{World}
-use Rattle.controller_model.specs.Bindings.{disabled}
-use Rattle.controller_model.specs.Following.{Follows, named_by}
+use Rattle.std.proofs.Common.{◌≡◌, ◌==◌, ◌&&◌, ◌∙◌, ℕ, sym, subst, refl, arith, nat_lt}
+use Rattle.controller_model.proofs.Words.{World, disabled, Follows, named_by}
 use Rattle.controller_model.proofs.DisabledRings.{disabled_below}
 use Rattle.controller_model.proofs.DisabledWorlds.{disabled_same, disabled_none, disabled_twice, one_more, none_below, all_below}
 use Rattle.controller_model.proofs.disabling.disable.Goals as goal

@@ -1,10 +1,5 @@
-use Rattle.std.proofs.Common.{ℕ, ◌&&◌, List}
-use Rattle.std.specs.Prelude.{nat_lt}
-use Rattle.traces.specs.declared.header.Header.{Header}
-use Rattle.traces.specs.declared.row.Row.{Row}
-use Rattle.world_state.specs.World.{World}
-use Rattle.controller_model.specs.Bindings.{disabled}
-use Rattle.controller_model.specs.Following.{Follows, KeepsRun, named_by}
+use Rattle.std.proofs.Common.{◌&&◌, ℕ, List, nat_lt}
+use Rattle.controller_model.proofs.Words.{Header, Row, World, disabled, Follows, KeepsRun, named_by}
 use Rattle.controller_model.proofs.disabling.disable.Given as goal
 
 -- those below the index are disabled

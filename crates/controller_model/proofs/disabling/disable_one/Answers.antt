@@ -1,7 +1,5 @@
 use Rattle.std.proofs.Common.{◌<◌, refl, sym, subst, ap, arith}
-use Rattle.traces.specs.Header.{is_ring}
-use Rattle.world_state.specs.World.{World}
-use Rattle.controller_model.specs.Following.{Follows, freed}
+use Rattle.controller_model.proofs.Words.{is_ring, World, Follows, freed}
 use Rattle.controller_model.proofs.BindingSteps.{freed_has}
 use Rattle.controller_model.proofs.DisabledWorlds.{disabled_first, disabled_later}
 use Rattle.controller_model.proofs.disabling.disable_one.Goals as goal

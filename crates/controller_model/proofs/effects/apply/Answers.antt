@@ -1,8 +1,5 @@
 use Rattle.std.proofs.Common.{false, subst, inl, inr}
-use Rattle.guest_memory.specs.Memory.{put}
-use Rattle.commands.specs.declared.command.Command.TheVariants.{ConfigureEndpoint}
-use Rattle.world_state.specs.World.{World}
-use Rattle.controller_model.specs.Following.{Follows}
+use Rattle.controller_model.proofs.Words.{put, ConfigureEndpoint, World, Follows}
 use Rattle.controller_model.proofs.EffectLemmas.{gone, no_op, evaluated, enabled, disabled_slot, addressed_slot, made_as, reset_endpoint, stopped_endpoint, moved, reset_slot}
 use Rattle.controller_model.proofs.effects.apply.Goals as goal
 

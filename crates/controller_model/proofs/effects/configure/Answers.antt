@@ -1,9 +1,5 @@
-use Rattle.std.proofs.Common.{◌≡◌, ℕ, ◌&&◌, ap, subst, slice_index}
-use Rattle.std.specs.Prelude.{nat_le}
-use Rattle.contexts.specs.Contexts.{has_flag, is_dropped}
-use Rattle.world_state.specs.World.{World}
-use Rattle.controller_model.specs.Bindings.{disabled}
-use Rattle.controller_model.specs.Following.{Follows}
+use Rattle.std.proofs.Common.{◌≡◌, ◌&&◌, ℕ, ap, subst, slice_index, nat_le}
+use Rattle.controller_model.proofs.Words.{has_flag, is_dropped, World, disabled, Follows}
 use Rattle.controller_model.proofs.EffectLemmas.{gone, configured, deconfigured}
 use Rattle.controller_model.proofs.effects.configure.Goals as goal
 

@@ -1,7 +1,5 @@
 use Rattle.std.proofs.Common.{◌∙◌, ap, sym, subst, arith}
-use Rattle.world_state.specs.World.{World}
-use Rattle.controller_model.specs.Bindings.{changed_by_all}
-use Rattle.controller_model.specs.Following.{Follows}
+use Rattle.controller_model.proofs.Words.{World, changed_by_all, Follows}
 use Rattle.controller_model.proofs.AddedLemmas.{adds_end, all_made}
 use Rattle.controller_model.proofs.effects.place_all.Goals as goal
 

@@ -1,9 +1,5 @@
 use Rattle.std.proofs.Common.{◌≡◌, ℕ, List, Some}
-use Rattle.commands.specs.declared.command.Command.{Command}
-use Rattle.traces.specs.declared.row.Row.{Row}
-use Rattle.world_state.specs.World.{World}
-use Rattle.controller_model.specs.Bindings.{changed_by_all}
-use Rattle.controller_model.specs.Following.{Follows, GoesOn, KeepsRun, places_from}
+use Rattle.controller_model.proofs.Words.{Command, Row, World, changed_by_all, Follows, GoesOn, KeepsRun, places_from}
 use Rattle.controller_model.proofs.effects.place_all.Given as goal
 
 -- the endpoints below the index have their rings

@@ -1,7 +1,5 @@
 use Rattle.std.proofs.Common.{◌∙◌}
-use Rattle.commands.specs.declared.state.EndpointState.TheVariants.{Running}
-use Rattle.traces.specs.Header.{ring_having}
-use Rattle.controller_model.specs.Bindings.{placed_on}
+use Rattle.controller_model.proofs.Words.{Running, ring_having, placed_on}
 use Rattle.controller_model.proofs.effects.place_by_context.Goals as goal
 
 pub returns-clause-change : goal.returns-clause-change

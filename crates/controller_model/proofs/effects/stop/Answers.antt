@@ -1,7 +1,5 @@
-use Rattle.std.proofs.Common.{ℕ, Option, ◌∙◌, sym, subst}
-use Rattle.commands.specs.declared.state.EndpointState.TheVariants.{Stopped}
-use Rattle.controller_model.specs.Bindings.{in_state, inactive}
-use Rattle.controller_model.specs.Following.{Follows}
+use Rattle.std.proofs.Common.{◌∙◌, ℕ, Option, sym, subst}
+use Rattle.controller_model.proofs.Words.{Stopped, in_state, inactive, Follows}
 use Rattle.controller_model.proofs.effects.stop.Goals as goal
 
 pub returns-in-None-clause-change : goal.returns-in-None-clause-change

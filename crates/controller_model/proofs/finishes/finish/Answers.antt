@@ -1,12 +1,5 @@
 use Rattle.std.proofs.Common.{◌≡◌, ◌∙◌, ap, sym, refl, option_map}
-use Rattle.std.proofs.lemmas.Result.{err_from_is_err_and}
-use Rattle.trb.specs.declared.ring_kind.RingKind.TheVariants.{Evt}
-use Rattle.segments.specs.Places.{address_of}
-use Rattle.traces.specs.Header.{event_shape, shape_or}
-use Rattle.controller_model.specs.declared.seen.Seen.TheVariants.{Posted}
-use Rattle.controller_model.specs.Finishes.{ended, finished}
-use Rattle.controller_model.specs.Completions.{completed}
-use Rattle.controller_model.specs.Following.{Follows}
+use Rattle.controller_model.proofs.Words.{err_from_is_err_and, Evt, address_of, event_shape, shape_or, Posted, ended, finished, completed, Follows}
 use Rattle.controller_model.proofs.LookBranches.{step_made, step_refused}
 use Rattle.controller_model.proofs.PostLemmas.{no_ring}
 use Rattle.controller_model.proofs.FinishLemmas.{finish_not_now, finish_not_so, finish_completed, made_of_part, step_fails}

@@ -1,8 +1,5 @@
-use Rattle.std.proofs.Common.{◌≡◌, ℕ, ◌+◌, ◌%◌, ◌<◌, ◌≤◌, ◌∙◌, true, Some, ap, sym, subst, arith}
-use Rattle.std.proofs.lemmas.Bool.{false≢true, false_from_ne_true}
-use Rattle.std.proofs.lemmas.Option.{none-some, same_Some}
-use Rattle.segments.specs.Places.{place_count}
-use Rattle.world_state.specs.Takes.{is_place}
+use Rattle.std.proofs.Common.{◌≡◌, ◌+◌, ◌%◌, ◌<◌, ◌≤◌, ◌∙◌, ℕ, true, Some, ap, sym, subst, arith}
+use Rattle.controller_model.proofs.Words.{false≢true, false_from_ne_true, none-some, same_Some, place_count, is_place}
 use Rattle.controller_model.proofs.FirstFound.{first_at-found, first_at-nowhere}
 use Rattle.controller_model.proofs.NamedPlaces.{one_in_lap}
 use Rattle.controller_model.proofs.history.first_at.Goals as goal

@@ -1,7 +1,5 @@
-use Rattle.std.proofs.Common.{◌≡◌, ℕ, Bool, ◌||◌, refl, ap, sym, ◌∙◌, subst}
-use Rattle.commands.specs.Command.{command_of}
-use Rattle.controller_model.specs.Looks.{command_begun, may_scribble}
-use Rattle.controller_model.specs.Following.{FollowsSlots, addressed, is_it}
+use Rattle.std.proofs.Common.{◌≡◌, ◌||◌, ◌∙◌, ℕ, Bool, refl, ap, sym, subst}
+use Rattle.controller_model.proofs.Words.{command_of, command_begun, may_scribble, FollowsSlots, addressed, is_it}
 use Rattle.controller_model.proofs.LookBranches.{may_scribble_is}
 use Rattle.controller_model.proofs.looks.begin.Goals as goal
 

@@ -1,11 +1,5 @@
 use Rattle.std.proofs.Common.{◌≡◌, ◌<◌, ◌∙◌, length, ap, sym, arith, is_some}
-use Rattle.std.proofs.lemmas.Bool.{false≢true}
-use Rattle.trb.specs.Block.{block_at}
-use Rattle.trb.specs.declared.ring_kind.RingKind.TheVariants.{Xfer}
-use Rattle.traces.specs.Header.{shape_of, shape_or}
-use Rattle.controller_model.specs.Looks.{looked, looked_at}
-use Rattle.controller_model.specs.Showing.{look_shows}
-use Rattle.controller_model.specs.Following.{Follows}
+use Rattle.controller_model.proofs.Words.{false≢true, block_at, Xfer, shape_of, shape_or, looked, looked_at, look_shows, Follows}
 use Rattle.controller_model.proofs.RingLemmas.{read_at}
 use Rattle.controller_model.proofs.LookBranches.{step_refused, step_along, looked_inactive, looked_active}
 use Rattle.controller_model.proofs.looks.look.Goals as goal

@@ -1,7 +1,5 @@
-use Rattle.std.proofs.Common.{◌≡◌, not, ◌||◌, sym, ◌∙◌}
-use Rattle.segments.specs.Places.{is_inside}
-use Rattle.traces.specs.Header.{shape_of}
-use Rattle.controller_model.specs.Looks.{seen_by_look}
+use Rattle.std.proofs.Common.{◌≡◌, ◌||◌, ◌∙◌, not, sym}
+use Rattle.controller_model.proofs.Words.{is_inside, shape_of, seen_by_look}
 use Rattle.controller_model.proofs.looks.note_look.Goals as goal
 
 pub returns : goal.returns

@@ -1,7 +1,5 @@
 use Rattle.std.proofs.Common.{ℕ, sym, subst}
-use Rattle.world_state.specs.World.{World}
-use Rattle.controller_model.specs.Looks.{taken_on, command_begun}
-use Rattle.controller_model.specs.Following.{Follows}
+use Rattle.controller_model.proofs.Words.{World, taken_on, command_begun, Follows}
 use Rattle.controller_model.proofs.LookBranches.{taken_command, taken_transfer}
 use Rattle.controller_model.proofs.looks.take_block.Goals as goal
 

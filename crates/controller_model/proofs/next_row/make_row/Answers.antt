@@ -1,8 +1,5 @@
 use Rattle.std.proofs.Common.{◌≡◌, ◌∙◌, Some, ap, sym, refl}
-use Rattle.world_state.specs.World.{stored}
-use Rattle.controller_model.specs.declared.seen.Seen.TheVariants.{Row as RowSeen}
-use Rattle.controller_model.specs.DriverRows.{row_done, declared, register_row, bell_row, event_read}
-use Rattle.controller_model.specs.Following.{Follows}
+use Rattle.controller_model.proofs.Words.{stored, RowSeen, row_done, declared, register_row, bell_row, event_read, Follows}
 use Rattle.controller_model.proofs.LookBranches.{step_made, step_along}
 use Rattle.controller_model.proofs.next_row.make_row.Goals as goal
 

@@ -1,9 +1,5 @@
 use Rattle.std.proofs.Common.{◌≡◌, ◌+◌, ◌≤◌, ◌<◌, ◌∙◌, Some, ap, sym, refl, drop, length, slice_get, arith}
-use Rattle.std.proofs.lemmas.Option.{slice_get_past}
-use Rattle.std.proofs.lemmas.Result.{err_from_is_err_and}
-use Rattle.controller_model.specs.declared.seen.Seen.TheVariants.{Row as RowSeen}
-use Rattle.controller_model.specs.DriverRows.{row_done, next_row}
-use Rattle.controller_model.specs.Following.{Follows}
+use Rattle.controller_model.proofs.Words.{slice_get_past, err_from_is_err_and, RowSeen, row_done, next_row, Follows}
 use Rattle.controller_model.proofs.LookBranches.{step_refused}
 use Rattle.controller_model.proofs.RingLemmas.{read_at}
 use Rattle.controller_model.proofs.NextRowLemmas.{behind, no_row, this_row, follows_behind, left_after, step_failed, step_seen}

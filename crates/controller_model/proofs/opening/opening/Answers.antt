@@ -1,8 +1,5 @@
-use Rattle.std.proofs.Common.{◌≡◌, ℕ, ◌+◌, ◌*◌, List, sym, refl, ap}
-use Rattle.traces.specs.declared.header.Header.{Header as HeaderValue}
-use Rattle.traces.specs.declared.row.Row.{Row as RowValue}
-use Rattle.world_state.specs.World.{opening}
-use Rattle.controller_model.specs.Following.{FollowsRing, ring_held}
+use Rattle.std.proofs.Common.{◌≡◌, ◌+◌, ◌*◌, ℕ, List, sym, refl, ap}
+use Rattle.controller_model.proofs.Words.{HeaderValue, RowValue, opening, FollowsRing, ring_held}
 use Rattle.controller_model.proofs.OpeningLemmas.{all_at, replicate_at}
 use Rattle.controller_model.proofs.opening.opening.Goals as goal
 

@@ -1,10 +1,5 @@
-use Rattle.std.proofs.Common.{◌≡◌, ℕ, ◌+◌, ◌∷◌, [], ◌++◌, All, List, ap, length, length-append, sym, subst, arith}
-use Rattle.std.proofs.lemmas.List.Elements.{All-push}
-use Rattle.traces.specs.declared.header.Header.{Header as HeaderValue}
-use Rattle.traces.specs.declared.row.Row.{Row as RowValue}
-use Rattle.world_state.specs.World.{opening}
-use Rattle.controller_model.specs.declared.kept.RingState.{RingState}
-use Rattle.controller_model.specs.Following.{FollowsRing, ring_held}
+use Rattle.std.proofs.Common.{◌≡◌, ◌+◌, ◌∷◌, ◌++◌, ℕ, [], All, List, ap, length, length-append, sym, subst, arith}
+use Rattle.controller_model.proofs.Words.{All-push, HeaderValue, RowValue, opening, RingState, FollowsRing, ring_held}
 use Rattle.controller_model.proofs.opening.rings.Goals as goal
 
 pub loop-id-preserved : goal.loop-id-preserved

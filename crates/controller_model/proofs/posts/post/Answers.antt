@@ -1,9 +1,5 @@
-use Rattle.std.proofs.Common.{◌≡◌, ℕ, ◌+◌, ◌∙◌, ap, sym, subst, arith}
-use Rattle.std.proofs.lemmas.Grind.{common_steps}
-use Rattle.segments.specs.Places.{address_of}
-use Rattle.traces.specs.Header.{event_shape}
-use Rattle.world_state.specs.World.{stored, stored_block}
-use Rattle.controller_model.specs.Posts.{posted}
+use Rattle.std.proofs.Common.{◌≡◌, ◌+◌, ◌∙◌, ℕ, ap, sym, subst, arith}
+use Rattle.controller_model.proofs.Words.{common_steps, address_of, event_shape, stored, stored_block, posted}
 use Rattle.controller_model.proofs.RowLemmas.{Stored, follows_stored_block}
 use Rattle.controller_model.proofs.posts.post.Goals as goal
 

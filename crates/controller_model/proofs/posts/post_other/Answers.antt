@@ -1,10 +1,5 @@
 use Rattle.std.proofs.Common.{◌≡◌, ◌∙◌, ap, sym}
-use Rattle.trb.specs.declared.ring_kind.RingKind.TheVariants.{Evt}
-use Rattle.segments.specs.Places.{address_of}
-use Rattle.traces.specs.Header.{event_shape, shape_or}
-use Rattle.controller_model.specs.declared.seen.Seen.TheVariants.{Posted}
-use Rattle.controller_model.specs.Posts.{posted, other_posted}
-use Rattle.controller_model.specs.Following.{Follows}
+use Rattle.controller_model.proofs.Words.{Evt, address_of, event_shape, shape_or, Posted, posted, other_posted, Follows}
 use Rattle.controller_model.proofs.LookBranches.{step_made, step_refused}
 use Rattle.controller_model.proofs.PostLemmas.{no_ring, other_not_now, other_not_so, other_made}
 use Rattle.controller_model.proofs.posts.post_other.Goals as goal

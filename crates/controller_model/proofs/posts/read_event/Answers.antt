@@ -1,11 +1,6 @@
 use Rattle.std.proofs.Common.{◌≡◌, ◌+◌, ◌<◌, ◌≤◌, ◌∙◌, ap, sym, refl, arith}
-use Rattle.trb.specs.Block.{block_at, same_words}
-use Rattle.segments.specs.Places.{address_of}
-use Rattle.traces.specs.Header.{event_shape}
-use Rattle.world_state.specs.World.{event_at}
+use Rattle.controller_model.proofs.Words.{block_at, same_words, address_of, event_shape, event_at, event_read, Follows}
 use Rattle.controller_model.specs.declared.seen.Seen.TheVariants.{Row}
-use Rattle.controller_model.specs.DriverRows.{event_read}
-use Rattle.controller_model.specs.Following.{Follows}
 use Rattle.controller_model.proofs.LookBranches.{step_made, step_refused}
 use Rattle.controller_model.proofs.ReadLemmas.{read_nothing, read_other, read_made}
 use Rattle.controller_model.proofs.posts.read_event.Goals as goal

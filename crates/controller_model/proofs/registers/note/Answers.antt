@@ -1,8 +1,5 @@
 use Rattle.std.proofs.Common.{sym, subst}
-use Rattle.traces.specs.Register.{with_register}
-use Rattle.controller_model.specs.declared.kept.Registers.{Registers}
-use Rattle.controller_model.specs.DriverRows.{valued}
-use Rattle.controller_model.specs.Following.{FollowsRegisters}
+use Rattle.controller_model.proofs.Words.{with_register, Registers, valued, FollowsRegisters}
 use Rattle.controller_model.proofs.RegisterLemmas.{registers_noted}
 use Rattle.controller_model.proofs.registers.note.Goals as goal
 

@@ -1,14 +1,5 @@
-use Rattle.std.proofs.Common.{◌≡◌, ◌∙◌, ◌+◌, ◌-◌, ◌%◌, ℕ, Option, Some, ap, sym, subst}
-use Rattle.std.specs.Prelude.{IfSome}
-use Rattle.segments.specs.Places.{place_count}
-use Rattle.std.proofs.lemmas.Option.{none-some}
-use Rattle.trb.specs.declared.ring_kind.RingKind.TheVariants.{Evt}
-use Rattle.traces.specs.Header.{event_shape, shape_or}
-use Rattle.segments.specs.declared.place.Place.TheVariants.{Data, Link}
-use Rattle.event_ring.specs.EventRing.{is_event_place, position_from}
-use Rattle.world_state.specs.World.{World}
-use Rattle.controller_model.specs.Following.{Follows}
-use Rattle.controller_model.specs.DriverRows.{with_dequeue}
+use Rattle.std.proofs.Common.{◌≡◌, ◌∙◌, ◌+◌, ◌-◌, ◌%◌, ℕ, Option, Some, ap, sym, subst, IfSome}
+use Rattle.controller_model.proofs.Words.{place_count, none-some, Evt, event_shape, shape_or, Data, Link, is_event_place, position_from, World, Follows, with_dequeue}
 use Rattle.controller_model.proofs.RowLemmas.{follows_along}
 use Rattle.controller_model.proofs.EventPlaces.{is_place, position_is, no_place, dequeue_kept, dequeue_set, no_ring_place}
 use Rattle.controller_model.proofs.registers.set_dequeue.Goals as goal

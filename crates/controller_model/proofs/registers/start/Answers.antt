@@ -1,7 +1,5 @@
 use Rattle.std.proofs.Common.{ℕ, true, sym, subst}
-use Rattle.traces.specs.Header.{command_id}
-use Rattle.controller_model.specs.DriverRows.{started_with}
-use Rattle.controller_model.specs.Following.{Follows, pointed}
+use Rattle.controller_model.proofs.Words.{command_id, started_with, Follows, pointed}
 use Rattle.controller_model.proofs.registers.start.Goals as goal
 
 pub returns : goal.returns

@@ -1,8 +1,5 @@
 use Rattle.std.proofs.Common.{◌∙◌, sym, subst}
-use Rattle.traces.specs.declared.register.Register.TheVariants.{Usbcmd}
-use Rattle.world_state.specs.World.{World}
-use Rattle.controller_model.specs.DriverRows.{valued}
-use Rattle.controller_model.specs.Following.{Follows}
+use Rattle.controller_model.proofs.Words.{Usbcmd, World, valued, Follows}
 use Rattle.controller_model.proofs.RegisterLemmas.{row_starts, row_waits, row_stops, row_goes_on}
 use Rattle.controller_model.proofs.registers.write_command.Goals as goal
 

@@ -1,7 +1,5 @@
-use Rattle.std.proofs.Common.{ap, ◌∙◌, sym}
-use Rattle.std.proofs.Common.{option_map}
-use Rattle.controller_model.specs.Posts.{with_stopped}
-use Rattle.controller_model.specs.Following.{under_way_of}
+use Rattle.std.proofs.Common.{◌∙◌, ap, sym, option_map}
+use Rattle.controller_model.proofs.Words.{with_stopped, under_way_of}
 use Rattle.controller_model.proofs.reports.note_stopped.Goals as goal
 
 pub returns-in-Some-clause-change : goal.returns-in-Some-clause-change

@@ -1,11 +1,5 @@
 use Rattle.std.proofs.Common.{◌≡◌, ◌∙◌, None, Some, ap, sym, subst, Bool}
-use Rattle.trb.specs.declared.ring_kind.RingKind.TheVariants.{Evt}
-use Rattle.trb.specs.Block.{slot, endpoint}
-use Rattle.segments.specs.Places.{address_of}
-use Rattle.traces.specs.Header.{event_shape, shape_or}
-use Rattle.controller_model.specs.declared.seen.Seen.TheVariants.{Posted}
-use Rattle.controller_model.specs.Posts.{posted, reported}
-use Rattle.controller_model.specs.Following.{Follows, IsChange, told}
+use Rattle.controller_model.proofs.Words.{Evt, slot, endpoint, address_of, event_shape, shape_or, Posted, posted, reported, Follows, IsChange, told}
 use Rattle.controller_model.proofs.LookBranches.{step_made, step_refused}
 use Rattle.controller_model.proofs.PostLemmas.{no_ring}
 use Rattle.controller_model.proofs.ChangeLemmas.{made_of, none_of}

@@ -1,7 +1,5 @@
 use Rattle.std.proofs.Common.{◌∙◌, sym}
-use Rattle.commands.specs.declared.state.EndpointState.TheVariants.{Halted, Error}
-use Rattle.controller_model.specs.Posts.{report_code, report_success, report_error, report_stop}
-use Rattle.controller_model.specs.Following.{Follows}
+use Rattle.controller_model.proofs.Words.{Halted, Error, report_code, report_success, report_error, report_stop, Follows}
 use Rattle.controller_model.proofs.ChangeLemmas.{change_along, change_refused}
 use Rattle.controller_model.proofs.ReportLemmas.{code_success, code_halting, code_error, code_stopping, code_other}
 use Rattle.controller_model.proofs.reports.report_code.Goals as goal

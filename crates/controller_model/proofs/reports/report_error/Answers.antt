@@ -1,8 +1,5 @@
-use Rattle.std.proofs.Common.{ℕ, Some, ◌+◌, ◌≤◌, ◌∙◌, length, sym, subst, arith}
-use Rattle.world_state.specs.Takes.{unreported}
-use Rattle.controller_model.specs.Bindings.{inactive, in_state}
-use Rattle.controller_model.specs.Posts.{report_error, with_reported}
-use Rattle.controller_model.specs.Following.{Follows}
+use Rattle.std.proofs.Common.{◌+◌, ◌≤◌, ◌∙◌, ℕ, Some, length, sym, subst, arith}
+use Rattle.controller_model.proofs.Words.{unreported, inactive, in_state, report_error, with_reported, Follows}
 use Rattle.controller_model.proofs.ChangeLemmas.{change_made, change_refused}
 use Rattle.controller_model.proofs.ReportLemmas.{error_idle, error_elsewhere, error_made}
 use Rattle.controller_model.proofs.reports.report_error.Goals as goal

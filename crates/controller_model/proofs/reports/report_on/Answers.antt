@@ -1,7 +1,5 @@
-use Rattle.std.proofs.Common.{◌≡◌, None, Some, ◌∙◌, ap, sym}
-use Rattle.trb.specs.Block.{endpoint, slot}
-use Rattle.controller_model.specs.Posts.{report_code}
-use Rattle.controller_model.specs.Following.{Follows, told}
+use Rattle.std.proofs.Common.{◌≡◌, ◌∙◌, None, Some, ap, sym}
+use Rattle.controller_model.proofs.Words.{endpoint, slot, report_code, Follows, told}
 use Rattle.controller_model.proofs.ChangeLemmas.{change_along, change_refused}
 use Rattle.controller_model.proofs.reports.report_on.Goals as goal
 

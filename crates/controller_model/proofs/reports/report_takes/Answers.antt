@@ -1,7 +1,5 @@
 use Rattle.std.proofs.Common.{◌<◌, ◌≤◌, length, ap, arith}
-use Rattle.world_state.specs.Takes.{unreported}
-use Rattle.controller_model.specs.Posts.{with_reported}
-use Rattle.controller_model.specs.Following.{ring_held}
+use Rattle.controller_model.proofs.Words.{unreported, with_reported, ring_held}
 use Rattle.controller_model.proofs.RingLemmas.{read_at, follows_change}
 use Rattle.controller_model.proofs.RingSteps.{reported_here, reported_other}
 use Rattle.controller_model.proofs.reports.report_takes.Goals as goal

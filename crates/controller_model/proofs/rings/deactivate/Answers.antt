@@ -1,7 +1,5 @@
 use Rattle.std.proofs.Common.{◌<◌, Some, length, refl, arith}
-use Rattle.std.proofs.lemmas.Bool.{false≢true}
-use Rattle.controller_model.specs.Bindings.{inactive}
-use Rattle.controller_model.specs.Following.{ring_held}
+use Rattle.controller_model.proofs.Words.{false≢true, inactive, ring_held}
 use Rattle.controller_model.proofs.RingLemmas.{read_at, follows_change}
 use Rattle.controller_model.proofs.RingSteps.{inactive_here, inactive_other}
 use Rattle.controller_model.proofs.rings.deactivate.Goals as goal

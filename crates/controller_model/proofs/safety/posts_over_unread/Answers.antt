@@ -1,7 +1,5 @@
-use Rattle.std.proofs.Common.{◌≡◌, ◌-◌, ◌≤◌, ◌∙◌, ap, arith}
-use Rattle.std.specs.Prelude.{nat_le}
-use Rattle.traces.specs.Header.{event_shape, shape_or}
-use Rattle.trb.specs.declared.ring_kind.RingKind.TheVariants.{Evt}
+use Rattle.std.proofs.Common.{◌≡◌, ◌-◌, ◌≤◌, ◌∙◌, ap, arith, nat_le}
+use Rattle.controller_model.proofs.Words.{event_shape, shape_or, Evt}
 use Rattle.controller_model.proofs.SafetyLemmas.{posts_nowhere, posts_there}
 use Rattle.controller_model.proofs.safety.posts_over_unread.Goals as goal
 

@@ -1,7 +1,5 @@
 use Rattle.std.proofs.Common.{◌≡◌, ◌<◌, ◌∙◌, ◌&&◌, Some, ap, get_or, length, slice_get, sym, arith}
-use Rattle.std.specs.List.{list_any}
-use Rattle.traces.specs.Header.{shape_of, some_ring}
-use Rattle.world_state.specs.Harms.{has_other_words, is_inside_descriptor, is_out_of_order, waits}
+use Rattle.controller_model.proofs.Words.{list_any, shape_of, some_ring, has_other_words, is_inside_descriptor, is_out_of_order, waits}
 use Rattle.controller_model.proofs.RingLemmas.{read_at}
 use Rattle.controller_model.proofs.SafetyLemmas.{any_more, take_past}
 use Rattle.controller_model.proofs.safety.ring_harms.Goals as goal

@@ -1,10 +1,5 @@
-use Rattle.std.proofs.Common.{◌≡◌, ℕ, ◌&&◌, List, take}
-use Rattle.std.specs.List.{list_any}
-use Rattle.traces.specs.declared.row.Row.{Row as RowValue}
-use Rattle.traces.specs.Header.{shape_of}
-use Rattle.world_state.specs.World.{World}
-use Rattle.world_state.specs.Harms.{has_other_words, is_inside_descriptor, is_out_of_order, waits}
-use Rattle.controller_model.specs.Following.{Follows}
+use Rattle.std.proofs.Common.{◌≡◌, ◌&&◌, ℕ, List, take}
+use Rattle.controller_model.proofs.Words.{list_any, RowValue, shape_of, World, has_other_words, is_inside_descriptor, is_out_of_order, waits, Follows}
 use Rattle.controller_model.proofs.safety.ring_harms.Given as goal
 
 -- the harms of the rings so far

@@ -1,8 +1,5 @@
-use Rattle.std.proofs.Common.{◌≡◌, ℕ, ◌<◌, List, false}
-use Rattle.traces.specs.declared.row.Row.{Row as RowValue}
-use Rattle.world_state.specs.World.{World}
-use Rattle.controller_model.specs.Steps.{is_scribbled}
-use Rattle.controller_model.specs.Following.{Follows}
+use Rattle.std.proofs.Common.{◌≡◌, ◌<◌, ℕ, List, false}
+use Rattle.controller_model.proofs.Words.{RowValue, World, is_scribbled, Follows}
 use Rattle.controller_model.proofs.scribbles.may_scribble.Given as goal
 
 -- the word belongs to no device context of a slot so far

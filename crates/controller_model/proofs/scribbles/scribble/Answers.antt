@@ -1,8 +1,5 @@
 use Rattle.std.proofs.Common.{◌∙◌, sym, refl}
-use Rattle.world_state.specs.World.{stored}
-use Rattle.controller_model.specs.declared.seen.Seen.TheVariants.{Scribbled}
-use Rattle.controller_model.specs.Steps.{scribbled}
-use Rattle.controller_model.specs.Following.{Follows}
+use Rattle.controller_model.proofs.Words.{stored, Scribbled, scribbled, Follows}
 use Rattle.controller_model.proofs.LookBranches.{step_made, step_refused}
 use Rattle.controller_model.proofs.ScribbleLemmas.{scribbled_not, scribbled_so}
 use Rattle.controller_model.proofs.scribbles.scribble.Goals as goal

@@ -1,8 +1,5 @@
 use Rattle.std.proofs.Common.{◌≡◌, ◌<◌, ◌∙◌, length, unwrap_or, set, ap, sym, subst, refl, arith}
-use Rattle.guest_memory.specs.Memory.{put}
-use Rattle.commands.specs.States.{slot_success}
-use Rattle.commands.specs.declared.state.SlotState.{SlotState}
-use Rattle.controller_model.specs.Following.{FollowsSlots}
+use Rattle.controller_model.proofs.Words.{put, slot_success, SlotState, FollowsSlots}
 use Rattle.controller_model.proofs.RingLemmas.{read_at}
 use Rattle.controller_model.proofs.SlotLemmas.{slots_state}
 use Rattle.controller_model.proofs.slots.go_on.Goals as goal

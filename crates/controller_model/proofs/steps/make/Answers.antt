@@ -1,16 +1,5 @@
 use Rattle.std.proofs.Common.{◌≡◌, ◌∙◌, Option, ap, refl, true, false}
-use Rattle.segments.specs.Places.{address_of}
-use Rattle.trb.specs.Block.{block_at}
-use Rattle.traces.specs.Header.{event_shape}
-use Rattle.world_state.specs.World.{World}
-use Rattle.controller_model.specs.declared.seen.Seen.TheVariants.{Row as RowSeen, Posted, Scribbled}
-use Rattle.controller_model.specs.DriverRows.{next_row}
-use Rattle.controller_model.specs.Looks.{looked}
-use Rattle.controller_model.specs.Posts.{reported, other_posted}
-use Rattle.controller_model.specs.Finishes.{finished}
-use Rattle.controller_model.specs.Showing.{look_shows, shows}
-use Rattle.controller_model.specs.Steps.{made, scribbled}
-use Rattle.controller_model.specs.Following.{Follows}
+use Rattle.controller_model.proofs.Words.{address_of, block_at, event_shape, World, RowSeen, Posted, Scribbled, next_row, looked, reported, other_posted, finished, look_shows, shows, made, scribbled, Follows}
 use Rattle.controller_model.proofs.LookBranches.{step_along}
 use Rattle.controller_model.proofs.StepLemmas.{running}
 use Rattle.controller_model.proofs.steps.make.Goals as goal

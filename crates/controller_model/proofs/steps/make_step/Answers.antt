@@ -1,7 +1,5 @@
 use Rattle.std.proofs.Common.{◌≡◌, ◌∙◌}
-use Rattle.std.proofs.lemmas.Result.{err_from_is_err_and}
-use Rattle.controller_model.specs.Showing.{shows}
-use Rattle.controller_model.specs.Following.{Follows}
+use Rattle.controller_model.proofs.Words.{err_from_is_err_and, shows, Follows}
 use Rattle.controller_model.proofs.StepLemmas.{step_counted, step_uncounted}
 use Rattle.controller_model.proofs.steps.make_step.Goals as goal
 

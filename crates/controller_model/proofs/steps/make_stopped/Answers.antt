@@ -1,10 +1,5 @@
 use Rattle.std.proofs.Common.{◌≡◌, ap, refl}
-use Rattle.traces.specs.declared.step.Step.TheVariants.{NextRow}
-use Rattle.controller_model.specs.declared.seen.Seen.TheVariants.{Row as RowSeen}
-use Rattle.controller_model.specs.DriverRows.{next_row}
-use Rattle.controller_model.specs.Showing.{shows}
-use Rattle.controller_model.specs.Steps.{made}
-use Rattle.controller_model.specs.Following.{Follows}
+use Rattle.controller_model.proofs.Words.{NextRow, RowSeen, next_row, shows, made, Follows}
 use Rattle.controller_model.proofs.LookBranches.{step_along, step_refused}
 use Rattle.controller_model.proofs.StepLemmas.{made_stopped}
 use Rattle.controller_model.proofs.steps.make_stopped.Goals as goal

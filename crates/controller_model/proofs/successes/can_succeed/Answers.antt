@@ -1,7 +1,5 @@
 use Rattle.std.proofs.Common.{◌≡◌, ◌&&◌, ◌∙◌, ap, sym}
-use Rattle.commands.specs.States.{can_succeed, is_slot_enabled}
-use Rattle.traces.specs.declared.register.Register.TheVariants.{Config}
-use Rattle.traces.specs.Register.{register_or_zero}
+use Rattle.controller_model.proofs.Words.{can_succeed, is_slot_enabled, Config, register_or_zero}
 use Rattle.controller_model.proofs.successes.can_succeed.Goals as goal
 
 pub returns : goal.returns

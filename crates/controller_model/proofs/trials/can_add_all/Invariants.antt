@@ -1,10 +1,5 @@
 use Rattle.std.proofs.Common.{ℕ, List}
-use Rattle.commands.specs.declared.command.Command.{Command}
-use Rattle.traces.specs.declared.row.Row.{Row}
-use Rattle.world_state.specs.World.{World}
-use Rattle.controller_model.specs.Bindings.{changed_by_all}
-use Rattle.controller_model.specs.Following.{Follows, places_from}
-use Rattle.controller_model.specs.Trials.{GoesOnAs, Sees}
+use Rattle.controller_model.proofs.Words.{Command, Row, World, changed_by_all, Follows, places_from, GoesOnAs, Sees}
 use Rattle.controller_model.proofs.trials.can_add_all.Given as goal
 
 -- the endpoints below the index would have their rings

@@ -1,9 +1,5 @@
-use Rattle.std.proofs.Common.{◌≡◌, ◌&&◌, ◌∙◌, if◌then◌else◌, None, is_some, slice_index, ap, sym, refl}
-use Rattle.std.specs.Prelude.{nat_le}
-use Rattle.std.proofs.lemmas.Bool.{eq-eqb}
-use Rattle.contexts.specs.Contexts.{has_flag, is_dropped}
-use Rattle.controller_model.specs.Bindings.{disabled}
-use Rattle.controller_model.specs.Trials.{Sees}
+use Rattle.std.proofs.Common.{◌≡◌, ◌&&◌, ◌∙◌, if◌then◌else◌, None, is_some, slice_index, ap, sym, refl, nat_le, eq-eqb}
+use Rattle.controller_model.proofs.Words.{has_flag, is_dropped, disabled, Sees}
 use Rattle.controller_model.proofs.EffectLemmas.{gone, can_deconfigure, configures_as}
 use Rattle.controller_model.proofs.trials.can_configure.Goals as goal
 

@@ -1,7 +1,5 @@
 use Rattle.std.proofs.Common.{◌∙◌, if◌then◌else◌, None, ap, sym, inl, inr, arith}
-use Rattle.std.proofs.Math.ListN.{length-set}
-use Rattle.std.proofs.lemmas.Bool.{cases_eq}
-use Rattle.controller_model.specs.Following.{named_by}
+use Rattle.controller_model.proofs.Words.{length-set, cases_eq, named_by}
 use Rattle.controller_model.proofs.TrialLemmas.{own_here, own_there}
 use Rattle.controller_model.proofs.trials.left.Goals as goal
 

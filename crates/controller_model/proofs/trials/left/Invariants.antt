@@ -1,9 +1,5 @@
-use Rattle.std.proofs.Common.{◌≡◌, ℕ, ◌<◌, if◌then◌else◌, List, None, length}
-use Rattle.traces.specs.declared.header.Header.{Header}
-use Rattle.traces.specs.declared.row.Row.{Row}
-use Rattle.world_state.specs.World.{World}
-use Rattle.controller_model.specs.Following.{Follows, named_by}
-use Rattle.controller_model.specs.Trials.{own_ring}
+use Rattle.std.proofs.Common.{◌≡◌, ◌<◌, if◌then◌else◌, ℕ, List, None, length}
+use Rattle.controller_model.proofs.Words.{Header, Row, World, Follows, named_by, own_ring}
 use Rattle.controller_model.proofs.trials.left.Given as goal
 
 -- the rings below the index are those that are left

@@ -1,7 +1,4 @@
-use Rattle.controller_model.specs.Following.{Follows}
-use Rattle.controller_model.specs.RingHarms.{IsFollowed}
-use Rattle.controller_model.specs.Showing.{shows}
-use Rattle.controller_model.specs.Steps.{stepped}
+use Rattle.controller_model.proofs.Words.{Follows, IsFollowed, shows, stepped}
 use Rattle.controller_model.proofs.StepLemmas.{step_more}
 use Rattle.controller_model.proofs.world.make_followed.Goals as goal
 

@@ -1,5 +1,4 @@
-use Rattle.std.proofs.Common.{sym, ◌∙◌, ap}
-use Rattle.std.specs.Prelude.{slice_get}
+use Rattle.std.proofs.Common.{◌∙◌, sym, ap, slice_get}
 use Rattle.lease_book.proofs.Ending.{at_some}
 use Rattle.lease_book.proofs.lease_book.end_at.Goals as goal
 

@@ -1,15 +1,5 @@
-use Rattle.std.proofs.Common.{◌≡◌, ◌+◌, ℕ, List, Bool, get_or, refl, sym, subst, ap, ◌∙◌, arith, Some, None}
-use Rattle.std.specs.Prelude.{◌==◌, map}
-use Rattle.trb.specs.Block.{code}
-use Rattle.traces.specs.Header.{is_command_kind}
-use Rattle.ring_knowledge.specs.Learned.{known}
-use Rattle.ring_knowledge.specs.Rings.{command_at, next_command}
-use Rattle.lease_book.specs.Lents.{Lent, ended_where, is_passed, lents}
-use Rattle.lease_book.proofs.RangePlaces.{some_end}
-use Rattle.ring_finder.proofs.FoundRings.{ring_here}
-use Rattle.ring_finder.proofs.HeaderRings.{shape_there}
-use Rattle.ring_finder.proofs.RingsApart.{among_at}
-use Rattle.lease_rows.specs.CleanRows.{HoldsAll}
+use Rattle.std.proofs.Common.{◌≡◌, ◌+◌, ◌∙◌, ◌==◌, ℕ, List, Bool, get_or, refl, sym, subst, ap, arith, Some, None, map}
+use Rattle.lease_rows.proofs.Words.{code, is_command_kind, known, command_at, next_command, Lent, ended_where, is_passed, lents, some_end, ring_here, shape_there, among_at, HoldsAll}
 use Rattle.lease_rows.proofs.GivenHere.{driven}
 use Rattle.lease_rows.proofs.OtherRows.{among_drivers}
 use Rattle.lease_rows.proofs.RowWrites.{command_at_is, record_there}

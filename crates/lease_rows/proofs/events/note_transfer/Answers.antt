@@ -1,15 +1,5 @@
-use Rattle.std.proofs.Common.{ℕ, get_or, refl, sym, ap, ◌∙◌, arith}
-use Rattle.std.specs.Prelude.{◌==◌}
-use Rattle.std.proofs.lemmas.Bool.{eqb-true}
-use Rattle.trb.specs.Block.{code, endpoint}
-use Rattle.segments.specs.Ceiling.{named}
-use Rattle.ring_knowledge.specs.Learned.{known}
-use Rattle.lease_book.specs.Coming.{come_to}
-use Rattle.lease_book.specs.Lents.{lents}
-use Rattle.lease_book.proofs.RangePlaces.{some_end}
-use Rattle.ring_finder.proofs.FoundRings.{ring_here}
-use Rattle.ring_finder.proofs.HeaderRings.{shape_there}
-use Rattle.ring_finder.proofs.RingsApart.{among_at}
+use Rattle.std.proofs.Common.{◌∙◌, ◌==◌, ℕ, get_or, refl, sym, ap, arith, eqb-true}
+use Rattle.lease_rows.proofs.Words.{code, endpoint, named, known, come_to, lents, some_end, ring_here, shape_there, among_at}
 use Rattle.lease_rows.proofs.OtherRows.{held_still}
 use Rattle.lease_rows.proofs.RowWrites.{record_there}
 use Rattle.lease_rows.proofs.TransferRows.{comes, driver_kind, keeps, other_lent, ring_keeps, ring_of_header, transfer_ends, unbound_lent, unnamed_lent}

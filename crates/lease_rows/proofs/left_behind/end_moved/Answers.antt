@@ -1,13 +1,5 @@
-use Rattle.std.proofs.Common.{◌≤◌, ℕ, get_or, refl, sym, subst, ap, ◌∙◌, arith, Some}
-use Rattle.std.specs.Prelude.{◌==◌}
-use Rattle.std.proofs.lemmas.Bool.{eqb-true}
-use Rattle.segments.specs.Moves.{target}
-use Rattle.segments.specs.RingView.{floor_number}
-use Rattle.segments.specs.Spots.{number}
-use Rattle.ring_finder.proofs.FoundRings.{ring_here}
-use Rattle.ring_finder.proofs.HeaderRings.{shape_there}
-use Rattle.ring_finder.proofs.RingsApart.{among_at}
-use Rattle.lease_rows.specs.LeftBehind.{MovesOn}
+use Rattle.std.proofs.Common.{◌≤◌, ◌∙◌, ◌==◌, ℕ, get_or, refl, sym, subst, ap, arith, Some, eqb-true}
+use Rattle.lease_rows.proofs.Words.{target, floor_number, number, ring_here, shape_there, among_at, MovesOn}
 use Rattle.lease_rows.proofs.RowWrites.{record_there}
 use Rattle.lease_rows.proofs.EndedRanges.{endpoint_driven, endpoint_named, ends_all, moved_is, moved_none, moves_none, none_past, some_past}
 use Rattle.lease_rows.proofs.left_behind.end_moved.Goals as goal

@@ -1,8 +1,5 @@
-use Rattle.std.proofs.Common.{sym, subst, ◌∷◌}
-use Rattle.traces.specs.declared.row.Row.{Row}
-use Rattle.ring_knowledge.specs.Learned.{known}
-use Rattle.trace_record.specs.WordPlaces.{IsPlaced}
-use Rattle.lease_rows.specs.CleanRows.{FollowsBook, IsCleanRow}
+use Rattle.std.proofs.Common.{◌∷◌, sym, subst}
+use Rattle.lease_rows.proofs.Words.{Row, known, IsPlaced, FollowsBook, IsCleanRow}
 use Rattle.lease_rows.proofs.OtherRows.{on_more, other_row}
 use Rattle.lease_rows.proofs.rows.note_row.Goals as goal
 

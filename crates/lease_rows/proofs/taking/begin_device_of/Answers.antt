@@ -1,9 +1,5 @@
-use Rattle.std.proofs.Common.{◌≡◌, ℕ, ◌+◌, ◌%◌, ◌^◌, ◌≤◌, true, refl, ap, sym, ◌∙◌, subst, arith}
-use Rattle.std.specs.Prelude.{Option, Some, is_some}
-use Rattle.ownership_rules.specs.OpenLeases.{Range, SlotEntry, DeviceContext}
-use Rattle.ring_knowledge.specs.Writes.{device_named, entry_of, taken_device}
-use Rattle.lease_book.specs.Ranges.{is_use_free}
-use Rattle.lease_rows.specs.Taking.{EntryFits, SlotIsFree}
+use Rattle.std.proofs.Common.{◌≡◌, ◌+◌, ◌%◌, ◌^◌, ◌≤◌, ◌∙◌, ℕ, true, refl, ap, sym, subst, arith, Option, Some, is_some}
+use Rattle.lease_rows.proofs.Words.{Range, SlotEntry, DeviceContext, device_named, entry_of, taken_device, is_use_free, EntryFits, SlotIsFree}
 use Rattle.lease_rows.proofs.OtherRows.{on_both}
 use Rattle.lease_rows.proofs.TakenRanges.{all_more, same_more, slot_is, still_free, takes_no_more, takes_none, takes_one, entry_aligned, named_at, none_taken}
 use Rattle.lease_rows.proofs.taking.begin_device_of.Goals as goal

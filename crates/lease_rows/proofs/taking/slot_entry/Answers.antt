@@ -1,8 +1,5 @@
-use Rattle.std.proofs.Common.{◌≡◌, ap, arith, ◌∙◌}
-use Rattle.std.specs.Prelude.{unwrap_or}
-use Rattle.traces.specs.Register.{register_or_zero}
-use Rattle.traces.specs.declared.register.Register.TheVariants.{Dcbaap}
-use Rattle.ring_knowledge.specs.Writes.{entry_of}
+use Rattle.std.proofs.Common.{◌≡◌, ◌∙◌, ap, arith, unwrap_or}
+use Rattle.lease_rows.proofs.Words.{register_or_zero, Dcbaap, entry_of}
 use Rattle.lease_rows.proofs.taking.slot_entry.Goals as goal
 
 pub returns-in-Some : goal.returns-in-Some

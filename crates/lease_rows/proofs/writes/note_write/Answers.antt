@@ -1,14 +1,5 @@
-use Rattle.std.proofs.Common.{◌≡◌, List, get_or, refl, sym, subst, ap, ◌∙◌, Some, ◌∷◌, []}
-use Rattle.segments.specs.Places.{touches}
-use Rattle.ring_knowledge.specs.Learned.{known}
-use Rattle.ring_knowledge.specs.declared.ring_record.RingGiving.TheVariants.{Position, Crossing}
-use Rattle.lease_book.specs.Lents.{Lent, lents, with_begun}
-use Rattle.ownership_rules.specs.OpenLeases.{Block, Link}
-use Rattle.lease_book.proofs.RangePlaces.{others_begin}
-use Rattle.ring_finder.proofs.FoundRings.{none_here, ring_here}
-use Rattle.ring_finder.proofs.HeaderRings.{shape_there}
-use Rattle.ring_finder.proofs.RingsApart.{among_at}
-use Rattle.lease_rows.specs.CleanRows.{HoldsAll}
+use Rattle.std.proofs.Common.{◌≡◌, ◌∙◌, ◌∷◌, List, get_or, refl, sym, subst, ap, Some, []}
+use Rattle.lease_rows.proofs.Words.{touches, known, Position, Crossing, Lent, lents, with_begun, Block, Link, others_begin, none_here, ring_here, shape_there, among_at, HoldsAll}
 use Rattle.lease_rows.proofs.OtherRows.{held_still, on_more}
 use Rattle.lease_rows.proofs.GivenHere.{in_events, not_touched}
 use Rattle.lease_rows.proofs.TakenRanges.{begun_twice}

@@ -1,7 +1,5 @@
-use Rattle.std.proofs.Common.{rules, ℕ, sym, subst, ◌+◌, length, set, refl}
-use Rattle.std.specs.Prelude.{Some}
-use Rattle.std.proofs.lemmas.Option.{slice_get_read}
-use Rattle.ring_finder.specs.Finding.{AreNumbers}
+use Rattle.std.proofs.Common.{◌+◌, rules, ℕ, sym, subst, length, set, refl, Some}
+use Rattle.ring_finder.proofs.Words.{slice_get_read, AreNumbers}
 use Rattle.ring_finder.proofs.Numbers.{one_number}
 use Rattle.ring_finder.proofs.finder.ring_numbers.Goals as goal
 

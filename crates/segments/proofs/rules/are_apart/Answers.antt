@@ -1,7 +1,5 @@
-use Rattle.std.proofs.Common.{sym, ◌∙◌, ap}
-use Rattle.std.specs.Prelude.{◌&&◌, not, map, drop, ◌+◌}
-use Rattle.segments.specs.Shape.{are_apart}
-use Rattle.segments.specs.ShapeValue.{segment_of}
+use Rattle.std.proofs.Common.{◌∙◌, ◌&&◌, ◌+◌, sym, ap, not, map, drop}
+use Rattle.segments.proofs.Words.{are_apart, segment_of}
 use Rattle.segments.proofs.Pairs.{are_apart_step}
 use Rattle.segments.proofs.rules.are_apart.Goals as goal
 

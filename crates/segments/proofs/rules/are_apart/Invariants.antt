@@ -1,7 +1,5 @@
-use Rattle.std.proofs.Common.{◌≡◌}
-use Rattle.std.specs.Prelude.{map, drop}
-use Rattle.segments.specs.Shape.{are_apart}
-use Rattle.segments.specs.ShapeValue.{segment_of}
+use Rattle.std.proofs.Common.{◌≡◌, map, drop}
+use Rattle.segments.proofs.Words.{are_apart, segment_of}
 use Rattle.segments.proofs.rules.are_apart.Given as goal
 
 abbrev pub invariant-loop-i : goal.invariant-loop-i

@@ -1,7 +1,5 @@
-use Rattle.std.proofs.Common.{◌≡◌, ◌≤◌, ◌*◌}
-use Rattle.std.specs.Prelude.{take}
-use Rattle.segments.specs.Places.{place_count}
-use Rattle.segments.specs.ShapeValue.{shape_of}
+use Rattle.std.proofs.Common.{◌≡◌, ◌≤◌, ◌*◌, take}
+use Rattle.segments.proofs.Words.{place_count, shape_of}
 use Rattle.segments.proofs.rules.count_places.Given as goal
 
 abbrev pub invariant-loop-base : goal.invariant-loop-base

@@ -1,9 +1,5 @@
 use Rattle.std.proofs.Common.{◌≤◌, ◌<◌, ◌∙◌, ap, sym, arith}
-use Rattle.std.proofs.lemmas.Result.{err_from_is_err_and}
-use Rattle.line_text.specs.Fields.{fields_of}
-use Rattle.trace_reader.specs.Entries.{said_by_fields, value_of}
-use Rattle.traces.specs.Limits.{most_lines}
-use Rattle.trace_reader.specs.Reading.{next_number}
+use Rattle.trace_reader.proofs.Words.{err_from_is_err_and, fields_of, said_by_fields, value_of, most_lines, next_number}
 use Rattle.trace_reader.proofs.LineFields.{faulty, faultless, passed_on, past_limit, too_much, not_limited}
 use Rattle.trace_reader.proofs.line.entry_in.Goals as goal
 

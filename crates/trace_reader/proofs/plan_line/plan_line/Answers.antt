@@ -1,10 +1,5 @@
 use Rattle.std.proofs.Common.{◌≡◌, ◌∙◌, ap, sym, refl, Some, None}
-use Rattle.std.proofs.lemmas.Result.{err_from_is_err_and}
-use Rattle.line_text.specs.Fields.{fields_of}
-use Rattle.traces.specs.declared.plan.PlanLine.{PlanLine}
-use Rattle.trace_reader.specs.declared.fault.LineFault.TheVariants.{Limit}
-use Rattle.trace_reader.specs.LineAnswers.{valued_by}
-use Rattle.trace_reader.specs.Plans.{plan_form_of, plan_line_fault, plan_value}
+use Rattle.trace_reader.proofs.Words.{err_from_is_err_and, fields_of, PlanLine, Limit, valued_by, plan_form_of, plan_line_fault, plan_value}
 use Rattle.trace_reader.proofs.LineSteps.{content_faulty, content_whole, faulted, passed_by, unfaulted}
 use Rattle.trace_reader.proofs.plan_line.plan_line.Goals as goal
 

@@ -1,9 +1,5 @@
 use Rattle.std.proofs.Common.{◌∙◌, ap, sym}
-use Rattle.std.proofs.lemmas.Result.{err_from_is_err_and}
-use Rattle.traces.specs.declared.ring.Ring.{Ring}
-use Rattle.trace_reader.specs.Entries.{ring_of}
-use Rattle.trace_reader.specs.LineAnswers.{valued_by}
-use Rattle.trace_reader.specs.Plans.{plan_ring_fault, ring_line_form, ring_value}
+use Rattle.trace_reader.proofs.Words.{err_from_is_err_and, Ring, ring_of, valued_by, plan_ring_fault, ring_line_form, ring_value}
 use Rattle.trace_reader.proofs.LineSteps.{content_faulty, content_whole, passed_by}
 use Rattle.trace_reader.proofs.plan_line.plan_ring.Goals as goal
 

@@ -1,8 +1,5 @@
 use Rattle.std.proofs.Common.{◌≡◌, ◌≤◌, ◌+◌, length}
-use Rattle.line_text.specs.Lines.{lines_of}
-use Rattle.traces.specs.Limits.{most_lines}
-use Rattle.trace_reader.specs.LineByLine.{lines_say}
-use Rattle.trace_reader.specs.Plans.{plan_line}
+use Rattle.trace_reader.proofs.Words.{lines_of, most_lines, lines_say, plan_line}
 use Rattle.trace_reader.proofs.LineSteps.{prepended}
 use Rattle.trace_reader.proofs.plans.read_lines.Given as goal
 

@@ -1,5 +1,4 @@
-use Rattle.std.proofs.Common.{◌∙◌, sym, length}
-use Rattle.std.proofs.lemmas.Bool.{eqb-true}
+use Rattle.std.proofs.Common.{◌∙◌, sym, length, eqb-true}
 use Rattle.trace_reader.proofs.PlanSteps.{no_text, no_version, version_there}
 use Rattle.trace_reader.proofs.plans.skip_version.Goals as goal
 

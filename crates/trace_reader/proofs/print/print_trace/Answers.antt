@@ -1,8 +1,5 @@
-use Rattle.std.proofs.Common.{rules, ◌≡◌, ◌∙◌, ap}
-use Rattle.trace_reader.specs.Entries.{text_of}
-use Rattle.trace_reader.specs.Reading.{trace_of}
-use Rattle.trace_reader.specs.Spelling.{printed_trace}
-use Rattle.trace_reader.specs.Valid.{IsTrace}
+use Rattle.std.proofs.Common.{◌≡◌, ◌∙◌, rules, ap}
+use Rattle.trace_reader.proofs.Words.{text_of, trace_of, printed_trace, IsTrace}
 use Rattle.trace_reader.proofs.LinePieces.{whole_text}
 use Rattle.trace_reader.proofs.Printed.{printed_reads}
 use Rattle.trace_reader.proofs.print.print_trace.Goals as goal

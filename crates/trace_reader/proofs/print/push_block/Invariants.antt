@@ -1,7 +1,5 @@
 use Rattle.std.proofs.Common.{◌≡◌, ◌++◌, map, take, w32}
-use Rattle.line_text.specs.Numbers.{digits_of}
-use Rattle.trace_reader.specs.Printing.{spaced}
-use Rattle.trace_reader.specs.Spelling.{Digits}
+use Rattle.trace_reader.proofs.Words.{digits_of, spaced, Digits}
 use Rattle.trace_reader.proofs.print.push_block.Given as goal
 
 abbrev pub invariant-loop-word : goal.invariant-loop-word

@@ -1,7 +1,5 @@
 use Rattle.std.proofs.Common.{◌≡◌, ◌++◌, take}
-use Rattle.std.specs.List.{flat_map}
-use Rattle.trace_reader.specs.Printing.{spaced}
-use Rattle.trace_reader.specs.Spelling.{block_fields}
+use Rattle.trace_reader.proofs.Words.{flat_map, spaced, block_fields}
 use Rattle.trace_reader.proofs.print.push_blocks.Given as goal
 
 abbrev pub invariant-loop-block : goal.invariant-loop-block

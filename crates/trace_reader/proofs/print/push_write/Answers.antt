@@ -1,7 +1,5 @@
 use Rattle.std.proofs.Common.{arith}
-use Rattle.std.proofs.lemmas.Grind.{common_steps}
-use Rattle.traces.specs.declared.row.Row.TheVariants.{Write}
-use Rattle.trace_reader.specs.Spelling.{row_fields}
+use Rattle.trace_reader.proofs.Words.{common_steps, Write, row_fields}
 use Rattle.trace_reader.proofs.LinePieces.{line_of}
 use Rattle.trace_reader.proofs.print.push_write.Goals as goal
 

@@ -1,8 +1,5 @@
-use Rattle.std.proofs.Common.{◌∙◌, ap, sym, length}
-use Rattle.std.proofs.lemmas.Bool.{eqb-true}
-use Rattle.line_text.specs.Lines.{lines_of}
-use Rattle.trace_reader.specs.Entries.{state_of, text_of}
-use Rattle.trace_reader.specs.Reading.{read_lines}
+use Rattle.std.proofs.Common.{◌∙◌, ap, sym, length, eqb-true}
+use Rattle.trace_reader.proofs.Words.{lines_of, state_of, text_of, read_lines}
 use Rattle.trace_reader.proofs.Lowered.{lowered}
 use Rattle.trace_reader.proofs.ReadSteps.{ended, prepend, read_on, stopped}
 use Rattle.trace_reader.proofs.Spelled.{one_trace, spelled_if_read}

@@ -1,7 +1,5 @@
 use Rattle.std.proofs.Common.{◌≡◌, length}
-use Rattle.line_text.specs.Lines.{lines_of}
-use Rattle.trace_reader.specs.Entries.{state_of}
-use Rattle.trace_reader.specs.Reading.{read_lines, start}
+use Rattle.trace_reader.proofs.Words.{lines_of, state_of, read_lines, start}
 use Rattle.trace_reader.proofs.ReadSteps.{prepend}
 use Rattle.trace_reader.proofs.read.read_trace.Given as goal
 

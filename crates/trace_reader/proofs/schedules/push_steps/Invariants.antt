@@ -1,7 +1,5 @@
 use Rattle.std.proofs.Common.{◌≡◌, ◌++◌, map, take}
-use Rattle.std.specs.List.{flat_map}
-use Rattle.trace_reader.specs.ScheduleSpelling.{step_fields}
-use Rattle.trace_reader.specs.Spelling.{printed_line}
+use Rattle.trace_reader.proofs.Words.{flat_map, step_fields, printed_line}
 use Rattle.trace_reader.proofs.schedules.push_steps.Given as goal
 
 abbrev pub invariant-loop-step : goal.invariant-loop-step

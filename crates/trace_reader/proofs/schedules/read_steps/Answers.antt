@@ -1,8 +1,5 @@
-use Rattle.std.proofs.Common.{sym, length, arith}
-use Rattle.std.proofs.lemmas.Bool.{eqb-true}
-use Rattle.line_text.specs.Lines.{lines_of}
-use Rattle.trace_reader.specs.LineByLine.{lines_say}
-use Rattle.trace_reader.specs.Schedules.{step_line}
+use Rattle.std.proofs.Common.{sym, length, arith, eqb-true}
+use Rattle.trace_reader.proofs.Words.{lines_of, lines_say, step_line}
 use Rattle.trace_reader.proofs.LineSteps.{at_start, bad_line_there, lines_ended, one_line_more}
 use Rattle.trace_reader.proofs.schedules.read_steps.Goals as goal
 

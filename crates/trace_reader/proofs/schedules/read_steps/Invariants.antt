@@ -1,8 +1,5 @@
 use Rattle.std.proofs.Common.{◌≡◌, ◌≤◌, ◌+◌, length}
-use Rattle.line_text.specs.Lines.{lines_of}
-use Rattle.traces.specs.Limits.{most_schedule_lines}
-use Rattle.trace_reader.specs.LineByLine.{lines_say}
-use Rattle.trace_reader.specs.Schedules.{step_line}
+use Rattle.trace_reader.proofs.Words.{lines_of, most_schedule_lines, lines_say, step_line}
 use Rattle.trace_reader.proofs.LineSteps.{prepended}
 use Rattle.trace_reader.proofs.schedules.read_steps.Given as goal
 

@@ -1,5 +1,4 @@
-use Rattle.std.proofs.Common.{◌∙◌, sym, length}
-use Rattle.std.proofs.lemmas.Bool.{eqb-true}
+use Rattle.std.proofs.Common.{◌∙◌, sym, length, eqb-true}
 use Rattle.trace_reader.proofs.ScheduleSteps.{no_text, no_version, version_there}
 use Rattle.trace_reader.proofs.schedules.skip_version.Goals as goal
 

@@ -1,12 +1,5 @@
-use Rattle.std.proofs.Common.{◌≡◌, ◌∙◌, ap, sym, refl, Some, None, le-ltb}
-use Rattle.std.proofs.lemmas.Bool.{lt-ltb}
-use Rattle.std.proofs.lemmas.Result.{err_from_is_err_and}
-use Rattle.line_text.specs.Fields.{fields_of}
-use Rattle.trace_reader.specs.declared.fault.LineFault.TheVariants.{Limit}
-use Rattle.traces.specs.declared.step.Step.{Step}
-use Rattle.traces.specs.Limits.{most_schedule_lines}
-use Rattle.trace_reader.specs.LineAnswers.{valued_by}
-use Rattle.trace_reader.specs.Schedules.{step_fault, step_form_of, step_value}
+use Rattle.std.proofs.Common.{◌≡◌, ◌∙◌, ap, sym, refl, Some, None, le-ltb, lt-ltb}
+use Rattle.trace_reader.proofs.Words.{err_from_is_err_and, fields_of, Limit, Step, most_schedule_lines, valued_by, step_fault, step_form_of, step_value}
 use Rattle.trace_reader.proofs.LineSteps.{content_faulty, content_whole, faulted, passed_by, unfaulted}
 use Rattle.trace_reader.proofs.step_line.step_line.Goals as goal
 

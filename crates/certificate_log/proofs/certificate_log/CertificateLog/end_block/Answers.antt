@@ -1,13 +1,5 @@
-use Rattle.std.proofs.Common.{◌≡◌, ◌%◌, List, map, ap, sym, ◌∙◌, refl, subst, arith}
-use Rattle.segments.specs.Places.{place_count}
-use Rattle.traces.specs.Header.{shape_of}
-use Rattle.ownership_rules.specs.OpenLeases.{Block, same_leased}
-use Rattle.lease_book.specs.IndexTables.{index_at}
-use Rattle.lease_book.specs.Lents.{Lent, ended_where, share_a_place}
-use Rattle.lease_book.proofs.Places.{put_at}
-use Rattle.certificate_log.specs.declared.certificate_log.CertificateLog.{CertificateLog}
-use Rattle.certificate_log.specs.declared.followed.FollowedList.{FollowedList}
-use Rattle.certificate_log.specs.Logs.{FollowsCertificate}
+use Rattle.std.proofs.Common.{◌≡◌, ◌%◌, ◌∙◌, List, map, ap, sym, refl, subst, arith}
+use Rattle.certificate_log.proofs.CitedWords.{place_count, shape_of, Block, same_leased, index_at, Lent, ended_where, share_a_place, put_at, CertificateLog, FollowedList, FollowsCertificate}
 use Rattle.certificate_log.proofs.EndingOne.{another_numbered, none_numbered, this_numbered}
 use Rattle.certificate_log.proofs.Standing.{block_itself}
 use Rattle.certificate_log.proofs.Tables.{block_numbered}

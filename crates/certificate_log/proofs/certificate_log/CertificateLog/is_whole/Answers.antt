@@ -1,7 +1,5 @@
 use Rattle.std.proofs.Common.{◌∙◌, sym}
-use Rattle.std.proofs.lemmas.Bool.{false≢true}
-use Rattle.lease_book.specs.Lents.{lents}
-use Rattle.lease_book.proofs.Growing.{leases_are}
+use Rattle.certificate_log.proofs.CitedWords.{false≢true, lents, leases_are}
 use Rattle.certificate_log.proofs.Log.{tells_whole, whole_tells}
 use Rattle.certificate_log.proofs.certificate_log.CertificateLog.is_whole.Goals as goal
 

@@ -1,10 +1,5 @@
-use Rattle.std.proofs.Common.{◌≡◌, ◌%◌, ap, sym, ◌∙◌, refl, subst}
-use Rattle.segments.specs.Places.{place_count}
-use Rattle.traces.specs.Header.{shape_of}
-use Rattle.ring_knowledge.specs.declared.lease.Lease.{Lease}
-use Rattle.ownership_rules.specs.OpenLeases.{Block}
-use Rattle.lease_book.proofs.Places.{put_at}
-use Rattle.certificate_log.specs.Following.{Begins}
+use Rattle.std.proofs.Common.{◌≡◌, ◌%◌, ◌∙◌, ap, sym, refl, subst}
+use Rattle.certificate_log.proofs.CitedWords.{place_count, shape_of, Lease, Block, put_at, Begins}
 use Rattle.certificate_log.proofs.Following.{goes_on}
 use Rattle.certificate_log.proofs.Standing.{free_none}
 use Rattle.certificate_log.proofs.Tables.{block_numbered}

@@ -1,12 +1,5 @@
-use Rattle.std.proofs.Common.{◌≡◌, ap, sym, ◌∙◌, refl, subst}
-use Rattle.std.specs.Prelude.{unwrap_or}
-use Rattle.segments.specs.Places.{is_crossing, link_crossed}
-use Rattle.segments.specs.Givings.{link_of}
-use Rattle.traces.specs.Header.{shape_of}
-use Rattle.ring_knowledge.specs.declared.lease.Lease.{Lease}
-use Rattle.ownership_rules.specs.OpenLeases.{Link}
-use Rattle.lease_book.proofs.Places.{put_at}
-use Rattle.certificate_log.specs.Following.{Begins}
+use Rattle.std.proofs.Common.{◌≡◌, ◌∙◌, ap, sym, refl, subst, unwrap_or}
+use Rattle.certificate_log.proofs.CitedWords.{is_crossing, link_crossed, link_of, shape_of, Lease, Link, put_at, Begins}
 use Rattle.certificate_log.proofs.Following.{goes_on}
 use Rattle.certificate_log.proofs.Standing.{free_none}
 use Rattle.certificate_log.proofs.Tables.{link_numbered}

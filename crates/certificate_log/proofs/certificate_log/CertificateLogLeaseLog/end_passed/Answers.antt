@@ -1,11 +1,5 @@
-use Rattle.std.proofs.Common.{◌≡◌, ◌≤◌, ◌+◌, ℕ, List, map, false, sym, ◌∙◌, ap, subst, arith}
-use Rattle.std.specs.Prelude.{◌||◌, is_some}
-use Rattle.segments.specs.Places.{is_crossing}
-use Rattle.ownership_rules.specs.OpenLeases.{Block, Link, same_leased}
-use Rattle.lease_book.specs.Lents.{Lent, ended_where, is_passed}
-use Rattle.lease_book.proofs.Passing.{all_twice, none_over, none_passed, over_alike, passed_crossing}
-use Rattle.certificate_log.specs.declared.certificate_log.CertificateLog.{CertificateLog}
-use Rattle.certificate_log.specs.Logs.{FollowsCertificate}
+use Rattle.std.proofs.Common.{◌≡◌, ◌≤◌, ◌+◌, ◌∙◌, ◌||◌, ℕ, List, map, false, sym, ap, subst, arith, is_some}
+use Rattle.certificate_log.proofs.CitedWords.{is_crossing, Block, Link, same_leased, Lent, ended_where, is_passed, all_twice, none_over, none_passed, over_alike, passed_crossing, CertificateLog, FollowsCertificate}
 use Rattle.certificate_log.proofs.PassingOn.{passed_on}
 use Rattle.certificate_log.proofs.certificate_log.CertificateLogLeaseLog.end_passed.Goals as goal
 use Rattle.certificate_log.proofs.certificate_log.CertificateLogLeaseLog.end_passed.Goals.{then-is_some, else-is_some}

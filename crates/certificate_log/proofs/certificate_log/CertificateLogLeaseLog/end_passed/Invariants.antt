@@ -1,9 +1,5 @@
 use Rattle.std.proofs.Common.{◌≡◌, List, map}
-use Rattle.traces.specs.declared.header.Header.{Header}
-use Rattle.traces.specs.Header.{shape_of}
-use Rattle.ring_knowledge.specs.declared.lease.Lease.{Lease}
-use Rattle.lease_book.specs.Lents.{Lent, ended_where, is_passed}
-use Rattle.certificate_log.specs.Logs.{FollowsCertificate}
+use Rattle.certificate_log.proofs.CitedWords.{Header, shape_of, Lease, Lent, ended_where, is_passed, FollowsCertificate}
 use Rattle.certificate_log.proofs.certificate_log.CertificateLogLeaseLog.end_passed.Given as goal
 
 abbrev pub invariant-loop-number : goal.invariant-loop-number

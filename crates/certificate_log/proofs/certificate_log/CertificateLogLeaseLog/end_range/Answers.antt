@@ -1,9 +1,5 @@
-use Rattle.std.proofs.Common.{map, sym, ◌∙◌, inl, inr, subst}
-use Rattle.std.proofs.lemmas.Bool.{cases_Bool, false≢true}
-use Rattle.ownership_rules.specs.OpenLeases.{Range, same_leased}
-use Rattle.lease_book.specs.Lents.{ended_where}
-use Rattle.certificate_log.specs.declared.followed.FollowedList.{FollowedList}
-use Rattle.certificate_log.specs.Following.{FollowsList}
+use Rattle.std.proofs.Common.{◌∙◌, map, sym, inl, inr, subst}
+use Rattle.certificate_log.proofs.CitedWords.{cases_Bool, false≢true, Range, same_leased, ended_where, FollowedList, FollowsList}
 use Rattle.certificate_log.proofs.EndingOne.{another_there, this_there}
 use Rattle.certificate_log.proofs.Standing.{range_apart, stands_only}
 use Rattle.certificate_log.proofs.Tables.{range_numbered}

@@ -1,8 +1,5 @@
-use Rattle.std.proofs.Common.{◌≡◌, ℕ, ◌∙◌, Some, ap, sym, subst}
-use Rattle.std.proofs.lemmas.Option.{same_Some}
-use Rattle.controller_model.specs.declared.watches.Watch.{Watch}
-use Rattle.controller_model.specs.Held.{changed_at, written_at}
-use Rattle.controller_model.specs.Watches.{is_changed_behind}
+use Rattle.std.proofs.Common.{◌≡◌, ◌∙◌, ℕ, Some, ap, sym, subst}
+use Rattle.controller_model.proofs.Words.{same_Some, Watch, changed_at, written_at, is_changed_behind}
 use Rattle.controller_model.proofs.WatchLemmas.{still_watched}
 use Rattle.controller_model.proofs.stamps.Stamps.note.Goals as goal
 

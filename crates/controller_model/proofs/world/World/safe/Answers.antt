@@ -1,8 +1,5 @@
-use Rattle.std.proofs.Common.{ap, sym, subst, ◌∙◌}
-use Rattle.traces.specs.declared.header.Header.{Header}
-use Rattle.world_state.specs.Harms.{harm_of}
-use Rattle.controller_model.specs.Following.{Follows}
-use Rattle.controller_model.specs.RingHarms.{HasRingHarms}
+use Rattle.std.proofs.Common.{◌∙◌, ap, sym, subst}
+use Rattle.controller_model.proofs.Words.{Header, harm_of, Follows, HasRingHarms}
 use Rattle.controller_model.proofs.world.World.safe.Goals as goal
 
 pub returns-in-None : goal.returns-in-None

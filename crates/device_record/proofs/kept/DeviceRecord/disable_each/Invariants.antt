@@ -1,7 +1,5 @@
-use Rattle.std.proofs.Common.{◌&&◌}
-use Rattle.std.specs.Prelude.{nat_lt}
-use Rattle.device_record.specs.Endpoints.{named_by}
-use Rattle.device_record.specs.Devices.{IsDisabled}
+use Rattle.std.proofs.Common.{◌&&◌, nat_lt}
+use Rattle.device_record.proofs.Words.{named_by, IsDisabled}
 use Rattle.device_record.proofs.kept.DeviceRecord.disable_each.Given as goal
 
 -- those below the index are disabled

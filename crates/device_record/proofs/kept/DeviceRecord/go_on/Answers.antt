@@ -1,8 +1,5 @@
 use Rattle.std.proofs.Common.{◌≡◌, ◌∙◌, unwrap_or, ap, sym}
-use Rattle.commands.specs.declared.state.SlotState.{SlotState}
-use Rattle.commands.specs.States.{slot_success}
-use Rattle.ring_knowledge.specs.Completions.{changed_by}
-use Rattle.device_record.specs.declared.kept.Slot.{Slot}
+use Rattle.device_record.proofs.Words.{SlotState, slot_success, changed_by, Slot}
 use Rattle.device_record.proofs.Steps.{follows_slot_state}
 use Rattle.device_record.proofs.kept.DeviceRecord.go_on.Goals as goal
 

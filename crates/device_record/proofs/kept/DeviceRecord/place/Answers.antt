@@ -1,9 +1,5 @@
 use Rattle.std.proofs.Common.{◌≡◌, ◌∙◌, ap, sym, subst}
-use Rattle.commands.specs.declared.state.EndpointState.{EndpointState}
-use Rattle.ring_knowledge.specs.Completions.{changed_by}
-use Rattle.device_record.specs.declared.kept.Endpoint.{Endpoint}
-use Rattle.device_record.specs.Endpoints.{placed_endpoint, ring_got}
-use Rattle.device_record.specs.Devices.{IsWithBound, endpoint_at}
+use Rattle.device_record.proofs.Words.{EndpointState, changed_by, Endpoint, placed_endpoint, ring_got, IsWithBound, endpoint_at}
 use Rattle.device_record.proofs.Placing.{follows_place}
 use Rattle.device_record.proofs.kept.DeviceRecord.place.Goals as goal
 

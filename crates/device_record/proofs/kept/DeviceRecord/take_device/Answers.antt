@@ -1,7 +1,5 @@
 use Rattle.std.proofs.Common.{Some, ap, sym}
-use Rattle.guest_memory.specs.Memory.{put}
-use Rattle.ring_knowledge.specs.Writes.{with_device}
-use Rattle.device_record.specs.declared.kept.Slot.{Slot}
+use Rattle.device_record.proofs.Words.{put, with_device, Slot}
 use Rattle.device_record.proofs.Steps.{follows_beside, follows_device}
 use Rattle.device_record.proofs.kept.DeviceRecord.take_device.Goals as goal
 

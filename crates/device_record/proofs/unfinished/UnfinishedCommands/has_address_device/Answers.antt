@@ -1,5 +1,4 @@
-use Rattle.std.proofs.Common.{◌∙◌, ap}
-use Rattle.std.specs.Prelude.{nat_lt}
+use Rattle.std.proofs.Common.{◌∙◌, ap, nat_lt}
 use Rattle.device_record.proofs.Addressing.{addressing_is}
 use Rattle.device_record.proofs.unfinished.UnfinishedCommands.has_address_device.Goals as goal
 

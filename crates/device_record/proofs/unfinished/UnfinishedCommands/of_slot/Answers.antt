@@ -1,8 +1,5 @@
-use Rattle.std.proofs.Common.{◌≡◌, ◌∙◌, Option, Some, None, ap, sym}
-use Rattle.std.specs.Prelude.{IfSome, List, true}
-use Rattle.std.specs.List.{list_any}
-use Rattle.commands.specs.declared.command.Command.{Command}
-use Rattle.device_record.specs.Unfinished.{FollowsUnfinished, as_list, kept_of, names}
+use Rattle.std.proofs.Common.{◌≡◌, ◌∙◌, Option, Some, None, ap, sym, IfSome, List, true}
+use Rattle.device_record.proofs.Words.{list_any, Command, FollowsUnfinished, as_list, kept_of, names}
 use Rattle.device_record.proofs.Addressing.{kept_names}
 use Rattle.device_record.proofs.NamedCommands.{found_of_slot}
 use Rattle.device_record.proofs.unfinished.UnfinishedCommands.of_slot.Goals as goal

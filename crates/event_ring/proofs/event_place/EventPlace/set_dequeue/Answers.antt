@@ -1,10 +1,5 @@
-use Rattle.std.proofs.Common.{ℕ, ◌≡◌, ◌≤◌, ◌+◌, ◌-◌, ◌%◌, ◌<◌, sym, ◌∙◌, ap, Some}
-use Rattle.std.proofs.lemmas.Bool.{lt-leb, le-leb}
-use Rattle.segments.specs.Places.{place_count}
-use Rattle.segments.specs.PlaceAt.{place_at}
-use Rattle.segments.specs.declared.place.Place.TheVariants.{Data}
-use Rattle.event_ring.specs.EventRing.{erdp_address}
-use Rattle.event_ring.specs.EventPlaceValue.{EventState, dequeued_at}
+use Rattle.std.proofs.Common.{◌≡◌, ◌≤◌, ◌+◌, ◌-◌, ◌%◌, ◌<◌, ◌∙◌, ℕ, sym, ap, Some, le-leb}
+use Rattle.event_ring.proofs.Words.{lt-leb, place_count, place_at, Data, erdp_address, EventState, dequeued_at}
 use Rattle.event_ring.proofs.DequeueLemmas.{ahead, may_dequeue-place, may_dequeue-none, dequeued_at-place}
 use Rattle.event_ring.proofs.event_place.EventPlace.set_dequeue.Goals as goal
 

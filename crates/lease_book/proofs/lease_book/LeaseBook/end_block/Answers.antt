@@ -1,9 +1,5 @@
-use Rattle.std.proofs.Common.{◌≡◌, ◌%◌, ap, sym, ◌∙◌}
-use Rattle.ownership_rules.specs.OpenLeases.{Block, same_leased}
-use Rattle.segments.specs.Places.{place_count}
-use Rattle.traces.specs.Header.{shape_of}
-use Rattle.lease_book.specs.Endings.{ended_at}
-use Rattle.lease_book.specs.Books.{IsFound}
+use Rattle.std.proofs.Common.{◌≡◌, ◌%◌, ◌∙◌, ap, sym}
+use Rattle.lease_book.proofs.Words.{Block, same_leased, place_count, shape_of, ended_at, IsFound}
 use Rattle.lease_book.proofs.Holding.{block_ends}
 use Rattle.lease_book.proofs.Unended.{all_ended}
 use Rattle.lease_book.proofs.lease_book.LeaseBook.end_block.Goals as goal

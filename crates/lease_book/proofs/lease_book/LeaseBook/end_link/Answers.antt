@@ -1,12 +1,5 @@
-use Rattle.std.proofs.Common.{◌≡◌, ap, sym, ◌∙◌}
-use Rattle.std.specs.Prelude.{unwrap_or}
-use Rattle.ownership_rules.specs.OpenLeases.{Link, same_leased}
-use Rattle.segments.specs.Places.{link_crossed}
-use Rattle.segments.specs.Givings.{link_of}
-use Rattle.segments.proofs.Crossings.{crossing_positive}
-use Rattle.traces.specs.Header.{shape_of}
-use Rattle.lease_book.specs.Endings.{ended_at}
-use Rattle.lease_book.specs.Books.{IsFound}
+use Rattle.std.proofs.Common.{◌≡◌, ◌∙◌, ap, sym, unwrap_or}
+use Rattle.lease_book.proofs.Words.{Link, same_leased, link_crossed, link_of, crossing_positive, shape_of, ended_at, IsFound}
 use Rattle.lease_book.proofs.Holding.{link_ends}
 use Rattle.lease_book.proofs.Unended.{all_ended}
 use Rattle.lease_book.proofs.lease_book.LeaseBook.end_link.Goals as goal

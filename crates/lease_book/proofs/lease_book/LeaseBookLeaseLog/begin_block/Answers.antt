@@ -1,7 +1,5 @@
-use Rattle.std.proofs.Common.{◌≡◌, ◌%◌, ap, sym, ◌∙◌}
-use Rattle.ownership_rules.specs.OpenLeases.{Block}
-use Rattle.segments.specs.Places.{place_count}
-use Rattle.traces.specs.Header.{shape_of}
+use Rattle.std.proofs.Common.{◌≡◌, ◌%◌, ◌∙◌, ap, sym}
+use Rattle.lease_book.proofs.Words.{Block, place_count, shape_of}
 use Rattle.lease_book.proofs.Places.{block_found, list_begun, length_held, put_at}
 use Rattle.lease_book.proofs.lease_book.LeaseBookLeaseLog.begin_block.Goals as goal
 

@@ -1,9 +1,5 @@
-use Rattle.std.proofs.Common.{◌≡◌, ap, sym, ◌∙◌}
-use Rattle.std.specs.Prelude.{unwrap_or}
-use Rattle.ownership_rules.specs.OpenLeases.{Link}
-use Rattle.segments.specs.Givings.{link_of}
-use Rattle.traces.specs.Header.{shape_of}
-use Rattle.segments.specs.Places.{link_crossed, is_crossing}
+use Rattle.std.proofs.Common.{◌≡◌, ◌∙◌, ap, sym, unwrap_or}
+use Rattle.lease_book.proofs.Words.{Link, link_of, shape_of, link_crossed, is_crossing}
 use Rattle.lease_book.proofs.Places.{link_found, list_begun, length_held, put_at}
 use Rattle.lease_book.proofs.lease_book.LeaseBookLeaseLog.begin_link.Goals as goal
 

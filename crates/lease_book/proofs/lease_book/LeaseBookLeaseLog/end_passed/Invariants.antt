@@ -1,8 +1,5 @@
 use Rattle.std.proofs.Common.{◌≡◌, List, map}
-use Rattle.traces.specs.declared.header.Header.{Header}
-use Rattle.traces.specs.Header.{shape_of}
-use Rattle.lease_book.specs.Lents.{Lent, ended_where, is_passed}
-use Rattle.lease_book.specs.Books.{HoldsLents}
+use Rattle.lease_book.proofs.Words.{Header, shape_of, Lent, ended_where, is_passed, HoldsLents}
 use Rattle.lease_book.proofs.lease_book.LeaseBookLeaseLog.end_passed.Given as goal
 
 abbrev pub invariant-loop-number : goal.invariant-loop-number

@@ -1,8 +1,5 @@
-use Rattle.std.proofs.Common.{◌≡◌, ◌%◌, sym, ap, ◌∙◌}
-use Rattle.segments.specs.Places.{place_count}
-use Rattle.ownership_rules.specs.OpenLeases.{InputContext}
-use Rattle.lease_book.specs.IndexTables.{index_in}
-use Rattle.lease_book.specs.Ranges.{command_place}
+use Rattle.std.proofs.Common.{◌≡◌, ◌%◌, ◌∙◌, sym, ap}
+use Rattle.lease_book.proofs.Words.{place_count, InputContext, index_in, command_place}
 use Rattle.lease_book.proofs.RangePlaces.{stands}
 use Rattle.lease_book.proofs.ranges.RangeIndexes.end_context.Goals as goal
 

@@ -1,7 +1,5 @@
 use Rattle.std.proofs.Common.{◌≡◌, ◌≤◌, ℕ, List, true, false, length, sym, subst, ap, arith, leb, rules}
-use Rattle.std.specs.List.{insert}
-use Rattle.std.specs.List.Sorted.{IsNonDecreasingBy, IsPartitionPoint}
-use Rattle.std.proofs.lemmas.List.Sorted.{IsPartitionPoint-from_clause, IsPartitionedBy-leb}
+use Rattle.range_words.proofs.Words.{insert, IsNonDecreasingBy, IsPartitionPoint, IsPartitionPoint-from_clause, IsPartitionedBy-leb}
 use Rattle.range_words.proofs.AreaLists.{added_sorted, added_all}
 use Rattle.range_words.proofs.areas.Areas.add.Goals as goal
 

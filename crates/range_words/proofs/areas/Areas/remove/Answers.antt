@@ -1,8 +1,5 @@
-use Rattle.std.proofs.Common.{◌≡◌, ◌<◌, ℕ, List, length, get_or, ◌∙◌, subst, ap, arith, Err}
-use Rattle.std.specs.List.{remove}
-use Rattle.std.specs.List.Sorted.{IsBinarySearchResult}
-use Rattle.std.specs.Ordering.{nat_cmp}
-use Rattle.std.proofs.lemmas.Bool.Decides.{nat_tests}
+use Rattle.std.proofs.Common.{◌≡◌, ◌<◌, ◌∙◌, ℕ, List, length, get_or, subst, ap, arith, Err}
+use Rattle.range_words.proofs.Words.{remove, IsBinarySearchResult, nat_cmp, nat_tests}
 use Rattle.range_words.proofs.Counts.{without}
 use Rattle.range_words.proofs.AreaLists.{removed_sorted, not_missed}
 use Rattle.range_words.proofs.areas.Areas.remove.Goals as goal

@@ -1,8 +1,5 @@
-use Rattle.std.proofs.Common.{◌≡◌, ◌-◌, ◌+◌, ◌<◌, ◌≤◌, ℕ, List, true, false, length, get_or, sym, ◌∙◌, subst, ap, arith, rules}
-use Rattle.std.specs.Prelude.{nat_lt}
-use Rattle.std.specs.List.Sorted.{IsNonDecreasingBy, IsPartitionPoint}
-use Rattle.std.proofs.lemmas.List.Sorted.{IsPartitionPoint-from_clause, IsPartitionedBy-ltb, list_any-IsPermutation}
-use Rattle.segments.specs.Places.{overlap}
+use Rattle.std.proofs.Common.{◌≡◌, ◌-◌, ◌+◌, ◌<◌, ◌≤◌, ◌∙◌, ℕ, List, true, false, length, get_or, sym, subst, ap, arith, rules, nat_lt}
+use Rattle.range_words.proofs.Words.{IsNonDecreasingBy, IsPartitionPoint, IsPartitionPoint-from_clause, IsPartitionedBy-ltb, list_any-IsPermutation, overlap}
 use Rattle.range_words.proofs.AreaLists.{none_touches, last_touches}
 use Rattle.range_words.proofs.areas.Areas.touches.Goals as goal
 

@@ -1,7 +1,5 @@
-use Rattle.std.proofs.Common.{◌≡◌, ℕ, ◌*◌, ◌%◌}
-use Rattle.std.specs.Prelude.{nat_lt, ◌||◌}
-use Rattle.guest_memory.specs.Page.{word_in}
-use Rattle.segments.specs.Places.{is_in}
+use Rattle.std.proofs.Common.{◌≡◌, ◌*◌, ◌%◌, ◌||◌, ℕ, nat_lt}
+use Rattle.range_words.proofs.Words.{word_in, is_in}
 use Rattle.range_words.proofs.soiled.SoiledWords.soil.Given as goal
 
 abbrev pub invariant-loop-i : goal.invariant-loop-i

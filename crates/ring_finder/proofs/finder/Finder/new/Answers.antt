@@ -1,11 +1,5 @@
-use Rattle.std.proofs.Common.{List, length, subst, ap, ◌∙◌, rules}
-use Rattle.std.specs.List.Sorted.{IsPermutation}
-use Rattle.std.proofs.lemmas.List.Sorted.{IsNonDecreasingBy-from_sort_by_key}
-use Rattle.std.specs.Prelude.{position}
-use Rattle.traces.specs.Header.{is_command_kind}
-use Rattle.traces.specs.declared.ring.Ring.{Ring}
-use Rattle.ring_finder.specs.declared.finder.Start.{Start}
-use Rattle.ring_finder.specs.Finding.{AreNumbers, starts_from}
+use Rattle.std.proofs.Common.{◌∙◌, List, length, subst, ap, rules, position}
+use Rattle.ring_finder.proofs.Words.{IsPermutation, IsNonDecreasingBy-from_sort_by_key, is_command_kind, Ring, Start, AreNumbers, starts_from}
 use Rattle.ring_finder.proofs.finder.Finder.new.Goals as goal
 
 pub returns : goal.returns

@@ -1,8 +1,5 @@
 use Rattle.std.proofs.Common.{◌≡◌, ◌-◌, ◌<◌, ◌≤◌, List, true, false, length, get_or, sym, subst, ap, arith, leb, rules}
-use Rattle.std.specs.List.Sorted.{IsNonDecreasingBy, IsPartitionPoint}
-use Rattle.std.proofs.lemmas.List.Sorted.{IsPartitionPoint-from_clause, IsPartitionedBy-leb}
-use Rattle.std.proofs.lemmas.List.Elements.{Contains-get_or}
-use Rattle.ring_finder.specs.declared.finder.Start.{Start}
+use Rattle.ring_finder.proofs.Words.{IsNonDecreasingBy, IsPartitionPoint, IsPartitionPoint-from_clause, IsPartitionedBy-leb, Contains-get_or, Start}
 use Rattle.ring_finder.proofs.Starts.{none_before, last_before, number_below}
 use Rattle.ring_finder.proofs.finder.Finder.ring_before.Goals as goal
 

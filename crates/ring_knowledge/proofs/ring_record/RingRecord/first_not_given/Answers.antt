@@ -1,7 +1,5 @@
-use Rattle.std.proofs.Common.{◌≡◌, sym, ◌∙◌, ap, arith, inl, inr}
-use Rattle.std.proofs.lemmas.Bool.{cases_lt}
-use Rattle.segments.specs.Spots.{number}
-use Rattle.segments.specs.Ceiling.{is_step_given}
+use Rattle.std.proofs.Common.{◌≡◌, ◌∙◌, sym, ap, arith, inl, inr}
+use Rattle.ring_knowledge.proofs.Words.{cases_lt, number, is_step_given}
 use Rattle.ring_knowledge.proofs.GivenCount.{past_not_given}
 use Rattle.ring_knowledge.proofs.ring_record.RingRecord.first_not_given.Goals as goal
 

@@ -1,7 +1,5 @@
-use Rattle.std.proofs.Common.{◌≡◌, ℕ, ◌<◌, ◌≤◌, true}
-use Rattle.segments.specs.RingView.{RingView}
-use Rattle.segments.specs.Ceiling.{is_step_given}
-use Rattle.ring_knowledge.specs.RingRecords.{FollowsMarks}
+use Rattle.std.proofs.Common.{◌≡◌, ◌<◌, ◌≤◌, ℕ, true}
+use Rattle.ring_knowledge.proofs.Words.{RingView, is_step_given, FollowsMarks}
 use Rattle.ring_knowledge.proofs.ring_record.RingRecord.first_not_given.Given as goal
 
 -- the steps so far are given

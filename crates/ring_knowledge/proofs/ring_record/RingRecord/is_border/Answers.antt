@@ -1,5 +1,4 @@
-use Rattle.std.proofs.Common.{◌≡◌, ap, ◌∙◌, arith}
-use Rattle.std.specs.Prelude.{◌==◌, length}
+use Rattle.std.proofs.Common.{◌≡◌, ◌∙◌, ◌==◌, ap, arith, length}
 use Rattle.ring_knowledge.proofs.Borders.{border_begins, border_ends}
 use Rattle.ring_knowledge.proofs.ring_record.RingRecord.is_border.Goals as goal
 

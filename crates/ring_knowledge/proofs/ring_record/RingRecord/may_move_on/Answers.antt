@@ -1,9 +1,5 @@
-use Rattle.std.proofs.Common.{◌≡◌, ◌+◌, ◌<◌, ap, ◌∙◌, arith}
-use Rattle.std.specs.Prelude.{length}
-use Rattle.segments.specs.Places.{place_count}
-use Rattle.segments.specs.RingView.{declared}
-use Rattle.segments.specs.Ceiling.{ceiling}
-use Rattle.segments.specs.Moves.{is_move}
+use Rattle.std.proofs.Common.{◌≡◌, ◌+◌, ◌<◌, ◌∙◌, ap, arith, length}
+use Rattle.ring_knowledge.proofs.Words.{place_count, declared, ceiling, is_move}
 use Rattle.ring_knowledge.proofs.MoveTests.{no_move_between}
 use Rattle.ring_knowledge.proofs.ring_record.RingRecord.may_move_on.Goals as goal
 

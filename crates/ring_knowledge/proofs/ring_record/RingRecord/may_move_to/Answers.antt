@@ -1,7 +1,5 @@
-use Rattle.std.proofs.Common.{ap, sym, ◌∙◌}
-use Rattle.std.specs.Prelude.{◌&&◌}
-use Rattle.segments.specs.Descriptors.{is_border}
-use Rattle.segments.specs.Moves.{is_reached, may_move_to}
+use Rattle.std.proofs.Common.{◌∙◌, ◌&&◌, ap, sym}
+use Rattle.ring_knowledge.proofs.Words.{is_border, is_reached, may_move_to}
 use Rattle.ring_knowledge.proofs.ring_record.RingRecord.may_move_to.Goals as goal
 
 pub returns-then-is_border : goal.returns-then-is_border

@@ -1,8 +1,5 @@
-use Rattle.std.proofs.Common.{◌≡◌, ap, ◌∙◌, arith}
-use Rattle.std.specs.Prelude.{length}
-use Rattle.segments.specs.RingView.{declared}
-use Rattle.segments.specs.Moves.{is_move}
-use Rattle.segments.proofs.Positions.{place_count_pos}
+use Rattle.std.proofs.Common.{◌≡◌, ◌∙◌, ap, arith, length}
+use Rattle.ring_knowledge.proofs.Words.{declared, is_move, place_count_pos}
 use Rattle.ring_knowledge.proofs.ring_record.RingRecord.may_stay.Goals as goal
 
 pub returns : goal.returns

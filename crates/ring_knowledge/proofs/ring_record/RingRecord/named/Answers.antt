@@ -1,5 +1,4 @@
-use Rattle.std.proofs.Common.{ap, arith}
-use Rattle.std.specs.Prelude.{length}
+use Rattle.std.proofs.Common.{ap, arith, length}
 use Rattle.ring_knowledge.proofs.NamedNow.{named_nowhere, named_first, named_beyond}
 use Rattle.ring_knowledge.proofs.ring_record.RingRecord.named.Goals as goal
 

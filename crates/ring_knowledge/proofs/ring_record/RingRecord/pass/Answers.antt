@@ -1,9 +1,5 @@
-use Rattle.std.proofs.Common.{ap, subst, ◌∙◌, arith}
-use Rattle.std.specs.Prelude.{length}
-use Rattle.segments.specs.Spots.{number, after}
-use Rattle.segments.specs.RingView.{Reaches, changed}
-use Rattle.segments.specs.Moves.{is_reached}
-use Rattle.ring_knowledge.specs.RingRecords.{FollowsRing}
+use Rattle.std.proofs.Common.{◌∙◌, ap, subst, arith, length}
+use Rattle.ring_knowledge.proofs.Words.{number, after, Reaches, changed, is_reached, FollowsRing}
 use Rattle.ring_knowledge.proofs.PassedBlocks.{behind_reached}
 use Rattle.ring_knowledge.proofs.ring_record.RingRecord.pass.Goals as goal
 

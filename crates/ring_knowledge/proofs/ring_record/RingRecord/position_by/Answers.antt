@@ -1,8 +1,5 @@
-use Rattle.std.proofs.Common.{◌≡◌, ◌%◌, ◌<◌, ◌≤◌, ◌+◌, ap, sym, ◌∙◌, arith}
-use Rattle.std.proofs.lemmas.Bool.{eqb-true, eqb-false}
-use Rattle.segments.specs.Spots.{number}
-use Rattle.segments.specs.Places.{place_count, cycle_of}
-use Rattle.segments.proofs.PlaceAtLemmas.{place_at-Data}
+use Rattle.std.proofs.Common.{◌≡◌, ◌%◌, ◌<◌, ◌≤◌, ◌+◌, ◌∙◌, ap, sym, arith, eqb-true}
+use Rattle.ring_knowledge.proofs.Words.{eqb-false, number, place_count, cycle_of, place_at-Data}
 use Rattle.ring_knowledge.proofs.DueWrites.{gives-data, gives-other_word, gives-other_cycle}
 use Rattle.ring_knowledge.proofs.ring_record.RingRecord.position_by.Goals as goal
 

@@ -1,7 +1,5 @@
-use Rattle.std.proofs.Common.{◌≡◌, Some, refl, ap, sym, ◌∙◌, arith}
-use Rattle.segments.specs.Spots.{number}
-use Rattle.segments.specs.Places.{link_crossed}
-use Rattle.segments.specs.RingView.{floor_number}
+use Rattle.std.proofs.Common.{◌≡◌, ◌∙◌, Some, refl, ap, sym, arith}
+use Rattle.ring_knowledge.proofs.Words.{number, link_crossed, floor_number}
 use Rattle.ring_knowledge.proofs.ClearedMarks.{same_places, same_numbers}
 use Rattle.ring_knowledge.proofs.ReachedSpots.{reached_marks}
 use Rattle.ring_knowledge.proofs.GivenCount.{reached_step}

@@ -1,7 +1,5 @@
-use Rattle.std.proofs.Common.{◌≡◌, ap, sym, ◌∙◌, arith}
-use Rattle.std.specs.Prelude.{length}
-use Rattle.segments.specs.Spots.{number}
-use Rattle.segments.specs.RingView.{declared}
+use Rattle.std.proofs.Common.{◌≡◌, ◌∙◌, ap, sym, arith, length}
+use Rattle.ring_knowledge.proofs.Words.{number, declared}
 use Rattle.ring_knowledge.proofs.NamedNow.{target_is, few_within}
 use Rattle.ring_knowledge.proofs.ring_record.RingRecord.target.Goals as goal
 

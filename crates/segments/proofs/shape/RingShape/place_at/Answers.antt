@@ -1,8 +1,6 @@
-use Rattle.std.proofs.Common.{◌≡◌, ◌%◌, ◌/◌, ◌+◌, arith, sym, ◌∙◌, ap, Some, None}
-use Rattle.std.specs.Prelude.{if◌then◌else◌, nat_lt}
-use Rattle.std.proofs.lemmas.Bool.{cond-true, cond-false, lt-ltb, le-ltb, false_from_ne_true}
+use Rattle.std.proofs.Common.{◌≡◌, ◌%◌, ◌/◌, ◌+◌, ◌∙◌, if◌then◌else◌, arith, sym, ap, Some, None, nat_lt, lt-ltb, le-ltb}
+use Rattle.segments.proofs.Words.{cond-true, cond-false, false_from_ne_true, place_at}
 use Rattle.segments.specs.declared.place.Place.TheVariants.{Data, Link}
-use Rattle.segments.specs.PlaceAt.{place_at}
 use Rattle.segments.proofs.DataPlaces.{place_count_most}
 use Rattle.segments.proofs.Lookups.{sees_from, outside_first, outside_next, count_within, place_here, place_nowhere}
 use Rattle.segments.proofs.shape.RingShape.place_at.Goals as goal

@@ -1,7 +1,5 @@
-use Rattle.std.proofs.Common.{ap, sym, refl}
-use Rattle.std.specs.Prelude.{not}
-use Rattle.std.proofs.lemmas.Result.{err_from_is_err_and}
-use Rattle.trace_reader.specs.Entries.{state_of, value_of}
+use Rattle.std.proofs.Common.{ap, sym, refl, not}
+use Rattle.trace_reader.proofs.Words.{err_from_is_err_and, state_of, value_of}
 use Rattle.trace_reader.proofs.ReadSteps.{line_entry, line_error}
 use Rattle.trace_reader.proofs.so_far.TraceSoFar.add_entry.Goals as goal
 

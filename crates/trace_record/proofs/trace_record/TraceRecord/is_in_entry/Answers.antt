@@ -1,7 +1,5 @@
-use Rattle.std.proofs.Common.{◌≡◌, ap, sym, ◌∙◌, inl, inr}
-use Rattle.std.specs.Prelude.{unwrap_or, is_some}
-use Rattle.traces.specs.Register.{register_or_zero}
-use Rattle.traces.specs.declared.register.Register.TheVariants.{Dcbaap}
+use Rattle.std.proofs.Common.{◌≡◌, ◌∙◌, ap, sym, inl, inr, unwrap_or, is_some}
+use Rattle.trace_record.proofs.Words.{register_or_zero, Dcbaap}
 use Rattle.trace_record.proofs.OpenEntries.{below_entries, no_slot, one_slot}
 use Rattle.trace_record.proofs.trace_record.TraceRecord.is_in_entry.Goals as goal
 

@@ -1,8 +1,6 @@
-use Rattle.std.proofs.Common.{ap, sym, ◌∙◌}
-use Rattle.traces.specs.Register.{base_address}
-use Rattle.segments.specs.Places.{overlap}
+use Rattle.std.proofs.Common.{◌∙◌, ap, sym}
+use Rattle.trace_record.proofs.Words.{base_address, overlap, Erstba}
 use Rattle.trace_record.proofs.TableWords as table
-use Rattle.traces.specs.declared.register.Register.TheVariants.{Erstba}
 use Rattle.trace_record.proofs.trace_record.TraceRecord.is_in_table.Goals as goal
 
 pub returns-in-Some : goal.returns-in-Some

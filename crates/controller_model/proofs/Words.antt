@@ -1,0 +1,95 @@
+-- The words of std, of the crates below and of this crate's own definitions that its proofs cite, passed on by one file
+pub use Rattle.commands.specs.Changes.{Change, is_above_control, placed_by_context, slot_gone_on}
+unfoldable pub use Rattle.commands.specs.Changes.{changes}
+pub use Rattle.commands.specs.Command.{command_by_kind, command_of, may_answer_slot, named_context}
+pub use Rattle.commands.specs.States.{is_running, is_slot_enabled, is_stopped, slot_success}
+unfoldable pub use Rattle.commands.specs.States.{can_succeed}
+pub use Rattle.commands.specs.declared.command.Command.{Command}
+pub use Rattle.commands.specs.declared.command.Command.TheVariants.{AddressDevice, ConfigureEndpoint, DisableSlot, EnableSlot, EvaluateContext, NoOp, ResetDevice, ResetEndpoint, SetTrDequeue, StopEndpoint}
+pub use Rattle.commands.specs.declared.state.EndpointState.{EndpointState}
+pub use Rattle.commands.specs.declared.state.EndpointState.TheVariants.{Disabled as Off, Error, Halted, Running, Stopped}
+pub use Rattle.commands.specs.declared.state.SlotState.{SlotState}
+pub use Rattle.contexts.specs.Contexts.{context_cycle, context_pointer, has_flag, input_add_flag, input_context_bytes, is_dropped}
+unfoldable pub use Rattle.contexts.specs.Contexts.{added_endpoints}
+pub use Rattle.contexts.specs.declared.size.ContextSize.{ContextSize}
+unfoldable pub use Rattle.controller_model.specs.Bindings.{changed_by, changed_by_all, disabled, effect, has_one_of, in_state, inactive, is_had_by_another, placed, placed_on}
+pub use Rattle.controller_model.specs.Completions.{IsPart, completed, completed_with}
+pub use Rattle.controller_model.specs.Declarations.{Declares, as_declared, blocks_of, entries}
+unfoldable pub use Rattle.controller_model.specs.DriverRows.{activated, bell_row, declared, endpoint_bell, event_read, next_row, register_row, row_done, run_or_stop, started_with, valued, with_dequeue}
+unfoldable pub use Rattle.controller_model.specs.Finishes.{ended, ended_with, finished, finished_as, passes_end, succeeded}
+pub use Rattle.controller_model.specs.Following.{Follows, FollowsEndpoints, FollowsHolder, FollowsRegisters, FollowsRing, FollowsRings, FollowsSlots, GoesOn, HasRoom, IsChange, IsEndpoint, IsStep, IsWell, KeepsRun, RingHeld, addressed, bound, freed, is_endpoint, is_holder, is_it, is_other, may_get, named_by, noted, places_from, pointed, released, ring_held, taken_held, told, turned_off, under_way_of}
+pub use Rattle.controller_model.specs.Held.{Held, changed_at, held, held_block, held_by, held_stored, written_at}
+pub use Rattle.controller_model.specs.Histories.{Keeps}
+unfoldable pub use Rattle.controller_model.specs.Looks.{command_begun, crossed, looked, looked_at, may_scribble, seen_by_look, taken, taken_on}
+unfoldable pub use Rattle.controller_model.specs.Posts.{can_post, is_last, is_stop_under_way, other_posted, posted, report_code, report_error, report_stop, report_success, reported, reported_on, stopped_with, with_reported, with_stopped}
+pub use Rattle.controller_model.specs.RingHarms.{ChangesOnly, HasRingHarms, IsFollowed}
+unfoldable pub use Rattle.controller_model.specs.Showing.{look_shows, shows}
+unfoldable pub use Rattle.controller_model.specs.Steps.{counted, is_scribbled, made, scribbled, stepped, while_running}
+pub use Rattle.controller_model.specs.Trials.{GoesOnAs, Sees, has_own, is_elsewhere, own_ring}
+pub use Rattle.controller_model.specs.Watches.{is_changed_behind, may_touch}
+pub use Rattle.controller_model.specs.declared.declared.Declarations.{Declarations}
+pub use Rattle.controller_model.specs.declared.declared.Declared.{Declared}
+pub use Rattle.controller_model.specs.declared.fault.StepFault.{StepFault}
+pub use Rattle.controller_model.specs.declared.fault.StepFault.TheVariants.{Memory, NotPossible, Spent}
+pub use Rattle.controller_model.specs.declared.history.History.{History}
+pub use Rattle.controller_model.specs.declared.kept.Endpoint.{Endpoint}
+pub use Rattle.controller_model.specs.declared.kept.Holder.{Holder}
+pub use Rattle.controller_model.specs.declared.kept.Kept.{Kept}
+pub use Rattle.controller_model.specs.declared.kept.Pending.{Pending}
+pub use Rattle.controller_model.specs.declared.kept.Registers.{Registers}
+pub use Rattle.controller_model.specs.declared.kept.RingState.{RingState}
+pub use Rattle.controller_model.specs.declared.kept.Slot.{Slot}
+pub use Rattle.controller_model.specs.declared.safety.RingHarms.{RingHarms}
+pub use Rattle.controller_model.specs.declared.seen.Seen.{Seen}
+pub use Rattle.controller_model.specs.declared.seen.Seen.TheVariants.{Crossed, Posted, Row as RowSeen, Scribbled, Waited}
+pub use Rattle.controller_model.specs.declared.stamps.Stamps.{Stamps}
+pub use Rattle.controller_model.specs.declared.watches.Watch.{Watch}
+pub use Rattle.event_ring.proofs.DequeueLemmas.{position_from-place}
+pub use Rattle.event_ring.specs.EventRing.{has_room, is_event_place, position_from}
+pub use Rattle.guest_memory.specs.Memory.{put, put_pair}
+pub use Rattle.segments.proofs.PlaceAtLemmas.{place_at-Data, place_at-address_of, place_at-link_address}
+pub use Rattle.segments.proofs.Positions.{address_aligned, address_of-first, same_in_lap}
+pub use Rattle.segments.proofs.Search.{cases_option}
+pub use Rattle.segments.specs.Descriptors.{DeclaredBlock}
+unfoldable pub use Rattle.segments.specs.Descriptors.{declared_at, is_border}
+pub use Rattle.segments.specs.PlaceAt.{place_at}
+pub use Rattle.segments.specs.Places.{address_of, cycle_of, data_places, is_crossing, is_inside, link_address, link_crossed, link_target, place_count}
+pub use Rattle.segments.specs.Shape.{IsShape}
+pub use Rattle.segments.specs.ShapeValue.{Shape}
+pub use Rattle.segments.specs.declared.place.Place.TheVariants.{Data, Link}
+pub use Rattle.std.proofs.Math.Bool.{or-true, or_assoc}
+pub use Rattle.std.proofs.Math.ListN.{length-set}
+pub use Rattle.std.proofs.lemmas.Bool.{and_from, and_parts, cases_Bool, cases_eq, cases_lt, cond-false, cond-true, false_from_ne_true, false≢true, or_cases, or_from, or_left, or_right}
+pub use Rattle.std.proofs.lemmas.Grind.{common_steps, take_at_read}
+pub use Rattle.std.proofs.lemmas.List.{drop-append-le, drop_all}
+pub use Rattle.std.proofs.lemmas.List.Elements.{All-push}
+pub use Rattle.std.proofs.lemmas.List.Folds.{list_any_at, list_any_more}
+pub use Rattle.std.proofs.lemmas.Option.{none-some, same_Some, slice_get-get_or, slice_get_past, slice_get_within}
+pub use Rattle.std.proofs.lemmas.Result.{err_from_is_err_and}
+pub use Rattle.std.specs.List.{list_any, range_with_len}
+pub use Rattle.std.specs.Result.{result_ok}
+pub use Rattle.traces.specs.Header.{id_of, id_or_none, is_command_kind, is_ring, is_transfer_kind, ring_with, shape_or}
+unfoldable pub use Rattle.traces.specs.Header.{command_id, command_ring, event_ring, event_shape, event_size, ring_having, shape_of, some_ring}
+pub use Rattle.traces.specs.Register.{base_address, register_or_zero, reset_bit, ring_cycle_state, run_bit, with_register}
+pub use Rattle.traces.specs.declared.header.Header.{Header, Header as HeaderValue}
+pub use Rattle.traces.specs.declared.register.Register.{Register}
+pub use Rattle.traces.specs.declared.register.Register.TheVariants.{Config, Crcr, Dcbaap, Dnctrl, Erdp, Erstba, Erstsz, Iman, Imod, Usbcmd, Usbsts}
+pub use Rattle.traces.specs.declared.ring.Ring.{Ring}
+pub use Rattle.traces.specs.declared.row.Row.{Row, Row as RowValue}
+pub use Rattle.traces.specs.declared.row.Row.TheVariants.{Read, Sub, Write}
+pub use Rattle.traces.specs.declared.step.Step.{Step}
+pub use Rattle.traces.specs.declared.step.Step.TheVariants.{Finish, Look, NextRow, Other, Report, Scribble}
+pub use Rattle.trb.specs.Bits.{bits, is_set}
+pub use Rattle.trb.specs.Block.{aligned, block_at, code, cycle, endpoint, kind, pointer, same_words, slot, word}
+pub use Rattle.trb.specs.CompletionCode.{is_halting, is_stopping, is_success, is_trb_error}
+pub use Rattle.trb.specs.Descriptor.{is_command_left_out}
+pub use Rattle.trb.specs.Kind.{is_command_completion, is_link, is_other_event, is_transfer_event}
+pub use Rattle.trb.specs.declared.block.Block.{Block}
+pub use Rattle.trb.specs.declared.kind.BlockKind.{BlockKind}
+pub use Rattle.trb.specs.declared.ring_kind.RingKind.TheVariants.{Evt, Xfer}
+unfoldable pub use Rattle.world_state.specs.Harms.{harm_of, harms, has_changed_context, has_other_words, is_changed_since, is_context_changed, is_end, is_inside_descriptor, is_out_of_order, is_right_place, waits}
+unfoldable pub use Rattle.world_state.specs.Takes.{declared_next, first_at, is_as_declared, is_place, next_take, takes_of, unreported, was_placed}
+pub use Rattle.world_state.specs.World.{Placed, RingEvent, Took, UnderWay, World}
+unfoldable pub use Rattle.world_state.specs.World.{event_at, opening, stored, stored_block}
+pub use Rattle.world_state.specs.declared.harm.Harm.{Harm}
+pub use Rattle.world_state.specs.declared.harm.Harm.TheVariants.{InputContextChanged, LooksOutside, PostsOverUnread, TakenOtherWords, TakenOutOfOrder, WaitsInsideDescriptor}

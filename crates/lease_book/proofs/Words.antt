@@ -1,0 +1,74 @@
+-- The words of std, of the crates below and of this crate's own definitions that its proofs cite, passed on by one file
+pub use Rattle.commands.specs.Changes.{Change, DeviceLeft, Disables, Places, Resets, SlotGoesOn, Stops, placed_by_context}
+unfoldable pub use Rattle.commands.specs.Changes.{changes}
+pub use Rattle.commands.specs.Command.{command_of, named_context}
+pub use Rattle.commands.specs.States.{is_off}
+pub use Rattle.commands.specs.declared.command.Command.{Command}
+pub use Rattle.commands.specs.declared.command.Command.TheVariants.{AddressDevice, ConfigureEndpoint, DisableSlot, EnableSlot, EvaluateContext, NoOp, ResetDevice, ResetEndpoint, SetTrDequeue, StopEndpoint}
+pub use Rattle.commands.specs.declared.state.EndpointState.{EndpointState}
+pub use Rattle.commands.specs.declared.state.EndpointState.TheVariants.{Error, Halted}
+pub use Rattle.contexts.specs.Contexts.{device_context_bytes, is_dropped}
+unfoldable pub use Rattle.contexts.specs.Contexts.{added_endpoints}
+pub use Rattle.event_ring.specs.EventRing.{table_bytes}
+pub use Rattle.lease_book.specs.Books.{AllUnended, HoldsLents, IsFound}
+unfoldable pub use Rattle.lease_book.specs.Coming.{come_to}
+unfoldable pub use Rattle.lease_book.specs.Endings.{ended_at, is_open_as}
+pub use Rattle.lease_book.specs.IndexTables.{index_at, index_in, index_of}
+pub use Rattle.lease_book.specs.Lents.{Lent, is_passed, share_a_place}
+unfoldable pub use Rattle.lease_book.specs.Lents.{begun_at, ended_where, grown, in_turn, is_place_free, is_unended, lease_of, lents, precedes, with_begun, with_leased}
+pub use Rattle.lease_book.specs.LettingGo.{devices_without, let_go, slot_disabled, slot_left, slot_ranges}
+unfoldable pub use Rattle.lease_book.specs.Opening.{segment_lease}
+pub use Rattle.lease_book.specs.Ranges.{FindsRanges, IsRangeFound, IsUseFound, StandsAt, command_place, share_a_use, shares_use}
+unfoldable pub use Rattle.lease_book.specs.Ranges.{is_lent, is_use_free}
+pub use Rattle.lease_book.specs.declared.indexes.IndexTables.{IndexTables}
+pub use Rattle.lease_book.specs.declared.indexes.Indexes.{Indexes}
+pub use Rattle.lease_book.specs.declared.lease_book.LeaseBook.{LeaseBook}
+pub use Rattle.lease_book.specs.declared.ranges.RangeIndexes.{RangeIndexes}
+pub use Rattle.ownership_rules.proofs.Among.{IsIn, among_is, both_ways, from_filter, in_among, in_filter, leased_is, leased_itself}
+unfoldable pub use Rattle.ownership_rules.specs.Leases.{as_lease, begun, comes_before, end_from, in_order, leases, leases_from, with_ends, with_lease, without_end}
+pub use Rattle.ownership_rules.specs.OpenLeases.{Block, DeviceContext, EventSegment, InputContext, Leased, Link, Range, SegmentTable, SlotEntry, Use, same_leased}
+unfoldable pub use Rattle.ownership_rules.specs.OpenLeases.{context_ranges, device_ranges, entry_ranges, is_among, open_leases, open_on, open_ranges, range_of_command, range_of_context, range_of_device, range_of_entry, segment_ranges, slots, table_range}
+pub use Rattle.ring_knowledge.proofs.DueNumbers.{link_of-crossed, same_due, same_due_crossing}
+unfoldable pub use Rattle.ring_knowledge.specs.Completions.{bound_to, changed_by, changed_by_all, completed, disabled, finished, held_at_ceiling, in_state, moved, moved_to, pointed, set_to, stop_ended, succeeded}
+pub use Rattle.ring_knowledge.specs.Known.{Known}
+unfoldable pub use Rattle.ring_knowledge.specs.Known.{nothing}
+unfoldable pub use Rattle.ring_knowledge.specs.Learned.{event_read, known, learned}
+unfoldable pub use Rattle.ring_knowledge.specs.Registers.{register_written, valued}
+pub use Rattle.ring_knowledge.specs.Rings.{Crossing, Given, Position, RingSpot}
+unfoldable pub use Rattle.ring_knowledge.specs.Rings.{command_at, event_at, next_command, on_ring}
+unfoldable pub use Rattle.ring_knowledge.specs.Transfers.{broken_off, passed, stopped_at, transfer_read, transferred, transferred_at}
+unfoldable pub use Rattle.ring_knowledge.specs.Writes.{command_given, entry_of, taken_device, with_device, with_word, written}
+pub use Rattle.ring_knowledge.specs.declared.lease.Lease.{Lease}
+pub use Rattle.segments.proofs.Crossings.{crossed_link, crossing_positive}
+pub use Rattle.segments.proofs.ReachedSpots.{number-after}
+unfoldable pub use Rattle.segments.specs.Givings.{link_of}
+unfoldable pub use Rattle.segments.specs.Moves.{target}
+pub use Rattle.segments.specs.Places.{is_crossing, link_crossed, place_count}
+pub use Rattle.segments.specs.RingView.{Declares, Holds, Opens, Reaches as ReachesSpot, RingChange, RingView, Writes, changed, floor_number, gives, gives_crossing, is_crossing_due, new_ring}
+unfoldable pub use Rattle.segments.specs.RingView.{crossings_given, due_crossings, due_positions, leased_crossings, leased_positions, positions_given}
+pub use Rattle.segments.specs.Shape.{IsShape}
+pub use Rattle.segments.specs.ShapeValue.{Shape}
+pub use Rattle.segments.specs.Spots.{after, number}
+pub use Rattle.segments.specs.declared.segment.Segment.{Segment}
+pub use Rattle.segments.specs.declared.spot.Spot.{Spot}
+pub use Rattle.std.proofs.lemmas.Bool.{and_from, and_parts, cases_Bool, cond_both, false≢true, or_left}
+pub use Rattle.std.proofs.lemmas.Bool.Decides.{nat_tests}
+pub use Rattle.std.proofs.lemmas.List.{drop_all, length-map}
+pub use Rattle.std.proofs.lemmas.List.Elements.{filter-append}
+pub use Rattle.std.specs.List.{flat_map, list_any, position_or_len, range_with_len}
+pub use Rattle.std.specs.Option.{option_copied}
+pub use Rattle.std.specs.Result.{IfOk}
+pub use Rattle.traces.specs.Header.{shape_or}
+unfoldable pub use Rattle.traces.specs.Header.{command_id, driver_rings, event_shape, ring_beginning_at, shape_of}
+pub use Rattle.traces.specs.Register.{base_address, reset_bit, run_bit, with_register}
+pub use Rattle.traces.specs.declared.header.Header.{Header}
+pub use Rattle.traces.specs.declared.register.Register.{Register}
+pub use Rattle.traces.specs.declared.register.Register.TheVariants.{Config, Crcr, Dcbaap, Dnctrl, Erdp, Erstba, Erstsz, Iman, Imod, Usbcmd, Usbsts}
+pub use Rattle.traces.specs.declared.ring.Ring.{Ring}
+pub use Rattle.traces.specs.declared.row.Row.{Row}
+pub use Rattle.traces.specs.declared.row.Row.TheVariants.{Bell, Read, Reg, Sub, Write}
+pub use Rattle.trb.specs.Block.{code, endpoint, kind, slot}
+pub use Rattle.trb.specs.CompletionCode.{is_halting, is_stopping, is_success, is_trb_error}
+pub use Rattle.trb.specs.declared.block.Block.{Block as Trb}
+pub use Rattle.trb.specs.declared.kind.BlockKind.TheVariants.{CommandCompletion, TransferEvent}
+pub use Rattle.trb.specs.declared.ring_kind.RingKind.TheVariants.{Evt}
