@@ -9,7 +9,7 @@ from widths import fixed_width, text_width
 
 ROW, COLUMN, NARROW_COLUMN, WIDE = 18, 26, 18, 24
 TEXT_SIZE, RAW_SIZE, TITLE_SIZE = 11, 10, 15
-NUMBER_END, RAW_BEGIN, STEP_INDENT, GAP = 42, 50, 14, 14
+MARGIN, STEP_INDENT, GAP = 12, 14, 14
 MOST_RAW = 38
 SLOPE = 60
 FONTS = "'DejaVu Sans',Verdana,Helvetica,sans-serif"
@@ -41,6 +41,7 @@ STYLE = f'''svg.trace{{font-family:{FONTS};font-size:{TEXT_SIZE}px;background:#f
 .trace .halo{{stroke:#fff;stroke-width:6;fill:none}}
 .trace .take{{fill:#0a4a8f;stroke:#fff}}
 .trace .fetch{{fill:#fff;stroke:#0a4a8f;stroke-width:1.5}}
+.trace .harmful{{fill:#c0390b;stroke:#fff}}
 .trace .post{{fill:#0a4a8f;stroke:#fff}}
 .trace .back{{stroke:#0b6e3a;stroke-width:2.5;fill:none}}
 .trace .back-halo{{stroke:#fff;stroke-width:5;fill:none}}'''
@@ -55,6 +56,7 @@ KEY = {
 class Layout:
     """Where the texts and the columns stand; the same for all parts of a picture."""
     most_raw: int
+    raw_begin: int
     meaning_begin: int
     columns: dict
     groups: list
@@ -73,12 +75,13 @@ class Group:
 
 def layout_of(picture, most_raw=MOST_RAW):
     lines = [line for section in picture.sections for line in section.lines]
+    raw_begin = MARGIN + round(text_width('8' * max(4, len(str(max(line.row for line in lines)))), TEXT_SIZE)) + 8
     raw = max((fixed_width(cut(line.text, most_raw), RAW_SIZE) + STEP_INDENT * line.is_step for line in lines), default=0)
-    meaning_begin = round(RAW_BEGIN + raw + GAP)
+    meaning_begin = round(raw_begin + raw + GAP)
     meaning = max((text_width(line.meaning, TEXT_SIZE, line.is_bad) for line in lines), default=0)
     spoken = max((text_width(line.verdict, TEXT_SIZE, True) for line in lines), default=0)
     notes = max((text_width(note_text(section.rows), TEXT_SIZE) for section in picture.sections if section.rows.note), default=0)
-    x = round(max(meaning_begin + meaning, RAW_BEGIN + STEP_INDENT + spoken, RAW_BEGIN + notes) + GAP)
+    x = round(max(meaning_begin + meaning, raw_begin + STEP_INDENT + spoken, raw_begin + notes) + GAP)
     step = COLUMN if len(picture.columns) <= WIDE else NARROW_COLUMN
     columns, groups = {}, []
     for place in picture.columns:
@@ -90,8 +93,8 @@ def layout_of(picture, most_raw=MOST_RAW):
         groups[-1] = Group(place.group, groups[-1].begin, x)
     labels = max((text_width(label, 10) for label in labels_of(picture.columns).values()), default=0)
     end = max([x + labels * 0.5, *(group.begin + text_width(group.name, TEXT_SIZE, True) for group in groups)])
-    title = RAW_BEGIN + max(text_width(picture.name, TITLE_SIZE, True), text_width(picture.verdict.answer, 13, True))
-    return Layout(most_raw, meaning_begin, columns, groups, step, round(labels * 0.87) + 34, round(max(end, title) + 12))
+    title = MARGIN + max(text_width(picture.name, TITLE_SIZE, True), text_width(picture.verdict.answer, 13, True))
+    return Layout(most_raw, raw_begin, meaning_begin, columns, groups, step, round(labels * 0.87) + 34, round(max(end, title) + 12))
 
 
 def cut(text, most):
@@ -169,16 +172,16 @@ def body(picture, layout, drawn):
     told = [line_markup(one, layout) for one in drawn]
     told += [f'<path class="guide" d="M{x:g} {rows.top}V{rows.bottom}"/>' for x in layout.columns.values()]
     told += [bar_markup(bar, layout, rows, picture.refused) for bar in picture.bars if rows.touch(bar.lease)]
-    told += [mark_markup(mark.shape, layout.columns[mark.place], one.middle) for one in drawn if one.line for mark in one.line.marks]
+    told += [mark_markup(mark.shape, layout.columns[mark.place], one.middle, one.line.is_bad) for one in drawn if one.line for mark in one.line.marks]
     return told
 
 
 def line_markup(one, layout):
     if not one.line:
-        return f'<text class="note" x="{RAW_BEGIN}" y="{one.base}">{escape(note_text(one.rows))}</text>'
+        return f'<text class="note" x="{layout.raw_begin}" y="{one.base}">{escape(note_text(one.rows))}</text>'
     line = one.line
     classes = ' '.join(name for name, holds in (('bad', line.is_bad), ('step', line.is_step), ('late', line.is_late)) if holds)
-    begin = RAW_BEGIN + STEP_INDENT * line.is_step
+    begin = layout.raw_begin + STEP_INDENT * line.is_step
     told = [f'<g class="{classes}">' if classes else '<g>', f'<rect class="area" x="4" y="{one.top}" width="{layout.width - 8}" height="{ROW}"/>']
     if line.tip:
         told.append(f'<title>{escape(line.tip)}</title>')
@@ -186,7 +189,7 @@ def line_markup(one, layout):
         told.append(f'<text x="{begin}" y="{one.base}">{escape(line.verdict)}</text>')
     else:
         if not line.is_step:
-            told.append(f'<text class="number" x="{NUMBER_END}" y="{one.base}">{line.row}</text>')
+            told.append(f'<text class="number" x="{layout.raw_begin - 8}" y="{one.base}">{line.row}</text>')
         told.append(f'<text class="raw" x="{begin}" y="{one.base}">{escape(cut(line.text, layout.most_raw))}</text>')
         told.append(f'<text x="{layout.meaning_begin}" y="{one.base}">{escape(line.meaning)}</text>')
     return ''.join(told) + '</g>'
@@ -206,7 +209,7 @@ def bar_markup(bar, layout, rows, refused):
     return told + (f'<path class="beyond" d="M{x:g} {last}V{end}"/>' if last < end else '')
 
 
-def mark_markup(shape, x, y):
+def mark_markup(shape, x, y, is_bad=False):
     if shape == STORE:
         return f'<circle class="mark store" cx="{x:g}" cy="{y}" r="3.5"/>'
     if shape == REFUSED:
@@ -217,7 +220,7 @@ def mark_markup(shape, x, y):
         return f'<path class="mark back-halo" d="{tick}"/><path class="mark back" d="{tick}"/>'
     if shape == POST:
         return f'<rect class="mark post" x="{x - 4:g}" y="{y - 4}" width="8" height="8"/>'
-    return f'<path class="mark {shape}" d="M{x - 7:g} {y - 5}h8l6 5l-6 5h-8z"/>'
+    return f'<path class="mark {shape}{" harmful" if is_bad else ""}" d="M{x - 7:g} {y - 5}h8l6 5l-6 5h-8z"/>'
 
 
 # ---- head and key
@@ -226,7 +229,7 @@ def head(picture, layout, top):
     """The names over the columns; `top` is where they begin."""
     labels, bottom = labels_of(picture.columns), top + layout.head_height
     rows = 'rows, and the controller\u2019s steps' if picture.has_steps else 'rows'
-    told = [f'<text class="head" x="{RAW_BEGIN}" y="{bottom - 8}">{rows}</text>',
+    told = [f'<text class="head" x="{layout.raw_begin}" y="{bottom - 8}">{rows}</text>',
             f'<text class="head" x="{layout.meaning_begin}" y="{bottom - 8}">what they do</text>']
     for group in layout.groups:
         told.append(f'<text class="group" x="{group.begin:g}" y="{top + 12}">{escape(group.name)}</text>')
@@ -238,11 +241,11 @@ def head(picture, layout, top):
 
 def key(names, width, top):
     """The key to these bars and marks, and how high it is."""
-    told, x, y = [], RAW_BEGIN, top
+    told, x, y = [], MARGIN, top
     for name in names:
         room = 24 + text_width(KEY[name], TEXT_SIZE) + GAP
-        if x > RAW_BEGIN and x + room > width:
-            x, y = RAW_BEGIN, y + ROW
+        if x > MARGIN and x + room > width:
+            x, y = MARGIN, y + ROW
         if name in ('trb', 'link', 'range'):
             told.append(f'<rect class="{name}" x="{x:g}" y="{y + 3}" width="14" height="12"/>')
         else:
@@ -269,8 +272,8 @@ def svg_element(parts, width, height, described=''):
 
 def title_parts(picture):
     state = ' bad' if picture.refused else ''
-    return [f'<text class="title" x="12" y="22">{escape(picture.name)}</text>',
-            f'<text class="verdict{state}" style="font-size:13px" x="12" y="42">{escape(picture.verdict.answer)}</text>']
+    return [f'<text class="title" x="{MARGIN}" y="22">{escape(picture.name)}</text>',
+            f'<text class="verdict{state}" style="font-size:13px" x="{MARGIN}" y="42">{escape(picture.verdict.answer)}</text>']
 
 
 def described(picture):
@@ -286,7 +289,7 @@ def whole_svg(picture):
     parts = ['<style>', STYLE, '</style>', '<rect width="100%" height="100%" fill="#fff"/>', *title_parts(picture), *head(picture, layout, 52)]
     parts += body(picture, layout, drawn)
     if picture.left_out:
-        parts.append(f'<text class="note" x="{RAW_BEGIN}" y="{bottom + 16}">{escape(picture.left_out)}</text>')
+        parts.append(f'<text class="note" x="{layout.raw_begin}" y="{bottom + 16}">{escape(picture.left_out)}</text>')
         bottom += ROW
     names, height = key(key_names(picture), layout.width, bottom + 10)
     return svg_element([*parts, *names], layout.width, bottom + 18 + height, described(picture)) + '\n'

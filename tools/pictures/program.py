@@ -114,17 +114,15 @@ class Program:
         return ran.stdout.decode(), ran.stderr.decode(errors='replace').strip()
 
     def check(self, text):
-        answer, explained = self.answered('check', '--explain', '-', given=text)
-        found = re.match(r'row (\d+): ', answer)
-        return Verdict(answer.strip(), explained, int(found[1]) if found else None)
-
-    def certificate(self, text):
-        """The certificate of an accepted trace."""
+        """The verdict on a trace, and its certificate: that of the rows before the refused one, where a row is refused."""
         with tempfile.TemporaryDirectory() as folder:
             path = os.path.join(folder, 'leases')
-            self.answered('check', '--cert', path, '-', given=text)
+            answer, explained = self.answered('check', '--explain', '--cert', path, '-', given=text)
+            found = re.match(r'row (\d+): ', answer)
+            if found:
+                self.answered('check', '--cert', path, '-', given=lines_before(text, int(found[1])))
             with open(path, 'rb') as file:
-                return Certificate(file.read())
+                return Verdict(answer.strip(), explained, found and int(found[1])), Certificate(file.read())
 
     def replay(self, trace_path, schedule):
         """What a schedule's steps show beside a trace; the schedule is its lines."""
@@ -133,6 +131,11 @@ class Program:
         found = re.match(r'step (\d+): (?:harm (\d+)|not possible)', last)
         ending = Ending(int(found[1]), found[2] and int(found[2])) if found else Ending()
         return Replay([taken(line) for line in takes], ending)
+
+
+def lines_before(text, row):
+    """The lines of a text before a row, each with its line feed."""
+    return b'\n'.join([*text.split(b'\n')[:row - 1], b''])
 
 
 def taken(line):

@@ -70,12 +70,11 @@ class Scene:
         self.name = os.path.basename(trace_path)
         with open(trace_path, 'rb') as file:
             text = file.read()
-        self.verdict = program.check(text)
+        self.verdict, self.certificate = program.check(text)
         self.trace = TraceText(text)
         self.refused = self.verdict.refused
         if self.trace.last < self.trace.first:
             raise BadInput('the trace has no rows')
-        self.certificate = program.certificate(self.trace.before(self.refused) if self.refused else text)
         self.run = None
         if schedule_path:
             with open(schedule_path, 'rb') as file:

@@ -104,10 +104,6 @@ class TraceText:
         """Where each line ends in the text, its line feed included."""
         return list(accumulate(len(line) + 1 for line in self.lines))
 
-    def before(self, row):
-        """The bytes of the lines before a row."""
-        return self.text[:self.offset(row)]
-
     def offset(self, row):
         return self.ends[row - 2] if row > 1 else 0
 
