@@ -252,7 +252,7 @@ def key(names, width, top):
             told.append(mark_markup(name, x + 8, y + 9))
         told.append(f'<text class="head" x="{x + 22:g}" y="{y + 13}">{escape(KEY[name])}</text>')
         x += room
-    return told, y + ROW - top
+    return ['<g class="key">', *told, '</g>'], y + ROW - top
 
 
 def key_names(picture):

@@ -92,7 +92,9 @@ class Scene:
             raise BadInput(f'--rows: from 1 to {MOST_SHOWN} rows of the trace, which has the rows {self.trace.first} to {self.trace.last}')
         self.look_around(ranges)
         earlier = [] if asked else earlier_rows(self.trace, self.memory, self.open_leases, ranges[0].first, self.refused)
-        ranges = ranges + [Rows(row, row) for row in earlier]
+        if earlier:
+            ranges = ranges + [Rows(row, row) for row in earlier]
+            self.look_around(ranges)
         told = with_folds(self.trace, ranges, max(max(rows.last for rows in ranges), self.end() if self.run else 0))
         sections = self.sections(told, with_folded)
         return self.composed(sections)
