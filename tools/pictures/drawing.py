@@ -77,6 +77,7 @@ def layout_of(picture, most_raw=MOST_RAW):
     lines = [line for section in picture.sections for line in section.lines]
     raw_begin = MARGIN + round(text_width('8' * max(4, len(str(max(line.row for line in lines)))), TEXT_SIZE)) + 8
     raw = max((fixed_width(cut(line.text, most_raw), RAW_SIZE) + STEP_INDENT * line.is_step for line in lines), default=0)
+    raw = max(raw, text_width(rows_heading(picture), TEXT_SIZE))
     meaning_begin = round(raw_begin + raw + GAP)
     meaning = max((text_width(line.meaning, TEXT_SIZE, line.is_bad) for line in lines), default=0)
     spoken = max((text_width(line.verdict, TEXT_SIZE, True) for line in lines), default=0)
@@ -95,6 +96,10 @@ def layout_of(picture, most_raw=MOST_RAW):
     end = max([x + labels * 0.5, *(group.begin + text_width(group.name, TEXT_SIZE, True) for group in groups)])
     title = MARGIN + max(text_width(picture.name, TITLE_SIZE, True), text_width(picture.verdict.answer, 13, True))
     return Layout(most_raw, raw_begin, meaning_begin, columns, groups, step, round(labels * 0.87) + 34, round(max(end, title) + 12))
+
+
+def rows_heading(picture):
+    return 'rows, and the controller\u2019s steps' if picture.has_steps else 'rows'
 
 
 def cut(text, most):
@@ -228,8 +233,7 @@ def mark_markup(shape, x, y, is_bad=False):
 def head(picture, layout, top):
     """The names over the columns; `top` is where they begin."""
     labels, bottom = labels_of(picture.columns), top + layout.head_height
-    rows = 'rows, and the controller\u2019s steps' if picture.has_steps else 'rows'
-    told = [f'<text class="head" x="{layout.raw_begin}" y="{bottom - 8}">{rows}</text>',
+    told = [f'<text class="head" x="{layout.raw_begin}" y="{bottom - 8}">{rows_heading(picture)}</text>',
             f'<text class="head" x="{layout.meaning_begin}" y="{bottom - 8}">what they do</text>']
     for group in layout.groups:
         told.append(f'<text class="group" x="{group.begin:g}" y="{top + 12}">{escape(group.name)}</text>')
@@ -264,8 +268,10 @@ def key_names(picture):
 
 # ---- whole pictures
 
-def svg_element(parts, width, height, described=''):
+def svg_element(parts, width, height, described='', least=None):
+    """An <svg> with these parts; where there is less room for it than its width it shrinks down to `least`."""
     label = f' role="img" aria-label="{escape(described)}"' if described else ''
+    label += f' style="min-width:{min(width, least)}px"' if least else ''
     return '\n'.join([f'<svg xmlns="http://www.w3.org/2000/svg" class="trace" viewBox="0 0 {width} {height}" width="{width}" height="{height}"{label}>',
                       *parts, '</svg>'])
 

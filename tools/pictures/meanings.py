@@ -44,12 +44,16 @@ class Meanings:
             return f'{name}: {command}, {standard.code_name(words[2])}'
         if standard.type_of(words[3]) == standard.TRANSFER_EVENT:
             return f'{name}: {self.memory.trb_text(pointer)}, {standard.code_name(words[2])}'
-        return name
+        return f'{name}: port {words[0] >> 24}' if standard.type_of(words[3]) == standard.PORT_STATUS_CHANGE else name
 
     def write(self, number, fields):
         address, value = int(fields[0], 16), int(fields[1], 16)
         if any(lease.kind != RANGE for lease in self.begun.get(number, ())):
             return f'Cycle bit handed over: {standard.type_name(value)} is the controller\u2019s'
+        return self.word(address, value)
+
+    def word(self, address, value):
+        """A word of memory by its place, and what this value says there."""
         place = self.memory.place_at(address)
         return word_text(place, address - place.start, value, self.trace.context_bytes) if place else f'memory at {address:x}'
 

@@ -96,13 +96,14 @@ class Program:
     """The checker at a path."""
 
     def __init__(self, path=None):
-        self.path = path or verdict.program()
+        self.path = os.path.abspath(path) if path else verdict.program()
         if not self.path:
             raise NoProgram('no program of these sources; bin/xhcitrace builds it, and --program names another')
 
-    def run(self, *words, given=b''):
+    def run(self, *words, given=b'', folder=None):
+        """The answer to these arguments, in a folder from which their paths are told."""
         try:
-            return subprocess.run([self.path, *words], input=given, capture_output=True)
+            return subprocess.run([self.path, *words], input=given, capture_output=True, cwd=folder)
         except OSError as fault:
             raise NoProgram(f'{self.path}: {fault.strerror}') from fault
 
@@ -123,6 +124,10 @@ class Program:
                 self.answered('check', '--cert', path, '-', given=lines_before(text, int(found[1])))
             with open(path, 'rb') as file:
                 return Verdict(answer.strip(), explained, found and int(found[1])), Certificate(file.read())
+
+    def schedule(self, trace_path):
+        """The schedule that the program makes of an accepted trace."""
+        return self.answered('schedule', trace_path)[0].encode()
 
     def replay(self, trace_path, schedule):
         """What a schedule's steps show beside a trace; the schedule is its lines."""

@@ -64,9 +64,9 @@ class Picture:
 
 
 class Scene:
-    """A trace, what the program says of it, and the run beside it, where there is one."""
+    """A trace, what the program says of it, and the run beside it, where there is a schedule: its text."""
 
-    def __init__(self, program, trace_path, schedule_path=None):
+    def __init__(self, program, trace_path, schedule=None):
         self.name = os.path.basename(trace_path)
         with open(trace_path, 'rb') as file:
             text = file.read()
@@ -75,17 +75,16 @@ class Scene:
         self.refused = self.verdict.refused
         if self.trace.last < self.trace.first:
             raise BadInput('the trace has no rows')
-        self.run = None
-        if schedule_path:
-            with open(schedule_path, 'rb') as file:
-                self.run = run_of(program, trace_path, file.read())
+        self.run = run_of(program, trace_path, schedule) if schedule is not None else None
 
     def end(self):
         """The last row that is shown where none are asked for: the refused one, or the one that the run has reached."""
         reached = self.trace.first - 1 + self.run.lines.count(b'row') if self.run else 0
         return min(max(self.refused or self.trace.last, reached), self.trace.last)
 
-    def picture(self, asked=None, with_folded=False):
+    def picture(self, asked=None, with_folded=False, has_notes=True):
+        """The rows that are asked for, or those that the trace's length and its verdict call for; with the lines of folds where these can
+        be opened, and without a note on what isn't shown where the text around the picture tells that."""
         ranges = [Rows(max(rows.first, self.trace.first), min(rows.last, self.trace.last)) for rows in asked or ()]
         ranges = ranges or rows_asked(self.trace, self.verdict, self.end())
         if any(rows.count < 1 for rows in ranges) or sum(rows.count for rows in ranges) > MOST_SHOWN:
@@ -97,7 +96,7 @@ class Scene:
             self.look_around(ranges)
         told = with_folds(self.trace, ranges, max(max(rows.last for rows in ranges), self.end() if self.run else 0))
         sections = self.sections(told, with_folded)
-        return self.composed(sections)
+        return self.composed(sections if has_notes else [section for section in sections if not section.rows.note])
 
     def look_around(self, ranges):
         """Finds the places of memory and the leases that the rows may be about."""

@@ -101,21 +101,19 @@ class Shown:
 
 
 class Controller:
-    """Tells what the steps did. A fetch that takes nothing waits, or follows a Link: which of both is told where the TRB that was
-    taken before says where the controller stands."""
+    """Tells what the steps did. A fetch that takes nothing waits, or follows a Link: which of both is told where it is known where the
+    controller stands on the ring, by CRCR, by the TRB that was taken before, or by the command that placed it there."""
 
     def __init__(self, trace, memory, meanings):
         self.trace, self.memory, self.meanings = trace, memory, meanings
-        self.pointers = {}
+        self.pointers, self.scribbled = {}, {}
 
     def shown(self, step):
         word, *fields = step.line.split()
         if word == 'look':
             return self.took(step.take) if step.take else self.fetched(int(fields[0], 16), step.row)
         numbers = [int(one, 16) for one in fields]
-        if word == 'scrib':
-            return Shown(f'writes {self.where(numbers[0])}', numbers[0])
-        return self.posted(word, numbers, step.row)
+        return self.wrote(*numbers, step.row) if word == 'scrib' else self.posted(word, numbers, step.row)
 
     def took(self, take):
         self.pointers[take.ring] = Pointer(take.address + 16, take.words[3] & 1)
@@ -123,30 +121,60 @@ class Controller:
         return Shown(f'takes {self.memory.trb_text(take.address)}: {name}', take.address)
 
     def fetched(self, ring, row):
-        pointer = self.pointers.get(ring)
+        pointer = self.pointers.get(ring) or self.from_crcr(ring, row)
         if not pointer:
             return Shown(f'fetches from ring {ring:02x}, and takes nothing')
-        words = self.trace.words(pointer.address, row + 1)
+        words = self.words(pointer.address, row)
         where = self.memory.trb_text(pointer.address)
         if words[3] & 1 != pointer.cycle:
             return Shown(f'fetches {where}, and waits', pointer.address)
         if standard.type_of(words[3]) != standard.LINK:
             return Shown(f'fetches {where}, and takes nothing', pointer.address)
         self.pointers[ring] = Pointer(standard.pointer_of(words), pointer.cycle ^ words[3] >> 1 & 1)
-        return Shown(f'follows the {where} to {standard.pointer_of(words):x}', pointer.address)
+        what = where if where.startswith('Link') else f'Link at {where}'
+        return Shown(f'follows the {what} to {standard.pointer_of(words):x}', pointer.address)
+
+    def from_crcr(self, ring, row):
+        """Where the controller stands on the Command Ring that it has taken nothing from."""
+        values = [written.word for written in self.trace.values('crcr') if written.row <= row]
+        is_command = self.trace.command_ring and ring == self.trace.command_ring.number
+        return Pointer(values[-1] & ~63, values[-1] & 1) if values and is_command else None
+
+    def wrote(self, address, value, row):
+        self.scribbled[address] = (row, value)
+        return Shown(f'writes {self.meanings.word(address, value)}', address)
+
+    def word(self, address, row):
+        """A word as the rows up to one and the controller leave it."""
+        written = self.trace.last_write(address, row + 1)
+        when, value = self.scribbled.get(address, (-1, 0))
+        return value if when >= (written.row if written else 0) else written.word if written else 0
+
+    def words(self, address, row):
+        return [self.word(address + 4 * number, row) for number in range(4)]
 
     def posted(self, word, words, row):
         if word == 'finish' and words[2] >> 24 == 1:
-            self.forget(words, row)
+            self.place_rings(self.words(standard.pointer_of(words), row), row)
         return Shown(f'posts {self.meanings.event_text(words, row + 1)}')
 
-    def forget(self, words, row):
-        """Behind a command that moves rings it isn't known where the controller stands on them."""
-        control = self.trace.word(standard.pointer_of(words) + 12, row + 1)
-        if standard.type_of(control) in (standard.ADDRESS_DEVICE, standard.CONFIGURE_ENDPOINT, standard.SET_TR_DEQUEUE, standard.RESET_DEVICE):
-            command = self.trace.command_ring
-            self.pointers = {ring: at for ring, at in self.pointers.items() if command and ring == command.number}
+    def place_rings(self, command, row):
+        """Notes where a command that succeeds has the controller stand on the rings that it binds or moves."""
+        kind, context = standard.type_of(command[3]), standard.pointer_of(command)
+        if kind == standard.SET_TR_DEQUEUE:
+            self.place(command)
+        elif kind == standard.ADDRESS_DEVICE:
+            self.place_endpoint(context, 1, row)
+        elif kind == standard.CONFIGURE_ENDPOINT and not command[3] >> 9 & 1:
+            added = self.word(context + 4, row)
+            for index in range(2, 32):
+                if added >> index & 1:
+                    self.place_endpoint(context, index, row)
 
-    def where(self, address):
-        place = self.memory.place_at(address)
-        return f'{place.label}, word {(address - place.start) // 4}' if place else f'memory at {address:x}'
+    def place_endpoint(self, context, index, row):
+        self.place(self.words(context + (index + 1) * self.trace.context_bytes + 8, row))
+
+    def place(self, words):
+        ring, _ = self.trace.segment_at(standard.pointer_of(words))
+        if ring:
+            self.pointers[ring.number] = Pointer(standard.pointer_of(words), words[0] & 1)
