@@ -10,7 +10,7 @@ from widths import fixed_width, text_width
 ROW, COLUMN, NARROW_COLUMN, WIDE = 18, 26, 18, 24
 TEXT_SIZE, RAW_SIZE, TITLE_SIZE = 11, 10, 15
 MARGIN, STEP_INDENT, GAP = 12, 14, 14
-MOST_RAW = 38
+MOST_RAW, STEP_CHARACTERS = 38, 3
 SLOPE = 60
 FONTS = "'DejaVu Sans',Verdana,Helvetica,sans-serif"
 FIXED_FONTS = "'DejaVu Sans Mono',Menlo,Consolas,monospace"
@@ -73,17 +73,18 @@ class Group:
     end: float
 
 
-def layout_of(picture, most_raw=MOST_RAW):
+def layout_of(picture, most_raw=MOST_RAW, column_width=COLUMN):
+    """Where all is drawn: as wide as the texts need, of each row at most so many characters, and columns of this width or narrower."""
     lines = [line for section in picture.sections for line in section.lines]
     raw_begin = MARGIN + round(text_width('8' * max(4, len(str(max(line.row for line in lines)))), TEXT_SIZE)) + 8
-    raw = max((fixed_width(cut(line.text, most_raw), RAW_SIZE) + STEP_INDENT * line.is_step for line in lines), default=0)
+    raw = max((fixed_width(raw_text(line, most_raw), RAW_SIZE) + STEP_INDENT * line.is_step for line in lines), default=0)
     raw = max(raw, text_width(rows_heading(picture), TEXT_SIZE))
     meaning_begin = round(raw_begin + raw + GAP)
     meaning = max((text_width(line.meaning, TEXT_SIZE, line.is_bad) for line in lines), default=0)
     spoken = max((text_width(line.verdict, TEXT_SIZE, True) for line in lines), default=0)
     notes = max((text_width(note_text(section.rows), TEXT_SIZE) for section in picture.sections if section.rows.note), default=0)
     x = round(max(meaning_begin + meaning, raw_begin + STEP_INDENT + spoken, raw_begin + notes) + GAP)
-    step = COLUMN if len(picture.columns) <= WIDE else NARROW_COLUMN
+    step = column_width if len(picture.columns) <= WIDE else NARROW_COLUMN
     columns, groups = {}, []
     for place in picture.columns:
         if not groups or groups[-1].name != place.group:
@@ -102,8 +103,10 @@ def rows_heading(picture):
     return 'rows, and the controller\u2019s steps' if picture.has_steps else 'rows'
 
 
-def cut(text, most):
-    return text if len(text) <= most else text[:most - 2] + '..'
+def raw_text(line, most):
+    """A row or a step as its file has it, cut where it is long; a step has less room."""
+    most -= STEP_CHARACTERS * line.is_step
+    return line.text if len(line.text) <= most else line.text[:most - 2] + '..'
 
 
 def note_text(rows):
@@ -111,12 +114,17 @@ def note_text(rows):
 
 
 def labels_of(columns):
-    """The columns' labels; two that have one label in a group get their addresses."""
+    """The columns' labels; two that have one label in a group get the ends of their addresses."""
     seen = {}
     for place in columns:
         seen.setdefault((place.group, place.label), []).append(place)
-    return {place: place.label + (f' {place.start:x}' if len(places) > 1 and place.kind not in (TRB, LINK_TRB) else '')
-            for (_, _), places in seen.items() for place in places}
+    return {place: place.label + (f' {end_of(place.start)}' if len(places) > 1 and place.kind not in (TRB, LINK_TRB) else '')
+            for places in seen.values() for place in places}
+
+
+def end_of(address):
+    digits = f'{address:x}'
+    return digits if len(digits) < 7 else '..' + digits[-5:]
 
 
 # ---- lines and bars
@@ -195,7 +203,7 @@ def line_markup(one, layout):
     else:
         if not line.is_step:
             told.append(f'<text class="number" x="{layout.raw_begin - 8}" y="{one.base}">{line.row}</text>')
-        told.append(f'<text class="raw" x="{begin}" y="{one.base}">{escape(cut(line.text, layout.most_raw))}</text>')
+        told.append(f'<text class="raw" x="{begin}" y="{one.base}">{escape(raw_text(line, layout.most_raw))}</text>')
         told.append(f'<text x="{layout.meaning_begin}" y="{one.base}">{escape(line.meaning)}</text>')
     return ''.join(told) + '</g>'
 

@@ -126,7 +126,7 @@ COMMANDS = Chapter(
                'The slot was disabled and enabled again, and the new Endpoint Context names a ring that was in use before. What was taken from it '
                'still stands there with its Cycle bit, and is taken again.',
                'Use a new ring for a new endpoint; to go on with an old one is more than this checker follows.',
-               '29-32, 36-37, 39-43, 45, 47-48, 73-76, 86-90'),
+               '24, 29-32, 36-37, 39-43, 45, 47-48, 73-76, 86-90'),
     ))
 
 STOPPING = Chapter(
@@ -153,7 +153,7 @@ STOPPING = Chapter(
         Lesson(f'{HARMS}/moves-from-the-floor-on', 'Back over a TRB that may be done',
                'Two TDs were handed over, the event of the first was read, and the driver moves the ring to the second. Nothing says that the second '
                'was not taken before the stop: this controller did take it, and takes it twice.',
-               'Move past all that was handed over, and submit again what must be done.', '50-54, 57-58, 61-64, 72-79'),
+               'Move past all that was handed over, and submit again what must be done.', '50-54, 57-64, 72-79'),
         Lesson(f'{HARMS}/moves-into-descriptors', 'Into the middle of a TD',
                'Set TR Dequeue Pointer names the Link between the two TRBs of a TD. The controller takes the second TRB without the first.',
                'Move to the first TRB of a TD, or behind the last one.', '48, 55, 59-61, 63-69, 76-80'),

@@ -8,7 +8,7 @@ from lessons import CHAPTERS, FIRST_LESSON
 from scene import Scene
 from shown import Rows
 
-MOST_RAW = 30
+MOST_RAW, COLUMN_WIDTH = 27, 20
 LEAST_WIDTH = 720
 TITLE = 'How a driver and a controller share a ring, and the ways to break it'
 PAGE_STYLE = '''body{margin:0 auto;max-width:1200px;padding:16px 20px 60px;font-family:'DejaVu Sans',Verdana,Helvetica,sans-serif;font-size:15px;
@@ -114,7 +114,7 @@ class Page:
         self.answers(lesson.trace)
 
     def picture(self, picture):
-        layout = layout_of(picture, MOST_RAW)
+        layout = layout_of(picture, MOST_RAW, COLUMN_WIDTH)
         drawn = placed(picture.sections, layout.head_height)
         parts = [*head(picture, layout, 0), *body(picture, layout, drawn)]
         height, told = drawn[-1].top + ROW + 6, f'{picture.name}: {picture.verdict.answer}'
