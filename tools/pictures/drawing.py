@@ -4,7 +4,7 @@ from dataclasses import dataclass
 from html import escape
 
 from places import LINK_TRB, TRB
-from scene import BACK, FETCH, POST, REFUSED, STORE, TAKE
+from lines import BACK, FETCH, POST, REFUSED, STORE, TAKE
 from widths import fixed_width, text_width
 
 ROW, COLUMN, NARROW_COLUMN, WIDE = 18, 26, 18, 24
@@ -164,7 +164,7 @@ class Rows:
 
     def __init__(self, drawn):
         self.top, self.bottom = drawn[0].top, drawn[-1].top + ROW
-        own = [one for one in drawn if one.rows or not one.line.is_step and not one.line.verdict]
+        own = [one for one in drawn if one.rows or one.line.is_row]
         self.ends = [one.rows.last if one.rows else one.line.row for one in own]
         self.first = own[0].rows.first if own and own[0].rows else own[0].line.row if own else 0
         self.middles = [one.middle for one in own]
@@ -173,6 +173,10 @@ class Rows:
     def y(self, row):
         found = bisect_left(self.ends, row)
         return self.top if row < self.first else self.middles[found] if found < len(self.ends) else self.bottom
+
+    def end_of(self, row):
+        """Where the line of a row ends; over all, where the row comes before the first."""
+        return self.top if row < self.first else self.y(row) + ROW // 2
 
     def touch(self, lease):
         found = bisect_left(self.shown, lease.begin)
@@ -184,7 +188,7 @@ def body(picture, layout, drawn):
     rows = Rows(drawn)
     told = [line_markup(one, layout) for one in drawn]
     told += [f'<path class="guide" d="M{x:g} {rows.top}V{rows.bottom}"/>' for x in layout.columns.values()]
-    told += [bar_markup(bar, layout, rows, picture.refused) for bar in picture.bars if rows.touch(bar.lease)]
+    told += [bar_markup(bar, layout, rows, picture.verdict.refused) for bar in picture.bars if rows.touch(bar.lease)]
     told += [mark_markup(mark.shape, layout.columns[mark.place], one.middle, one.line.is_bad) for one in drawn if one.line for mark in one.line.marks]
     return told
 
@@ -212,7 +216,7 @@ def bar_markup(bar, layout, rows, refused):
     """A lease as a bar. Behind the refused row nothing is known of leases: what was open goes on as a broken line."""
     lease, x = bar.lease, layout.columns[bar.place]
     begin, end = rows.y(lease.begin), rows.y(lease.end)
-    last = min(end, rows.y(refused) + ROW // 2) if refused and lease.is_open else end
+    last = min(end, rows.end_of(refused)) if refused and lease.is_open else end
     kind = {TRB: 'trb', LINK_TRB: 'link'}.get(bar.place.kind, 'range')
     half = layout.column_width / 2 - (6 if kind == 'link' else 4)
     until = 'on' if lease.is_open else f'to row {lease.end}'
@@ -285,7 +289,7 @@ def svg_element(parts, width, height, described='', least=None):
 
 
 def title_parts(picture):
-    state = ' bad' if picture.refused else ''
+    state = ' bad' if picture.verdict.refused else ''
     return [f'<text class="title" x="{MARGIN}" y="22">{escape(picture.name)}</text>',
             f'<text class="verdict{state}" style="font-size:13px" x="{MARGIN}" y="42">{escape(picture.verdict.answer)}</text>']
 

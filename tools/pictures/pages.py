@@ -17,7 +17,7 @@ svg{display:block}'''
 
 def page(picture):
     layout = layout_of(picture)
-    state = ' class="refused"' if picture.refused else ''
+    state = ' class="refused"' if picture.verdict.refused else ''
     parts = ['<!DOCTYPE html>', '<html lang="en" xmlns="http://www.w3.org/1999/xhtml">', '<head>', '<meta charset="utf-8"/>',
              f'<title>{escape(picture.name)}</title>', '<style>', PAGE_STYLE, STYLE, '</style>', '</head>', '<body>',
              '<header>', f'<h1>{escape(picture.name)}</h1>', f'<p{state}>{escape(picture.verdict.answer)}</p>',

@@ -2,7 +2,7 @@
 from dataclasses import dataclass
 
 import standard
-from program import BLOCK, LINK
+from program import BLOCK, RANGE
 
 TRB, LINK_TRB, EVENT_RING, ERST, DCBAA_ENTRY, DEVICE_CONTEXT, INPUT_CONTEXT = range(7)
 OTHER_MEMORY = 'other memory'
@@ -61,13 +61,17 @@ class MemoryMap:
 
     def of_lease(self, lease):
         """The place that a lease is of."""
-        if lease.kind == BLOCK:
+        if lease.kind != RANGE:
             ring = self.trace.ring(lease.ring)
-            return trb_place(ring, ring.segment_of(lease.position), ring.address(lease.position))
-        if lease.kind == LINK:
-            ring = self.trace.ring(lease.ring)
-            return trb_place(ring, ring.segment_of(lease.position), ring.link_behind(lease.position))
+            return trb_place(ring, ring.segment_of(lease.position), self.start_of(lease))
         return self.add(self.kind_of_range(lease), lease.address, lease.length)
+
+    def start_of(self, lease):
+        """Where the memory of a lease begins."""
+        if lease.kind == RANGE:
+            return lease.address
+        ring = self.trace.ring(lease.ring)
+        return ring.address(lease.position) if lease.kind == BLOCK else ring.link_behind(lease.position)
 
     def kind_of_range(self, lease):
         if lease.begin == 0:

@@ -1,7 +1,7 @@
 """Which rows of a trace are shown, and which are folded into a note."""
 from dataclasses import dataclass
 
-MOST_ROWS_BEFORE = 60
+MOST_ROWS_BEFORE, MOST_ROWS_BEHIND = 60, 60
 MOST_EARLIER = 24
 MOST_SHOWN = 2000
 WORTH_A_FOLD = 2
@@ -23,12 +23,14 @@ class Rows:
 
 
 def rows_asked(trace, verdict, end):
-    """Where no rows are asked for: the last ones up to `end`, without the set-up that the refused row follows."""
+    """Where no rows are asked for: the last ones up to the refused row, without the set-up, and those behind it up to where a run ends."""
     judged = verdict.refused or end
     begin = max(trace.first, judged - MOST_ROWS_BEFORE)
     if trace.start and trace.start < judged:
         begin = max(begin, trace.start)
-    return [Rows(begin, end)]
+    if end - judged <= MOST_ROWS_BEHIND:
+        return [Rows(begin, end)]
+    return [Rows(begin, judged + MOST_ROWS_BEHIND // 2), Rows(end - MOST_ROWS_BEHIND // 2, end)]
 
 
 def earlier_rows(trace, memory, leases, begin, refused):
@@ -41,7 +43,7 @@ def earlier_rows(trace, memory, leases, begin, refused):
         return []
     words = range(place.start, place.start + min(place.length, 64), 4)
     writes = (trace.last_write(address, begin) for address in words)
-    begun = (lease.begin for lease in leases if lease.begin < begin and memory.of_lease(lease) == place)
+    begun = (lease.begin for lease in leases if lease.begin < begin and memory.start_of(lease) == place.start)
     return sorted({written.row for written in writes if written} | {row for row in begun if row})[-MOST_EARLIER:]
 
 

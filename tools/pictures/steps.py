@@ -13,7 +13,7 @@ class Step:
     row: int
     take: Take | None = None
     harm: int | None = None
-    possible: bool = True
+    is_possible: bool = True
 
     @property
     def word(self):
@@ -57,32 +57,34 @@ def run_of(program, trace_path, schedule):
     return Run(program, trace_path, lines[:last + 1], replay, {0: 0, done: len(replay.takes)})
 
 
-def steps_beside(run, first_row, shown):
-    """The steps of a run beside the rows from the first to the last that is shown, those of rows too."""
-    steps, row = [], first_row - 1
+def steps_beside(run, first_row, wanted):
+    """The steps of a run that follow the wanted rows, those that make the rows too, in stretches without a gap."""
+    stretches, row = [], first_row - 1
     for number, line in enumerate(run.lines[1:], 1):
         row += line == b'row'
-        if row > shown[-1]:
-            break
-        if row >= shown[0] or row == shown[0] - 1 and line != b'row':
-            steps.append(Step(number, line.decode(), row))
-    if steps:
-        show_ending(run.replay.ending, steps)
+        if row in wanted or row < first_row and first_row in wanted:
+            if not stretches or stretches[-1][-1].number < number - 1:
+                stretches.append([])
+            stretches[-1].append(Step(number, line.decode(), row))
+    if stretches:
+        show_ending(run.replay.ending, stretches[-1])
+    for steps in stretches:
         show_takes(run, steps)
-    return steps
+    return stretches
 
 
 def show_ending(ending, steps):
     if ending.step and steps[-1].number == ending.step:
         steps[-1].harm = ending.harm and int(ending.harm)
-        steps[-1].possible = ending.harm is not None
+        steps[-1].is_possible = ending.harm is not None
 
 
 def show_takes(run, steps):
-    begin, end = steps[0].number - 1, steps[-1].number - (not steps[-1].possible)
+    begin, end = steps[0].number - 1, steps[-1].number - (not steps[-1].is_possible)
     by_number = {step.number: step for step in steps}
-    takes = run.replay.takes[run.takes_before(begin):]
-    for number, take in zip(run.takers(begin, end), takes):
+    takers = run.takers(begin, end)
+    takes = run.replay.takes[run.takes_before(begin):] if takers else []
+    for number, take in zip(takers, takes):
         by_number[number].take = take
 
 
@@ -108,6 +110,17 @@ class Controller:
         self.trace, self.memory, self.meanings = trace, memory, meanings
         self.pointers, self.scribbled = {}, {}
 
+    def pass_over(self, step):
+        """A step that isn't told: what it takes says where the controller stands, and what it doesn't take leaves that unknown."""
+        if step.take:
+            self.took(step.take)
+        elif step.word == 'look':
+            self.pointers[int(step.line.split()[1], 16)] = None
+
+    def lose_track(self):
+        """Some steps weren't seen."""
+        self.pointers = {ring.number: None for ring in self.trace.rings}
+
     def shown(self, step):
         word, *fields = step.line.split()
         if word == 'look':
@@ -121,7 +134,7 @@ class Controller:
         return Shown(f'takes {self.memory.trb_text(take.address)}: {name}', take.address)
 
     def fetched(self, ring, row):
-        pointer = self.pointers.get(ring) or self.from_crcr(ring, row)
+        pointer = self.pointers[ring] if ring in self.pointers else self.from_crcr(ring, row)
         if not pointer:
             return Shown(f'fetches from ring {ring:02x}, and takes nothing')
         words = self.words(pointer.address, row)

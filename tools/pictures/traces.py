@@ -28,11 +28,11 @@ class Ring:
             self.segments.append(Segment(base, count, first))
             first += count - self.links
         self.place_count = first
+        self.firsts = [segment.first for segment in self.segments]
 
     def segment_of(self, position):
         place = position % self.place_count
-        firsts = [segment.first for segment in self.segments]
-        return self.segments[bisect_right(firsts, place) - 1]
+        return self.segments[bisect_right(self.firsts, place) - 1]
 
     def address(self, position):
         segment = self.segment_of(position)
@@ -81,8 +81,12 @@ class TraceText:
     def row(self, number):
         return self.lines[number - 1].decode()
 
+    @cached_property
+    def rings_by_number(self):
+        return {ring.number: ring for ring in self.rings}
+
     def ring(self, number):
-        return next((ring for ring in self.rings if ring.number == number), None)
+        return self.rings_by_number.get(number)
 
     @cached_property
     def segments(self):
