@@ -49,14 +49,17 @@ def without_key(element):
 
 
 class Drawing:
-    """One <svg> element: its rows by number, with the middle of each, its bars, its marks by shape, and its texts."""
+    """One <svg> element: its rows by number, with the middle of each, the rows that tell on hover what they did, its bars, its marks by
+    shape, and its texts."""
 
     def __init__(self, root):
         self.root = root
-        self.rows, self.bars, self.texts, self.marks = {}, [], [], []
+        self.rows, self.tips, self.bars, self.texts, self.marks = {}, {}, [], [], []
         for element in without_key(root):
             if element.tag == f'{SPACE}text':
                 self.read_text(element)
+            elif element.tag == f'{SPACE}title':
+                self.read_tip(element.text)
             elif element.get('data-lease'):
                 self.read_bar(element)
             elif 'mark' in classes(element):
@@ -69,6 +72,11 @@ class Drawing:
         elif element.get('x'):
             width = fixed_width(text, 10) if 'raw' in classes(element) else text_width(text, 11, bold)
             self.texts.append(Text(text, number(element, 'x'), number(element, 'x') + width, number(element, 'y')))
+
+    def read_tip(self, text):
+        found = re.match(r'row (\d+): (.*)', text)
+        if found:
+            self.tips[int(found[1])] = found[2]
 
     def read_bar(self, element):
         fields = tuple(int(field) for field in element.get('data-lease').split())

@@ -32,14 +32,15 @@ INTRODUCTION = (
     'A driver and an xHCI controller share memory without a lock. What there is instead is one bit in each TRB, the <b>Cycle bit</b>: the driver '
     'writes a TRB and flips this bit last, and from that store on the TRB is the controller\u2019s, until an event that the driver reads gives it '
     'back. The controller may fetch the TRB at any moment between, at once or much later. So a driver that is right by luck on one controller is '
-    'wrong on the next, and no test on one machine shows it.',
+    'wrong on the next, and a test on one machine need not show it.',
     '<b>Time goes down, memory goes across.</b> Each line with a number is a row of a trace: something that the driver did, with its meaning in the '
     'standard\u2019s words. A blue bar is a TRB that the controller owns, a violet one a Link, a yellow one other memory: a context, an entry of the '
     'DCBAA, the Event Ring and its table. The lines without a number are what one controller did beside the rows; each of them is something that '
     'a controller may do at that moment. The cross is the row that <code>xhcitrace check</code> refuses. What stands below it shows what it '
     'comes to: the driver goes on, this controller does what it may, and the last line is the harm. Point at a row or a bar to have it explained.',
-    'Each bar, verdict and step is the program\u2019s own answer: the bars are the trace\u2019s certificate, the steps were replayed by its model '
-    'of the controller. Traces and schedules are text files in the repository; under each picture stands how to ask the program yourself.')
+    'Verdicts, bars, what the controller takes, and the harm are the program\u2019s own answers: the bars are the trace\u2019s certificate, or that '
+    'of the rows before the refused one, and the steps were replayed by its model of the controller. Traces and schedules are text files in the '
+    'repository; under each picture stands how to ask the program yourself.')
 
 FIRST_PARTS = (
     ('6-14', 'Before the start the driver writes a table of the Event Ring\u2019s segments (ERST) and some registers. ERSTBA hands the table over. '
