@@ -71,9 +71,11 @@ class Lines:
         """What begins and ends to be the controller\u2019s at a row."""
         told = []
         for leases, says in ((self.begun, 'from here on the controller\u2019s'), (self.ended, 'here given back')):
-            names = [place_text(self.memory.of_lease(lease)) for lease in leases.get(row, ())]
+            here = leases.get(row, [])
+            ends = here if len(here) < 5 else [here[0], here[-1]]
+            names = [place_text(self.memory.of_lease(lease)) for lease in ends]
             if names:
-                told.append(f'{says}: ' + (', '.join(names) if len(names) < 5 else f'{names[0]} to {names[-1]}'))
+                told.append(f'{says}: ' + (', ' if ends is here else ' to ').join(names))
         return told
 
     def beside_rows(self, run, wanted):
