@@ -3,15 +3,13 @@ from bisect import bisect_left
 from dataclasses import dataclass
 from html import escape
 
-from places import LINK_TRB, TRB
+from layout import (GAP, LABEL_SIZE, MARGIN, RAW_SIZE, SLOPE, STEP_INDENT, TEXT_SIZE, TITLE_SIZE, VERDICT_SIZE, labels_of, layout_of, note_text,
+                    raw_text, rows_heading)
 from lines import BACK, FETCH, POST, REFUSED, STORE, TAKE
-from widths import fixed_width, text_width
+from places import LINK_TRB, TRB
+from widths import text_width
 
-ROW, COLUMN, NARROW_COLUMN, WIDE = 18, 26, 18, 24
-TEXT_SIZE, RAW_SIZE, TITLE_SIZE = 11, 10, 15
-MARGIN, STEP_INDENT, GAP = 12, 14, 14
-MOST_RAW, STEP_CHARACTERS = 38, 3
-SLOPE = 60
+ROW = 18
 FONTS = "'DejaVu Sans',Verdana,Helvetica,sans-serif"
 FIXED_FONTS = "'DejaVu Sans Mono',Menlo,Consolas,monospace"
 
@@ -21,7 +19,7 @@ STYLE = f'''svg.trace{{font-family:{FONTS};font-size:{TEXT_SIZE}px;background:#f
 .trace .number{{text-anchor:end;fill:#57606a}}
 .trace .title{{font-size:{TITLE_SIZE}px;font-weight:bold}}
 .trace .group{{font-weight:bold}}
-.trace .label{{font-size:10px}}
+.trace .label{{font-size:{LABEL_SIZE}px}}
 .trace .head,.trace .late text,.trace .note{{fill:#57606a}}
 .trace .note{{font-style:italic}}
 .trace .step text{{fill:#0a4a8f}}
@@ -50,81 +48,6 @@ KEY = {
     'trb': 'TRB is the controller\u2019s', 'link': 'Link is the controller\u2019s', 'range': 'other memory is the controller\u2019s',
     STORE: 'the driver writes', BACK: 'an event gives it back', REFUSED: 'refused', TAKE: 'the controller takes a TRB',
     FETCH: 'it fetches, and waits or follows a Link', POST: 'the controller posts or writes'}
-
-
-@dataclass(frozen=True)
-class Layout:
-    """Where the texts and the columns stand; the same for all parts of a picture."""
-    most_raw: int
-    raw_begin: int
-    meaning_begin: int
-    columns: dict
-    groups: list
-    column_width: int
-    head_height: int
-    width: int
-
-
-@dataclass(frozen=True)
-class Group:
-    """A heading over columns that stand together."""
-    name: str
-    begin: float
-    end: float
-
-
-def layout_of(picture, most_raw=MOST_RAW, column_width=COLUMN):
-    """Where all is drawn: as wide as the texts need, of each row at most so many characters, and columns of this width or narrower."""
-    lines = [line for section in picture.sections for line in section.lines]
-    raw_begin = MARGIN + round(text_width('8' * max(4, len(str(max(line.row for line in lines)))), TEXT_SIZE)) + 8
-    raw = max((fixed_width(raw_text(line, most_raw), RAW_SIZE) + STEP_INDENT * line.is_step for line in lines), default=0)
-    raw = max(raw, text_width(rows_heading(picture), TEXT_SIZE))
-    meaning_begin = round(raw_begin + raw + GAP)
-    meaning = max((text_width(line.meaning, TEXT_SIZE, line.is_bad) for line in lines), default=0)
-    spoken = max((text_width(line.verdict, TEXT_SIZE, True) for line in lines), default=0)
-    notes = max((text_width(note_text(section.rows), TEXT_SIZE) for section in picture.sections if section.rows.note), default=0)
-    x = round(max(meaning_begin + meaning, raw_begin + STEP_INDENT + spoken, raw_begin + notes) + GAP)
-    step = column_width if len(picture.columns) <= WIDE else NARROW_COLUMN
-    columns, groups = {}, []
-    for place in picture.columns:
-        if not groups or groups[-1].name != place.group:
-            x = max(x, groups[-1].begin + text_width(groups[-1].name, TEXT_SIZE, True) + GAP) + 8 if groups else x
-            groups.append(Group(place.group, x, x))
-        columns[place] = x + step / 2
-        x += step
-        groups[-1] = Group(place.group, groups[-1].begin, x)
-    labels = max((text_width(label, 10) for label in labels_of(picture.columns).values()), default=0)
-    end = max([x + labels * 0.5, *(group.begin + text_width(group.name, TEXT_SIZE, True) for group in groups)])
-    title = MARGIN + max(text_width(picture.name, TITLE_SIZE, True), text_width(picture.verdict.answer, 13, True))
-    return Layout(most_raw, raw_begin, meaning_begin, columns, groups, step, round(labels * 0.87) + 34, round(max(end, title) + 12))
-
-
-def rows_heading(picture):
-    return 'rows, and the controller\u2019s steps' if picture.has_steps else 'rows'
-
-
-def raw_text(line, most):
-    """A row or a step as its file has it, cut where it is long; a step has less room."""
-    most -= STEP_CHARACTERS * line.is_step
-    return line.text if len(line.text) <= most else line.text[:most - 2] + '..'
-
-
-def note_text(rows):
-    return f'\u22ee {rows.note}'
-
-
-def labels_of(columns):
-    """The columns' labels; two that have one label in a group get the ends of their addresses."""
-    seen = {}
-    for place in columns:
-        seen.setdefault((place.group, place.label), []).append(place)
-    return {place: place.label + (f' {end_of(place.start)}' if len(places) > 1 and place.kind not in (TRB, LINK_TRB) else '')
-            for places in seen.values() for place in places}
-
-
-def end_of(address):
-    digits = f'{address:x}'
-    return digits if len(digits) < 7 else '..' + digits[-5:]
 
 
 # ---- lines and bars
@@ -291,7 +214,7 @@ def svg_element(parts, width, height, described='', least=None):
 def title_parts(picture):
     state = ' bad' if picture.verdict.refused else ''
     return [f'<text class="title" x="{MARGIN}" y="22">{escape(picture.name)}</text>',
-            f'<text class="verdict{state}" style="font-size:13px" x="{MARGIN}" y="42">{escape(picture.verdict.answer)}</text>']
+            f'<text class="verdict{state}" style="font-size:{VERDICT_SIZE}px" x="{MARGIN}" y="42">{escape(picture.verdict.answer)}</text>']
 
 
 def described(picture):

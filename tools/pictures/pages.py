@@ -1,7 +1,8 @@
 """A picture as a page that scrolls: its head stays, its folds open, and each row says on hover what it did. No network, no script."""
 from html import escape
 
-from drawing import ROW, STYLE, body, described, head, key, key_names, layout_of, placed, svg_element
+from drawing import ROW, STYLE, body, described, head, key, key_names, placed, svg_element
+from layout import layout_of
 
 PAGE_STYLE = '''body{margin:0;font-family:'DejaVu Sans',Verdana,Helvetica,sans-serif;font-size:13px;color:#1f2328;background:#fff}
 header{position:sticky;top:0;background:#fff;border-bottom:1px solid #c9d1d9;z-index:1}

@@ -88,8 +88,20 @@ class Ending:
 
 @dataclass(frozen=True)
 class Replay:
-    takes: list
+    """What a replay prints: a line `took ID ADDR W W W W` for each take, of which those are read that are asked for, and the ending."""
+    lines: list
     ending: Ending
+
+    @property
+    def count(self):
+        return len(self.lines)
+
+    def ring(self, number):
+        return int(self.lines[number].split(' ', 2)[1], 16)
+
+    def take(self, number):
+        _, ring, address, *words = self.lines[number].split()
+        return Take(int(ring, 16), int(address, 16), tuple(int(word, 16) for word in words))
 
 
 class Program:
@@ -131,19 +143,13 @@ class Program:
 
     def replay(self, trace_path, schedule):
         """What a schedule's steps show beside a trace; the schedule is its lines."""
-        printed, _ = self.answered('replay', trace_path, '-', given=b''.join(line + b'\n' for line in schedule))
+        printed, _ = self.answered('replay', trace_path, '-', given=b'\n'.join([*schedule, b'']))
         *takes, last = printed.splitlines()
         found = re.match(r'step (\d+): (?:harm (\d+)|not possible)', last)
         ending = Ending(int(found[1]), found[2] and int(found[2])) if found else Ending()
-        return Replay([taken(line) for line in takes], ending)
+        return Replay(takes, ending)
 
 
 def lines_before(text, row):
     """The lines of a text before a row, each with its line feed."""
     return b'\n'.join([*text.split(b'\n')[:row - 1], b''])
-
-
-def taken(line):
-    """The take that a line `took ID ADDR W W W W` tells."""
-    _, ring, address, *words = line.split()
-    return Take(int(ring, 16), int(address, 16), tuple(int(word, 16) for word in words))

@@ -59,13 +59,13 @@ class Scene:
         reached = self.trace.first - 1 + self.run.lines.count(b'row') if self.run else 0
         return min(max(self.verdict.refused or self.trace.last, reached), self.trace.last)
 
-    def picture(self, asked=None, with_folded=False, has_notes=True):
-        """The rows that are asked for, or those that the trace's length and its verdict call for; with the lines of folds where these can
-        be opened, and without a note on what isn't shown where the text around the picture tells that."""
+    def picture(self, asked=None, with_folded=False, is_chosen=False, has_notes=True):
+        """The rows that are asked for, or those that the trace's length and its verdict call for, and the earlier ones about their memory,
+        but where the rows are chosen by hand; with the lines of folds where these can be opened, and without a note on what isn't shown
+        where the text around the picture tells that."""
         ranges = self.ranges(asked)
         self.look_around(ranges)
-        refused = None if asked else self.verdict.refused
-        earlier = earlier_rows(self.trace, self.memory, self.open_leases, ranges[0].first, refused)
+        earlier = [] if is_chosen else earlier_rows(self.trace, self.memory, self.open_leases, ranges, self.verdict.refused)
         if earlier:
             ranges = ranges + [Rows(row, row) for row in earlier]
             self.look_around(ranges)
@@ -119,7 +119,7 @@ class Scene:
         for line in lines:
             line.marks = [mark for mark in line.marks if mark.place in columns]
         left_out = len(touching) - len(drawn)
-        told = f'not drawn: {left_out} leases of memory that these rows don\u2019t write' if left_out else ''
+        told = f'not drawn: {left_out} more leases' if left_out else ''
         return Picture(self.name, self.verdict, sections, sorted(columns, key=lambda place: place.index), drawn, told, bool(self.run))
 
     def worth_a_bar(self, leases, marks, shown):

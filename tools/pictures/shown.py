@@ -2,7 +2,7 @@
 from dataclasses import dataclass
 
 MOST_ROWS_BEFORE, MOST_ROWS_BEHIND = 60, 60
-MOST_EARLIER = 24
+MOST_EARLIER, MOST_BYTES = 24, 64
 MOST_SHOWN = 2000
 WORTH_A_FOLD = 2
 
@@ -33,18 +33,24 @@ def rows_asked(trace, verdict, end):
     return [Rows(begin, judged + MOST_ROWS_BEHIND // 2), Rows(end - MOST_ROWS_BEHIND // 2, end)]
 
 
-def earlier_rows(trace, memory, leases, begin, refused):
-    """The rows before the first that is shown that are about the memory of the refused row: those that wrote it last, and those that
-    handed it over. The latest ones, where these are many."""
-    if not refused or not trace.row(refused).startswith('w '):
-        return []
-    place = memory.place_at(int(trace.row(refused).split()[1], 16))
-    if not place:
-        return []
-    words = range(place.start, place.start + min(place.length, 64), 4)
-    writes = (trace.last_write(address, begin) for address in words)
-    begun = (lease.begin for lease in leases if lease.begin < begin and memory.start_of(lease) == place.start)
-    return sorted({written.row for written in writes if written} | {row for row in begun if row})[-MOST_EARLIER:]
+def earlier_rows(trace, memory, leases, ranges, refused):
+    """The rows before the first that is shown that are about the same memory: those that handed over what the shown rows write, and those
+    that wrote the refused row's place last. The latest ones, where these are many."""
+    begin = min(rows.first for rows in ranges)
+    written = {place.start for rows in ranges for place in written_places(trace, memory, rows)}
+    rows = {lease.begin for lease in leases if 0 < lease.begin < begin and memory.start_of(lease) in written}
+    if refused and any(one.has(refused) for one in ranges):
+        for place in written_places(trace, memory, Rows(refused, refused)):
+            words = range(place.start, place.start + min(place.length, MOST_BYTES), 4)
+            writes = (trace.last_write(address, begin) for address in words)
+            rows |= {one.row for one in writes if one}
+    return sorted(rows)[-MOST_EARLIER:]
+
+
+def written_places(trace, memory, rows):
+    fields = (trace.row(row).split() for row in range(rows.first, rows.last + 1))
+    places = (memory.place_at(int(one[1], 16)) for one in fields if one[0] == 'w')
+    return [place for place in places if place]
 
 
 def with_folds(trace, ranges, end):

@@ -1,4 +1,5 @@
 """The steps of a schedule beside the rows, and what a replay shows of each: what the program took, and where the run ends."""
+from collections import Counter
 from dataclasses import dataclass, field
 
 import standard
@@ -32,20 +33,25 @@ class Run:
     def takes_before(self, count):
         """How many TRBs the first steps took."""
         if count not in self.counts:
-            self.counts[count] = len(self.program.replay(self.trace_path, self.lines[:count + 1]).takes)
+            self.counts[count] = self.program.replay(self.trace_path, self.lines[:count + 1]).count
         return self.counts[count]
 
     def looks(self, begin, end):
-        return [number for number in range(begin + 1, end + 1) if self.lines[number].startswith(b'look ')]
+        """The steps behind `begin` up to `end` that are looks, and the ring of each."""
+        return {number: int(self.lines[number].split()[1], 16) for number in range(begin + 1, end + 1) if self.lines[number].startswith(b'look ')}
 
     def takers(self, begin, end):
-        """The looks among the steps behind `begin` up to `end` that took a TRB. A replay tells the takes and not their steps: where
-        not all or none of the looks took one, the steps are halved."""
+        """The looks among the steps behind `begin` up to `end` that took a TRB. A replay tells the takes and not their steps: where on some
+        ring neither all nor none of the looks took one, the steps are halved."""
         looks = self.looks(begin, end)
-        taken = self.takes_before(end) - self.takes_before(begin) if looks else 0
-        if taken in (0, len(looks)):
-            return looks if taken else []
-        middle = looks[len(looks) // 2] - 1
+        if not looks:
+            return []
+        asked = Counter(looks.values())
+        taken = Counter(self.replay.ring(number) for number in range(self.takes_before(begin), self.takes_before(end)))
+        unsure = [number for number, ring in looks.items() if 0 < taken[ring] < asked[ring]]
+        if not unsure:
+            return [number for number, ring in looks.items() if taken[ring]]
+        middle = unsure[len(unsure) // 2] - 1
         return self.takers(begin, middle) + self.takers(middle, end)
 
 
@@ -54,7 +60,7 @@ def run_of(program, trace_path, schedule):
     replay = program.replay(trace_path, lines)
     last = replay.ending.step or len(lines) - 1
     done = last if replay.ending.harm is not None or not replay.ending.step else last - 1
-    return Run(program, trace_path, lines[:last + 1], replay, {0: 0, done: len(replay.takes)})
+    return Run(program, trace_path, lines[:last + 1], replay, {0: 0, done: replay.count})
 
 
 def steps_beside(run, first_row, wanted):
@@ -82,10 +88,8 @@ def show_ending(ending, steps):
 def show_takes(run, steps):
     begin, end = steps[0].number - 1, steps[-1].number - (not steps[-1].is_possible)
     by_number = {step.number: step for step in steps}
-    takers = run.takers(begin, end)
-    takes = run.replay.takes[run.takes_before(begin):] if takers else []
-    for number, take in zip(takers, takes):
-        by_number[number].take = take
+    for place, number in enumerate(run.takers(begin, end)):
+        by_number[number].take = run.replay.take(run.takes_before(begin) + place)
 
 
 @dataclass(frozen=True)

@@ -3,7 +3,8 @@ import os
 import re
 from html import escape
 
-from drawing import KEY, ROW, STYLE, body, head, key, layout_of, placed, svg_element
+from drawing import KEY, ROW, STYLE, body, head, key, placed, svg_element
+from layout import layout_of
 from lessons import CHAPTERS, FIRST_LESSON
 from scene import Scene
 from shown import Rows
@@ -104,11 +105,11 @@ class Page:
                  'those of <code>xhcitrace schedule</code>, which has it do everything as late as it can.</p>')
         for rows, words in FIRST_PARTS:
             self.add(f'<p>{words}</p>')
-            self.picture(scene.picture(rows_of(rows), has_notes=False))
+            self.picture(scene.picture(rows_of(rows), is_chosen=True, has_notes=False))
 
     def lesson(self, number, lesson):
         scene = self.scene(lesson.trace)
-        picture = scene.picture(rows_of(lesson.rows) if lesson.rows else None)
+        picture = scene.picture(rows_of(lesson.rows) if lesson.rows else None, is_chosen=True)
         self.add(f'<h3 id="lesson-{number}">{number}. {escape(lesson.title)}<span class="rule">{escape(scene.verdict.rule)}</span></h3>',
                  f'<p>{escape(lesson.mistake)}</p>', f'<p class="cure">{escape(lesson.cure)}</p>')
         self.picture(picture)
