@@ -14,11 +14,18 @@ import rows as row_list
 from areas import Areas
 from memory import Memory
 from qemu_log import Unsupported, read_log, whole_lines
-from rings import Finder
+from rings import LEAST_BLOCKS, MOST_BLOCKS, Finder
 from runs import split
 from steps import Schedule
 
 MOST_LINES = 1 << 20
+
+
+def block_count(text):
+    """The value of --blocks: a ring of fewer or more blocks can't stand in a trace."""
+    if not text.isdecimal() or not LEAST_BLOCKS <= int(text) <= MOST_BLOCKS:
+        raise argparse.ArgumentTypeError(f'{text} is no count of blocks: {LEAST_BLOCKS} to {MOST_BLOCKS} are')
+    return int(text)
 
 
 class Trace:
@@ -28,7 +35,7 @@ class Trace:
         written = registers.joined(run.items)
         taken = commands.find(run.items, memory)
         areas = Areas(written, taken, memory, context_size)
-        finder = Finder(areas, memory, commands.fetched(run.items), blocks_option)
+        finder = Finder(areas, memory, commands.fetched(run.items), commands.passed(run.items), blocks_option)
         plain = row_list.collected(run, written, areas, finder.rings, memory, finder.cut)
         producers = descriptors.follow(plain, finder.rings, taken)
         rows, cut = descriptors.declared(plain, producers)
@@ -69,7 +76,7 @@ def write(traces, out):
 
 def main():
     parser = argparse.ArgumentParser(description='Makes traces of a recorded log.')
-    parser.add_argument('--blocks', type=int, help='blocks of a ring whose Link is never written')
+    parser.add_argument('--blocks', type=block_count, help='blocks of a ring whose Link is never written')
     parser.add_argument('log')
     parser.add_argument('out')
     options = parser.parse_args()
