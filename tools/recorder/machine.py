@@ -1,4 +1,5 @@
 """QEMU's command line: what can't be recorded is refused, and what the recording needs is added."""
+import json
 
 from qemu_log import Unsupported
 
@@ -6,6 +7,9 @@ MOST_RAM = 2 << 30
 UNITS = {'': 1 << 20, 'b': 1, 'k': 1 << 10, 'm': 1 << 20, 'g': 1 << 30, 't': 1 << 40}
 PLUGIN_FLAGS = ('-O2', '-shared', '-fPIC', '-fvisibility=hidden')  # of the compiler
 CONTROLLERS = ('qemu-xhci', 'nec-usb-xhci')
+# QEMU's trace lines that are read; with a * none of them is an error where this QEMU lacks it
+TRACES = [word for name in ('oper_write', 'runtime_write', 'port_write', 'doorbell_write', 'cap_read', 'fetch_trb', 'queue_event', 'reset')
+          for word in ('-trace', f'usb_xhci_{name}*')]
 OWN = ('-D', '-d', '-trace', '-plugin', '-daemonize')
 DISPLAYS = ('-display', '-nographic', '-vnc', '-curses')
 NO_START = ('-loadvm', '-incoming')
@@ -22,7 +26,12 @@ def options(arguments):
 
 
 def fields(value, first):
-    """A QEMU option's `a,b=c` as a dictionary; the first field may stand without its name."""
+    """A QEMU option's `a,b=c`, or the same as JSON, as a dictionary; the first field may stand without its name."""
+    if value.startswith('{'):
+        try:
+            return {name: str(field) for name, field in json.loads(value).items()}
+        except ValueError:
+            raise Unsupported(f'{value} is no JSON') from None
     pairs = [field.partition('=') for field in value.split(',')]
     named = {name: text for name, equals, text in pairs if equals}
     if pairs and not pairs[0][1]:
@@ -64,7 +73,7 @@ def refuse_processors(given):
 
 def refuse_memory(given):
     for option, value in given:
-        backend = option == '-object' and value.startswith('memory-backend')
+        backend = option == '-object' and fields(value, 'qom-type').get('qom-type', '').startswith('memory-backend')
         if option in OTHER_RAM or backend or (option in ('-machine', '-M') and 'memory-backend' in value):
             raise Unsupported(f'{option} gives the machine other memory than the one block that is recorded')
         if option in ('-machine', '-M'):
@@ -95,7 +104,7 @@ def command(qemu, arguments, plugin, ram, log, history):
     refuse_memory(given)
     refuse_devices(given)
     line = [qemu, *arguments, '-accel', 'tcg,thread=single', '-machine', 'memory-backend=xrecord', '-object',
-            f'memory-backend-file,id=xrecord,size={size},mem-path={ram},share=on', '-trace', 'usb_xhci_*', '-d', 'plugin', '-D', log,
+            f'memory-backend-file,id=xrecord,size={size},mem-path={ram},share=on', *TRACES, '-d', 'plugin', '-D', log,
             '-plugin', f'file={plugin},ram={ram},log={log},history={history}']
     if not any(option == '-m' for option, value in given):
         line += ['-m', f'size={size >> 20}M']

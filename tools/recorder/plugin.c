@@ -11,7 +11,7 @@
  *   xr p SEQ ADDR KNOWN     the page at ADDR is watched from here on; stores are known from KNOWN on
  *   xr d SEQ ADDR SIZE      a store to a register; the trace lines of what QEMU did for it stand before
  *   xr e SEQ ADDR W W W W   a load has found the event at ADDR
- *   xr end SEQ              the end of the recording
+ *   xr end SEQ LINES        the end of the recording; how many of these lines there are
  */
 #include <fcntl.h>
 #include <inttypes.h>
@@ -93,6 +93,7 @@ static uint32_t context_size = 32;
 static struct { uint64_t base; uint32_t count, at; uint8_t cycle; } events; /* the place that is read next */
 static unsigned writes;             /* trace lines of register writes since the last store to a device */
 static uint64_t registers;          /* the controller's registers begin here */
+static uint64_t lines;              /* how many were written */
 
 /* The slots in use: the device context, the last input context, where the ring of each endpoint was when it was named */
 static struct slot { uint64_t context, input, rings[32]; } slots[256];
@@ -121,11 +122,17 @@ static uint32_t word_at(uint64_t at)
 
 static uint64_t long_at(uint64_t at) { return word_at(at) | (uint64_t)word_at(at + 4) << 32; }
 
+static void put_line(const char *line)
+{
+    lines++;
+    qemu_plugin_outs(line);
+}
+
 static void say(char kind, uint64_t when, uint64_t at, uint64_t value)
 {
     char line[80];
     snprintf(line, sizeof line, "xr %c %" PRIx64 " %" PRIx64 " %" PRIx64 "\n", kind, when, at, value);
-    qemu_plugin_outs(line);
+    put_line(line);
 }
 
 /* A page that wasn't watched: the stores to it that are remembered and aren't in the log, and what stands there */
@@ -448,7 +455,7 @@ static void loaded(qemu_plugin_meminfo_t info, uint64_t vaddr, unsigned size)
     char line[128];
     snprintf(line, sizeof line, "xr e %" PRIx64 " %" PRIx64 " %x %x %x %x\n", ++seq, place,
              word_at(place), word_at(place + 4), word_at(place + 8), word_at(wanted));
-    qemu_plugin_outs(line);
+    put_line(line);
     if (++events.at == events.count) {
         events.at = 0;
         events.cycle ^= 1;
@@ -480,9 +487,9 @@ static void translated(qemu_plugin_id_t id, struct qemu_plugin_tb *tb)
 
 static void ended(qemu_plugin_id_t id, void *data)
 {
-    char line[40];
-    snprintf(line, sizeof line, "xr end %" PRIx64 "\n", seq);
-    qemu_plugin_outs(line);
+    char line[60];
+    snprintf(line, sizeof line, "xr end %" PRIx64 " %" PRIx64 "\n", seq, lines + 1);
+    put_line(line);
 }
 
 static bool map_ram(const char *path)
