@@ -4,7 +4,7 @@ import os
 
 from qemu_log import Unsupported
 
-MOST_RAM = 8 << 30  # the plugin's addresses end at 16 GB
+MOST_RAM = 4 << 30  # with more it isn't certain what an address means: QEMU 7.2 tells the place in the memory's file
 # a machine, whether of qemu-system-aarch64, where its memory begins; from how much on only the last number of bytes lies there
 MACHINES = [
     ('pc-q35', False, 0, 0xb0000000, 0x80000000), ('q35', False, 0, 0xb0000000, 0x80000000),
@@ -62,7 +62,7 @@ def ram_size(given):
                 raise Unsupported('memory that can grow is not in one block')
             size = bytes_of(memory.get('size', '256'))
     if size > MOST_RAM:
-        raise Unsupported('more than 8 GB of memory can not be recorded')
+        raise Unsupported('more than 4 GB of memory can not be recorded')
     return size
 
 

@@ -112,6 +112,16 @@ static uint64_t place_of(uint64_t at)
     return place + 4 <= ram_size ? place : NO_PLACE;
 }
 
+/*
+ * The physical address of a word of memory. Some versions of QEMU, 7.2 among them, tell its place in the file instead: an address
+ * below 4 GB behind the first block can't be anything else
+ */
+static uint64_t ram_address(struct qemu_plugin_hwaddr *hw)
+{
+    uint64_t at = qemu_plugin_hwaddr_phys_addr(hw);
+    return at >= ram_low && at < HIGH && ram_low < ram_size ? at - ram_low + HIGH : at;
+}
+
 static uint32_t word_at(uint64_t at)
 {
     uint32_t w = 0;
@@ -432,6 +442,7 @@ static void stored_part(qemu_plugin_meminfo_t info, uint64_t vaddr, unsigned siz
             device_stored(phys, size);
         return;
     }
+    phys = ram_address(hw);
     for (uint64_t at = phys & ~(uint64_t)3; at < phys + size && place_of(at) != NO_PLACE; at += 4)
         stored(at, whole ? moved_word(info, phys, at, size) : word_at(at));
 }
@@ -449,7 +460,7 @@ static void loaded(qemu_plugin_meminfo_t info, uint64_t vaddr, unsigned size)
     uint64_t place = events.base + events.at * BLOCK, wanted = place + 12;
     if (!hw || qemu_plugin_hwaddr_is_io(hw))
         return;
-    uint64_t phys = qemu_plugin_hwaddr_phys_addr(hw);
+    uint64_t phys = ram_address(hw);
     if (phys > wanted || wanted >= phys + size || (moved_word(info, phys, wanted, size) & 1) != events.cycle)
         return;
     char line[128];
