@@ -30,30 +30,43 @@ def block_count(text):
     return int(text)
 
 
+class Content:
+    """What is in a run: the commands that were taken, the rings, the rows before descriptors are declared."""
+
+    def __init__(self, run, memory, context_size, blocks_option):
+        written = registers.joined(run.items)
+        self.commands = commands.find(run.items, memory)
+        self.areas = Areas(written, self.commands, memory, context_size)
+        self.finder = Finder(self.areas, memory, commands.fetched(run.items), commands.passed(run.items), blocks_option)
+        self.rows = row_list.collected(run, written, self.areas, self.finder.rings, memory, self.finder.cut)
+
+    def is_over(self):
+        """Whether nothing that comes later makes a row."""
+        return len(self.rows) >= MOST_LINES or self.finder.cut is not None
+
+    def stretches(self):
+        return [stretch[:4] for stretch in row_list.stretches(self.areas, self.finder.rings, self.finder.cut)]
+
+
 class Trace:
     """One run: its three texts."""
 
     def __init__(self, run, memory, context_size, blocks_option):
-        written = registers.joined(run.items)
-        taken = commands.find(run.items, memory)
-        areas = Areas(written, taken, memory, context_size)
-        finder = Finder(areas, memory, commands.fetched(run.items), commands.passed(run.items), blocks_option)
-        self.stretches = list(row_list.stretches(areas, finder.rings, finder.cut))
-        plain = row_list.collected(run, written, areas, finder.rings, memory, finder.cut)
-        producers = descriptors.follow(plain, finder.rings, taken)
+        content = Content(run, memory, context_size, blocks_option)
+        plain, finder = content.rows, content.finder
+        producers = descriptors.follow(plain, finder.rings, content.commands)
         rows, cut = descriptors.declared(plain, producers)
         header = ['xtrace 1', f'ctx {context_size:02x}'] + [ring.line() for ring in finder.rings]
-        self.full = len(header) + len(rows) > MOST_LINES
+        is_full = len(header) + len(rows) > MOST_LINES
         self.run_notes = run.notes
-        if self.full:
+        if is_full:
             rows = rows[:MOST_LINES - len(header)]
             run.notes.append(f'the trace ends after the {MOST_LINES} lines that it may have')
-        self.over = self.full or finder.cut is not None  # whether nothing that comes later makes a row
         self.text = ''.join(line + '\n' for line in header + [row_list.text(row) for row in rows])
         schedule = Schedule(rows, items_until(run, rows, len(rows) < len(plain) or finder.cut), finder.rings)
         self.schedule = schedule.text()
         self.other_notes = notes.of_run(run, memory, finder, plain, cut, schedule)
-        early = ', ends early (see the notes)' if self.over or cut < len(plain) else ''
+        early = ', ends early (see the notes)' if is_full or finder.cut or cut < len(plain) else ''
         self.summary = f'{len(rows)} rows, {len(finder.rings)} rings, {notes.fetched(schedule)}{early}'
 
     @property
@@ -101,11 +114,11 @@ class Conversion:
     def forget(self):
         """Much is held: what no area of the run so far needs is forgotten, and a run whose trace is full ends here."""
         if self.splitter.started and not self.splitter.over:
-            run = self.splitter.so_far()
-            trial = Trace(run._replace(notes=[]), self.memory, self.reader.context_size, self.option)
-            if trial.over:
+            content = Content(self.splitter.so_far(), self.memory, self.reader.context_size, self.option)
+            self.memory.prune(content.stretches())
+            if content.is_over():
+                del content
                 self.splitter.finish()
-            self.memory.prune(stretch[:4] for stretch in trial.stretches)
         else:
             self.memory.prune([])
         self.most = max(MOST_HELD, 2 * (self.memory.size + len(self.splitter.items)))
