@@ -41,5 +41,16 @@ def fetched(items):
     return first
 
 
+def passed(items):
+    """When each Link was first followed, by its address: QEMU fetches directly after it where it leads to."""
+    first, link = {}, None
+    for item in items:
+        if isinstance(item, Fetch):
+            if link and item.at == blocks.target(link.words):
+                first.setdefault(link.at, link.key)
+            link = item if blocks.kind(item.words) == blocks.LINK else None
+    return first
+
+
 def succeeded(command):
     return blocks.code(command.completion) == blocks.SUCCESS

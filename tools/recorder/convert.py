@@ -4,6 +4,7 @@
 Writes OUT.1.xtrace, OUT.1.xsched and OUT.1.notes for the first run of the controller, OUT.2.* for the second, and so on.
 """
 import argparse
+import os
 import sys
 
 import commands
@@ -13,35 +14,64 @@ import registers
 import rows as row_list
 from areas import Areas
 from memory import Memory
-from qemu_log import Unsupported, read_log, whole_lines
-from rings import Finder
-from runs import split
+from qemu_log import Found, LogReader, Page, Store, Unsupported, whole_lines
+from rings import LEAST_BLOCKS, MOST_BLOCKS, Finder
+from runs import Splitter
 from steps import Schedule
 
 MOST_LINES = 1 << 20
+MOST_HELD = 1 << 20  # items and stores that are held before what is needed of them is looked at
+
+
+def block_count(text):
+    """The value of --blocks: a ring of fewer or more blocks can't stand in a trace."""
+    if not text.isdecimal() or not LEAST_BLOCKS <= int(text) <= MOST_BLOCKS:
+        raise argparse.ArgumentTypeError(f'{text} is no count of blocks: {LEAST_BLOCKS} to {MOST_BLOCKS} are')
+    return int(text)
+
+
+class Content:
+    """What is in a run: the commands that were taken, the rings, the rows before descriptors are declared."""
+
+    def __init__(self, run, memory, context_size, blocks_option):
+        written = registers.joined(run.items)
+        self.commands = commands.find(run.items, memory)
+        self.areas = Areas(written, self.commands, memory, context_size)
+        self.finder = Finder(self.areas, memory, commands.fetched(run.items), commands.passed(run.items), blocks_option)
+        self.rows = row_list.collected(run, written, self.areas, self.finder.rings, memory, self.finder.cut)
+
+    def is_over(self):
+        """Whether nothing that comes later makes a row."""
+        return len(self.rows) >= MOST_LINES or self.finder.cut is not None
+
+    def stretches(self):
+        return [stretch[:4] for stretch in row_list.stretches(self.areas, self.finder.rings, self.finder.cut)]
 
 
 class Trace:
     """One run: its three texts."""
 
     def __init__(self, run, memory, context_size, blocks_option):
-        written = registers.joined(run.items)
-        taken = commands.find(run.items, memory)
-        areas = Areas(written, taken, memory, context_size)
-        finder = Finder(areas, memory, commands.fetched(run.items), blocks_option)
-        plain = row_list.collected(run, written, areas, finder.rings, memory, finder.cut)
-        producers = descriptors.follow(plain, finder.rings, taken)
+        content = Content(run, memory, context_size, blocks_option)
+        plain, finder = content.rows, content.finder
+        producers = descriptors.follow(plain, finder.rings, content.commands)
         rows, cut = descriptors.declared(plain, producers)
         header = ['xtrace 1', f'ctx {context_size:02x}'] + [ring.line() for ring in finder.rings]
-        if len(header) + len(rows) > MOST_LINES:
+        is_full = len(header) + len(rows) > MOST_LINES
+        self.run_notes = run.notes
+        if is_full:
             rows = rows[:MOST_LINES - len(header)]
             run.notes.append(f'the trace ends after the {MOST_LINES} lines that it may have')
         self.text = ''.join(line + '\n' for line in header + [row_list.text(row) for row in rows])
         schedule = Schedule(rows, items_until(run, rows, len(rows) < len(plain) or finder.cut), finder.rings)
         self.schedule = schedule.text()
-        self.notes = notes.of_run(run, memory, finder, plain, cut, schedule)
-        early = ', ends early (see the notes)' if finder.cut or cut < len(plain) else ''
+        self.other_notes = notes.of_run(run, memory, finder, plain, cut, schedule)
+        early = ', ends early (see the notes)' if is_full or finder.cut or cut < len(plain) else ''
         self.summary = f'{len(rows)} rows, {len(finder.rings)} rings, {notes.fetched(schedule)}{early}'
+
+    @property
+    def notes(self):
+        return ''.join(line + '\n' for line in self.run_notes + self.other_notes)
 
 
 def items_until(run, rows, ends_early):
@@ -51,35 +81,95 @@ def items_until(run, rows, ends_early):
     return [item for item in run.items if rows and item.key < rows[-1].key]
 
 
-def convert(lines, blocks_option=None):
-    """A trace for each run of the controller, or Unsupported."""
-    recording = read_log(lines)
-    runs = split(recording.items)
-    if runs and not recording.ended:
-        runs[-1].notes.append('the log breaks off: QEMU did not end by itself')
-    return [Trace(run, Memory(recording.items, run.end), recording.context_size, blocks_option) for run in runs]
+class Conversion:
+    """Follows a log and makes the trace of each run of the controller when that ends, so that no more than one run is held."""
+
+    def __init__(self, blocks_option):
+        self.option = blocks_option
+        self.reader, self.memory, self.splitter = LogReader(), Memory(), Splitter(self.make)
+        self.made = []
+        self.most = MOST_HELD
+
+    def traces(self, lines, why):
+        for item in self.reader.items(lines):
+            if isinstance(item, (Store, Found, Page)):
+                self.memory.take(item)
+            else:
+                self.splitter.take(item)
+            if self.memory.size + len(self.splitter.items) > self.most:
+                self.forget()
+            if len(self.made) > 1:
+                yield self.made.pop(0)
+        self.splitter.finish()
+        for note in self.end_notes(why):
+            for trace in self.made[-1:]:
+                trace.run_notes.append(note)
+        yield from self.made
+
+    def make(self, run):
+        trace = Trace(run, self.memory, self.reader.context_size, self.option)
+        self.made.append(trace)
+        self.memory.prune([])
+
+    def forget(self):
+        """Much is held: what no area of the run so far needs is forgotten, and a run whose trace is full ends here."""
+        if self.splitter.started and not self.splitter.over:
+            content = Content(self.splitter.so_far(), self.memory, self.reader.context_size, self.option)
+            self.memory.prune(content.stretches())
+            if content.is_over():
+                del content
+                self.splitter.finish()
+        else:
+            self.memory.prune([])
+        self.most = max(MOST_HELD, 2 * (self.memory.size + len(self.splitter.items)))
+
+    def end_notes(self, why):
+        """Where the log ends too early, and why."""
+        reader, notes = self.reader, []
+        why = reader.fault or why or (None if reader.ended else 'QEMU did not end by itself')
+        if why:
+            notes.append(f'the recording ends after store number {reader.count:x}, line {reader.number + 1} of the log: {why}')
+        if reader.lost:
+            notes.append(f"{reader.lost} of the plugin's lines are missing in the log: don't trust this trace")
+        return notes
 
 
-def write(traces, out):
-    for number, trace in enumerate(traces, 1):
-        for ending, text in (('xtrace', trace.text), ('xsched', trace.schedule), ('notes', trace.notes)):
-            with open(f'{out}.{number}.{ending}', 'w') as file:
+def convert(lines, blocks_option=None, why=None):
+    """Yields a trace for each run of the controller; `why`: what ended the recording too early, if anything did."""
+    conversion = Conversion(blocks_option)
+    yield from conversion.traces(lines, why)
+    if not conversion.made and conversion.reader.fault:
+        raise Unsupported(conversion.reader.fault)
+
+
+def write(trace, out, number):
+    """Writes each file under another name first: where the disk is full no half of one is left."""
+    for ending, text in (('xtrace', trace.text), ('xsched', trace.schedule), ('notes', trace.notes)):
+        path = f'{out}.{number}.{ending}'
+        try:
+            with open(path + '.part', 'w') as file:
                 file.write(text)
+            os.replace(path + '.part', path)
+        except OSError:
+            if os.path.isfile(path + '.part'):
+                os.unlink(path + '.part')
+            raise
 
 
 def main():
     parser = argparse.ArgumentParser(description='Makes traces of a recorded log.')
-    parser.add_argument('--blocks', type=int, help='blocks of a ring whose Link is never written')
+    parser.add_argument('--blocks', type=block_count, help='blocks of a ring whose Link is never written')
     parser.add_argument('log')
     parser.add_argument('out')
     options = parser.parse_args()
+    number = 0
     try:
         with open(options.log, errors='replace') as file:
-            traces = convert(whole_lines(file), options.blocks)
+            for number, trace in enumerate(convert(whole_lines(file), options.blocks), 1):
+                write(trace, options.out, number)
     except (OSError, Unsupported) as fault:
         sys.exit(f'xrecord: {fault}')
-    write(traces, options.out)
-    print(f'{len(traces)} runs of the controller')
+    print(f'{number} runs of the controller')
 
 
 if __name__ == '__main__':

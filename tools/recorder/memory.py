@@ -1,64 +1,86 @@
 """The guest's memory where it was watched: what the CPU stored to each word, in order."""
-from bisect import bisect_left, bisect_right
+from bisect import bisect_left, insort
 from collections import namedtuple
 
 from qemu_log import Found, Page, Store
 
 Entry = namedtuple('Entry', 'key word found')  # found: no store was seen that left this word, but then it stood there; or None
 
-BEFORE_ALL = (-1, 0, 0)
+BEFORE_ALL = -1
+KEPT = 64  # entries of a word of no area that are kept
 
 
 class Memory:
-    """All that was stored up to `end`, a run's last moment."""
+    """All that was stored so far, but for what `prune` has forgotten."""
 
-    def __init__(self, items, end):
+    def __init__(self):
         self.entries = {}       # by address, in order
         self.known_from = 0     # stores before this count may be missing
-        for item in items:
-            if item.key > end:
-                break
-            if isinstance(item, Store):
-                self.entries.setdefault(item.at, []).append(Entry(item.key, item.word, None))
-            elif isinstance(item, Found):
-                self.compare(item)
-            elif isinstance(item, Page):
-                self.known_from = max(self.known_from, item.known)
-        self.keys = {at: [entry.key for entry in entries] for at, entries in self.entries.items()}
+        self.size = 0           # how many entries there are
+
+    def take(self, item):
+        if isinstance(item, Store):
+            self.add(item.at, Entry(item.key, item.word, None))
+        elif isinstance(item, Found):
+            self.compare(item)
+        elif isinstance(item, Page):
+            self.known_from = max(self.known_from, item.known)
+
+    def add(self, at, entry):
+        entries = self.entries.setdefault(at, [])
+        self.size += 1
+        if entries and entry.key < entries[-1].key:
+            insort(entries, entry)
+        else:
+            entries.append(entry)
 
     def compare(self, found):
         """A word that no store has left was there before the first one, or another device wrote it after the last."""
-        entries = self.entries.setdefault(found.at, [])
+        entries = self.entries.get(found.at)
         if entries and entries[-1].word != found.word:
-            entries.append(Entry(entries[-1].key[:2] + (entries[-1].key[2] + 0.5,), found.word, found.key))
+            self.add(found.at, Entry(entries[-1].key | 1, found.word, found.key))
         elif not entries and found.word:
-            entries.append(Entry(BEFORE_ALL, found.word, found.key))
+            self.add(found.at, Entry(BEFORE_ALL, found.word, found.key))
+
+    def place(self, at, key):
+        """How many entries of this word are at or before `key`."""
+        return bisect_left(self.entries.get(at, []), (key + 1,))
 
     def word(self, at, key):
         """The word at this time."""
-        entries = self.entries.get(at)
-        if not entries:
-            return 0
-        place = bisect_right(self.keys[at], key)
-        if place:
-            return entries[place - 1].word
-        return 0
+        place = self.place(at, key)
+        return self.entries[at][place - 1].word if place else 0
 
     def block(self, at, key):
         return tuple(self.word(at + 4 * i, key) for i in range(4))
 
     def last_store(self, at, key):
         """The key of the last store to this word at or before `key`, or None."""
-        place = bisect_right(self.keys.get(at, []), key)
-        return self.keys[at][place - 1] if place else None
+        place = self.place(at, key)
+        return self.entries[at][place - 1].key if place else None
 
     def life(self, at, named, ended):
         """The entries of a word of an area: from the last one of 0 before `named` on, else from the first, to `ended` or on."""
         entries = self.entries.get(at, [])
         if not entries:
             return []
-        first = bisect_left(self.keys[at], named)
+        first = bisect_left(entries, (named,))
         while first > 0 and entries[first - 1].word:
             first -= 1
-        last = len(entries) if ended is None else bisect_left(self.keys[at], ended)
+        last = len(entries) if ended is None else bisect_left(entries, (ended,))
         return entries[max(first - 1, 0):last]
+
+    def prune(self, stretches):
+        """Forgets what no area can need: neither in these stretches (start, length, named, ended), nor in one that is named later."""
+        kept = {}
+        for start, length, named, ended in stretches:
+            for at in range(start, start + length, 4):
+                if at in self.entries:
+                    kept.setdefault(at, set()).update(self.life(at, named, ended))
+        for at, entries in self.entries.items():
+            first = len(entries) - 1
+            while first > 0 and entries[first].word and len(entries) - first < KEPT:
+                first -= 1
+            wanted = kept.get(at, ())
+            self.entries[at] = [entry for i, entry in enumerate(entries) if i >= first or entry in wanted]
+        self.size = sum(len(entries) for entries in self.entries.values())

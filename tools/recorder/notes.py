@@ -5,10 +5,9 @@ from qemu_log import Bell
 
 
 def of_run(run, memory, finder, rows, cut, schedule):
-    lines = list(run.notes) + finder.notes
-    lines += of_memory(memory, rows) + of_cut(rows, cut) + of_rows(run) + of_events(run)
+    lines = finder.notes + of_memory(memory, rows) + of_cut(rows, cut) + of_rows(run) + of_events(run)
     lines += of_controller(schedule)
-    return ''.join(line + '\n' for line in lines)
+    return lines
 
 
 def of_memory(memory, rows):

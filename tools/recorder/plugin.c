@@ -1,8 +1,9 @@
 /*
  * A TCG plugin for QEMU: writes into QEMU's own log what the guest's CPU stores where an xHCI controller may look, beside QEMU's
- * trace lines of that controller. A page is watched from the moment a register, a command or a context names it; a history of
- * recent stores tells what was written there before. Arguments: ram=FILE, the guest's memory from physical address 0 on;
- * log=FILE, QEMU's log; history=N, the stores that are remembered.
+ * trace lines of that controller. A page is watched from the moment a register, a command, a context or a Link names it, until none
+ * does; a history of recent stores tells what was written there before. Arguments: ram=FILE, the guest's memory, which begins at the
+ * physical address base=N and of which all beyond low=N bytes lies at 4 GB; log=FILE, QEMU's log; history=N, the stores that are
+ * remembered.
  *
  * Lines, all numbers in hex; SEQ counts stores, loads of events and stores to the device, in the order in which the CPU made them:
  *   xr w SEQ ADDR WORD      a store has left this word; one that was remembered comes later in the log than its SEQ says
@@ -10,7 +11,7 @@
  *   xr p SEQ ADDR KNOWN     the page at ADDR is watched from here on; stores are known from KNOWN on
  *   xr d SEQ ADDR SIZE      a store to a register; the trace lines of what QEMU did for it stand before
  *   xr e SEQ ADDR W W W W   a load has found the event at ADDR
- *   xr end SEQ              the end of the recording
+ *   xr end SEQ LINES        the end of the recording; how many of these lines there are
  */
 #include <fcntl.h>
 #include <inttypes.h>
@@ -72,14 +73,18 @@ __attribute__((constructor)) static void choose_version(void)
 /* QEMU's layout of the controller's registers: 16 KB, the capabilities first; devices below 1 MB are others */
 enum { REGISTERS = 0x4000, CAPABILITIES = 0x40, DOORBELLS_END = 0x3000, DEVICES = 0x100000 };
 enum { PAGE = 4096, BLOCK = 16, AHEAD = 1024, DCBAA = 2048, SEGMENTS = 64, BOUNDARY = 0x10000 };
-enum { LINK = 6, ADDRESS_DEVICE = 11, CONFIGURE_ENDPOINT, EVALUATE_CONTEXT, SET_TR_DEQUEUE = 16 };
+enum { LINK = 6, DISABLE_SLOT = 10, ADDRESS_DEVICE, CONFIGURE_ENDPOINT, EVALUATE_CONTEXT, SET_TR_DEQUEUE = 16, RESET_DEVICE };
+enum { COMMAND_COMPLETION = 33, SUCCESS = 1 };
 enum { DECONFIGURE = 1 << 9 }; /* of Configure Endpoint: it has no input context */
+#define HIGH 0x100000000ull    /* where memory beyond the first block lies */
+#define NO_PLACE UINT64_MAX
 
-struct store { uint64_t seq; uint32_t at, word; };
+struct store { uint64_t seq; uint32_t at, word; }; /* at: the address by 4 */
 
 static const uint8_t *ram;
-static uint64_t ram_size, seq;
-static bool *watched;               /* by page */
+static uint64_t ram_size, ram_base, ram_low = UINT64_MAX, seq;
+static bool *watched, *before;      /* by page of the file; before: what was watched, while pages are swept */
+static uint64_t *until;             /* by page: all stores up to this one are in the log already */
 static struct store *history;       /* a ring; next counts all stores ever remembered */
 static uint64_t history_size = 1 << 22, next;
 static FILE *log_file;
@@ -88,70 +93,118 @@ static uint32_t context_size = 32;
 static struct { uint64_t base; uint32_t count, at; uint8_t cycle; } events; /* the place that is read next */
 static unsigned writes;             /* trace lines of register writes since the last store to a device */
 static uint64_t registers;          /* the controller's registers begin here */
+static uint64_t lines;              /* how many were written */
+
+/* The slots in use: the device context, the last input context, where the ring of each endpoint was when it was named */
+static struct slot { uint64_t context, input, rings[32]; } slots[256];
+/* The command that was fetched last, and what its success makes of its slot */
+static struct { uint64_t at; uint32_t slot; bool lets_go; struct slot then; } command;
+static uint64_t sweep_at;           /* the command at whose completion, when it is read, pages are let go; 0: none */
+
+/* Where a word of the guest's memory stands in the file */
+static uint64_t place_of(uint64_t at)
+{
+    uint64_t place = at - ram_base;
+    if (at >= HIGH && ram_low < ram_size)
+        place = at - HIGH + ram_low;
+    else if (at < ram_base || place >= ram_low)
+        return NO_PLACE;
+    return place + 4 <= ram_size ? place : NO_PLACE;
+}
+
+/*
+ * The physical address of a word of memory. Some versions of QEMU, 7.2 among them, tell its place in the file instead: an address
+ * below 4 GB behind the first block can't be anything else
+ */
+static uint64_t ram_address(struct qemu_plugin_hwaddr *hw)
+{
+    uint64_t at = qemu_plugin_hwaddr_phys_addr(hw);
+    return at >= ram_low && at < HIGH && ram_low < ram_size ? at - ram_low + HIGH : at;
+}
 
 static uint32_t word_at(uint64_t at)
 {
     uint32_t w = 0;
-    if (at + 4 <= ram_size)
-        memcpy(&w, ram + at, 4);
+    if (place_of(at) != NO_PLACE)
+        memcpy(&w, ram + place_of(at), 4);
     return w;
 }
 
 static uint64_t long_at(uint64_t at) { return word_at(at) | (uint64_t)word_at(at + 4) << 32; }
 
+static void put_line(const char *line)
+{
+    lines++;
+    qemu_plugin_outs(line);
+}
+
 static void say(char kind, uint64_t when, uint64_t at, uint64_t value)
 {
     char line[80];
     snprintf(line, sizeof line, "xr %c %" PRIx64 " %" PRIx64 " %" PRIx64 "\n", kind, when, at, value);
-    qemu_plugin_outs(line);
+    put_line(line);
 }
 
-/* A page that wasn't watched: what stands there, and the stores to it that are remembered */
+/* A page that wasn't watched: the stores to it that are remembered and aren't in the log, and what stands there */
 static void watch_page(uint64_t page)
 {
-    if (page + PAGE > ram_size || watched[page / PAGE])
+    uint64_t place = place_of(page) / PAGE;
+    if (place_of(page) == NO_PLACE || watched[place])
         return;
-    watched[page / PAGE] = true;
-    uint64_t oldest = next > history_size ? next - history_size : 0;
-    say('p', seq, page, oldest ? history[oldest % history_size].seq : 0);
+    watched[place] = true;
+    if (before && before[place])
+        return;
+    uint64_t oldest = next > history_size ? next - history_size : 0, known = oldest ? history[oldest % history_size].seq : 0;
+    say('p', seq, page, known > until[place] ? known : 0);
+    for (uint64_t i = oldest; i < next; i++) {
+        const struct store *s = &history[i % history_size];
+        if (s->at / (PAGE / 4) == page / PAGE && s->seq > until[place])
+            say('w', s->seq, s->at * (uint64_t)4, s->word);
+    }
     for (uint64_t at = page; at < page + PAGE; at += 4)
         if (word_at(at))
             say('v', seq, at, word_at(at));
-    for (uint64_t i = oldest; i < next; i++) {
-        const struct store *s = &history[i % history_size];
-        if (s->at / PAGE == page / PAGE)
-            say('w', s->seq, s->at, s->word);
-    }
 }
 
-static bool watched_at(uint64_t at) { return at >= ram_size || watched[at / PAGE]; }
+static bool watched_at(uint64_t at) { return place_of(at) == NO_PLACE || watched[place_of(at) / PAGE]; }
 
 static void watch(uint64_t at, uint64_t bytes)
 {
-    for (uint64_t page = at & ~(uint64_t)(PAGE - 1); page < at + bytes && page < ram_size; page += PAGE)
+    for (uint64_t page = at & ~(uint64_t)(PAGE - 1); page < at + bytes && place_of(page) != NO_PLACE; page += PAGE)
         watch_page(page);
 }
 
 /* What stands in an area now: another device may have written there since the last store */
 static void say_found(uint64_t at, uint64_t bytes)
 {
-    for (uint64_t end = at + bytes; at < end && at + 4 <= ram_size; at += 4)
+    for (uint64_t end = at + bytes; !before && at < end && place_of(at) != NO_PLACE; at += 4)
         say('v', seq, at, word_at(at));
+}
+
+static bool is_link(uint64_t at) { return word_at(at + 12) >> 10 == LINK && long_at(at); }
+
+/* How much of a segment is watched that has no Link yet: while pages are swept, all that was watched of it */
+static uint64_t ahead(uint64_t at, uint64_t end)
+{
+    uint64_t bytes = AHEAD;
+    while (before && at + bytes < end && place_of(at + bytes) != NO_PLACE && before[place_of(at + bytes) / PAGE])
+        bytes += PAGE;
+    return bytes;
 }
 
 /*
  * A ring from this block to its Link, if that is written, and on through all segments to which Links lead. A page may have been
- * watched for something else, so that ends nothing; but what stands there need not be told again, except of the first segment.
+ * watched for something else, so that ends nothing; but what stands there need not be told again, except of a ring that is named.
  */
-static void watch_ring(uint64_t first)
+static void watch_ring(uint64_t first, bool named)
 {
     uint64_t at = first;
     for (int segment = 0; segment < SEGMENTS; segment++) {
         uint64_t end = (at | (BOUNDARY - 1)) + 1, link = at;
-        while (link < end && (word_at(link + 12) >> 10 != LINK || !long_at(link)))
+        while (link < end && !is_link(link))
             link += BLOCK;
-        uint64_t bytes = link == end ? AHEAD : link + BLOCK - at;
-        bool known = at != first && watched_at(at) && watched_at(at + bytes - 1);
+        uint64_t bytes = link == end ? ahead(at, end) : link + BLOCK - at;
+        bool known = !(named && at == first) && watched_at(at) && watched_at(at + bytes - 1);
         watch(at, bytes);
         if (!known)
             say_found(at, bytes);
@@ -163,13 +216,106 @@ static void watch_ring(uint64_t first)
     }
 }
 
+static uint64_t command_ring(void) { return (oper[6] & ~63u) | (uint64_t)oper[7] << 32; }
+static uint64_t dcbaa(void) { return (oper[12] & ~63u) | (uint64_t)oper[13] << 32; }
+static uint64_t segment_table(void) { return (runtime[12] & ~63u) | (uint64_t)runtime[13] << 32; }
+
+static void watch_named(uint64_t ring)
+{
+    if (ring)
+        watch_ring(ring, true);
+}
+
+/* Pages that nothing names any more are let go: what is stored there is other use of the memory */
+static void sweep(void)
+{
+    size_t pages = ram_size / PAGE + 1;
+    before = watched;
+    watched = calloc(pages, sizeof *watched);
+    if (!watched)
+        abort();
+    watch_named(command_ring());
+    if (dcbaa())
+        watch(dcbaa(), DCBAA);
+    if (events.count) {
+        watch(segment_table(), BLOCK);
+        watch(events.base, events.count * BLOCK);
+    }
+    for (int i = 0; i < 256; i++) {
+        if (slots[i].context)
+            watch(slots[i].context, 32 * context_size);
+        if (slots[i].input)
+            watch(slots[i].input, 33 * context_size);
+        for (int index = 1; index < 32; index++)
+            watch_named(slots[i].rings[index]);
+    }
+    for (size_t page = 0; page < pages; page++)
+        if (before[page] && !watched[page])
+            until[page] = seq;
+    free(before);
+    before = NULL;
+    sweep_at = 0;
+}
+
+/* HCRST, or a reset of the machine: nothing is named any more */
+static void forget_all(void)
+{
+    memset(slots, 0, sizeof slots);
+    memset(oper, 0, sizeof oper);
+    memset(runtime, 0, sizeof runtime);
+    events.count = 0;
+    command.at = 0;
+    sweep();
+}
+
 static void watch_input_context(uint64_t at)
 {
     watch(at, 33 * context_size);
     say_found(at, 33 * context_size);
     for (int i = 1; i <= 31; i++)
         if (word_at(at + 4) >> i & 1)
-            watch_ring(long_at(at + (i + 1) * context_size + 8) & ~(uint64_t)15);
+            watch_ring(long_at(at + (i + 1) * context_size + 8) & ~(uint64_t)15, true);
+}
+
+/* The rings that a command takes from its slot, and those that its input context gives it */
+static void change_rings(uint32_t type, uint64_t input, bool drops_all)
+{
+    uint32_t dropped = input ? word_at(input) : 0, added = input ? word_at(input + 4) : 0;
+    if (type == ADDRESS_DEVICE)
+        dropped = 0, added = 2;
+    if (type == RESET_DEVICE || drops_all)
+        dropped = ~3u;
+    for (int i = 1; i <= 31 && type != EVALUATE_CONTEXT; i++) {
+        if (dropped >> i & 1)
+            command.then.rings[i] = 0;
+        if (added >> i & 1)
+            command.then.rings[i] = long_at(input + (i + 1) * context_size + 8) & ~(uint64_t)15;
+    }
+    command.lets_go = dropped != 0;
+}
+
+static void follow_command(uint64_t at, uint32_t type, uint64_t pointer, uint32_t control)
+{
+    bool drops_all = type == CONFIGURE_ENDPOINT && control & DECONFIGURE;
+    bool has_input = type >= ADDRESS_DEVICE && type <= EVALUATE_CONTEXT && !drops_all;
+    command.at = at;
+    command.slot = control >> 24;
+    command.then = slots[command.slot];
+    command.lets_go = false;
+    if (type == ADDRESS_DEVICE) {
+        command.then.context = long_at(dcbaa() + 8 * command.slot);
+        watch(command.then.context, 32 * context_size);
+    }
+    if (has_input) {
+        slots[command.slot].input = command.then.input = pointer;
+        watch_input_context(pointer);
+    }
+    if (type == DISABLE_SLOT) {
+        memset(&command.then, 0, sizeof command.then);
+        command.lets_go = true;
+    } else if (has_input || drops_all || type == RESET_DEVICE) {
+        change_rings(type, has_input ? pointer : 0, drops_all);
+    }
 }
 
 static void follow_fetch(uint64_t at, uint64_t pointer, uint32_t control)
@@ -177,16 +323,27 @@ static void follow_fetch(uint64_t at, uint64_t pointer, uint32_t control)
     uint32_t type = control >> 10 & 63;
     watch(at, AHEAD);
     if (type == LINK || type == SET_TR_DEQUEUE)
-        watch_ring(pointer & ~(uint64_t)15);
-    if (type == ADDRESS_DEVICE)
-        watch(long_at(((oper[12] & ~63u) | (uint64_t)oper[13] << 32) + 8 * (control >> 24)), 32 * context_size);
-    if (type >= ADDRESS_DEVICE && type <= EVALUATE_CONTEXT && !(type == CONFIGURE_ENDPOINT && control & DECONFIGURE))
-        watch_input_context(pointer & ~(uint64_t)15);
+        watch_ring(pointer & ~(uint64_t)15, true);
+    if (type >= DISABLE_SLOT && type <= RESET_DEVICE)
+        follow_command(at, type, pointer & ~(uint64_t)15, control);
+}
+
+/* What a command lets go is the driver's again when it reads that the command has ended */
+static void follow_completion(uint64_t pointer, uint32_t code)
+{
+    if (!command.at || pointer != command.at)
+        return;
+    if (code == SUCCESS) {
+        slots[command.slot] = command.then;
+        if (command.lets_go)
+            sweep_at = command.at;
+    }
+    command.at = 0;
 }
 
 static void follow_event_ring(void)
 {
-    uint64_t table = (runtime[12] & ~63u) | (uint64_t)runtime[13] << 32;
+    uint64_t table = segment_table();
     watch(table, BLOCK);
     events.base = long_at(table) & ~(uint64_t)63;
     events.count = word_at(table + 8) & 0xffff;
@@ -198,23 +355,26 @@ static void follow_event_ring(void)
 
 static void follow_line(const char *line)
 {
-    unsigned off, value, control;
+    unsigned off, value, control, status;
     uint64_t at, pointer;
     writes += strstr(line, "_write ") != NULL;
     if (sscanf(line, "usb_xhci_oper_write off %x, val %x", &off, &value) == 2 && off < 64) {
         oper[off / 4] = value;
-        if (off == 0 && value & 2)
-            events.count = 0;
         if (off == 0x18 || off == 0x1c)
-            watch_ring((oper[6] & ~63u) | (uint64_t)oper[7] << 32);
+            watch_ring(command_ring(), true);
         if (off == 0x30 || off == 0x34)
-            watch((oper[12] & ~63u) | (uint64_t)oper[13] << 32, DCBAA);
+            watch(dcbaa(), DCBAA);
     } else if (sscanf(line, "usb_xhci_runtime_write off %x, val %x", &off, &value) == 2 && off < 64) {
         runtime[off / 4] = value;
         if (off == 0x30 || off == 0x34)
             follow_event_ring();
     } else if (sscanf(line, "usb_xhci_fetch_trb addr %" SCNx64 ", %*[^,], p %" SCNx64 ", s %*x, c %x", &at, &pointer, &control) == 3) {
         follow_fetch(at, pointer, control);
+    } else if (sscanf(line, "usb_xhci_queue_event v 0, %*[^p]p %" SCNx64 ", s %x, c %x", &pointer, &status, &control) == 3) {
+        if ((control >> 10 & 63) == COMMAND_COMPLETION)
+            follow_completion(pointer, status >> 24);
+    } else if (!strncmp(line, "usb_xhci_reset", 14)) {
+        forget_all();
     } else if (sscanf(line, "usb_xhci_cap_read off %x, ret %x", &off, &value) == 2 && off == 0x10) {
         context_size = value & 4 ? 64 : 32;
     }
@@ -260,10 +420,14 @@ static void device_stored(uint64_t phys, unsigned size)
 
 static void stored(uint64_t at, uint32_t word)
 {
-    struct store s = { seq, at, word };
+    struct store s = { seq, at / 4, word };
     history[next++ % history_size] = s;
-    if (watched[at / PAGE])
-        say('w', seq, at, word);
+    if (!watched_at(at))
+        return;
+    say('w', seq, at, word);
+    uint64_t block = at & ~(uint64_t)(BLOCK - 1);
+    if (is_link(block))
+        watch_ring(long_at(block) & ~(uint64_t)(BLOCK - 1), false);
 }
 
 /* A store, or the part of it that lies in one page: pages side by side may be apart in memory */
@@ -278,7 +442,8 @@ static void stored_part(qemu_plugin_meminfo_t info, uint64_t vaddr, unsigned siz
             device_stored(phys, size);
         return;
     }
-    for (uint64_t at = phys & ~(uint64_t)3; at < phys + size && at + 4 <= ram_size; at += 4)
+    phys = ram_address(hw);
+    for (uint64_t at = phys & ~(uint64_t)3; at < phys + size && place_of(at) != NO_PLACE; at += 4)
         stored(at, whole ? moved_word(info, phys, at, size) : word_at(at));
 }
 
@@ -295,17 +460,19 @@ static void loaded(qemu_plugin_meminfo_t info, uint64_t vaddr, unsigned size)
     uint64_t place = events.base + events.at * BLOCK, wanted = place + 12;
     if (!hw || qemu_plugin_hwaddr_is_io(hw))
         return;
-    uint64_t phys = qemu_plugin_hwaddr_phys_addr(hw);
+    uint64_t phys = ram_address(hw);
     if (phys > wanted || wanted >= phys + size || (moved_word(info, phys, wanted, size) & 1) != events.cycle)
         return;
     char line[128];
     snprintf(line, sizeof line, "xr e %" PRIx64 " %" PRIx64 " %x %x %x %x\n", ++seq, place,
              word_at(place), word_at(place + 4), word_at(place + 8), word_at(wanted));
-    qemu_plugin_outs(line);
+    put_line(line);
     if (++events.at == events.count) {
         events.at = 0;
         events.cycle ^= 1;
     }
+    if (sweep_at && (word_at(wanted) >> 10 & 63) == COMMAND_COMPLETION && long_at(place) == sweep_at)
+        sweep();
 }
 
 static void moved(unsigned int cpu, qemu_plugin_meminfo_t info, uint64_t vaddr, void *data)
@@ -331,9 +498,9 @@ static void translated(qemu_plugin_id_t id, struct qemu_plugin_tb *tb)
 
 static void ended(qemu_plugin_id_t id, void *data)
 {
-    char line[40];
-    snprintf(line, sizeof line, "xr end %" PRIx64 "\n", seq);
-    qemu_plugin_outs(line);
+    char line[60];
+    snprintf(line, sizeof line, "xr end %" PRIx64 " %" PRIx64 "\n", seq, lines + 1);
+    put_line(line);
 }
 
 static bool map_ram(const char *path)
@@ -361,6 +528,10 @@ __attribute__((visibility("default"))) int qemu_plugin_install(qemu_plugin_id_t 
             return refuse("the file of the guest's memory can't be mapped");
         if (!strncmp(argv[i], "log=", 4))
             log_file = fopen(argv[i] + 4, "r");
+        if (!strncmp(argv[i], "base=", 5))
+            ram_base = strtoull(argv[i] + 5, NULL, 0);
+        if (!strncmp(argv[i], "low=", 4))
+            ram_low = strtoull(argv[i] + 4, NULL, 0);
         if (!strncmp(argv[i], "history=", 8))
             history_size = strtoull(argv[i] + 8, NULL, 0);
     }
@@ -369,8 +540,9 @@ __attribute__((visibility("default"))) int qemu_plugin_install(qemu_plugin_id_t 
     if (!ram || !log_file || !history_size)
         return refuse("ram=FILE and log=FILE are needed");
     watched = calloc(ram_size / PAGE + 1, sizeof *watched);
+    until = calloc(ram_size / PAGE + 1, sizeof *until);
     history = calloc(history_size, sizeof *history);
-    if (!watched || !history)
+    if (!watched || !until || !history)
         return refuse("no memory for the history of stores");
     qemu_plugin_register_vcpu_tb_trans_cb(id, translated);
     qemu_plugin_register_atexit_cb(id, ended, NULL);

@@ -1,8 +1,9 @@
-"""Reads QEMU's log with the plugin's lines into a list of what happened, in the order in which the guest's CPU saw it.
+"""Reads QEMU's log with the plugin's lines, as a stream, into what happened, in the order in which the guest's CPU saw it.
 
-Each item has a key by which items are sorted: the plugin's count of stores, then what comes first at that count, then the line.
-What QEMU does for a store to a register stands in the log before that store's own line, and is given its count. What QEMU's main
-loop does is only known to lie between two stores to registers.
+Each item has a key: the plugin's count of stores, then what comes first at that count, then the line. Items come in the order of
+their keys, but for stores that are remembered when a page comes to be watched. What QEMU does for a store to a register stands in
+the log before that store's own line, and is given its count. What QEMU's main loop does is only known to lie between two stores to
+registers.
 """
 import re
 from collections import namedtuple
@@ -18,6 +19,16 @@ Seen = namedtuple('Seen', 'key at words')                   # the driver has loa
 Reset = namedtuple('Reset', 'key by_driver')
 
 CPU, DEVICE, LATER = 0, 1, 2  # at one count: what the CPU did, what the device did for it, what came after
+FOREVER = float('inf')
+
+
+def key_of(count, rank, number):
+    """One number that sorts like the three; the least bit is for a word that was found behind a store."""
+    return count << 40 | rank << 38 | number << 1
+
+
+def count_of(key):
+    return key >> 40
 
 PATTERNS = [(re.compile(pattern), kind) for pattern, kind in [
     (r'usb_xhci_(oper|runtime)_write off 0x(\w+), val 0x(\w+)', 'register'),
@@ -27,17 +38,13 @@ PATTERNS = [(re.compile(pattern), kind) for pattern, kind in [
     (r'usb_xhci_queue_event v (\d+), .*, p 0x(\w+), s 0x(\w+), c 0x(\w+)', 'event'),
     (r'usb_xhci_(reset)', 'reset'),
     (r'usb_xhci_cap_read off 0x0010, ret 0x(\w+)', 'capability')]]
+# lines of these names have one of these patterns, or are no whole lines
+NAMES = ['usb_xhci_' + name for name in
+         ('oper_write', 'runtime_write', 'port_write', 'doorbell_write', 'fetch_trb', 'queue_event', 'reset')]
 
 
 class Unsupported(Exception):
     """The recording can't be made into a trace; the text says why."""
-
-
-class Recording:
-    def __init__(self):
-        self.items = []
-        self.context_size = 32
-        self.ended = False  # whether the log has the plugin's last line
 
 
 def words_of(parameter, status, control):
@@ -45,48 +52,67 @@ def words_of(parameter, status, control):
 
 
 class LogReader:
-    def __init__(self):
-        self.recording = Recording()
-        self.count = 0       # the greatest count so far
-        self.waiting = []    # trace lines from a register write on, until the line of its store
+    """`items` yields what happened, up to the first line that isn't understood; then `fault` says why it ended there."""
 
-    def read(self, lines):
-        for number, line in enumerate(lines):
+    def __init__(self):
+        self.context_size = 32
+        self.ended = False   # whether the log has the plugin's last line
+        self.fault = None
+        self.lost = 0        # how many of the plugin's lines are missing
+        self.count = 0       # the greatest count so far
+        self.number = self.said = 0  # lines so far, and those of the plugin
+        self.waiting = []    # trace lines from a register write on, until the line of its store
+        self.found = []      # words found, until the remembered stores to their page are told
+
+    def items(self, lines):
+        for self.number, line in enumerate(lines):
             try:
-                self.line(number, line)
+                yield from self.line(self.number, line)
             except (ValueError, TypeError, IndexError, KeyError):
-                raise Unsupported(f'line {number + 1} of the log is not understood: {line.strip()}') from None
+                self.fault = f'line {self.number + 1} of the log is not understood: {line.strip()[:200]}'
+            if self.fault:
+                break
+        yield from self.all_found()
         for number, make in self.waiting:
-            self.recording.items.append(make((self.count, LATER, number)))
-        self.recording.items.sort(key=lambda item: item.key)
-        return self.recording
+            yield make(key_of(self.count, LATER, number))
 
     def line(self, number, line):
         if line.startswith('xr '):
-            self.plugin_line(number, line.split())
-        elif line.startswith('usb_xhci_'):
-            self.trace_line(number, line)
+            self.said += 1
+            return self.plugin_line(number, line.split())
+        if line.startswith('usb_xhci_'):
+            return self.trace_line(number, line)
+        return []
 
     def plugin_line(self, number, fields):
         kind, count = fields[1], int(fields[2], 16)
         rest = [int(field, 16) for field in fields[3:]]
+        if kind == 'v':
+            self.found.append(Found(key_of(count, LATER, number), *rest))
+            return []
+        before = [] if kind == 'w' and count <= self.count else self.all_found()
         self.count = max(self.count, count)
         if kind == 'd':
-            self.device_store(count, *rest)
-        elif kind == 'end':
-            self.recording.ended = True
-        elif kind == 'e':
-            self.recording.items.append(Seen((count, CPU, number), rest[0], tuple(rest[1:])))
-        else:
-            item, rank = {'w': (Store, CPU), 'v': (Found, LATER), 'p': (Page, LATER)}[kind]
-            self.recording.items.append(item((count, rank, number), *rest))
+            return before + self.device_store(count, *rest)
+        if kind == 'end':
+            self.ended = True
+            self.lost = rest[0] - self.said if rest else 0
+            return before
+        if kind == 'e':
+            return before + [Seen(key_of(count, CPU, number), rest[0], tuple(rest[1:]))]
+        item, rank = {'w': (Store, CPU), 'p': (Page, LATER)}[kind]
+        return before + [item(key_of(count, rank, number), *rest)]
+
+    def all_found(self):
+        found, self.found = self.found, []
+        return found
 
     def device_store(self, count, at, size):
         if not self.waiting:
-            raise Unsupported(f'the store of {size} bytes to the device at {at:#x} has no trace line of QEMU')
-        for number, make in self.waiting:
-            self.recording.items.append(make((count, DEVICE, number)))
+            self.fault = f'the store of {size} bytes to the device at {at:#x} has no trace line of QEMU'
+        items = [make(key_of(count, DEVICE, number)) for number, make in self.waiting]
         self.waiting = []
+        return items
 
     def trace_line(self, number, line):
         for pattern, kind in PATTERNS:
@@ -94,15 +120,17 @@ class LogReader:
             if match:
                 break
         else:
-            return
+            if line.split(None, 1)[0] in NAMES:
+                raise ValueError
+            return []
         if kind == 'capability':
-            self.recording.context_size = 64 if int(match[1], 16) & 4 else 32
-            return
+            self.context_size = 64 if int(match[1], 16) & 4 else 32
+            return []
         make = self.maker(kind, match)
         if self.waiting or kind in ('register', 'doorbell'):
             self.waiting.append((number, make))
-        else:
-            self.recording.items.append(make((self.count, LATER, number)))
+            return []
+        return self.all_found() + [make(key_of(self.count, LATER, number))]
 
     def maker(self, kind, match):
         """A function from the key to the item: the key of a register write comes later in the log."""
@@ -122,7 +150,3 @@ class LogReader:
 def whole_lines(file):
     """All lines of a log but a last one that breaks off."""
     return (line for line in file if line.endswith('\n'))
-
-
-def read_log(lines):
-    return LogReader().read(lines)

@@ -3,17 +3,21 @@ from bisect import bisect_left
 
 import blocks
 
-MOST_RINGS, MOST_SEGMENTS, MOST_BLOCKS, BOUNDARY = 256, 64, 4096, 0x10000
+MOST_RINGS, MOST_SEGMENTS, LEAST_BLOCKS, MOST_BLOCKS, BOUNDARY = 256, 64, 3, 4096, 0x10000
 
 
 class Ring:
-    def __init__(self, number, kind, segments):
-        self.number, self.kind, self.segments = number, kind, segments
+    def __init__(self, number, use):
+        self.number, self.kind, self.uses = number, use.what, [use]
+        self.notes = []
+
+    def lay(self, segments, notes=()):
+        self.segments, self.notes = segments, list(notes)
         self.data, self.links = [], []  # addresses of data places, of Links
         for start, count in segments:
-            data = count if kind == 'evt' else count - 1
+            data = count if self.kind == 'evt' else count - 1
             self.data += [start + 16 * i for i in range(data)]
-            self.links += [] if kind == 'evt' else [start + 16 * data]
+            self.links += [] if self.kind == 'evt' else [start + 16 * data]
         self.place = {at: i for i, at in enumerate(self.data)}
         crossed = 0
         self.crossing = {}  # by a Link's address: the least crossing over it
@@ -68,116 +72,150 @@ class Links:
 class Finder:
     """Gives each ring that is named its segments; `blocks_option` is the count where a Link isn't written."""
 
-    def __init__(self, areas, memory, fetched, blocks_option):
+    def __init__(self, areas, memory, fetched, passed, blocks_option):
         self.areas, self.memory, self.option = areas, memory, blocks_option
         self.fetched = fetched  # by address, when a block was first fetched
+        self.passed = passed    # by address, when a Link was first followed
         self.links = Links(memory)
-        self.rings, self.notes = [], []
+        self.rings = []
         self.cut = self.why = None  # the key of the last row, where memory gets other rings than the header can say
         self.find()
+        self.notes = [note for ring in self.rings for note in ring.notes] + ([self.why] if self.cut else [])
 
     def find(self):
         transfer = [use for use in self.areas.rings if use.what == 'xfer']
         for use in [use for use in self.areas.rings if use.what != 'xfer'] + transfer:
-            ring = next((ring for ring in self.rings if ring.holds(use.start)), None)
-            if ring and self.shared(ring, use):
+            ring = next((ring for ring in self.rings if self.shared(ring, use)), None)
+            if ring:
                 self.see_again(ring, use)
+            elif len(self.rings) == MOST_RINGS:
+                self.end_with(use, f'the ring at {use.start:#x} is one more than the {MOST_RINGS} that a trace may have')
             else:
-                self.see_new(use, self.areas.segments if use.what == 'evt' else self.segments_of(use))
-        self.notes += [self.why] if self.cut else []
+                self.see_new(Ring(len(self.rings), use), use)
 
-    def see_new(self, use, segments):
-        if any(self.overlap(ring, segments) for ring in self.rings):
-            self.end_at(use, f'memory of an earlier ring is used for another one at {use.start:#x}')
-        elif len(self.rings) == MOST_RINGS:
-            self.end_at(use, f'the ring at {use.start:#x} is one more than the {MOST_RINGS} that a trace may have')
-        else:
-            self.rings.append(Ring(len(self.rings), use.what, segments))
+    def see_new(self, ring, use):
+        if self.laid(ring, use):
+            self.rings.append(ring)
 
     def shared(self, ring, use):
         """Whether this use names the ring's first block, or another one while the ring is in use."""
-        return use.start == ring.segments[0][0] or any(
-            other.lives_with(use) for other in self.areas.rings if other is not use and ring.holds(other.start))
+        return use.start == ring.segments[0][0] or (
+            ring.holds(use.start) and any(other.lives_with(use) for other in ring.uses))
 
     def see_again(self, ring, use):
         """A ring that has been used and is bound once more: its positions go on counting, so no row can say what it holds now."""
-        earlier = any(other.bound and ring.holds(other.start) and other.named < use.named for other in self.areas.rings)
+        earlier = any(other.bound and other.named < use.named for other in ring.uses)
         if earlier and any(key < use.named for at, key in self.fetched.items() if ring.holds(at)):
-            self.end_at(use, f'the ring at {use.start:#x} was used before and is bound anew')
+            self.end_with(use, f'the ring at {use.start:#x} was used before and is bound anew')
+        else:
+            ring.uses.append(use)
+            self.laid(ring, use)
 
-    def end_at(self, use, why):
-        if self.cut is None or use.named < self.cut:
-            self.cut, self.why = use.named, why + ': the trace ends with the command that names it'
+    def laid(self, ring, use):
+        """Whether the ring's segments, by all its uses so far, are of no other ring."""
+        segments, notes = (self.areas.segments, []) if use.what == 'evt' else self.segments_of(ring.uses)
+        if any(self.overlap(other, segments) for other in self.rings if other is not ring):
+            self.end_with(use, f'memory of an earlier ring is used for another one at {use.start:#x}')
+            return False
+        ring.lay(segments, notes)
+        return True
+
+    def end_with(self, use, why):
+        self.end_at(use.named, why + ': the trace ends with the command that names it')
+
+    def end_at(self, key, why):
+        if self.cut is None or key < self.cut:
+            self.cut, self.why = key, why
 
     def overlap(self, ring, segments):
         return any(a < d + 16 * n and d < a + 16 * m for a, m in ring.segments for d, n in segments)
 
-    def segments_of(self, use):
-        """Every segment that a Link ever led to, in the order in which the last Links lead."""
-        found = self.linked(use)
-        starts, last = [use.start], {}
+    def segments_of(self, uses):
+        """Every segment that a Link ever led to, in the order in which the last Links lead; and what to note of them."""
+        first, found, notes = uses[0].start, self.linked(uses), []
+        starts, last = [first], {}
         for start in starts:
             for target in found[start][1] if start in found else []:
                 last[start] = target
                 if target not in starts and len(starts) < MOST_SEGMENTS:
                     starts.append(target)
-        ordered = [use.start]
+        ordered = [first]
         while last.get(ordered[-1]) and last[ordered[-1]] not in ordered:
             ordered.append(last[ordered[-1]])
         if len(starts) > len(ordered):
-            self.notes.append(f'the ring at {use.start:#x} has lost segments: they stand last in its line')
+            notes.append(f'the ring at {first:#x} has lost segments: they stand last in its line')
         ordered += [start for start in starts if start not in ordered]
-        return [(start, (found[start][0] - start) // 16 + 1 if start in found else self.guess(start, use)) for start in ordered]
+        counts = [(found[start][0] - start) // 16 + 1 if start in found else self.guess(start, uses, notes) for start in ordered]
+        return list(zip(ordered, counts)), notes
 
-    def linked(self, use):
+    def linked(self, uses):
         """The Link of each segment of a ring with the targets it ever had: one from which Links lead back to the first segment."""
-        candidates = {}
-        waiting = [use.start]
+        first, candidates = uses[0].start, {}
+        waiting = [first]
         while waiting and len(candidates) < 4 * MOST_SEGMENTS:
             start = waiting.pop()
-            candidates[start] = [(link, self.targets(link, use)) for link in self.links.between(start + 16, self.bound(start, use))
+            candidates[start] = [(link, self.targets(link, uses)) for link in self.links.between(start + 16, self.bound(start, uses))
                                  if link % 16 == start % 16]
             waiting += [to for link, targets in candidates[start] for to in targets if to not in candidates and to not in waiting]
-        closed, before = {use.start}, 0
+        closed, before = {first}, 0
         while len(closed) > before:
             before = len(closed)
             closed |= {start for start, links in candidates.items() for link, targets in links if closed.intersection(targets)}
         return {start: (link, targets) for start, links in candidates.items()
                 for link, targets in reversed(links) if closed.intersection(targets)}
 
-    def targets(self, link, use):
-        """Where the block led to while the ring was used and it was a Link."""
-        life = self.memory.life(link + 12, use.named, use.ended)
-        return [target for key, target in self.links.states[link]
-                if life and key >= life[0].key and not (use.ended and key >= use.ended)]
+    def targets(self, link, uses):
+        """Where the block led to while the ring was used and it was a Link, up to where it leads elsewhere though it was followed."""
+        targets = []
+        for key, target in self.states(link, uses):
+            if targets and target != targets[-1] and self.passed.get(link, key) < key:
+                self.end_at(key, f'the Link at {link:#x} was followed and then leads to other memory, {target:#x}: the trace ends there')
+                break
+            targets.append(target)
+        return targets
 
-    def bound(self, start, use):
+    def states(self, link, uses):
+        """The keys and targets of a Link during these uses."""
+        states = set()
+        for use in uses:
+            life = self.memory.life(link + 12, use.named, use.ended)
+            states |= {(key, target) for key, target in self.links.states[link]
+                       if life and key >= life[0].key and not (use.ended and key >= use.ended)}
+        return sorted(states)
+
+    def bound(self, start, uses):
         """Where the next area in memory begins, at most the next 64 KB boundary."""
         end = start - start % BOUNDARY + BOUNDARY
-        own = [other for other in self.areas.rings if use.what == 'xfer' and (other.slot, other.index) == (use.slot, use.index)]
-        others = [area.start for area in self.areas.fixed + self.areas.rings if area not in own and area.lives_with(use)]
+        endpoint = uses[0].slot, uses[0].index
+        others = [area.start for area in self.areas.fixed + self.areas.rings
+                  if any(area.lives_with(use) for use in uses) and area not in uses and not self.is_of(area, endpoint)]
         return min([end] + [other for other in others if other > start])
 
-    def guess(self, start, use):
+    def is_of(self, area, endpoint):
+        return area.what == 'xfer' and (area.slot, area.index) == endpoint
+
+    def guess(self, start, uses, notes):
         """The count of a segment whose Link was never written."""
-        end = self.bound(start, use)
+        end = self.bound(start, uses)
         used = max((at - start) // 16 + 2 for at in [start, *self.fetched] if start <= at < end)
         linked = self.linked_counts()
+        room = min((end - start) // 16, MOST_BLOCKS)
         if self.option:
             why, count = 'as the option says', self.option
         elif len(linked) == 1 and min(linked) >= used:
             why, count = 'as all rings have whose Link was', min(linked)
         else:
-            power = max(16, 1 << (used - 1).bit_length())
-            why, count = 'the least power of two that holds what was fetched', min(power, (end - start) // 16, MOST_BLOCKS)
-        self.notes.append(f'the Link of the segment at {start:#x} was never written: it is taken to have {count} blocks, {why}')
-        return max(count, 2)
+            why, count = 'the least power of two that holds what was fetched', max(16, 1 << (used - 1).bit_length())
+        if count > room:
+            why, count = 'up to where other memory begins', max(room, LEAST_BLOCKS)
+        notes.append(f'the Link of the segment at {start:#x} was never written: it is taken to have {count} blocks, {why}')
+        return count
 
     def linked_counts(self):
         """The counts of all first segments of this run whose Link was written."""
         counts = set()
         for use in self.areas.rings:
-            found = {} if use.what == 'evt' else self.linked(use)
+            found = {} if use.what == 'evt' else self.linked([use])
             if use.start in found:
                 counts.add((found[use.start][0] - use.start) // 16 + 1)
         return counts

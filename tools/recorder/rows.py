@@ -1,7 +1,7 @@
 """The rows of a run before descriptors are declared: writes to the areas, registers, doorbells and events read."""
 from collections import namedtuple
 
-from qemu_log import Bell, Seen
+from qemu_log import Bell, Seen, count_of
 
 # made_up: a `w` row for a word that no store was seen to leave; if_set: to be left out where the trace's memory has 0 there
 Row = namedtuple('Row', 'key kind fields made_up if_set', defaults=(False, False))
@@ -26,7 +26,7 @@ def writes(areas, rings, memory, cut):
     for start, length, named, ended, mixed in stretches(areas, rings, cut):
         for at in range(start, start + length, 4):
             for i, entry in enumerate(memory.life(at, named, ended)):
-                if mixed and entry.found and entry.found[0] > named[0]:
+                if mixed and entry.found and count_of(entry.found) > count_of(named):
                     continue
                 if_set = i == 0 and entry.word == 0 and entry.key < named
                 known = rows.get((at, entry.key))

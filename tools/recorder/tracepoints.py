@@ -1,0 +1,288 @@
+"""Rows of Linux's own xhci-hcd trace events, as their text stands in `trace` with options/fields=1 (Linux 6.12).
+
+An event `xhci_queue_trb` doesn't say where its TRB lies: the `xhci_inc_enq` that follows it does, under the driver's one lock. What
+no event tells is made up here: the registers' set-up, the DCBAA, the segment table, Links, ERDP, and when a TD's first TRB, which
+Linux stores with the other Cycle bit, is given: at the doorbell.
+"""
+import re
+
+import blocks
+import commands
+import descriptors
+import rows as row_list
+from areas import RingUse
+from convert import MOST_LINES
+from qemu_log import Unsupported
+from rings import MOST_RINGS, Ring
+from rows import Row
+
+EVENT = re.compile(r': (xhci_\w+): (.*)')
+FIELD = re.compile(r'(\w+)=(0x[0-9a-f]+) ')
+SEGMENT = 4096  # bytes: Linux's segments have 256 blocks, at such boundaries
+COMMAND_RING, EVENT_RING = 5, 6
+INPUT_CONTEXT = 2
+SLOTS = 255
+NOT_JUDGED = ('rules 10 to 14, 17 and 22 are not judged: the set-up of registers, ERDP, the DCBAA, the segment table and Links are made up, '
+              'and so is when the first TRB of a TD is given; stores into TRBs that are withdrawn are missing')
+
+
+class TraceRing:
+    """A ring as Linux has it: where the next TRB goes, and the TRBs that were stored with the other Cycle bit."""
+
+    def __init__(self, kind, start, cycle):
+        self.kind, self.start, self.enqueue, self.cycle = kind, start, start, cycle
+        self.segments, self.held, self.index = [start], [], None
+
+    def what(self):
+        return {COMMAND_RING: 'cmd', EVENT_RING: 'evt'}.get(self.kind, 'xfer')
+
+
+def events_of(lines):
+    """The name and fields of each event of xhci-hcd, numbers as numbers; `ctx_data` as words."""
+    for line in lines:
+        match = EVENT.search(line)
+        if match:
+            fields = {name: int(value, 16) for name, value in FIELD.findall(match[2] + ' ')}
+            data = re.search(r'ctx_data=([0-9a-f,]+)', match[2])
+            if data:
+                octets = bytes(int(octet, 16) for octet in data[1].strip(',').split(','))
+                fields['ctx_data'] = [int.from_bytes(octets[i:i + 4], 'little') for i in range(0, len(octets), 4)]
+            yield match[1], fields
+
+
+class Follower:
+    """Makes rows of events in order. `indices`: the endpoint of each ring, by its number of allocation, as doorbells tell it."""
+
+    def __init__(self, events, indices=()):
+        self.indices = dict(indices)
+        self.rows, self.commands, self.notes = [], [], []
+        self.rings, self.by_pointer, self.image, self.contexts = [], {}, {}, {}
+        self.queued = self.command = self.last_held = None
+        self.control = self.slot_context = None
+        self.added, self.device = [], {}
+        self.size, self.started, self.over = 32, False, False
+        events = list(events)
+        self.made_up = self.free_memory(events)
+        for name, fields in events:
+            handler = getattr(self, name, None)
+            if handler and not self.over:
+                handler(fields)
+
+    def free_memory(self, events):
+        """An address above all that the events name, for what is made up."""
+        known = [fields[name] for what, fields in events for name in ('enq', 'deq', 'ctx_dma', 'in_ctx', 'out_ctx') if name in fields]
+        return (max(known, default=0) | 0xffff) + 1
+
+    def row(self, kind, *fields):
+        self.rows.append(Row(len(self.rows), kind, fields))
+
+    def store(self, at, word):
+        self.image[at] = word
+        self.row('w', at, word)
+
+    def store_new(self, at, words):
+        for i, word in enumerate(words):
+            if self.image.get(at + 4 * i, 0) != word:
+                self.store(at + 4 * i, word)
+
+    def end(self, why):
+        self.over = True
+        self.notes.append(f'the trace ends early: {why}')
+
+    # rings
+
+    def xhci_ring_alloc(self, fields):
+        start = fields['enq']
+        ring = TraceRing(fields['type'], start, fields['cycle_state'])
+        if ring.kind in (COMMAND_RING, EVENT_RING) and any(other.kind == ring.kind for other in self.rings):
+            return self.end('a second command ring or event ring is made: another controller, or a new run')
+        if len(self.rings) == MOST_RINGS:
+            return self.end(f'a trace may have {MOST_RINGS} rings')
+        if any(start in other.segments for other in self.rings):
+            return self.end(f'memory of an earlier ring is used for another one at {start:#x}')
+        if not self.rings and ring.kind != COMMAND_RING:
+            raise Unsupported('the events begin after the command ring was made: enable them before xhci-pci is loaded')
+        self.rings.append(ring)
+        self.by_pointer[fields['ring']] = ring
+        if ring.kind == EVENT_RING:
+            self.set_up(self.rings[0], ring)
+
+    def set_up(self, command_ring, event_ring):
+        """All of it is made up, but for both rings."""
+        self.command_ring, table = command_ring, self.made_up + SEGMENT
+        for name, value in (('config', SLOTS), ('dcbaap', self.made_up), ('crcr', command_ring.start | 1)):
+            self.row('reg', name, value)
+        self.table = len(self.rows)  # the segment table is filled in when all segments are known
+        for name, value in (('erstsz', 1), ('erdp', event_ring.start), ('erstba', table), ('usbcmd', 1)):
+            self.row('reg', name, value)
+        self.started = True
+
+    def xhci_inc_deq(self, fields):
+        ring = self.by_pointer.get(fields['ring'])
+        if ring and ring.kind == EVENT_RING:
+            if fields['deq_seg'] not in ring.segments:
+                ring.segments.append(fields['deq_seg'])
+            self.row('reg', 'erdp', fields['deq'] | 8)
+
+    def xhci_queue_trb(self, fields):
+        self.queued = tuple(fields[f'field{i}'] for i in range(4))
+        if fields['type'] == COMMAND_RING:
+            self.prepare(self.queued)
+
+    def xhci_inc_enq(self, fields):
+        ring, words = self.by_pointer.get(fields['ring']), self.queued
+        if not ring or words is None or ring.kind != fields['type']:
+            return
+        self.queued = None
+        if ring.enqueue % SEGMENT == SEGMENT - 16:
+            self.cross(ring, fields['enq'] - fields['enq'] % SEGMENT, 0)
+        at = ring.enqueue
+        if blocks.cycle(words) != ring.cycle:
+            ring.held.append((at + 12, words[3] ^ 1))
+            self.last_held = ring
+        for i, word in enumerate(words):
+            self.store(at + 4 * i, word)
+        ring.enqueue = at + 16
+        if fields['enq'] % SEGMENT == 0:
+            self.cross(ring, fields['enq'], blocks.chained(words))
+        if ring.kind == COMMAND_RING:
+            self.command = (at, words)
+
+    def cross(self, ring, to, chained):
+        """A Link whose words are made up."""
+        toggles = to == ring.start
+        if to not in ring.segments:
+            ring.segments.append(to)
+        at = ring.enqueue - ring.enqueue % SEGMENT + SEGMENT - 16
+        control = blocks.LINK << 10 | chained << 4 | toggles << 1 | ring.cycle
+        for i, word in enumerate((to & 0xffffffff, to >> 32, 0, control)):
+            self.store(at + 4 * i, word)
+        ring.cycle ^= toggles
+        ring.enqueue = to
+
+    # contexts
+
+    def xhci_address_ctx(self, fields):
+        self.size = 64 if fields['ctx_64'] else 32
+        if fields['ctx_type'] == INPUT_CONTEXT:
+            self.contexts[fields['ctx_dma']] = fields['ctx_data']
+
+    def xhci_setup_device(self, fields):
+        self.device[fields['in_ctx']] = fields['out_ctx']
+
+    def xhci_add_endpoint(self, fields):
+        self.added.append(tuple(fields[name] for name in ('info', 'info2', 'deq', 'tx_info')))
+
+    def xhci_configure_endpoint_ctrl_ctx(self, fields):
+        self.control = (fields['drop'], fields['add'])
+
+    def xhci_configure_endpoint(self, fields):
+        self.slot_context = tuple(fields[name] for name in ('info', 'info2', 'tt_info', 'state'))
+
+    def prepare(self, words):
+        """Before a command: its input context and the DCBAA's entry, as far as events tell them."""
+        kind, at = blocks.kind(words), blocks.target(words)
+        if kind == blocks.ADDRESS_DEVICE:
+            context = self.device.get(at, 0)
+            self.store_new(self.made_up + 8 * blocks.slot(words), (context & 0xffffffff, context >> 32))
+            self.store_new(at, self.contexts.get(at, []))
+        elif kind in (blocks.CONFIGURE_ENDPOINT, blocks.EVALUATE_CONTEXT) and not blocks.drops_all(words) and self.control:
+            self.store_new(at, self.control)
+            self.store_new(at + self.size, self.slot_context or ())
+            for index, (info, info2, dequeue, tx_info) in self.placed(self.control[1]):
+                self.store_new(at + (index + 1) * self.size, (info, info2, dequeue & 0xffffffff, dequeue >> 32, tx_info))
+            self.control, self.added = None, []
+
+    def placed(self, add):
+        """Each endpoint that was added with its index: as a doorbell tells it, else the least one that is left of its direction."""
+        left = [index for index in range(2, 32) if add >> index & 1]
+        told = []
+        for context in self.added:
+            number = self.number_at(context[2] & ~15)
+            index = self.indices.get(number)
+            if index not in left:
+                is_in = (context[1] >> 3 & 7) > 4
+                index = next((index for index in left if index % 2 == is_in), None)
+            if index is not None:
+                left.remove(index)
+                told.append((index, context))
+        return told
+
+    def number_at(self, start):
+        return next((number for number, ring in enumerate(self.rings) if ring.start == start), None)
+
+    # doorbells and events
+
+    def xhci_ring_host_doorbell(self, fields):
+        self.row('db', 0, 0)
+
+    def xhci_ring_ep_doorbell(self, fields):
+        ring = self.last_held
+        if ring and ring.held:
+            for at, word in ring.held:
+                self.store(at, word)
+            ring.held = []
+            ring.index = fields['doorbell'] & 0xff
+        self.row('db', fields['slot'], fields['doorbell'] & 0xff)
+
+    def xhci_handle_event(self, fields):
+        words = tuple(fields[f'field{i}'] for i in range(4))
+        if blocks.kind(words) == blocks.COMMAND_COMPLETION and self.command and self.command[0] == blocks.pointer(words):
+            at, command = self.command
+            self.commands.append(commands.Command(None, at, command, None, words, len(self.rows)))
+        self.row('ev', *words)
+
+
+class Tracepoints:
+    """The rows and rings of one run, made of the text of its events."""
+
+    def __init__(self, lines):
+        events = list(events_of(lines))
+        if not any(name == 'xhci_queue_trb' and 'field3' in fields for name, fields in events):
+            raise Unsupported('no xhci_queue_trb with its fields: set options/fields to 1 before the events are enabled')
+        first = Follower(events)
+        indices = {number: ring.index for number, ring in enumerate(first.rings) if ring.index}
+        self.follower = Follower(events, indices)
+        if not self.follower.started:
+            raise Unsupported('the events begin after the rings of commands and events were made: enable them before xhci-pci is loaded')
+        self.size, self.commands = self.follower.size, self.follower.commands
+        self.rings = [self.laid(ring) for ring in self.follower.rings]
+        for number, ring in enumerate(self.rings):
+            ring.number = number
+        self.rows = self.with_table()
+
+    def laid(self, ring):
+        laid = Ring(0, RingUse(ring.what(), ring.start, 0))
+        laid.lay([(start, SEGMENT // 16) for start in ring.segments])
+        return laid
+
+    def with_table(self):
+        """The rows with the event ring's segment table, which is made up."""
+        table = self.follower.made_up + SEGMENT
+        segments = next(ring.segments for ring in self.rings if ring.kind == 'evt')
+        stores = []
+        for i, (start, count) in enumerate(segments):
+            stores += [(table + 16 * i, start & 0xffffffff), (table + 16 * i + 4, start >> 32), (table + 16 * i + 8, count)]
+        rows, place = self.follower.rows, self.follower.table
+        made = [Row(0, 'w', store) for store in stores if store[1]] + [Row(0, 'reg', ('erstsz', len(segments)))]
+        return rows[:place] + made + rows[place + 1:]
+
+
+def converted(lines):
+    """The texts of the trace and of its notes, and a line on it."""
+    run = Tracepoints(lines)
+    plain = [row._replace(key=number) for number, row in enumerate(run.rows)]
+    moved = {row.key: number for number, row in enumerate(run.rows) if row.kind == 'ev'}
+    commands = [command._replace(read=moved[command.read]) for command in run.commands]
+    producers = descriptors.follow(plain, run.rings, commands)
+    rows, cut = descriptors.declared(plain, producers)
+    header = ['xtrace 1', f'ctx {run.size:02x}'] + [ring.line() for ring in run.rings]
+    text = [row_list.text(row) for row in rows]
+    notes = [NOT_JUDGED] + run.follower.notes
+    if cut < len(plain):
+        notes.append(f'a TD was not given whole: the trace ends before its first row, and {len(plain) - cut} rows are left out')
+    if len(header) + len(text) > MOST_LINES:
+        text = text[:MOST_LINES - len(header)]
+        notes.append(f'the trace ends after the {MOST_LINES} lines that it may have')
+    lines = [''.join(line + '\n' for line in part) for part in (header + text, notes)]
+    return *lines, f'{len(text)} rows, {len(run.rings)} rings'
