@@ -25,7 +25,7 @@ int firmware_main(int how);
 int firmware_main(int how)
 {
 	static const uint32_t td[2][4] = { { 1, 2, 3, 0x411 }, { 4, 5, 6, 0x421 } };
-	unsigned int i;
+	unsigned int i, before;
 
 	xt_begin(32);
 	xt_ring(0, "cmd", 0x10000, 16);
@@ -52,7 +52,9 @@ int firmware_main(int how)
 	}
 	xt_event(0x30000, 0, 0x01000000, 0x01018001);
 	xt_reg("usbcmd", 2, firmware_register = 9);
-	xt_reg("usbcmd", 1, firmware_register = 10);
+	xt_reg("usbcmd", 1, before = length);
+	if (before != length) /* the row is there before the store */
+		return -1;
 	xt_reg("usbcmd", 5, firmware_register = 11);
 	xt_reg("usbcmd", 4, firmware_register = 12);
 	xt_doorbell(0, 0, firmware_register = 13);

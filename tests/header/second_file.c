@@ -1,7 +1,5 @@
 /* Another file of the same driver: the header's state stands in threads.c */
-#include "xhci_trace.h"
-
-void store_from_second_file(volatile uint32_t *word, uint64_t bus, uint32_t value);
+#include "threads.h"
 
 void store_from_second_file(volatile uint32_t *word, uint64_t bus, uint32_t value)
 {

@@ -1,49 +1,62 @@
-/* Four threads store to the same words by the header's hooks; at the end the words are told. The other half stands in second_file.c */
+/* Four threads store to the same words by the header's hooks. Prints the trace, and then each word as it stands in memory */
+#define _POSIX_C_SOURCE 200809L
 #include <pthread.h>
+#include <sched.h>
 #include <stdio.h>
+#include <string.h>
 
 #define XHCI_TRACE_HERE
-#include "xhci_trace.h"
+#include "threads.h"
 
-#define WORDS 8
-#define STORES 5000
+#define WORDS 256
+#define THREADS 4
 
-void store_from_second_file(volatile uint32_t *word, uint64_t bus, uint32_t value);
+static char trace[1 << 20];
+static unsigned int length;
+static pthread_barrier_t barrier;	/* all go to the same word at once */
 
 static union {
 	volatile uint32_t word[WORDS];
 	volatile uint64_t pair[WORDS / 2];
 } memory;
 
-static void *store_many(void *number)
+void put_text(const char *text)
+{
+	unsigned int bytes = (unsigned int)strlen(text);
+
+	memcpy(trace + __atomic_fetch_add(&length, bytes, __ATOMIC_SEQ_CST), text, bytes);
+	sched_yield();
+}
+
+static void *store_all(void *number)
 {
 	uint32_t value = (uint32_t)(uintptr_t)number << 24, i;
 
-	for (i = 0; i < STORES; i++, value++) {
-		unsigned int word = i % WORDS;
-
-		if (i % 3 == 0)
-			xt_store64(&memory.pair[word / 2], 0x1000 + 8 * (word / 2), (uint64_t)value << 32 | value);
-		else if (i % 3 == 1)
-			xt_store32(&memory.word[word], 0x1000 + 4 * word, value);
-		else
-			store_from_second_file(&memory.word[word], 0x1000 + 4 * word, value);
+	for (i = 0; i < WORDS; i++, value++) {
+		pthread_barrier_wait(&barrier);
+		if (i % 4 == 0)
+			xt_store64(&memory.pair[i / 2], 0x1000 + 4 * i, (uint64_t)value << 32 | value);
+		else if (i % 4 == 2)
+			xt_store32(&memory.word[i], 0x1000 + 4 * i, value);
+		else if (i % 4 == 3)
+			store_from_second_file(&memory.word[i], 0x1000 + 4 * i, value);
 	}
 	return 0;
 }
 
-int main(int argc, char **argv)
+int main(void)
 {
-	pthread_t threads[4];
+	pthread_t threads[THREADS];
 	uintptr_t i;
 
-	if (argc != 2 || xt_open(argv[1], 64))
-		return 1;
-	for (i = 0; i < 4; i++)
-		pthread_create(&threads[i], 0, store_many, (void *)(i + 1));
-	for (i = 0; i < 4; i++)
+	xt_begin(64);
+	pthread_barrier_init(&barrier, 0, THREADS);
+	for (i = 0; i < THREADS; i++)
+		pthread_create(&threads[i], 0, store_all, (void *)(i + 1));
+	for (i = 0; i < THREADS; i++)
 		pthread_join(threads[i], 0);
+	fputs(trace, stdout);
 	for (i = 0; i < WORDS; i++)
 		printf("%016x %08x\n", 0x1000 + 4 * (unsigned int)i, memory.word[i]);
-	return xt_close() ? 1 : 0;
+	return 0;
 }
