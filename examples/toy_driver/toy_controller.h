@@ -1,0 +1,39 @@
+/* SPDX-License-Identifier: MIT */
+/* A machine of 1 MB of memory with a toy xHCI controller, in the driver's own process */
+#ifndef TOY_CONTROLLER_H
+#define TOY_CONTROLLER_H
+
+#include <stdint.h>
+
+/* The controller's words are little-endian */
+#ifndef XT_BIG_ENDIAN
+#if defined(__BYTE_ORDER__) && defined(__ORDER_BIG_ENDIAN__) && __BYTE_ORDER__ == __ORDER_BIG_ENDIAN__
+#define XT_BIG_ENDIAN 1
+#else
+#define XT_BIG_ENDIAN 0
+#endif
+#endif
+
+#define MEMORY_BYTES (1u << 20)
+
+union toy_memory {
+	volatile uint32_t word[MEMORY_BYTES / 4];
+	volatile uint64_t pair[MEMORY_BYTES / 8];
+};
+
+extern union toy_memory memory;
+
+static inline uint32_t le32(uint32_t value)
+{
+	if (!XT_BIG_ENDIAN)
+		return value;
+	return value << 24 | (value & 0xff00) << 8 | (value >> 8 & 0xff00) | value >> 24;
+}
+
+enum hc_register { HC_USBCMD, HC_CONFIG, HC_CRCR, HC_DCBAAP, HC_ERSTSZ, HC_ERSTBA, HC_ERDP };
+
+void hc_write(enum hc_register reg, uint64_t value);
+void hc_write_half(enum hc_register reg, unsigned int high, uint32_t value);
+void hc_doorbell(unsigned int slot, unsigned int target);
+
+#endif

@@ -1,0 +1,64 @@
+/* The header where there is no library: text goes out by a function, and the lock counts. Each hook is called once, and wrongly too */
+static void put_text(const char *text);
+static int depth, locked;
+
+#define XT_PRINT(text) put_text(text)
+#define XT_LOCKED(...) do { depth++; locked += depth == 1; __VA_ARGS__; depth--; } while (0)
+#define XT_HOLD 256
+#define XHCI_TRACE_HERE
+#include "xhci_trace.h"
+
+char firmware_log[4096];
+static unsigned int length;
+
+static void put_text(const char *text)
+{
+	for (; *text && length < sizeof(firmware_log) - 1; text++)
+		firmware_log[length++] = depth == 1 ? *text : '!';
+}
+
+union firmware_memory { volatile uint32_t word[4]; volatile uint64_t pair[2]; } firmware_memory;
+volatile uint32_t firmware_register;
+
+int firmware_main(int how);
+
+int firmware_main(int how)
+{
+	static const uint32_t td[2][4] = { { 1, 2, 3, 0x411 }, { 4, 5, 6, 0x421 } };
+	unsigned int i, before;
+
+	xt_begin(32);
+	xt_ring(0, "cmd", 0x10000, 16);
+	xt_store64(&firmware_memory.pair[0], 0x30000, 0x1122334455667788u);
+	xt_ring(2, "xfer", 0x30000, 4);
+	xt_reg_half("erdp", 1, 0x12, firmware_register = 1);
+	xt_reg("iman", 3, firmware_register = 2);
+	xt_reg_half("erdp", 0, 0x345678, firmware_register = 3);
+	xt_reg_half("crcr", 0, 0x10001, firmware_register = 4);
+	xt_reg_half("crcr", 1, 0, firmware_register = 5);
+	xt_submit(2, td[0], 2);
+	xt_submit_block(2, 1, 2, 3, 0x411);
+	xt_store32(&firmware_memory.word[2], 0x30008, 7);
+	xt_doorbell(1, 1, firmware_register = 6);
+	if (how == 1) /* more rows than there is room for */
+		for (i = 0; i < 10; i++)
+			xt_store32(&firmware_memory.word[2], 0x30008, i);
+	if (how == 2) /* another ring in between */
+		xt_submit_block(3, 0, 0, 0, 0x410);
+	xt_submit_block(2, 4, 5, 6, 0x421);
+	if (how == 3) { /* a half twice */
+		xt_reg_half("erdp", 0, 1, firmware_register = 7);
+		xt_reg_half("erdp", 0, 2, firmware_register = 8);
+	}
+	xt_event(0x30000, 0, 0x01000000, 0x01018001);
+	xt_reg("usbcmd", 2, firmware_register = 9);
+	xt_reg("usbcmd", 1, before = length);
+	if (before != length) /* the row is there before the store */
+		return -1;
+	xt_reg("usbcmd", 5, firmware_register = 11);
+	xt_reg("usbcmd", 4, firmware_register = 12);
+	xt_doorbell(0, 0, firmware_register = 13);
+	xt_ring(4, "xfer", 0x50000, 4);
+	firmware_log[length] = 0;
+	return depth == 0 ? locked : -1;
+}

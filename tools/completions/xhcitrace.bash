@@ -1,0 +1,25 @@
+# Completion of xhcitrace's command line for bash
+_xhcitrace() {
+  local word=${COMP_WORDS[COMP_CWORD]} before=${COMP_WORDS[COMP_CWORD-1]} command=${COMP_WORDS[1]}
+  local options
+  COMPREPLY=()
+  if [ "$COMP_CWORD" -eq 1 ]; then
+    mapfile -t COMPREPLY < <(compgen -W 'check verify schedule replay write decode help --help --version -h -V' -- "$word")
+    return
+  fi
+  case $command in
+    check) options='--cert --explain --help -h' ;;
+    verify | schedule | replay | write | decode) options='--explain --help -h' ;;
+    help)
+      mapfile -t COMPREPLY < <(compgen -W 'check verify schedule replay write decode help' -- "$word")
+      return ;;
+    *) return ;;
+  esac
+  if [ "$before" != --cert ] && [ "${word#-}" != "$word" ]; then
+    mapfile -t COMPREPLY < <(compgen -W "$options" -- "$word")
+  elif [ "$command" != decode ]; then
+    compopt -o filenames 2>/dev/null
+    mapfile -t COMPREPLY < <(compgen -f -- "$word")
+  fi
+}
+complete -F _xhcitrace xhcitrace
