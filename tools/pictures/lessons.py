@@ -156,7 +156,7 @@ STOPPING = Chapter(
                'Move past all that was handed over, and submit again what must be done.', '50-54, 57-64, 72-79'),
         Lesson(f'{HARMS}/moves-into-descriptors', 'Into the middle of a TD',
                'Set TR Dequeue Pointer names the Link between the two TRBs of a TD. The controller takes the second TRB without the first.',
-               'Move to the first TRB of a TD, or behind the last one.', '48, 55, 59-61, 63-69, 76-80'),
+               'Move to the first TRB of a TD, or behind the last one.', '59-61, 63-69, 76-80'),
     ))
 
 CHAPTERS = (HANDING_OVER, LINKS, EVENTS, COMMANDS, STOPPING)

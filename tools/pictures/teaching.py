@@ -10,7 +10,8 @@ from scene import Scene
 from shown import Rows
 
 MOST_RAW, COLUMN_WIDTH = 27, 20
-LEAST_WIDTH = 720
+# how far a picture shrinks where the window is small; behind that it scrolls
+LEAST_WIDTH, LEAST_SCALE = 720, 0.76
 TITLE = 'How a driver and a controller share a ring, and the ways to break it'
 PAGE_STYLE = '''body{margin:0 auto;max-width:1200px;padding:16px 20px 60px;font-family:'DejaVu Sans',Verdana,Helvetica,sans-serif;font-size:15px;
 line-height:1.5;color:#1f2328;background:#fff}
@@ -120,7 +121,7 @@ class Page:
         drawn = placed(picture.sections, layout.head_height)
         parts = [*head(picture, layout, 0), *body(picture, layout, drawn)]
         height, told = drawn[-1].top + ROW + 6, f'{picture.name}: {picture.verdict.answer}'
-        self.add('<div class="picture">', svg_element(parts, layout.width, height, told, LEAST_WIDTH), '</div>')
+        self.add('<div class="picture">', svg_element(parts, layout.width, height, told, max(LEAST_WIDTH, round(layout.width * LEAST_SCALE))), '</div>')
 
     def answers(self, name):
         """What the program answers to a lesson's trace and schedule, folded."""
