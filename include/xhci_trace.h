@@ -124,10 +124,9 @@ struct xt_state {
 #endif
 };
 
+extern struct xt_state xt_state;
 #ifdef XHCI_TRACE_HERE
 struct xt_state xt_state;
-#else
-extern struct xt_state xt_state;
 #endif
 
 /* ---- text; all that follows up to the hooks is called under the lock ---- */
@@ -224,8 +223,10 @@ static inline void xt_event_row(uint32_t word0, uint32_t word1, uint32_t word2, 
 
 static inline int xt_is(const char *name, const char *other)
 {
-	while (*name && *name == *other)
-		name++, other++;
+	while (*name && *name == *other) {
+		name++;
+		other++;
+	}
 	return *name == *other;
 }
 

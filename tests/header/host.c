@@ -14,6 +14,7 @@ int main(int argc, char **argv)
 	const volatile unsigned char *bytes = (const volatile unsigned char *)&firmware_memory;
 
 	fputs(firmware_log, stdout);
-	printf("%s, %u, %02x%02x%02x%02x\n", locked > 0 ? "locked" : "not locked", (unsigned int)firmware_register, bytes[0], bytes[1], bytes[2], bytes[3]);
+	printf("%s, %u, ", locked > 0 ? "locked" : "not locked", (unsigned int)firmware_register);
+	printf("%02x%02x%02x%02x\n", bytes[0], bytes[1], bytes[2], bytes[3]);
 	return 0;
 }
