@@ -146,14 +146,16 @@ def write(trace, out, number):
     """Writes each file under another name first: where the disk is full no half of one is left."""
     for ending, text in (('xtrace', trace.text), ('xsched', trace.schedule), ('notes', trace.notes)):
         path = f'{out}.{number}.{ending}'
+        part = path + '.part'
         try:
-            with open(path + '.part', 'w') as file:
+            with open(part, 'w') as file:
                 file.write(text)
-            os.replace(path + '.part', path)
-        except OSError:
-            if os.path.isfile(path + '.part'):
-                os.unlink(path + '.part')
-            raise
+            os.replace(part, path)
+        except OSError as fault:
+            raise OSError(fault.errno, fault.strerror, path) from None
+        finally:
+            if os.path.isfile(part):
+                os.unlink(part)
 
 
 def main():
