@@ -38,4 +38,3 @@ fn a_ring_of_four_blocks(rt: HostRuntime) -> Result<(), Fail> {
     assert_eq!(rt; ring.place_at(0x30002), None);
     Ok(())
 }
-
