@@ -83,10 +83,10 @@ def placed(sections, top, unfolded=False):
 
 
 class Rows:
-    """Where rows are drawn: at their line, or within the fold that has them, else over or under all."""
+    """Where rows are drawn: at their line, or within the fold that has them, else so far over or under all."""
 
-    def __init__(self, drawn):
-        self.top, self.bottom = drawn[0].top, drawn[-1].top + ROW
+    def __init__(self, drawn, beyond=0):
+        self.top, self.bottom = drawn[0].top - beyond, drawn[-1].top + ROW + beyond
         own = [one for one in drawn if one.rows or one.line.is_row]
         self.ends = [one.rows.last if one.rows else one.line.row for one in own]
         self.first = own[0].rows.first if own and own[0].rows else own[0].line.row if own else 0
@@ -102,18 +102,26 @@ class Rows:
         return self.top if row < self.first else self.y(row) + ROW // 2
 
     def touch(self, lease):
+        """A lease has a bar here that has one of the lines' rows, or that comes from above or goes on below, beside a fold alone too."""
         found = bisect_left(self.shown, lease.begin)
-        return found < len(self.shown) and self.shown[found] <= lease.end
+        comes, goes_on = lease.begin < self.first <= lease.end, self.ends and lease.begin <= self.ends[-1] < lease.end
+        return comes or goes_on or found < len(self.shown) and self.shown[found] <= lease.end
 
 
-def body(picture, layout, drawn):
-    """The lines, with the bars behind their marks."""
-    rows = Rows(drawn)
-    told = [line_markup(one, layout) for one in drawn]
-    told += [f'<path class="guide" d="M{x:g} {rows.top}V{rows.bottom}"/>' for x in layout.columns.values()]
-    told += [bar_markup(bar, layout, rows, picture.verdict.refused) for bar in picture.bars if rows.touch(bar.lease)]
+def body(picture, layout, drawn, beyond=0):
+    """The lines, with the bars behind their marks. Bars that come from above or go on below reach so far beyond the lines."""
+    told = [*(line_markup(one, layout) for one in drawn), *guides(layout, drawn[0].top, drawn[-1].top + ROW)]
+    told += bars(picture, layout, Rows(drawn, beyond))
     told += [mark_markup(mark.shape, layout.columns[mark.place], one.middle, one.line.is_bad) for one in drawn if one.line for mark in one.line.marks]
     return told
+
+
+def guides(layout, top, bottom):
+    return [f'<path class="guide" d="M{x:g} {top}V{bottom}"/>' for x in layout.columns.values()]
+
+
+def bars(picture, layout, rows):
+    return [bar_markup(bar, layout, rows, picture.verdict.refused) for bar in picture.bars if rows.touch(bar.lease)]
 
 
 def line_markup(one, layout):

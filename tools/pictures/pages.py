@@ -1,17 +1,24 @@
 """A picture as a page that scrolls: its head stays, its folds open, and each row says on hover what it did. No network, no script."""
+from dataclasses import replace
 from html import escape
 
-from drawing import ROW, STYLE, body, described, head, key, key_names, placed, svg_element
+from drawing import ROW, STYLE, Drawn, Rows, bars, body, described, guides, head, key, key_names, line_markup, placed, svg_element
 from layout import layout_of
 
+# so far beyond a part's edge its bars reach, where it cuts them: then their round ends aren't seen, and they go on in the next part
+CUT = 4
 PAGE_STYLE = '''body{margin:0;font-family:'DejaVu Sans',Verdana,Helvetica,sans-serif;font-size:13px;color:#1f2328;background:#fff}
 header{position:sticky;top:0;background:#fff;border-bottom:1px solid #c9d1d9;z-index:1}
 header,main{min-width:max-content}
 h1{font-size:16px;margin:0;padding:8px 12px 0}
 p{margin:0;padding:2px 12px}
 p.refused{color:#a3320b;font-weight:bold}
-summary,p.fold{padding:2px 12px 2px 38px;font-size:11px;font-style:italic;color:#57606a;cursor:pointer}
-p.fold{cursor:auto}
+summary,p.fold{padding:2px 12px 2px 38px;font-size:11px;font-style:italic;color:#57606a}
+summary{cursor:pointer}
+summary.rows{display:block;position:relative;padding:0}
+summary.rows::before{content:'\\25b8';position:absolute;left:24px;line-height:18px;font-style:normal}
+details[open]>summary.rows::before{content:'\\25be'}
+details[open]>summary .closed,details:not([open])>summary .opened{display:none}
 pre{padding:4px 24px;white-space:pre-wrap}
 svg{display:block}'''
 
@@ -33,14 +40,25 @@ def page(picture):
 
 
 def section_parts(picture, layout, section):
-    """Rows as a picture of their own; folded ones in a fold that opens, or as a note where they are too many."""
+    """Rows as a picture of their own; folded ones in a fold that opens, or as a line that tells of them where they are too many."""
     if not section.lines:
-        return [f'<p class="fold">{escape(section.rows.note)}</p>']
+        return [fold_line(picture, layout, section.rows)]
     drawn = placed([section], 0, unfolded=True)
-    picture = svg_element(body(picture, layout, drawn), layout.width, drawn[-1].top + ROW, described(picture))
+    rows = svg_element(body(picture, layout, drawn, CUT), layout.width, drawn[-1].top + ROW, described(picture))
     if not section.rows.note:
-        return [picture]
-    return ['<details>', f'<summary>{escape(section.rows.note)}</summary>', picture, '</details>']
+        return [rows]
+    return ['<details>', f'<summary class="rows">{fold_line(picture, layout, section.rows)}</summary>', rows, '</details>']
+
+
+def fold_line(picture, layout, rows):
+    """The line that stands for folded rows, with the bars that reach into it. Once it is open, what begins or ends in the fold does so
+    below: then there are the bars that come from above alone, and go on."""
+    closed = Drawn(None, rows, 0)
+    opened = Drawn(None, replace(rows, last=rows.first - 1), 0)
+    parts = [line_markup(closed, layout), *guides(layout, 0, ROW)]
+    for state, one in (('closed', closed), ('opened', opened)):
+        parts += [f'<g class="{state}">', *bars(picture, layout, Rows([one], CUT)), '</g>']
+    return svg_element(parts, layout.width, ROW)
 
 
 def said(verdict):

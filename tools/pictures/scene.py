@@ -5,9 +5,10 @@ from dataclasses import dataclass
 
 from lines import BACK, Lines
 from meanings import Meanings
+from other_rings import OtherRings
 from places import MemoryMap, Place
 from program import RANGE, BadInput
-from shown import MOST_SHOWN, Rows, earlier_rows, rows_asked, with_folds
+from shown import MOST_SHOWN, Rows, earlier_rows, rows_asked, rows_near, with_folds
 from steps import run_of
 from traces import TraceText
 
@@ -62,15 +63,18 @@ class Scene:
     def picture(self, asked=None, with_folded=False, is_chosen=False, has_notes=True):
         """The rows that are asked for, or those that the trace's length and its verdict call for, and the earlier ones about their memory,
         but where the rows are chosen by hand; with the lines of folds where these can be opened, and without a note on what isn't shown
-        where the text around the picture tells that."""
+        where the text around the picture tells that. Rows that are asked for are folded only where they can be unfolded."""
         ranges = self.ranges(asked)
         self.look_around(ranges)
-        earlier = [] if is_chosen else earlier_rows(self.trace, self.memory, self.open_leases, ranges, self.verdict.refused)
+        others = None if is_chosen or asked and not with_folded else self.other_rings(ranges)
+        earlier = [] if is_chosen else self.earlier_rows(ranges, others)
         if earlier:
             ranges = ranges + [Rows(row, row) for row in earlier]
             self.look_around(ranges)
         told = with_folds(self.trace, ranges, max(max(rows.last for rows in ranges), self.end() if self.run else 0))
-        sections = self.sections(told, with_folded)
+        if with_folded:
+            self.look_around([rows for rows in told if is_seen(rows)])
+        sections = self.sections(told, with_folded, others)
         return self.composed(sections if has_notes else [section for section in sections if not section.rows.note])
 
     def ranges(self, asked):
@@ -91,20 +95,30 @@ class Scene:
             ended.setdefault(lease.end, []).append(lease)
         self.lines = Lines(self.trace, self.verdict, self.memory, Meanings(self.trace, self.memory, begun), begun, ended)
 
+    def other_rings(self, ranges):
+        """The rows of rings that the refused row has nothing to do with; None where no row that is shown is refused."""
+        refused = self.verdict.refused
+        return OtherRings(self.trace, ranges, refused) if refused and any(rows.has(refused) for rows in ranges) else None
+
+    def earlier_rows(self, ranges, others):
+        earlier = earlier_rows(self.trace, self.memory, self.open_leases, ranges, self.verdict.refused)
+        return [row for row in earlier if not others or not others.has(row)]
+
     def commands(self, ranges):
         """The commands that are submitted near some rows, as their words."""
         ring = self.trace.command_ring
-        near = set()
-        for rows in ranges:
-            near.update(range(max(self.trace.first, rows.first - COMMANDS_NEAR), min(self.trace.last, rows.last + COMMANDS_NEAR) + 1))
-        texts = (self.trace.row(row) for row in sorted(near)) if ring else ()
+        texts = map(self.trace.row, rows_near(self.trace, ranges, COMMANDS_NEAR)) if ring else ()
         return [[int(field, 16) for field in text.split()[2:6]] for text in texts if text.startswith(f'sub {ring.number:02x} ')]
 
-    def sections(self, told, with_folded):
-        seen = [rows for rows in told if not rows.note or rows.count <= MOST_UNFOLDED]
-        wanted = {row for rows in seen for row in range(rows.first, rows.last + 1)}
+    def sections(self, told, with_folded, others):
+        wanted = {row for rows in told if is_seen(rows) for row in range(rows.first, rows.last + 1)}
         beside = self.lines.beside_rows(self.run, wanted) if self.run else {}
-        return [Section(rows, self.lines.of_rows(rows, beside) if not rows.note or with_folded and rows in seen else []) for rows in told]
+        sections = []
+        for rows in told:
+            parts = others.folded_apart(rows, beside) if others and not rows.note else [rows]
+            shown = [not part.note or with_folded and is_seen(rows) for part in parts]
+            sections += [Section(part, self.lines.of_rows(part, beside) if is_shown else []) for part, is_shown in zip(parts, shown)]
+        return sections
 
     # ---- columns and bars
 
@@ -114,13 +128,15 @@ class Scene:
         marks = [mark for line in lines for mark in line.marks]
         touching = [lease for lease in self.open_leases if touches(lease, shown)]
         bars = [Bar(lease, self.memory.of_lease(lease)) for lease in self.worth_a_bar(touching, marks, set(shown))]
-        columns = chosen_columns(bars, marks, set(shown))
+        folded = folded_groups(sections)
+        columns = chosen_columns(bars, marks, set(shown), unfolded_places(bars, sections))
         drawn = [bar for bar in bars if bar.place in columns]
         for line in lines:
             line.marks = [mark for mark in line.marks if mark.place in columns]
         left_out = len(touching) - len(drawn)
         told = f'not drawn: {left_out} more leases' if left_out else ''
-        return Picture(self.name, self.verdict, sections, sorted(columns, key=lambda place: place.index), drawn, told, bool(self.run))
+        in_order = sorted(columns, key=lambda place: (place.group in folded, place.index))
+        return Picture(self.name, self.verdict, sections, in_order, drawn, told, bool(self.run))
 
     def worth_a_bar(self, leases, marks, shown):
         """All of some leases; where they are very many, those that begin or end at a shown row, or are of memory with a mark."""
@@ -130,16 +146,36 @@ class Scene:
         return [lease for lease in leases if lease.begin in shown or lease.end in shown or self.memory.start_of(lease) in marked]
 
 
-def chosen_columns(bars, marks, shown):
-    """The places of the bars and marks. Where these are very many, what the shown rows write and the controller takes comes first, then
-    what is handed over, then what is given back; and what is the controller's all the while is left out."""
+def is_seen(rows):
+    """Rows that are shown, or can be: where a fold has too many it doesn't open."""
+    return not rows.note or rows.count <= MOST_UNFOLDED
+
+
+def folded_groups(sections):
+    """The groups of columns that have marks of folded rows alone: they come last."""
+    groups = {True: set(), False: set()}
+    for section in sections:
+        groups[bool(section.rows.note)].update(mark.place.group for line in section.lines for mark in line.marks)
+    return groups[True] - groups[False]
+
+
+def unfolded_places(bars, sections):
+    """The places that have marks at rows that aren't folded, or bars that begin or end there."""
+    lines = [line for section in sections if not section.rows.note for line in section.lines]
+    rows = {line.row for line in lines if line.is_row}
+    return {mark.place for line in lines for mark in line.marks} | {bar.place for bar in bars if bar.lease.begin in rows or bar.lease.end in rows}
+
+
+def chosen_columns(bars, marks, shown, unfolded):
+    """The places of the bars and marks. Where these are very many, those of rows that aren't folded come first; then what rows write and
+    the controller takes, what is handed over, what is given back; and what is the controller's all the while is left out."""
     ranks = {mark.place: 0 for mark in marks if mark.shape != BACK}
     for bar in bars:
         rank = 1 if bar.lease.begin in shown else 2 if bar.lease.end in shown else 3
         ranks[bar.place] = min(ranks.get(bar.place, 3), rank)
     if len(ranks) > MOST_UNTOUCHED:
         ranks = {place: rank for place, rank in ranks.items() if rank < 3}
-    return set(sorted(ranks, key=lambda place: (ranks[place], place.index))[:MOST_COLUMNS])
+    return set(sorted(ranks, key=lambda place: (place not in unfolded, ranks[place], place.index))[:MOST_COLUMNS])
 
 
 def touches(lease, shown):

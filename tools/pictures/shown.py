@@ -1,6 +1,8 @@
 """Which rows of a trace are shown, and which are folded into a note."""
 from dataclasses import dataclass
 
+from notes import note_of
+
 MOST_ROWS_BEFORE, MOST_ROWS_BEHIND = 60, 60
 MOST_EARLIER, MOST_BYTES = 24, 64
 MOST_SHOWN = 2000
@@ -33,6 +35,14 @@ def rows_asked(trace, verdict, end):
     return [Rows(begin, judged + MOST_ROWS_BEHIND // 2), Rows(end - MOST_ROWS_BEHIND // 2, end)]
 
 
+def rows_near(trace, ranges, most):
+    """The numbers of the rows of some ranges, and of at most so many before and behind each, in order."""
+    near = set()
+    for rows in ranges:
+        near.update(range(max(trace.first, rows.first - most), min(trace.last, rows.last + most) + 1))
+    return sorted(near)
+
+
 def earlier_rows(trace, memory, leases, ranges, refused):
     """The rows before the first that is shown that are about the same memory: those that handed over what the shown rows write, and those
     that wrote the refused row's place last. The latest ones, where these are many."""
@@ -58,11 +68,11 @@ def with_folds(trace, ranges, end):
     told, next_row = [], trace.first
     for rows in joined(ranges):
         if rows.first > next_row:
-            told.append(folded(trace, next_row, rows.first - 1))
+            told.append(Rows(next_row, rows.first - 1, note_of(trace, next_row, rows.first - 1)))
         told.append(rows)
         next_row = rows.last + 1
     if next_row <= end:
-        told.append(folded(trace, next_row, end))
+        told.append(Rows(next_row, end, note_of(trace, next_row, end)))
     return told
 
 
@@ -75,9 +85,3 @@ def joined(ranges):
         else:
             told.append(rows)
     return told
-
-
-def folded(trace, first, last):
-    what = ': set-up' if trace.start and last < trace.start else ''
-    count = f'row {first}' if first == last else f'rows {first} to {last}'
-    return Rows(first, last, count + what)
