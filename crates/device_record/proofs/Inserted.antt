@@ -60,9 +60,6 @@ module _ {X : Type 0} where
     pub mapped_as_before : f p ≡ None → filter_map f ns ≡ filter_map f os
     mapped_as_before at = new_parts None at ∙ sym old_parts
 
-  filter_step : (x : X) (ps qs : List X) (a b : Bool) → a ≡ b → ps ≡ qs → (if a then x ∷ ps else ps) ≡ (if b then x ∷ qs else qs)
-  filter_step x ps qs a b same rest = λ i. if same i then x ∷ rest i else rest i
-
   mapped_step : {Y : Type 0} (f g : X → Option Y) (x : X) (xs : List X) (b : Bool) → (b ≡ true → f x ≡ g x) → filter_map f xs ≡ filter_map g xs →
       filter_map f (if b then x ∷ xs else xs) ≡ filter_map g (if b then x ∷ xs else xs)
   mapped_step f g x xs true same rest = λ i. cons_option (same refl i) (rest i)

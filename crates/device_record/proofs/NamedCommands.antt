@@ -47,10 +47,6 @@ any_one : {X : Type 0} (p : X → Bool) (xs : List X) (d : X) → filter p xs �
 any_one p [] d e = absurd (cc)
 any_one p (x ∷ xs) d e = any_one_step x d (filter p xs) (p x) (list_any p xs) e (any_one p xs d)
 
-empty_left : {X : Type 0} (xs ys : List X) → xs ++ ys ≡ [] → xs ≡ []
-empty_left [] ys e = refl
-empty_left (x ∷ xs) ys e = absurd (cc)
-
 -- a list with an element in it that has at most one
 only_left : {X : Type 0} (xs ys : List X) (x y : X) → xs ++ x ∷ ys ≡ y ∷ [] → xs ++ ys ≡ []
 only_left [] ys x y e = cc

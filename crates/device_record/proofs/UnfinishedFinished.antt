@@ -64,10 +64,6 @@ module _ (h : Header) (k : Known) (b : Block) where
       unfolding unfinished_positions due_positions next_command
       positions_before = filter_first view.given (floor_number view) (place_count shape) next lap
 
-      -- the next position was the first
-      pub positions_completed : unfinished_positions h k ≡ next_command h k ∷ unfinished_positions h (completed h k b)
-      positions_completed = positions_before ∙ ap (λ ps. next_command h k ∷ ps) (sym positions_after)
-
       -- the next command, where the block is one, was the first
       pub unfinished_completed : unfinished h k ≡ cons_option (command_at h k (next_command h k)) (unfinished h (completed h k b))
       unfolding unfinished

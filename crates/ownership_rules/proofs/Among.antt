@@ -1,5 +1,5 @@
 -- Elements of lists, and lists of leases: what of one list isn't in another
-use Rattle.std.proofs.Common.{◌≡◌, ◌==◌, ◌&&◌, ◌||◌, ◌⊎◌, ◌∷◌, ◌∙◌, ℕ, Bool, true, false, not, List, [], filter, sym, ap, subst, refl, inl, inr, cond, eqb-true, eq-eqb}
+use Rattle.std.proofs.Common.{◌≡◌, ◌==◌, ◌&&◌, ◌||◌, ◌⊎◌, ◌∷◌, ◌∙◌, ℕ, Bool, true, false, not, List, [], filter, sym, ap, subst, refl, inl, inr, eqb-true, eq-eqb}
 use Rattle.std.specs.List.{list_any}
 use Rattle.std.proofs.lemmas.Bool.{cases_Bool, false≢true, and_parts, and_from, or_left, or_right, or_cases}
 use Rattle.ownership_rules.specs.OpenLeases.{Use, EventSegment, SegmentTable, InputContext, SlotEntry, DeviceContext, Leased, Block, Link, Range, is_among, same_leased, same_use}
@@ -30,9 +30,6 @@ any_of p (y ∷ ys) x at h =
       | inl here ↦ or_left (p y) (list_any p ys) (sym (ap p here) ∙ h)
       | inr later ↦ or_right (p y) (list_any p ys) (any_of p ys x later h)
     ]
-
-filter_cons : {X : Type 0} (p : X → Bool) (y : X) (ys : List X) → filter p (y ∷ ys) ≡ cond (p y) (y ∷ filter p ys) (filter p ys)
-filter_cons p y ys = refl
 
 pub in_filter : {X : Type 0} (p : X → Bool) (xs : List X) (x : X) → IsIn x xs → p x ≡ true → IsIn x (filter p xs)
 in_filter p [] x at h = absurd at

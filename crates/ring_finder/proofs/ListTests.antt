@@ -73,16 +73,6 @@ pub filter_flat_map : {X Y : Type 0} (f : Y → Bool) (g : X → List Y) (xs : L
 filter_flat_map f g [] = refl
 filter_flat_map f g (x ∷ xs) = filter_append f (g x) (flat_map g xs) ∙ ap (λ zs. filter f (g x) ++ zs) (filter_flat_map f g xs)
 
-pub filter_twice : {X : Type 0} (f g : X → Bool) (xs : List X) → filter f (filter g xs) ≡ filter (λ x. g x && f x) xs
-filter_twice f g [] = refl
-filter_twice f g (x ∷ xs) = elim (cases_Bool (g x)) [
-  | inl passes ↦ elim (cases_Bool (f x)) [
-    | inl both ↦ rw (passes, both) (ap (λ zs. x ∷ zs) (filter_twice f g xs))
-    | inr only ↦ rw (passes, only) (filter_twice f g xs)
-  ]
-  | inr fails ↦ rw fails (filter_twice f g xs)
-]
-
 pub from_not : (b d : Bool) → not b ≡ d → b ≡ not d
 from_not true d e = ap not e
 from_not false d e = ap not e
