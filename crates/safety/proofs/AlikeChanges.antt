@@ -1,5 +1,5 @@
 -- What the success of a command changes, at two knowledges that are alike: it leaves both alike
-use Rattle.std.proofs.Common.{◌≡◌, ◌==◌, ◌&&◌, if◌then◌else◌, ◌∷◌, ℕ, Bool, true, false, List, [], Option, None, Some, arith, refl, sym, ap, subst}
+use Rattle.std.proofs.Common.{◌≡◌, ◌==◌, ◌&&◌, if◌then◌else◌, ◌∷◌, ℕ, Bool, true, false, List, [], Option, None, Some, arith, refl, sym, ap, subst, rules}
 use Rattle.safety.proofs.Words.{put, put_pair, Spot, Data, number, Reaches, ceiling, target, Command, EndpointState, Off, Stopped, is_off, Change, SlotGoesOn, DeviceLeft, Disables, Places, Stops, Resets, slot_gone_on, Header, shape_of, ring_beginning_at, Known, on_ring, set_to, bound_to, moved_to, moved, pointed, disabled, in_state, held_at_ceiling, changed_by, changed_by_all}
 use Rattle.safety.proofs.Alike.{Alike, ceiling_more, reached_alike, held_alike}
 use Rattle.safety.proofs.AlikeTransfers.{state_put, move_put}
@@ -32,17 +32,7 @@ module _ (h : Header) where
     bound_with : (m n : Known) → Alike P m n → (s i r : ℕ) (f g : ℕ → ℕ → Option ℕ) (x y : ℕ → Bool) → g ≡ f → y ≡ x →
         Alike P (let u : Known = record m { ring_of = put_pair f s i (Some r); was_bound = put x r true } in u)
         (let v : Known = record n { ring_of = put_pair g s i (Some r); was_bound = put y r true } in v)
-    bound_with m n a s i r f g x y one two =
-        record {
-          rings = a.rings;
-          was_bound = ap (λ b. put b r true) two;
-          slot_state = a.slot_state;
-          endpoint_state = a.endpoint_state;
-          ring_of = ap (λ b. put_pair b s i (Some r)) one;
-          must_move = a.must_move;
-          stop_seen = a.stop_seen;
-          device = a.device;
-        }
+    bound_with m n a s i r f g x y one two = search rules
 
     bound_alike : (k l : Known) → Alike P k l → (s i : ℕ) (o : Option ℕ) → Alike P (bound_to h k s i o) (bound_to h l s i o)
     unfolding bound_to
@@ -59,9 +49,7 @@ module _ (h : Header) where
         ((r : ℕ) → o ≡ Some r → target (shape_of h r) (l.ring r) p cycle ≡ target (shape_of h r) (k.ring r) p cycle) → Alike P (moved h k o p cycle) (moved h l o p cycle)
     unfolding moved
     moved_alike k l a None p cycle same = a
-    moved_alike k l a (Some r) p cycle same =
-        subst (λ o. Alike P (moved_to h k r (target (shape_of h r) (k.ring r) p cycle)) (moved_to h l r o)) (sym (same r refl))
-        (target_alike k l a r (target (shape_of h r) (k.ring r) p cycle))
+    moved_alike k l a (Some r) p cycle same = search (rules, Alike, target_alike)
 
     pointed_alike : (k l : Known) → Alike P k l → (s i p : ℕ) (cycle : Bool) (state : EndpointState) → TargetIs k l (Places s i p cycle state) →
         Alike P (pointed h k s i p cycle) (pointed h l s i p cycle)

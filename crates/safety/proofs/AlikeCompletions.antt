@@ -1,6 +1,6 @@
 -- A Command Completion Event that is possible at one of two knowledges that are alike: it is possible at the other, and leaves both alike
-use Rattle.std.proofs.Common.{◌≡◌, ◌==◌, ◌||◌, if◌then◌else◌, ◌∙◌, ℕ, true, false, not, List, Option, None, Some, arith, refl, sym, ap, subst, inl, inr, ltb-true, lt-ltb}
-use Rattle.safety.proofs.Words.{false≢true, and_parts, and_from, or_parts, or_from, not-false, not_from_true, Block, pointer, code, slot, Spot, address_of, number, after, Reaches, ceiling, cases_option, Command, StopEndpoint, may_answer_slot, is_stop_of, can_succeed, Change, changes, Header, Config, shape_of, command_id, register_or_zero, Known, on_ring, command_at, next_command, changed_by_all, succeeded, stop_ended, finished, completed, was_stop_seen, can_finish, may_be_taken, is_stopping_now, is_impossible_completion}
+use Rattle.std.proofs.Common.{◌≡◌, ◌==◌, ◌||◌, if◌then◌else◌, ◌∙◌, ℕ, true, false, not, List, Option, None, Some, refl, sym, ap, subst, ltb-true, lt-ltb, rules}
+use Rattle.safety.proofs.Words.{false≢true, and_parts, and_from, or_parts, or_from, not-false, not_from_true, Block, pointer, code, slot, Spot, address_of, number, after, Reaches, cases_option, Command, StopEndpoint, Change, changes, Header, Config, shape_of, command_id, register_or_zero, Known, on_ring, command_at, next_command, changed_by_all, succeeded, stop_ended, finished, completed, was_stop_seen, can_finish, may_be_taken, is_stopping_now, is_impossible_completion}
 use Rattle.safety.proofs.Alike.{Alike, ceiling_more, reached_alike}
 use Rattle.safety.proofs.AlikeTransfers.{both_sides, seen_put}
 use Rattle.safety.proofs.AlikeChanges.{TargetsAre, changes_alike}
@@ -19,10 +19,7 @@ module _ (h : Header) (P : ℕ → Type 0) (k l : Known) (a : Alike P k l) where
 
   pub taken_alike : may_be_taken h k ≡ true → may_be_taken h l ≡ true
   unfolding may_be_taken
-  taken_alike may =
-      let r : ℕ = command_id h in
-      lt-ltb (next_command h l) (ceiling (shape_of h r) (l.ring r))
-      (omega (arith, next_alike, ltb-true (next_command h k) (ceiling (shape_of h r) (k.ring r)) may, ceiling_more (shape_of h r) (k.ring r) (l.ring r) (a.rings r)))
+  taken_alike may = search (rules, lt-ltb, next_alike, ltb-true, ceiling_more)
 
   seen_alike : (c : Command) → was_stop_seen l c ≡ was_stop_seen k c
   unfolding was_stop_seen
@@ -37,14 +34,7 @@ module _ (h : Header) (P : ℕ → Type 0) (k l : Known) (a : Alike P k l) where
   module _ (same : CommandAlike h k l) where
     pub stopping_alike : (s i : ℕ) → is_stopping_now h k s i ≡ true → is_stopping_now h l s i ≡ true
     unfolding is_stopping_now
-    stopping_alike s i stopping =
-        let parts = and_parts (may_be_taken h k) (is_stop_of s i (command_at h k (next_command h k))) stopping in
-        elim (cases_option (command_at h k (next_command h k))) [
-          | inl none ↦ absurd (false≢true (sym (ap (is_stop_of s i) none) ∙ parts.1))
-          | inr some ↦
-              and_from (may_be_taken h l) (is_stop_of s i (command_at h l (next_command h l))) (taken_alike parts.0)
-              (ap (λ n. is_stop_of s i (command_at h l n)) next_alike ∙ ap (is_stop_of s i) (same.command some.0 parts.0 some.1 ∙ sym some.1) ∙ parts.1)
-        ]
+    stopping_alike s i stopping = search (rules, and_parts, cases_option, false≢true, and_from, taken_alike, next_alike)
 
     finish_alike : (b : Block) (c : Command) → may_be_taken h k ≡ true → command_at h k (next_command h k) ≡ Some c → Alike P (finished h k b (Some c)) (finished h l b (Some c))
     unfolding finished succeeded
@@ -69,16 +59,7 @@ module _ (h : Header) (P : ℕ → Type 0) (k l : Known) (a : Alike P k l) where
     module _ (config : register_or_zero l.register Config ≡ register_or_zero k.register Config) where
       some_finish : (b : Block) (c : Command) → can_finish k b (Some c) ≡ true → can_finish l b (Some c) ≡ true
       unfolding can_finish
-      some_finish b c can =
-          let parts = and_parts (may_answer_slot (Some c) (slot b))
-          (if code b == 1 then can_succeed k.slot_state k.endpoint_state (register_or_zero k.register Config) (slot b) c else not (was_stop_seen k c)) can in
-          and_from (may_answer_slot (Some c) (slot b))
-          (if code b == 1 then can_succeed l.slot_state l.endpoint_state (register_or_zero l.register Config) (slot b) c else not (was_stop_seen l c)) parts.0
-          (ap (λ x. if code b == 1 then can_succeed x l.endpoint_state (register_or_zero l.register Config) (slot b) c else not (was_stop_seen l c)) a.slot_state
-          ∙ ap (λ x. if code b == 1 then can_succeed k.slot_state x (register_or_zero l.register Config) (slot b) c else not (was_stop_seen l c)) a.endpoint_state
-          ∙ ap (λ x. if code b == 1 then can_succeed k.slot_state k.endpoint_state x (slot b) c else not (was_stop_seen l c)) config
-          ∙ ap (λ x. if code b == 1 then can_succeed k.slot_state k.endpoint_state (register_or_zero k.register Config) (slot b) c else not x) (seen_alike c)
-          ∙ parts.1)
+      some_finish b c can = search (rules, and_parts, and_from, seen_alike)
 
       can_alike : (b : Block) → (o : Option Command) → command_at h k (next_command h k) ≡ o → can_finish k b o ≡ true → (c : Command) × (command_at h k (next_command h k) ≡ Some c) × (can_finish l b (Some c) ≡ true)
       unfolding can_finish

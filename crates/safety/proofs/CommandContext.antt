@@ -1,6 +1,6 @@
 -- Behind an event that is read before it, a command that a write gives has the same input context, and may move the same rings
-use Rattle.std.proofs.Common.{◌≡◌, ◌∙◌, ℕ, false, Bool, Option, Some, None, [], refl, ap, subst}
-use Rattle.safety.proofs.Words.{or_parts, or_from, Block, Command, SetTrDequeue, input_context_bytes, Header, Write, Read, IsHeader, Known, command_given, learned, is_bad_area, is_soiled, covers, device_ranges, is_bad_dequeue, is_bad_move, broken, DriverKeeps, MovesIf}
+use Rattle.std.proofs.Common.{◌≡◌, ◌∙◌, ℕ, false, Bool, Option, Some, None, [], refl, ap, subst, rules}
+use Rattle.safety.proofs.Words.{or_parts, or_from, Block, Command, SetTrDequeue, Header, Write, Read, IsHeader, Known, command_given, learned, is_bad_area, is_soiled, covers, device_ranges, is_bad_dequeue, is_bad_move, broken, DriverKeeps, MovesIf}
 use Rattle.ownership_rules.specs.Commands as commands
 use Rattle.safety.proofs.AreaFacts.{AreaParts, area_parts, area_from, clean_same}
 use Rattle.safety.proofs.WriteBeside.{context_parts, context_from}
@@ -25,9 +25,7 @@ module _ (h : Header) (is : IsHeader h) (k : Known) (d : DriverKeeps h k) (e : B
   clean_behind from len good = clean_same k l from len b.driver.soiled ∙ good
 
   pub context_behind : (n : ℕ) → commands.has_bad_context h k (Some n) ≡ false → commands.has_bad_context h l (Some n) ≡ false
-  context_behind n good =
-      let p = context_parts h k n good in
-      context_from h l n (area_behind n (input_context_bytes h.context_size) p.area) (clean_behind n (input_context_bytes h.context_size) p.clean)
+  context_behind n good = search (rules, context_parts, context_from, area_behind, clean_behind)
 
   module _ (a w : ℕ) (clean : broken h k (Write a w) ≡ []) (c : Command) (given : command_given h k a w ≡ Some c) where
     abbrev x : Known
@@ -40,9 +38,7 @@ module _ (h : Header) (is : IsHeader h) (k : Known) (d : DriverKeeps h k) (e : B
 
     set_by : (s i p : ℕ) (cycle : Bool) → is_bad_move h x (SetTrDequeue s i p cycle) ≡ false → is_bad_move h l (SetTrDequeue s i p cycle) ≡ false
     unfolding is_bad_move
-    set_by s i p cycle good =
-        let parts = or_parts _ (is_bad_dequeue h x (l.ring_of s i) p cycle) good in
-        or_from _ (is_bad_dequeue h l (l.ring_of s i) p cycle) parts.0 (dequeue_same (l.ring_of s i) p cycle ∙ parts.1)
+    set_by s i p cycle good = search (rules, or_parts, or_from, dequeue_same)
 
     -- a Set TR Dequeue may move the ring as before
     pub set_behind : (s i p : ℕ) (cycle : Bool) → c ≡ SetTrDequeue s i p cycle → is_bad_move h l c ≡ false

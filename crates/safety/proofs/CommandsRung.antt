@@ -1,6 +1,6 @@
 -- A doorbell keeps what is kept of unfinished commands: none of them touches the endpoint
-use Rattle.std.proofs.Common.{◌≡◌, ◌≢◌, ◌==◌, ◌&&◌, if◌then◌else◌, ◌∙◌, ℕ, not, Bool, true, false, [], Option, None, Some, refl, sym, ap, subst, inl, inr, eq-eqb}
-use Rattle.safety.proofs.Words.{cases_eq, cond_both, cond-false, or_parts, or_left, and_from, false≢true, put_pair, Opens, number, Command, SetTrDequeue, EndpointState, Off, Running, Halted, Stopped, Error, is_off, is_stopped, is_at_rest, changes, Header, Bell, IsHeader, shape_of, command_id, Known, on_ring, endpoint_rung, rung, touches_endpoint, is_touched, is_bad_bell, is_bad_doorbell, doorbell_tests, tests, broken, IsUnfinished, CommandKeeps, DriverKeeps}
+use Rattle.std.proofs.Common.{◌≡◌, ◌≢◌, ◌==◌, ◌&&◌, if◌then◌else◌, ◌∙◌, ℕ, not, Bool, true, false, [], Option, None, Some, refl, sym, ap, subst, eq-eqb, rules}
+use Rattle.safety.proofs.Words.{cases_eq, cond_both, cond-false, or_parts, or_left, and_from, false≢true, Opens, number, Command, SetTrDequeue, EndpointState, Off, Running, Halted, Stopped, Error, is_off, is_stopped, is_at_rest, changes, Header, Bell, IsHeader, shape_of, command_id, Known, on_ring, endpoint_rung, rung, touches_endpoint, is_touched, is_bad_bell, is_bad_doorbell, doorbell_tests, tests, broken, IsUnfinished, CommandKeeps, DriverKeeps}
 use Rattle.safety.proofs.TestsPassed.{AllFail, tests_fail}
 use Rattle.safety.proofs.DriverRows.{ring_here, ring_elsewhere}
 use Rattle.safety.proofs.Headers.{transfer_not_command}
@@ -29,11 +29,7 @@ opened_endpoints h k r = refl
 module _ (h : Header) (is : IsHeader h) (k : Known) (d : DriverKeeps h k) where
   -- a ring of the driver whose pointer doesn't change
   opened_floor : (r q : ℕ) → ((on_ring h k r Opens).ring q).floor ≡ (k.ring q).floor
-  opened_floor r q =
-      elim (cases_eq q r) [
-        | inl same ↦ ap (λ n. ((on_ring h k r Opens).ring n).floor) same ∙ ap (λ v. v.floor) (ring_here h k r Opens) ∙ ap (λ n. (k.ring n).floor) (sym same)
-        | inr other ↦ ap (λ v. v.floor) (ring_elsewhere h k r q Opens other)
-      ]
+  opened_floor r q = search (rules, cases_eq, ring_here, ring_elsewhere)
 
   -- ---- the command ring's
 
@@ -64,20 +60,7 @@ module _ (h : Header) (is : IsHeader h) (k : Known) (d : DriverKeeps h k) where
 
     rung_states : SameStates k l
     unfolding l endpoint_rung on_ring
-    rung_states =
-        record {
-          memory = refl;
-          soiled = refl;
-          device = refl;
-          slot_state = refl;
-          off = λ q i.
-              cond_both (is_stopped (k.endpoint_state s t)) (put_pair k.endpoint_state s t Running) k.endpoint_state (λ f. is_off (f q i) ≡ is_off (k.endpoint_state q i))
-              (λ stopped. at_pair (λ e. is_off e ≡ is_off (k.endpoint_state q i)) k.endpoint_state s t Running q i
-              (λ a b. stopped_on (k.endpoint_state s t) stopped ∙ ap (λ n. is_off (k.endpoint_state n t)) (sym a) ∙ ap (λ n. is_off (k.endpoint_state q n)) (sym b)) (λ other. refl))
-              (λ on. refl);
-          ring_of = refl;
-          was_bound = refl;
-        }
+    rung_states = search (rules, cond_both, at_pair, stopped_on)
 
     ring_is : l.ring ≡ opened.ring
     unfolding l opened endpoint_rung
@@ -85,9 +68,7 @@ module _ (h : Header) (is : IsHeader h) (k : Known) (d : DriverKeeps h k) where
 
     state_elsewhere : (q i : ℕ) → (q ≡ s → i ≡ t → ⊥) → l.endpoint_state q i ≡ k.endpoint_state q i
     unfolding l endpoint_rung on_ring
-    state_elsewhere q i other =
-        cond_both (is_stopped (k.endpoint_state s t)) (put_pair k.endpoint_state s t Running) k.endpoint_state (λ f. f q i ≡ k.endpoint_state q i)
-        (λ stopped. at_pair (λ e. e ≡ k.endpoint_state q i) k.endpoint_state s t Running q i (λ a b. absurd (other a b)) (λ apart. refl)) (λ on. refl)
+    state_elsewhere q i other = search (rules, cond_both, at_pair)
 
     given_same : (q : ℕ) → SameGiven (k.ring q) (l.ring q)
     unfolding opened

@@ -1,5 +1,5 @@
 -- What is kept of unfinished commands is kept where slots, endpoints, contexts and device contexts are as they were
-use Rattle.std.proofs.Common.{◌≡◌, ◌∙◌, ℕ, Bool, true, false, Option, None, Some, refl, sym, ap, subst}
+use Rattle.std.proofs.Common.{◌≡◌, ◌∙◌, ℕ, Bool, true, false, Option, None, Some, refl, sym, ap, rules}
 use Rattle.safety.proofs.Words.{or_parts, Command, AddressDevice, SetTrDequeue, named_context, is_disabled, is_off, is_at_rest, Header, shape_of, Known, device_ranges, is_bad_area, is_soiled, IsUnfinished, CommandKeeps}
 use Rattle.ownership_rules.specs.Commands as commands
 use Rattle.safety.proofs.CommandsBeside.{Beside}
@@ -42,14 +42,7 @@ module _ (h : Header) where
         }
 
     rings_same : (c : Command) → RingsStay k l c → RingsBeside h k l c
-    rings_same c stay =
-        record {
-          ring_of = λ s i at. ap (λ f. f s i) same.ring_of;
-          rest = stay.rest;
-          ahead = stay.ahead;
-          standing = stay.standing;
-          unbound = λ r bound never. ap (λ f. f r) same.was_bound ∙ never;
-        }
+    rings_same c stay = search rules
 
     -- what is unfinished was before
     pub same_stay : ((p : ℕ) (c : Command) → IsUnfinished h k p c → CommandKeeps h k p c) → ((p : ℕ) (c : Command) → IsUnfinished h l p c → IsUnfinished h k p c) →
@@ -61,9 +54,4 @@ module _ (h : Header) where
 
   -- rings that are as they were
   pub ring_stays : (k l : Known) (c : Command) → l.endpoint_state ≡ k.endpoint_state → ((s i r : ℕ) → k.ring_of s i ≡ Some r → l.ring r ≡ k.ring r) → RingsStay k l c
-  ring_stays k l c states rings =
-      record {
-        rest = λ s i p cycle at rests. ap (λ f. is_at_rest (f s i)) states ∙ rests;
-        ahead = λ s i p r cycle at has rests. subst (λ v. MovesAhead (shape_of h r) (k.ring r) v) (sym (rings s i r has)) (λ x y moves. moves);
-        standing = λ s n r bsr at has. subst (λ v. Standing (shape_of h r) (k.ring r) v) (sym (rings s 1 r has)) (record { here = λ x y moves. moves; nothing = λ none. none });
-      }
+  ring_stays k l c states rings = search (rules, MovesAhead, Standing)

@@ -1,5 +1,5 @@
 -- What is kept of unfinished commands is kept where nothing that they read has changed
-use Rattle.std.proofs.Common.{◌≡◌, ◌≢◌, ◌≤◌, ◌∙◌, ℕ, not, Bool, true, false, map, All, Option, None, Some, is_some, arith, refl, sym, ap, subst}
+use Rattle.std.proofs.Common.{◌≡◌, ◌≢◌, ◌≤◌, ◌∙◌, ℕ, not, Bool, true, false, map, All, Option, None, Some, is_some, arith, refl, sym, ap, rules}
 use Rattle.safety.proofs.Words.{or_parts, or_from, not-false, not_from_true, Shape, RingView, declared, floor_number, ceiling, is_move, Command, NoOp, EnableSlot, DisableSlot, AddressDevice, ConfigureEndpoint, EvaluateContext, ResetEndpoint, StopEndpoint, SetTrDequeue, ResetDevice, named_slot, same_slot, is_at_rest, context_pointer, context_cycle, Header, shape_of, Known, binds, ring_bound, binds_ring, has_repeats, is_bad_dequeue, is_bad_move, IsUnfinished, Stays, StaysIf, MovesIf, CommandKeeps}
 use Rattle.ownership_rules.specs.Commands as commands
 use Rattle.safety.proofs.ContextReads.{pointer_same, cycle_same}
@@ -50,9 +50,7 @@ module _ (h : Header) where
         is_bad_dequeue h k o p cycle ≡ false → is_bad_dequeue h l o p cycle ≡ false
     unfolding is_bad_dequeue
     dequeue_beside None p cycle ahead good = good
-    dequeue_beside (Some r) p cycle ahead good =
-        not_from_true (is_move (shape_of h r) (l.ring r) p cycle (ceiling (shape_of h r) (l.ring r)) (declared (l.ring r)))
-        (ahead r refl p cycle (not-false (is_move (shape_of h r) (k.ring r) p cycle (ceiling (shape_of h r) (k.ring r)) (declared (k.ring r))) good))
+    dequeue_beside (Some r) p cycle ahead good = search (rules, not_from_true, not-false)
 
     set_beside : (s i p : ℕ) (cycle : Bool) → RingsBeside k l (SetTrDequeue s i p cycle) → is_bad_move h k (SetTrDequeue s i p cycle) ≡ false → is_bad_move h l (SetTrDequeue s i p cycle) ≡ false
     unfolding is_bad_move
@@ -104,17 +102,7 @@ module _ (h : Header) where
     stays_beside (ResetDevice s) m b stays = tt
 
     pub own_beside : (c : Command) → Beside h k l c → RingsBeside k l c → OwnKeeps k c → OwnKeeps l c
-    own_beside c m b own =
-        let one : binds h l c ≡ binds h k c = binds_beside h k l c m in
-        record {
-          good = good_beside h k l c m own.good;
-          in_profile = in_profile_beside h k l c m own.in_profile;
-          binds_rings = subst (λ bs. All (λ b. (is_some (ring_bound h b) ≡ true) × (b.cycle ≡ true)) bs) (sym one) own.binds_rings;
-          repeats = ap (λ bs. has_repeats (map (ring_bound h) bs)) one ∙ own.repeats;
-          unbound = λ r bound. let before = sym (binds_ring_beside h k l c m r) ∙ bound in b.unbound r before (own.unbound r before);
-          moves_on = moves_beside c b own.moves_on;
-          stays = stays_beside c m b own.stays;
-        }
+    own_beside c m b own = search (rules, binds_beside, good_beside, in_profile_beside, binds_ring_beside, moves_beside, stays_beside)
 
     -- what is known at l changes nothing that its unfinished commands read
     pub commands_stay : ((p : ℕ) (c : Command) → IsUnfinished h l p c → OwnKeeps k c) →

@@ -1,5 +1,5 @@
 -- A position inside a descriptor: where the descriptor begins
-use Rattle.std.proofs.Common.{◌≡◌, ◌+◌, ◌<◌, ◌≤◌, ◌==◌, ◌∷◌, ◌∙◌, ℕ, suc, false, List, [], All, sum, arith, refl, sym, inl, inr, eq-eqb, ne_eqb}
+use Rattle.std.proofs.Common.{◌≡◌, ◌+◌, ◌<◌, ◌≤◌, ◌==◌, ◌∷◌, ◌∙◌, ℕ, suc, false, List, [], All, sum, arith, refl, sym, inl, inr, eq-eqb, ne_eqb, rules}
 use Rattle.safety.proofs.Words.{cases_lt, cases_eq, false≢true, eqb-false, or_parts, cond-true, cond-false, sum_by-cons, is_border, length_from}
 
 -- a descriptor begins before position t and ends behind it; the first one begins at start
@@ -15,9 +15,7 @@ no_border-none start t none same = false≢true (sym none ∙ eq-eqb start t sam
 
 no_border-parts : (n : ℕ) (rest : List ℕ) (start t : ℕ) → is_border (n ∷ rest) start t ≡ false → (start ≡ t → ⊥) × (is_border rest (start + n) t ≡ false)
 unfolding is_border
-no_border-parts n rest start t none =
-    let parts = or_parts (start == t) (is_border rest (start + n) t) none in
-    (eqb-false start t parts.0, parts.1)
+no_border-parts n rest start t none = search (rules, or_parts, eqb-false)
 
 length_here : (n : ℕ) (rest : List ℕ) (start : ℕ) → length_from (n ∷ rest) start start ≡ n
 unfolding length_from

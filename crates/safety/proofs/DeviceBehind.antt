@@ -1,6 +1,6 @@
 -- Behind an event that is read before it, an Address Device that a write gives takes its device context where it may still
-use Rattle.std.proofs.Common.{◌≡◌, ◌%◌, ◌==◌, ◌||◌, ◌∙◌, ℕ, not, Bool, false, [], Some, is_none, sym, ap, inl, inr}
-use Rattle.safety.proofs.Words.{and_cases, and_right, or_parts, or_from, false≢true, Block, overlap, Command, AddressDevice, device_context_bytes, input_context_bytes, Header, Dcbaap, Write, Read, IsHeader, Known, command_given, device_named, entry_of, learned, is_bad_area, is_in_range_lease, is_soiled, covers, open_ranges, broken, DriverKeeps}
+use Rattle.std.proofs.Common.{◌≡◌, ◌%◌, ◌==◌, ◌||◌, ◌∙◌, ℕ, not, Bool, false, [], Some, is_none, sym, ap, inl, inr, rules}
+use Rattle.safety.proofs.Words.{and_cases, and_right, or_parts, or_from, false≢true, Block, overlap, Command, AddressDevice, device_context_bytes, input_context_bytes, Header, Dcbaap, Write, Read, IsHeader, Known, command_given, device_named, entry_of, learned, is_bad_area, is_in_range_lease, covers, open_ranges, broken, DriverKeeps}
 use Rattle.ownership_rules.specs.Commands as commands
 use Rattle.safety.proofs.LeasesBehind.{Behind, entry_stays, none_fewer, ranges_fewer}
 use Rattle.safety.proofs.EventBehind.{event_behind}
@@ -17,11 +17,7 @@ module _ (h : Header) (is : IsHeader h) (k : Known) (d : DriverKeeps h k) (e : B
 
   entry_behind : (s : ℕ) → commands.has_bad_entry h k s ≡ false → commands.has_bad_entry h l s ≡ false
   unfolding commands.has_bad_entry
-  entry_behind s good =
-      let parts = or_parts (is_bad_area h k (entry_of k s) 8) (is_soiled k (entry_of k s) 8) good in
-      ap (λ x. is_bad_area h l x 8 || is_soiled l x 8) (entry_stays h is k l b s)
-      ∙ or_from (is_bad_area h l (entry_of k s) 8) (is_soiled l (entry_of k s) 8) (area_behind h is k d e may (entry_of k s) 8 parts.0)
-      (clean_behind h is k d e may (entry_of k s) 8 parts.1)
+  entry_behind s good = search (rules, or_parts, entry_stays, b, or_from, area_behind, clean_behind)
 
   range_behind : (from len : ℕ) → is_in_range_lease h k from len ≡ false → is_in_range_lease h l from len ≡ false
   unfolding is_in_range_lease

@@ -1,6 +1,6 @@
 -- A device context that a write takes: an event reads nothing of it
-use Rattle.std.proofs.Common.{◌≡◌, ◌≢◌, ◌||◌, ◌∙◌, ℕ, Bool, [], Option, None, Some, arith, refl, sym, ap}
-use Rattle.safety.proofs.Words.{none-some, same_Some, Block, is_in, device_context_bytes, changes, Header, Read, Config, command_id, register_or_zero, Known, next_command, with_device, broken}
+use Rattle.std.proofs.Common.{◌≡◌, ◌≢◌, ◌∙◌, ℕ, [], Option, None, Some, arith, refl, ap, rules}
+use Rattle.safety.proofs.Words.{none-some, same_Some, Block, changes, Header, Read, Config, command_id, register_or_zero, Known, next_command, with_device, broken}
 use Rattle.safety.proofs.EndpointPut.{at_number}
 use Rattle.safety.proofs.SameDriver.{SameDriver}
 use Rattle.safety.proofs.Alike.{Alike, held_same}
@@ -72,22 +72,11 @@ module _ (h : Header) (x : Known) where
   pub device_driver : (y : Known) (o : Option (ℕ × ℕ)) → SameDriver x (counted h y) → SameDriver (with_device h x o) (counted h (with_device h y o))
   unfolding with_device
   device_driver y None s = s
-  device_driver y (Some f) s = record {
-    started = s.started;
-    stopped = s.stopped;
-    register = s.register;
-    memory = s.memory;
-    soiled = ap {B = ℕ → Bool} (λ g z. is_in z f.1 (device_context_bytes h.context_size) || g z) s.soiled;
-    reads = s.reads;
-    dequeue = s.dequeue;
-    rings = s.rings;
-  }
+  device_driver y (Some f) s = search rules
 
   -- slot by slot
   pub devices_same : (o : Option (ℕ × ℕ)) (now : ℕ → Option ℕ) → ((t : ℕ) → Untaken o t → now t ≡ x.device t) → ((f : ℕ × ℕ) → o ≡ Some f → now f.0 ≡ Some f.1) →
       (t : ℕ) → now t ≡ (with_device h x o).device t
   unfolding with_device
   devices_same None now others there t = others t (λ f at. absurd (none-some f at))
-  devices_same (Some f) now others there t =
-      at_number (λ (v : Option ℕ). now t ≡ v) x.device f.0 (Some f.1) t (λ same. ap now same ∙ there f refl)
-      (λ other. others t (λ g at same. other (same ∙ ap (λ (y : ℕ × ℕ). y.0) (sym (same_Some f g at)))))
+  devices_same (Some f) now others there t = search (rules, none-some, at_number, same_Some)

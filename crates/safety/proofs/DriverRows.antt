@@ -1,6 +1,6 @@
 -- Declarations, writes, register writes and doorbells keep what the rules keep of each ring
-use Rattle.std.proofs.Common.{◌≡◌, ◌≢◌, ◌==◌, ◌&&◌, ◌||◌, if◌then◌else◌, ◌∙◌, ℕ, not, true, List, [], Option, None, Some, option_and_then, refl, sym, ap, subst, inl, inr, eq-eqb, ne_eqb}
-use Rattle.safety.proofs.Words.{cases_eq, cond-true, cond-false, cond_both, Block, RingView, RingChange, Declares, Opens, changed, RingKeeps, new_ring_keeps, declares_keeps, writes_keeps, opens_keeps, Header, Register, Erdp, Usbcmd, Sub, Write, IsHeader, shape_of, command_id, run_bit, reset_bit, Known, nothing, on_ring, with_device, with_word, written, command_given, taken_device, run_or_stop, valued, register_written, endpoint_rung, rung, broken, RingsKeep}
+use Rattle.std.proofs.Common.{◌≡◌, ◌≢◌, ◌==◌, ◌∙◌, ℕ, List, [], Option, None, Some, option_and_then, refl, sym, ap, subst, inl, inr, eq-eqb, ne_eqb, rules}
+use Rattle.safety.proofs.Words.{cases_eq, cond-true, cond-false, cond_both, Block, RingChange, Declares, Opens, changed, RingKeeps, new_ring_keeps, declares_keeps, writes_keeps, opens_keeps, Header, Register, Erdp, Usbcmd, Sub, Write, IsHeader, shape_of, command_id, Known, nothing, on_ring, with_device, with_word, written, command_given, taken_device, run_or_stop, valued, register_written, endpoint_rung, rung, broken, RingsKeep}
 use Rattle.safety.specs.RingsKeep.{IsDriverRing}
 use Rattle.safety.proofs.RingsOfHeader.{shape_allowed}
 use Rattle.safety.proofs.Declaring.{may_declare}
@@ -9,9 +9,7 @@ use Rattle.safety.proofs.Writing.{may_write}
 module _ (h : Header) where
   -- only memory and rings are spoken of
   pub same_keeps : (k l : Known) → k.memory ≡ l.memory → k.ring ≡ l.ring → RingsKeep h k → RingsKeep h l
-  same_keeps k l memory rings keeps r driver =
-      subst (λ (view : ℕ → RingView). RingKeeps (shape_of h r) l.memory (view r)) rings
-      (subst (λ (words : ℕ → ℕ). RingKeeps (shape_of h r) words (k.ring r)) memory (keeps r driver))
+  same_keeps k l memory rings keeps r driver = search rules
 
   pub ring_here : (k : Known) (r : ℕ) (change : RingChange) → (on_ring h k r change).ring r ≡ changed (shape_of h r) (k.ring r) change
   unfolding on_ring
@@ -78,12 +76,7 @@ module _ (h : Header) where
 
   run_keeps : (k : Known) (x : ℕ) → RingsKeep h k → RingsKeep h (run_or_stop k x)
   unfolding run_or_stop
-  run_keeps k x keeps =
-      let on : Known = record k { started = true } in
-      let off : Known = record k { stopped = true } in
-      cond_both (not k.started) (if run_bit x && not (reset_bit x) then on else k) (if not (run_bit x) || reset_bit x then off else k) (RingsKeep h)
-      (λ _. cond_both (run_bit x && not (reset_bit x)) on k (RingsKeep h) (λ _. same_keeps k on refl refl keeps) (λ _. keeps))
-      (λ _. cond_both (not (run_bit x) || reset_bit x) off k (RingsKeep h) (λ _. same_keeps k off refl refl keeps) (λ _. keeps))
+  run_keeps k x keeps = search (rules, cond_both, same_keeps)
 
   pub register_keeps : (k : Known) (r : Register) (x : ℕ) → RingsKeep h k → RingsKeep h (register_written h k r x)
   unfolding register_written valued
@@ -92,8 +85,7 @@ module _ (h : Header) where
   register_keeps k r x keeps = value_keeps k r x keeps
 
   open_keeps : IsHeader h → (k : Known) (r : ℕ) → RingsKeep h k → RingsKeep h (on_ring h k r Opens)
-  open_keeps is k r keeps =
-      on_ring_keeps k r Opens keeps (λ driver. opens_keeps (shape_of h r) (shape_allowed h is r driver) k.memory (k.ring r) (keeps r driver))
+  open_keeps is k r keeps = search (rules, on_ring_keeps, opens_keeps, shape_allowed)
 
   endpoint_keeps : IsHeader h → (k : Known) (s t : ℕ) (ring : Option ℕ) → RingsKeep h k → RingsKeep h (endpoint_rung h k s t ring)
   unfolding endpoint_rung

@@ -1,6 +1,6 @@
 -- Behind the doorbell of an endpoint whose ring is held, and that no unfinished command touches, each event may be read that might be
 -- before, and leaves the endpoint woken
-use Rattle.std.proofs.Common.{◌≡◌, ◌≢◌, ◌==◌, ◌&&◌, ◌||◌, ◌∙◌, ℕ, Bool, true, false, not, [], Option, None, Some, nat_lt, slice_get, option_and_then, refl, sym, ap, subst}
+use Rattle.std.proofs.Common.{◌≡◌, ◌≢◌, ◌==◌, ◌&&◌, ◌||◌, ◌∙◌, ℕ, Bool, true, false, not, [], Option, None, Some, nat_lt, slice_get, option_and_then, refl, sym, ap, subst, rules}
 use Rattle.safety.proofs.Words.{false≢true, or_parts, or_from, not-false, Block, BlockKind, TransferEvent, CommandCompletion, kind, pointer, code, slot, is_transfer_event, address_of, RingView, floor_number, ceiling, is_open, Command, command_of, changes, is_running, is_stopped, Header, Config, Read, IsHeader, shape_of, command_id, register_or_zero, Known, command_at, next_command, endpoint_rung, completed, event_read, touches_endpoint, is_touched, is_in_profile, may_be_taken, can_finish, is_impossible_completion, is_impossible_by_kind, broken, CommandKeeps, DriverKeeps}
 use Rattle.safety.proofs.BellBeneath.{ReadWoken, read_woken}
 use Rattle.safety.proofs.CleanRows.{EventFacts, event_facts}
@@ -71,10 +71,7 @@ module _ (h : Header) (k : Known) (s t r : ℕ) (has : k.ring_of s t ≡ Some r)
         (is_impossible_completion h woken b ≡ false) × Woken h r (one_of s t) (completed h k b) (completed h woken b)
     unfolding can_finish
     next_rung None at can = absurd (false≢true can)
-    next_rung (Some c) at can = (
-      possible_woken h r s t k woken awake driver (not_command h k s t r has may is d held) b c at (next_apart c at) possible,
-      completed_woken h r s t k woken awake driver is owns b c (next_apart c at) (next_fits c at can) (not_command h k s t r has may is d held) at,
-    )
+    next_rung (Some c) at can = search (rules, false≢true, possible_woken, awake, driver, not_command, next_apart, completed_woken, owns, next_fits)
 
     pub completion_rung : (is_impossible_completion h woken b ≡ false) × Woken h r (one_of s t) (completed h k b) (completed h woken b)
     completion_rung = next_rung (command_at h k (next_command h k)) refl facts.finishes

@@ -1,5 +1,5 @@
 -- Any history keeps endpoints on transfer rings that were bound, and the command ring is none of them
-use Rattle.std.proofs.Common.{◌≡◌, ◌+◌, ◌==◌, ◌&&◌, ◌||◌, if◌then◌else◌, ◌∷◌, ◌∙◌, ℕ, not, Bool, true, List, [], Option, None, Some, option_and_then, refl, sym, ap}
+use Rattle.std.proofs.Common.{◌≡◌, ◌+◌, ◌==◌, ◌&&◌, ◌||◌, if◌then◌else◌, ◌∷◌, ◌∙◌, ℕ, not, Bool, true, List, [], Option, None, Some, option_and_then, refl, sym, ap, rules}
 use Rattle.safety.proofs.Words.{cond_both, none-some, put_pair, Block, BlockKind, TransferEvent, CommandCompletion, kind, code, slot, endpoint, pointer, is_success, is_halting, is_trb_error, is_stopping, Spot, number, after, Declares, Reaches, Holds, Opens, stopped_number, Command, StopEndpoint, EndpointState, Halted, Error, changes, Header, Register, Erdp, Usbcmd, Row, Sub, Write, Reg, Bell, Read, IsHeader, shape_of, command_id, run_bit, reset_bit, Known, nothing, RingSpot, on_ring, spot_on, event_at, command_at, next_command, with_device, with_word, written, command_given, taken_device, run_or_stop, valued, register_written, endpoint_rung, rung, passed, broken_off, stopped_at, transferred, transferred_at, transfer_read, succeeded, stop_ended, finished, completed, event_read, learned, known, EndpointsKeep}
 use Rattle.safety.proofs.RingIds.{command_not_transfer}
 use Rattle.safety.proofs.TransferFrames.{spot_ring}
@@ -56,9 +56,7 @@ module _ (h : Header) (is : IsHeader h) where
   endpoint_keeps : (k : Known) → EndpointsKeep h k → (s t : ℕ) (ring : Option ℕ) → k.ring_of s t ≡ ring → EndpointsKeep h (endpoint_rung h k s t ring)
   unfolding endpoint_rung
   endpoint_keeps k keeps s t None at = keeps
-  endpoint_keeps k keeps s t (Some r) at =
-      same_keeps (on_ring h k r Opens) (endpoint_rung h k s t (Some r)) refl refl refl
-      (leaves_keeps h k (on_ring h k r Opens) keeps (in_use_leaves h k r Opens (endpoint_in_use h k keeps s t r at)))
+  endpoint_keeps k keeps s t (Some r) at = search (rules, same_keeps, leaves_keeps, in_use_leaves, endpoint_in_use)
 
   rung_keeps : (k : Known) (s t : ℕ) → EndpointsKeep h k → EndpointsKeep h (rung h k s t)
   unfolding rung
@@ -139,10 +137,7 @@ module _ (h : Header) (is : IsHeader h) where
   pub finish_elsewhere : (k : Known) (b : Block) (o : Option Command) → EndpointsKeep h k → (finished h k b o).ring (command_id h) ≡ k.ring (command_id h)
   unfolding finished succeeded
   finish_elsewhere k b None keeps = refl
-  finish_elsewhere k b (Some c) keeps =
-      stop_elsewhere (if code b == 1 then succeeded h k (slot b) c else k) c (command_id h)
-      ∙ cond_both (code b == 1) (succeeded h k (slot b) c) k (λ l. l.ring (command_id h) ≡ k.ring (command_id h))
-      (λ _. changes_elsewhere h is (command_id h) (command_not_transfer h is) c k (changes h.context_size k.memory (slot b) c) keeps) (λ _. refl)
+  finish_elsewhere k b (Some c) keeps = search (rules, stop_elsewhere, cond_both, changes_elsewhere, command_not_transfer)
 
   completion_keeps : (k : Known) (b : Block) → EndpointsKeep h k → EndpointsKeep h (completed h k b)
   unfolding completed

@@ -1,5 +1,5 @@
 -- What the changes of a command's success keep: that states, endpoints and their rings are known as they are in the world
-use Rattle.std.proofs.Common.{◌≡◌, ◌≢◌, ◌<◌, ◌∙◌, ℕ, true, false, [], Some, None, arith, refl, sym, ap, inl, inr}
+use Rattle.std.proofs.Common.{◌≡◌, ◌≢◌, ◌<◌, ◌∙◌, ℕ, true, false, [], Some, None, arith, sym, ap, inl, inr, rules}
 use Rattle.safety.proofs.Words.{none-some, Header, IsHeader, command_id, World, Known, DriverKeeps, state_of, EndpointRing, Matches}
 use Rattle.safety.proofs.Headers.{transfer_not_command}
 
@@ -60,25 +60,10 @@ module _ (h : Header) where
 
   -- no change, and one after the other
   pub none_keeps : (k : Known) (w : World) → StatesMatch k w → ChangeKeeps k k w w
-  none_keeps k w s = record {
-    states = s;
-    rest = record { known = refl; world = refl; queues = λ r. refl; lengths = λ r. refl; command_known = refl; command_world = refl };
-  }
+  none_keeps k w s = search rules
 
   pub both_keep : (k l m : Known) (w u v : World) → LeavesRest k l w u → ChangeKeeps l m u v → ChangeKeeps k m w v
-  both_keep k l m w u v one two =
-      let rest = two.rest in
-      record {
-        states = two.states;
-        rest = record {
-          known = rest.known ∙ ap (λ x. known_changed x m) one.known;
-          world = rest.world ∙ ap (λ x. world_changed x v) one.world;
-          queues = λ r. rest.queues r ∙ one.queues r;
-          lengths = λ r. rest.lengths r ∙ one.lengths r;
-          command_known = rest.command_known ∙ one.command_known;
-          command_world = rest.command_world ∙ one.command_world;
-        };
-      }
+  both_keep k l m w u v one two = search rules
 
   -- before the first change
   pub states_match : IsHeader h → (k : Known) (w : World) → DriverKeeps h k → AreNumbered k → Matches h k w → StatesMatch k w

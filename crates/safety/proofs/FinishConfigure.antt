@@ -1,5 +1,5 @@
 -- The controller finishes a Configure Endpoint with success: the run goes on
-use Rattle.std.proofs.Common.{◌≡◌, ◌<◌, ◌≤◌, ◌==◌, ◌&&◌, ◌||◌, if◌then◌else◌, ◌∷◌, ◌∙◌, ℕ, Bool, true, false, List, map, length, All, Some, None, is_some, arith, refl, sym, ap, subst, inl, inr, get_or, eq-eqb, leb-true}
+use Rattle.std.proofs.Common.{◌≡◌, ◌<◌, ◌≤◌, ◌==◌, ◌&&◌, ◌||◌, if◌then◌else◌, ◌∷◌, ◌∙◌, ℕ, Bool, true, false, List, map, length, All, Some, None, is_some, arith, refl, sym, ap, subst, inl, inr, get_or, eq-eqb, leb-true, rules}
 use Rattle.safety.proofs.Words.{cases_Bool, and_from, and_right, cond-true, cond-false, false≢true, none-some, length-map, get_or-map, All-weaker, Block, IsBlock, code, slot, Command, ConfigureEndpoint, command_of, Change, SlotGoesOn, Disables, changes, placed_by_context, is_off, added_endpoints, is_dropped, context_cycle, Header, Row, IsHeader, World, UnderWay, counted, Known, known, next_command, binding_in, binds, ring_bound, has_repeats, DriverKeeps, CommandKeeps, StillHolds, Stands, Runs, reading}
 use Rattle.controller_model.specs.Bindings as bindings
 use Rattle.controller_model.specs.Finishes as finishes
@@ -102,12 +102,7 @@ module _ (h : Header) (is : IsHeader h) (k : Known) (d : DriverKeeps h k) (s a :
   all = SlotGoesOn s ∷ Disables s (is_dropped k.memory a) ∷ map (placed_by_context h.context_size k.memory s a) (added_endpoints k.memory a)
 
   list_keeps : (w : World) → StatesMatch h k w → s < 256 → ListKeeps h c k w all
-  list_keeps w m low =
-      let n : Known = completions.changed_by h c k (SlotGoesOn s) in
-      let adds : List Change = map (placed_by_context h.context_size k.memory s a) (added_endpoints k.memory a) in
-      change_then h c k w (SlotGoesOn s) (Disables s (is_dropped k.memory a) ∷ adds) (λ v at. slot_keeps h c k w m s v at)
-      (λ u at there. change_then h c n u (Disables s (is_dropped k.memory a)) adds (λ v drops. disable_keeps h c n u there s (is_dropped k.memory a) v drops)
-      (λ v drops states. each v states low))
+  list_keeps w m low = search (rules, change_then, slot_keeps, disable_keeps, each)
 
   pub configure_changes : (n : ℕ) → changes h.context_size k.memory n c ≡ all
   unfolding changes

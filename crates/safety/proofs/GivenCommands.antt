@@ -1,6 +1,6 @@
 -- What the rules test of a command that a write gives: its bindings and its moves may be made
-use Rattle.std.proofs.Common.{◌≡◌, ◌≤◌, ◌==◌, ◌||◌, ◌+◌, ◌∙◌, ℕ, not, Bool, true, false, map, nat_le, All, Option, None, Some, suc, zero, arith, refl, sym, ap, subst, inl, inr, get_or, eqb-true, le-leb}
-use Rattle.safety.proofs.Words.{list_any, range_with_len, or_parts, and_from, or_cases, or_left, or_right, not-false, not-true, false≢true, same_Some, All-nil, All-cons, All-filter, All-get_or, All-weaker, Any-from_list_any, declared, floor_number, is_move, input_drop_flag, input_add_flag, added_endpoints, is_dropped, Command, NoOp, EnableSlot, DisableSlot, AddressDevice, ConfigureEndpoint, EvaluateContext, ResetEndpoint, StopEndpoint, SetTrDequeue, ResetDevice, named_slot, named_endpoint, named_context, is_off, Header, shape_of, is_ring, Known, unfinished, Binding, binds, ring_bound, binds_ring, is_used, is_unused_ring, has_repeats, is_bad_binding, is_bad_stay, holds_of, AreFree}
+use Rattle.std.proofs.Common.{◌≡◌, ◌≤◌, ◌||◌, ◌+◌, ◌∙◌, ℕ, not, Bool, true, false, map, nat_le, All, Option, None, Some, suc, zero, arith, refl, sym, ap, get_or, eqb-true, le-leb, rules}
+use Rattle.safety.proofs.Words.{list_any, range_with_len, or_parts, and_from, or_cases, or_left, or_right, not-false, not-true, false≢true, same_Some, All-nil, All-cons, All-filter, All-get_or, All-weaker, Any-from_list_any, floor_number, is_move, input_add_flag, added_endpoints, is_dropped, Command, NoOp, EnableSlot, DisableSlot, AddressDevice, ConfigureEndpoint, EvaluateContext, ResetEndpoint, StopEndpoint, SetTrDequeue, ResetDevice, is_off, Header, shape_of, is_ring, Known, unfinished, Binding, binds, ring_bound, binds_ring, is_used, is_unused_ring, has_repeats, is_bad_binding, is_bad_stay, holds_of, AreFree}
 use Rattle.ownership_rules.specs.Commands as commands
 use Rattle.safety.proofs.TestsPassed.{each_fails}
 
@@ -43,37 +43,20 @@ module _ (h : Header) (k : Known) where
 
   pub never_bound : (c : Command) → GoodBindings c → (r : ℕ) → binds_ring h k r c ≡ true → k.was_bound r ≡ false
   unfolding binds_ring
-  never_bound c good r bound =
-      let any = Any-from_list_any (λ b. is_ring r (ring_bound h b)) (binds h k c) bound in
-      let b : Binding = any.1 in
-      let unused : is_unused_ring h k (ring_bound h b) ≡ true =
-      subst (λ (x : Binding). is_unused_ring h k (ring_bound h x) ≡ true) any.3 (All-get_or (λ x. is_unused_ring h k (ring_bound h x) ≡ true) (binds h k c) any.0 b any.2 good.unused) in
-      let found = unused_is (Some r) (ap (λ o. is_unused_ring h k o) (sym (ring_is r (ring_bound h b) any.4)) ∙ unused) in
-      ap k.was_bound (same_Some r found.0 found.1) ∙ found.2
+  never_bound c good r bound = search (rules, Any-from_list_any, All-get_or, unused_is, ring_is, same_Some)
 
   -- what Configure Endpoint adds
   free_by : (s n i : ℕ) → commands.is_bad_added h k s n i ≡ false → nat_le 2 i ≡ true → (is_off (k.endpoint_state s i) || is_dropped k.memory n i) ≡ true
   unfolding commands.is_bad_added
-  free_by s n i good above =
-      let free : (is_off (k.endpoint_state s i) || input_drop_flag k.memory n i) ≡ true =
-      not-false (is_off (k.endpoint_state s i) || input_drop_flag k.memory n i)
-      (or_parts (commands.type_in h k n i == 0) (not (is_off (k.endpoint_state s i) || input_drop_flag k.memory n i)) good).1 in
-      elim (or_cases (is_off (k.endpoint_state s i)) (input_drop_flag k.memory n i) free) [
-        | inl off ↦ or_left (is_off (k.endpoint_state s i)) (is_dropped k.memory n i) off
-        | inr drops ↦ or_right (is_off (k.endpoint_state s i)) (is_dropped k.memory n i) (and_from (nat_le 2 i) (input_drop_flag k.memory n i) above drops)
-      ]
+  free_by s n i good above = search (rules, not-false, or_parts, or_cases, or_left, or_right, and_from)
 
   pub content_good : (c : Command) → commands.is_bad_command h k c ≡ false → commands.has_bad_content h k c ≡ false
   unfolding commands.is_bad_command
-  content_good c good =
-      (or_parts (commands.names_disabled_slot k (named_slot c) || commands.names_disabled_endpoint k (named_endpoint c) || commands.has_bad_context h k (named_context c))
-      (commands.has_bad_content h k c) good).1
+  content_good c good = search (rules, or_parts)
 
   pub are_free : (c : Command) → commands.has_bad_content h k c ≡ false → AreFree h k c
   unfolding commands.has_bad_content
-  are_free (ConfigureEndpoint s false n) good =
-      let each = each_fails (commands.is_bad_added h k s n) (added_endpoints k.memory n) good in
-      λ x d inside. free_by s n (get_or (added_endpoints k.memory n) x d) (each x d inside) (added_above k.memory n x d inside)
+  are_free (ConfigureEndpoint s false n) good = search (rules, each_fails, free_by, get_or, added_above)
   are_free (ConfigureEndpoint s true n) good = tt
   are_free NoOp good = tt
   are_free EnableSlot good = tt
@@ -89,12 +72,7 @@ module _ (h : Header) (k : Known) where
   pub stays : (b : Binding) (o : Option ℕ) (r : ℕ) → is_bad_stay h k o b ≡ false → o ≡ Some r →
       is_move (shape_of h r) (k.ring r) b.pointer b.cycle (floor_number (k.ring r)) (floor_number (k.ring r)) ≡ true
   unfolding is_bad_stay
-  stays b o r good at =
-      let here : is_bad_stay h k (Some r) b ≡ false = ap (λ x. is_bad_stay h k x b) (sym at) ∙ good in
-      let move : ℕ → Bool = λ n. is_move (shape_of h r) (k.ring r) b.pointer b.cycle n n in
-      let parts = or_parts (not (declared (k.ring r) == floor_number (k.ring r))) (not (move (declared (k.ring r)))) here in
-      let same : declared (k.ring r) ≡ floor_number (k.ring r) = eqb-true (declared (k.ring r)) (floor_number (k.ring r)) (not-false (declared (k.ring r) == floor_number (k.ring r)) parts.0) in
-      ap move (sym same) ∙ not-false (move (declared (k.ring r))) parts.1
+  stays b o r good at = search (rules, or_parts, eqb-true, not-false)
 
   pub fails_of : (test : Command → Bool) (o : Option Command) (c : Command) → holds_of test o ≡ false → o ≡ Some c → test c ≡ false
   unfolding holds_of

@@ -49,6 +49,3 @@ module _ (h : Header) (is : IsHeader h) where
   no_events (Reg r x ∷ past) none = (no_events past none.0, tt)
   no_events (Bell s t ∷ past) none = (no_events past none.0, tt)
   no_events (Read b ∷ past) none = absurd none.1
-
-  pub keeps_driver_rings : (past : List Row) → IsClean h past → AreDriverRows past → RingsKeep h (known h past)
-  keeps_driver_rings past clean none = keeps_rings past clean (no_events past none)

@@ -1,6 +1,6 @@
 -- The endpoints that a command names have numbers of slots and endpoints, and so has each endpoint that a success gives a ring
-use Rattle.std.proofs.Common.{◌≡◌, ◌+◌, ◌<◌, ◌≤◌, ◌==◌, ◌&&◌, if◌then◌else◌, ◌∷◌, ◌∙◌, ℕ, suc, zero, Bool, true, false, List, [], map, filter, Option, None, Some, arith, refl, sym, ap, subst, inl, inr, eqb-true}
-use Rattle.safety.proofs.Words.{range_with_len, cond_both, and_parts, none-some, same_Some, Block, BlockKind, kind, slot, endpoint, is_command_left_out, Spot, target, Command, NoOp, EnableSlot, DisableSlot, AddressDevice, ConfigureEndpoint, EvaluateContext, ResetEndpoint, StopEndpoint, SetTrDequeue, ResetDevice, Stopped, is_off, command_by_kind, command_of, Change, SlotGoesOn, DeviceLeft, Disables, Places, Stops, Resets, changes, placed_by_context, ContextSize, input_add_flag, added_endpoints, Header, shape_of, ring_beginning_at, Known, on_ring, set_to, bound_to, moved_to, moved, pointed, disabled, in_state, held_at_ceiling, changed_by, changed_by_all}
+use Rattle.std.proofs.Common.{◌≡◌, ◌+◌, ◌<◌, ◌≤◌, if◌then◌else◌, ◌∷◌, ◌∙◌, ℕ, suc, zero, Bool, true, false, List, [], map, filter, Option, None, Some, arith, refl, sym, ap, subst, inl, inr, eqb-true, rules}
+use Rattle.safety.proofs.Words.{range_with_len, cond_both, and_parts, none-some, same_Some, Block, BlockKind, kind, slot, endpoint, is_command_left_out, Spot, Command, NoOp, EnableSlot, DisableSlot, AddressDevice, ConfigureEndpoint, EvaluateContext, ResetEndpoint, StopEndpoint, SetTrDequeue, ResetDevice, Stopped, command_by_kind, command_of, Change, SlotGoesOn, DeviceLeft, Disables, Places, Stops, Resets, changes, placed_by_context, ContextSize, input_add_flag, added_endpoints, Header, Known, on_ring, set_to, bound_to, moved_to, moved, pointed, disabled, in_state, held_at_ceiling, changed_by, changed_by_all}
 use Rattle.trb.specs.declared.kind.BlockKind.TheVariants as kinds
 use Rattle.safety.proofs.LookKinds.{cond_is}
 use Rattle.safety.proofs.FinishChanges.{AreNumbered}
@@ -82,11 +82,7 @@ module _ (h : Header) where
   moved_ring_of : (k : Known) (o : Option ℕ) (p : ℕ) (cycle : Bool) → (moved h k o p cycle).ring_of ≡ k.ring_of
   unfolding moved moved_to
   moved_ring_of k None p cycle = refl
-  moved_ring_of k (Some r) p cycle = by (target (shape_of h r) (k.ring r) p cycle)
-    where
-      by : (o : Option Spot) → (moved_to h k r o).ring_of ≡ k.ring_of
-      by None = refl
-      by (Some t) = set_ring_of k r t
+  moved_ring_of k (Some r) p cycle = search (rules, set_ring_of)
 
   pub same_numbered : (k l : Known) → l.ring_of ≡ k.ring_of → AreNumbered k → AreNumbered l
   same_numbered k l same all s i r at = all s i r (ap (λ (f : ℕ → ℕ → Option ℕ). f s i) (sym same) ∙ at)
@@ -94,21 +90,11 @@ module _ (h : Header) where
   bound_numbered : (k : Known) → AreNumbered k → (s i : ℕ) (o : Option ℕ) → (s < 256) × (i < 32) → AreNumbered (bound_to h k s i o)
   unfolding bound_to
   bound_numbered k all s i None fits = all
-  bound_numbered k all s i (Some r) fits =
-      λ t j q at.
-      elim (cond_is (t == s && j == i) (Some r) (k.ring_of t j) (Some q) at) [
-        | inl here ↦
-            let p = and_parts (t == s) (j == i) here.0 in
-            (subst (λ n. n < 256) (sym (eqb-true t s p.0)) fits.0, subst (λ n. n < 32) (sym (eqb-true j i p.1)) fits.1)
-        | inr other ↦ all t j q other.1
-      ]
+  bound_numbered k all s i (Some r) fits = search (rules, cond_is, and_parts, eqb-true)
 
   pointed_numbered : (k : Known) → AreNumbered k → (s i p : ℕ) (cycle : Bool) → (s < 256) × (i < 32) → AreNumbered (pointed h k s i p cycle)
   unfolding pointed
-  pointed_numbered k all s i p cycle fits =
-      cond_both (is_off (k.endpoint_state s i)) (bound_to h k s i (ring_beginning_at h p)) (moved h k (k.ring_of s i) p cycle) AreNumbered
-      (λ off. bound_numbered k all s i (ring_beginning_at h p) fits)
-      (λ on. same_numbered k (moved h k (k.ring_of s i) p cycle) (moved_ring_of k (k.ring_of s i) p cycle) all)
+  pointed_numbered k all s i p cycle fits = search (rules, cond_both, AreNumbered, bound_numbered, same_numbered, moved_ring_of)
 
   held_ring_of : (k : Known) (o : Option ℕ) → (held_at_ceiling h k o).ring_of ≡ k.ring_of
   unfolding held_at_ceiling on_ring
@@ -119,13 +105,9 @@ module _ (h : Header) where
   unfolding changed_by disabled in_state
   change_numbered c k (SlotGoesOn s) all fits = same_numbered k (changed_by h c k (SlotGoesOn s)) refl all
   change_numbered c k (DeviceLeft s) all fits = same_numbered k (changed_by h c k (DeviceLeft s)) refl all
-  change_numbered c k (Disables s which) all fits =
-      λ t j q at. elim (cond_is (t == s && which j) None (k.ring_of t j) (Some q) at) [ inl gone ↦ absurd (none-some q gone.1) | inr still ↦ all t j q still.1 ]
-  change_numbered c k (Places s i p cycle state) all fits =
-      same_numbered (pointed h k s i p cycle) (changed_by h c k (Places s i p cycle state)) refl (pointed_numbered k all s i p cycle fits)
-  change_numbered c k (Stops s i) all fits =
-      let l : Known = in_state h k s i Stopped in
-      same_numbered k (held_at_ceiling h l (k.ring_of s i)) (held_ring_of l (k.ring_of s i)) all
+  change_numbered c k (Disables s which) all fits = search (rules, same_numbered, cond_is, none-some, pointed_numbered, held_ring_of)
+  change_numbered c k (Places s i p cycle state) all fits = search (rules, same_numbered, cond_is, none-some, pointed_numbered, held_ring_of)
+  change_numbered c k (Stops s i) all fits = search (rules, same_numbered, cond_is, none-some, pointed_numbered, held_ring_of)
   change_numbered c k (Resets s i) all fits = same_numbered k (in_state h k s i Stopped) refl all
 
   pub all_numbered : (c : Command) (k : Known) (l : List Change) → AreNumbered k → AllNumbered l → AreNumbered (changed_by_all h c k l)

@@ -1,6 +1,6 @@
 -- In any history the endpoints that have rings have numbers of slots and endpoints
-use Rattle.std.proofs.Common.{◌≡◌, ◌==◌, ◌&&◌, ◌||◌, if◌then◌else◌, ◌∷◌, ℕ, not, Bool, true, List, [], Option, None, Some, option_and_then, slice_get, refl}
-use Rattle.safety.proofs.Words.{cond_both, none-some, put_pair, Block, BlockKind, TransferEvent, CommandCompletion, kind, code, slot, endpoint, is_success, is_halting, is_trb_error, is_stopping, Spot, Declares, Opens, Command, StopEndpoint, Halted, Error, command_of, changes, Header, Register, Erdp, Usbcmd, Row, Sub, Write, Reg, Bell, Read, command_id, run_bit, reset_bit, Known, nothing, RingSpot, on_ring, event_at, command_at, next_command, with_device, with_word, written, command_given, taken_device, run_or_stop, valued, register_written, endpoint_rung, rung, passed, broken_off, stopped_at, transferred, transferred_at, transfer_read, succeeded, stop_ended, finished, completed, event_read, learned, known}
+use Rattle.std.proofs.Common.{◌≡◌, ◌==◌, if◌then◌else◌, ◌∷◌, ℕ, Bool, List, [], Option, None, Some, option_and_then, refl, rules}
+use Rattle.safety.proofs.Words.{cond_both, none-some, Block, BlockKind, TransferEvent, CommandCompletion, kind, Spot, Declares, Opens, Command, StopEndpoint, command_of, Header, Register, Erdp, Usbcmd, Row, Sub, Write, Reg, Bell, Read, command_id, Known, nothing, on_ring, command_at, with_device, with_word, written, command_given, taken_device, run_or_stop, valued, register_written, endpoint_rung, rung, passed, broken_off, stopped_at, transferred, transferred_at, transfer_read, succeeded, stop_ended, finished, completed, event_read, learned, known}
 use Rattle.safety.proofs.FinishChanges.{AreNumbered}
 use Rattle.safety.proofs.NumberedChanges.{IsNumbered, command_numbered, changes_numbered, same_numbered, all_numbered}
 
@@ -25,11 +25,7 @@ module _ (h : Header) where
 
   run_same : (k : Known) (x : ℕ) → SameRings k (run_or_stop k x)
   unfolding run_or_stop
-  run_same k x =
-      let on : Known = record k { started = true } in
-      let off : Known = record k { stopped = true } in
-      either_same k (not k.started) (if run_bit x && not (reset_bit x) then on else k) (if not (run_bit x) || reset_bit x then off else k)
-      (either_same k (run_bit x && not (reset_bit x)) on k refl refl) (either_same k (not (run_bit x) || reset_bit x) off k refl refl)
+  run_same k x = search (rules, either_same)
 
   register_same : (k : Known) (r : Register) (x : ℕ) → SameRings k (register_written h k r x)
   unfolding register_written valued
@@ -48,21 +44,11 @@ module _ (h : Header) where
 
   transferred_same : (k : Known) (c s i r : ℕ) (t : Spot) → SameRings k (transferred h k c s i r t)
   unfolding transferred passed broken_off stopped_at on_ring
-  transferred_same k c s i r t =
-      let halts : Known = record (broken_off h k s i r t Halted) { must_move = put_pair k.must_move s i true } in
-      let fails : Known = broken_off h k s i r t Error in
-      let stopped : Known = if is_stopping c then stopped_at h k s i r t else k in
-      either_same k (is_success c) (passed h k r t) (if is_halting c then halts else if is_trb_error c then fails else stopped) refl
-      (either_same k (is_halting c) halts (if is_trb_error c then fails else stopped) refl
-      (either_same k (is_trb_error c) fails stopped refl (either_same k (is_stopping c) (stopped_at h k s i r t) k refl refl)))
+  transferred_same k c s i r t = search (rules, either_same)
 
   transfer_same : (k : Known) (b : Block) → SameRings k (transfer_read h k b)
   unfolding transfer_read transferred_at
-  transfer_same k b = by (event_at h k b)
-    where
-      by : (o : Option RingSpot) → SameRings k (transferred_at h k b o)
-      by None = refl
-      by (Some at) = transferred_same k (code b) (slot b) (endpoint b) at.ring at.spot
+  transfer_same k b = search (rules, transferred_same)
 
   -- ---- a completion
 
@@ -78,17 +64,11 @@ module _ (h : Header) where
   finished_numbered : (k : Known) (b : Block) (o : Option Command) → ((c : Command) → o ≡ Some c → IsNumbered c) → AreNumbered k → AreNumbered (finished h k b o)
   unfolding finished succeeded
   finished_numbered k b None fits all = all
-  finished_numbered k b (Some c) fits all =
-      same_numbered h (if code b == 1 then succeeded h k (slot b) c else k) (stop_ended h (if code b == 1 then succeeded h k (slot b) c else k) c)
-      (stop_same (if code b == 1 then succeeded h k (slot b) c else k) c)
-      (cond_both (code b == 1) (succeeded h k (slot b) c) k AreNumbered
-      (λ one. all_numbered h c k (changes h.context_size k.memory (slot b) c) all (changes_numbered h.context_size k.memory (slot b) c (fits c refl))) (λ other. all))
+  finished_numbered k b (Some c) fits all = search (rules, same_numbered, stop_same, cond_both, AreNumbered, all_numbered, changes_numbered)
 
   completed_numbered : (k : Known) (b : Block) → AreNumbered k → AreNumbered (completed h k b)
   unfolding completed on_ring command_at
-  completed_numbered k b all =
-      same_numbered h (finished h k b (command_at h k (next_command h k))) (completed h k b) refl
-      (finished_numbered k b (command_at h k (next_command h k)) (declared_command (slice_get (k.ring (command_id h)).queue (next_command h k))) all)
+  completed_numbered k b all = search (rules, same_numbered, finished_numbered, declared_command)
 
   -- ---- histories
 

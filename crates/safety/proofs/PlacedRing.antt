@@ -1,6 +1,6 @@
 -- A ring whose dequeue pointer is set to a spot: what the pointer names, and the ring behind it
-use Rattle.std.proofs.Common.{◌≡◌, ◌+◌, ◌-◌, ◌<◌, ◌≤◌, ◌==◌, ◌&&◌, ◌∷◌, ◌∙◌, ℕ, true, false, List, length, map, Some, arith, refl, ap, inl, inr, eq-eqb, eqb-true}
-use Rattle.safety.proofs.Words.{range_with_len, false≢true, false_from_ne_true, or_cases, or_left, or_right, and_parts, and_from, drop_all, Spot, Data, Link, Shape, place_count, address_of, is_crossing, link_address, IsSpot, number, spot_address, spot_cycle, IsShape, is_border, RingView, is_way_given, rank_least, rank_most, same_spot, RingEvent, Placed, takes_of, is_place, first_at, next_take, is_out_of_order, has_other_words, first_at-found, RingState, RingMatches, Unreported}
+use Rattle.std.proofs.Common.{◌≡◌, ◌+◌, ◌-◌, ◌<◌, ◌≤◌, ◌==◌, ◌&&◌, ◌∷◌, ◌∙◌, ℕ, true, false, List, length, Some, arith, refl, ap, inl, inr, eq-eqb, eqb-true, rules}
+use Rattle.safety.proofs.Words.{false≢true, false_from_ne_true, or_cases, or_left, or_right, and_parts, and_from, drop_all, Spot, Data, Link, Shape, place_count, address_of, is_crossing, link_address, IsSpot, number, spot_address, spot_cycle, IsShape, is_border, RingView, is_way_given, rank_least, rank_most, same_spot, RingEvent, Placed, takes_of, is_place, first_at, next_take, is_out_of_order, has_other_words, first_at-found, RingState, RingMatches, Unreported}
 use Rattle.safety.proofs.NoWait.{ceiling_held}
 
 -- the pointer is known to be at a spot, and the ring is held there
@@ -16,9 +16,7 @@ placed_state s a c = record { pointer = a; cycle = c; active = false; events = P
 place_at_spot : (shape : Shape) (t : Spot) → IsSpot shape t → is_place shape (spot_address shape t) (number t) ≡ true
 unfolding is_place
 place_at_spot shape (Data q) is = or_left (address_of shape q == address_of shape q) (is_crossing shape q && link_address shape q == address_of shape q) (eq-eqb (address_of shape q) (address_of shape q) refl)
-place_at_spot shape (Link q) is =
-    or_right (address_of shape q == link_address shape q) (is_crossing shape q && link_address shape q == link_address shape q)
-    (and_from (is_crossing shape q) (link_address shape q == link_address shape q) is (eq-eqb (link_address shape q) (link_address shape q) refl))
+place_at_spot shape (Link q) is = search (rules, or_left, eq-eqb, or_right, and_from)
 
 module _ (shape : Shape) (is : IsShape shape) (t : Spot) (is_spot : IsSpot shape t) where
   no_place_before : (p : ℕ) → p < number t → number t < p + place_count shape → is_place shape (spot_address shape t) p ≡ true → ⊥
@@ -86,11 +84,4 @@ module _ (shape : Shape) (is : IsShape shape) (t : Spot) (is_spot : IsSpot shape
 
   -- nothing is left to be reported
   pub placed_unreported : (v : RingView) (s : RingState) (a c : ℕ) → Unreported shape (set_view v t) (placed_state s a c) t
-  placed_unreported v s a c =
-      let none : 0 ≡ number t - number t = omega arith in
-      let all = takes_placed a s.events in
-      record {
-        takes = drop_all (length (takes_of s.events)) (takes_of (Placed a ∷ s.events)) (omega (arith, ap (λ l. length l) all))
-            ∙ ap (λ n. map (address_of shape) (range_with_len (number t) n)) none;
-        most = omega (arith, ap (λ l. length l) all);
-      }
+  placed_unreported v s a c = search (rules, takes_placed, drop_all)

@@ -1,6 +1,6 @@
 -- Where more is declared of rings, an unfinished command places endpoints at the same targets
-use Rattle.std.proofs.Common.{◌≡◌, ◌+◌, ◌≤◌, ◌==◌, ◌&&◌, ◌||◌, if◌then◌else◌, ◌∷◌, ◌∙◌, ℕ, zero, suc, not, Bool, true, false, List, [], map, filter, All, Option, Some, None, arith, refl, sym, ap, eq-eqb}
-use Rattle.safety.proofs.Words.{range_with_len, cond-true, cond_both, false≢true, or_parts, not-false, All-head, All-tail, All-weaker, Spot, declared, floor_number, ceiling, target, is_move, given_count_declared, floor_given, ceiling_within, Command, NoOp, EnableSlot, DisableSlot, AddressDevice, ConfigureEndpoint, EvaluateContext, ResetEndpoint, StopEndpoint, SetTrDequeue, ResetDevice, EndpointState, Off, Running, is_off, is_at_rest, Change, SlotGoesOn, Disables, Places, changes, placed_by_context, added_endpoints, input_add_flag, is_dropped, context_pointer, context_cycle, Header, IsHeader, shape_of, ring_beginning_at, Known, on_ring, set_to, bound_to, moved_to, moved, pointed, disabled, in_state, changed_by, is_bad_dequeue, is_bad_move, IsDriverRing, DriverKeeps, StillHolds}
+use Rattle.std.proofs.Common.{◌≡◌, ◌+◌, ◌≤◌, ◌==◌, ◌&&◌, ◌||◌, if◌then◌else◌, ◌∷◌, ◌∙◌, ℕ, zero, suc, not, Bool, true, false, List, [], map, filter, All, Option, Some, None, arith, refl, sym, ap, eq-eqb, rules}
+use Rattle.safety.proofs.Words.{range_with_len, cond-true, cond_both, false≢true, or_parts, not-false, All-head, All-tail, All-weaker, Spot, declared, floor_number, ceiling, target, is_move, given_count_declared, floor_given, ceiling_within, Command, NoOp, EnableSlot, DisableSlot, AddressDevice, ConfigureEndpoint, EvaluateContext, ResetEndpoint, StopEndpoint, SetTrDequeue, ResetDevice, EndpointState, Off, Running, is_off, is_at_rest, Change, SlotGoesOn, Disables, Places, changes, placed_by_context, added_endpoints, input_add_flag, is_dropped, context_pointer, context_cycle, Header, IsHeader, shape_of, Known, on_ring, set_to, bound_to, moved_to, moved, pointed, disabled, in_state, changed_by, is_bad_dequeue, is_bad_move, IsDriverRing, DriverKeeps, StillHolds}
 use Rattle.safety.proofs.Headers.{ring_shape, transfer_driver}
 use Rattle.safety.proofs.EndpointPut.{at_pair}
 use Rattle.safety.proofs.AlikeChanges.{TargetsAre}
@@ -62,15 +62,11 @@ module _ (h : Header) where
 
   pointed_states : (k : Known) (s i p : ℕ) (cycle : Bool) → (pointed h k s i p cycle).endpoint_state ≡ k.endpoint_state
   unfolding pointed
-  pointed_states k s i p cycle =
-      cond_both (is_off (k.endpoint_state s i)) (bound_to h k s i (ring_beginning_at h p)) (moved h k (k.ring_of s i) p cycle) (λ x. x.endpoint_state ≡ k.endpoint_state)
-      (λ _. bound_states k s i (ring_beginning_at h p)) (λ _. moved_states k (k.ring_of s i) p cycle)
+  pointed_states k s i p cycle = search (rules, cond_both, bound_states, moved_states)
 
   placed_states : (c : Command) (k : Known) (s i p : ℕ) (cycle : Bool) (state : EndpointState) (j : ℕ) → i + 1 ≤ j → (changed_by h c k (Places s i p cycle state)).endpoint_state s j ≡ k.endpoint_state s j
   unfolding changed_by in_state
-  placed_states c k s i p cycle state j above =
-      at_pair (λ e. e ≡ k.endpoint_state s j) (pointed h k s i p cycle).endpoint_state s i state s j (λ _ same. absurd (omega arith))
-      (λ _. ap (λ f. f s j) (pointed_states k s i p cycle))
+  placed_states c k s i p cycle state j above = search (rules, at_pair, pointed_states)
 
   -- endpoints that are off are bound, and so moved nowhere
   each_bound : (c : Command) (memory : ℕ → ℕ) (s n a : ℕ) (indices : List ℕ) (k l : Known) → Climb a indices → AreOff k.endpoint_state s indices →
@@ -95,22 +91,13 @@ module _ (h : Header) where
 
   off_then : (off drops : Bool) (state : EndpointState) (s : ℕ) → is_off state ≡ off → (off || drops) ≡ true → is_off (if s == s && drops then Off else state) ≡ true
   off_then true drops state s at free = cond_both (s == s && drops) Off state (λ e. is_off e ≡ true) (λ _. refl) (λ _. at)
-  off_then false true state s at free = ap is_off (cond-true (s == s && true) Off state (simp_same s))
-    where
-      simp_same : (s : ℕ) → (s == s && true) ≡ true
-      simp_same s = rw (eq-eqb s s refl) refl
+  off_then false true state s at free = search (rules, cond_both, cond-true, eq-eqb, false≢true)
   off_then false false state s at free = absurd (false≢true free)
 
   -- behind the drops of a Configure Endpoint
   added_off : (c : Command) (k : Known) (s n : ℕ) → All (λ i. (is_off (k.endpoint_state s i) || is_dropped k.memory n i) ≡ true) (added_endpoints k.memory n) →
       AreOff (changed_by h c (changed_by h c k (SlotGoesOn s)) (Disables s (is_dropped k.memory n))).endpoint_state s (added_endpoints k.memory n)
-  added_off c k s n free =
-      let m : Known = changed_by h c k (SlotGoesOn s) in
-      let l : Known = changed_by h c m (Disables s (is_dropped k.memory n)) in
-      off_from l.endpoint_state s (added_endpoints k.memory n)
-      (All-weaker (λ i. (is_off (k.endpoint_state s i) || is_dropped k.memory n i) ≡ true) (λ i. is_off (l.endpoint_state s i) ≡ true)
-      (λ i one. ap is_off (dropped_state c m s i (is_dropped k.memory n))
-      ∙ off_then (is_off (k.endpoint_state s i)) (is_dropped k.memory n i) (m.endpoint_state s i) s (ap (λ f. is_off (f s i)) (slot_on c k s).0) one) (added_endpoints k.memory n) free)
+  added_off c k s n free = search (rules, off_from, All-weaker, dropped_state, off_then, slot_on)
 
   module _ (is : IsHeader h) (k l : Known) (d : DriverKeeps h k) (floors : (r : ℕ) → (l.ring r).floor ≡ (k.ring r).floor) (more : (r : ℕ) → declared (k.ring r) ≤ declared (l.ring r)) where
     dequeue_target : (s i p : ℕ) (cycle : Bool) → is_bad_move h k (SetTrDequeue s i p cycle) ≡ false → (r : ℕ) → k.ring_of s i ≡ Some r →

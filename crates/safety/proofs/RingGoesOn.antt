@@ -1,6 +1,6 @@
 -- A ring of which more is known while its pointer stays: what is said of it in the world stays
-use Rattle.std.proofs.Common.{◌≡◌, ◌≤◌, ◌-◌, ◌||◌, ◌∷◌, ◌∙◌, ℕ, not, Bool, true, false, List, [], map, Option, None, Some, arith, refl, sym, ap, subst}
-use Rattle.safety.proofs.Words.{range_with_len, Shape, Spot, address_of, is_crossing, number, rank, is_border, declared_at, RingView, floor_number, ceiling, is_way_given, is_step_given, given_count_same, RingEvent, Took, Placed, Newest, RingState, RingMatches, Unreported, BoundRing, IsHeldMore}
+use Rattle.std.proofs.Common.{◌≡◌, ◌≤◌, ◌∷◌, ◌∙◌, ℕ, true, List, [], Option, None, Some, arith, refl, ap, rules}
+use Rattle.safety.proofs.Words.{Shape, Spot, number, rank, is_border, RingView, ceiling, is_way_given, is_step_given, given_count_same, RingEvent, Took, Placed, Newest, RingState, RingMatches, Unreported, BoundRing, IsHeldMore}
 use Rattle.safety.proofs.NoWait.{ceiling_open, ceiling_held}
 
 -- the floor is the same, and no less is given
@@ -13,18 +13,11 @@ pub record RingGoesOn (shape : Shape) (v x : RingView) : Type 0 where
 pub newest_same : (v x : RingView) → x.queue ≡ v.queue → x.lengths ≡ v.lengths → (n : ℕ) (events : List RingEvent) → Newest v n events → Newest x n events
 newest_same v x queue lengths n [] y = ap (λ l. is_border l 0 n) lengths ∙ y
 newest_same v x queue lengths n (Placed a ∷ older) y = ap (λ l. is_border l 0 n) lengths ∙ y
-newest_same v x queue lengths n (Took a b d ∷ older) y = (y.0, y.1 ∙ same (sym queue) (sym lengths))
-  where
-    same : v.queue ≡ x.queue → v.lengths ≡ x.lengths → declared_at v.queue v.lengths (n - 1) ≡ declared_at x.queue x.lengths (n - 1)
-    same p q = rw (p, q) refl
+newest_same v x queue lengths n (Took a b d ∷ older) y = search rules
 
 way_stays : (shape : Shape) (v x : RingView) → ((q : ℕ) → v.crossed q ≡ true → x.crossed q ≡ true) → (q : ℕ) → is_way_given shape v q ≡ true → is_way_given shape x q ≡ true
 unfolding is_way_given
-way_stays shape v x crossed q way = by (is_crossing shape q) (v.crossed q) (x.crossed q) (crossed q) way
-  where
-    by : (c a b : Bool) → (a ≡ true → b ≡ true) → (not c || a) ≡ true → (not c || b) ≡ true
-    by true a b more h = more h
-    by false a b more h = refl
+way_stays shape v x crossed q way = search rules
 
 module _ (shape : Shape) (v x : RingView) (g : RingGoesOn shape v x) (s : RingState) where
   pub matches_on : (t : Spot) → (Newest v (number t) s.events → Newest x (number t) s.events) → RingMatches shape v s t → RingMatches shape x s t
@@ -43,20 +36,10 @@ module _ (shape : Shape) (v x : RingView) (g : RingGoesOn shape v x) (s : RingSt
   }
 
   pub unreported_on : (t : Spot) → Unreported shape v s t → Unreported shape x s t
-  unreported_on t u = record { takes = u.takes ∙ same (sym g.floor); most = u.most }
-    where
-      same : v.floor ≡ x.floor → map (address_of shape) (range_with_len (floor_number v) (number t - floor_number v)) ≡ map (address_of shape) (range_with_len (floor_number x) (number t - floor_number x))
-      same e = ap (λ f. map (address_of shape) (range_with_len (number f) (number t - number f))) e
+  unreported_on t u = search rules
 
   pub bound_on : (ring_of : ℕ → ℕ → Option ℕ) (r : ℕ) → ((n : ℕ) → Newest v n s.events → Newest x n s.events) → BoundRing shape ring_of v s r → BoundRing shape ring_of x s r
-  bound_on ring_of r newest b = record {
-    slot = b.slot;
-    index = b.index;
-    bound = b.bound;
-    spot = b.spot;
-    matches = matches_on b.spot (newest (number b.spot)) b.matches;
-    takes = unreported_on b.spot b.takes;
-  }
+  bound_on ring_of r newest b = search (rules, matches_on, unreported_on)
 
 -- held at a greater number
 steps_same : (shape : Shape) (v : RingView) (o : Option ℕ) (q : ℕ) → is_step_given shape v q ≡ is_step_given shape (record v { held = o }) q
@@ -75,9 +58,4 @@ still_open None more = refl
 still_open (Some n) more = absurd more
 
 pub held_goes_on : (shape : Shape) (v : RingView) (o : Option ℕ) → IsHeldMore v.held o → RingGoesOn shape v (record v { held = o })
-held_goes_on shape v o more = record {
-  floor = refl;
-  ceiling = held_ceiling shape v v.held o refl more;
-  crossed = λ q c. c;
-  held = λ none. still_open o (subst (λ a. IsHeldMore a o) none more);
-}
+held_goes_on shape v o more = search (rules, held_ceiling, still_open)

@@ -1,5 +1,5 @@
 -- Behind a row of the driver the run goes on, whatever is unread
-use Rattle.std.proofs.Common.{◌≡◌, ◌==◌, ◌&&◌, if◌then◌else◌, ◌∷◌, ◌∙◌, ℕ, not, true, false, List, [], All, Some, refl, sym, ap, subst, inl, inr}
+use Rattle.std.proofs.Common.{◌≡◌, ◌==◌, ◌&&◌, if◌then◌else◌, ◌∷◌, ◌∙◌, ℕ, not, true, false, List, [], All, Some, refl, sym, ap, subst, inl, inr, rules}
 use Rattle.safety.proofs.Words.{cases_Bool, cond-true, and_from, not-false, All-cons, All-head, All-tail, same_Some, Block, IsBlock, is_open, Header, Row, Sub, Write, Reg, Bell, Read, IsHeader, command_id, IsRow, World, counted, Known, learned, known, is_bad_bell, broken, IsClean, DriverKeeps, IsDriverRow, Agrees, Runs, reading, is_idle, is_open_if, MayRing, SquareLaw, MoreLaw}
 use Rattle.controller_model.specs.DriverRows as driver
 use Rattle.safety.proofs.CleanRows.{BellFacts, bell_facts}
@@ -80,14 +80,7 @@ module _ (h : Header) where
 
       pub idle_runs : driver.row_done h w (Bell s t) ≡ Some v → Runs h (Bell s t ∷ past) (counted h v)
       unfolding later driver.row_done
-      idle_runs at = record {
-        unread = run.unread;
-        clean = clean_later run.unread past (Bell s t ∷ past) nothing_more run.clean (here, possible);
-        blocks = run.blocks;
-        on = ap (λ k. k.stopped) (sym nothing_more) ∙ run.on;
-        agrees = subst (λ k. Agrees h k run.unread (counted h v)) (same_later run.unread past (Bell s t ∷ past) nothing_more)
-            (subst (λ u. Agrees h (known h (reading run.unread past)) run.unread (counted h u)) (same_Some (driver.bell_row h w s t) v at) agrees_still);
-      }
+      idle_runs at = search (rules, clean_later, nothing_more, here, same_later, same_Some, agrees_still)
 
     -- any row of the driver that doesn't stop the controller
     module _ (square : SquareLaw h) (more : MoreLaw h) where

@@ -1,6 +1,6 @@
 -- Behind a completion no Stopped event is known: that of the finished Stop Endpoint was the only one
-use Rattle.std.proofs.Common.{◌≡◌, ◌∷◌, ◌∙◌, ℕ, Bool, true, false, List, [], Option, None, Some, refl, sym, ap}
-use Rattle.safety.proofs.Words.{cond_both, false≢true, Spot, target, Command, StopEndpoint, Stopped, is_off, Change, SlotGoesOn, DeviceLeft, Disables, Places, Stops, Resets, Header, shape_of, ring_beginning_at, Known, on_ring, set_to, bound_to, moved_to, moved, pointed, disabled, in_state, held_at_ceiling, changed_by, changed_by_all, stop_ended}
+use Rattle.std.proofs.Common.{◌≡◌, ◌∷◌, ◌∙◌, ℕ, Bool, true, List, [], Option, None, Some, refl, sym, ap, rules}
+use Rattle.safety.proofs.Words.{cond_both, false≢true, Spot, target, Command, StopEndpoint, Stopped, Change, SlotGoesOn, DeviceLeft, Disables, Places, Stops, Resets, Header, shape_of, Known, on_ring, set_to, bound_to, moved_to, moved, pointed, disabled, in_state, held_at_ceiling, changed_by, changed_by_all, stop_ended}
 use Rattle.safety.proofs.EndpointPut.{at_pair}
 
 module _ (h : Header) where
@@ -21,9 +21,7 @@ module _ (h : Header) where
 
   pointed_seen : (k : Known) (s i p : ℕ) (cycle : Bool) → (pointed h k s i p cycle).stop_seen ≡ k.stop_seen
   unfolding pointed
-  pointed_seen k s i p cycle =
-      cond_both (is_off (k.endpoint_state s i)) (bound_to h k s i (ring_beginning_at h p)) (moved h k (k.ring_of s i) p cycle) (λ l. l.stop_seen ≡ k.stop_seen)
-      (λ off. bound_seen k s i (ring_beginning_at h p)) (λ on. moved_seen k (k.ring_of s i) p cycle)
+  pointed_seen k s i p cycle = search (rules, cond_both, bound_seen, moved_seen)
 
   held_seen : (k : Known) (o : Option ℕ) → (held_at_ceiling h k o).stop_seen ≡ k.stop_seen
   unfolding held_at_ceiling on_ring
@@ -47,11 +45,5 @@ module _ (h : Header) where
   -- where only the finished command's can have been known
   pub none_seen : (k m : Known) (c : Command) → m.stop_seen ≡ k.stop_seen → ((t j : ℕ) → k.stop_seen t j ≡ true → c ≡ StopEndpoint t j) → (t j : ℕ) → (stop_ended h m c).stop_seen t j ≡ true → ⊥
   unfolding stop_ended
-  none_seen k m (StopEndpoint s i) same was t j =
-      at_pair (λ x. x ≡ true → ⊥) m.stop_seen s i false t j (λ a b seen. false≢true seen)
-      (λ apart seen.
-      let named : StopEndpoint s i ≡ StopEndpoint t j = was t j (ap (λ f. f t j) (sym same) ∙ seen) in
-      let slot : t ≡ s = cc in
-      let index : j ≡ i = cc in
-      apart slot index)
+  none_seen k m (StopEndpoint s i) same was t j = search (rules, at_pair, false≢true)
   none_seen k m _ same was t j = λ seen. let named = was t j (ap (λ f. f t j) (sym same) ∙ seen) in cc

@@ -1,6 +1,6 @@
 -- The success of an unfinished command changes its own slot alone, and binds only rings that it names
-use Rattle.std.proofs.Common.{◌≡◌, if◌then◌else◌, ◌∷◌, ◌∙◌, ℕ, not, Bool, true, false, List, [], map, Some, refl, ap, inl, inr, eq-eqb}
-use Rattle.safety.proofs.Words.{list_any, or_parts, or_left, not-false, false≢true, Command, NoOp, EnableSlot, DisableSlot, AddressDevice, ConfigureEndpoint, EvaluateContext, ResetEndpoint, StopEndpoint, SetTrDequeue, ResetDevice, EndpointState, Off, Running, Halted, Stopped, Error, is_off, is_at_rest, changes, placed_by_context, added_endpoints, context_pointer, Header, command_id, is_ring, ring_beginning_at, Known, changed_by, succeeded, binding_in, binds, ring_bound, binds_ring, is_bad_dequeue, is_bad_move, IsIn, any_of, MovesIf}
+use Rattle.std.proofs.Common.{◌≡◌, ◌∷◌, ℕ, not, Bool, true, false, List, [], map, Some, refl, ap, inl, inr, eq-eqb, rules}
+use Rattle.safety.proofs.Words.{or_parts, or_left, not-false, false≢true, Command, NoOp, EnableSlot, DisableSlot, AddressDevice, ConfigureEndpoint, EvaluateContext, ResetEndpoint, StopEndpoint, SetTrDequeue, ResetDevice, EndpointState, Off, Running, Halted, Stopped, Error, is_off, is_at_rest, changes, placed_by_context, added_endpoints, context_pointer, Header, command_id, ring_beginning_at, Known, changed_by, succeeded, binding_in, binds, ring_bound, binds_ring, is_bad_dequeue, is_bad_move, IsIn, any_of, MovesIf}
 use Rattle.safety.proofs.TestsPassed.{any_of_map}
 use Rattle.safety.proofs.OtherSlots.{OtherSlots, Within, AllOnly, changes_others}
 
@@ -37,16 +37,12 @@ module _ (h : Header) (k : Known) where
   address_binds : (s n r : ℕ) (bsr : Bool) → is_off (k.endpoint_state s 1) ≡ true → ring_beginning_at h (context_pointer h.context_size k.memory n 1) ≡ Some r →
       binds_ring h k r (AddressDevice s bsr n) ≡ true
   unfolding binds_ring binds binding_in ring_bound
-  address_binds s n r bsr off at =
-      ap (λ t. list_any (λ b. is_ring r (ring_bound h b)) (if t then binding_in h k n 1 ∷ [] else [])) off
-      ∙ or_left (is_ring r (ring_bound h (binding_in h k n 1))) false (ap (λ o. is_ring r o) at ∙ eq-eqb r r refl)
+  address_binds s n r bsr off at = search (rules, or_left, eq-eqb)
 
   configure_binds : (s n i r : ℕ) → IsIn i (added_endpoints k.memory n) → ring_beginning_at h (context_pointer h.context_size k.memory n i) ≡ Some r →
       binds_ring h k r (ConfigureEndpoint s false n) ≡ true
   unfolding binds_ring binds binding_in ring_bound
-  configure_binds s n i r added at =
-      any_of_map (λ b. is_ring r (ring_bound h b)) (binding_in h k n) (added_endpoints k.memory n)
-      ∙ any_of (λ x. is_ring r (ring_bound h (binding_in h k n x))) (added_endpoints k.memory n) i added (ap (λ o. is_ring r o) at ∙ eq-eqb r r refl)
+  configure_binds s n i r added at = search (rules, any_of_map, any_of, eq-eqb)
 
   places_only : (s n : ℕ) (e : Command) (B : ℕ → Type 0) (l : Known) (xs : List ℕ) → ((i : ℕ) → IsIn i xs → (r : ℕ) → ring_beginning_at h (context_pointer h.context_size k.memory n i) ≡ Some r → B r) →
       AllOnly s B h e l (map (placed_by_context h.context_size k.memory s n) xs)
@@ -67,14 +63,7 @@ module _ (h : Header) (k : Known) where
   only_own n EnableSlot moves = (refl, tt)
   only_own n (DisableSlot s) moves = (refl, (refl, (refl, tt)))
   only_own n (AddressDevice s bsr c) moves = (refl, ((refl, λ off r at. Binds (address_binds s c r bsr off at)), tt))
-  only_own n (ConfigureEndpoint s false c) moves = (
-    refl,
-    (
-      refl,
-      places_only s c (ConfigureEndpoint s false c) (OfCommand s (ConfigureEndpoint s false c)) _ (added_endpoints k.memory c)
-          (λ i there r at. Binds (configure_binds s c i r there at)),
-    ),
-  )
+  only_own n (ConfigureEndpoint s false c) moves = search (rules, address_binds, places_only, configure_binds, rest_not_off, set_rests)
   only_own n (ConfigureEndpoint s true c) moves = (refl, (refl, tt))
   only_own n (EvaluateContext s c) moves = tt
   only_own n (ResetEndpoint s i) moves = (refl, tt)

@@ -1,5 +1,5 @@
 -- What a change leaves of slots
-use Rattle.std.proofs.Common.{◌≡◌, ◌≢◌, ◌⊎◌, ◌==◌, ◌&&◌, ◌∷◌, ◌∙◌, ℕ, Bool, List, [], map, Option, None, Some, refl, sym, ap, inl, inr, ne_eqb}
+use Rattle.std.proofs.Common.{◌≡◌, ◌≢◌, ◌⊎◌, ◌==◌, ◌&&◌, ◌∷◌, ◌∙◌, ℕ, Bool, List, [], map, Option, None, Some, refl, ap, inl, inr, ne_eqb, rules}
 use Rattle.safety.proofs.Words.{cond_both, cond-false, and_left, none-some, Spot, target, Command, EndpointState, Stopped, is_off, Change, SlotGoesOn, DeviceLeft, Disables, Places, Stops, Resets, placed_by_context, ContextSize, Header, shape_of, ring_beginning_at, Known, on_ring, set_to, bound_to, moved_to, moved, pointed, disabled, in_state, held_at_ceiling, changed_by, changed_by_all}
 use Rattle.safety.proofs.EndpointPut.{at_pair}
 use Rattle.safety.proofs.StatesOneEndpoint.{same_pair}
@@ -44,16 +44,7 @@ module _ (h : Header) where
   bound_leaves : (k : Known) (s i : ℕ) (o : Option ℕ) → GetsRing k (bound_to h k s i o) s i
   unfolding bound_to set_to on_ring
   bound_leaves k s i None = record { slot_state = refl; device = refl; rings = λ u j. inr refl; some = λ u j has. has }
-  bound_leaves k s i (Some r) = record {
-    slot_state = refl;
-    device = refl;
-    rings = λ t j.
-        elim (same_pair t j s i) [
-          | inl here ↦ inl here
-          | inr other ↦ inr (at_pair (λ x. x ≡ k.ring_of t j) k.ring_of s i (Some r) t j (λ a b. absurd (other a b)) (λ apart. refl))
-        ];
-    some = λ t j has. at_pair (λ x. x ≢ None) k.ring_of s i (Some r) t j (λ a b none. none-some r (sym none)) (λ apart. has);
-  }
+  bound_leaves k s i (Some r) = search (rules, same_pair, at_pair, none-some)
 
   target_leaves : (k : Known) (s i r : ℕ) (o : Option Spot) → GetsRing k (moved_to h k r o) s i
   unfolding moved_to
@@ -73,9 +64,7 @@ module _ (h : Header) where
 
   pub placed_leaves : (c : Command) (k : Known) (s i p : ℕ) (cycle : Bool) (state : EndpointState) → GetsRing k (changed_by h c k (Places s i p cycle state)) s i
   unfolding changed_by in_state
-  placed_leaves c k s i p cycle state =
-      let leaves : GetsRing k (pointed h k s i p cycle) s i = pointed_leaves k s i p cycle in
-      record { slot_state = leaves.slot_state; device = leaves.device; rings = leaves.rings; some = leaves.some }
+  placed_leaves c k s i p cycle state = search (rules, pointed_leaves)
 
   held_slot : (k : Known) (o : Option ℕ) (t : ℕ) → SameSlot k (held_at_ceiling h k o) t
   unfolding held_at_ceiling on_ring

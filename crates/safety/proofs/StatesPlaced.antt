@@ -1,5 +1,5 @@
 -- An endpoint that is placed on a ring: what is kept of endpoints is kept
-use Rattle.std.proofs.Common.{◌≡◌, ◌≢◌, ◌⊎◌, ◌∙◌, ℕ, Bool, true, false, Option, None, Some, refl, sym, ap, subst, inl, inr}
+use Rattle.std.proofs.Common.{◌≡◌, ◌≢◌, ◌⊎◌, ◌∙◌, ℕ, Bool, true, false, Option, None, Some, refl, sym, ap, inl, inr, rules}
 use Rattle.safety.proofs.Words.{cond-true, cond-false, false≢true, none-some, same_Some, put_pair, Spot, Data, number, Reaches, Holds, target, Command, EndpointState, Off, Running, is_off, Places, Header, shape_of, ring_beginning_at, Known, on_ring, set_to, bound_to, moved_to, moved, pointed, in_state, changed_by, EndpointsKeep}
 use Rattle.safety.proofs.DriverRows.{ring_here, ring_elsewhere}
 use Rattle.safety.proofs.EndpointPut.{at_pair}
@@ -45,8 +45,7 @@ module _ (h : Header) where
 
   set_other : (k : Known) (r : ℕ) (t : Spot) (q : ℕ) → q ≢ r → ((set_to h k r t).ring q).held ≡ (k.ring q).held
   unfolding set_to
-  set_other k r t q other =
-      ap (λ v. v.held) (ring_elsewhere h (on_ring h k r (Reaches t)) r q (Holds (number t)) other) ∙ ap (λ v. v.held) (ring_elsewhere h k r q (Reaches t) other)
+  set_other k r t q other = search (rules, ring_elsewhere)
 
   set_rest : (k : Known) (r : ℕ) (t : Spot) → ((set_to h k r t).endpoint_state ≡ k.endpoint_state) × ((set_to h k r t).ring_of ≡ k.ring_of)
   unfolding set_to on_ring
@@ -59,12 +58,7 @@ module _ (h : Header) where
   target_is : (k : Known) (r : ℕ) (o : Option Spot) → IsMoved k (moved_to h k r o) r
   unfolding moved_to
   target_is k r None = record { states = refl; ring_of = refl; held = λ none. none; others = λ q other. refl }
-  target_is k r (Some t) = record {
-    states = (set_rest k r t).0;
-    ring_of = (set_rest k r t).1;
-    held = λ none. absurd (none-some (number t) (sym none ∙ set_here k r t));
-    others = set_other k r t;
-  }
+  target_is k r (Some t) = search (rules, set_rest, none-some, set_here, set_other)
 
   moved_is : (k : Known) (r p : ℕ) (cycle : Bool) → IsMoved k (moved h k (Some r) p cycle) r
   unfolding moved
@@ -72,15 +66,11 @@ module _ (h : Header) where
 
   pub pointed_off : (k : Known) (s i p r : ℕ) (cycle : Bool) → is_off (k.endpoint_state s i) ≡ true → ring_beginning_at h p ≡ Some r → IsBound k (pointed h k s i p cycle) s i r
   unfolding pointed
-  pointed_off k s i p r cycle off at =
-      subst (λ m. IsBound k m s i r)
-      (sym (cond-true (is_off (k.endpoint_state s i)) (bound_to h k s i (ring_beginning_at h p)) (moved h k (k.ring_of s i) p cycle) off ∙ ap (λ o. bound_to h k s i o) at)) (bound_is k s i r)
+  pointed_off k s i p r cycle off at = search (rules, cond-true, bound_is)
 
   pub pointed_on : (k : Known) (s i p r : ℕ) (cycle : Bool) → is_off (k.endpoint_state s i) ≡ false → k.ring_of s i ≡ Some r → IsMoved k (pointed h k s i p cycle) r
   unfolding pointed
-  pointed_on k s i p r cycle on at =
-      subst (λ m. IsMoved k m r)
-      (sym (cond-false (is_off (k.endpoint_state s i)) (bound_to h k s i (ring_beginning_at h p)) (moved h k (k.ring_of s i) p cycle) on ∙ ap (λ o. moved h k o p cycle) at)) (moved_is k r p cycle)
+  pointed_on k s i p r cycle on at = search (rules, cond-false, moved_is)
 
 -- the endpoint's state is set then
 pub record IsPlaced (m l : Known) (s i : ℕ) (state : EndpointState) : Type 0 where
@@ -94,8 +84,7 @@ placed_is h c k s i p cycle state = record { states = refl; ring_of = refl; ring
 
 module _ (k m l : Known) (s i r : ℕ) (state : EndpointState) (e : EndpointsStand k) (placed : IsPlaced m l s i state) where
   state_at : (t j : ℕ) → m.endpoint_state ≡ k.endpoint_state → (t ≡ s → j ≡ i → ⊥) → l.endpoint_state t j ≡ k.endpoint_state t j
-  state_at t j same other =
-      ap (λ f. f t j) placed.states ∙ at_pair (λ x. x ≡ m.endpoint_state t j) m.endpoint_state s i state t j (λ a b. absurd (other a b)) (λ apart. refl) ∙ ap (λ f. f t j) same
+  state_at t j same other = search (rules, at_pair)
 
   state_here : (t j : ℕ) → t ≡ s → j ≡ i → l.endpoint_state t j ≡ state
   state_here t j a b = ap (λ f. f t j) placed.states ∙ at_pair (λ x. x ≡ state) m.endpoint_state s i state t j (λ x y. refl) (λ other. absurd (other a b))
@@ -106,23 +95,13 @@ module _ (k m l : Known) (s i r : ℕ) (state : EndpointState) (e : EndpointsSta
   -- ---- on the ring that it had
 
   pub moved_stands : IsMoved k m r → k.ring_of s i ≡ Some r → state ≢ Off → ((k.ring r).held ≡ None → state ≡ Running) → EndpointsStand l
-  moved_stands moved at on runs =
-      one_stands k l s i r e
-      (record {
-        ring_of = placed.ring_of ∙ moved.ring_of;
-        bound = at;
-        on = λ off. on (sym (state_here s i refl refl) ∙ off);
-        others = λ t j other. state_at t j moved.states other;
-        held = λ q other. held_at q ∙ moved.others q other;
-        runs = λ none. state_here s i refl refl ∙ runs (moved.held (sym (held_at r) ∙ none));
-      })
+  moved_stands moved at on runs = search (rules, one_stands, state_here, state_at, held_at)
 
   -- ---- on a ring that never was bound
 
   module _ (bound : IsBound k m s i r) (never : (t j : ℕ) → k.ring_of t j ≢ Some r) (slot : s ≢ 0) (index : i ≢ 0) (on : state ≢ Off) where
     ring_other : (t j : ℕ) → (t ≡ s → j ≡ i → ⊥) → l.ring_of t j ≡ k.ring_of t j
-    ring_other t j other =
-        ap (λ f. f t j) (placed.ring_of ∙ bound.ring_of) ∙ at_pair (λ x. x ≡ k.ring_of t j) k.ring_of s i (Some r) t j (λ a b. absurd (other a b)) (λ apart. refl)
+    ring_other t j other = search (rules, at_pair)
 
     ring_here_is : (t j : ℕ) → t ≡ s → j ≡ i → l.ring_of t j ≡ Some r
     ring_here_is t j a b = ap (λ f. f t j) (placed.ring_of ∙ bound.ring_of) ∙ at_pair (λ x. x ≡ Some r) k.ring_of s i (Some r) t j (λ x y. refl) (λ other. absurd (other a b))

@@ -1,5 +1,5 @@
 -- A doorbell keeps what is known of states
-use Rattle.std.proofs.Common.{◌≡◌, ◌≢◌, ◌==◌, ◌&&◌, ◌||◌, ◌∙◌, ℕ, not, nat_lt, true, false, [], Option, None, Some, arith, refl, sym, ap, subst, inl, inr, eq-eqb}
+use Rattle.std.proofs.Common.{◌≡◌, ◌≢◌, ◌==◌, ◌&&◌, ◌||◌, ◌∙◌, ℕ, not, true, false, [], Option, None, Some, refl, sym, ap, subst, inl, inr, eq-eqb, rules}
 use Rattle.safety.proofs.Words.{cond_both, cond-false, or_parts, or_cases, or_left, and_from, not-false, false≢true, put_pair, Shape, RingView, Opens, changed, is_step_given, is_way_given, given_count_same, ceiling_open, StopEndpoint, EndpointState, Off, Running, changes, is_running, is_stopped, Header, Bell, IsHeader, shape_of, command_id, Known, on_ring, next_command, endpoint_rung, rung, learned, touches_endpoint, is_touched, is_bad_bell, broken, StatesKeep, DriverKeeps}
 use Rattle.safety.proofs.RingIds.{command_not_transfer}
 use Rattle.safety.proofs.DriverRows.{ring_here, ring_elsewhere}
@@ -25,11 +25,7 @@ running_not_off e runs off = cc
 -- an open ring that is opened
 opens_open : (shape : Shape) (v : RingView) → v.held ≡ None → ViewGoesOn shape v (changed shape v Opens)
 unfolding is_step_given is_way_given
-opens_open shape v none = record {
-  floor = refl;
-  ceiling = omega (arith, ceiling_open shape v none, ceiling_open shape (changed shape v Opens) refl, given_count_same shape v (changed shape v Opens) refl (λ p. refl));
-  queue = λ p d at. at;
-}
+opens_open shape v none = search (rules, ceiling_open, given_count_same)
 
 module _ (h : Header) where
   -- ---- the command ring's doorbell
@@ -102,9 +98,7 @@ module _ (h : Header) where
 
     rung_others : (s t r q j : ℕ) → (q ≡ s → j ≡ t → ⊥) → (endpoint_rung h k s t (Some r)).endpoint_state q j ≡ k.endpoint_state q j
     unfolding endpoint_rung
-    rung_others s t r q j other =
-        cond_both (is_stopped (k.endpoint_state s t)) (put_pair k.endpoint_state s t Running) k.endpoint_state (λ f. f q j ≡ k.endpoint_state q j)
-        (λ stopped. at_pair (λ e. e ≡ k.endpoint_state q j) k.endpoint_state s t Running q j (λ a b. absurd (other a b)) (λ apart. refl)) (λ on. refl)
+    rung_others s t r q j other = search (rules, cond_both, at_pair)
 
     rung_rest : (s t r : ℕ) → ((endpoint_rung h k s t (Some r)).ring_of ≡ k.ring_of) × ((endpoint_rung h k s t (Some r)).stop_seen ≡ k.stop_seen) × ((endpoint_rung h k s t (Some r)).ring ≡ (on_ring h k r Opens).ring)
     unfolding endpoint_rung on_ring
@@ -146,11 +140,7 @@ module _ (h : Header) where
 
     may_ring : (s t : ℕ) → is_bad_bell h k s t ≡ false → MayRing s t
     unfolding is_bad_bell
-    may_ring s t good =
-        let four = or_parts _ (is_touched h k s t) good in
-        let three = or_parts _ (k.must_move s t) four.0 in
-        let two = or_parts (t == 0 || nat_lt 31 t) (not (is_running (k.endpoint_state s t) || is_stopped (k.endpoint_state s t))) three.0 in
-        record { state = not-false _ two.1; untouched = four.1 }
+    may_ring s t good = search (rules, or_parts, not-false)
 
     both_stand : (s t : ℕ) → broken h k (Bell s t) ≡ [] → EndpointsStand (learned h k (Bell s t)) × SeenStand h (learned h k (Bell s t))
     unfolding learned rung

@@ -1,5 +1,5 @@
 -- The success of a command keeps what is kept of slots
-use Rattle.std.proofs.Common.{◌≡◌, ◌≢◌, ◌<◌, ◌==◌, ◌&&◌, if◌then◌else◌, ◌∷◌, ◌∙◌, ℕ, nat_le, nat_lt, Bool, true, false, List, [], map, Option, None, Some, arith, refl, sym, ap, subst, inl, inr, eq-eqb, leb-false, ltb-true}
+use Rattle.std.proofs.Common.{◌≡◌, ◌≢◌, ◌<◌, ◌==◌, ◌&&◌, if◌then◌else◌, ◌∷◌, ◌∙◌, ℕ, nat_le, nat_lt, Bool, true, false, List, [], map, Option, None, Some, arith, refl, sym, ap, subst, inl, inr, eq-eqb, leb-false, ltb-true, rules}
 use Rattle.safety.proofs.Words.{cases_Bool, cases_eq, cond-true, cond-false, and_parts, and_from, and_right, none-some, Command, EnableSlot, DisableSlot, AddressDevice, ConfigureEndpoint, SlotState, EndpointState, Off, Running, Change, SlotGoesOn, DeviceLeft, Disables, Places, placed_by_context, is_above_control, added_endpoints, is_dropped, context_pointer, context_cycle, Header, Known, disabled, pointed, changed_by, changed_by_all}
 use Rattle.safety.proofs.EndpointPut.{at_pair}
 use Rattle.safety.proofs.StatesParts.{EndpointsStand, SlotStands, SlotsStand}
@@ -10,17 +10,7 @@ use Rattle.safety.proofs.SlotFrames.{GetsRing, SameSlot, KeepsRings, changes_els
 
 stands_as : (state after : SlotState) (rings fewer : ℕ → Option ℕ) (device left : Option ℕ) → after ≡ state → ((i : ℕ) → fewer i ≡ rings i) → left ≡ device → SlotStands state rings device →
     SlotStands after fewer left
-stands_as state after rings fewer device left one same gone was =
-    subst (λ x. SlotStands x fewer left) (sym one)
-    (record {
-      slots = λ i r at. was.slots i r (sym (same i) ∙ at);
-      first =
-          elim was.first [
-            | inl disabled ↦ inl disabled
-            | inr rest ↦ elim rest [ inl enabled ↦ inr (inl enabled) | inr first ↦ inr (inr (λ none. first (sym (same 1) ∙ none))) ]
-          ];
-      no_device = λ disabled. gone ∙ was.no_device disabled;
-    })
+stands_as state after rings fewer device left one same gone was = search (rules, SlotStands)
 
 pub slots_as : (k l : Known) → SlotsStand k → ((t : ℕ) → SameSlot k l t) → SlotsStand l
 slots_as k l was same = record {
@@ -48,14 +38,7 @@ first_stays : (s : ℕ) (drops : Bool) (o : Option ℕ) → drops ≡ false → 
 first_stays s drops o not has none = has (sym (cond-false (s == s && drops) None o (and_right (s == s) drops not)) ∙ none)
 
 only_first : (s i r : ℕ) (o : Option ℕ) → (i ≡ 0 → o ≡ None) → (if s == s && nat_le 2 i then None else o) ≡ Some r → i ≡ 1
-only_first s i r o zero at =
-    elim (cases_Bool (nat_le 2 i)) [
-      | inl high ↦ absurd (none-some r (sym (cond-true (s == s && nat_le 2 i) None o (and_from (s == s) (nat_le 2 i) (eq-eqb s s refl) high)) ∙ at))
-      | inr low ↦
-          let there : o ≡ Some r = sym (cond-false (s == s && nat_le 2 i) None o (and_right (s == s) (nat_le 2 i) low)) ∙ at in
-          let below : i < 2 = leb-false 2 i low in
-          elim (cases_eq i 0) [ inl first ↦ absurd (none-some r (sym (zero first) ∙ there)) | inr other ↦ omega arith ]
-    ]
+only_first s i r o zero at = search (rules, cases_Bool, none-some, cond-true, and_from, eq-eqb, cond-false, and_right, leb-false, cases_eq)
 
 module _ (h : Header) (k : Known) (was : SlotsStand k) (e : EndpointsStand k) where
   slot_goes : (c : Command) (s : ℕ) → (changed_by h c k (SlotGoesOn s)).slot_state s ≡ state_after c (k.slot_state s)

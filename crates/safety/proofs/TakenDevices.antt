@@ -1,6 +1,6 @@
 -- What the rules say of a device context that a write takes
-use Rattle.std.proofs.Common.{◌≡◌, ◌%◌, ◌<◌, ◌==◌, ◌||◌, ◌∙◌, ℕ, not, Bool, true, false, suc, zero, Option, None, Some, is_none, is_some, arith, refl, sym, ap, subst, inl, inr, eqb-true}
-use Rattle.safety.proofs.Words.{and_cases, or_parts, not-false, false≢true, overlap, Command, AddressDevice, named_slot, named_endpoint, named_context, is_disabled, device_context_bytes, input_context_bytes, Header, Dcbaap, Known, device_named, entry_of, is_bad_area, is_in_range_lease, is_soiled, DriverKeeps}
+use Rattle.std.proofs.Common.{◌≡◌, ◌%◌, ◌<◌, ◌==◌, ◌||◌, ◌∙◌, ℕ, not, Bool, true, false, suc, zero, Option, None, Some, is_none, is_some, arith, refl, sym, ap, inl, inr, eqb-true, rules}
+use Rattle.safety.proofs.Words.{and_cases, or_parts, not-false, false≢true, overlap, Command, AddressDevice, named_slot, is_disabled, device_context_bytes, input_context_bytes, Header, Dcbaap, Known, device_named, entry_of, is_bad_area, is_in_range_lease, is_soiled, DriverKeeps}
 use Rattle.ownership_rules.specs.Commands as commands
 use Rattle.safety.proofs.GivenCommands.{content_good}
 use Rattle.safety.proofs.KeptClean.{CleanTaking}
@@ -24,10 +24,7 @@ module _ (h : Header) (k : Known) where
 
   pub slot_named : (c : Command) → commands.is_bad_command h k c ≡ false → commands.names_disabled_slot k (named_slot c) ≡ false
   unfolding commands.is_bad_command
-  slot_named c good =
-      let three = or_parts _ (commands.has_bad_content h k c) good in
-      let two = or_parts _ (commands.has_bad_context h k (named_context c)) three.0 in
-      (or_parts (commands.names_disabled_slot k (named_slot c)) (commands.names_disabled_endpoint k (named_endpoint c)) two.0).0
+  slot_named c good = search (rules, or_parts)
 
   -- a slot that is there isn't slot 0
   pub slot_above : DriverKeeps h k → (s : ℕ) → commands.names_disabled_slot k (Some s) ≡ false → 0 < s
@@ -70,6 +67,4 @@ module _ (h : Header) (k : Known) where
       ]
 
   pub taken_rules : DriverKeeps h k → (a w s d : ℕ) (t : CleanTaking h k a w s d) → DeviceRules s d t.takes.context
-  taken_rules keeps a w s d t =
-      subst (λ x. DeviceRules s x t.takes.context) t.takes.named
-      (device_rules keeps s t.takes.context t.takes.bsr (ap (λ c. commands.is_bad_command h k c) (sym t.takes.command) ∙ t.good) t.takes.fresh)
+  taken_rules keeps a w s d t = search (rules, device_rules)

@@ -1,6 +1,6 @@
 -- A row that breaks no rule fails none of its tests
-use Rattle.std.proofs.Common.{◌≡◌, ◌||◌, ◌∷◌, ◌∙◌, Bool, true, false, List, [], map, All, refl, sym, ap, inl, inr, get_or}
-use Rattle.safety.proofs.Words.{list_any, cases_Bool, cond-true, cond-false, false≢true, false_from_ne_true, list_any_at, Header, Row, Known, Refusal, AfterStop, Test, broken_of, tests, broken}
+use Rattle.std.proofs.Common.{◌≡◌, ◌||◌, ◌∷◌, ◌∙◌, Bool, true, false, List, [], map, All, refl, sym, ap, get_or, rules}
+use Rattle.safety.proofs.Words.{list_any, cases_Bool, cond-true, cond-false, false≢true, false_from_ne_true, list_any_at, Header, Row, Known, Refusal, Test, broken_of, tests, broken}
 
 some_none : (c : Refusal) (cs : List Refusal) → c ∷ cs ≡ [] → ⊥
 some_none c cs e = cc
@@ -8,11 +8,7 @@ some_none c cs e = cc
 -- before a stop, and with no test failed
 pub clean_tests : (h : Header) (k : Known) (row : Row) → broken h k row ≡ [] → (k.stopped ≡ false) × (broken_of (tests h k row) ≡ [])
 unfolding broken
-clean_tests h k row clean =
-    elim (cases_Bool k.stopped) [
-      | inl stopped ↦ absurd (some_none AfterStop [] (sym (cond-true k.stopped (AfterStop ∷ []) (broken_of (tests h k row)) stopped) ∙ clean))
-      | inr on ↦ (on, sym (cond-false k.stopped (AfterStop ∷ []) (broken_of (tests h k row)) on) ∙ clean)
-    ]
+clean_tests h k row clean = search (rules, cases_Bool, some_none, cond-true, cond-false)
 
 -- each test fails
 abbrev pub AllFail : List Test → Type 0

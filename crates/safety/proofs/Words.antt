@@ -1,27 +1,15 @@
 -- The words of std, of the crates below and of this crate's own definitions that its proofs cite, passed on by one file
-pub use Rattle.commands.specs.Changes.{Change, DeviceLeft, Disables, Places, Resets, SlotGoesOn, Stops, is_above_control, placed_by_context, slot_gone_on, touches}
-unfoldable pub use Rattle.commands.specs.Changes.{changes}
-pub use Rattle.commands.specs.Command.{command_by_kind, command_of, is_stop_of, may_answer_slot, name_one_slot, named_context, named_endpoint, named_slot, same_slot}
-pub use Rattle.commands.specs.States.{endpoint_meant, endpoint_success, is_at_rest, is_disabled, is_off, is_running, is_slot_enabled, is_stopped, slot_meant, slot_success}
-unfoldable pub use Rattle.commands.specs.States.{can_succeed}
-pub use Rattle.commands.specs.declared.command.Command.{Command}
-pub use Rattle.commands.specs.declared.command.Command.TheVariants.{AddressDevice, ConfigureEndpoint, DisableSlot, EnableSlot, EvaluateContext, NoOp, ResetDevice, ResetEndpoint, SetTrDequeue, StopEndpoint}
-pub use Rattle.commands.specs.declared.state.EndpointState.{EndpointState}
-pub use Rattle.commands.specs.declared.state.EndpointState.TheVariants.{Disabled as Off, Error, Halted, Running, Stopped}
-pub use Rattle.commands.specs.declared.state.SlotState.{SlotState}
+pub use Rattle.commands.specs.Changes.{DeviceLeft, Disables, Places, Resets, SlotGoesOn, Stops, touches}
+pub use Rattle.commands.specs.Command.{is_stop_of, name_one_slot, named_endpoint, named_slot, same_slot}
+pub use Rattle.commands.specs.States.{endpoint_meant, endpoint_success, is_at_rest, is_disabled, is_off, slot_meant}
 pub use Rattle.commands.specs.declared.state.SlotState.TheVariants.{Addressed, Configured, Default, Disabled, Enabled}
-pub use Rattle.contexts.specs.Contexts.{context_cycle, context_pointer, device_context, device_context_bytes, endpoint_streams, endpoint_type, has_flag, input_add_flag, input_context_bytes, input_drop_flag, input_endpoint, is_dropped, slot_entry}
-unfoldable pub use Rattle.contexts.specs.Contexts.{added_endpoints}
-pub use Rattle.contexts.specs.declared.size.ContextSize.{ContextSize}
+pub use Rattle.contexts.specs.Contexts.{device_context, device_context_bytes, endpoint_streams, endpoint_type, input_drop_flag, input_endpoint, slot_entry}
 pub use Rattle.contexts.specs.declared.size.ContextSize.TheVariants.{Bytes32, Bytes64}
 pub use Rattle.controller_model.proofs.FirstFound.{first_at-found}
-unfoldable pub use Rattle.controller_model.specs.Bindings.{inactive, is_had_by_another, placed, placed_on}
-unfoldable pub use Rattle.controller_model.specs.Looks.{command_begun, crossed, looked, looked_at, may_scribble, seen_by_look, taken, taken_on}
-unfoldable pub use Rattle.controller_model.specs.Posts.{can_post, is_last, is_stop_under_way, other_posted, posted, report_code, report_error, report_stop, report_success, reported, reported_on, stopped_with, with_reported, with_stopped}
-unfoldable pub use Rattle.controller_model.specs.Steps.{counted, is_scribbled, scribbled}
+pub use Rattle.controller_model.proofs.Words.{AddressDevice, All-push, Block, BlockKind, Change, Command, Config, ConfigureEndpoint, ContextSize, Crcr, Dcbaap, DeclaredBlock, DisableSlot, Dnctrl, EnableSlot, EndpointState, Erdp, Error, Erstba, Erstsz, EvaluateContext, Evt, Finish, Halted, Harm, Header, Iman, Imod, InputContextChanged, IsShape, Look, LooksOutside, NextRow, NoOp, Off, Other, Placed, PostsOverUnread, Read, Register, Report, ResetDevice, ResetEndpoint, Ring, RingEvent, Row, Running, Scribble, SetTrDequeue, Shape, SlotState, Step, StopEndpoint, Stopped, Sub, TakenOtherWords, TakenOutOfOrder, Took, UnderWay, Usbcmd, Usbsts, WaitsInsideDescriptor, World, Write, Xfer, address_aligned, address_of, aligned, and_from, and_parts, base_address, block_at, cases_Bool, cases_eq, cases_lt, cases_option, code, command_by_kind, command_of, cond-false, cond-true, context_cycle, context_pointer, cycle, cycle_of, data_places, drop_all, endpoint, false_from_ne_true, false≢true, has_flag, has_room, id_of, id_or_none, input_add_flag, input_context_bytes, is_above_control, is_command_completion, is_command_kind, is_command_left_out, is_crossing, is_dropped, is_event_place, is_halting, is_inside, is_link, is_other_event, is_ring, is_running, is_set, is_slot_enabled, is_stopped, is_stopping, is_success, is_transfer_event, is_transfer_kind, is_trb_error, kind, link_address, link_crossed, link_target, list_any, list_any_at, may_answer_slot, named_context, none-some, or_cases, or_from, or_left, or_right, place_count, placed_by_context, pointer, position_from, put, put_pair, range_with_len, register_or_zero, reset_bit, ring_cycle_state, ring_with, run_bit, same_Some, same_in_lap, same_words, shape_or, slice_get-get_or, slice_get_past, slice_get_within, slot, slot_gone_on, slot_success, with_register, word}
+unfoldable pub use Rattle.controller_model.proofs.Words.{added_endpoints, can_post, can_succeed, changes, command_begun, command_id, command_ring, counted, crossed, declared_at, event_ring, event_shape, event_size, first_at, harm_of, harms, has_changed_context, has_other_words, inactive, is_as_declared, is_border, is_changed_since, is_context_changed, is_end, is_had_by_another, is_inside_descriptor, is_last, is_out_of_order, is_place, is_right_place, is_scribbled, is_stop_under_way, looked, looked_at, may_scribble, next_take, opening, other_posted, placed, placed_on, posted, report_code, report_error, report_stop, report_success, reported, reported_on, ring_having, scribbled, seen_by_look, shape_of, some_ring, stopped_with, stored, stored_block, taken, taken_on, takes_of, unreported, waits, was_placed, with_reported, with_stopped}
 pub use Rattle.event_ring.proofs.CountLemmas.{posted_in_order}
-pub use Rattle.event_ring.specs.EventRing.{AreInOrder, erdp_address, has_room, is_event_place, is_reached_within, position_from, table_bytes}
-pub use Rattle.guest_memory.specs.Memory.{put, put_pair}
+pub use Rattle.event_ring.specs.EventRing.{AreInOrder, erdp_address, is_reached_within, table_bytes}
 pub use Rattle.ownership_rules.proofs.Among.{IsIn, any_of, both_ways, from_filter, in_filter, some_of}
 unfoldable pub use Rattle.ownership_rules.specs.Areas.{is_bad_area, is_in_range_lease, is_soiled}
 pub use Rattle.ownership_rules.specs.Clean.{IsClean}
@@ -53,7 +41,7 @@ pub use Rattle.safety.specs.EndpointsKeep.{EndpointsKeep, is_transfer_ring}
 pub use Rattle.safety.specs.Headline.{Headline, IsHarmless}
 pub use Rattle.safety.specs.Invariant.{Ended, Runs, reading}
 pub use Rattle.safety.specs.Keeps.{CommandKeeps, CommandRingKeeps, CommandRingNamed, DeviceKeeps, DriverKeeps, IsDriverRing, IsTransferRing, IsUnfinished, MovesIf, StatesKeep, Stays, StaysIf, Unstarted}
-pub use Rattle.safety.specs.KeptHistories.{AreDriverRows, IsDriverRow, MayRead, MayReadAll, StillReads, StillReadsAll}
+pub use Rattle.safety.specs.KeptHistories.{AreDriverRows, IsDriverRow, MayRead, MayReadAll, StillReads}
 pub use Rattle.safety.specs.KeptStep.{CommandsKeep, DevicesKeep, KeptByRows}
 pub use Rattle.safety.specs.Matches.{Agrees, BoundRing, CommandMatches, EndpointRing, FreeRing, IsUnchanged, Matches, Newest, NotStarted, RingMatches, RingState, TakenCommand, UnderWayMatches, Unreported, state_of}
 pub use Rattle.safety.specs.Placings.{AreFree, MayChange, MayChangeAll, MayFinish, MayPoint, MovesOn, StillHolds}
@@ -74,69 +62,37 @@ pub use Rattle.segments.proofs.Named.{IsAhead, below_is, ceiling_held, ceiling_o
 pub use Rattle.segments.proofs.NamedSpots.{IsNamed, named_spot-Some, named_spot-is, named_spot-near}
 pub use Rattle.segments.proofs.NewRing.{new_ring_keeps}
 pub use Rattle.segments.proofs.OneGiving.{gives_one, positions_given-one}
-pub use Rattle.segments.proofs.Positions.{address_aligned, address_ends, address_of-lap, cycle_of-first, cycle_of_bit, place_count_pos, same_in_lap, same_place_of}
+pub use Rattle.segments.proofs.Positions.{address_ends, address_of-lap, cycle_of-first, cycle_of_bit, place_count_pos, same_place_of}
 pub use Rattle.segments.proofs.ReachedSpots.{after_reached, move_reached, number-after, stop_spot_reached, stopped_within}
 pub use Rattle.segments.proofs.Reaching.{crossed_due, floor_given, given_count_declared, given_count_near, holds_and_reaches_keeps, holds_keeps, opens_keeps, reached_given, reaches_and_holds_keeps, reaches_keeps}
-pub use Rattle.segments.proofs.Search.{cases_option}
 pub use Rattle.segments.proofs.ShapeFacts.{shape_facts}
 pub use Rattle.segments.proofs.SpotOrder.{next_is_spot, next_later, next_least, rank_least, rank_most, same_spot, spot_address-after, spot_cycle-after}
 pub use Rattle.segments.proofs.StepFacts.{GivesMore, step_is, step_more, whole_is, whole_more}
+pub use Rattle.segments.proofs.Words.{All-cons, All-contains, All-filter, All-get_or, All-head, All-nil, All-tail, All-weaker, Any-from_list_any, Cmd, Declares, Holds, IsSpot, MayDeclare, MayReach, MayWrite, Opens, Reaches, RingKeeps, RingKind, RingView, Writes, after, changed, cons_option, declared, filter_map, flat_map, floor_number, get_or-append_right, get_or-map, get_or_from_slice_get, gives, gives_crossing, is_crossing_due, is_due, is_in, is_shape, is_spot, kind-with_cycle, length-map, list_all, mod-eq_of_lt, mod-lt, named_spot, not-false, not-true, not_from_false, not_from_true, number, option_map, or_parts, overlap, position-Some, rank, same, segment_has, spot_address, spot_cycle, sum_by-cons, toggles, with_cycle}
+unfoldable pub use Rattle.segments.proofs.Words.{ceiling, crossings_given, descriptor_length, due_crossings, due_positions, given_count, has_no_room, is_data_below, is_declared_as, is_move, is_not_declared, is_not_whole, is_other_than_declared, is_reached, is_step_given, is_stop_spot, is_target, is_way_given, is_wrong_link, leads_wrong, leased_crossings, leased_positions, length_from, may_move_to, named, positions_given, spots_between, stopped_number, target}
 pub use Rattle.segments.proofs.Writing.{given_count-writes, writes_keeps, writes_more}
-unfoldable pub use Rattle.segments.specs.Ceiling.{ceiling, given_count, is_data_below, is_open, is_step_given, is_stop_spot, is_way_given, named, stopped_number}
-pub use Rattle.segments.specs.Descriptors.{DeclaredBlock}
-unfoldable pub use Rattle.segments.specs.Descriptors.{declared_at, is_border, length_from}
-pub use Rattle.segments.specs.Givings.{same}
-unfoldable pub use Rattle.segments.specs.Givings.{descriptor_length, has_no_room, interrupts, is_declared_as, is_not_declared, is_not_whole, is_other_than_declared, is_wrong_link, leads_wrong}
-unfoldable pub use Rattle.segments.specs.Moves.{is_move, is_reached, is_target, may_move_to, spots_between, target}
-pub use Rattle.segments.specs.Places.{address_of, cycle_of, data_places, is_crossing, is_in, is_inside, link_address, link_crossed, link_target, overlap, place_count, segment_has, toggles}
-pub use Rattle.segments.specs.RingKeeps.{MayDeclare, MayReach, MayWrite, RingKeeps}
-pub use Rattle.segments.specs.RingView.{Declares, Holds, Opens, Reaches, RingChange, RingView, Writes, changed, declared, floor_number, gives, gives_crossing, is_crossing_due, is_due}
-unfoldable pub use Rattle.segments.specs.RingView.{crossings_given, due_crossings, due_positions, leased_crossings, leased_positions, positions_given}
-pub use Rattle.segments.specs.Shape.{IsShape, is_shape}
-pub use Rattle.segments.specs.ShapeValue.{Shape}
-pub use Rattle.segments.specs.Spots.{IsSpot, after, is_spot, named_spot, number, rank, spot_address, spot_cycle}
+unfoldable pub use Rattle.segments.specs.Ceiling.{is_open}
+unfoldable pub use Rattle.segments.specs.Givings.{interrupts}
+pub use Rattle.segments.specs.RingView.{RingChange}
 pub use Rattle.segments.specs.declared.spot.Spot.{Spot}
 pub use Rattle.segments.specs.declared.spot.Spot.TheVariants.{Data, Link}
-pub use Rattle.std.proofs.Math.Nat.{mod-eq_of_lt, mod-lt}
 pub use Rattle.std.proofs.Math.Path.{fun_ext}
-pub use Rattle.std.proofs.lemmas.Bool.{and_cases, and_from, and_left, and_parts, and_right, cases_Bool, cases_eq, cases_lt, cond-false, cond-true, cond_both, eqb-false, false_from_ne_true, false≢true, lt-leb, not-false, not-true, not_from_false, not_from_true, or_cases, or_from, or_left, or_parts, or_right}
-pub use Rattle.std.proofs.lemmas.List.{drop_all, get_or-append_right, get_or-map, length-map, reverse-append}
-pub use Rattle.std.proofs.lemmas.List.Elements.{All-append, All-cons, All-contains, All-filter, All-get_or, All-head, All-nil, All-push, All-tail, All-weaker}
-pub use Rattle.std.proofs.lemmas.List.Folds.{Any-from_list_any, list_any-append, list_any_at}
+pub use Rattle.std.proofs.lemmas.Bool.{and_cases, and_left, and_right, cond_both, eqb-false, lt-leb}
+pub use Rattle.std.proofs.lemmas.List.{reverse-append}
+pub use Rattle.std.proofs.lemmas.List.Elements.{All-append}
+pub use Rattle.std.proofs.lemmas.List.Folds.{list_any-append}
 pub use Rattle.std.proofs.lemmas.List.FromFn.{get_or-map-range_with_len, length-map-range_with_len, map-range_with_len_more}
-pub use Rattle.std.proofs.lemmas.List.Quantifiers.{position-Some}
-pub use Rattle.std.proofs.lemmas.List.Sums.{sum_by-cons}
 pub use Rattle.std.proofs.lemmas.Nat.{mod_below}
-pub use Rattle.std.proofs.lemmas.Option.{cond_some, get_or_from_slice_get, none-some, same_Some, slice_get-get_or, slice_get_past, slice_get_within}
-pub use Rattle.std.specs.List.{cons_option, filter_map, flat_map, list_all, list_any, range_with_len}
-pub use Rattle.std.specs.Option.{option_map}
-pub use Rattle.traces.specs.Header.{IsHeader, clash, id_of, id_or_none, is_command_kind, is_driver_kind, is_event_kind, is_ring, is_transfer_kind, may_stand_together, ring_with, shape_or}
-unfoldable pub use Rattle.traces.specs.Header.{command_id, command_ring, driver_rings, event_ring, event_shape, event_size, ring_beginning_at, ring_having, shape_of, some_ring, touches_ring}
-pub use Rattle.traces.specs.Register.{base_address, command_abort, command_stop, register_or_zero, reset_bit, ring_cycle_state, run_bit, same_register, with_register}
+pub use Rattle.std.proofs.lemmas.Option.{cond_some}
+pub use Rattle.traces.specs.Header.{IsHeader, clash, is_driver_kind, is_event_kind, may_stand_together}
+unfoldable pub use Rattle.traces.specs.Header.{driver_rings, ring_beginning_at, touches_ring}
+pub use Rattle.traces.specs.Register.{command_abort, command_stop, same_register}
 pub use Rattle.traces.specs.Rows.{IsRow, IsStep}
-pub use Rattle.traces.specs.declared.header.Header.{Header}
-pub use Rattle.traces.specs.declared.register.Register.{Register}
-pub use Rattle.traces.specs.declared.register.Register.TheVariants.{Config, Crcr, Dcbaap, Dnctrl, Erdp, Erstba, Erstsz, Iman, Imod, Usbcmd, Usbsts}
-pub use Rattle.traces.specs.declared.ring.Ring.{Ring}
-pub use Rattle.traces.specs.declared.row.Row.{Row}
-pub use Rattle.traces.specs.declared.row.Row.TheVariants.{Bell, Read, Reg, Sub, Write}
-pub use Rattle.traces.specs.declared.step.Step.{Step}
-pub use Rattle.traces.specs.declared.step.Step.TheVariants.{Finish, Look, NextRow, Other, Report, Scribble}
-pub use Rattle.trb.proofs.BlockLemmas.{cycle-with_cycle, endpoint-with_cycle, is_set-with_cycle, kind-with_cycle, slot-with_cycle}
-pub use Rattle.trb.specs.Bits.{is_set}
-pub use Rattle.trb.specs.Block.{IsBlock, aligned, block_at, code, cycle, endpoint, kind, pointer, same_words, slot, with_cycle, word}
-pub use Rattle.trb.specs.CompletionCode.{is_halting, is_stopping, is_success, is_transfer_code, is_trb_error}
-pub use Rattle.trb.specs.Descriptor.{has_left_out_field, has_left_out_type, has_other_type, is_bad_descriptor, is_badly_formed, is_command_left_out, is_left_out, is_no_command, is_transfer_arrangement}
-pub use Rattle.trb.specs.Kind.{is_command, is_command_completion, is_event, is_left_out_command, is_link, is_other_event, is_transfer, is_transfer_event}
-pub use Rattle.trb.specs.declared.block.Block.{Block}
-pub use Rattle.trb.specs.declared.kind.BlockKind.{BlockKind}
+pub use Rattle.traces.specs.declared.row.Row.TheVariants.{Bell, Reg}
+pub use Rattle.trb.proofs.BlockLemmas.{cycle-with_cycle, endpoint-with_cycle, is_set-with_cycle, slot-with_cycle}
+pub use Rattle.trb.specs.Block.{IsBlock}
+pub use Rattle.trb.specs.CompletionCode.{is_transfer_code}
+pub use Rattle.trb.specs.Descriptor.{has_left_out_field, is_bad_descriptor, is_badly_formed, is_left_out, is_no_command}
+pub use Rattle.trb.specs.Kind.{is_command, is_event, is_left_out_command, is_transfer}
 pub use Rattle.trb.specs.declared.kind.BlockKind.TheVariants.{CommandCompletion, TransferEvent}
-pub use Rattle.trb.specs.declared.ring_kind.RingKind.{RingKind}
-pub use Rattle.trb.specs.declared.ring_kind.RingKind.TheVariants.{Cmd, Evt, Xfer}
 pub use Rattle.world_state.specs.Harms.{IsSafe}
-unfoldable pub use Rattle.world_state.specs.Harms.{harm_of, harms, has_changed_context, has_other_words, is_changed_since, is_context_changed, is_end, is_inside_descriptor, is_out_of_order, is_right_place, waits}
-unfoldable pub use Rattle.world_state.specs.Takes.{first_at, is_as_declared, is_place, next_take, takes_of, unreported, was_placed}
-pub use Rattle.world_state.specs.World.{Placed, RingEvent, Took, UnderWay, World}
-unfoldable pub use Rattle.world_state.specs.World.{opening, stored, stored_block}
-pub use Rattle.world_state.specs.declared.harm.Harm.{Harm}
-pub use Rattle.world_state.specs.declared.harm.Harm.TheVariants.{InputContextChanged, LooksOutside, PostsOverUnread, TakenOtherWords, TakenOutOfOrder, WaitsInsideDescriptor}
