@@ -1,5 +1,5 @@
 -- The success of an Address Device: the default control endpoint's ring is bound, or stays where it is
-use Rattle.std.proofs.Common.{◌<◌, ◌∷◌, ℕ, Bool, [], arith, refl, inl, inr}
+use Rattle.std.proofs.Common.{◌<◌, ◌∷◌, ℕ, Bool, [], arith, refl, inl, inr, rules}
 use Rattle.lazy_runs.proofs.Words.{cases_Bool, Command, AddressDevice, Running, SlotGoesOn, Places, changes, is_off, context_pointer, context_cycle, Header, IsHeader, World, Known, next_command, DriverKeeps, CommandKeeps, Stands, bad_context_parts, bad_command_context, same_context, address_same, slot_above, first_binds, second_moves, slot_binds, slot_moves, slot_was, StatesMatch}
 use Rattle.ring_knowledge.specs.Completions as completions
 use Rattle.lazy_runs.proofs.ChangesGo.{ChangeGoes, ListGoes, no_change_goes, change_then_goes, change_goes}
@@ -45,6 +45,4 @@ module _ (h : Header) (is : IsHeader h) (k : Known) (w : World) (d : DriverKeeps
 
   pub address_effect : (slot : ℕ) → Stands h k w → EffectGoes h k w slot (AddressDevice s bsr n)
   unfolding changes
-  address_effect slot stands =
-      let lies = bad_context_parts h k n (bad_command_context h k c given.good) in
-      (address_same h.context_size w.memory k.memory slot s n bsr (same_context h is k w n stands lies), both)
+  address_effect slot stands = search (rules, bad_context_parts, bad_command_context, address_same, same_context, both)

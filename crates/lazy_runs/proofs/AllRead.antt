@@ -1,6 +1,6 @@
 -- Behind all rows of a trace nothing is left to read: from the law of the lazy run behind each row
-use Rattle.std.proofs.Common.{◌≡◌, ◌++◌, ◌∙◌, List, [], All, reverse, sym, ap, subst, append-nil}
-use Rattle.lazy_runs.proofs.Words.{reverse-reverse, Header, Row, IsRow, reached, ContainsAll, GoesSoFar, LazyLaw, AllAreRead}
+use Rattle.std.proofs.Common.{◌≡◌, ◌++◌, ◌∙◌, List, [], All, reverse, sym, ap, subst, append-nil, rules}
+use Rattle.lazy_runs.proofs.Words.{reverse-reverse, Header, Row, IsRow, ContainsAll, GoesSoFar, LazyLaw, AllAreRead}
 use Rattle.lazy_runs.specs.Lazy as lazy
 
 module _ (h : Header) where
@@ -13,11 +13,7 @@ module _ (h : Header) where
   steps_are rows = reverse-reverse (lazy.lazy_run h (reverse rows) [])
 
   contains : (rows : List Row) → GoesSoFar h (reverse rows) [] → ContainsAll h rows (reverse (lazy.lazy_steps h rows))
-  contains rows goes = record {
-    world = goes.world;
-    run = ap (λ steps. reached h rows steps) (steps_are rows) ∙ ap (λ l. reached h l (lazy.lazy_run h (reverse rows) [])) (sym (whole rows)) ∙ goes.run;
-    all = goes.rest;
-  }
+  contains rows goes = search (rules, steps_are, whole)
 
   pub all_are_read : LazyLaw h → AllAreRead h
   all_are_read law rows is are clean timely =

@@ -1,5 +1,5 @@
 -- The lazy run before the first row
-use Rattle.std.proofs.Common.{List, [], refl, inl}
+use Rattle.std.proofs.Common.{List, [], refl, inl, rules}
 use Rattle.lazy_runs.proofs.Words.{false≢true, none-some, is_open, Header, Row, opening, nothing, opens}
 use Rattle.controller_model.specs.Steps as steps
 use Rattle.ring_knowledge.specs.Learned as learns
@@ -10,16 +10,7 @@ module _ (h : Header) where
   -- no endpoint has a ring yet, and none is open
   first : (later : List Row) → Follows h [] later (opening later)
   unfolding opening nothing learns.known lazy.pointers_at is_open
-  first later = record {
-    runs = opens h later;
-    all_read = refl;
-    floors = λ s i r at. absurd (none-some r at);
-    traced = λ s i r at. absurd (none-some r at);
-    active = λ s i r at opened. absurd (false≢true opened);
-    before = λ off. refl;
-    command = λ on. absurd (false≢true on);
-    command_active = λ opened. absurd (false≢true opened);
-  }
+  first later = search (rules, opens, none-some, false≢true)
 
   pub begins : (later : List Row) → Carries h [] later
   unfolding lazy.lazy_run steps.reached opening

@@ -1,6 +1,6 @@
 -- A Transfer Event of a success or an error: the lazy run brings its ring behind the block that it names, reports it, and reads it
-use Rattle.std.proofs.Common.{◌≡◌, ◌≢◌, ◌≤◌, ◌&&◌, ◌||◌, ◌∷◌, ◌++◌, ◌∙◌, ℕ, true, false, List, [], reverse, Option, Some, arith, sym, ap, subst}
-use Rattle.lazy_runs.proofs.Words.{false≢true, not-false, and_from, Block, IsBlock, kind, code, slot, endpoint, is_transfer_event, is_success, is_halting, is_trb_error, is_stopping, Spot, Data, is_open, RingView, floor_number, MayReach, rank, number, after, ceiling_within, after_reached, next_later, Header, Row, Read, IsHeader, shape_of, command_id, World, reached, Known, learned, known, RingSpot, transferred, IsClean, IsDriverRing, DriverKeeps, Agrees, transfer_driver, ring_shape, is_held_ring, is_late, lazy_run, pointers_at, brought}
+use Rattle.std.proofs.Common.{◌≡◌, ◌≢◌, ◌≤◌, ◌||◌, ◌∷◌, ◌++◌, ◌∙◌, ℕ, true, false, List, [], reverse, Option, Some, arith, sym, ap, subst, rules}
+use Rattle.lazy_runs.proofs.Words.{false≢true, not-false, and_from, Block, IsBlock, kind, code, slot, endpoint, is_transfer_event, is_success, is_halting, is_trb_error, is_stopping, Spot, Data, is_open, floor_number, MayReach, rank, number, after, ceiling_within, after_reached, next_later, Header, Row, Read, IsHeader, shape_of, command_id, World, reached, Known, learned, known, RingSpot, transferred, IsClean, IsDriverRing, DriverKeeps, Agrees, transfer_driver, ring_shape, is_held_ring, is_late, lazy_run, pointers_at, brought}
 use Rattle.lazy_runs.proofs.Follows.{StandsAt, IsActiveIfOpen, Follows, Carries}
 use Rattle.lazy_runs.proofs.Preparing.{AllFit}
 use Rattle.lazy_runs.proofs.ReportPossible.{Reports, names, ahead, success_reports, error_reports}
@@ -9,10 +9,6 @@ use Rattle.lazy_runs.proofs.Traced.{Traced, traced_behind}
 use Rattle.lazy_runs.proofs.TransferFacts.{TransferFacts, NamesBlock, success_names, error_names}
 use Rattle.lazy_runs.proofs.TransferGoals.{success_goes_on, error_goes_on, block_goal, brought_here, brought_off, read_is, learns, success_floor, error_ring}
 use Rattle.lazy_runs.proofs.TransferRow.{facts, keeps, agrees, other_ring, row_carries}
-
-open_as_before : (v w : RingView) → w.held ≡ v.held → is_open w ≡ true → is_open v ≡ true
-unfolding is_open
-open_as_before v w same opened = rw (sym same) opened
 
 module _ (h : Header) where
   -- where no event is late, the ring of a success is open
@@ -23,9 +19,7 @@ module _ (h : Header) where
   pub success_open : (k : Known) (b : Block) (r : ℕ) → k.ring_of (slot b) (endpoint b) ≡ Some r → is_transfer_event (kind b) ≡ true → is_success (code b) ≡ true →
       is_late k (Read b) ≡ false → is_open (k.ring r) ≡ true
   unfolding is_late
-  success_open k b r bound transfer success timely =
-      open_ring k (k.ring_of (slot b) (endpoint b)) r bound
-      (ap (λ c. c && is_held_ring k (k.ring_of (slot b) (endpoint b))) (sym (and_from (is_transfer_event (kind b)) (is_success (code b)) transfer success)) ∙ timely)
+  success_open k b r bound transfer success timely = search (rules, open_ring, and_from)
 
   module _ (is : IsHeader h) (past later : List Row) (b : Block) (block : IsBlock b) (clean : IsClean h (Read b ∷ past)) (transfer : is_transfer_event (kind b) ≡ true) (w : World)
       (f : Follows h past (Read b ∷ later) w) where

@@ -1,6 +1,6 @@
 -- The world directly before the controller finishes a command: the next command is taken, and no more than that
-use Rattle.std.proofs.Common.{◌≡◌, ◌≢◌, ◌⊎◌, ◌+◌, ◌≤◌, ◌==◌, if◌then◌else◌, ◌∷◌, ◌++◌, ◌∙◌, ℕ, suc, true, List, [], reverse, Option, Some, None, arith, refl, sym, ap, subst, inl, inr}
-use Rattle.lazy_runs.proofs.Words.{flat_map, cases_Bool, cases_eq, cases_lt, cond-true, cond-false, put, Block, kind, code, slot, is_command_completion, Spot, Data, Link, Shape, Reaches, Holds, IsSpot, number, rank, after, is_open, ceiling, MayReach, crossing_positive, after_reached, number-after, rank_least, rank_most, Command, NoOp, EnableSlot, DisableSlot, AddressDevice, ConfigureEndpoint, EvaluateContext, ResetEndpoint, StopEndpoint, SetTrDequeue, ResetDevice, Stopped, changes, Header, Row, Read, Step, IsHeader, shape_of, command_id, World, UnderWay, reached, Known, RingSpot, command_at, next_command, event_read, learned, known, IsClean, DriverKeeps, Agrees, UnderWayMatches, TakenCommand, ring_here, ring_elsewhere, completion_kind, transfer_not_command, put_at, put_off, next_is, IsTimely, need}
+use Rattle.std.proofs.Common.{◌≡◌, ◌≢◌, ◌⊎◌, ◌+◌, ◌≤◌, ◌==◌, if◌then◌else◌, ◌∷◌, ◌++◌, ◌∙◌, ℕ, suc, true, List, [], reverse, Option, Some, None, arith, refl, sym, ap, subst, inl, inr, rules}
+use Rattle.lazy_runs.proofs.Words.{flat_map, cases_Bool, cases_eq, cases_lt, cond-true, cond-false, put, Block, kind, code, is_command_completion, Spot, Data, Link, Shape, IsSpot, number, rank, after, is_open, MayReach, crossing_positive, after_reached, number-after, rank_least, rank_most, Command, NoOp, EnableSlot, DisableSlot, AddressDevice, ConfigureEndpoint, EvaluateContext, ResetEndpoint, StopEndpoint, SetTrDequeue, ResetDevice, changes, Header, Row, Read, Step, IsHeader, shape_of, command_id, World, UnderWay, reached, Known, RingSpot, command_at, next_command, event_read, learned, known, IsClean, DriverKeeps, Agrees, UnderWayMatches, TakenCommand, ring_here, ring_elsewhere, completion_kind, transfer_not_command, put_at, put_off, next_is, IsTimely, need}
 use Rattle.ring_knowledge.specs.Completions as completions
 use Rattle.lazy_runs.specs.Lazy as lazy
 use Rattle.lazy_runs.proofs.AllEventsRead.{agrees_now}
@@ -40,10 +40,7 @@ module _ (h : Header) where
   -- the ring of a Stop Endpoint is held behind its success
   stop_succeeded : (k : Known) (n s i r : ℕ) → k.ring_of s i ≡ Some r → IsHeld (completions.succeeded h k n (StopEndpoint s i)) r
   unfolding completions.succeeded changes completions.changed_by_all completions.changed_by completions.held_at_ceiling is_open
-  stop_succeeded k n s i r had =
-      let m : Known = completions.in_state h k s i Stopped in
-      subst (λ o. IsHeld (completions.held_at_ceiling h m o) r) (sym had)
-      (ap (λ v. is_open v) (ring_here h m r (Holds (ceiling (shape_of h r) (m.ring r)))))
+  stop_succeeded k n s i r had = search (rules, IsHeld, ring_here)
 
   stop_ended_held : (k : Known) (s i r : ℕ) → IsHeld k r → IsHeld (completions.stop_ended h k (StopEndpoint s i)) r
   unfolding completions.stop_ended
@@ -52,16 +49,7 @@ module _ (h : Header) where
   stop_held : (k : Known) (b : Block) (s i r : ℕ) → r ≢ command_id h → is_command_completion (kind b) ≡ true → (code b == 1) ≡ true → command_at h k (next_command h k) ≡ Some (StopEndpoint s i) →
       k.ring_of s i ≡ Some r → IsHeld (learned h k (Read b)) r
   unfolding learned event_read completions.completed completions.finished
-  stop_held k b s i r other completion one here had =
-      let c : Command = StopEndpoint s i in
-      let m : Known = completions.succeeded h k (slot b) c in
-      let t : Spot = after (shape_of h (command_id h)) (next_command h k) in
-      let done : IsHeld (completions.finished h k b (Some c)) r =
-      stop_ended_held (if code b == 1 then m else k) s i r (subst (λ (x : Known). IsHeld x r) (sym (cond-true (code b == 1) m k one)) (stop_succeeded k (slot b) s i r had)) in
-      let now : IsHeld (completions.finished h k b (command_at h k (next_command h k))) r = subst (λ o. IsHeld (completions.finished h k b o) r) (sym here) done in
-      let behind : IsHeld (completions.completed h k b) r =
-      ap (λ v. is_open v) (ring_elsewhere h (completions.finished h k b (command_at h k (next_command h k))) (command_id h) r (Reaches t) other) ∙ now in
-      subst (λ n. IsHeld (event_read h k n b) r) (sym (completion_kind (kind b) completion)) behind
+  stop_held k b s i r other completion one here had = search (rules, IsHeld, stop_ended_held, cond-true, stop_succeeded, ring_elsewhere, completion_kind)
 
   module _ (is : IsHeader h) (past later : List Row) (b : Block) (completion : is_command_completion (kind b) ≡ true) (timely : IsTimely h (reverse later ++ (Read b ∷ past)))
       (d : DriverKeeps h (known h past)) where
@@ -159,12 +147,7 @@ module _ (h : Header) where
 
       none_more : FitGoals []
       unfolding lazy.brought lazy.command_taken lazy.taken_up_to goal at_command
-      none_more = record {
-        apart = (tt, tt);
-        fit = (command_fits, tt);
-        command = put_at pointers (command_id h) at_command;
-        others = λ s i r had. put_off pointers (command_id h) at_command r (not_command s i r had);
-      }
+      none_more = search (rules, command_fits, put_at, at_command, put_off, not_command)
 
       one_more_fits : (s i r : ℕ) → k.ring_of s i ≡ Some r → FitGoals (needless r)
       unfolding lazy.brought lazy.command_taken lazy.taken_up_to goal at_command
@@ -197,20 +180,12 @@ module _ (h : Header) where
       -- the pointer is behind the next command
       past_it : next_command h k + 1 ≤ number at_command
       unfolding at_command
-      past_it =
-          elim (cases_lt (rank (pointers (command_id h))) (rank goal)) [
-            | inl before ↦ omega (arith, ap number (further_then (pointers (command_id h)) goal before), goal_number)
-            | inr behind ↦
-                let stays = ap number (further_not (pointers (command_id h)) goal (omega (arith, behind))) in
-                omega (arith, stays, goal_number, behind, rank_least goal, rank_most (pointers (command_id h)))
-          ]
+      past_it = search (rules, cases_lt, goal, further_then, goal_number, further_not, rank_least, rank_most)
 
       -- the run comes to where the event is posted
       pub prepared : (rows : List Row) (made : List Step) → reached h rows made ≡ Some w →
           AllBrought h rows past made w pointers (lazy.goals h k later (kind b) b) (flat_map (lazy.looks_to h pointers) (lazy.goals h k later (kind b) b))
-      prepared rows made run =
-          subst (λ g. AllBrought h rows past made w pointers g (flat_map (lazy.looks_to h pointers) g)) (sym goals_are)
-          (goals_reached h is rows past made w pointers (lazy.command_taken h k ∷ lazy.stopped_goals h k later b (command_at h k (next_command h k))) clean all_fit.apart all_fit.fit run trace)
+      prepared rows made run = search (rules, AllBrought, goals_are, goals_reached, all_fit)
 
       pub rings_stay : (s i r : ℕ) → k.ring_of s i ≡ Some r → lazy.brought h pointers (lazy.goals h k later (kind b) b) r ≡ pointers r
       rings_stay s i r had = ap (λ g. lazy.brought h pointers g r) goals_are ∙ all_fit.others s i r had

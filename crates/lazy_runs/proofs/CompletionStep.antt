@@ -1,5 +1,5 @@
 -- The step of a row with a Command Completion Event, where the controller can finish its command and rings go as they should
-use Rattle.std.proofs.Common.{◌≡◌, ◌≢◌, ◌+◌, ◌<◌, ◌∷◌, ◌++◌, ◌∙◌, ℕ, true, false, List, [], reverse, Some, None, option_map, option_and_then, arith, refl, sym, ap, subst, inl, inr}
+use Rattle.std.proofs.Common.{◌≡◌, ◌≢◌, ◌+◌, ◌<◌, ◌∷◌, ◌++◌, ◌∙◌, ℕ, true, false, List, [], reverse, Some, arith, refl, sym, ap, subst, inl, inr, rules}
 use Rattle.lazy_runs.proofs.Words.{cases_Bool, cond-false, cond-true, false≢true, reverse-append, Block, IsBlock, block_at, kind, same_words, is_command_completion, Spot, address_of, is_open, RingView, Header, Row, Read, Step, NextRow, Finish, IsHeader, command_id, event_shape, World, event_at, read_made, Known, learned, known, IsClean, DriverKeeps, RingState, state_of, Agrees, Runs, driver_keeps, run_keeps, completion_kind, finish_is, finish_runs, transfer_not_command, one_more, runs_rest, words_itself, post_keeps, read_runs}
 use Rattle.world_state.specs.World as of_world
 use Rattle.controller_model.specs.DriverRows as driver
@@ -36,11 +36,7 @@ module _ (h : Header) where
   lazy_completion : (b : Block) (past later : List Row) → is_command_completion (kind b) ≡ true →
       lazy.lazy_run h (Read b ∷ past) later ≡ NextRow ∷ Finish b ∷ (reverse (looks_for h past later b) ++ lazy.lazy_run h past (Read b ∷ later))
   unfolding lazy.lazy_run lazy.steps_before lazy.post_of
-  lazy_completion b past later completion =
-      let looks : List Step = looks_for h past later b in
-      let older : List Step = lazy.lazy_run h past (Read b ∷ later) in
-      ap (λ t. NextRow ∷ reverse (looks ++ lazy.post_of h t b ∷ []) ++ older) (completion_kind (kind b) completion)
-      ∙ ap (λ l. NextRow ∷ l ++ older) (reverse-append looks (Finish b ∷ []))
+  lazy_completion b past later completion = search (rules, looks_for, completion_kind, reverse-append)
 
   placed_pointer : (b : Block) (past later : List Row) (r : ℕ) → needs.is_placed h (known h past) r b ≡ true →
       lazy.pointers_at h (Read b ∷ past) later r ≡ ((learned h (known h past) (Read b)).ring r).floor
@@ -55,9 +51,7 @@ module _ (h : Header) where
   finish_reached : (rows : List Row) (made : List Step) (w u : World) (b : Block) → steps.reached h rows made ≡ Some w → w.stopped ≡ false → finishes.finished h w b ≡ Some u →
       steps.reached h rows (Finish b ∷ made) ≡ Some (steps.counted h u)
   unfolding steps.reached steps.stepped steps.made steps.while_running
-  finish_reached rows made w u b run running at =
-      ap (λ o. option_and_then (λ x. steps.stepped h x (Finish b)) o) run
-      ∙ ap (λ o. option_map (steps.counted h) o) (cond-false w.stopped None (finishes.finished h w b) running ∙ at)
+  finish_reached rows made w u b run running at = search (rules, cond-false)
 
   -- ---- the world behind the finish and the row
 

@@ -1,5 +1,5 @@
 -- The success of a Configure Endpoint: the rings of the endpoints that it adds are bound
-use Rattle.std.proofs.Common.{◌≡◌, ◌<◌, ◌∷◌, ◌∙◌, ℕ, Bool, false, List, [], map, All, refl, sym, ap, get_or}
+use Rattle.std.proofs.Common.{◌≡◌, ◌<◌, ◌∷◌, ◌∙◌, ℕ, Bool, false, List, [], map, All, refl, sym, ap, get_or, rules}
 use Rattle.lazy_runs.proofs.Words.{list_any, or_parts, All-head, All-tail, Data, Command, ConfigureEndpoint, Running, Change, SlotGoesOn, Disables, Places, changes, placed_by_context, added_endpoints, is_dropped, context_pointer, context_cycle, Header, IsHeader, is_ring, World, Known, next_command, is_among, has_repeats, ring_bound, binding_in, DriverKeeps, CommandKeeps, Stands, bad_context_parts, bad_command_context, same_context, configure_same, slot_above, StatesMatch, were_bound, may_add, numbered, apart, WereBound, MayAdd, ring_at, bound_next, may_behind, binds_placed, PlacedTo, each_fails, any_of_map}
 use Rattle.ring_knowledge.specs.Completions as completions
 use Rattle.lazy_runs.proofs.ChangesGo.{ChangeGoes, ListGoes, no_change_goes, change_then_goes, change_goes}
@@ -64,6 +64,4 @@ module _ (h : Header) (is : IsHeader h) (k : Known) (w : World) (d : DriverKeeps
 
   pub configure_effect : (slot : ℕ) → Stands h k w → EffectGoes h k w slot (ConfigureEndpoint s false a)
   unfolding changes
-  configure_effect slot stands =
-      let lies = bad_context_parts h k a (bad_command_context h k c given.good) in
-      (configure_same h.context_size w.memory k.memory slot s a (same_context h is k w a stands lies), all)
+  configure_effect slot stands = search (rules, bad_context_parts, bad_command_context, configure_same, same_context, all)

@@ -1,5 +1,5 @@
 -- The induction's step for a row of the driver
-use Rattle.std.proofs.Common.{◌≡◌, ◌≢◌, ◌⊎◌, ◌≤◌, ◌∷◌, ◌++◌, ◌∙◌, ℕ, true, false, List, [], All, reverse, Some, arith, sym, ap, subst, inl, inr}
+use Rattle.std.proofs.Common.{◌≡◌, ◌≢◌, ◌⊎◌, ◌≤◌, ◌∷◌, ◌++◌, ◌∙◌, ℕ, true, false, List, [], All, reverse, Some, arith, sym, ap, subst, inl, inr, rules}
 use Rattle.lazy_runs.proofs.Words.{cases_Bool, false≢true, Spot, Data, Link, Shape, number, rank, Header, Row, IsHeader, shape_of, command_id, IsRow, World, RingEvent, next_take, counted, reached, Known, learned, known, IsClean, DriverKeeps, IsDriverRow, Agrees, CommandMatches, Runs, driver_keeps, runs_rest, transfer_not_command, more_law, row_runs, row_left, square_law, still_rings, lazy_run, pointers_at, AreAtFloors}
 use Rattle.lazy_runs.proofs.AllEventsRead.{agrees_now}
 use Rattle.lazy_runs.proofs.DriverRuns.{with_rest, pointers_same, driver_reached}
@@ -18,12 +18,7 @@ next_none shape events none = ap (λ e. next_take shape e) none
 
 module _ (h : Header) where
   stands_still : (w v : World) (r : ℕ) (t : Spot) → StandsAt h w r t → PointerStays w v r → v.events r ≡ w.events r → StandsAt h v r t
-  stands_still w v r t s p events = record {
-    is_spot = s.is_spot;
-    pointer = p.pointer ∙ s.pointer;
-    cycle = p.cycle ∙ s.cycle;
-    next = ap (λ e. next_take (shape_of h r) e) events ∙ s.next;
-  }
+  stands_still w v r t s p events = search rules
 
   module _ (is : IsHeader h) (row : Row) (past later : List Row) (w : World) (driver_row : IsDriverRow row) (is_row : IsRow row) (rows : All IsRow past) (clean : IsClean h (row ∷ past))
       (f : Follows h past (row ∷ later) w) where
@@ -85,12 +80,7 @@ module _ (h : Header) where
 
     before : l.started ≡ false → pointers_at h (row ∷ past) later (command_id h) ≡ Data 0
     unfolding k l
-    before off =
-        pointers_same h row past later (command_id h) driver_row
-        ∙ elim (cases_Bool k.started) [
-          | inl on ↦ absurd (false≢true (sym off ∙ row_starts h k row driver_row on))
-          | inr waits ↦ f.before waits
-        ]
+    before off = search (rules, pointers_same, cases_Bool, k, false≢true, row_starts)
 
     module _ (on : l.stopped ≡ false) where
       runs : Runs h (row ∷ past) (counted h v)
@@ -109,12 +99,7 @@ module _ (h : Header) where
       -- it was started before
       goes_on : k.started ≡ true → l.started ≡ true → StandsAt h (counted h v) (command_id h) (pointers_at h past (row ∷ later) (command_id h))
       unfolding counted u k
-      goes_on started still =
-          let same : v.started ≡ w.started = agrees_then.stands.started ∙ still ∙ sym started ∙ sym agrees.stands.started in
-          let p = leaves.pointers (command_id h) (inr same) in
-          let there = stands_still w v (command_id h) (pointers_at h past (row ∷ later) (command_id h)) (f.command started)
-          (record { pointer = p.pointer; cycle = p.cycle }) (leaves.events (command_id h)) in
-          record { is_spot = there.is_spot; pointer = there.pointer; cycle = there.cycle; next = there.next }
+      goes_on started still = search (rules, v, agrees_then, agrees, leaves, stands_still)
 
       -- the row starts it: nothing is taken yet
       begins : k.started ≡ false → l.started ≡ true → StandsAt h (counted h v) (command_id h) (pointers_at h past (row ∷ later) (command_id h))
@@ -130,9 +115,7 @@ module _ (h : Header) where
           subst (λ t. StandsAt h (counted h v) (command_id h) t) first here
 
       command : l.started ≡ true → StandsAt h (counted h v) (command_id h) (pointers_at h (row ∷ past) later (command_id h))
-      command started =
-          subst (λ t. StandsAt h (counted h v) (command_id h) t) (sym (pointers_same h row past later (command_id h) driver_row))
-          (elim (cases_Bool k.started) [ inl already ↦ goes_on already started | inr waits ↦ begins waits started ])
+      command started = search (rules, StandsAt, v, pointers_same, cases_Bool, k, goes_on, begins)
 
       follows : Follows h (row ∷ past) later (counted h v)
       unfolding known k l

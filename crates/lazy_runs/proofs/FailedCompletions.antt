@@ -1,6 +1,6 @@
 -- The completion of a command that doesn't succeed: it leaves all rings of endpoints
-use Rattle.std.proofs.Common.{◌≡◌, ◌+◌, ◌==◌, ◌&&◌, if◌then◌else◌, ◌∷◌, ◌++◌, ◌∙◌, ℕ, not, true, false, List, reverse, Some, None, option_map, refl, sym, subst}
-use Rattle.lazy_runs.proofs.Words.{and_left, and_right, cond-false, not-true, Block, IsBlock, kind, code, slot, is_command_completion, Command, command_of, Header, Row, Read, IsHeader, command_id, World, posted, reached, Known, learned, known, command_at, next_command, IsClean, was_stop_seen, learned_read, let_go, next_known, seen_after, failed_read, put_off, IsTimely, lazy_run}
+use Rattle.std.proofs.Common.{◌≡◌, ◌+◌, ◌==◌, ◌&&◌, ◌∷◌, ◌++◌, ◌∙◌, ℕ, not, true, false, List, reverse, Some, refl, sym, subst, rules}
+use Rattle.lazy_runs.proofs.Words.{and_left, and_right, cond-false, not-true, Block, IsBlock, kind, code, slot, is_command_completion, Command, Header, Row, Read, IsHeader, command_id, World, posted, reached, Known, learned, known, command_at, next_command, IsClean, was_stop_seen, learned_read, let_go, next_known, seen_after, failed_read, put_off, IsTimely, lazy_run}
 use Rattle.world_state.specs.World as of_world
 use Rattle.controller_model.specs.Finishes as finishes
 use Rattle.lazy_runs.specs.Needs as needs
@@ -32,17 +32,10 @@ module _ (h : Header) where
 
     ends : finishes.ended_with h ready.world b ready.taken ≡ Some (let_go (posted h ready.world b))
     unfolding finishes.ended_with finishes.ended
-    ends =
-        cond-false (code b == 1) (option_map (λ v. finishes.ended h v b) (finishes.succeeded h ready.world (slot b) (command_of ready.taken.block)))
-        (if ready.taken.has_stopped then None else Some (let_go (posted h ready.world b))) fails
-        ∙ cond-false ready.taken.has_stopped None (Some (let_go (posted h ready.world b))) (ready.stopped_is ∙ fresh)
+    ends = search (rules, cond-false, let_go, fresh)
 
     rings_go : RingsGo h (known h past) (known h past) ready.world (λ r. needs.is_placed h (known h past) r b)
-    rings_go = record {
-      at_floors = floors_then h past later b ready;
-      had = λ s i r has other. record { slot = s; index = i; had = has; floor = refl };
-      not_command = not_placed (known h past) (command_id h) b fails;
-    }
+    rings_go = search (rules, floors_then, not_placed)
 
   pub failed_step : (past later : List Row) (b : Block) (w : World) → is_command_completion (kind b) ≡ true → (code b == 1) ≡ false → IsHeader h → IsBlock b → IsClean h (Read b ∷ past) →
       IsTimely h (reverse later ++ (Read b ∷ past)) → reached h (reverse past ++ (Read b ∷ later)) (lazy_run h past (Read b ∷ later)) ≡ Some w →

@@ -1,12 +1,9 @@
 -- Where all events are read, the controller can post an event that is possible
-use Rattle.std.proofs.Common.{◌≡◌, ◌+◌, ◌-◌, ◌<◌, ◌≤◌, ◌==◌, ◌&&◌, ◌||◌, ◌%◌, ◌∙◌, ℕ, nat_lt, not, true, false, [], arith, sym, ap, ne_eqb, lt-ltb, ltb-false}
+use Rattle.std.proofs.Common.{◌≡◌, ◌+◌, ◌-◌, ◌<◌, ◌≤◌, ◌==◌, ◌&&◌, ◌||◌, ◌∙◌, ℕ, nat_lt, not, true, false, [], arith, ap, ne_eqb, lt-ltb, ltb-false, rules}
 use Rattle.lazy_runs.proofs.Words.{and_from, or_parts, not-false, not_from_false, Block, cycle, kind, is_event, place_count, cycle_of, same_in_lap, shape_facts, has_room, Header, Read, IsHeader, event_shape, event_size, World, can_post, Known, is_past_room, is_impossible_by_kind, is_impossible, event_tests, tests, broken, DriverKeeps, Agrees, EventFacts, event_facts, EventRing, event_ring_is, size_is, AllFail, tests_fail}
 
 room_left : (size posted dequeue : ℕ) → dequeue ≤ posted → posted + 2 ≤ dequeue + size → has_room size posted dequeue ≡ true
-room_left size posted dequeue low high =
-    not_from_false ((posted + 1) % size == dequeue % size)
-    (ne_eqb ((posted + 1) % size) (dequeue % size)
-    (λ same. let e : dequeue ≡ posted + 1 = same_in_lap size dequeue (posted + 1) (omega arith) (omega arith) (omega arith) (sym same) in absurd (omega (arith, e, low))))
+room_left size posted dequeue low high = search (rules, not_from_false, ne_eqb, same_in_lap)
 
 module _ (h : Header) where
   past_room : (k : Known) → is_past_room h k ≡ false → k.reads - k.dequeue ≤ event_size h - 2

@@ -1,6 +1,6 @@
 -- The need of a ring that is held is 0, where no event is late: until its doorbell no success of its blocks is read
-use Rattle.std.proofs.Common.{◌≡◌, ◌≢◌, ◌+◌, ◌==◌, ◌&&◌, if◌then◌else◌, ◌∷◌, ◌++◌, ◌∙◌, ℕ, not, max, Bool, false, List, [], reverse, Option, Some, None, option_map, refl, sym, ap, subst, ne_eqb, eq-eqb}
-use Rattle.lazy_runs.proofs.Words.{cond_both, cond-false, false≢true, not_from_false, Block, BlockKind, TransferEvent, CommandCompletion, kind, code, pointer, slot, endpoint, is_success, is_halting, is_trb_error, is_stopping, Spot, Data, number, after, RingView, Opens, Holds, Reaches, is_open, ceiling, named, stopped_number, target, Command, StopEndpoint, is_off, Change, SlotGoesOn, DeviceLeft, Disables, Places, Stops, Resets, changes, Header, Row, Sub, Write, Reg, Bell, Read, shape_of, command_id, is_ring, ring_beginning_at, Known, RingSpot, on_ring, spot_on, command_at, next_command, endpoint_rung, rung, event_read, learned, known, one_more, declaration_leaves, write_leaves, register_leaves, view_after, is_report_of_success, is_held_ring, is_late, IsTimely, number_behind, begins_anew, number_reported, need}
+use Rattle.std.proofs.Common.{◌≡◌, ◌≢◌, ◌+◌, ◌==◌, ◌&&◌, ◌∷◌, ◌++◌, ◌∙◌, ℕ, not, max, Bool, false, List, [], reverse, Option, Some, None, option_map, refl, sym, ap, subst, ne_eqb, eq-eqb, rules}
+use Rattle.lazy_runs.proofs.Words.{cond_both, cond-false, false≢true, not_from_false, Block, BlockKind, TransferEvent, CommandCompletion, kind, code, slot, endpoint, Spot, Data, number, RingView, Opens, Holds, Reaches, is_open, ceiling, target, Command, StopEndpoint, is_off, Change, SlotGoesOn, DeviceLeft, Disables, Places, Stops, Resets, Header, Row, Sub, Write, Reg, Bell, Read, shape_of, command_id, is_ring, ring_beginning_at, Known, RingSpot, on_ring, spot_on, endpoint_rung, rung, event_read, learned, known, one_more, declaration_leaves, write_leaves, register_leaves, view_after, is_held_ring, is_late, IsTimely, number_behind, begins_anew, number_reported, need}
 use Rattle.ring_knowledge.specs.Rings.{event_at}
 use Rattle.ring_knowledge.specs.Transfers as transfers
 use Rattle.ring_knowledge.specs.Completions as completions
@@ -30,14 +30,7 @@ module _ (h : Header) where
 
   transfer_held : (k : Known) (c s i q r : ℕ) (t : Spot) → StaysHeld k (transfers.transferred h k c s i q t) r
   unfolding transfers.transferred transfers.broken_off transfers.passed transfers.stopped_at
-  transfer_held k c s i q r t held =
-      let passed : Known = on_ring h k q (Reaches (after (shape_of h q) (number t))) in
-      let behind : IsHeld passed r = reaches_held k q (after (shape_of h q) (number t)) r held in
-      let n : ℕ = stopped_number (shape_of h q) (k.ring q) t in
-      cond_both (is_success c) _ _ (λ (l : Known). IsHeld l r) (λ _. behind)
-      (λ _. cond_both (is_halting c) _ _ (λ (l : Known). IsHeld l r) (λ _. holds_held passed q (number t + 1) r behind)
-      (λ _. cond_both (is_trb_error c) _ _ (λ (l : Known). IsHeld l r) (λ _. holds_held passed q (number t + 1) r behind)
-      (λ _. cond_both (is_stopping c) _ k (λ (l : Known). IsHeld l r) (λ _. reaches_held (on_ring h k q (Holds n)) q t r (holds_held k q n r held)) (λ _. held))))
+  transfer_held k c s i q r t held = search (rules, reaches_held, cond_both, holds_held)
 
   transfer_at_held : (k : Known) (b : Block) (o : Option RingSpot) (r : ℕ) → StaysHeld k (transfers.transferred_at h k b o) r
   unfolding transfers.transferred_at
@@ -95,17 +88,12 @@ module _ (h : Header) where
   finished_held : (k : Known) (b : Block) (o : Option Command) (r : ℕ) → StaysHeld k (completions.finished h k b o) r
   unfolding completions.finished completions.succeeded
   finished_held k b None r held = held
-  finished_held k b (Some c) r held =
-      let done : Known = if code b == 1 then completions.succeeded h k (slot b) c else k in
-      ended_held done c r (cond_both (code b == 1) (completions.succeeded h k (slot b) c) k (λ (l : Known). IsHeld l r)
-      (λ _. changes_held c k (changes h.context_size k.memory (slot b) c) r held) (λ _. held))
+  finished_held k b (Some c) r held = search (rules, ended_held, cond_both, changes_held)
 
   event_held : (k : Known) (t : BlockKind) (b : Block) (r : ℕ) → StaysHeld k (event_read h k t b) r
   unfolding event_read transfers.transfer_read completions.completed
   event_held k TransferEvent b r held = transfer_at_held k b (event_at h k b) r held
-  event_held k CommandCompletion b r held =
-      reaches_held (completions.finished h k b (command_at h k (next_command h k))) (command_id h) (after (shape_of h (command_id h)) (next_command h k)) r
-      (finished_held k b (command_at h k (next_command h k)) r held)
+  event_held k CommandCompletion b r held = search (rules, transfer_at_held, reaches_held, finished_held)
   event_held k _ b r held = held
 
   -- ---- a doorbell opens its own ring
@@ -120,9 +108,7 @@ module _ (h : Header) where
 
   bell_held : (k : Known) (s t r : ℕ) → r ≢ command_id h → (not (s == 0) && is_ring r (k.ring_of s t)) ≡ false → StaysHeld k (rung h k s t) r
   unfolding rung
-  bell_held k s t r no_command quiet held =
-      cond_both (s == 0) _ _ (λ (l : Known). IsHeld l r) (λ _. opens_other k (command_id h) r no_command held)
-      (λ endpoint. endpoint_held k s t (k.ring_of s t) r (sym (ap (λ c. c && is_ring r (k.ring_of s t)) (not_from_false (s == 0) endpoint)) ∙ quiet) held)
+  bell_held k s t r no_command quiet held = search (rules, cond_both, opens_other, endpoint_held, not_from_false)
 
   -- ring r is held behind a row, if it was before: but for its doorbell
   pub row_held : (k : Known) (row : Row) (r : ℕ) → r ≢ command_id h → begins_anew h k r row ≡ false → StaysHeld k (learned h k row) r
@@ -143,9 +129,7 @@ module _ (h : Header) where
   on_open_ring : (k : Known) (r a : ℕ) (o : Option ℕ) → IsHeld k r → is_held_ring k o ≡ false → number_behind r (spot_on h k a o) ≡ 0
   unfolding spot_on is_held_ring number_behind
   on_open_ring k r a None held opened = refl
-  on_open_ring k r a (Some q) held opened =
-      at_spot k r q (named (shape_of h q) (k.ring q) a)
-      (ne_eqb q r (λ same. false≢true (sym opened ∙ not_from_false (is_open (k.ring q)) (subst (λ n. is_open (k.ring n) ≡ false) (sym same) held))))
+  on_open_ring k r a (Some q) held opened = search (rules, at_spot, ne_eqb, false≢true, not_from_false)
 
   none_reported : (k : Known) (r : ℕ) (row : Row) → IsHeld k r → is_late k row ≡ false → number_reported h k r row ≡ 0
   unfolding number_reported is_late event_at
@@ -153,11 +137,7 @@ module _ (h : Header) where
   none_reported k r (Write a x) held timely = refl
   none_reported k r (Reg q x) held timely = refl
   none_reported k r (Bell s t) held timely = refl
-  none_reported k r (Read b) held timely =
-      cond_both (is_report_of_success b) (number_behind r (event_at h k b)) 0 (λ n. n ≡ 0)
-      (λ success. on_open_ring k r (pointer b) (k.ring_of (slot b) (endpoint b)) held
-      (sym (ap (λ c. c && is_held_ring k (k.ring_of (slot b) (endpoint b))) success) ∙ timely))
-      (λ _. refl)
+  none_reported k r (Read b) held timely = search (rules, cond_both, on_open_ring)
 
   pub timely_before : (newer past : List Row) → IsTimely h (newer ++ past) → IsTimely h past
   timely_before [] past timely = timely

@@ -1,6 +1,6 @@
 -- One look at what is given: the ring stands at its next spot, and all else stays
-use Rattle.std.proofs.Common.{◌≡◌, ◌≢◌, ◌+◌, ◌<◌, ◌≤◌, ◌==◌, ◌&&◌, if◌then◌else◌, ◌∙◌, ℕ, Bool, true, false, [], Option, Some, None, is_some, arith, refl, sym, ap, subst, inl, inr, ne_eqb}
-use Rattle.lazy_runs.proofs.Words.{cases_Bool, cases_eq, cond-false, and_left, and_right, Block, cycle, kind, is_link, Spot, Data, Link, number, rank, next, after, rank_most, Header, IsHeader, shape_of, command_id, World, UnderWay, counted, Known, next_command, DriverKeeps, RingState, RingMatches, UnderWayMatches, Agrees, state_of, Takeable, Crossable, takeable, crossable, ring_shape, seen, only_crossed, only_taken, only_begun, behind_link, behind_block, TakeDone, CrossDone, take_done, cross_done, block_no_link, link_is, OnlyRing, looked_left, stands_at, block_found}
+use Rattle.std.proofs.Common.{◌≡◌, ◌≢◌, ◌+◌, ◌<◌, ◌≤◌, ◌==◌, ◌&&◌, if◌then◌else◌, ◌∙◌, ℕ, Bool, true, false, [], Option, Some, None, is_some, arith, refl, sym, ap, subst, ne_eqb, rules}
+use Rattle.lazy_runs.proofs.Words.{cases_Bool, cases_eq, cond-false, and_left, and_right, Block, cycle, kind, is_link, Spot, Data, Link, number, rank, next, after, rank_most, Header, IsHeader, shape_of, command_id, World, UnderWay, counted, Known, next_command, DriverKeeps, RingState, RingMatches, UnderWayMatches, Agrees, Takeable, Crossable, takeable, crossable, ring_shape, seen, only_crossed, only_taken, only_begun, behind_link, behind_block, TakeDone, CrossDone, take_done, cross_done, block_no_link, link_is, OnlyRing, looked_left, stands_at, block_found}
 use Rattle.controller_model.specs.Looks as looks
 use Rattle.lazy_runs.proofs.Follows.{StandsAt}
 use Rattle.lazy_runs.proofs.GivenLooks.{block_taken, link_followed}
@@ -17,10 +17,7 @@ is_none_some o none = ap (λ x. is_some x) none
 module _ (h : Header) where
   only_taken_any : (w : World) (r : ℕ) (b : Block) → OnlyRing w (looks.taken h (looks.seen_by_look h w r) r b) r (behind_block h w r b)
   unfolding looks.taken
-  only_taken_any w r b =
-      let u : World = looks.seen_by_look h w r in
-      either_only w (looks.command_begun h (looks.taken_on h u r b) (u.pointer_of r) b) (looks.taken_on h u r b) r (behind_block h w r b) (r == command_id h)
-      (only_begun h w r (looks.taken_on h u r b) (behind_block h w r b) (u.pointer_of r) b (only_taken h w r b)) (only_taken h w r b)
+  only_taken_any w r b = search (rules, either_only, behind_block, only_begun, only_taken)
 
   taken_elsewhere : (w : World) (r : ℕ) (b : Block) → r ≢ command_id h → (looks.taken h (looks.seen_by_look h w r) r b).under_way ≡ w.under_way
   unfolding looks.taken looks.taken_on looks.seen_by_look
@@ -34,22 +31,7 @@ module _ (h : Header) where
   leaves_from : (w v : World) (r : ℕ) (s : RingState) → OnlyRing w v r s → s.active ≡ w.is_active r → s.reported ≡ w.reported r → v.rows ≡ w.rows →
       (r ≢ command_id h → v.under_way ≡ w.under_way) → LooksLeave h w (counted h v) r
   unfolding counted
-  leaves_from w v r s o active reported rows under_way = record {
-    others = o.others;
-    active = ap (λ (x : RingState). x.active) o.here ∙ active;
-    reported = ap (λ (x : RingState). x.reported) o.here ∙ reported;
-    under_way = under_way;
-    rows = rows;
-    started = o.started;
-    stopped = o.stopped;
-    memory = o.memory;
-    slot_state = o.slot_state;
-    endpoint_state = o.endpoint_state;
-    ring_of = o.ring_of;
-    posted = o.posted;
-    reads = o.reads;
-    dequeue = o.dequeue;
-  }
+  leaves_from w v r s o active reported rows under_way = search rules
 
   pub record LookDone (w : World) (r : ℕ) (s : Spot) : Type 0 where
     pub world : World
@@ -59,9 +41,7 @@ module _ (h : Header) where
 
   stands_from : (k : Known) (w v : World) (r : ℕ) (x : RingState) (t : Spot) → OnlyRing w v r x → RingMatches (shape_of h r) (k.ring r) x t → StandsAt h (counted h v) r t
   unfolding counted
-  stands_from k w v r x t o m =
-      let here : RingMatches (shape_of h r) (k.ring r) (state_of v r) t = subst (λ y. RingMatches (shape_of h r) (k.ring r) y t) (sym o.here) m in
-      record { is_spot = here.is_spot; pointer = here.pointer; cycle = here.cycle; next = here.next }
+  stands_from k w v r x t o m = search rules
 
   module _ (is : IsHeader h) (k : Known) (w : World) (d : DriverKeeps h k) (g : Agrees h k [] w) (r : ℕ) where
     -- no command is under way where the next one isn't taken
@@ -71,16 +51,7 @@ module _ (h : Header) where
 
     free_ring : (q : ℕ) (t : Spot) → q < number t → w.is_active r ≡ true → StandsAt h w r (Data q) → (r ≡ command_id h → number t ≤ next_command h k + 1) →
         (r == command_id h && is_some w.under_way) ≡ false
-    free_ring q t before active at one =
-        elim (cases_eq r (command_id h)) [
-          | inr other ↦ and_left (r == command_id h) (is_some w.under_way) (ne_eqb r (command_id h) other)
-          | inl command ↦ elim (cases_Bool k.started) [
-            | inl on ↦
-                let c = commands_stand h is k w d g (Data q) on (subst (λ x. StandsAt h w x (Data q)) command at) in
-                and_right (r == command_id h) (is_some w.under_way) (none_yet q w.under_way (omega (arith, before, one command)) c.under_way)
-            | inr off ↦ and_right (r == command_id h) (is_some w.under_way) (is_none_some w.under_way (g.matches.before off).none)
-          ]
-        ]
+    free_ring q t before active at one = search (rules, cases_eq, and_left, ne_eqb, cases_Bool, commands_stand, StandsAt, and_right, none_yet, is_none_some)
 
     take_look : (q : ℕ) (t : Spot) → rank (Data q) < rank t → StandsAt h w r (Data q) → MayBring h k w r t → LookDone w r (Data q)
     take_look q t before at may =

@@ -1,6 +1,6 @@
 -- An event of the controller itself: the lazy run posts it directly before it is read, and needs no look for it
-use Rattle.std.proofs.Common.{◌≡◌, ◌+◌, ◌<◌, ◌==◌, ◌&&◌, ◌∷◌, ◌++◌, ◌∙◌, ℕ, true, false, List, [], reverse, Some, None, option_map, option_and_then, arith, refl, sym, ap, subst, inl}
-use Rattle.lazy_runs.proofs.Words.{flat_map, and_from, cond-false, cond-true, false≢true, Block, BlockKind, IsBlock, kind, code, slot, same_words, is_command_completion, is_other_event, Spot, is_open, Header, Row, Read, Step, NextRow, Other, IsHeader, command_id, World, event_at, stored, stored_block, read_made, Known, command_at, next_command, learned, known, IsClean, DriverKeeps, Agrees, Runs, driver_keeps, run_keeps, learned_read, one_more, runs_rest, words_itself, says_nothing, other_runs, post_keeps, read_runs, with_reads}
+use Rattle.std.proofs.Common.{◌≡◌, ◌+◌, ◌<◌, ◌&&◌, ◌∷◌, ◌++◌, ◌∙◌, ℕ, true, false, List, [], reverse, Some, None, arith, refl, sym, ap, subst, inl, rules}
+use Rattle.lazy_runs.proofs.Words.{and_from, cond-false, cond-true, false≢true, Block, BlockKind, IsBlock, kind, same_words, is_command_completion, is_other_event, Spot, is_open, Header, Row, Read, Step, NextRow, Other, IsHeader, command_id, World, event_at, stored, stored_block, read_made, Known, learned, known, IsClean, DriverKeeps, Agrees, Runs, driver_keeps, run_keeps, learned_read, one_more, runs_rest, words_itself, says_nothing, other_runs, post_keeps, read_runs, with_reads}
 use Rattle.trb.specs.declared.kind.BlockKind.TheVariants as kinds
 use Rattle.controller_model.specs.DriverRows as driver
 use Rattle.controller_model.specs.Posts as posts
@@ -32,23 +32,12 @@ module _ (h : Header) where
   lazy_event : (b : Block) (past later : List Row) → is_other_event (kind b) ≡ true →
       lazy.lazy_run h (Read b ∷ past) later ≡ NextRow ∷ Other b ∷ lazy.lazy_run h past (Read b ∷ later)
   unfolding lazy.lazy_run lazy.steps_before
-  lazy_event b past later other =
-      let n = needs_nothing (known h past) later b (kind b) other in
-      let pointers : ℕ → Spot = lazy.pointers_at h past (Read b ∷ later) in
-      let older : List Step = lazy.lazy_run h past (Read b ∷ later) in
-      ap (λ g. NextRow ∷ reverse (flat_map (lazy.looks_to h pointers) g ++ lazy.post_of h (kind b) b ∷ []) ++ older) n.goals
-      ∙ ap (λ s. NextRow ∷ reverse (s ∷ []) ++ older) n.post
+  lazy_event b past later other = search (rules, needs_nothing)
 
   pointers_same : (b : Block) (past later : List Row) (r : ℕ) → is_other_event (kind b) ≡ true →
       lazy.pointers_at h (Read b ∷ past) later r ≡ lazy.pointers_at h past (Read b ∷ later) r
   unfolding lazy.pointers_at lazy.pointers_after lazy.brought needs.is_placed
-  pointers_same b past later r other =
-      let k : Known = known h past in
-      let n = needs_nothing k later b (kind b) other in
-      let pointers : ℕ → Spot = lazy.pointers_at h past (Read b ∷ later) in
-      let no_place : needs.is_placed h k r b ≡ false = ap (λ c. c && code b == 1 && needs.is_placed_by h k r (slot b) (command_at h k (next_command h k))) n.no_completion in
-      cond-false (needs.is_placed h k r b) ((learned h k (Read b)).ring r).floor (lazy.brought h pointers (lazy.goals h k later (kind b) b) r) no_place
-      ∙ ap (λ g. lazy.brought h pointers g r) n.goals
+  pointers_same b past later r other = search (rules, needs_nothing, cond-false)
 
   post_made : (w : World) (b : Block) → posts.can_post h w b ≡ true → is_other_event (kind b) ≡ true → posts.other_posted h w b ≡ Some (posts.posted h w b)
   unfolding posts.other_posted
@@ -57,9 +46,7 @@ module _ (h : Header) where
   post_reached : (rows : List Row) (made : List Step) (w u : World) (b : Block) → steps.reached h rows made ≡ Some w → w.stopped ≡ false → posts.other_posted h w b ≡ Some u →
       steps.reached h rows (Other b ∷ made) ≡ Some (steps.counted h u)
   unfolding steps.reached steps.stepped steps.made steps.while_running
-  post_reached rows made w u b run running at =
-      ap (λ o. option_and_then (λ x. steps.stepped h x (Other b)) o) run
-      ∙ ap (λ o. option_map (steps.counted h) o) (cond-false w.stopped None (posts.other_posted h w b) running ∙ at)
+  post_reached rows made w u b run running at = search (rules, cond-false)
 
   module _ (is : IsHeader h) (past later : List Row) (b : Block) (w : World) (block : IsBlock b) (clean : IsClean h (Read b ∷ past)) (other : is_other_event (kind b) ≡ true)
       (f : Follows h past (Read b ∷ later) w) where

@@ -1,5 +1,5 @@
 -- A change that binds or moves a ring is possible, and the ring stands at its floor then
-use Rattle.std.proofs.Common.{◌≡◌, ◌≢◌, ◌<◌, ◌≤◌, ◌==◌, ◌&&◌, if◌then◌else◌, ◌∷◌, ◌∙◌, ℕ, not, Bool, true, false, List, [], find, Option, Some, None, arith, refl, sym, ap, subst, inl, inr, eq-eqb, ne_eqb}
+use Rattle.std.proofs.Common.{◌≡◌, ◌≢◌, ◌<◌, ◌≤◌, ◌==◌, ◌&&◌, if◌then◌else◌, ◌∷◌, ◌∙◌, ℕ, not, Bool, true, false, List, [], find, Option, Some, None, arith, refl, sym, ap, subst, inl, inr, eq-eqb, ne_eqb, rules}
 use Rattle.lazy_runs.proofs.Words.{list_any, range_with_len, cases_eq, and_from, and_parts, cond-true, cond-false, false≢true, false_from_ne_true, not-true, none-some, same_Some, Spot, Data, is_inside, RingView, IsSpot, number, rank, spot_address, is_open, ceiling, cases_option, rank_least, rank_most, Command, EndpointState, Places, is_off, Header, Ring, IsHeader, shape_of, command_id, id_of, is_ring, is_transfer_kind, ring_beginning_at, ring_having, World, Known, IsIn, IsTransferRing, RingState, state_of, BoundRing, StatesMatch, ChangeKeeps, found_in, shape_is, ring_shape, transfer_driver, transfer_not_command, cond_is, MoveSpot, move_spot, Beginning, beginning_is, moved_having, spot_inside, ceiling_held, MayBind, MayMove, bind_keeps, move_keeps, binds_placed, moves_placed, placed_state, placed_world, placed_world_is, placed_here, placed_elsewhere, rest_active, rest_still, PlacedTo, none_in_range}
 use Rattle.controller_model.specs.Bindings as bindings
 use Rattle.ring_knowledge.specs.Completions as completions
@@ -94,9 +94,7 @@ module _ (h : Header) (is : IsHeader h) where
 
     state_elsewhere : (q : ℕ) → q ≢ r → state_of v q ≡ state_of w q
     unfolding v active
-    state_elsewhere q other =
-        placed_elsewhere w s i r p cycle state (rest_active w (w.ring_of s i)) q other
-        (rest_still w (w.ring_of s i) r q (λ n e. had n (sym (m.ring_of s i) ∙ e)) other)
+    state_elsewhere q other = search (rules, placed_elsewhere, rest_active, rest_still)
 
     floor_here : (l.ring r).floor ≡ t
     unfolding l
@@ -132,11 +130,7 @@ module _ (h : Header) (is : IsHeader h) where
     -- another ring was had before
     had_before : (z j q : ℕ) → q ≢ r → l.ring_of z j ≡ Some q → k.ring_of z j ≡ Some q
     unfolding l
-    had_before z j q other has =
-        elim (cond_is (z == s && j == i) (Some r) (k.ring_of z j) (Some q) (sym (to.ring_of z j) ∙ has)) [
-          | inl here ↦ absurd (other (sym (same_Some r q here.1)))
-          | inr there ↦ there.1
-        ]
+    had_before z j q other has = search (rules, cond_is, same_Some)
 
     view_elsewhere : (q : ℕ) → q ≢ r → l.ring q ≡ k.ring q
     unfolding l

@@ -1,6 +1,6 @@
 -- A Transfer Event: behind its looks the lazy run reports it, and then it is read. What the report and the row leave as it was
-use Rattle.std.proofs.Common.{◌≡◌, ◌≢◌, ◌+◌, ◌<◌, ◌==◌, ◌&&◌, ◌∷◌, ◌++◌, ◌∙◌, ℕ, true, false, List, [], reverse, Some, None, option_map, option_and_then, arith, refl, sym, ap, subst, inl, inr}
-use Rattle.lazy_runs.proofs.Words.{cases_eq, cond-false, false≢true, reverse-append, Block, IsBlock, kind, code, slot, same_words, block_at, is_transfer_event, is_command_completion, Spot, is_open, address_of, Header, Row, Read, Step, NextRow, Report, IsHeader, command_id, event_shape, World, event_at, read_made, Known, command_at, next_command, learned, known, IsClean, DriverKeeps, Agrees, Runs, event_facts, driver_keeps, run_keeps, one_more, runs_rest, words_itself, post_keeps, read_runs, report_runs, report_is, transfer_kind}
+use Rattle.std.proofs.Common.{◌≡◌, ◌≢◌, ◌+◌, ◌<◌, ◌∷◌, ◌++◌, ◌∙◌, ℕ, true, false, List, [], reverse, Some, arith, refl, sym, ap, subst, inl, rules}
+use Rattle.lazy_runs.proofs.Words.{cases_eq, cond-false, false≢true, reverse-append, Block, IsBlock, kind, same_words, block_at, is_transfer_event, Spot, address_of, Header, Row, Read, Step, NextRow, Report, IsHeader, command_id, event_shape, World, event_at, read_made, Known, learned, known, IsClean, DriverKeeps, Agrees, Runs, event_facts, driver_keeps, run_keeps, one_more, runs_rest, words_itself, post_keeps, read_runs, report_runs, report_is, transfer_kind}
 use Rattle.world_state.specs.World as of_world
 use Rattle.controller_model.specs.DriverRows as driver
 use Rattle.controller_model.specs.Posts as posts
@@ -35,26 +35,17 @@ module _ (h : Header) where
   lazy_transfer : (b : Block) (past later : List Row) → is_transfer_event (kind b) ≡ true →
       lazy.lazy_run h (Read b ∷ past) later ≡ NextRow ∷ Report b ∷ (reverse (looks_for h past later b) ++ lazy.lazy_run h past (Read b ∷ later))
   unfolding lazy.lazy_run lazy.steps_before lazy.post_of
-  lazy_transfer b past later transfer =
-      let looks : List Step = looks_for h past later b in
-      let older : List Step = lazy.lazy_run h past (Read b ∷ later) in
-      ap (λ t. NextRow ∷ reverse (looks ++ lazy.post_of h t b ∷ []) ++ older) (transfer_kind (kind b) transfer)
-      ∙ ap (λ l. NextRow ∷ l ++ older) (reverse-append looks (Report b ∷ []))
+  lazy_transfer b past later transfer = search (rules, looks_for, transfer_kind, reverse-append)
 
   pub pointers_transfer : (b : Block) (past later : List Row) (r : ℕ) → is_transfer_event (kind b) ≡ true →
       lazy.pointers_at h (Read b ∷ past) later r ≡ lazy.brought h (lazy.pointers_at h past (Read b ∷ later)) (lazy.goals h (known h past) later (kind b) b) r
   unfolding lazy.pointers_at lazy.pointers_after needs.is_placed
-  pointers_transfer b past later r transfer =
-      let k : Known = known h past in
-      let no_place : needs.is_placed h k r b ≡ false = ap (λ t. is_command_completion t && code b == 1 && needs.is_placed_by h k r (slot b) (command_at h k (next_command h k))) (transfer_kind (kind b) transfer) in
-      cond-false (needs.is_placed h k r b) ((learned h k (Read b)).ring r).floor _ no_place
+  pointers_transfer b past later r transfer = search (rules, transfer_kind, cond-false)
 
   report_reached : (rows : List Row) (made : List Step) (w u : World) (b : Block) → steps.reached h rows made ≡ Some w → w.stopped ≡ false → posts.reported h w b ≡ Some u →
       steps.reached h rows (Report b ∷ made) ≡ Some (steps.counted h u)
   unfolding steps.reached steps.stepped steps.made steps.while_running
-  report_reached rows made w u b run running at =
-      ap (λ o. option_and_then (λ x. steps.stepped h x (Report b)) o) run
-      ∙ ap (λ o. option_map (steps.counted h) o) (cond-false w.stopped None (posts.reported h w b) running ∙ at)
+  report_reached rows made w u b run running at = search (rules, cond-false)
 
   -- ---- the world behind the report and the row
 
@@ -114,12 +105,7 @@ module _ (h : Header) where
 
     stands : (q : ℕ) (s : Spot) → StandsAt h w q s → StandsAt h v q s
     unfolding v y x steps.counted
-    stands q s here = record {
-      is_spot = here.is_spot;
-      pointer = ap (λ f. f q) leaves.pointers ∙ here.pointer;
-      cycle = ap (λ f. f q) leaves.cycles ∙ here.cycle;
-      next = rw leaves.events here.next;
-    }
+    stands q s here = search rules
 
     had : (s i q : ℕ) → l.ring_of s i ≡ Some q → k.ring_of s i ≡ Some q
     unfolding l k
@@ -133,19 +119,11 @@ module _ (h : Header) where
         (after : (q : ℕ) → lazy.pointers_at h (Read b ∷ past) later q ≡ pointers q) (still : IsActiveIfOpen (learned h (known h past) (Read b)) u r) where
       pointers_are : (s i q : ℕ) → l.ring_of s i ≡ Some q → pointers q ≡ (l.ring q).floor
       unfolding l k
-      pointers_are s i q there =
-          elim (cases_eq q r) [
-            | inl same ↦ subst (λ n. pointers n ≡ (l.ring n).floor) (sym same) (here ∙ sym learns.floor)
-            | inr other ↦ others s i q (had s i q there) other ∙ ap (λ e. e.floor) (sym (learns.others q other))
-          ]
+      pointers_are s i q there = search (rules, there, cases_eq, l, had)
 
       active : (q : ℕ) → IsActiveIfOpen k w q → IsActiveIfOpen l v q
       unfolding l k v y x steps.counted
-      active q was opened =
-          elim (cases_eq q r) [
-            | inl same ↦ subst (λ n. u.is_active n ≡ true) (sym same) (still (subst (λ n. is_open (l.ring n) ≡ true) same opened))
-            | inr other ↦ leaves.active q other ∙ was (subst (λ e. is_open e ≡ true) (learns.others q other) opened)
-          ]
+      active q was opened = search (rules, cases_eq, l)
 
       follows : Follows h (Read b ∷ past) later v
       unfolding known l k v y x steps.counted

@@ -1,6 +1,6 @@
 -- What a row of the driver leaves as it is in the world: only the start moves a pointer, and that of the command ring alone
-use Rattle.std.proofs.Common.{◌≡◌, ◌≢◌, ◌==◌, ◌&&◌, ◌||◌, ◌⊎◌, if◌then◌else◌, ◌∙◌, ℕ, not, Bool, true, false, List, Option, Some, None, refl, sym, ap, inl, inr}
-use Rattle.lazy_runs.proofs.Words.{cases_eq, cond_both, false≢true, put, put_pair, Block, Running, is_running, is_stopped, position_from, erdp_address, is_event_place, Header, Row, Sub, Write, Reg, Bell, Read, Register, Usbcmd, Erdp, Crcr, command_id, event_shape, register_or_zero, run_bit, reset_bit, base_address, ring_cycle_state, World, stored, IsDriverRow, put_at, put_off}
+use Rattle.std.proofs.Common.{◌≡◌, ◌≢◌, ◌==◌, ◌&&◌, ◌||◌, ◌⊎◌, if◌then◌else◌, ℕ, not, Bool, true, false, List, Option, Some, None, refl, rules}
+use Rattle.lazy_runs.proofs.Words.{cases_eq, cond_both, false≢true, Block, erdp_address, Header, Row, Sub, Write, Reg, Bell, Read, Register, Usbcmd, Erdp, command_id, run_bit, reset_bit, World, stored, IsDriverRow, put_at, put_off}
 use Rattle.controller_model.specs.DriverRows as driver
 
 -- the pointer of ring r stays, and so does its cycle state
@@ -30,19 +30,7 @@ module _ (h : Header) where
 
   starts : (w : World) → w.started ≡ false → RowLeaves w (driver.started_with h w)
   unfolding driver.started_with
-  starts w off = record {
-    posted = refl;
-    reads = refl;
-    events = λ r. refl;
-    active = λ r on. on;
-    pointers = λ r why. elim why [
-      | inl other ↦ record {
-        pointer = put_off w.pointer_of (command_id h) (base_address (register_or_zero w.register Crcr)) r other;
-        cycle = put_off w.cycle_state (command_id h) (ring_cycle_state (register_or_zero w.register Crcr)) r other;
-      }
-      | inr same ↦ absurd (false≢true (sym off ∙ sym same))
-    ];
-  }
+  starts w off = search (rules, put_off, false≢true)
 
   runs_or_stops : (w : World) (x : ℕ) → RowLeaves w (driver.run_or_stop h w x)
   unfolding driver.run_or_stop
@@ -56,20 +44,11 @@ module _ (h : Header) where
   -- a register's value is no part of it
   from_valued : (w v : World) (r : Register) (x : ℕ) → RowLeaves (driver.valued w r x) v → RowLeaves w v
   unfolding driver.valued
-  from_valued w v r x l = record {
-    posted = l.posted;
-    reads = l.reads;
-    events = l.events;
-    active = l.active;
-    pointers = λ q why. let p = l.pointers q why in record { pointer = p.pointer; cycle = p.cycle };
-  }
+  from_valued w v r x l = search rules
 
   dequeues : (w : World) (a : ℕ) → RowLeaves w (driver.with_dequeue h w a)
   unfolding driver.with_dequeue
-  dequeues w a =
-      let moved : World = record w { dequeue = position_from (event_shape h) w.dequeue a } in
-      let stays : RowLeaves w moved = record { posted = refl; reads = refl; events = λ r. refl; active = λ r on. on; pointers = λ r why. record { pointer = refl; cycle = refl } } in
-      cond_both (is_event_place (event_shape h) a) moved w (RowLeaves w) (λ _. stays) (λ _. leaves_all w)
+  dequeues w a = search (rules, cond_both, leaves_all)
 
   registers : (w : World) (r : Register) (x : ℕ) → RowLeaves w (driver.register_row h w r x)
   unfolding driver.register_row
@@ -81,11 +60,7 @@ module _ (h : Header) where
 
   still_active : (w : World) (r q : ℕ) → w.is_active q ≡ true → (driver.activated h w r).is_active q ≡ true
   unfolding driver.activated
-  still_active w r q on =
-      elim (cases_eq q r) [
-        | inl same ↦ ap (λ n. put w.is_active r true n) same ∙ put_at w.is_active r true
-        | inr other ↦ put_off w.is_active r true q other ∙ on
-      ]
+  still_active w r q on = search (rules, cases_eq, put_at, put_off)
 
   activates : (w : World) (r : ℕ) → RowLeaves w (driver.activated h w r)
   unfolding driver.activated
@@ -94,10 +69,7 @@ module _ (h : Header) where
   endpoint_rings : (w : World) (s t : ℕ) (o : Option ℕ) → RowLeaves w (driver.endpoint_bell h w s t o)
   unfolding driver.endpoint_bell driver.activated
   endpoint_rings w s t None = leaves_all w
-  endpoint_rings w s t (Some r) =
-      let runs : World = record (driver.activated h w r) { endpoint_state = put_pair w.endpoint_state s t Running } in
-      let goes : RowLeaves w runs = record { posted = refl; reads = refl; events = λ q. refl; active = still_active w r; pointers = λ q why. record { pointer = refl; cycle = refl } } in
-      cond_both (is_running (w.endpoint_state s t) || is_stopped (w.endpoint_state s t)) runs w (RowLeaves w) (λ _. goes) (λ _. leaves_all w)
+  endpoint_rings w s t (Some r) = search (rules, leaves_all, still_active, cond_both)
 
   rings : (w : World) (s t : ℕ) → RowLeaves w (driver.bell_row h w s t)
   unfolding driver.bell_row

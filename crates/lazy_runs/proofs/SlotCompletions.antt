@@ -1,6 +1,6 @@
 -- The success of a command that places no ring: No Op, Enable Slot, Disable Slot, Evaluate Context, Reset Endpoint, Stop Endpoint,
 -- Reset Device, and a Configure Endpoint that deconfigures
-use Rattle.std.proofs.Common.{◌≡◌, ℕ, true, refl}
+use Rattle.std.proofs.Common.{◌≡◌, ℕ, true, refl, rules}
 use Rattle.lazy_runs.proofs.Words.{ContextSize, Command, NoOp, EnableSlot, DisableSlot, ConfigureEndpoint, EvaluateContext, ResetEndpoint, StopEndpoint, ResetDevice, changes, Header, World, Known, StatesMatch, AreNoPlacings, PlacesNone}
 use Rattle.lazy_runs.proofs.ChangesGo.{changes_go}
 use Rattle.lazy_runs.proofs.RingsGo.{AtFloors}
@@ -25,6 +25,4 @@ changes_plain size f g n _ none = absurd none
 
 module _ (h : Header) where
   pub slot_effect : (k : Known) (w : World) (n : ℕ) (c : Command) → PlacesNone c → StatesMatch h k w → AtFloors h k w → EffectGoes h k w n c
-  slot_effect k w n c none m at =
-      let p : ChangesPlain h.context_size w.memory k.memory n c = changes_plain h.context_size w.memory k.memory n c none in
-      (p.same, changes_go h c (changes h.context_size k.memory n c) p.plain k w m at)
+  slot_effect k w n c none m at = search (rules, changes_plain, changes_go)

@@ -1,5 +1,5 @@
 -- A ring that stands at a spot matches what is known of it there
-use Rattle.std.proofs.Common.{◌≡◌, ◌≢◌, ◌∙◌, ℕ, true, [], Some, sym, ap, subst, inl, inr}
+use Rattle.std.proofs.Common.{◌≡◌, ◌≢◌, ◌∙◌, ℕ, true, [], Some, sym, ap, subst, inl, inr, rules}
 use Rattle.lazy_runs.proofs.Words.{cases_Bool, cases_eq, false≢true, Spot, Data, Link, Shape, IsSpot, number, spot_address, IsShape, data_not_link, Header, IsHeader, shape_of, command_id, World, Known, IsDriverRing, DriverKeeps, RingMatches, Unreported, UnderWayMatches, Agrees, state_of, transfer_driver, ring_shape, command_is_ring}
 use Rattle.lazy_runs.proofs.Follows.{StandsAt}
 
@@ -57,11 +57,7 @@ module _ (h : Header) (is : IsHeader h) (k : Known) (w : World) (d : DriverKeeps
     pub matches : RingMatches (shape_of h r) (k.ring r) (state_of w r) t
 
   commands_active : (t : Spot) → w.is_active (command_id h) ≡ true → StandsAt h w (command_id h) t → RingStands (command_id h) t
-  commands_active t active at =
-      elim (cases_Bool k.started) [
-        | inl on ↦ let c = commands_stand t on at in record { ring = c.ring; matches = c.matches }
-        | inr off ↦ absurd (false≢true (sym (g.matches.before off).inactive ∙ active))
-      ]
+  commands_active t active at = search (rules, cases_Bool, commands_stand, false≢true)
 
   endpoint_active : (r : ℕ) (t : Spot) → r ≢ command_id h → w.is_active r ≡ true → StandsAt h w r t → RingStands r t
   endpoint_active r t other active at =

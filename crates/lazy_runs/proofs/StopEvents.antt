@@ -1,5 +1,5 @@
 -- A Transfer Event of a stop: the lazy run takes its Stop Endpoint, brings its ring to the spot that it names, reports it, and reads it
-use Rattle.std.proofs.Common.{◌≡◌, ◌≢◌, ◌+◌, ◌≤◌, ◌==◌, ◌||◌, ◌∷◌, ◌++◌, ◌∙◌, ℕ, true, false, List, [], reverse, Some, arith, sym, ap, subst, inl, inr, ne_eqb}
+use Rattle.std.proofs.Common.{◌≡◌, ◌≢◌, ◌+◌, ◌≤◌, ◌==◌, ◌||◌, ◌∷◌, ◌++◌, ◌∙◌, ℕ, true, false, List, [], reverse, Some, arith, sym, ap, subst, ne_eqb, rules}
 use Rattle.lazy_runs.proofs.Words.{cases_lt, cond-true, cond-false, false≢true, put, Block, IsBlock, kind, code, slot, endpoint, is_transfer_event, is_success, is_halting, is_trb_error, is_stopping, Spot, is_open, rank, number, after, after_reached, number-after, stop_spot_reached, rank_least, rank_most, Header, Row, Read, IsHeader, shape_of, command_id, World, reached, Known, learned, known, RingSpot, next_command, transferred, IsClean, DriverKeeps, Agrees, event_facts, transfer_not_command, put_at, put_off, next_is, StopCode, IsTimely, lazy_run, pointers_at, goals, brought, further, report_goals, command_taken, taken_up_to, stop_goal, need}
 use Rattle.lazy_runs.proofs.LooksRun.{further_then, further_not}
 use Rattle.lazy_runs.proofs.CompletionSays.{CommandsOpen, commands_open}
@@ -16,11 +16,7 @@ use Rattle.lazy_runs.proofs.TransferRow.{facts, keeps, agrees, other_ring, row_c
 
 -- the further one of two spots is no less far than the second
 further_most : (s t : Spot) → rank t ≤ rank (further s t)
-further_most s t =
-    elim (cases_lt (rank s) (rank t)) [
-      | inl before ↦ let same : rank (further s t) ≡ rank t = ap rank (further_then s t before) in omega (arith, same)
-      | inr there ↦ let same : rank (further s t) ≡ rank s = ap rank (further_not s t there) in omega (arith, same, there)
-    ]
+further_most s t = search (rules, cases_lt, further_then, further_not)
 
 module _ (h : Header) where
   taken_spot : (k : Known) → command_taken h k ≡ record { ring = command_id h; spot = after (shape_of h (command_id h)) (next_command h k) }
@@ -104,12 +100,7 @@ module _ (h : Header) where
 
     beyond : next_command h k + 1 ≤ number at_command
     unfolding at_command
-    beyond =
-        let t : Spot = after (shape_of h (command_id h)) (next_command h k) in
-        let most = further_most (at_first (command_id h)) t in
-        let low = rank_least t in
-        let high = rank_most (further (at_first (command_id h)) t) in
-        omega (arith, most, low, high, number-after (shape_of h (command_id h)) (next_command h k))
+    beyond = search (rules, further_most, at_first, rank_least, rank_most, number-after)
 
     near : rank (at_first e.ring) ≤ rank e.spot
     unfolding at_first

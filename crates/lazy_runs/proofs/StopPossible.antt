@@ -1,5 +1,5 @@
 -- The controller can report a stop that breaks no rule, where its Stop Endpoint is taken and the ring stands at the spot that it names
-use Rattle.std.proofs.Common.{◌≡◌, ◌+◌, ◌-◌, ◌<◌, ◌≤◌, ◌==◌, ◌&&◌, ◌∙◌, ℕ, true, false, not, [], length, Option, Some, None, arith, refl, sym, ap, subst, inl, inr, ltb-true, eq-eqb}
+use Rattle.std.proofs.Common.{◌≡◌, ◌+◌, ◌-◌, ◌<◌, ◌≤◌, ◌==◌, ◌&&◌, ◌∙◌, ℕ, true, false, not, [], length, Option, Some, None, refl, sym, ap, subst, inl, inr, ltb-true, eq-eqb, rules}
 use Rattle.lazy_runs.proofs.Words.{cases_Bool, and_parts, and_from, cond-true, cond-false, not_from_true, Block, IsBlock, kind, code, pointer, slot, endpoint, is_transfer_event, Spot, number, ceiling, cycle_of_bit, command_of, is_stop_of, is_running, Header, Read, IsHeader, shape_of, command_id, World, UnderWay, unreported, Known, command_at, next_command, is_stopping_now, may_be_taken, broken, DriverKeeps, UnderWayMatches, CommandMatches, Agrees, event_facts, put_off, at_floor, command_is_ring, command_at_is, command_of-with_cycle, StopCode}
 use Rattle.world_state.specs.World as of_world
 use Rattle.controller_model.specs.Posts as posts
@@ -16,9 +16,7 @@ module _ (h : Header) where
 
   pub stop_is_next : (k : Known) (s i : ℕ) → is_stopping_now h k s i ≡ true → StopIsNext k s i
   unfolding is_stopping_now may_be_taken
-  stop_is_next k s i now =
-      let parts = and_parts (may_be_taken h k) (is_stop_of s i (command_at h k (next_command h k))) now in
-      record { below = ltb-true (next_command h k) (ceiling (shape_of h (command_id h)) (k.ring (command_id h))) parts.0; stop = parts.1 }
+  stop_is_next k s i now = search (rules, and_parts, ltb-true)
 
   module _ (is : IsHeader h) (k : Known) (w : World) (b : Block) (block : IsBlock b) (d : DriverKeeps h k) (g : Agrees h k [] w) (clean : broken h k (Read b) ≡ []) (transfer : is_transfer_event (kind b) ≡ true)
       (f : TransferFacts h k b) (next : StopIsNext k (slot b) (endpoint b)) (t : Spot) (commands : StandsAt h w (command_id h) t) (taken : next_command h k + 1 ≤ number t) where
@@ -35,10 +33,7 @@ module _ (h : Header) where
 
     under_by : (o : Option UnderWay) (c : CommandMatches h k w) → w.under_way ≡ o → posts.is_stop_under_way h (slot b) (endpoint b) o ≡ true
     unfolding posts.is_stop_under_way
-    under_by None c at =
-        let under : UnderWayMatches h k c.spot None = subst (λ o. UnderWayMatches h k c.spot o) at c.under_way in
-        let same : number c.spot ≡ number t = sym c.ring.next ∙ commands.next in
-        absurd (omega (arith, under.0, same, taken))
+    under_by None c at = search (rules, command_is)
     under_by (Some y) c at = ap (λ o. is_stop_of (slot b) (endpoint b) o) (command_is y c at) ∙ next.stop
 
     under : posts.is_stop_under_way h (slot b) (endpoint b) w.under_way ≡ true

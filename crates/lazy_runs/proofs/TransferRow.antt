@@ -1,5 +1,5 @@
 -- A Transfer Event: from its goals and its report to the run behind its row
-use Rattle.std.proofs.Common.{◌≡◌, ◌≢◌, ◌∷◌, ◌++◌, ◌∙◌, ℕ, true, List, [], reverse, Some, sym, ap, subst}
+use Rattle.std.proofs.Common.{◌≡◌, ◌≢◌, ◌∷◌, ◌++◌, ◌∙◌, ℕ, true, List, [], reverse, Some, sym, ap, subst, rules}
 use Rattle.lazy_runs.proofs.Words.{flat_map, Block, IsBlock, kind, is_transfer_event, Spot, Header, Row, Read, IsHeader, command_id, World, reached, learned, known, RingSpot, IsClean, DriverKeeps, Agrees, driver_keeps, lazy_run, pointers_at, goals, brought, looks_to}
 use Rattle.lazy_runs.proofs.AllEventsRead.{agrees_now}
 use Rattle.lazy_runs.proofs.Follows.{IsActiveIfOpen, Follows, Carries}
@@ -34,9 +34,7 @@ module _ (h : Header) (is : IsHeader h) (past later : List Row) (b : Block) (blo
         (reports : (u : World) → Traced h past (brought h start list) u → (x : Reports h u b facts.ring) × IsActiveIfOpen (learned h (known h past) (Read b)) x.world facts.ring)
         (run : reached h (reverse past ++ (Read b ∷ later)) (lazy_run h past (Read b ∷ later)) ≡ Some w) (rest : w.rows ≡ Read b ∷ later) where
       looked : AllBrought h (reverse past ++ (Read b ∷ later)) past (lazy_run h past (Read b ∷ later)) w start list (flat_map (looks_to h start) list)
-      looked =
-          goals_reached h is (reverse past ++ (Read b ∷ later)) past (lazy_run h past (Read b ∷ later)) w start list clean.0 apart fits run
-          (traced_behind h past (Read b ∷ later) w f)
+      looked = search (rules, goals_reached, traced_behind)
 
       pub row_carries : Carries h (Read b ∷ past) later
       row_carries =

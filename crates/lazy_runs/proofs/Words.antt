@@ -1,41 +1,11 @@
 -- The words of std, of the crates below and of this crate's own definitions that its proofs cite, passed on by one file
-pub use Rattle.commands.specs.Changes.{Change, DeviceLeft, Disables, Places, Resets, SlotGoesOn, Stops, placed_by_context}
-unfoldable pub use Rattle.commands.specs.Changes.{changes}
-pub use Rattle.commands.specs.Command.{command_of, is_stop_of, may_answer_slot, named_context, named_endpoint, named_slot}
-pub use Rattle.commands.specs.States.{endpoint_meant, endpoint_success, is_off, is_running, is_slot_enabled, is_stopped, slot_meant, slot_success}
-unfoldable pub use Rattle.commands.specs.States.{can_succeed}
-pub use Rattle.commands.specs.declared.command.Command.{Command}
-pub use Rattle.commands.specs.declared.command.Command.TheVariants.{AddressDevice, ConfigureEndpoint, DisableSlot, EnableSlot, EvaluateContext, NoOp, ResetDevice, ResetEndpoint, SetTrDequeue, StopEndpoint}
-pub use Rattle.commands.specs.declared.state.EndpointState.{EndpointState}
-pub use Rattle.commands.specs.declared.state.EndpointState.TheVariants.{Error, Halted, Running, Stopped}
-pub use Rattle.contexts.specs.Contexts.{context_cycle, context_pointer, is_dropped}
-unfoldable pub use Rattle.contexts.specs.Contexts.{added_endpoints}
-pub use Rattle.contexts.specs.declared.size.ContextSize.{ContextSize}
 pub use Rattle.controller_model.proofs.ReadLemmas.{read_made}
-unfoldable pub use Rattle.controller_model.specs.Posts.{can_post, posted}
-unfoldable pub use Rattle.controller_model.specs.Steps.{counted, reached}
-pub use Rattle.event_ring.specs.EventRing.{erdp_address, has_room, is_event_place, position_from}
-pub use Rattle.guest_memory.specs.Memory.{put, put_pair}
-pub use Rattle.lazy_runs.specs.LateEvents.{IsTimely, is_report_of_success}
+unfoldable pub use Rattle.controller_model.specs.Steps.{reached}
+pub use Rattle.lazy_runs.specs.LateEvents.{IsTimely}
 unfoldable pub use Rattle.lazy_runs.specs.LateEvents.{is_held_ring, is_late}
 pub use Rattle.lazy_runs.specs.Law.{AllAreRead, AreAtFloors, ContainsAll, GoesSoFar, LazyLaw}
 unfoldable pub use Rattle.lazy_runs.specs.Lazy.{behind_taken, brought, command_taken, further, goals, lazy_run, looks_to, pointers_at, report_goals, stop_goal, taken_up_to}
 unfoldable pub use Rattle.lazy_runs.specs.Needs.{begins_anew, need, number_behind, number_reported}
-pub use Rattle.ownership_rules.proofs.Among.{IsIn}
-unfoldable pub use Rattle.ownership_rules.specs.Areas.{is_bad_area}
-pub use Rattle.ownership_rules.specs.Clean.{IsClean}
-unfoldable pub use Rattle.ownership_rules.specs.Commands.{has_bad_context}
-unfoldable pub use Rattle.ownership_rules.specs.Doorbells.{is_bad_bell, is_touched}
-unfoldable pub use Rattle.ownership_rules.specs.Events.{can_finish, can_report, can_report_at, event_tests, is_impossible, is_impossible_by_kind, is_impossible_completion, is_impossible_transfer, is_in_profile, is_past_room, is_stopping_now, is_working, may_be_taken, was_stop_seen}
-unfoldable pub use Rattle.ownership_rules.specs.Moves.{binding_in, has_repeats, is_among, ring_bound}
-unfoldable pub use Rattle.ownership_rules.specs.Rules.{broken, tests}
-pub use Rattle.ring_knowledge.specs.Known.{Known}
-unfoldable pub use Rattle.ring_knowledge.specs.Known.{nothing}
-unfoldable pub use Rattle.ring_knowledge.specs.Learned.{event_read, known, learned}
-unfoldable pub use Rattle.ring_knowledge.specs.Registers.{endpoint_rung, register_written, run_or_stop, rung, valued}
-pub use Rattle.ring_knowledge.specs.Rings.{RingSpot}
-unfoldable pub use Rattle.ring_knowledge.specs.Rings.{command_at, next_command, on_ring, spot_on}
-unfoldable pub use Rattle.ring_knowledge.specs.Transfers.{broken_off, passed, stopped_at, transfer_read, transferred, transferred_at}
 pub use Rattle.safety.proofs.Areas.{bad_command_context, bad_context_parts}
 pub use Rattle.safety.proofs.AtSpots.{Crossable, Takeable, crossable, takeable}
 pub use Rattle.safety.proofs.CleanRows.{BellFacts, EventFacts, bell_facts, event_facts}
@@ -93,54 +63,11 @@ pub use Rattle.safety.proofs.TestsPassed.{AllFail, any_of_map, clean_tests, each
 pub use Rattle.safety.proofs.TransferLeaves.{TransferLeaves, transferred_leaves}
 pub use Rattle.safety.proofs.Transfers.{chain, spot_is}
 pub use Rattle.safety.proofs.WithReads.{with_reads}
-pub use Rattle.safety.specs.Invariant.{Runs, reading}
-pub use Rattle.safety.specs.Keeps.{CommandKeeps, DriverKeeps, IsDriverRing, IsTransferRing}
-pub use Rattle.safety.specs.KeptHistories.{IsDriverRow}
-pub use Rattle.safety.specs.Matches.{Agrees, BoundRing, CommandMatches, RingMatches, RingState, TakenCommand, UnderWayMatches, Unreported, state_of}
-pub use Rattle.safety.specs.Stands.{Stands}
+pub use Rattle.safety.proofs.Words.{AddressDevice, Agrees, All-cons, All-head, All-nil, All-tail, Bell, Block, BlockKind, BoundRing, Change, Command, CommandCompletion, CommandKeeps, CommandMatches, Config, ConfigureEndpoint, ContextSize, Data, DeviceLeft, DisableSlot, Disables, DriverKeeps, EnableSlot, EndpointState, Erdp, Error, EvaluateContext, Finish, Halted, Header, Holds, IsBlock, IsClean, IsDriverRing, IsDriverRow, IsHeader, IsIn, IsNamed, IsRow, IsShape, IsSpot, IsTransferRing, Known, Link, Look, MayReach, NextRow, NoOp, Opens, Other, Places, Reaches, Read, Reg, Register, Report, ResetDevice, ResetEndpoint, Resets, Ring, RingEvent, RingKeeps, RingMatches, RingSpot, RingState, RingView, Row, Running, Runs, SetTrDequeue, Shape, SlotGoesOn, Spot, Stands, Step, StopEndpoint, Stopped, Stops, Sub, TakenCommand, TransferEvent, UnderWay, UnderWayMatches, Unreported, Usbcmd, World, Write, address_of, after, after_reached, and_cases, and_from, and_left, and_parts, and_right, block_at, cases_Bool, cases_eq, cases_lt, cases_option, ceiling_within, code, command_of, cond-false, cond-true, cond_both, context_cycle, context_pointer, cycle, cycle_of, cycle_of_bit, declared, endpoint, endpoint_meant, erdp_address, false_from_ne_true, false≢true, flat_map, floor_number, get_or-map-range_with_len, has_room, id_of, is_command_completion, is_dropped, is_event, is_halting, is_inside, is_link, is_off, is_other_event, is_ring, is_running, is_set, is_stop_of, is_stopped, is_stopping, is_success, is_transfer_code, is_transfer_event, is_transfer_kind, is_trb_error, kind, length-map-range_with_len, list_any, may_answer_slot, named_ahead, named_context, named_spot-Some, next_later, next_least, none-some, not-false, not-true, not_from_false, not_from_true, number, number-after, or_cases, or_from, or_parts, place_count, placed_by_context, pointer, put, put_pair, range_with_len, rank, rank_least, rank_most, reading, register_or_zero, reset_bit, reverse-append, run_bit, same_Some, same_in_lap, same_words, shape_facts, slot, spot_address, spot_cycle, state_of, stop_spot_reached, word}
+unfoldable pub use Rattle.safety.proofs.Words.{added_endpoints, binding_in, broken, broken_off, can_finish, can_post, can_report, can_report_at, can_succeed, ceiling, changes, command_at, command_id, counted, endpoint_rung, event_read, event_shape, event_size, event_tests, given_count, has_bad_context, has_repeats, is_among, is_bad_area, is_bad_bell, is_data_below, is_impossible, is_impossible_by_kind, is_impossible_completion, is_impossible_transfer, is_in_profile, is_open, is_past_room, is_stop_spot, is_stopping_now, is_working, known, learned, may_be_taken, named, next_command, next_take, nothing, on_ring, opening, passed, posted, register_written, ring_beginning_at, ring_bound, ring_having, run_or_stop, rung, shape_of, spot_on, stopped_at, stopped_number, stored, stored_block, target, tests, transfer_read, transferred, transferred_at, unreported, valued, was_stop_seen}
 pub use Rattle.segments.proofs.Crossings.{crossing_positive}
-pub use Rattle.segments.proofs.Named.{ceiling_within, named_ahead}
-pub use Rattle.segments.proofs.NamedSpots.{IsNamed, named_spot-Some}
-pub use Rattle.segments.proofs.Positions.{cycle_of_bit, same_in_lap}
-pub use Rattle.segments.proofs.ReachedSpots.{after_reached, number-after, stop_spot_reached}
-pub use Rattle.segments.proofs.Search.{cases_option, position-None}
-pub use Rattle.segments.proofs.ShapeFacts.{shape_facts}
-pub use Rattle.segments.proofs.SpotOrder.{data_not_link, next_later, next_least, rank_least, rank_most, same_rank}
-unfoldable pub use Rattle.segments.specs.Ceiling.{ceiling, given_count, is_data_below, is_open, is_stop_spot, named, stopped_number}
-unfoldable pub use Rattle.segments.specs.Moves.{target}
-pub use Rattle.segments.specs.Places.{address_of, cycle_of, is_inside, place_count}
-pub use Rattle.segments.specs.RingKeeps.{MayReach, RingKeeps}
-pub use Rattle.segments.specs.RingView.{Holds, Opens, Reaches, RingView, declared, floor_number}
-pub use Rattle.segments.specs.Shape.{IsShape}
-pub use Rattle.segments.specs.ShapeValue.{Shape}
-pub use Rattle.segments.specs.Spots.{IsSpot, after, next, number, rank, spot_address, spot_cycle, spots_from}
-pub use Rattle.segments.specs.declared.spot.Spot.{Spot}
-pub use Rattle.segments.specs.declared.spot.Spot.TheVariants.{Data, Link}
-pub use Rattle.std.proofs.lemmas.Bool.{and_cases, and_from, and_left, and_parts, and_right, cases_Bool, cases_eq, cases_lt, cond-false, cond-true, cond_both, false_from_ne_true, false≢true, not-false, not-true, not_from_false, not_from_true, or_cases, or_from, or_parts}
-pub use Rattle.std.proofs.lemmas.List.{reverse-append, reverse-reverse}
-pub use Rattle.std.proofs.lemmas.List.Elements.{All-cons, All-head, All-nil, All-tail}
-pub use Rattle.std.proofs.lemmas.List.FromFn.{get_or-map-range_with_len, length-map-range_with_len}
-pub use Rattle.std.proofs.lemmas.Option.{none-some, same_Some}
-pub use Rattle.std.specs.List.{flat_map, list_any, range_with_len}
-pub use Rattle.traces.specs.Header.{IsHeader, id_of, is_ring, is_transfer_kind}
-unfoldable pub use Rattle.traces.specs.Header.{command_id, event_shape, event_size, ring_beginning_at, ring_having, shape_of}
-pub use Rattle.traces.specs.Register.{base_address, register_or_zero, reset_bit, ring_cycle_state, run_bit}
-pub use Rattle.traces.specs.Rows.{IsRow}
-pub use Rattle.traces.specs.declared.header.Header.{Header}
-pub use Rattle.traces.specs.declared.register.Register.{Register}
-pub use Rattle.traces.specs.declared.register.Register.TheVariants.{Config, Crcr, Erdp, Usbcmd}
-pub use Rattle.traces.specs.declared.ring.Ring.{Ring}
-pub use Rattle.traces.specs.declared.row.Row.{Row}
-pub use Rattle.traces.specs.declared.row.Row.TheVariants.{Bell, Read, Reg, Sub, Write}
-pub use Rattle.traces.specs.declared.step.Step.{Step}
-pub use Rattle.traces.specs.declared.step.Step.TheVariants.{Finish, Look, NextRow, Other, Report}
-pub use Rattle.trb.specs.Bits.{is_set}
-pub use Rattle.trb.specs.Block.{IsBlock, block_at, code, cycle, endpoint, kind, pointer, same_words, slot, word}
-pub use Rattle.trb.specs.CompletionCode.{is_halting, is_stopping, is_success, is_transfer_code, is_trb_error}
-pub use Rattle.trb.specs.Kind.{is_command_completion, is_event, is_link, is_other_event, is_transfer_event}
-pub use Rattle.trb.specs.declared.block.Block.{Block}
-pub use Rattle.trb.specs.declared.kind.BlockKind.{BlockKind}
-pub use Rattle.trb.specs.declared.kind.BlockKind.TheVariants.{CommandCompletion, TransferEvent}
-unfoldable pub use Rattle.world_state.specs.Takes.{next_take, unreported}
-pub use Rattle.world_state.specs.World.{RingEvent, UnderWay, World}
-unfoldable pub use Rattle.world_state.specs.World.{event_at, opening, stored, stored_block}
+pub use Rattle.segments.proofs.Search.{position-None}
+pub use Rattle.segments.proofs.SpotOrder.{data_not_link, same_rank}
+pub use Rattle.segments.specs.Spots.{next, spots_from}
+pub use Rattle.std.proofs.lemmas.List.{reverse-reverse}
+unfoldable pub use Rattle.world_state.specs.World.{event_at}

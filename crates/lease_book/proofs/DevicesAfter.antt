@@ -12,9 +12,6 @@ AllHold [] = Unit {0}
 AllHold (change ∷ rest) = Holds change × AllHold rest
 
 module _ (h : Header) where
-  SameDevice : Known → Known → Type 0
-  SameDevice k l = l.device ≡ k.device
-
   bound_device : (k : Known) (s i : ℕ) (o : Option ℕ) → (bound_to h k s i o).device ≡ k.device
   unfolding bound_to set_to on_ring
   bound_device k s i None = refl

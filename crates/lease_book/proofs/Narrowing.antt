@@ -115,9 +115,3 @@ module _ (from to : ℕ → ℕ) (r : ℕ) (others : (q : ℕ) → (q == r) ≡ 
   one_ring_left (Range n a e) = refl
   one_ring_left (Block s p) = passed_there s p
   one_ring_left (Link s p) = passed_there s p
-
-  -- and with ranges that are let go
-  pub one_ring_and_ranges : (gone : List Leased) → ((l : Leased) → is_among gone l ≡ true → IsRange l) → (l : Leased) → is_left from to gone l ≡ (is_passed r (from r) (to r) l || is_among gone l)
-  one_ring_and_ranges gone ranges (Range n a e) = refl
-  one_ring_and_ranges gone ranges (Block s p) = passed_there s p ∙ alone _ (is_among gone (Block s p)) (ranges (Block s p))
-  one_ring_and_ranges gone ranges (Link s p) = passed_there s p ∙ alone _ (is_among gone (Link s p)) (ranges (Link s p))

@@ -1,5 +1,5 @@
 -- What is read of a text is the valid trace that the text spells
-use Rattle.std.proofs.Common.{◌≡◌, ◌-◌, ◌≤◌, ◌&&◌, ◌↔◌, ◌∷◌, ◌++◌, ◌∙◌, ℕ, Bool, true, false, inl, inr, cond, List, [], length, nat_lt, Option, Some, None, Result, Ok, Err, IsTrue, is_none, refl, sym, ap, subst, arith, codes, ltb-false, le-ltb}
+use Rattle.std.proofs.Common.{◌≡◌, ◌-◌, ◌≤◌, ◌&&◌, ◌∷◌, ◌++◌, ◌∙◌, ℕ, Bool, true, false, inl, inr, cond, List, [], length, nat_lt, Option, Some, None, Result, Ok, Err, IsTrue, is_none, refl, sym, ap, subst, arith, codes, ltb-false, le-ltb}
 use Rattle.trace_reader.proofs.Words.{join_with_byte, list_all, bytes_eq, and_parts, and_from, cases_Bool, ContextSize, Bytes32, Bytes64, fields_of, TextLine, lines_of, join-fields_of, LineFault, BadHeader, Ring, Row, may_stand_together, most_lines, State, TraceText, after, is_version, line_fault, next_number, read_line, read_lines, size_of, start, trace_of, whole, with_size, Field, Word, are_written, is_written, lines_written, size_fields, size_word, spells, trace_lines, version_fields, IsTrace}
 use Rattle.trace_reader.proofs.SpelledFields.{same_bytes, are_same_bytes, then_are}
 use Rattle.trace_reader.proofs.SpelledWords.{word_first}
@@ -244,9 +244,6 @@ unfolding trace_of spells
 read_if_spelled text trace spelled is = written_reads (lines_of text) trace spelled is
 
 -- ---- the law
-
-pub read_is_spelled : (text : List ℕ) (trace : TraceText) → (trace_of text ≡ Ok trace) ↔ (IsTrue (spells trace text) × IsTrace trace)
-read_is_spelled text trace = (spelled_if_read text trace, λ both. read_if_spelled text trace both.0 both.1)
 
 -- a text spells one valid trace
 pub one_trace : (text : List ℕ) (s t : TraceText) → IsTrue (spells s text) → IsTrace s → IsTrue (spells t text) → IsTrace t → s ≡ t

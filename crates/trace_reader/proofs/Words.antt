@@ -8,14 +8,12 @@ unfoldable pub use Rattle.line_text.specs.Fields.{fields_of}
 pub use Rattle.line_text.specs.Lines.{TextLine, is_line_feed, last_line, lines_between}
 unfoldable pub use Rattle.line_text.specs.Lines.{lines_of}
 unfoldable pub use Rattle.line_text.specs.Numbers.{digits_of, number_of}
-pub use Rattle.segments.specs.Places.{overlap, place_count}
-pub use Rattle.segments.specs.Shape.{is_segment, is_shape, most_segments}
+pub use Rattle.segments.proofs.Words.{All-cons, All-head, All-nil, All-tail, All-weaker, Block, Cmd, Evt, RingKind, Xfer, and_from, and_parts, cases_Bool, flat_map, get_or-map, is_segment, is_shape, length-map, list_all, list_any, most_segments, nat_tests, not-false, not-true, option_map, or_cases, or_parts, overlap, place_count, take-map}
 pub use Rattle.segments.specs.declared.segment.Segment.{Segment}
-pub use Rattle.std.proofs.lemmas.Bool.{and_from, and_parts, cases_Bool, eqb-false, not-false, not-true, or_cases, or_from, or_parts}
-pub use Rattle.std.proofs.lemmas.Bool.Decides.{nat_tests}
+pub use Rattle.std.proofs.lemmas.Bool.{eqb-false, or_from}
 pub use Rattle.std.proofs.lemmas.Grind.{common_steps}
-pub use Rattle.std.proofs.lemmas.List.{drop-map, get_or-map, get_or_at, length-map, map-append, take-map}
-pub use Rattle.std.proofs.lemmas.List.Elements.{All-append, All-cons, All-head, All-nil, All-tail, All-weaker}
+pub use Rattle.std.proofs.lemmas.List.{drop-map, get_or_at, map-append}
+pub use Rattle.std.proofs.lemmas.List.Elements.{All-append}
 pub use Rattle.std.proofs.lemmas.List.Folds.{list_any-append}
 pub use Rattle.std.proofs.lemmas.List.Splits.{join_with_byte-slice_split}
 pub use Rattle.std.proofs.lemmas.List.Sums.{AllPass-from_list_all}
@@ -23,8 +21,8 @@ pub use Rattle.std.proofs.lemmas.Result.{err_from_is_err_and}
 pub use Rattle.std.proofs.lemmas.Slice.Eq.{bytes_eq-Decides}
 pub use Rattle.std.specs.Char.{to_ascii_lowercase}
 pub use Rattle.std.specs.Int.{Width, byte_len}
-pub use Rattle.std.specs.List.{flat_map, join_with_byte, list_all, list_any, slice_split}
-pub use Rattle.std.specs.Option.{option_and_then, option_map, option_map_or}
+pub use Rattle.std.specs.List.{join_with_byte, slice_split}
+pub use Rattle.std.specs.Option.{option_and_then, option_map_or}
 pub use Rattle.std.specs.Str.{bytes_eq, str_to_ascii_lowercase}
 pub use Rattle.trace_reader.specs.Entries.{Answers, IfBadLine, IfFault, at_line, form_behind, placed, ring_of, said_by, state_of, text_of, took_in, unless_begun, value_of}
 unfoldable pub use Rattle.trace_reader.specs.Entries.{content_fault, said_by_fields, said_by_line, word_named}
@@ -76,6 +74,3 @@ pub use Rattle.traces.specs.declared.step.Step.{Step}
 pub use Rattle.traces.specs.declared.step.Step.TheVariants.{Finish, Look, NextRow, Other, Report, Scribble}
 pub use Rattle.trb.specs.Block.{IsBlock}
 pub use Rattle.trb.specs.RingKind.{ring_name}
-pub use Rattle.trb.specs.declared.block.Block.{Block}
-pub use Rattle.trb.specs.declared.ring_kind.RingKind.{RingKind}
-pub use Rattle.trb.specs.declared.ring_kind.RingKind.TheVariants.{Cmd, Evt, Xfer}
