@@ -1,10 +1,6 @@
 -- The tests of a doorbell
-use Rattle.std.proofs.Common.{◌≡◌, ℕ, Bool, true, false, refl, ap, ◌∙◌}
-use Rattle.std.specs.Prelude.{◌==◌, ◌||◌, not, nat_lt, if◌then◌else◌}
-use Rattle.commands.specs.States.{is_running, is_stopped}
-use Rattle.traces.specs.declared.header.Header.{Header}
-use Rattle.ring_knowledge.specs.Known.{Known}
-use Rattle.ownership_rules.specs.Doorbells.{is_bad_bell, is_bad_doorbell, is_touched}
+use Rattle.std.proofs.Common.{◌≡◌, ◌∙◌, ◌==◌, ◌||◌, if◌then◌else◌, ℕ, Bool, true, false, refl, ap, not, nat_lt}
+use Rattle.endpoint_checks.proofs.Words.{is_running, is_stopped, Header, Known, is_bad_bell, is_bad_doorbell, is_touched}
 
 module _ (h : Header) (k : Known) (s i : ℕ) where
   abbrev works : Bool

@@ -1,25 +1,6 @@
 -- The event ring, as the tests of an event and its count see it
-use Rattle.std.proofs.Common.{◌≡◌, ℕ, ◌+◌, ◌-◌, Bool, true, false, Option, refl, ap, sym, ◌∙◌, subst, List}
-use Rattle.std.specs.Prelude.{◌==◌, ◌||◌, not, nat_lt}
-use Rattle.trb.specs.declared.block.Block.{Block}
-use Rattle.trb.specs.Block.{cycle, kind}
-use Rattle.trb.specs.Kind.{is_event}
-use Rattle.segments.specs.ShapeValue.{Shape}
-use Rattle.segments.specs.Places.{cycle_of, place_count}
-use Rattle.contexts.specs.Contexts.{input_context_bytes}
-use Rattle.commands.specs.declared.command.Command.{Command}
-use Rattle.traces.specs.declared.header.Header.{Header}
-use Rattle.traces.specs.Header.{event_shape, event_size}
-use Rattle.event_ring.specs.EventPlaceValue.{EventState}
-use Rattle.ring_knowledge.specs.Known.{Known}
-use Rattle.ring_knowledge.specs.Rings.{unfinished}
-use Rattle.device_record.specs.Unfinished.{FollowsUnfinished}
-use Rattle.device_record.proofs.UnfinishedSame.{same_blocks, unfinished_same}
-use Rattle.device_record.proofs.Steps.{follows_beside}
-use Rattle.range_words.specs.Holding.{HoldsAreas}
-use Rattle.ownership_rules.specs.Events.{is_past_room}
-use Rattle.trace_record.specs.declared.trace_record.TraceRecord.{TraceRecord}
-use Rattle.trace_record.specs.FollowsTrace.{FollowsTrace, FollowsEvents, FollowsPlace, inputs_of}
+use Rattle.std.proofs.Common.{◌≡◌, ◌+◌, ◌-◌, ◌∙◌, ◌==◌, ◌||◌, ℕ, Bool, true, false, Option, refl, ap, sym, subst, List, not, nat_lt}
+use Rattle.endpoint_checks.proofs.Words.{Block, cycle, kind, is_event, Shape, cycle_of, place_count, input_context_bytes, Command, Header, event_shape, event_size, EventState, Known, unfinished, FollowsUnfinished, same_blocks, unfinished_same, follows_beside, HoldsAreas, is_past_room, TraceRecord, FollowsTrace, FollowsEvents, FollowsPlace, inputs_of}
 
 module _ (h : Header) (k : Known) (b : Block) where
   abbrev Misplaced : Shape → ℕ → ℕ → Bool

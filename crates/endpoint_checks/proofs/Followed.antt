@@ -1,33 +1,6 @@
 -- What the record of a trace holds after rings and endpoints have changed
-use Rattle.std.proofs.Common.{◌≡◌, ◌≢◌, ◌<◌, ◌≤◌, ℕ, zero, suc, List, [], ◌∷◌, Bool, true, false, Option, Some, None, refl, ap, sym, ◌∙◌, arith, inl, inr, set, subst, length, get_or}
-use Rattle.std.specs.Prelude.{◌⊎◌, slice_get, position}
-use Rattle.std.proofs.Math.ListN.{length-set}
-use Rattle.std.proofs.lemmas.Option.{same_Some, none-some, slice_get-get_or, slice_get_cases, slice_get_read, slice_get_within}
-use Rattle.std.proofs.lemmas.List.Quantifiers.{position-Some}
-use Rattle.contexts.specs.Contexts.{input_context_bytes, device_context_bytes}
-use Rattle.commands.specs.declared.command.Command.{Command}
-use Rattle.segments.specs.RingView.{RingView, RingChange, changed}
-use Rattle.traces.specs.declared.ring.Ring.{Ring}
-use Rattle.traces.specs.declared.header.Header.{Header}
-use Rattle.traces.specs.declared.register.Register.{Register}
-use Rattle.traces.specs.Header.{IsHeader, is_driver_kind, is_command_kind, command_id, command_ring, id_or_none}
-use Rattle.ring_knowledge.specs.declared.ring_record.RingRecord.{RingRecord}
-use Rattle.ring_knowledge.specs.RingRecords.{FollowsRing}
-use Rattle.ring_knowledge.specs.RegisterRecords.{FollowsRegisters}
-use Rattle.ring_knowledge.specs.Known.{Known}
-use Rattle.ring_knowledge.specs.Rings.{on_ring, unfinished}
-use Rattle.event_ring.specs.EventPlaceValue.{EventState}
-use Rattle.device_record.specs.Devices.{FollowsDevices}
-use Rattle.device_record.specs.Unfinished.{FollowsUnfinished}
-use Rattle.device_record.proofs.UnfinishedSame.{ring_here, ring_elsewhere}
-use Rattle.ring_finder.specs.RecordsOfRings.{FollowsRings}
-use Rattle.ring_finder.proofs.RingsApart.{IsAmong, among_at, each_among, numbers_apart}
-use Rattle.ring_finder.proofs.HeaderRings.{together, shape_there, find_only}
-use Rattle.ring_finder.proofs.ListTests.{false_unless}
-use Rattle.segments.proofs.Search.{position-None}
-use Rattle.range_words.specs.Holding.{HoldsAreas, HoldsSoiled}
-use Rattle.trace_record.specs.declared.trace_record.TraceRecord.{TraceRecord}
-use Rattle.trace_record.specs.FollowsTrace.{FollowsTrace, FollowsEvents, inputs_of, device_contexts}
+use Rattle.std.proofs.Common.{◌≡◌, ◌≢◌, ◌<◌, ◌≤◌, ◌∷◌, ◌∙◌, ◌⊎◌, ℕ, zero, suc, List, [], Bool, true, false, Option, Some, None, refl, ap, sym, arith, inl, inr, set, subst, length, get_or, slice_get, position}
+use Rattle.endpoint_checks.proofs.Words.{length-set, same_Some, none-some, slice_get-get_or, slice_get_cases, slice_get_read, slice_get_within, position-Some, input_context_bytes, device_context_bytes, Command, RingView, RingChange, changed, Ring, Header, Register, IsHeader, is_driver_kind, is_command_kind, command_id, command_ring, id_or_none, RingRecord, FollowsRing, FollowsRegisters, Known, on_ring, unfinished, EventState, FollowsDevices, FollowsUnfinished, ring_here, ring_elsewhere, FollowsRings, IsAmong, among_at, each_among, numbers_apart, together, shape_there, find_only, false_unless, position-None, HoldsAreas, HoldsSoiled, TraceRecord, FollowsTrace, FollowsEvents, inputs_of, device_contexts}
 
 -- ---- the records of rings
 

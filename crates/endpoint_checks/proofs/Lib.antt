@@ -5,3 +5,4 @@ pub mod Ringing
 pub mod EventCounts
 pub mod Reports
 pub mod Noted
+pub mod Words

@@ -1,44 +1,6 @@
 -- What a Transfer Event that can have been posted adds to the record of a trace
-use Rattle.std.proofs.Common.{◌≡◌, ℕ, ◌+◌, ◌<◌, List, Bool, true, false, Option, Some, None, refl, ap, sym, ◌∙◌, arith, subst}
-use Rattle.std.specs.Prelude.{◌&&◌, ◌||◌, not, if◌then◌else◌}
-use Rattle.std.specs.Option.{option_map}
-use Rattle.std.proofs.lemmas.Option.{none-some, same_Some}
-use Rattle.commands.specs.States.{is_off}
-use Rattle.std.proofs.lemmas.Bool.{cond_both, and_parts, false≢true}
-use Rattle.trb.specs.declared.block.Block.{Block}
-use Rattle.trb.specs.Block.{code, endpoint, pointer, slot}
-use Rattle.trb.specs.CompletionCode.{is_halting, is_stopping, is_success, is_transfer_code, is_trb_error}
-use Rattle.guest_memory.specs.Memory.{put_pair}
-use Rattle.segments.specs.declared.spot.Spot.{Spot}
-use Rattle.segments.specs.ShapeValue.{Shape}
-use Rattle.segments.specs.Spots.{after, number}
-use Rattle.segments.specs.RingView.{RingView, Holds, Reaches, changed}
-use Rattle.segments.specs.Ceiling.{ceiling, is_data_below, is_stop_spot, named, stopped_number}
-use Rattle.segments.specs.RingKeeps.{RingKeeps}
-use Rattle.segments.proofs.Named.{below_is, ceiling_within, named_ahead}
-use Rattle.segments.proofs.Reaching.{given_count_declared}
-use Rattle.commands.specs.declared.state.EndpointState.{EndpointState}
-use Rattle.commands.specs.declared.state.EndpointState.TheVariants.{Halted, Error}
-use Rattle.traces.specs.declared.header.Header.{Header}
-use Rattle.traces.specs.Header.{IsHeader, command_id, shape_of}
-use Rattle.ring_knowledge.specs.declared.ring_record.RingRecord.{RingRecord}
-use Rattle.ring_knowledge.specs.RingRecords.{FollowsRing}
-use Rattle.ring_knowledge.specs.Known.{Known}
-use Rattle.ring_knowledge.specs.Rings.{RingSpot, event_at, on_ring, spot_on, unfinished}
-use Rattle.ring_knowledge.specs.Transfers.{passed, broken_off, stopped_at, transferred, transferred_at, transfer_read}
-use Rattle.device_record.specs.Devices.{FollowsDevices}
-use Rattle.device_record.proofs.UnfinishedSame.{ring_here, ring_elsewhere, same_blocks, unfinished_same}
-use Rattle.device_record.proofs.UnfinishedEvents.{transfer_stays}
-use Rattle.ring_finder.specs.RecordsOfRings.{FollowsRings}
-use Rattle.ring_finder.proofs.RingsApart.{IsAmong, among_at}
-use Rattle.ring_finder.proofs.HeaderRings.{shape_allowed, shape_there}
-use Rattle.ownership_rules.specs.Events.{can_report, can_report_at, is_impossible_transfer, is_in_profile, is_stopping_now, is_working}
-use Rattle.safety.specs.Keeps.{DriverKeeps}
-use Rattle.trace_record.specs.declared.trace_record.TraceRecord.{TraceRecord}
-use Rattle.trace_record.specs.FollowsTrace.{FollowsTrace}
-use Rattle.endpoint_checks.specs.declared.spots.NamedSpot.{NamedSpot}
-use Rattle.endpoint_checks.specs.NamedSpots.{IsNamedAt}
-use Rattle.endpoint_checks.specs.Reported.{IsWithRecord, MayReport, reported}
+use Rattle.std.proofs.Common.{◌≡◌, ◌+◌, ◌<◌, ◌∙◌, ◌&&◌, ◌||◌, if◌then◌else◌, ℕ, List, Bool, true, false, Option, Some, None, refl, ap, sym, arith, subst, not}
+use Rattle.endpoint_checks.proofs.Words.{option_map, none-some, same_Some, is_off, cond_both, and_parts, false≢true, Block, code, endpoint, pointer, slot, is_halting, is_stopping, is_success, is_transfer_code, is_trb_error, put_pair, Spot, Shape, after, number, RingView, Holds, Reaches, changed, ceiling, is_data_below, is_stop_spot, named, stopped_number, RingKeeps, below_is, ceiling_within, named_ahead, given_count_declared, EndpointState, Halted, Error, Header, IsHeader, command_id, shape_of, RingRecord, FollowsRing, Known, RingSpot, event_at, on_ring, spot_on, unfinished, passed, broken_off, stopped_at, transferred, transferred_at, transfer_read, FollowsDevices, ring_here, ring_elsewhere, same_blocks, unfinished_same, transfer_stays, FollowsRings, IsAmong, among_at, shape_allowed, shape_there, can_report, can_report_at, is_impossible_transfer, is_in_profile, is_stopping_now, is_working, DriverKeeps, TraceRecord, FollowsTrace, NamedSpot, IsNamedAt, IsWithRecord, MayReport, reported}
 use Rattle.endpoint_checks.proofs.Followed.{IsBeside, IsOnly, followed, rings_with}
 use Rattle.endpoint_checks.proofs.Reports.{none_reported, not_command, reported_at, transfer_driver}
 

@@ -1,39 +1,6 @@
 -- Where a controller can have posted a Transfer Event
-use Rattle.std.proofs.Common.{◌≡◌, ℕ, Bool, true, false, Option, Some, None, Result, Ok, Err, refl, ap, sym, ◌∙◌, subst, arith, inl, inr}
-use Rattle.std.specs.Prelude.{◌==◌, ◌&&◌, ◌||◌, ◌↔◌, not, slice_get, position, nat_lt, is_some, option_and_then, if◌then◌else◌}
-use Rattle.std.specs.Option.{option_map}
-use Rattle.std.specs.Result.{result_ok}
-use Rattle.std.proofs.lemmas.Bool.{cases_Bool, eqb-true, le-ltb, false≢true}
-use Rattle.std.proofs.lemmas.Option.{same_Some, none-some}
-use Rattle.trb.specs.declared.block.Block.{Block}
-use Rattle.trb.specs.declared.fault.Fault.{Fault}
-use Rattle.trb.specs.Block.{code, endpoint, pointer, slot}
-use Rattle.trb.specs.CompletionCode.{is_success, is_halting, is_trb_error}
-use Rattle.segments.specs.declared.spot.Spot.{Spot}
-use Rattle.segments.specs.Ceiling.{ceiling, is_data_below, is_stop_spot, named}
-use Rattle.segments.specs.RingView.{RingView, floor_number}
-use Rattle.segments.specs.Spots.{IsSpot}
-use Rattle.segments.proofs.Named.{ceiling_held}
-use Rattle.commands.specs.declared.command.Command.{Command}
-use Rattle.commands.specs.Command.{command_of, is_stop_of}
-use Rattle.commands.specs.States.{is_off}
-use Rattle.trb.specs.declared.ring_kind.RingKind.{RingKind}
-use Rattle.trb.specs.declared.ring_kind.RingKind.TheVariants.{Cmd, Evt, Xfer}
-use Rattle.traces.specs.declared.ring.Ring.{Ring}
-use Rattle.traces.specs.declared.header.Header.{Header}
-use Rattle.traces.specs.declared.register.Register.TheVariants.{Crcr}
-use Rattle.traces.specs.Header.{IsHeader, command_id, is_command_kind, is_driver_kind, is_transfer_kind, ring_with, shape_of}
-use Rattle.ring_knowledge.specs.Known.{Known}
-use Rattle.ring_knowledge.specs.declared.ring_record.RingRecord.{RingRecord}
-use Rattle.ring_knowledge.specs.RingRecords.{FollowsRing}
-use Rattle.trace_record.specs.declared.trace_record.TraceRecord.{TraceRecord}
-use Rattle.trace_record.specs.FollowsTrace.{FollowsTrace}
-use Rattle.ring_knowledge.specs.Rings.{RingSpot, command_at, event_at, next_command, spot_on}
-use Rattle.ring_finder.proofs.RingsApart.{IsAmong, among_at}
-use Rattle.ring_finder.proofs.HeaderRings.{find_some, no_command_here, ring_found, shape_there}
-use Rattle.ownership_rules.specs.Events.{can_report, can_report_at, is_impossible_transfer, is_in_profile, is_stopping_now, is_working, may_be_taken}
-use Rattle.safety.specs.Keeps.{DriverKeeps, IsDriverRing, IsTransferRing}
-use Rattle.endpoint_checks.specs.Numbers.{number_of}
+use Rattle.std.proofs.Common.{◌≡◌, ◌∙◌, ◌==◌, ◌&&◌, ◌||◌, ◌↔◌, if◌then◌else◌, ℕ, Bool, true, false, Option, Some, None, Result, Ok, Err, refl, ap, sym, subst, arith, inl, inr, not, slice_get, position, nat_lt, is_some, option_and_then, eqb-true, le-ltb}
+use Rattle.endpoint_checks.proofs.Words.{option_map, result_ok, cases_Bool, false≢true, same_Some, none-some, Block, Fault, code, endpoint, pointer, slot, is_success, is_halting, is_trb_error, Spot, ceiling, is_data_below, is_stop_spot, named, RingView, floor_number, IsSpot, ceiling_held, Command, command_of, is_stop_of, is_off, RingKind, Cmd, Evt, Xfer, Ring, Header, Crcr, IsHeader, command_id, is_command_kind, is_driver_kind, is_transfer_kind, ring_with, shape_of, Known, RingRecord, FollowsRing, TraceRecord, FollowsTrace, RingSpot, command_at, event_at, next_command, spot_on, IsAmong, among_at, find_some, no_command_here, ring_found, shape_there, can_report, can_report_at, is_impossible_transfer, is_in_profile, is_stopping_now, is_working, may_be_taken, DriverKeeps, IsDriverRing, IsTransferRing, number_of}
 use Rattle.endpoint_checks.proofs.Followed.{found_at, none_found, command_found, command_id_is}
 
 -- what a block says that was read

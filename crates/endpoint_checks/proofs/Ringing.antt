@@ -1,26 +1,6 @@
 -- What a doorbell adds to the record of a trace
-use Rattle.std.proofs.Common.{◌≡◌, ◌≢◌, ℕ, List, true, false, Option, Some, None, refl, ap, sym, ◌∙◌, inl, inr, subst}
-use Rattle.std.specs.Prelude.{◌==◌, slice_get, position, if◌then◌else◌}
-use Rattle.std.proofs.lemmas.Bool.{cases_eq, eqb-true, eq-eqb, ne_eqb, cond_both, false≢true}
-use Rattle.segments.specs.RingView.{Opens}
-use Rattle.traces.specs.declared.ring.Ring.{Ring}
-use Rattle.traces.specs.declared.header.Header.{Header}
-use Rattle.traces.specs.declared.row.Row.TheVariants.{Bell}
-use Rattle.traces.specs.Header.{IsHeader, is_command_kind, command_id}
-use Rattle.ring_knowledge.specs.declared.ring_record.RingRecord.{RingRecord}
-use Rattle.ring_knowledge.specs.Known.{Known}
-use Rattle.ring_knowledge.specs.Rings.{on_ring, unfinished}
-use Rattle.ring_knowledge.specs.Registers.{rung, endpoint_rung}
-use Rattle.ring_knowledge.specs.Learned.{learned}
-use Rattle.device_record.specs.Devices.{FollowsDevices}
-use Rattle.device_record.proofs.Bells.{rung_first, rung_later}
-use Rattle.device_record.proofs.UnfinishedSame.{ring_elsewhere, unfinished_rung}
-use Rattle.ring_finder.specs.RecordsOfRings.{FollowsRings}
-use Rattle.ring_finder.proofs.RingsApart.{IsAmong, among_at}
-use Rattle.ring_finder.proofs.HeaderRings.{no_command_here}
-use Rattle.trace_record.specs.declared.trace_record.TraceRecord.{TraceRecord}
-use Rattle.trace_record.specs.FollowsTrace.{FollowsTrace}
-use Rattle.endpoint_checks.specs.Numbers.{number_of, number_rung}
+use Rattle.std.proofs.Common.{◌≡◌, ◌≢◌, ◌∙◌, ◌==◌, if◌then◌else◌, ℕ, List, true, false, Option, Some, None, refl, ap, sym, inl, inr, subst, slice_get, position, eqb-true, eq-eqb, ne_eqb}
+use Rattle.endpoint_checks.proofs.Words.{cases_eq, cond_both, false≢true, Opens, Ring, Header, Bell, IsHeader, is_command_kind, command_id, RingRecord, Known, on_ring, unfinished, rung, endpoint_rung, learned, FollowsDevices, rung_first, rung_later, ring_elsewhere, unfinished_rung, FollowsRings, IsAmong, among_at, no_command_here, TraceRecord, FollowsTrace, number_of, number_rung}
 use Rattle.endpoint_checks.proofs.Followed.{IsBeside, rings_same, followed, found_at, none_found, command_found, command_id_is}
 
 module _ (h : Header) (k : Known) (s t : ℕ) where

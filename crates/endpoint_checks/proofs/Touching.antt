@@ -1,24 +1,6 @@
 -- Which endpoints an unfinished command may change
-use Rattle.std.proofs.Common.{◌≡◌, ℕ, zero, suc, ◌+◌, ◌<◌, ◌≤◌, ◌%◌, ◌^◌, List, [], ◌∷◌, Bool, true, false, Option, Some, None, refl, ap, sym, ◌∙◌, arith, inl, inr, get_or, subst}
-use Rattle.std.specs.Prelude.{◌==◌, ◌&&◌, ◌||◌, not, nat_le, nat_lt, map, All}
-use Rattle.std.specs.List.{list_any, range_with_len}
-use Rattle.std.proofs.lemmas.Bool.{cases_eq, eqb-true, eq-eqb, ne_eqb, le-leb, lt-leb, lt-ltb, leb-true, and_parts}
-use Rattle.std.proofs.lemmas.Bool.Decides.{nat_tests}
-use Rattle.std.proofs.lemmas.List.Folds.{list_any_none}
-use Rattle.contexts.specs.declared.size.ContextSize.{ContextSize}
-use Rattle.contexts.specs.Contexts.{added_endpoints, input_add_flag, input_drop_flag, input_context_bytes}
-use Rattle.commands.specs.declared.command.Command.{Command}
-use Rattle.commands.specs.declared.command.Command.TheVariants.{ConfigureEndpoint}
-use Rattle.commands.specs.Command.{named_context}
-use Rattle.commands.specs.Changes.{placed_by_context, changes, touches}
-use Rattle.traces.specs.declared.header.Header.{Header}
-use Rattle.ring_knowledge.specs.Known.{Known}
-use Rattle.ring_knowledge.specs.Rings.{unfinished}
-use Rattle.ring_finder.proofs.ListTests.{and_false, any_map, any_filter, any_nowhere}
-use Rattle.device_record.specs.Unfinished.{IsOfSlot, as_list, names}
-use Rattle.device_record.proofs.TouchedEndpoints.{touched_of_slot}
-use Rattle.ownership_rules.specs.Doorbells.{is_touched, touches_endpoint}
-use Rattle.trace_record.specs.Premises.{FitsMemory}
+use Rattle.std.proofs.Common.{◌≡◌, ◌+◌, ◌<◌, ◌≤◌, ◌%◌, ◌^◌, ◌∷◌, ◌∙◌, ◌==◌, ◌&&◌, ◌||◌, ℕ, zero, suc, List, [], Bool, true, false, Option, Some, None, refl, ap, sym, arith, inl, inr, get_or, subst, not, nat_le, nat_lt, map, All, eqb-true, eq-eqb, ne_eqb, le-leb, lt-ltb, leb-true}
+use Rattle.endpoint_checks.proofs.Words.{list_any, range_with_len, cases_eq, lt-leb, and_parts, nat_tests, list_any_none, ContextSize, added_endpoints, input_add_flag, input_drop_flag, input_context_bytes, Command, ConfigureEndpoint, named_context, placed_by_context, changes, touches, Header, Known, unfinished, and_false, any_map, any_filter, any_nowhere, IsOfSlot, as_list, names, touched_of_slot, is_touched, touches_endpoint, FitsMemory}
 
 -- ---- an input context
 

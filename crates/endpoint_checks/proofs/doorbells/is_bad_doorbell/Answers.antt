@@ -1,5 +1,4 @@
-use Rattle.std.proofs.Common.{sym, ◌∙◌}
-use Rattle.std.proofs.lemmas.Bool.{eq-eqb, ne_eqb}
+use Rattle.std.proofs.Common.{◌∙◌, sym, eq-eqb, ne_eqb}
 use Rattle.endpoint_checks.proofs.Bells.{before_start, of_host, of_endpoint}
 use Rattle.endpoint_checks.proofs.doorbells.is_bad_doorbell.Goals as goal
 

@@ -1,9 +1,5 @@
-use Rattle.std.proofs.Common.{◌≡◌, refl, ap, sym, ◌∙◌, subst, length}
-use Rattle.std.specs.Prelude.{slice_get}
-use Rattle.std.proofs.lemmas.Option.{same_Some, slice_get_read}
-use Rattle.segments.specs.RingView.{RingView, Opens}
-use Rattle.ring_knowledge.specs.RingRecords.{FollowsRing}
-use Rattle.ring_knowledge.specs.Rings.{on_ring}
+use Rattle.std.proofs.Common.{◌≡◌, ◌∙◌, refl, ap, sym, subst, length, slice_get}
+use Rattle.endpoint_checks.proofs.Words.{same_Some, slice_get_read, RingView, Opens, FollowsRing, on_ring}
 use Rattle.endpoint_checks.proofs.Followed.{rings_with, rings_without, only_on, here_on, none_past}
 use Rattle.endpoint_checks.proofs.rings.open_ring.Goals as goal
 

@@ -1,7 +1,5 @@
-use Rattle.std.proofs.Common.{Some, get_or, ap, sym, ◌∙◌}
-use Rattle.std.proofs.lemmas.Option.{slice_get-get_or}
-use Rattle.trb.specs.Block.{slot, endpoint}
-use Rattle.endpoint_checks.specs.Numbers.{number_of}
+use Rattle.std.proofs.Common.{◌∙◌, Some, get_or, ap, sym}
+use Rattle.endpoint_checks.proofs.Words.{slice_get-get_or, slot, endpoint, number_of}
 use Rattle.endpoint_checks.proofs.Followed.{read_at}
 use Rattle.endpoint_checks.proofs.Reports.{no_endpoint_ring, none_named, named_by, its_ring}
 use Rattle.endpoint_checks.proofs.spots.named_spot.Goals as goal

@@ -1,11 +1,5 @@
-use Rattle.std.proofs.Common.{◌≡◌, Bool, Some, None, sym, ◌∙◌, ap}
-use Rattle.std.proofs.Math.Path.{fun_ext}
-use Rattle.std.specs.List.{list_any}
-use Rattle.commands.specs.declared.command.Command.{Command}
-use Rattle.commands.specs.Changes.{changes, touches}
-use Rattle.device_record.specs.Unfinished.{IsOfSlot, as_list}
-use Rattle.ring_knowledge.specs.Rings.{unfinished}
-use Rattle.ring_finder.proofs.ListTests.{or_false}
+use Rattle.std.proofs.Common.{◌≡◌, ◌∙◌, Bool, Some, None, sym, ap}
+use Rattle.endpoint_checks.proofs.Words.{fun_ext, list_any, Command, changes, touches, IsOfSlot, as_list, unfinished, or_false}
 use Rattle.endpoint_checks.proofs.Touching.{named_fits, touched_is}
 use Rattle.endpoint_checks.proofs.touches.is_touched.Goals as goal
 

@@ -1,9 +1,5 @@
-use Rattle.std.proofs.Common.{◌∙◌, ap, sym}
-use Rattle.std.specs.Prelude.{◌&&◌, ◌||◌, nat_le}
-use Rattle.std.specs.List.{list_any}
-use Rattle.std.proofs.lemmas.Bool.{eq-eqb, ne_eqb}
-use Rattle.contexts.specs.Contexts.{input_drop_flag, input_add_flag}
-use Rattle.commands.specs.Changes.{changes, touches}
+use Rattle.std.proofs.Common.{◌∙◌, ◌&&◌, ◌||◌, ap, sym, nat_le, eq-eqb, ne_eqb}
+use Rattle.endpoint_checks.proofs.Words.{list_any, input_drop_flag, input_add_flag, changes, touches}
 use Rattle.endpoint_checks.proofs.Touching.{configured_any, configured_fits}
 use Rattle.endpoint_checks.proofs.touches.touches.Goals as goal
 

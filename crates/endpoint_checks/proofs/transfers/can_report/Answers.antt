@@ -1,9 +1,5 @@
-use Rattle.std.proofs.Common.{ap, sym, ◌∙◌}
-use Rattle.std.specs.Prelude.{◌||◌}
-use Rattle.trb.specs.Block.{code, slot, endpoint}
-use Rattle.trb.specs.CompletionCode.{is_success, is_halting, is_trb_error}
-use Rattle.segments.specs.Ceiling.{ceiling, is_data_below, is_stop_spot}
-use Rattle.ownership_rules.specs.Events.{is_working, is_stopping_now}
+use Rattle.std.proofs.Common.{◌∙◌, ◌||◌, ap, sym}
+use Rattle.endpoint_checks.proofs.Words.{code, slot, endpoint, is_success, is_halting, is_trb_error, ceiling, is_data_below, is_stop_spot, is_working, is_stopping_now}
 use Rattle.endpoint_checks.proofs.Reports.{on_success, while_idle, on_failure, without_stop, on_stop}
 use Rattle.endpoint_checks.proofs.transfers.can_report.Goals as goal
 

@@ -1,10 +1,5 @@
-use Rattle.std.proofs.Common.{◌≡◌, get_or, ap, sym, ◌∙◌, subst}
-use Rattle.std.proofs.lemmas.Option.{get_or_from_slice_get}
-use Rattle.segments.specs.ShapeValue.{Shape}
-use Rattle.traces.specs.declared.ring.Ring.{Ring}
-use Rattle.ring_knowledge.specs.RingRecords.{FollowsRing}
-use Rattle.ring_finder.proofs.RingsApart.{among_at}
-use Rattle.ring_finder.proofs.HeaderRings.{shape_there}
+use Rattle.std.proofs.Common.{◌≡◌, ◌∙◌, get_or, ap, sym, subst}
+use Rattle.endpoint_checks.proofs.Words.{get_or_from_slice_get, Shape, Ring, FollowsRing, among_at, shape_there}
 use Rattle.endpoint_checks.proofs.Followed.{read_at}
 use Rattle.endpoint_checks.proofs.Reports.{none_reported, reported_at, driven}
 use Rattle.endpoint_checks.proofs.transfers.can_report_at.Goals as goal

@@ -1,7 +1,5 @@
-use Rattle.std.proofs.Common.{ap, sym, ◌∙◌}
-use Rattle.std.specs.Prelude.{not}
-use Rattle.trb.specs.Block.{slot}
-use Rattle.commands.specs.States.{is_off}
+use Rattle.std.proofs.Common.{◌∙◌, ap, sym, not}
+use Rattle.endpoint_checks.proofs.Words.{slot, is_off}
 use Rattle.endpoint_checks.proofs.Reports.{left_out, while_off, by_report}
 use Rattle.endpoint_checks.proofs.transfers.is_impossible_transfer.Goals as goal
 

@@ -1,7 +1,5 @@
-use Rattle.std.proofs.Common.{refl, sym, ◌∙◌, subst, arith}
-use Rattle.std.proofs.lemmas.Option.{get_or_from_slice_get, slice_get_within}
-use Rattle.ring_knowledge.specs.declared.ring_record.RingRecord.{RingRecord}
-use Rattle.ring_knowledge.specs.RingRecords.{FollowsRing}
+use Rattle.std.proofs.Common.{◌∙◌, refl, sym, subst, arith}
+use Rattle.endpoint_checks.proofs.Words.{get_or_from_slice_get, slice_get_within, RingRecord, FollowsRing}
 use Rattle.endpoint_checks.proofs.transfers.note_report.Goals as goal
 
 pub returns-in-Some : goal.returns-in-Some

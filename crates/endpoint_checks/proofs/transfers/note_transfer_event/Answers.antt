@@ -1,12 +1,5 @@
-use Rattle.std.proofs.Common.{◌≡◌, ℕ, get_or, refl, ap, sym, ◌∙◌, subst}
-use Rattle.std.proofs.lemmas.Option.{get_or_from_slice_get}
-use Rattle.trb.specs.Block.{code, slot}
-use Rattle.segments.specs.ShapeValue.{Shape}
-use Rattle.traces.specs.declared.ring.Ring.{Ring}
-use Rattle.ring_knowledge.specs.RingRecords.{FollowsRing}
-use Rattle.ring_knowledge.specs.Transfers.{transferred}
-use Rattle.device_record.specs.Devices.{FollowsDevices}
-use Rattle.endpoint_checks.specs.Reported.{IsWithRecord, MayReport, reported}
+use Rattle.std.proofs.Common.{◌≡◌, ◌∙◌, ℕ, get_or, refl, ap, sym, subst}
+use Rattle.endpoint_checks.proofs.Words.{get_or_from_slice_get, code, slot, Shape, Ring, FollowsRing, transferred, FollowsDevices, IsWithRecord, MayReport, reported}
 use Rattle.endpoint_checks.proofs.Followed.{has_record}
 use Rattle.endpoint_checks.proofs.Reports.{driven}
 use Rattle.endpoint_checks.proofs.Noted.{names_some, may_report, follows_read}
