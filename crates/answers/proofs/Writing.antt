@@ -1,16 +1,11 @@
 -- What the bytes of a stream are behind one write after another
-use Rattle.std.proofs.Common.{◌≡◌, ◌∙◌, ℕ, ◌+◌, ◌-◌, ◌≤◌, List, [], ◌++◌, take, drop, length, Bool, true, false, Option, Some, None, Result, Ok, Err, ap, sym, subst, arith, append_assoc, length-drop}
-use Rattle.std.proofs.lemmas.List.{drop-take, take-append-drop, take-take, take_all}
+use Rattle.std.proofs.Common.{◌≡◌, ◌∙◌, ◌+◌, ◌-◌, ◌≤◌, ◌++◌, ℕ, List, [], take, drop, length, Bool, true, false, Option, Some, None, Result, Ok, Err, ap, sym, subst, arith, append_assoc, length-drop, take-append-drop, take-take, take_all, IfOk, IsOk}
+use Rattle.std.proofs.lemmas.List.{drop-take}
 use Rattle.std.proofs.Math.Seq.{take-length}
 use Rattle.std.proofs.lemmas.Grind.{common_steps}
 use Rattle.std.specs.Io.KnownBytes.{Appends, Keeps}
-use Rattle.std.specs.Prelude.{IfOk, IsOk}
 use Rattle.answers.specs.Answers.{device_line}
 use Rattle.answers.specs.Telling.{Begins, IsNote}
-
-pub appends_nothing : (known : Option (List ℕ)) → Appends known known []
-appends_nothing None = tt
-appends_nothing (Some xs) = grind (arith, common_steps)
 
 pub kept : (a b c : Option (List ℕ)) (bs : List ℕ) → Appends a b bs → Keeps b c → Appends a c bs
 kept None b c bs h k = tt

@@ -1,24 +1,6 @@
 -- What a command binds, endpoint by endpoint
-use Rattle.std.proofs.Common.{◌≡◌, ℕ, zero, suc, ◌+◌, ◌-◌, ◌<◌, ◌≤◌, ◌==◌, ◌&&◌, ◌||◌, if◌then◌else◌, Bool, true, false, List, [], ◌∷◌, Option, Some, None, map, refl, ap, sym, ◌∙◌, arith}
-use Rattle.std.specs.Prelude.{not, nat_le, filter, is_some}
-use Rattle.std.specs.List.{cons_option, filter_map, list_any, range_with_len}
-use Rattle.std.specs.Option.{option_map}
-use Rattle.std.proofs.lemmas.Bool.Decides.{nat_tests}
-use Rattle.contexts.specs.Contexts.{input_add_flag, added_endpoints}
-use Rattle.commands.specs.declared.command.Command.{Command}
-use Rattle.commands.specs.declared.command.Command.TheVariants.{AddressDevice, ConfigureEndpoint}
-use Rattle.commands.specs.Command.{named_slot}
-use Rattle.commands.specs.States.{is_off}
-use Rattle.traces.specs.declared.header.Header.{Header}
-use Rattle.traces.specs.Header.{is_ring}
-use Rattle.ring_knowledge.specs.Known.{Known}
-use Rattle.ring_knowledge.specs.Rings.{unfinished}
-use Rattle.ownership_rules.specs.Moves.{Binding, binding_in, binds, binds_ring, has_repeats, is_among, is_bad_binding, is_unused_ring, is_used, ring_bound}
-use Rattle.binding_checks.specs.declared.binding.RingBinding.{RingBinding}
-use Rattle.binding_checks.specs.declared.ring_set.RingSet.{RingSet}
-use Rattle.binding_checks.specs.Contexts.{dequeue_in}
-use Rattle.binding_checks.specs.Bindings.{are_bad, binding_at, binding_of, bindings_from, is_bad, is_taken, is_to}
-use Rattle.binding_checks.specs.RingSets.{has}
+use Rattle.std.proofs.Common.{◌≡◌, ◌+◌, ◌-◌, ◌<◌, ◌≤◌, ◌==◌, ◌&&◌, ◌||◌, if◌then◌else◌, ◌∷◌, ◌∙◌, ℕ, zero, suc, Bool, true, false, List, [], Option, Some, None, map, refl, ap, sym, arith, not, nat_le, filter, is_some}
+use Rattle.binding_checks.proofs.Words.{cons_option, filter_map, list_any, range_with_len, option_map, nat_tests, input_add_flag, added_endpoints, Command, AddressDevice, ConfigureEndpoint, named_slot, is_off, Header, is_ring, Known, unfinished, Binding, binding_in, binds, binds_ring, has_repeats, is_among, is_bad_binding, is_unused_ring, is_used, ring_bound, RingBinding, RingSet, dequeue_in, are_bad, binding_at, binding_of, bindings_from, is_bad, is_taken, is_to, has}
 use Rattle.binding_checks.proofs.Lists.{any_same, any_or, any_map, map_twice, or_none, or_true, crossed, or_assoc}
 
 pub range_is : (i : ℕ) → i < 32 → range_with_len i (32 - i) ≡ i ∷ range_with_len (i + 1) (32 - (i + 1))

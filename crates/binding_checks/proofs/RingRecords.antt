@@ -1,30 +1,6 @@
 -- The record of an endpoint's ring
-use Rattle.std.proofs.Common.{◌≡◌, ℕ, ◌≤◌, ◌∙◌, Bool, true, false, List, Option, Some, None, refl, ap, sym, subst, get_or, length, ◌<◌, arith}
-use Rattle.std.specs.Prelude.{◌==◌, ◌||◌, not, position, slice_get}
-use Rattle.std.proofs.lemmas.Bool.{false≢true, eqb-true}
-use Rattle.std.proofs.lemmas.Option.{slice_get_within}
-use Rattle.std.proofs.lemmas.Bool.Decides.{nat_tests}
-use Rattle.trb.specs.declared.ring_kind.RingKind.{RingKind}
-use Rattle.trb.specs.declared.ring_kind.RingKind.TheVariants.{Xfer}
-use Rattle.segments.specs.ShapeValue.{Shape}
-use Rattle.segments.specs.Shape.{IsShape}
-use Rattle.segments.specs.RingView.{declared, floor_number}
-use Rattle.segments.specs.Ceiling.{ceiling}
-use Rattle.segments.specs.Moves.{is_move}
-use Rattle.segments.proofs.Named.{ceiling_within}
-use Rattle.traces.specs.declared.ring.Ring.{Ring}
-use Rattle.traces.specs.declared.header.Header.{Header}
-use Rattle.traces.specs.Header.{IsHeader, is_driver_kind, is_transfer_kind, ring_with, shape_of}
-use Rattle.ring_knowledge.specs.Known.{Known}
-use Rattle.ring_knowledge.specs.declared.ring_record.RingRecord.{RingRecord}
-use Rattle.ring_knowledge.specs.RingRecords.{FollowsRing}
-use Rattle.ring_finder.proofs.FoundRings.{ring_here, none_here}
-use Rattle.ring_finder.proofs.HeaderRings.{find_some, ring_found, shape_allowed, shape_there}
-use Rattle.ring_finder.proofs.Numbers.{some_ring}
-use Rattle.ring_finder.proofs.RingsApart.{IsAmong, among_at}
-use Rattle.ring_finder.specs.RecordsOfRings.{FollowsRings}
-use Rattle.ownership_rules.specs.Moves.{Binding, is_bad_dequeue, is_bad_stay}
-use Rattle.safety.specs.Keeps.{DriverKeeps, IsDriverRing, IsTransferRing}
+use Rattle.std.proofs.Common.{◌≡◌, ◌≤◌, ◌∙◌, ◌<◌, ◌==◌, ◌||◌, ℕ, Bool, true, false, List, Option, Some, None, refl, ap, sym, subst, get_or, length, arith, not, position, slice_get, eqb-true}
+use Rattle.binding_checks.proofs.Words.{false≢true, slice_get_within, nat_tests, RingKind, Xfer, Shape, IsShape, declared, floor_number, ceiling, is_move, ceiling_within, Ring, Header, IsHeader, is_driver_kind, is_transfer_kind, ring_with, shape_of, Known, RingRecord, FollowsRing, ring_here, none_here, find_some, ring_found, shape_allowed, shape_there, some_ring, IsAmong, among_at, FollowsRings, Binding, is_bad_dequeue, is_bad_stay, DriverKeeps, IsDriverRing, IsTransferRing}
 
 driver : (kind : RingKind) → is_transfer_kind kind ≡ true → is_driver_kind kind ≡ true
 driver Xfer e = refl

@@ -1,32 +1,6 @@
 -- The record and the memory hold what is known behind a write
-use Rattle.std.proofs.Common.{◌≡◌, ℕ, List, Option, Some, None, ap, sym, ◌∙◌, subst}
-use Rattle.std.specs.Prelude.{◌&&◌, not, ◌==◌, if◌then◌else◌}
-use Rattle.std.specs.Result.{OnOk}
-use Rattle.std.specs.Prelude.{Result, Ok, Err}
-use Rattle.guest_memory.specs.Memory.{put}
-use Rattle.contexts.specs.Contexts.{device_context_bytes, input_context_bytes}
-use Rattle.event_ring.specs.EventPlaceValue.{EventState}
-use Rattle.traces.specs.declared.header.Header.{Header}
-use Rattle.traces.specs.declared.row.Row.TheVariants.{Write}
-use Rattle.ring_knowledge.specs.declared.ring_record.RingRecord.{RingRecord}
-use Rattle.ring_knowledge.specs.declared.register_record.RegisterRecord.{RegisterRecord}
-use Rattle.ring_knowledge.specs.RingRecords.{FollowsRing}
-use Rattle.ring_knowledge.specs.RegisterRecords.{FollowsRegisters}
-use Rattle.ring_knowledge.specs.Known.{Known}
-use Rattle.ring_knowledge.specs.Rings.{unfinished}
-use Rattle.ring_knowledge.specs.Learned.{learned}
-use Rattle.ring_knowledge.specs.Writes.{with_device, with_word, written}
-use Rattle.ring_finder.specs.RecordsOfRings.{FollowsRings}
-use Rattle.device_record.specs.declared.kept.DeviceRecord.{DeviceRecord}
-use Rattle.device_record.specs.Devices.{FollowsDevices}
-use Rattle.device_record.specs.Unfinished.{FollowsUnfinished}
-use Rattle.device_record.proofs.OtherRows.{after_word}
-use Rattle.range_words.specs.declared.soiled.SoiledWords.{SoiledWords}
-use Rattle.range_words.specs.Holding.{HoldsAreas, HoldsSoiled}
-use Rattle.safety.proofs.RowFrames.{SameRegisters, write_leaves}
-use Rattle.safety.proofs.WrittenKnown.{taken, written_memory, written_ring}
-use Rattle.trace_record.specs.declared.trace_record.TraceRecord.{TraceRecord}
-use Rattle.trace_record.specs.FollowsTrace.{FollowsTrace, FollowsEvents, inputs_of, device_contexts}
+use Rattle.std.proofs.Common.{◌≡◌, ◌∙◌, ◌&&◌, ◌==◌, if◌then◌else◌, ℕ, List, Option, Some, None, ap, sym, subst, not, Result, Ok, Err}
+use Rattle.command_starts.proofs.Words.{OnOk, put, device_context_bytes, input_context_bytes, EventState, Header, Write, RingRecord, RegisterRecord, FollowsRing, FollowsRegisters, Known, unfinished, learned, with_device, with_word, written, FollowsRings, DeviceRecord, FollowsDevices, FollowsUnfinished, after_word, SoiledWords, HoldsAreas, HoldsSoiled, SameRegisters, write_leaves, taken, written_memory, written_ring, TraceRecord, FollowsTrace, FollowsEvents, inputs_of, device_contexts}
 
 -- what three clauses of one call say together
 pub from_three : {T E P Q R S : Type 0} (r : Result T E) → OnOk r P → OnOk r Q → OnOk r R → (P → Q → R → S) → OnOk r S

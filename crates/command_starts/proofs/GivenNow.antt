@@ -1,36 +1,7 @@
 -- What a write that breaks no rule gives: a command whose slot isn't busy, and a device context that lies where it may
-use Rattle.std.proofs.Common.{◌≡◌, ℕ, ◌+◌, ◌^◌, ◌≤◌, false, List, [], ◌∷◌, Option, Some, None, refl, ap, sym, ◌∙◌, arith, inl, inr, subst}
-use Rattle.std.specs.Prelude.{Contains, nat_lt, option_and_then}
-use Rattle.std.specs.List.{filter_map}
-use Rattle.std.proofs.lemmas.Bool.{cases_lt, lt-ltb, eq-eqb, false≢true}
-use Rattle.guest_memory.specs.Memory.{put}
-use Rattle.segments.specs.RingView.{positions_given}
-use Rattle.segments.proofs.Giving.{gives_is}
-use Rattle.segments.proofs.DueLists.{position_given_is}
-use Rattle.commands.specs.declared.command.Command.{Command}
-use Rattle.commands.specs.declared.command.Command.TheVariants.{AddressDevice}
-use Rattle.traces.specs.declared.header.Header.{Header}
-use Rattle.traces.specs.declared.row.Row.TheVariants.{Write}
-use Rattle.traces.specs.Header.{IsHeader, shape_of, command_id}
-use Rattle.ring_knowledge.specs.Known.{Known}
-use Rattle.ring_knowledge.specs.Rings.{unfinished}
-use Rattle.ring_knowledge.specs.Writes.{device_named, entry_of, no_device, taken_device, command_given}
+use Rattle.std.proofs.Common.{◌≡◌, ◌+◌, ◌^◌, ◌≤◌, ◌∷◌, ◌∙◌, ℕ, false, List, [], Option, Some, None, refl, ap, sym, arith, inl, inr, subst, Contains, nat_lt, option_and_then, lt-ltb, eq-eqb}
+use Rattle.command_starts.proofs.Words.{filter_map, cases_lt, false≢true, put, positions_given, gives_is, position_given_is, Command, AddressDevice, Header, Write, IsHeader, shape_of, command_id, Known, unfinished, device_named, entry_of, no_device, taken_device, command_given, slots, broken, DeviceKeeps, DriverKeeps, ring_shape, due_has_ring, area_parts, taking, after_write, taken, written_device, written_device_none, given_facts, rules_of, written_devices, Inserted, GivesOne, allowed_gives, written_with, written_without, device_contexts, IsInserted, IsWith, IsIdle, EntryFits, LiesOnWords, address_taken}
 use Rattle.ownership_rules.specs.Commands as commands
-use Rattle.ownership_rules.specs.OpenLeases.{slots}
-use Rattle.ownership_rules.specs.Rules.{broken}
-use Rattle.safety.specs.Keeps.{DeviceKeeps, DriverKeeps}
-use Rattle.safety.proofs.Headers.{ring_shape}
-use Rattle.safety.proofs.CommandRing.{due_has_ring}
-use Rattle.safety.proofs.AreaFacts.{area_parts}
-use Rattle.safety.proofs.KeptClean.{taking}
-use Rattle.safety.proofs.WrittenKnown.{after_write, taken, written_device, written_device_none}
-use Rattle.safety.proofs.GivenRules.{given_facts}
-use Rattle.safety.proofs.WriteBeside.{rules_of}
-use Rattle.safety.proofs.DevicesWritten.{written_devices}
-use Rattle.device_record.proofs.Inserted.{Inserted}
-use Rattle.device_record.proofs.UnfinishedWritten.{GivesOne, allowed_gives, written_with, written_without}
-use Rattle.trace_record.specs.FollowsTrace.{device_contexts}
-use Rattle.command_starts.specs.Starting.{IsInserted, IsWith, IsIdle, EntryFits, LiesOnWords, address_taken}
 use Rattle.command_starts.proofs.SlotLists.{listed_with}
 
 inserted : {X : Type 0} (x : X) (old new : List X) → Inserted x old new → IsInserted x old new

@@ -1,10 +1,6 @@
 -- What a new element of a list adds to what is held of the list
-use Rattle.std.proofs.Common.{◌≡◌, ℕ, List, ◌∷◌, ◌++◌, Option, Some, None, ap, sym, subst, ◌∙◌}
-use Rattle.std.specs.List.{filter_map, cons_option}
-use Rattle.std.proofs.lemmas.List.Elements.{filter_map-append}
-use Rattle.range_words.specs.declared.areas.Areas.{Areas}
-use Rattle.range_words.specs.Holding.{HoldsAreas}
-use Rattle.command_starts.specs.Starting.{IsInserted, IsWith}
+use Rattle.std.proofs.Common.{◌≡◌, ◌∷◌, ◌++◌, ◌∙◌, ℕ, List, Option, Some, None, ap, sym, subst}
+use Rattle.command_starts.proofs.Words.{filter_map, cons_option, filter_map-append, Areas, HoldsAreas, IsInserted, IsWith}
 
 -- an area is held where its address comes to the list
 pub area_added : (n start : ℕ) (old new : List ℕ) (before after : Areas) → IsInserted start old new →

@@ -5,3 +5,4 @@ pub mod Taking
 pub mod SlotLists
 pub mod GivenNow
 pub mod Followed
+pub mod Words

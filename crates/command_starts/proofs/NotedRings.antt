@@ -1,21 +1,6 @@
 -- The records of rings after the ring that has a word has noted its write
-use Rattle.std.proofs.Common.{◌≡◌, ◌≢◌, ℕ, zero, suc, ◌%◌, List, [], ◌∷◌, true, false, Some, None, refl, ap, sym, ◌∙◌, arith, inl, inr, set, subst, length}
-use Rattle.std.specs.Prelude.{◌⊎◌, slice_get}
-use Rattle.std.proofs.Math.ListN.{length-set}
-use Rattle.segments.specs.Places.{is_inside, touches}
-use Rattle.segments.specs.RingView.{RingView, Writes, changed}
-use Rattle.segments.proofs.InsideLemmas.{touches-word}
-use Rattle.traces.specs.declared.ring.Ring.{Ring}
-use Rattle.traces.specs.declared.header.Header.{Header}
-use Rattle.traces.specs.Header.{IsHeader, is_driver_kind}
-use Rattle.ring_knowledge.specs.declared.ring_record.RingRecord.{RingRecord}
-use Rattle.ring_knowledge.specs.RingRecords.{FollowsRing}
-use Rattle.ring_knowledge.specs.Known.{Known}
-use Rattle.ring_knowledge.specs.Writes.{with_word}
-use Rattle.ring_finder.specs.RecordsOfRings.{FollowsRings}
-use Rattle.ring_finder.proofs.ListTests.{false_unless}
-use Rattle.ring_finder.proofs.RingsApart.{IsAmong, Apart, among_at, numbers_apart}
-use Rattle.ring_finder.proofs.HeaderRings.{together, shape_allowed, shape_there}
+use Rattle.std.proofs.Common.{◌≡◌, ◌≢◌, ◌%◌, ◌∷◌, ◌∙◌, ◌⊎◌, ℕ, zero, suc, List, [], true, false, Some, None, refl, ap, sym, arith, inl, inr, set, subst, length, slice_get}
+use Rattle.command_starts.proofs.Words.{length-set, is_inside, touches, RingView, Writes, changed, touches-word, Ring, Header, IsHeader, is_driver_kind, RingRecord, FollowsRing, Known, with_word, FollowsRings, false_unless, IsAmong, Apart, among_at, numbers_apart, together, shape_allowed, shape_there}
 use Rattle.command_starts.proofs.WordsOutside.{nothing_changed}
 
 -- in a list with a new element at n

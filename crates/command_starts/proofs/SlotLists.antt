@@ -1,10 +1,6 @@
 -- What a new device context of one slot adds to those of all slots
-use Rattle.std.proofs.Common.{◌≡◌, ◌≢◌, ℕ, zero, suc, ◌+◌, ◌<◌, ◌≤◌, List, [], ◌∷◌, Option, Some, None, refl, ap, sym, ◌∙◌, arith, inl, inr, subst}
-use Rattle.std.specs.Prelude.{◌==◌}
-use Rattle.std.specs.List.{filter_map, cons_option, range_with_len}
-use Rattle.std.proofs.lemmas.Bool.{cases_Bool, eqb-true, ne_eqb, false≢true, eq-eqb}
-use Rattle.guest_memory.specs.Memory.{put}
-use Rattle.command_starts.specs.Starting.{IsInserted}
+use Rattle.std.proofs.Common.{◌≡◌, ◌≢◌, ◌+◌, ◌<◌, ◌≤◌, ◌∷◌, ◌∙◌, ◌==◌, ℕ, zero, suc, List, [], Option, Some, None, refl, ap, sym, arith, inl, inr, subst, eqb-true, ne_eqb, eq-eqb}
+use Rattle.command_starts.proofs.Words.{filter_map, cons_option, range_with_len, cases_Bool, false≢true, put, IsInserted}
 
 -- a list with one more element in front
 in_front : (x : ℕ) (o : Option ℕ) (old new : List ℕ) → IsInserted x old new → IsInserted x (cons_option o old) (cons_option o new)

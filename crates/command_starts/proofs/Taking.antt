@@ -1,22 +1,6 @@
 -- The device context that an Address Device takes
-use Rattle.std.proofs.Common.{◌≡◌, ℕ, ◌+◌, ◌*◌, ◌/◌, ◌%◌, ◌^◌, ◌≤◌, Bool, true, false, Option, Some, None, refl, ap, sym, subst, ◌∙◌}
-use Rattle.std.specs.Prelude.{◌||◌, is_some}
-use Rattle.std.proofs.lemmas.Bool.{false≢true}
-use Rattle.std.proofs.lemmas.Option.{same_Some}
-use Rattle.guest_memory.specs.Memory.{long_at}
-use Rattle.segments.specs.Places.{is_in}
-use Rattle.contexts.specs.declared.size.ContextSize.{ContextSize}
-use Rattle.contexts.specs.Contexts.{device_context_bytes, slot_entry}
-use Rattle.commands.specs.declared.command.Command.{Command}
-use Rattle.commands.specs.declared.command.Command.TheVariants.{AddressDevice}
-use Rattle.traces.specs.declared.header.Header.{Header}
-use Rattle.traces.specs.declared.register.Register.TheVariants.{Dcbaap}
-use Rattle.traces.specs.Register.{register_or_zero}
-use Rattle.ring_knowledge.specs.Known.{Known}
-use Rattle.ring_knowledge.specs.Writes.{device_named, entry_of, no_device, taken_device, with_device}
-use Rattle.range_words.specs.declared.soiled.SoiledWords.{SoiledWords}
-use Rattle.range_words.specs.Holding.{HoldsSoiled}
-use Rattle.command_starts.specs.Starting.{LiesOnWords}
+use Rattle.std.proofs.Common.{◌≡◌, ◌+◌, ◌*◌, ◌/◌, ◌%◌, ◌^◌, ◌≤◌, ◌∙◌, ◌||◌, ℕ, Bool, true, false, Option, Some, None, refl, ap, sym, subst, is_some}
+use Rattle.command_starts.proofs.Words.{false≢true, same_Some, long_at, is_in, ContextSize, device_context_bytes, slot_entry, Command, AddressDevice, Header, Dcbaap, register_or_zero, Known, device_named, entry_of, no_device, taken_device, with_device, SoiledWords, HoldsSoiled, LiesOnWords}
 
 -- its words are soiled
 pub soiled_with : (h : Header) (k : Known) (size : ContextSize) (s d : ℕ) (before after : SoiledWords) → h.context_size ≡ size → LiesOnWords size (Some (s, d)) →

@@ -1,15 +1,6 @@
 -- By the write of a word outside a ring nothing is known of the ring that wasn't
-use Rattle.std.proofs.Common.{◌≡◌, ℕ, Bool, false, ap, sym, ◌∙◌, arith}
-use Rattle.std.specs.Prelude.{◌||◌}
-use Rattle.std.proofs.Math.Path.{fun_ext}
-use Rattle.std.proofs.lemmas.Bool.{false≢true}
-use Rattle.segments.specs.ShapeValue.{Shape}
-use Rattle.segments.specs.Shape.{IsShape}
-use Rattle.segments.specs.Places.{is_inside}
-use Rattle.segments.specs.RingView.{RingView, Writes, changed, gives, gives_crossing}
-use Rattle.segments.proofs.Giving.{gives_is, gives_crossing_is}
-use Rattle.segments.proofs.Elsewhere.{address_inside, link_address_inside}
-use Rattle.ring_finder.proofs.ListTests.{false_unless, or_false}
+use Rattle.std.proofs.Common.{◌≡◌, ◌∙◌, ◌||◌, ℕ, Bool, false, ap, sym, arith}
+use Rattle.command_starts.proofs.Words.{fun_ext, false≢true, Shape, IsShape, is_inside, RingView, Writes, changed, gives, gives_crossing, gives_is, gives_crossing_is, address_inside, link_address_inside, false_unless, or_false}
 
 module _ (shape : Shape) (allowed : IsShape shape) (a : ℕ) (outside : is_inside shape a ≡ false) (v : RingView) (w : ℕ) where
   no_gives : (p : ℕ) → gives shape v.floor p a w ≡ false

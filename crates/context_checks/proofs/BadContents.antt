@@ -1,11 +1,6 @@
 -- The rules of what an input context says, by the words of memory
-use Rattle.std.proofs.Common.{◌≡◌, ℕ, true, false, refl, sym, ◌∙◌}
-use Rattle.commands.specs.declared.command.Command.{Command}
-use Rattle.commands.specs.declared.command.Command.TheVariants.{NoOp, EnableSlot, DisableSlot, AddressDevice, ConfigureEndpoint, EvaluateContext, ResetEndpoint, StopEndpoint, SetTrDequeue, ResetDevice}
-use Rattle.traces.specs.declared.header.Header.{Header}
-use Rattle.ring_knowledge.specs.Known.{Known}
-use Rattle.ownership_rules.specs.Commands.{has_bad_content, is_bad_added, type_in}
-use Rattle.context_checks.specs.Contents.{adds_bad, has_bad_content_by, is_bad_added_in, lacks_control}
+use Rattle.std.proofs.Common.{◌≡◌, ◌∙◌, ℕ, true, false, refl, sym}
+use Rattle.context_checks.proofs.Words.{Command, NoOp, EnableSlot, DisableSlot, AddressDevice, ConfigureEndpoint, EvaluateContext, ResetEndpoint, StopEndpoint, SetTrDequeue, ResetDevice, Header, Known, has_bad_content, is_bad_added, type_in, adds_bad, has_bad_content_by, is_bad_added_in, lacks_control}
 
 known : (h : Header) (k : Known) (c : Command) → has_bad_content_by h k k.memory c ≡ has_bad_content h k c
 unfolding has_bad_content is_bad_added type_in lacks_control adds_bad is_bad_added_in

@@ -1,15 +1,6 @@
 -- Areas that end above 2^64 are bad
-use Rattle.std.proofs.Common.{◌≡◌, ℕ, ◌+◌, ◌^◌, ◌<◌, ◌≤◌, true, refl, sym, arith}
-use Rattle.std.specs.Prelude.{nat_lt}
-use Rattle.std.specs.List.{list_any}
-use Rattle.std.proofs.lemmas.Bool.{lt-ltb}
-use Rattle.traces.specs.declared.header.Header.{Header}
-use Rattle.traces.specs.Header.{touches_ring}
-use Rattle.ring_knowledge.specs.Known.{Known}
-use Rattle.ring_knowledge.specs.Writes.{entry_of}
-use Rattle.ownership_rules.specs.Areas.{is_bad_area, is_soiled}
-use Rattle.ownership_rules.specs.Commands.{has_bad_entry}
-use Rattle.ownership_rules.specs.OpenLeases.{covers, device_ranges}
+use Rattle.std.proofs.Common.{◌≡◌, ◌+◌, ◌^◌, ◌<◌, ◌≤◌, ℕ, true, refl, sym, arith, nat_lt, lt-ltb}
+use Rattle.context_checks.proofs.Words.{list_any, Header, touches_ring, Known, entry_of, is_bad_area, is_soiled, has_bad_entry, covers, device_ranges}
 use Rattle.context_checks.proofs.Chains.{stops}
 
 pub bad_above : (h : Header) (k : Known) (from len : ℕ) → 2 ^ 64 < from + len → is_bad_area h k from len ≡ true

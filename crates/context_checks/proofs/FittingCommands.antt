@@ -1,42 +1,7 @@
 -- The input contexts of commands lie on words, and those of commands that may be given within the address space
-use Rattle.std.proofs.Common.{◌≡◌, ℕ, ◌+◌, ◌*◌, ◌/◌, ◌%◌, ◌^◌, ◌≤◌, if◌then◌else◌, Bool, true, false, Option, Some, None, refl, ap, sym, ◌∙◌, subst, arith}
-use Rattle.std.specs.Prelude.{◌||◌}
-use Rattle.std.proofs.lemmas.Bool.{ltb-false}
-use Rattle.trb.specs.declared.block.Block.{Block}
-use Rattle.trb.specs.declared.kind.BlockKind.{BlockKind}
+use Rattle.std.proofs.Common.{◌≡◌, ◌*◌, ◌/◌, ◌%◌, if◌then◌else◌, ℕ, Bool, true, false, Option, Some, None, subst, arith}
+use Rattle.context_checks.proofs.Words.{Block, BlockKind, kind, pointer, address, is_command_left_out, Command, command_by_kind, command_of, option_bit, IsAligned}
 use Rattle.trb.specs.declared.kind.BlockKind.TheVariants as kinds
-use Rattle.trb.specs.Block.{kind, pointer, aligned as address}
-use Rattle.trb.specs.Descriptor.{is_command_left_out}
-use Rattle.contexts.specs.Contexts.{input_context_bytes}
-use Rattle.commands.specs.declared.command.Command.{Command}
-use Rattle.commands.specs.Command.{command_by_kind, command_of, named_context, option_bit}
-use Rattle.traces.specs.declared.header.Header.{Header}
-use Rattle.ring_knowledge.specs.Known.{Known}
-use Rattle.ownership_rules.specs.Areas.{is_bad_area}
-use Rattle.ownership_rules.specs.Commands.{has_bad_content, has_bad_context, is_bad_command}
-use Rattle.trace_record.specs.Premises.{FitsMemory}
-use Rattle.context_checks.specs.Contents.{IsAligned}
-
-left_false : (a b : Bool) → (a || b) ≡ false → a ≡ false
-left_false true b e = e
-left_false false b e = refl
-
-right_false : (a b : Bool) → (a || b) ≡ false → b ≡ false
-right_false true b e = absurd (cc)
-right_false false b e = e
-
--- an area that isn't bad ends at or below 2^64
-pub good_inside : (h : Header) (k : Known) (from len : ℕ) → is_bad_area h k from len ≡ false → from + len ≤ 2 ^ 64
-unfolding is_bad_area
-good_inside h k from len good = ltb-false (2 ^ 64) (from + len) (left_false _ _ (left_false _ _ good))
-
--- what a command that isn't bad names ends there
-pub good_fits : (h : Header) (k : Known) (c : Command) → is_bad_command h k c ≡ false → IsAligned c → FitsMemory h.context_size c
-unfolding is_bad_command has_bad_context
-good_fits h k c good on_words a named =
-    let context : has_bad_context h k (named_context c) ≡ false = right_false _ _ (left_false _ (has_bad_content h k c) good) in
-    let area : is_bad_area h k a (input_context_bytes h.context_size) ≡ false = left_false _ _ (sym (ap (has_bad_context h k) named) ∙ context) in
-    (on_words a named, good_inside h k a (input_context_bytes h.context_size) area)
 
 -- a command of a block names a context that lies on words
 abbrev OnWords : Option Command → Type 0

@@ -1,24 +1,6 @@
 -- The ranges under lease, by the addresses at which they start
-use Rattle.std.proofs.Common.{◌≡◌, ℕ, List, [], ◌∷◌, ◌++◌, Bool, false, Option, Some, None, refl, ap, sym, ◌∙◌}
-use Rattle.std.specs.Prelude.{◌*◌, ◌||◌, ◌&&◌, is_some}
-use Rattle.std.specs.List.{list_any, filter_map, cons_option}
-use Rattle.segments.specs.Places.{overlap, touches}
-use Rattle.event_ring.specs.EventRing.{table_bytes}
-use Rattle.contexts.specs.Contexts.{device_context_bytes, input_context_bytes}
-use Rattle.commands.specs.declared.command.Command.{Command}
-use Rattle.commands.specs.Command.{named_context}
-use Rattle.traces.specs.declared.header.Header.{Header}
-use Rattle.traces.specs.declared.register.Register.TheVariants.{Erstba}
-use Rattle.traces.specs.Header.{event_shape}
-use Rattle.traces.specs.Register.{base_address}
-use Rattle.ring_knowledge.specs.Known.{Known}
-use Rattle.ring_knowledge.specs.Writes.{entry_of}
-use Rattle.ring_knowledge.specs.Rings.{command_at, unfinished, unfinished_positions}
-use Rattle.ownership_rules.specs.Areas.{is_in_range_lease}
-use Rattle.ownership_rules.specs.OpenLeases.{EventSegment, Range, context_ranges, covers, device_ranges, entry_ranges, lease_bytes, lease_start, open_ranges, range_of_command, range_of_context, range_of_device, range_of_entry, segment_ranges, slots, table_range}
-use Rattle.ring_finder.proofs.ListTests.{any_append, any_map, any_flat_map, or_false}
-use Rattle.trace_record.specs.FollowsTrace.{device_contexts, inputs_of}
-use Rattle.context_checks.specs.Entries.{touches_entry}
+use Rattle.std.proofs.Common.{◌≡◌, ◌∷◌, ◌++◌, ◌∙◌, ◌*◌, ◌||◌, ◌&&◌, ℕ, List, [], Bool, false, Option, Some, None, refl, ap, sym, is_some}
+use Rattle.context_checks.proofs.Words.{list_any, filter_map, cons_option, overlap, touches, table_bytes, device_context_bytes, input_context_bytes, Command, named_context, Header, Erstba, event_shape, base_address, Known, entry_of, command_at, unfinished, unfinished_positions, is_in_range_lease, EventSegment, Range, context_ranges, covers, device_ranges, entry_ranges, lease_bytes, lease_start, open_ranges, range_of_command, range_of_context, range_of_device, range_of_entry, segment_ranges, slots, table_range, any_append, any_map, any_flat_map, or_false, device_contexts, inputs_of, touches_entry}
 use Rattle.context_checks.proofs.RestOfRange.{any_left}
 
 found_step : {Y : Type 0} (test : Y → Bool) (found : Option Y → Bool) (ys : List Y) (o : Option Y) → found None ≡ false → ((y : Y) → found (Some y) ≡ test y) →

@@ -1,11 +1,6 @@
 -- The left-out endpoints of a command, by the words of memory
-use Rattle.std.proofs.Common.{◌≡◌, ℕ, true, false, refl, sym, ◌∙◌}
-use Rattle.commands.specs.declared.command.Command.{Command}
-use Rattle.commands.specs.declared.command.Command.TheVariants.{NoOp, EnableSlot, DisableSlot, AddressDevice, ConfigureEndpoint, EvaluateContext, ResetEndpoint, StopEndpoint, SetTrDequeue, ResetDevice}
-use Rattle.traces.specs.declared.header.Header.{Header}
-use Rattle.ring_knowledge.specs.Known.{Known}
-use Rattle.ownership_rules.specs.Commands.{has_left_out_endpoint, is_left_out_endpoint, type_in, streams_in}
-use Rattle.context_checks.specs.Contents.{adds_left_out, is_left_out_by, is_left_out_in}
+use Rattle.std.proofs.Common.{◌≡◌, ◌∙◌, ℕ, true, false, refl, sym}
+use Rattle.context_checks.proofs.Words.{Command, NoOp, EnableSlot, DisableSlot, AddressDevice, ConfigureEndpoint, EvaluateContext, ResetEndpoint, StopEndpoint, SetTrDequeue, ResetDevice, Header, Known, has_left_out_endpoint, is_left_out_endpoint, type_in, streams_in, adds_left_out, is_left_out_by, is_left_out_in}
 
 known : (h : Header) (k : Known) (c : Command) → is_left_out_by k.memory h.context_size c ≡ has_left_out_endpoint h k c
 unfolding has_left_out_endpoint is_left_out_endpoint type_in streams_in adds_left_out is_left_out_in

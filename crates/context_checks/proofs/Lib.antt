@@ -8,3 +8,4 @@ pub mod HeldRanges
 pub mod BadContents
 pub mod FittingCommands
 pub mod BadEntries
+pub mod Words

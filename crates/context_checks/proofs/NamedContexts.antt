@@ -1,8 +1,6 @@
 -- The input contexts that commands name
-use Rattle.std.proofs.Common.{◌≡◌, ℕ, Bool, false, Some, None, ap, ◌∙◌, if◌then◌else◌}
-use Rattle.commands.specs.declared.command.Command.{Command}
-use Rattle.commands.specs.declared.command.Command.TheVariants.{ConfigureEndpoint}
-use Rattle.commands.specs.Command.{named_context}
+use Rattle.std.proofs.Common.{◌≡◌, ◌∙◌, if◌then◌else◌, ℕ, Bool, false, Some, None, ap}
+use Rattle.context_checks.proofs.Words.{Command, ConfigureEndpoint, named_context}
 
 -- without DC, Configure Endpoint names one
 pub configure_names : (c : Command) (s a : ℕ) (dc : Bool) → c ≡ ConfigureEndpoint s dc a → dc ≡ false → named_context c ≡ Some a

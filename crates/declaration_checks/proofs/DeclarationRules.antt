@@ -1,22 +1,6 @@
 -- Which rules a declaration breaks
-use Rattle.std.proofs.Common.{◌≡◌, ℕ, List, [], ◌∷◌, true, false, Some, refl, ap, sym, ◌∙◌}
-use Rattle.std.specs.Prelude.{◌==◌, not, if◌then◌else◌}
-use Rattle.trb.specs.declared.block.Block.{Block}
-use Rattle.trb.specs.declared.ring_kind.RingKind.{RingKind}
-use Rattle.trb.specs.declared.ring_kind.RingKind.TheVariants.{Cmd, Evt, Xfer}
-use Rattle.traces.specs.declared.ring.Ring.{Ring}
-use Rattle.traces.specs.declared.header.Header.{Header}
-use Rattle.traces.specs.declared.row.Row.TheVariants.{Sub}
-use Rattle.traces.specs.Header.{IsHeader, is_driver_kind, is_event_kind, ring_with, shape_of}
-use Rattle.ring_knowledge.specs.Known.{Known}
-use Rattle.ownership_rules.specs.declared.refusal.Refusal.TheVariants.{NotDeclared, AfterStop}
-use Rattle.ownership_rules.specs.Refusal.{first_of, first_broken, broken_of}
-use Rattle.ownership_rules.specs.Declarations.{declaration_tests, is_driver_ring}
-use Rattle.ownership_rules.specs.Rules.{broken, tests}
-use Rattle.declaration_checks.specs.OneRing.{room_tests}
-use Rattle.trace_record.proofs.FirstBroken.{first_broken-is}
-use Rattle.ring_finder.proofs.RingsApart.{IsAmong}
-use Rattle.ring_finder.proofs.HeaderRings.{ring_found, not_found, shape_there}
+use Rattle.std.proofs.Common.{◌≡◌, ◌∷◌, ◌∙◌, ◌==◌, if◌then◌else◌, ℕ, List, [], true, false, Some, refl, ap, sym, not}
+use Rattle.declaration_checks.proofs.Words.{Block, RingKind, Cmd, Evt, Xfer, Ring, Header, Sub, IsHeader, is_driver_kind, is_event_kind, ring_with, shape_of, Known, NotDeclared, AfterStop, first_of, first_broken, broken_of, declaration_tests, is_driver_ring, broken, tests, room_tests, first_broken-is, IsAmong, ring_found, not_found, shape_there}
 
 no_driver : (kind : RingKind) → is_event_kind kind ≡ true → is_driver_kind kind ≡ false
 no_driver Cmd e = absurd (cc)

@@ -1,41 +1,6 @@
 -- A declaration that was checked, from what was checked of one ring
-use Rattle.std.proofs.Common.{◌≡◌, ◌≢◌, ℕ, zero, suc, ◌<◌, List, [], ◌∷◌, true, false, inl, inr, Option, Some, None, Result, Ok, Err, refl, ap, sym, ◌∙◌, arith, set, subst}
-use Rattle.std.specs.Prelude.{◌==◌, ◌⊎◌, slice_get, IfErr, OnOk}
-use Rattle.std.specs.Vec.{with_item}
-use Rattle.std.proofs.lemmas.Bool.{cases_Bool}
-use Rattle.std.proofs.Math.ListN.{length-set}
-use Rattle.trb.specs.declared.block.Block.{Block}
-use Rattle.segments.specs.RingView.{RingView, Declares, changed, declared}
-use Rattle.traces.specs.declared.ring.Ring.{Ring}
-use Rattle.traces.specs.declared.header.Header.{Header}
-use Rattle.traces.specs.declared.row.Row.TheVariants.{Sub}
-use Rattle.traces.specs.Header.{IsHeader, command_id, command_ring, id_or_none, is_command_kind, is_driver_kind, is_event_kind}
-use Rattle.ring_knowledge.specs.declared.ring_record.RingRecord.{RingRecord}
-use Rattle.ring_knowledge.specs.RingRecords.{FollowsRing}
-use Rattle.ring_knowledge.specs.Known.{Known}
-use Rattle.ring_knowledge.specs.Learned.{learned}
-use Rattle.ring_knowledge.specs.Rings.{on_ring, unfinished}
-use Rattle.event_ring.specs.EventPlaceValue.{EventState}
-use Rattle.device_record.proofs.OtherRows.{after_declaration}
-use Rattle.device_record.specs.Unfinished.{FollowsUnfinished}
-use Rattle.device_record.proofs.UnfinishedSame.{unfinished_declared, unfinished_same, same_blocks, ring_here, ring_elsewhere}
-use Rattle.contexts.specs.Contexts.{input_context_bytes}
-use Rattle.commands.specs.declared.command.Command.{Command}
-use Rattle.range_words.specs.Holding.{HoldsAreas}
-use Rattle.ring_finder.specs.RecordsOfRings.{FollowsRings}
-use Rattle.ring_finder.proofs.RingsApart.{IsAmong, Apart, among_at, numbers_apart}
-use Rattle.ring_finder.proofs.HeaderRings.{together, shape_there, ring_found, find_only, no_command_here}
-use Rattle.ring_finder.proofs.ListTests.{false_unless}
-use Rattle.ownership_rules.specs.declared.refusal.Refusal.TheVariants.{NotDeclared}
-use Rattle.ownership_rules.specs.Refusal.{first_broken}
-use Rattle.safety.specs.Keeps.{DriverKeeps, IsDriverRing}
-use Rattle.trace_record.specs.declared.fault.StepFault.{StepFault}
-use Rattle.trace_record.specs.declared.fault.StepFault.TheVariants.{Refused, Memory}
-use Rattle.trace_record.specs.declared.trace_record.TraceRecord.{TraceRecord}
-use Rattle.trace_record.specs.FollowsTrace.{FollowsTrace, FollowsEvents, inputs_of}
-use Rattle.trace_record.specs.Steps.{IfRefused, IsLeast, IsRowStep}
-use Rattle.declaration_checks.specs.OneRing.{IsDeclared, room_tests}
-use Rattle.trace_record.proofs.FirstBroken.{nothing_broken}
+use Rattle.std.proofs.Common.{◌≡◌, ◌≢◌, ◌<◌, ◌∷◌, ◌∙◌, ◌==◌, ◌⊎◌, ℕ, zero, suc, List, [], true, false, inl, inr, Option, Some, None, Result, Ok, Err, refl, ap, sym, arith, set, subst, slice_get, IfErr, OnOk}
+use Rattle.declaration_checks.proofs.Words.{with_item, cases_Bool, length-set, Block, RingView, Declares, changed, declared, Ring, Header, Sub, IsHeader, command_id, command_ring, id_or_none, is_command_kind, is_driver_kind, is_event_kind, RingRecord, FollowsRing, Known, learned, on_ring, unfinished, EventState, after_declaration, FollowsUnfinished, unfinished_declared, unfinished_same, same_blocks, ring_here, ring_elsewhere, input_context_bytes, Command, HoldsAreas, FollowsRings, IsAmong, Apart, among_at, numbers_apart, together, shape_there, ring_found, find_only, no_command_here, false_unless, NotDeclared, first_broken, DriverKeeps, IsDriverRing, StepFault, Refused, Memory, TraceRecord, FollowsTrace, FollowsEvents, inputs_of, IfRefused, IsLeast, IsRowStep, IsDeclared, room_tests, nothing_broken}
 use Rattle.declaration_checks.proofs.DeclarationRules.{declared_nowhere, declared_on_events, declared_on_ring}
 
 -- in a list with a new element at n

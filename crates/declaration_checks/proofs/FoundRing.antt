@@ -1,12 +1,6 @@
 -- What a search through the rings of a header has found
-use Rattle.std.proofs.Common.{◌≡◌, ℕ, Bool, List, true, false, Some, None, ap, sym, ◌∙◌, refl, length, get_or, subst}
-use Rattle.std.specs.Prelude.{slice_get, position}
-use Rattle.std.proofs.lemmas.Option.{slice_get_read}
-use Rattle.std.proofs.lemmas.List.Quantifiers.{position-Some}
-use Rattle.segments.proofs.Search.{position-None}
-use Rattle.traces.specs.declared.ring.Ring.{Ring}
-use Rattle.traces.specs.declared.header.Header.{Header}
-use Rattle.ring_finder.proofs.RingsApart.{IsAmong, each_among}
+use Rattle.std.proofs.Common.{◌≡◌, ◌∙◌, ℕ, Bool, List, true, false, Some, None, ap, sym, refl, length, get_or, subst, slice_get, position}
+use Rattle.declaration_checks.proofs.Words.{slice_get_read, position-Some, position-None, Ring, Header, IsAmong, each_among}
 
 pub ring_here : (h : Header) (p : Ring → Bool) (xs : List Ring) (n : ℕ) (ring : Ring) → position p xs ≡ Some n → xs ≡ h.rings → ring ≡ get_or xs n ring → (slice_get h.rings n ≡ Some ring) × (p ring ≡ true)
 ring_here h p xs n ring e same item =

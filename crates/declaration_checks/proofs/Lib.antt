@@ -1,3 +1,4 @@
 pub mod DeclarationRules
 pub mod FoundRing
 pub mod Declared
+pub mod Words

@@ -1,14 +1,6 @@
 -- A trace that the check accepts is harmless
-use Rattle.std.specs.Prelude.{ℕ, List, Result, Ok, Err, IfOk, OnOk}
-use Rattle.traces.specs.declared.header.Header.{Header}
-use Rattle.traces.specs.declared.row.Row.{Row}
-use Rattle.traces.specs.Header.{IsHeader}
-use Rattle.traces.specs.Rows.{AreRows}
-use Rattle.safety.specs.Headline.{IsHarmless}
-use Rattle.row_checks.specs.Accepted.{IsAccepted}
-use Rattle.row_checks.proofs.Harmless.{harmless}
-use Rattle.ownership_checker.specs.declared.certificate.Certificate.{Certificate}
-use Rattle.ownership_checker.specs.declared.fault.CheckFault.{CheckFault}
+use Rattle.std.proofs.Common.{ℕ, List, Result, Ok, Err, IfOk, OnOk}
+use Rattle.ownership_checker.proofs.Words.{Header, Row, IsHeader, AreRows, IsHarmless, IsAccepted, harmless, Certificate, CheckFault}
 
 module _ (h : Header) (rows : List Row) (headed : IsHeader h) (fitting : AreRows rows) where
   pub harmless_if : (first : ℕ) (result : Result Certificate CheckFault) → IfOk result (λ certificate. IsAccepted h rows first certificate.leases.items)

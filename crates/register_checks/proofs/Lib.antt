@@ -1,3 +1,4 @@
 mod RegisterTests
 mod StartRules
 mod RegisterRows
+pub mod Words

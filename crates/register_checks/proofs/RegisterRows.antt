@@ -1,41 +1,6 @@
 -- A register write that was checked
-use Rattle.std.proofs.Common.{◌≡◌, ℕ, ◌-◌, [], ◌∷◌, Bool, true, false, Option, None, Some, arith, refl, ap, sym, ◌∙◌, subst}
-use Rattle.std.specs.Prelude.{not, ◌&&◌, ◌||◌, if◌then◌else◌}
-use Rattle.std.specs.List.{filter_map}
-use Rattle.std.proofs.lemmas.Bool.{cond_both}
-use Rattle.segments.specs.RingView.{RingView}
-use Rattle.contexts.specs.Contexts.{device_context_bytes, input_context_bytes}
-use Rattle.event_ring.specs.EventPlaceValue.{EventState}
-use Rattle.event_ring.specs.EventRing.{is_reached_within, erdp_address}
-use Rattle.traces.specs.declared.header.Header.{Header}
-use Rattle.traces.specs.declared.register.Register.{Register}
-use Rattle.traces.specs.declared.register.Register.TheVariants.{Usbcmd, Erdp}
-use Rattle.traces.specs.declared.row.Row.TheVariants.{Reg}
-use Rattle.traces.specs.Header.{event_shape}
-use Rattle.traces.specs.Register.{run_bit, reset_bit}
-use Rattle.ring_knowledge.specs.declared.register_record.RegisterRecord.{RegisterRecord}
-use Rattle.ring_knowledge.specs.RegisterRecords.{FollowsRegisters}
-use Rattle.ring_knowledge.specs.RingRecords.{FollowsRing}
-use Rattle.ring_knowledge.specs.Known.{Known}
-use Rattle.ring_knowledge.specs.Learned.{learned}
-use Rattle.ring_knowledge.specs.Registers.{register_written, run_or_stop, valued}
-use Rattle.ring_knowledge.specs.Rings.{unfinished}
-use Rattle.device_record.specs.Devices.{FollowsDevices}
-use Rattle.device_record.specs.Unfinished.{FollowsUnfinished}
-use Rattle.device_record.proofs.OtherRows.{after_register}
-use Rattle.device_record.proofs.UnfinishedSame.{unfinished_register}
-use Rattle.range_words.specs.Holding.{HoldsAreas, HoldsSoiled}
-use Rattle.ownership_rules.specs.declared.refusal.Refusal.TheVariants.{BadRegister, BadErdp, AfterStop}
-use Rattle.ownership_rules.specs.Refusal.{first_of, first_broken, broken_of}
-use Rattle.ownership_rules.specs.Rules.{broken, tests}
-use Rattle.ownership_rules.specs.Registers.{register_tests, is_bad_register, is_bad_erdp, may_pass}
-use Rattle.ownership_rules.specs.OpenLeases.{slots}
-use Rattle.trace_record.specs.declared.trace_record.TraceRecord.{TraceRecord}
-use Rattle.trace_record.specs.FollowsTrace.{FollowsEvents, FollowsTrace, device_contexts, inputs_of}
-use Rattle.trace_record.specs.Premises.{IsSetUp}
-use Rattle.trace_record.specs.Steps.{IsLeast, IsRowStep}
-use Rattle.register_checks.specs.EventReads.{IsMoved}
-use Rattle.trace_record.proofs.FirstBroken.{first_broken-is, nothing_broken}
+use Rattle.std.proofs.Common.{◌≡◌, ◌-◌, ◌∷◌, ◌∙◌, ◌&&◌, ◌||◌, if◌then◌else◌, ℕ, [], Bool, true, false, Option, None, Some, arith, refl, ap, sym, subst, not}
+use Rattle.register_checks.proofs.Words.{filter_map, cond_both, RingView, device_context_bytes, input_context_bytes, EventState, is_reached_within, erdp_address, Header, Register, Usbcmd, Erdp, Reg, event_shape, run_bit, reset_bit, RegisterRecord, FollowsRegisters, FollowsRing, Known, learned, register_written, run_or_stop, valued, unfinished, FollowsDevices, FollowsUnfinished, after_register, unfinished_register, HoldsAreas, HoldsSoiled, BadRegister, BadErdp, AfterStop, first_of, first_broken, broken_of, broken, tests, register_tests, is_bad_register, is_bad_erdp, may_pass, slots, TraceRecord, FollowsEvents, FollowsTrace, device_contexts, inputs_of, IsSetUp, IsLeast, IsRowStep, IsMoved, first_broken-is, nothing_broken}
 
 -- all else stays as it was
 pub record IsElsewhereSame (k l : Known) : Type 0 where

@@ -1,12 +1,6 @@
 -- The rule of register writes, register by register
-use Rattle.std.proofs.Common.{◌≡◌, ℕ, Bool, true, false, refl}
-use Rattle.std.specs.Prelude.{◌||◌}
-use Rattle.traces.specs.declared.header.Header.{Header}
-use Rattle.traces.specs.declared.register.Register.{Register}
-use Rattle.traces.specs.declared.register.Register.TheVariants.{Usbcmd, Crcr, Dcbaap, Config, Erstsz, Erstba}
-use Rattle.traces.specs.Register.{base_address}
-use Rattle.ring_knowledge.specs.Known.{Known}
-use Rattle.ownership_rules.specs.Registers.{is_bad_register, is_bad_crcr, is_bad_size, is_bad_table, is_written, is_unwritten}
+use Rattle.std.proofs.Common.{◌≡◌, ◌||◌, ℕ, Bool, true, false, refl}
+use Rattle.register_checks.proofs.Words.{Header, Register, Usbcmd, Crcr, Dcbaap, Config, Erstsz, Erstba, base_address, Known, is_bad_register, is_bad_crcr, is_bad_size, is_bad_table, is_written, is_unwritten}
 
 -- a test that comes to an early end, and one that goes on
 pub or_ends : (a b : Bool) → a ≡ true → true ≡ (a || b)

@@ -1,27 +1,6 @@
 -- What values of registers break
-use Rattle.std.proofs.Common.{◌≡◌, ◌≢◌, ℕ, ◌<◌, ◌+◌, ◌*◌, ◌/◌, ◌%◌, ◌^◌, arith, length, [], ◌∷◌, Bool, true, false, Option, None, Some, refl, ap, sym, ◌∙◌}
-use Rattle.std.specs.Prelude.{◌==◌, ◌&&◌, ◌||◌, not, nat_lt, is_some, is_none}
-use Rattle.std.specs.List.{list_any}
-use Rattle.traces.specs.declared.header.Header.{Header}
-use Rattle.traces.specs.declared.register.Register.{Register}
-use Rattle.segments.specs.ShapeValue.{Shape}
-use Rattle.traces.specs.declared.register.Register.TheVariants.{Usbcmd, Crcr, Dcbaap, Config, Erstsz, Erstba, Erdp}
-use Rattle.traces.specs.Register.{run_bit, reset_bit}
-use Rattle.ring_knowledge.specs.Known.{Known}
-use Rattle.ownership_rules.specs.Registers.{is_bad_register, is_late_reset, is_early_start, is_written, is_unwritten, is_bad_crcr, is_no_first_block, is_bad_size, is_bad_table}
-use Rattle.ownership_rules.specs.Areas.{is_bad_area}
-use Rattle.ownership_rules.specs.OpenLeases.{covers, device_ranges}
-use Rattle.segments.specs.Places.{address_of}
-use Rattle.event_ring.specs.EventRing.{lists, table_bytes, is_table_fault, is_reached_within}
-use Rattle.traces.specs.declared.ring.Ring.{Ring}
-use Rattle.traces.specs.Header.{IsHeader, command_ring, event_ring, event_shape, is_event_kind, shape_or, touches_ring}
-use Rattle.segments.proofs.ShapeFacts.{shape_facts}
-use Rattle.ring_finder.proofs.HeaderRings.{find_some, shape_allowed}
-use Rattle.trb.specs.declared.ring_kind.RingKind.TheVariants.{Evt}
-use Rattle.std.proofs.Math.Path.{fun_ext}
-use Rattle.trace_record.specs.Premises.{IsSetUp}
-use Rattle.std.proofs.lemmas.Bool.{false≢true}
-use Rattle.ring_finder.proofs.RingsApart.{same_number, other_number}
+use Rattle.std.proofs.Common.{◌≡◌, ◌≢◌, ◌<◌, ◌+◌, ◌*◌, ◌/◌, ◌%◌, ◌^◌, ◌∷◌, ◌∙◌, ◌==◌, ◌&&◌, ◌||◌, ℕ, arith, length, [], Bool, true, false, Option, None, Some, refl, ap, sym, not, nat_lt, is_some, is_none}
+use Rattle.register_checks.proofs.Words.{list_any, Header, Register, Shape, Usbcmd, Crcr, Dcbaap, Config, Erstsz, Erstba, Erdp, run_bit, reset_bit, Known, is_bad_register, is_late_reset, is_early_start, is_written, is_unwritten, is_bad_crcr, is_no_first_block, is_bad_size, is_bad_table, is_bad_area, covers, device_ranges, address_of, lists, table_bytes, is_table_fault, is_reached_within, Ring, IsHeader, command_ring, event_ring, event_shape, is_event_kind, shape_or, touches_ring, shape_facts, find_some, shape_allowed, Evt, fun_ext, IsSetUp, false≢true, same_number, other_number}
 
 abbrev either : (started reset run begun lacks : Bool) → Bool
 either started reset run begun lacks = not started && (reset && begun || run && not reset && lacks)

@@ -1,13 +1,6 @@
 -- What breaks no rule broke none before
-use Rattle.std.specs.Prelude.{◌≡◌, ℕ, ◌+◌, ◌<◌, List, [], ◌∷◌, ◌++◌, length, take, drop, reverse, get_or}
-use Rattle.std.proofs.Common.{sym, ◌∙◌, ap, subst, arith}
-use Rattle.std.proofs.lemmas.Grind.{common_steps}
-use Rattle.std.proofs.lemmas.List.{reverse-append, take-append-drop}
-use Rattle.traces.specs.declared.header.Header.{Header}
-use Rattle.traces.specs.declared.row.Row.{Row}
-use Rattle.ring_knowledge.specs.Learned.{known}
-use Rattle.ownership_rules.specs.Clean.{IsClean}
-use Rattle.ownership_rules.specs.Rules.{broken}
+use Rattle.std.proofs.Common.{◌≡◌, ◌+◌, ◌<◌, ◌∷◌, ◌++◌, ◌∙◌, ℕ, List, [], length, take, drop, reverse, get_or, sym, ap, subst, arith, take-append-drop}
+use Rattle.row_checks.proofs.Words.{common_steps, reverse-append, Header, Row, known, IsClean, broken}
 
 -- what a history keeps its beginning kept
 pub earlier_clean : (h : Header) (xs ys : List Row) → IsClean h (xs ++ ys) → IsClean h ys

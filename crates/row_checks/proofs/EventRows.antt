@@ -1,33 +1,7 @@
 -- Which rule an event breaks, and what is known behind one that breaks none
-use Rattle.std.proofs.Common.{◌≡◌, ℕ, List, [], ◌∷◌, true, false, inl, inr, Some, None, refl, ap, sym, ◌∙◌, ◌+◌, subst}
-use Rattle.std.specs.Prelude.{◌||◌, ◌&&◌, ◌==◌, not, if◌then◌else◌, Bool}
-use Rattle.std.proofs.lemmas.Bool.{cases_Bool, or_parts, not-false}
-use Rattle.trb.specs.declared.block.Block.{Block}
-use Rattle.trb.specs.Block.{cycle, kind}
-use Rattle.trb.specs.declared.kind.BlockKind.{BlockKind}
-use Rattle.trb.specs.declared.kind.BlockKind.TheVariants.{TransferEvent, CommandCompletion}
-use Rattle.segments.specs.Places.{cycle_of}
-use Rattle.traces.specs.Header.{IsHeader, event_shape}
-use Rattle.trb.specs.Kind.{is_event, is_transfer_event}
-use Rattle.traces.specs.declared.header.Header.{Header}
-use Rattle.traces.specs.declared.row.Row.TheVariants.{Read}
-use Rattle.ring_knowledge.specs.Known.{Known}
-use Rattle.ring_knowledge.specs.Learned.{learned, event_read}
-use Rattle.ring_knowledge.specs.Transfers.{transfer_read}
-use Rattle.ring_knowledge.specs.Completions.{completed}
-use Rattle.ownership_rules.specs.declared.refusal.Refusal.TheVariants.{AfterStop, ImpossibleEvent, NotInProfile}
-use Rattle.ownership_rules.specs.Refusal.{first_of, first_broken, broken_of}
-use Rattle.ownership_rules.specs.Rules.{broken, tests}
-use Rattle.ownership_rules.specs.Events.{event_tests, is_impossible, is_impossible_by_kind, is_impossible_completion, is_impossible_transfer, is_in_profile, is_past_room}
-use Rattle.safety.specs.Keeps.{DriverKeeps}
-use Rattle.safety.proofs.TestsPassed.{AllFail, tests_fail}
-use Rattle.safety.proofs.SameDriver.{event_same}
-use Rattle.trace_record.specs.declared.trace_record.TraceRecord.{TraceRecord}
-use Rattle.trace_record.specs.FollowsTrace.{FollowsTrace}
-use Rattle.trace_record.specs.Steps.{IsLeast, IsRowStep}
-use Rattle.trace_record.specs.Premises.{IsSetUp}
+use Rattle.std.proofs.Common.{◌≡◌, ◌∷◌, ◌∙◌, ◌+◌, ◌||◌, ◌&&◌, ◌==◌, if◌then◌else◌, ℕ, List, [], true, false, inl, inr, Some, None, refl, ap, sym, subst, not, Bool}
+use Rattle.row_checks.proofs.Words.{cases_Bool, or_parts, not-false, Block, cycle, kind, BlockKind, TransferEvent, CommandCompletion, cycle_of, IsHeader, event_shape, is_event, is_transfer_event, Header, Read, Known, learned, event_read, transfer_read, completed, AfterStop, ImpossibleEvent, NotInProfile, first_of, first_broken, broken_of, broken, tests, event_tests, is_impossible, is_impossible_by_kind, is_impossible_completion, is_impossible_transfer, is_in_profile, is_past_room, DriverKeeps, AllFail, tests_fail, event_same, TraceRecord, FollowsTrace, IsLeast, IsRowStep, IsSetUp, first_broken-is, nothing_broken}
 use Rattle.row_checks.proofs.Keeping.{set_up}
-use Rattle.trace_record.proofs.FirstBroken.{first_broken-is, nothing_broken}
 
 module _ (h : Header) (k : Known) (on : k.stopped ≡ false) (b : Block) where
   tested : first_of (broken h k (Read b)) ≡ first_broken (event_tests h k b)

@@ -1,13 +1,6 @@
 -- An accepted trace is harmless beside every run of the controller's model
-use Rattle.std.specs.Prelude.{ℕ, List, All, reverse}
-use Rattle.std.proofs.lemmas.List.Elements.{All-weaker}
-use Rattle.traces.specs.declared.header.Header.{Header}
-use Rattle.traces.specs.declared.row.Row.{Row}
-use Rattle.traces.specs.Header.{IsHeader}
-use Rattle.traces.specs.Rows.{IsRow, FitsLine, AreRows}
-use Rattle.ownership_rules.specs.Clean.{IsClean}
-use Rattle.safety.specs.Headline.{IsHarmless}
-use Rattle.safety.proofs.Headline.{headline}
+use Rattle.std.proofs.Common.{ℕ, List, All, reverse}
+use Rattle.row_checks.proofs.Words.{All-weaker, Header, Row, IsHeader, IsRow, FitsLine, AreRows, IsClean, IsHarmless, headline}
 
 module _ (h : Header) (rows : List Row) (headed : IsHeader h) (fitting : AreRows rows) where
   are_rows : All IsRow rows

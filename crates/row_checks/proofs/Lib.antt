@@ -5,3 +5,4 @@ pub mod DoorbellRows
 pub mod Passes
 pub mod Harmless
 pub mod CleanHistories
+pub mod Words

@@ -1,27 +1,6 @@
 -- What is said of a row by its kind, and of any row after the stop
-use Rattle.std.proofs.Common.{◌≡◌, ℕ, Bool, true, false, Option, None, Some, ◌+◌, arith, Result, Ok, Err, refl, sym, subst}
-use Rattle.std.specs.Prelude.{IfErr, IfOk, OnOk}
-use Rattle.event_ring.specs.EventPlaceValue.{EventState}
-use Rattle.traces.specs.declared.row.Row.{Row}
-use Rattle.traces.specs.declared.row.Row.TheVariants.{Reg}
-use Rattle.traces.specs.declared.register.Register.{Register}
-use Rattle.traces.specs.declared.header.Header.{Header}
-use Rattle.traces.specs.Header.{IsHeader}
-use Rattle.ring_knowledge.specs.Known.{Known}
-use Rattle.ownership_rules.specs.Rules.{broken}
-use Rattle.ownership_rules.specs.declared.refusal.Refusal.TheVariants.{AfterStop}
-use Rattle.ownership_rules.specs.Refusal.{first_of}
-use Rattle.safety.specs.Keeps.{DriverKeeps}
-use Rattle.trace_record.specs.declared.trace_record.TraceRecord.{TraceRecord}
-use Rattle.trace_record.specs.declared.fault.StepFault.{StepFault}
-use Rattle.trace_record.specs.declared.fault.StepFault.TheVariants.{Refused, Memory}
-use Rattle.trace_record.specs.FollowsTrace.{FollowsTrace}
-use Rattle.trace_record.specs.Fresh.{IsWithin}
-use Rattle.trace_record.specs.Premises.{IsSetUp}
-use Rattle.trace_record.specs.Steps.{IfRefused, IsLeast, IsRowStep}
-use Rattle.trace_record.specs.WordPlaces.{IsOwnedSo, IsPlaced}
-use Rattle.trace_record.specs.declared.word_place.WordPlace.{WordPlace}
-use Rattle.row_checks.specs.Tracking.{IsTracked, IsStepFrom, IsLeastFrom}
+use Rattle.std.proofs.Common.{◌≡◌, ◌+◌, ℕ, Bool, true, false, Option, None, Some, arith, Result, Ok, Err, refl, sym, subst, IfErr, IfOk, OnOk}
+use Rattle.row_checks.proofs.Words.{EventState, Row, Reg, Register, Header, IsHeader, Known, broken, AfterStop, first_of, DriverKeeps, TraceRecord, StepFault, Refused, Memory, FollowsTrace, IsWithin, IsSetUp, IfRefused, IsLeast, IsRowStep, IsOwnedSo, IsPlaced, WordPlace, IsTracked, IsStepFrom, IsLeastFrom}
 use Rattle.row_checks.proofs.Keeping.{set_up}
 
 -- any row after the stop

@@ -3,3 +3,4 @@ pub mod Placings
 pub mod Lists
 pub mod Looks
 pub mod Notings
+pub mod Words

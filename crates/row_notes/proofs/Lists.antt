@@ -1,8 +1,6 @@
 -- Notes that are added one after another
-use Rattle.std.proofs.Common.{◌≡◌, ℕ, zero, suc, ◌≤◌, ◌+◌, ◌<◌, ◌∙◌, List, [], ◌∷◌, ◌++◌, Result, Ok, Err, map, length, drop, get_or, refl, ap, sym, append_assoc, add-one, drop-cons, arith}
-use Rattle.std.specs.Prelude.{OnOk, IfOk}
-use Rattle.std.proofs.lemmas.List.{append-nil}
-use Rattle.lazy_steps.specs.declared.note.Note.{Note}
+use Rattle.std.proofs.Common.{◌≡◌, ◌≤◌, ◌+◌, ◌<◌, ◌∙◌, ◌∷◌, ◌++◌, ℕ, zero, suc, List, [], Result, Ok, Err, map, length, drop, get_or, refl, ap, sym, append_assoc, add-one, drop-cons, arith, OnOk, IfOk, append-nil}
+use Rattle.row_notes.proofs.Words.{Note}
 
 pub on_more : {X E P Q : Type 0} (answer : Result X E) → (P → Q) → OnOk answer P → OnOk answer Q
 on_more (Ok x) f p = f p

@@ -1,23 +1,6 @@
 -- The notes of single looks
-use Rattle.std.proofs.Common.{◌≡◌, ℕ, ◌+◌, ◌∙◌, [], ◌∷◌, ◌++◌, Bool, true, false, Option, Some, None, refl, ap, sym}
-use Rattle.std.specs.Prelude.{◌==◌, if◌then◌else◌}
-use Rattle.std.proofs.lemmas.Bool.{cond-true, cond-false, ne_eqb}
-use Rattle.trb.specs.declared.block.Block.{Block}
-use Rattle.trb.specs.Block.{code}
-use Rattle.trb.specs.CompletionCode.{is_stopping, is_success}
-use Rattle.segments.specs.declared.spot.Spot.{Spot}
-use Rattle.segments.specs.Spots.{number}
-use Rattle.segments.specs.Ceiling.{is_open}
-use Rattle.commands.specs.declared.command.Command.{Command}
-use Rattle.commands.specs.declared.command.Command.TheVariants.{StopEndpoint}
-use Rattle.traces.specs.declared.header.Header.{Header}
-use Rattle.traces.specs.Header.{command_id}
-use Rattle.ring_knowledge.specs.Known.{Known}
-use Rattle.ring_knowledge.specs.Rings.{RingSpot, next_command}
-use Rattle.lazy_steps.specs.declared.note.Note.{Note}
-use Rattle.lazy_steps.specs.declared.note.Note.TheVariants.{Succeeded, StoppedAt, StoppedOpen, Taken}
-use Rattle.lazy_steps.specs.Notes.{completing_look, if_open, open_stopped, reporting_look, transfer_notes}
-use Rattle.row_notes.specs.declared.rings.CommandPlace.{CommandPlace}
+use Rattle.std.proofs.Common.{◌≡◌, ◌+◌, ◌∙◌, ◌∷◌, ◌++◌, ◌==◌, if◌then◌else◌, ℕ, [], Bool, true, false, Option, Some, None, refl, ap, sym, ne_eqb}
+use Rattle.row_notes.proofs.Words.{cond-true, cond-false, Block, code, is_stopping, is_success, Spot, number, is_open, Command, StopEndpoint, Header, command_id, Known, RingSpot, next_command, Note, Succeeded, StoppedAt, StoppedOpen, Taken, completing_look, if_open, open_stopped, reporting_look, transfer_notes, CommandPlace}
 
 abbrev pub place_of : Header → Known → CommandPlace
 place_of h k = record { ring = command_id h; behind = next_command h k + 1 }

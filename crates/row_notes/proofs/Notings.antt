@@ -1,35 +1,6 @@
 -- The notes of events and doorbells
-use Rattle.std.proofs.Common.{◌≡◌, ℕ, ◌∙◌, List, [], ◌∷◌, ◌++◌, Bool, true, false, Option, Some, None, map, refl, ap, sym, append_assoc}
-use Rattle.std.specs.Prelude.{◌==◌, if◌then◌else◌}
-use Rattle.std.proofs.lemmas.Bool.{cond-true, cond-false, eq-eqb, ne_eqb}
-use Rattle.std.proofs.lemmas.List.Elements.{All-nil, All-same}
-use Rattle.trb.specs.declared.block.Block.{Block}
-use Rattle.trb.specs.declared.kind.BlockKind.{BlockKind}
-use Rattle.trb.specs.declared.kind.BlockKind.TheVariants.{TransferEvent, CommandCompletion}
-use Rattle.trb.specs.Block.{code, kind, slot}
-use Rattle.segments.specs.declared.spot.Spot.{Spot}
-use Rattle.commands.specs.declared.command.Command.{Command}
-use Rattle.commands.specs.Changes.{changes}
-use Rattle.traces.specs.declared.header.Header.{Header}
-use Rattle.traces.specs.declared.row.Row.{Row}
-use Rattle.traces.specs.declared.row.Row.TheVariants.{Bell, Read}
-use Rattle.traces.specs.declared.step.Step.TheVariants.{Report, Finish, Other}
-use Rattle.traces.specs.Header.{IsHeader}
-use Rattle.ring_knowledge.specs.Known.{Known}
-use Rattle.ring_knowledge.specs.Learned.{learned}
-use Rattle.ring_knowledge.specs.Rings.{command_at, event_at, next_command}
-use Rattle.safety.specs.Keeps.{DriverKeeps, IsTransferRing}
-use Rattle.lazy_runs.specs.Lazy.{post_of}
-use Rattle.lazy_steps.specs.declared.note.Note.{Note}
-use Rattle.lazy_steps.specs.declared.note.Note.TheVariants.{Begun, Made, Placed}
-use Rattle.lazy_steps.specs.Notes.{completing_look, event_notes, listed, open_stopped, placed, placed_by, placed_by_all, placed_note, row_notes, transfer_notes}
-use Rattle.ownership_rules.specs.Events.{is_impossible_by_kind, is_impossible_completion}
-use Rattle.ownership_rules.specs.Rules.{broken}
-use Rattle.safety.proofs.CleanRows.{event_facts}
-use Rattle.safety.proofs.KeptRings.{CompletionFacts, by_completion, command_holds, next_unfinished}
-use Rattle.command_ends.proofs.Finished.{has_room, was_started}
-use Rattle.row_notes.specs.Added.{MayPlace}
-use Rattle.row_notes.specs.Noted.{AreNoted}
+use Rattle.std.proofs.Common.{◌≡◌, ◌∙◌, ◌∷◌, ◌++◌, ◌==◌, if◌then◌else◌, ℕ, List, [], Bool, true, false, Option, Some, None, map, refl, ap, sym, append_assoc, eq-eqb, ne_eqb}
+use Rattle.row_notes.proofs.Words.{cond-true, cond-false, All-nil, All-same, Block, BlockKind, TransferEvent, CommandCompletion, code, kind, slot, Spot, Command, changes, Header, Row, Bell, Read, Report, Finish, Other, IsHeader, Known, learned, command_at, event_at, next_command, DriverKeeps, IsTransferRing, post_of, Note, Begun, Made, Placed, completing_look, event_notes, listed, open_stopped, placed, placed_by, placed_by_all, placed_note, row_notes, transfer_notes, is_impossible_by_kind, is_impossible_completion, broken, event_facts, CompletionFacts, by_completion, command_holds, next_unfinished, has_room, was_started, MayPlace, AreNoted}
 use Rattle.row_notes.proofs.Lists.{nothing_more}
 use Rattle.row_notes.proofs.Placings.{placed_transfer}
 

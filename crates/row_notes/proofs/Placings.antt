@@ -1,38 +1,7 @@
 -- The rings that the success of a command binds or moves
-use Rattle.std.proofs.Common.{◌≡◌, ℕ, suc, ◌+◌, ◌-◌, ◌<◌, ◌∙◌, List, [], ◌∷◌, ◌++◌, Bool, true, false, Option, Some, None, map, refl, ap, sym, subst, arith, get_or, inl, inr}
-use Rattle.std.specs.Prelude.{◌==◌, if◌then◌else◌, All, filter}
-use Rattle.std.specs.List.{cons_option, filter_map, list_any, range_with_len}
-use Rattle.std.proofs.lemmas.Bool.{cases_Bool, cond-true, cond-false, or_parts}
-use Rattle.std.proofs.lemmas.Option.{none-some}
-use Rattle.std.proofs.lemmas.List.Elements.{All-head, All-tail, All-nil, All-cons, All-append}
-use Rattle.trb.specs.declared.block.Block.{Block}
-use Rattle.trb.specs.Block.{code, slot}
-use Rattle.contexts.specs.declared.size.ContextSize.{ContextSize}
-use Rattle.contexts.specs.Contexts.{added_endpoints, context_pointer, input_add_flag}
-use Rattle.commands.specs.declared.command.Command.{Command}
-use Rattle.commands.specs.declared.command.Command.TheVariants.{AddressDevice, ConfigureEndpoint, SetTrDequeue}
-use Rattle.commands.specs.declared.state.EndpointState.{EndpointState}
-use Rattle.commands.specs.declared.state.EndpointState.TheVariants.{Stopped}
-use Rattle.commands.specs.States.{is_off}
-use Rattle.commands.specs.Changes.{Change, Places, changes, placed_by_context}
-use Rattle.traces.specs.declared.header.Header.{Header}
-use Rattle.traces.specs.Header.{IsHeader, is_ring, ring_beginning_at}
-use Rattle.ring_knowledge.specs.Known.{Known}
-use Rattle.ring_knowledge.specs.Rings.{command_at, next_command}
-use Rattle.ring_knowledge.specs.Completions.{changed_by}
-use Rattle.ownership_rules.specs.Moves.{is_among, has_repeats, binds, binding_in, ring_bound}
-use Rattle.safety.specs.EndpointsKeep.{EndpointsKeep}
+use Rattle.std.proofs.Common.{◌≡◌, ◌+◌, ◌-◌, ◌<◌, ◌∙◌, ◌∷◌, ◌++◌, ◌==◌, if◌then◌else◌, ℕ, suc, List, [], Bool, true, false, Option, Some, None, map, refl, ap, sym, subst, arith, get_or, inl, inr, All, filter}
+use Rattle.row_notes.proofs.Words.{cons_option, filter_map, list_any, range_with_len, cases_Bool, cond-true, cond-false, or_parts, none-some, All-head, All-tail, All-nil, All-cons, All-append, Block, code, slot, ContextSize, added_endpoints, context_pointer, input_add_flag, Command, AddressDevice, ConfigureEndpoint, SetTrDequeue, EndpointState, Stopped, is_off, Change, Places, changes, placed_by_context, Header, IsHeader, is_ring, ring_beginning_at, Known, command_at, next_command, changed_by, is_among, has_repeats, binds, binding_in, ring_bound, EndpointsKeep, DriverKeeps, IsTransferRing, StillHolds, endpoints_of, transfer_ring, change_keeps, Ready, all_ready, dropped, map_map, ready_next, ring_at, the_some, beginning_transfer, each_fails, any_of_map, ring_placed, listed, placed, placed_by, placed_by_all, rings_added}
 use Rattle.safety.specs.EndpointsKeep as endpoints
-use Rattle.safety.specs.Keeps.{DriverKeeps, IsTransferRing}
-use Rattle.safety.specs.Placings.{StillHolds}
-use Rattle.safety.proofs.DriverRings.{endpoints_of, transfer_ring}
-use Rattle.safety.proofs.Endpoints.{change_keeps}
-use Rattle.safety.proofs.Placings.{Ready, all_ready, dropped, map_map, ready_next, ring_at, the_some}
-use Rattle.safety.proofs.RingIds.{beginning_transfer}
-use Rattle.safety.proofs.TestsPassed.{each_fails, any_of_map}
-use Rattle.lazy_runs.specs.Needs.{ring_placed}
-use Rattle.lazy_steps.specs.Notes.{listed, placed, placed_by, placed_by_all}
-use Rattle.row_notes.specs.Added.{rings_added}
 
 listed_alone : (o : Option ℕ) → listed o ++ [] ≡ listed o
 listed_alone None = refl

@@ -1,43 +1,6 @@
 -- The lazy schedule of a clean trace names rings and blocks that there are
-use Rattle.std.proofs.Common.{◌≡◌, ℕ, ◌+◌, ◌<◌, ◌-◌, List, [], ◌∷◌, ◌++◌, Option, Some, None, refl, arith, length, subst, sym}
-use Rattle.std.specs.Prelude.{◌==◌, ◌&&◌, reverse, nat_lt, All, option_map}
-use Rattle.std.specs.List.{flat_map}
-use Rattle.std.proofs.lemmas.Bool.{and_parts, cond_both, eqb-true, ltb-true}
-use Rattle.std.proofs.lemmas.Option.{none-some, same_Some}
-use Rattle.std.proofs.lemmas.List.{get_or-reverse, length-reverse}
-use Rattle.std.proofs.lemmas.List.Elements.{All-append, All-cons, All-head, All-map, All-nil, All-tail}
-use Rattle.trb.specs.declared.block.Block.{Block}
-use Rattle.trb.specs.declared.kind.BlockKind.{BlockKind}
-use Rattle.trb.specs.declared.kind.BlockKind.TheVariants.{CommandCompletion, TransferEvent}
-use Rattle.trb.specs.Block.{IsBlock, code, endpoint, kind, pointer, slot}
-use Rattle.trb.specs.CompletionCode.{is_stopping}
-use Rattle.segments.specs.declared.spot.Spot.{Spot}
-use Rattle.segments.specs.Ceiling.{is_open, named}
-use Rattle.segments.specs.Shape.{is_shape}
-use Rattle.segments.specs.Spots.{number}
-use Rattle.commands.specs.declared.command.Command.{Command}
-use Rattle.commands.specs.declared.command.Command.TheVariants.{StopEndpoint}
-use Rattle.traces.specs.declared.header.Header.{Header}
-use Rattle.traces.specs.declared.row.Row.{Row}
-use Rattle.traces.specs.declared.row.Row.TheVariants.{Bell, Read, Reg, Sub, Write}
-use Rattle.traces.specs.declared.step.Step.{Step}
-use Rattle.traces.specs.declared.step.Step.TheVariants.{Look, NextRow}
-use Rattle.traces.specs.Header.{IsHeader, command_id, shape_of}
-use Rattle.traces.specs.Rows.{AreSteps, IsRow, IsStep}
-use Rattle.ring_knowledge.specs.Known.{Known}
-use Rattle.ring_knowledge.specs.Learned.{known, learned}
-use Rattle.ring_knowledge.specs.Rings.{RingSpot, command_at, event_at, next_command, spot_on}
-use Rattle.ownership_rules.specs.Clean.{IsClean}
-use Rattle.ownership_rules.specs.Rules.{broken}
-use Rattle.safety.specs.Keeps.{DriverKeeps, IsDriverRing}
-use Rattle.safety.proofs.CleanRows.{event_facts}
-use Rattle.safety.proofs.DriverHistories.{driver_keeps}
-use Rattle.safety.proofs.Headers.{header_parts, transfer_driver}
-use Rattle.safety.proofs.RingsOfHeader.{found_allowed, found_passes}
-use Rattle.safety.proofs.SafeContext.{command_is_ring}
-use Rattle.safety.proofs.TestsPassed.{clean_tests}
-use Rattle.lazy_runs.specs.Needs.{need}
-use Rattle.lazy_runs.specs.Lazy.{command_taken, goals, lazy_run, lazy_steps, looks_to, open_goals, pointers_at, post_of, report_goals, spots_before, steps_before, stop_goal, stopped_goals, taken_up_to}
+use Rattle.std.proofs.Common.{◌≡◌, ◌+◌, ◌<◌, ◌-◌, ◌∷◌, ◌++◌, ◌==◌, ◌&&◌, ℕ, List, [], Option, Some, None, refl, arith, length, subst, sym, reverse, nat_lt, All, option_map, eqb-true, ltb-true}
+use Rattle.scheduler.proofs.Words.{flat_map, and_parts, cond_both, none-some, same_Some, get_or-reverse, length-reverse, All-append, All-cons, All-head, All-map, All-nil, All-tail, Block, BlockKind, CommandCompletion, TransferEvent, IsBlock, code, endpoint, kind, pointer, slot, is_stopping, Spot, is_open, named, is_shape, number, Command, StopEndpoint, Header, Row, Bell, Read, Reg, Sub, Write, Step, Look, NextRow, IsHeader, command_id, shape_of, AreSteps, IsRow, IsStep, Known, known, learned, RingSpot, command_at, event_at, next_command, spot_on, IsClean, broken, DriverKeeps, IsDriverRing, event_facts, driver_keeps, header_parts, transfer_driver, found_allowed, found_passes, command_is_ring, clean_tests, need, command_taken, goals, lazy_run, lazy_steps, looks_to, open_goals, pointers_at, post_of, report_goals, spots_before, steps_before, stop_goal, stopped_goals, taken_up_to}
 
 all_reverse : {X : Type 0} (P : X → Type 0) (xs : List X) → All P xs → All P (reverse xs)
 all_reverse P xs are = λ k d inside.

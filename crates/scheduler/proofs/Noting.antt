@@ -1,32 +1,7 @@
 -- The rows of a clean trace, noted one by one
-use Rattle.std.proofs.Common.{◌≡◌, ℕ, ◌+◌, ◌<◌, List, [], ◌∷◌, ◌++◌, None, Some, ap, sym, ◌∙◌, arith, length, subst, get_or, refl}
-use Rattle.std.specs.Prelude.{reverse, take, drop, map}
-use Rattle.std.proofs.lemmas.Grind.{common_steps}
-use Rattle.traces.specs.declared.header.Header.{Header}
-use Rattle.traces.specs.declared.row.Row.{Row}
-use Rattle.traces.specs.declared.step.Step.TheVariants.{NextRow}
-use Rattle.traces.specs.Header.{IsHeader}
-use Rattle.ring_knowledge.specs.Known.{Known, nothing}
-use Rattle.ring_knowledge.specs.Learned.{learned, known}
-use Rattle.ownership_rules.specs.Clean.{IsClean}
-use Rattle.ownership_rules.specs.Rules.{broken}
-use Rattle.safety.specs.Keeps.{DriverKeeps}
-use Rattle.safety.proofs.TestsPassed.{clean_tests}
-use Rattle.trace_record.specs.declared.trace_record.TraceRecord.{TraceRecord}
-use Rattle.trace_record.specs.FollowsTrace.{FollowsTrace}
-use Rattle.trace_record.specs.Fresh.{IsWithin}
-use Rattle.trace_record.specs.Steps.{IfRefused, IsLeast, IsRowStep}
-use Rattle.trace_record.specs.declared.fault.StepFault.{StepFault}
-use Rattle.trace_record.specs.declared.fault.StepFault.TheVariants.{Refused}
-use Rattle.ownership_rules.specs.declared.refusal.Refusal.{Refusal}
-use Rattle.ownership_rules.specs.Refusal.{first_of}
-use Rattle.row_checks.specs.Tracking.{IsPass, IsTracked}
+use Rattle.std.proofs.Common.{◌≡◌, ◌+◌, ◌<◌, ◌∷◌, ◌++◌, ◌∙◌, ℕ, List, [], None, Some, ap, sym, arith, length, subst, get_or, refl, reverse, take, drop, map}
+use Rattle.scheduler.proofs.Words.{common_steps, Header, Row, NextRow, IsHeader, Known, nothing, learned, known, IsClean, broken, DriverKeeps, clean_tests, TraceRecord, FollowsTrace, IsWithin, IfRefused, IsLeast, IsRowStep, StepFault, Refused, Refusal, first_of, IsPass, IsTracked, clean_row, Note, Made, notes, placed_note, row_notes, AreNoted}
 use Rattle.row_checks.proofs.Passes as passes
-use Rattle.row_checks.proofs.CleanHistories.{clean_row}
-use Rattle.lazy_steps.specs.declared.note.Note.{Note}
-use Rattle.lazy_steps.specs.declared.note.Note.TheVariants.{Made}
-use Rattle.lazy_steps.specs.Notes.{notes, placed_note, row_notes}
-use Rattle.row_notes.specs.Noted.{AreNoted}
 
 known_first : (h : Header) → known h [] ≡ nothing
 unfolding known

@@ -1,17 +1,6 @@
 -- A run whose worlds are all safe is replayed without harm
-use Rattle.std.proofs.Common.{◌≡◌, ℕ, ◌+◌, List, [], ◌∷◌, Option, Some, None, refl, sym, ◌∙◌, ap, subst, arith}
-use Rattle.std.specs.Prelude.{◌++◌, reverse, option_and_then, All}
-use Rattle.std.proofs.lemmas.Grind.{common_steps}
-use Rattle.std.proofs.lemmas.List.Elements.{All-cons, All-head, All-nil, All-tail}
-use Rattle.traces.specs.declared.header.Header.{Header}
-use Rattle.traces.specs.declared.row.Row.{Row}
-use Rattle.traces.specs.declared.step.Step.{Step}
-use Rattle.traces.specs.Rows.{IsStep}
-use Rattle.world_state.specs.World.{World, opening}
-use Rattle.controller_model.specs.Steps.{NoHarm, ending_from, ending_of, judged, reached, stepped}
-use Rattle.controller_model.specs.Showing.{replayed}
-use Rattle.safety.specs.Headline.{IsHarmless}
-use Rattle.lazy_runs.specs.Law.{ContainsAll}
+use Rattle.std.proofs.Common.{◌≡◌, ◌+◌, ◌∷◌, ◌∙◌, ◌++◌, ℕ, List, [], Option, Some, None, refl, sym, ap, subst, arith, reverse, option_and_then, All}
+use Rattle.scheduler.proofs.Words.{common_steps, All-cons, All-head, All-nil, All-tail, Header, Row, Step, IsStep, World, opening, NoHarm, ending_from, ending_of, judged, reached, stepped, replayed, IsHarmless, ContainsAll}
 
 some_is : {X : Type 0} (a b : X) → Some a ≡ Some b → a ≡ b
 some_is a b e = cc

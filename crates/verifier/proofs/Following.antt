@@ -1,29 +1,7 @@
 -- A trace, row by row: what was checked so far, and how far the list was followed
-use Rattle.std.proofs.Common.{◌≡◌, ℕ, ◌+◌, ◌<◌, ◌≤◌, List, [], ◌∷◌, Some, ap, sym, ◌∙◌, arith, length, subst, get_or}
-use Rattle.std.specs.Prelude.{reverse, take}
-use Rattle.std.proofs.lemmas.Grind.{common_steps}
-use Rattle.traces.specs.declared.row.Row.{Row}
-use Rattle.traces.specs.declared.header.Header.{Header}
-use Rattle.traces.specs.Header.{IsHeader}
-use Rattle.ring_knowledge.specs.Known.{Known, nothing}
-use Rattle.ring_knowledge.specs.Learned.{known}
-use Rattle.ring_knowledge.specs.declared.lease.Lease.{Lease}
-use Rattle.ownership_rules.specs.declared.refusal.Refusal.{Refusal}
-use Rattle.ownership_rules.specs.Rules.{verdict_from}
-use Rattle.ownership_rules.specs.Leases.{leases as leases_of, without_end}
-use Rattle.lease_book.specs.Lents.{lents}
-use Rattle.lease_book.specs.declared.ranges.RangeIndexes.{RangeIndexes}
-use Rattle.lease_rows.specs.CleanRows.{FollowsBook, IsCleanRow}
-use Rattle.trace_record.specs.declared.trace_record.TraceRecord.{TraceRecord}
-use Rattle.trace_record.specs.FollowsTrace.{FollowsTrace}
-use Rattle.trace_record.specs.Fresh.{IsWithin}
-use Rattle.trace_record.specs.Steps.{IsRowStep}
-use Rattle.certificate_log.specs.declared.certificate_log.CertificateLog.{CertificateLog}
-use Rattle.certificate_log.specs.Logs.{FollowsCertificate}
-use Rattle.row_checks.specs.Accepted.{IsAccepted}
-use Rattle.row_checks.specs.Tracking.{IsTracked}
+use Rattle.std.proofs.Common.{◌≡◌, ◌+◌, ◌<◌, ◌≤◌, ◌∷◌, ◌∙◌, ℕ, List, [], Some, ap, sym, arith, length, subst, get_or, reverse, take}
+use Rattle.verifier.proofs.Words.{common_steps, Row, Header, IsHeader, Known, nothing, known, Lease, Refusal, verdict_from, leases_of, without_end, lents, RangeIndexes, FollowsBook, IsCleanRow, TraceRecord, FollowsTrace, IsWithin, IsRowStep, CertificateLog, FollowsCertificate, IsAccepted, IsTracked, IsFollowed}
 use Rattle.row_checks.proofs.Passes as passes
-use Rattle.verifier.specs.Following.{IsFollowed}
 
 length_reversed : (rows : List Row) → length (reverse rows) ≡ length rows
 length_reversed rows = grind (arith, common_steps)

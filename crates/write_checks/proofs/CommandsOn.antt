@@ -1,29 +1,7 @@
 -- Which command a write gives, by the ring that has the word
-use Rattle.std.proofs.Common.{◌≡◌, ℕ, ◌%◌, List, Bool, true, false, Option, Some, None, refl, ap, sym, ◌∙◌, inl, inr, arith}
-use Rattle.std.specs.Prelude.{◌==◌, ◌&&◌, not, if◌then◌else◌}
-use Rattle.std.proofs.lemmas.Bool.{cases_Bool, false≢true, eqb-true}
-use Rattle.trb.specs.declared.ring_kind.RingKind.{RingKind}
-use Rattle.trb.specs.declared.ring_kind.RingKind.TheVariants.{Cmd, Evt, Xfer}
-use Rattle.segments.specs.ShapeValue.{Shape}
-use Rattle.segments.specs.Places.{is_inside}
-use Rattle.segments.specs.RingView.{positions_given, due_positions}
-use Rattle.commands.specs.declared.command.Command.{Command}
-use Rattle.commands.specs.declared.command.Command.TheVariants.{AddressDevice}
-use Rattle.commands.specs.States.{is_off}
-use Rattle.traces.specs.declared.ring.Ring.{Ring}
-use Rattle.traces.specs.declared.header.Header.{Header}
-use Rattle.traces.specs.Header.{IsHeader, is_command_kind, is_transfer_kind, is_ring, command_ring, command_id, id_or_none, ring_with, shape_of, shape_or}
-use Rattle.ring_knowledge.specs.Known.{Known}
-use Rattle.ring_knowledge.specs.Rings.{command_at, unfinished}
-use Rattle.ring_knowledge.specs.Writes.{command_given}
+use Rattle.std.proofs.Common.{◌≡◌, ◌%◌, ◌∙◌, ◌==◌, ◌&&◌, if◌then◌else◌, ℕ, List, Bool, true, false, Option, Some, None, refl, ap, sym, inl, inr, arith, not, eqb-true}
+use Rattle.write_checks.proofs.Words.{cases_Bool, false≢true, RingKind, Cmd, Evt, Xfer, Shape, is_inside, positions_given, due_positions, Command, AddressDevice, is_off, Ring, Header, IsHeader, is_command_kind, is_transfer_kind, is_ring, command_ring, command_id, id_or_none, ring_with, shape_of, shape_or, Known, command_at, unfinished, command_given, DriverKeeps, IsTransferRing, false_unless, and_false, any_nowhere, IsAmong, same_or_apart, other_number, together, shape_allowed, shape_there, find_some, id_below, not_found, ring_found, command_found, command_on, gives_no_position}
 use Rattle.ownership_rules.specs.Moves as moves
-use Rattle.safety.specs.Keeps.{DriverKeeps, IsTransferRing}
-use Rattle.ring_finder.proofs.ListTests.{false_unless, and_false, any_nowhere}
-use Rattle.ring_finder.proofs.RingsApart.{IsAmong, same_or_apart, other_number}
-use Rattle.ring_finder.proofs.HeaderRings.{together, shape_allowed, shape_there, find_some, id_below, not_found, ring_found}
-use Rattle.ring_finder.proofs.FoundRings.{command_found}
-use Rattle.write_checks.specs.WriteTests.{command_on}
-use Rattle.trace_record.proofs.WordsInside.{gives_no_position}
 
 commands_among : (h : Header) (c : Ring) → command_ring h ≡ Some c → IsAmong c h.rings
 unfolding command_ring

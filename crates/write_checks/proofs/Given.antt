@@ -1,21 +1,6 @@
 -- The first rule that a write breaks which gives one position, or one crossing
-use Rattle.std.proofs.Common.{◌≡◌, ℕ, ◌<◌, List, [], ◌∷◌, true, false, Some, None, refl, ap, sym, ◌∙◌, arith, inl, inr, length, get_or}
-use Rattle.std.specs.Prelude.{◌==◌, not, nat_le, slice_get, slice_index, if◌then◌else◌}
-use Rattle.std.proofs.lemmas.Bool.{cases_lt, le-leb}
-use Rattle.std.proofs.lemmas.Bool.Decides.{nat_tests}
-use Rattle.std.proofs.lemmas.Option.{slice_get-get_or, slice_get_within}
-use Rattle.guest_memory.specs.Memory.{put}
-use Rattle.trb.specs.declared.block.Block.{Block}
-use Rattle.trb.specs.Bits.{is_set}
-use Rattle.trb.specs.Block.{block_at, same_words, with_cycle, word}
-use Rattle.segments.specs.ShapeValue.{Shape}
-use Rattle.segments.specs.Places.{address_of, cycle_of, links, link_address}
-use Rattle.segments.specs.RingView.{RingView}
-use Rattle.segments.specs.Givings.{is_other_than_declared, is_declared_as, is_not_declared, is_not_whole, leads_wrong, interrupts, is_wrong_link, link_of}
-use Rattle.segments.proofs.Positions.{cycle_of_bit}
-use Rattle.ownership_rules.specs.declared.refusal.Refusal.TheVariants.{NotAsSubmitted, NotDeclared, NotWhole, LinkFault, NotInProfile}
-use Rattle.ownership_rules.specs.Refusal.{first_broken}
-use Rattle.write_checks.specs.WriteTests.{position_tests, crossing_tests}
+use Rattle.std.proofs.Common.{◌≡◌, ◌<◌, ◌∷◌, ◌∙◌, ◌==◌, if◌then◌else◌, ℕ, List, [], true, false, Some, None, refl, ap, sym, arith, inl, inr, length, get_or, not, nat_le, slice_get, slice_index, le-leb}
+use Rattle.write_checks.proofs.Words.{cases_lt, nat_tests, slice_get-get_or, slice_get_within, put, Block, is_set, block_at, same_words, with_cycle, word, Shape, address_of, cycle_of, links, link_address, RingView, is_other_than_declared, is_declared_as, is_not_declared, is_not_whole, leads_wrong, interrupts, is_wrong_link, link_of, cycle_of_bit, NotAsSubmitted, NotDeclared, NotWhole, LinkFault, NotInProfile, first_broken, position_tests, crossing_tests}
 
 nothing_there : (xs : List Block) (p : ℕ) → slice_get xs p ≡ None → nat_le (length xs) p ≡ true
 nothing_there xs p none = elim (cases_lt p (length xs)) [

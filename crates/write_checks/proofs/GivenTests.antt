@@ -1,15 +1,8 @@
 -- The first rule that is broken among those of what is given
-use Rattle.std.proofs.Common.{◌≡◌, ℕ, List, [], ◌∷◌, ◌++◌, Bool, true, false, Some, None, refl, sym}
-use Rattle.std.specs.Prelude.{◌||◌}
-use Rattle.commands.specs.declared.command.Command.{Command}
-use Rattle.traces.specs.declared.header.Header.{Header}
-use Rattle.ring_knowledge.specs.Known.{Known}
+use Rattle.std.proofs.Common.{◌≡◌, ◌∷◌, ◌++◌, ◌||◌, ℕ, List, [], Bool, true, false, Some, None, refl, sym}
+use Rattle.write_checks.proofs.Words.{Command, Header, Known, Refusal, Busy, NotInProfile, BadMove, Test, first_broken, command_tests, place_tests}
 use Rattle.ownership_rules.specs.Commands as commands
 use Rattle.ownership_rules.specs.Moves as moves
-use Rattle.ownership_rules.specs.declared.refusal.Refusal.{Refusal}
-use Rattle.ownership_rules.specs.declared.refusal.Refusal.TheVariants.{Busy, NotInProfile, BadMove}
-use Rattle.ownership_rules.specs.Refusal.{Test, first_broken}
-use Rattle.write_checks.specs.WriteTests.{command_tests, place_tests}
 
 some_none : {X : Type 0} (c : Refusal) → Some c ≡ None → X
 some_none c e = cc

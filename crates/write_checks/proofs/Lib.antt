@@ -5,3 +5,4 @@ pub mod OnRing
 pub mod CommandsOn
 mod RingWrites
 mod WriteSteps
+pub mod Words

@@ -1,22 +1,8 @@
 -- Of the rings of a header only the one that has a word gives something by its write; a word of an event segment is under lease
-use Rattle.std.proofs.Common.{◌≡◌, ℕ, ◌%◌, List, [], ◌++◌, Bool, true, false, refl, ap, sym, ◌∙◌}
-use Rattle.std.specs.Prelude.{◌||◌, map}
-use Rattle.std.specs.List.{list_any, flat_map}
-use Rattle.std.proofs.lemmas.List.{append-nil}
-use Rattle.segments.specs.Places.{is_inside, touches}
-use Rattle.segments.specs.RingView.{positions_given, crossings_given}
-use Rattle.segments.proofs.InsideLemmas.{touches-word}
-use Rattle.traces.specs.declared.ring.Ring.{Ring}
-use Rattle.traces.specs.declared.header.Header.{Header}
-use Rattle.traces.specs.declared.register.Register.TheVariants.{Erstba}
-use Rattle.traces.specs.Header.{IsHeader, is_driver_kind, is_event_kind, driver_rings, event_shape}
-use Rattle.ring_knowledge.specs.Known.{Known}
-use Rattle.ring_knowledge.specs.Rings.{Position, Crossing, given_of, given_by}
+use Rattle.std.proofs.Common.{◌≡◌, ◌%◌, ◌++◌, ◌∙◌, ◌||◌, ℕ, List, [], Bool, true, false, refl, ap, sym, map, append-nil}
+use Rattle.write_checks.proofs.Words.{list_any, flat_map, is_inside, touches, positions_given, crossings_given, touches-word, Ring, Header, Erstba, IsHeader, is_driver_kind, is_event_kind, driver_rings, event_shape, Known, Crossing, given_of, given_by, false_unless, any_append, any_map, IsAmong, Apart, together, shape_allowed, shape_there, event_here, all_from_one, nothing_from, gives_no_position, gives_no_crossing}
+use Rattle.ring_knowledge.specs.Rings.{Position}
 use Rattle.ownership_rules.specs.OpenLeases as leases
-use Rattle.ring_finder.proofs.ListTests.{false_unless, any_append, any_map}
-use Rattle.ring_finder.proofs.RingsApart.{IsAmong, Apart}
-use Rattle.ring_finder.proofs.HeaderRings.{together, shape_allowed, shape_there, event_here, all_from_one, nothing_from}
-use Rattle.trace_record.proofs.WordsInside.{gives_no_position, gives_no_crossing}
 
 or_true : (b : Bool) → (b || true) ≡ true
 or_true true = refl

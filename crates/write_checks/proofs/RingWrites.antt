@@ -1,34 +1,10 @@
 -- Which rules a write breaks
-use Rattle.std.proofs.Common.{◌≡◌, ℕ, ◌%◌, List, [], ◌∷◌, Bool, true, false, Option, None, Some, refl, ap, sym, ◌∙◌}
-use Rattle.std.specs.Prelude.{◌||◌, map, if◌then◌else◌}
-use Rattle.std.specs.List.{list_any}
-use Rattle.segments.specs.Places.{touches}
-use Rattle.segments.specs.RingView.{positions_given, crossings_given}
-use Rattle.segments.specs.Givings.{is_other_than_declared, is_not_declared, is_not_whole, leads_wrong, interrupts}
-use Rattle.traces.specs.declared.ring.Ring.{Ring}
-use Rattle.traces.specs.declared.header.Header.{Header}
-use Rattle.traces.specs.declared.row.Row.TheVariants.{Write}
-use Rattle.traces.specs.Header.{IsHeader, is_driver_kind, is_event_kind, shape_of}
-use Rattle.commands.specs.declared.command.Command.{Command}
-use Rattle.ring_knowledge.specs.Known.{Known}
+use Rattle.std.proofs.Common.{◌≡◌, ◌%◌, ◌∷◌, ◌∙◌, ◌||◌, if◌then◌else◌, ℕ, List, [], Bool, true, false, Option, None, Some, refl, ap, sym, map}
+use Rattle.write_checks.proofs.Words.{list_any, touches, positions_given, crossings_given, is_other_than_declared, is_not_declared, is_not_whole, leads_wrong, interrupts, Ring, Header, Write, IsHeader, is_driver_kind, is_event_kind, shape_of, Command, Known, command_given, positions_of, crossings_of, RingGiving, Position, WriteToOwned, NotAsSubmitted, NotDeclared, NotWhole, LinkFault, BadCommand, Busy, NotInProfile, BadMove, AfterStop, Test, broken_of, first_of, first_broken, is_leased, write_tests, some_given, some_crossed, some_command, holds_of, on_position, on_crossing, broken, tests, IsLeast, or_false, any_append, any_map, any_nowhere, IsAmong, shape_there, GivesOnPosition, given_tests, first_broken-is}
 use Rattle.ring_knowledge.specs.Rings as rings
-use Rattle.ring_knowledge.specs.Writes.{command_given}
-use Rattle.ring_knowledge.specs.RingRecords.{positions_of, crossings_of}
-use Rattle.ring_knowledge.specs.declared.ring_record.RingGiving.{RingGiving}
-use Rattle.ring_knowledge.specs.declared.ring_record.RingGiving.TheVariants.{Position, Crossing}
-use Rattle.ownership_rules.specs.declared.refusal.Refusal.TheVariants.{WriteToOwned, NotAsSubmitted, NotDeclared, NotWhole, LinkFault, BadCommand, Busy, NotInProfile, BadMove, AfterStop}
-use Rattle.ownership_rules.specs.Refusal.{Test, broken_of, first_of, first_broken}
-use Rattle.ownership_rules.specs.OpenLeases.{is_leased}
+use Rattle.ring_knowledge.specs.declared.ring_record.RingGiving.TheVariants.{Crossing}
 use Rattle.ownership_rules.specs.Commands as commands
 use Rattle.ownership_rules.specs.Moves as moves
-use Rattle.ownership_rules.specs.Writes.{write_tests, some_given, some_crossed, some_command, holds_of, on_position, on_crossing}
-use Rattle.ownership_rules.specs.Rules.{broken, tests}
-use Rattle.trace_record.specs.Steps.{IsLeast}
-use Rattle.ring_finder.proofs.ListTests.{or_false, any_append, any_map, any_nowhere}
-use Rattle.ring_finder.proofs.RingsApart.{IsAmong}
-use Rattle.ring_finder.proofs.HeaderRings.{shape_there}
-use Rattle.write_checks.specs.WriteTests.{GivesOnPosition, given_tests}
-use Rattle.trace_record.proofs.FirstBroken.{first_broken-is}
 use Rattle.write_checks.proofs.OnRing.{given_by_one, given_nowhere, leased_in_events}
 
 -- the tests of a word that isn't under lease, of what is given of one ring

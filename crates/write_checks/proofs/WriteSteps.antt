@@ -1,31 +1,7 @@
 -- What the check of a write answers
-use Rattle.std.proofs.Common.{◌≡◌, ℕ, ◌%◌, Bool, true, false, Option, None, Some, refl, ap, sym, ◌∙◌, inl, inr}
-use Rattle.std.specs.Prelude.{if◌then◌else◌, slice_get}
-use Rattle.std.proofs.lemmas.Bool.{cases_Bool}
-use Rattle.std.proofs.Math.Path.{fun_ext}
-use Rattle.segments.specs.Places.{touches}
-use Rattle.segments.specs.RingView.{positions_given, crossings_given}
-use Rattle.traces.specs.declared.ring.Ring.{Ring}
-use Rattle.traces.specs.declared.header.Header.{Header}
-use Rattle.traces.specs.declared.row.Row.TheVariants.{Write}
-use Rattle.traces.specs.Header.{IsHeader, is_command_kind, is_driver_kind}
-use Rattle.commands.specs.declared.command.Command.{Command}
-use Rattle.ring_knowledge.specs.Known.{Known}
-use Rattle.ring_knowledge.specs.Writes.{command_given}
-use Rattle.ring_knowledge.specs.RingRecords.{positions_of, crossings_of}
-use Rattle.ring_knowledge.specs.declared.ring_record.RingGiving.{RingGiving}
-use Rattle.ownership_rules.specs.declared.refusal.Refusal.{Refusal}
-use Rattle.ownership_rules.specs.Refusal.{first_of, first_broken}
-use Rattle.ownership_rules.specs.OpenLeases.{is_leased}
+use Rattle.std.proofs.Common.{◌≡◌, ◌%◌, ◌∙◌, if◌then◌else◌, ℕ, Bool, true, false, Option, None, Some, refl, ap, sym, inl, inr, slice_get}
+use Rattle.write_checks.proofs.Words.{cases_Bool, fun_ext, touches, positions_given, crossings_given, Ring, Header, Write, IsHeader, is_command_kind, is_driver_kind, Command, Known, command_given, positions_of, crossings_of, RingGiving, Refusal, first_of, first_broken, is_leased, broken, DriverKeeps, IsAmong, among_at, TraceRecord, FollowsTrace, GivesOnPosition, command_on, given_tests, IsAllowed, nothing_broken}
 use Rattle.ownership_rules.specs.Moves as moves
-use Rattle.ownership_rules.specs.Rules.{broken}
-use Rattle.safety.specs.Keeps.{DriverKeeps}
-use Rattle.ring_finder.proofs.RingsApart.{IsAmong, among_at}
-use Rattle.trace_record.specs.declared.trace_record.TraceRecord.{TraceRecord}
-use Rattle.trace_record.specs.FollowsTrace.{FollowsTrace}
-use Rattle.write_checks.specs.WriteTests.{GivesOnPosition, command_on, given_tests}
-use Rattle.write_checks.specs.Allowed.{IsAllowed}
-use Rattle.trace_record.proofs.FirstBroken.{nothing_broken}
 use Rattle.write_checks.proofs.OnRing.{inside, inside_is}
 use Rattle.write_checks.proofs.CommandsOn.{command_is, none_nowhere, stays_put}
 use Rattle.write_checks.proofs.RingWrites.{nothing_breaks, least_of_ring}

@@ -1,14 +1,6 @@
 -- In which ways a Link is wrong
-use Rattle.std.proofs.Common.{◌≡◌, ℕ, true, false, refl, ap, sym, ◌∙◌}
-use Rattle.std.specs.Prelude.{◌==◌, not}
-use Rattle.trb.specs.declared.block.Block.{Block}
-use Rattle.trb.specs.Bits.{is_set}
-use Rattle.trb.specs.Block.{aligned, word, kind, pointer}
-use Rattle.trb.specs.Kind.{is_link}
-use Rattle.segments.specs.ShapeValue.{Shape}
-use Rattle.segments.specs.Places.{link_target, toggles}
-use Rattle.segments.specs.Givings.{is_wrong_link, same}
-use Rattle.ring_finder.proofs.RingsApart.{same_number, other_number}
+use Rattle.std.proofs.Common.{◌≡◌, ◌∙◌, ◌==◌, ℕ, true, false, refl, ap, sym, not}
+use Rattle.write_checks.proofs.Words.{Block, is_set, aligned, word, kind, pointer, is_link, Shape, link_target, toggles, is_wrong_link, same, same_number, other_number}
 
 module _ (shape : Shape) (i : ℕ) (b : Block) where
   pub leads_elsewhere : (aligned (pointer b) ≡ link_target shape i → ⊥) → true ≡ is_wrong_link shape i b

@@ -1,15 +1,6 @@
 -- That what is right of the bytes of an input is right of the input, of which nothing may be known
-use Rattle.std.proofs.Common.{◌≡◌, ℕ, List, Option, Some, None, ◌⊎◌, inl, inr, Result, Ok, Err, subst}
-use Rattle.std.specs.Prelude.{IfErr, IfOk, IfSome}
-use Rattle.traces.specs.declared.trace.Trace.{Trace}
-use Rattle.answers.specs.Inputs.{IsTextOf}
-use Rattle.xhci_cli.specs.CheckAnswers.{IsCheckAnswer, IsCutShort, IsHindered, IsVerdict}
-use Rattle.answers.proofs.Writing.{begun}
-use Rattle.answers.specs.Keeping.{kept_bytes}
-use Rattle.certificate.specs.Spelling.{spelling}
-use Rattle.xhci_cli.specs.PlanAnswers.{IsPlanAnswer}
-use Rattle.answers.specs.declared.answer.Answer.{Answer}
-use Rattle.answers.specs.declared.answer.Answer.TheVariants.{Accepted, Written, Refused, Unfollowed, BadLine, Memory, Device}
+use Rattle.std.proofs.Common.{◌≡◌, ◌⊎◌, ℕ, List, Option, Some, None, inl, inr, Result, Ok, Err, subst, IfErr, IfOk, IfSome}
+use Rattle.xhci_cli.proofs.Words.{Trace, IsTextOf, IsCheckAnswer, IsCutShort, IsHindered, IsVerdict, begun, kept_bytes, spelling, IsPlanAnswer, Answer, Accepted, Written, Refused, Unfollowed, BadLine, Memory, Device}
 
 pub verdict_right : {C : Type 0} (contents : C → Option (List ℕ)) (before after : Option C) (known : Option (List ℕ)) (a : Answer) (trace : Trace) → IsTextOf known trace →
     IsVerdict contents before after a trace → IsCheckAnswer contents before after known a

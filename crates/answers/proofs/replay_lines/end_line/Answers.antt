@@ -1,5 +1,4 @@
-use Rattle.std.proofs.Common.{◌≡◌, subst, sym}
-use Rattle.std.specs.Prelude.{IfOk, string_bytes}
+use Rattle.std.proofs.Common.{◌≡◌, subst, sym, IfOk, string_bytes}
 use Rattle.answers.specs.Replays.{end_text}
 use Rattle.answers.specs.declared.replay_lines.ReplayEnd.{ReplayEnd}
 use Rattle.answers.proofs.replay_lines.end_line.Goals as goal

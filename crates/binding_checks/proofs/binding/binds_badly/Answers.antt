@@ -1,8 +1,5 @@
-use Rattle.std.proofs.Common.{◌≡◌, ◌+◌, ◌∙◌, ap, sym, arith}
-use Rattle.std.specs.List.{cons_option}
-use Rattle.std.specs.Prelude.{◌||◌, not}
-use Rattle.ownership_rules.specs.Moves.{has_repeats}
-use Rattle.binding_checks.specs.Bindings.{are_bad, bindings_from}
+use Rattle.std.proofs.Common.{◌≡◌, ◌+◌, ◌∙◌, ◌||◌, ap, sym, arith, not}
+use Rattle.binding_checks.proofs.Words.{cons_option, has_repeats, are_bad, bindings_from}
 use Rattle.binding_checks.proofs.BindingLists.{bindings_next, bindings_end}
 use Rattle.binding_checks.proofs.binding.binds_badly.Goals as goal
 use Rattle.binding_checks.proofs.binding.binds_badly.Goals.{in-Some+else-not-take, in_default}

@@ -1,8 +1,5 @@
 use Rattle.std.proofs.Common.{◌≡◌}
-use Rattle.ring_knowledge.specs.Known.{Known}
-use Rattle.trace_record.specs.Premises.{FitsMemory}
-use Rattle.binding_checks.specs.Contexts.{HoldsContexts}
-use Rattle.binding_checks.specs.Bindings.{are_bad, bindings_from}
+use Rattle.binding_checks.proofs.Words.{Known, FitsMemory, HoldsContexts, are_bad, bindings_from}
 use Rattle.binding_checks.proofs.binding.binds_badly.Given as goal
 
 -- those that are left decide

@@ -1,7 +1,5 @@
 use Rattle.std.proofs.Common.{◌≡◌, ◌+◌, ◌||◌, ◌∙◌, ap, sym, arith}
-use Rattle.std.specs.List.{cons_option, list_any}
-use Rattle.binding_checks.specs.Bindings.{bindings_from, is_to}
-use Rattle.binding_checks.specs.RingSets.{has}
+use Rattle.binding_checks.proofs.Words.{cons_option, list_any, bindings_from, is_to, has}
 use Rattle.binding_checks.proofs.Lists.{or_none}
 use Rattle.binding_checks.proofs.BindingLists.{bindings_next, bindings_end, binds_ring_is, noted}
 use Rattle.binding_checks.proofs.binding.note_bound.Goals as goal

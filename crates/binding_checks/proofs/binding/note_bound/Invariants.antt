@@ -1,10 +1,5 @@
-use Rattle.std.proofs.Common.{◌≡◌, ℕ, ◌||◌}
-use Rattle.std.specs.List.{list_any}
-use Rattle.ring_knowledge.specs.Known.{Known}
-use Rattle.trace_record.specs.Premises.{FitsMemory}
-use Rattle.binding_checks.specs.Contexts.{HoldsContexts}
-use Rattle.binding_checks.specs.Bindings.{bindings_from, is_to}
-use Rattle.binding_checks.specs.RingSets.{has}
+use Rattle.std.proofs.Common.{◌≡◌, ◌||◌, ℕ}
+use Rattle.binding_checks.proofs.Words.{list_any, Known, FitsMemory, HoldsContexts, bindings_from, is_to, has}
 use Rattle.binding_checks.proofs.binding.note_bound.Given as goal
 
 -- with those that are left it comes to the same

@@ -1,7 +1,5 @@
 use Rattle.std.proofs.Common.{◌∙◌, ap, sym, subst}
-use Rattle.commands.specs.declared.command.Command.{Command}
-use Rattle.trace_record.specs.Premises.{FitsMemory}
-use Rattle.binding_checks.specs.Contexts.{dequeue_at}
+use Rattle.binding_checks.proofs.Words.{Command, FitsMemory, dequeue_at}
 use Rattle.binding_checks.proofs.context.dequeue_at.Goals as goal
 
 pub returns-in-AddressDevice : goal.returns-in-AddressDevice

@@ -1,15 +1,5 @@
-use Rattle.std.proofs.Common.{◌≡◌, ℕ, ◌||◌, ◌∙◌, true, false, List, [], ◌∷◌, refl, ap, sym, arith}
-use Rattle.std.specs.Prelude.{is_some}
-use Rattle.std.specs.List.{list_any}
-use Rattle.commands.specs.declared.command.Command.{Command}
-use Rattle.commands.specs.declared.command.Command.TheVariants.{AddressDevice}
-use Rattle.commands.specs.Command.{named_slot}
-use Rattle.traces.specs.declared.header.Header.{Header}
-use Rattle.ring_knowledge.specs.Known.{Known}
-use Rattle.ring_knowledge.specs.Rings.{unfinished}
-use Rattle.device_record.specs.Addressing.{is_address_device}
-use Rattle.ownership_rules.specs.Moves.{is_being_moved, moves_ring}
-use Rattle.binding_checks.specs.Slots.{names_below}
+use Rattle.std.proofs.Common.{◌≡◌, ◌||◌, ◌∙◌, ◌∷◌, ℕ, true, false, List, [], refl, ap, sym, arith, is_some}
+use Rattle.binding_checks.proofs.Words.{list_any, Command, AddressDevice, named_slot, Header, Known, unfinished, is_address_device, is_being_moved, moves_ring, names_below}
 use Rattle.binding_checks.proofs.SlotWalk.{below_none, below_next, below_all, passes_below}
 use Rattle.binding_checks.proofs.moved.is_being_moved.Goals as goal
 

@@ -1,9 +1,5 @@
-use Rattle.std.proofs.Common.{◌≡◌, ℕ, ◌∙◌, Bool, false, refl, ap, sym}
-use Rattle.commands.specs.declared.command.Command.{Command}
-use Rattle.commands.specs.declared.command.Command.TheVariants.{AddressDevice}
-use Rattle.traces.specs.declared.header.Header.{Header}
-use Rattle.ring_knowledge.specs.Known.{Known}
-use Rattle.ownership_rules.specs.Moves.{moves_ring}
+use Rattle.std.proofs.Common.{◌≡◌, ◌∙◌, ℕ, Bool, false, refl, ap, sym}
+use Rattle.binding_checks.proofs.Words.{Command, AddressDevice, Header, Known, moves_ring}
 use Rattle.binding_checks.proofs.moved.moves.Goals as goal
 
 addressed : (h : Header) (k : Known) (r : ℕ) (c : Command) → ((s : ℕ) (bsr : Bool) (n : ℕ) → c ≡ AddressDevice s bsr n → ⊥) → false ≡ moves_ring h k r c

@@ -1,14 +1,5 @@
-use Rattle.std.proofs.Common.{◌≡◌, ℕ, ◌∙◌, Bool, false, Some, ap, sym, refl}
-use Rattle.std.specs.Prelude.{◌&&◌, ◌||◌, not}
-use Rattle.commands.specs.declared.command.Command.{Command}
-use Rattle.commands.specs.declared.command.Command.TheVariants.{AddressDevice, SetTrDequeue}
-use Rattle.commands.specs.Command.{named_context}
-use Rattle.commands.specs.States.{is_at_rest, is_off}
-use Rattle.traces.specs.declared.header.Header.{Header}
-use Rattle.ring_knowledge.specs.Known.{Known}
-use Rattle.ownership_rules.specs.Moves.{Binding, binding_in, is_bad_dequeue, is_bad_move, is_bad_stay}
-use Rattle.binding_checks.specs.declared.context.Dequeue.{Dequeue}
-use Rattle.binding_checks.specs.Contexts.{dequeue_in}
+use Rattle.std.proofs.Common.{◌≡◌, ◌∙◌, ◌&&◌, ◌||◌, ℕ, Bool, false, Some, ap, sym, refl, not}
+use Rattle.binding_checks.proofs.Words.{Command, AddressDevice, SetTrDequeue, named_context, is_at_rest, is_off, Header, Known, Binding, binding_in, is_bad_dequeue, is_bad_move, is_bad_stay, Dequeue, dequeue_in}
 use Rattle.binding_checks.proofs.moves.is_bad_move.Goals as goal
 
 others : (h : Header) (k : Known) (c : Command) → ((s i p : ℕ) (cycle : Bool) → c ≡ SetTrDequeue s i p cycle → ⊥) → ((s : ℕ) (bsr : Bool) (n : ℕ) → c ≡ AddressDevice s bsr n → ⊥) →

@@ -1,7 +1,5 @@
-use Rattle.std.proofs.Common.{◌≡◌, ◌∙◌, Some, get_or, ap, sym, refl, length}
-use Rattle.std.specs.Prelude.{not, slice_get}
-use Rattle.std.proofs.lemmas.Option.{slice_get_read}
-use Rattle.segments.specs.RingView.{declared, floor_number}
+use Rattle.std.proofs.Common.{◌≡◌, ◌∙◌, Some, get_or, ap, sym, refl, length, not, slice_get}
+use Rattle.binding_checks.proofs.Words.{slice_get_read, declared, floor_number}
 use Rattle.binding_checks.proofs.RingRecords.{no_stay, is_there, follows, within, bad_stay, left_over}
 use Rattle.binding_checks.proofs.moves.is_bad_stay.Goals as goal
 

@@ -1,8 +1,5 @@
-use Rattle.std.proofs.Common.{◌≡◌, true, ◌||◌, ◌∙◌, ap, sym}
-use Rattle.ring_knowledge.specs.Rings.{unfinished}
-use Rattle.device_record.specs.Unfinished.{names}
-use Rattle.ownership_rules.specs.Moves.{binds_ring}
-use Rattle.binding_checks.specs.RingSets.{has}
+use Rattle.std.proofs.Common.{◌≡◌, ◌||◌, ◌∙◌, true, ap, sym}
+use Rattle.binding_checks.proofs.Words.{unfinished, names, binds_ring, has}
 use Rattle.binding_checks.proofs.SlotWalk.{named_here, of_some, slot_fits_memory}
 use Rattle.binding_checks.proofs.used.note_bound_of.Goals as goal
 

@@ -1,10 +1,5 @@
-use Rattle.std.proofs.Common.{◌≡◌, ◌||◌, ◌∙◌, ap, sym, arith}
-use Rattle.std.specs.Prelude.{◌&&◌}
-use Rattle.std.specs.List.{list_any}
-use Rattle.ring_knowledge.specs.Rings.{unfinished}
-use Rattle.device_record.specs.Unfinished.{names}
-use Rattle.ownership_rules.specs.Moves.{binds_ring}
-use Rattle.binding_checks.specs.Slots.{names_below}
+use Rattle.std.proofs.Common.{◌≡◌, ◌||◌, ◌∙◌, ◌&&◌, ap, sym, arith}
+use Rattle.binding_checks.proofs.Words.{list_any, unfinished, names, binds_ring, names_below}
 use Rattle.binding_checks.proofs.BindingLists.{binding_names}
 use Rattle.binding_checks.proofs.SlotWalk.{below_none, below_next, below_all}
 use Rattle.binding_checks.proofs.used.rings_bound.Goals as goal

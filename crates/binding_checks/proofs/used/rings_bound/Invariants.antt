@@ -1,12 +1,5 @@
 use Rattle.std.proofs.Common.{◌≡◌, ℕ}
-use Rattle.std.specs.List.{list_any}
-use Rattle.ring_knowledge.specs.Known.{Known}
-use Rattle.ring_knowledge.specs.Rings.{unfinished}
-use Rattle.ownership_rules.specs.Moves.{binds_ring}
-use Rattle.trace_record.specs.FollowsTrace.{FollowsTrace}
-use Rattle.trace_record.specs.Premises.{ContextsFit}
-use Rattle.binding_checks.specs.RingSets.{has}
-use Rattle.binding_checks.specs.Slots.{names_below}
+use Rattle.binding_checks.proofs.Words.{list_any, Known, unfinished, binds_ring, FollowsTrace, ContextsFit, has, names_below}
 use Rattle.binding_checks.proofs.used.rings_bound.Given as goal
 
 -- those that the commands of the slots below bind

@@ -1,8 +1,5 @@
-use Rattle.std.proofs.Common.{◌≡◌, ◌+◌, ◌*◌, ◌/◌, Some, sym, ◌∙◌, ap, arith, unwrap_or}
-use Rattle.guest_memory.specs.Memory.{long_at}
-use Rattle.traces.specs.declared.register.Register.TheVariants.{Dcbaap}
-use Rattle.traces.specs.Register.{register_or_zero}
-use Rattle.ring_knowledge.specs.Writes.{entry_of}
+use Rattle.std.proofs.Common.{◌≡◌, ◌+◌, ◌*◌, ◌/◌, ◌∙◌, Some, sym, ap, arith, unwrap_or}
+use Rattle.command_starts.proofs.Words.{long_at, Dcbaap, register_or_zero, entry_of}
 use Rattle.command_starts.proofs.Taking.{entry_is, named_is}
 use Rattle.command_starts.proofs.devices.device_named.Goals as goal
 

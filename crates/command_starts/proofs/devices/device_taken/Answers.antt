@@ -1,8 +1,5 @@
-use Rattle.std.proofs.Common.{◌≡◌, Some, sym, ◌∙◌, ap, subst}
-use Rattle.std.specs.Prelude.{option_and_then}
-use Rattle.commands.specs.declared.command.Command.TheVariants.{AddressDevice}
-use Rattle.ring_knowledge.specs.Writes.{taken_device}
-use Rattle.command_starts.specs.Starting.{EntryFits}
+use Rattle.std.proofs.Common.{◌≡◌, ◌∙◌, Some, sym, ap, subst, option_and_then}
+use Rattle.command_starts.proofs.Words.{AddressDevice, taken_device, EntryFits}
 use Rattle.command_starts.proofs.Taking.{takes_nothing}
 use Rattle.command_starts.proofs.devices.device_taken.Goals as goal
 

@@ -1,9 +1,5 @@
 use Rattle.std.proofs.Common.{subst, sym}
-use Rattle.std.proofs.lemmas.Result.{on_ok_weaker}
-use Rattle.ring_knowledge.specs.Writes.{with_device}
-use Rattle.device_record.specs.Devices.{FollowsDevices}
-use Rattle.range_words.specs.Holding.{HoldsSoiled}
-use Rattle.command_starts.specs.Starting.{IsWith, LiesOnWords, address_taken}
+use Rattle.command_starts.proofs.Words.{on_ok_weaker, with_device, FollowsDevices, HoldsSoiled, IsWith, LiesOnWords, address_taken}
 use Rattle.command_starts.proofs.Taking.{soiled_with}
 use Rattle.command_starts.proofs.devices.take_device.Goals as goal
 

@@ -1,9 +1,5 @@
-use Rattle.std.proofs.Common.{◌≡◌, ℕ, Option, get_or, sym, ◌∙◌, ap, refl, length, set, subst}
-use Rattle.std.proofs.lemmas.Option.{slice_get_read}
-use Rattle.std.proofs.lemmas.Bool.{ltb-true}
-use Rattle.segments.specs.Places.{touches}
-use Rattle.ring_finder.proofs.FoundRings.{ring_here, none_here}
-use Rattle.trace_record.specs.WordPlaces.{IsGivenBy}
+use Rattle.std.proofs.Common.{◌≡◌, ◌∙◌, ℕ, Option, get_or, sym, ap, refl, length, set, subst, ltb-true}
+use Rattle.command_starts.proofs.Words.{slice_get_read, touches, ring_here, none_here, IsGivenBy}
 use Rattle.command_starts.proofs.NotedRings.{noted_nowhere, noted_here}
 use Rattle.command_starts.proofs.rings.note_on_ring.Goals as goal
 

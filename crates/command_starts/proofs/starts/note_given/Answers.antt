@@ -1,8 +1,5 @@
 use Rattle.std.proofs.Common.{subst, sym}
-use Rattle.std.proofs.lemmas.Result.{on_ok_weaker}
-use Rattle.commands.specs.Command.{named_context}
-use Rattle.trace_record.specs.FollowsTrace.{inputs_of}
-use Rattle.command_starts.specs.Starting.{IsWith}
+use Rattle.command_starts.proofs.Words.{on_ok_weaker, named_context, inputs_of, IsWith}
 use Rattle.command_starts.proofs.Inserting.{mapped_with}
 use Rattle.command_starts.proofs.starts.note_given.Goals as goal
 

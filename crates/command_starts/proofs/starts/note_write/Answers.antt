@@ -1,13 +1,5 @@
-use Rattle.std.proofs.Common.{◌≡◌, refl, sym, ◌∙◌, ap, subst}
-use Rattle.std.specs.Prelude.{option_and_then}
-use Rattle.contexts.specs.Contexts.{device_context_bytes, input_context_bytes}
-use Rattle.ring_knowledge.specs.Rings.{unfinished}
-use Rattle.ring_knowledge.specs.Learned.{learned}
-use Rattle.ring_knowledge.specs.Writes.{taken_device, with_word}
-use Rattle.traces.specs.declared.row.Row.TheVariants.{Write}
-use Rattle.safety.proofs.WrittenKnown.{taken}
-use Rattle.trace_record.specs.FollowsTrace.{device_contexts}
-use Rattle.command_starts.specs.Starting.{IsWith, LiesOnWords, address_taken}
+use Rattle.std.proofs.Common.{◌≡◌, ◌∙◌, refl, sym, ap, subst, option_and_then}
+use Rattle.command_starts.proofs.Words.{device_context_bytes, input_context_bytes, unfinished, learned, taken_device, with_word, Write, taken, device_contexts, IsWith, LiesOnWords, address_taken}
 use Rattle.command_starts.proofs.GivenNow.{new_command, idle, entry_fits, lies_well, new_device}
 use Rattle.command_starts.proofs.Followed.{from_three, devices_then, soiled_then, followed}
 use Rattle.command_starts.proofs.starts.note_write.Goals as goal

@@ -1,7 +1,5 @@
-use Rattle.std.proofs.Common.{◌≡◌, ◌∙◌, ◌+◌, ◌^◌, nat_lt}
-use Rattle.std.specs.Prelude.{◌||◌}
-use Rattle.traces.specs.Header.{touches_ring}
-use Rattle.ownership_rules.specs.Areas.{is_bad_area}
+use Rattle.std.proofs.Common.{◌≡◌, ◌∙◌, ◌+◌, ◌^◌, ◌||◌, nat_lt}
+use Rattle.context_checks.proofs.Words.{touches_ring, is_bad_area}
 use Rattle.context_checks.proofs.Chains.{goes_on, stops}
 use Rattle.context_checks.proofs.areas.is_bad_area.Goals as goal
 use Rattle.context_checks.proofs.areas.is_bad_area.Goals.{then-ends_above, else-ends_above}

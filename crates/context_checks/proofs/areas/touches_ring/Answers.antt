@@ -1,7 +1,5 @@
-use Rattle.std.proofs.Common.{ap, ◌∙◌}
-use Rattle.std.specs.List.{list_any}
-use Rattle.segments.specs.Places.{touches}
-use Rattle.traces.specs.Header.{touches_ring}
+use Rattle.std.proofs.Common.{◌∙◌, ap}
+use Rattle.context_checks.proofs.Words.{list_any, touches, touches_ring}
 use Rattle.context_checks.proofs.areas.touches_ring.Goals as goal
 
 pub returns : goal.returns

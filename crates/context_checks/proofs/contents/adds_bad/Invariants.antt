@@ -1,9 +1,5 @@
-use Rattle.std.proofs.Common.{◌≡◌}
-use Rattle.std.specs.Prelude.{◌&&◌}
-use Rattle.contexts.specs.Contexts.{input_add_flag}
-use Rattle.ring_knowledge.specs.Known.{Known}
-use Rattle.device_record.specs.Devices.{FollowsDevices}
-use Rattle.context_checks.specs.Contents.{adds_bad, is_bad_added_in}
+use Rattle.std.proofs.Common.{◌≡◌, ◌&&◌}
+use Rattle.context_checks.proofs.Words.{input_add_flag, Known, FollowsDevices, adds_bad, is_bad_added_in}
 use Rattle.context_checks.proofs.RestOfRange.{any_left}
 use Rattle.context_checks.proofs.contents.adds_bad.Given as goal
 

@@ -1,8 +1,5 @@
-use Rattle.std.proofs.Common.{◌≡◌, Bool, false, if◌then◌else◌, ap, sym, ◌∙◌}
-use Rattle.std.specs.Prelude.{not}
-use Rattle.commands.specs.Command.{named_context}
-use Rattle.ownership_rules.specs.Commands.{takes_bad_device}
-use Rattle.context_checks.specs.Contents.{adds_bad, has_bad_content_by, lacks_control}
+use Rattle.std.proofs.Common.{◌≡◌, if◌then◌else◌, ◌∙◌, Bool, false, ap, sym, not}
+use Rattle.context_checks.proofs.Words.{named_context, takes_bad_device, adds_bad, has_bad_content_by, lacks_control}
 use Rattle.context_checks.proofs.Chains.{goes_on, stops}
 use Rattle.context_checks.proofs.NamedContexts.{configure_names}
 use Rattle.context_checks.proofs.contents.has_bad_content.Goals as goal

@@ -1,10 +1,5 @@
-use Rattle.std.proofs.Common.{◌≡◌, ◌%◌, ◌==◌, ap, ◌∙◌}
-use Rattle.std.specs.Prelude.{◌||◌, not}
-use Rattle.segments.specs.Places.{overlap}
-use Rattle.contexts.specs.Contexts.{device_context_bytes}
-use Rattle.ring_knowledge.specs.Writes.{entry_of}
-use Rattle.ownership_rules.specs.Areas.{is_bad_area, is_in_range_lease}
-use Rattle.ownership_rules.specs.Commands.{is_bad_device}
+use Rattle.std.proofs.Common.{◌≡◌, ◌%◌, ◌==◌, ◌∙◌, ◌||◌, ap, not}
+use Rattle.context_checks.proofs.Words.{overlap, device_context_bytes, entry_of, is_bad_area, is_in_range_lease, is_bad_device}
 use Rattle.context_checks.proofs.Chains.{goes_on, stops}
 use Rattle.context_checks.proofs.devices.is_bad_device.Goals as goal
 use Rattle.context_checks.proofs.devices.is_bad_device.Goals.{then-is_no_context, else-is_no_context, then-is_bad_area, else-is_bad_area, then-is_in_range_lease, else-is_in_range_lease}

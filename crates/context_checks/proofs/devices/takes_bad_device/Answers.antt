@@ -1,12 +1,5 @@
-use Rattle.std.proofs.Common.{◌≡◌, ℕ, ◌^◌, ◌≤◌, Option, Some, true, false, subst, ap, sym, refl, ◌∙◌}
-use Rattle.std.specs.Prelude.{is_none, not, unwrap_or}
-use Rattle.std.proofs.lemmas.Bool.{and_left}
-use Rattle.guest_memory.specs.Memory.{long_at}
-use Rattle.contexts.specs.Contexts.{slot_entry}
-use Rattle.traces.specs.declared.register.Register.TheVariants.{Dcbaap}
-use Rattle.ring_knowledge.specs.Writes.{device_named, entry_of}
-use Rattle.ownership_rules.specs.Areas.{is_bad_area, is_soiled}
-use Rattle.ownership_rules.specs.Commands.{has_bad_entry, is_bad_device, takes_bad_device}
+use Rattle.std.proofs.Common.{◌≡◌, ◌^◌, ◌≤◌, ◌∙◌, ℕ, Option, Some, true, false, subst, ap, sym, refl, is_none, not, unwrap_or}
+use Rattle.context_checks.proofs.Words.{and_left, long_at, slot_entry, Dcbaap, device_named, entry_of, is_bad_area, is_soiled, has_bad_entry, is_bad_device, takes_bad_device}
 use Rattle.context_checks.proofs.BadEntries.{entry_above}
 use Rattle.context_checks.proofs.Chains.{both_hold, goes_on, stops}
 use Rattle.context_checks.proofs.devices.takes_bad_device.Goals as goal

@@ -1,7 +1,5 @@
-use Rattle.std.proofs.Common.{◌≡◌}
-use Rattle.std.specs.Prelude.{◌&&◌}
-use Rattle.contexts.specs.Contexts.{input_add_flag}
-use Rattle.context_checks.specs.Contents.{adds_left_out, is_left_out_in}
+use Rattle.std.proofs.Common.{◌≡◌, ◌&&◌}
+use Rattle.context_checks.proofs.Words.{input_add_flag, adds_left_out, is_left_out_in}
 use Rattle.context_checks.proofs.RestOfRange.{any_left}
 use Rattle.context_checks.proofs.endpoints.adds_left_out.Given as goal
 

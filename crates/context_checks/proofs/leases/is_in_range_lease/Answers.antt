@@ -1,10 +1,5 @@
-use Rattle.std.proofs.Common.{◌≡◌, sym, ◌∙◌}
-use Rattle.std.specs.Prelude.{◌||◌}
-use Rattle.std.specs.List.{list_any}
-use Rattle.segments.specs.Places.{touches}
-use Rattle.traces.specs.Header.{event_shape}
-use Rattle.traces.specs.declared.register.Register.TheVariants.{Erstba}
-use Rattle.ownership_rules.specs.OpenLeases.{context_ranges, covers, entry_ranges, table_range}
+use Rattle.std.proofs.Common.{◌≡◌, ◌∙◌, ◌||◌, sym}
+use Rattle.context_checks.proofs.Words.{list_any, touches, event_shape, Erstba, context_ranges, covers, entry_ranges, table_range}
 use Rattle.context_checks.proofs.Chains.{goes_on, stops}
 use Rattle.context_checks.proofs.HeldRanges.{any_range}
 use Rattle.context_checks.proofs.leases.is_in_range_lease.Goals as goal

@@ -1,10 +1,5 @@
 use Rattle.std.proofs.Common.{◌≡◌, ℕ}
-use Rattle.std.specs.List.{list_any}
-use Rattle.traces.specs.declared.header.Header.{Header}
-use Rattle.ring_knowledge.specs.Known.{Known}
-use Rattle.ownership_rules.specs.OpenLeases.{covers, entry_ranges}
-use Rattle.trace_record.specs.FollowsTrace.{FollowsTrace}
-use Rattle.context_checks.specs.Entries.{touches_entry}
+use Rattle.context_checks.proofs.Words.{list_any, Header, Known, covers, entry_ranges, FollowsTrace, touches_entry}
 use Rattle.context_checks.proofs.RestOfRange.{any_left}
 use Rattle.context_checks.proofs.leases.touches_entries.Given as goal
 

@@ -1,11 +1,5 @@
-use Rattle.std.proofs.Common.{◌≡◌, ◌≤◌, ◌^◌, ap, sym, ◌∙◌, refl, arith}
-use Rattle.std.specs.Prelude.{is_some, unwrap_or}
-use Rattle.std.proofs.lemmas.Bool.{and_left, and_right, le-ltb}
-use Rattle.segments.specs.Places.{overlap}
-use Rattle.contexts.specs.Contexts.{slot_entry}
-use Rattle.traces.specs.declared.register.Register.TheVariants.{Dcbaap}
-use Rattle.ring_knowledge.specs.Writes.{entry_of}
-use Rattle.context_checks.specs.Entries.{touches_entry}
+use Rattle.std.proofs.Common.{◌≡◌, ◌≤◌, ◌^◌, ◌∙◌, ap, sym, refl, arith, is_some, unwrap_or, le-ltb}
+use Rattle.context_checks.proofs.Words.{and_left, and_right, overlap, slot_entry, Dcbaap, entry_of, touches_entry}
 use Rattle.context_checks.proofs.Chains.{both_hold}
 use Rattle.context_checks.proofs.leases.touches_entry.Goals as goal
 

@@ -1,8 +1,5 @@
-use Rattle.std.proofs.Common.{◌≡◌, sym, ◌∙◌}
-use Rattle.std.specs.Prelude.{◌||◌}
-use Rattle.std.proofs.lemmas.Bool.{false≢true}
-use Rattle.commands.specs.Command.{named_context, named_endpoint, named_slot}
-use Rattle.ownership_rules.specs.Commands.{has_bad_context, is_bad_command, names_disabled_endpoint, names_disabled_slot}
+use Rattle.std.proofs.Common.{◌≡◌, ◌∙◌, ◌||◌, sym}
+use Rattle.context_checks.proofs.Words.{false≢true, named_context, named_endpoint, named_slot, has_bad_context, is_bad_command, names_disabled_endpoint, names_disabled_slot}
 use Rattle.context_checks.proofs.BadContents.{bad_content}
 use Rattle.context_checks.proofs.Chains.{goes_on, stops}
 use Rattle.context_checks.proofs.rules.is_bad_command.Goals as goal

@@ -1,8 +1,5 @@
-use Rattle.std.proofs.Common.{◌≡◌, true, refl, get_or, sym, ◌∙◌, ap, arith, length}
-use Rattle.std.specs.Prelude.{◌==◌, not}
-use Rattle.std.proofs.lemmas.Bool.{eqb-true}
-use Rattle.std.proofs.lemmas.Option.{slice_get_read, slice_get_within}
-use Rattle.traces.specs.Header.{is_driver_kind}
+use Rattle.std.proofs.Common.{◌≡◌, ◌∙◌, ◌==◌, true, refl, get_or, sym, ap, arith, length, not, eqb-true}
+use Rattle.declaration_checks.proofs.Words.{slice_get_read, slice_get_within, is_driver_kind}
 use Rattle.declaration_checks.proofs.FoundRing.{ring_here, none_here}
 use Rattle.declaration_checks.proofs.Declared.{undeclared, on_events, declared_ok, declared_bad}
 use Rattle.declaration_checks.proofs.declarations.check_declaration.Goals as goal

@@ -1,5 +1,4 @@
-use Rattle.std.specs.Prelude.{IfOk, OnOk}
-use Rattle.std.proofs.Common.{subst}
+use Rattle.std.proofs.Common.{IfOk, OnOk, subst}
 use Rattle.ownership_checker.specs.Verdicts.{IsAccepted}
 use Rattle.ownership_checker.specs.Walks.{WalksRead}
 use Rattle.ownership_checker.proofs.Harmless.{harmless_if}

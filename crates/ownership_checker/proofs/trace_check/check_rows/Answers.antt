@@ -1,9 +1,5 @@
 use Rattle.std.proofs.Common.{◌≡◌, [], Some, length, sym, subst, arith}
-use Rattle.ring_knowledge.specs.Known.{nothing}
-use Rattle.ring_knowledge.specs.Learned.{known}
-use Rattle.ownership_rules.specs.declared.refusal.Refusal.{Refusal}
-use Rattle.ownership_rules.specs.Rules.{verdict_from}
-use Rattle.row_checks.proofs.Passes.{by_place, refused, room_for}
+use Rattle.ownership_checker.proofs.Words.{nothing, known, Refusal, verdict_from, by_place, refused, room_for}
 use Rattle.ownership_checker.proofs.Checking.{started, stepped, ended, walked}
 use Rattle.ownership_checker.proofs.trace_check.check_rows.Goals as goal
 

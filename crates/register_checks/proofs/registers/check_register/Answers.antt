@@ -1,5 +1,4 @@
-use Rattle.std.proofs.Common.{ap, sym, ◌∙◌}
-use Rattle.std.specs.Prelude.{not}
+use Rattle.std.proofs.Common.{◌∙◌, ap, sym, not}
 use Rattle.register_checks.proofs.RegisterRows.{bad_register, bad_erdp, step_is}
 use Rattle.register_checks.proofs.registers.check_register.Goals as goal
 

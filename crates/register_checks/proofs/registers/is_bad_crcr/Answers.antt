@@ -1,10 +1,5 @@
-use Rattle.std.specs.Prelude.{◌==◌, ◌||◌, not}
-use Rattle.segments.specs.Places.{address_of}
-use Rattle.traces.specs.declared.ring.Ring.{Ring}
-use Rattle.std.proofs.Common.{◌*◌, ◌/◌, ◌%◌, get_or, refl, sym, ◌∙◌, ap}
-use Rattle.traces.specs.Header.{is_command_kind}
-use Rattle.ring_finder.proofs.FoundRings.{command_found, no_command_ring, ring_here}
-use Rattle.ring_finder.proofs.RingsApart.{among_at}
+use Rattle.std.proofs.Common.{◌==◌, ◌||◌, ◌*◌, ◌/◌, ◌%◌, ◌∙◌, not, get_or, refl, sym, ap}
+use Rattle.register_checks.proofs.Words.{address_of, Ring, is_command_kind, command_found, no_command_ring, ring_here, among_at}
 use Rattle.register_checks.proofs.StartRules.{crcr_is, crcr_without}
 use Rattle.register_checks.proofs.registers.is_bad_crcr.Goals as goal
 

@@ -1,7 +1,5 @@
-use Rattle.std.proofs.Common.{◌<◌, ◌*◌, ◌≡◌, ap, sym, subst, length, ◌∙◌}
-use Rattle.std.specs.Prelude.{◌||◌}
-use Rattle.event_ring.specs.EventRing.{is_table_fault}
-use Rattle.ownership_rules.specs.Areas.{is_bad_area}
+use Rattle.std.proofs.Common.{◌<◌, ◌*◌, ◌≡◌, ◌∙◌, ◌||◌, ap, sym, subst, length}
+use Rattle.register_checks.proofs.Words.{is_table_fault, is_bad_area}
 use Rattle.register_checks.proofs.RegisterTests.{or_ends, or_goes}
 use Rattle.register_checks.proofs.StartRules.{few_segments, table_is}
 use Rattle.register_checks.proofs.registers.is_bad_place.Goals as goal

@@ -1,7 +1,5 @@
-use Rattle.std.proofs.Common.{ap, sym, ◌∙◌}
-use Rattle.std.specs.Prelude.{◌||◌}
-use Rattle.traces.specs.declared.register.Register.TheVariants.{Erstba, Erstsz}
-use Rattle.ownership_rules.specs.Registers.{is_bad_register, is_written}
+use Rattle.std.proofs.Common.{◌∙◌, ◌||◌, ap, sym}
+use Rattle.register_checks.proofs.Words.{Erstba, Erstsz, is_bad_register, is_written}
 use Rattle.register_checks.proofs.RegisterTests.{or_none, of_crcr, of_dcbaap, of_config, of_size, of_table, of_others}
 use Rattle.register_checks.proofs.registers.is_bad_register.Goals as goal
 

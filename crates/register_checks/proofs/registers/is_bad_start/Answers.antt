@@ -1,5 +1,4 @@
-use Rattle.std.proofs.Common.{sym, ◌∙◌, ap}
-use Rattle.std.specs.Prelude.{◌&&◌}
+use Rattle.std.proofs.Common.{◌∙◌, ◌&&◌, sym, ap}
 use Rattle.register_checks.proofs.StartRules.{after_start, at_reset, at_start, bit_on, bit_off, Lacks}
 use Rattle.register_checks.proofs.registers.is_bad_start.Goals as goal
 

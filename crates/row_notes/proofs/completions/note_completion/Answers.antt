@@ -1,8 +1,5 @@
 use Rattle.std.proofs.Common.{◌∙◌, ◌++◌, ◌∷◌, [], ap, map}
-use Rattle.trb.specs.Block.{code}
-use Rattle.lazy_steps.specs.Notes.{completing_look, open_stopped}
-use Rattle.lazy_steps.specs.declared.note.Note.TheVariants.{Begun}
-use Rattle.command_ends.proofs.Finished.{was_started}
+use Rattle.row_notes.proofs.Words.{code, completing_look, open_stopped, Begun, was_started}
 use Rattle.row_notes.proofs.Kept.{some_command}
 use Rattle.row_notes.proofs.Lists.{from_none, in_turn}
 use Rattle.row_notes.proofs.Notings.{may_place, placed_is}

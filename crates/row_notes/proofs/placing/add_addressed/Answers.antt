@@ -1,10 +1,5 @@
 use Rattle.std.proofs.Common.{◌∙◌, ◌++◌, ap}
-use Rattle.contexts.specs.View.{View}
-use Rattle.contexts.specs.Contexts.{context_cycle, context_pointer}
-use Rattle.commands.specs.declared.state.EndpointState.TheVariants.{Running}
-use Rattle.commands.specs.Changes.{Places}
-use Rattle.lazy_runs.specs.Needs.{ring_placed}
-use Rattle.lazy_steps.specs.Notes.{listed}
+use Rattle.row_notes.proofs.Words.{View, context_cycle, context_pointer, Running, Places, ring_placed, listed}
 use Rattle.row_notes.proofs.Lists.{on_more}
 use Rattle.row_notes.proofs.placing.add_addressed.Goals as goal
 

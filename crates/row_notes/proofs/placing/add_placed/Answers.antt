@@ -1,12 +1,5 @@
 use Rattle.std.proofs.Common.{◌≡◌, ◌∙◌, ◌++◌, false, true, ap, subst, sym}
-use Rattle.commands.specs.declared.command.Command.TheVariants.{ConfigureEndpoint}
-use Rattle.commands.specs.declared.state.EndpointState.TheVariants.{Stopped}
-use Rattle.commands.specs.Changes.{placed_by_context}
-use Rattle.controller_model.specs.Following.{HasRoom}
-use Rattle.lazy_runs.specs.Needs.{ring_placed}
-use Rattle.lazy_steps.specs.Notes.{listed}
-use Rattle.command_ends.proofs.Succeeded.{words_are}
-use Rattle.row_notes.specs.Added.{rings_added}
+use Rattle.row_notes.proofs.Words.{ConfigureEndpoint, Stopped, placed_by_context, HasRoom, ring_placed, listed, words_are, rings_added}
 use Rattle.row_notes.proofs.Lists.{nothing_more, on_more}
 use Rattle.row_notes.proofs.Placings.{of_address, of_configure, of_deconfigure, of_dequeue, of_others}
 use Rattle.row_notes.proofs.placing.add_placed.Goals as goal

@@ -1,9 +1,5 @@
 use Rattle.std.proofs.Common.{◌≡◌, ◌∙◌, ◌++◌, ◌∷◌, [], Some, ap, get_or, sym}
-use Rattle.std.proofs.lemmas.Option.{same_Some, slice_get-get_or, slice_get_within}
-use Rattle.traces.specs.declared.ring.Ring.{Ring}
-use Rattle.ring_knowledge.specs.Rings.{RingSpot}
-use Rattle.lazy_steps.specs.Notes.{transfer_notes}
-use Rattle.endpoint_checks.specs.NamedSpots.{IsNamedAt}
+use Rattle.row_notes.proofs.Words.{same_Some, slice_get-get_or, slice_get_within, Ring, RingSpot, transfer_notes, IsNamedAt}
 use Rattle.row_notes.proofs.Lists.{nothing_more, on_more, one_behind}
 use Rattle.row_notes.proofs.Looks.{transfer_is}
 use Rattle.row_notes.proofs.Notings.{no_spot}

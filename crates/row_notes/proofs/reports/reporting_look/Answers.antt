@@ -1,7 +1,5 @@
 use Rattle.std.proofs.Common.{◌≡◌, ◌+◌, ◌∙◌, ap, sym}
-use Rattle.std.proofs.lemmas.Option.{none-some, same_Some}
-use Rattle.trb.specs.CompletionCode.{is_stopping}
-use Rattle.lazy_steps.specs.declared.note.Note.TheVariants.{Taken}
+use Rattle.row_notes.proofs.Words.{none-some, same_Some, is_stopping, Taken}
 use Rattle.row_notes.proofs.Looks.{look_going_on, look_stopped, place_of}
 use Rattle.row_notes.proofs.reports.reporting_look.Goals as goal
 

@@ -1,10 +1,5 @@
-use Rattle.std.proofs.Common.{◌≡◌, Some, get_or, ap, sym, ◌∙◌}
-use Rattle.std.proofs.lemmas.Option.{same_Some, slice_get-get_or, slice_get_within}
-use Rattle.traces.specs.declared.ring.Ring.{Ring}
-use Rattle.traces.specs.Header.{command_id}
-use Rattle.ring_knowledge.specs.Rings.{next_command}
-use Rattle.ring_finder.proofs.FoundRings.{no_command_ring}
-use Rattle.command_ends.proofs.CommandRings.{IsCommandNumber, command_id_is, command_number, has_commands, read_at}
+use Rattle.std.proofs.Common.{◌≡◌, ◌∙◌, Some, get_or, ap, sym}
+use Rattle.row_notes.proofs.Words.{same_Some, slice_get-get_or, slice_get_within, Ring, command_id, next_command, no_command_ring, IsCommandNumber, command_id_is, command_number, has_commands, read_at}
 use Rattle.row_notes.proofs.Kept.{next_there}
 use Rattle.row_notes.proofs.rings.next_place.Goals as goal
 

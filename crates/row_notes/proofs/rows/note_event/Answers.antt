@@ -1,8 +1,5 @@
 use Rattle.std.proofs.Common.{◌∙◌, ◌++◌, ap, refl, sym}
-use Rattle.trb.specs.declared.kind.BlockKind.TheVariants.{TransferEvent}
-use Rattle.trb.specs.Block.{kind}
-use Rattle.traces.specs.declared.row.Row.TheVariants.{Read}
-use Rattle.safety.proofs.CleanRows.{event_facts}
+use Rattle.row_notes.proofs.Words.{TransferEvent, kind, Read, event_facts}
 use Rattle.row_notes.proofs.Kept.{some_command}
 use Rattle.row_notes.proofs.Lists.{both_ok}
 use Rattle.row_notes.proofs.Notings.{alone, completed, completion_possible, notes_read, other_notes}

@@ -1,11 +1,5 @@
-use Rattle.std.proofs.Common.{◌≡◌, ◌++◌, ℕ, map, drop}
-use Rattle.std.specs.Prelude.{All}
-use Rattle.traces.specs.declared.row.Row.{Row}
-use Rattle.ring_knowledge.specs.Known.{Known}
-use Rattle.ring_knowledge.specs.Learned.{learned}
-use Rattle.safety.specs.Keeps.{IsTransferRing}
-use Rattle.lazy_steps.specs.Notes.{placed_note}
-use Rattle.trace_record.specs.FollowsTrace.{FollowsTrace}
+use Rattle.std.proofs.Common.{◌≡◌, ◌++◌, ℕ, map, drop, All}
+use Rattle.row_notes.proofs.Words.{Row, Known, learned, IsTransferRing, placed_note, FollowsTrace}
 use Rattle.row_notes.proofs.rows.note_placed.Given as goal
 
 -- where the rings before the index stand is noted

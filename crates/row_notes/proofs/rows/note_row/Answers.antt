@@ -1,7 +1,5 @@
-use Rattle.std.proofs.Common.{◌≡◌, [], ◌∙◌, ◌++◌, ap, subst, sym}
-use Rattle.ownership_rules.specs.Rules.{broken}
-use Rattle.lazy_steps.specs.Notes.{row_notes}
-use Rattle.row_notes.specs.Noted.{AreNoted}
+use Rattle.std.proofs.Common.{◌≡◌, ◌∙◌, ◌++◌, [], ap, subst, sym}
+use Rattle.row_notes.proofs.Words.{broken, row_notes, AreNoted}
 use Rattle.row_notes.proofs.Lists.{more_ok}
 use Rattle.row_notes.proofs.Notings.{alone, none_said, quiet}
 use Rattle.row_notes.proofs.rows.note_row.Goals as goal

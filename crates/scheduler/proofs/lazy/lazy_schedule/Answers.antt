@@ -1,13 +1,5 @@
-use Rattle.std.proofs.Common.{◌≡◌, ◌∙◌, ◌+◌, ◌<◌, ◌≤◌, List, ap, arith, length, reverse, subst, sym}
-use Rattle.std.specs.Prelude.{All}
-use Rattle.std.proofs.lemmas.List.Elements.{All-weaker}
-use Rattle.traces.specs.declared.row.Row.{Row}
-use Rattle.traces.specs.declared.step.Step.{Step}
-use Rattle.traces.specs.Rows.{AreSteps, FitsLine, IsRow}
-use Rattle.lazy_runs.specs.Lazy.{lazy_steps}
-use Rattle.lazy_runs.specs.Law.{ContainsAll}
-use Rattle.lazy_runs.proofs.LazyRuns.{all_are_read}
-use Rattle.row_checks.proofs.Harmless.{harmless}
+use Rattle.std.proofs.Common.{◌≡◌, ◌∙◌, ◌+◌, ◌<◌, ◌≤◌, List, ap, arith, length, reverse, subst, sym, All}
+use Rattle.scheduler.proofs.Words.{All-weaker, Row, Step, AreSteps, FitsLine, IsRow, lazy_steps, ContainsAll, all_are_read, harmless}
 use Rattle.scheduler.proofs.Fitting.{lazy_steps_are}
 use Rattle.scheduler.proofs.Replays.{without_harm}
 use Rattle.scheduler.proofs.lazy.lazy_schedule.Goals as goal

@@ -1,8 +1,5 @@
-use Rattle.std.proofs.Common.{◌∙◌, ap, sym, Result, Ok, Err}
-use Rattle.std.specs.Prelude.{IfOk}
-use Rattle.segments.specs.declared.spot.Spot.TheVariants.{Data}
-use Rattle.lazy_steps.specs.Passes.{filled, steps_of}
-use Rattle.lazy_steps.proofs.StepsOfRows.{steps_law}
+use Rattle.std.proofs.Common.{◌∙◌, ap, sym, Result, Ok, Err, IfOk}
+use Rattle.scheduler.proofs.Words.{Data, filled, steps_of, steps_law}
 use Rattle.scheduler.proofs.lazy.steps_of.Goals as goal
 
 if_ok : {T E : Type 0} (P Q : T → Type 0) (r : Result T E) → ((x : T) → P x → Q x) → IfOk r P → IfOk r Q

@@ -1,11 +1,5 @@
-use Rattle.std.proofs.Common.{◌≡◌, ◌+◌, arith, subst, sym}
-use Rattle.std.specs.Prelude.{◌++◌, All, map, reverse, take}
-use Rattle.ring_knowledge.specs.Known.{Known}
-use Rattle.ring_knowledge.specs.Learned.{known}
-use Rattle.safety.specs.Keeps.{IsTransferRing}
-use Rattle.lazy_steps.specs.Notes.{placed_note}
-use Rattle.row_checks.specs.Tracking.{IsTracked}
-use Rattle.row_checks.proofs.Passes.{by_place}
+use Rattle.std.proofs.Common.{◌≡◌, ◌+◌, ◌++◌, arith, subst, sym, All, map, reverse, take}
+use Rattle.scheduler.proofs.Words.{Known, known, IsTransferRing, placed_note, IsTracked, by_place}
 use Rattle.scheduler.proofs.Noting.{IsNoted, breaks_none, ended, keeps, none_refuses, started, stepped, tracked}
 use Rattle.scheduler.proofs.notes.notes_of.Goals as goal
 

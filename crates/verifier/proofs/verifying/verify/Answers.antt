@@ -1,5 +1,4 @@
-use Rattle.std.proofs.Common.{◌≡◌, true, subst, Result, Ok, Err}
-use Rattle.std.specs.Prelude.{IfOk}
+use Rattle.std.proofs.Common.{◌≡◌, true, subst, Result, Ok, Err, IfOk}
 use Rattle.row_checks.specs.Accepted.{IsAccepted}
 use Rattle.row_checks.proofs.Harmless.{harmless}
 use Rattle.verifier.proofs.verifying.verify.Goals as goal

@@ -1,11 +1,5 @@
-use Rattle.std.proofs.Common.{◌≡◌, true, get_or, sym, ◌∙◌, ap, arith, subst, refl, length, Option, Some}
-use Rattle.std.specs.Prelude.{not, ℕ}
-use Rattle.std.proofs.lemmas.Option.{slice_get_read, slice_get_within}
-use Rattle.segments.specs.Places.{touches}
-use Rattle.traces.specs.Header.{is_driver_kind}
-use Rattle.ring_finder.proofs.FoundRings.{ring_here, none_here}
-use Rattle.ring_finder.proofs.RingsApart.{among_at}
-use Rattle.trace_record.specs.WordPlaces.{IsGivenBy}
+use Rattle.std.proofs.Common.{◌≡◌, ◌∙◌, true, get_or, sym, ap, arith, subst, refl, length, Option, Some, not, ℕ}
+use Rattle.write_checks.proofs.Words.{slice_get_read, slice_get_within, touches, is_driver_kind, ring_here, none_here, among_at, IsGivenBy}
 use Rattle.write_checks.proofs.RingWrites.{owned, owned_by_events}
 use Rattle.write_checks.proofs.WriteSteps.{nowhere_allowed, IsTold, judged, allowed}
 use Rattle.write_checks.proofs.checks.check_write.Goals as goal

@@ -1,8 +1,5 @@
-use Rattle.std.proofs.Common.{rules, ◌≡◌, [], ◌∷◌, Option, Some, ap, sym, ◌∙◌}
-use Rattle.ring_knowledge.specs.declared.ring_record.RingGiving.{RingGiving}
-use Rattle.ring_knowledge.specs.declared.ring_record.RingGiving.TheVariants.{Position}
-use Rattle.ownership_rules.specs.Refusal.{first_broken}
-use Rattle.write_checks.specs.WriteTests.{given_tests, place_tests, position_tests}
+use Rattle.std.proofs.Common.{◌≡◌, ◌∷◌, ◌∙◌, rules, [], Option, Some, ap, sym}
+use Rattle.write_checks.proofs.Words.{RingGiving, Position, first_broken, given_tests, place_tests, position_tests}
 use Rattle.write_checks.proofs.GivenTests.{first_fails, none_fails}
 use Rattle.write_checks.proofs.checks.giving_refusal.Goals as goal
 

@@ -1,7 +1,5 @@
-use Rattle.std.proofs.Common.{ap, sym, ◌∙◌}
-use Rattle.guest_memory.specs.Memory.{put}
-use Rattle.trb.specs.Block.{block_at}
-use Rattle.segments.proofs.DataPlaces.{link_aligned, link_ends}
+use Rattle.std.proofs.Common.{◌∙◌, ap, sym}
+use Rattle.write_checks.proofs.Words.{put, block_at, link_aligned, link_ends}
 use Rattle.write_checks.proofs.Given.{link_there, wrong_link, interrupting, crossed_well}
 use Rattle.write_checks.proofs.crossings.crossing_refusal.Goals as goal
 

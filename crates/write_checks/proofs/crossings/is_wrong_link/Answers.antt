@@ -1,9 +1,5 @@
-use Rattle.std.proofs.Common.{ap, sym, ◌∙◌}
-use Rattle.std.specs.Prelude.{not}
-use Rattle.trb.specs.Bits.{is_set}
-use Rattle.trb.specs.Block.{aligned, word}
-use Rattle.trb.specs.Kind.{is_link}
-use Rattle.segments.specs.Givings.{same}
+use Rattle.std.proofs.Common.{◌∙◌, ap, sym, not}
+use Rattle.write_checks.proofs.Words.{is_set, aligned, word, is_link, same}
 use Rattle.write_checks.proofs.WrongLinks.{leads_elsewhere, no_link, toggles_wrong}
 use Rattle.write_checks.proofs.crossings.is_wrong_link.Goals as goal
 

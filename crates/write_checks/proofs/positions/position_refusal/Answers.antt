@@ -1,10 +1,6 @@
-use Rattle.std.proofs.Common.{ap, sym, ◌∙◌}
-use Rattle.std.specs.Prelude.{if◌then◌else◌}
-use Rattle.guest_memory.specs.Memory.{put}
-use Rattle.trb.specs.Block.{block_at, same_words, with_cycle}
-use Rattle.segments.proofs.Positions.{address_aligned, address_ends}
+use Rattle.std.proofs.Common.{◌∙◌, if◌then◌else◌, ap, sym}
+use Rattle.write_checks.proofs.Words.{put, block_at, same_words, with_cycle, address_aligned, address_ends, from_not}
 use Rattle.write_checks.proofs.Given.{not_declared, other_words, split, given_well, cycle_bit}
-use Rattle.ring_finder.proofs.ListTests.{from_not}
 use Rattle.write_checks.proofs.positions.position_refusal.Goals as goal
 
 pub returns-in_default : goal.returns-in_default

@@ -1,8 +1,5 @@
-use Rattle.answers.specs.Inputs.{opened}
-use Rattle.xhci_cli.specs.ReplayAnswers.{IsReplayBeside}
+use Rattle.xhci_cli.proofs.Words.{opened, IsReplayBeside, opened_holds, failure, read_is, told_right}
 use Rattle.xhci_cli.proofs.Replayed.{beside_held}
-use Rattle.answers.proofs.Held.{opened_holds}
-use Rattle.answers.proofs.Told.{failure, read_is, told_right}
 use Rattle.xhci_cli.proofs.replay_run.run_beside.Goals as goal
 
 pub returns-in-Err-clause-told : goal.returns-in-Err-clause-told

@@ -1,9 +1,5 @@
 use Rattle.std.proofs.Common.{inl, inr, subst, sym}
-use Rattle.answers.specs.Inputs.{IsUnread, opened}
-use Rattle.xhci_cli.specs.ReplayAnswers.{IsReplayAnswer}
-use Rattle.answers.specs.declared.answer.Answer.{Answer}
-use Rattle.answers.proofs.Held.{text_held, unread_right}
-use Rattle.answers.proofs.Told.{failure, read_is, told_right}
+use Rattle.xhci_cli.proofs.Words.{IsUnread, opened, IsReplayAnswer, Answer, text_held, unread_right, failure, read_is, told_right}
 use Rattle.xhci_cli.proofs.replay_run.run_replay.Goals as goal
 
 pub returns-in-Err-clause-told : goal.returns-in-Err-clause-told

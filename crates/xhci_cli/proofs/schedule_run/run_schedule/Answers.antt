@@ -1,7 +1,5 @@
 use Rattle.std.proofs.Common.{inl}
-use Rattle.answers.proofs.Held.{answer_held}
-use Rattle.answers.proofs.Told.{failure, read_is, told_right}
-use Rattle.xhci_cli.specs.ScheduleAnswers.{IsScheduleAnswer, IsScheduled}
+use Rattle.xhci_cli.proofs.Words.{answer_held, failure, read_is, told_right, IsScheduleAnswer, IsScheduled}
 use Rattle.xhci_cli.proofs.schedule_run.run_schedule.Goals as goal
 
 pub returns-in-Ok-clause-told : goal.returns-in-Ok-clause-told

@@ -1,8 +1,5 @@
 use Rattle.std.proofs.Common.{inl}
-use Rattle.answers.specs.Inputs.{opened}
-use Rattle.answers.proofs.Held.{answer_held, opened_holds}
-use Rattle.answers.proofs.Told.{failure, read_is, told_right}
-use Rattle.xhci_cli.specs.VerifyAnswers.{IsVerdictBeside, IsVerdictOn}
+use Rattle.xhci_cli.proofs.Words.{opened, answer_held, opened_holds, failure, read_is, told_right, IsVerdictBeside, IsVerdictOn}
 use Rattle.xhci_cli.proofs.verify_run.verify_beside.Goals as goal
 
 pub returns-in-Err-clause-told : goal.returns-in-Err-clause-told
