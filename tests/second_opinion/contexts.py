@@ -38,9 +38,10 @@ def endpoint_type(known, context, index):
 
 
 def is_left_out_endpoint(known, context, index):
-    """An isochronous endpoint, or one with streams."""
+    """An endpoint with streams; before version 3 an isochronous one too."""
     streams = bits(known.word(endpoint_context(known, context, index)), 10, 5)
-    return endpoint_type(known, context, index) in (1, 5) or streams > 0
+    is_isochronous = endpoint_type(known, context, index) in (1, 5)
+    return (is_isochronous and known.trace.version < 3) or streams > 0
 
 
 def binding_in(known, context, index):

@@ -40,7 +40,7 @@ def halves(number):
 class Driver:
     def __init__(self, seed):
         self.pick = random.Random(seed)
-        self.trace = Trace(self.pick.choice([32, 64]), self.some_rings(), 0, [])
+        self.trace = Trace(self.pick.choice([1, 2, 3]), self.pick.choice([32, 64]), self.some_rings(), 0, [])
         self.trace.first = 3 + len(self.trace.rings)
         self.array = ARRAY if self.pick.random() < 0.8 else self.odd_address(64)
         self.before = []
@@ -285,7 +285,7 @@ def fields_of(row):
 
 def text_of(trace):
     rings = [['ring', '%02x' % ring.number, ring.kind, *('%016x:%04x' % segment for segment in ring.segments)] for ring in trace.rings]
-    lines = [['xtrace', '1'], ['ctx', '20' if trace.context_bytes == 32 else '40'], *rings, *(fields_of(row) for row in trace.rows)]
+    lines = [['xtrace', str(trace.version)], ['ctx', '20' if trace.context_bytes == 32 else '40'], *rings, *(fields_of(row) for row in trace.rows)]
     return ''.join(' '.join(line) + '\n' for line in lines).encode()
 
 
@@ -299,5 +299,5 @@ def driven(seed, steps, most_refused):
         by_rule.setdefault(number, []).append((rows, number))
     picked = sorted((i, number) for number, refused in by_rule.items() for i in range(len(refused)))[:most_refused]
     refused = [by_rule[number][i] for i, number in picked]
-    with_rows = lambda rows: text_of(Trace(driver.trace.context_bytes, driver.trace.rings, driver.trace.first, rows))
+    with_rows = lambda rows: text_of(Trace(driver.trace.version, driver.trace.context_bytes, driver.trace.rings, driver.trace.first, rows))
     return with_rows(driver.trace.rows), [(with_rows(rows), number) for rows, number in refused]

@@ -54,9 +54,10 @@ class BadNumber(Exception):
 
 
 class Trace:
-    """A header and rows; `first` is the number of the first row's line."""
+    """A header and rows; `version` is 1, 2 or 3, `first` the number of the first row's line."""
 
-    def __init__(self, context_bytes, rings, first, rows):
+    def __init__(self, version, context_bytes, rings, first, rows):
+        self.version = version
         self.context_bytes = context_bytes
         self.rings = rings
         self.first = first
@@ -191,7 +192,8 @@ def read_line(line, content, is_ended, rings, rows):
 def read_trace(text):
     """The trace of a text (bytes), or BadLine."""
     lines = lines_of(text)
-    if not lines or lines[0] != (b'xtrace 1', True):
+    versions = {(b'xtrace %d' % version, True): version for version in (1, 2, 3)}
+    if not lines or lines[0] not in versions:
         raise BadLine(1, 1)
     if len(lines) < 2 or lines[1] not in ((b'ctx 20', True), (b'ctx 40', True)):
         raise BadLine(2, 1)
@@ -200,4 +202,4 @@ def read_trace(text):
         said = read_line(line, content, is_ended, rings, rows)
         (rings if isinstance(said, Ring) else rows).append(said)
     context_bytes = 32 if lines[1][0] == b'ctx 20' else 64
-    return Trace(context_bytes, rings, len(lines) - len(rows) + 1, rows)
+    return Trace(versions[lines[0]], context_bytes, rings, len(lines) - len(rows) + 1, rows)

@@ -17,7 +17,7 @@ use Rattle.ring_knowledge.specs.Rings.{unfinished}
 use Rattle.ring_knowledge.specs.Writes.{device_named, entry_of, no_device, taken_device, command_given}
 use Rattle.ownership_rules.specs.Commands as commands
 use Rattle.ownership_rules.specs.OpenLeases.{slots}
-use Rattle.ownership_rules.specs.Rules.{broken}
+use Rattle.ownership_rules.specs.Rules.{lenient}
 use Rattle.safety.specs.Keeps.{DeviceKeeps, DriverKeeps}
 use Rattle.safety.proofs.Headers.{ring_shape}
 use Rattle.safety.proofs.CommandRing.{due_has_ring}
@@ -39,7 +39,7 @@ inserted x old new i = record { front = i.front; back = i.back; was = i.was; is 
 below_end : (n m : ℕ) → nat_lt m n ≡ false → n ≤ m
 below_end n m fails = elim (cases_lt m n) [ inl low ↦ absurd (false≢true (sym fails ∙ lt-ltb m n low)) | inr high ↦ high ]
 
-module _ (h : Header) (is : IsHeader h) (k : Known) (d : DriverKeeps h k) (a w : ℕ) (clean : broken h k (Write a w) ≡ []) where
+module _ (h : Header) (is : IsHeader h) (k : Known) (d : DriverKeeps h k) (a w : ℕ) (clean : lenient h k (Write a w) ≡ []) where
   abbrev l : Known
   l = after_write h k a w
 

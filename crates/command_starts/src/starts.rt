@@ -5,7 +5,7 @@ ghost use Rattle.traces.specs.declared.row.Row.TheVariants.{Write};
 ghost use Rattle.ring_knowledge.specs.Known.{Known};
 ghost use Rattle.ring_knowledge.specs.Learned.{learned};
 ghost use Rattle.ring_knowledge.specs.Writes.{command_given};
-ghost use Rattle.ownership_rules.specs.Rules.{broken};
+ghost use Rattle.ownership_rules.specs.Rules.{lenient};
 ghost use Rattle.safety.specs.Keeps.{DriverKeeps};
 ghost use Rattle.device_record.specs.Unfinished.{FollowsUnfinished};
 ghost use Rattle.range_words.specs.Holding.{HoldsAreas};
@@ -37,7 +37,7 @@ pub fn note_write<M: WordMemory>(
 ) -> Result<(), AllocError>
     requires { IsHeader header.now }
     ensures ok { OnOk result ((k : Known) → FollowsTrace header.now k t.old (M.words memory.old) → IsPlacedSo header.now k at word place → command ≡ command_given header.now k at word →
-        DriverKeeps header.now k → broken header.now k (Write at word) ≡ [] → k.stopped ≡ false →
+        DriverKeeps header.now k → lenient header.now k (Write at word) ≡ [] → k.stopped ≡ false →
         FollowsTrace header.now (learned header.now k (Write at word)) t.new (M.words memory.new)) }
     ensures events { t.new.events ≡ t.old.events }
 {

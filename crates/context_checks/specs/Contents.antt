@@ -35,17 +35,17 @@ has_bad_content_by h k memory (AddressDevice s bsr a) = lacks_control memory h.c
 has_bad_content_by h k memory (ConfigureEndpoint s dc a) = if dc then false else adds_bad k.endpoint_state memory h.context_size s a
 has_bad_content_by h k memory _ = false
 
--- endpoint i of the input context at address a is isochronous or has streams
-unfoldable pub is_left_out_in : (ℕ → ℕ) → ContextSize → ℕ → ℕ → Bool
-is_left_out_in memory size a i =
-    is_isochronous (endpoint_type memory (input_endpoint size a i)) || nat_lt 0 (endpoint_streams memory (input_endpoint size a i))
+-- endpoint i of the input context at address a has streams, or is isochronous where these are left out too
+unfoldable pub is_left_out_in : Bool → (ℕ → ℕ) → ContextSize → ℕ → ℕ → Bool
+is_left_out_in isochronous memory size a i =
+    (is_isochronous (endpoint_type memory (input_endpoint size a i)) && isochronous) || nat_lt 0 (endpoint_streams memory (input_endpoint size a i))
 
 -- that of an endpoint that is added
-unfoldable pub adds_left_out : (ℕ → ℕ) → ContextSize → ℕ → Bool
-adds_left_out memory size a = list_any (is_left_out_in memory size a) (added_endpoints memory a)
+unfoldable pub adds_left_out : Bool → (ℕ → ℕ) → ContextSize → ℕ → Bool
+adds_left_out isochronous memory size a = list_any (is_left_out_in isochronous memory size a) (added_endpoints memory a)
 
 -- the command adds one
-abbrev pub is_left_out_by : (ℕ → ℕ) → ContextSize → Command → Bool
-is_left_out_by memory size (AddressDevice s bsr a) = is_left_out_in memory size a 1
-is_left_out_by memory size (ConfigureEndpoint s dc a) = if dc then false else adds_left_out memory size a
-is_left_out_by memory size _ = false
+abbrev pub is_left_out_by : Bool → (ℕ → ℕ) → ContextSize → Command → Bool
+is_left_out_by isochronous memory size (AddressDevice s bsr a) = is_left_out_in isochronous memory size a 1
+is_left_out_by isochronous memory size (ConfigureEndpoint s dc a) = if dc then false else adds_left_out isochronous memory size a
+is_left_out_by isochronous memory size _ = false

@@ -2,6 +2,7 @@
 use Rattle.std.specs.Prelude.{◌≡◌, List, [], ◌∷◌, refl}
 use Rattle.trb.specs.declared.ring_kind.RingKind.TheVariants.{Cmd, Evt, Xfer}
 use Rattle.contexts.specs.declared.size.ContextSize.TheVariants.{Bytes32}
+use Rattle.traces.specs.declared.version.Version.TheVariants.{One}
 use Rattle.traces.specs.declared.header.Header.{Header}
 use Rattle.traces.specs.declared.row.Row.{Row}
 use Rattle.traces.specs.declared.row.Row.TheVariants.{Sub, Write, Reg, Bell, Read}
@@ -13,7 +14,7 @@ use Rattle.controller_model.specs.Steps.{ending_of, NoHarm, NotPossible, Harmful
 use Rattle.controller_model.specs.OnLiterals.{model_on_literals}
 
 abbrev pub event_ring_fills_header : Header
-event_ring_fills_header = record { context_size = Bytes32; rings = record { id = 0; shape = record { kind = Cmd; segments = record { base = 65536; count = 16 } ∷ [] } } ∷ record { id = 1; shape = record { kind = Evt; segments = record { base = 131072; count = 16 } ∷ [] } } ∷ record { id = 2; shape = record { kind = Xfer; segments = record { base = 196608; count = 4 } ∷ [] } } ∷ [] }
+event_ring_fills_header = record { version = One; context_size = Bytes32; rings = record { id = 0; shape = record { kind = Cmd; segments = record { base = 65536; count = 16 } ∷ [] } } ∷ record { id = 1; shape = record { kind = Evt; segments = record { base = 131072; count = 16 } ∷ [] } } ∷ record { id = 2; shape = record { kind = Xfer; segments = record { base = 196608; count = 4 } ∷ [] } } ∷ [] }
 
 abbrev pub event_ring_fills_rows : List Row
 event_ring_fills_rows =
@@ -62,7 +63,7 @@ unfolding model_on_literals
 event_ring_fills = refl
 
 abbrev pub replay_of_a_lazy_schedule_header : Header
-replay_of_a_lazy_schedule_header = record { context_size = Bytes32; rings = record { id = 0; shape = record { kind = Cmd; segments = record { base = 65536; count = 16 } ∷ [] } } ∷ record { id = 1; shape = record { kind = Evt; segments = record { base = 131072; count = 16 } ∷ [] } } ∷ record { id = 2; shape = record { kind = Xfer; segments = record { base = 196608; count = 4 } ∷ [] } } ∷ [] }
+replay_of_a_lazy_schedule_header = record { version = One; context_size = Bytes32; rings = record { id = 0; shape = record { kind = Cmd; segments = record { base = 65536; count = 16 } ∷ [] } } ∷ record { id = 1; shape = record { kind = Evt; segments = record { base = 131072; count = 16 } ∷ [] } } ∷ record { id = 2; shape = record { kind = Xfer; segments = record { base = 196608; count = 4 } ∷ [] } } ∷ [] }
 
 abbrev pub replay_of_a_lazy_schedule_rows : List Row
 replay_of_a_lazy_schedule_rows =
@@ -143,7 +144,7 @@ unfolding model_on_literals
 replay_of_a_lazy_schedule = refl
 
 abbrev pub replay_of_a_write_after_the_doorbell_header : Header
-replay_of_a_write_after_the_doorbell_header = record { context_size = Bytes32; rings = record { id = 0; shape = record { kind = Cmd; segments = record { base = 65536; count = 16 } ∷ [] } } ∷ record { id = 1; shape = record { kind = Evt; segments = record { base = 131072; count = 16 } ∷ [] } } ∷ record { id = 2; shape = record { kind = Xfer; segments = record { base = 196608; count = 4 } ∷ [] } } ∷ [] }
+replay_of_a_write_after_the_doorbell_header = record { version = One; context_size = Bytes32; rings = record { id = 0; shape = record { kind = Cmd; segments = record { base = 65536; count = 16 } ∷ [] } } ∷ record { id = 1; shape = record { kind = Evt; segments = record { base = 131072; count = 16 } ∷ [] } } ∷ record { id = 2; shape = record { kind = Xfer; segments = record { base = 196608; count = 4 } ∷ [] } } ∷ [] }
 
 abbrev pub replay_of_a_write_after_the_doorbell_rows : List Row
 replay_of_a_write_after_the_doorbell_rows =
@@ -215,7 +216,7 @@ unfolding model_on_literals
 replay_of_a_write_after_the_doorbell = refl
 
 abbrev pub replay_waits_inside_a_descriptor_header : Header
-replay_waits_inside_a_descriptor_header = record { context_size = Bytes32; rings = record { id = 0; shape = record { kind = Cmd; segments = record { base = 65536; count = 16 } ∷ [] } } ∷ record { id = 1; shape = record { kind = Evt; segments = record { base = 131072; count = 16 } ∷ [] } } ∷ record { id = 2; shape = record { kind = Xfer; segments = record { base = 196608; count = 8 } ∷ [] } } ∷ [] }
+replay_waits_inside_a_descriptor_header = record { version = One; context_size = Bytes32; rings = record { id = 0; shape = record { kind = Cmd; segments = record { base = 65536; count = 16 } ∷ [] } } ∷ record { id = 1; shape = record { kind = Evt; segments = record { base = 131072; count = 16 } ∷ [] } } ∷ record { id = 2; shape = record { kind = Xfer; segments = record { base = 196608; count = 8 } ∷ [] } } ∷ [] }
 
 abbrev pub replay_waits_inside_a_descriptor_rows : List Row
 replay_waits_inside_a_descriptor_rows =
@@ -285,7 +286,7 @@ unfolding model_on_literals
 replay_waits_inside_a_descriptor = refl
 
 abbrev pub undeclared_blocks_may_be_given_header : Header
-undeclared_blocks_may_be_given_header = record { context_size = Bytes32; rings = record { id = 0; shape = record { kind = Cmd; segments = record { base = 65536; count = 16 } ∷ [] } } ∷ record { id = 1; shape = record { kind = Evt; segments = record { base = 131072; count = 16 } ∷ [] } } ∷ [] }
+undeclared_blocks_may_be_given_header = record { version = One; context_size = Bytes32; rings = record { id = 0; shape = record { kind = Cmd; segments = record { base = 65536; count = 16 } ∷ [] } } ∷ record { id = 1; shape = record { kind = Evt; segments = record { base = 131072; count = 16 } ∷ [] } } ∷ [] }
 
 abbrev pub undeclared_blocks_may_be_given_rows : List Row
 undeclared_blocks_may_be_given_rows =
@@ -319,7 +320,7 @@ unfolding model_on_literals
 undeclared_blocks_may_be_given_harmful = refl
 
 abbrev pub crcr_may_name_any_address_header : Header
-crcr_may_name_any_address_header = record { context_size = Bytes32; rings = record { id = 0; shape = record { kind = Cmd; segments = record { base = 65536; count = 16 } ∷ [] } } ∷ record { id = 1; shape = record { kind = Evt; segments = record { base = 131072; count = 16 } ∷ [] } } ∷ [] }
+crcr_may_name_any_address_header = record { version = One; context_size = Bytes32; rings = record { id = 0; shape = record { kind = Cmd; segments = record { base = 65536; count = 16 } ∷ [] } } ∷ record { id = 1; shape = record { kind = Evt; segments = record { base = 131072; count = 16 } ∷ [] } } ∷ [] }
 
 abbrev pub crcr_may_name_any_address_rows : List Row
 crcr_may_name_any_address_rows =
@@ -351,7 +352,7 @@ unfolding model_on_literals
 crcr_may_name_any_address_harmful = refl
 
 abbrev pub device_contexts_over_input_contexts_header : Header
-device_contexts_over_input_contexts_header = record { context_size = Bytes32; rings = record { id = 0; shape = record { kind = Cmd; segments = record { base = 65600; count = 3 } ∷ [] } } ∷ record { id = 1; shape = record { kind = Evt; segments = record { base = 65792; count = 17 } ∷ [] } } ∷ record { id = 2; shape = record { kind = Xfer; segments = record { base = 66080; count = 2 } ∷ record { base = 66128; count = 2 } ∷ record { base = 66160; count = 2 } ∷ [] } } ∷ record { id = 3; shape = record { kind = Xfer; segments = record { base = 66224; count = 4 } ∷ record { base = 66304; count = 4 } ∷ [] } } ∷ record { id = 4; shape = record { kind = Xfer; segments = record { base = 66384; count = 4 } ∷ [] } } ∷ [] }
+device_contexts_over_input_contexts_header = record { version = One; context_size = Bytes32; rings = record { id = 0; shape = record { kind = Cmd; segments = record { base = 65600; count = 3 } ∷ [] } } ∷ record { id = 1; shape = record { kind = Evt; segments = record { base = 65792; count = 17 } ∷ [] } } ∷ record { id = 2; shape = record { kind = Xfer; segments = record { base = 66080; count = 2 } ∷ record { base = 66128; count = 2 } ∷ record { base = 66160; count = 2 } ∷ [] } } ∷ record { id = 3; shape = record { kind = Xfer; segments = record { base = 66224; count = 4 } ∷ record { base = 66304; count = 4 } ∷ [] } } ∷ record { id = 4; shape = record { kind = Xfer; segments = record { base = 66384; count = 4 } ∷ [] } } ∷ [] }
 
 abbrev pub device_contexts_over_input_contexts_rows : List Row
 device_contexts_over_input_contexts_rows =
@@ -412,7 +413,7 @@ unfolding model_on_literals
 device_contexts_over_input_contexts_harmful = refl
 
 abbrev pub erdp_past_what_was_read_header : Header
-erdp_past_what_was_read_header = record { context_size = Bytes32; rings = record { id = 0; shape = record { kind = Cmd; segments = record { base = 65600; count = 3 } ∷ [] } } ∷ record { id = 1; shape = record { kind = Evt; segments = record { base = 65792; count = 16 } ∷ [] } } ∷ record { id = 2; shape = record { kind = Xfer; segments = record { base = 66176; count = 7 } ∷ record { base = 66048; count = 7 } ∷ [] } } ∷ record { id = 3; shape = record { kind = Xfer; segments = record { base = 66288; count = 2 } ∷ record { base = 66320; count = 2 } ∷ record { base = 66368; count = 2 } ∷ record { base = 66416; count = 2 } ∷ [] } } ∷ record { id = 4; shape = record { kind = Xfer; segments = record { base = 66496; count = 4 } ∷ [] } } ∷ record { id = 5; shape = record { kind = Xfer; segments = record { base = 66624; count = 2 } ∷ record { base = 66592; count = 2 } ∷ record { base = 66656; count = 2 } ∷ record { base = 66560; count = 2 } ∷ [] } } ∷ record { id = 6; shape = record { kind = Xfer; segments = record { base = 66688; count = 3 } ∷ record { base = 66736; count = 3 } ∷ [] } } ∷ record { id = 7; shape = record { kind = Xfer; segments = record { base = 66832; count = 2 } ∷ record { base = 66896; count = 2 } ∷ record { base = 66800; count = 2 } ∷ [] } } ∷ [] }
+erdp_past_what_was_read_header = record { version = One; context_size = Bytes32; rings = record { id = 0; shape = record { kind = Cmd; segments = record { base = 65600; count = 3 } ∷ [] } } ∷ record { id = 1; shape = record { kind = Evt; segments = record { base = 65792; count = 16 } ∷ [] } } ∷ record { id = 2; shape = record { kind = Xfer; segments = record { base = 66176; count = 7 } ∷ record { base = 66048; count = 7 } ∷ [] } } ∷ record { id = 3; shape = record { kind = Xfer; segments = record { base = 66288; count = 2 } ∷ record { base = 66320; count = 2 } ∷ record { base = 66368; count = 2 } ∷ record { base = 66416; count = 2 } ∷ [] } } ∷ record { id = 4; shape = record { kind = Xfer; segments = record { base = 66496; count = 4 } ∷ [] } } ∷ record { id = 5; shape = record { kind = Xfer; segments = record { base = 66624; count = 2 } ∷ record { base = 66592; count = 2 } ∷ record { base = 66656; count = 2 } ∷ record { base = 66560; count = 2 } ∷ [] } } ∷ record { id = 6; shape = record { kind = Xfer; segments = record { base = 66688; count = 3 } ∷ record { base = 66736; count = 3 } ∷ [] } } ∷ record { id = 7; shape = record { kind = Xfer; segments = record { base = 66832; count = 2 } ∷ record { base = 66896; count = 2 } ∷ record { base = 66800; count = 2 } ∷ [] } } ∷ [] }
 
 abbrev pub erdp_past_what_was_read_rows : List Row
 erdp_past_what_was_read_rows =

@@ -12,7 +12,8 @@ use Rattle.ring_knowledge.specs.Known.{Known}
 use Rattle.ownership_rules.specs.declared.refusal.Refusal.TheVariants.{NotDeclared, AfterStop}
 use Rattle.ownership_rules.specs.Refusal.{first_of, first_broken, broken_of}
 use Rattle.ownership_rules.specs.Declarations.{declaration_tests, is_driver_ring}
-use Rattle.ownership_rules.specs.Rules.{broken, tests}
+use Rattle.ownership_rules.specs.Older.{older, stricter}
+use Rattle.ownership_rules.specs.Rules.{broken, lenient_tests, tests}
 use Rattle.declaration_checks.specs.OneRing.{room_tests}
 use Rattle.trace_record.proofs.FirstBroken.{first_broken-is}
 use Rattle.ring_finder.proofs.RingsApart.{IsAmong}
@@ -25,7 +26,7 @@ no_driver Xfer e = absurd (cc)
 
 module _ (h : Header) (k : Known) (on : k.stopped ≡ false) (id : ℕ) (blocks : List Block) where
   declared_is : first_of (broken h k (Sub id blocks)) ≡ first_broken (declaration_tests h k id blocks)
-  unfolding broken tests
+  unfolding broken tests lenient_tests older stricter declaration_tests
   declared_is = ap (λ b. first_of (if b then AfterStop ∷ [] else broken_of (declaration_tests h k id blocks))) on ∙ first_broken-is (declaration_tests h k id blocks)
 
   -- no ring has the ID

@@ -1,6 +1,6 @@
 -- A Transfer Event of a success or an error: the lazy run brings its ring behind the block that it names, reports it, and reads it
 use Rattle.std.proofs.Common.{◌≡◌, ◌≢◌, ◌≤◌, ◌&&◌, ◌||◌, ◌∷◌, ◌++◌, ◌∙◌, ℕ, true, false, List, [], reverse, Option, Some, arith, sym, ap, subst}
-use Rattle.lazy_runs.proofs.Words.{false≢true, not-false, and_from, Block, IsBlock, kind, code, slot, endpoint, is_transfer_event, is_success, is_halting, is_trb_error, is_stopping, Spot, Data, is_open, RingView, floor_number, MayReach, rank, number, after, ceiling_within, after_reached, next_later, Header, Row, Read, IsHeader, shape_of, command_id, World, reached, Known, learned, known, RingSpot, transferred, IsClean, IsDriverRing, DriverKeeps, Agrees, transfer_driver, ring_shape, is_held_ring, is_late, lazy_run, pointers_at, brought}
+use Rattle.lazy_runs.proofs.Words.{false≢true, not-false, and_from, Block, IsBlock, kind, code, slot, endpoint, is_transfer_event, is_success, is_halting, is_trb_error, is_stopping, Spot, Data, is_open, RingView, floor_number, MayReach, rank, number, after, ceiling_within, after_reached, next_later, Header, Row, Read, IsHeader, shape_of, command_id, World, reached, Known, learned, known, RingSpot, transferred, IsLenient, IsDriverRing, DriverKeeps, Agrees, transfer_driver, ring_shape, is_held_ring, is_late, lazy_run, pointers_at, brought}
 use Rattle.lazy_runs.proofs.Follows.{StandsAt, IsActiveIfOpen, Follows, Carries}
 use Rattle.lazy_runs.proofs.Preparing.{AllFit}
 use Rattle.lazy_runs.proofs.ReportPossible.{Reports, names, ahead, success_reports, error_reports}
@@ -27,7 +27,7 @@ module _ (h : Header) where
       open_ring k (k.ring_of (slot b) (endpoint b)) r bound
       (ap (λ c. c && is_held_ring k (k.ring_of (slot b) (endpoint b))) (sym (and_from (is_transfer_event (kind b)) (is_success (code b)) transfer success)) ∙ timely)
 
-  module _ (is : IsHeader h) (past later : List Row) (b : Block) (block : IsBlock b) (clean : IsClean h (Read b ∷ past)) (transfer : is_transfer_event (kind b) ≡ true) (w : World)
+  module _ (is : IsHeader h) (past later : List Row) (b : Block) (block : IsBlock b) (clean : IsLenient h (Read b ∷ past)) (transfer : is_transfer_event (kind b) ≡ true) (w : World)
       (f : Follows h past (Read b ∷ later) w) where
     k : Known
     k = known h past

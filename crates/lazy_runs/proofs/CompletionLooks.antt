@@ -1,6 +1,6 @@
 -- The world directly before the controller finishes a command: the next command is taken, and no more than that
 use Rattle.std.proofs.Common.{◌≡◌, ◌≢◌, ◌⊎◌, ◌+◌, ◌≤◌, ◌==◌, if◌then◌else◌, ◌∷◌, ◌++◌, ◌∙◌, ℕ, suc, true, List, [], reverse, Option, Some, None, arith, refl, sym, ap, subst, inl, inr}
-use Rattle.lazy_runs.proofs.Words.{flat_map, cases_Bool, cases_eq, cases_lt, cond-true, cond-false, put, Block, kind, code, slot, is_command_completion, Spot, Data, Link, Shape, Reaches, Holds, IsSpot, number, rank, after, is_open, ceiling, MayReach, crossing_positive, after_reached, number-after, rank_least, rank_most, Command, NoOp, EnableSlot, DisableSlot, AddressDevice, ConfigureEndpoint, EvaluateContext, ResetEndpoint, StopEndpoint, SetTrDequeue, ResetDevice, Stopped, changes, Header, Row, Read, Step, IsHeader, shape_of, command_id, World, UnderWay, reached, Known, RingSpot, command_at, next_command, event_read, learned, known, IsClean, DriverKeeps, Agrees, UnderWayMatches, TakenCommand, ring_here, ring_elsewhere, completion_kind, transfer_not_command, put_at, put_off, next_is, IsTimely, need}
+use Rattle.lazy_runs.proofs.Words.{flat_map, cases_Bool, cases_eq, cases_lt, cond-true, cond-false, put, Block, kind, code, slot, is_command_completion, Spot, Data, Link, Shape, Reaches, Holds, IsSpot, number, rank, after, is_open, ceiling, MayReach, crossing_positive, after_reached, number-after, rank_least, rank_most, Command, NoOp, EnableSlot, DisableSlot, AddressDevice, ConfigureEndpoint, EvaluateContext, ResetEndpoint, StopEndpoint, SetTrDequeue, ResetDevice, Stopped, changes, Header, Row, Read, Step, IsHeader, shape_of, command_id, World, UnderWay, reached, Known, RingSpot, command_at, next_command, event_read, learned, known, IsLenient, DriverKeeps, Agrees, UnderWayMatches, TakenCommand, ring_here, ring_elsewhere, completion_kind, transfer_not_command, put_at, put_off, next_is, IsTimely, need}
 use Rattle.ring_knowledge.specs.Completions as completions
 use Rattle.lazy_runs.specs.Lazy as lazy
 use Rattle.lazy_runs.proofs.AllEventsRead.{agrees_now}
@@ -107,7 +107,7 @@ module _ (h : Header) where
 
     -- ---- they fit
 
-    module _ (clean : IsClean h past) (w : World) (says : CompletionSays h k b) (pointers : ℕ → Spot) (trace : Traced h past pointers w) where
+    module _ (clean : IsLenient h past) (w : World) (says : CompletionSays h k b) (pointers : ℕ → Spot) (trace : Traced h past pointers w) where
       agrees : Agrees h k [] w
       agrees = agrees_now h past w trace.runs trace.all_read
 

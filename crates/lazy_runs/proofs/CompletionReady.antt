@@ -1,6 +1,6 @@
 -- The lazy run directly before a finish: the command is under way, and the controller can end it as a clean event says
 use Rattle.std.proofs.Common.{◌≡◌, ◌==◌, ◌&&◌, ◌∷◌, ◌++◌, ◌∙◌, ℕ, not, true, List, [], reverse, Some, None, sym, ap, subst, eq-eqb}
-use Rattle.lazy_runs.proofs.Words.{and_from, cond-true, not_from_false, Block, kind, code, pointer, slot, is_command_completion, Spot, cycle_of, is_open, cycle_of_bit, command_of, may_answer_slot, Header, Row, Read, Step, IsHeader, shape_of, command_id, World, UnderWay, can_post, reached, Known, known, next_command, IsClean, was_stop_seen, DriverKeeps, Agrees, driver_keeps, next_at_floor, AtFloor, command_at_is, command_of-with_cycle, IsTimely}
+use Rattle.lazy_runs.proofs.Words.{and_from, cond-true, not_from_false, Block, kind, code, pointer, slot, is_command_completion, Spot, cycle_of, is_open, cycle_of_bit, command_of, may_answer_slot, Header, Row, Read, Step, IsHeader, shape_of, command_id, World, UnderWay, can_post, reached, Known, known, next_command, IsLenient, was_stop_seen, DriverKeeps, Agrees, driver_keeps, next_at_floor, AtFloor, command_at_is, command_of-with_cycle, IsTimely}
 use Rattle.controller_model.specs.Finishes as finishes
 use Rattle.lazy_runs.specs.Lazy as lazy
 use Rattle.lazy_runs.proofs.AllEventsRead.{agrees_now}
@@ -34,7 +34,7 @@ module _ (h : Header) where
     pub command_is : command_of taken.block ≡ Some says.command
     pub stopped_is : taken.has_stopped ≡ was_stop_seen (known h past) says.command
 
-  module _ (is : IsHeader h) (past later : List Row) (b : Block) (w : World) (completion : is_command_completion (kind b) ≡ true) (clean : IsClean h (Read b ∷ past))
+  module _ (is : IsHeader h) (past later : List Row) (b : Block) (w : World) (completion : is_command_completion (kind b) ≡ true) (clean : IsLenient h (Read b ∷ past))
       (timely : IsTimely h (reverse later ++ (Read b ∷ past))) (f : Follows h past (Read b ∷ later) w) where
     pub ready_to_finish : reached h (reverse past ++ (Read b ∷ later)) (lazy.lazy_run h past (Read b ∷ later)) ≡ Some w → w.rows ≡ Read b ∷ later → ReadyToFinish past later b
     ready_to_finish run rest =

@@ -1,6 +1,6 @@
 -- What a clean Command Completion Event says: the next command was given, and a controller can have finished it so
 use Rattle.std.proofs.Common.{◌≡◌, ◌<◌, ◌==◌, if◌then◌else◌, ◌∙◌, true, false, not, [], Option, Some, None, refl, sym, ap, inl, inr, arith, ltb-true, eqb-true}
-use Rattle.lazy_runs.proofs.Words.{false≢true, or_parts, and_parts, not-false, Block, kind, code, pointer, slot, is_command_completion, Shape, RingView, address_of, ceiling, given_count, is_open, Command, may_answer_slot, can_succeed, Header, Read, Config, shape_of, command_id, register_or_zero, Known, command_at, next_command, may_be_taken, can_finish, is_impossible_by_kind, is_impossible_completion, was_stop_seen, broken, DriverKeeps, EventFacts, event_facts, completion_kind, ceiling_open, ceiling_held}
+use Rattle.lazy_runs.proofs.Words.{false≢true, or_parts, and_parts, not-false, Block, kind, code, pointer, slot, is_command_completion, Shape, RingView, address_of, ceiling, given_count, is_open, Command, may_answer_slot, can_succeed, Header, Read, Config, shape_of, command_id, register_or_zero, Known, command_at, next_command, may_be_taken, can_finish, is_impossible_by_kind, is_impossible_completion, was_stop_seen, lenient, DriverKeeps, EventFacts, event_facts, completion_kind, ceiling_open, ceiling_held}
 
 pub record CompletionSays (h : Header) (k : Known) (b : Block) : Type 0 where
   pub started : k.started ≡ true
@@ -44,7 +44,7 @@ module _ (h : Header) where
         may = f.may;
       }
 
-  pub completion_says : (k : Known) (b : Block) → is_command_completion (kind b) ≡ true → broken h k (Read b) ≡ [] → CompletionSays h k b
+  pub completion_says : (k : Known) (b : Block) → is_command_completion (kind b) ≡ true → lenient h k (Read b) ≡ [] → CompletionSays h k b
   unfolding is_impossible_by_kind
   completion_says k b completion clean =
       let facts : EventFacts h k b = event_facts h k b clean in

@@ -1,6 +1,6 @@
 -- The step of a row with a Command Completion Event, where the controller can finish its command and rings go as they should
 use Rattle.std.proofs.Common.{◌≡◌, ◌≢◌, ◌+◌, ◌<◌, ◌∷◌, ◌++◌, ◌∙◌, ℕ, true, false, List, [], reverse, Some, None, option_map, option_and_then, arith, refl, sym, ap, subst, inl, inr}
-use Rattle.lazy_runs.proofs.Words.{cases_Bool, cond-false, cond-true, false≢true, reverse-append, Block, IsBlock, block_at, kind, same_words, is_command_completion, Spot, address_of, is_open, RingView, Header, Row, Read, Step, NextRow, Finish, IsHeader, command_id, event_shape, World, event_at, read_made, Known, learned, known, IsClean, DriverKeeps, RingState, state_of, Agrees, Runs, driver_keeps, run_keeps, completion_kind, finish_is, finish_runs, transfer_not_command, one_more, runs_rest, words_itself, post_keeps, read_runs}
+use Rattle.lazy_runs.proofs.Words.{cases_Bool, cond-false, cond-true, false≢true, reverse-append, Block, IsBlock, block_at, kind, same_words, is_command_completion, Spot, address_of, is_open, RingView, Header, Row, Read, Step, NextRow, Finish, IsHeader, command_id, event_shape, World, event_at, read_made, Known, learned, known, IsLenient, DriverKeeps, RingState, state_of, Agrees, Runs, driver_keeps, run_keeps, completion_kind, finish_is, finish_runs, transfer_not_command, one_more, runs_rest, words_itself, post_keeps, read_runs}
 use Rattle.world_state.specs.World as of_world
 use Rattle.controller_model.specs.DriverRows as driver
 use Rattle.controller_model.specs.Posts as posts
@@ -61,7 +61,7 @@ module _ (h : Header) where
 
   -- ---- the world behind the finish and the row
 
-  module _ (is : IsHeader h) (past later : List Row) (b : Block) (block : IsBlock b) (clean : IsClean h (Read b ∷ past)) (completion : is_command_completion (kind b) ≡ true)
+  module _ (is : IsHeader h) (past later : List Row) (b : Block) (block : IsBlock b) (clean : IsLenient h (Read b ∷ past)) (completion : is_command_completion (kind b) ≡ true)
       (now : ℕ → Spot) (brought : (q : ℕ) → lazy.brought h (lazy.pointers_at h past (Read b ∷ later)) (lazy.goals h (known h past) later (kind b) b) q ≡ now q) (w u x : World) (m : Known) (trace : Traced h past now w)
       (stay : (s i r : ℕ) → (known h past).ring_of s i ≡ Some r → now r ≡ ((known h past).ring r).floor)
       (started : (known h past).started ≡ true) (opened : is_open ((known h past).ring (command_id h)) ≡ true)

@@ -1,6 +1,6 @@
 -- The induction's step for a row of the driver
 use Rattle.std.proofs.Common.{◌≡◌, ◌≢◌, ◌⊎◌, ◌≤◌, ◌∷◌, ◌++◌, ◌∙◌, ℕ, true, false, List, [], All, reverse, Some, arith, sym, ap, subst, inl, inr}
-use Rattle.lazy_runs.proofs.Words.{cases_Bool, false≢true, Spot, Data, Link, Shape, number, rank, Header, Row, IsHeader, shape_of, command_id, IsRow, World, RingEvent, next_take, counted, reached, Known, learned, known, IsClean, DriverKeeps, IsDriverRow, Agrees, CommandMatches, Runs, driver_keeps, runs_rest, transfer_not_command, more_law, row_runs, row_left, square_law, still_rings, lazy_run, pointers_at, AreAtFloors}
+use Rattle.lazy_runs.proofs.Words.{cases_Bool, false≢true, Spot, Data, Link, Shape, number, rank, Header, Row, IsHeader, shape_of, command_id, IsRow, World, RingEvent, next_take, counted, reached, Known, learned, known, IsLenient, DriverKeeps, IsDriverRow, Agrees, CommandMatches, Runs, driver_keeps, runs_rest, transfer_not_command, more_law, row_runs, row_left, square_law, still_rings, lazy_run, pointers_at, AreAtFloors}
 use Rattle.lazy_runs.proofs.AllEventsRead.{agrees_now}
 use Rattle.lazy_runs.proofs.DriverRuns.{with_rest, pointers_same, driver_reached}
 use Rattle.lazy_runs.proofs.Follows.{StandsAt, IsActiveIfOpen, Follows, Carries}
@@ -25,7 +25,7 @@ module _ (h : Header) where
     next = ap (λ e. next_take (shape_of h r) e) events ∙ s.next;
   }
 
-  module _ (is : IsHeader h) (row : Row) (past later : List Row) (w : World) (driver_row : IsDriverRow row) (is_row : IsRow row) (rows : All IsRow past) (clean : IsClean h (row ∷ past))
+  module _ (is : IsHeader h) (row : Row) (past later : List Row) (w : World) (driver_row : IsDriverRow row) (is_row : IsRow row) (rows : All IsRow past) (clean : IsLenient h (row ∷ past))
       (f : Follows h past (row ∷ later) w) where
     k : Known
     k = known h past

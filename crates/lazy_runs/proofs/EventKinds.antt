@@ -1,6 +1,6 @@
 -- The lazy law from the laws of the events that need steps of a ring: Transfer Events and Command Completion Events
 use Rattle.std.proofs.Common.{◌≡◌, ◌∷◌, ◌++◌, ◌||◌, Bool, true, List, All, reverse, Some, inl, inr}
-use Rattle.lazy_runs.proofs.Words.{or_cases, Block, BlockKind, IsBlock, kind, is_transfer_event, is_command_completion, is_other_event, Header, Row, Read, IsHeader, IsRow, World, reached, known, IsClean, IsTimely, lazy_run, LazyLaw, AllAreRead}
+use Rattle.lazy_runs.proofs.Words.{or_cases, Block, BlockKind, IsBlock, kind, is_transfer_event, is_command_completion, is_other_event, Header, Row, Read, IsHeader, IsRow, World, reached, known, IsLenient, IsTimely, lazy_run, LazyLaw, AllAreRead}
 use Rattle.lazy_runs.proofs.Follows.{Follows, Carries, EventLaw}
 use Rattle.lazy_runs.proofs.Induction.{lazy_from_events, all_read_from_events}
 use Rattle.lazy_runs.proofs.MayPost.{is_event_read}
@@ -10,7 +10,7 @@ module _ (h : Header) where
   -- the step of a row that reads an event of some kinds
   abbrev pub EventLawOf : (BlockKind → Bool) → Type 0
   EventLawOf is_kind =
-      (past later : List Row) (b : Block) (w : World) → is_kind (kind b) ≡ true → IsHeader h → All IsRow past → IsBlock b → IsClean h (Read b ∷ past) →
+      (past later : List Row) (b : Block) (w : World) → is_kind (kind b) ≡ true → IsHeader h → All IsRow past → IsBlock b → IsLenient h (Read b ∷ past) →
       IsTimely h (reverse later ++ (Read b ∷ past)) → reached h (reverse past ++ (Read b ∷ later)) (lazy_run h past (Read b ∷ later)) ≡ Some w →
       w.rows ≡ Read b ∷ later → Follows h past (Read b ∷ later) w → Carries h (Read b ∷ past) later
 

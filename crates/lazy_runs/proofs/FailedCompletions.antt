@@ -1,6 +1,6 @@
 -- The completion of a command that doesn't succeed: it leaves all rings of endpoints
 use Rattle.std.proofs.Common.{◌≡◌, ◌+◌, ◌==◌, ◌&&◌, if◌then◌else◌, ◌∷◌, ◌++◌, ◌∙◌, ℕ, not, true, false, List, reverse, Some, None, option_map, refl, sym, subst}
-use Rattle.lazy_runs.proofs.Words.{and_left, and_right, cond-false, not-true, Block, IsBlock, kind, code, slot, is_command_completion, Command, command_of, Header, Row, Read, IsHeader, command_id, World, posted, reached, Known, learned, known, command_at, next_command, IsClean, was_stop_seen, learned_read, let_go, next_known, seen_after, failed_read, put_off, IsTimely, lazy_run}
+use Rattle.lazy_runs.proofs.Words.{and_left, and_right, cond-false, not-true, Block, IsBlock, kind, code, slot, is_command_completion, Command, command_of, Header, Row, Read, IsHeader, command_id, World, posted, reached, Known, learned, known, command_at, next_command, IsLenient, was_stop_seen, learned_read, let_go, next_known, seen_after, failed_read, put_off, IsTimely, lazy_run}
 use Rattle.world_state.specs.World as of_world
 use Rattle.controller_model.specs.Finishes as finishes
 use Rattle.lazy_runs.specs.Needs as needs
@@ -44,7 +44,7 @@ module _ (h : Header) where
       not_command = not_placed (known h past) (command_id h) b fails;
     }
 
-  pub failed_step : (past later : List Row) (b : Block) (w : World) → is_command_completion (kind b) ≡ true → (code b == 1) ≡ false → IsHeader h → IsBlock b → IsClean h (Read b ∷ past) →
+  pub failed_step : (past later : List Row) (b : Block) (w : World) → is_command_completion (kind b) ≡ true → (code b == 1) ≡ false → IsHeader h → IsBlock b → IsLenient h (Read b ∷ past) →
       IsTimely h (reverse later ++ (Read b ∷ past)) → reached h (reverse past ++ (Read b ∷ later)) (lazy_run h past (Read b ∷ later)) ≡ Some w →
       w.rows ≡ Read b ∷ later → Follows h past (Read b ∷ later) w → Carries h (Read b ∷ past) later
   failed_step past later b w completion fails is block clean timely run rest f =

@@ -1,7 +1,7 @@
 -- What an induction over the rows has to carry beside the lazy law: all events are read, the schedule knows where the pointers stand,
 -- also that of the command ring, and a ring that is open is active. Without it neither a look nor a post is known to be possible
 use Rattle.std.proofs.Common.{◌≡◌, ◌⊎◌, ◌∷◌, ◌++◌, ℕ, true, false, List, All, reverse, Some, inl, inr}
-use Rattle.lazy_runs.proofs.Words.{Block, IsBlock, Spot, Data, is_open, IsSpot, number, spot_address, spot_cycle, Header, Row, Read, IsHeader, shape_of, command_id, IsRow, World, next_take, reached, Known, known, IsClean, Runs, IsTimely, lazy_run, pointers_at, AreAtFloors, LazyLaw}
+use Rattle.lazy_runs.proofs.Words.{Block, IsBlock, Spot, Data, is_open, IsSpot, number, spot_address, spot_cycle, Header, Row, Read, IsHeader, shape_of, command_id, IsRow, World, next_take, reached, Known, known, IsLenient, Runs, IsTimely, lazy_run, pointers_at, AreAtFloors, LazyLaw}
 
 abbrev pub IsActiveIfOpen : Known → World → ℕ → Type 0
 IsActiveIfOpen k w r = is_open (k.ring r) ≡ true → w.is_active r ≡ true
@@ -35,13 +35,13 @@ module _ (h : Header) where
 
   abbrev pub CarriedLaw : Type 0
   CarriedLaw =
-      (past later : List Row) → IsHeader h → All IsRow (reverse past ++ later) → IsClean h (reverse later ++ past) →
+      (past later : List Row) → IsHeader h → All IsRow (reverse past ++ later) → IsLenient h (reverse later ++ past) →
       IsTimely h (reverse later ++ past) → Carries past later
 
   -- the step of a row that reads an event
   abbrev pub EventLaw : Type 0
   EventLaw =
-      (past later : List Row) (b : Block) (w : World) → IsHeader h → All IsRow past → IsBlock b → IsClean h (Read b ∷ past) →
+      (past later : List Row) (b : Block) (w : World) → IsHeader h → All IsRow past → IsBlock b → IsLenient h (Read b ∷ past) →
       IsTimely h (reverse later ++ (Read b ∷ past)) → reached h (reverse past ++ (Read b ∷ later)) (lazy_run h past (Read b ∷ later)) ≡ Some w →
       w.rows ≡ Read b ∷ later → Follows past (Read b ∷ later) w → Carries (Read b ∷ past) later
 

@@ -1,6 +1,6 @@
 -- The looks of the lazy schedule at one ring are a run, and bring the ring to its spot
 use Rattle.std.proofs.Common.{◌≡◌, ◌≢◌, ◌+◌, ◌<◌, ◌≤◌, ◌++◌, ℕ, true, List, reverse, Some}
-use Rattle.lazy_runs.proofs.Words.{Spot, rank, number, MayReach, Header, Row, Step, IsHeader, shape_of, command_id, World, reached, Known, known, RingSpot, next_command, IsClean, state_of, Runs, further, looks_to}
+use Rattle.lazy_runs.proofs.Words.{Spot, rank, number, MayReach, Header, Row, Step, IsHeader, shape_of, command_id, World, reached, Known, known, RingSpot, next_command, IsLenient, state_of, Runs, further, looks_to}
 use Rattle.lazy_runs.proofs.Follows.{StandsAt}
 
 -- what the looks at ring r leave
@@ -41,7 +41,7 @@ module _ (h : Header) where
   -- nothing is asked of a ring that stands at its goal, or behind it
   abbrev pub LooksLaw : Type 0
   LooksLaw =
-      (rows past : List Row) (made : List Step) (w : World) (pointers : ℕ → Spot) (goal : RingSpot) → IsHeader h → IsClean h past → reached h rows made ≡ Some w → Runs h past w →
+      (rows past : List Row) (made : List Step) (w : World) (pointers : ℕ → Spot) (goal : RingSpot) → IsHeader h → IsLenient h past → reached h rows made ≡ Some w → Runs h past w →
       w.posted ≡ w.reads → StandsAt h w goal.ring (pointers goal.ring) →
       (rank (pointers goal.ring) < rank goal.spot → MayBring (known h past) w goal.ring goal.spot) →
       Looked rows past made w goal.ring (further (pointers goal.ring) goal.spot) (looks_to h pointers goal)

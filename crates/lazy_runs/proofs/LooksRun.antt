@@ -1,6 +1,6 @@
 -- The looks of the lazy schedule at one ring are a run: by induction over the spots on the way
 use Rattle.std.proofs.Common.{◌≡◌, ◌+◌, ◌-◌, ◌*◌, ◌<◌, ◌≤◌, ◌∷◌, ◌++◌, ◌∙◌, ℕ, suc, zero, List, [], filter, map, nat_lt, reverse, Some, arith, refl, sym, ap, subst, inl, inr, lt-ltb, le-ltb, append_assoc}
-use Rattle.lazy_runs.proofs.Words.{cases_lt, cond-true, cond-false, reverse-append, Spot, Shape, IsSpot, number, rank, next, spots_from, rank_least, rank_most, same_rank, next_later, next_least, Header, Row, Step, Look, IsHeader, shape_of, World, reached, counted, Known, known, IsClean, DriverKeeps, Agrees, Runs, driver_keeps, run_keeps, look_runs}
+use Rattle.lazy_runs.proofs.Words.{cases_lt, cond-true, cond-false, reverse-append, Spot, Shape, IsSpot, number, rank, next, spots_from, rank_least, rank_most, same_rank, next_later, next_least, Header, Row, Step, Look, IsHeader, shape_of, World, reached, counted, Known, known, IsLenient, DriverKeeps, Agrees, Runs, driver_keeps, run_keeps, look_runs}
 use Rattle.lazy_runs.specs.Lazy as lazy
 use Rattle.lazy_runs.proofs.AllEventsRead.{agrees_now}
 use Rattle.lazy_runs.proofs.Follows.{StandsAt}
@@ -84,7 +84,7 @@ module _ (h : Header) where
   unfolding looks_on
   more_looks r t s n lt = ap (λ l. map (λ u. Look r) l) (one_before (shape_of h r) t s n lt)
 
-  module _ (is : IsHeader h) (rows past : List Row) (clean : IsClean h past) (r : ℕ) where
+  module _ (is : IsHeader h) (rows past : List Row) (clean : IsLenient h past) (r : ℕ) where
     -- no look is made
     stays : (made : List Step) (w : World) (t : Spot) (steps : List Step) → steps ≡ [] → reached h rows made ≡ Some w → Runs h past w → StandsAt h w r t → Looked h rows past made w r t steps
     stays made w t steps none run runs at = record {

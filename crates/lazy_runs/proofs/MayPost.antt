@@ -1,6 +1,6 @@
 -- Where all events are read, the controller can post an event that is possible
 use Rattle.std.proofs.Common.{◌≡◌, ◌+◌, ◌-◌, ◌<◌, ◌≤◌, ◌==◌, ◌&&◌, ◌||◌, ◌%◌, ◌∙◌, ℕ, nat_lt, not, true, false, [], arith, sym, ap, ne_eqb, lt-ltb, ltb-false}
-use Rattle.lazy_runs.proofs.Words.{and_from, or_parts, not-false, not_from_false, Block, cycle, kind, is_event, place_count, cycle_of, same_in_lap, shape_facts, has_room, Header, Read, IsHeader, event_shape, event_size, World, can_post, Known, is_past_room, is_impossible_by_kind, is_impossible, event_tests, tests, broken, DriverKeeps, Agrees, EventFacts, event_facts, EventRing, event_ring_is, size_is, AllFail, tests_fail}
+use Rattle.lazy_runs.proofs.Words.{and_from, or_parts, not-false, not_from_false, Block, cycle, kind, is_event, place_count, cycle_of, same_in_lap, shape_facts, has_room, Header, Read, IsHeader, event_shape, event_size, World, can_post, Known, is_past_room, is_impossible_by_kind, is_impossible, event_tests, lenient_tests, lenient, DriverKeeps, Agrees, EventFacts, event_facts, EventRing, event_ring_is, size_is, AllFail, tests_fail}
 
 room_left : (size posted dequeue : ℕ) → dequeue ≤ posted → posted + 2 ≤ dequeue + size → has_room size posted dequeue ≡ true
 room_left size posted dequeue low high =
@@ -13,8 +13,8 @@ module _ (h : Header) where
   unfolding is_past_room
   past_room k room = ltb-false (event_size h - 2) (k.reads - k.dequeue) room
 
-  cycle_read : (k : Known) (b : Block) → broken h k (Read b) ≡ [] → (cycle b == cycle_of (event_shape h) k.reads) ≡ true
-  unfolding tests event_tests is_impossible
+  cycle_read : (k : Known) (b : Block) → lenient h k (Read b) ≡ [] → (cycle b == cycle_of (event_shape h) k.reads) ≡ true
+  unfolding lenient_tests event_tests is_impossible
   cycle_read k b clean =
       let fails : AllFail (event_tests h k b) = tests_fail h k (Read b) clean in
       let four = or_parts (not k.started || is_past_room h k || not (cycle b == cycle_of (event_shape h) k.reads) || not (is_event (kind b))) (is_impossible_by_kind h k (kind b) b) fails.0 in
@@ -22,15 +22,15 @@ module _ (h : Header) where
       let two = or_parts (not k.started || is_past_room h k) (not (cycle b == cycle_of (event_shape h) k.reads)) three.0 in
       not-false (cycle b == cycle_of (event_shape h) k.reads) two.1
 
-  pub is_event_read : (k : Known) (b : Block) → broken h k (Read b) ≡ [] → is_event (kind b) ≡ true
-  unfolding tests event_tests is_impossible
+  pub is_event_read : (k : Known) (b : Block) → lenient h k (Read b) ≡ [] → is_event (kind b) ≡ true
+  unfolding lenient_tests event_tests is_impossible
   is_event_read k b clean =
       let fails : AllFail (event_tests h k b) = tests_fail h k (Read b) clean in
       let four = or_parts (not k.started || is_past_room h k || not (cycle b == cycle_of (event_shape h) k.reads) || not (is_event (kind b))) (is_impossible_by_kind h k (kind b) b) fails.0 in
       let three = or_parts (not k.started || is_past_room h k || not (cycle b == cycle_of (event_shape h) k.reads)) (not (is_event (kind b))) four.0 in
       not-false (is_event (kind b)) three.1
 
-  pub may_post : IsHeader h → (k : Known) (w : World) (b : Block) → DriverKeeps h k → Agrees h k [] w → broken h k (Read b) ≡ [] → can_post h w b ≡ true
+  pub may_post : IsHeader h → (k : Known) (w : World) (b : Block) → DriverKeeps h k → Agrees h k [] w → lenient h k (Read b) ≡ [] → can_post h w b ≡ true
   unfolding can_post
   may_post is k w b d g clean =
       let f : EventFacts h k b = event_facts h k b clean in

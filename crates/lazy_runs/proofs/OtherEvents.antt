@@ -1,6 +1,6 @@
 -- An event of the controller itself: the lazy run posts it directly before it is read, and needs no look for it
 use Rattle.std.proofs.Common.{◌≡◌, ◌+◌, ◌<◌, ◌==◌, ◌&&◌, ◌∷◌, ◌++◌, ◌∙◌, ℕ, true, false, List, [], reverse, Some, None, option_map, option_and_then, arith, refl, sym, ap, subst, inl}
-use Rattle.lazy_runs.proofs.Words.{flat_map, and_from, cond-false, cond-true, false≢true, Block, BlockKind, IsBlock, kind, code, slot, same_words, is_command_completion, is_other_event, Spot, is_open, Header, Row, Read, Step, NextRow, Other, IsHeader, command_id, World, event_at, stored, stored_block, read_made, Known, command_at, next_command, learned, known, IsClean, DriverKeeps, Agrees, Runs, driver_keeps, run_keeps, learned_read, one_more, runs_rest, words_itself, says_nothing, other_runs, post_keeps, read_runs, with_reads}
+use Rattle.lazy_runs.proofs.Words.{flat_map, and_from, cond-false, cond-true, false≢true, Block, BlockKind, IsBlock, kind, code, slot, same_words, is_command_completion, is_other_event, Spot, is_open, Header, Row, Read, Step, NextRow, Other, IsHeader, command_id, World, event_at, stored, stored_block, read_made, Known, command_at, next_command, learned, known, IsLenient, DriverKeeps, Agrees, Runs, driver_keeps, run_keeps, learned_read, one_more, runs_rest, words_itself, says_nothing, other_runs, post_keeps, read_runs, with_reads}
 use Rattle.trb.specs.declared.kind.BlockKind.TheVariants as kinds
 use Rattle.controller_model.specs.DriverRows as driver
 use Rattle.controller_model.specs.Posts as posts
@@ -61,7 +61,7 @@ module _ (h : Header) where
       ap (λ o. option_and_then (λ x. steps.stepped h x (Other b)) o) run
       ∙ ap (λ o. option_map (steps.counted h) o) (cond-false w.stopped None (posts.other_posted h w b) running ∙ at)
 
-  module _ (is : IsHeader h) (past later : List Row) (b : Block) (w : World) (block : IsBlock b) (clean : IsClean h (Read b ∷ past)) (other : is_other_event (kind b) ≡ true)
+  module _ (is : IsHeader h) (past later : List Row) (b : Block) (w : World) (block : IsBlock b) (clean : IsLenient h (Read b ∷ past)) (other : is_other_event (kind b) ≡ true)
       (f : Follows h past (Read b ∷ later) w) where
     k : Known
     k = known h past

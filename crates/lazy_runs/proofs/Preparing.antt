@@ -1,6 +1,6 @@
 -- The looks for an event, at one ring after the other, are a run: each ring comes to its goal
 use Rattle.std.proofs.Common.{◌≡◌, ◌≢◌, ◌<◌, ◌∷◌, ◌++◌, ◌∙◌, ℕ, List, [], map, reverse, Some, refl, sym, ap, subst, inl, inr, append_assoc}
-use Rattle.lazy_runs.proofs.Words.{flat_map, cases_eq, reverse-append, put, Spot, rank, Header, Row, Step, Look, IsHeader, shape_of, command_id, World, next_take, reached, known, RingSpot, IsClean, RingState, state_of, Runs, put_at, put_off}
+use Rattle.lazy_runs.proofs.Words.{flat_map, cases_eq, reverse-append, put, Spot, rank, Header, Row, Step, Look, IsHeader, shape_of, command_id, World, next_take, reached, known, RingSpot, IsLenient, RingState, state_of, Runs, put_at, put_off}
 use Rattle.lazy_runs.specs.Lazy as lazy
 use Rattle.lazy_runs.proofs.Follows.{StandsAt}
 use Rattle.lazy_runs.proofs.Looking.{MayBring, Looked, LooksLeave}
@@ -101,7 +101,7 @@ module _ (h : Header) where
   two_lists : (a b made : List Step) → reverse (a ++ b) ++ made ≡ reverse b ++ (reverse a ++ made)
   two_lists a b made = ap (λ l. l ++ made) (reverse-append a b) ∙ append_assoc (reverse b) (reverse a) made
 
-  module _ (is : IsHeader h) (rows past : List Row) (clean : IsClean h past) (pointers : ℕ → Spot) where
+  module _ (is : IsHeader h) (rows past : List Row) (clean : IsLenient h past) (pointers : ℕ → Spot) where
     all_brought : (goals : List RingSpot) (made : List Step) (w : World) (now : ℕ → Spot) → AreSame pointers now goals → AreApart goals → AllFit past w now goals →
         reached h rows made ≡ Some w → Traced h past now w → AllBrought rows past made w now goals (flat_map (lazy.looks_to h pointers) goals)
     unfolding lazy.brought
@@ -126,6 +126,6 @@ module _ (h : Header) where
         }
 
   -- goals on rings apart are reached one after the other
-  pub goals_reached : IsHeader h → (rows past : List Row) (made : List Step) (w : World) (pointers : ℕ → Spot) (goals : List RingSpot) → IsClean h past → AreApart goals → AllFit past w pointers goals →
+  pub goals_reached : IsHeader h → (rows past : List Row) (made : List Step) (w : World) (pointers : ℕ → Spot) (goals : List RingSpot) → IsLenient h past → AreApart goals → AllFit past w pointers goals →
       reached h rows made ≡ Some w → Traced h past pointers w → AllBrought rows past made w pointers goals (flat_map (lazy.looks_to h pointers) goals)
   goals_reached is rows past made w pointers goals clean apart fits run trace = all_brought is rows past clean pointers goals made w pointers (all_same pointers goals) apart fits run trace

@@ -1,7 +1,7 @@
 -- The controller can report what a Transfer Event that breaks no rule says, where its ring stands directly behind the block that it
 -- names, or for a stop at the spot that it names
 use Rattle.std.proofs.Common.{◌≡◌, ◌≢◌, ◌+◌, ◌-◌, ◌<◌, ◌≤◌, ◌==◌, ◌&&◌, ◌||◌, ◌∙◌, ℕ, suc, zero, Bool, true, false, not, List, [], length, map, Option, Some, None, position, option_map, arith, refl, sym, ap, subst, inl, inr, get_or, eq-eqb}
-use Rattle.lazy_runs.proofs.Words.{range_with_len, cases_Bool, and_from, cond-true, cond-false, false≢true, not_from_false, length-map-range_with_len, get_or-map-range_with_len, put, put_pair, Block, is_set, IsBlock, word, kind, code, pointer, slot, endpoint, is_transfer_event, is_success, is_halting, is_trb_error, Spot, Shape, address_of, number, after, spot_address, declared, floor_number, named, RingKeeps, named_ahead, position-None, IsNamed, named_spot-Some, EndpointState, Halted, Error, is_running, Header, Read, IsHeader, shape_of, command_id, World, unreported, Known, broken, IsDriverRing, DriverKeeps, state_of, BoundRing, Agrees, transfer_driver, transfer_not_command, put_off, number_after, PostKeeps, post_keeps, open_takes}
+use Rattle.lazy_runs.proofs.Words.{range_with_len, cases_Bool, and_from, cond-true, cond-false, false≢true, not_from_false, length-map-range_with_len, get_or-map-range_with_len, put, put_pair, Block, is_set, IsBlock, word, kind, code, pointer, slot, endpoint, is_transfer_event, is_success, is_halting, is_trb_error, Spot, Shape, address_of, number, after, spot_address, declared, floor_number, named, RingKeeps, named_ahead, position-None, IsNamed, named_spot-Some, EndpointState, Halted, Error, is_running, Header, Read, IsHeader, shape_of, command_id, World, unreported, Known, lenient, IsDriverRing, DriverKeeps, state_of, BoundRing, Agrees, transfer_driver, transfer_not_command, put_off, number_after, PostKeeps, post_keeps, open_takes}
 use Rattle.world_state.specs.World as of_world
 use Rattle.controller_model.specs.Posts as posts
 use Rattle.lazy_runs.proofs.Follows.{StandsAt}
@@ -36,7 +36,7 @@ module _ (h : Header) where
     pub leaves : ReportLeaves h w world b r
     pub rows : world.rows ≡ w.rows
 
-  module _ (is : IsHeader h) (k : Known) (w : World) (b : Block) (block : IsBlock b) (d : DriverKeeps h k) (g : Agrees h k [] w) (clean : broken h k (Read b) ≡ []) (transfer : is_transfer_event (kind b) ≡ true)
+  module _ (is : IsHeader h) (k : Known) (w : World) (b : Block) (block : IsBlock b) (d : DriverKeeps h k) (g : Agrees h k [] w) (clean : lenient h k (Read b) ≡ []) (transfer : is_transfer_event (kind b) ≡ true)
       (f : TransferFacts h k b) where
     shape : Shape
     shape = shape_of h f.ring

@@ -1,6 +1,6 @@
 -- A Transfer Event: behind its looks the lazy run reports it, and then it is read. What the report and the row leave as it was
 use Rattle.std.proofs.Common.{◌≡◌, ◌≢◌, ◌+◌, ◌<◌, ◌==◌, ◌&&◌, ◌∷◌, ◌++◌, ◌∙◌, ℕ, true, false, List, [], reverse, Some, None, option_map, option_and_then, arith, refl, sym, ap, subst, inl, inr}
-use Rattle.lazy_runs.proofs.Words.{cases_eq, cond-false, false≢true, reverse-append, Block, IsBlock, kind, code, slot, same_words, block_at, is_transfer_event, is_command_completion, Spot, is_open, address_of, Header, Row, Read, Step, NextRow, Report, IsHeader, command_id, event_shape, World, event_at, read_made, Known, command_at, next_command, learned, known, IsClean, DriverKeeps, Agrees, Runs, event_facts, driver_keeps, run_keeps, one_more, runs_rest, words_itself, post_keeps, read_runs, report_runs, report_is, transfer_kind}
+use Rattle.lazy_runs.proofs.Words.{cases_eq, cond-false, false≢true, reverse-append, Block, IsBlock, kind, code, slot, same_words, block_at, is_transfer_event, is_command_completion, Spot, is_open, address_of, Header, Row, Read, Step, NextRow, Report, IsHeader, command_id, event_shape, World, event_at, read_made, Known, command_at, next_command, learned, known, IsLenient, DriverKeeps, Agrees, Runs, event_facts, driver_keeps, run_keeps, one_more, runs_rest, words_itself, post_keeps, read_runs, report_runs, report_is, transfer_kind}
 use Rattle.world_state.specs.World as of_world
 use Rattle.controller_model.specs.DriverRows as driver
 use Rattle.controller_model.specs.Posts as posts
@@ -58,7 +58,7 @@ module _ (h : Header) where
 
   -- ---- the world behind the report and the row
 
-  module _ (is : IsHeader h) (past later : List Row) (b : Block) (pointers : ℕ → Spot) (w u : World) (r : ℕ) (t : Spot) (block : IsBlock b) (clean : IsClean h (Read b ∷ past))
+  module _ (is : IsHeader h) (past later : List Row) (b : Block) (pointers : ℕ → Spot) (w u : World) (r : ℕ) (t : Spot) (block : IsBlock b) (clean : IsLenient h (Read b ∷ past))
       (transfer : is_transfer_event (kind b) ≡ true) (trace : Traced h past pointers w) (at : posts.reported h w b ≡ Some u) (leaves : ReportLeaves w u b r)
       (learns : EventLearns (known h past) (learned h (known h past) (Read b)) r t) where
     k : Known

@@ -1,6 +1,6 @@
 -- What a row of the driver leaves as it was known: floors, and which ring an endpoint has. A ring that it opens is active then
 use Rattle.std.proofs.Common.{◌≡◌, ◌==◌, ◌&&◌, ◌||◌, if◌then◌else◌, ◌∙◌, ℕ, nat_lt, not, Bool, true, false, [], Option, Some, None, is_none, refl, sym, ap, subst, inl, inr}
-use Rattle.lazy_runs.proofs.Words.{cases_Bool, cond_both, cond-true, cond-false, or_parts, and_from, not-false, put_pair, RingView, Opens, is_open, Running, is_running, is_stopped, Header, Row, Sub, Write, Reg, Bell, Read, Register, Usbcmd, Erdp, command_id, run_bit, reset_bit, World, Known, on_ring, run_or_stop, valued, register_written, endpoint_rung, rung, learned, is_bad_bell, is_touched, broken, IsDriverRow, BellFacts, bell_facts, put_at, declaration_leaves, write_leaves, register_leaves, bell_leaves, view_after}
+use Rattle.lazy_runs.proofs.Words.{cases_Bool, cond_both, cond-true, cond-false, or_parts, and_from, not-false, put_pair, RingView, Opens, is_open, Running, is_running, is_stopped, Header, Row, Sub, Write, Reg, Bell, Read, Register, Usbcmd, Erdp, command_id, run_bit, reset_bit, World, Known, on_ring, run_or_stop, valued, register_written, endpoint_rung, rung, learned, is_bad_bell, is_touched, lenient, IsDriverRow, BellFacts, bell_facts, put_at, declaration_leaves, write_leaves, register_leaves, bell_leaves, view_after}
 use Rattle.controller_model.specs.DriverRows as driver
 use Rattle.lazy_runs.proofs.RowsLeave.{row_leaves, done}
 
@@ -90,7 +90,7 @@ module _ (h : Header) where
 
   module _ (k : Known) (w : World) (started : w.started ≡ k.started) (ring_of : (s i : ℕ) → w.ring_of s i ≡ k.ring_of s i)
       (endpoints : (s i : ℕ) → w.endpoint_state s i ≡ k.endpoint_state s i) where
-    bell_active : (s t q : ℕ) → broken h k (Bell s t) ≡ [] → (w.is_active q ≡ true → (driver.bell_row h w s t).is_active q ≡ true) → WasActive k w q →
+    bell_active : (s t q : ℕ) → lenient h k (Bell s t) ≡ [] → (w.is_active q ≡ true → (driver.bell_row h w s t).is_active q ≡ true) → WasActive k w q →
         is_open ((learned h k (Bell s t)).ring q) ≡ true → (driver.bell_row h w s t).is_active q ≡ true
     unfolding learned rung driver.bell_row
     bell_active s t q clean still was opened =
@@ -117,7 +117,7 @@ module _ (h : Header) where
         ]
 
     -- a ring that is open behind a row is active then, if it was so before
-    pub row_active : (row : Row) (q : ℕ) → IsDriverRow row → broken h k row ≡ [] → WasActive k w q → is_open ((learned h k row).ring q) ≡ true → (done h w row).is_active q ≡ true
+    pub row_active : (row : Row) (q : ℕ) → IsDriverRow row → lenient h k row ≡ [] → WasActive k w q → is_open ((learned h k row).ring q) ≡ true → (done h w row).is_active q ≡ true
     unfolding done
     row_active (Sub r blocks) q driver_row clean was opened =
         (row_leaves h w (Sub r blocks)).active q (was (open_before (k.ring q) ((learned h k (Sub r blocks)).ring q) ((declaration_leaves h k r blocks).pointers q).held opened))

@@ -1,6 +1,6 @@
 -- A Transfer Event of a stop: the lazy run takes its Stop Endpoint, brings its ring to the spot that it names, reports it, and reads it
 use Rattle.std.proofs.Common.{◌≡◌, ◌≢◌, ◌+◌, ◌≤◌, ◌==◌, ◌||◌, ◌∷◌, ◌++◌, ◌∙◌, ℕ, true, false, List, [], reverse, Some, arith, sym, ap, subst, inl, inr, ne_eqb}
-use Rattle.lazy_runs.proofs.Words.{cases_lt, cond-true, cond-false, false≢true, put, Block, IsBlock, kind, code, slot, endpoint, is_transfer_event, is_success, is_halting, is_trb_error, is_stopping, Spot, is_open, rank, number, after, after_reached, number-after, stop_spot_reached, rank_least, rank_most, Header, Row, Read, IsHeader, shape_of, command_id, World, reached, Known, learned, known, RingSpot, next_command, transferred, IsClean, DriverKeeps, Agrees, event_facts, transfer_not_command, put_at, put_off, next_is, StopCode, IsTimely, lazy_run, pointers_at, goals, brought, further, report_goals, command_taken, taken_up_to, stop_goal, need}
+use Rattle.lazy_runs.proofs.Words.{cases_lt, cond-true, cond-false, false≢true, put, Block, IsBlock, kind, code, slot, endpoint, is_transfer_event, is_success, is_halting, is_trb_error, is_stopping, Spot, is_open, rank, number, after, after_reached, number-after, stop_spot_reached, rank_least, rank_most, Header, Row, Read, IsHeader, shape_of, command_id, World, reached, Known, learned, known, RingSpot, next_command, transferred, IsLenient, DriverKeeps, Agrees, event_facts, transfer_not_command, put_at, put_off, next_is, StopCode, IsTimely, lazy_run, pointers_at, goals, brought, further, report_goals, command_taken, taken_up_to, stop_goal, need}
 use Rattle.lazy_runs.proofs.LooksRun.{further_then, further_not}
 use Rattle.lazy_runs.proofs.CompletionSays.{CommandsOpen, commands_open}
 use Rattle.lazy_runs.proofs.Follows.{StandsAt, IsActiveIfOpen, Follows, Carries}
@@ -32,7 +32,7 @@ module _ (h : Header) where
   unfolding stop_goal
   stops_there at n none = cond-false (n == number at.spot + 1) (taken_up_to h at.ring n) at (ne_eqb n (number at.spot + 1) (λ same. omega (arith, same, none)))
 
-  module _ (is : IsHeader h) (past later : List Row) (b : Block) (block : IsBlock b) (clean : IsClean h (Read b ∷ past)) (transfer : is_transfer_event (kind b) ≡ true) (w : World)
+  module _ (is : IsHeader h) (past later : List Row) (b : Block) (block : IsBlock b) (clean : IsLenient h (Read b ∷ past)) (transfer : is_transfer_event (kind b) ≡ true) (w : World)
       (f : Follows h past (Read b ∷ later) w) (fails : is_success (code b) ≡ false) (quiet : (is_halting (code b) || is_trb_error (code b)) ≡ false)
       (timely : IsTimely h (reverse later ++ (Read b ∷ past))) where
     abbrev k : Known

@@ -1,6 +1,6 @@
 -- The controller can report a stop that breaks no rule, where its Stop Endpoint is taken and the ring stands at the spot that it names
 use Rattle.std.proofs.Common.{◌≡◌, ◌+◌, ◌-◌, ◌<◌, ◌≤◌, ◌==◌, ◌&&◌, ◌∙◌, ℕ, true, false, not, [], length, Option, Some, None, arith, refl, sym, ap, subst, inl, inr, ltb-true, eq-eqb}
-use Rattle.lazy_runs.proofs.Words.{cases_Bool, and_parts, and_from, cond-true, cond-false, not_from_true, Block, IsBlock, kind, code, pointer, slot, endpoint, is_transfer_event, Spot, number, ceiling, cycle_of_bit, command_of, is_stop_of, is_running, Header, Read, IsHeader, shape_of, command_id, World, UnderWay, unreported, Known, command_at, next_command, is_stopping_now, may_be_taken, broken, DriverKeeps, UnderWayMatches, CommandMatches, Agrees, event_facts, put_off, at_floor, command_is_ring, command_at_is, command_of-with_cycle, StopCode}
+use Rattle.lazy_runs.proofs.Words.{cases_Bool, and_parts, and_from, cond-true, cond-false, not_from_true, Block, IsBlock, kind, code, pointer, slot, endpoint, is_transfer_event, Spot, number, ceiling, cycle_of_bit, command_of, is_stop_of, is_running, Header, Read, IsHeader, shape_of, command_id, World, UnderWay, unreported, Known, command_at, next_command, is_stopping_now, may_be_taken, lenient, DriverKeeps, UnderWayMatches, CommandMatches, Agrees, event_facts, put_off, at_floor, command_is_ring, command_at_is, command_of-with_cycle, StopCode}
 use Rattle.world_state.specs.World as of_world
 use Rattle.controller_model.specs.Posts as posts
 use Rattle.lazy_runs.proofs.CompletionSays.{commands_open}
@@ -20,7 +20,7 @@ module _ (h : Header) where
       let parts = and_parts (may_be_taken h k) (is_stop_of s i (command_at h k (next_command h k))) now in
       record { below = ltb-true (next_command h k) (ceiling (shape_of h (command_id h)) (k.ring (command_id h))) parts.0; stop = parts.1 }
 
-  module _ (is : IsHeader h) (k : Known) (w : World) (b : Block) (block : IsBlock b) (d : DriverKeeps h k) (g : Agrees h k [] w) (clean : broken h k (Read b) ≡ []) (transfer : is_transfer_event (kind b) ≡ true)
+  module _ (is : IsHeader h) (k : Known) (w : World) (b : Block) (block : IsBlock b) (d : DriverKeeps h k) (g : Agrees h k [] w) (clean : lenient h k (Read b) ≡ []) (transfer : is_transfer_event (kind b) ≡ true)
       (f : TransferFacts h k b) (next : StopIsNext k (slot b) (endpoint b)) (t : Spot) (commands : StandsAt h w (command_id h) t) (taken : next_command h k + 1 ≤ number t) where
     started : k.started ≡ true
     started = (event_facts h k b clean).started

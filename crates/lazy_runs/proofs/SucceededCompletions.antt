@@ -1,6 +1,6 @@
 -- The success of a command, from its changes: the lazy run goes on
 use Rattle.std.proofs.Common.{◌≡◌, ◌+◌, ◌==◌, ◌&&◌, ◌||◌, if◌then◌else◌, ◌∷◌, ◌∙◌, ℕ, not, true, false, List, [], Option, Some, None, is_some, option_map, unwrap_or, refl, sym, ap, subst}
-use Rattle.lazy_runs.proofs.Words.{or_from, or_parts, cond-false, cond-true, not_from_true, Block, IsBlock, kind, code, slot, is_command_completion, Spot, after, Reaches, Command, EndpointState, changes, command_of, named_context, named_slot, named_endpoint, can_succeed, slot_success, endpoint_success, slot_meant, endpoint_meant, is_slot_enabled, Header, Row, Read, Config, IsHeader, shape_of, command_id, register_or_zero, World, posted, Known, event_read, learned, known, on_ring, command_at, next_command, is_bad_area, has_bad_context, IsClean, CommandKeeps, Agrees, bad_command_context, ring_elsewhere, StatesMatch, ChangeKeeps, LeavesRest, states_match, let_go, completion_kind, seen_after, stop_ended_is, next_unfinished, are_numbered}
+use Rattle.lazy_runs.proofs.Words.{or_from, or_parts, cond-false, cond-true, not_from_true, Block, IsBlock, kind, code, slot, is_command_completion, Spot, after, Reaches, Command, EndpointState, changes, command_of, named_context, named_slot, named_endpoint, can_succeed, slot_success, endpoint_success, slot_meant, endpoint_meant, is_slot_enabled, Header, Row, Read, Config, IsHeader, shape_of, command_id, register_or_zero, World, posted, Known, event_read, learned, known, on_ring, command_at, next_command, is_bad_area, has_bad_context, IsLenient, CommandKeeps, Agrees, bad_command_context, ring_elsewhere, StatesMatch, ChangeKeeps, LeavesRest, states_match, let_go, completion_kind, seen_after, stop_ended_is, next_unfinished, are_numbered}
 use Rattle.world_state.specs.World as of_world
 use Rattle.controller_model.specs.Bindings as bindings
 use Rattle.controller_model.specs.Finishes as finishes
@@ -140,7 +140,7 @@ module _ (h : Header) where
     started : m.started ≡ k.started
     started = ap (λ (y : Known). y.started) keeps.rest.known
 
-    pub success_step : IsBlock b → IsClean h (Read b ∷ past) → Carries h (Read b ∷ past) later
+    pub success_step : IsBlock b → IsLenient h (Read b ∷ past) → Carries h (Read b ∷ past) later
     success_step block clean =
         completion_step h is past later b block clean completion (spots_then h past later b) (λ q. refl) w (let_go (posted h list.world b)) list.world m ready.traced ready.stay
         ready.says.started ready.opened (finish_posted h past later b (let_go (posted h list.world b)) completion ready ends) (success_leaves k m w list.world b keeps.rest)

@@ -1,6 +1,6 @@
 -- What a Transfer Event says that breaks no rule, by its code: the spot that it names, and what the controller did there
 use Rattle.std.proofs.Common.{◌≡◌, ◌<◌, ◌&&◌, ◌||◌, ◌∙◌, ℕ, not, Bool, true, false, [], Option, Some, None, option_map, refl, sym, ap, inl, inr, ltb-true}
-use Rattle.lazy_runs.proofs.Words.{and_cases, and_parts, or_parts, or_cases, or_from, not-false, not-true, false≢true, none-some, same_Some, Block, is_set, word, kind, code, pointer, slot, endpoint, is_transfer_event, is_success, is_halting, is_trb_error, is_stopping, is_transfer_code, Spot, Data, Link, ceiling, named, is_data_below, is_open, is_stop_spot, is_off, is_running, Header, Read, shape_of, Known, RingSpot, spot_on, is_in_profile, is_working, is_stopping_now, can_report, can_report_at, is_impossible_by_kind, is_impossible_transfer, broken, event_facts, transfer_kind, StopCode, chain, spot_is}
+use Rattle.lazy_runs.proofs.Words.{and_cases, and_parts, or_parts, or_cases, or_from, not-false, not-true, false≢true, none-some, same_Some, Block, is_set, word, kind, code, pointer, slot, endpoint, is_transfer_event, is_success, is_halting, is_trb_error, is_stopping, is_transfer_code, Spot, Data, Link, ceiling, named, is_data_below, is_open, is_stop_spot, is_off, is_running, Header, Read, shape_of, Known, RingSpot, spot_on, is_in_profile, is_working, is_stopping_now, can_report, can_report_at, is_impossible_by_kind, is_impossible_transfer, lenient, event_facts, transfer_kind, StopCode, chain, spot_is}
 use Rattle.ring_knowledge.specs.Rings.{event_at}
 
 module _ (h : Header) where
@@ -53,7 +53,7 @@ module _ (h : Header) where
             named_by k b (event_at h k b) refl (not-false (can_report_at h k b (event_at h k b)) can.1) (not-true (is_set (word b 3) 2) parts.0) parts.1
       ]
 
-  pub transfer_facts : (k : Known) (b : Block) → broken h k (Read b) ≡ [] → is_transfer_event (kind b) ≡ true → TransferFacts k b
+  pub transfer_facts : (k : Known) (b : Block) → lenient h k (Read b) ≡ [] → is_transfer_event (kind b) ≡ true → TransferFacts k b
   transfer_facts k b clean transfer =
       let f = event_facts h k b clean in
       let inside : not (is_in_profile b) ≡ false = ap (λ c. c && not (is_in_profile b)) (sym transfer) ∙ f.inside in

@@ -1,6 +1,6 @@
 -- A Transfer Event: from its goals and its report to the run behind its row
 use Rattle.std.proofs.Common.{◌≡◌, ◌≢◌, ◌∷◌, ◌++◌, ◌∙◌, ℕ, true, List, [], reverse, Some, sym, ap, subst}
-use Rattle.lazy_runs.proofs.Words.{flat_map, Block, IsBlock, kind, is_transfer_event, Spot, Header, Row, Read, IsHeader, command_id, World, reached, learned, known, RingSpot, IsClean, DriverKeeps, Agrees, driver_keeps, lazy_run, pointers_at, goals, brought, looks_to}
+use Rattle.lazy_runs.proofs.Words.{flat_map, Block, IsBlock, kind, is_transfer_event, Spot, Header, Row, Read, IsHeader, command_id, World, reached, learned, known, RingSpot, IsLenient, DriverKeeps, Agrees, driver_keeps, lazy_run, pointers_at, goals, brought, looks_to}
 use Rattle.lazy_runs.proofs.AllEventsRead.{agrees_now}
 use Rattle.lazy_runs.proofs.Follows.{IsActiveIfOpen, Follows, Carries}
 use Rattle.lazy_runs.proofs.Preparing.{AllFit, AreApart, AllBrought, goals_reached}
@@ -9,7 +9,7 @@ use Rattle.lazy_runs.proofs.ReportStep.{EventLearns, pointers_transfer, report_s
 use Rattle.lazy_runs.proofs.Traced.{Traced, traced_behind, looks_for}
 use Rattle.lazy_runs.proofs.TransferFacts.{TransferFacts, transfer_facts}
 
-module _ (h : Header) (is : IsHeader h) (past later : List Row) (b : Block) (block : IsBlock b) (clean : IsClean h (Read b ∷ past)) (transfer : is_transfer_event (kind b) ≡ true) where
+module _ (h : Header) (is : IsHeader h) (past later : List Row) (b : Block) (block : IsBlock b) (clean : IsLenient h (Read b ∷ past)) (transfer : is_transfer_event (kind b) ≡ true) where
   pub facts : TransferFacts h (known h past) b
   facts = transfer_facts h (known h past) b clean.1 transfer
 

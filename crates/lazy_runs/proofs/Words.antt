@@ -23,12 +23,12 @@ unfoldable pub use Rattle.lazy_runs.specs.Lazy.{behind_taken, brought, command_t
 unfoldable pub use Rattle.lazy_runs.specs.Needs.{begins_anew, need, number_behind, number_reported}
 pub use Rattle.ownership_rules.proofs.Among.{IsIn}
 unfoldable pub use Rattle.ownership_rules.specs.Areas.{is_bad_area}
-pub use Rattle.ownership_rules.specs.Clean.{IsClean}
+pub use Rattle.ownership_rules.specs.Clean.{IsLenient}
 unfoldable pub use Rattle.ownership_rules.specs.Commands.{has_bad_context}
 unfoldable pub use Rattle.ownership_rules.specs.Doorbells.{is_bad_bell, is_touched}
 unfoldable pub use Rattle.ownership_rules.specs.Events.{can_finish, can_report, can_report_at, event_tests, is_impossible, is_impossible_by_kind, is_impossible_completion, is_impossible_transfer, is_in_profile, is_past_room, is_stopping_now, is_working, may_be_taken, was_stop_seen}
 unfoldable pub use Rattle.ownership_rules.specs.Moves.{binding_in, has_repeats, is_among, ring_bound}
-unfoldable pub use Rattle.ownership_rules.specs.Rules.{broken, tests}
+unfoldable pub use Rattle.ownership_rules.specs.Rules.{lenient, lenient_tests}
 pub use Rattle.ring_knowledge.specs.Known.{Known}
 unfoldable pub use Rattle.ring_knowledge.specs.Known.{nothing}
 unfoldable pub use Rattle.ring_knowledge.specs.Learned.{event_read, known, learned}

@@ -10,7 +10,7 @@ use Rattle.world_state.specs.World.{World}
 use Rattle.controller_model.specs.Steps.{reached}
 use Rattle.ring_knowledge.specs.Known.{Known}
 use Rattle.ring_knowledge.specs.Learned.{known}
-use Rattle.ownership_rules.specs.Clean.{IsClean}
+use Rattle.ownership_rules.specs.Clean.{IsLenient}
 use Rattle.lazy_runs.specs.LateEvents.{IsTimely}
 use Rattle.lazy_runs.specs.Lazy.{lazy_run, lazy_steps}
 
@@ -40,11 +40,11 @@ module _ (h : Header) where
   -- a clean trace without late events, behind each of its rows
   abbrev pub LazyLaw : Type 0
   LazyLaw =
-      (past later : List Row) → IsHeader h → All IsRow (reverse past ++ later) → IsClean h (reverse later ++ past) →
+      (past later : List Row) → IsHeader h → All IsRow (reverse past ++ later) → IsLenient h (reverse later ++ past) →
       IsTimely h (reverse later ++ past) → GoesSoFar past later
 
   -- so all of its rows are read
   abbrev pub AllAreRead : Type 0
   AllAreRead =
-      (rows : List Row) → IsHeader h → All IsRow rows → IsClean h (reverse rows) → IsTimely h (reverse rows) →
+      (rows : List Row) → IsHeader h → All IsRow rows → IsLenient h (reverse rows) → IsTimely h (reverse rows) →
       ContainsAll rows (reverse (lazy_steps h rows))

@@ -1,6 +1,6 @@
 -- The entry of each slot with a device context ends within the address space: it was tested when the context was taken
 use Rattle.std.proofs.Common.{◌≡◌, ◌+◌, ◌^◌, ◌≤◌, ◌∷◌, ◌∙◌, ℕ, true, false, List, [], Option, Some, refl, sym, ap, subst, inl, inr, ltb-false}
-use Rattle.lease_rows.proofs.Words.{cases_Bool, false≢true, none-some, cases_option, Header, Register, Dcbaap, Row, Sub, Write, Reg, Bell, Read, IsHeader, with_register, Known, nothing, known, learned, entry_of, IsClean, is_bad_register, broken, DriverKeeps, area_parts, register_facts, entry_same, driver_keeps, at_number, event_behind, registered, bell_leaves, declaration_leaves, register_leaves, write_leaves, clean_tests, rules_of, after_write, taken, written_device, written_device_none, EntriesFit}
+use Rattle.lease_rows.proofs.Words.{cases_Bool, false≢true, none-some, cases_option, Header, Register, Dcbaap, Row, Sub, Write, Reg, Bell, Read, IsHeader, with_register, Known, nothing, known, learned, entry_of, IsLenient, is_bad_register, lenient, DriverKeeps, area_parts, register_facts, entry_same, driver_keeps, at_number, event_behind, registered, bell_leaves, declaration_leaves, register_leaves, write_leaves, clean_tests, rules_of, after_write, taken, written_device, written_device_none, EntriesFit}
 
 -- no device context more, and the same array of entries
 still_fit : (k l : Known) → l.register Dcbaap ≡ k.register Dcbaap → ((s d : ℕ) → l.device s ≡ Some d → k.device s ≡ Some d) → EntriesFit k → EntriesFit l
@@ -21,7 +21,7 @@ module _ (h : Header) where
         | inr off ↦ absurd (none-some d (sym (keeps.states.no_device s ((keeps.unstarted off).slots s)) ∙ same s d at))
       ]
 
-  module _ (is : IsHeader h) (k : Known) (keeps : DriverKeeps h k) (a w : ℕ) (clean : broken h k (Write a w) ≡ []) where
+  module _ (is : IsHeader h) (k : Known) (keeps : DriverKeeps h k) (a w : ℕ) (clean : lenient h k (Write a w) ≡ []) where
     -- the entry of the slot that takes a device context
     taken_fits : (e : ℕ × ℕ) → taken h k a w ≡ Some e → entry_of k e.0 + 8 ≤ 2 ^ 64
     taken_fits e at = ltb-false (2 ^ 64) (entry_of k e.0 + 8) (area_parts h k (entry_of k e.0) 8 (rules_of h is k keeps a w clean e at).entry_area).ends
@@ -41,7 +41,7 @@ module _ (h : Header) where
     write_fits fit s d at =
         subst (λ (x : ℕ). x + 8 ≤ 2 ^ 64) (sym (entry_same k (after_write h k a w) s (ap (λ f. f Dcbaap) (write_leaves h k a w).registers.register))) (fits_behind fit s d at)
 
-  row_fits : IsHeader h → (k : Known) (row : Row) → DriverKeeps h k → broken h k row ≡ [] → EntriesFit k → EntriesFit (learned h k row)
+  row_fits : IsHeader h → (k : Known) (row : Row) → DriverKeeps h k → lenient h k row ≡ [] → EntriesFit k → EntriesFit (learned h k row)
   row_fits is k (Sub r blocks) keeps clean fit =
       let leaves = declaration_leaves h k r blocks in
       still_fit k (learned h k (Sub r blocks)) (ap (λ f. f Dcbaap) leaves.registers.register) (λ s d at. ap (λ f. f s) (sym leaves.memory.device) ∙ at) fit
@@ -59,7 +59,7 @@ module _ (h : Header) where
   nothing_fits s d at = absurd (none-some d at)
 
   -- behind rows none of which breaks a rule
-  pub entries_fit : IsHeader h → (past : List Row) → IsClean h past → EntriesFit (known h past)
+  pub entries_fit : IsHeader h → (past : List Row) → IsLenient h past → EntriesFit (known h past)
   unfolding known
   entries_fit is [] clean = nothing_fits
   entries_fit is (row ∷ past) clean =

@@ -1,6 +1,6 @@
 -- The completion of a command moves the ring of a Set TR Dequeue on, and no other but the command ring
 use Rattle.std.proofs.Common.{◌≡◌, ◌≢◌, ◌≤◌, ◌==◌, if◌then◌else◌, ◌∷◌, ◌∙◌, ℕ, Bool, true, false, List, [], map, Option, None, Some, refl, sym, ap, subst, eqb-true}
-use Rattle.lease_rows.proofs.Words.{cond-false, CommandCompletion, kind, code, slot, is_command_completion, Spot, number, after, RingView, Reaches, Holds, floor_number, target, target_ahead, added_endpoints, is_dropped, context_pointer, context_cycle, Command, NoOp, EnableSlot, DisableSlot, AddressDevice, ConfigureEndpoint, EvaluateContext, ResetEndpoint, StopEndpoint, SetTrDequeue, ResetDevice, Stopped, is_off, Change, SlotGoesOn, DeviceLeft, Disables, Places, Stops, Resets, changes, is_above_control, placed_by_context, Header, Read, IsHeader, shape_of, command_id, ring_beginning_at, Known, on_ring, command_at, next_command, set_to, bound_to, moved_to, moved, pointed, in_state, changed_by, changed_by_all, succeeded, stop_ended, finished, completed, event_read, learned, has_repeats, binds, binding_in, ring_bound, broken, DriverKeeps, MayChangeAll, StillHolds, transfer_not_command, may_move, ring_elsewhere, may_change, still_of, all_ready, dropped, map_map, view_after, FloorsMove, MovesOn, IsMovedTo, IsOtherRing, moved_on, moved_ring, moved_by, moved_when}
+use Rattle.lease_rows.proofs.Words.{cond-false, CommandCompletion, kind, code, slot, is_command_completion, Spot, number, after, RingView, Reaches, Holds, floor_number, target, target_ahead, added_endpoints, is_dropped, context_pointer, context_cycle, Command, NoOp, EnableSlot, DisableSlot, AddressDevice, ConfigureEndpoint, EvaluateContext, ResetEndpoint, StopEndpoint, SetTrDequeue, ResetDevice, Stopped, is_off, Change, SlotGoesOn, DeviceLeft, Disables, Places, Stops, Resets, changes, is_above_control, placed_by_context, Header, Read, IsHeader, shape_of, command_id, ring_beginning_at, Known, on_ring, command_at, next_command, set_to, bound_to, moved_to, moved, pointed, in_state, changed_by, changed_by_all, succeeded, stop_ended, finished, completed, event_read, learned, has_repeats, binds, binding_in, ring_bound, lenient, DriverKeeps, MayChangeAll, StillHolds, transfer_not_command, may_move, ring_elsewhere, may_change, still_of, all_ready, dropped, map_map, view_after, FloorsMove, MovesOn, IsMovedTo, IsOtherRing, moved_on, moved_ring, moved_by, moved_when}
 use Rattle.trb.specs.declared.block.Block.{Block}
 use Rattle.safety.proofs.DriverRows.{ring_here}
 use Rattle.lease_rows.proofs.FloorsStay.{ChangesStay, FloorsStay, StaysHere, stay_none, changes_stay, each_stays, address_stays, hold_stays}
@@ -161,7 +161,7 @@ module _ (h : Header) where
     moved_there l m same None apart there = tt
     moved_there l m same (Some e) apart there = (apart, same e.0 apart ∙ there)
 
-    module _ (b : Block) (clean : broken h k (Read b) ≡ []) (completes : kind b ≡ CommandCompletion) where
+    module _ (b : Block) (clean : lenient h k (Read b) ≡ []) (completes : kind b ≡ CommandCompletion) where
       abbrev o : Option Command
       o = command_at h k (next_command h k)
 
@@ -186,5 +186,5 @@ module _ (h : Header) where
           }
 
 -- as the premise of a completion has it
-pub floors_move : (h : Header) → IsHeader h → (k : Known) → DriverKeeps h k → (b : Block) → broken h k (Read b) ≡ [] → kind b ≡ CommandCompletion → FloorsMove h k b
+pub floors_move : (h : Header) → IsHeader h → (k : Known) → DriverKeeps h k → (b : Block) → lenient h k (Read b) ≡ [] → kind b ≡ CommandCompletion → FloorsMove h k b
 floors_move h is k d b clean completes = moves h is k d b clean completes

@@ -42,13 +42,13 @@ pub use Rattle.lease_rows.specs.CleanRows.{FollowsBook, HoldsAll, IsCleanRow, Is
 pub use Rattle.lease_rows.specs.LeftBehind.{AreLent, EntriesFit, FloorsMove, IsMovedTo, IsOtherRing, MovesOn, is_behind, is_moved_past, moved_by, moved_on, moved_ring, moved_when, slot_let_go}
 pub use Rattle.lease_rows.specs.Taking.{EntryFits, SlotIsFree, command_taken, slot_taken}
 pub use Rattle.ownership_rules.proofs.Among.{IsIn, both_ways, from_filter, in_among, in_filter, leased_is, leased_itself}
-pub use Rattle.ownership_rules.specs.Clean.{IsClean}
+pub use Rattle.ownership_rules.specs.Clean.{IsLenient}
 unfoldable pub use Rattle.ownership_rules.specs.Leases.{as_lease, comes_before, without_end}
 unfoldable pub use Rattle.ownership_rules.specs.Moves.{binding_in, binds, has_repeats, ring_bound}
 pub use Rattle.ownership_rules.specs.OpenLeases.{Block, DeviceContext, InputContext, Leased, Link, Range, SegmentTable, SlotEntry, Use, same_leased}
 unfoldable pub use Rattle.ownership_rules.specs.OpenLeases.{context_ranges, device_ranges, entry_ranges, is_among, open_leases, open_on, open_ranges, range_of_command, range_of_context, range_of_device, range_of_entry, segment_ranges, slots, table_range}
 unfoldable pub use Rattle.ownership_rules.specs.Registers.{is_bad_register, is_written}
-unfoldable pub use Rattle.ownership_rules.specs.Rules.{broken}
+unfoldable pub use Rattle.ownership_rules.specs.Rules.{lenient}
 pub use Rattle.ring_finder.proofs.FoundRings.{command_found, no_command_ring, none_here, ring_here}
 pub use Rattle.ring_finder.proofs.HeaderRings.{all_from_one, event_here, find_some, id_below, not_found, nothing_from, ring_found, shape_allowed, shape_there, together}
 pub use Rattle.ring_finder.proofs.ListTests.{and_false, and_left, and_right, any_append, false_unless, filter_nothing, or_false}

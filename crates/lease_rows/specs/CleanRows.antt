@@ -4,9 +4,9 @@ use Rattle.traces.specs.declared.header.Header.{Header}
 use Rattle.traces.specs.declared.row.Row.{Row}
 use Rattle.traces.specs.declared.row.Row.TheVariants.{Write, Read}
 use Rattle.ring_knowledge.specs.Learned.{known}
-use Rattle.ownership_rules.specs.Clean.{IsClean}
+use Rattle.ownership_rules.specs.Clean.{IsLenient}
 use Rattle.ownership_rules.specs.Leases.{without_end}
-use Rattle.ownership_rules.specs.Rules.{broken}
+use Rattle.ownership_rules.specs.Rules.{lenient}
 use Rattle.lease_book.specs.declared.ranges.RangeIndexes.{RangeIndexes}
 use Rattle.lease_book.specs.Lents.{Lent, lents}
 use Rattle.lease_book.specs.Ranges.{FindsRanges}
@@ -19,8 +19,8 @@ pub record IsCleanRow (h : Header) (first : ℕ) (past : List Row) (row : Row) (
   pub numbered : number ≡ first + length past
   pub room : first + length (row ∷ past) ≤ without_end
   pub followed : FollowsTrace h (known h past) t memory
-  pub history : IsClean h past
-  pub clean : broken h (known h past) row ≡ []
+  pub history : IsLenient h past
+  pub clean : lenient h (known h past) row ≡ []
 
 -- the row is a declaration, a doorbell or a register's
 abbrev pub IsOtherRow : Row → Type 0

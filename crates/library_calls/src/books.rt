@@ -3,7 +3,7 @@ use lease_book::{LeaseBook, LeaseLog};
 use ring_knowledge::Lease;
 use segments::RingShape;
 use std::test::Fail;
-use traces::{Header, Ring, Rings};
+use traces::{Header, Ring, Rings, Version};
 use trb::RingKind;
 
 /// The number of no row.
@@ -29,6 +29,7 @@ fn book(rt: &HostRuntime) -> Result<LeaseBook, Fail> {
     let alloc = rt.alloc();
     let events = ring(rt, RingKind::Evt, 1, 0x20000, 16)?;
     let header = Header {
+        version: Version::One,
         context_size: ContextSize::Bytes32,
         rings: Rings::new(vec![in alloc; events]?),
     };

@@ -7,7 +7,7 @@ use ring_finder::Finder;
 use segments::{RingShape, Spot};
 use std::alloc::Global;
 use std::test::Fail;
-use traces::{Header, Ring, Rings, Step};
+use traces::{Header, Ring, Rings, Step, Version};
 use trb::RingKind;
 
 /// The command ring 0 and the transfer ring 2, each with three blocks and a Link.
@@ -17,6 +17,7 @@ fn two_rings(alloc: Global) -> Result<Header, Fail>
     let command = RingShape::new(alloc, RingKind::Cmd, &[(0x10000, 4)])?;
     let transfer = RingShape::new(alloc, RingKind::Xfer, &[(0x30000, 4)])?;
     Ok(Header {
+        version: Version::One,
         context_size: ContextSize::Bytes32,
         rings: Rings::new(vec![in alloc;
             Ring {

@@ -7,7 +7,7 @@ use guest_memory::{Addr, PageMemory, WordMemory};
 use segments::RingShape;
 use std::alloc::{AllocError, Global};
 use std::test::Fail;
-use traces::{Header, Ring, Rings, Row, Rows, Step, Trace};
+use traces::{Header, Ring, Rings, Row, Rows, Step, Trace, Version};
 use trb::RingKind;
 
 /// Memory that refuses each write.
@@ -35,6 +35,7 @@ fn one_ring(alloc: Global) -> Result<Header, Fail>
 {
     let shape = RingShape::new(alloc, RingKind::Xfer, &[(0x30000, 4)])?;
     Ok(Header {
+        version: Version::One,
         context_size: ContextSize::Bytes32,
         rings: Rings::new(vec![in alloc; Ring { id: 2, shape }]?),
     })

@@ -21,6 +21,7 @@ use Rattle.trace_record.specs.Fresh.{IsWithin}
 use Rattle.trace_record.specs.Steps.{IsRowStep}
 use Rattle.row_checks.specs.Accepted.{IsAccepted}
 use Rattle.row_checks.specs.Tracking.{IsTracked}
+use Rattle.row_checks.proofs.CleanHistories.{lenient_history, lenient_row}
 use Rattle.row_checks.proofs.Passes as passes
 use Rattle.ownership_checker.specs.Tracking.{IsProgress}
 
@@ -55,8 +56,8 @@ module _ (h : Header) (rows : List Row) (first : ℕ) where
           numbered = omega (arith, numbered_, many);
           room = omega (arith, many, room_, below);
           followed = p.pass.checked.tracked.follows;
-          history = p.pass.checked.clean;
-          clean = (step (known h past) p.pass.checked.tracked).clean;
+          history = lenient_history h past p.pass.checked.clean;
+          clean = lenient_row h (known h past) row (step (known h past) p.pass.checked.tracked).clean;
         }) p.lent);
       }
 

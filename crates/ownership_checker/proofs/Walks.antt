@@ -10,7 +10,7 @@ use Rattle.traces.specs.declared.header.Header.{Header}
 use Rattle.traces.specs.declared.row.Row.{Row}
 use Rattle.traces.specs.Header.{IsHeader, is_driver_kind, shape_of}
 use Rattle.ring_knowledge.specs.Learned.{known}
-use Rattle.ownership_rules.specs.Clean.{IsClean}
+use Rattle.ownership_rules.specs.Clean.{IsClean, IsLenient}
 use Rattle.safety.specs.KeptHistories.{MayReadAll}
 use Rattle.safety.proofs.TestsPassed.{clean_tests}
 use Rattle.safety.proofs.DriverHistories.{driver_keeps}
@@ -19,11 +19,11 @@ use Rattle.safety.proofs.StillPlacing.{still_reads}
 use Rattle.safety.proofs.KeptRings.{still_of}
 use Rattle.safety.proofs.Histories.{keeps_rings}
 use Rattle.safety.proofs.RingsOfHeader.{HasRing, has_ring, shape_allowed}
-use Rattle.row_checks.proofs.CleanHistories.{earlier_clean}
+use Rattle.row_checks.proofs.CleanHistories.{earlier_clean, lenient_history}
 use Rattle.ownership_checker.specs.Walks.{WalksRead}
 
 -- completions of a clean history place endpoints where they may
-all_placed : (h : Header) → IsHeader h → (past : List Row) → IsClean h past → MayReadAll h past
+all_placed : (h : Header) → IsHeader h → (past : List Row) → IsLenient h past → MayReadAll h past
 all_placed h is [] clean = tt
 all_placed h is (row ∷ past) clean =
     let k = known h past in
@@ -39,7 +39,7 @@ no_event_ring kind driver is = false≢true (sym (ap is_driver_kind is) ∙ driv
 pub walks : (h : Header) → IsHeader h → (rows : List Row) → IsClean h (reverse rows) → WalksRead h rows
 walks h is rows clean done r within driver =
     let past : List Row = reverse (take done rows) in
-    let was_clean : IsClean h past = earlier_clean h (reverse (drop done rows)) past (subst (IsClean h) (split rows done) clean) in
+    let was_clean : IsLenient h past = lenient_history h past (earlier_clean h (reverse (drop done rows)) past (subst (IsClean h) (split rows done) clean)) in
     let keeps = keeps_rings h is past was_clean (all_placed h is past was_clean) r driver in
     let has : HasRing h r = has_ring h r driver in
     walk_reads (shape_of h r) (shape_allowed h is r driver) (no_event_ring (shape_of h r).kind (ap (λ s. is_driver_kind s.kind) has.shape ∙ has.driver))

@@ -2,6 +2,7 @@
 use Rattle.std.specs.Prelude.{◌≡◌, ℕ, ◌+◌, List, [], ◌∷◌, ◌++◌, Option, Some, None, refl}
 use Rattle.trb.specs.declared.ring_kind.RingKind.TheVariants.{Xfer}
 use Rattle.contexts.specs.declared.size.ContextSize.TheVariants.{Bytes32}
+use Rattle.traces.specs.declared.version.Version.TheVariants.{One}
 use Rattle.traces.specs.declared.header.Header.{Header}
 use Rattle.traces.specs.declared.row.Row.{Row}
 use Rattle.traces.specs.declared.row.Row.TheVariants.{Write}
@@ -13,7 +14,7 @@ use Rattle.ownership_rules.specs.OnLiterals.{rules_on_literals}
 
 -- a transfer ring of two segments, of 3 blocks at 0x30000 and of 2 blocks at 0x31000
 abbrev two_segments : Header
-two_segments = record { context_size = Bytes32; rings = record { id = 2; shape = record { kind = Xfer; segments = record { base = 0x30000; count = 3 } ∷ record { base = 0x31000; count = 2 } ∷ [] } } ∷ [] }
+two_segments = record { version = One; context_size = Bytes32; rings = record { id = 2; shape = record { kind = Xfer; segments = record { base = 0x30000; count = 3 } ∷ record { base = 0x31000; count = 2 } ∷ [] } } ∷ [] }
 
 -- the two rows that give a Link: its pointer, then its control word
 abbrev link : ℕ → ℕ → ℕ → List Row

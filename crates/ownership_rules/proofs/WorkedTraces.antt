@@ -2,6 +2,7 @@
 use Rattle.std.specs.Prelude.{◌≡◌, List, [], ◌∷◌, Some, None, refl}
 use Rattle.trb.specs.declared.ring_kind.RingKind.TheVariants.{Cmd, Evt, Xfer}
 use Rattle.contexts.specs.declared.size.ContextSize.TheVariants.{Bytes32}
+use Rattle.traces.specs.declared.version.Version.TheVariants.{One}
 use Rattle.traces.specs.declared.header.Header.{Header}
 use Rattle.traces.specs.declared.row.Row.{Row}
 use Rattle.traces.specs.declared.row.Row.TheVariants.{Sub, Write, Reg, Bell, Read}
@@ -12,7 +13,7 @@ use Rattle.ownership_rules.specs.Rules.{verdict_from}
 use Rattle.ownership_rules.specs.OnLiterals.{rules_on_literals}
 
 abbrev pub control_transfer_header : Header
-control_transfer_header = record { context_size = Bytes32; rings = record { id = 0; shape = record { kind = Cmd; segments = record { base = 65536; count = 16 } ∷ [] } } ∷ record { id = 1; shape = record { kind = Evt; segments = record { base = 131072; count = 16 } ∷ [] } } ∷ record { id = 2; shape = record { kind = Xfer; segments = record { base = 196608; count = 8 } ∷ [] } } ∷ [] }
+control_transfer_header = record { version = One; context_size = Bytes32; rings = record { id = 0; shape = record { kind = Cmd; segments = record { base = 65536; count = 16 } ∷ [] } } ∷ record { id = 1; shape = record { kind = Evt; segments = record { base = 131072; count = 16 } ∷ [] } } ∷ record { id = 2; shape = record { kind = Xfer; segments = record { base = 196608; count = 8 } ∷ [] } } ∷ [] }
 
 abbrev pub control_transfer_rows : List Row
 control_transfer_rows =
@@ -58,7 +59,7 @@ unfolding rules_on_literals
 control_transfer = refl
 
 abbrev pub dequeue_pointer_past_the_reads_header : Header
-dequeue_pointer_past_the_reads_header = record { context_size = Bytes32; rings = record { id = 0; shape = record { kind = Cmd; segments = record { base = 65536; count = 16 } ∷ [] } } ∷ record { id = 1; shape = record { kind = Evt; segments = record { base = 131072; count = 16 } ∷ [] } } ∷ record { id = 2; shape = record { kind = Xfer; segments = record { base = 196608; count = 4 } ∷ [] } } ∷ [] }
+dequeue_pointer_past_the_reads_header = record { version = One; context_size = Bytes32; rings = record { id = 0; shape = record { kind = Cmd; segments = record { base = 65536; count = 16 } ∷ [] } } ∷ record { id = 1; shape = record { kind = Evt; segments = record { base = 131072; count = 16 } ∷ [] } } ∷ record { id = 2; shape = record { kind = Xfer; segments = record { base = 196608; count = 4 } ∷ [] } } ∷ [] }
 
 abbrev pub dequeue_pointer_past_the_reads_rows : List Row
 dequeue_pointer_past_the_reads_rows =
@@ -79,7 +80,7 @@ unfolding rules_on_literals
 dequeue_pointer_past_the_reads = refl
 
 abbrev pub first_block_given_first_header : Header
-first_block_given_first_header = record { context_size = Bytes32; rings = record { id = 2; shape = record { kind = Xfer; segments = record { base = 196608; count = 4 } ∷ [] } } ∷ [] }
+first_block_given_first_header = record { version = One; context_size = Bytes32; rings = record { id = 2; shape = record { kind = Xfer; segments = record { base = 196608; count = 4 } ∷ [] } } ∷ [] }
 
 abbrev pub first_block_given_first_rows : List Row
 first_block_given_first_rows =
@@ -92,7 +93,7 @@ unfolding rules_on_literals
 first_block_given_first = refl
 
 abbrev pub ring_full_header : Header
-ring_full_header = record { context_size = Bytes32; rings = record { id = 2; shape = record { kind = Xfer; segments = record { base = 196608; count = 4 } ∷ [] } } ∷ [] }
+ring_full_header = record { version = One; context_size = Bytes32; rings = record { id = 2; shape = record { kind = Xfer; segments = record { base = 196608; count = 4 } ∷ [] } } ∷ [] }
 
 abbrev pub ring_full_rows : List Row
 ring_full_rows =
@@ -108,7 +109,7 @@ unfolding rules_on_literals
 ring_full = refl
 
 abbrev pub ring_wraps_header : Header
-ring_wraps_header = record { context_size = Bytes32; rings = record { id = 0; shape = record { kind = Cmd; segments = record { base = 65536; count = 16 } ∷ [] } } ∷ record { id = 1; shape = record { kind = Evt; segments = record { base = 131072; count = 16 } ∷ [] } } ∷ record { id = 2; shape = record { kind = Xfer; segments = record { base = 196608; count = 4 } ∷ [] } } ∷ [] }
+ring_wraps_header = record { version = One; context_size = Bytes32; rings = record { id = 0; shape = record { kind = Cmd; segments = record { base = 65536; count = 16 } ∷ [] } } ∷ record { id = 1; shape = record { kind = Evt; segments = record { base = 131072; count = 16 } ∷ [] } } ∷ record { id = 2; shape = record { kind = Xfer; segments = record { base = 196608; count = 4 } ∷ [] } } ∷ [] }
 
 abbrev pub ring_wraps_rows : List Row
 ring_wraps_rows =
@@ -157,7 +158,7 @@ unfolding rules_on_literals
 ring_wraps = refl
 
 abbrev pub stall_and_move_header : Header
-stall_and_move_header = record { context_size = Bytes32; rings = record { id = 0; shape = record { kind = Cmd; segments = record { base = 65536; count = 16 } ∷ [] } } ∷ record { id = 1; shape = record { kind = Evt; segments = record { base = 131072; count = 16 } ∷ [] } } ∷ record { id = 2; shape = record { kind = Xfer; segments = record { base = 196608; count = 8 } ∷ [] } } ∷ [] }
+stall_and_move_header = record { version = One; context_size = Bytes32; rings = record { id = 0; shape = record { kind = Cmd; segments = record { base = 65536; count = 16 } ∷ [] } } ∷ record { id = 1; shape = record { kind = Evt; segments = record { base = 131072; count = 16 } ∷ [] } } ∷ record { id = 2; shape = record { kind = Xfer; segments = record { base = 196608; count = 8 } ∷ [] } } ∷ [] }
 
 abbrev pub stall_and_move_rows : List Row
 stall_and_move_rows =
@@ -208,7 +209,7 @@ unfolding rules_on_literals
 stall_and_move = refl
 
 abbrev pub two_descriptors_header : Header
-two_descriptors_header = record { context_size = Bytes32; rings = record { id = 2; shape = record { kind = Xfer; segments = record { base = 196608; count = 4 } ∷ [] } } ∷ [] }
+two_descriptors_header = record { version = One; context_size = Bytes32; rings = record { id = 2; shape = record { kind = Xfer; segments = record { base = 196608; count = 4 } ∷ [] } } ∷ [] }
 
 abbrev pub two_descriptors_rows : List Row
 two_descriptors_rows =
@@ -223,7 +224,7 @@ unfolding rules_on_literals
 two_descriptors = refl
 
 abbrev pub undeclared_giving_header : Header
-undeclared_giving_header = record { context_size = Bytes32; rings = record { id = 2; shape = record { kind = Xfer; segments = record { base = 196608; count = 4 } ∷ [] } } ∷ [] }
+undeclared_giving_header = record { version = One; context_size = Bytes32; rings = record { id = 2; shape = record { kind = Xfer; segments = record { base = 196608; count = 4 } ∷ [] } } ∷ [] }
 
 abbrev pub undeclared_giving_rows : List Row
 undeclared_giving_rows =
@@ -235,7 +236,7 @@ unfolding rules_on_literals
 undeclared_giving = refl
 
 abbrev pub write_to_a_given_block_header : Header
-write_to_a_given_block_header = record { context_size = Bytes32; rings = record { id = 2; shape = record { kind = Xfer; segments = record { base = 196608; count = 4 } ∷ [] } } ∷ [] }
+write_to_a_given_block_header = record { version = One; context_size = Bytes32; rings = record { id = 2; shape = record { kind = Xfer; segments = record { base = 196608; count = 4 } ∷ [] } } ∷ [] }
 
 abbrev pub write_to_a_given_block_rows : List Row
 write_to_a_given_block_rows =

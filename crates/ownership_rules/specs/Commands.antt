@@ -68,11 +68,16 @@ module _ (h : Header) where
   unfoldable pub is_busy : Known → Command → Bool
   is_busy k c = list_any (name_one_slot c) (unfinished h k)
 
-  unfoldable pub is_left_out_endpoint : Known → ℕ → ℕ → Bool
-  is_left_out_endpoint k c i = is_isochronous (type_in k c i) || nat_lt 0 (streams_in k c i)
+  -- of an endpoint that is added, by its index in the input context, this holds
+  abbrev pub some_added : Known → Command → (ℕ → ℕ → Bool) → Bool
+  some_added k (AddressDevice s bsr c) test = test c 1
+  some_added k (ConfigureEndpoint s false c) test = list_any (test c) (added_endpoints k.memory c)
+  some_added k _ test = false
 
-  -- an endpoint that is added is isochronous or has streams
-  unfoldable pub has_left_out_endpoint : Known → Command → Bool
-  has_left_out_endpoint k (AddressDevice s bsr c) = is_left_out_endpoint k c 1
-  has_left_out_endpoint k (ConfigureEndpoint s false c) = list_any (is_left_out_endpoint k c) (added_endpoints k.memory c)
-  has_left_out_endpoint k _ = false
+  -- an endpoint that is added has streams
+  unfoldable pub adds_streams : Known → Command → Bool
+  adds_streams k command = some_added k command (λ c i. nat_lt 0 (streams_in k c i))
+
+  -- an endpoint that is added is isochronous
+  unfoldable pub adds_isochronous : Known → Command → Bool
+  adds_isochronous k command = some_added k command (λ c i. is_isochronous (type_in k c i))

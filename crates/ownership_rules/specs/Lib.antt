@@ -8,6 +8,7 @@ pub mod Writes
 pub mod Registers
 pub mod Doorbells
 pub mod Events
+pub mod Older
 pub mod Rules
 pub mod Clean
 pub mod Leases

@@ -49,5 +49,5 @@ module _ (h : Header) where
       ∷ (LinkFault, some_crossed k a w (λ r q. leads_wrong (shape_of h r) k.memory a w q))
       ∷ (BadCommand, some_command k a w (commands.is_bad_command h k))
       ∷ (Busy, some_command k a w (commands.is_busy h k) || some_given k a w (λ r p. moves.is_being_moved h k r))
-      ∷ (NotInProfile, some_command k a w (commands.has_left_out_endpoint h k) || some_crossed k a w (λ r q. interrupts (shape_of h r) k.memory a w q))
+      ∷ (NotInProfile, some_command k a w (commands.adds_streams h k) || some_crossed k a w (λ r q. interrupts (shape_of h r) k.memory a w q))
       ∷ (BadMove, some_command k a w (λ c. moves.is_bad_binding h k c || moves.is_bad_move h k c)) ∷ []

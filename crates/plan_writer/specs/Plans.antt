@@ -5,6 +5,7 @@ use Rattle.std.specs.Option.{option_map_or}
 use Rattle.trb.specs.Descriptor.{fault_of}
 use Rattle.cycle_ring.specs.Progress.{Progress, has_room, is_given_count}
 use Rattle.cycle_ring.specs.Writes.{writes_of}
+use Rattle.traces.specs.declared.version.Version.TheVariants.{One}
 use Rattle.traces.specs.declared.plan.PlanLine.{PlanLine}
 use Rattle.traces.specs.declared.plan.PlanLine.TheVariants.{Sub, Ret}
 use Rattle.contexts.specs.declared.size.ContextSize.TheVariants.{Bytes32}
@@ -61,7 +62,7 @@ plan_refusal plan = refusal_from plan.ring.id (start_of plan) 3 plan.lines
 -- the trace of a plan: contexts of 32 bytes, its ring, and the rows of its lines
 abbrev pub plan_trace : PlanText → TraceText
 plan_trace plan =
-    record { header = record { context_size = Bytes32; rings = plan.ring ∷ [] }; first = 4; rows = rows_from (start_of plan) plan.lines }
+    record { header = record { version = One; context_size = Bytes32; rings = plan.ring ∷ [] }; first = 4; rows = rows_from (start_of plan) plan.lines }
 
 -- rows as they are printed
 abbrev pub rows_text : List Row → List ℕ
@@ -69,4 +70,4 @@ rows_text rows = flat_map printed_line (map row_fields rows)
 
 -- the lines before the ring's as they are printed
 abbrev pub head_text : List ℕ
-head_text = printed_line version_fields ++ printed_line (size_fields Bytes32)
+head_text = printed_line (version_fields One) ++ printed_line (size_fields Bytes32)

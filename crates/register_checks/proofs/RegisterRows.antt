@@ -27,7 +27,8 @@ use Rattle.device_record.proofs.UnfinishedSame.{unfinished_register}
 use Rattle.range_words.specs.Holding.{HoldsAreas, HoldsSoiled}
 use Rattle.ownership_rules.specs.declared.refusal.Refusal.TheVariants.{BadRegister, BadErdp, AfterStop}
 use Rattle.ownership_rules.specs.Refusal.{first_of, first_broken, broken_of}
-use Rattle.ownership_rules.specs.Rules.{broken, tests}
+use Rattle.ownership_rules.specs.Older.{older, stricter}
+use Rattle.ownership_rules.specs.Rules.{broken, lenient_tests, tests}
 use Rattle.ownership_rules.specs.Registers.{register_tests, is_bad_register, is_bad_erdp, may_pass}
 use Rattle.ownership_rules.specs.OpenLeases.{slots}
 use Rattle.trace_record.specs.declared.trace_record.TraceRecord.{TraceRecord}
@@ -69,7 +70,7 @@ not_passed h k _ v other = refl
 
 module _ (h : Header) (r : Register) (v : ℕ) where
   rules_are : (k : Known) → k.stopped ≡ false → first_of (broken h k (Reg r v)) ≡ first_broken ((BadRegister, is_bad_register h k r v) ∷ (BadErdp, is_bad_erdp h k r v) ∷ [])
-  unfolding broken tests register_tests
+  unfolding broken tests lenient_tests older stricter register_tests
   rules_are k on = ap (λ b. first_of (if b then AfterStop ∷ [] else broken_of ((BadRegister, is_bad_register h k r v) ∷ (BadErdp, is_bad_erdp h k r v) ∷ []))) on
       ∙ first_broken-is ((BadRegister, is_bad_register h k r v) ∷ (BadErdp, is_bad_erdp h k r v) ∷ [])
 

@@ -8,6 +8,7 @@ use Rattle.traces.specs.declared.row.Row.{Row}
 use Rattle.ring_knowledge.specs.Learned.{known}
 use Rattle.ownership_rules.specs.Clean.{IsClean}
 use Rattle.ownership_rules.specs.Rules.{broken}
+pub use Rattle.safety.proofs.Lenient.{lenient_history, lenient_row}
 
 -- what a history keeps its beginning kept
 pub earlier_clean : (h : Header) (xs ys : List Row) → IsClean h (xs ++ ys) → IsClean h ys

@@ -6,7 +6,8 @@ use Rattle.traces.specs.declared.row.Row.TheVariants.{Bell}
 use Rattle.ring_knowledge.specs.Known.{Known}
 use Rattle.ownership_rules.specs.declared.refusal.Refusal.TheVariants.{AfterStop, BadDoorbell}
 use Rattle.ownership_rules.specs.Refusal.{first_of, first_broken, broken_of}
-use Rattle.ownership_rules.specs.Rules.{broken, tests}
+use Rattle.ownership_rules.specs.Older.{older, stricter}
+use Rattle.ownership_rules.specs.Rules.{broken, lenient_tests, tests}
 use Rattle.ownership_rules.specs.Doorbells.{doorbell_tests, is_bad_doorbell}
 use Rattle.safety.specs.Keeps.{DriverKeeps}
 use Rattle.traces.specs.Header.{IsHeader}
@@ -21,7 +22,7 @@ use Rattle.trace_record.proofs.FirstBroken.{first_broken-is, nothing_broken}
 
 module _ (h : Header) (k : Known) (on : k.stopped ≡ false) (s t : ℕ) where
   tested : first_of (broken h k (Bell s t)) ≡ first_broken (doorbell_tests h k s t)
-  unfolding broken tests
+  unfolding broken tests lenient_tests older stricter doorbell_tests
   tested = ap (λ x. first_of (if x then AfterStop ∷ [] else broken_of (doorbell_tests h k s t))) on ∙ first_broken-is (doorbell_tests h k s t)
 
   pub bad_doorbell : is_bad_doorbell h k s t ≡ true → IsLeast h k (Bell s t) BadDoorbell

@@ -17,9 +17,11 @@ use Rattle.ring_knowledge.specs.Transfers.{transfer_read}
 use Rattle.ring_knowledge.specs.Completions.{completed}
 use Rattle.ownership_rules.specs.declared.refusal.Refusal.TheVariants.{AfterStop, ImpossibleEvent, NotInProfile}
 use Rattle.ownership_rules.specs.Refusal.{first_of, first_broken, broken_of}
-use Rattle.ownership_rules.specs.Rules.{broken, tests}
+use Rattle.ownership_rules.specs.Older.{older, stricter}
+use Rattle.ownership_rules.specs.Rules.{broken, lenient_tests, tests}
 use Rattle.ownership_rules.specs.Events.{event_tests, is_impossible, is_impossible_by_kind, is_impossible_completion, is_impossible_transfer, is_in_profile, is_past_room}
 use Rattle.safety.specs.Keeps.{DriverKeeps}
+use Rattle.safety.proofs.Lenient.{lenient_row}
 use Rattle.safety.proofs.TestsPassed.{AllFail, tests_fail}
 use Rattle.safety.proofs.SameDriver.{event_same}
 use Rattle.trace_record.specs.declared.trace_record.TraceRecord.{TraceRecord}
@@ -31,7 +33,7 @@ use Rattle.trace_record.proofs.FirstBroken.{first_broken-is, nothing_broken}
 
 module _ (h : Header) (k : Known) (on : k.stopped ≡ false) (b : Block) where
   tested : first_of (broken h k (Read b)) ≡ first_broken (event_tests h k b)
-  unfolding broken tests
+  unfolding broken tests lenient_tests older stricter event_tests
   tested = ap (λ x. first_of (if x then AfterStop ∷ [] else broken_of (event_tests h k b))) on ∙ first_broken-is (event_tests h k b)
 
   pub impossible : is_impossible h k b ≡ true → IsLeast h k (Read b) ImpossibleEvent
@@ -128,8 +130,8 @@ module _ (h : Header) (k : Known) (b : Block) where
 -- an event that breaks no rule is possible and, where it is a Transfer Event, in the profile
 module _ (h : Header) (k : Known) (b : Block) (clean : broken h k (Read b) ≡ []) where
   fails : (is_impossible h k b ≡ false) × ((is_transfer_event (kind b) && not (is_in_profile b)) ≡ false)
-  unfolding tests event_tests
-  fails = let all : AllFail (event_tests h k b) = tests_fail h k (Read b) clean in (all.0, all.1.0)
+  unfolding lenient_tests event_tests
+  fails = let all : AllFail (event_tests h k b) = tests_fail h k (Read b) (lenient_row h k (Read b) clean) in (all.0, all.1.0)
 
   pub possible : is_impossible h k b ≡ false
   possible = fails.0

@@ -13,6 +13,7 @@ use Rattle.ownership_rules.specs.Refusal.{first_of}
 use Rattle.ownership_rules.specs.Rules.{broken, verdict_from, first_or}
 use Rattle.ownership_rules.specs.Clean.{IsClean}
 use Rattle.ownership_rules.specs.Leases.{without_end}
+use Rattle.row_checks.proofs.CleanHistories.{lenient_row}
 use Rattle.safety.proofs.TestsPassed.{clean_tests}
 use Rattle.safety.proofs.NothingKept.{nothing_kept}
 use Rattle.safety.proofs.DriverHistories.{kept_driver}
@@ -82,7 +83,8 @@ room_for first n few = omega (arith, few)
 tracked_after : (h : Header) → IsHeader h → (k : Known) (row : Row) (kept after : TraceRecord) (m o : ℕ → ℕ) → IsTracked h k kept m → broken h k row ≡ [] → FollowsTrace h (learned h k row) after o →
     IsTracked h (learned h k row) after o
 tracked_after h headed k row kept after m o t clean f =
-    record { follows = f; keeps = λ on. kept_driver h headed k row (t.keeps (clean_tests h k row clean).0) clean on }
+    let within = lenient_row h k row clean in
+    record { follows = f; keeps = λ on. kept_driver h headed k row (t.keeps (clean_tests h k row within).0) within on }
 
 -- what is said of a row by the place of its word, where that is found
 pub by_place : (h : Header) (kept : TraceRecord) (m : ℕ → ℕ) (row : Row) (place : WordPlace) (owned : Bool) → ((k : Known) → FollowsTrace h k kept m → IsPlaced h k row place) →

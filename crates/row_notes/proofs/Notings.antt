@@ -24,7 +24,7 @@ use Rattle.lazy_steps.specs.declared.note.Note.{Note}
 use Rattle.lazy_steps.specs.declared.note.Note.TheVariants.{Begun, Made, Placed}
 use Rattle.lazy_steps.specs.Notes.{completing_look, event_notes, listed, open_stopped, placed, placed_by, placed_by_all, placed_note, row_notes, transfer_notes}
 use Rattle.ownership_rules.specs.Events.{is_impossible_by_kind, is_impossible_completion}
-use Rattle.ownership_rules.specs.Rules.{broken}
+use Rattle.ownership_rules.specs.Rules.{lenient}
 use Rattle.safety.proofs.CleanRows.{event_facts}
 use Rattle.safety.proofs.KeptRings.{CompletionFacts, by_completion, command_holds, next_unfinished}
 use Rattle.command_ends.proofs.Finished.{has_room, was_started}
@@ -126,7 +126,7 @@ module _ (h : Header) (k : Known) (b : Block) where
   unfolding placed_by
   some_by o c e one = sym (cond-true (code b == 1) (placed_by h k (slot b) o) [] (eq-eqb (code b) 1 one) ∙ ap (λ p. placed_by h k (slot b) p) e)
 
-  pub completion_possible : broken h k (Read b) ≡ [] → kind b ≡ CommandCompletion → is_impossible_completion h k b ≡ false
+  pub completion_possible : lenient h k (Read b) ≡ [] → kind b ≡ CommandCompletion → is_impossible_completion h k b ≡ false
   unfolding is_impossible_by_kind
   completion_possible clean is = ap (λ n. is_impossible_by_kind h k n b) (sym is) ∙ (event_facts h k b clean).possible
 

@@ -8,7 +8,7 @@ ghost use Rattle.ring_knowledge.specs.Known.{Known};
 ghost use Rattle.ring_knowledge.specs.Learned.{learned};
 ghost use Rattle.ring_finder.specs.Finding.{IsFinder};
 ghost use Rattle.device_record.specs.Devices.{FollowsDevices};
-ghost use Rattle.ownership_rules.specs.Rules.{broken};
+ghost use Rattle.ownership_rules.specs.Rules.{lenient};
 ghost use Rattle.safety.specs.Keeps.{DriverKeeps, IsTransferRing};
 ghost use Rattle.lazy_steps.specs.Notes.{placed_note, row_notes};
 ghost use Rattle.trace_record.specs.FollowsTrace.{FollowsTrace};
@@ -40,7 +40,7 @@ pub fn note_row<M: WordMemory>(
 ) -> Result<Vec<u8>, AllocError>
     requires headed { IsHeader header.now }
     requires found { IsFinder header.now.rings finder.now }
-    ensures { IfOk result (λ placed. (k : Known) → FollowsTrace header.now k kept.now (M.words memory.now) → DriverKeeps header.now k → broken header.now k row.now ≡ [] →
+    ensures { IfOk result (λ placed. (k : Known) → FollowsTrace header.now k kept.now (M.words memory.now) → DriverKeeps header.now k → lenient header.now k row.now ≡ [] →
         AreNoted header.now k row.now notes.old.items notes.new.items placed.items) }
 {
     match row {
@@ -103,7 +103,7 @@ fn note_event<M: WordMemory>(
 ) -> Result<Vec<u8>, AllocError>
     requires headed { IsHeader header.now }
     requires found { IsFinder header.now.rings finder.now }
-    ensures { IfOk result (λ placed. (k : Known) → FollowsTrace header.now k kept.now (M.words memory.now) → DriverKeeps header.now k → broken header.now k (Read event) ≡ [] →
+    ensures { IfOk result (λ placed. (k : Known) → FollowsTrace header.now k kept.now (M.words memory.now) → DriverKeeps header.now k → lenient header.now k (Read event) ≡ [] →
         AreNoted header.now k (Read event) notes.old.items notes.new.items placed.items) }
 {
     match event.kind() {

@@ -1,6 +1,6 @@
 -- An event that may be read at one of two knowledges that are alike: it may be read at the other, and leaves both alike
 use Rattle.std.proofs.Common.{◌≡◌, ◌-◌, ◌≤◌, ◌==◌, ◌&&◌, ◌||◌, ◌∙◌, ℕ, false, not, [], Some, arith, refl, ap, le-ltb, ltb-false}
-use Rattle.safety.proofs.Words.{or_parts, or_from, not-false, Block, BlockKind, TransferEvent, CommandCompletion, kind, cycle, is_event, is_transfer_event, Spot, cycle_of, named, Header, Read, Config, shape_of, event_shape, event_size, register_or_zero, Known, event_read, learned, is_in_profile, is_impossible_by_kind, is_past_room, is_impossible, event_tests, tests, broken}
+use Rattle.safety.proofs.Words.{or_parts, or_from, not-false, Block, BlockKind, TransferEvent, CommandCompletion, kind, cycle, is_event, is_transfer_event, Spot, cycle_of, named, Header, Read, Config, shape_of, event_shape, event_size, register_or_zero, Known, event_read, learned, is_in_profile, is_impossible_by_kind, is_past_room, is_impossible, event_tests, lenient_tests, lenient}
 use Rattle.safety.proofs.TestsPassed.{AllFail, clean_tests, tests_fail}
 use Rattle.safety.proofs.EventRead.{event_broken}
 use Rattle.safety.proofs.Alike.{Alike}
@@ -18,7 +18,7 @@ pub record EventAlike (h : Header) (k l : Known) : Type 0 where
   pub command : CommandAlike h k l
 
 pub record ReadAlike (h : Header) (P : ℕ → Type 0) (k l : Known) (e : Block) : Type 0 where
-  pub possible : broken h l (Read e) ≡ []
+  pub possible : lenient h l (Read e) ≡ []
   pub after : Alike P (learned h k (Read e)) (learned h l (Read e))
 
 module _ (h : Header) (P : ℕ → Type 0) (k l : Known) (a : Alike P k l) (x : EventAlike h k l) where
@@ -37,8 +37,8 @@ module _ (h : Header) (P : ℕ → Type 0) (k l : Known) (a : Alike P k l) (x : 
       let dequeue = x.room in
       le-ltb (event_size h - 2) (l.reads - l.dequeue) (omega arith)
 
-  pub read_alike : (e : Block) → broken h k (Read e) ≡ [] → ReadAlike h P k l e
-  unfolding tests event_tests is_impossible learned
+  pub read_alike : (e : Block) → lenient h k (Read e) ≡ [] → ReadAlike h P k l e
+  unfolding lenient_tests event_tests is_impossible learned
   read_alike b clean =
       let fails : AllFail (event_tests h k b) = tests_fail h k (Read b) clean in
       let four = or_parts (not k.started || is_past_room h k || not (cycle b == cycle_of (event_shape h) k.reads) || not (is_event (kind b))) (is_impossible_by_kind h k (kind b) b) fails.0 in

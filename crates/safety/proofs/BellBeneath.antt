@@ -1,6 +1,6 @@
 -- The command ring's first doorbell beneath an event that isn't read yet: the two may change places
 use Rattle.std.proofs.Common.{◌≡◌, ◌-◌, ◌==◌, ◌&&◌, ◌||◌, if◌then◌else◌, ◌∷◌, ◌∙◌, ℕ, Bool, true, false, not, [], Some, is_none, nat_lt, arith, refl, sym, ap, subst, ltb-true}
-use Rattle.safety.proofs.Words.{false≢true, and_parts, or_parts, or_from, not-false, not_from_true, cond-true, cond-false, Block, BlockKind, TransferEvent, CommandCompletion, kind, cycle, is_event, is_transfer_event, is_command_completion, cycle_of, Opens, ceiling, is_open, ceiling_held, is_stop_of, Header, Bell, Read, IsHeader, shape_of, command_id, event_shape, event_size, Known, on_ring, command_at, next_command, endpoint_rung, rung, event_read, learned, is_in_profile, may_be_taken, is_stopping_now, is_past_room, is_impossible_by_kind, is_impossible, event_tests, is_bad_bell, is_bad_doorbell, doorbell_tests, tests, broken, broken_of, AfterStop, BadDoorbell, DriverKeeps, HeldMore, is_open_if, Square}
+use Rattle.safety.proofs.Words.{false≢true, and_parts, or_parts, or_from, not-false, not_from_true, cond-true, cond-false, Block, BlockKind, TransferEvent, CommandCompletion, kind, cycle, is_event, is_transfer_event, is_command_completion, cycle_of, Opens, ceiling, is_open, ceiling_held, is_stop_of, Header, Bell, Read, IsHeader, shape_of, command_id, event_shape, event_size, Known, on_ring, command_at, next_command, endpoint_rung, rung, event_read, learned, is_in_profile, may_be_taken, is_stopping_now, is_past_room, is_impossible_by_kind, is_impossible, event_tests, is_bad_bell, is_bad_doorbell, doorbell_tests, lenient_tests, lenient, broken_of, AfterStop, BadDoorbell, DriverKeeps, HeldMore, is_open_if, Square}
 use Rattle.safety.proofs.TestsPassed.{AllFail, clean_tests, tests_fail}
 use Rattle.safety.proofs.EventRead.{event_broken}
 use Rattle.safety.proofs.CleanRows.{EventFacts, event_facts, BellFacts, bell_facts}
@@ -16,14 +16,14 @@ use Rattle.safety.proofs.WokenTransfers.{transfer_woken}
 
 -- the same events may be read, and leave the ring woken
 pub record ReadWoken (h : Header) (r : ℕ) (S : ℕ → ℕ → Bool) (k l : Known) (e : Block) : Type 0 where
-  pub possible : broken h l (Read e) ≡ []
+  pub possible : lenient h l (Read e) ≡ []
   pub after : Woken h r S (learned h k (Read e)) (learned h l (Read e))
 
 module _ (h : Header) (r : ℕ) (S : ℕ → ℕ → Bool) where
   -- the event's own kind apart, it reads what the driver did
-  pub read_woken : (k l : Known) (e : Block) → SameDriver k l → broken h k (Read e) ≡ [] →
+  pub read_woken : (k l : Known) (e : Block) → SameDriver k l → lenient h k (Read e) ≡ [] →
       (is_impossible_by_kind h l (kind e) e ≡ false) × Woken h r S (event_read h k (kind e) e) (event_read h l (kind e) e) → ReadWoken h r S k l e
-  unfolding tests event_tests is_impossible learned is_past_room
+  unfolding lenient_tests event_tests is_impossible learned is_past_room
   read_woken k l b d clean here =
       let fails : AllFail (event_tests h k b) = tests_fail h k (Read b) clean in
       let four = or_parts (not k.started || is_past_room h k || not (cycle b == cycle_of (event_shape h) k.reads) || not (is_event (kind b))) (is_impossible_by_kind h k (kind b) b) fails.0 in
@@ -80,8 +80,8 @@ module _ (h : Header) where
   unfolding learned rung
   bell_command k s t first = cond-true (s == 0) (command_rung k) (endpoint_rung h k s t (k.ring_of s t)) first
 
-  pub bell_clean : (k : Known) (s t : ℕ) → k.stopped ≡ false → k.started ≡ true → (if s == 0 then not (t == 0) else is_bad_bell h k s t) ≡ false → broken h k (Bell s t) ≡ []
-  unfolding broken tests doorbell_tests is_bad_doorbell
+  pub bell_clean : (k : Known) (s t : ℕ) → k.stopped ≡ false → k.started ≡ true → (if s == 0 then not (t == 0) else is_bad_bell h k s t) ≡ false → lenient h k (Bell s t) ≡ []
+  unfolding lenient lenient_tests doorbell_tests is_bad_doorbell
   bell_clean k s t on started good =
       cond-false k.stopped (AfterStop ∷ []) (broken_of (doorbell_tests h k s t)) on
       ∙ one_fails (not k.started || (if s == 0 then not (t == 0) else is_bad_bell h k s t))
@@ -106,7 +106,7 @@ module _ (h : Header) where
     unfolding is_open
     held_first = ap is_none first
 
-    kind_woken : (e : Block) → broken h k (Read e) ≡ [] → (n : BlockKind) → kind e ≡ n → is_impossible_by_kind h k n e ≡ false → (is_transfer_event n && not (is_in_profile e)) ≡ false →
+    kind_woken : (e : Block) → lenient h k (Read e) ≡ [] → (n : BlockKind) → kind e ≡ n → is_impossible_by_kind h k n e ≡ false → (is_transfer_event n && not (is_in_profile e)) ≡ false →
         (is_impossible_by_kind h (command_rung k) n e ≡ false) × Woken h (command_id h) none_of (event_read h k n e) (event_read h (command_rung k) n e)
     unfolding is_impossible_by_kind event_read
     kind_woken e may TransferEvent at possible inside =
@@ -118,18 +118,18 @@ module _ (h : Header) where
     kind_woken e may _ at possible inside = (refl, command_woken k)
 
     -- an event leaves the command ring as it is
-    ring_kind : (e : Block) → broken h k (Read e) ≡ [] → (n : BlockKind) → kind e ≡ n → is_impossible_by_kind h k n e ≡ false → (event_read h k n e).ring (command_id h) ≡ k.ring (command_id h)
+    ring_kind : (e : Block) → lenient h k (Read e) ≡ [] → (n : BlockKind) → kind e ≡ n → is_impossible_by_kind h k n e ≡ false → (event_read h k n e).ring (command_id h) ≡ k.ring (command_id h)
     unfolding event_read is_impossible_by_kind
     ring_kind e may TransferEvent at possible = transfer_command h is k (endpoints_of h k d.states) e
     ring_kind e may CommandCompletion at possible =
         absurd (let below = (completion_facts h k e (ap is_command_completion at) (event_facts h k e may).possible).below in omega (arith, below, ceiling_held (shape_of h (command_id h)) (k.ring (command_id h)) 0 first))
     ring_kind e may _ at possible = refl
 
-    ring_still : (e : Block) → broken h k (Read e) ≡ [] → (learned h k (Read e)).ring (command_id h) ≡ k.ring (command_id h)
+    ring_still : (e : Block) → lenient h k (Read e) ≡ [] → (learned h k (Read e)).ring (command_id h) ≡ k.ring (command_id h)
     unfolding learned
     ring_still e may = ring_kind e may (kind e) refl (event_facts h k e may).possible
 
-    pub command_square : (s t : ℕ) (e : Block) → (s == 0) ≡ true → broken h k (Bell s t) ≡ [] → broken h k (Read e) ≡ [] → Square h k (Bell s t) e
+    pub command_square : (s t : ℕ) (e : Block) → (s == 0) ≡ true → lenient h k (Bell s t) ≡ [] → lenient h k (Read e) ≡ [] → Square h k (Bell s t) e
     command_square s t e slot clean may =
         let facts : EventFacts h k e = event_facts h k e may in
         let bell : BellFacts h k s t = bell_facts h k s t clean in
@@ -142,7 +142,7 @@ module _ (h : Header) where
         let good : (if s == 0 then not (t == 0) else is_bad_bell h k_read s t) ≡ false =
         cond-true (s == 0) (not (t == 0)) (is_bad_bell h k_read s t) slot ∙ sym (cond-true (s == 0) (not (t == 0)) (is_bad_bell h k s t) slot) ∙ bell.good in
         record {
-          event = subst (λ x. broken h x (Read e) ≡ []) (sym (bell_command k s t slot)) read.possible;
+          event = subst (λ x. lenient h x (Read e) ≡ []) (sym (bell_command k s t slot)) read.possible;
           row = bell_clean k_read s t (same.stopped ∙ (clean_tests h k (Read e) may).0) (same.started ∙ facts.started) good;
           after = subst (λ x. HeldMore x (learned h (learned h k (Bell s t)) (Read e))) (sym (bell_command k_read s t slot))
               (subst (λ x. HeldMore (command_rung k_read) (learned h x (Read e))) (sym (bell_command k s t slot))

@@ -1,7 +1,7 @@
 -- A write that gives a command and an event that isn't read yet: the event stays possible, the command is unfinished behind it, and what
 -- is known is the same both ways but for the numbers at which rings are held
 use Rattle.std.proofs.Common.{◌≡◌, ◌≢◌, ◌⊎◌, ◌∙◌, ℕ, Bool, false, true, [], Option, None, Some, option_and_then, slice_get, arith, refl, sym, ap, subst, inl, inr}
-use Rattle.safety.proofs.Words.{fun_ext, or_right, none-some, same_Some, Block, is_inside, RingView, Writes, changed, is_due, gives, positions_given, cases_option, gives_is, address_inside, position_given_is, Command, NoOp, EnableSlot, DisableSlot, AddressDevice, ConfigureEndpoint, EvaluateContext, ResetEndpoint, StopEndpoint, SetTrDequeue, ResetDevice, Header, Write, Read, IsHeader, shape_of, command_id, Known, command_at, with_device, with_word, written, taken_device, device_named, no_device, command_given, learned, broken, IsHeldMore, HeldMore, IsDriverRing, IsUnfinished, CommandKeeps, DriverKeeps}
+use Rattle.safety.proofs.Words.{fun_ext, or_right, none-some, same_Some, Block, is_inside, RingView, Writes, changed, is_due, gives, positions_given, cases_option, gives_is, address_inside, position_given_is, Command, NoOp, EnableSlot, DisableSlot, AddressDevice, ConfigureEndpoint, EvaluateContext, ResetEndpoint, StopEndpoint, SetTrDequeue, ResetDevice, Header, Write, Read, IsHeader, shape_of, command_id, Known, command_at, with_device, with_word, written, taken_device, device_named, no_device, command_given, learned, lenient, IsHeldMore, HeldMore, IsDriverRing, IsUnfinished, CommandKeeps, DriverKeeps}
 use Rattle.safety.proofs.TestsPassed.{clean_tests}
 use Rattle.safety.proofs.CleanRows.{event_facts}
 use Rattle.safety.proofs.Headers.{ring_shape}
@@ -24,7 +24,7 @@ use Rattle.safety.proofs.WriteBeneath.{word_driver}
 use Rattle.safety.proofs.HeldTwice.{held_twice}
 use Rattle.safety.proofs.DeviceBeneath.{Untaken, device_read, device_driver, devices_same, beyond}
 
-module _ (h : Header) (is : IsHeader h) (k : Known) (d : DriverKeeps h k) (a w : ℕ) (e : Block) (clean : broken h k (Write a w) ≡ []) (may : broken h k (Read e) ≡ []) where
+module _ (h : Header) (is : IsHeader h) (k : Known) (d : DriverKeeps h k) (a w : ℕ) (e : Block) (clean : lenient h k (Write a w) ≡ []) (may : lenient h k (Read e) ≡ []) where
   abbrev l : Known
   l = learned h k (Read e)
 
@@ -44,7 +44,7 @@ module _ (h : Header) (is : IsHeader h) (k : Known) (d : DriverKeeps h k) (a w :
   unfolding learned written
   device_then = device_read h word (taken h k a w) e word_first.possible
 
-  pub command_event : broken h m (Read e) ≡ []
+  pub command_event : lenient h m (Read e) ≡ []
   command_event = device_then.possible
 
   -- ---- behind the event the rules are kept

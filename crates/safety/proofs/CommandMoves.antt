@@ -1,6 +1,6 @@
 -- Behind an event that is read before it, a command that a write gives may move its rings as before
 use Rattle.std.proofs.Common.{◌≡◌, ◌==◌, ◌&&◌, ◌∙◌, ℕ, not, Bool, false, Some, [], refl, sym, ap, subst, inl, inr, eq-eqb}
-use Rattle.safety.proofs.Words.{or_from, and_parts, false≢true, false_from_ne_true, not_from_true, Block, declared, floor_number, is_move, cases_option, Command, NoOp, EnableSlot, DisableSlot, AddressDevice, ConfigureEndpoint, EvaluateContext, ResetEndpoint, StopEndpoint, SetTrDequeue, ResetDevice, is_off, context_pointer, context_cycle, Header, Write, Read, IsHeader, shape_of, Known, command_given, learned, binding_in, is_bad_stay, is_bad_move, broken, DriverKeeps, StaysIf}
+use Rattle.safety.proofs.Words.{or_from, and_parts, false≢true, false_from_ne_true, not_from_true, Block, declared, floor_number, is_move, cases_option, Command, NoOp, EnableSlot, DisableSlot, AddressDevice, ConfigureEndpoint, EvaluateContext, ResetEndpoint, StopEndpoint, SetTrDequeue, ResetDevice, is_off, context_pointer, context_cycle, Header, Write, Read, IsHeader, shape_of, Known, command_given, learned, binding_in, is_bad_stay, is_bad_move, lenient, DriverKeeps, StaysIf}
 use Rattle.safety.proofs.TestsPassed.{clean_tests}
 use Rattle.safety.proofs.DriverHistories.{kept_driver}
 use Rattle.safety.proofs.RowBeneath.{read_on}
@@ -8,7 +8,7 @@ use Rattle.safety.proofs.GivenBehind.{between, own_between}
 use Rattle.safety.proofs.CommandContext.{set_behind}
 use Rattle.safety.proofs.CommandStays.{left_behind}
 
-module _ (h : Header) (is : IsHeader h) (k : Known) (d : DriverKeeps h k) (a w : ℕ) (e : Block) (clean : broken h k (Write a w) ≡ []) (may : broken h k (Read e) ≡ [])
+module _ (h : Header) (is : IsHeader h) (k : Known) (d : DriverKeeps h k) (a w : ℕ) (e : Block) (clean : lenient h k (Write a w) ≡ []) (may : lenient h k (Read e) ≡ [])
     (c : Command) (given : command_given h k a w ≡ Some c) where
   abbrev l : Known
   l = learned h k (Read e)

@@ -1,6 +1,6 @@
 -- Behind an event that is read before it, a write that gives a command breaks no rule: what is tested of its bindings and its slot
 use Rattle.std.proofs.Common.{◌≡◌, ◌||◌, ◌∷◌, ◌∙◌, ℕ, not, true, false, List, [], map, All, Some, is_some, refl, sym, ap, subst, inl, inr, eq-eqb}
-use Rattle.safety.proofs.Words.{list_any, or_from, not_from_true, not_from_false, false≢true, false_from_ne_true, All-head, All-tail, cases_option, Block, is_due, Command, NoOp, EnableSlot, DisableSlot, AddressDevice, ConfigureEndpoint, EvaluateContext, ResetEndpoint, StopEndpoint, SetTrDequeue, ResetDevice, name_one_slot, Header, Write, Read, IsHeader, shape_of, command_id, is_ring, Known, unfinished, command_given, learned, Binding, binding_in, binds, ring_bound, binds_ring, has_repeats, is_used, is_unused_ring, is_bad_binding, broken, IsIn, some_of, any_of, IsUnfinished, CommandKeeps, DriverKeeps}
+use Rattle.safety.proofs.Words.{list_any, or_from, not_from_true, not_from_false, false≢true, false_from_ne_true, All-head, All-tail, cases_option, Block, is_due, Command, NoOp, EnableSlot, DisableSlot, AddressDevice, ConfigureEndpoint, EvaluateContext, ResetEndpoint, StopEndpoint, SetTrDequeue, ResetDevice, name_one_slot, Header, Write, Read, IsHeader, shape_of, command_id, is_ring, Known, unfinished, command_given, learned, Binding, binding_in, binds, ring_bound, binds_ring, has_repeats, is_used, is_unused_ring, is_bad_binding, lenient, IsIn, some_of, any_of, IsUnfinished, CommandKeeps, DriverKeeps}
 use Rattle.ownership_rules.specs.Commands as commands
 use Rattle.safety.proofs.LeasesBehind.{none_fewer}
 use Rattle.safety.proofs.WriteBeside.{beside_old}
@@ -14,7 +14,7 @@ each_in : {X : Type 0} (P : X → Type 0) (xs : List X) (x : X) → All P xs →
 each_in P [] x all at = absurd at
 each_in P (y ∷ xs) x all at = elim at [ inl here ↦ subst P (sym here) (All-head P y xs all) | inr later ↦ each_in P xs x (All-tail P y xs all) later ]
 
-module _ (h : Header) (is : IsHeader h) (k : Known) (d : DriverKeeps h k) (a w : ℕ) (e : Block) (clean : broken h k (Write a w) ≡ []) (may : broken h k (Read e) ≡ [])
+module _ (h : Header) (is : IsHeader h) (k : Known) (d : DriverKeeps h k) (a w : ℕ) (e : Block) (clean : lenient h k (Write a w) ≡ []) (may : lenient h k (Read e) ≡ [])
     (c : Command) (given : command_given h k a w ≡ Some c) where
   abbrev l : Known
   l = learned h k (Read e)
@@ -30,11 +30,11 @@ module _ (h : Header) (is : IsHeader h) (k : Known) (d : DriverKeeps h k) (a w :
   unfolding commands.is_busy
   idle_behind = none_fewer (name_one_slot c) (unfinished h k) (unfinished h l) (listed_before h is k d e may) (facts h is k d a w e clean may c given).busy
 
-  pub profile_behind : commands.has_left_out_endpoint h l c ≡ false
-  unfolding commands.has_left_out_endpoint commands.is_left_out_endpoint commands.type_in commands.streams_in
+  pub profile_behind : commands.adds_streams h l c ≡ false
+  unfolding commands.adds_streams commands.streams_in
   profile_behind = by c (own_between h is k d a w e clean may c given).in_profile
     where
-      by : (f : Command) → commands.has_left_out_endpoint h x f ≡ false → commands.has_left_out_endpoint h l f ≡ false
+      by : (f : Command) → commands.adds_streams h x f ≡ false → commands.adds_streams h l f ≡ false
       by (AddressDevice s bsr n) good = good
       by (ConfigureEndpoint s false n) good = good
       by (ConfigureEndpoint s true n) good = refl

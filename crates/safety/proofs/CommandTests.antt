@@ -1,6 +1,6 @@
 -- Behind an event that is read before it, a write that gives a good command breaks no rule
 use Rattle.std.proofs.Common.{◌≡◌, ◌∷◌, ◌∙◌, ℕ, Bool, false, [], Some, ap}
-use Rattle.safety.proofs.Words.{cond-false, or_from, Block, Command, Header, Write, Read, IsHeader, Known, command_given, learned, broken_of, AfterStop, some_command, holds_of, write_tests, tests, broken, DriverKeeps}
+use Rattle.safety.proofs.Words.{cond-false, or_from, Block, Command, Header, Write, Read, IsHeader, Known, command_given, learned, broken_of, AfterStop, some_command, holds_of, write_tests, lenient_tests, lenient, DriverKeeps}
 use Rattle.ownership_rules.specs.Commands as commands
 use Rattle.safety.proofs.TestsPassed.{clean_tests}
 use Rattle.safety.proofs.RowBeneath.{read_on}
@@ -8,7 +8,7 @@ use Rattle.safety.proofs.WriteBehind.{RingRules, rules_behind, command_behind, b
 use Rattle.safety.proofs.CommandRow.{idle_behind, profile_behind, bindings_behind}
 use Rattle.safety.proofs.CommandMoves.{moves_behind}
 
-module _ (h : Header) (is : IsHeader h) (k : Known) (d : DriverKeeps h k) (a w : ℕ) (e : Block) (clean : broken h k (Write a w) ≡ []) (may : broken h k (Read e) ≡ [])
+module _ (h : Header) (is : IsHeader h) (k : Known) (d : DriverKeeps h k) (a w : ℕ) (e : Block) (clean : lenient h k (Write a w) ≡ []) (may : lenient h k (Read e) ≡ [])
     (c : Command) (given : command_given h k a w ≡ Some c) where
   abbrev l : Known
   l = learned h k (Read e)
@@ -17,8 +17,8 @@ module _ (h : Header) (is : IsHeader h) (k : Known) (d : DriverKeeps h k) (a w :
   unfolding some_command holds_of
   of_given test fails = ap (holds_of test) (command_behind h is k d a w e clean may ∙ given) ∙ fails
 
-  pub row_behind : commands.is_bad_command h l c ≡ false → broken h l (Write a w) ≡ []
-  unfolding broken tests write_tests
+  pub row_behind : commands.is_bad_command h l c ≡ false → lenient h l (Write a w) ≡ []
+  unfolding lenient lenient_tests write_tests
   row_behind good =
       let rules : RingRules h is k d a w e clean may l = rules_behind h is k d a w e clean may in
       cond-false l.stopped (AfterStop ∷ []) (broken_of (write_tests h l a w)) (read_on h k e ∙ (clean_tests h k (Read e) may).0)

@@ -1,5 +1,5 @@
 -- What the rules say of a command holds still where nothing that the command reads has changed
-use Rattle.std.proofs.Common.{◌≡◌, ◌≢◌, ◌<◌, ◌==◌, ◌&&◌, ◌||◌, if◌then◌else◌, ◌∷◌, ◌∙◌, ℕ, not, Bool, false, [], map, Option, None, Some, is_none, arith, refl, ap}
+use Rattle.std.proofs.Common.{◌≡◌, ◌≢◌, ◌<◌, ◌==◌, ◌&&◌, ◌||◌, if◌then◌else◌, ◌∷◌, ◌∙◌, ℕ, not, Bool, false, [], map, Option, None, Some, is_none, nat_lt, arith, refl, ap}
 use Rattle.safety.proofs.Words.{list_any, or_parts, or_from, and_left, Command, AddressDevice, ConfigureEndpoint, ResetEndpoint, StopEndpoint, SetTrDequeue, named_slot, named_endpoint, named_context, is_disabled, is_off, added_endpoints, input_add_flag, Header, is_ring, Known, binding_in, binds, ring_bound, binds_ring}
 use Rattle.ownership_rules.specs.Commands as commands
 use Rattle.safety.proofs.ContextReads.{AgreeIn, any_same, map_same, added_indices, added_same, add_flag_same, drop_flag_same, type_same, streams_same, pointer_same, cycle_same}
@@ -32,9 +32,8 @@ module _ (h : Header) where
     unfolding commands.streams_in
     streams i low = streams_same h.context_size k.memory l.memory n same i low
 
-    left_out : (i : ℕ) → i < 32 → commands.is_left_out_endpoint h l n i ≡ commands.is_left_out_endpoint h k n i
-    unfolding commands.is_left_out_endpoint
-    left_out i low = let t = types i low in let s = streams i low in cc
+    with_streams : (i : ℕ) → i < 32 → nat_lt 0 (commands.streams_in h l n i) ≡ nat_lt 0 (commands.streams_in h k n i)
+    with_streams i low = ap (nat_lt 0) (streams i low)
 
     binding : (i : ℕ) → i < 32 → binding_in h l n i ≡ binding_in h k n i
     unfolding binding_in
@@ -53,13 +52,13 @@ module _ (h : Header) where
   -- ---- the rules
 
   module _ (k l : Known) where
-    profile_beside : (c : Command) → Beside k l c → commands.has_left_out_endpoint h l c ≡ commands.has_left_out_endpoint h k c
-    unfolding commands.has_left_out_endpoint
-    profile_beside (AddressDevice s bsr n) b = left_out k l n (b.memory n refl) 1 (omega arith)
+    profile_beside : (c : Command) → Beside k l c → commands.adds_streams h l c ≡ commands.adds_streams h k c
+    unfolding commands.adds_streams
+    profile_beside (AddressDevice s bsr n) b = with_streams k l n (b.memory n refl) 1 (omega arith)
     profile_beside (ConfigureEndpoint s false n) b =
         let same = b.memory n refl in
-        ap (λ xs. list_any (commands.is_left_out_endpoint h l n) xs) (added_same h.context_size k.memory l.memory n same)
-        ∙ any_same (commands.is_left_out_endpoint h l n) (commands.is_left_out_endpoint h k n) (added_endpoints k.memory n) (added_indices k.memory n) (left_out k l n same)
+        ap (λ xs. list_any (λ i. nat_lt 0 (commands.streams_in h l n i)) xs) (added_same h.context_size k.memory l.memory n same)
+        ∙ any_same (λ i. nat_lt 0 (commands.streams_in h l n i)) (λ i. nat_lt 0 (commands.streams_in h k n i)) (added_endpoints k.memory n) (added_indices k.memory n) (with_streams k l n same)
     profile_beside _ b = refl
 
     pub binds_beside : (c : Command) → Beside k l c → binds h l c ≡ binds h k c
@@ -137,5 +136,5 @@ module _ (h : Header) where
         (context_beside c b))
         (content_beside c b three.1)
 
-    pub in_profile_beside : (c : Command) → Beside k l c → commands.has_left_out_endpoint h k c ≡ false → commands.has_left_out_endpoint h l c ≡ false
+    pub in_profile_beside : (c : Command) → Beside k l c → commands.adds_streams h k c ≡ false → commands.adds_streams h l c ≡ false
     in_profile_beside c b good = profile_beside c b ∙ good

@@ -1,6 +1,6 @@
 -- A doorbell keeps what is kept of unfinished commands: none of them touches the endpoint
 use Rattle.std.proofs.Common.{◌≡◌, ◌≢◌, ◌==◌, ◌&&◌, if◌then◌else◌, ◌∙◌, ℕ, not, Bool, true, false, [], Option, None, Some, refl, sym, ap, subst, inl, inr, eq-eqb}
-use Rattle.safety.proofs.Words.{cases_eq, cond_both, cond-false, or_parts, or_left, and_from, false≢true, put_pair, Opens, number, Command, SetTrDequeue, EndpointState, Off, Running, Halted, Stopped, Error, is_off, is_stopped, is_at_rest, changes, Header, Bell, IsHeader, shape_of, command_id, Known, on_ring, endpoint_rung, rung, touches_endpoint, is_touched, is_bad_bell, is_bad_doorbell, doorbell_tests, tests, broken, IsUnfinished, CommandKeeps, DriverKeeps}
+use Rattle.safety.proofs.Words.{cases_eq, cond_both, cond-false, or_parts, or_left, and_from, false≢true, put_pair, Opens, number, Command, SetTrDequeue, EndpointState, Off, Running, Halted, Stopped, Error, is_off, is_stopped, is_at_rest, changes, Header, Bell, IsHeader, shape_of, command_id, Known, on_ring, endpoint_rung, rung, touches_endpoint, is_touched, is_bad_bell, is_bad_doorbell, doorbell_tests, lenient_tests, lenient, IsUnfinished, CommandKeeps, DriverKeeps}
 use Rattle.safety.proofs.TestsPassed.{AllFail, tests_fail}
 use Rattle.safety.proofs.DriverRows.{ring_here, ring_elsewhere}
 use Rattle.safety.proofs.Headers.{transfer_not_command}
@@ -122,8 +122,8 @@ module _ (h : Header) (is : IsHeader h) (k : Known) (d : DriverKeeps h k) where
   by_ring s t None has untouched = d.unfinished
   by_ring s t (Some r) has untouched = endpoint_commands s t r has untouched
 
-  pub rung_commands : (s t : ℕ) → broken h k (Bell s t) ≡ [] → (p : ℕ) (c : Command) → IsUnfinished h (rung h k s t) p c → CommandKeeps h (rung h k s t) p c
-  unfolding rung tests doorbell_tests is_bad_doorbell is_bad_bell
+  pub rung_commands : (s t : ℕ) → lenient h k (Bell s t) ≡ [] → (p : ℕ) (c : Command) → IsUnfinished h (rung h k s t) p c → CommandKeeps h (rung h k s t) p c
+  unfolding rung lenient_tests doorbell_tests is_bad_doorbell is_bad_bell
   rung_commands s t clean =
       let fails : AllFail (doorbell_tests h k s t) = tests_fail h k (Bell s t) clean in
       let rule : (if s == 0 then not (t == 0) else is_bad_bell h k s t) ≡ false = (or_parts (not k.started) _ fails.0).1 in

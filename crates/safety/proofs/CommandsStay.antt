@@ -18,7 +18,7 @@ module _ (h : Header) where
   -- what is kept of one command, but for its device context
   pub record OwnKeeps (k : Known) (c : Command) : Type 0 where
     pub good : commands.is_bad_command h k c ≡ false
-    pub in_profile : commands.has_left_out_endpoint h k c ≡ false
+    pub in_profile : commands.adds_streams h k c ≡ false
     pub binds_rings : All (λ b. (is_some (ring_bound h b) ≡ true) × (b.cycle ≡ true)) (binds h k c)
     pub repeats : has_repeats (map (ring_bound h) (binds h k c)) ≡ false
     pub unbound : (r : ℕ) → binds_ring h k r c ≡ true → k.was_bound r ≡ false

@@ -1,6 +1,6 @@
 -- A write keeps what is kept of unfinished commands, and of the command that it gives holds what was tested
 use Rattle.std.proofs.Common.{◌≡◌, ◌≢◌, ◌<◌, ◌==◌, ◌∙◌, ℕ, not, Bool, true, false, [], Option, None, Some, arith, refl, sym, ap, subst, inl, inr, le-leb, eq-eqb, eqb-true}
-use Rattle.safety.proofs.Words.{list_any, or_parts, or_from, and_from, cases_lt, not_from_false, false≢true, false_from_ne_true, All-contains, Shape, RingView, Writes, changed, declared, floor_number, gives, positions_given, ceiling, is_not_declared, MayWrite, cases_option, gives_is, position_given, gives_one, move-writes, ceiling_held, Command, AddressDevice, EndpointState, Off, named_slot, same_slot, name_one_slot, is_off, is_at_rest, is_running, Header, Write, IsHeader, shape_of, command_id, is_ring, Known, unfinished, binds_ring, is_used, moves_ring, is_being_moved, write_tests, tests, broken, IsDriverRing, IsUnfinished, DriverKeeps, CommandsKeep}
+use Rattle.safety.proofs.Words.{list_any, or_parts, or_from, and_from, cases_lt, not_from_false, false≢true, false_from_ne_true, All-contains, Shape, RingView, Writes, changed, declared, floor_number, gives, positions_given, ceiling, is_not_declared, MayWrite, cases_option, gives_is, position_given, gives_one, move-writes, ceiling_held, Command, AddressDevice, EndpointState, Off, named_slot, same_slot, name_one_slot, is_off, is_at_rest, is_running, Header, Write, IsHeader, shape_of, command_id, is_ring, Known, unfinished, binds_ring, is_used, moves_ring, is_being_moved, write_tests, lenient_tests, lenient, IsDriverRing, IsUnfinished, DriverKeeps, CommandsKeep}
 use Rattle.ownership_rules.specs.Commands as commands
 use Rattle.safety.proofs.TestsPassed.{AllFail, tests_fail}
 use Rattle.safety.proofs.RingsOfHeader.{has_ring}
@@ -52,7 +52,7 @@ on_is e on = false_from_ne_true (is_off e) (λ off. on (off_is e off))
     off_is Off off = refl
     off_is _ off = absurd (false≢true off)
 
-module _ (h : Header) (is : IsHeader h) (k : Known) (d : DriverKeeps h k) (a w : ℕ) (clean : broken h k (Write a w) ≡ []) where
+module _ (h : Header) (is : IsHeader h) (k : Known) (d : DriverKeeps h k) (a w : ℕ) (clean : lenient h k (Write a w) ≡ []) where
   abbrev l : Known
   l = after_write h k a w
 
@@ -61,7 +61,7 @@ module _ (h : Header) (is : IsHeader h) (k : Known) (d : DriverKeeps h k) (a w :
   -- no block is given on a ring that an unfinished Address Device moves
   none_moved : (u s n r : ℕ) (bsr : Bool) → IsUnfinished h k u (AddressDevice s bsr n) → k.ring_of s 1 ≡ Some r → (p : ℕ) → (k.ring r).given p ≡ false →
       gives (shape_of h r) (k.ring r).floor p a w ≡ true → ⊥
-  unfolding tests write_tests is_being_moved moves_ring
+  unfolding lenient_tests write_tests is_being_moved moves_ring
   none_moved u s n r bsr at has p fresh now =
       let fails : AllFail (write_tests h k a w) = tests_fail h k (Write a w) clean in
       let driver : IsDriverRing h r = transfer_driver h r (d.states.transfer s 1 r has) in

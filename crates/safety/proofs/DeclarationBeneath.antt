@@ -1,6 +1,6 @@
 -- A declaration beneath an event that isn't read yet: the two may change places
 use Rattle.std.proofs.Common.{◌≡◌, ◌+◌, ◌-◌, ◌≤◌, ◌<◌, ◌++◌, ◌∷◌, ◌∙◌, ℕ, Bool, true, false, not, List, [], length, Some, option_and_then, slice_get, arith, refl, sym, ap, subst, inl, inr, length-append, ltb-true, ltb-false, le-ltb}
-use Rattle.safety.proofs.Words.{cond-false, none-some, slice_get_within, Block, RingView, Declares, changed, declared, floor_number, place_count, ceiling, has_no_room, is_bad_descriptor, is_left_out, cases_option, slice_get-append, Command, command_of, Header, Sub, Read, IsHeader, ring_with, shape_of, command_id, Known, on_ring, command_at, next_command, learned, is_driver_ring, declaration_tests, may_be_taken, broken_of, AfterStop, NotDeclared, RingFull, BadDescriptor, NotInProfile, tests, broken, DriverKeeps, IsUnfinished, IsHeldMore, HeldMore, Square}
+use Rattle.safety.proofs.Words.{cond-false, none-some, slice_get_within, Block, RingView, Declares, changed, declared, floor_number, place_count, ceiling, has_no_room, is_bad_descriptor, is_left_out, cases_option, slice_get-append, Command, command_of, Header, Sub, Read, IsHeader, ring_with, shape_of, command_id, Known, on_ring, command_at, next_command, learned, is_driver_ring, declaration_tests, may_be_taken, broken_of, AfterStop, NotDeclared, RingFull, BadDescriptor, NotInProfile, lenient_tests, lenient, DriverKeeps, IsUnfinished, IsHeldMore, HeldMore, Square}
 use Rattle.safety.proofs.TestsPassed.{AllFail, clean_tests, tests_fail}
 use Rattle.safety.proofs.Headers.{transfer_driver}
 use Rattle.safety.proofs.CleanRows.{EventFacts, event_facts}
@@ -138,8 +138,8 @@ module _ (h : Header) (r : ℕ) (blocks : List Block) where
       let same : declared w ≡ declared v = ap (λ x. length x) queue in
       le-ltb (place_count (shape_of h r) - 1 + floor_number w) (declared w + length blocks) (omega arith)
 
-  still_clean : (k l : Known) → l.stopped ≡ false → floor_number (k.ring r) ≤ floor_number (l.ring r) → (l.ring r).queue ≡ (k.ring r).queue → broken h k (Sub r blocks) ≡ [] → broken h l (Sub r blocks) ≡ []
-  unfolding broken tests declaration_tests
+  still_clean : (k l : Known) → l.stopped ≡ false → floor_number (k.ring r) ≤ floor_number (l.ring r) → (l.ring r).queue ≡ (k.ring r).queue → lenient h k (Sub r blocks) ≡ [] → lenient h l (Sub r blocks) ≡ []
+  unfolding lenient lenient_tests declaration_tests
   still_clean k l on grows queue clean =
       let fails : AllFail (declaration_tests h k r blocks) = tests_fail h k (Sub r blocks) clean in
       cond-false l.stopped (AfterStop ∷ []) (broken_of (declaration_tests h l r blocks)) on
@@ -169,7 +169,7 @@ module _ (h : Header) (r : ℕ) (blocks : List Block) where
     device = s.device;
   }
 
-  pub declaration_square : IsHeader h → (k : Known) → DriverKeeps h k → (e : Block) → broken h k (Sub r blocks) ≡ [] → broken h k (Read e) ≡ [] → Square h k (Sub r blocks) e
+  pub declaration_square : IsHeader h → (k : Known) → DriverKeeps h k → (e : Block) → lenient h k (Sub r blocks) ≡ [] → lenient h k (Read e) ≡ [] → Square h k (Sub r blocks) e
   declaration_square is k d e clean may =
       let facts : EventFacts h k e = event_facts h k e may in
       let l : Known = declaring k in
@@ -181,7 +181,7 @@ module _ (h : Header) (r : ℕ) (blocks : List Block) where
       both_drivers (declaring k_read) (counted h l) l_read
       (subst (λ x. SameDriver (declaring k_read) x) (counted_declaring k) (declared_driver k_read (counted h k) (flip_driver (counted h k) k_read same))) (read_same h l e) in
       record {
-        event = subst (λ x. broken h x (Read e) ≡ []) (sym (learned_declaring k)) read.possible;
+        event = subst (λ x. lenient h x (Read e) ≡ []) (sym (learned_declaring k)) read.possible;
         row = still_clean k k_read (same.stopped ∙ (clean_tests h k (Read e) may).0) (floors_grow h is k d e may r) (same.rings r).queue clean;
         after = subst (λ x. HeldMore x (learned h (learned h k (Sub r blocks)) (Read e))) (sym (learned_declaring k_read)) (subst (λ x. HeldMore (declaring k_read) (learned h x (Read e))) (sym (learned_declaring k))
             (held_more (declaring k_read) l_read driver (declared_states k_read l_read (states_from k_read l_read read.after))

@@ -1,6 +1,6 @@
 -- A declaration that breaks no rule is one that its ring allows
 use Rattle.std.proofs.Common.{◌≡◌, ◌<◌, ◌==◌, ◌&&◌, ◌||◌, ◌∷◌, ℕ, not, true, false, List, [], length, All, arith, refl, sym}
-use Rattle.safety.proofs.Words.{list_any, or_parts, not-false, false≢true, All-weaker, Block, BlockKind, RingKind, Cmd, Evt, Xfer, kind, is_link, is_transfer, is_command, is_left_out_command, is_badly_formed, is_bad_descriptor, is_no_command, has_other_type, has_left_out_type, is_transfer_arrangement, MayDeclare, Header, Sub, ring_with, shape_of, Known, is_driver_ring, declaration_tests, tests, broken}
+use Rattle.safety.proofs.Words.{list_any, or_parts, not-false, false≢true, All-weaker, Block, BlockKind, RingKind, Cmd, Evt, Xfer, kind, is_link, is_transfer, is_command, is_left_out_command, is_badly_formed, is_bad_descriptor, is_no_command, has_other_type, has_left_out_type, is_transfer_arrangement, MayDeclare, Header, Sub, ring_with, shape_of, Known, is_driver_ring, declaration_tests, lenient_tests, lenient}
 use Rattle.trb.specs.declared.kind.BlockKind.TheVariants.{Link}
 use Rattle.safety.proofs.TestsPassed.{AllFail, tests_fail, each_fails}
 
@@ -34,9 +34,9 @@ good_descriptor Xfer blocks h =
 good_descriptor Evt blocks h = absurd (false≢true (sym h))
 
 -- its ring is a command or transfer ring that has room for it
-pub may_declare : (h : Header) (k : Known) (r : ℕ) (blocks : List Block) → broken h k (Sub r blocks) ≡ [] →
+pub may_declare : (h : Header) (k : Known) (r : ℕ) (blocks : List Block) → lenient h k (Sub r blocks) ≡ [] →
     (is_driver_ring (ring_with h r) ≡ true) × MayDeclare (shape_of h r) (k.ring r) blocks
-unfolding tests declaration_tests
+unfolding lenient_tests declaration_tests
 may_declare h k r blocks clean =
     let fails : AllFail (declaration_tests h k r blocks) = tests_fail h k (Sub r blocks) clean in
     let good = good_descriptor (shape_of h r).kind blocks fails.1.1.0 in

@@ -1,6 +1,6 @@
 -- A device context that a write takes: an event reads nothing of it
 use Rattle.std.proofs.Common.{◌≡◌, ◌≢◌, ◌||◌, ◌∙◌, ℕ, Bool, [], Option, None, Some, arith, refl, sym, ap}
-use Rattle.safety.proofs.Words.{none-some, same_Some, Block, is_in, device_context_bytes, changes, Header, Read, Config, command_id, register_or_zero, Known, next_command, with_device, broken}
+use Rattle.safety.proofs.Words.{none-some, same_Some, Block, is_in, device_context_bytes, changes, Header, Read, Config, command_id, register_or_zero, Known, next_command, with_device, lenient}
 use Rattle.safety.proofs.EndpointPut.{at_number}
 use Rattle.safety.proofs.SameDriver.{SameDriver}
 use Rattle.safety.proofs.Alike.{Alike, held_same}
@@ -65,7 +65,7 @@ module _ (h : Header) (x : Known) where
     };
   }
 
-  pub device_read : (o : Option (ℕ × ℕ)) (e : Block) → broken h x (Read e) ≡ [] → ReadAlike h (Untaken o) x (with_device h x o) e
+  pub device_read : (o : Option (ℕ × ℕ)) (e : Block) → lenient h x (Read e) ≡ [] → ReadAlike h (Untaken o) x (with_device h x o) e
   device_read o e may = read_alike h (Untaken o) x (with_device h x o) (taken_alike o) (events (Untaken o) (with_device h x o) (taken_alike o) (beyond o)) e may
 
   -- what the driver did is the same with it as it was without

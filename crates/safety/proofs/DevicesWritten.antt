@@ -1,6 +1,6 @@
 -- A write keeps what is kept of device contexts under lease, and of the one that it takes holds what was tested
 use Rattle.std.proofs.Common.{◌≡◌, ◌≢◌, ◌+◌, ◌*◌, ◌^◌, ◌<◌, ◌≤◌, ◌==◌, ◌&&◌, ◌⊎◌, ◌∙◌, ℕ, not, true, false, List, [], Contains, nat_le, nat_lt, Option, Some, None, is_some, option_and_then, slice_get, unwrap_or, arith, refl, sym, ap, subst, inl, inr, lt-ltb, le-leb, leb-true, ltb-true, ne_eqb}
-use Rattle.safety.proofs.Words.{cases_lt, and_left, and_from, and_parts, or_from, or_left, or_right, false≢true, not_from_false, none-some, same_Some, slice_get_within, get_or_from_slice_get, Block, is_in, is_inside, overlap, positions_given, cases_option, address_inside, gives_is, position_given_is, put_elsewhere, Command, command_of, named_slot, device_context, device_context_bytes, slot_entry, Header, Dcbaap, Erstba, Write, IsHeader, shape_of, command_id, touches_ring, register_or_zero, Known, command_at, device_named, entry_of, command_given, is_soiled, broken, IsDriverRing, DeviceKeeps, DriverKeeps, DevicesKeep}
+use Rattle.safety.proofs.Words.{cases_lt, and_left, and_from, and_parts, or_from, or_left, or_right, false≢true, not_from_false, none-some, same_Some, slice_get_within, get_or_from_slice_get, Block, is_in, is_inside, overlap, positions_given, cases_option, address_inside, gives_is, position_given_is, put_elsewhere, Command, command_of, named_slot, device_context, device_context_bytes, slot_entry, Header, Dcbaap, Erstba, Write, IsHeader, shape_of, command_id, touches_ring, register_or_zero, Known, command_at, device_named, entry_of, command_given, is_soiled, lenient, IsDriverRing, DeviceKeeps, DriverKeeps, DevicesKeep}
 use Rattle.safety.proofs.Headers.{ring_shape}
 use Rattle.safety.proofs.CommandRing.{due_has_ring}
 use Rattle.safety.proofs.Areas.{clean_word}
@@ -33,7 +33,7 @@ pub and_then_parts : {X Y : Type 0} (f : X → Option Y) (o : Option X) (y : Y) 
 and_then_parts f None y at = absurd (none-some y at)
 and_then_parts f (Some x) y at = (x, refl, at)
 
-module _ (h : Header) (is : IsHeader h) (k : Known) (d : DriverKeeps h k) (a w : ℕ) (clean : broken h k (Write a w) ≡ []) where
+module _ (h : Header) (is : IsHeader h) (k : Known) (d : DriverKeeps h k) (a w : ℕ) (clean : lenient h k (Write a w) ≡ []) where
   abbrev l : Known
   l = after_write h k a w
 

@@ -1,6 +1,6 @@
 -- A clean history keeps what a driver keeps
 use Rattle.std.proofs.Common.{◌≡◌, ◌∷◌, ◌∙◌, false, List, []}
-use Rattle.safety.proofs.Words.{Block, kind, Header, Row, IsHeader, Read, World, Known, learned, known, IsClean, DriverKeeps, KeptByRows, reading, Runs}
+use Rattle.safety.proofs.Words.{Block, kind, Header, Row, IsHeader, Read, World, Known, learned, known, IsLenient, DriverKeeps, KeptByRows, reading, Runs}
 use Rattle.safety.proofs.SameDriver.{event_same}
 use Rattle.safety.proofs.TestsPassed.{clean_tests}
 use Rattle.safety.proofs.KeptCommandRing.{kept_crcr, kept_crcr_written, kept_sized, kept_erstsz_written}
@@ -32,7 +32,7 @@ module _ (h : Header) where
   }
 
   -- of a history that isn't stopped
-  pub driver_keeps : IsHeader h → (past : List Row) → IsClean h past → (known h past).stopped ≡ false → DriverKeeps h (known h past)
+  pub driver_keeps : IsHeader h → (past : List Row) → IsLenient h past → (known h past).stopped ≡ false → DriverKeeps h (known h past)
   unfolding known
   driver_keeps is [] clean on = nothing_kept h is
   driver_keeps is (row ∷ past) clean on =

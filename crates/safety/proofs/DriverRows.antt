@@ -1,6 +1,6 @@
 -- Declarations, writes, register writes and doorbells keep what the rules keep of each ring
 use Rattle.std.proofs.Common.{◌≡◌, ◌≢◌, ◌==◌, ◌&&◌, ◌||◌, if◌then◌else◌, ◌∙◌, ℕ, not, true, List, [], Option, None, Some, option_and_then, refl, sym, ap, subst, inl, inr, eq-eqb, ne_eqb}
-use Rattle.safety.proofs.Words.{cases_eq, cond-true, cond-false, cond_both, Block, RingView, RingChange, Declares, Opens, changed, RingKeeps, new_ring_keeps, declares_keeps, writes_keeps, opens_keeps, Header, Register, Erdp, Usbcmd, Sub, Write, IsHeader, shape_of, command_id, run_bit, reset_bit, Known, nothing, on_ring, with_device, with_word, written, command_given, taken_device, run_or_stop, valued, register_written, endpoint_rung, rung, broken, RingsKeep}
+use Rattle.safety.proofs.Words.{cases_eq, cond-true, cond-false, cond_both, Block, RingView, RingChange, Declares, Opens, changed, RingKeeps, new_ring_keeps, declares_keeps, writes_keeps, opens_keeps, Header, Register, Erdp, Usbcmd, Sub, Write, IsHeader, shape_of, command_id, run_bit, reset_bit, Known, nothing, on_ring, with_device, with_word, written, command_given, taken_device, run_or_stop, valued, register_written, endpoint_rung, rung, lenient, RingsKeep}
 use Rattle.safety.specs.RingsKeep.{IsDriverRing}
 use Rattle.safety.proofs.RingsOfHeader.{shape_allowed}
 use Rattle.safety.proofs.Declaring.{may_declare}
@@ -54,12 +54,12 @@ module _ (h : Header) where
   unfolding nothing
   nothing_keeps is r driver = new_ring_keeps (shape_of h r) (shape_allowed h is r driver) (λ a. 0) (λ a. refl)
 
-  pub declared_keeps : IsHeader h → (k : Known) (r : ℕ) (blocks : List Block) → RingsKeep h k → broken h k (Sub r blocks) ≡ [] → RingsKeep h (on_ring h k r (Declares blocks))
+  pub declared_keeps : IsHeader h → (k : Known) (r : ℕ) (blocks : List Block) → RingsKeep h k → lenient h k (Sub r blocks) ≡ [] → RingsKeep h (on_ring h k r (Declares blocks))
   declared_keeps is k r blocks keeps clean =
       on_ring_keeps k r (Declares blocks) keeps
       (λ driver. declares_keeps (shape_of h r) (shape_allowed h is r driver) k.memory (k.ring r) blocks (keeps r driver) (may_declare h k r blocks clean).1)
 
-  word_keeps : (k : Known) (a w : ℕ) → RingsKeep h k → broken h k (Write a w) ≡ [] → RingsKeep h (with_word h k a w)
+  word_keeps : (k : Known) (a w : ℕ) → RingsKeep h k → lenient h k (Write a w) ≡ [] → RingsKeep h (with_word h k a w)
   unfolding with_word
   word_keeps k a w keeps clean r driver = writes_keeps (shape_of h r) k.memory (k.ring r) a w (keeps r driver) (may_write h k a w clean r driver)
 
@@ -68,7 +68,7 @@ module _ (h : Header) where
   device_keeps k None keeps = keeps
   device_keeps k (Some e) keeps = same_keeps k (with_device h k (Some e)) refl refl keeps
 
-  pub written_keeps : (k : Known) (a w : ℕ) → RingsKeep h k → broken h k (Write a w) ≡ [] → RingsKeep h (written h k a w)
+  pub written_keeps : (k : Known) (a w : ℕ) → RingsKeep h k → lenient h k (Write a w) ≡ [] → RingsKeep h (written h k a w)
   unfolding written
   written_keeps k a w keeps clean = device_keeps (with_word h k a w) (option_and_then (taken_device k) (command_given h k a w)) (word_keeps k a w keeps clean)
 

@@ -1,7 +1,7 @@
 -- Behind the doorbell of an endpoint whose ring is held, and that no unfinished command touches, each event may be read that might be
 -- before, and leaves the endpoint woken
 use Rattle.std.proofs.Common.{◌≡◌, ◌≢◌, ◌==◌, ◌&&◌, ◌||◌, ◌∙◌, ℕ, Bool, true, false, not, [], Option, None, Some, nat_lt, slice_get, option_and_then, refl, sym, ap, subst}
-use Rattle.safety.proofs.Words.{false≢true, or_parts, or_from, not-false, Block, BlockKind, TransferEvent, CommandCompletion, kind, pointer, code, slot, is_transfer_event, address_of, RingView, floor_number, ceiling, is_open, Command, command_of, changes, is_running, is_stopped, Header, Config, Read, IsHeader, shape_of, command_id, register_or_zero, Known, command_at, next_command, endpoint_rung, completed, event_read, touches_endpoint, is_touched, is_in_profile, may_be_taken, can_finish, is_impossible_completion, is_impossible_by_kind, broken, CommandKeeps, DriverKeeps}
+use Rattle.safety.proofs.Words.{false≢true, or_parts, or_from, not-false, Block, BlockKind, TransferEvent, CommandCompletion, kind, pointer, code, slot, is_transfer_event, address_of, RingView, floor_number, ceiling, is_open, Command, command_of, changes, is_running, is_stopped, Header, Config, Read, IsHeader, shape_of, command_id, register_or_zero, Known, command_at, next_command, endpoint_rung, completed, event_read, touches_endpoint, is_touched, is_in_profile, may_be_taken, can_finish, is_impossible_completion, is_impossible_by_kind, lenient, CommandKeeps, DriverKeeps}
 use Rattle.safety.proofs.BellBeneath.{ReadWoken, read_woken}
 use Rattle.safety.proofs.CleanRows.{EventFacts, event_facts}
 use Rattle.safety.proofs.DriverRings.{endpoints_of}
@@ -88,7 +88,7 @@ module _ (h : Header) (k : Known) (s t r : ℕ) (has : k.ring_of s t ≡ Some r)
   kind_rung e started CommandCompletion possible inside = completion_rung e started possible
   kind_rung e started _ possible inside = (refl, awake)
 
-  pub rung_read : (e : Block) → broken h k (Read e) ≡ [] → ReadWoken h r (one_of s t) k woken e
+  pub rung_read : (e : Block) → lenient h k (Read e) ≡ [] → ReadWoken h r (one_of s t) k woken e
   rung_read e clean =
       let facts : EventFacts h k e = event_facts h k e clean in
       read_woken h r (one_of s t) k woken e driver clean (kind_rung e facts.started (kind e) facts.possible facts.inside)

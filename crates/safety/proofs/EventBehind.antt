@@ -1,6 +1,6 @@
 -- What stands behind an event that may be read: rings whose floors moved on, and no device context more
 use Rattle.std.proofs.Common.{◌≡◌, ◌==◌, if◌then◌else◌, ◌∷◌, ◌∙◌, ℕ, [], List, Option, None, Some, refl, sym, ap, subst, inl, inr}
-use Rattle.safety.proofs.Words.{cond_both, none-some, Block, BlockKind, TransferEvent, CommandCompletion, kind, code, slot, is_command_completion, RingKeeps, Command, StopEndpoint, Change, SlotGoesOn, DeviceLeft, Disables, Places, Stops, Resets, changes, Header, Read, IsHeader, shape_of, command_id, Known, on_ring, command_at, next_command, disabled, changed_by, changed_by_all, succeeded, stop_ended, finished, completed, event_read, learned, broken, RingsKeep, EndpointsKeep, DriverKeeps, MayRead}
+use Rattle.safety.proofs.Words.{cond_both, none-some, Block, BlockKind, TransferEvent, CommandCompletion, kind, code, slot, is_command_completion, RingKeeps, Command, StopEndpoint, Change, SlotGoesOn, DeviceLeft, Disables, Places, Stops, Resets, changes, Header, Read, IsHeader, shape_of, command_id, Known, on_ring, command_at, next_command, disabled, changed_by, changed_by_all, succeeded, stop_ended, finished, completed, event_read, learned, lenient, RingsKeep, EndpointsKeep, DriverKeeps, MayRead}
 use Rattle.safety.specs.RingsKeep.{IsDriverRing}
 use Rattle.safety.proofs.Histories.{row_keeps}
 use Rattle.safety.proofs.StillPlacing.{still_reads}
@@ -60,7 +60,7 @@ module _ (h : Header) where
 
   -- ---- rings
 
-  module _ (is : IsHeader h) (k : Known) (d : DriverKeeps h k) (e : Block) (may : broken h k (Read e) ≡ []) where
+  module _ (is : IsHeader h) (k : Known) (d : DriverKeeps h k) (e : Block) (may : lenient h k (Read e) ≡ []) where
     rings : RingsKeep h k
     rings = rings_of h k d
 

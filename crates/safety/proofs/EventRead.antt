@@ -1,6 +1,6 @@
 -- When a posted event is possible where it will be read, and what reading it adds
 use Rattle.std.proofs.Common.{◌≡◌, ◌+◌, ◌-◌, ◌≤◌, ◌==◌, ◌&&◌, ◌∷◌, ◌++◌, ◌∙◌, Bool, true, false, not, List, [], All, arith, refl, sym, ap, subst, le-ltb, eq-eqb}
-use Rattle.safety.proofs.Words.{cond-false, or_from, not_from_true, Block, All-append, All-cons, All-nil, IsBlock, cycle, kind, is_event, is_transfer_event, cycle_of, Header, Row, Read, event_shape, event_size, World, Known, event_read, learned, known, broken_of, AfterStop, ImpossibleEvent, NotInProfile, broken, IsClean, is_in_profile, is_impossible_by_kind, is_past_room, is_impossible, Stands, reading}
+use Rattle.safety.proofs.Words.{cond-false, or_from, not_from_true, Block, All-append, All-cons, All-nil, IsBlock, cycle, kind, is_event, is_transfer_event, cycle_of, Header, Row, Read, event_shape, event_size, World, Known, event_read, learned, known, broken_of, AfterStop, ImpossibleEvent, NotInProfile, lenient, IsLenient, is_in_profile, is_impossible_by_kind, is_past_room, is_impossible, Stands, reading}
 use Rattle.ownership_rules.specs.Rules as of_rules
 use Rattle.ownership_rules.specs.Events as of_events
 use Rattle.safety.proofs.Posting.{CanPost}
@@ -25,23 +25,23 @@ not_impossible h k b on room same event possible =
     (not_from_true (cycle b == cycle_of (event_shape h) k.reads) (eq-eqb (cycle b) (cycle_of (event_shape h) k.reads) same)))
     (not_from_true (is_event (kind b)) event)) possible
 
-pub event_broken : (h : Header) (k : Known) (b : Block) → k.stopped ≡ false → is_impossible h k b ≡ false → (is_transfer_event (kind b) && not (is_in_profile b)) ≡ false → broken h k (Read b) ≡ []
-unfolding broken of_rules.tests of_events.event_tests
+pub event_broken : (h : Header) (k : Known) (b : Block) → k.stopped ≡ false → is_impossible h k b ≡ false → (is_transfer_event (kind b) && not (is_in_profile b)) ≡ false → lenient h k (Read b) ≡ []
+unfolding lenient of_rules.lenient_tests of_events.event_tests
 event_broken h k b on possible in_profile =
     cond-false k.stopped (AfterStop ∷ []) (broken_of ((ImpossibleEvent, is_impossible h k b) ∷ (NotInProfile, is_transfer_event (kind b) && not (is_in_profile b)) ∷ [])) on
     ∙ none_broken (is_impossible h k b) (is_transfer_event (kind b) && not (is_in_profile b)) possible in_profile
 
 -- a posted event of a possible kind breaks no rule where it will be read
 pub event_clean : (h : Header) (k : Known) (w : World) (b : Block) → Stands h k w → w.posted ≡ k.reads → w.stopped ≡ false → CanPost h w b → w.posted + 2 ≤ w.dequeue + event_size h →
-    is_event (kind b) ≡ true → is_impossible_by_kind h k (kind b) b ≡ false → (is_transfer_event (kind b) && not (is_in_profile b)) ≡ false → broken h k (Read b) ≡ []
+    is_event (kind b) ≡ true → is_impossible_by_kind h k (kind b) b ≡ false → (is_transfer_event (kind b) && not (is_in_profile b)) ≡ false → lenient h k (Read b) ≡ []
 event_clean h k w b s read on can room event possible in_profile =
     event_broken h k b (sym s.stopped ∙ on)
     (not_impossible h k b (sym s.started ∙ can.started) (omega (arith, s.dequeue)) (can.cycle_is ∙ ap (λ n. cycle_of (event_shape h) n) read) event possible) in_profile
 
 -- with it at the end, the unread events are clean and lead on
-pub clean_more : (h : Header) (unread : List Block) (past : List Row) (b : Block) → IsClean h (reading unread past) → broken h (known h (reading unread past)) (Read b) ≡ [] →
-    IsClean h (reading (unread ++ b ∷ []) past)
-clean_more h unread past b clean none = subst (λ rows. IsClean h rows) (sym (reading_more unread past b)) (clean, none)
+pub clean_more : (h : Header) (unread : List Block) (past : List Row) (b : Block) → IsLenient h (reading unread past) → lenient h (known h (reading unread past)) (Read b) ≡ [] →
+    IsLenient h (reading (unread ++ b ∷ []) past)
+clean_more h unread past b clean none = subst (λ rows. IsLenient h rows) (sym (reading_more unread past b)) (clean, none)
 
 pub known_more : (h : Header) (unread : List Block) (past : List Row) (b : Block) → known h (reading (unread ++ b ∷ []) past) ≡ learned h (known h (reading unread past)) (Read b)
 unfolding known

@@ -1,6 +1,6 @@
 -- An event that may be read moves no floor back
 use Rattle.std.proofs.Common.{◌≡◌, ◌+◌, ◌≤◌, ◌==◌, if◌then◌else◌, ◌∷◌, ◌∙◌, ℕ, Bool, true, List, [], Option, None, Some, arith, refl, sym, ap, subst, inl, inr, eqb-true}
-use Rattle.safety.proofs.Words.{option_map, cond_both, none-some, same_Some, cases_option, put_pair, Block, BlockKind, TransferEvent, CommandCompletion, kind, code, slot, endpoint, pointer, is_command_completion, is_success, is_halting, is_trb_error, is_stopping, Spot, Data, number, after, Reaches, Holds, floor_number, ceiling, named, stopped_number, target, number-after, IsAhead, named_ahead, target_ahead, Command, StopEndpoint, EndpointState, Halted, Error, Stopped, is_off, Change, SlotGoesOn, DeviceLeft, Disables, Places, Stops, Resets, changes, Header, Read, IsHeader, shape_of, command_id, ring_beginning_at, Known, RingSpot, on_ring, spot_on, event_at, command_at, next_command, passed, broken_off, stopped_at, transferred, transferred_at, transfer_read, set_to, bound_to, moved_to, moved, pointed, disabled, in_state, held_at_ceiling, changed_by, changed_by_all, succeeded, stop_ended, finished, completed, event_read, learned, broken, DriverKeeps, EndpointsKeep, MayPoint, MayChange, MayChangeAll}
+use Rattle.safety.proofs.Words.{option_map, cond_both, none-some, same_Some, cases_option, put_pair, Block, BlockKind, TransferEvent, CommandCompletion, kind, code, slot, endpoint, pointer, is_command_completion, is_success, is_halting, is_trb_error, is_stopping, Spot, Data, number, after, Reaches, Holds, floor_number, ceiling, named, stopped_number, target, number-after, IsAhead, named_ahead, target_ahead, Command, StopEndpoint, EndpointState, Halted, Error, Stopped, is_off, Change, SlotGoesOn, DeviceLeft, Disables, Places, Stops, Resets, changes, Header, Read, IsHeader, shape_of, command_id, ring_beginning_at, Known, RingSpot, on_ring, spot_on, event_at, command_at, next_command, passed, broken_off, stopped_at, transferred, transferred_at, transfer_read, set_to, bound_to, moved_to, moved, pointed, disabled, in_state, held_at_ceiling, changed_by, changed_by_all, succeeded, stop_ended, finished, completed, event_read, learned, lenient, DriverKeeps, EndpointsKeep, MayPoint, MayChange, MayChangeAll}
 use Rattle.safety.proofs.Headers.{transfer_driver}
 use Rattle.safety.proofs.DriverRings.{rings_of, endpoints_of}
 use Rattle.safety.proofs.EndpointHistories.{finish_elsewhere}
@@ -170,7 +170,7 @@ module _ (h : Header) where
   kind_grows is k d b _ may = grow_none k
 
   -- what the next command places, where its completion may be read
-  pub may_change : IsHeader h → (k : Known) (d : DriverKeeps h k) (b : Block) → broken h k (Read b) ≡ [] → is_command_completion (kind b) ≡ true →
+  pub may_change : IsHeader h → (k : Known) (d : DriverKeeps h k) (b : Block) → lenient h k (Read b) ≡ [] → is_command_completion (kind b) ≡ true →
       (c : Command) → command_at h k (next_command h k) ≡ Some c → MayChangeAll h c k (changes h.context_size k.memory (slot b) c)
   may_change is k d b clean completion c at =
       let facts : EventFacts h k b = event_facts h k b clean in
@@ -178,6 +178,6 @@ module _ (h : Header) where
       still_places h is k (rings_of h k d) (endpoints_of h k d.states) (slot b) c
       (command_holds h k (next_command h k) c (d.unfinished (next_command h k) c (next_unfinished h is k d facts.started finish.below c at)))
 
-  pub floors_grow : IsHeader h → (k : Known) (d : DriverKeeps h k) (e : Block) → broken h k (Read e) ≡ [] → FloorsGrow k (learned h k (Read e))
+  pub floors_grow : IsHeader h → (k : Known) (d : DriverKeeps h k) (e : Block) → lenient h k (Read e) ≡ [] → FloorsGrow k (learned h k (Read e))
   unfolding learned
   floors_grow is k d e clean = kind_grows is k d e (kind e) (λ n c at success. may_change is k d e clean (ap is_command_completion n) c at)

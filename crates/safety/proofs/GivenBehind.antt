@@ -1,6 +1,6 @@
 -- What is kept of a command that a write gives holds behind an event that is read before the write, but for its device context
 use Rattle.std.proofs.Common.{◌≡◌, ◌∙◌, ℕ, true, [], length, Some, slice_get, arith, refl, sym, ap}
-use Rattle.safety.proofs.Words.{false≢true, false_from_ne_true, Block, number, declared, floor_number, positions_given, ceiling, is_border, GivesMore, move_more, gives_is, position_given_is, Command, named_context, is_disabled, is_off, is_at_rest, Header, Write, Read, IsHeader, shape_of, command_id, Known, command_at, command_given, learned, broken, IsTransferRing, CommandKeeps, DriverKeeps}
+use Rattle.safety.proofs.Words.{false≢true, false_from_ne_true, Block, number, declared, floor_number, positions_given, ceiling, is_border, GivesMore, move_more, gives_is, position_given_is, Command, named_context, is_disabled, is_off, is_at_rest, Header, Write, Read, IsHeader, shape_of, command_id, Known, command_at, command_given, learned, lenient, IsTransferRing, CommandKeeps, DriverKeeps}
 use Rattle.ownership_rules.specs.Commands as commands
 use Rattle.safety.proofs.Headers.{transfer_driver, transfer_not_command}
 use Rattle.safety.proofs.CommandRing.{due_has_ring}
@@ -31,7 +31,7 @@ gives_command h is k a w c given =
       record { ring = due_has_ring h is (k.ring (command_id h)).floor first.0 writes.due; fresh = here.0; gives = here.1; command = given },
     )
 
-module _ (h : Header) (is : IsHeader h) (k : Known) (d : DriverKeeps h k) (a w : ℕ) (e : Block) (clean : broken h k (Write a w) ≡ []) (may : broken h k (Read e) ≡ [])
+module _ (h : Header) (is : IsHeader h) (k : Known) (d : DriverKeeps h k) (a w : ℕ) (e : Block) (clean : lenient h k (Write a w) ≡ []) (may : lenient h k (Read e) ≡ [])
     (c : Command) (given : command_given h k a w ≡ Some c) where
   abbrev l : Known
   l = learned h k (Read e)

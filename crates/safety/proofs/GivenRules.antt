@@ -1,6 +1,6 @@
 -- What the rules say of a command that a write gives
 use Rattle.std.proofs.Common.{◌≡◌, ◌==◌, ◌||◌, ◌∙◌, ℕ, not, Bool, true, false, [], map, All, Option, None, Some, is_some, arith, refl, sym, ap, subst, inl, inr, eqb-true}
-use Rattle.safety.proofs.Words.{list_any, and_cases, or_parts, not-false, not-true, false≢true, false_from_ne_true, All-get_or, All-weaker, Any-from_list_any, declared, floor_number, is_move, Command, NoOp, EnableSlot, DisableSlot, AddressDevice, ConfigureEndpoint, EvaluateContext, ResetEndpoint, StopEndpoint, SetTrDequeue, ResetDevice, EndpointState, Off, is_off, Header, Write, IsHeader, shape_of, is_ring, Known, command_given, Binding, binding_in, binds, ring_bound, binds_ring, is_used, is_unused_ring, has_repeats, is_bad_binding, is_bad_stay, is_bad_move, some_command, write_tests, tests, broken, StaysIf, MovesIf, DriverKeeps}
+use Rattle.safety.proofs.Words.{list_any, and_cases, or_parts, not-false, not-true, false≢true, false_from_ne_true, All-get_or, All-weaker, Any-from_list_any, declared, floor_number, is_move, Command, NoOp, EnableSlot, DisableSlot, AddressDevice, ConfigureEndpoint, EvaluateContext, ResetEndpoint, StopEndpoint, SetTrDequeue, ResetDevice, EndpointState, Off, is_off, Header, Write, IsHeader, shape_of, is_ring, Known, command_given, Binding, binding_in, binds, ring_bound, binds_ring, is_used, is_unused_ring, has_repeats, is_bad_binding, is_bad_stay, is_bad_move, some_command, write_tests, lenient_tests, lenient, StaysIf, MovesIf, DriverKeeps}
 use Rattle.ownership_rules.specs.Commands as commands
 use Rattle.safety.proofs.TestsPassed.{AllFail, tests_fail, each_fails}
 use Rattle.safety.proofs.Headers.{transfer_driver}
@@ -94,13 +94,13 @@ module _ (h : Header) (k : Known) where
     left_if : (c : Command) → is_bad_move h k c ≡ false → (s n r : ℕ) (bsr : Bool) → c ≡ AddressDevice s bsr n → k.ring_of s 1 ≡ Some r → declared (k.ring r) ≡ floor_number (k.ring r)
     left_if c good s n r bsr at has = none_left s n r bsr (ap (λ x. is_bad_move h k x) (sym at) ∙ good) has
 
-    pub given_facts : (a w : ℕ) (c : Command) → broken h k (Write a w) ≡ [] → command_given h k a w ≡ Some c → GivenFacts c
-    unfolding tests write_tests some_command
+    pub given_facts : (a w : ℕ) (c : Command) → lenient h k (Write a w) ≡ [] → command_given h k a w ≡ Some c → GivenFacts c
+    unfolding lenient_tests write_tests some_command
     given_facts a w c clean given =
         let fails : AllFail (write_tests h k a w) = tests_fail h k (Write a w) clean in
         let good = fails_of h k (commands.is_bad_command h k) (command_given h k a w) c fails.1.1.1.1.1.0 given in
         let busy = fails_of h k (commands.is_busy h k) (command_given h k a w) c (or_parts _ _ fails.1.1.1.1.1.1.0).0 given in
-        let inside = fails_of h k (commands.has_left_out_endpoint h k) (command_given h k a w) c (or_parts _ _ fails.1.1.1.1.1.1.1.0).0 given in
+        let inside = fails_of h k (commands.adds_streams h k) (command_given h k a w) c (or_parts _ _ fails.1.1.1.1.1.1.1.0).0 given in
         let places = fails_of h k (λ c. is_bad_binding h k c || is_bad_move h k c) (command_given h k a w) c fails.1.1.1.1.1.1.1.1.0 given in
         let parts = or_parts (is_bad_binding h k c) (is_bad_move h k c) places in
         let bindings : GoodBindings h k c = good_bindings h k c parts.0 in

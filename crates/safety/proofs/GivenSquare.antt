@@ -1,11 +1,11 @@
 -- A write that gives a command and an event that isn't read yet may change places
 use Rattle.std.proofs.Common.{◌≡◌, ℕ, [], Some, refl}
-use Rattle.safety.proofs.Words.{Block, Command, Header, Write, Read, IsHeader, Known, command_given, broken, DriverKeeps, Square}
+use Rattle.safety.proofs.Words.{Block, Command, Header, Write, Read, IsHeader, Known, command_given, lenient, DriverKeeps, Square}
 use Rattle.safety.proofs.CommandBeneath.{command_event, command_after}
 use Rattle.safety.proofs.CommandTests.{row_behind}
 use Rattle.safety.proofs.CommandGood.{good_behind}
 
-module _ (h : Header) (is : IsHeader h) (k : Known) (d : DriverKeeps h k) (a w : ℕ) (e : Block) (clean : broken h k (Write a w) ≡ []) (may : broken h k (Read e) ≡ [])
+module _ (h : Header) (is : IsHeader h) (k : Known) (d : DriverKeeps h k) (a w : ℕ) (e : Block) (clean : lenient h k (Write a w) ≡ []) (may : lenient h k (Read e) ≡ [])
     (c : Command) (given : command_given h k a w ≡ Some c) where
   pub given_square : Square h k (Write a w) e
   given_square = record {

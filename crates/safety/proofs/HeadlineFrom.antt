@@ -1,6 +1,6 @@
 -- The headline, from what a clean history keeps and a law for the driver's rows: each world of a run beside clean rows is safe
 use Rattle.std.proofs.Common.{◌≡◌, ◌∷◌, ◌++◌, ◌∙◌, false, List, [], Option, Some, None, All, reverse, option_map, option_and_then, refl, sym, ap, subst, inl, inr, append_assoc, append-nil}
-use Rattle.safety.proofs.Words.{cases_Bool, cond-false, cond-true, false≢true, reverse-append, All-cons, All-head, All-nil, All-tail, none-some, same_Some, Block, IsBlock, Header, Row, Sub, Write, Reg, Bell, Read, Step, NextRow, Look, Report, Finish, Other, Scribble, IsHeader, IsRow, IsStep, World, opening, IsSafe, Known, learned, known, broken, IsClean, IsHarmless, DriverKeeps, IsDriverRow, Agrees, Runs, reading}
+use Rattle.safety.proofs.Words.{cases_Bool, cond-false, cond-true, false≢true, reverse-append, All-cons, All-head, All-nil, All-tail, none-some, same_Some, Block, IsBlock, Header, Row, Sub, Write, Reg, Bell, Read, Step, NextRow, Look, Report, Finish, Other, Scribble, IsHeader, IsRow, IsStep, World, opening, IsSafe, Known, learned, known, lenient, IsLenient, IsHarmless, DriverKeeps, IsDriverRow, Agrees, Runs, reading}
 use Rattle.world_state.specs.World as of_world
 use Rattle.controller_model.specs.DriverRows as driver
 use Rattle.controller_model.specs.Looks as looks
@@ -26,7 +26,7 @@ use Rattle.safety.proofs.TestsPassed.{clean_tests}
 -- a row of the driver that doesn't stop the controller, whatever is unread
 abbrev pub RowLaw : Header → Type 0
 RowLaw h =
-    (past : List Row) (row : Row) (w v : World) → All IsRow past → IsRow row → IsDriverRow row → Runs h past w → broken h (known h past) row ≡ [] →
+    (past : List Row) (row : Row) (w v : World) → All IsRow past → IsRow row → IsDriverRow row → Runs h past w → lenient h (known h past) row ≡ [] →
     (learned h (known h past) row).stopped ≡ false → driver.row_done h w row ≡ Some v → Runs h (row ∷ past) (steps.counted h v)
 
 -- ---- small facts
@@ -39,7 +39,7 @@ some_of : {A B : Type 0} (f : A → B) (o : Option A) (y : B) → option_map f o
 some_of f None y at = absurd (none-some y at)
 some_of f (Some x) y at = (x, refl, same_Some (f x) y at)
 
-pub later_clean : (h : Header) (xs ys : List Row) → IsClean h (xs ++ ys) → IsClean h ys
+pub later_clean : (h : Header) (xs ys : List Row) → IsLenient h (xs ++ ys) → IsLenient h ys
 later_clean h [] ys clean = clean
 later_clean h (x ∷ xs) ys clean = later_clean h xs ys clean.0
 
@@ -88,7 +88,7 @@ module _ (h : Header) where
   record CameTo (past : List Row) (w : World) : Type 0 where
     made : All IsRow past
     left : All IsRow w.rows
-    clean : IsClean h (reverse w.rows ++ past)
+    clean : IsLenient h (reverse w.rows ++ past)
     holds : Holds h past w
 
   -- the same with one row more
@@ -102,7 +102,7 @@ module _ (h : Header) where
 
     -- ---- a row of the trace
 
-    driver_row : (past : List Row) (row : Row) (w v : World) → All IsRow past → IsRow row → IsDriverRow row → Runs h past w → IsClean h (row ∷ past) →
+    driver_row : (past : List Row) (row : Row) (w v : World) → All IsRow past → IsRow row → IsDriverRow row → Runs h past w → IsLenient h (row ∷ past) →
         driver.row_done h w row ≡ Some v → Holds h (row ∷ past) (steps.counted h v)
     driver_row past row w v rows is_row of_driver run clean at =
         elim (cases_Bool (learned h (known h past) row).stopped) [
@@ -110,7 +110,7 @@ module _ (h : Header) where
           | inr on ↦ inl (row_law past row w v rows is_row of_driver run clean.1 on at)
         ]
 
-    row_holds : (past : List Row) (row : Row) (w v : World) → All IsRow past → IsRow row → Runs h past w → IsClean h (row ∷ past) →
+    row_holds : (past : List Row) (row : Row) (w v : World) → All IsRow past → IsRow row → Runs h past w → IsLenient h (row ∷ past) →
         driver.row_done h w row ≡ Some v → Holds h (row ∷ past) (steps.counted h v)
     unfolding driver.row_done
     row_holds past (Read e) w v rows is_row run clean at = inl (read_runs h past e w v is_row run at)
@@ -129,7 +129,7 @@ module _ (h : Header) where
         record {
           made = c.made;
           left = subst (λ l. All IsRow l) (sym rows) c.left;
-          clean = subst (λ l. IsClean h (reverse l ++ past)) (sym rows) c.clean;
+          clean = subst (λ l. IsLenient h (reverse l ++ past)) (sym rows) c.clean;
           holds = elim c.holds [
             | inl run ↦ inl (goes run)
             | inr over ↦ absurd (false≢true (sym running ∙ over.also))
@@ -143,8 +143,8 @@ module _ (h : Header) where
     unfolding driver.next_row steps.counted
     next past w u [] rows c at = absurd (none-some u at)
     next past w u (row ∷ rest) rows c at =
-        let clean : IsClean h (reverse rest ++ (row ∷ past)) = subst (λ l. IsClean h l) (one_more row rest past) (subst (λ l. IsClean h (reverse l ++ past)) rows c.clean) in
-        let here : IsClean h (row ∷ past) = later_clean h (reverse rest) (row ∷ past) clean in
+        let clean : IsLenient h (reverse rest ++ (row ∷ past)) = subst (λ l. IsLenient h l) (one_more row rest past) (subst (λ l. IsLenient h (reverse l ++ past)) rows c.clean) in
+        let here : IsLenient h (row ∷ past) = later_clean h (reverse rest) (row ∷ past) clean in
         let left : All IsRow (row ∷ rest) = subst (λ l. All IsRow l) rows c.left in
         let is_row : IsRow row = All-head IsRow row rest left in
         let same : u.rows ≡ rest = (row_left h (record w { rows = rest }) row).left u at in (
@@ -152,7 +152,7 @@ module _ (h : Header) where
           record {
             made = All-cons IsRow row past is_row c.made;
             left = subst (λ l. All IsRow l) (sym same) (All-tail IsRow row rest left);
-            clean = subst (λ l. IsClean h (reverse l ++ (row ∷ past))) (sym same) clean;
+            clean = subst (λ l. IsLenient h (reverse l ++ (row ∷ past))) (sym same) clean;
             holds = elim c.holds [
               | inl run ↦ row_holds past row (record w { rows = rest }) u c.made is_row (runs_rest past w rest run) here at
               | inr over ↦ absurd (false≢true (sym (clean_tests h (known h past) row here.1).0 ∙ over.stopped))
@@ -189,16 +189,16 @@ module _ (h : Header) where
 
     -- ---- whole runs
 
-    first : (rows : List Row) → All IsRow rows → IsClean h (reverse rows) → CameTo [] (opening rows)
+    first : (rows : List Row) → All IsRow rows → IsLenient h (reverse rows) → CameTo [] (opening rows)
     unfolding opening
     first rows are clean = record {
       made = All-nil IsRow;
       left = are;
-      clean = subst (λ l. IsClean h l) (sym (append-nil (reverse rows))) clean;
+      clean = subst (λ l. IsLenient h l) (sym (append-nil (reverse rows))) clean;
       holds = inl (opens h rows);
     }
 
-    came : (rows : List Row) → All IsRow rows → IsClean h (reverse rows) → (made : List Step) (w : World) → All IsStep made → steps.reached h rows made ≡ Some w →
+    came : (rows : List Row) → All IsRow rows → IsLenient h (reverse rows) → (made : List Step) (w : World) → All IsStep made → steps.reached h rows made ≡ Some w →
         (past : List Row) × CameTo past w
     unfolding steps.reached steps.stepped
     came rows are clean [] w all at = ([], subst (λ v. CameTo [] v) (same_Some (opening rows) w at) (first rows are clean))
@@ -216,5 +216,5 @@ module _ (h : Header) where
           | inr over ↦ over.safe
         ]
 
-    pub headline_from : (rows : List Row) → All IsRow rows → IsClean h (reverse rows) → IsHarmless h rows
+    pub headline_from : (rows : List Row) → All IsRow rows → IsLenient h (reverse rows) → IsHarmless h rows
     headline_from rows are clean made w all at = let c = came rows are clean made w all at in safe_there c.0 w c.1

@@ -1,6 +1,6 @@
 -- An event leaves an endpoint whose ring is held, where no unfinished command touches it: its doorbell stays one that may be rung
 use Rattle.std.proofs.Common.{◌≡◌, ◌==◌, ◌&&◌, ◌||◌, ◌∙◌, ℕ, not, nat_lt, true, false, [], is_none, Option, None, Some, refl, sym, ap, subst, inl, inr, eqb-true, eq-eqb}
-use Rattle.safety.proofs.Words.{cases_Bool, cond-true, and_parts, and_from, or_parts, or_from, not-false, false≢true, same_Some, Block, BlockKind, TransferEvent, CommandCompletion, kind, code, slot, endpoint, is_transfer_event, is_command_completion, is_success, is_halting, is_trb_error, Spot, ceiling, is_data_below, is_open, is_stop_spot, is_running, is_stopped, Header, Read, IsHeader, shape_of, Known, RingSpot, event_at, transferred, transferred_at, transfer_read, event_read, learned, is_touched, is_bad_bell, is_in_profile, is_working, is_stopping_now, can_report, can_report_at, is_impossible_by_kind, broken, DriverKeeps}
+use Rattle.safety.proofs.Words.{cases_Bool, cond-true, and_parts, and_from, or_parts, or_from, not-false, false≢true, same_Some, Block, BlockKind, TransferEvent, CommandCompletion, kind, code, slot, endpoint, is_transfer_event, is_command_completion, is_success, is_halting, is_trb_error, Spot, ceiling, is_data_below, is_open, is_stop_spot, is_running, is_stopped, Header, Read, IsHeader, shape_of, Known, RingSpot, event_at, transferred, transferred_at, transfer_read, event_read, learned, is_touched, is_bad_bell, is_in_profile, is_working, is_stopping_now, can_report, can_report_at, is_impossible_by_kind, lenient, DriverKeeps}
 use Rattle.safety.proofs.CleanRows.{EventFacts, event_facts}
 use Rattle.safety.proofs.KeptRings.{completion_facts}
 use Rattle.safety.proofs.StatesTransfer.{reported}
@@ -66,18 +66,18 @@ module _ (h : Header) (is : IsHeader h) (k : Known) (d : DriverKeeps h k) (s i r
   unfolding learned
   read_counts e holds = record { state = holds.state; ring_of = holds.ring_of; must_move = holds.must_move; held = holds.held }
 
-  pub read_holds : (e : Block) → broken h k (Read e) ≡ [] → EndpointHolds k (learned h k (Read e)) s i
+  pub read_holds : (e : Block) → lenient h k (Read e) ≡ [] → EndpointHolds k (learned h k (Read e)) s i
   read_holds e clean =
       let facts : EventFacts h k e = event_facts h k e clean in
       read_counts e (event_holds e facts.started (kind e) refl facts.possible facts.inside)
 
   -- behind the event its ring is held still
-  pub still_held : (e : Block) → broken h k (Read e) ≡ [] → is_open ((learned h k (Read e)).ring r) ≡ false
+  pub still_held : (e : Block) → lenient h k (Read e) ≡ [] → is_open ((learned h k (Read e)).ring r) ≡ false
   unfolding is_open
   still_held e clean = ap is_none ((read_holds e clean).held r has) ∙ held
 
   -- and it may still be rung
-  pub good_behind : (e : Block) → broken h k (Read e) ≡ [] → is_bad_bell h k s i ≡ false → is_bad_bell h (learned h k (Read e)) s i ≡ false
+  pub good_behind : (e : Block) → lenient h k (Read e) ≡ [] → is_bad_bell h k s i ≡ false → is_bad_bell h (learned h k (Read e)) s i ≡ false
   unfolding is_bad_bell
   good_behind e clean good =
       let l : Known = learned h k (Read e) in

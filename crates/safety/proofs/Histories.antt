@@ -1,6 +1,6 @@
 -- A clean history keeps what the rules keep of each ring
 use Rattle.std.proofs.Common.{◌≡◌, ◌&&◌, ◌||◌, ◌==◌, ◌∷◌, not, true, false, List, [], refl}
-use Rattle.safety.proofs.Words.{or_parts, not-false, Block, BlockKind, TransferEvent, CommandCompletion, kind, cycle, is_transfer_event, is_command_completion, is_event, cycle_of, Header, Row, Sub, Write, Reg, Bell, Read, IsHeader, event_shape, Known, event_read, learned, known, is_in_profile, is_impossible_by_kind, is_past_room, is_impossible, event_tests, tests, broken, IsClean, RingsKeep, EndpointsKeep, MayFinish, MayRead, MayReadAll, AreDriverRows}
+use Rattle.safety.proofs.Words.{or_parts, not-false, Block, BlockKind, TransferEvent, CommandCompletion, kind, cycle, is_transfer_event, is_command_completion, is_event, cycle_of, Header, Row, Sub, Write, Reg, Bell, Read, IsHeader, event_shape, Known, event_read, learned, known, is_in_profile, is_impossible_by_kind, is_past_room, is_impossible, event_tests, lenient_tests, lenient, IsLenient, RingsKeep, EndpointsKeep, MayFinish, MayRead, MayReadAll, AreDriverRows}
 use Rattle.safety.proofs.TestsPassed.{AllFail, tests_fail}
 use Rattle.safety.proofs.DriverRows.{same_keeps, nothing_keeps, declared_keeps, written_keeps, register_keeps, rung_keeps}
 use Rattle.safety.proofs.Transfers.{transfer_keeps}
@@ -15,9 +15,9 @@ module _ (h : Header) (is : IsHeader h) where
   event_keeps k b CommandCompletion keeps endpoints possible inside may = completion_keeps h is k b keeps endpoints possible (may refl)
   event_keeps k b _ keeps endpoints possible inside may = keeps
 
-  read_facts : (k : Known) (b : Block) → broken h k (Read b) ≡ [] →
+  read_facts : (k : Known) (b : Block) → lenient h k (Read b) ≡ [] →
       (is_impossible_by_kind h k (kind b) b ≡ false) × ((is_transfer_event (kind b) && not (is_in_profile b)) ≡ false)
-  unfolding tests event_tests is_impossible
+  unfolding lenient_tests event_tests is_impossible
   read_facts k b clean =
       let fails : AllFail (event_tests h k b) = tests_fail h k (Read b) clean in (
         (or_parts (not k.started || is_past_room h k || not (cycle b == cycle_of (event_shape h) k.reads) || not (is_event (kind b))) (is_impossible_by_kind h k (kind b) b) fails.0).1,
@@ -25,7 +25,7 @@ module _ (h : Header) (is : IsHeader h) where
       )
 
   -- one row more
-  pub row_keeps : (k : Known) (row : Row) → RingsKeep h k → EndpointsKeep h k → broken h k row ≡ [] → MayRead h k row → RingsKeep h (learned h k row)
+  pub row_keeps : (k : Known) (row : Row) → RingsKeep h k → EndpointsKeep h k → lenient h k row ≡ [] → MayRead h k row → RingsKeep h (learned h k row)
   unfolding learned
   row_keeps k (Sub r blocks) keeps endpoints clean may = declared_keeps h is k r blocks keeps clean
   row_keeps k (Write a w) keeps endpoints clean may = written_keeps h k a w keeps clean
@@ -36,7 +36,7 @@ module _ (h : Header) (is : IsHeader h) where
       same_keeps h (event_read h k (kind b) b) (learned h k (Read b)) refl refl (event_keeps k b (kind b) keeps endpoints facts.0 facts.1 may)
 
   -- of a clean history whose completions place endpoints where they may
-  pub keeps_rings : (past : List Row) → IsClean h past → MayReadAll h past → RingsKeep h (known h past)
+  pub keeps_rings : (past : List Row) → IsLenient h past → MayReadAll h past → RingsKeep h (known h past)
   unfolding known
   keeps_rings [] clean may = nothing_keeps h is
   keeps_rings (row ∷ past) clean may = row_keeps (known h past) row (keeps_rings past clean.0 may.0) (keeps_endpoints h is past) clean.1 may.1
@@ -50,5 +50,5 @@ module _ (h : Header) (is : IsHeader h) where
   no_events (Bell s t ∷ past) none = (no_events past none.0, tt)
   no_events (Read b ∷ past) none = absurd none.1
 
-  pub keeps_driver_rings : (past : List Row) → IsClean h past → AreDriverRows past → RingsKeep h (known h past)
+  pub keeps_driver_rings : (past : List Row) → IsLenient h past → AreDriverRows past → RingsKeep h (known h past)
   keeps_driver_rings past clean none = keeps_rings past clean (no_events past none)

@@ -1,6 +1,6 @@
 -- No word of a ring is soiled, behind each row
 use Rattle.std.proofs.Common.{◌≡◌, ◌+◌, ◌==◌, ◌&&◌, ◌∙◌, ℕ, not, Bool, true, false, [], Option, None, Some, is_none, option_and_then, refl, sym, ap, inl, inr, leb-true, ltb-true}
-use Rattle.safety.proofs.Words.{and_parts, and_left, or_from, or_parts, and_cases, false_from_ne_true, false≢true, none-some, same_Some, Block, kind, is_in, is_inside, Command, NoOp, EnableSlot, DisableSlot, AddressDevice, ConfigureEndpoint, EvaluateContext, ResetEndpoint, StopEndpoint, SetTrDequeue, ResetDevice, device_context_bytes, Header, Sub, Write, Reg, Bell, Read, shape_of, touches_ring, Known, device_named, no_device, taken_device, command_given, with_device, with_word, written, learned, is_bad_area, some_command, write_tests, tests, broken, IsDriverRing, KeptByRows}
+use Rattle.safety.proofs.Words.{and_parts, and_left, or_from, or_parts, and_cases, false_from_ne_true, false≢true, none-some, same_Some, Block, kind, is_in, is_inside, Command, NoOp, EnableSlot, DisableSlot, AddressDevice, ConfigureEndpoint, EvaluateContext, ResetEndpoint, StopEndpoint, SetTrDequeue, ResetDevice, device_context_bytes, Header, Sub, Write, Reg, Bell, Read, shape_of, touches_ring, Known, device_named, no_device, taken_device, command_given, with_device, with_word, written, learned, is_bad_area, some_command, write_tests, lenient_tests, lenient, IsDriverRing, KeptByRows}
 use Rattle.ownership_rules.specs.Commands as commands
 use Rattle.safety.proofs.Headers.{found_in, shape_is}
 use Rattle.safety.proofs.TestsPassed.{AllFail, tests_fail}
@@ -49,13 +49,13 @@ pub record CleanTaking (h : Header) (k : Known) (a w s d : ℕ) : Type 0 where
   pub takes : TakesDevice k s d command
 
 module _ (h : Header) where
-  pub given_good : (k : Known) (a w : ℕ) (c : Command) → broken h k (Write a w) ≡ [] → command_given h k a w ≡ Some c → commands.is_bad_command h k c ≡ false
-  unfolding tests write_tests some_command
+  pub given_good : (k : Known) (a w : ℕ) (c : Command) → lenient h k (Write a w) ≡ [] → command_given h k a w ≡ Some c → commands.is_bad_command h k c ≡ false
+  unfolding lenient_tests write_tests some_command
   given_good k a w c clean given =
       let fails : AllFail (write_tests h k a w) = tests_fail h k (Write a w) clean in
       fails_of h k (commands.is_bad_command h k) (command_given h k a w) c fails.1.1.1.1.1.0 given
 
-  pub taking : (k : Known) (a w : ℕ) (e : ℕ × ℕ) → broken h k (Write a w) ≡ [] → option_and_then (taken_device k) (command_given h k a w) ≡ Some e → CleanTaking h k a w e.0 e.1
+  pub taking : (k : Known) (a w : ℕ) (e : ℕ × ℕ) → lenient h k (Write a w) ≡ [] → option_and_then (taken_device k) (command_given h k a w) ≡ Some e → CleanTaking h k a w e.0 e.1
   taking k a w e clean at =
       let given = given_some k (command_given h k a w) e at in
       record { command = given.0; given = given.1; good = given_good k a w given.0 clean given.1; takes = takes_is k given.0 e given.2 }

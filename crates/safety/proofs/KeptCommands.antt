@@ -1,6 +1,6 @@
 -- The command ring holds commands, each alone in its descriptor, and is open from its first doorbell on: kept by each row
 use Rattle.std.proofs.Common.{◌≡◌, ◌-◌, ◌<◌, ◌⊎◌, ◌==◌, ◌&&◌, ◌||◌, ◌++◌, ◌∙◌, ℕ, not, nat_lt, true, false, List, [], length, All, Option, None, Some, is_some, slice_get, arith, refl, sym, ap, subst, inl, inr, get_or, length-append, eqb-true, ltb-true}
-use Rattle.safety.proofs.Words.{list_any, list_all, cases_lt, cond_both, cond-false, and_cases, and_parts, or_parts, not-false, false≢true, slice_get_within, get_or_from_slice_get, get_or-append_right, All-push, All-get_or, Block, BlockKind, RingKind, Cmd, Evt, Xfer, kind, is_command, is_left_out_command, is_command_completion, is_badly_formed, is_no_command, is_command_left_out, has_left_out_field, is_bad_descriptor, is_left_out, Data, Shape, is_shape, RingView, Declares, Opens, Reaches, changed, after, ceiling, cases_option, slice_get-append, ceiling_held, command_of, command_by_kind, Header, Sub, Write, Reg, Bell, Read, IsHeader, may_stand_together, is_command_kind, ring_with, shape_of, command_ring, command_id, Known, on_ring, command_at, next_command, endpoint_rung, rung, finished, completed, event_read, learned, is_driver_ring, declaration_tests, tests, broken, CommandRingKeeps, KeptByRows, EndpointsKeep}
+use Rattle.safety.proofs.Words.{list_any, list_all, cases_lt, cond_both, cond-false, and_cases, and_parts, or_parts, not-false, false≢true, slice_get_within, get_or_from_slice_get, get_or-append_right, All-push, All-get_or, Block, BlockKind, RingKind, Cmd, Evt, Xfer, kind, is_command, is_left_out_command, is_command_completion, is_badly_formed, is_no_command, is_command_left_out, has_left_out_field, is_bad_descriptor, is_left_out, Data, Shape, is_shape, RingView, Declares, Opens, Reaches, changed, after, ceiling, cases_option, slice_get-append, ceiling_held, command_of, command_by_kind, Header, Sub, Write, Reg, Bell, Read, IsHeader, may_stand_together, is_command_kind, ring_with, shape_of, command_ring, command_id, Known, on_ring, command_at, next_command, endpoint_rung, rung, finished, completed, event_read, learned, is_driver_ring, declaration_tests, lenient_tests, lenient, CommandRingKeeps, KeptByRows, EndpointsKeep}
 use Rattle.trb.specs.declared.kind.BlockKind.TheVariants as kinds
 use Rattle.safety.specs.RingsKeep.{IsDriverRing}
 use Rattle.safety.proofs.TestsPassed.{AllFail, tests_fail, each_fails}
@@ -113,15 +113,15 @@ module _ (h : Header) where
             ap (λ (s : Shape). s.kind) (shape_is h (command_id h) found.0 (command_with h is found.0 found.1)) ∙ command_is found.0.shape.kind (command_found h is found.0 found.1).1
       ]
 
-  declared_blocks : IsHeader h → (k : Known) (r : ℕ) (blocks : List Block) → broken h k (Sub r blocks) ≡ [] → command_id h ≡ r →
+  declared_blocks : IsHeader h → (k : Known) (r : ℕ) (blocks : List Block) → lenient h k (Sub r blocks) ≡ [] → command_id h ≡ r →
       (length blocks ≡ 1) × All (λ b. is_some (command_of b) ≡ true) blocks
-  unfolding tests declaration_tests
+  unfolding lenient_tests declaration_tests
   declared_blocks is k r blocks clean same =
       let fails : AllFail (declaration_tests h k r blocks) = tests_fail h k (Sub r blocks) clean in
       let driver : IsDriverRing h (command_id h) = ap (λ n. is_driver_ring (ring_with h n)) same ∙ not-false (is_driver_ring (ring_with h r)) fails.0 in
       command_blocks (shape_of h r).kind blocks (ap (λ n. (shape_of h n).kind) (sym same) ∙ command_kind is driver) fails.1.1.0 fails.1.1.1.0
 
-  declared_view : IsHeader h → (k : Known) (r : ℕ) (blocks : List Block) → broken h k (Sub r blocks) ≡ [] → ViewOfCommands (k.ring (command_id h)) →
+  declared_view : IsHeader h → (k : Known) (r : ℕ) (blocks : List Block) → lenient h k (Sub r blocks) ≡ [] → ViewOfCommands (k.ring (command_id h)) →
       ViewOfCommands ((learned h k (Sub r blocks)).ring (command_id h))
   unfolding learned
   declared_view is k r blocks clean keeps =

@@ -1,6 +1,6 @@
 -- What the rules keep of each ring is kept by each row: of a command that succeeds holds still what was tested when it was given
 use Rattle.std.proofs.Common.{◌≡◌, ◌<◌, ◌==◌, ◌∙◌, ℕ, not, true, false, [], Some, is_some, arith, sym, ap, ltb-true}
-use Rattle.safety.proofs.Words.{or_parts, not-false, All-weaker, Block, kind, pointer, code, is_command_completion, address_of, ceiling, RingKeeps, Command, NoOp, EnableSlot, DisableSlot, AddressDevice, ConfigureEndpoint, EvaluateContext, ResetEndpoint, StopEndpoint, SetTrDequeue, ResetDevice, Header, Row, Sub, Write, Reg, Bell, Read, IsHeader, shape_of, command_id, Known, command_at, next_command, may_be_taken, can_finish, is_impossible_completion, is_impossible_by_kind, broken, IsDriverRing, IsUnfinished, CommandKeeps, MovesIf, StaysIf, DriverKeeps, KeptByRows, StillReads, MovesOn, StillHolds, RingsKeep}
+use Rattle.safety.proofs.Words.{or_parts, not-false, All-weaker, Block, kind, pointer, code, is_command_completion, address_of, ceiling, RingKeeps, Command, NoOp, EnableSlot, DisableSlot, AddressDevice, ConfigureEndpoint, EvaluateContext, ResetEndpoint, StopEndpoint, SetTrDequeue, ResetDevice, Header, Row, Sub, Write, Reg, Bell, Read, IsHeader, shape_of, command_id, Known, command_at, next_command, may_be_taken, can_finish, is_impossible_completion, is_impossible_by_kind, lenient, IsDriverRing, IsUnfinished, CommandKeeps, MovesIf, StaysIf, DriverKeeps, KeptByRows, StillReads, MovesOn, StillHolds, RingsKeep}
 use Rattle.ownership_rules.specs.Moves as moves
 use Rattle.safety.proofs.Headers.{ring_shape}
 use Rattle.safety.proofs.GivenCommands.{content_good, are_free}
@@ -67,7 +67,7 @@ module _ (h : Header) where
     moves_on = moves_still k c keeps.moves_on keeps.stays;
   }
 
-  pub still_of : IsHeader h → (k : Known) (row : Row) → DriverKeeps h k → broken h k row ≡ [] → StillReads h k row
+  pub still_of : IsHeader h → (k : Known) (row : Row) → DriverKeeps h k → lenient h k row ≡ [] → StillReads h k row
   still_of is k (Sub r blocks) d clean = tt
   still_of is k (Write a w) d clean = tt
   still_of is k (Reg r x) d clean = tt

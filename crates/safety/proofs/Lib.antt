@@ -200,6 +200,7 @@ pub mod CommandMoves
 pub mod CommandTests
 pub mod DeviceBehind
 pub mod Squares
+pub mod Lenient
 pub mod Headline
 pub mod CommandGood
 pub mod GivenSquare

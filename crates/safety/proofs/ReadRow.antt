@@ -1,6 +1,6 @@
 -- The driver reads an event: it is the oldest unread one, and the run goes on
 use Rattle.std.proofs.Common.{◌≡◌, ◌+◌, ◌<◌, ◌==◌, ◌&&◌, ◌∷◌, ◌∙◌, ℕ, true, false, List, [], nat_lt, Some, All, slice_get, arith, refl, sym, ap, subst, eqb-true, ltb-true}
-use Rattle.safety.proofs.Words.{and_parts, All-head, All-tail, cond_some, Block, IsBlock, kind, same_words, word, Header, Row, Read, World, counted, Known, learned, known, IsClean, EventsStand, Agrees, Runs, reading}
+use Rattle.safety.proofs.Words.{and_parts, All-head, All-tail, cond_some, Block, IsBlock, kind, same_words, word, Header, Row, Read, World, counted, Known, learned, known, IsLenient, EventsStand, Agrees, Runs, reading}
 use native.Mathlib.Numerals.{unary_clauses}
 use Rattle.world_state.specs.World.{event_at}
 use Rattle.world_state.specs.World as of_world
@@ -82,7 +82,7 @@ module _ (h : Header) where
 
   read_oldest : (past : List Row) (e : Block) (w v : World) → IsBlock e →
       (w.reads < w.posted) × (same_words (event_at h w w.reads) e ≡ true) × ((let x : World = record w { reads = w.reads + 1 } in x) ≡ v) →
-      (unread : List Block) → IsClean h (reading unread past) → All IsBlock unread → (known h past).stopped ≡ false → Agrees h (known h (reading unread past)) unread w →
+      (unread : List Block) → IsLenient h (reading unread past) → All IsBlock unread → (known h past).stopped ≡ false → Agrees h (known h (reading unread past)) unread w →
       Runs h (Read e ∷ past) (counted h v)
   unfolding known
   read_oldest past e w v block x [] clean blocks on g = absurd (none_unread w x.0 g.events)

@@ -1,6 +1,6 @@
 -- A register write beneath an event that isn't read yet: the two may change places
 use Rattle.std.proofs.Common.{◌≡◌, ◌+◌, ◌-◌, ◌≤◌, ◌==◌, ◌&&◌, ◌||◌, if◌then◌else◌, ◌∷◌, ◌∙◌, ℕ, zero, suc, Bool, true, false, not, [], nat_lt, Some, unwrap_or, arith, refl, sym, ap, subst, inl, inr}
-use Rattle.safety.proofs.Words.{list_any, range_with_len, cases_Bool, and_parts, and_from, or_parts, or_cases, or_left, or_right, cond-true, cond-false, not-false, not_from_true, false≢true, Block, kind, cycle, is_event, Shape, place_count, address_of, cycle_of, position_from, is_reached_within, erdp_address, Header, Register, Usbcmd, Crcr, Dcbaap, Config, Erstsz, Erstba, Erdp, Reg, Read, event_shape, with_register, same_register, run_bit, reset_bit, Known, run_or_stop, valued, register_written, command_at, next_command, learned, changes, may_pass, is_late_reset, is_early_start, is_bad_register, is_bad_erdp, register_tests, is_impossible_by_kind, is_past_room, is_impossible, event_tests, tests, broken, broken_of, AfterStop, BadRegister, BadErdp, HeldMore, Square}
+use Rattle.safety.proofs.Words.{list_any, range_with_len, cases_Bool, and_parts, and_from, or_parts, or_cases, or_left, or_right, cond-true, cond-false, not-false, not_from_true, false≢true, Block, kind, cycle, is_event, Shape, place_count, address_of, cycle_of, position_from, is_reached_within, erdp_address, Header, Register, Usbcmd, Crcr, Dcbaap, Config, Erstsz, Erstba, Erdp, Reg, Read, event_shape, with_register, same_register, run_bit, reset_bit, Known, run_or_stop, valued, register_written, command_at, next_command, learned, changes, may_pass, is_late_reset, is_early_start, is_bad_register, is_bad_erdp, register_tests, is_impossible_by_kind, is_past_room, is_impossible, event_tests, lenient_tests, lenient, broken_of, AfterStop, BadRegister, BadErdp, HeldMore, Square}
 use Rattle.safety.proofs.TestsPassed.{AllFail, clean_tests, tests_fail}
 use Rattle.safety.proofs.ErdpMoves.{position_within}
 use Rattle.safety.proofs.SameDriver.{SameDriver, both_drivers}
@@ -9,8 +9,8 @@ use Rattle.safety.proofs.AlikeEvents.{EventAlike, ReadAlike, read_alike}
 use Rattle.safety.proofs.HeldFurther.{EverySlot, SameStates, states_from, held_more, counted, read_same, flip_driver, targets_are}
 
 -- an event is read only after the start
-pub read_started : (h : Header) (k : Known) (e : Block) → broken h k (Read e) ≡ [] → k.started ≡ true
-unfolding tests event_tests is_impossible
+pub read_started : (h : Header) (k : Known) (e : Block) → lenient h k (Read e) ≡ [] → k.started ≡ true
+unfolding lenient_tests event_tests is_impossible
 read_started h k b clean =
     let fails : AllFail (event_tests h k b) = tests_fail h k (Read b) clean in
     let four = or_parts (not k.started || is_past_room h k || not (cycle b == cycle_of (event_shape h) k.reads) || not (is_event (kind b))) (is_impossible_by_kind h k (kind b) b) fails.0 in
@@ -109,13 +109,13 @@ module _ (h : Header) where
   none_broken : (x y : Bool) → x ≡ false → y ≡ false → broken_of ((BadRegister, x) ∷ (BadErdp, y) ∷ []) ≡ []
   none_broken x y one two = rw (one, two) refl
 
-  register_clean : (k : Known) (r : Register) (v : ℕ) → k.stopped ≡ false → is_bad_register h k r v ≡ false → is_bad_erdp h k r v ≡ false → broken h k (Reg r v) ≡ []
-  unfolding broken tests register_tests
+  register_clean : (k : Known) (r : Register) (v : ℕ) → k.stopped ≡ false → is_bad_register h k r v ≡ false → is_bad_erdp h k r v ≡ false → lenient h k (Reg r v) ≡ []
+  unfolding lenient lenient_tests register_tests
   register_clean k r v on one two =
       cond-false k.stopped (AfterStop ∷ []) (broken_of (register_tests h k r v)) on ∙ none_broken (is_bad_register h k r v) (is_bad_erdp h k r v) one two
 
-  register_facts : (k : Known) (r : Register) (v : ℕ) → broken h k (Reg r v) ≡ [] → (is_bad_register h k r v ≡ false) × (is_bad_erdp h k r v ≡ false)
-  unfolding tests register_tests
+  register_facts : (k : Known) (r : Register) (v : ℕ) → lenient h k (Reg r v) ≡ [] → (is_bad_register h k r v ≡ false) × (is_bad_erdp h k r v ≡ false)
+  unfolding lenient_tests register_tests
   register_facts k r v clean = let fails : AllFail (register_tests h k r v) = tests_fail h k (Reg r v) clean in (fails.0, fails.1.0)
 
   dequeue_grows : (k : Known) (r : Register) (v : ℕ) → is_bad_erdp h k r v ≡ false → k.dequeue ≤ dequeue_after k.dequeue r v
@@ -167,7 +167,7 @@ module _ (h : Header) where
     rings = d.rings;
   }
 
-  pub register_square : (k : Known) (r : Register) (v : ℕ) (e : Block) → broken h k (Reg r v) ≡ [] → broken h k (Read e) ≡ [] → (learned h k (Reg r v)).stopped ≡ false →
+  pub register_square : (k : Known) (r : Register) (v : ℕ) (e : Block) → lenient h k (Reg r v) ≡ [] → lenient h k (Read e) ≡ [] → (learned h k (Reg r v)).stopped ≡ false →
       Square h k (Reg r v) e
   register_square k r v e clean may still =
       let on : k.started ≡ true = read_started h k e may in
@@ -194,7 +194,7 @@ module _ (h : Header) where
         device = states.device;
       } in
       record {
-        event = subst (λ x. broken h x (Read e) ≡ []) (sym one) read.possible;
+        event = subst (λ x. lenient h x (Read e) ≡ []) (sym one) read.possible;
         row = register_clean k_read r v (same.stopped ∙ running) (register_still k k_read r v on (same.started ∙ on) facts.0)
             (erdp_still k k_read r v same.started same.dequeue (let reads = same.reads in omega arith) facts.1);
         after = subst (λ x. HeldMore x (learned h (learned h k (Reg r v)) (Read e))) (sym two) (subst (λ x. HeldMore (with_value k_read r v) (learned h x (Read e))) (sym one)

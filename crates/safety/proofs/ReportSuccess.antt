@@ -1,6 +1,6 @@
 -- The controller reports that a take has succeeded: the run goes on
 use Rattle.std.proofs.Common.{◌≡◌, ◌≢◌, ◌+◌, ◌<◌, ◌==◌, ◌&&◌, ◌||◌, ◌∷◌, ◌++◌, ◌∙◌, ℕ, Bool, true, false, not, List, [], drop, Option, Some, None, position, option_map, arith, refl, sym, ap, subst, inl, inr, lt-ltb}
-use Rattle.safety.proofs.Words.{false≢true, and_parts, and_from, and_right, or_from, or_left, cond-true, not-true, not_from_true, not_from_false, none-some, same_Some, Block, BlockKind, is_set, IsBlock, code, endpoint, kind, pointer, slot, word, is_transfer_event, is_command_completion, is_other_event, is_success, is_halting, is_trb_error, is_stopping, is_transfer_code, Spot, Data, after, number, floor_number, ceiling, named, is_data_below, EndpointState, Off, Running, Halted, Stopped, Error, is_off, Header, Row, Read, IsHeader, shape_of, command_id, World, RingEvent, takes_of, unreported, can_post, posted, with_reported, report_success, report_code, reported_on, reported, counted, Known, event_read, learned, known, RingSpot, event_at, on_ring, spot_on, passed, transferred, transferred_at, transfer_read, broken, is_in_profile, is_impossible_by_kind, is_impossible_transfer, can_report, can_report_at, DriverKeeps, RingState, state_of, BoundRing, Agrees, Runs, reading}
+use Rattle.safety.proofs.Words.{false≢true, and_parts, and_from, and_right, or_from, or_left, cond-true, not-true, not_from_true, not_from_false, none-some, same_Some, Block, BlockKind, is_set, IsBlock, code, endpoint, kind, pointer, slot, word, is_transfer_event, is_command_completion, is_other_event, is_success, is_halting, is_trb_error, is_stopping, is_transfer_code, Spot, Data, after, number, floor_number, ceiling, named, is_data_below, EndpointState, Off, Running, Halted, Stopped, Error, is_off, Header, Row, Read, IsHeader, shape_of, command_id, World, RingEvent, takes_of, unreported, can_post, posted, with_reported, report_success, report_code, reported_on, reported, counted, Known, event_read, learned, known, RingSpot, event_at, on_ring, spot_on, passed, transferred, transferred_at, transfer_read, lenient, is_in_profile, is_impossible_by_kind, is_impossible_transfer, can_report, can_report_at, DriverKeeps, RingState, state_of, BoundRing, Agrees, Runs, reading}
 use Rattle.trb.specs.declared.kind.BlockKind.TheVariants as kinds
 use Rattle.safety.proofs.Headers.{transfer_driver, transfer_not_command, ring_shape}
 use Rattle.safety.proofs.Counted.{agrees_counted}
@@ -160,7 +160,7 @@ success_code c success =
 
 -- the agreement behind the report, and that the event breaks no rule where it will be read
 pub record ReportKeeps (h : Header) (k : Known) (unread : List Block) (w v : World) (b : Block) : Type 0 where
-  pub clean : broken h k (Read b) ≡ []
+  pub clean : lenient h k (Read b) ≡ []
   pub agrees : Agrees h (learned h k (Read b)) (unread ++ b ∷ []) (counted h v)
 
 module _ (h : Header) (is : IsHeader h) (k : Known) (unread : List Block) (w v : World) (b : Block) (block : IsBlock b) (running : w.stopped ≡ false) (d : DriverKeeps h k) (g : Agrees h k unread w) (x : IsReport h w v b) (success : is_success (code b) ≡ true) where

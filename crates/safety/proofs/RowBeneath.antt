@@ -1,7 +1,7 @@
 -- A driver's row beneath the events that aren't read yet: they stay possible, and what is known when they are read differs from what
 -- the row adds to it at the end in the numbers at which rings are held, if at all
 use Rattle.std.proofs.Common.{◌≡◌, ◌+◌, ◌-◌, ◌≤◌, ◌∷◌, ◌∙◌, ℕ, false, List, [], length, All, Some, arith, refl, sym, ap, subst}
-use Rattle.safety.proofs.Words.{cond_both, not-false, All-cons, All-head, All-tail, same_Some, Block, IsBlock, kind, erdp_address, is_reached_within, Header, Row, Sub, Write, Reg, Bell, Read, Register, Erdp, IsHeader, event_shape, IsRow, World, stored, counted, Known, learned, known, may_pass, is_bad_erdp, broken, IsClean, DriverKeeps, IsDriverRow, Agrees, Runs, reading, HeldMore, is_idle, Square, SquareLaw, MoreLaw}
+use Rattle.safety.proofs.Words.{cond_both, not-false, All-cons, All-head, All-tail, same_Some, Block, IsBlock, kind, erdp_address, is_reached_within, Header, Row, Sub, Write, Reg, Bell, Read, Register, Erdp, IsHeader, event_shape, IsRow, World, stored, counted, Known, learned, known, may_pass, is_bad_erdp, lenient, IsLenient, DriverKeeps, IsDriverRow, Agrees, Runs, reading, HeldMore, is_idle, Square, SquareLaw, MoreLaw}
 use Rattle.controller_model.specs.DriverRows as driver
 use Rattle.safety.proofs.TestsPassed.{clean_tests}
 use Rattle.safety.proofs.CleanRows.{register_facts}
@@ -16,14 +16,14 @@ use Rattle.safety.proofs.RowWrites.{writes_agree}
 
 -- what a clean history keeps
 abbrev pub KeptByHistories : Header → Type 0
-KeptByHistories h = (past : List Row) → All IsRow past → IsClean h past → (known h past).stopped ≡ false → DriverKeeps h (known h past)
+KeptByHistories h = (past : List Row) → All IsRow past → IsLenient h past → (known h past).stopped ≡ false → DriverKeeps h (known h past)
 
 module _ (h : Header) where
   pub read_on : (k : Known) (b : Block) → (learned h k (Read b)).stopped ≡ k.stopped
   unfolding learned
   read_on k b = (event_same h k (kind b) b).stopped
 
-  pub clean_under : (unread : List Block) (past : List Row) → IsClean h (reading unread past) → IsClean h past
+  pub clean_under : (unread : List Block) (past : List Row) → IsLenient h (reading unread past) → IsLenient h past
   clean_under [] past clean = clean
   clean_under (e ∷ rest) past clean = (clean_under rest (Read e ∷ past) clean).0
 
@@ -53,7 +53,7 @@ module _ (h : Header) where
   may_move k w _ x reads dequeue low good = tt
 
   row_agrees : IsHeader h → (now k : Known) (unread : List Block) (w v : World) (d : Row) → IsDriverRow d → DriverKeeps h k → Agrees h k unread w → w.reads ≡ now.reads → w.dequeue ≡ now.dequeue →
-      broken h now d ≡ [] → broken h k d ≡ [] → (learned h k d).stopped ≡ false → driver.row_done h w d ≡ Some v → Agrees h (learned h k d) unread (counted h v)
+      lenient h now d ≡ [] → lenient h k d ≡ [] → (learned h k d).stopped ≡ false → driver.row_done h w d ≡ Some v → Agrees h (learned h k d) unread (counted h v)
   unfolding driver.row_done
   row_agrees is now k unread w v (Sub r blocks) driver_row keeps g reads dequeue before clean on at =
       subst (λ u. Agrees h (learned h k (Sub r blocks)) unread (counted h u)) (same_Some (driver.declared h w r blocks) v at) (declares_agree h is k unread w r blocks keeps g clean)
@@ -72,15 +72,15 @@ module _ (h : Header) where
   record Beside (d : Row) (past beneath : List Row) : Type 0 where
     pub rows : All IsRow past
     pub rows_beneath : All IsRow beneath
-    pub clean : IsClean h past
-    pub clean_beneath : IsClean h beneath
-    pub possible : broken h (known h past) d ≡ []
+    pub clean : IsLenient h past
+    pub clean_beneath : IsLenient h beneath
+    pub possible : lenient h (known h past) d ≡ []
     pub awake : is_idle h (known h past) d ≡ false
     pub on : (learned h (known h past) d).stopped ≡ false
     pub held : HeldMore (learned h (known h past) d) (known h beneath)
 
   module _ (is : IsHeader h) (square : SquareLaw h) (more : MoreLaw h) (keeps : KeptByHistories h) (d : Row) (is_row : IsRow d) (driver_row : IsDriverRow d) where
-    one_on : (past beneath : List Row) (e : Block) → IsBlock e → broken h (known h past) (Read e) ≡ [] → Beside d past beneath → Beside d (Read e ∷ past) (Read e ∷ beneath)
+    one_on : (past beneath : List Row) (e : Block) → IsBlock e → lenient h (known h past) (Read e) ≡ [] → Beside d past beneath → Beside d (Read e ∷ past) (Read e ∷ beneath)
     unfolding known
     one_on past beneath e block event b =
         let k : Known = known h past in
@@ -101,13 +101,13 @@ module _ (h : Header) where
           held = held_more_twice (learned h (learned h k (Read e)) d) (learned h (learned h k d) (Read e)) (learned h m (Read e)) s.after both.1;
         }
 
-    all_on : (unread : List Block) (past beneath : List Row) → All IsBlock unread → IsClean h (reading unread past) → Beside d past beneath → Beside d (reading unread past) (reading unread beneath)
+    all_on : (unread : List Block) (past beneath : List Row) → All IsBlock unread → IsLenient h (reading unread past) → Beside d past beneath → Beside d (reading unread past) (reading unread beneath)
     all_on [] past beneath blocks clean b = b
     all_on (e ∷ rest) past beneath blocks clean b =
         all_on rest (Read e ∷ past) (Read e ∷ beneath) (All-tail IsBlock e rest blocks) clean
         (one_on past beneath e (All-head IsBlock e rest blocks) (clean_under rest (Read e ∷ past) clean).1 b)
 
-    first : (past : List Row) → All IsRow past → IsClean h (d ∷ past) → is_idle h (known h past) d ≡ false → (learned h (known h past) d).stopped ≡ false → Beside d past (d ∷ past)
+    first : (past : List Row) → All IsRow past → IsLenient h (d ∷ past) → is_idle h (known h past) d ≡ false → (learned h (known h past) d).stopped ≡ false → Beside d past (d ∷ past)
     unfolding known
     first past rows clean awake on = record {
       rows = rows;
@@ -121,11 +121,11 @@ module _ (h : Header) where
     }
 
     -- the run goes on behind a row that isn't idle
-    pub awake_runs : (past : List Row) (w v : World) → All IsRow past → (run : Runs h past w) → broken h (known h past) d ≡ [] → is_idle h (known h past) d ≡ false →
+    pub awake_runs : (past : List Row) (w v : World) → All IsRow past → (run : Runs h past w) → lenient h (known h past) d ≡ [] → is_idle h (known h past) d ≡ false →
         (learned h (known h past) d).stopped ≡ false → driver.row_done h w d ≡ Some v → Runs h (d ∷ past) (counted h v)
     unfolding known
     awake_runs past w v rows run possible awake on at =
-        let clean : IsClean h (d ∷ past) = (clean_under run.unread past run.clean, possible) in
+        let clean : IsLenient h (d ∷ past) = (clean_under run.unread past run.clean, possible) in
         let b = all_on run.unread past (d ∷ past) run.blocks run.clean (first past rows clean awake on) in
         let later : Known = known h (reading run.unread past) in
         let c = counts run.unread past in

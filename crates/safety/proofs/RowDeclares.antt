@@ -1,6 +1,6 @@
 -- A declaration where all events are read: what is known agrees with the world
 use Rattle.std.proofs.Common.{◌≡◌, ◌≢◌, ◌<◌, ◌++◌, ◌∷◌, ◌∙◌, ℕ, true, false, List, [], length, sum, Option, None, Some, option_and_then, slice_get, arith, refl, sym, ap, subst, inl, inr}
-use Rattle.safety.proofs.Words.{cases_Bool, cases_eq, none-some, put, Block, address_of, RingView, Declares, changed, declared, is_due, MayDeclare, slice_get-append, ceiling_within, given_count_declared, Command, command_of, named_context, Header, Sub, IsHeader, shape_of, command_id, World, UnderWay, has_other_words, counted, Known, learned, on_ring, command_at, next_command, broken, IsDriverRing, IsUnfinished, DriverKeeps, Stands, EventsStand, Newest, UnderWayMatches, IsUnchanged, Matches, Agrees}
+use Rattle.safety.proofs.Words.{cases_Bool, cases_eq, none-some, put, Block, address_of, RingView, Declares, changed, declared, is_due, MayDeclare, slice_get-append, ceiling_within, given_count_declared, Command, command_of, named_context, Header, Sub, IsHeader, shape_of, command_id, World, UnderWay, has_other_words, counted, Known, learned, on_ring, command_at, next_command, lenient, IsDriverRing, IsUnfinished, DriverKeeps, Stands, EventsStand, Newest, UnderWayMatches, IsUnchanged, Matches, Agrees}
 use Rattle.world_state.specs.World as of_world
 use Rattle.world_state.specs.Harms as of_harms
 use Rattle.controller_model.specs.DriverRows as driver
@@ -53,7 +53,7 @@ under_way_declared h is k w d m u at =
       | inr off ↦ absurd (none-some u (sym (m.before off).none ∙ at))
     ]
 
-module _ (h : Header) (is : IsHeader h) (k : Known) (unread : List Block) (w : World) (r : ℕ) (blocks : List Block) (d : DriverKeeps h k) (g : Agrees h k unread w) (clean : broken h k (Sub r blocks) ≡ []) where
+module _ (h : Header) (is : IsHeader h) (k : Known) (unread : List Block) (w : World) (r : ℕ) (blocks : List Block) (d : DriverKeeps h k) (g : Agrees h k unread w) (clean : lenient h k (Sub r blocks) ≡ []) where
   m : Known
   m = on_ring h k r (Declares blocks)
 

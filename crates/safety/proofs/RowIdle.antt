@@ -1,6 +1,6 @@
 -- The doorbell of a ring that is open: nothing is learned, and where all events are read the world agrees with what is known as before
 use Rattle.std.proofs.Common.{◌≡◌, ◌==◌, ◌||◌, ◌∙◌, ℕ, not, nat_lt, true, false, List, [], Option, None, Some, is_none, refl, sym, ap, subst, inl, inr}
-use Rattle.safety.proofs.Words.{cases_Bool, cases_eq, cond-true, cond-false, or_parts, not-false, false≢true, put, put_pair, Block, RingView, Opens, changed, is_open, EndpointState, Off, Running, Halted, Error, is_running, is_stopped, Header, Bell, IsHeader, shape_of, command_id, World, counted, Known, learned, on_ring, endpoint_rung, rung, is_bad_bell, is_touched, broken, DriverKeeps, Agrees, is_open_if, is_idle, MayRing}
+use Rattle.safety.proofs.Words.{cases_Bool, cases_eq, cond-true, cond-false, or_parts, not-false, false≢true, put, put_pair, Block, RingView, Opens, changed, is_open, EndpointState, Off, Running, Halted, Error, is_running, is_stopped, Header, Bell, IsHeader, shape_of, command_id, World, counted, Known, learned, on_ring, endpoint_rung, rung, is_bad_bell, is_touched, lenient, DriverKeeps, Agrees, is_open_if, is_idle, MayRing}
 use Rattle.controller_model.specs.DriverRows as driver
 use Rattle.safety.proofs.CleanRows.{BellFacts, bell_facts}
 use Rattle.safety.proofs.RowRegister.{agrees_once_counted}
@@ -103,7 +103,7 @@ module _ (h : Header) (k : Known) (d : DriverKeeps h k) (s t : ℕ) where
       let none = open_held (k.ring r) is in
       record { untouched = bell_untouched good; state = inl (d.states.open_runs s t r at none, λ q has. ring_open (k.ring_of s t) q has (ap (λ o. is_open_if k o) at ∙ is)) }
 
-  pub rings : is_idle h k (Bell s t) ≡ true → broken h k (Bell s t) ≡ [] → (s == 0) ≡ false → MayRing h k s t
+  pub rings : is_idle h k (Bell s t) ≡ true → lenient h k (Bell s t) ≡ [] → (s == 0) ≡ false → MayRing h k s t
   rings is clean endpoint =
       let facts : BellFacts h k s t = bell_facts h k s t clean in
       may_ring_by (k.ring_of s t) refl (sym (cond-false (s == 0) (is_open (k.ring (command_id h))) (is_open_if k (k.ring_of s t)) endpoint) ∙ is)

@@ -1,6 +1,6 @@
 -- A write of any register, but one that stops the controller, where all events are read: what is known agrees with the world
 use Rattle.std.proofs.Common.{◌≡◌, ◌&&◌, ◌||◌, if◌then◌else◌, ◌∙◌, ℕ, not, true, false, List, [], Option, None, Some, is_some, refl, sym, ap, subst, inl, inr}
-use Rattle.safety.proofs.Words.{cases_Bool, cond-true, cond-false, not_from_false, not_from_true, false≢true, Block, erdp_address, Header, Register, Usbcmd, Crcr, Erdp, Reg, IsHeader, run_bit, reset_bit, World, counted, Known, learned, is_bad_register, broken, Unstarted, CommandRingNamed, DriverKeeps, Agrees}
+use Rattle.safety.proofs.Words.{cases_Bool, cond-true, cond-false, not_from_false, not_from_true, false≢true, Block, erdp_address, Header, Register, Usbcmd, Crcr, Erdp, Reg, IsHeader, run_bit, reset_bit, World, counted, Known, learned, is_bad_register, lenient, Unstarted, CommandRingNamed, DriverKeeps, Agrees}
 use Rattle.controller_model.specs.DriverRows as driver
 use Rattle.ring_knowledge.specs.Registers as registers
 use Rattle.safety.proofs.CleanRows.{register_facts}
@@ -94,7 +94,7 @@ module _ (h : Header) (is : IsHeader h) (k : Known) (unread : List Block) (w : W
       erdp_agrees h (registers.valued k Erdp x) unread (driver.valued w Erdp x) (valued_agrees h k unread w g Erdp x) (erdp_address x) (reached_valued h w Erdp x (erdp_address x) may)
   register_by r x may good on still = valued_agrees h k unread w g r x
 
-  pub register_agrees : (r : Register) (x : ℕ) → MayMove h w r x → broken h k (Reg r x) ≡ [] → k.stopped ≡ false → (learned h k (Reg r x)).stopped ≡ false →
+  pub register_agrees : (r : Register) (x : ℕ) → MayMove h w r x → lenient h k (Reg r x) ≡ [] → k.stopped ≡ false → (learned h k (Reg r x)).stopped ≡ false →
       Agrees h (learned h k (Reg r x)) unread (counted h (driver.register_row h w r x))
   unfolding learned
   register_agrees r x may clean on still =

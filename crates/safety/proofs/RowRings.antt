@@ -1,6 +1,6 @@
 -- A doorbell where all events are read: what is known agrees with the world
 use Rattle.std.proofs.Common.{◌≡◌, ◌==◌, ◌&&◌, ◌||◌, if◌then◌else◌, ◌∙◌, ℕ, not, nat_lt, true, false, List, [], Option, None, Some, option_and_then, slice_get, arith, refl, sym, ap, subst, inl, inr}
-use Rattle.safety.proofs.Words.{cases_Bool, cond_both, cond-true, cond-false, and_from, or_parts, or_cases, not-false, false≢true, put_pair, Block, RingView, Opens, changed, is_due, Command, command_of, EndpointState, Running, is_running, is_stopped, Header, Bell, IsHeader, shape_of, command_id, World, counted, Known, learned, on_ring, command_at, next_command, endpoint_rung, rung, is_bad_bell, is_touched, broken, IsDriverRing, IsUnfinished, DriverKeeps, Stands, EventsStand, state_of, RingMatches, BoundRing, UnderWayMatches, CommandMatches, Matches, Agrees}
+use Rattle.safety.proofs.Words.{cases_Bool, cond_both, cond-true, cond-false, and_from, or_parts, or_cases, not-false, false≢true, put_pair, Block, RingView, Opens, changed, is_due, Command, command_of, EndpointState, Running, is_running, is_stopped, Header, Bell, IsHeader, shape_of, command_id, World, counted, Known, learned, on_ring, command_at, next_command, endpoint_rung, rung, is_bad_bell, is_touched, lenient, IsDriverRing, IsUnfinished, DriverKeeps, Stands, EventsStand, state_of, RingMatches, BoundRing, UnderWayMatches, CommandMatches, Matches, Agrees}
 use Rattle.controller_model.specs.DriverRows as driver
 use Rattle.safety.proofs.Headers.{transfer_driver, transfer_not_command, ring_shape}
 use Rattle.safety.proofs.SafeContext.{command_is_ring}
@@ -205,7 +205,7 @@ module _ (h : Header) (is : IsHeader h) (k : Known) (unread : List Block) (w : W
       let two = or_parts (t == 0 || nat_lt 31 t) (not (is_running (k.endpoint_state s t) || is_stopped (k.endpoint_state s t))) three.0 in
       not-false _ two.1
 
-  pub rings_agree : (s t : ℕ) → broken h k (Bell s t) ≡ [] → Agrees h (learned h k (Bell s t)) unread (counted h (driver.bell_row h w s t))
+  pub rings_agree : (s t : ℕ) → lenient h k (Bell s t) ≡ [] → Agrees h (learned h k (Bell s t)) unread (counted h (driver.bell_row h w s t))
   unfolding learned rung driver.bell_row
   rings_agree s t clean =
       let facts : BellFacts h k s t = bell_facts h k s t clean in

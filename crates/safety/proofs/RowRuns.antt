@@ -1,6 +1,6 @@
 -- Behind a row of the driver the run goes on, whatever is unread
 use Rattle.std.proofs.Common.{◌≡◌, ◌==◌, ◌&&◌, if◌then◌else◌, ◌∷◌, ◌∙◌, ℕ, not, true, false, List, [], All, Some, refl, sym, ap, subst, inl, inr}
-use Rattle.safety.proofs.Words.{cases_Bool, cond-true, and_from, not-false, All-cons, All-head, All-tail, same_Some, Block, IsBlock, is_open, Header, Row, Sub, Write, Reg, Bell, Read, IsHeader, command_id, IsRow, World, counted, Known, learned, known, is_bad_bell, broken, IsClean, DriverKeeps, IsDriverRow, Agrees, Runs, reading, is_idle, is_open_if, MayRing, SquareLaw, MoreLaw}
+use Rattle.safety.proofs.Words.{cases_Bool, cond-true, and_from, not-false, All-cons, All-head, All-tail, same_Some, Block, IsBlock, is_open, Header, Row, Sub, Write, Reg, Bell, Read, IsHeader, command_id, IsRow, World, counted, Known, learned, known, is_bad_bell, lenient, IsLenient, DriverKeeps, IsDriverRow, Agrees, Runs, reading, is_idle, is_open_if, MayRing, SquareLaw, MoreLaw}
 use Rattle.controller_model.specs.DriverRows as driver
 use Rattle.safety.proofs.CleanRows.{BellFacts, bell_facts}
 use Rattle.safety.proofs.KeptCounts.{read_counts}
@@ -10,7 +10,7 @@ use Rattle.safety.proofs.RowIdle.{idle, rings, rung_agrees, command_rung}
 
 -- an endpoint whose doorbell does nothing stays one behind an event
 abbrev pub StillRingsLaw : Header → Type 0
-StillRingsLaw h = (k : Known) (s t : ℕ) (e : Block) → IsHeader h → DriverKeeps h k → MayRing h k s t → broken h k (Read e) ≡ [] → MayRing h (learned h k (Read e)) s t
+StillRingsLaw h = (k : Known) (s t : ℕ) (e : Block) → IsHeader h → DriverKeeps h k → MayRing h k s t → lenient h k (Read e) ≡ [] → MayRing h (learned h k (Read e)) s t
 
 module _ (h : Header) where
   -- histories of which the same is known
@@ -19,17 +19,17 @@ module _ (h : Header) where
   same_later [] p q same = same
   same_later (e ∷ rest) p q same = same_later rest (Read e ∷ p) (Read e ∷ q) (ap (λ k. learned h k (Read e)) same)
 
-  clean_later : (unread : List Block) (p q : List Row) → known h p ≡ known h q → IsClean h (reading unread p) → IsClean h q → IsClean h (reading unread q)
+  clean_later : (unread : List Block) (p q : List Row) → known h p ≡ known h q → IsLenient h (reading unread p) → IsLenient h q → IsLenient h (reading unread q)
   unfolding known
   clean_later [] p q same clean here = here
   clean_later (e ∷ rest) p q same clean here =
       clean_later rest (Read e ∷ p) (Read e ∷ q) (ap (λ k. learned h k (Read e)) same) clean
-      (here, ap (λ k. broken h k (Read e)) (sym same) ∙ (clean_under h rest (Read e ∷ p) clean).1)
+      (here, ap (λ k. lenient h k (Read e)) (sym same) ∙ (clean_under h rest (Read e ∷ p) clean).1)
 
   module _ (is : IsHeader h) (keeps : KeptByHistories h) (still : StillRingsLaw h) where
     -- along the unread events
-    along : (P : Known → Type 0) → ((k : Known) (e : Block) → DriverKeeps h k → P k → broken h k (Read e) ≡ [] → P (learned h k (Read e))) →
-        (unread : List Block) (past : List Row) → All IsBlock unread → All IsRow past → IsClean h (reading unread past) → (known h past).stopped ≡ false → P (known h past) →
+    along : (P : Known → Type 0) → ((k : Known) (e : Block) → DriverKeeps h k → P k → lenient h k (Read e) ≡ [] → P (learned h k (Read e))) →
+        (unread : List Block) (past : List Row) → All IsBlock unread → All IsRow past → IsLenient h (reading unread past) → (known h past).stopped ≡ false → P (known h past) →
         P (known h (reading unread past)) × DriverKeeps h (known h (reading unread past)) × ((known h past).started ≡ true → (known h (reading unread past)).started ≡ true)
     unfolding known
     along P one [] past blocks rows clean on p = (p, keeps past rows clean on, λ started. started)
@@ -39,11 +39,11 @@ module _ (h : Header) where
         (read_on h (known h past) e ∙ on) (one (known h past) e (keeps past rows under.0 on) p under.1) in
         (later.0, later.1, λ started. later.2 ((read_counts h (known h past) e).2 ∙ started))
 
-    module _ (past : List Row) (w v : World) (s t : ℕ) (rows : All IsRow past) (run : Runs h past w) (possible : broken h (known h past) (Bell s t) ≡ []) (idles : is_idle h (known h past) (Bell s t) ≡ true) where
+    module _ (past : List Row) (w v : World) (s t : ℕ) (rows : All IsRow past) (run : Runs h past w) (possible : lenient h (known h past) (Bell s t) ≡ []) (idles : is_idle h (known h past) (Bell s t) ≡ true) where
       later : Known
       later = known h (reading run.unread past)
 
-      here : IsClean h past
+      here : IsLenient h past
       here = clean_under h run.unread past run.clean
 
       now_keeps : DriverKeeps h (known h past)
@@ -91,7 +91,7 @@ module _ (h : Header) where
 
     -- any row of the driver that doesn't stop the controller
     module _ (square : SquareLaw h) (more : MoreLaw h) where
-      pub row_runs : (past : List Row) (row : Row) (w v : World) → All IsRow past → IsRow row → IsDriverRow row → Runs h past w → broken h (known h past) row ≡ [] →
+      pub row_runs : (past : List Row) (row : Row) (w v : World) → All IsRow past → IsRow row → IsDriverRow row → Runs h past w → lenient h (known h past) row ≡ [] →
           (learned h (known h past) row).stopped ≡ false → driver.row_done h w row ≡ Some v → Runs h (row ∷ past) (counted h v)
       row_runs past (Bell s t) w v rows is_row driver_row run possible on at =
           elim (cases_Bool (is_idle h (known h past) (Bell s t))) [

@@ -1,6 +1,6 @@
 -- A write of memory where all events are read: what is known agrees with the world
 use Rattle.std.proofs.Common.{◌≡◌, ◌≢◌, ◌+◌, ◌*◌, ◌/◌, ◌<◌, ◌⊎◌, ◌==◌, ◌&&◌, ◌||◌, ◌++◌, ◌∙◌, ℕ, not, nat_lt, Bool, true, false, List, [], Option, None, Some, option_and_then, slice_get, arith, refl, sym, ap, subst, inl, inr, add-zero, lt-ltb, ne_eqb}
-use Rattle.safety.proofs.Words.{list_any, flat_map, cases_eq, or_parts, or_cases, and_from, false≢true, not_from_false, list_any-append, slice_get_within, put, Block, address_of, is_in, is_inside, Writes, changed, is_due, gives, put_here, put_elsewhere, gives_is, address_inside, Command, command_of, named_context, device_context_bytes, input_context_bytes, Header, Write, Erstba, IsHeader, shape_of, command_id, event_shape, driver_rings, World, UnderWay, stored, counted, Known, learned, command_at, next_command, with_device, with_word, written, command_given, taken_device, Leased, Range, InputContext, covers, lease_start, lease_bytes, segment_ranges, table_range, context_ranges, entry_ranges, device_ranges, open_on, open_ranges, open_leases, is_leased, write_tests, tests, broken, IsIn, IsUnfinished, DriverKeeps, Stands, EventsStand, touches_events, IsUnchanged, Matches, Agrees}
+use Rattle.safety.proofs.Words.{list_any, flat_map, cases_eq, or_parts, or_cases, and_from, false≢true, not_from_false, list_any-append, slice_get_within, put, Block, address_of, is_in, is_inside, Writes, changed, is_due, gives, put_here, put_elsewhere, gives_is, address_inside, Command, command_of, named_context, device_context_bytes, input_context_bytes, Header, Write, Erstba, IsHeader, shape_of, command_id, event_shape, driver_rings, World, UnderWay, stored, counted, Known, learned, command_at, next_command, with_device, with_word, written, command_given, taken_device, Leased, Range, InputContext, covers, lease_start, lease_bytes, segment_ranges, table_range, context_ranges, entry_ranges, device_ranges, open_on, open_ranges, open_leases, is_leased, write_tests, lenient_tests, lenient, IsIn, IsUnfinished, DriverKeeps, Stands, EventsStand, touches_events, IsUnchanged, Matches, Agrees}
 use Rattle.world_state.specs.World.{event_at}
 use Rattle.world_state.specs.World as of_world
 use Rattle.safety.proofs.TestsPassed.{AllFail, tests_fail, any_of_map}
@@ -63,9 +63,9 @@ written_device : (h : Header) (k : Known) (a x s : ℕ) → k.device s ≢ None 
 unfolding learned written with_word
 written_device h k a x s some = device_kept h (with_word h k a x) (option_and_then (taken_device k) (command_given h k a x)) s some
 
-module _ (h : Header) (is : IsHeader h) (k : Known) (unread : List Block) (w : World) (a x : ℕ) (d : DriverKeeps h k) (g : Agrees h k unread w) (clean : broken h k (Write a x) ≡ []) where
+module _ (h : Header) (is : IsHeader h) (k : Known) (unread : List Block) (w : World) (a x : ℕ) (d : DriverKeeps h k) (g : Agrees h k unread w) (clean : lenient h k (Write a x) ≡ []) where
   free : is_leased h k a ≡ false
-  unfolding tests write_tests
+  unfolding lenient_tests write_tests
   free = let fails : AllFail (write_tests h k a x) = tests_fail h k (Write a x) clean in fails.0
 
   m : Known

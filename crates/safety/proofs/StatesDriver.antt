@@ -1,6 +1,6 @@
 -- Declarations, writes of memory and of registers keep what is known of states
 use Rattle.std.proofs.Common.{◌≡◌, ◌≢◌, ◌≤◌, ◌⊎◌, ◌==◌, ◌∙◌, ℕ, false, Bool, List, [], Option, None, Some, option_and_then, slice_get, arith, refl, sym, ap, subst, inl, inr, ne_eqb}
-use Rattle.safety.proofs.Words.{cond-false, or_parts, false≢true, none-some, slice_get_within, Block, Shape, RingView, Declares, Writes, changed, floor_number, ceiling, cases_option, slice_get-append, given_count-writes, ceiling_held, ceiling_open, Command, AddressDevice, StopEndpoint, SlotState, Disabled, Enabled, Configured, command_of, named_slot, is_disabled, Header, Register, Sub, Write, Reg, IsHeader, shape_of, command_id, Known, command_at, next_command, with_device, with_word, written, command_given, taken_device, learned, names_disabled_slot, is_bad_command, broken, StatesKeep, DriverKeeps}
+use Rattle.safety.proofs.Words.{cond-false, or_parts, false≢true, none-some, slice_get_within, Block, Shape, RingView, Declares, Writes, changed, floor_number, ceiling, cases_option, slice_get-append, given_count-writes, ceiling_held, ceiling_open, Command, AddressDevice, StopEndpoint, SlotState, Disabled, Enabled, Configured, command_of, named_slot, is_disabled, Header, Register, Sub, Write, Reg, IsHeader, shape_of, command_id, Known, command_at, next_command, with_device, with_word, written, command_given, taken_device, learned, names_disabled_slot, is_bad_command, lenient, StatesKeep, DriverKeeps}
 use Rattle.safety.proofs.EndpointHistories.{row_keeps}
 use Rattle.safety.proofs.DeclaredMoves.{ceiling_declares}
 use Rattle.safety.proofs.DriverRings.{endpoints_of}
@@ -109,7 +109,7 @@ module _ (h : Header) where
   unfolding learned written
   no_more k a w s others = taken_by k a w (option_and_then (taken_device k) (command_given h k a w)) s others
 
-  written_slots : (k : Known) (a w : ℕ) → broken h k (Write a w) ≡ [] → SlotsStand k → SlotsStand (learned h k (Write a w))
+  written_slots : (k : Known) (a w : ℕ) → lenient h k (Write a w) ≡ [] → SlotsStand k → SlotsStand (learned h k (Write a w))
   written_slots k a w clean e =
       let l : Known = learned h k (Write a w) in
       let same : WriteLeaves k l = write_leaves h k a w in record {
@@ -130,7 +130,7 @@ module _ (h : Header) where
         };
       }
 
-  pub states_written : IsHeader h → (k : Known) (a w : ℕ) → DriverKeeps h k → broken h k (Write a w) ≡ [] → StatesKeep h (learned h k (Write a w))
+  pub states_written : IsHeader h → (k : Known) (a w : ℕ) → DriverKeeps h k → lenient h k (Write a w) ≡ [] → StatesKeep h (learned h k (Write a w))
   states_written is k a w d clean =
       let l : Known = learned h k (Write a w) in
       let same : WriteLeaves k l = write_leaves h k a w in

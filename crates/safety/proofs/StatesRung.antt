@@ -1,6 +1,6 @@
 -- A doorbell keeps what is known of states
 use Rattle.std.proofs.Common.{◌≡◌, ◌≢◌, ◌==◌, ◌&&◌, ◌||◌, ◌∙◌, ℕ, not, nat_lt, true, false, [], Option, None, Some, arith, refl, sym, ap, subst, inl, inr, eq-eqb}
-use Rattle.safety.proofs.Words.{cond_both, cond-false, or_parts, or_cases, or_left, and_from, not-false, false≢true, put_pair, Shape, RingView, Opens, changed, is_step_given, is_way_given, given_count_same, ceiling_open, StopEndpoint, EndpointState, Off, Running, changes, is_running, is_stopped, Header, Bell, IsHeader, shape_of, command_id, Known, on_ring, next_command, endpoint_rung, rung, learned, touches_endpoint, is_touched, is_bad_bell, broken, StatesKeep, DriverKeeps}
+use Rattle.safety.proofs.Words.{cond_both, cond-false, or_parts, or_cases, or_left, and_from, not-false, false≢true, put_pair, Shape, RingView, Opens, changed, is_step_given, is_way_given, given_count_same, ceiling_open, StopEndpoint, EndpointState, Off, Running, changes, is_running, is_stopped, Header, Bell, IsHeader, shape_of, command_id, Known, on_ring, next_command, endpoint_rung, rung, learned, touches_endpoint, is_touched, is_bad_bell, lenient, StatesKeep, DriverKeeps}
 use Rattle.safety.proofs.RingIds.{command_not_transfer}
 use Rattle.safety.proofs.DriverRows.{ring_here, ring_elsewhere}
 use Rattle.safety.proofs.EndpointHistories.{row_keeps}
@@ -152,7 +152,7 @@ module _ (h : Header) where
         let two = or_parts (t == 0 || nat_lt 31 t) (not (is_running (k.endpoint_state s t) || is_stopped (k.endpoint_state s t))) three.0 in
         record { state = not-false _ two.1; untouched = four.1 }
 
-    both_stand : (s t : ℕ) → broken h k (Bell s t) ≡ [] → EndpointsStand (learned h k (Bell s t)) × SeenStand h (learned h k (Bell s t))
+    both_stand : (s t : ℕ) → lenient h k (Bell s t) ≡ [] → EndpointsStand (learned h k (Bell s t)) × SeenStand h (learned h k (Bell s t))
     unfolding learned rung
     both_stand s t clean =
         let facts : BellFacts h k s t = bell_facts h k s t clean in
@@ -160,7 +160,7 @@ module _ (h : Header) where
         (λ first. (command_endpoints, command_seen))
         (λ other. endpoint_stands s t (k.ring_of s t) facts.started refl (may_ring s t (sym (cond-false (s == 0) (not (t == 0)) (is_bad_bell h k s t) other) ∙ facts.good)))
 
-    pub states_rung : (s t : ℕ) → broken h k (Bell s t) ≡ [] → StatesKeep h (learned h k (Bell s t))
+    pub states_rung : (s t : ℕ) → lenient h k (Bell s t) ≡ [] → StatesKeep h (learned h k (Bell s t))
     states_rung s t clean =
         let l : Known = learned h k (Bell s t) in
         let same : BellLeaves k l = bell_leaves h k s t in

@@ -1,6 +1,6 @@
 -- A clean history keeps what the rules keep of each ring, so long as what was tested of a command holds still when it succeeds
 use Rattle.std.proofs.Common.{◌∷◌, List, []}
-use Rattle.safety.proofs.Words.{slot, Header, Row, Sub, Write, Reg, Bell, Read, IsHeader, Known, known, IsClean, RingsKeep, EndpointsKeep, MayRead, StillReads, StillReadsAll}
+use Rattle.safety.proofs.Words.{slot, Header, Row, Sub, Write, Reg, Bell, Read, IsHeader, Known, known, IsLenient, RingsKeep, EndpointsKeep, MayRead, StillReads, StillReadsAll}
 use Rattle.safety.proofs.DriverRows.{nothing_keeps}
 use Rattle.safety.proofs.EndpointHistories.{keeps_endpoints}
 use Rattle.safety.proofs.Placings.{still_places}
@@ -14,7 +14,7 @@ module _ (h : Header) (is : IsHeader h) where
   still_reads k (Bell s t) rings endpoints still = tt
   still_reads k (Read b) rings endpoints still = λ completion c at success. still_places h is k rings endpoints (slot b) c (still completion c at success)
 
-  pub still_keeps_rings : (past : List Row) → IsClean h past → StillReadsAll h past → RingsKeep h (known h past)
+  pub still_keeps_rings : (past : List Row) → IsLenient h past → StillReadsAll h past → RingsKeep h (known h past)
   unfolding known
   still_keeps_rings [] clean still = nothing_keeps h is
   still_keeps_rings (row ∷ past) clean still =

@@ -1,6 +1,6 @@
 -- Behind an event an endpoint whose doorbell does nothing stays one
 use Rattle.std.proofs.Common.{◌≡◌, ◌==◌, ◌&&◌, ◌||◌, if◌then◌else◌, ◌∙◌, ℕ, not, Bool, true, false, [], Option, None, Some, refl, sym, ap, subst, inl, inr, eqb-true, eq-eqb}
-use Rattle.safety.proofs.Words.{list_any, cases_Bool, cond_both, and_parts, or_from, and_from, not-false, false≢true, false_from_ne_true, put_pair, Block, BlockKind, TransferEvent, CommandCompletion, kind, code, slot, endpoint, is_transfer_event, is_command_completion, is_success, is_halting, is_trb_error, is_stopping, Spot, number, after, ceiling, is_data_below, is_stop_spot, Command, StopEndpoint, EndpointState, Halted, Error, changes, touches, Header, Read, IsHeader, shape_of, Known, RingSpot, on_ring, event_at, next_command, unfinished, passed, broken_off, stopped_at, transferred, transferred_at, transfer_read, event_read, learned, touches_endpoint, is_touched, is_in_profile, is_working, is_stopping_now, can_report, can_report_at, is_impossible_by_kind, broken, some_of, any_of, DriverKeeps, IsIdleEndpoint, MayRing}
+use Rattle.safety.proofs.Words.{list_any, cases_Bool, cond_both, and_parts, or_from, and_from, not-false, false≢true, false_from_ne_true, put_pair, Block, BlockKind, TransferEvent, CommandCompletion, kind, code, slot, endpoint, is_transfer_event, is_command_completion, is_success, is_halting, is_trb_error, is_stopping, Spot, number, after, ceiling, is_data_below, is_stop_spot, Command, StopEndpoint, EndpointState, Halted, Error, changes, touches, Header, Read, IsHeader, shape_of, Known, RingSpot, on_ring, event_at, next_command, unfinished, passed, broken_off, stopped_at, transferred, transferred_at, transfer_read, event_read, learned, touches_endpoint, is_touched, is_in_profile, is_working, is_stopping_now, can_report, can_report_at, is_impossible_by_kind, lenient, some_of, any_of, DriverKeeps, IsIdleEndpoint, MayRing}
 use Rattle.safety.proofs.CleanRows.{EventFacts, event_facts}
 use Rattle.safety.proofs.EndpointPut.{at_pair}
 use Rattle.safety.proofs.KeptRings.{completion_facts, next_unfinished}
@@ -128,7 +128,7 @@ module _ (h : Header) where
   unfolding touches_endpoint
   touches_same k e s i c = ap (λ m. list_any (touches s i) (changes h.context_size m 0 c)) (memory_same k e)
 
-  pub untouched_behind : IsHeader h → (k : Known) (d : DriverKeeps h k) (e : Block) → broken h k (Read e) ≡ [] → (s i : ℕ) → is_touched h k s i ≡ false → is_touched h (learned h k (Read e)) s i ≡ false
+  pub untouched_behind : IsHeader h → (k : Known) (d : DriverKeeps h k) (e : Block) → lenient h k (Read e) ≡ [] → (s i : ℕ) → is_touched h k s i ≡ false → is_touched h (learned h k (Read e)) s i ≡ false
   unfolding is_touched
   untouched_behind is k d e clean s i none =
       let l : Known = learned h k (Read e) in

@@ -1,6 +1,6 @@
 -- The driver stops the controller: the run has ended, and its world is safe
 use Rattle.std.proofs.Common.{◌≡◌, ◌&&◌, ◌||◌, ◌∷◌, if◌then◌else◌, ◌∙◌, ℕ, Bool, true, false, not, List, [], Some, refl, sym, ap, subst, inl, inr}
-use Rattle.safety.proofs.Words.{cases_Bool, cond-false, cond-true, false≢true, same_Some, Block, kind, Header, Row, Sub, Write, Reg, Bell, Read, Register, Usbcmd, Usbsts, Dnctrl, Crcr, Dcbaap, Config, Iman, Imod, Erstsz, Erstba, Erdp, IsHeader, run_bit, reset_bit, World, IsSafe, counted, Known, learned, known, IsClean, DriverKeeps, Runs, Ended, reading}
+use Rattle.safety.proofs.Words.{cases_Bool, cond-false, cond-true, false≢true, same_Some, Block, kind, Header, Row, Sub, Write, Reg, Bell, Read, Register, Usbcmd, Usbsts, Dnctrl, Crcr, Dcbaap, Config, Iman, Imod, Erstsz, Erstba, Erdp, IsHeader, run_bit, reset_bit, World, IsSafe, counted, Known, learned, known, IsLenient, DriverKeeps, Runs, Ended, reading}
 use Rattle.world_state.specs.Harms as of_harms
 use Rattle.controller_model.specs.DriverRows as driver
 use Rattle.ring_knowledge.specs.Registers as registers
@@ -99,7 +99,7 @@ module _ (h : Header) where
   stops w x = refl
 
   -- the run has ended behind the row that stops the controller
-  pub stop_ends : IsHeader h → (past : List Row) (row : Row) (w v : World) → (run : Runs h past w) → DriverKeeps h (known h (reading run.unread past)) → IsClean h (row ∷ past) →
+  pub stop_ends : IsHeader h → (past : List Row) (row : Row) (w v : World) → (run : Runs h past w) → DriverKeeps h (known h (reading run.unread past)) → IsLenient h (row ∷ past) →
       (learned h (known h past) row).stopped ≡ true → driver.row_done h w row ≡ Some v → Ended h (row ∷ past) (counted h v)
   unfolding known counted
   stop_ends is past row w v run d clean stopped at =

@@ -1,17 +1,17 @@
 -- A row that breaks no rule fails none of its tests
 use Rattle.std.proofs.Common.{◌≡◌, ◌||◌, ◌∷◌, ◌∙◌, Bool, true, false, List, [], map, All, refl, sym, ap, inl, inr, get_or}
-use Rattle.safety.proofs.Words.{list_any, cases_Bool, cond-true, cond-false, false≢true, false_from_ne_true, list_any_at, Header, Row, Known, Refusal, AfterStop, Test, broken_of, tests, broken}
+use Rattle.safety.proofs.Words.{list_any, cases_Bool, cond-true, cond-false, false≢true, false_from_ne_true, list_any_at, Header, Row, Known, Refusal, AfterStop, Test, broken_of, lenient_tests, lenient}
 
 some_none : (c : Refusal) (cs : List Refusal) → c ∷ cs ≡ [] → ⊥
 some_none c cs e = cc
 
 -- before a stop, and with no test failed
-pub clean_tests : (h : Header) (k : Known) (row : Row) → broken h k row ≡ [] → (k.stopped ≡ false) × (broken_of (tests h k row) ≡ [])
-unfolding broken
+pub clean_tests : (h : Header) (k : Known) (row : Row) → lenient h k row ≡ [] → (k.stopped ≡ false) × (broken_of (lenient_tests h k row) ≡ [])
+unfolding lenient
 clean_tests h k row clean =
     elim (cases_Bool k.stopped) [
-      | inl stopped ↦ absurd (some_none AfterStop [] (sym (cond-true k.stopped (AfterStop ∷ []) (broken_of (tests h k row)) stopped) ∙ clean))
-      | inr on ↦ (on, sym (cond-false k.stopped (AfterStop ∷ []) (broken_of (tests h k row)) on) ∙ clean)
+      | inl stopped ↦ absurd (some_none AfterStop [] (sym (cond-true k.stopped (AfterStop ∷ []) (broken_of (lenient_tests h k row)) stopped) ∙ clean))
+      | inr on ↦ (on, sym (cond-false k.stopped (AfterStop ∷ []) (broken_of (lenient_tests h k row)) on) ∙ clean)
     ]
 
 -- each test fails
@@ -24,8 +24,8 @@ all_fail [] clean = tt
 all_fail ((c, true) ∷ ts) clean = absurd (some_none c (broken_of ts) clean)
 all_fail ((c, false) ∷ ts) clean = (refl, all_fail ts clean)
 
-pub tests_fail : (h : Header) (k : Known) (row : Row) → broken h k row ≡ [] → AllFail (tests h k row)
-tests_fail h k row clean = all_fail (tests h k row) (clean_tests h k row clean).1
+pub tests_fail : (h : Header) (k : Known) (row : Row) → lenient h k row ≡ [] → AllFail (lenient_tests h k row)
+tests_fail h k row clean = all_fail (lenient_tests h k row) (clean_tests h k row clean).1
 
 -- where none passes a test each fails it
 pub each_fails : {X : Type 0} (test : X → Bool) (xs : List X) → list_any test xs ≡ false → All (λ x. test x ≡ false) xs

@@ -1,6 +1,6 @@
 -- Behind an event the commands that stay unfinished were unfinished before, and their slots have the same rings
 use Rattle.std.proofs.Common.{◌≡◌, ◌≢◌, ◌==◌, if◌then◌else◌, ◌∷◌, ◌∙◌, ℕ, not, true, List, [], Option, None, Some, refl, sym, ap, subst, inl, inr}
-use Rattle.safety.proofs.Words.{filter_map, range_with_len, cons_option, cases_Bool, false≢true, and_parts, and_from, cond-true, cond-false, Block, BlockKind, TransferEvent, CommandCompletion, kind, code, slot, place_count, floor_number, due_positions, due_from, Command, AddressDevice, EndpointState, Off, named_slot, can_succeed, is_off, Header, Read, Config, IsHeader, shape_of, command_id, is_ring, register_or_zero, Known, command_at, next_command, unfinished_positions, unfinished, succeeded, completed, event_read, learned, was_stop_seen, moves_ring, is_being_moved, broken, IsIn, some_of, any_of, from_filter, IsDriverRing, IsUnfinished, DriverKeeps, is_command_completion}
+use Rattle.safety.proofs.Words.{filter_map, range_with_len, cons_option, cases_Bool, false≢true, and_parts, and_from, cond-true, cond-false, Block, BlockKind, TransferEvent, CommandCompletion, kind, code, slot, place_count, floor_number, due_positions, due_from, Command, AddressDevice, EndpointState, Off, named_slot, can_succeed, is_off, Header, Read, Config, IsHeader, shape_of, command_id, is_ring, register_or_zero, Known, command_at, next_command, unfinished_positions, unfinished, succeeded, completed, event_read, learned, was_stop_seen, moves_ring, is_being_moved, lenient, IsIn, some_of, any_of, from_filter, IsDriverRing, IsUnfinished, DriverKeeps, is_command_completion}
 use Rattle.safety.proofs.CleanRows.{EventFacts, event_facts}
 use Rattle.safety.proofs.KeptRings.{CompletionFacts, completion_facts, next_unfinished}
 use Rattle.safety.proofs.SafeContext.{command_is_ring}
@@ -70,7 +70,7 @@ module _ (h : Header) (is : IsHeader h) (k : Known) (d : DriverKeeps h k) where
 
   -- ---- any event
 
-  module _ (e : Block) (may : broken h k (Read e) ≡ []) where
+  module _ (e : Block) (may : lenient h k (Read e) ≡ []) where
     facts : EventFacts h k e
     facts = event_facts h k e may
 

@@ -24,7 +24,7 @@ pub use Rattle.event_ring.specs.EventRing.{AreInOrder, erdp_address, has_room, i
 pub use Rattle.guest_memory.specs.Memory.{put, put_pair}
 pub use Rattle.ownership_rules.proofs.Among.{IsIn, any_of, both_ways, from_filter, in_filter, some_of}
 unfoldable pub use Rattle.ownership_rules.specs.Areas.{is_bad_area, is_in_range_lease, is_soiled}
-pub use Rattle.ownership_rules.specs.Clean.{IsClean}
+pub use Rattle.ownership_rules.specs.Clean.{IsLenient}
 unfoldable pub use Rattle.ownership_rules.specs.Commands.{has_bad_content, has_bad_context, is_bad_command, names_disabled_endpoint, names_disabled_slot}
 unfoldable pub use Rattle.ownership_rules.specs.Declarations.{declaration_tests, is_driver_ring}
 unfoldable pub use Rattle.ownership_rules.specs.Doorbells.{doorbell_tests, is_bad_bell, is_bad_doorbell, is_touched, touches_endpoint}
@@ -35,7 +35,7 @@ pub use Rattle.ownership_rules.specs.OpenLeases.{DeviceContext, InputContext, Le
 unfoldable pub use Rattle.ownership_rules.specs.OpenLeases.{context_ranges, covers, device_ranges, entry_ranges, is_leased, lease_bytes, lease_start, open_leases, open_on, open_ranges, range_of_command, range_of_context, range_of_device, range_of_entry, segment_ranges, slots, table_range}
 pub use Rattle.ownership_rules.specs.Refusal.{Test, broken_of}
 unfoldable pub use Rattle.ownership_rules.specs.Registers.{is_bad_crcr, is_bad_erdp, is_bad_register, is_bad_size, is_early_start, is_late_reset, is_no_first_block, is_unwritten, is_written, may_pass, register_tests}
-unfoldable pub use Rattle.ownership_rules.specs.Rules.{broken, tests}
+unfoldable pub use Rattle.ownership_rules.specs.Rules.{lenient, lenient_tests}
 unfoldable pub use Rattle.ownership_rules.specs.Writes.{holds_of, on_crossing, on_position, some_command, some_crossed, some_given, write_tests}
 pub use Rattle.ownership_rules.specs.declared.refusal.Refusal.{Refusal}
 pub use Rattle.ownership_rules.specs.declared.refusal.Refusal.TheVariants.{AfterStop, BadDescriptor, BadDoorbell, BadErdp, BadRegister, ImpossibleEvent, NotDeclared, NotInProfile, RingFull}

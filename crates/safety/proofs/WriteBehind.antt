@@ -1,6 +1,6 @@
 -- Behind an event that may be read a write gives the same command as before it, and breaks no rule that speaks of no command
 use Rattle.std.proofs.Common.{◌≡◌, ◌+◌, ◌<◌, ◌&&◌, ◌∷◌, ◌++◌, ◌∙◌, ℕ, not, Bool, true, false, List, [], length, map, slice_get, nat_le, None, option_and_then, arith, refl, sym, ap, subst, inl, inr}
-use Rattle.safety.proofs.Words.{list_any, range_with_len, fun_ext, not-true, cases_Bool, cond-false, false≢true, false_from_ne_true, and_parts, and_from, or_parts, or_from, put, Block, block_at, Shape, place_count, address_of, cycle_of, RingView, floor_number, gives, gives_crossing, due_positions, due_crossings, positions_given, crossings_given, MayWrite, length_from, is_declared_as, is_other_than_declared, is_not_declared, descriptor_length, is_not_whole, leads_wrong, interrupts, gives_is, gives_crossing_is, positions_given-one, whole_more, Command, Header, Write, Read, IsHeader, shape_of, command_id, driver_rings, Known, Given, Position, Crossing, given_of, given_by, command_at, command_given, learned, Test, broken_of, AfterStop, tests, broken, on_position, on_crossing, holds_of, some_given, some_crossed, some_command, write_tests, is_leased, is_being_moved, IsIn, some_of, any_of, in_filter, from_filter, DriverKeeps}
+use Rattle.safety.proofs.Words.{list_any, range_with_len, fun_ext, not-true, cases_Bool, cond-false, false≢true, false_from_ne_true, and_parts, and_from, or_parts, or_from, put, Block, block_at, Shape, place_count, address_of, cycle_of, RingView, floor_number, gives, gives_crossing, due_positions, due_crossings, positions_given, crossings_given, MayWrite, length_from, is_declared_as, is_other_than_declared, is_not_declared, descriptor_length, is_not_whole, leads_wrong, interrupts, gives_is, gives_crossing_is, positions_given-one, whole_more, Command, Header, Write, Read, IsHeader, shape_of, command_id, driver_rings, Known, Given, Position, Crossing, given_of, given_by, command_at, command_given, learned, Test, broken_of, AfterStop, lenient_tests, lenient, on_position, on_crossing, holds_of, some_given, some_crossed, some_command, write_tests, is_leased, is_being_moved, IsIn, some_of, any_of, in_filter, from_filter, DriverKeeps}
 use Rattle.safety.proofs.TestsPassed.{AllFail, clean_tests, tests_fail}
 use Rattle.safety.proofs.Writing.{may_write}
 use Rattle.safety.proofs.UnfinishedLists.{in_range}
@@ -90,8 +90,8 @@ fewer_pass s t xs ys each fewer none =
     false_from_ne_true (list_any s ys) (λ some. let found = some_of s ys some in
     false≢true (sym none ∙ any_of t xs found.0 (fewer found.0 found.1) (each found.0 found.2)))
 
-module _ (h : Header) (is : IsHeader h) (k : Known) (d : DriverKeeps h k) (a w : ℕ) (e : Block) (clean : broken h k (Write a w) ≡ [])
-    (may : broken h k (Read e) ≡ []) where
+module _ (h : Header) (is : IsHeader h) (k : Known) (d : DriverKeeps h k) (a w : ℕ) (e : Block) (clean : lenient h k (Write a w) ≡ [])
+    (may : lenient h k (Read e) ≡ []) where
   abbrev l : Known
   l = learned h k (Read e)
 
@@ -167,7 +167,7 @@ module _ (h : Header) (is : IsHeader h) (k : Known) (d : DriverKeeps h k) (a w :
     pub inside : some_crossed h m a w (λ r q. interrupts (shape_of h r) m.memory a w q) ≡ false
 
   fails : AllFail (write_tests h k a w)
-  unfolding tests
+  unfolding lenient_tests
   fails = tests_fail h k (Write a w) clean
 
   pub rules_behind : RingRules l
@@ -212,8 +212,8 @@ module _ (h : Header) (is : IsHeader h) (k : Known) (d : DriverKeeps h k) (a w :
     unfolding some_command holds_of
     no_command test = ap (holds_of test) (command_behind ∙ none)
 
-    pub write_behind : broken h l (Write a w) ≡ []
-    unfolding broken tests write_tests
+    pub write_behind : lenient h l (Write a w) ≡ []
+    unfolding lenient lenient_tests write_tests
     write_behind =
         let rules : RingRules l = rules_behind in
         let stopped : l.stopped ≡ false = b.driver.stopped ∙ (clean_tests h k (Write a w) clean).0 in

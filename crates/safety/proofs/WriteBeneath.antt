@@ -1,6 +1,6 @@
 -- A write that gives no command and an event that isn't read yet may change places
 use Rattle.std.proofs.Common.{◌≡◌, ◌==◌, ◌&&◌, ◌∙◌, ℕ, not, Bool, [], None, refl, sym, ap, subst, inl, inr}
-use Rattle.safety.proofs.Words.{fun_ext, put, Block, RingView, Writes, changed, Header, Write, Read, IsHeader, shape_of, Known, with_word, command_given, learned, broken, DriverKeeps, HeldMore, Square}
+use Rattle.safety.proofs.Words.{fun_ext, put, Block, RingView, Writes, changed, Header, Write, Read, IsHeader, shape_of, Known, with_word, command_given, learned, lenient, DriverKeeps, HeldMore, Square}
 use Rattle.safety.proofs.CleanRows.{event_facts}
 use Rattle.safety.proofs.Writing.{may_write}
 use Rattle.safety.proofs.SameDriver.{SameGiven, SameDriver, both_drivers}
@@ -12,8 +12,8 @@ use Rattle.safety.proofs.WriteEvents.{written_word, word_read}
 use Rattle.safety.proofs.WriteBehind.{command_behind, write_behind}
 use Rattle.safety.proofs.EventBehind.{event_behind}
 
-module _ (h : Header) (is : IsHeader h) (k : Known) (d : DriverKeeps h k) (a w : ℕ) (e : Block) (clean : broken h k (Write a w) ≡ [])
-    (may : broken h k (Read e) ≡ []) where
+module _ (h : Header) (is : IsHeader h) (k : Known) (d : DriverKeeps h k) (a w : ℕ) (e : Block) (clean : lenient h k (Write a w) ≡ [])
+    (may : lenient h k (Read e) ≡ []) where
   -- behind the event, then the word; the word, then behind the event
   abbrev l : Known
   l = learned h k (Read e)
@@ -80,8 +80,8 @@ module _ (h : Header) (is : IsHeader h) (k : Known) (d : DriverKeeps h k) (a w :
   word_after =
       held_more behind beneath (both_drivers behind (counted h m) beneath word_driver (read_same h m e)) states (λ r. (read.after.rings r).floor) (λ r. (read.after.rings r).held)
 
-module _ (h : Header) (is : IsHeader h) (k : Known) (d : DriverKeeps h k) (a w : ℕ) (e : Block) (clean : broken h k (Write a w) ≡ []) (none : command_given h k a w ≡ None)
-    (may : broken h k (Read e) ≡ []) where
+module _ (h : Header) (is : IsHeader h) (k : Known) (d : DriverKeeps h k) (a w : ℕ) (e : Block) (clean : lenient h k (Write a w) ≡ []) (none : command_given h k a w ≡ None)
+    (may : lenient h k (Read e) ≡ []) where
   pub write_square : Square h k (Write a w) e
   write_square =
       let l : Known = learned h k (Read e) in
@@ -90,7 +90,7 @@ module _ (h : Header) (is : IsHeader h) (k : Known) (d : DriverKeeps h k) (a w :
       let then : learned h k (Write a w) ≡ m = written_word h k a w none in
       let also : learned h l (Write a w) ≡ behind = written_word h l a w (command_behind h is k d a w e clean may ∙ none) in
       record {
-        event = subst (λ x. broken h x (Read e) ≡ []) (sym then) (read h is k d a w e clean may).possible;
+        event = subst (λ x. lenient h x (Read e) ≡ []) (sym then) (read h is k d a w e clean may).possible;
         row = write_behind h is k d a w e clean may none;
         after = subst (λ x. HeldMore x (learned h (learned h k (Write a w)) (Read e))) (sym also)
             (subst (λ x. HeldMore behind (learned h x (Read e))) (sym then) (word_after h is k d a w e clean may));

@@ -1,6 +1,6 @@
 -- A write leaves what unfinished commands read of contexts and device contexts
 use Rattle.std.proofs.Common.{◌≡◌, ◌≢◌, ◌+◌, ◌*◌, ◌/◌, ◌<◌, ◌≤◌, ◌==◌, ◌&&◌, ◌∙◌, ℕ, not, Bool, true, false, [], nat_le, nat_lt, Option, None, Some, option_and_then, arith, refl, sym, ap, inl, inr, lt-ltb, le-leb}
-use Rattle.safety.proofs.Words.{or_parts, or_from, and_left, and_from, false≢true, none-some, same_Some, is_in, is_inside, overlap, cases_option, address_inside, gives_is, put_elsewhere, Command, AddressDevice, named_context, is_disabled, is_off, device_context_bytes, input_context_bytes, Header, Write, IsHeader, shape_of, command_id, Known, learned, no_device, taken_device, device_named, command_given, is_bad_area, is_soiled, tests, broken, write_tests, is_leased, IsUnfinished, CommandKeeps, DriverKeeps}
+use Rattle.safety.proofs.Words.{or_parts, or_from, and_left, and_from, false≢true, none-some, same_Some, is_in, is_inside, overlap, cases_option, address_inside, gives_is, put_elsewhere, Command, AddressDevice, named_context, is_disabled, is_off, device_context_bytes, input_context_bytes, Header, Write, IsHeader, shape_of, command_id, Known, learned, no_device, taken_device, device_named, command_given, is_bad_area, is_soiled, lenient_tests, lenient, write_tests, is_leased, IsUnfinished, CommandKeeps, DriverKeeps}
 use Rattle.ownership_rules.specs.Commands as commands
 use Rattle.safety.proofs.TestsPassed.{AllFail, tests_fail}
 use Rattle.safety.proofs.Headers.{ring_shape}
@@ -30,12 +30,12 @@ module _ (h : Header) (k : Known) where
   unfolding commands.has_bad_context
   context_from n area clean = or_from (is_bad_area h k n (input_context_bytes h.context_size)) (is_soiled k n (input_context_bytes h.context_size)) area clean
 
-module _ (h : Header) (is : IsHeader h) (k : Known) (d : DriverKeeps h k) (a w : ℕ) (clean : broken h k (Write a w) ≡ []) where
+module _ (h : Header) (is : IsHeader h) (k : Known) (d : DriverKeeps h k) (a w : ℕ) (clean : lenient h k (Write a w) ≡ []) where
   abbrev l : Known
   l = learned h k (Write a w)
 
   pub is_free : is_leased h k a ≡ false
-  unfolding tests write_tests
+  unfolding lenient_tests write_tests
   is_free = let fails : AllFail (write_tests h k a w) = tests_fail h k (Write a w) clean in fails.0
 
   -- a device context that is taken

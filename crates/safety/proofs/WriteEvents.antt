@@ -1,6 +1,6 @@
 -- A write that gives no command leaves what an event reads, so that the event stays possible and does the same
 use Rattle.std.proofs.Common.{◌≡◌, ◌<◌, ◌&&◌, ◌∷◌, ◌∙◌, ℕ, true, false, [], map, nat_le, None, Some, option_and_then, arith, refl, ap, subst, ltb-true}
-use Rattle.safety.proofs.Words.{fun_ext, put, Block, ceiling, writes_more, Command, AddressDevice, ConfigureEndpoint, Running, named_context, SlotGoesOn, Disables, Places, changes, placed_by_context, ContextSize, added_endpoints, is_dropped, context_pointer, context_cycle, Header, Write, Read, IsHeader, shape_of, command_id, Known, command_at, next_command, with_device, with_word, written, taken_device, command_given, learned, may_be_taken, broken, DriverKeeps, IsUnfinished}
+use Rattle.safety.proofs.Words.{fun_ext, put, Block, ceiling, writes_more, Command, AddressDevice, ConfigureEndpoint, Running, named_context, SlotGoesOn, Disables, Places, changes, placed_by_context, ContextSize, added_endpoints, is_dropped, context_pointer, context_cycle, Header, Write, Read, IsHeader, shape_of, command_id, Known, command_at, next_command, with_device, with_word, written, taken_device, command_given, learned, may_be_taken, lenient, DriverKeeps, IsUnfinished}
 use Rattle.safety.proofs.KeptRings.{next_unfinished}
 use Rattle.safety.proofs.ContextReads.{AgreeIn, map_same, added_indices, added_same, drop_flag_same, pointer_same, cycle_same}
 use Rattle.safety.proofs.WriteBeside.{beside_old}
@@ -52,7 +52,7 @@ module _ (h : Header) (k : Known) (a w : ℕ) where
     device = λ s _. refl;
   }
 
-  module _ (is : IsHeader h) (d : DriverKeeps h k) (clean : broken h k (Write a w) ≡ []) (started : k.started ≡ true) where
+  module _ (is : IsHeader h) (d : DriverKeeps h k) (clean : lenient h k (Write a w) ≡ []) (started : k.started ≡ true) where
     taken_below : may_be_taken h k ≡ true → next_command h k < ceiling (shape_of h (command_id h)) (k.ring (command_id h))
     unfolding may_be_taken
     taken_below may = ltb-true (next_command h k) (ceiling (shape_of h (command_id h)) (k.ring (command_id h))) may
@@ -78,5 +78,5 @@ module _ (h : Header) (k : Known) (a w : ℕ) where
       };
     }
 
-    pub word_read : (e : Block) → broken h k (Read e) ≡ [] → ReadAlike h EverySlot k (with_word h k a w) e
+    pub word_read : (e : Block) → lenient h k (Read e) ≡ [] → ReadAlike h EverySlot k (with_word h k a w) e
     word_read e may = read_alike h EverySlot k (with_word h k a w) word_alike word_events e may

@@ -1,6 +1,6 @@
 -- A write that breaks no rule is one that each ring allows
 use Rattle.std.proofs.Common.{◌≡◌, ◌++◌, ◌∙◌, ℕ, Bool, false, List, [], map, All, sym, ap, subst}
-use Rattle.safety.proofs.Words.{list_any, flat_map, or_parts, list_any-append, address_of, link_address, overlap, positions_given, crossings_given, leased_positions, leased_crossings, is_other_than_declared, is_not_declared, is_not_whole, leads_wrong, MayWrite, Header, Write, shape_of, driver_rings, Known, Given, Position, Crossing, given_of, given_by, covers, lease_start, lease_bytes, open_on, open_ranges, open_leases, is_leased, on_position, on_crossing, some_given, some_crossed, write_tests, tests, broken}
+use Rattle.safety.proofs.Words.{list_any, flat_map, or_parts, list_any-append, address_of, link_address, overlap, positions_given, crossings_given, leased_positions, leased_crossings, is_other_than_declared, is_not_declared, is_not_whole, leads_wrong, MayWrite, Header, Write, shape_of, driver_rings, Known, Given, Position, Crossing, given_of, given_by, covers, lease_start, lease_bytes, open_on, open_ranges, open_leases, is_leased, on_position, on_crossing, some_given, some_crossed, write_tests, lenient_tests, lenient}
 use Rattle.ownership_rules.specs.OpenLeases.{Block, Link}
 use Rattle.safety.specs.RingsKeep.{IsDriverRing}
 use Rattle.safety.proofs.TestsPassed.{AllFail, tests_fail, each_fails, any_of_map}
@@ -64,8 +64,8 @@ module _ (h : Header) (k : Known) (a w r : ℕ) (has : HasRing h r) where
       (of_ring (on_crossing test) none)).1)
 
 -- of each command and transfer ring
-pub may_write : (h : Header) (k : Known) (a w : ℕ) → broken h k (Write a w) ≡ [] → (r : ℕ) → IsDriverRing h r → MayWrite (shape_of h r) k.memory (k.ring r) a w
-unfolding tests write_tests
+pub may_write : (h : Header) (k : Known) (a w : ℕ) → lenient h k (Write a w) ≡ [] → (r : ℕ) → IsDriverRing h r → MayWrite (shape_of h r) k.memory (k.ring r) a w
+unfolding lenient_tests write_tests
 may_write h k a w clean r driver =
     let has = has_ring h r driver in
     let fails : AllFail (write_tests h k a w) = tests_fail h k (Write a w) clean in

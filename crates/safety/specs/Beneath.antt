@@ -11,7 +11,7 @@ use Rattle.traces.specs.Header.{IsHeader, command_id}
 use Rattle.traces.specs.Rows.{IsRow}
 use Rattle.ring_knowledge.specs.Known.{Known}
 use Rattle.ring_knowledge.specs.Learned.{learned}
-use Rattle.ownership_rules.specs.Rules.{broken}
+use Rattle.ownership_rules.specs.Rules.{lenient}
 use Rattle.ownership_rules.specs.Doorbells.{is_touched}
 use Rattle.safety.specs.Keeps.{DriverKeeps}
 use Rattle.safety.specs.KeptHistories.{IsDriverRow}
@@ -57,17 +57,17 @@ module _ (h : Header) where
   -- the row d and the reading of e may change places: each stays possible behind the other, and the order doesn't matter but for
   -- the numbers at which rings are held; nor does the row become idle
   pub record Square (k : Known) (d : Row) (e : Block) : Type 0 where
-    pub event : broken h (learned h k d) (Read e) ≡ []
-    pub row : broken h (learned h k (Read e)) d ≡ []
+    pub event : lenient h (learned h k d) (Read e) ≡ []
+    pub row : lenient h (learned h k (Read e)) d ≡ []
     pub after : HeldMore (learned h (learned h k (Read e)) d) (learned h (learned h k d) (Read e))
     pub awake : is_idle (learned h k (Read e)) d ≡ false
 
   -- any row but a stop and an idle doorbell
   abbrev pub SquareLaw : Type 0
-  SquareLaw = (k : Known) (d : Row) (e : Block) → IsHeader h → IsRow d → IsDriverRow d → DriverKeeps h k → broken h k d ≡ [] → broken h k (Read e) ≡ [] →
+  SquareLaw = (k : Known) (d : Row) (e : Block) → IsHeader h → IsRow d → IsDriverRow d → DriverKeeps h k → lenient h k d ≡ [] → lenient h k (Read e) ≡ [] →
       is_idle k d ≡ false → (learned h k d).stopped ≡ false → Square k d e
 
   -- where rings are held at greater numbers, the same events are possible, and what they lead to is the same but for these numbers
   abbrev pub MoreLaw : Type 0
-  MoreLaw = (k m : Known) (e : Block) → DriverKeeps h k → DriverKeeps h m → HeldMore k m → broken h k (Read e) ≡ [] →
-      (broken h m (Read e) ≡ []) × HeldMore (learned h k (Read e)) (learned h m (Read e))
+  MoreLaw = (k m : Known) (e : Block) → DriverKeeps h k → DriverKeeps h m → HeldMore k m → lenient h k (Read e) ≡ [] →
+      (lenient h m (Read e) ≡ []) × HeldMore (learned h k (Read e)) (learned h m (Read e))

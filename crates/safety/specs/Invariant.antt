@@ -8,7 +8,7 @@ use Rattle.traces.specs.declared.row.Row.TheVariants.{Read}
 use Rattle.world_state.specs.World.{World}
 use Rattle.world_state.specs.Harms.{IsSafe}
 use Rattle.ring_knowledge.specs.Learned.{known}
-use Rattle.ownership_rules.specs.Clean.{IsClean}
+use Rattle.ownership_rules.specs.Clean.{IsLenient}
 use Rattle.safety.specs.Matches.{Agrees}
 
 -- the events are read, the oldest first, on top of the rows so far
@@ -20,14 +20,14 @@ module _ (h : Header) where
   pub record Runs (past : List Row) (w : World) : Type 0 where
     pub unread : List Block
     -- each unread event is possible where it will be read
-    pub clean : IsClean h (reading unread past)
+    pub clean : IsLenient h (reading unread past)
     pub blocks : All IsBlock unread
     pub on : (known h past).stopped ≡ false
     pub agrees : Agrees h (known h (reading unread past)) unread w
 
   -- after a stop no clean row follows and no step is possible
   pub record Ended (past : List Row) (w : World) : Type 0 where
-    pub clean : IsClean h past
+    pub clean : IsLenient h past
     pub stopped : (known h past).stopped ≡ true
     pub also : w.stopped ≡ true
     pub safe : IsSafe h w

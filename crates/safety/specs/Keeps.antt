@@ -118,7 +118,7 @@ module _ (h : Header) where
     -- no other unfinished command names its slot
     pub alone : (q : ℕ) (d : Command) → IsUnfinished k q d → q ≢ p → same_slot (named_slot d) (named_slot c) ≡ false
     pub good : commands.is_bad_command h k c ≡ false
-    pub in_profile : commands.has_left_out_endpoint h k c ≡ false
+    pub in_profile : commands.adds_streams h k c ≡ false
     pub device : (s n : ℕ) (bsr : Bool) → c ≡ AddressDevice s bsr n → k.device s ≢ None
     -- each ring that it binds is unused but for this command, named once, and begins with cycle state 1
     pub binds : All (λ b. (is_some (moves.ring_bound h b) ≡ true) × (b.cycle ≡ true)) (moves.binds h k c)

@@ -6,7 +6,7 @@ use Rattle.traces.specs.declared.row.Row.{Row}
 use Rattle.traces.specs.Header.{IsHeader}
 use Rattle.ring_knowledge.specs.Known.{Known}
 use Rattle.ring_knowledge.specs.Learned.{learned}
-use Rattle.ownership_rules.specs.Rules.{broken}
+use Rattle.ownership_rules.specs.Rules.{lenient}
 use Rattle.safety.specs.Keeps.{DeviceKeeps, IsUnfinished, CommandKeeps, DriverKeeps}
 
 module _ (h : Header) where
@@ -20,4 +20,4 @@ module _ (h : Header) where
   -- behind any row that breaks no rule, so long as the controller isn't stopped
   abbrev pub KeptByRows : (Known → Type 0) → Type 0
   KeptByRows Part =
-      IsHeader h → (k : Known) (row : Row) → DriverKeeps h k → broken h k row ≡ [] → (learned h k row).stopped ≡ false → Part (learned h k row)
+      IsHeader h → (k : Known) (row : Row) → DriverKeeps h k → lenient h k row ≡ [] → (learned h k row).stopped ≡ false → Part (learned h k row)

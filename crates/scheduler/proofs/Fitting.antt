@@ -27,8 +27,8 @@ use Rattle.traces.specs.Rows.{AreSteps, IsRow, IsStep}
 use Rattle.ring_knowledge.specs.Known.{Known}
 use Rattle.ring_knowledge.specs.Learned.{known, learned}
 use Rattle.ring_knowledge.specs.Rings.{RingSpot, command_at, event_at, next_command, spot_on}
-use Rattle.ownership_rules.specs.Clean.{IsClean}
-use Rattle.ownership_rules.specs.Rules.{broken}
+use Rattle.ownership_rules.specs.Clean.{IsLenient}
+use Rattle.ownership_rules.specs.Rules.{lenient}
 use Rattle.safety.specs.Keeps.{DriverKeeps, IsDriverRing}
 use Rattle.safety.proofs.CleanRows.{event_facts}
 use Rattle.safety.proofs.DriverHistories.{driver_keeps}
@@ -124,7 +124,7 @@ module _ (h : Header) (headed : IsHeader h) where
         All-cons IsLow (command_taken h k) (stopped_goals h k later b (command_at h k (next_command h k))) command_goal_low (stopped_low (command_at h k (next_command h k)))
     goals_low _ = All-nil IsLow
 
-  row_steps_are : (k : Known) (p : ℕ → Spot) (row : Row) (later : List Row) → DriverKeeps h k → IsRow row → broken h k row ≡ [] → AreSteps (steps_before h k p row later)
+  row_steps_are : (k : Known) (p : ℕ → Spot) (row : Row) (later : List Row) → DriverKeeps h k → IsRow row → lenient h k row ≡ [] → AreSteps (steps_before h k p row later)
   unfolding steps_before
   row_steps_are k p (Read b) later d is clean =
       let command_low : command_id h < 256 = low (command_id h) (command_is_ring h k d (event_facts h k b clean).started) in
@@ -135,7 +135,7 @@ module _ (h : Header) (headed : IsHeader h) where
   row_steps_are k p (Reg r x) later d is clean = All-nil IsStep
   row_steps_are k p (Bell s t) later d is clean = All-nil IsStep
 
-  run_is : (past later : List Row) → All IsRow past → IsClean h past → AreSteps (lazy_run h past later)
+  run_is : (past later : List Row) → All IsRow past → IsLenient h past → AreSteps (lazy_run h past later)
   unfolding lazy_run
   run_is [] later are clean = All-nil IsStep
   run_is (row ∷ past) later are clean =
@@ -147,6 +147,6 @@ module _ (h : Header) (headed : IsHeader h) where
       (all_reverse IsStep before (row_steps_are k (pointers_at h past (row ∷ later)) row later d (All-head IsRow row past are) clean.1))
       (run_is past (row ∷ later) (All-tail IsRow row past are) clean.0))
 
-  pub lazy_steps_are : (rows : List Row) → All IsRow rows → IsClean h (reverse rows) → AreSteps (lazy_steps h rows)
+  pub lazy_steps_are : (rows : List Row) → All IsRow rows → IsLenient h (reverse rows) → AreSteps (lazy_steps h rows)
   unfolding lazy_steps
   lazy_steps_are rows are clean = all_reverse IsStep (lazy_run h (reverse rows) []) (run_is (reverse rows) [] (all_reverse IsRow rows are) clean)

@@ -9,7 +9,7 @@ use Rattle.traces.specs.Header.{IsHeader}
 use Rattle.ring_knowledge.specs.Known.{Known, nothing}
 use Rattle.ring_knowledge.specs.Learned.{learned, known}
 use Rattle.ownership_rules.specs.Clean.{IsClean}
-use Rattle.ownership_rules.specs.Rules.{broken}
+use Rattle.ownership_rules.specs.Rules.{broken, lenient}
 use Rattle.safety.specs.Keeps.{DriverKeeps}
 use Rattle.safety.proofs.TestsPassed.{clean_tests}
 use Rattle.trace_record.specs.declared.trace_record.TraceRecord.{TraceRecord}
@@ -22,7 +22,7 @@ use Rattle.ownership_rules.specs.declared.refusal.Refusal.{Refusal}
 use Rattle.ownership_rules.specs.Refusal.{first_of}
 use Rattle.row_checks.specs.Tracking.{IsPass, IsTracked}
 use Rattle.row_checks.proofs.Passes as passes
-use Rattle.row_checks.proofs.CleanHistories.{clean_row}
+use Rattle.row_checks.proofs.CleanHistories.{clean_row, lenient_row}
 use Rattle.lazy_steps.specs.declared.note.Note.{Note}
 use Rattle.lazy_steps.specs.declared.note.Note.TheVariants.{Made}
 use Rattle.lazy_steps.specs.Notes.{notes, placed_note, row_notes}
@@ -73,11 +73,14 @@ module _ (h : Header) (headed : IsHeader h) (rows : List Row) (clean : IsClean h
     pub breaks_none : broken h k row ≡ []
     breaks_none = clean_row h rows i row d clean below is_row
 
+    pub passes_all : lenient h k row ≡ []
+    passes_all = lenient_row h k row breaks_none
+
     pub tracked : IsTracked h k kept m
     tracked = p.pass.checked.tracked
 
     pub keeps : DriverKeeps h k
-    keeps = tracked.keeps (clean_tests h k row breaks_none).0
+    keeps = tracked.keeps (clean_tests h k row passes_all).0
 
     -- it isn't refused
     pub none_refuses : (c : Refusal) (e : StepFault) → e ≡ Refused c → IfRefused e (λ x. (j : Known) → IsTracked h j kept m → IsLeast h j row x) → ⊥

@@ -10,17 +10,18 @@ use Rattle.trace_reader.specs.declared.fault.LineFault.{LineFault}
 use Rattle.trace_reader.specs.declared.fault.LineFault.TheVariants.{Header as BadHeader, Row as BadRow, Number, Shape}
 use Rattle.traces.specs.declared.register.Register.TheVariants.{Usbcmd, Crcr}
 use Rattle.traces.specs.declared.ring.Ring.{Ring}
+use Rattle.traces.specs.declared.version.Version.TheVariants.{One}
 use Rattle.traces.specs.declared.row.Row.{Row}
 use Rattle.traces.specs.declared.row.Row.TheVariants.{Sub, Write, Reg, Bell, Read}
 use Rattle.trace_reader.specs.Forms.{kind_named, register_named}
 use Rattle.trace_reader.specs.TraceLines.{form_of}
 use Rattle.trace_reader.specs.TraceLines.{said_of}
 use Rattle.trace_reader.specs.Values.{block_of, blocks_of, register_value_of, segment_of, segments_of, word_address_of}
-use Rattle.trace_reader.specs.Reading.{TraceText, after, form_in, is_bad_number, is_bad_row, is_bad_shape, is_past_limit, is_too_long, is_version, line_fault, read_line, read_lines, row_fault, said_in, size_of, trace_of}
+use Rattle.trace_reader.specs.Reading.{TraceText, after, form_in, is_bad_number, is_bad_row, is_bad_shape, is_past_limit, is_too_long, line_fault, read_line, read_lines, row_fault, said_in, size_of, trace_of, version_of}
 use Rattle.trace_reader.specs.Spelling.{printed_line, printed_trace, ring_fields, row_fields, trace_lines}
 
 unfoldable texts_on_literals : ⊤
-unfolding trace_of read_lines read_line line_fault row_fault after lines_of fields_of number_of hex_on_literals form_of kind_named register_named block_of blocks_of register_value_of said_of segment_of segments_of word_address_of form_in is_bad_number is_bad_row is_bad_shape is_past_limit is_too_long is_version said_in size_of printed_trace trace_lines printed_line row_fields ring_fields digits_of
+unfolding trace_of read_lines read_line line_fault row_fault after lines_of fields_of number_of hex_on_literals form_of kind_named register_named block_of blocks_of register_value_of said_of segment_of segments_of word_address_of form_in is_bad_number is_bad_row is_bad_shape is_past_limit is_too_long version_of said_in size_of printed_trace trace_lines printed_line row_fields ring_fields digits_of
 texts_on_literals = tt
 
 -- what is read behind the header of one transfer ring
@@ -32,7 +33,7 @@ ring_2 = record { id = 2; shape = record { kind = Xfer; segments = record { base
 
 -- a trace of that header with these rows
 abbrev with_rows : List Row → TraceText
-with_rows rows = record { header = record { context_size = Bytes32; rings = ring_2 ∷ [] }; first = 4; rows = rows }
+with_rows rows = record { header = record { version = One; context_size = Bytes32; rings = ring_2 ∷ [] }; first = 4; rows = rows }
 
 pub no_rows : behind_header [] ≡ Ok (with_rows [])
 unfolding texts_on_literals

@@ -16,7 +16,7 @@ several [] b = refl
 several (line ∷ a) b = let rest = several a b in grind (arith, common_steps, rest)
 
 pub whole_text : (trace : TraceText) →
-    printed_trace trace ≡ (printed_line version_fields ++ printed_line (size_fields trace.header.context_size) ++ flat_map printed_line (map ring_fields trace.header.rings))
+    printed_trace trace ≡ (printed_line (version_fields trace.header.version) ++ printed_line (size_fields trace.header.context_size) ++ flat_map printed_line (map ring_fields trace.header.rings))
     ++ flat_map printed_line (map row_fields trace.rows)
 unfolding printed_trace trace_lines
 whole_text trace = let rest = several (map ring_fields trace.header.rings) (map row_fields trace.rows) in grind (arith, common_steps, rest)

@@ -1,6 +1,6 @@
 -- A text that spells a trace is, in lower case, what is printed of the trace
 use Rattle.std.proofs.Common.{◌≡◌, ◌∷◌, ◌++◌, ◌∙◌, ℕ, List, [], Bool, true, false, IsTrue, refl, sym, ap, cond, map, arith, w32}
-use Rattle.trace_reader.proofs.Words.{to_ascii_lowercase, flat_map, join_with_byte, slice_split, str_to_ascii_lowercase, and_parts, common_steps, map-append, join_with_byte-slice_split, ContextSize, Bytes32, Bytes64, fields_of, TextLine, is_line_feed, last_line, lines_between, lines_of, digits_of, join-fields_of, Segment, Block, ring_name, RingKind, Cmd, Evt, Xfer, Register, Usbcmd, Usbsts, Dnctrl, Crcr, Dcbaap, Config, Iman, Imod, Erstsz, Erstba, Erdp, Ring, Row, Sub, Write, Reg, Bell, Read, register_name, TraceText, Field, Word, Digits, are_written, block_fields, is_written, lines_written, may_be_written, printed, printed_line, printed_trace, ring_fields, row_fields, segment_field, size_fields, spells, trace_lines}
+use Rattle.trace_reader.proofs.Words.{Version, One, Two, Three, to_ascii_lowercase, flat_map, join_with_byte, slice_split, str_to_ascii_lowercase, and_parts, common_steps, map-append, join_with_byte-slice_split, ContextSize, Bytes32, Bytes64, fields_of, TextLine, is_line_feed, last_line, lines_between, lines_of, digits_of, join-fields_of, Segment, Block, ring_name, RingKind, Cmd, Evt, Xfer, Register, Usbcmd, Usbsts, Dnctrl, Crcr, Dcbaap, Config, Iman, Imod, Erstsz, Erstba, Erdp, Ring, Row, Sub, Write, Reg, Bell, Read, register_name, TraceText, Field, Word, Digits, are_written, block_fields, is_written, lines_written, may_be_written, printed, printed_line, printed_trace, ring_fields, row_fields, segment_field, size_fields, spells, trace_lines, version_fields}
 use Rattle.trace_reader.proofs.SpelledFields.{same_bytes}
 
 -- ---- a text by its lines
@@ -127,6 +127,11 @@ low_ring : (ring : Ring) → AreLow (ring_fields ring)
 unfolding ring_fields
 low_ring ring = (refl, (tt, (low_kind ring.shape.kind, low_segments ring.shape.segments)))
 
+low_version : (version : Version) → AreLow (version_fields version)
+low_version One = (refl, (refl, tt))
+low_version Two = (refl, (refl, tt))
+low_version Three = (refl, (refl, tt))
+
 low_size : (size : ContextSize) → AreLow (size_fields size)
 low_size Bytes32 = (refl, (refl, tt))
 low_size Bytes64 = (refl, (refl, tt))
@@ -142,5 +147,5 @@ low_lines (ring ∷ rings) rows = (low_ring ring, low_lines rings rows)
 pub lowered : (text : List ℕ) (trace : TraceText) → IsTrue (spells trace text) → str_to_ascii_lowercase text ≡ printed_trace trace
 unfolding spells printed_trace trace_lines
 lowered text trace spelled =
-    let low : AreLowLines (trace_lines trace) = ((refl, (refl, tt)), (low_size trace.header.context_size, low_lines trace.header.rings trace.rows)) in
+    let low : AreLowLines (trace_lines trace) = (low_version trace.header.version, (low_size trace.header.context_size, low_lines trace.header.rings trace.rows)) in
     ap str_to_ascii_lowercase (sym (lines_whole text)) ∙ lowered_lines (trace_lines trace) (lines_of text) low spelled

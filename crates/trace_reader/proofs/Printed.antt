@@ -1,6 +1,6 @@
 -- What is printed of a trace spells the trace
 use Rattle.std.proofs.Common.{◌≡◌, ◌<◌, ◌∷◌, ◌++◌, ◌∙◌, ℕ, true, false, List, [], length, map, Ok, All, IsTrue, refl, ap, arith, append_assoc, codes, ne_eqb}
-use Rattle.trace_reader.proofs.Words.{flat_map, join_with_byte, and_from, All-weaker, ContextSize, Bytes32, Bytes64, fields_of, is_space, is_line_feed, lines_of, All-join, AreFields, fields_of-join, lines_of-ended, lines_of-nothing, Ring, Row, Sub, Write, Reg, Bell, Read, TraceText, trace_of, Field, are_written, lines_written, printed, printed_line, printed_trace, ring_fields, row_fields, size_fields, spells, trace_lines, version_fields, IsTrace}
+use Rattle.trace_reader.proofs.Words.{Version, One, Two, Three, flat_map, join_with_byte, and_from, All-weaker, ContextSize, Bytes32, Bytes64, fields_of, is_space, is_line_feed, lines_of, All-join, AreFields, fields_of-join, lines_of-ended, lines_of-nothing, Ring, Row, Sub, Write, Reg, Bell, Read, TraceText, trace_of, Field, are_written, lines_written, printed, printed_line, printed_trace, ring_fields, row_fields, size_fields, spells, trace_lines, version_fields, IsTrace}
 use Rattle.trace_reader.proofs.SpelledFields.{AllSound, plain_fields, written_as_printed}
 use Rattle.trace_reader.proofs.SpelledSizes.{ring_sound, row_sound, sound_named}
 use Rattle.trace_reader.proofs.Spelled.{read_if_spelled}
@@ -81,8 +81,10 @@ ring_line : (ring : Ring) → IsSoundLine (ring_fields ring)
 unfolding ring_fields
 ring_line ring = record { some = omega arith; sound = ring_sound ring }
 
-version_line : IsSoundLine version_fields
-version_line = record { some = omega arith; sound = (sound_named (codes "xtrace") (omega arith) refl, (sound_named (codes "1") (omega arith) refl, tt)) }
+version_line : (version : Version) → IsSoundLine (version_fields version)
+version_line One = record { some = omega arith; sound = (sound_named (codes "xtrace") (omega arith) refl, (sound_named (codes "1") (omega arith) refl, tt)) }
+version_line Two = record { some = omega arith; sound = (sound_named (codes "xtrace") (omega arith) refl, (sound_named (codes "2") (omega arith) refl, tt)) }
+version_line Three = record { some = omega arith; sound = (sound_named (codes "xtrace") (omega arith) refl, (sound_named (codes "3") (omega arith) refl, tt)) }
 
 size_line : (size : ContextSize) → IsSoundLine (size_fields size)
 size_line Bytes32 = record { some = omega arith; sound = (sound_named (codes "ctx") (omega arith) refl, (sound_named (codes "20") (omega arith) refl, tt)) }
@@ -91,7 +93,7 @@ size_line Bytes64 = record { some = omega arith; sound = (sound_named (codes "ct
 trace_sound : (trace : TraceText) → AllSoundLines (trace_lines trace)
 unfolding trace_lines
 trace_sound trace = (
-  version_line,
+  version_line trace.header.version,
   (
     size_line trace.header.context_size,
     sound_lines_append (map ring_fields trace.header.rings) (map row_fields trace.rows) (sound_lines_map ring_fields ring_line trace.header.rings)

@@ -1,6 +1,6 @@
 -- One line more of a text
 use Rattle.std.proofs.Common.{◌≡◌, ◌-◌, ◌≤◌, ◌∷◌, ◌++◌, ◌∙◌, ◌==◌, ℕ, List, [], Bool, true, false, Option, Some, None, Result, Ok, Err, refl, ap, cond, length, nat_lt, arith, is_none}
-use Rattle.trace_reader.proofs.Words.{option_map_or, nat_tests, common_steps, ContextSize, TextLine, lines_of, LineFault, BadHeader, BadRow, Number, Limit, Shape, LineError, Fault, Memory, Row, Answers, IfBadLine, IfFault, at_line, placed, said_by_line, took_in, State, after, go_on, is_bad_number, is_bad_row, is_bad_shape, is_misplaced, is_past_limit, is_too_long, is_version, line_fault, next_number, read_line, read_lines, row_fault, said_in, size_of, start, trace_of, whole, with_row, with_said, Said}
+use Rattle.trace_reader.proofs.Words.{option_map_or, nat_tests, common_steps, ContextSize, Version, TextLine, lines_of, LineFault, BadHeader, BadRow, Number, Limit, Shape, LineError, Fault, Memory, Row, Answers, IfBadLine, IfFault, at_line, placed, said_by_line, took_in, State, after, go_on, is_bad_number, is_bad_row, is_bad_shape, is_misplaced, is_past_limit, is_too_long, line_fault, next_number, read_line, read_lines, row_fault, said_in, size_of, start, trace_of, version_of, whole, with_row, with_said, Said}
 
 -- the rows so far, before what later lines say
 abbrev pub prepend : List Row → Result (State × List Row) (ℕ × LineFault) → Result (State × List Row) (ℕ × LineFault)
@@ -60,11 +60,11 @@ behind_header st line behind =
     let second : (st.lines == 1) ≡ false = grind (arith, nat_tests, behind) in
     rw (first, second) (by_length st line (is_too_long line) refl)
 
-pub version_read : (st : State) (line : TextLine) → st.lines ≡ 0 → is_version line ≡ true → read_line st line ≡ Ok (record st { lines = next_number st }, None)
+pub version_read : (st : State) (line : TextLine) (version : Version) → st.lines ≡ 0 → version_of line ≡ Some version → read_line st line ≡ Ok (record st { lines = next_number st; version = version }, None)
 unfolding read_line line_fault after
-version_read st line at is = rw (at, is) refl
+version_read st line version at is = rw (at, is) refl
 
-pub no_version : (st : State) (line : TextLine) → st.lines ≡ 0 → is_version line ≡ false → read_line st line ≡ Err BadHeader
+pub no_version : (st : State) (line : TextLine) → st.lines ≡ 0 → version_of line ≡ None → read_line st line ≡ Err BadHeader
 unfolding read_line line_fault
 no_version st line at is = rw (at, is) refl
 
@@ -104,7 +104,7 @@ ended text [] rows st so_far short = ap whole (so_far ∙ ap (λ xs. Ok (st, xs)
 ended text (byte ∷ rest) rows st so_far short = absurd (omega arith)
 
 pub header_there : (st : State) (rows : List Row) → 2 ≤ st.lines →
-    whole (Ok (st, rows)) ≡ Ok (record { header = record { context_size = st.size; rings = st.rings }; first = next_number st - length rows; rows = rows })
+    whole (Ok (st, rows)) ≡ Ok (record { header = record { version = st.version; context_size = st.size; rings = st.rings }; first = next_number st - length rows; rows = rows })
 header_there st rows there = rw (tested there) refl
   where
     tested : 2 ≤ st.lines → nat_lt st.lines 2 ≡ false

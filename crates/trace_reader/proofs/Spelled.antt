@@ -1,6 +1,6 @@
 -- What is read of a text is the valid trace that the text spells
 use Rattle.std.proofs.Common.{◌≡◌, ◌-◌, ◌≤◌, ◌&&◌, ◌↔◌, ◌∷◌, ◌++◌, ◌∙◌, ℕ, Bool, true, false, inl, inr, cond, List, [], length, nat_lt, Option, Some, None, Result, Ok, Err, IsTrue, is_none, refl, sym, ap, subst, arith, codes, ltb-false, le-ltb}
-use Rattle.trace_reader.proofs.Words.{join_with_byte, list_all, bytes_eq, and_parts, and_from, cases_Bool, ContextSize, Bytes32, Bytes64, fields_of, TextLine, lines_of, join-fields_of, LineFault, BadHeader, Ring, Row, may_stand_together, most_lines, State, TraceText, after, is_version, line_fault, next_number, read_line, read_lines, size_of, start, trace_of, whole, with_size, Field, Word, are_written, is_written, lines_written, size_fields, size_word, spells, trace_lines, version_fields, IsTrace}
+use Rattle.trace_reader.proofs.Words.{Version, One, Two, Three, join_with_byte, list_all, bytes_eq, and_parts, and_from, cases_Bool, ContextSize, Bytes32, Bytes64, fields_of, TextLine, lines_of, join-fields_of, LineFault, BadHeader, Ring, Row, may_stand_together, most_lines, State, TraceText, after, line_fault, next_number, read_line, read_lines, size_of, start, trace_of, version_of, whole, with_size, with_version, Field, Word, are_written, is_written, lines_written, size_fields, size_word, spells, trace_lines, version_fields, version_word, IsTrace}
 use Rattle.trace_reader.proofs.SpelledFields.{same_bytes, are_same_bytes, then_are}
 use Rattle.trace_reader.proofs.SpelledWords.{word_first}
 use Rattle.trace_reader.proofs.SpelledLines.{ok_there, there}
@@ -24,24 +24,49 @@ words_written fields text line written is =
     and_from line.is_ended (are_written fields (fields_of line.content)) parts.0
     (ap (λ (xs : List ℕ). are_written fields (fields_of xs)) (same_bytes line.content text parts.1) ∙ written)
 
-version_words : are_written version_fields (fields_of (codes "xtrace 1")) ≡ true
+version_words : (version : Version) → are_written (version_fields version) (fields_of (codes "xtrace " ++ version_word version)) ≡ true
 unfolding fields_of
-version_words = refl
+version_words One = refl
+version_words Two = refl
+version_words Three = refl
 
 size_words : (size : ContextSize) → are_written (size_fields size) (fields_of (codes "ctx " ++ size_word size)) ≡ true
 unfolding fields_of
 size_words Bytes32 = refl
 size_words Bytes64 = refl
 
-version_written : (line : TextLine) → is_version line ≡ true → is_written version_fields line ≡ true
-unfolding is_version
-version_written line is = words_written version_fields (codes "xtrace 1") line version_words is
+version_written : (line : TextLine) (version : Version) → version_of line ≡ Some version → is_written (version_fields version) line ≡ true
+unfolding version_of
+version_written line version is =
+    elim (cases_Bool (line.is_ended && bytes_eq line.content (codes "xtrace 1"))) [
+      | inl one ↦
+          let same : One ≡ version = cc (rw one at is) in
+          subst (λ (v : Version). is_written (version_fields v) line ≡ true) same (words_written (version_fields One) (codes "xtrace 1") line (version_words One) one)
+      | inr not_one ↦
+          elim (cases_Bool (line.is_ended && bytes_eq line.content (codes "xtrace 2"))) [
+            | inl two ↦
+                let same : Two ≡ version = cc (rw (not_one, two) at is) in
+                subst (λ (v : Version). is_written (version_fields v) line ≡ true) same (words_written (version_fields Two) (codes "xtrace 2") line (version_words Two) two)
+            | inr not_two ↦
+                elim (cases_Bool (line.is_ended && bytes_eq line.content (codes "xtrace 3"))) [
+                  | inl three ↦
+                      let same : Three ≡ version = cc (rw (not_one, not_two, three) at is) in
+                      subst (λ (v : Version). is_written (version_fields v) line ≡ true) same (words_written (version_fields Three) (codes "xtrace 3") line (version_words Three) three)
+                  | inr none ↦ cc (rw (not_one, not_two, none) at is)
+                ]
+          ]
+    ]
 
-version_read : (line : TextLine) → is_written version_fields line ≡ true → is_version line ≡ true
-unfolding is_version
-version_read line written =
-    let is = two_words (codes "xtrace") (codes "1") line written in
-    and_from line.is_ended (bytes_eq line.content (codes "xtrace 1")) is.0 (are_same_bytes line.content (codes "xtrace 1") is.1)
+version_named : (line : TextLine) (version : Version) → line.is_ended ≡ true → line.content ≡ codes "xtrace " ++ version_word version → version_of line ≡ Some version
+unfolding version_of
+version_named line One ended is = rw (is, ended) refl
+version_named line Two ended is = rw (is, ended) refl
+version_named line Three ended is = rw (is, ended) refl
+
+version_read : (line : TextLine) (version : Version) → is_written (version_fields version) line ≡ true → version_of line ≡ Some version
+version_read line One written = let is = two_words (codes "xtrace") (version_word One) line written in version_named line One is.0 is.1
+version_read line Two written = let is = two_words (codes "xtrace") (version_word Two) line written in version_named line Two is.0 is.1
+version_read line Three written = let is = two_words (codes "xtrace") (version_word Three) line written in version_named line Three is.0 is.1
 
 size_written : (line : TextLine) (size : ContextSize) → size_of line ≡ Some size → is_written (size_fields size) line ≡ true
 unfolding size_of
@@ -69,47 +94,45 @@ size_read line Bytes32 written = let is = two_words (codes "ctx") (size_word Byt
 size_read line Bytes64 written = let is = two_words (codes "ctx") (size_word Bytes64) line written in size_named line Bytes64 is.0 is.1
 
 -- the states behind the first line and behind the second
-behind_version : State
-behind_version = record start { lines = 1 }
+abbrev behind_version : Version → State
+behind_version version = record start { lines = 1; version = version }
 
-abbrev behind_size : ContextSize → State
-behind_size size = record start { lines = 2; size = size }
-
-if_none : (t : Bool) (fault : LineFault) → cond t None (Some fault) ≡ None → t ≡ true
-if_none true fault is = refl
-if_none false fault is = cc is
+abbrev behind_size : Version → ContextSize → State
+behind_size version size = record start { lines = 2; version = version; size = size }
 
 if_some : (t : Bool) (fault : LineFault) → cond t (Some fault) None ≡ None → t ≡ false
 if_some true fault is = cc is
 if_some false fault is = refl
 
-first_from_read : (line : TextLine) (next : State × Option Row) → read_line start line ≡ Ok next → (is_version line ≡ true) × ((behind_version, None) ≡ next)
-unfolding read_line line_fault after behind_version
+first_from_read : (line : TextLine) (next : State × Option Row) → read_line start line ≡ Ok next →
+    (version : Version) × (version_of line ≡ Some version) × ((behind_version version, None) ≡ next)
+unfolding read_line line_fault after
 first_from_read line next is =
     let p = ok_there (line_fault start line) (after start line) next is in
-    (if_none (is_version line) BadHeader p.0, p.1)
+    let version = there (version_of line) (if_some (is_none (version_of line)) BadHeader p.0) in
+    (version.0, version.1, ap (λ (o : Option Version). (with_version start o, None)) (sym version.1) ∙ p.1)
 
-second_from_read : (line : TextLine) (next : State × Option Row) → read_line behind_version line ≡ Ok next →
-    (size : ContextSize) × (size_of line ≡ Some size) × ((behind_size size, None) ≡ next)
-unfolding read_line line_fault after behind_version
-second_from_read line next is =
-    let p = ok_there (line_fault behind_version line) (after behind_version line) next is in
+second_from_read : (version : Version) (line : TextLine) (next : State × Option Row) → read_line (behind_version version) line ≡ Ok next →
+    (size : ContextSize) × (size_of line ≡ Some size) × ((behind_size version size, None) ≡ next)
+unfolding read_line line_fault after
+second_from_read version line next is =
+    let p = ok_there (line_fault (behind_version version) line) (after (behind_version version) line) next is in
     let size = there (size_of line) (if_some (is_none (size_of line)) BadHeader p.0) in
-    (size.0, size.1, ap (λ (o : Option ContextSize). (with_size behind_version o, None)) (sym size.1) ∙ p.1)
+    (size.0, size.1, ap (λ (o : Option ContextSize). (with_size (behind_version version) o, None)) (sym size.1) ∙ p.1)
 
-first_read : (line : TextLine) → is_version line ≡ true → read_line start line ≡ Ok (behind_version, None)
-unfolding read_line line_fault after behind_version
-first_read line is = rw is refl
+first_read : (line : TextLine) (version : Version) → version_of line ≡ Some version → read_line start line ≡ Ok (behind_version version, None)
+unfolding read_line line_fault after
+first_read line version is = rw is refl
 
-second_read : (line : TextLine) (size : ContextSize) → size_of line ≡ Some size → read_line behind_version line ≡ Ok (behind_size size, None)
-unfolding read_line line_fault after behind_version
-second_read line size is = rw is refl
+second_read : (version : Version) (line : TextLine) (size : ContextSize) → size_of line ≡ Some size → read_line (behind_version version) line ≡ Ok (behind_size version size, None)
+unfolding read_line line_fault after
+second_read version line size is = rw is refl
 
 -- ---- from a text that is read
 
 whole_there : (x : Result (State × List Row) (ℕ × LineFault)) (trace : TraceText) → whole x ≡ Ok trace →
     (r : State × List Row) × (x ≡ Ok r) × (2 ≤ r.0.lines)
-    × (record { header = record { context_size = r.0.size; rings = r.0.rings }; first = next_number r.0 - length r.1; rows = r.1 } ≡ trace)
+    × (record { header = record { version = r.0.version; context_size = r.0.size; rings = r.0.rings }; first = next_number r.0 - length r.1; rows = r.1 } ≡ trace)
 whole_there (Ok (st, rows)) trace is =
     elim (cases_Bool (nat_lt st.lines 2)) [
       | inl few ↦ cc (rw few at is)
@@ -122,28 +145,31 @@ unfolding read_lines
 read_end st r is = let same : (st, []) ≡ r = cc is in ap (λ (x : State × List Row). x.0) same
 
 record Begins (first second : TextLine) (lines : List TextLine) (r : State × List Row) : Type 0 where
+  version : Version
   size : ContextSize
-  version : is_written version_fields first ≡ true
+  named : is_written (version_fields version) first ≡ true
   sized : is_written (size_fields size) second ≡ true
-  rest : read_lines (behind_size size) lines ≡ Ok r
+  rest : read_lines (behind_size version size) lines ≡ Ok r
 
 second_state : (first : TextLine) (lines : List TextLine) (r : State × List Row) → read_lines start (first ∷ lines) ≡ Ok r →
-    (is_written version_fields first ≡ true) × ((q : State × List Row) × (read_lines behind_version lines ≡ Ok q) × (q.0 ≡ r.0) × (q.1 ≡ r.1))
+    (version : Version) × (is_written (version_fields version) first ≡ true)
+    × ((q : State × List Row) × (read_lines (behind_version version) lines ≡ Ok q) × (q.0 ≡ r.0) × (q.1 ≡ r.1))
 second_state first lines r is =
     let g = lines_go_on start first lines r is in
     let p = first_from_read first g.next g.step_is in
-    let state_is : behind_version ≡ g.next.0 = ap (λ (x : State × Option Row). x.0) p.1 in
-    let row_is : None ≡ g.next.1 = ap (λ (x : State × Option Row). x.1) p.1 in (
-      version_written first p.0,
+    let state_is : behind_version p.0 ≡ g.next.0 = ap (λ (x : State × Option Row). x.0) p.2 in
+    let row_is : None ≡ g.next.1 = ap (λ (x : State × Option Row). x.1) p.2 in (
+      p.0,
+      version_written first p.0 p.1,
       (g.others, ap (λ (x : State). read_lines x lines) state_is ∙ g.rest_is, g.end_is, ap (λ (o : Option Row). with_front o g.others.1) row_is ∙ g.rows_are),
     )
 
-third_state : (second : TextLine) (lines : List TextLine) (r : State × List Row) → read_lines behind_version (second ∷ lines) ≡ Ok r →
-    (size : ContextSize) × (is_written (size_fields size) second ≡ true) × ((q : State × List Row) × (read_lines (behind_size size) lines ≡ Ok q) × (q.0 ≡ r.0) × (q.1 ≡ r.1))
-third_state second lines r is =
-    let g = lines_go_on behind_version second lines r is in
-    let p = second_from_read second g.next g.step_is in
-    let state_is : behind_size p.0 ≡ g.next.0 = ap (λ (x : State × Option Row). x.0) p.2 in
+third_state : (version : Version) (second : TextLine) (lines : List TextLine) (r : State × List Row) → read_lines (behind_version version) (second ∷ lines) ≡ Ok r →
+    (size : ContextSize) × (is_written (size_fields size) second ≡ true) × ((q : State × List Row) × (read_lines (behind_size version size) lines ≡ Ok q) × (q.0 ≡ r.0) × (q.1 ≡ r.1))
+third_state version second lines r is =
+    let g = lines_go_on (behind_version version) second lines r is in
+    let p = second_from_read version second g.next g.step_is in
+    let state_is : behind_size version p.0 ≡ g.next.0 = ap (λ (x : State × Option Row). x.0) p.2 in
     let row_is : None ≡ g.next.1 = ap (λ (x : State × Option Row). x.1) p.2 in (
       p.0,
       size_written second p.0 p.1,
@@ -153,21 +179,23 @@ third_state second lines r is =
 begins : (first second : TextLine) (lines : List TextLine) (r : State × List Row) → read_lines start (first ∷ second ∷ lines) ≡ Ok r → Begins first second lines r
 begins first second lines r is =
     let p = second_state first (second ∷ lines) r is in
-    let q = third_state second lines p.1.0 p.1.1 in
-    let same : q.2.0 ≡ r = λ k. ((q.2.2 ∙ p.1.2) k, (q.2.3 ∙ p.1.3) k) in
-    record { size = q.0; version = p.0; sized = q.1; rest = q.2.1 ∙ ap (λ (x : State × List Row). Ok x) same }
+    let q = third_state p.0 second lines p.2.0 p.2.1 in
+    let same : q.2.0 ≡ r = λ k. ((q.2.2 ∙ p.2.2) k, (q.2.3 ∙ p.2.3) k) in
+    record { version = p.0; size = q.0; named = p.1; sized = q.1; rest = q.2.1 ∙ ap (λ (x : State × List Row). Ok x) same }
 
 -- the trace of a state and the rows that were read
 abbrev text_of : State × List Row → TraceText
-text_of r = record { header = record { context_size = r.0.size; rings = r.0.rings }; first = next_number r.0 - length r.1; rows = r.1 }
+text_of r = record { header = record { version = r.0.version; context_size = r.0.size; rings = r.0.rings }; first = next_number r.0 - length r.1; rows = r.1 }
 
 lines_spell : (first second : TextLine) (lines : List TextLine) (r : State × List Row) → Begins first second lines r →
     (lines_written (trace_lines (text_of r)) (first ∷ second ∷ lines) ≡ true) × IsTrace (text_of r)
 unfolding trace_lines
 lines_spell first second lines r b =
-    let s = spells_from_read lines (behind_size b.size) r (omega arith) b.rest in
+    let s = spells_from_read lines (behind_size b.version b.size) r (omega arith) b.rest in
     let rings_are : r.0.rings ≡ s.rings = s.are.rings_are in
     let size_is : r.0.size ≡ b.size = s.are.size_is in
+    let version_is : r.0.version ≡ b.version = s.are.version_is in
+    let named : is_written (version_fields r.0.version) first ≡ true = ap (λ (version : Version). is_written (version_fields version) first) version_is ∙ b.named in
     let within : r.0.lines ≤ most_lines = s.are.within (omega arith) in
     let rings : lines_written (lines_for r.0.rings r.1) lines ≡ true = ap (λ (rs : List Ring). lines_written (lines_for rs r.1) lines) rings_are ∙ s.are.written in
     let sized : is_written (size_fields r.0.size) second ≡ true = ap (λ (size : ContextSize). is_written (size_fields size) second) size_is ∙ b.sized in
@@ -175,7 +203,7 @@ lines_spell first second lines r b =
     let together : may_stand_together r.0.rings ≡ true = ap (λ (rs : List Ring). may_stand_together rs) rings_are ∙ s.are.together refl in
     let count = s.are.count in
     let many : length r.0.rings ≡ length s.rings = ap (λ (rs : List Ring). length rs) rings_are in (
-      and_from (is_written version_fields first) _ b.version (and_from (is_written (size_fields r.0.size) second) (lines_written (lines_for r.0.rings r.1) lines) sized rings),
+      and_from (is_written (version_fields r.0.version) first) _ named (and_from (is_written (size_fields r.0.size) second) (lines_written (lines_for r.0.rings r.1) lines) sized rings),
       record {
         headed = and_from (list_all is_line_ring r.0.rings) (may_stand_together r.0.rings) shapes together;
         rows = s.are.fit;
@@ -184,9 +212,8 @@ lines_spell first second lines r b =
       },
     )
 
-one_line : (st : State) → behind_version ≡ st → st.lines ≡ 1
-unfolding behind_version
-one_line st same = sym (ap (λ (st : State). st.lines) same)
+one_line : (version : Version) (st : State) → behind_version version ≡ st → st.lines ≡ 1
+one_line version st same = sym (ap (λ (st : State). st.lines) same)
 
 read_spells : (lines : List TextLine) (trace : TraceText) → whole (read_lines start lines) ≡ Ok trace → (lines_written (trace_lines trace) lines ≡ true) × IsTrace trace
 read_spells [] trace is =
@@ -196,8 +223,8 @@ read_spells [] trace is =
 read_spells (first ∷ []) trace is =
     let p = whole_there (read_lines start (first ∷ [])) trace is in
     let q = second_state first [] p.0 p.1 in
-    let same : behind_version ≡ p.0.0 = read_end behind_version q.1.0 q.1.1 ∙ q.1.2 in
-    absurd (omega (arith, p.2, one_line p.0.0 same))
+    let same : behind_version q.0 ≡ p.0.0 = read_end (behind_version q.0) q.2.0 q.2.1 ∙ q.2.2 in
+    absurd (omega (arith, p.2, one_line q.0 p.0.0 same))
 read_spells (first ∷ second ∷ lines) trace is =
     let p = whole_there (read_lines start (first ∷ second ∷ lines)) trace is in
     let spelled = lines_spell first second lines p.0 (begins first second lines p.0 p.1) in
@@ -210,33 +237,34 @@ spelled_if_read text trace is = read_spells (lines_of text) trace is
 
 -- ---- from a text that spells a trace
 
-whole_of : (end : State) (rows : List Row) (trace : TraceText) → 2 ≤ end.lines → end.size ≡ trace.header.context_size → end.rings ≡ trace.header.rings →
+whole_of : (end : State) (rows : List Row) (trace : TraceText) → 2 ≤ end.lines → end.version ≡ trace.header.version → end.size ≡ trace.header.context_size → end.rings ≡ trace.header.rings →
     next_number end - length rows ≡ trace.first → rows ≡ trace.rows → whole (Ok (end, rows)) ≡ Ok trace
-whole_of end rows trace some size_is rings_are first_is rows_are =
-    let same : record { header = record { context_size = end.size; rings = end.rings }; first = next_number end - length rows; rows = rows } ≡ trace =
-    λ k. record { header = record { context_size = size_is k; rings = rings_are k }; first = first_is k; rows = rows_are k } in
+whole_of end rows trace some version_is size_is rings_are first_is rows_are =
+    let same : record { header = record { version = end.version; context_size = end.size; rings = end.rings }; first = next_number end - length rows; rows = rows } ≡ trace =
+    λ k. record { header = record { version = version_is k; context_size = size_is k; rings = rings_are k }; first = first_is k; rows = rows_are k } in
     rw (le-ltb end.lines 2 some) (ap (λ (t : TraceText). Ok t) same)
 
 written_reads : (lines : List TextLine) (trace : TraceText) → lines_written (trace_lines trace) lines ≡ true → IsTrace trace → whole (read_lines start lines) ≡ Ok trace
 unfolding trace_lines
 written_reads [] trace written is = cc written
 written_reads (first ∷ []) trace written is =
-    let p = and_parts (is_written version_fields first) false written in
+    let p = and_parts (is_written (version_fields trace.header.version) first) false written in
     cc (p.1)
 written_reads (first ∷ second ∷ lines) trace written is =
+    let version = trace.header.version in
     let size = trace.header.context_size in
-    let p = and_parts (is_written version_fields first) (lines_written (size_fields size ∷ lines_for trace.header.rings trace.rows) (second ∷ lines)) written in
+    let p = and_parts (is_written (version_fields version) first) (lines_written (size_fields size ∷ lines_for trace.header.rings trace.rows) (second ∷ lines)) written in
     let q = and_parts (is_written (size_fields size) second) (lines_written (lines_for trace.header.rings trace.rows) lines) p.1 in
     let h = and_parts (list_all is_line_ring trace.header.rings) (may_stand_together trace.header.rings) is.headed in
     let first_is = is.first in
     let within = is.within in
-    let read = lines_read trace.header.rings trace.rows lines (behind_size size) (omega arith) refl h.0 h.1 is.rows q.1 (omega (arith, first_is, within)) in
-    let third = read_on behind_version (behind_size size) second lines None read.end trace.rows (second_read second size (size_read second size q.0)) read.is in
+    let read = lines_read trace.header.rings trace.rows lines (behind_size version size) (omega arith) refl h.0 h.1 is.rows q.1 (omega (arith, first_is, within)) in
+    let third = read_on (behind_version version) (behind_size version size) second lines None read.end trace.rows (second_read version second size (size_read second size q.0)) read.is in
     let all : read_lines start (first ∷ second ∷ lines) ≡ Ok (read.end, trace.rows) =
-    read_on start behind_version first (second ∷ lines) None read.end trace.rows (first_read first (version_read first p.0)) third in
+    read_on start (behind_version version) first (second ∷ lines) None read.end trace.rows (first_read first version (version_read first version p.0)) third in
     let count = read.count in
     ap (λ (x : Result (State × List Row) (ℕ × LineFault)). whole x) all
-    ∙ whole_of read.end trace.rows trace (omega (arith, count)) read.size_is read.rings_are (omega (arith, count, first_is)) refl
+    ∙ whole_of read.end trace.rows trace (omega (arith, count)) read.version_is read.size_is read.rings_are (omega (arith, count, first_is)) refl
 
 -- a valid trace that the text spells is what is read
 pub read_if_spelled : (text : List ℕ) (trace : TraceText) → IsTrue (spells trace text) → IsTrace trace → trace_of text ≡ Ok trace

@@ -45,6 +45,7 @@ pub record IsSpelledAs (st end : State) (rings : List Ring) (rows : List Row) (l
   pub written : lines_written (lines_for rings rows) lines ≡ true
   pub rings_are : end.rings ≡ st.rings ++ rings
   pub size_is : end.size ≡ st.size
+  pub version_is : end.version ≡ st.version
   pub count : end.lines ≡ st.lines + (length rings + length rows)
   pub fit : All IsLineRow rows
   pub shapes : list_all is_line_ring rings ≡ true
@@ -70,6 +71,7 @@ spelled_row st end line row rows lines good rest = record {
   written = good_line st line (SaysRow row) (row_fields row) (map row_fields rows) lines good.ended good.spelled.written rest.written;
   rings_are = rest.rings_are;
   size_is = rest.size_is;
+  version_is = rest.version_is;
   count = omega (arith, rest.count);
   fit = All-cons IsLineRow row rows (line_row row good.spelled.fits.0 good.spelled.fits.1 good.few) rest.fit;
   shapes = refl;
@@ -91,6 +93,7 @@ spelled_ring st end line ring rings rows lines good rest =
       written = good_line st line (SaysRing ring) (ring_fields ring) (lines_for rings rows) lines good.ended good.spelled.written rest.written;
       rings_are = rest.rings_are ∙ append_assoc st.rings (ring ∷ []) rings;
       size_is = rest.size_is;
+      version_is = rest.version_is;
       count = omega (arith, rest.count);
       fit = rest.fit;
       shapes = and_from (is_line_ring ring) (list_all is_line_ring rings) (and_from (nat_lt ring.id 256) (is_shape ring.shape) (lt-ltb ring.id 256 good.spelled.fits.id) placed.0) rest.shapes;
@@ -143,6 +146,7 @@ nothing_read st = record {
   written = refl;
   rings_are = sym (append-nil st.rings);
   size_is = refl;
+  version_is = refl;
   count = omega arith;
   fit = All-nil IsLineRow;
   shapes = refl;
@@ -190,6 +194,7 @@ pub record IsReadAs (st : State) (lines : List TextLine) (rings : List Ring) (ro
   pub is : read_lines st lines ≡ Ok (end, rows)
   pub rings_are : end.rings ≡ st.rings ++ rings
   pub size_is : end.size ≡ st.size
+  pub version_is : end.version ≡ st.version
   pub count : end.lines ≡ st.lines + (length rings + length rows)
 
 pub read_on : (st next : State) (line : TextLine) (lines : List TextLine) (row : Option Row) (end : State) (rows : List Row) → read_line st line ≡ Ok (next, row) →
@@ -208,7 +213,7 @@ written_line fields line rest lines written =
 pub rows_read : (rows : List Row) (lines : List TextLine) (st : State) → 2 ≤ st.lines → All IsLineRow rows → lines_written (map row_fields rows) lines ≡ true →
     st.lines + length rows ≤ most_lines → IsReadAs st lines [] rows
 unfolding read_lines
-rows_read [] [] st behind fit written within = record { end = st; is = refl; rings_are = sym (append-nil st.rings); size_is = refl; count = omega arith }
+rows_read [] [] st behind fit written within = record { end = st; is = refl; rings_are = sym (append-nil st.rings); size_is = refl; version_is = refl; count = omega arith }
 rows_read [] (line ∷ lines) st behind fit written within = cc written
 rows_read (row ∷ rows) [] st behind fit written within = cc written
 rows_read (row ∷ rows) (line ∷ lines) st behind fit written within =
@@ -228,6 +233,7 @@ rows_read (row ∷ rows) (line ∷ lines) st behind fit written within =
       is = read_on st (behind_row st) line lines (Some row) ih.end rows (read_from_good st line (SaysRow row) behind good) ih.is;
       rings_are = ih.rings_are;
       size_is = ih.size_is;
+      version_is = ih.version_is;
       count = omega (arith, ih.count);
     }
 
@@ -254,5 +260,6 @@ lines_read (ring ∷ rings) rows (line ∷ lines) st behind fresh shapes togethe
       is = read_on st (behind_ring st ring) line lines None ih.end rows (read_from_good st line (SaysRing ring) behind good) ih.is;
       rings_are = ih.rings_are ∙ append_assoc st.rings (ring ∷ []) rings;
       size_is = ih.size_is;
+      version_is = ih.version_is;
       count = omega (arith, ih.count);
     }

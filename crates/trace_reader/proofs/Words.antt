@@ -39,13 +39,13 @@ unfoldable pub use Rattle.trace_reader.specs.PlanSpelling.{plan_line_fields, pla
 pub use Rattle.trace_reader.specs.Plans.{PlanText, declares_too_much, is_no_plan_ring, is_past_plan_limit, plan_behind, plan_in, plan_line, plan_line_fault, plan_ring, plan_ring_fault, plan_sub_line, ret_line, ring_alone, with_ring}
 unfoldable pub use Rattle.trace_reader.specs.Plans.{is_plan_version, plan_form_of, plan_of, plan_value, ring_line_form, ring_value}
 pub use Rattle.trace_reader.specs.Printing.{in_a_row, spaced}
-pub use Rattle.trace_reader.specs.Reading.{State, TraceText, go_on, is_misplaced, is_too_much, next_number, start, whole, with_row, with_said, with_size}
-unfoldable pub use Rattle.trace_reader.specs.Reading.{after, form_in, is_bad_number, is_bad_row, is_bad_shape, is_past_limit, is_too_long, is_version, line_fault, read_line, read_lines, row_fault, said_in, size_of, trace_of}
+pub use Rattle.trace_reader.specs.Reading.{State, TraceText, go_on, is_misplaced, is_too_much, next_number, start, whole, with_row, with_said, with_size, with_version}
+unfoldable pub use Rattle.trace_reader.specs.Reading.{after, form_in, is_bad_number, is_bad_row, is_bad_shape, is_past_limit, is_too_long, line_fault, read_line, read_lines, row_fault, said_in, size_of, trace_of, version_of}
 pub use Rattle.trace_reader.specs.ScheduleSpelling.{IsSchedule, schedule_version_fields}
 unfoldable pub use Rattle.trace_reader.specs.ScheduleSpelling.{printed_schedule, schedule_lines, spells_schedule, step_fields}
 pub use Rattle.trace_reader.specs.Schedules.{event_form, finish_line, is_past_schedule_limit, look_line, other_line, report_line, row_line, schedule_in, scrib_line, step_fault, step_line, step_lines}
 unfoldable pub use Rattle.trace_reader.specs.Schedules.{is_schedule_version, schedule_of, step_form_of, step_value}
-pub use Rattle.trace_reader.specs.Spelling.{Digits, Field, Word, are_written, block_fields, is_written, lines_written, may_be_written, printed, segment_field, size_fields, size_word, version_fields}
+pub use Rattle.trace_reader.specs.Spelling.{Digits, Field, Word, are_written, block_fields, is_written, lines_written, may_be_written, printed, segment_field, size_fields, size_word, version_fields, version_word}
 unfoldable pub use Rattle.trace_reader.specs.Spelling.{printed_line, printed_trace, ring_fields, row_fields, spells, trace_lines}
 pub use Rattle.trace_reader.specs.TraceLines.{Form, bell_line, event_line, is_ring_form, reg_line, ring_as, ring_line, said_lines, sub_line, write_line}
 unfoldable pub use Rattle.trace_reader.specs.TraceLines.{form_of, said_of}
@@ -79,3 +79,5 @@ pub use Rattle.trb.specs.RingKind.{ring_name}
 pub use Rattle.trb.specs.declared.block.Block.{Block}
 pub use Rattle.trb.specs.declared.ring_kind.RingKind.{RingKind}
 pub use Rattle.trb.specs.declared.ring_kind.RingKind.TheVariants.{Cmd, Evt, Xfer}
+pub use Rattle.traces.specs.declared.version.Version.{Version}
+pub use Rattle.traces.specs.declared.version.Version.TheVariants.{One, Two, Three}

@@ -110,7 +110,7 @@ text_of trace = record { header = trace.header; first = trace.first; rows = trac
 
 -- what the reader holds
 abbrev pub state_of : TraceSoFar → State
-state_of r = record { lines = r.lines; size = r.size; rings = r.rings.items; begun = not (vec_len r.rows == 0) }
+state_of r = record { lines = r.lines; version = r.version; size = r.size; rings = r.rings.items; begun = not (vec_len r.rows == 0) }
 
 -- the rows so far, and the row of the next line, if it says one
 abbrev pub took_in : List Row → Result (State × Option Row) LineFault → Result (State × List Row) LineFault

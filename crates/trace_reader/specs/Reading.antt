@@ -11,6 +11,8 @@ use Rattle.line_text.specs.Fields.{fields_of, has_empty_field}
 use Rattle.trace_reader.specs.declared.fault.LineFault.{LineFault}
 use Rattle.trace_reader.specs.declared.fault.LineFault.TheVariants.{Header as BadHeader, Row as BadRow, Number, Limit, Shape}
 use Rattle.traces.specs.declared.header.Header.{Header}
+use Rattle.traces.specs.declared.version.Version.{Version}
+use Rattle.traces.specs.declared.version.Version.TheVariants.{One, Two, Three}
 use Rattle.traces.specs.declared.ring.Ring.{Ring}
 use Rattle.traces.specs.declared.row.Row.{Row}
 use Rattle.traces.specs.declared.row.Row.TheVariants.{Sub}
@@ -23,6 +25,7 @@ use Rattle.trace_reader.specs.Values.{Said, SaysRow, SaysRing}
 pub record State : Type 0 where
   -- how many lines
   pub lines : ℕ
+  pub version : Version
   pub size : ContextSize
   -- the rings, in the order of their lines
   pub rings : List Ring
@@ -30,15 +33,20 @@ pub record State : Type 0 where
   pub begun : Bool
 
 abbrev pub start : State
-start = record { lines = 0; size = Bytes32; rings = []; begun = false }
+start = record { lines = 0; version = One; size = Bytes32; rings = []; begun = false }
 
 -- the number of the next line
 abbrev pub next_number : State → ℕ
 next_number st = st.lines + 1
 
--- 1 Header: the first line is `xtrace 1`, the second `ctx 20` or `ctx 40`, as the contexts have 32 bytes or 64
-unfoldable pub is_version : TextLine → Bool
-is_version line = line.is_ended && bytes_eq line.content (codes "xtrace 1")
+-- 1 Header: the first line is `xtrace 1`, `xtrace 2` or `xtrace 3`, the second `ctx 20` or `ctx 40`, as the contexts have
+-- 32 bytes or 64
+unfoldable pub version_of : TextLine → Option Version
+version_of line =
+    if line.is_ended && bytes_eq line.content (codes "xtrace 1") then Some One
+    else if line.is_ended && bytes_eq line.content (codes "xtrace 2") then Some Two
+    else if line.is_ended && bytes_eq line.content (codes "xtrace 3") then Some Three
+    else None
 
 unfoldable pub size_of : TextLine → Option ContextSize
 size_of line =
@@ -95,7 +103,7 @@ row_fault st line =
 -- the least fault of a line
 unfoldable pub line_fault : State → TextLine → Option LineFault
 line_fault st line =
-    if st.lines == 0 then (if is_version line then None else Some BadHeader)
+    if st.lines == 0 then (if is_none (version_of line) then Some BadHeader else None)
     else if st.lines == 1 then (if is_none (size_of line) then Some BadHeader else None)
     else row_fault st line
 
@@ -104,6 +112,10 @@ with_said st (Some (SaysRow row)) = (record st { lines = next_number st; begun =
 with_said st (Some (SaysRing ring)) = (record st { lines = next_number st; rings = st.rings ++ ring ∷ [] }, None)
 with_said st None = (st, None)
 
+abbrev pub with_version : State → Option Version → State
+with_version st (Some version) = record st { lines = next_number st; version = version }
+with_version st None = st
+
 abbrev pub with_size : State → Option ContextSize → State
 with_size st (Some size) = record st { lines = next_number st; size = size }
 with_size st None = st
@@ -111,7 +123,7 @@ with_size st None = st
 -- what is read after a line without a fault, and the row that the line says, if it says one
 unfoldable pub after : State → TextLine → State × Option Row
 after st line =
-    if st.lines == 0 then (record st { lines = next_number st }, None)
+    if st.lines == 0 then (with_version st (version_of line), None)
     else if st.lines == 1 then (with_size st (size_of line), None)
     else with_said st (said_in line)
 
@@ -144,7 +156,7 @@ pub record TraceText : Type 0 where
 abbrev pub whole : Result (State × List Row) (ℕ × LineFault) → Result TraceText (ℕ × LineFault)
 whole (Ok (st, rows)) =
     if nat_lt st.lines 2 then Err (next_number st, BadHeader)
-    else Ok (record { header = record { context_size = st.size; rings = st.rings }; first = next_number st - length rows; rows = rows })
+    else Ok (record { header = record { version = st.version; context_size = st.size; rings = st.rings }; first = next_number st - length rows; rows = rows })
 whole (Err fault) = Err fault
 
 -- the trace of a text, or its first bad line and the least fault there

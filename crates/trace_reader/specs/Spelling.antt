@@ -15,6 +15,8 @@ use Rattle.traces.specs.declared.ring.Ring.{Ring}
 use Rattle.traces.specs.declared.row.Row.{Row}
 use Rattle.traces.specs.declared.row.Row.TheVariants.{Sub, Write, Reg, Bell, Read}
 use Rattle.traces.specs.Register.{register_name}
+use Rattle.traces.specs.declared.version.Version.{Version}
+use Rattle.traces.specs.declared.version.Version.TheVariants.{One, Two, Three}
 use Rattle.trace_reader.specs.Reading.{TraceText}
 
 -- a word stands as it is; the letters of a number's digits may be of either case, and are lower case where it is printed
@@ -52,8 +54,13 @@ abbrev pub size_word : ContextSize → List ℕ
 size_word Bytes32 = codes "20"
 size_word Bytes64 = codes "40"
 
-abbrev pub version_fields : List Field
-version_fields = Word (codes "xtrace") ∷ Word (codes "1") ∷ []
+abbrev pub version_word : Version → List ℕ
+version_word One = codes "1"
+version_word Two = codes "2"
+version_word Three = codes "3"
+
+abbrev pub version_fields : Version → List Field
+version_fields version = Word (codes "xtrace") ∷ Word (version_word version) ∷ []
 
 abbrev pub size_fields : ContextSize → List Field
 size_fields size = Word (codes "ctx") ∷ Word (size_word size) ∷ []
@@ -61,7 +68,7 @@ size_fields size = Word (codes "ctx") ∷ Word (size_word size) ∷ []
 -- the lines of a trace by their fields
 unfoldable pub trace_lines : TraceText → List (List Field)
 trace_lines trace =
-    version_fields ∷ size_fields trace.header.context_size ∷ (map ring_fields trace.header.rings ++ map row_fields trace.rows)
+    version_fields trace.header.version ∷ size_fields trace.header.context_size ∷ (map ring_fields trace.header.rings ++ map row_fields trace.rows)
 
 -- a line as it is printed: one space between the fields, and a line feed at the end
 unfoldable pub printed_line : List Field → List ℕ

@@ -1,14 +1,14 @@
 ghost use Rattle.std.specs.Prelude.{◌≡◌, ◌≤◌, ◌+◌, Some, None, OnOk, IfOk, IfErr};
 ghost use Rattle.trace_reader.specs.Entries.{Answers, content_fault, said_by_line, value_of};
 ghost use Rattle.traces.specs.Limits.{most_lines};
-ghost use Rattle.trace_reader.specs.Reading.{State, is_too_much, is_version, size_of};
+ghost use Rattle.trace_reader.specs.Reading.{State, is_too_much, size_of, version_of};
 
 use crate::entry::{Entry, entry_of};
 use crate::fault::{LineError, LineFault};
 use contexts::ContextSize;
 use line_text::{Fields, Line, Survey};
 use std::alloc::Global;
-use traces::Row;
+use traces::{Row, Version};
 
 /// Lines of a trace or a plan.
 pub const MOST_LINES: u32 = 1048576;
@@ -23,11 +23,19 @@ pub const MOST_BYTES: usize = 16384;
 pub const MOST_BLOCKS: usize = 256;
 
 /// The first line of a trace.
-#[tactic(auto, unfolding(crate::specs::Reading::is_version))]
-pub fn is_version(line: &Line) -> bool
-    ensures { result ≡ is_version line.now }
+#[tactic(auto, unfolding(crate::specs::Reading::version_of))]
+pub fn version_of(line: &Line) -> Option<Version>
+    ensures { result ≡ version_of line.now }
 {
-    line.is_ended() && line.content() == b"xtrace 1".as_slice()
+    if line.is_ended() && line.content() == b"xtrace 1".as_slice() {
+        Some(Version::One)
+    } else if line.is_ended() && line.content() == b"xtrace 2".as_slice() {
+        Some(Version::Two)
+    } else if line.is_ended() && line.content() == b"xtrace 3".as_slice() {
+        Some(Version::Three)
+    } else {
+        None
+    }
 }
 
 /// The second line of a trace.

@@ -11,7 +11,7 @@ use guest_memory::Addr;
 use line_text::{push_u8, push_u16, push_u32, push_u64};
 use segments::Segment;
 use std::alloc::{AllocError, Global};
-use traces::{Header, Ring, Row, Trace};
+use traces::{Header, Ring, Row, Trace, Version};
 use trb::Block;
 
 /// The text of a trace, with its numbers in lower case.
@@ -55,11 +55,22 @@ pub fn with_write(text: Vec<u8>, at: Addr, word: u32) -> Result<Vec<u8>, AllocEr
 
 /// Appends the lines before the rows.
 fn push_header(out: &mut Vec<u8>, header: &Header) -> Result<(), AllocError>
-    ensures { OnOk result (out.new.items ≡ out.old.items ++ printed_line version_fields ++ printed_line (size_fields header.now.context_size) ++ flat_map printed_line (map ring_fields header.now.rings)) }
+    ensures { OnOk result (out.new.items ≡ out.old.items ++ printed_line (version_fields header.now.version) ++ printed_line (size_fields header.now.context_size) ++ flat_map printed_line (map ring_fields header.now.rings)) }
 {
-    out.extend_from_slice(b"xtrace 1\n")?;
+    push_version(out, header.version)?;
     push_size(out, header.context_size)?;
     push_rings(out, header.rings.as_slice())
+}
+
+#[tactic(auto, using(crate::proofs::LinePieces::line_of))]
+fn push_version(out: &mut Vec<u8>, version: Version) -> Result<(), AllocError>
+    ensures { OnOk result (out.new.items ≡ out.old.items ++ printed_line (version_fields version)) }
+{
+    match version {
+        Version::One => out.extend_from_slice(b"xtrace 1\n"),
+        Version::Two => out.extend_from_slice(b"xtrace 2\n"),
+        Version::Three => out.extend_from_slice(b"xtrace 3\n"),
+    }
 }
 
 #[tactic(auto, using(crate::proofs::LinePieces::line_of))]

@@ -11,16 +11,16 @@ ghost use Rattle.trace_reader.specs.Values.{SaysRing, SaysRow};
 use crate::clashes::clashes_with_one;
 use crate::entry::{Entry, RingEntry};
 use crate::fault::{LineError, LineFault, ReadFault};
-use crate::line::{entry_in, is_version, size_of};
+use crate::line::{entry_in, size_of, version_of};
 use crate::so_far::TraceSoFar;
 use contexts::ContextSize;
 use line_text::{Line, first_line};
 use segments::RingShape;
 use std::alloc::Global;
-use traces::{Header, Ring, Rings, Row, Rows, Trace};
+use traces::{Header, Ring, Rings, Row, Rows, Trace, Version};
 
-/// Reads the text of a trace: `xtrace 1`, `ctx 20` or `ctx 40`, the lines of the rings, then the rows. Every byte sequence
-/// is answered, by its trace or by the first bad line and the least of its faults; `Memory` is answered only where a growth
+/// Reads the text of a trace: `xtrace 1`, `2` or `3`, `ctx 20` or `ctx 40`, the lines of the rings, then the rows. Every byte
+/// sequence is answered, by its trace or by the first bad line and the least of its faults; `Memory` is answered only where a growth
 /// was refused.
 pub fn read_trace(alloc: Global, text: &[u8]) -> Result<Trace, ReadFault>
     ensures read { IfOk result (λ trace. trace_of text.now ≡ Ok (text_of trace)) }
@@ -38,6 +38,7 @@ pub fn read_trace(alloc: Global, text: &[u8]) -> Result<Trace, ReadFault>
 {
     let mut so_far = TraceSoFar {
         alloc,
+        version: Version::One,
         size: ContextSize::Bytes32,
         rings: Vec::new(alloc),
         rows: Vec::new(alloc),
@@ -84,9 +85,10 @@ impl TraceSoFar {
         ensures ok { OnOk result (took_in self.old.rows.items (read_line (state_of self.old) line.now) ≡ Ok (state_of self.new, self.new.rows.items)) }
         ensures err { IfErr result (λ e. IfFault e (λ f. read_line (state_of self.old) line.now ≡ Err f)) }
     {
-        if !is_version(line) {
+        let Some(version) = version_of(line) else {
             return Err(LineFault::Header.into());
-        }
+        };
+        self.version = version;
         self.lines += 1;
         Ok(())
     }
@@ -152,6 +154,7 @@ impl TraceSoFar {
         let first = self.lines + 1 - self.rows.len() as u32;
         Ok(Trace {
             header: Header {
+                version: self.version,
                 context_size: self.size,
                 rings: Rings::new(self.rings),
             },

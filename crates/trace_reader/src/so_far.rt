@@ -3,12 +3,13 @@ ghost use Rattle.traces.specs.Limits.{most_lines};
 
 use contexts::ContextSize;
 use std::alloc::Global;
-use traces::{Ring, Row};
+use traces::{Ring, Row, Version};
 
 /// What the lines so far have said.
 #[derive(Drop)]
 pub struct TraceSoFar {
     pub alloc: Global,
+    pub version: Version,
     pub size: ContextSize,
     pub rings: Vec<Ring>,
     pub rows: Vec<Row>,

@@ -1,4 +1,5 @@
 pub mod Limits
+pub mod Versions
 pub mod Register
 pub mod Header
 pub mod Rows

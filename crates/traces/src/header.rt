@@ -1,6 +1,7 @@
 ghost use Rattle.std.specs.Prelude.{◌≡◌};
 
 use crate::ring::Ring;
+use crate::version::Version;
 use contexts::ContextSize;
 use std::marker::Model;
 
@@ -38,6 +39,8 @@ impl Rings {
 /// What the lines before the rows say.
 #[derive(Debug, Drop)]
 pub struct Header {
+    /// By which rules the rows are judged.
+    pub version: Version,
     /// 32 or 64 bytes a context (xHCI 5.3.6, CSZ).
     pub context_size: ContextSize,
     /// The rings, in the order of their declaration.

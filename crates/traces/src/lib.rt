@@ -9,6 +9,7 @@ mod row;
 mod schedule;
 mod step;
 mod trace;
+mod version;
 
 pub use header::{Header, Rings};
 pub use plan::{Plan, PlanLine, PlanLines};
@@ -18,3 +19,4 @@ pub use row::Row;
 pub use schedule::{Schedule, Steps};
 pub use step::Step;
 pub use trace::{Rows, Trace};
+pub use version::Version;

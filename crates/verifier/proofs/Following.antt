@@ -22,6 +22,7 @@ use Rattle.certificate_log.specs.declared.certificate_log.CertificateLog.{Certif
 use Rattle.certificate_log.specs.Logs.{FollowsCertificate}
 use Rattle.row_checks.specs.Accepted.{IsAccepted}
 use Rattle.row_checks.specs.Tracking.{IsTracked}
+use Rattle.row_checks.proofs.CleanHistories.{lenient_history, lenient_row}
 use Rattle.row_checks.proofs.Passes as passes
 use Rattle.verifier.specs.Following.{IsFollowed}
 
@@ -56,8 +57,8 @@ module _ (h : Header) (rows : List Row) (first : ℕ) (list : List Lease) where
           numbered = omega (arith, numbered_, many);
           room = omega (arith, many, room_, below);
           followed = p.pass.checked.tracked.follows;
-          history = p.pass.checked.clean;
-          clean = (step (known h past) p.pass.checked.tracked).clean;
+          history = lenient_history h past p.pass.checked.clean;
+          clean = lenient_row h (known h past) row (step (known h past) p.pass.checked.tracked).clean;
         }) p.lent);
       }
 

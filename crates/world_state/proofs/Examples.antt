@@ -2,13 +2,14 @@
 use Rattle.std.specs.Prelude.{◌≡◌, ℕ, true, false, [], ◌∷◌, Some, refl}
 use Rattle.guest_memory.specs.Memory.{put}
 use Rattle.contexts.specs.declared.size.ContextSize.TheVariants.{Bytes32}
+use Rattle.traces.specs.declared.version.Version.TheVariants.{One}
 use Rattle.traces.specs.declared.header.Header.{Header}
 use Rattle.world_state.specs.World.{World, UnderWay, opening}
 use Rattle.world_state.specs.Harms.{has_changed_context}
 use Rattle.world_state.specs.OnLiterals.{world_on_literals}
 
 header : Header
-header = record { context_size = Bytes32; rings = [] }
+header = record { version = One; context_size = Bytes32; rings = [] }
 
 -- an Address Device that lies at 0x10010, with its input context at 0x60000
 address_device : UnderWay

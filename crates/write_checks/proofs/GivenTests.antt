@@ -6,6 +6,7 @@ use Rattle.traces.specs.declared.header.Header.{Header}
 use Rattle.ring_knowledge.specs.Known.{Known}
 use Rattle.ownership_rules.specs.Commands as commands
 use Rattle.ownership_rules.specs.Moves as moves
+use Rattle.ownership_rules.specs.Older.{has_left_out_endpoint}
 use Rattle.ownership_rules.specs.declared.refusal.Refusal.{Refusal}
 use Rattle.ownership_rules.specs.declared.refusal.Refusal.TheVariants.{Busy, NotInProfile, BadMove}
 use Rattle.ownership_rules.specs.Refusal.{Test, first_broken}
@@ -30,10 +31,10 @@ module _ (h : Header) (k : Known) (c : Command) (good : commands.is_bad_command 
   is_busy_now busy = sym (rw (good, busy) refl)
 
   module _ (free : commands.is_busy h k c ≡ false) where
-    pub is_left_out_now : commands.has_left_out_endpoint h k c ≡ true → Some NotInProfile ≡ first_broken (command_tests h k c)
+    pub is_left_out_now : has_left_out_endpoint h k c ≡ true → Some NotInProfile ≡ first_broken (command_tests h k c)
     is_left_out_now out = sym (rw (good, free, out) refl)
 
-    module _ (profile : commands.has_left_out_endpoint h k c ≡ false) where
+    module _ (profile : has_left_out_endpoint h k c ≡ false) where
       pub moves_badly : (moves.is_bad_binding h k c || moves.is_bad_move h k c) ≡ true → Some BadMove ≡ first_broken (command_tests h k c)
       moves_badly bad = sym (rw (good, free, profile, bad) refl)
 

@@ -1,5 +1,5 @@
 -- Which rules a write breaks
-use Rattle.std.proofs.Common.{◌≡◌, ℕ, ◌%◌, List, [], ◌∷◌, Bool, true, false, Option, None, Some, refl, ap, sym, ◌∙◌}
+use Rattle.std.proofs.Common.{◌≡◌, ℕ, ◌%◌, ◌&&◌, not, List, [], ◌∷◌, Bool, true, false, Option, None, Some, refl, ap, sym, ◌∙◌}
 use Rattle.std.specs.Prelude.{◌||◌, map, if◌then◌else◌}
 use Rattle.std.specs.List.{list_any}
 use Rattle.segments.specs.Places.{touches}
@@ -9,6 +9,7 @@ use Rattle.traces.specs.declared.ring.Ring.{Ring}
 use Rattle.traces.specs.declared.header.Header.{Header}
 use Rattle.traces.specs.declared.row.Row.TheVariants.{Write}
 use Rattle.traces.specs.Header.{IsHeader, is_driver_kind, is_event_kind, shape_of}
+use Rattle.traces.specs.Versions.{is_three}
 use Rattle.commands.specs.declared.command.Command.{Command}
 use Rattle.ring_knowledge.specs.Known.{Known}
 use Rattle.ring_knowledge.specs.Rings as rings
@@ -21,8 +22,9 @@ use Rattle.ownership_rules.specs.Refusal.{Test, broken_of, first_of, first_broke
 use Rattle.ownership_rules.specs.OpenLeases.{is_leased}
 use Rattle.ownership_rules.specs.Commands as commands
 use Rattle.ownership_rules.specs.Moves as moves
+use Rattle.ownership_rules.specs.Older.{has_left_out_endpoint, older, stricter}
 use Rattle.ownership_rules.specs.Writes.{write_tests, some_given, some_crossed, some_command, holds_of, on_position, on_crossing}
-use Rattle.ownership_rules.specs.Rules.{broken, tests}
+use Rattle.ownership_rules.specs.Rules.{broken, lenient_tests, tests}
 use Rattle.trace_record.specs.Steps.{IsLeast}
 use Rattle.ring_finder.proofs.ListTests.{or_false, any_append, any_map, any_nowhere}
 use Rattle.ring_finder.proofs.RingsApart.{IsAmong}
@@ -42,7 +44,7 @@ module _ (h : Header) (k : Known) (a w : ℕ) (r : Ring) where
       ∷ (LinkFault, list_any (leads_wrong r.shape k.memory a w) (crossings_of giving))
       ∷ (BadCommand, holds_of (commands.is_bad_command h k) command)
       ∷ (Busy, holds_of (commands.is_busy h k) command || list_any (λ p. moves.is_being_moved h k r.id) (positions_of giving))
-      ∷ (NotInProfile, holds_of (commands.has_left_out_endpoint h k) command || list_any (interrupts r.shape k.memory a w) (crossings_of giving))
+      ∷ (NotInProfile, holds_of (has_left_out_endpoint h k) command || list_any (interrupts r.shape k.memory a w) (crossings_of giving))
       ∷ (BadMove, holds_of (λ c. moves.is_bad_binding h k c || moves.is_bad_move h k c) command) ∷ []
 
   quiet_is : (giving : Option RingGiving) → positions_of giving ≡ [] → first_broken (of_ring giving None) ≡ first_broken (given_tests h k r k.memory a w giving None)
@@ -55,7 +57,7 @@ module _ (h : Header) (k : Known) (a w : ℕ) (r : Ring) where
       first_broken (of_ring (Some (Position p)) command) ≡ first_broken (given_tests h k r k.memory a w (Some (Position p)) command)
   unfolding holds_of
   placed_is p None still = rw (or_false (moves.is_being_moved h k r.id)) refl
-  placed_is p (Some c) still = rw (still c refl, or_false (commands.is_busy h k c), or_false (commands.has_left_out_endpoint h k c)) refl
+  placed_is p (Some c) still = rw (still c refl, or_false (commands.is_busy h k c), or_false (has_left_out_endpoint h k c)) refl
 
   pub tests_are : (giving : Option RingGiving) (command : Option Command) → GivesOnPosition giving command →
       ((c : Command) → command ≡ Some c → moves.is_being_moved h k r.id ≡ false) → first_broken (of_ring giving command) ≡ first_broken (given_tests h k r k.memory a w giving command)
@@ -67,9 +69,39 @@ module _ (h : Header) (k : Known) (a w : ℕ) (r : Ring) where
   tests_are (Some (Position p)) command quiet still = placed_is p command still
 
 module _ (h : Header) (headed : IsHeader h) (k : Known) (on : k.stopped ≡ false) (a w : ℕ) where
-  pub least_is : first_of (broken h k (Write a w)) ≡ first_broken (write_tests h k a w)
-  unfolding broken tests
-  least_is = ap (λ b. first_of (if b then AfterStop ∷ [] else broken_of (write_tests h k a w))) on ∙ first_broken-is (write_tests h k a w)
+  -- the rules of the trace's version
+  abbrev version_tests_with : Bool → List Test
+  version_tests_with left_out =
+      (WriteToOwned, is_leased h k a)
+      ∷ (NotAsSubmitted, some_given h k a w (λ r p. is_other_than_declared (shape_of h r) (k.ring r) k.memory a w p))
+      ∷ (NotDeclared, some_given h k a w (λ r p. is_not_declared (k.ring r) p))
+      ∷ (NotWhole, some_given h k a w (λ r p. is_not_whole (shape_of h r) (k.ring r) p))
+      ∷ (LinkFault, some_crossed h k a w (λ r q. leads_wrong (shape_of h r) k.memory a w q))
+      ∷ (BadCommand, some_command h k a w (commands.is_bad_command h k))
+      ∷ (Busy, some_command h k a w (commands.is_busy h k) || some_given h k a w (λ r p. moves.is_being_moved h k r))
+      ∷ (NotInProfile, left_out)
+      ∷ (BadMove, some_command h k a w (λ c. moves.is_bad_binding h k c || moves.is_bad_move h k c)) ∷ []
+
+  abbrev version_tests : List Test
+  version_tests = version_tests_with (holds_of (has_left_out_endpoint h k) (command_given h k a w) || some_crossed h k a w (λ r q. interrupts (shape_of h r) k.memory a w q))
+
+  -- the rule on left-out endpoints, as the trace's version has it
+  left_out_is : (c : Option Command) (later : Bool) →
+      ((holds_of (commands.adds_isochronous h k) c && not (is_three h.version)) || (holds_of (commands.adds_streams h k) c || later)) ≡ (holds_of (has_left_out_endpoint h k) c || later)
+  unfolding holds_of has_left_out_endpoint
+  left_out_is None later = refl
+  left_out_is (Some c) later = or_assoc (commands.adds_isochronous h k c && not (is_three h.version)) (commands.adds_streams h k c) later
+    where
+      or_assoc : (x y z : Bool) → (x || (y || z)) ≡ ((x || y) || z)
+      or_assoc true y z = refl
+      or_assoc false y z = refl
+
+  pub least_is : first_of (broken h k (Write a w)) ≡ first_broken version_tests
+  unfolding broken tests lenient_tests write_tests older stricter some_command
+  least_is =
+      ap (λ b. first_of (if b then AfterStop ∷ [] else broken_of (tests h k (Write a w)))) on
+      ∙ ap (λ t. first_of (broken_of (version_tests_with t))) (left_out_is (command_given h k a w) (some_crossed h k a w (λ r q. interrupts (shape_of h r) k.memory a w q)))
+      ∙ first_broken-is version_tests
 
   -- the word is under lease
   pub owned : is_leased h k a ≡ true → IsLeast h k (Write a w) WriteToOwned
@@ -112,7 +144,7 @@ module _ (h : Header) (headed : IsHeader h) (k : Known) (on : k.stopped ≡ fals
 
       module _ (giving : Option RingGiving) (command : Option Command) (positions : positions_given r.shape (k.ring r.id) a w ≡ positions_of giving)
           (crossings : crossings_given r.shape (k.ring r.id) a w ≡ crossings_of giving) (gives : command_given h k a w ≡ command) where
-        all_are : write_tests h k a w ≡ of_ring h k a w r giving command
+        all_are : version_tests ≡ of_ring h k a w r giving command
         unfolding write_tests some_command
         all_are = rw (
           free,

@@ -7,6 +7,7 @@ use Rattle.traces.specs.Rows.{AreSteps, FitsLine, IsRow}
 use Rattle.lazy_runs.specs.Lazy.{lazy_steps}
 use Rattle.lazy_runs.specs.Law.{ContainsAll}
 use Rattle.lazy_runs.proofs.LazyRuns.{all_are_read}
+use Rattle.row_checks.proofs.CleanHistories.{lenient_history}
 use Rattle.row_checks.proofs.Harmless.{harmless}
 use Rattle.scheduler.proofs.Fitting.{lazy_steps_are}
 use Rattle.scheduler.proofs.Replays.{without_harm}
@@ -23,7 +24,7 @@ invariant_of-result c =
     let t = c.args.trace.now in
     let steps : c.new-2.result ≡ lazy_steps t.header t.rows = c.new-2.ensures ∙ c.in_ok-steps.ensures ∙ ap (λ rows. lazy_steps t.header rows) c.as_slice.ensures in
     record {
-      fitting = subst AreSteps (sym steps) (lazy_steps_are t.header t.headed t.rows (are_rows t.rows t.fitting) c.requires.clean);
+      fitting = subst AreSteps (sym steps) (lazy_steps_are t.header t.headed t.rows (are_rows t.rows t.fitting) (lenient_history t.header (reverse t.rows) c.requires.clean));
       within = within_lines c.new-2.result c.in_ok-steps.steps.items c.new-2.ensures (omega arith);
     }
 
@@ -31,12 +32,12 @@ pub returns-clause-runs : goal.returns-clause-runs
 returns-clause-runs c = λ timely.
     let t = c.args.trace.now in
     let steps : c.new-2.result ≡ lazy_steps t.header t.rows = c.new-2.ensures ∙ c.in_ok-steps.ensures ∙ ap (λ rows. lazy_steps t.header rows) c.as_slice.ensures in
-    subst (λ l. ContainsAll t.header t.rows (reverse l)) (sym steps) (all_are_read t.header t.rows t.headed (are_rows t.rows t.fitting) c.requires.clean timely)
+    subst (λ l. ContainsAll t.header t.rows (reverse l)) (sym steps) (all_are_read t.header t.rows t.headed (are_rows t.rows t.fitting) (lenient_history t.header (reverse t.rows) c.requires.clean) timely)
 
 pub returns-clause-replays : goal.returns-clause-replays
 returns-clause-replays c = λ timely.
     let t = c.args.trace.now in
     let steps : c.new-2.result ≡ lazy_steps t.header t.rows = c.new-2.ensures ∙ c.in_ok-steps.ensures ∙ ap (λ rows. lazy_steps t.header rows) c.as_slice.ensures in
-    let fitting : AreSteps c.new-2.result = subst AreSteps (sym steps) (lazy_steps_are t.header t.headed t.rows (are_rows t.rows t.fitting) c.requires.clean) in
+    let fitting : AreSteps c.new-2.result = subst AreSteps (sym steps) (lazy_steps_are t.header t.headed t.rows (are_rows t.rows t.fitting) (lenient_history t.header (reverse t.rows) c.requires.clean)) in
     without_harm t.header t.rows (harmless t.header t.rows t.headed t.fitting c.requires.clean) c.new-2.result fitting
-    (subst (λ l. ContainsAll t.header t.rows (reverse l)) (sym steps) (all_are_read t.header t.rows t.headed (are_rows t.rows t.fitting) c.requires.clean timely))
+    (subst (λ l. ContainsAll t.header t.rows (reverse l)) (sym steps) (all_are_read t.header t.rows t.headed (are_rows t.rows t.fitting) (lenient_history t.header (reverse t.rows) c.requires.clean) timely))

@@ -6,7 +6,7 @@ use Rattle.safety.specs.Keeps.{IsTransferRing}
 use Rattle.lazy_steps.specs.Notes.{placed_note}
 use Rattle.row_checks.specs.Tracking.{IsTracked}
 use Rattle.row_checks.proofs.Passes.{by_place}
-use Rattle.scheduler.proofs.Noting.{IsNoted, breaks_none, ended, keeps, none_refuses, started, stepped, tracked}
+use Rattle.scheduler.proofs.Noting.{IsNoted, passes_all, ended, keeps, none_refuses, started, stepped, tracked}
 use Rattle.scheduler.proofs.notes.notes_of.Goals as goal
 
 pub loop-row-init : goal.loop-row-init
@@ -37,7 +37,7 @@ loop-row-preserved g c =
     let k : Known = known h (reverse (take i c.args.rows.now)) in
     let t = tracked h c.requires.headed c.args.rows.now c.requires.clean i c.loop-row.kept m row row c.loop-row.list.items p c.loop-row-test.true (sym c.row-item.is) in
     let d = keeps h c.requires.headed c.args.rows.now c.requires.clean i c.loop-row.kept m row row c.loop-row.list.items p c.loop-row-test.true (sym c.row-item.is) in
-    let none = breaks_none h c.requires.headed c.args.rows.now c.requires.clean i c.loop-row.kept m row row c.loop-row.list.items p c.loop-row-test.true (sym c.row-item.is) in
+    let none = passes_all h c.requires.headed c.args.rows.now c.requires.clean i c.loop-row.kept m row row c.loop-row.list.items p c.loop-row-test.true (sym c.row-item.is) in
     let noted = c.in_ok-placed.ensures k t.follows d none in
     let step = λ (j : Known) (u : IsTracked h j c.loop-row.kept m). let placed = c.place-place.ensures j m u.follows in c.in-Ok.ensures.ok j u placed (c.owns-owned.ensures h j m u.follows placed) in
     let after = (step k t).followed in

@@ -1,0 +1,26 @@
+-- What versions 1 and 2 refuse besides: the rules that came first are stricter than any harm asks for
+use Rattle.std.specs.Prelude.{ℕ, ◌&&◌, ◌||◌, Bool, false, not}
+use Rattle.commands.specs.declared.command.Command.{Command}
+use Rattle.traces.specs.declared.header.Header.{Header}
+use Rattle.traces.specs.declared.row.Row.{Row}
+use Rattle.traces.specs.declared.row.Row.TheVariants.{Write}
+use Rattle.traces.specs.Versions.{is_three}
+use Rattle.ring_knowledge.specs.Known.{Known}
+use Rattle.ownership_rules.specs.declared.refusal.Refusal.{Refusal}
+use Rattle.ownership_rules.specs.declared.refusal.Refusal.TheVariants.{NotInProfile}
+use Rattle.ownership_rules.specs.Commands as commands
+use Rattle.ownership_rules.specs.Writes as writes
+
+module _ (h : Header) where
+  -- NotInProfile: an isochronous endpoint (xHCI 4.14.2), also one that stays unused
+  unfoldable pub older : Known → Row → Refusal → Bool
+  older k (Write a w) NotInProfile = writes.some_command h k a w (commands.adds_isochronous h k)
+  older k _ _ = false
+
+  -- what the trace's version refuses besides, by this rule
+  unfoldable pub stricter : Known → Row → Refusal → Bool
+  stricter k row rule = older k row rule && not (is_three h.version)
+
+  -- of a command that is given: an endpoint that is added has streams, or is isochronous where the version refuses that
+  unfoldable pub has_left_out_endpoint : Known → Command → Bool
+  has_left_out_endpoint k c = (commands.adds_isochronous h k c && not (is_three h.version)) || commands.adds_streams h k c
