@@ -16,14 +16,6 @@ first_here : (shape : Shape) (v : RingView) (n q : ℕ) → is_step_given shape 
 unfolding first_not_given
 first_here shape v n q missing = cond-false (is_step_given shape v q) (first_not_given shape v n (q + 1)) q missing
 
-first_low : (shape : Shape) (v : RingView) (n q : ℕ) → q ≤ first_not_given shape v n q
-first_low shape v zero q = omega (arith, first_none shape v q)
-first_low shape v (suc n) q =
-    elim (cases_Bool (is_step_given shape v q)) [
-      | inl given ↦ omega (arith, first_on shape v n q given, first_low shape v n (q + 1))
-      | inr missing ↦ omega (arith, first_here shape v n q missing)
-    ]
-
 first_high : (shape : Shape) (v : RingView) (n q : ℕ) → first_not_given shape v n q ≤ q + n
 first_high shape v zero q = omega (arith, first_none shape v q)
 first_high shape v (suc n) q =

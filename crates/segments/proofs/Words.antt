@@ -20,7 +20,7 @@ pub use Rattle.segments.specs.declared.place.Place.{Place}
 pub use Rattle.segments.specs.declared.segment.Segment.{Segment}
 pub use Rattle.segments.specs.declared.spot.Spot.{Spot}
 pub use Rattle.segments.specs.declared.spot.Spot.TheVariants.{Data, Link}
-pub use Rattle.std.proofs.Math.Nat.{add-div_right, add-mod_right, add-mul-mod_self_right, div-add-mod, div-add-mod', div-eq_of_lt, mod-eq_of_lt, mod-lt, mod_self}
+pub use Rattle.std.proofs.Math.Nat.{add-div_right, add-mod_right, div-add-mod, div-add-mod', div-eq_of_lt, mod-eq_of_lt, mod-lt, mod_self}
 pub use Rattle.std.proofs.lemmas.Bool.{and_from, and_parts, cases_Bool, cases_eq, cases_lt, cases_order, cond-false, cond-true, false_from_ne_true, false≢true, not-false, not-true, not_from_false, not_from_true, or_cases, or_left, or_parts, or_right}
 pub use Rattle.std.proofs.lemmas.Bool.Decides.{nat_tests}
 pub use Rattle.std.proofs.lemmas.List.{drop_more, get_or-append_right, get_or-map, get_or_append_left, get_or_default, length-map, map_push, take-map, take_more, take_rest}
