@@ -71,8 +71,3 @@ noted_more least count marks i j n m low high inside same only =
             ]
       ]
     ]
-
--- nothing more is noted where nothing is given
-pub noted_same : (b c : Bool) → c ≡ false → b ≡ (b || c)
-noted_same true c e = refl
-noted_same false c e = sym e
