@@ -1,6 +1,5 @@
 -- Which event position a written ERDP names: the least one at its place
-use Rattle.std.proofs.Common.{◌≡◌, ◌≢◌, ◌+◌, ◌-◌, ◌*◌, ◌/◌, ◌%◌, ◌<◌, ◌≤◌, ◌==◌, ◌∷◌, ◌∙◌, ℕ, suc, Bool, true, false, List, [], length, nat_lt, nat_le, Some, None, find, unwrap_or, slice_get, arith, sym, ap, refl, inl, inr, get_or, ne_eqb, le-leb, lt-ltb, eq-eqb, eqb-true}
-use Rattle.event_ring.proofs.Words.{list_any, range_with_len, position_or_len, cases_lt, and_from, and_right, or_from, lt-leb, false_from_ne_true, get_or-range_with_len, length-range_with_len, list_any_at, find_at, position_or_len_is, slice_get-get_or, none-some, mod-lt, mod-eq_of_lt, add-mod_right, div-add-mod', mod-mul-add, Shape, place_count, address_of, place_at, Data, IsShape, place_at-Data, place_at-address_of, address_aligned, place_count_pos, same_in_lap, same_place_of, address_of-mod, EventState, may_dequeue, dequeued_at, erdp_address, position_from, is_reached_within}
+use Rattle.event_ring.proofs.Words.{◌≡◌, ◌≢◌, ◌+◌, ◌-◌, ◌*◌, ◌/◌, ◌%◌, ◌<◌, ◌≤◌, ◌==◌, ◌∷◌, ◌∙◌, ℕ, suc, Bool, true, false, List, [], length, nat_lt, nat_le, Some, None, find, unwrap_or, slice_get, arith, sym, ap, refl, inl, inr, get_or, ne_eqb, le-leb, lt-ltb, eq-eqb, eqb-true, list_any, range_with_len, position_or_len, cases_lt, and_from, and_right, or_from, lt-leb, false_from_ne_true, get_or-range_with_len, length-range_with_len, list_any_at, find_at, position_or_len_is, slice_get-get_or, none-some, mod-lt, mod-eq_of_lt, add-mod_right, div-add-mod', mod-mul-add, Shape, place_count, address_of, place_at, Data, IsShape, place_at-Data, place_at-address_of, address_aligned, place_count_pos, same_in_lap, same_place_of, address_of-mod, EventState, may_dequeue, dequeued_at, erdp_address, position_from, is_reached_within}
 
 -- how far the next number with remainder i is ahead of p
 abbrev pub ahead : ℕ → ℕ → ℕ → ℕ

@@ -1,6 +1,5 @@
 -- Where data places and Links of a ring lie: on 16 byte boundaries, inside its segments, and apart
-use Rattle.std.proofs.Common.{◌≡◌, ◌+◌, ◌-◌, ◌*◌, ◌%◌, ◌^◌, ◌<◌, ◌≤◌, ◌∷◌, ◌∙◌, ℕ, suc, true, List, [], length, slice_index, arith, ap, refl, inl, inr, get_or, add-zero, le-leb, lt-ltb}
-use Rattle.segments.proofs.Words.{cases_lt, and_from, length-map, get_or-map, list_any_at, RingKind, Cmd, Evt, Xfer, Segment, Shape, data_count, data_places, place_count, links_of, links, segment_has, is_inside, IsShape, are_apart}
+use Rattle.segments.proofs.Words.{◌≡◌, ◌+◌, ◌-◌, ◌*◌, ◌%◌, ◌^◌, ◌<◌, ◌≤◌, ◌∷◌, ◌∙◌, ℕ, suc, true, List, [], length, slice_index, arith, ap, refl, inl, inr, get_or, add-zero, le-leb, lt-ltb, cases_lt, and_from, length-map, get_or-map, list_any_at, RingKind, Cmd, Evt, Xfer, Segment, Shape, data_count, data_places, place_count, links_of, links, segment_has, is_inside, IsShape, are_apart}
 use Rattle.segments.proofs.Blocks.{segment_at, places_of, before, LiesAt, place_lies, block_lies, same_segment, length-places_of-cons}
 use Rattle.segments.proofs.ShapeFacts.{IsSegment, shape_facts}
 

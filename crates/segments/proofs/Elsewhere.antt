@@ -1,6 +1,5 @@
 -- What happens outside a ring's segments changes nothing of what the rules keep of it
-use Rattle.std.proofs.Common.{◌≡◌, ◌+◌, ◌%◌, ◌<◌, ◌*◌, ◌∷◌, ◌∙◌, ℕ, true, List, [], length, All, Contains, arith, refl, ap, get_or}
-use Rattle.segments.proofs.Words.{nat_tests, list_any_at, Contains-get_or, Shape, place_count, address_of, is_crossing, link_address, is_inside, overlap, touches, IsShape}
+use Rattle.segments.proofs.Words.{◌≡◌, ◌+◌, ◌%◌, ◌<◌, ◌*◌, ◌∷◌, ◌∙◌, ℕ, true, List, [], length, All, Contains, arith, refl, ap, get_or, nat_tests, list_any_at, Contains-get_or, Shape, place_count, address_of, is_crossing, link_address, is_inside, overlap, touches, IsShape}
 use Rattle.segments.proofs.Blocks.{segment_at}
 use Rattle.segments.proofs.DataPlaces.{place_inside, link_inside}
 use Rattle.segments.proofs.Positions.{place_below}

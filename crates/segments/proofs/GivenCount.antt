@@ -1,6 +1,5 @@
 -- How much of a ring is given: the number below which all steps are given, and the first that isn't
-use Rattle.std.proofs.Common.{◌≡◌, ◌+◌, ◌<◌, ◌≤◌, ◌∙◌, ℕ, suc, zero, true, false, arith, refl, sym, ap, inl, inr}
-use Rattle.segments.proofs.Words.{cases_Bool, cases_lt, cases_eq, cases_order, cond-true, cond-false, false≢true, Shape, place_count, RingView, floor_number, is_step_given, first_not_given, given_count}
+use Rattle.segments.proofs.Words.{◌≡◌, ◌+◌, ◌<◌, ◌≤◌, ◌∙◌, ℕ, suc, zero, true, false, arith, refl, sym, ap, inl, inr, cases_Bool, cases_lt, cases_eq, cases_order, cond-true, cond-false, false≢true, Shape, place_count, RingView, floor_number, is_step_given, first_not_given, given_count}
 
 -- ---- the first step that isn't given, of n from q on
 

@@ -1,6 +1,5 @@
 -- What it says that a position or a crossing is due, and that a write gives it
-use Rattle.std.proofs.Common.{◌≡◌, ◌+◌, ◌-◌, ◌%◌, ◌<◌, ◌≤◌, ◌⊎◌, ℕ, true, leb-true, le-leb, ltb-true, lt-ltb, eqb-true, eq-eqb, rules}
-use Rattle.segments.proofs.Words.{and_parts, and_from, or_cases, or_left, or_right, Spot, Shape, place_count, address_of, cycle_of, is_crossing, link_address, number, is_due, is_crossing_due, gives, gives_crossing}
+use Rattle.segments.proofs.Words.{◌≡◌, ◌+◌, ◌-◌, ◌%◌, ◌<◌, ◌≤◌, ◌⊎◌, ℕ, true, leb-true, le-leb, ltb-true, lt-ltb, eqb-true, eq-eqb, rules, and_parts, and_from, or_cases, or_left, or_right, Spot, Shape, place_count, address_of, cycle_of, is_crossing, link_address, number, is_due, is_crossing_due, gives, gives_crossing}
 
 pub due_is : (shape : Shape) (floor : Spot) (p : ℕ) → is_due shape floor p ≡ true → (number floor ≤ p) × (p < number floor + place_count shape)
 due_is shape floor p h = search (rules, and_parts, leb-true, ltb-true)

@@ -1,6 +1,5 @@
 -- Steps of the walks over a ring's segments, from the first one on. The walks see the segments as a slice of their own
-use Rattle.std.proofs.Common.{◌≡◌, ◌≢◌, ◌+◌, ◌-◌, ◌*◌, ◌/◌, ◌%◌, ◌<◌, ◌≤◌, if◌then◌else◌, ◌∙◌, ℕ, nat_lt, true, false, List, length, slice_index, Some, None, arith, sym, ap, inl, inr, below_more}
-use Rattle.segments.proofs.Words.{false≢true, mod-lt, RingKind, Evt, Segment, Shape, data_count, place_count, address_of, links, ends, link_crossed, is_in, place_at, IsShape}
+use Rattle.segments.proofs.Words.{◌≡◌, ◌≢◌, ◌+◌, ◌-◌, ◌*◌, ◌/◌, ◌%◌, ◌<◌, ◌≤◌, if◌then◌else◌, ◌∙◌, ℕ, nat_lt, true, false, List, length, slice_index, Some, None, arith, sym, ap, inl, inr, below_more, false≢true, mod-lt, RingKind, Evt, Segment, Shape, data_count, place_count, address_of, links, ends, link_crossed, is_in, place_at, IsShape}
 use Rattle.segments.specs.declared.place.Place.TheVariants.{Data, Link}
 use Rattle.segments.proofs.Blocks.{segment_at, places_of, before, before-zero, before-next, before-all, before_within, block_lies}
 use Rattle.segments.proofs.DataPlaces.{link_is, length-links}

@@ -1,6 +1,5 @@
 -- A word gives one position or one crossing at most: a place has one due position, a Link one due crossing
-use Rattle.std.proofs.Common.{◌≡◌, ◌+◌, ◌<◌, ◌≤◌, ◌⊎◌, ◌&&◌, ◌∷◌, ◌∙◌, ℕ, suc, zero, not, Bool, true, [], filter, arith, refl, ap, inl, inr}
-use Rattle.segments.proofs.Words.{range_with_len, cases_Bool, cond-true, cond-false, and_parts, false_from_ne_true, Spot, Shape, place_count, IsShape, RingView, floor_number, gives, due_positions, positions_given}
+use Rattle.segments.proofs.Words.{◌≡◌, ◌+◌, ◌<◌, ◌≤◌, ◌⊎◌, ◌&&◌, ◌∷◌, ◌∙◌, ℕ, suc, zero, not, Bool, true, [], filter, arith, refl, ap, inl, inr, range_with_len, cases_Bool, cond-true, cond-false, and_parts, false_from_ne_true, Spot, Shape, place_count, IsShape, RingView, floor_number, gives, due_positions, positions_given}
 use Rattle.segments.proofs.Positions.{same_position_near}
 use Rattle.segments.proofs.Crossings.{crossing_positive}
 use Rattle.segments.proofs.Giving.{IsCrossingDue, gives_is}

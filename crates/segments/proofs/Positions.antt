@@ -1,6 +1,5 @@
 -- Positions from lap to lap: their addresses and Cycle bits, xHCI 4.9.2
-use Rattle.std.proofs.Common.{◌≡◌, ◌≢◌, ◌+◌, ◌-◌, ◌*◌, ◌/◌, ◌%◌, ◌^◌, ◌<◌, ◌≤◌, ℕ, slice_index, arith, ap, refl, inl, inr, rules}
-use Rattle.segments.proofs.Words.{cases_order, cases_lt, mul-le, div-mul-add, mod-mul-add, add-mod_right, add-div_right, mod-lt, mod-eq_of_lt, div-eq_of_lt, div-add-mod, div-add-mod', Shape, data_places, place_count, address_of, cycle_of, IsShape}
+use Rattle.segments.proofs.Words.{◌≡◌, ◌≢◌, ◌+◌, ◌-◌, ◌*◌, ◌/◌, ◌%◌, ◌^◌, ◌<◌, ◌≤◌, ℕ, slice_index, arith, ap, refl, inl, inr, rules, cases_order, cases_lt, mul-le, div-mul-add, mod-mul-add, add-mod_right, add-div_right, mod-lt, mod-eq_of_lt, div-eq_of_lt, div-add-mod, div-add-mod', Shape, data_places, place_count, address_of, cycle_of, IsShape}
 use Rattle.segments.proofs.ShapeFacts.{shape_facts}
 use Rattle.segments.proofs.DataPlaces.{places_apart, place_aligned, place_ends}
 

@@ -1,6 +1,5 @@
 -- Rings that lie apart: a word inside one gives nothing of another, and touches none of its leases
-use Rattle.std.proofs.Common.{◌≡◌, ℕ, true, false, List, [], AllPairs}
-use Rattle.segments.proofs.Words.{Shape, is_inside}
+use Rattle.segments.proofs.Words.{◌≡◌, ℕ, true, false, List, [], AllPairs, Shape, is_inside}
 use Rattle.segments.proofs.InsideLemmas.{rings_overlap}
 
 -- no byte lies inside both
