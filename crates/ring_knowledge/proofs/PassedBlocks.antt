@@ -1,6 +1,5 @@
 -- The spots that events and completions let a record reach
-use Rattle.std.proofs.Common.{◌≡◌, ◌+◌, ◌<◌, ◌∙◌, ℕ, true, refl, ap, arith, inl, inr}
-use Rattle.ring_knowledge.proofs.Words.{Spot, Data, Link, Shape, after, RingView, Holds, changed, given_count, is_way_given, is_reached, are_given, are_ways_given, after_is, RingRecord, FollowsRing}
+use Rattle.ring_knowledge.proofs.Words.{◌≡◌, ◌+◌, ◌<◌, ◌∙◌, ℕ, true, refl, ap, arith, inl, inr, Spot, Data, Link, Shape, after, RingView, Holds, changed, given_count, is_way_given, is_reached, are_given, are_ways_given, after_is, RingRecord, FollowsRing}
 use Rattle.ring_knowledge.proofs.GivenCount.{count_is}
 use Rattle.ring_knowledge.proofs.StopSpots.{reached_block, reached_link, way_without}
 

@@ -25,14 +25,17 @@ pub use Rattle.segments.proofs.Search.{cases_option}
 pub use Rattle.segments.proofs.SpotOrder.{after_is, data_not_link, rank_least, rank_most, same_spot}
 pub use Rattle.segments.proofs.Words.{All-head, All-tail, All-weaker, Block, Cmd, Declares, Evt, Holds, IsShape, IsSpot, Opens, Reaches, RingKind, RingView, Shape, Writes, Xfer, add-mod_right, address_of, after, and_from, and_parts, cases_Bool, cases_eq, cases_lt, changed, cond-false, cond-true, cycle_of, data_count, data_places, declared, div-add-mod', ends, false_from_ne_true, false≢true, flat_map, floor_number, gives, gives_crossing, is_crossing, is_crossing_due, is_due, is_spot, length-map, link_address, link_crossed, links, links_of, list_all, list_any, mod-lt, mod-mul-add, named_spot, nat_tests, new_ring, none-some, number, or_cases, or_left, or_right, overlap, place_at, place_count, range_with_len, rank, spot_address, spot_cycle, sum_by-cons}
 unfoldable pub use Rattle.segments.proofs.Words.{are_given, are_ways_given, ceiling, crossings_given, descriptor_length, due_crossings, due_positions, first_not_given, given_count, has_no_room, is_border, is_move, is_not_whole, is_reached, is_step_given, is_stop_spot, is_target, is_way_given, leased_crossings, leased_positions, length_from, link_of, may_move_to, named, positions_given, spots_between, stopped_number, target}
+unfoldable pub use Rattle.segments.specs.Ceiling.{is_open}
 pub use Rattle.segments.specs.declared.place.Place.{Place}
 pub use Rattle.segments.specs.declared.place.Place.TheVariants.{Data as AtData, Link as AtLink}
 pub use Rattle.segments.specs.declared.segment.Segment.{Segment}
 pub use Rattle.segments.specs.declared.spot.Spot.{Spot}
 pub use Rattle.segments.specs.declared.spot.Spot.TheVariants.{Data, Link}
+pub use Rattle.std.proofs.Common.{All, Bool, Contains, IfSome, List, None, Option, Some, [], ap, arith, cond, eq-eqb, eqb-true, false, filter, find, get_or, get_or-set_other, get_or-set_same, if◌then◌else◌, inl, inr, is_some, le-leb, le-ltb, leb-true, length, length-append, lt-ltb, ltb-false, ltb-true, max, nat_le, nat_lt, ne_eqb, not, option_map, refl, replicate, rules, set, slice_index, subst, suc, sum, sym, take, true, zero, ℕ, ◌%◌, ◌&&◌, ◌*◌, ◌++◌, ◌+◌, ◌-◌, ◌/◌, ◌<◌, ◌==◌, ◌^◌, ◌||◌, ◌∙◌, ◌∷◌, ◌≡◌, ◌≢◌, ◌≤◌}
 pub use Rattle.std.proofs.Math.ListN.{length-set}
 pub use Rattle.std.proofs.lemmas.Bool.{eqb-false, lt-leb}
 pub use Rattle.std.proofs.lemmas.Grind.{common_steps}
+pub use Rattle.std.specs.Prelude.{unwrap_or}
 pub use Rattle.traces.specs.Register.{ordinal, reset_bit, run_bit, with_register}
 pub use Rattle.traces.specs.declared.header.Header.{Header}
 pub use Rattle.traces.specs.declared.register.Register.{Register}
