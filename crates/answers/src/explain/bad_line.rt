@@ -16,7 +16,8 @@ pub fn bad_trace_line(
 ) -> Result<String, AllocError> {
     let bytes = line_at(text, line);
     let expected = match fault {
-        LineFault::Header => "line 1 to be `xtrace 1`, `xtrace 2` or `xtrace 3`, and line 2 `ctx 20` or `ctx 40`",
+        LineFault::Header =>
+            "line 1 to be `xtrace 1`, `xtrace 2` or `xtrace 3`, and line 2 `ctx 20` or `ctx 40`",
         LineFault::Row | LineFault::Number => trace_line_form(first_word(bytes)),
         LineFault::Limit => LIMITS,
         LineFault::Shape => SHAPES,

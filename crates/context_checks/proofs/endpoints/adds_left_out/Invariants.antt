@@ -8,5 +8,5 @@ use Rattle.context_checks.proofs.endpoints.adds_left_out.Given as goal
 -- the answer is that of the endpoints from the index on
 abbrev pub invariant-loop-index : goal.invariant-loop-index
 invariant-loop-index g l =
-    adds_left_out (g.M.WordMemory.words l.input.memory) l.input.size l.input.address ≡
-    any_left (λ i. input_add_flag (g.M.WordMemory.words l.input.memory) l.input.address i && is_left_out_in (g.M.WordMemory.words l.input.memory) l.input.size l.input.address i) l.index 32
+    adds_left_out l.isochronous (g.M.WordMemory.words l.input.memory) l.input.size l.input.address ≡
+    any_left (λ i. input_add_flag (g.M.WordMemory.words l.input.memory) l.input.address i && is_left_out_in l.isochronous (g.M.WordMemory.words l.input.memory) l.input.size l.input.address i) l.index 32
