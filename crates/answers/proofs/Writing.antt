@@ -61,3 +61,16 @@ noted a b text h = subst (λ (l : List ℕ). Begins a b l) (append_nil_is text) 
   where
     append_nil_is : (xs : List ℕ) → xs ≡ xs ++ []
     append_nil_is xs = grind (arith, common_steps)
+
+-- where nothing was written, that is a beginning of any text
+pub nothing_begun : (known : Option (List ℕ)) (text : List ℕ) → Begins known known text
+nothing_begun known text = (0, appends_nothing known)
+
+-- what is told with the explanation that could be had
+pub told_note : {N F : Type 0} (bytes : N → List ℕ) (explains : Bool) (note : Result N F) (text errs : List ℕ) → IsOk note → IfOk note (λ n. IsNote explains (bytes n)) →
+    IfOk note (λ n. errs ≡ text ++ bytes n) → (x : List ℕ) × IsNote explains x × (errs ≡ text ++ x)
+told_note bytes explains (Ok n) text errs ok plain is = (bytes n, plain, is)
+told_note bytes explains (Err e) text errs ok plain is = absurd (never ok)
+  where
+    never : false ≡ true → ⊥
+    never e = cc

@@ -1,7 +1,7 @@
 -- What a run writes to the two streams, and how it ends
-use Rattle.std.specs.Prelude.{◌≡◌, ℕ, List, [], ◌++◌, take, Bool, false, Option}
+use Rattle.std.specs.Prelude.{◌≡◌, ℕ, List, [], ◌++◌, take, Bool, true, false, if◌then◌else◌, Option, Result, Ok, is_err, codes}
 use Rattle.std.specs.Io.KnownBytes.{Appends}
-use Rattle.answers.specs.Answers.{device_line, err_text, out_text, status_of}
+use Rattle.answers.specs.Answers.{device_line, err_text, goes_out, out_text, status_of, text_of}
 use Rattle.answers.specs.declared.answer.Answer.{Answer}
 use Rattle.answers.specs.declared.answer.Status.{Status}
 use Rattle.answers.specs.declared.answer.Status.TheVariants.{Unanswered}
@@ -26,3 +26,22 @@ pub data IsWritten (explains : Bool) (status : Status) (outs errs : List ℕ) (r
 abbrev pub IsTold : Bool → Answer → Status → Option (List ℕ) → Option (List ℕ) → Option (List ℕ) → Option (List ℕ) → Type 0
 IsTold explains answer result out out' err err' =
     (note : List ℕ) × IsNote explains note × IsWritten explains (status_of answer) (out_text answer) (err_text answer ++ note) result out out' err err'
+
+-- the text of the answer to one of several inputs: the input's name stands before it
+abbrev pub named_text : List ℕ → Answer → List ℕ
+named_text name answer = (name ++ codes ": ") ++ text_of answer
+
+-- what of it goes to standard output, and what to standard error
+abbrev pub named_out : List ℕ → Answer → List ℕ
+named_out name answer = if goes_out (status_of answer) then named_text name answer else []
+
+abbrev pub named_err : List ℕ → Answer → List ℕ
+named_err name answer = if goes_out (status_of answer) then [] else named_text name answer
+
+-- how the answer to one of several inputs was told: whole, with its status, its text on its stream and an explanation behind it on
+-- standard error; or, where memory or a stream failed, a beginning of both
+pub data IsToldOf {E : Type 0} (name : List ℕ) (explains : Bool) (answer : Answer) (result : Result Status E) (out out' err err' : Option (List ℕ)) : Type 0 where
+  whole : (note : List ℕ) → IsNote explains note → result ≡ Ok (status_of answer) → Appends out out' (named_out name answer) → Appends err err' (named_err name answer ++ note)
+      → IsToldOf name explains answer result out out' err err'
+  cut : (note : List ℕ) → IsNote explains note → is_err result ≡ true → Begins out out' (named_out name answer) → Begins err err' (named_err name answer ++ note)
+      → IsToldOf name explains answer result out out' err err'

@@ -1,5 +1,5 @@
 //! What is answered, its text, and the exit status that goes with it.
-ghost use Rattle.std.specs.Prelude.{◌≡◌, ◌++◌, ◌∷◌, [], IfOk, IsOk, OnOk, codes, decimal, string_bytes};
+ghost use Rattle.std.specs.Prelude.{◌≡◌, ◌++◌, ◌∷◌, [], IfOk, IsOk, OnOk, codes, decimal, max, string_bytes};
 ghost use Rattle.answers.specs.Answers.{exit_number, status_of, text_of};
 
 use crate::decode::line_of;
@@ -131,6 +131,17 @@ impl Status {
             Status::Unclean => 1,
             Status::Unreadable => 2,
             Status::Unanswered => 3,
+        }
+    }
+
+    /// The one of two with the greater number.
+    pub fn worse(self, other: Status) -> Status
+        ensures { exit_number result ≡ max (exit_number self) (exit_number other) }
+    {
+        if self.number() < other.number() {
+            other
+        } else {
+            self
         }
     }
 }

@@ -11,7 +11,9 @@ mod telling;
 
 pub use answer::{Answer, Status};
 pub use decode::{BlockWords, run_decode};
-pub use explain::{Asked, note_on_certificate, note_on_plan, note_on_schedule, note_on_trace};
+pub use explain::{
+    Asked, note_on_certificate, note_on_failure, note_on_plan, note_on_schedule, note_on_trace,
+};
 pub use keeping::keep;
 pub use replay_lines::ReplayEnd;
-pub use telling::{tell, tell_failure};
+pub use telling::{tell, tell_failure, tell_named};

@@ -1,9 +1,9 @@
 //! Writes an answer to the stream that it belongs to.
 ghost use Rattle.std.specs.Io.KnownBytes.{Appends};
 ghost use Rattle.std.specs.IoError.{error_kind};
-ghost use Rattle.std.specs.Prelude.{◌≡◌, ◌++◌, ◌⊎◌, [], ℕ, List, false, true, OnOk, IfOk, IsOk, string_bytes};
+ghost use Rattle.std.specs.Prelude.{◌≡◌, ◌++◌, ◌⊎◌, [], ℕ, List, false, true, OnOk, IfOk, IsOk, codes, string_bytes};
 ghost use Rattle.answers.specs.Answers.{answer_of_kind, device_line, err_text, goes_out, memory_line, out_text, status_of};
-ghost use Rattle.answers.specs.Telling.{Begins, IsNote, IsTold, IsWritten};
+ghost use Rattle.answers.specs.Telling.{Begins, IsNote, IsTold, IsToldOf, IsWritten, named_err, named_out};
 
 use crate::answer::{Answer, DEVICE_LINE, MEMORY_LINE, Status};
 use crate::explain::{Asked, note_on_failure};
@@ -181,4 +181,63 @@ pub fn tell_failure<O: Write, E: Write>(
 {
     let note = note_on_failure(alloc, asked, error);
     tell(alloc, asked.explains, Answer::from(error), note, out, err)
+}
+
+/// A text with the name of its input before it.
+fn headed(alloc: Global, name: &str, text: &[u8]) -> Result<Vec<u8>, AllocError>
+    ensures { IfOk result (λ line. line.items ≡ (name.now ++ codes ": ") ++ text.now) }
+{
+    let mut line = format!(in alloc; "{name}: ")?.into_bytes();
+    line.extend_from_slice(text)?;
+    Ok(line)
+}
+
+/// What goes to the two streams of the answer to one of several inputs, and of its explanation.
+fn named_lines(
+    alloc: Global,
+    name: &str,
+    answer: Answer,
+    note: Result<String, AllocError>,
+) -> Result<Lines, AllocError>
+    ensures noted { OnOk result (IsOk note) }
+    ensures out { IfOk result (λ lines. lines.out.items ≡ named_out name.now answer) }
+    ensures err { IfOk result (λ lines. IfOk note (λ n. lines.err.items ≡ named_err name.now answer ++ string_bytes n)) }
+{
+    let note = note?;
+    let status = answer.status();
+    let text = answer.text(alloc)?;
+    let mut line = headed(alloc, name, &text)?;
+    match status {
+        Status::Clean | Status::Unclean => Ok(Lines {
+            out: line,
+            err: note.into_bytes(),
+        }),
+        Status::Unreadable | Status::Unanswered => {
+            line.extend_from_slice(note.as_bytes())?;
+            Ok(Lines {
+                out: Vec::new(alloc),
+                err: line,
+            })
+        }
+    }
+}
+
+/// Writes the answer to one of several inputs whole to its stream, the input's name before it, and what explains it to standard
+/// error; its status. An error is that memory is wanted for that, or that a stream failed, so that more answers can't be told.
+pub fn tell_named<O: Write, E: Write>(
+    alloc: Global,
+    asked: &Asked,
+    answer: Answer,
+    note: Result<String, AllocError>,
+    out: &mut O,
+    err: &mut E,
+) -> io::Result<Status>
+    requires { IfOk note (λ n. IsNote asked.now.explains (string_bytes n)) }
+    ensures { IsToldOf asked.now.input.now asked.now.explains answer result (O.contents out.old) (O.contents out.new) (E.contents err.old) (E.contents err.new) }
+{
+    let status = answer.status();
+    let lines = named_lines(alloc, asked.input, answer, note)?;
+    write_whole(&lines.out, out)?;
+    write_whole(&lines.err, err)?;
+    Ok(status)
 }

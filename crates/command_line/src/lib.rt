@@ -25,9 +25,13 @@ Prints `accepted: N leases`, status 0, or the first row that breaks a rule of ow
 standard error the first bad line as `xhcitrace: line L: C Name`, status 2; else status 3. The certificate is the leases of the
 trace, and is written before `accepted` is; of every other trace no file is written.
 
+Of several traces each is checked, in order, and `FILE: ` stands before each answer; the status is the greatest. There is no
+certificate of several traces.
+
 Examples:
   xhcitrace check --explain examples/written_to_owned.xtrace
-  xhcitrace check --cert leases examples/two_descriptors.xtrace";
+  xhcitrace check --cert leases examples/two_descriptors.xtrace
+  xhcitrace check traces/*.xtrace";
 
 const WRITE: &str = "\
 Prints the trace, status 0, or the first line that can't be followed as `line L: C Name`, status 1; on standard error the
@@ -87,13 +91,9 @@ pub fn command<'a>(alloc: Global) -> Result<Command<'a>, AllocError> {
 
 fn check<'a>(alloc: Global) -> Result<Command<'a>, AllocError> {
     Command::new(alloc, "check")
-        .about("Checks a trace against the rules of ownership")
+        .about("Checks traces against the rules of ownership")
         .after_help(CHECK)
-        .arg(file(
-            alloc,
-            "TRACE",
-            "The file of the trace; -, or none: standard input",
-        ))?
+        .arg(traces(alloc))?
         .arg(certificate(alloc))?
         .arg(explain(alloc))
 }
@@ -170,8 +170,23 @@ pub fn not_text(alloc: Global) -> Result<Error, AllocError> {
     command(alloc)?.error(ErrorKind::InvalidValue, "an argument isn't UTF-8")
 }
 
+/// What is told where the certificate of several traces is asked for.
+pub fn one_certificate(alloc: Global) -> Result<Error, AllocError> {
+    command(alloc)?.error(
+        ErrorKind::ArgumentConflict,
+        "--cert writes the certificate of one trace, and several are named",
+    )
+}
+
 fn file<'a>(alloc: Global, name: &'a str, help: &'a str) -> Arg<'a> {
     Arg::new(alloc, name).help(help)
+}
+
+fn traces<'a>(alloc: Global) -> Arg<'a> {
+    Arg::new(alloc, "TRACE")
+        .num_args(0..)
+        .action(ArgAction::Append)
+        .help("The file of the trace, or several; -, or none: standard input")
 }
 
 fn needed<'a>(alloc: Global, name: &'a str, help: &'a str) -> Arg<'a> {

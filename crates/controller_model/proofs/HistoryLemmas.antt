@@ -1,5 +1,5 @@
 -- One more thing that happens on a ring
-use Rattle.std.proofs.Common.{◌≡◌, ◌+◌, ◌-◌, ◌<◌, ◌≤◌, ◌==◌, ◌||◌, ◌++◌, if◌then◌else◌, ◌∷◌, ◌∙◌, ℕ, suc, not, [], List, Option, length, drop, true, false, refl, sym, ap, arith, length-append, inl, inr, drop-drop, length-drop, eq-eqb, ne_eqb, slice_index_or}
+use Rattle.std.proofs.Common.{◌≡◌, ◌+◌, ◌-◌, ◌<◌, ◌≤◌, ◌==◌, ◌||◌, ◌++◌, if◌then◌else◌, ◌∷◌, ◌∙◌, ℕ, suc, not, [], List, Option, length, drop, true, false, refl, sym, ap, arith, length-append, inl, inr, eq-eqb, ne_eqb, slice_index_or}
 use Rattle.controller_model.proofs.Words.{drop-append-le, drop_all, false≢true, cases_eq, cond-true, cond-false, Block, Shape, address_of, cycle_of, DeclaredBlock, RingEvent, Took, Placed, takes_of, next_take, was_placed, first_at, is_as_declared, is_right_place, is_out_of_order, has_other_words, is_end, is_inside_descriptor, Header, is_last, History, Keeps}
 
 -- a bit by a test
@@ -48,20 +48,6 @@ pub record KeepsRest (h after : History) : Type 0 where
   pub inside : after.is_inside ≡ h.is_inside
   pub order : after.out_of_order ≡ h.out_of_order
   pub words : after.other_words ≡ h.other_words
-
-pub keeps_reported : (shape : Shape) (events : List RingEvent) (reported n : ℕ) (h after : History) → KeepsRest h after → n ≤ length h.unreported.items →
-    after.unreported.items ≡ drop n h.unreported.items → Keeps shape events reported h → Keeps shape events (reported + n) after
-keeps_reported shape events reported n h after same few rest k =
-    let left : length (drop reported (takes_of events)) ≡ length h.unreported.items = ap length k.unreported in
-    record {
-      next = k.next ∙ sym same.next;
-      placed = k.placed ∙ sym same.placed;
-      inside = k.inside ∙ sym same.inside;
-      order = k.order ∙ sym same.order;
-      words = k.words ∙ sym same.words;
-      unreported = sym (drop-drop n reported (takes_of events)) ∙ ap (λ xs. drop n xs) k.unreported ∙ sym rest;
-      few = omega (arith, left, few, k.few, length-drop reported (takes_of events));
-    }
 
 pub keeps_placed : (shape : Shape) (events : List RingEvent) (reported a : ℕ) (h after : History) → after.next ≡ first_at shape a h.next → after.was_placed ≡ true →
     after.is_inside ≡ false → after.out_of_order ≡ h.out_of_order → after.other_words ≡ h.other_words → after.unreported.items ≡ [] →

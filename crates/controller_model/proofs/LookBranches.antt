@@ -1,6 +1,6 @@
 -- Which way a look goes
-use Rattle.std.proofs.Common.{◌≡◌, ◌==◌, ◌||◌, ◌&&◌, ◌∙◌, ◌↔◌, ℕ, not, Bool, true, false, Option, Some, None, Ok, Err, is_some, option_map, ap, sym, subst, refl, inl, inr, arith, eq-eqb, ne_eqb, Result}
-use Rattle.controller_model.proofs.Words.{cond-true, cond-false, cases_eq, Block, block_at, cycle, kind, is_link, Command, NoOp, EnableSlot, DisableSlot, AddressDevice, ConfigureEndpoint, EvaluateContext, ResetEndpoint, StopEndpoint, SetTrDequeue, ResetDevice, result_ok, Header, command_id, World, Seen, Waited, Crossed, StepFault, NotPossible, looked_at, looked, seen_by_look, crossed, taken, taken_on, command_begun, may_scribble, look_shows, IsStep, addressed, is_it, under_way_of, Pending}
+use Rattle.std.proofs.Common.{◌≡◌, ◌==◌, ◌||◌, ◌&&◌, ◌∙◌, ◌↔◌, ℕ, not, Bool, true, false, Option, Some, None, Ok, Err, is_some, option_map, ap, sym, subst, refl, Result}
+use Rattle.controller_model.proofs.Words.{cond-true, cond-false, Block, block_at, cycle, kind, is_link, Command, NoOp, EnableSlot, DisableSlot, AddressDevice, ConfigureEndpoint, EvaluateContext, ResetEndpoint, StopEndpoint, SetTrDequeue, ResetDevice, result_ok, Header, command_id, World, Seen, Waited, Crossed, StepFault, NotPossible, looked_at, looked, seen_by_look, crossed, taken, taken_on, command_begun, may_scribble, look_shows, IsStep, addressed, is_it, under_way_of, Pending}
 use Rattle.controller_model.specs.declared.seen.Seen.TheVariants.{Took}
 
 -- a step as the definitions give it
@@ -56,13 +56,6 @@ module _ (h : Header) (w : World) (r : ℕ) (b : Block) where
   pub taken_command : (r == command_id h) ≡ true → taken h w r b ≡ command_begun h (taken_on h w r b) (w.pointer_of r) b
   unfolding taken
   taken_command command = cond-true (r == command_id h) _ _ command
-
-pub other_cycle : (b : Block) → not (cycle b == 1) ≡ (cycle b == 0)
-other_cycle b =
-    elim (cases_eq (cycle b) 1) [
-      | inl one ↦ ap not (eq-eqb (cycle b) 1 one) ∙ sym (ne_eqb (cycle b) 0 (λ e. omega (arith, one, e)))
-      | inr zero ↦ ap not (ne_eqb (cycle b) 1 zero) ∙ sym (eq-eqb (cycle b) 0 (omega (arith, zero)))
-    ]
 
 or_false : (b : Bool) → (b || false) ≡ b
 or_false true = refl

@@ -21,10 +21,6 @@ module _ (h : Header) (w : World) where
   made_stopped (Other b) other e = not_running _ e
   made_stopped (Scribble a x) other e = not_running _ e
 
-  pub stepped_none : (s : Step) → made h w s ≡ None → stepped h w s ≡ None
-  unfolding stepped
-  stepped_none s e = ap (λ o. option_map (counted h) o) e
-
 -- a step that isn't counted yet, and the one that is
 pub step_counted : (h : Header) (w : World) (s : Step) (seen shown : Seen) (P Q : World → Type 0) → ((v : World) → P v → Q (counted h v)) →
     IsStep (Ok seen) (made h w s) shown P → IsStep (Ok seen) (stepped h w s) shown Q

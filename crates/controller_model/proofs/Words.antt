@@ -45,28 +45,23 @@ pub use Rattle.controller_model.specs.declared.seen.Seen.TheVariants.{Crossed, P
 pub use Rattle.controller_model.specs.declared.stamps.Stamps.{Stamps}
 pub use Rattle.controller_model.specs.declared.watches.Watch.{Watch}
 pub use Rattle.event_ring.proofs.DequeueLemmas.{position_from-place}
-pub use Rattle.event_ring.specs.EventRing.{has_room, is_event_place, position_from}
-pub use Rattle.guest_memory.specs.Memory.{put, put_pair}
-pub use Rattle.segments.proofs.PlaceAtLemmas.{place_at-Data, place_at-address_of, place_at-link_address}
-pub use Rattle.segments.proofs.Positions.{address_aligned, address_of-first, same_in_lap}
+pub use Rattle.event_ring.proofs.Words.{Data, Link, address_aligned, has_room, or_from, place_at-Data, place_at-address_of, position_from, same_in_lap}
+pub use Rattle.event_ring.specs.EventRing.{is_event_place}
+pub use Rattle.guest_memory.specs.Memory.{put_pair}
+pub use Rattle.segments.proofs.PlaceAtLemmas.{place_at-link_address}
+pub use Rattle.segments.proofs.Positions.{address_of-first}
 pub use Rattle.segments.proofs.Search.{cases_option}
+pub use Rattle.segments.proofs.Words.{All-push, Block, Evt, IsShape, Shape, Xfer, address_of, aligned, and_from, and_parts, block_at, cases_Bool, cases_eq, cases_lt, cond-false, cond-true, cycle, cycle_of, data_places, false_from_ne_true, false≢true, is_crossing, is_inside, is_link, is_set, kind, link_address, link_crossed, link_target, list_any, list_any_at, none-some, or_cases, or_left, or_right, place_at, place_count, pointer, put, range_with_len, same_Some, same_words, slice_get-get_or, slice_get_within, word}
+unfoldable pub use Rattle.segments.proofs.Words.{is_border}
 pub use Rattle.segments.specs.Descriptors.{DeclaredBlock}
-unfoldable pub use Rattle.segments.specs.Descriptors.{declared_at, is_border}
-pub use Rattle.segments.specs.PlaceAt.{place_at}
-pub use Rattle.segments.specs.Places.{address_of, cycle_of, data_places, is_crossing, is_inside, link_address, link_crossed, link_target, place_count}
-pub use Rattle.segments.specs.Shape.{IsShape}
-pub use Rattle.segments.specs.ShapeValue.{Shape}
-pub use Rattle.segments.specs.declared.place.Place.TheVariants.{Data, Link}
+unfoldable pub use Rattle.segments.specs.Descriptors.{declared_at}
 pub use Rattle.std.proofs.Math.Bool.{or-true, or_assoc}
 pub use Rattle.std.proofs.Math.ListN.{length-set}
-pub use Rattle.std.proofs.lemmas.Bool.{and_from, and_parts, cases_Bool, cases_eq, cases_lt, cond-false, cond-true, false_from_ne_true, false≢true, or_cases, or_from, or_left, or_right}
 pub use Rattle.std.proofs.lemmas.Grind.{common_steps, take_at_read}
 pub use Rattle.std.proofs.lemmas.List.{drop-append-le, drop_all}
-pub use Rattle.std.proofs.lemmas.List.Elements.{All-push}
-pub use Rattle.std.proofs.lemmas.List.Folds.{list_any_at, list_any_more}
-pub use Rattle.std.proofs.lemmas.Option.{none-some, same_Some, slice_get-get_or, slice_get_past, slice_get_within}
+pub use Rattle.std.proofs.lemmas.List.Folds.{list_any_more}
+pub use Rattle.std.proofs.lemmas.Option.{slice_get_past}
 pub use Rattle.std.proofs.lemmas.Result.{err_from_is_err_and}
-pub use Rattle.std.specs.List.{list_any, range_with_len}
 pub use Rattle.std.specs.Result.{result_ok}
 pub use Rattle.traces.specs.Header.{id_of, id_or_none, is_command_kind, is_ring, is_transfer_kind, ring_with, shape_or}
 unfoldable pub use Rattle.traces.specs.Header.{command_id, command_ring, event_ring, event_shape, event_size, ring_having, shape_of, some_ring}
@@ -79,14 +74,12 @@ pub use Rattle.traces.specs.declared.row.Row.{Row, Row as RowValue}
 pub use Rattle.traces.specs.declared.row.Row.TheVariants.{Read, Sub, Write}
 pub use Rattle.traces.specs.declared.step.Step.{Step}
 pub use Rattle.traces.specs.declared.step.Step.TheVariants.{Finish, Look, NextRow, Other, Report, Scribble}
-pub use Rattle.trb.specs.Bits.{bits, is_set}
-pub use Rattle.trb.specs.Block.{aligned, block_at, code, cycle, endpoint, kind, pointer, same_words, slot, word}
+pub use Rattle.trb.specs.Bits.{bits}
+pub use Rattle.trb.specs.Block.{code, endpoint, slot}
 pub use Rattle.trb.specs.CompletionCode.{is_halting, is_stopping, is_success, is_trb_error}
 pub use Rattle.trb.specs.Descriptor.{is_command_left_out}
-pub use Rattle.trb.specs.Kind.{is_command_completion, is_link, is_other_event, is_transfer_event}
-pub use Rattle.trb.specs.declared.block.Block.{Block}
+pub use Rattle.trb.specs.Kind.{is_command_completion, is_other_event, is_transfer_event}
 pub use Rattle.trb.specs.declared.kind.BlockKind.{BlockKind}
-pub use Rattle.trb.specs.declared.ring_kind.RingKind.TheVariants.{Evt, Xfer}
 unfoldable pub use Rattle.world_state.specs.Harms.{harm_of, harms, has_changed_context, has_other_words, is_changed_since, is_context_changed, is_end, is_inside_descriptor, is_out_of_order, is_right_place, waits}
 unfoldable pub use Rattle.world_state.specs.Takes.{declared_next, first_at, is_as_declared, is_place, next_take, takes_of, unreported, was_placed}
 pub use Rattle.world_state.specs.World.{Placed, RingEvent, Took, UnderWay, World}

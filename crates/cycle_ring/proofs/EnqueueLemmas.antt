@@ -1,6 +1,6 @@
 -- What enqueue appends, played into memory
 use Rattle.std.proofs.Common.{◌≡◌, ◌+◌, ◌-◌, ◌^◌, ◌<◌, ◌≤◌, ◌&&◌, ◌++◌, ◌∙◌, ℕ, nat_le, nat_lt, true, List, length, arith, subst, sym, ap, None}
-use Rattle.cycle_ring.proofs.Words.{drop-append_seam, nat_tests, Block, fault_of, IsShape, place_count, place_count_pos, Progress, has_room, writes_of, appended, BlocksStand, LinksStand, OthersStay, GivenLast, MayBeDeclared, KeepTheRing, FollowsPassed}
+use Rattle.cycle_ring.proofs.Words.{drop-append_seam, nat_tests, Block, fault_of, IsShape, place_count, place_count_pos, Progress, has_room, writes_of, appended, BlocksStand, LinksStand, OthersStay, GivenLast, MayBeDeclared, KeepTheRing}
 use Rattle.cycle_ring.proofs.Declared.{may_be_declared}
 use Rattle.cycle_ring.proofs.KeepsTheRing.{keep_the_ring}
 use Rattle.cycle_ring.proofs.DescriptorStands.{blocks_stand, links_stand, others_stay, given_last}
@@ -59,7 +59,3 @@ module _ (p seen : Progress) (is_seen : p ≡ seen) (in_order : p.retired ≤ p.
     appended_rules =
         subst (λ (ws : List (ℕ × ℕ)). KeepTheRing seen blocks ws) appended_writes
         (keep_the_ring seen blocks is_shape seen_in_order fewer (room, no_fault))
-
--- what is surely passed may be retired
-pub retired_follows : (p : Progress) (count : ℕ) → FollowsPassed p count (record p { retired = count })
-retired_follows p count v so passed = record { declared = so.declared; given = so.given; crossed = so.crossed; passed = passed }

@@ -1,6 +1,6 @@
 -- What a producer enqueues keeps the rules of its ring
 use Rattle.std.proofs.Common.{◌≡◌, ◌+◌, ◌<◌, ◌≤◌, ◌==◌, ◌∷◌, ◌++◌, ◌∙◌, ℕ, suc, zero, Bool, true, false, List, [], length, sum, nat_lt, All, Some, slice_get, arith, refl, sym, ap, subst, inl, length-append, eq-eqb, ne_eqb, ltb-true, lt-ltb}
-use Rattle.cycle_ring.proofs.Words.{cond-true, cond-false, and_parts, and_from, and_right, or_left, false_from_ne_true, All-head, All-tail, sum_by-cons, put, Block, block_at, word, Shape, IsShape, place_count, address_of, is_crossing, RingView, Declares, Writes, changed, declared, floor_number, new_ring, gives_crossing, length_from, descriptor_length, RingKeeps, MayDeclare, declares_keeps, new_ring_keeps, Progress, IsAllowed, low_writes, control_write, block_at_position, way_writes, later_writes, writes_of, played, IsEnqueuedSo, viewed, KeepsTheRing, KeepTheRing, BeginsWithTheRing}
+use Rattle.cycle_ring.proofs.Words.{cond-true, cond-false, and_parts, and_from, or_left, All-head, All-tail, sum_by-cons, put, Block, block_at, word, Shape, IsShape, place_count, address_of, is_crossing, RingView, Declares, Writes, changed, declared, floor_number, gives_crossing, length_from, descriptor_length, RingKeeps, MayDeclare, declares_keeps, Progress, IsAllowed, low_writes, control_write, block_at_position, way_writes, later_writes, writes_of, played, IsEnqueuedSo, viewed, KeepsTheRing, KeepTheRing}
 use Rattle.cycle_ring.proofs.DescriptorStands.{blocks_stand}
 use Rattle.cycle_ring.proofs.Declared.{may_be_declared}
 use Rattle.cycle_ring.proofs.LinkBlocks.{cycle_written}
@@ -132,19 +132,3 @@ pub keep_the_ring :
 keep_the_ring p [] is in_order fewer allowed memory v k so = let may = may_be_declared p [] is in_order allowed v so in absurd (omega (arith, may.some))
 keep_the_ring p (b ∷ rest) is in_order fewer allowed memory v k so =
     keeps_with p b rest memory v is fewer k so (may_be_declared p (b ∷ rest) is in_order allowed v so)
-
--- a ring on which nothing has happened is as a new producer has it
-new_is_so : (shape : Shape) → IsEnqueuedSo (record { shape = shape; enqueued = 0; retired = 0 }) new_ring
-new_is_so shape =
-    record {
-      declared = refl;
-      given = λ n. sym (never n);
-      crossed = λ q. sym (and_right (is_crossing shape q) (nat_lt q 0) (never q));
-      passed = omega arith;
-    }
-  where
-    never : (n : ℕ) → nat_lt n 0 ≡ false
-    never n = false_from_ne_true (nat_lt n 0) (λ h. let below = ltb-true n 0 h in omega arith)
-
-pub begins_with_the_ring : (shape : Shape) → IsShape shape → BeginsWithTheRing (record { shape = shape; enqueued = 0; retired = 0 })
-begins_with_the_ring shape is = record { enqueued = new_is_so shape; keeps = new_ring_keeps shape is }

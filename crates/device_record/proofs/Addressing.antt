@@ -1,6 +1,5 @@
 -- The Address Device commands among the unfinished ones, counted by slot
-use Rattle.std.proofs.Common.{◌≡◌, ◌<◌, ◌≤◌, ◌&&◌, ◌||◌, ◌∙◌, ◌∷◌, if◌then◌else◌, ℕ, zero, suc, Bool, true, false, List, [], Option, Some, None, ap, sym, refl, arith, inl, inr, length, get_or, All, nat_lt, filter, le-ltb, lt-ltb, eq-eqb}
-use Rattle.device_record.proofs.Words.{list_any, sum_by, cases_Bool, cases_lt, and_parts, false≢true, sum_by-le, sum_by-cons, Command, AddressDevice, SlotCommand, UnfinishedCommands, addressing_count, is_address_device, is_addressing, FollowsUnfinished, as_list, kept_of, names, no_command}
+use Rattle.device_record.proofs.Words.{◌≡◌, ◌<◌, ◌≤◌, ◌&&◌, ◌||◌, ◌∙◌, ◌∷◌, if◌then◌else◌, ℕ, zero, suc, Bool, true, false, List, [], Option, Some, None, ap, sym, refl, arith, inl, inr, length, get_or, All, nat_lt, filter, le-ltb, lt-ltb, eq-eqb, list_any, sum_by, cases_Bool, cases_lt, and_parts, false≢true, sum_by-le, sum_by-cons, Command, AddressDevice, SlotCommand, UnfinishedCommands, addressing_count, is_address_device, is_addressing, FollowsUnfinished, as_list, kept_of, names, no_command}
 use Rattle.device_record.proofs.NamedCommands.{found_of_slot}
 
 -- ---- how many there are

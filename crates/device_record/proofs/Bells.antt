@@ -1,6 +1,5 @@
 -- A doorbell is rung
-use Rattle.std.proofs.Common.{◌≡◌, ◌==◌, ◌≤◌, ◌&&◌, if◌then◌else◌, ◌∙◌, ◌+◌, ◌*◌, ℕ, Bool, true, false, Option, Some, None, ap, sym, subst, nat_lt, is_some, slice_index_or, eq-eqb, ne_eqb, le-ltb}
-use Rattle.device_record.proofs.Words.{cond-true, cond-false, put_pair, Opens, is_stopped, Running, Header, command_id, Known, on_ring, endpoint_rung, rung, Endpoint, DeviceRecord, rung_endpoint, FollowsDevices, IsWithEndpoint, endpoint_at, fresh_endpoint}
+use Rattle.device_record.proofs.Words.{◌≡◌, ◌==◌, ◌≤◌, ◌&&◌, if◌then◌else◌, ◌∙◌, ◌+◌, ◌*◌, ℕ, Bool, true, false, Option, Some, None, ap, sym, subst, nat_lt, is_some, slice_index_or, eq-eqb, ne_eqb, le-ltb, cond-true, cond-false, put_pair, Opens, is_stopped, Running, Header, command_id, Known, on_ring, endpoint_rung, rung, Endpoint, DeviceRecord, rung_endpoint, FollowsDevices, IsWithEndpoint, endpoint_at, fresh_endpoint}
 use Rattle.device_record.proofs.Steps.{follows_beside, follows_still, follows_state}
 
 module _ (h : Header) (k : Known) (s t : ℕ) where

@@ -1,6 +1,5 @@
 -- One field of what is kept, where one slot or one endpoint is kept anew
-use Rattle.std.proofs.Common.{◌≡◌, ◌==◌, ◌&&◌, if◌then◌else◌, ◌∙◌, ℕ, Bool, true, false, ap, sym, refl, inl, inr, eq-eqb, ne_eqb}
-use Rattle.device_record.proofs.Words.{cases_eq, cond-true, cond-false, put, put_pair, Slot, Endpoint, DeviceRecord, IsWithSlot, IsWithEndpoint, slot_at, endpoint_at}
+use Rattle.device_record.proofs.Words.{◌≡◌, ◌==◌, ◌&&◌, if◌then◌else◌, ◌∙◌, ℕ, Bool, true, false, ap, sym, refl, inl, inr, eq-eqb, ne_eqb, cases_eq, cond-true, cond-false, put, put_pair, Slot, Endpoint, DeviceRecord, IsWithSlot, IsWithEndpoint, slot_at, endpoint_at}
 
 and_false : (b : Bool) → (b && false) ≡ false
 and_false true = refl

@@ -1,6 +1,5 @@
 -- What passes a test of a list where one element more passes, or none
-use Rattle.std.proofs.Common.{◌≡◌, ◌++◌, ◌&&◌, ◌||◌, if◌then◌else◌, ◌∙◌, ◌∷◌, not, Bool, true, false, List, [], Option, Some, None, ap, sym, refl, filter}
-use Rattle.device_record.proofs.Words.{filter_map, cons_option, filter_map-append}
+use Rattle.device_record.proofs.Words.{◌≡◌, ◌++◌, ◌&&◌, ◌||◌, if◌then◌else◌, ◌∙◌, ◌∷◌, not, Bool, true, false, List, [], Option, Some, None, ap, sym, refl, filter, filter_map, cons_option, filter_map-append}
 
 -- the new list is the old one with x at some place
 pub record Inserted {X : Type 0} (x : X) (old new : List X) : Type 0 where
@@ -59,9 +58,6 @@ module _ {X : Type 0} where
     -- it stands for nothing
     pub mapped_as_before : f p ≡ None → filter_map f ns ≡ filter_map f os
     mapped_as_before at = new_parts None at ∙ sym old_parts
-
-  filter_step : (x : X) (ps qs : List X) (a b : Bool) → a ≡ b → ps ≡ qs → (if a then x ∷ ps else ps) ≡ (if b then x ∷ qs else qs)
-  filter_step x ps qs a b same rest = λ i. if same i then x ∷ rest i else rest i
 
   mapped_step : {Y : Type 0} (f g : X → Option Y) (x : X) (xs : List X) (b : Bool) → (b ≡ true → f x ≡ g x) → filter_map f xs ≡ filter_map g xs →
       filter_map f (if b then x ∷ xs else xs) ≡ filter_map g (if b then x ∷ xs else xs)

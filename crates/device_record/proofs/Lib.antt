@@ -9,7 +9,6 @@ pub mod TurnedOff
 pub mod OtherRows
 pub mod NamedCommands
 pub mod Addressing
-pub mod NamedEndpoints
 pub mod Inserted
 pub mod UnfinishedWritten
 pub mod UnfinishedSame
@@ -19,5 +18,4 @@ pub mod TransfersApart
 pub mod UnfinishedEvents
 pub mod UnfinishedRows
 pub mod TouchedEndpoints
-pub mod HeaderShapes
 pub mod Words

@@ -1,6 +1,5 @@
 -- What moves or holds rings alone
-use Rattle.std.proofs.Common.{ℕ, Bool, Option, Some, None}
-use Rattle.device_record.proofs.Words.{Spot, target, Header, shape_of, Known, on_ring, set_to, moved_to, moved, held_at_ceiling, DeviceRecord, FollowsDevices}
+use Rattle.device_record.proofs.Words.{ℕ, Bool, Option, Some, None, Spot, target, Header, shape_of, Known, on_ring, set_to, moved_to, moved, held_at_ceiling, DeviceRecord, FollowsDevices}
 use Rattle.device_record.proofs.Steps.{follows_beside}
 
 module _ (h : Header) (k : Known) (d : DeviceRecord) (f : FollowsDevices k d) where

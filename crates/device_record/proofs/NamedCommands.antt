@@ -1,6 +1,5 @@
 -- Which of the unfinished commands name a slot
-use Rattle.std.proofs.Common.{◌≡◌, ◌==◌, ◌++◌, ◌||◌, if◌then◌else◌, ◌∙◌, ◌∷◌, ℕ, Bool, true, false, List, [], Option, Some, None, ap, sym, refl, replicate, filter, slice_index_or, is_some, eqb-true}
-use Rattle.device_record.proofs.Words.{list_any, filter-append, Command, named_slot, name_one_slot, same_slot, UnfinishedCommands, SlotCommand, FollowsUnfinished, IsOfSlot, as_list, is_slot, kept_of, names, no_command}
+use Rattle.device_record.proofs.Words.{◌≡◌, ◌==◌, ◌++◌, ◌||◌, if◌then◌else◌, ◌∙◌, ◌∷◌, ℕ, Bool, true, false, List, [], Option, Some, None, ap, sym, refl, replicate, filter, slice_index_or, is_some, eqb-true, list_any, filter-append, Command, named_slot, name_one_slot, same_slot, UnfinishedCommands, SlotCommand, FollowsUnfinished, IsOfSlot, as_list, is_slot, kept_of, names, no_command}
 use Rattle.device_record.proofs.NewRecord.{alike}
 
 none_step : {X : Type 0} (x : X) (ys : List X) (b r : Bool) → (b || r) ≡ false → (r ≡ false → ys ≡ []) → (if b then x ∷ ys else ys) ≡ []
@@ -46,10 +45,6 @@ any_one_step x d ys false r e rest = rest e
 any_one : {X : Type 0} (p : X → Bool) (xs : List X) (d : X) → filter p xs ≡ d ∷ [] → list_any p xs ≡ true
 any_one p [] d e = absurd (cc)
 any_one p (x ∷ xs) d e = any_one_step x d (filter p xs) (p x) (list_any p xs) e (any_one p xs d)
-
-empty_left : {X : Type 0} (xs ys : List X) → xs ++ ys ≡ [] → xs ≡ []
-empty_left [] ys e = refl
-empty_left (x ∷ xs) ys e = absurd (cc)
 
 -- a list with an element in it that has at most one
 only_left : {X : Type 0} (xs ys : List X) (x y : X) → xs ++ x ∷ ys ≡ y ∷ [] → xs ++ ys ≡ []

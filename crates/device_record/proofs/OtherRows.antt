@@ -1,8 +1,6 @@
 -- Rows by which nothing changes that the record speaks of
-use Rattle.std.proofs.Common.{◌≡◌, ◌+◌, ◌&&◌, ◌||◌, if◌then◌else◌, ℕ, not, Bool, true, false, List, None, sym, subst, refl, option_and_then}
-use Rattle.device_record.proofs.Words.{Block, BlockKind, TransferEvent, CommandCompletion, kind, RingChange, Header, Register, Usbcmd, Sub, Write, Reg, Bell, Read, command_id, run_bit, reset_bit, Known, on_ring, command_at, next_command, taken_device, command_given, with_device, with_word, written, run_or_stop, valued, register_written, transfer_read, finished, completed, event_read, learned, DeviceRecord, FollowsDevices}
+use Rattle.device_record.proofs.Words.{◌≡◌, ◌+◌, ◌&&◌, ◌||◌, if◌then◌else◌, ℕ, not, Bool, true, false, List, None, sym, subst, refl, option_and_then, Block, BlockKind, TransferEvent, CommandCompletion, Header, Register, Usbcmd, Sub, Write, Reg, run_bit, reset_bit, Known, on_ring, taken_device, command_given, with_device, with_word, written, run_or_stop, valued, register_written, event_read, learned, DeviceRecord, FollowsDevices}
 use Rattle.device_record.proofs.Steps.{follows_beside}
-use Rattle.device_record.proofs.Bells.{follows_first}
 
 -- how many events were read
 counted : (k : Known) (n : ℕ) (d : DeviceRecord) → FollowsDevices k d → FollowsDevices (record k { reads = n }) d
@@ -20,11 +18,6 @@ unfolding run_or_stop
 after_run k v d f = started_or_not k d f (not k.started) (run_bit v && not (reset_bit v)) (not (run_bit v) || reset_bit v)
 
 module _ (h : Header) (k : Known) (d : DeviceRecord) (f : FollowsDevices k d) where
-  -- something happens on a ring
-  pub after_ring : (r : ℕ) (c : RingChange) → FollowsDevices (on_ring h k r c) d
-  unfolding on_ring
-  after_ring r c = follows_beside k (on_ring h k r c) d f
-
   pub after_declaration : (r : ℕ) (blocks : List Block) → FollowsDevices (learned h k (Sub r blocks)) d
   unfolding learned on_ring
   after_declaration r blocks = follows_beside k (learned h k (Sub r blocks)) d f
@@ -44,30 +37,8 @@ module _ (h : Header) (k : Known) (d : DeviceRecord) (f : FollowsDevices k d) wh
   after_register Usbcmd v = after_run (valued k Usbcmd v) v d (follows_beside k (valued k Usbcmd v) d f)
   after_register r v = follows_beside k (register_written h k r v) d f
 
-  -- the host controller's doorbell
-  pub after_command_bell : (t : ℕ) → FollowsDevices (learned h k (Bell 0 t)) d
-  unfolding learned
-  after_command_bell t = follows_first h k 0 t d f refl
-
   by_kind : (b : Block) (t : BlockKind) → (t ≡ TransferEvent → ⊥) → (t ≡ CommandCompletion → ⊥) → FollowsDevices (record (event_read h k t b) { reads = k.reads + 1 }) d
   unfolding event_read
   by_kind b TransferEvent no_transfer no_completion = absurd (no_transfer refl)
   by_kind b CommandCompletion no_transfer no_completion = absurd (no_completion refl)
   by_kind b _ no_transfer no_completion = counted k (k.reads + 1) d f
-
-  -- an event that is neither a Transfer Event nor a Command Completion Event
-  pub after_other_event : (b : Block) → (kind b ≡ TransferEvent → ⊥) → (kind b ≡ CommandCompletion → ⊥) → FollowsDevices (learned h k (Read b)) d
-  unfolding learned
-  after_other_event b no_transfer no_completion = by_kind b (kind b) no_transfer no_completion
-
--- the rest of what a Transfer Event does, and of a Command Completion Event
-module _ (h : Header) (k : Known) (d : DeviceRecord) (b : Block) where
-  pub after_transfer : kind b ≡ TransferEvent → FollowsDevices (transfer_read h k b) d → FollowsDevices (learned h k (Read b)) d
-  unfolding learned event_read
-  after_transfer is f = subst (λ t. FollowsDevices (record (event_read h k t b) { reads = k.reads + 1 }) d) (sym is) (counted (transfer_read h k b) (k.reads + 1) d f)
-
-  pub after_completion : kind b ≡ CommandCompletion → FollowsDevices (finished h k b (command_at h k (next_command h k))) d → FollowsDevices (learned h k (Read b)) d
-  unfolding learned event_read completed
-  after_completion is f =
-      subst (λ t. FollowsDevices (record (event_read h k t b) { reads = k.reads + 1 }) d) (sym is)
-      (counted (completed h k b) (k.reads + 1) d (after_ring h (finished h k b (command_at h k (next_command h k))) d f (command_id h) _))

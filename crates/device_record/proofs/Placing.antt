@@ -1,6 +1,5 @@
 -- An endpoint gets a ring, or keeps its own
-use Rattle.std.proofs.Common.{◌≡◌, ◌<◌, ◌==◌, if◌then◌else◌, ◌∙◌, ℕ, Bool, true, false, List, Option, Some, None, ap, sym, subst, refl, length, inl, inr, get_or-set_same, get_or-set_other, arith, slice_index_or, slice_set, eq-eqb, ne_eqb}
-use Rattle.device_record.proofs.Words.{cases_eq, cond-true, cond-false, put, put_pair, EndpointState, is_off, Data, Header, ring_beginning_at, Known, on_ring, bound_to, in_state, moved, pointed, set_to, Endpoint, DeviceRecord, placed_endpoint, ring_got, FollowsDevices, IsWithBound, IsWithEndpoint, endpoint_at}
+use Rattle.device_record.proofs.Words.{◌≡◌, ◌<◌, ◌==◌, if◌then◌else◌, ◌∙◌, ℕ, Bool, true, false, List, Option, Some, None, ap, sym, subst, refl, length, inl, inr, get_or-set_same, get_or-set_other, arith, slice_index_or, slice_set, eq-eqb, ne_eqb, cases_eq, cond-true, cond-false, put, put_pair, EndpointState, is_off, Data, Header, ring_beginning_at, Known, on_ring, bound_to, in_state, moved, pointed, set_to, Endpoint, DeviceRecord, placed_endpoint, ring_got, FollowsDevices, IsWithBound, IsWithEndpoint, endpoint_at}
 use Rattle.device_record.proofs.Moves.{follows_moved}
 use Rattle.device_record.proofs.Steps.{endpoints_same, states_same, devices_same, follows_beside, follows_halt, follows_placed}
 

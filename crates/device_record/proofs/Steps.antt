@@ -1,6 +1,5 @@
 -- The record follows what is known where one slot, one endpoint or nothing of these is kept anew
-use Rattle.std.proofs.Common.{◌≡◌, ◌∙◌, ℕ, Option, Bool, false, ap, sym, refl, slice_index_or}
-use Rattle.device_record.proofs.Words.{SlotState, EndpointState, put, put_pair, Known, Slot, Endpoint, DeviceRecord, FollowsDevices, IsWithSlot, IsWithEndpoint, slot_at, endpoint_at}
+use Rattle.device_record.proofs.Words.{◌≡◌, ◌∙◌, ℕ, Option, Bool, false, ap, sym, refl, slice_index_or, SlotState, EndpointState, put, put_pair, Known, Slot, Endpoint, DeviceRecord, FollowsDevices, IsWithSlot, IsWithEndpoint, slot_at, endpoint_at}
 use Rattle.device_record.proofs.Fields.{endpoint_put, endpoint_kept, slot_put, slot_kept}
 
 -- what the record doesn't speak of is that of another k'

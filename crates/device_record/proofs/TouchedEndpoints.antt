@@ -1,6 +1,5 @@
 -- The success of a command touches endpoints of the slot alone that it names
-use Rattle.std.proofs.Common.{◌≡◌, ◌==◌, ◌&&◌, ◌||◌, ◌∷◌, ◌∙◌, ℕ, Bool, true, false, List, [], sym, refl, map}
-use Rattle.device_record.proofs.Words.{list_any, false≢true, ContextSize, added_endpoints, is_dropped, NoOp, EnableSlot, DisableSlot, AddressDevice, ConfigureEndpoint, EvaluateContext, ResetEndpoint, StopEndpoint, SetTrDequeue, ResetDevice, is_above_control, placed_by_context, changes, touches, IsOfSlot}
+use Rattle.device_record.proofs.Words.{◌≡◌, ◌==◌, ◌&&◌, ◌||◌, ◌∷◌, ◌∙◌, ℕ, Bool, true, false, List, [], sym, refl, map, list_any, false≢true, ContextSize, added_endpoints, is_dropped, NoOp, EnableSlot, DisableSlot, AddressDevice, ConfigureEndpoint, EvaluateContext, ResetEndpoint, StopEndpoint, SetTrDequeue, ResetDevice, is_above_control, placed_by_context, changes, touches, IsOfSlot}
 
 one_of : (x b : Bool) → ((x && b) || false) ≡ true → x ≡ true
 one_of true b e = refl

@@ -1,6 +1,5 @@
 -- A Transfer Event is read
-use Rattle.std.proofs.Common.{◌≡◌, if◌then◌else◌, ℕ, Bool, true, false}
-use Rattle.device_record.proofs.Words.{put_pair, is_success, is_halting, is_trb_error, is_stopping, Spot, Halted, Error, Header, Known, on_ring, passed, broken_off, stopped_at, transferred, Endpoint, DeviceRecord, transferred_endpoint, FollowsDevices, IsWithEndpoint, endpoint_at}
+use Rattle.device_record.proofs.Words.{◌≡◌, if◌then◌else◌, ℕ, Bool, true, false, put_pair, is_success, is_halting, is_trb_error, is_stopping, Spot, Halted, Error, Header, Known, on_ring, passed, broken_off, stopped_at, transferred, Endpoint, DeviceRecord, transferred_endpoint, FollowsDevices, IsWithEndpoint, endpoint_at}
 use Rattle.device_record.proofs.Steps.{follows_beside, follows_still, follows_state, follows_halt, follows_stop_seen}
 
 module _ (h : Header) (k : Known) (s i : ℕ) (old new : DeviceRecord) (f : FollowsDevices k old) (x : Endpoint) (w : IsWithEndpoint old new s i x) (r : ℕ) (t : Spot) where

@@ -1,6 +1,5 @@
 -- A Transfer Event leaves a ring as it is that no endpoint has
-use Rattle.std.proofs.Common.{◌≡◌, ◌+◌, ◌∙◌, if◌then◌else◌, ◌≢◌, ℕ, true, Option, Some, None, ap, sym, refl}
-use Rattle.device_record.proofs.Words.{option_map, cond_both, none-some, same_Some, put_pair, Block, code, slot, endpoint, pointer, is_success, is_halting, is_trb_error, is_stopping, Spot, number, after, Reaches, Holds, named, stopped_number, EndpointState, Halted, Error, Header, shape_of, Known, RingSpot, on_ring, spot_on, event_at, passed, broken_off, stopped_at, transferred, transferred_at, transfer_read}
+use Rattle.device_record.proofs.Words.{◌≡◌, ◌+◌, ◌∙◌, if◌then◌else◌, ◌≢◌, ℕ, true, Option, Some, None, ap, sym, refl, option_map, cond_both, none-some, same_Some, put_pair, Block, code, slot, endpoint, pointer, is_success, is_halting, is_trb_error, is_stopping, Spot, number, after, Reaches, Holds, named, stopped_number, EndpointState, Halted, Error, Header, shape_of, Known, RingSpot, on_ring, spot_on, event_at, passed, broken_off, stopped_at, transferred, transferred_at, transfer_read}
 use Rattle.device_record.proofs.UnfinishedSame.{ring_elsewhere}
 use Rattle.device_record.proofs.RingApart.{NoEndpointHas}
 

@@ -1,6 +1,5 @@
 -- Endpoints of one slot are disabled, one after another
-use Rattle.std.proofs.Common.{◌≡◌, ◌+◌, ◌*◌, ◌<◌, ◌≤◌, ◌==◌, ◌&&◌, ◌||◌, if◌then◌else◌, ◌∙◌, ℕ, Bool, true, false, None, ap, sym, refl, inl, inr, arith, nat_lt, slice_index_or, eq-eqb, ne_eqb, lt-ltb, le-ltb}
-use Rattle.device_record.proofs.Words.{cases_eq, cases_lt, cond-false, Off, Header, Known, disabled, Endpoint, DeviceRecord, turned_off, FollowsDevices, IsDisabled, endpoint_at, fresh_endpoint}
+use Rattle.device_record.proofs.Words.{◌≡◌, ◌+◌, ◌*◌, ◌<◌, ◌≤◌, ◌==◌, ◌&&◌, ◌||◌, if◌then◌else◌, ◌∙◌, ℕ, Bool, true, false, None, ap, sym, refl, inl, inr, arith, nat_lt, slice_index_or, eq-eqb, ne_eqb, lt-ltb, le-ltb, cases_eq, cases_lt, cond-false, Off, Header, Known, disabled, Endpoint, DeviceRecord, turned_off, FollowsDevices, IsDisabled, endpoint_at, fresh_endpoint}
 use Rattle.device_record.proofs.Steps.{states_same, devices_same, bound_same}
 
 and_false : (b : Bool) → (b && false) ≡ false

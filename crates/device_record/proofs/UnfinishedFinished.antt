@@ -1,6 +1,5 @@
 -- The unfinished commands behind a completion: the first is finished
-use Rattle.std.proofs.Common.{◌≡◌, ◌+◌, ◌<◌, ◌∙◌, if◌then◌else◌, ◌∷◌, ℕ, suc, zero, Bool, true, false, arith, ap, sym, refl, filter, option_and_then, slice_get}
-use Rattle.device_record.proofs.Words.{filter_map, cons_option, range_with_len, Block, Shape, place_count, after, RingView, Reaches, changed, floor_number, due_positions, number-after, command_of, Header, shape_of, command_id, Known, next_command, command_at, unfinished_positions, unfinished, finished, completed}
+use Rattle.device_record.proofs.Words.{◌≡◌, ◌+◌, ◌<◌, ◌∙◌, if◌then◌else◌, ◌∷◌, ℕ, suc, zero, Bool, true, false, arith, ap, sym, refl, filter, option_and_then, slice_get, filter_map, cons_option, range_with_len, Block, Shape, place_count, after, RingView, Reaches, changed, floor_number, due_positions, number-after, command_of, Header, shape_of, command_id, Known, next_command, command_at, unfinished_positions, unfinished, finished, completed}
 use Rattle.device_record.proofs.UnfinishedSame.{ring_here}
 
 -- ---- numbers of a range, and those of the range one further
@@ -63,10 +62,6 @@ module _ (h : Header) (k : Known) (b : Block) where
       positions_before : unfinished_positions h k ≡ next_command h k ∷ filter view.given (range_with_len (floor_number view + 1) (place_count shape))
       unfolding unfinished_positions due_positions next_command
       positions_before = filter_first view.given (floor_number view) (place_count shape) next lap
-
-      -- the next position was the first
-      pub positions_completed : unfinished_positions h k ≡ next_command h k ∷ unfinished_positions h (completed h k b)
-      positions_completed = positions_before ∙ ap (λ ps. next_command h k ∷ ps) (sym positions_after)
 
       -- the next command, where the block is one, was the first
       pub unfinished_completed : unfinished h k ≡ cons_option (command_at h k (next_command h k)) (unfinished h (completed h k b))

@@ -1,7 +1,6 @@
 -- Where the command ring is as it was but for what holds it, the same commands are unfinished
-use Rattle.std.proofs.Common.{◌≡◌, ◌==◌, ◌<◌, ◌&&◌, ◌||◌, ◌∙◌, if◌then◌else◌, ◌≢◌, ◌++◌, ℕ, not, true, List, [], Option, Some, None, ap, sym, subst, refl, inl, inr, filter, option_and_then, slice_get, eq-eqb, ne_eqb}
-use Rattle.device_record.proofs.Words.{filter_map, cases_eq, cond-true, cond-false, cond_both, Block, RingView, RingChange, Declares, Opens, changed, declared, due_positions, new_ring, slice_get-append, command_of, Header, Register, Usbcmd, Sub, Reg, Bell, shape_of, command_id, run_bit, reset_bit, Known, nothing, on_ring, command_at, unfinished_positions, unfinished, run_or_stop, valued, register_written, endpoint_rung, rung, learned}
-use Rattle.device_record.proofs.Inserted.{mapped_same, filter_nothing}
+use Rattle.device_record.proofs.Words.{◌≡◌, ◌==◌, ◌<◌, ◌&&◌, ◌||◌, ◌∙◌, if◌then◌else◌, ◌≢◌, ◌++◌, ℕ, not, true, List, [], Option, Some, None, ap, sym, subst, refl, inl, inr, filter, option_and_then, slice_get, eq-eqb, ne_eqb, filter_map, cases_eq, cond-true, cond-false, cond_both, Block, RingView, RingChange, Declares, Opens, changed, declared, due_positions, slice_get-append, command_of, Header, Register, Usbcmd, Sub, Reg, Bell, shape_of, command_id, run_bit, reset_bit, Known, on_ring, command_at, unfinished_positions, unfinished, run_or_stop, valued, register_written, endpoint_rung, rung, learned}
+use Rattle.device_record.proofs.Inserted.{mapped_same}
 
 -- what is declared, given and passed of a ring
 pub record SameBlocks (v w : RingView) : Type 0 where
@@ -19,11 +18,6 @@ ring_here h k r change = cond-true (r == r) (changed (shape_of h r) (k.ring r) c
 pub ring_elsewhere : (h : Header) (k : Known) (r q : ℕ) (change : RingChange) → q ≢ r → (on_ring h k r change).ring q ≡ k.ring q
 unfolding on_ring
 ring_elsewhere h k r q change other = cond-false (q == r) (changed (shape_of h r) (k.ring r) change) (k.ring q) (ne_eqb q r other)
-
--- before the first row
-pub none_at_first : (h : Header) → unfinished h nothing ≡ []
-unfolding unfinished unfinished_positions nothing
-none_at_first h = ap (filter_map (command_at h nothing)) (filter_nothing (due_positions (shape_of h (command_id h)) new_ring))
 
 module _ (h : Header) where
   pub unfinished_same : (k l : Known) → SameBlocks (k.ring (command_id h)) (l.ring (command_id h)) → unfinished h l ≡ unfinished h k

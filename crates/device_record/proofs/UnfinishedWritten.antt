@@ -1,6 +1,5 @@
 -- The unfinished commands behind a write: with the one that it gives, if it gives one
-use Rattle.std.proofs.Common.{◌≡◌, ◌∙◌, ◌||◌, ◌⊎◌, ◌∷◌, ℕ, List, [], Option, Some, None, ap, sym, subst, refl, inl, inr, filter, option_and_then, slice_get}
-use Rattle.device_record.proofs.Words.{filter_map, none-some, Shape, IsShape, RingView, Writes, changed, gives, due_positions, positions_given, positions_given-one, Command, command_of, Header, Write, shape_of, command_id, Known, command_at, unfinished_positions, unfinished, taken_device, command_given, with_device, with_word, written, learned}
+use Rattle.device_record.proofs.Words.{◌≡◌, ◌∙◌, ◌||◌, ◌⊎◌, ◌∷◌, ℕ, List, [], Option, Some, None, ap, sym, subst, refl, inl, inr, filter, option_and_then, slice_get, filter_map, none-some, Shape, IsShape, RingView, Writes, changed, gives, due_positions, positions_given, positions_given-one, Command, command_of, Header, Write, shape_of, command_id, Known, command_at, unfinished_positions, unfinished, taken_device, command_given, with_device, with_word, written, learned}
 use Rattle.device_record.proofs.Inserted.{Inserted, filter_as_before, filter_with_one, mapped_with_one, mapped_as_before}
 
 module _ (h : Header) (k : Known) (a w : ℕ) where

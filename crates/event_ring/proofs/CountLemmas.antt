@@ -1,6 +1,5 @@
 -- The counts of an event ring stay in order
-use Rattle.std.proofs.Common.{◌≡◌, ◌≢◌, ◌+◌, ◌%◌, ◌^◌, ◌<◌, ◌≤◌, ◌==◌, ◌∙◌, ℕ, true, nat_lt, arith, sym, ap, inl, inr, eq-eqb}
-use Rattle.event_ring.proofs.Words.{cases_eq, not-true, and_parts, false≢true, add-mod_right, place_count, address_of, IsShape, shape_facts, same_position, EventCounts, AreInOrder, has_room, EventState, may_post}
+use Rattle.event_ring.proofs.Words.{◌≡◌, ◌≢◌, ◌+◌, ◌%◌, ◌^◌, ◌<◌, ◌≤◌, ◌==◌, ◌∙◌, ℕ, true, nat_lt, arith, sym, ap, inl, inr, eq-eqb, cases_eq, not-true, and_parts, false≢true, add-mod_right, place_count, address_of, IsShape, shape_facts, same_position, EventCounts, AreInOrder, has_room, EventState, may_post}
 
 pub posted_in_order : (size : ℕ) (c : EventCounts) → 2 ≤ size → has_room size c.posted c.dequeue ≡ true → AreInOrder size c →
     AreInOrder size (record c { posted = c.posted + 1 })

@@ -1,6 +1,5 @@
 -- Which event position a written ERDP names: the least one at its place
-use Rattle.std.proofs.Common.{◌≡◌, ◌≢◌, ◌+◌, ◌-◌, ◌*◌, ◌/◌, ◌%◌, ◌<◌, ◌≤◌, ◌==◌, ◌∷◌, ◌∙◌, ℕ, suc, Bool, true, false, List, [], length, nat_lt, nat_le, Some, None, find, unwrap_or, slice_get, arith, sym, ap, refl, inl, inr, get_or, ne_eqb, le-leb, lt-ltb, eq-eqb, eqb-true}
-use Rattle.event_ring.proofs.Words.{list_any, range_with_len, position_or_len, cases_lt, and_from, and_right, or_from, lt-leb, false_from_ne_true, get_or-range_with_len, length-range_with_len, list_any_at, find_at, position_or_len_is, slice_get-get_or, none-some, mod-lt, mod-eq_of_lt, add-mod_right, div-add-mod', mod-mul-add, Shape, place_count, address_of, place_at, Data, Link, IsShape, place_at-Data, place_at-address_of, address_aligned, place_count_pos, same_in_lap, same_place_of, address_of-mod, EventState, may_dequeue, dequeued_at, erdp_address, position_from, is_reached_within}
+use Rattle.event_ring.proofs.Words.{◌≡◌, ◌≢◌, ◌+◌, ◌-◌, ◌*◌, ◌/◌, ◌%◌, ◌<◌, ◌≤◌, ◌==◌, ◌∷◌, ◌∙◌, ℕ, suc, Bool, true, false, List, [], length, nat_lt, nat_le, Some, None, find, unwrap_or, slice_get, arith, sym, ap, refl, inl, inr, get_or, ne_eqb, le-leb, lt-ltb, eq-eqb, eqb-true, list_any, range_with_len, position_or_len, cases_lt, and_from, and_right, or_from, lt-leb, false_from_ne_true, get_or-range_with_len, length-range_with_len, list_any_at, find_at, position_or_len_is, slice_get-get_or, none-some, mod-lt, mod-eq_of_lt, add-mod_right, div-add-mod', mod-mul-add, Shape, place_count, address_of, place_at, Data, IsShape, place_at-Data, place_at-address_of, address_aligned, place_count_pos, same_in_lap, same_place_of, address_of-mod, EventState, may_dequeue, dequeued_at, erdp_address, position_from, is_reached_within}
 
 -- how far the next number with remainder i is ahead of p
 abbrev pub ahead : ℕ → ℕ → ℕ → ℕ
@@ -142,9 +141,3 @@ module _ (s : EventState) (is : IsShape s.shape) (value i w : ℕ) (place : plac
 pub may_dequeue-none : (s : EventState) → IsShape s.shape → (value : ℕ) → place_at s.shape (erdp_address value) ≡ None → may_dequeue s value ≡ false
 may_dequeue-none s is value none =
     erdp_nowhere s.shape is value s.counts.dequeue (s.counts.reads - s.counts.dequeue) (λ i w some. none-some (Data i w) (sym none ∙ some))
-
--- ERDP names a Link, which an event ring has not
-pub may_dequeue-link : (s : EventState) → IsShape s.shape → (value j w : ℕ) → place_at s.shape (erdp_address value) ≡ Some (Link j w) → may_dequeue s value ≡ false
-may_dequeue-link s is value j w link =
-    erdp_nowhere s.shape is value s.counts.dequeue (s.counts.reads - s.counts.dequeue) (λ i v some.
-    let other : Some (Link j w) ≡ Some (Data i v) = sym link ∙ some in absurd (cc))

@@ -1,6 +1,5 @@
 -- The segment table, entry by entry
-use Rattle.std.proofs.Common.{◌≡◌, ◌+◌, ◌*◌, ◌/◌, ◌%◌, ◌^◌, ◌<◌, ◌==◌, ◌&&◌, ◌∙◌, ℕ, Bool, true, false, not, List, length, ap, arith, refl, drop, get_or}
-use Rattle.event_ring.proofs.Words.{at_drop_more, long_at, Segment, lists}
+use Rattle.event_ring.proofs.Words.{◌≡◌, ◌+◌, ◌*◌, ◌/◌, ◌%◌, ◌^◌, ◌<◌, ◌==◌, ◌&&◌, ◌∙◌, ℕ, Bool, true, false, not, List, length, ap, arith, refl, drop, get_or, at_drop_more, long_at, Segment, lists}
 
 not_all : (a b rest : Bool) → not (a && b) ≡ true → (a && b && rest) ≡ false
 not_all true true rest h = cc

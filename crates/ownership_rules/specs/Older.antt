@@ -3,18 +3,23 @@ use Rattle.std.specs.Prelude.{ℕ, ◌&&◌, ◌||◌, Bool, false, not}
 use Rattle.commands.specs.declared.command.Command.{Command}
 use Rattle.traces.specs.declared.header.Header.{Header}
 use Rattle.traces.specs.declared.row.Row.{Row}
-use Rattle.traces.specs.declared.row.Row.TheVariants.{Write}
+use Rattle.traces.specs.declared.register.Register.TheVariants.{Erstsz, Erdp}
+use Rattle.traces.specs.declared.row.Row.TheVariants.{Write, Reg}
 use Rattle.traces.specs.Versions.{is_three}
 use Rattle.ring_knowledge.specs.Known.{Known}
 use Rattle.ownership_rules.specs.declared.refusal.Refusal.{Refusal}
-use Rattle.ownership_rules.specs.declared.refusal.Refusal.TheVariants.{NotInProfile}
+use Rattle.ownership_rules.specs.declared.refusal.Refusal.TheVariants.{BadRegister, BadErdp, NotInProfile}
 use Rattle.ownership_rules.specs.Commands as commands
+use Rattle.ownership_rules.specs.Registers as registers
 use Rattle.ownership_rules.specs.Writes as writes
 
 module _ (h : Header) where
-  -- NotInProfile: an isochronous endpoint (xHCI 4.14.2), also one that stays unused
+  -- NotInProfile: an isochronous endpoint (xHCI 4.14.2), also one that stays unused; BadRegister: ERSTSZ a second time, or with a
+  -- value that is never used; BadErdp: before the start no event place
   unfoldable pub older : Known → Row → Refusal → Bool
   older k (Write a w) NotInProfile = writes.some_command h k a w (commands.adds_isochronous h k)
+  older k (Reg Erstsz v) BadRegister = registers.is_written k Erstsz || registers.is_bad_size h v
+  older k (Reg Erdp v) BadErdp = registers.names_no_place h k v
   older k _ _ = false
 
   -- what the trace's version refuses besides, by this rule

@@ -2,13 +2,13 @@
 use Rattle.std.specs.Prelude.{ℕ, ◌-◌, ◌%◌, ◌^◌, ◌==◌, ◌&&◌, ◌||◌, Bool, true, false, not, List, [], ◌∷◌, length, Option, Some, None, is_some, is_none, if◌then◌else◌}
 use Rattle.std.specs.List.{list_any}
 use Rattle.segments.specs.Places.{address_of}
-use Rattle.event_ring.specs.EventRing.{is_reached_within, erdp_address, lists, table_bytes}
+use Rattle.event_ring.specs.EventRing.{is_event_place, is_reached_within, erdp_address, lists, table_bytes}
 use Rattle.traces.specs.declared.header.Header.{Header}
 use Rattle.traces.specs.declared.ring.Ring.{Ring}
 use Rattle.traces.specs.declared.register.Register.{Register}
 use Rattle.traces.specs.declared.register.Register.TheVariants.{Usbcmd, Crcr, Dcbaap, Config, Erstsz, Erstba, Erdp}
 use Rattle.traces.specs.Header.{command_ring, event_ring, event_shape}
-use Rattle.traces.specs.Register.{run_bit, reset_bit, base_address, ring_cycle_state, command_stop, command_abort}
+use Rattle.traces.specs.Register.{register_or_zero, run_bit, reset_bit, base_address, ring_cycle_state, command_stop, command_abort}
 use Rattle.ring_knowledge.specs.Known.{Known}
 use Rattle.ownership_rules.specs.Refusal.{Test}
 use Rattle.ownership_rules.specs.declared.refusal.Refusal.TheVariants.{BadRegister, BadErdp}
@@ -46,17 +46,30 @@ module _ (h : Header) where
   unfoldable pub is_bad_table : Known → ℕ → Bool
   is_bad_table k base = is_bad_area h k base (table_bytes (event_shape h)) || not (lists k.memory base (event_shape h).segments)
 
+  -- ERSTSZ, as it was last written, isn't the number of the event ring's segments
+  unfoldable pub is_wrong_size : Known → Bool
+  is_wrong_size k = is_bad_size (register_or_zero k.register Erstsz)
+
+  -- the start where the last ERSTSZ is wrong, or the last ERDP names another place than the first
+  unfoldable pub is_wrong_start : Known → ℕ → Bool
+  is_wrong_start k v =
+      run_bit v && not (reset_bit v) && (is_wrong_size k || not (erdp_address (register_or_zero k.register Erdp) == address_of (event_shape h) 0))
+
+  -- before the start a value of ERDP that names no event place has no effect
+  unfoldable pub names_no_place : Known → ℕ → Bool
+  names_no_place k v = not k.started && is_some (event_ring h) && not (is_event_place (event_shape h) (erdp_address v))
+
   unfoldable pub is_bad_register : Known → Register → ℕ → Bool
-  is_bad_register k Usbcmd v = not k.started && (is_late_reset k v || is_early_start k v)
+  is_bad_register k Usbcmd v = not k.started && (is_late_reset k v || is_early_start k v || is_wrong_start k v)
   is_bad_register k Crcr v = k.started || is_bad_crcr v
   is_bad_register k Dcbaap v = k.started
   is_bad_register k Config v = k.started
-  is_bad_register k Erstsz v = k.started || is_written k Erstsz || is_bad_size v
-  is_bad_register k Erstba v = k.started || is_written k Erstba || is_unwritten k Erstsz || is_bad_table k (base_address v)
+  is_bad_register k Erstsz v = k.started || is_none (event_ring h)
+  is_bad_register k Erstba v = k.started || is_written k Erstba || is_unwritten k Erstsz || is_wrong_size k || is_bad_table k (base_address v)
   is_bad_register k _ v = false
 
   unfoldable pub is_bad_erdp : Known → Register → ℕ → Bool
-  is_bad_erdp k Erdp v = not (is_reached_within (event_shape h) k.dequeue (may_pass k) (erdp_address v))
+  is_bad_erdp k Erdp v = not (names_no_place k v) && not (is_reached_within (event_shape h) k.dequeue (may_pass k) (erdp_address v))
   is_bad_erdp k _ v = false
 
   unfoldable pub register_tests : Known → Register → ℕ → List Test

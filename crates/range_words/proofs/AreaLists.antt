@@ -1,6 +1,5 @@
 -- Areas by their first addresses, in rising order
-use Rattle.std.proofs.Common.{◌≡◌, ◌+◌, ◌-◌, ◌<◌, ◌≤◌, ◌∷◌, ◌++◌, ◌∙◌, ℕ, List, true, false, refl, arith, length, get_or, inl, inr, sym, leb, nat_lt, Err}
-use Rattle.range_words.proofs.Words.{nat_cmp, list_any, insert, remove, Contains, IsNonDecreasingBy, IsPartitionPoint, IsPermutation, IsBinarySearchResult, cases_lt, cases_Bool, nat_tests, get_or_default, list_any_at, Contains-append_right, length-remove, get_or-remove_below, get_or-remove_above, IsNonDecreasingBy-insert, IsPermutation-insert, IsPermutation-cons, IsPermutation-middle, IsPermutation-trans, Contains-permutation, searched, overlap}
+use Rattle.range_words.proofs.Words.{◌≡◌, ◌+◌, ◌-◌, ◌<◌, ◌≤◌, ◌∷◌, ◌++◌, ◌∙◌, ℕ, List, true, false, refl, arith, length, get_or, inl, inr, sym, leb, nat_lt, Err, nat_cmp, list_any, insert, remove, Contains, IsNonDecreasingBy, IsPartitionPoint, IsPermutation, IsBinarySearchResult, cases_lt, cases_Bool, nat_tests, get_or_default, list_any_at, Contains-append_right, length-remove, get_or-remove_below, get_or-remove_above, IsNonDecreasingBy-insert, IsPermutation-insert, IsPermutation-cons, IsPermutation-middle, IsPermutation-trans, Contains-permutation, searched, overlap}
 use Rattle.range_words.proofs.AnyTests.{any_none}
 
 -- those that start before an end are the first ones; of them only the last can touch

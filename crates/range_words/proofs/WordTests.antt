@@ -1,6 +1,5 @@
 -- Words from an address on
-use Rattle.std.proofs.Common.{◌≡◌, ◌<◌, ◌∙◌, ℕ, Bool, true, false, arith, ap}
-use Rattle.range_words.proofs.Words.{list_any, range_with_len, length-range_with_len, get_or-range_with_len, list_any_at}
+use Rattle.range_words.proofs.Words.{◌≡◌, ◌<◌, ◌∙◌, ℕ, Bool, true, false, arith, ap, list_any, range_with_len, length-range_with_len, get_or-range_with_len, list_any_at}
 use Rattle.range_words.proofs.AnyTests.{any_none}
 
 -- one of the first numbers passes a test

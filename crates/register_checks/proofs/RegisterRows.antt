@@ -1,17 +1,17 @@
 -- A register write that was checked
 use Rattle.std.proofs.Common.{◌≡◌, ℕ, ◌-◌, [], ◌∷◌, Bool, true, false, Option, None, Some, arith, refl, ap, sym, ◌∙◌, subst}
-use Rattle.std.specs.Prelude.{not, ◌&&◌, ◌||◌, if◌then◌else◌}
+use Rattle.std.specs.Prelude.{not, is_some, ◌&&◌, ◌||◌, if◌then◌else◌}
 use Rattle.std.specs.List.{filter_map}
-use Rattle.std.proofs.lemmas.Bool.{cond_both}
+use Rattle.std.proofs.lemmas.Bool.{cond_both, true≢false}
 use Rattle.segments.specs.RingView.{RingView}
 use Rattle.contexts.specs.Contexts.{device_context_bytes, input_context_bytes}
 use Rattle.event_ring.specs.EventPlaceValue.{EventState}
-use Rattle.event_ring.specs.EventRing.{is_reached_within, erdp_address}
+use Rattle.event_ring.specs.EventRing.{is_event_place, is_reached_within, erdp_address}
 use Rattle.traces.specs.declared.header.Header.{Header}
 use Rattle.traces.specs.declared.register.Register.{Register}
 use Rattle.traces.specs.declared.register.Register.TheVariants.{Usbcmd, Erdp}
 use Rattle.traces.specs.declared.row.Row.TheVariants.{Reg}
-use Rattle.traces.specs.Header.{event_shape}
+use Rattle.traces.specs.Header.{event_ring, event_shape}
 use Rattle.traces.specs.Register.{run_bit, reset_bit}
 use Rattle.ring_knowledge.specs.declared.register_record.RegisterRecord.{RegisterRecord}
 use Rattle.ring_knowledge.specs.RegisterRecords.{FollowsRegisters}
@@ -28,8 +28,11 @@ use Rattle.range_words.specs.Holding.{HoldsAreas, HoldsSoiled}
 use Rattle.ownership_rules.specs.declared.refusal.Refusal.TheVariants.{BadRegister, BadErdp, AfterStop}
 use Rattle.ownership_rules.specs.Refusal.{first_of, first_broken, broken_of}
 use Rattle.ownership_rules.specs.Older.{older, stricter}
+use Rattle.traces.specs.Versions.{is_three}
+use Rattle.safety.proofs.ErdpMoves.{no_place_stays}
+use Rattle.safety.proofs.RowRegister.{event_place}
 use Rattle.ownership_rules.specs.Rules.{broken, lenient_tests, tests}
-use Rattle.ownership_rules.specs.Registers.{register_tests, is_bad_register, is_bad_erdp, may_pass}
+use Rattle.ownership_rules.specs.Registers.{register_tests, is_bad_register, is_bad_erdp, may_pass, names_no_place}
 use Rattle.ownership_rules.specs.OpenLeases.{slots}
 use Rattle.trace_record.specs.declared.trace_record.TraceRecord.{TraceRecord}
 use Rattle.trace_record.specs.FollowsTrace.{FollowsEvents, FollowsTrace, device_contexts, inputs_of}
@@ -69,20 +72,27 @@ not_passed h k Erdp v other = absurd (other refl)
 not_passed h k _ v other = refl
 
 module _ (h : Header) (r : Register) (v : ℕ) where
-  rules_are : (k : Known) → k.stopped ≡ false → first_of (broken h k (Reg r v)) ≡ first_broken ((BadRegister, is_bad_register h k r v) ∷ (BadErdp, is_bad_erdp h k r v) ∷ [])
-  unfolding broken tests lenient_tests older stricter register_tests
-  rules_are k on = ap (λ b. first_of (if b then AfterStop ∷ [] else broken_of ((BadRegister, is_bad_register h k r v) ∷ (BadErdp, is_bad_erdp h k r v) ∷ []))) on
-      ∙ first_broken-is ((BadRegister, is_bad_register h k r v) ∷ (BadErdp, is_bad_erdp h k r v) ∷ [])
+  -- the two rules of the trace's version
+  abbrev pub refused : Known → Bool
+  refused k = stricter h k (Reg r v) BadRegister || is_bad_register h k r v
 
-  pub bad_register : (k : Known) → k.stopped ≡ false → is_bad_register h k r v ≡ true → IsLeast h k (Reg r v) BadRegister
+  abbrev pub passed : Known → Bool
+  passed k = stricter h k (Reg r v) BadErdp || is_bad_erdp h k r v
+
+  rules_are : (k : Known) → k.stopped ≡ false → first_of (broken h k (Reg r v)) ≡ first_broken ((BadRegister, refused k) ∷ (BadErdp, passed k) ∷ [])
+  unfolding broken tests lenient_tests register_tests
+  rules_are k on = ap (λ b. first_of (if b then AfterStop ∷ [] else broken_of ((BadRegister, refused k) ∷ (BadErdp, passed k) ∷ []))) on
+      ∙ first_broken-is ((BadRegister, refused k) ∷ (BadErdp, passed k) ∷ [])
+
+  pub bad_register : (k : Known) → k.stopped ≡ false → refused k ≡ true → IsLeast h k (Reg r v) BadRegister
   bad_register k on bad = rules_are k on ∙ rw bad refl
 
-  pub bad_erdp : (k : Known) → k.stopped ≡ false → is_bad_register h k r v ≡ false → is_bad_erdp h k r v ≡ true → IsLeast h k (Reg r v) BadErdp
+  pub bad_erdp : (k : Known) → k.stopped ≡ false → refused k ≡ false → passed k ≡ true → IsLeast h k (Reg r v) BadErdp
   bad_erdp k on fine bad = rules_are k on ∙ rw (fine, bad) refl
 
-  module _ (t : TraceRecord) (m : ℕ → ℕ) (k : Known) (f : FollowsTrace h k t m) (on : k.stopped ≡ false) (fine : is_bad_register h k r v ≡ false) (passed : is_bad_erdp h k r v ≡ false) where
+  module _ (t : TraceRecord) (m : ℕ → ℕ) (k : Known) (f : FollowsTrace h k t m) (on : k.stopped ≡ false) (fine : refused k ≡ false) (goes : passed k ≡ false) where
     clean_is : broken h k (Reg r v) ≡ []
-    clean_is = nothing_broken _ (rules_are k on ∙ rw (fine, passed) refl)
+    clean_is = nothing_broken _ (rules_are k on ∙ rw (fine, goes) refl)
 
     same : IsElsewhereSame k (register_written h k r v)
     same = elsewhere_same h k r v
@@ -133,14 +143,6 @@ moved_place : (h : Header) (k : Known) (v : ℕ) (e : EventState) → IsMoved h 
 unfolding register_written valued
 moved_place h k v e f = record { here = f.here; shape = f.shape; reads = f.reads; dequeue = f.dequeue }
 
--- ERDP goes past what was read
-pub passed_is : (h : Header) (k : Known) (v : ℕ) (b : Bool) → IsSetUp h k → b ≡ is_reached_within (event_shape h) k.dequeue (k.reads - k.dequeue) (erdp_address v) → is_bad_erdp h k Erdp v ≡ not b
-unfolding is_bad_erdp
-passed_is h k v b s is = ap (λ n. not (is_reached_within (event_shape h) k.dequeue n (erdp_address v))) (may k.started refl) ∙ ap not (sym is)
-  where
-    may : (b : Bool) → k.started ≡ b → may_pass k ≡ k.reads - k.dequeue
-    may b was = may_is h k s b was
-
 pub moved_follows : (h : Header) (k : Known) (r : Register) (v : ℕ) (o : Option EventState) → r ≡ Erdp → IsMoved h k o v → FollowsEvents h (register_written h k r v) o
 moved_follows h k r v o is f = subst (λ (q : Register). FollowsEvents h (register_written h k q v) o) (sym is) (by o f)
   where
@@ -148,9 +150,67 @@ moved_follows h k r v o is f = subst (λ (q : Register). FollowsEvents h (regist
     by None f = f
     by (Some e) f = moved_place h k v e f
 
+-- what ERDP may name, by the rule of the trace's version
+module _ (h : Header) (k : Known) (v : ℕ) where
+  abbrev reached : Bool
+  reached = is_reached_within (event_shape h) k.dequeue (k.reads - k.dequeue) (erdp_address v)
+
+  abbrev no_place : Bool
+  no_place = is_some (event_ring h) && not (is_event_place (event_shape h) (erdp_address v))
+
+  -- what is reached is an event place
+  reached_place : reached ≡ true → no_place ≡ false
+  reached_place is =
+      rw (event_place (event_shape h) k.dequeue (k.reads - k.dequeue) (erdp_address v) is) (none_left (is_some (event_ring h)))
+    where
+      none_left : (b : Bool) → (b && false) ≡ false
+      none_left true = refl
+      none_left false = refl
+
+  by_tests : (started some place within three : Bool) → (within ≡ true → (some && not place) ≡ false) →
+      (((not started && some && not place) && not three) || (not (not started && some && not place) && not within)) ≡ not (within || (three && (not started && (some && not place))))
+  by_tests true some place true true one = refl
+  by_tests true some place true false one = refl
+  by_tests true some place false true one = refl
+  by_tests true some place false false one = refl
+  by_tests false true true true true one = refl
+  by_tests false true true true false one = refl
+  by_tests false true true false true one = refl
+  by_tests false true true false false one = refl
+  by_tests false true false true three one = absurd (true≢false (one refl))
+  by_tests false true false false true one = refl
+  by_tests false true false false false one = refl
+  by_tests false false place true true one = refl
+  by_tests false false place true false one = refl
+  by_tests false false place false true one = refl
+  by_tests false false place false false one = refl
+
+  pub passed_is : IsSetUp h k → passed h Erdp v k ≡ not (reached || (is_three h.version && (not k.started && no_place)))
+  unfolding stricter older is_bad_erdp names_no_place
+  passed_is s =
+      ap (λ n. ((not k.started && is_some (event_ring h) && not (is_event_place (event_shape h) (erdp_address v))) && not (is_three h.version))
+          || (not (not k.started && is_some (event_ring h) && not (is_event_place (event_shape h) (erdp_address v))) && not (is_reached_within (event_shape h) k.dequeue n (erdp_address v))))
+      (may k.started refl)
+      ∙ by_tests k.started (is_some (event_ring h)) (is_event_place (event_shape h) (erdp_address v)) reached (is_three h.version) reached_place
+    where
+      may : (b : Bool) → k.started ≡ b → may_pass k ≡ k.reads - k.dequeue
+      may b was = may_is h k s b was
+
+-- a value that names no event place moves nothing
+pub stays_follows : (h : Header) (k : Known) (r : Register) (v : ℕ) (o : Option EventState) → r ≡ Erdp → is_event_place (event_shape h) (erdp_address v) ≡ false → FollowsEvents h k o →
+    FollowsEvents h (register_written h k r v) o
+stays_follows h k r v o is none f = moved_follows h k r v o is (by o f)
+  where
+    by : (o : Option EventState) → FollowsEvents h k o → IsMoved h k o v
+    by None f = f
+    by (Some e) f = record { here = f.here; shape = f.shape; reads = f.reads; dequeue = no_place_stays (event_shape h) k.dequeue (erdp_address v) none ∙ f.dequeue }
+
 pub others_follow : (h : Header) (k : Known) (r : Register) (v : ℕ) (o : Option EventState) → (r ≡ Erdp → ⊥) → FollowsEvents h k o → FollowsEvents h (register_written h k r v) o
 others_follow h k r v None other f = f
 others_follow h k r v (Some e) other f = record { here = f.here; shape = f.shape; reads = (elsewhere_same h k r v).reads ∙ f.reads; dequeue = dequeue_same h k r v other ∙ f.dequeue }
 
-pub fine_erdp : (h : Header) (k : Known) (r : Register) (v : ℕ) → (r ≡ Erdp → ⊥) → is_bad_erdp h k r v ≡ false
-fine_erdp = not_passed
+pub fine_erdp : (h : Header) (k : Known) (r : Register) (v : ℕ) → (r ≡ Erdp → ⊥) → passed h r v k ≡ false
+unfolding stricter older
+fine_erdp h k Erdp v other = absurd (other refl)
+fine_erdp h k Usbcmd v other = not_passed h k Usbcmd v other
+fine_erdp h k r v other = not_passed h k r v other

@@ -1,12 +1,17 @@
 -- The rule of register writes, register by register
 use Rattle.std.proofs.Common.{◌≡◌, ℕ, Bool, true, false, refl}
-use Rattle.std.specs.Prelude.{◌||◌}
+use Rattle.std.specs.Prelude.{◌&&◌, ◌||◌, not, is_none}
 use Rattle.traces.specs.declared.header.Header.{Header}
 use Rattle.traces.specs.declared.register.Register.{Register}
 use Rattle.traces.specs.declared.register.Register.TheVariants.{Usbcmd, Crcr, Dcbaap, Config, Erstsz, Erstba}
 use Rattle.traces.specs.Register.{base_address}
 use Rattle.ring_knowledge.specs.Known.{Known}
-use Rattle.ownership_rules.specs.Registers.{is_bad_register, is_bad_crcr, is_bad_size, is_bad_table, is_written, is_unwritten}
+use Rattle.ownership_rules.specs.Registers.{is_bad_register, is_bad_crcr, is_bad_size, is_bad_table, is_written, is_unwritten, is_wrong_size}
+use Rattle.ownership_rules.specs.Older.{older, stricter}
+use Rattle.ownership_rules.specs.declared.refusal.Refusal.TheVariants.{BadRegister}
+use Rattle.traces.specs.declared.row.Row.TheVariants.{Reg}
+use Rattle.traces.specs.Header.{event_ring}
+use Rattle.traces.specs.Versions.{is_three}
 
 -- a test that comes to an early end, and one that goes on
 pub or_ends : (a b : Bool) → a ≡ true → true ≡ (a || b)
@@ -34,22 +39,29 @@ module _ (h : Header) (k : Known) (v : ℕ) where
   unfolding is_bad_register
   of_config = refl
 
-  three : (a b c : Bool) → (a || b || c) ≡ (a || (b || c))
-  three true b c = refl
-  three false b c = refl
+  five : (a b c d e : Bool) → (a || b || c || d || e) ≡ (a || (b || (c || (d || e))))
+  five true b c d e = refl
+  five false true c d e = refl
+  five false false true d e = refl
+  five false false false d e = refl
 
-  four : (a b c d : Bool) → (a || b || c || d) ≡ (a || (b || (c || d)))
-  four true b c d = refl
-  four false true c d = refl
-  four false false c d = refl
-
-  pub of_size : is_bad_register h k Erstsz v ≡ (k.started || (is_written k Erstsz || is_bad_size h v))
+  pub of_table : is_bad_register h k Erstba v ≡ (k.started || (is_written k Erstba || (is_unwritten k Erstsz || (is_wrong_size h k || is_bad_table h k (base_address v)))))
   unfolding is_bad_register
-  of_size = three k.started (is_written k Erstsz) (is_bad_size h v)
+  of_table = five k.started (is_written k Erstba) (is_unwritten k Erstsz) (is_wrong_size h k) (is_bad_table h k (base_address v))
 
-  pub of_table : is_bad_register h k Erstba v ≡ (k.started || (is_written k Erstba || (is_unwritten k Erstsz || is_bad_table h k (base_address v))))
-  unfolding is_bad_register
-  of_table = four k.started (is_written k Erstba) (is_unwritten k Erstsz) (is_bad_table h k (base_address v))
+  -- by the rule of the trace's version
+  abbrev pub by_version : Register → Bool
+  by_version r = stricter h k (Reg r v) BadRegister || is_bad_register h k r v
+
+  pub of_size : by_version Erstsz ≡ (((is_written k Erstsz || is_bad_size h v) && not (is_three h.version)) || (k.started || is_none (event_ring h)))
+  unfolding stricter older is_bad_register
+  of_size = refl
+
+  -- older versions refuse nothing more of the other registers
+  pub none_older : (r : Register) → (r ≡ Erstsz → ⊥) → by_version r ≡ is_bad_register h k r v
+  unfolding stricter older
+  none_older Erstsz other = absurd (other refl)
+  none_older r other = refl
 
   -- of the other registers
   pub of_others : (r : Register) → (r ≡ Usbcmd → ⊥) → (r ≡ Crcr → ⊥) → (r ≡ Dcbaap → ⊥) → (r ≡ Config → ⊥) → (r ≡ Erstsz → ⊥) → (r ≡ Erstba → ⊥) → false ≡ is_bad_register h k r v

@@ -1,30 +1,31 @@
 -- What values of registers break
 use Rattle.std.proofs.Common.{◌≡◌, ◌≢◌, ℕ, ◌<◌, ◌+◌, ◌*◌, ◌/◌, ◌%◌, ◌^◌, arith, length, [], ◌∷◌, Bool, true, false, Option, None, Some, refl, ap, sym, ◌∙◌}
-use Rattle.std.specs.Prelude.{◌==◌, ◌&&◌, ◌||◌, not, nat_lt, is_some, is_none}
+use Rattle.std.specs.Prelude.{unwrap_or, ◌==◌, ◌&&◌, ◌||◌, not, nat_lt, is_some, is_none}
 use Rattle.std.specs.List.{list_any}
 use Rattle.traces.specs.declared.header.Header.{Header}
 use Rattle.traces.specs.declared.register.Register.{Register}
 use Rattle.segments.specs.ShapeValue.{Shape}
 use Rattle.traces.specs.declared.register.Register.TheVariants.{Usbcmd, Crcr, Dcbaap, Config, Erstsz, Erstba, Erdp}
-use Rattle.traces.specs.Register.{run_bit, reset_bit}
+use Rattle.traces.specs.Register.{register_or_zero, run_bit, reset_bit}
 use Rattle.ring_knowledge.specs.Known.{Known}
-use Rattle.ownership_rules.specs.Registers.{is_bad_register, is_late_reset, is_early_start, is_written, is_unwritten, is_bad_crcr, is_no_first_block, is_bad_size, is_bad_table}
+use Rattle.ownership_rules.specs.Registers.{is_bad_register, is_late_reset, is_early_start, is_wrong_start, is_wrong_size, is_written, is_unwritten, is_bad_crcr, is_no_first_block, is_bad_size, is_bad_table}
 use Rattle.ownership_rules.specs.Areas.{is_bad_area}
 use Rattle.ownership_rules.specs.OpenLeases.{covers, device_ranges}
 use Rattle.segments.specs.Places.{address_of}
-use Rattle.event_ring.specs.EventRing.{lists, table_bytes, is_table_fault, is_reached_within}
+use Rattle.event_ring.specs.EventRing.{erdp_address, lists, table_bytes, is_table_fault, is_reached_within}
 use Rattle.traces.specs.declared.ring.Ring.{Ring}
 use Rattle.traces.specs.Header.{IsHeader, command_ring, event_ring, event_shape, is_event_kind, shape_or, touches_ring}
 use Rattle.segments.proofs.ShapeFacts.{shape_facts}
 use Rattle.ring_finder.proofs.HeaderRings.{find_some, shape_allowed}
 use Rattle.trb.specs.declared.ring_kind.RingKind.TheVariants.{Evt}
 use Rattle.std.proofs.Math.Path.{fun_ext}
+use Rattle.register_checks.specs.EventReads.{Wrong}
 use Rattle.trace_record.specs.Premises.{IsSetUp}
 use Rattle.std.proofs.lemmas.Bool.{false≢true}
 use Rattle.ring_finder.proofs.RingsApart.{same_number, other_number}
 
-abbrev either : (started reset run begun lacks : Bool) → Bool
-either started reset run begun lacks = not started && (reset && begun || run && not reset && lacks)
+abbrev either : (started reset run begun lacks wrong : Bool) → Bool
+either started reset run begun lacks wrong = not started && (reset && begun || run && not reset && lacks || run && not reset && wrong)
 
 module _ (h : Header) (k : Known) (v : ℕ) where
   abbrev pub Begun : Bool
@@ -33,36 +34,36 @@ module _ (h : Header) (k : Known) (v : ℕ) where
   abbrev pub Lacks : Bool
   Lacks = list_any (is_unwritten k) (Crcr ∷ Erstsz ∷ Erstba ∷ Erdp ∷ [])
 
-  start_is : is_bad_register h k Usbcmd v ≡ either k.started (reset_bit v) (run_bit v) Begun Lacks
-  unfolding is_bad_register is_late_reset is_early_start
+  start_is : is_bad_register h k Usbcmd v ≡ either k.started (reset_bit v) (run_bit v) Begun Lacks (Wrong h k)
+  unfolding is_bad_register is_late_reset is_early_start is_wrong_start
   start_is = refl
 
   pub after_start : k.started ≡ true → false ≡ is_bad_register h k Usbcmd v
-  after_start on = sym (start_is ∙ by k.started (reset_bit v) (run_bit v) Begun Lacks on)
+  after_start on = sym (start_is ∙ by k.started (reset_bit v) (run_bit v) Begun Lacks (Wrong h k) on)
     where
-      by : (started reset run begun lacks : Bool) → started ≡ true → either started reset run begun lacks ≡ false
-      by true reset run begun lacks e = refl
-      by false reset run begun lacks e = absurd (cc)
+      by : (started reset run begun lacks wrong : Bool) → started ≡ true → either started reset run begun lacks wrong ≡ false
+      by true reset run begun lacks wrong e = refl
+      by false reset run begun lacks wrong e = absurd (cc)
 
   pub at_reset : (b : Bool) → k.started ≡ false → reset_bit v ≡ true → b ≡ Begun → b ≡ is_bad_register h k Usbcmd v
-  at_reset b off resets is = is ∙ sym (start_is ∙ by k.started (reset_bit v) (run_bit v) Begun Lacks off resets)
+  at_reset b off resets is = is ∙ sym (start_is ∙ by k.started (reset_bit v) (run_bit v) Begun Lacks (Wrong h k) off resets)
     where
-      by : (started reset run begun lacks : Bool) → started ≡ false → reset ≡ true → either started reset run begun lacks ≡ begun
-      by true reset run begun lacks e f = absurd (cc)
-      by false false run begun lacks e f = absurd (cc)
-      by false true true true lacks e f = refl
-      by false true true false lacks e f = refl
-      by false true false true lacks e f = refl
-      by false true false false lacks e f = refl
+      by : (started reset run begun lacks wrong : Bool) → started ≡ false → reset ≡ true → either started reset run begun lacks wrong ≡ begun
+      by true reset run begun lacks wrong e f = absurd (cc)
+      by false false run begun lacks wrong e f = absurd (cc)
+      by false true true true lacks wrong e f = refl
+      by false true true false lacks wrong e f = refl
+      by false true false true lacks wrong e f = refl
+      by false true false false lacks wrong e f = refl
 
-  pub at_start : (b : Bool) → k.started ≡ false → reset_bit v ≡ false → b ≡ (run_bit v && Lacks) → b ≡ is_bad_register h k Usbcmd v
-  at_start b off keeps is = is ∙ sym (start_is ∙ by k.started (reset_bit v) (run_bit v) Begun Lacks off keeps)
+  pub at_start : (b : Bool) → k.started ≡ false → reset_bit v ≡ false → b ≡ (run_bit v && (Lacks || Wrong h k)) → b ≡ is_bad_register h k Usbcmd v
+  at_start b off keeps is = is ∙ sym (start_is ∙ by k.started (reset_bit v) (run_bit v) Begun Lacks (Wrong h k) off keeps)
     where
-      by : (started reset run begun lacks : Bool) → started ≡ false → reset ≡ false → either started reset run begun lacks ≡ (run && lacks)
-      by true reset run begun lacks e f = absurd (cc)
-      by false true run begun lacks e f = absurd (cc)
-      by false false true begun lacks e f = refl
-      by false false false begun lacks e f = refl
+      by : (started reset run begun lacks wrong : Bool) → started ≡ false → reset ≡ false → either started reset run begun lacks wrong ≡ (run && (lacks || wrong))
+      by true reset run begun lacks wrong e f = absurd (cc)
+      by false true run begun lacks wrong e f = absurd (cc)
+      by false false true begun lacks wrong e f = refl
+      by false false false begun lacks wrong e f = refl
 
 -- the bits of a value
 pub bit_on : (n : ℕ) → n ≡ 1 → (n == 1) ≡ true
@@ -151,3 +152,27 @@ few_segments h headed s is here = by (event_ring h) refl here
         let among = (find_some (λ q. is_event_kind q.shape.kind) h.rings r found).0 in
         let most = (shape_facts r.shape (shape_allowed h headed r among)).few in
         omega (arith, most, ap (λ (x : Shape). length x.segments) (is ∙ ap (λ o. shape_or Evt o) found))
+
+-- the last ERSTSZ and ERDP, by the value that each has
+pub wrong_is : (h : Header) (k : Known) (size dequeue : ℕ) (a : ℕ) → size ≡ register_or_zero k.register Erstsz → dequeue ≡ register_or_zero k.register Erdp → a ≡ address_of (event_shape h) 0 →
+    (is_bad_size h size || not (dequeue / 16 * 16 == a)) ≡ Wrong h k
+unfolding is_wrong_size
+wrong_is h k size dequeue a s d at = λ i. is_bad_size h (s i) || not (d i / 16 * 16 == at i)
+
+-- without an event ring every size is wrong
+pub wrong_without : (h : Header) (k : Known) → event_ring h ≡ None → true ≡ Wrong h k
+unfolding is_wrong_size is_bad_size
+wrong_without h k none = ap (λ o. is_none o || not (register_or_zero k.register Erstsz % 65536 == length (event_shape h).segments) || not (erdp_address (register_or_zero k.register Erdp) == address_of (event_shape h) 0)) (sym none)
+
+-- what the record of a register says of its value
+pub none_is_unwritten : (k : Known) (r : Register) → None ≡ k.register r → is_unwritten k r ≡ true
+unfolding is_unwritten
+none_is_unwritten k r is = ap (λ o. is_none o) (sym is)
+
+pub some_is_written : (k : Known) (r : Register) (v : ℕ) → Some v ≡ k.register r → is_unwritten k r ≡ false
+unfolding is_unwritten
+some_is_written k r v is = ap (λ o. is_none o) (sym is)
+
+pub last_is : (h : Header) (k : Known) (v : ℕ) → Some v ≡ k.register Erstsz → is_bad_size h v ≡ is_wrong_size h k
+unfolding is_wrong_size
+last_is h k v is = ap (λ o. is_bad_size h (unwrap_or o 0)) is

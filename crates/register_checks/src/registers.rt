@@ -1,21 +1,25 @@
 //! A row of a register: xHCI 4.2, 4.9.4, 5.4, 5.5.2.3, 6.5.
-ghost use Rattle.std.specs.Prelude.{◌≡◌, ◌-◌, ◌%◌, ◌/◌, ◌*◌, ◌==◌, ◌||◌, [], ◌∷◌, true, false, not, ℕ, IfOk, IfErr};
+ghost use Rattle.std.specs.Prelude.{◌≡◌, ◌-◌, ◌%◌, ◌/◌, ◌*◌, ◌==◌, ◌&&◌, ◌||◌, is_none, is_some, [], ◌∷◌, true, false, not, ℕ, IfOk, IfErr};
 ghost use Rattle.std.specs.List.{list_any};
 ghost use Rattle.segments.specs.Places.{address_of};
-ghost use Rattle.traces.specs.Header.{IsHeader, event_shape};
+ghost use Rattle.segments.specs.Shape.{IsShape};
+ghost use Rattle.traces.specs.Header.{IsHeader, event_ring, event_shape};
+ghost use Rattle.traces.specs.Versions.{is_three};
 ghost use Rattle.traces.specs.declared.header.Header.{Header};
 ghost use Rattle.traces.specs.declared.row.Row.TheVariants.{Reg};
-ghost use Rattle.event_ring.specs.EventRing.{erdp_address, is_reached_within};
+ghost use Rattle.event_ring.specs.EventRing.{erdp_address, is_event_place, is_reached_within};
 ghost use Rattle.ring_knowledge.specs.Known.{Known};
 ghost use Rattle.ring_knowledge.specs.RegisterRecords.{FollowsRegisters};
 ghost use Rattle.ring_knowledge.specs.Registers.{register_written};
-ghost use Rattle.ownership_rules.specs.Registers.{is_bad_crcr, is_bad_erdp, is_bad_register, is_bad_size, is_bad_table, is_unwritten, is_written};
+ghost use Rattle.ownership_rules.specs.Registers.{is_bad_crcr, is_bad_erdp, is_bad_register, is_bad_size, is_bad_table, is_unwritten, is_written, is_wrong_size};
+ghost use Rattle.ownership_rules.specs.Older.{stricter};
+ghost use Rattle.ownership_rules.specs.declared.refusal.Refusal.TheVariants.{BadErdp, BadRegister};
 ghost use Rattle.ring_finder.specs.Finding.{IsFinder};
 ghost use Rattle.trace_record.specs.FollowsTrace.{FollowsEvents, FollowsTrace};
 ghost use Rattle.trace_record.specs.Fresh.{IsWithin};
 ghost use Rattle.trace_record.specs.Premises.{IsSetUp};
 ghost use Rattle.trace_record.specs.Steps.{IfRefused, IsLeast, IsRowStep};
-ghost use Rattle.register_checks.specs.EventReads.{IsEventRing, IsMoved};
+ghost use Rattle.register_checks.specs.EventReads.{IsEventRing, IsMoved, Wrong};
 
 use context_checks::is_bad_area;
 use event_ring::EventPlace;
@@ -23,7 +27,7 @@ use guest_memory::WordMemory;
 use ownership_rules::Refusal;
 use ring_finder::Finder;
 use ring_knowledge::RegisterRecord;
-use segments::RingShape;
+use segments::{Place, RingShape};
 use trace_record::{StepFault, TraceRecord};
 use traces::{Header, Register};
 
@@ -47,15 +51,15 @@ pub fn check_register<M: WordMemory>(
     if is_bad_register(header, finder, t, memory, register, value) {
         return Err(StepFault::Refused(Refusal::BadRegister));
     }
-    if !note_dequeue(&mut t.events, register, value) {
+    if !note_dequeue(header, t.registers.is_started(), &mut t.events, register, value) {
         return Err(StepFault::Refused(Refusal::BadErdp));
     }
     t.registers.write(register, value);
     Ok(())
 }
 
-/// Whether a set-up register is written too late, twice, too early or with a wrong value, or the start or a reset comes too
-/// early or too late.
+/// Whether a set-up register is written too late, too early, with a wrong value or, before version 3, twice, or the start or a
+/// reset comes too early or too late.
 fn is_bad_register<M: WordMemory>(
     header: &Header,
     finder: &Finder,
@@ -67,15 +71,15 @@ fn is_bad_register<M: WordMemory>(
     requires headed { IsHeader header.now }
     requires found { IsFinder header.now.rings finder.now }
     ensures { (k : Known) → FollowsTrace header.now k t.now (M.words memory.now) → IsSetUp header.now k →
-        result ≡ is_bad_register header.now k register value }
+        result ≡ (stricter header.now k (Reg register value) BadRegister || is_bad_register header.now k register value) }
 {
     let registers = &t.registers;
     match register {
-        Register::Usbcmd => is_bad_start(registers, value),
+        Register::Usbcmd => is_bad_start(t, value),
         Register::Crcr => is_too_late(registers, is_bad_crcr(header, finder, value)),
         Register::Dcbaap => is_too_late(registers, false),
         Register::Config => is_too_late(registers, false),
-        Register::Erstsz => is_again(registers, Register::Erstsz, is_bad_size(t, value)),
+        Register::Erstsz => is_bad_sizing(header, t, value),
         Register::Erstba => is_again(
             registers,
             Register::Erstba,
@@ -99,6 +103,15 @@ fn is_again(registers: &RegisterRecord, register: Register, is_wrong: bool) -> b
     registers.is_started() || (is_written(registers, register) || is_wrong)
 }
 
+/// Whether ERSTSZ is written after the start or without an event ring or, before version 3, again or with a wrong value.
+fn is_bad_sizing(header: &Header, t: &TraceRecord, value: u64) -> bool
+    ensures { (k : Known) (m : ℕ → ℕ) → FollowsTrace header.now k t.now m →
+        result ≡ (((is_written k Register.Erstsz || is_bad_size header.now value) && not (is_three header.now.version)) || (k.started || is_none (event_ring header.now))) }
+{
+    let is_older = is_written(&t.registers, Register::Erstsz) || is_bad_size(t, value);
+    (is_older && !header.version.is_three()) || (t.registers.is_started() || t.events.is_none())
+}
+
 /// Whether the register was written.
 fn is_written(registers: &RegisterRecord, register: Register) -> bool
     ensures { (k : Known) → FollowsRegisters k registers.now → result ≡ is_written k register }
@@ -107,9 +120,10 @@ fn is_written(registers: &RegisterRecord, register: Register) -> bool
 }
 
 /// Whether a value of USBCMD starts the controller before the rings are set up, or resets it after one is (xHCI 4.2).
-fn is_bad_start(registers: &RegisterRecord, value: u64) -> bool
-    ensures { (h : Header) (k : Known) → FollowsRegisters k registers.now → result ≡ is_bad_register h k Register.Usbcmd value }
+fn is_bad_start(t: &TraceRecord, value: u64) -> bool
+    ensures { (h : Header) (k : Known) (m : ℕ → ℕ) → FollowsTrace h k t.now m → result ≡ is_bad_register h k Register.Usbcmd value }
 {
+    let registers = &t.registers;
     if registers.is_started() {
         return false;
     }
@@ -118,7 +132,7 @@ fn is_bad_start(registers: &RegisterRecord, value: u64) -> bool
     if resets {
         is_set_up_begun(registers)
     } else {
-        runs && lacks_set_up(registers)
+        runs && lacks_set_up(t)
     }
 }
 
@@ -136,7 +150,7 @@ fn is_set_up_begun(registers: &RegisterRecord) -> bool
 }
 
 /// Whether a register wasn't written without which there is no start.
-fn lacks_set_up(registers: &RegisterRecord) -> bool
+fn lacks_registers(registers: &RegisterRecord) -> bool
     ensures { (k : Known) → FollowsRegisters k registers.now → result ≡
         list_any (is_unwritten k) (Register.Crcr ∷ Register.Erstsz ∷ Register.Erstba ∷ Register.Erdp ∷ []) }
 {
@@ -144,6 +158,28 @@ fn lacks_set_up(registers: &RegisterRecord) -> bool
         || is_unwritten(registers, Register::Erstsz)
         || is_unwritten(registers, Register::Erstba)
         || is_unwritten(registers, Register::Erdp)
+}
+
+/// Whether a register that the start needs wasn't written, or the event ring's registers hold wrong values.
+fn lacks_set_up(t: &TraceRecord) -> bool
+    ensures { (h : Header) (k : Known) (m : ℕ → ℕ) → FollowsTrace h k t.now m → result ≡
+        (list_any (is_unwritten k) (Register.Crcr ∷ Register.Erstsz ∷ Register.Erstba ∷ Register.Erdp ∷ []) || Wrong h k) }
+{
+    lacks_registers(&t.registers) || is_set_up_wrong(t)
+}
+
+/// Whether the last ERSTSZ isn't the number of the event ring's segments, or the last ERDP doesn't name its first place.
+fn is_set_up_wrong(t: &TraceRecord) -> bool
+    ensures { (h : Header) (k : Known) (m : ℕ → ℕ) → FollowsTrace h k t.now m → result ≡ Wrong h k }
+{
+    let size = t.registers.value(Register::Erstsz).unwrap_or(0);
+    let dequeue = t.registers.value(Register::Erdp).unwrap_or(0);
+    match &t.events {
+        Some(events) => {
+            is_bad_size(t, size) || dequeue / 16 * 16 != events.shape().address(0)
+        }
+        None => true,
+    }
 }
 
 /// Whether the register wasn't written.
@@ -188,14 +224,17 @@ fn is_bad_size(t: &TraceRecord, value: u64) -> bool
     }
 }
 
-/// Whether the segment table is named before ERSTSZ is written, or isn't that of the event ring, or lies where none may lie.
+/// Whether the segment table is named before ERSTSZ is written, or where that is wrong, or isn't that of the event ring, or lies where none may lie.
 fn is_bad_table<M: WordMemory>(header: &Header, t: &TraceRecord, memory: &M, base: u64) -> bool
     requires headed { IsHeader header.now }
     requires aligned { base % 4 ≡ 0 }
     ensures { (k : Known) → FollowsTrace header.now k t.now (M.words memory.now) → IsSetUp header.now k →
-        result ≡ (is_unwritten k Register.Erstsz || is_bad_table header.now k base) }
+        result ≡ (is_unwritten k Register.Erstsz || (is_wrong_size header.now k || is_bad_table header.now k base)) }
 {
-    if is_unwritten(&t.registers, Register::Erstsz) {
+    let Some(size) = t.registers.value(Register::Erstsz) else {
+        return true;
+    };
+    if is_bad_size(t, size) {
         return true;
     }
     match &t.events {
@@ -226,14 +265,25 @@ fn is_bad_place<M: WordMemory>(
 }
 
 /// Takes a value that is written to ERDP, where it names an event place up to the one that is read next; whether the write of
-/// this register may be.
-fn note_dequeue(events: &mut Option<EventPlace>, register: Register, value: u64) -> bool
-    ensures moved { result ≡ true → (h : Header) (k : Known) → FollowsEvents h k events.old → FollowsEvents h (register_written h k register value) events.new }
-    ensures exact { (h : Header) (k : Known) → FollowsEvents h k events.old → IsSetUp h k → is_bad_erdp h k register value ≡ not result }
+/// this register may be. Before the start a value that names no event place has no effect, and may be in version 3.
+fn note_dequeue(
+    header: &Header,
+    is_started: bool,
+    events: &mut Option<EventPlace>,
+    register: Register,
+    value: u64,
+) -> bool
+    requires headed { IsHeader header.now }
+    ensures moved { result ≡ true → (k : Known) → FollowsEvents header.now k events.old → FollowsEvents header.now (register_written header.now k register value) events.new }
+    ensures exact { (k : Known) → k.started ≡ is_started → FollowsEvents header.now k events.old → IsSetUp header.now k →
+        (stricter header.now k (Reg register value) BadErdp || is_bad_erdp header.now k register value) ≡ not result }
     ensures reads { (n : ℕ) → IsWithin events.old n → IsWithin events.new n }
 {
     match register {
-        Register::Erdp => set_dequeue(events, value),
+        Register::Erdp => {
+            set_dequeue(events, value)
+                || (header.version.is_three() && !is_started && has_no_place(header, events, value))
+        }
         _ => true,
     }
 }
@@ -242,10 +292,30 @@ fn note_dequeue(events: &mut Option<EventPlace>, register: Register, value: u64)
 fn set_dequeue(events: &mut Option<EventPlace>, value: u64) -> bool
     ensures moved { result ≡ true → (h : Header) (k : Known) → FollowsEvents h k events.old → IsMoved h k events.new value }
     ensures exact { (h : Header) (k : Known) → FollowsEvents h k events.old → result ≡ is_reached_within (event_shape h) k.dequeue (k.reads - k.dequeue) (erdp_address value) }
+    ensures kept { result ≡ false → events.new ≡ events.old }
     ensures reads { (n : ℕ) → IsWithin events.old n → IsWithin events.new n }
 {
     match events {
         Some(place) => place.set_dequeue(value).is_ok(),
         None => false,
     }
+}
+
+/// Whether a value of ERDP names no place of the event ring, where there is one.
+fn has_no_place(header: &Header, events: &Option<EventPlace>, value: u64) -> bool
+    requires headed { IsHeader header.now }
+    ensures { (k : Known) → FollowsEvents header.now k events.now → result ≡ (is_some (event_ring header.now) && not (is_event_place (event_shape header.now) (erdp_address value))) }
+{
+    match events {
+        Some(place) => !is_event_place(place.shape(), value / 16 * 16),
+        None => false,
+    }
+}
+
+/// Whether an event place of this shape lies at the address.
+fn is_event_place(shape: &RingShape, address: u64) -> bool
+    requires aligned { address % 16 ≡ 0 }
+    ensures { result ≡ is_event_place shape.now address }
+{
+    shape.places() > 0 && matches!(shape.place_at(address), Some(Place::Data { .. }))
 }

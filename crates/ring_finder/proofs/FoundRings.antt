@@ -1,6 +1,5 @@
 -- What a search through the rings of a header has found
-use Rattle.std.proofs.Common.{◌≡◌, ◌∙◌, ℕ, List, Bool, true, false, None, Some, refl, ap, sym, subst, get_or, length, slice_get, position}
-use Rattle.ring_finder.proofs.Words.{slice_get_read, position-Some, position-None, Ring, Header, IsHeader, command_ring, is_command_kind}
+use Rattle.ring_finder.proofs.Words.{◌≡◌, ◌∙◌, ℕ, List, Bool, true, false, None, Some, refl, ap, sym, subst, get_or, length, slice_get, position, slice_get_read, position-Some, position-None, Ring, Header, IsHeader, command_ring, is_command_kind}
 use Rattle.ring_finder.proofs.ListTests.{false_unless}
 use Rattle.ring_finder.proofs.RingsApart.{IsAmong, each_among}
 use Rattle.ring_finder.proofs.HeaderRings.{find_only, not_found, together}

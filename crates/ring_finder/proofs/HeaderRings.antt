@@ -1,6 +1,5 @@
 -- Each ring of a header is found by its ID and its kind
-use Rattle.std.proofs.Common.{◌≡◌, ◌≢◌, ◌<◌, ◌∷◌, ◌++◌, ◌∙◌, ◌==◌, ◌&&◌, List, [], Bool, true, false, Option, Some, None, refl, ap, sym, arith, inl, inr, subst, nat_lt, filter, find, ltb-true}
-use Rattle.ring_finder.proofs.Words.{list_any, list_all, flat_map, cases_Bool, and_parts, false≢true, IsShape, is_shape, Evt, Xfer, Ring, Header, may_stand_together, IsHeader, is_driver_kind, is_command_kind, is_event_kind, ring_with, shape_of, shape_or, id_or_none, command_ring, command_id, event_ring, event_shape}
+use Rattle.ring_finder.proofs.Words.{◌≡◌, ◌≢◌, ◌<◌, ◌∷◌, ◌++◌, ◌∙◌, ◌==◌, ◌&&◌, List, [], Bool, true, false, Option, Some, None, refl, ap, sym, arith, inl, inr, subst, nat_lt, filter, find, ltb-true, list_any, list_all, flat_map, cases_Bool, and_parts, false≢true, IsShape, is_shape, Evt, Xfer, Ring, Header, may_stand_together, IsHeader, is_driver_kind, is_command_kind, is_event_kind, ring_with, shape_of, shape_or, id_or_none, command_ring, command_id, event_ring, event_shape}
 use Rattle.ring_finder.proofs.ListTests.{or_false}
 use Rattle.ring_finder.proofs.RingsApart.{IsAmong, Apart, apart_back, first_apart, rest_together, same_or_apart, same_number, other_number}
 

@@ -1,6 +1,5 @@
 -- Tests over lists that are put together or filtered
-use Rattle.std.proofs.Common.{◌≡◌, ◌∷◌, ◌++◌, ◌∙◌, ◌||◌, ◌&&◌, List, [], Bool, true, false, refl, ap, inl, inr, not, map, filter}
-use Rattle.ring_finder.proofs.Words.{list_any, flat_map, cases_Bool}
+use Rattle.ring_finder.proofs.Words.{◌≡◌, ◌∷◌, ◌++◌, ◌∙◌, ◌||◌, ◌&&◌, List, [], Bool, true, false, refl, ap, inl, inr, not, map, filter, list_any, flat_map, cases_Bool}
 
 -- what isn't true is false
 pub false_unless : (b : Bool) → (b ≡ true → ⊥) → b ≡ false
@@ -72,16 +71,6 @@ filter_map_is f g (x ∷ xs) = elim (cases_Bool (f (g x))) [
 pub filter_flat_map : {X Y : Type 0} (f : Y → Bool) (g : X → List Y) (xs : List X) → filter f (flat_map g xs) ≡ flat_map (λ x. filter f (g x)) xs
 filter_flat_map f g [] = refl
 filter_flat_map f g (x ∷ xs) = filter_append f (g x) (flat_map g xs) ∙ ap (λ zs. filter f (g x) ++ zs) (filter_flat_map f g xs)
-
-pub filter_twice : {X : Type 0} (f g : X → Bool) (xs : List X) → filter f (filter g xs) ≡ filter (λ x. g x && f x) xs
-filter_twice f g [] = refl
-filter_twice f g (x ∷ xs) = elim (cases_Bool (g x)) [
-  | inl passes ↦ elim (cases_Bool (f x)) [
-    | inl both ↦ rw (passes, both) (ap (λ zs. x ∷ zs) (filter_twice f g xs))
-    | inr only ↦ rw (passes, only) (filter_twice f g xs)
-  ]
-  | inr fails ↦ rw fails (filter_twice f g xs)
-]
 
 pub from_not : (b d : Bool) → not b ≡ d → b ≡ not d
 from_not true d e = ap not e

@@ -1,6 +1,5 @@
 -- A finder finds the ring of an ID that a walk over all would find
-use Rattle.std.proofs.Common.{◌≡◌, ◌+◌, ◌<◌, ◌∷◌, ◌∙◌, ◌==◌, ℕ, List, [], Bool, true, false, Option, Some, None, refl, ap, sym, arith, inl, inr, length, get_or, set, Bor, slice_get, position, unwrap_or, eqb-true, get_or-set_same, get_or-set_other}
-use Rattle.ring_finder.proofs.Words.{option_copied, option_flatten, option_map, cases_eq, slice_get-get_or, slice_get_within, get_or_from_slice_get, length-set, position_only, position_nowhere, Ring, may_stand_together, Finder, AreNumbers, IsFinder}
+use Rattle.ring_finder.proofs.Words.{◌≡◌, ◌+◌, ◌<◌, ◌∷◌, ◌∙◌, ◌==◌, ℕ, List, [], Bool, true, false, Option, Some, None, refl, ap, sym, arith, inl, inr, length, get_or, set, Bor, slice_get, position, unwrap_or, eqb-true, get_or-set_same, get_or-set_other, option_copied, option_flatten, option_map, cases_eq, slice_get-get_or, slice_get_within, get_or_from_slice_get, length-set, position_only, position_nowhere, Ring, may_stand_together, Finder, AreNumbers, IsFinder}
 use Rattle.ring_finder.proofs.RingsApart.{Apart, numbers_apart, same_number}
 
 pub some_ring : (q r : Ring) → Some q ≡ Some r → q ≡ r

@@ -1,6 +1,5 @@
 -- The rings of a header lie apart: no two have the same ID or a byte in common
-use Rattle.std.proofs.Common.{◌≡◌, ◌≢◌, ◌*◌, ◌<◌, ◌∷◌, ◌∙◌, ◌==◌, ◌&&◌, ◌||◌, ◌⊎◌, ℕ, List, [], Bool, true, false, Some, None, refl, ap, sym, arith, length, get_or, zero, suc, inl, inr, subst, not, slice_get}
-use Rattle.ring_finder.proofs.Words.{get_or_from_slice_get, slice_get_within, list_any, or_parts, and_parts, false≢true, nat_tests, is_inside, touches, rings_apart, Ring, clash, may_stand_together, is_command_kind, is_event_kind}
+use Rattle.ring_finder.proofs.Words.{◌≡◌, ◌≢◌, ◌*◌, ◌<◌, ◌∷◌, ◌∙◌, ◌==◌, ◌&&◌, ◌||◌, ◌⊎◌, ℕ, List, [], Bool, true, false, Some, None, refl, ap, sym, arith, length, get_or, zero, suc, inl, inr, subst, not, slice_get, get_or_from_slice_get, slice_get_within, list_any, or_parts, and_parts, false≢true, nat_tests, is_inside, touches, rings_apart, Ring, clash, may_stand_together, is_command_kind, is_event_kind}
 
 pub same_number : (n : ℕ) → (n == n) ≡ true
 same_number n = grind (arith, nat_tests)

@@ -1,6 +1,5 @@
 -- A finder finds the ring that has an address, as a walk over all would
-use Rattle.std.proofs.Common.{◌≡◌, ◌+◌, ◌-◌, ◌*◌, ◌%◌, ◌<◌, ◌≤◌, ◌∷◌, ◌++◌, ◌∙◌, ◌||◌, ℕ, zero, suc, List, [], Bool, true, false, Some, None, refl, ap, sym, arith, inl, inr, length, get_or, map, take, append_assoc, add-zero, zero-add, leb, leb-true, slice_get, position, le-leb, length-take, append-nil}
-use Rattle.ring_finder.proofs.Words.{Contains, list_any, IsNonDecreasingBy, IsPartitionPoint, cases_Bool, cases_eq, cases_lt, false≢true, slice_get-get_or, slice_get_within, get_or_from_slice_get, take_more, Contains-permutation, IsPermutation-sym, Contains-get_or, Contains-append_left, Contains-append_right, Contains-append_cases, segment_at, shape_facts, Segment, IsShape, is_inside, segment_has, touches, touches-word, is_in-true, is_in-parts, Ring, Header, IsHeader, Start, Finder, IsFinder, IsRingBefore, start_of, starts_from}
+use Rattle.ring_finder.proofs.Words.{◌≡◌, ◌+◌, ◌-◌, ◌*◌, ◌%◌, ◌<◌, ◌≤◌, ◌∷◌, ◌++◌, ◌∙◌, ◌||◌, ℕ, zero, suc, List, [], Bool, true, false, Some, None, refl, ap, sym, arith, inl, inr, length, get_or, map, take, append_assoc, add-zero, zero-add, leb, leb-true, slice_get, position, le-leb, length-take, append-nil, Contains, list_any, IsNonDecreasingBy, IsPartitionPoint, cases_Bool, cases_eq, cases_lt, false≢true, slice_get-get_or, slice_get_within, get_or_from_slice_get, take_more, Contains-permutation, IsPermutation-sym, Contains-get_or, Contains-append_left, Contains-append_right, Contains-append_cases, segment_at, shape_facts, Segment, IsShape, is_inside, segment_has, touches, touches-word, is_in-true, is_in-parts, Ring, Header, IsHeader, Start, Finder, IsFinder, IsRingBefore, start_of, starts_from}
 use Rattle.ring_finder.proofs.RingsApart.{numbers_apart, among_at}
 use Rattle.ring_finder.proofs.HeaderRings.{together, shape_allowed}
 use Rattle.ring_finder.proofs.Numbers.{one_position, no_position, some_ring}

@@ -1,6 +1,5 @@
 -- Borders between descriptors, by how long the descriptor is that begins at a position
-use Rattle.std.proofs.Common.{◌≡◌, ◌+◌, ◌<◌, ◌∷◌, ◌∙◌, ◌==◌, ◌||◌, ℕ, List, [], true, ap, sym, arith, inl, inr, length, slice_index, sum, eq-eqb, ne_eqb}
-use Rattle.ring_knowledge.proofs.Words.{cases_eq, cond-true, cond-false, or_left, Shape, RingView, is_border, length_from, RingRecord, ArePositive, FollowsMarks}
+use Rattle.ring_knowledge.proofs.Words.{◌≡◌, ◌+◌, ◌<◌, ◌∷◌, ◌∙◌, ◌==◌, ◌||◌, ℕ, List, [], true, ap, sym, arith, inl, inr, length, slice_index, sum, eq-eqb, ne_eqb, cases_eq, cond-true, cond-false, or_left, Shape, RingView, is_border, length_from, RingRecord, ArePositive, FollowsMarks}
 use Rattle.ring_knowledge.proofs.DeclaredMore.{sum-cons}
 
 -- where a descriptor begins, there is a border

@@ -1,6 +1,5 @@
 -- Marks that are cleared in turn
-use Rattle.std.proofs.Common.{◌≡◌, ◌+◌, ◌%◌, ◌≤◌, ◌∷◌, ◌∙◌, ℕ, suc, zero, subst, List, [], Bool, false, refl, ap, sym, arith, inl, inr, get_or, set, get_or-set_other}
-use Rattle.ring_knowledge.proofs.Words.{length-set, cases_lt, cases_eq, AreCleared}
+use Rattle.ring_knowledge.proofs.Words.{◌≡◌, ◌+◌, ◌%◌, ◌≤◌, ◌∷◌, ◌∙◌, ℕ, suc, zero, subst, List, [], Bool, false, refl, ap, sym, arith, inl, inr, get_or, set, get_or-set_other, length-set, cases_lt, cases_eq, AreCleared}
 
 -- a cleared mark
 cleared_at : (marks : List Bool) (j : ℕ) → get_or (set marks j false) j false ≡ false

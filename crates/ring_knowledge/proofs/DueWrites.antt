@@ -1,6 +1,5 @@
 -- What a write would give of a ring, by the place of its address: xHCI 4.9.2
-use Rattle.std.proofs.Common.{◌≡◌, ◌≢◌, ◌+◌, ◌-◌, ◌*◌, ◌%◌, ◌<◌, ◌≤◌, ◌∙◌, ◌==◌, ◌&&◌, ◌||◌, ℕ, Bool, true, false, Some, None, refl, ap, sym, arith, inl, inr, max, nat_lt, nat_le, lt-ltb, le-ltb, le-leb, eq-eqb, ne_eqb, eqb-true, ltb-true, leb-true}
-use Rattle.ring_knowledge.proofs.Words.{cases_lt, cases_eq, and_parts, or_cases, and_from, Place, AtData, AtLink, Spot, Shape, IsShape, place_count, address_of, cycle_of, link_crossed, is_crossing, link_address, place_at, number, is_due, is_crossing_due, gives, gives_crossing, place_count_pos, address_of-mod, place_at-Data, place_at-Link, place_at-address_of, place_at-link_address, crossed_link, crossing_positive, is_crossing-from, link_address_is, is_the}
+use Rattle.ring_knowledge.proofs.Words.{◌≡◌, ◌≢◌, ◌+◌, ◌-◌, ◌*◌, ◌%◌, ◌<◌, ◌≤◌, ◌∙◌, ◌==◌, ◌&&◌, ◌||◌, ℕ, Bool, true, false, Some, None, refl, ap, sym, arith, inl, inr, max, nat_lt, nat_le, lt-ltb, le-ltb, le-leb, eq-eqb, ne_eqb, eqb-true, ltb-true, leb-true, cases_lt, cases_eq, and_parts, or_cases, and_from, Place, AtData, AtLink, Spot, Shape, IsShape, place_count, address_of, cycle_of, link_crossed, is_crossing, link_address, place_at, number, is_due, is_crossing_due, gives, gives_crossing, place_count_pos, address_of-mod, place_at-Data, place_at-Link, place_at-address_of, place_at-link_address, crossed_link, crossing_positive, is_crossing-from, link_address_is, is_the}
 use Rattle.ring_knowledge.proofs.Noted.{false_unless}
 use Rattle.ring_knowledge.proofs.DueNumbers.{same_due, same_due_crossing}
 

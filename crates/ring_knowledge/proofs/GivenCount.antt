@@ -1,6 +1,5 @@
 -- How many positions are given without a gap
-use Rattle.std.proofs.Common.{◌≡◌, ◌+◌, ◌<◌, ◌≤◌, ◌∙◌, ◌&&◌, ◌||◌, ◌%◌, ℕ, suc, zero, List, Bool, true, false, refl, ap, sym, arith, inl, inr, cond, not}
-use Rattle.ring_knowledge.proofs.Words.{cases_lt, cases_eq, false≢true, Block, Spot, Shape, place_count, is_crossing, RingView, Declares, Writes, Reaches, Opens, Holds, changed, new_ring, floor_number, gives, gives_crossing, is_step_given, is_way_given, first_not_given, given_count, RingRecord, FollowsMarks, FollowsRing}
+use Rattle.ring_knowledge.proofs.Words.{◌≡◌, ◌+◌, ◌<◌, ◌≤◌, ◌∙◌, ◌&&◌, ◌||◌, ◌%◌, ℕ, suc, zero, List, Bool, true, false, refl, ap, sym, arith, inl, inr, cond, not, cases_lt, cases_eq, false≢true, Block, Spot, Shape, place_count, is_crossing, RingView, Declares, Writes, Reaches, Opens, Holds, changed, new_ring, floor_number, gives, gives_crossing, is_step_given, is_way_given, first_not_given, given_count, RingRecord, FollowsMarks, FollowsRing}
 use Rattle.ring_knowledge.proofs.Noted.{noted_past}
 use Rattle.ring_knowledge.proofs.WholeDescriptors.{step_not_given}
 

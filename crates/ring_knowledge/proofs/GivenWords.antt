@@ -1,6 +1,5 @@
 -- What a write gives of a ring that a record follows
-use Rattle.std.proofs.Common.{◌≡◌, ◌+◌, ◌%◌, ◌<◌, ◌≤◌, ◌∷◌, ◌∙◌, ◌&&◌, ℕ, [], Bool, true, false, Option, None, Some, refl, ap, sym, arith, get_or, cond, not, max, option_map, IfSome, eq-eqb, ne_eqb}
-use Rattle.ring_knowledge.proofs.Words.{and_parts, AtData, AtLink, Shape, place_count, link_crossed, place_at, number, RingView, floor_number, gives, gives_crossing, due_positions, due_crossings, positions_given, crossings_given, link_of, is_crossing-from, RingRecord, is_noted, Position, Crossing, FollowsMarks, is_the, least_crossing, positions_of, crossings_of}
+use Rattle.ring_knowledge.proofs.Words.{◌≡◌, ◌+◌, ◌%◌, ◌<◌, ◌≤◌, ◌∷◌, ◌∙◌, ◌&&◌, ℕ, [], Bool, true, false, Option, None, Some, refl, ap, sym, arith, get_or, cond, not, max, option_map, IfSome, eq-eqb, ne_eqb, and_parts, AtData, AtLink, Shape, place_count, link_crossed, place_at, number, RingView, floor_number, gives, gives_crossing, due_positions, due_crossings, positions_given, crossings_given, link_of, is_crossing-from, RingRecord, is_noted, Position, Crossing, FollowsMarks, is_the, least_crossing, positions_of, crossings_of}
 use Rattle.ring_knowledge.proofs.Noted.{noted_due, false_unless}
 use Rattle.ring_knowledge.proofs.Ranges.{filter_none, filter_only}
 use Rattle.ring_knowledge.proofs.DueNumbers.{link_of-crossed}

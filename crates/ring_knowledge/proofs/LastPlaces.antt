@@ -1,6 +1,5 @@
 -- The data place before a Link
-use Rattle.std.proofs.Common.{◌≡◌, ◌+◌, ◌-◌, ◌*◌, ◌/◌, ◌%◌, ◌<◌, ◌≤◌, ◌∙◌, ℕ, Some, None, ap, sym, arith, length, slice_index}
-use Rattle.ring_knowledge.proofs.Words.{Place, AtData, AtLink, Shape, IsShape, data_count, data_places, place_count, links, ends, place_at, segment_at, before, before-next, link_is, block_is, link_aligned, end_is, end_in_lap, place_at-data}
+use Rattle.ring_knowledge.proofs.Words.{◌≡◌, ◌+◌, ◌-◌, ◌*◌, ◌/◌, ◌%◌, ◌<◌, ◌≤◌, ◌∙◌, ℕ, Some, None, ap, sym, arith, length, slice_index, Place, AtData, AtLink, Shape, IsShape, data_count, data_places, place_count, links, ends, place_at, segment_at, before, before-next, link_is, block_is, link_aligned, end_is, end_in_lap, place_at-data}
 
 -- the block 16 bytes before a Link is that of the last data place before it
 pub record IsLast (shape : Shape) (j word : ℕ) : Type 0 where

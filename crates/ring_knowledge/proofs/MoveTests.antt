@@ -1,6 +1,5 @@
 -- The test of a move, at the one spot that a pointer and a cycle state name
-use Rattle.std.proofs.Common.{◌≡◌, ◌+◌, ◌-◌, ◌<◌, ◌≤◌, ◌∷◌, ◌∙◌, ◌&&◌, ◌||◌, ℕ, List, [], Bool, true, false, Some, None, refl, ap, sym, arith, inl, inr, All, find}
-use Rattle.ring_knowledge.proofs.Words.{list_any, flat_map, range_with_len, cases_Bool, cond-true, cond-false, and_parts, or_cases, false≢true, none-some, All-head, All-tail, All-weaker, Spot, Data, Link, Shape, IsShape, place_count, number, RingView, is_target, spots_between, may_move_to, is_move, found_is, between}
+use Rattle.ring_knowledge.proofs.Words.{◌≡◌, ◌+◌, ◌-◌, ◌<◌, ◌≤◌, ◌∷◌, ◌∙◌, ◌&&◌, ◌||◌, ℕ, List, [], Bool, true, false, Some, None, refl, ap, sym, arith, inl, inr, All, find, list_any, flat_map, range_with_len, cases_Bool, cond-true, cond-false, and_parts, or_cases, false≢true, none-some, All-head, All-tail, All-weaker, Spot, Data, Link, Shape, IsShape, place_count, number, RingView, is_target, spots_between, may_move_to, is_move, found_is, between}
 use Rattle.ring_knowledge.proofs.SpotsBetween.{target_parts, one_between}
 
 module _ (f g : Spot → Bool) where

@@ -1,6 +1,5 @@
 -- What an event names, and where a pointer and a cycle state stand, by the first spot at an address
-use Rattle.std.proofs.Common.{◌≡◌, ◌≢◌, ◌<◌, ◌≤◌, ◌∙◌, ◌^◌, ℕ, Bool, Option, Some, None, ap, sym, arith, inl, inr, subst, IfSome, find}
-use Rattle.ring_knowledge.proofs.Words.{Spot, Shape, IsSpot, number, spot_address, named_spot, RingView, declared, floor_number, named, is_target, spots_between, target, cases_option, rank_least, rank_most, IsNamed, named_spot-Some, named_spot-is, IsFirstAt}
+use Rattle.ring_knowledge.proofs.Words.{◌≡◌, ◌≢◌, ◌<◌, ◌≤◌, ◌∙◌, ◌^◌, ℕ, Bool, Option, Some, None, ap, sym, arith, inl, inr, subst, IfSome, find, Spot, Shape, IsSpot, number, spot_address, named_spot, RingView, declared, floor_number, named, is_target, spots_between, target, cases_option, rank_least, rank_most, IsNamed, named_spot-Some, named_spot-is, IsFirstAt}
 
 module _ (shape : Shape) (v : RingView) (is : IsSpot shape v.floor) (address : ℕ) where
   -- no spot lies at the address

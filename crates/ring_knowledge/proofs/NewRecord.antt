@@ -1,6 +1,5 @@
 -- A new record follows a ring on which nothing happened
-use Rattle.std.proofs.Common.{◌≡◌, ◌+◌, ◌-◌, ◌*◌, ◌≤◌, ◌%◌, ◌∙◌, ◌&&◌, ℕ, List, [], Bool, true, false, Some, refl, ap, sym, arith, inl, inr, length, get_or, replicate}
-use Rattle.ring_knowledge.proofs.Words.{cases_lt, cases_Bool, common_steps, length-map, RingKind, Cmd, Evt, Xfer, Segment, Data, Shape, IsShape, place_count, links_of, is_crossing, new_ring, length_from, link_of, crossing_positive, RingRecord, is_noted, FollowsMarks}
+use Rattle.ring_knowledge.proofs.Words.{◌≡◌, ◌+◌, ◌-◌, ◌*◌, ◌≤◌, ◌%◌, ◌∙◌, ◌&&◌, ℕ, List, [], Bool, true, false, Some, refl, ap, sym, arith, inl, inr, length, get_or, replicate, cases_lt, cases_Bool, common_steps, length-map, RingKind, Cmd, Evt, Xfer, Segment, Data, Shape, IsShape, place_count, links_of, is_crossing, new_ring, length_from, link_of, crossing_positive, RingRecord, is_noted, FollowsMarks}
 use Rattle.ring_knowledge.proofs.Noted.{noted_due, noted_past}
 
 -- no more Links than segments

@@ -1,6 +1,5 @@
 -- Which numbers a list of marks notes as given
-use Rattle.std.proofs.Common.{◌≡◌, ◌+◌, ◌<◌, ◌≤◌, ◌∙◌, ◌==◌, ◌||◌, ℕ, List, Bool, true, false, refl, ap, sym, arith, inl, inr, length, get_or, set, lt-ltb, le-ltb, eq-eqb, ne_eqb, get_or-set_same, get_or-set_other}
-use Rattle.ring_knowledge.proofs.Words.{cases_lt, cases_eq, is_noted}
+use Rattle.ring_knowledge.proofs.Words.{◌≡◌, ◌+◌, ◌<◌, ◌≤◌, ◌∙◌, ◌==◌, ◌||◌, ℕ, List, Bool, true, false, refl, ap, sym, arith, inl, inr, length, get_or, set, lt-ltb, le-ltb, eq-eqb, ne_eqb, get_or-set_same, get_or-set_other, cases_lt, cases_eq, is_noted}
 
 pub or_true : (b : Bool) → (b || true) ≡ true
 or_true true = refl
@@ -71,8 +70,3 @@ noted_more least count marks i j n m low high inside same only =
             ]
       ]
     ]
-
--- nothing more is noted where nothing is given
-pub noted_same : (b c : Bool) → c ≡ false → b ≡ (b || c)
-noted_same true c e = refl
-noted_same false c e = sym e

@@ -1,6 +1,5 @@
 -- A record with the mark of what a write gives follows what is known after the write
-use Rattle.std.proofs.Common.{◌≡◌, ◌+◌, ◌%◌, ◌<◌, ◌≤◌, ◌∷◌, ◌∙◌, ◌==◌, ◌&&◌, ◌||◌, ℕ, suc, zero, List, [], Bool, true, false, None, Some, refl, get_or, ap, sym, arith, inl, inr, length, set, subst, not, Contains, eq-eqb, ne_eqb}
-use Rattle.ring_knowledge.proofs.Words.{length-set, mod-lt, cases_Bool, cases_eq, false≢true, Shape, place_count, links, link_crossed, is_crossing, RingView, Writes, changed, floor_number, gives, gives_crossing, positions_given, crossings_given, is_step_given, is_way_given, link_of, place_count_pos, crossed_link, is_crossing-from, gives_is, position_given, position_given_is, crossing_given, crossing_given_is, RingRecord, is_noted, FollowsMarks, FollowsRing, least_crossing}
+use Rattle.ring_knowledge.proofs.Words.{◌≡◌, ◌+◌, ◌%◌, ◌<◌, ◌≤◌, ◌∷◌, ◌∙◌, ◌==◌, ◌&&◌, ◌||◌, ℕ, suc, zero, List, [], Bool, true, false, None, Some, refl, get_or, ap, sym, arith, inl, inr, length, set, subst, not, Contains, eq-eqb, ne_eqb, length-set, mod-lt, cases_Bool, cases_eq, false≢true, Shape, place_count, links, link_crossed, is_crossing, RingView, Writes, changed, floor_number, gives, gives_crossing, positions_given, crossings_given, is_step_given, is_way_given, link_of, place_count_pos, crossed_link, is_crossing-from, gives_is, position_given, position_given_is, crossing_given, crossing_given_is, RingRecord, is_noted, FollowsMarks, FollowsRing, least_crossing}
 use Rattle.ring_knowledge.proofs.Noted.{false_unless, noted_more}
 use Rattle.ring_knowledge.proofs.DueNumbers.{same_due, same_due_crossing, link_of-crossed}
 use Rattle.ring_knowledge.proofs.DueWrites.{GivesCrossing, gives_crossing-true}

@@ -1,6 +1,5 @@
 -- The spots that events and completions let a record reach
-use Rattle.std.proofs.Common.{◌≡◌, ◌+◌, ◌<◌, ◌≤◌, ◌∙◌, ℕ, true, Some, refl, ap, arith, inl, inr}
-use Rattle.ring_knowledge.proofs.Words.{Spot, Data, Link, Shape, IsShape, number, after, RingView, Holds, changed, declared, floor_number, ceiling, given_count, is_data_below, is_way_given, named, is_reached, are_given, are_ways_given, RingKeeps, after_is, given_count_declared, named_ahead, below_is, ceiling_within, RingRecord, FollowsRing}
+use Rattle.ring_knowledge.proofs.Words.{◌≡◌, ◌+◌, ◌<◌, ◌∙◌, ℕ, true, refl, ap, arith, inl, inr, Spot, Data, Link, Shape, after, RingView, Holds, changed, given_count, is_way_given, is_reached, are_given, are_ways_given, after_is, RingRecord, FollowsRing}
 use Rattle.ring_knowledge.proofs.GivenCount.{count_is}
 use Rattle.ring_knowledge.proofs.StopSpots.{reached_block, reached_link, way_without}
 
@@ -23,12 +22,3 @@ held_reached shape v n (Link q) = refl
 pub start_reached : (shape : Shape) (v : RingView) → is_reached shape v (Data 0) ≡ true
 unfolding is_reached are_given are_ways_given
 start_reached shape v = refl
-
--- a spot that an event names below the ceiling lies from the floor on, at a block that is given with all before it, and declared
-pub named_below : (shape : Shape) → IsShape shape → (memory : ℕ → ℕ) (v : RingView) → RingKeeps shape memory v → (address : ℕ) (t : Spot) → named shape v address ≡ Some t →
-    is_data_below (ceiling shape v) t ≡ true → (floor_number v ≤ number t) × (number t < given_count shape v) × (number t < declared v)
-named_below shape is memory v keeps address t at below =
-    let ahead = named_ahead shape memory v keeps address t at in
-    let within = ceiling_within shape is memory v keeps in
-    let given : number t < given_count shape v = omega (arith, within.1, below_is (ceiling shape v) t below) in
-    (ahead.from, given, omega (arith, given_count_declared shape is memory v keeps))

@@ -1,6 +1,5 @@
 -- Tests over a run of numbers of which at most one passes
-use Rattle.std.proofs.Common.{◌≡◌, ◌≢◌, ◌+◌, ◌<◌, ◌≤◌, ◌∷◌, ◌∙◌, ◌||◌, ◌&&◌, ℕ, suc, zero, [], Bool, true, false, refl, ap, sym, arith, inl, inr, cond, filter}
-use Rattle.ring_knowledge.proofs.Words.{range_with_len, list_any, list_all, cases_eq}
+use Rattle.ring_knowledge.proofs.Words.{◌≡◌, ◌≢◌, ◌+◌, ◌<◌, ◌≤◌, ◌∷◌, ◌∙◌, ◌||◌, ◌&&◌, ℕ, suc, zero, [], Bool, true, false, refl, ap, sym, arith, inl, inr, cond, filter, range_with_len, list_any, list_all, cases_eq}
 
 -- no number passes
 pub any_none : (f : ℕ → Bool) (a n : ℕ) → ((p : ℕ) → a ≤ p → p < a + n → f p ≡ false) → list_any f (range_with_len a n) ≡ false

@@ -1,6 +1,5 @@
 -- What a record of the registers holds after one is written
-use Rattle.std.proofs.Common.{◌≡◌, ◌≢◌, ◌<◌, ◌∷◌, ◌∙◌, ◌==◌, ◌&&◌, ◌||◌, if◌then◌else◌, ℕ, List, [], Bool, true, false, Option, Some, None, refl, ap, sym, length, set, get_or, inl, inr, get_or-set_other, get_or-set_same, not, eqb-true, arith}
-use Rattle.ring_knowledge.proofs.Words.{length-set, cases_Bool, nat_tests, Header, Register, Usbcmd, ordinal, with_register, run_bit, reset_bit, Known, nothing, register_written, run_or_stop, valued, FollowsRegisters, RegisterRecord}
+use Rattle.ring_knowledge.proofs.Words.{◌≡◌, ◌≢◌, ◌<◌, ◌∷◌, ◌∙◌, ◌==◌, ◌&&◌, ◌||◌, if◌then◌else◌, ℕ, List, [], Bool, true, false, Option, Some, None, refl, ap, sym, length, set, get_or, inl, inr, get_or-set_other, get_or-set_same, not, eqb-true, arith, length-set, cases_Bool, nat_tests, Header, Register, Usbcmd, ordinal, with_register, run_bit, reset_bit, Known, nothing, register_written, run_or_stop, valued, FollowsRegisters, RegisterRecord}
 
 value_at : (values : List (Option ℕ)) (n m : ℕ) (x : Option ℕ) → n < length values → get_or (set values n x) m None ≡ (if m == n then x else get_or values m None)
 value_at values n m x below = elim (cases_Bool (m == n)) [

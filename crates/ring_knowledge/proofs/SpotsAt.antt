@@ -1,6 +1,5 @@
 -- The first spot from another one on at an address, by the place of the address
-use Rattle.std.proofs.Common.{◌≡◌, ◌≢◌, ◌+◌, ◌%◌, ◌<◌, ◌≤◌, ◌∙◌, ℕ, Some, None, refl, ap, sym, arith, inl, inr, slice_index}
-use Rattle.ring_knowledge.proofs.Words.{cases_lt, AtData, AtLink, Spot, Data, Link, Shape, IsShape, place_count, address_of, links, link_crossed, link_address, place_at, IsSpot, number, rank, spot_address, link_aligned, address_aligned, address_of-mod, same_position, place_at-Data, place_at-Link, place_at-None, place_at-None_link, crosses, crossed_link, crossing_positive, is_crossing-from, link_address_is, same_crossing_at, rank_least, rank_most, data_not_link, IsFirstAt}
+use Rattle.ring_knowledge.proofs.Words.{◌≡◌, ◌≢◌, ◌+◌, ◌%◌, ◌<◌, ◌≤◌, ◌∙◌, ℕ, Some, None, refl, ap, sym, arith, inl, inr, slice_index, cases_lt, AtData, AtLink, Spot, Data, Link, Shape, IsShape, place_count, address_of, links, link_crossed, link_address, place_at, IsSpot, number, rank, spot_address, link_aligned, address_aligned, address_of-mod, same_position, place_at-Data, place_at-Link, place_at-None, place_at-None_link, crosses, crossed_link, crossing_positive, is_crossing-from, link_address_is, same_crossing_at, rank_least, rank_most, data_not_link, IsFirstAt}
 
 module _ (shape : Shape) (is : IsShape shape) (address : ℕ) where
   -- no spot lies off the boundaries of blocks

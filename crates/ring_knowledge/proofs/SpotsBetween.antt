@@ -1,6 +1,5 @@
 -- The one spot, with a number between two that are less than a lap apart, at which a pointer and a cycle state stand
-use Rattle.std.proofs.Common.{◌≡◌, ◌≢◌, ◌+◌, ◌-◌, ◌<◌, ◌≤◌, ◌∷◌, ◌∙◌, ◌==◌, ◌&&◌, if◌then◌else◌, ℕ, suc, zero, List, [], refl, Bool, true, false, Some, None, ap, sym, arith, inl, inr, find, eqb-true, eq-eqb}
-use Rattle.ring_knowledge.proofs.Words.{flat_map, range_with_len, cases_lt, cases_eq, cases_Bool, cond-true, cond-false, and_parts, and_from, false≢true, false_from_ne_true, Spot, Data, Link, Shape, IsShape, place_count, IsSpot, is_spot, number, rank, spot_address, spot_cycle, is_target, spots_between, rank_least, rank_most, same_spot, IsFirstAt}
+use Rattle.ring_knowledge.proofs.Words.{◌≡◌, ◌≢◌, ◌+◌, ◌-◌, ◌<◌, ◌≤◌, ◌∷◌, ◌∙◌, ◌==◌, ◌&&◌, if◌then◌else◌, ℕ, suc, zero, List, [], refl, Bool, true, false, Some, None, ap, sym, arith, inl, inr, find, eqb-true, eq-eqb, flat_map, range_with_len, cases_lt, cases_eq, cases_Bool, cond-true, cond-false, and_parts, and_from, false≢true, false_from_ne_true, Spot, Data, Link, Shape, IsShape, place_count, IsSpot, is_spot, number, rank, spot_address, spot_cycle, is_target, spots_between, rank_least, rank_most, same_spot, IsFirstAt}
 
 -- ---- a search among the spots with n numbers from a on
 

@@ -17,45 +17,26 @@ pub use Rattle.segments.proofs.DueLists.{crossing_given, crossing_given_is, posi
 pub use Rattle.segments.proofs.GivenCount.{given_below}
 pub use Rattle.segments.proofs.Giving.{gives_is}
 pub use Rattle.segments.proofs.MoveTargets.{between}
-pub use Rattle.segments.proofs.Named.{below_is, ceiling_within, found_is, named_ahead}
+pub use Rattle.segments.proofs.Named.{found_is}
 pub use Rattle.segments.proofs.NamedSpots.{IsNamed, named_spot-Some, named_spot-is}
 pub use Rattle.segments.proofs.PlaceAtLemmas.{place_at-Data, place_at-Link, place_at-None, place_at-None_link, place_at-address_of, place_at-data, place_at-link, place_at-link_address}
 pub use Rattle.segments.proofs.Positions.{address_aligned, address_of-first, address_of-mod, place_below, place_count_pos, same_in_lap, same_position}
-pub use Rattle.segments.proofs.Reaching.{given_count_declared}
 pub use Rattle.segments.proofs.Search.{cases_option}
 pub use Rattle.segments.proofs.SpotOrder.{after_is, data_not_link, rank_least, rank_most, same_spot}
-unfoldable pub use Rattle.segments.specs.Ceiling.{ceiling, first_not_given, given_count, is_data_below, is_step_given, is_stop_spot, is_way_given, named, stopped_number}
-unfoldable pub use Rattle.segments.specs.Descriptors.{is_border, length_from}
-unfoldable pub use Rattle.segments.specs.Givings.{descriptor_length, has_no_room, is_not_whole, link_of}
-unfoldable pub use Rattle.segments.specs.Moves.{are_given, are_ways_given, is_move, is_reached, is_target, may_move_to, spots_between, target}
-pub use Rattle.segments.specs.PlaceAt.{place_at}
-pub use Rattle.segments.specs.Places.{address_of, cycle_of, data_count, data_places, ends, is_crossing, link_address, link_crossed, links, links_of, overlap, place_count}
-pub use Rattle.segments.specs.RingKeeps.{RingKeeps}
-pub use Rattle.segments.specs.RingView.{Declares, Holds, Opens, Reaches, RingView, Writes, changed, declared, floor_number, gives, gives_crossing, is_crossing_due, is_due, new_ring}
-unfoldable pub use Rattle.segments.specs.RingView.{crossings_given, due_crossings, due_positions, leased_crossings, leased_positions, positions_given}
-pub use Rattle.segments.specs.Shape.{IsShape}
-pub use Rattle.segments.specs.ShapeValue.{Shape}
-pub use Rattle.segments.specs.Spots.{IsSpot, after, is_spot, named_spot, number, rank, spot_address, spot_cycle}
+pub use Rattle.segments.proofs.Words.{All-head, All-tail, All-weaker, Block, Cmd, Declares, Evt, Holds, IsShape, IsSpot, Opens, Reaches, RingKind, RingView, Shape, Writes, Xfer, add-mod_right, address_of, after, and_from, and_parts, cases_Bool, cases_eq, cases_lt, changed, cond-false, cond-true, cycle_of, data_count, data_places, declared, div-add-mod', ends, false_from_ne_true, false≢true, flat_map, floor_number, gives, gives_crossing, is_crossing, is_crossing_due, is_due, is_spot, length-map, link_address, link_crossed, links, links_of, list_all, list_any, mod-lt, mod-mul-add, named_spot, nat_tests, new_ring, none-some, number, or_cases, or_left, or_right, overlap, place_at, place_count, range_with_len, rank, spot_address, spot_cycle, sum_by-cons}
+unfoldable pub use Rattle.segments.proofs.Words.{are_given, are_ways_given, ceiling, crossings_given, descriptor_length, due_crossings, due_positions, first_not_given, given_count, has_no_room, is_border, is_move, is_not_whole, is_reached, is_step_given, is_stop_spot, is_target, is_way_given, leased_crossings, leased_positions, length_from, link_of, may_move_to, named, positions_given, spots_between, stopped_number, target}
+unfoldable pub use Rattle.segments.specs.Ceiling.{is_open}
 pub use Rattle.segments.specs.declared.place.Place.{Place}
 pub use Rattle.segments.specs.declared.place.Place.TheVariants.{Data as AtData, Link as AtLink}
 pub use Rattle.segments.specs.declared.segment.Segment.{Segment}
 pub use Rattle.segments.specs.declared.spot.Spot.{Spot}
 pub use Rattle.segments.specs.declared.spot.Spot.TheVariants.{Data, Link}
+pub use Rattle.std.proofs.Common.{All, Bool, Contains, IfSome, List, None, Option, Some, [], ap, arith, cond, eq-eqb, eqb-true, false, filter, find, get_or, get_or-set_other, get_or-set_same, if◌then◌else◌, inl, inr, is_some, le-leb, le-ltb, leb-true, length, length-append, lt-ltb, ltb-false, ltb-true, max, nat_le, nat_lt, ne_eqb, not, option_map, refl, replicate, rules, set, slice_index, subst, suc, sum, sym, take, true, zero, ℕ, ◌%◌, ◌&&◌, ◌*◌, ◌++◌, ◌+◌, ◌-◌, ◌/◌, ◌<◌, ◌==◌, ◌^◌, ◌||◌, ◌∙◌, ◌∷◌, ◌≡◌, ◌≢◌, ◌≤◌}
 pub use Rattle.std.proofs.Math.ListN.{length-set}
-pub use Rattle.std.proofs.Math.Nat.{add-mod_right, div-add-mod', mod-lt}
-pub use Rattle.std.proofs.lemmas.Bool.{and_from, and_parts, cases_Bool, cases_eq, cases_lt, cond-false, cond-true, eqb-false, false_from_ne_true, false≢true, lt-leb, or_cases, or_left, or_right}
-pub use Rattle.std.proofs.lemmas.Bool.Decides.{nat_tests}
+pub use Rattle.std.proofs.lemmas.Bool.{eqb-false, lt-leb}
 pub use Rattle.std.proofs.lemmas.Grind.{common_steps}
-pub use Rattle.std.proofs.lemmas.List.{length-map}
-pub use Rattle.std.proofs.lemmas.List.Elements.{All-head, All-tail, All-weaker}
-pub use Rattle.std.proofs.lemmas.List.Sums.{sum_by-cons}
-pub use Rattle.std.proofs.lemmas.Nat.{mod-mul-add}
-pub use Rattle.std.proofs.lemmas.Option.{none-some}
-pub use Rattle.std.specs.List.{flat_map, list_all, list_any, range_with_len}
+pub use Rattle.std.specs.Prelude.{unwrap_or}
 pub use Rattle.traces.specs.Register.{ordinal, reset_bit, run_bit, with_register}
 pub use Rattle.traces.specs.declared.header.Header.{Header}
 pub use Rattle.traces.specs.declared.register.Register.{Register}
 pub use Rattle.traces.specs.declared.register.Register.TheVariants.{Usbcmd}
-pub use Rattle.trb.specs.declared.block.Block.{Block}
-pub use Rattle.trb.specs.declared.ring_kind.RingKind.{RingKind}
-pub use Rattle.trb.specs.declared.ring_kind.RingKind.TheVariants.{Cmd, Evt, Xfer}

@@ -1,6 +1,6 @@
 -- How far a written ERDP takes the dequeue pointer
-use Rattle.std.proofs.Common.{◌≡◌, ◌+◌, ◌<◌, ◌≤◌, ◌==◌, ◌∙◌, ℕ, suc, zero, Bool, true, nat_lt, Option, None, Some, find, unwrap_or, arith, sym, ap, inl, inr}
-use Rattle.safety.proofs.Words.{list_any, range_with_len, cases_Bool, cond-true, cond-false, and_parts, or_cases, false≢true, none-some, same_Some, Shape, place_count, address_of, cases_option, position_from, is_reached_within}
+use Rattle.std.proofs.Common.{◌≡◌, ◌+◌, ◌%◌, ◌<◌, ◌∷◌, List, [], length, slice_index, mod-lt, ◌≤◌, ◌==◌, ◌&&◌, ◌⊎◌, ◌∙◌, ℕ, suc, zero, Bool, true, false, nat_lt, Option, None, Some, find, unwrap_or, is_some, not, refl, arith, sym, ap, inl, inr}
+use Rattle.safety.proofs.Words.{and_cases, not-false, not-true, erdp_address, Header, Erdp, event_ring, event_shape, Known, is_bad_erdp, may_pass, names_no_place, or_left, or_right, data_places, is_event_place, list_any, range_with_len, cases_Bool, cond-true, cond-false, and_parts, or_cases, false≢true, none-some, same_Some, Shape, place_count, address_of, cases_option, position_from, is_reached_within}
 
 -- what is found in a range lies in it
 found_from : (test : ℕ → Bool) (a n q : ℕ) → find test (range_with_len a n) ≡ Some q → (a ≤ q) × (q < a + n)
@@ -29,6 +29,34 @@ found_below test a (suc n) (suc m) q some at =
           let below = found_below test (a + 1) n m q rest (sym (cond-false (test a) (Some a) (find test (range_with_len (a + 1) n)) later) ∙ at) in omega arith
     ]
 
+-- what is found passes
+found_passes : (test : ℕ → Bool) (a n q : ℕ) → find test (range_with_len a n) ≡ Some q → test q ≡ true
+found_passes test a zero q at = absurd (none-some q at)
+found_passes test a (suc n) q at =
+    elim (cases_Bool (test a)) [
+      | inl here ↦ ap test (sym (same_Some a q (sym (cond-true (test a) (Some a) (find test (range_with_len (a + 1) n)) here) ∙ at))) ∙ here
+      | inr later ↦ found_passes test (a + 1) n q (sym (cond-false (test a) (Some a) (find test (range_with_len (a + 1) n)) later) ∙ at)
+    ]
+
+any_index : (test : ℕ → Bool) (xs : List ℕ) (i : ℕ) → i < length xs → test (slice_index xs i) ≡ true → list_any test xs ≡ true
+any_index test [] i low at = absurd (omega arith)
+any_index test (x ∷ xs) zero low at = or_left (test x) (list_any test xs) at
+any_index test (x ∷ xs) (suc i) low at = or_right (test x) (list_any test xs) (any_index test xs i (omega arith) at)
+
+-- the place of a position is an event place
+pub place_of : (shape : Shape) (q a : ℕ) → 0 < place_count shape → (address_of shape q == a) ≡ true → is_event_place shape a ≡ true
+place_of shape q a some is = any_index (λ x. x == a) (data_places shape) (q % place_count shape) (mod-lt q some) is
+
+-- an address that is no event place moves nothing
+pub no_place_stays : (shape : Shape) (p a : ℕ) → is_event_place shape a ≡ false → position_from shape p a ≡ p
+no_place_stays shape p a none =
+    elim (cases_option (find (λ q. address_of shape q == a) (range_with_len p (place_count shape)))) [
+      | inl nothing ↦ ap (λ x. unwrap_or x p) nothing
+      | inr found ↦
+          let within = found_from (λ q. address_of shape q == a) p (place_count shape) found.0 found.1 in
+          absurd (false≢true (sym none ∙ place_of shape found.0 a (omega (arith, within.0, within.1)) (found_passes (λ q. address_of shape q == a) p (place_count shape) found.0 found.1)))
+    ]
+
 module _ (shape : Shape) (p more address : ℕ) (reached : is_reached_within shape p more address ≡ true) where
   some : list_any (λ q. address_of shape q == address) (range_with_len p (more + 1)) ≡ true
   some = (and_parts (nat_lt 0 (place_count shape)) (list_any (λ q. address_of shape q == address) (range_with_len p (more + 1))) reached).1
@@ -48,3 +76,34 @@ module _ (shape : Shape) (p more address : ℕ) (reached : is_reached_within sha
             let high = found_below (λ q. address_of shape q == address) p (place_count shape) (more + 1) q some found.1 in
             (omega (arith, low.0), omega (arith, high))
       ]
+
+-- a good ERDP names a place up to what may be passed or, before the start, no event place
+pub erdp_says : (h : Header) (k : Known) (v : ℕ) → is_bad_erdp h k Erdp v ≡ false →
+    (is_reached_within (event_shape h) k.dequeue (may_pass k) (erdp_address v) ≡ true) ⊎ ((k.started ≡ false) × (is_event_place (event_shape h) (erdp_address v) ≡ false))
+unfolding is_bad_erdp names_no_place
+erdp_says h k v good =
+    elim (and_cases (not (names_no_place h k v)) (not (is_reached_within (event_shape h) k.dequeue (may_pass k) (erdp_address v))) good) [
+      | inl names ↦
+          let all = and_parts (not k.started && is_some (event_ring h)) (not (is_event_place (event_shape h) (erdp_address v))) (not-false (names_no_place h k v) names) in
+          let first = and_parts (not k.started) (is_some (event_ring h)) all.0 in
+          inr (not-true k.started first.0, not-true (is_event_place (event_shape h) (erdp_address v)) all.1)
+      | inr reached ↦ inl (not-false (is_reached_within (event_shape h) k.dequeue (may_pass k) (erdp_address v)) reached)
+    ]
+
+-- the other way round
+pub reached_is_good : (h : Header) (k : Known) (v : ℕ) → is_reached_within (event_shape h) k.dequeue (may_pass k) (erdp_address v) ≡ true → is_bad_erdp h k Erdp v ≡ false
+unfolding is_bad_erdp
+reached_is_good h k v reached = rw reached (none_left (not (names_no_place h k v)))
+  where
+    none_left : (b : Bool) → (b && false) ≡ false
+    none_left true = refl
+    none_left false = refl
+
+-- the pointer goes no further back than it was, nor further on than what may be passed
+pub erdp_within : (h : Header) (k : Known) (v : ℕ) → is_bad_erdp h k Erdp v ≡ false →
+    (k.dequeue ≤ position_from (event_shape h) k.dequeue (erdp_address v)) × (position_from (event_shape h) k.dequeue (erdp_address v) ≤ k.dequeue + may_pass k)
+erdp_within h k v good =
+    elim (erdp_says h k v good) [
+      | inl reached ↦ position_within (event_shape h) k.dequeue (may_pass k) (erdp_address v) reached
+      | inr none ↦ let stays = no_place_stays (event_shape h) k.dequeue (erdp_address v) none.1 in (omega (arith, stays), omega (arith, stays))
+    ]

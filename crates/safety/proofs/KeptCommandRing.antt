@@ -50,14 +50,10 @@ module _ (h : Header) where
     some_ring None at some = absurd (false≢true (sym some))
     some_ring (Some e) at some = omega (arith, event_ring_size h is e at)
 
-    size_by : (v : ℕ) → is_bad_size h v ≡ false → 0 < event_size h
-    unfolding is_bad_size
-    size_by v good = some_ring (event_ring h) refl (or_parts _ _ good).0
-
     sized_by : (k : Known) (r : Register) (v : ℕ) → (is_some (k.register Erstsz) ≡ true → 0 < event_size h) → is_bad_register h k r v ≡ false →
         is_some (with_register k.register r v Erstsz) ≡ true → 0 < event_size h
     unfolding is_bad_register
-    sized_by k Erstsz v sized good at = size_by v (or_parts (k.started || is_written k Erstsz) (is_bad_size h v) good).1
+    sized_by k Erstsz v sized good at = some_ring (event_ring h) refl (or_parts k.started (is_none (event_ring h)) good).1
     sized_by k r v sized good at = sized at
 
   -- CRCR names the command ring

@@ -2,7 +2,7 @@
 use Rattle.std.proofs.Common.{◌≡◌, ◌+◌, ◌-◌, ◌<◌, ◌≤◌, ◌&&◌, ◌||◌, if◌then◌else◌, ◌∙◌, ℕ, not, true, false, arith, refl, sym, ap, ltb-false}
 use Rattle.safety.proofs.Words.{cond_both, cond-false, not-false, false≢true, Block, kind, shape_facts, place_count, erdp_address, Header, Register, Erdp, Usbcmd, Sub, Write, Reg, Bell, Read, event_shape, event_size, run_bit, reset_bit, Known, run_or_stop, valued, register_written, learned, may_pass, is_bad_erdp, is_past_room, Unstarted, KeptByRows}
 use Rattle.safety.proofs.Headers.{EventRing, event_ring_is}
-use Rattle.safety.proofs.ErdpMoves.{position_within}
+use Rattle.safety.proofs.ErdpMoves.{erdp_within}
 use Rattle.safety.proofs.SameDriver.{event_same}
 use Rattle.safety.proofs.RowFrames.{SameSlots, SamePointer, declaration_leaves, write_leaves, register_leaves, bell_leaves}
 use Rattle.safety.proofs.CleanRows.{register_facts, bell_facts, event_facts}
@@ -28,11 +28,11 @@ module _ (h : Header) where
     pub before : l.started ≡ false → k.started ≡ false
 
   dequeues_by : (k : Known) (r : Register) (x : ℕ) → is_bad_erdp h k r x ≡ false → Dequeues k (register_written h k r x)
-  unfolding register_written valued is_bad_erdp
+  unfolding register_written valued
   dequeues_by k Usbcmd x good =
       let counts = run_counts (valued k Usbcmd x) x in record { from = omega (arith, counts.0); to = omega (arith, counts.0); before = counts.1 }
   dequeues_by k Erdp x good =
-      let within = position_within (event_shape h) k.dequeue (may_pass k) (erdp_address x) (not-false _ good) in record { from = within.0; to = within.1; before = λ e. e }
+      let within = erdp_within h k x good in record { from = within.0; to = within.1; before = λ e. e }
   dequeues_by k r x good = record { from = omega arith; to = omega arith; before = λ e. e }
 
   pub dequeues : (k : Known) (r : Register) (x : ℕ) → is_bad_erdp h k r x ≡ false → Dequeues k (learned h k (Reg r x))

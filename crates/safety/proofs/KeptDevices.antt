@@ -19,7 +19,7 @@ module _ (h : Header) where
       (with_register k.register r x Dcbaap ≡ k.register Dcbaap) × (with_register k.register r x Erstba ≡ k.register Erstba)
   unfolding is_bad_register
   base_stands k Dcbaap x on good = absurd (false≢true (sym good ∙ on))
-  base_stands k Erstba x on good = absurd (false≢true (sym (or_parts k.started _ (or_parts _ _ (or_parts _ _ good).0).0).0 ∙ on))
+  base_stands k Erstba x on good = absurd (false≢true (sym (or_parts k.started _ (or_parts _ _ (or_parts _ _ (or_parts _ _ good).0).0).0).0 ∙ on))
   base_stands k _ x on good = (refl, refl)
 
   register_devices : (k : Known) (r : Register) (x : ℕ) → DriverKeeps h k → is_bad_register h k r x ≡ false → DevicesKeep h (learned h k (Reg r x))

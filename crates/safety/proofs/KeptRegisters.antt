@@ -1,6 +1,6 @@
 -- Which registers were written, and with what, is kept by each row
 use Rattle.std.proofs.Common.{◌≡◌, ◌&&◌, ◌||◌, ◌⊎◌, if◌then◌else◌, ◌∷◌, ◌∙◌, ℕ, not, true, false, [], Option, None, Some, is_some, is_none, refl, sym, ap, inl, inr}
-use Rattle.safety.proofs.Words.{list_any, cases_Bool, cond_both, cond-true, cond-false, or_parts, and_cases, not_from_false, false≢true, RingKind, Cmd, Evt, Xfer, Header, Register, Usbcmd, Crcr, Erstsz, Erstba, Erdp, Reg, is_command_kind, is_driver_kind, with_register, same_register, run_bit, reset_bit, Known, run_or_stop, valued, register_written, learned, is_unwritten, is_late_reset, is_early_start, is_bad_register}
+use Rattle.safety.proofs.Words.{list_any, cases_Bool, cond_both, cond-true, cond-false, or_parts, and_cases, not_from_false, false≢true, RingKind, Cmd, Evt, Xfer, Header, Register, Usbcmd, Crcr, Erstsz, Erstba, Erdp, Reg, is_command_kind, is_driver_kind, with_register, same_register, run_bit, reset_bit, Known, run_or_stop, valued, register_written, learned, is_unwritten, is_late_reset, is_early_start, is_wrong_start, is_bad_register}
 
 pub command_drives : (kind : RingKind) → is_command_kind kind ≡ true → is_driver_kind kind ≡ true
 command_drives Cmd is = refl
@@ -75,10 +75,10 @@ module _ (h : Header) where
       (is_some (k.register Crcr) ≡ true) × (is_some (k.register Erstsz) ≡ true)
   unfolding is_bad_register is_early_start is_unwritten
   all_written k v good before runs =
-      elim (and_cases (not k.started) (is_late_reset k v || is_early_start k v) good) [
+      elim (and_cases (not k.started) (is_late_reset k v || is_early_start k v || is_wrong_start h k v) good) [
         | inl on ↦ absurd (false≢true (sym on ∙ not_from_false k.started before))
         | inr none ↦
-            let early = (or_parts (is_late_reset k v) (is_early_start k v) none).1 in
+            let early = (or_parts (is_late_reset k v) (is_early_start k v) (or_parts (is_late_reset k v || is_early_start k v) (is_wrong_start h k v) none).0).1 in
             elim (and_cases (run_bit v && not (reset_bit v)) (list_any (λ r. is_none (k.register r)) (Crcr ∷ Erstsz ∷ Erstba ∷ Erdp ∷ [])) early) [
               | inl waits ↦ absurd (false≢true (sym waits ∙ runs))
               | inr written ↦

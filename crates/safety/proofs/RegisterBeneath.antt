@@ -1,8 +1,8 @@
 -- A register write beneath an event that isn't read yet: the two may change places
 use Rattle.std.proofs.Common.{◌≡◌, ◌+◌, ◌-◌, ◌≤◌, ◌==◌, ◌&&◌, ◌||◌, if◌then◌else◌, ◌∷◌, ◌∙◌, ℕ, zero, suc, Bool, true, false, not, [], nat_lt, Some, unwrap_or, arith, refl, sym, ap, subst, inl, inr}
-use Rattle.safety.proofs.Words.{list_any, range_with_len, cases_Bool, and_parts, and_from, or_parts, or_cases, or_left, or_right, cond-true, cond-false, not-false, not_from_true, false≢true, Block, kind, cycle, is_event, Shape, place_count, address_of, cycle_of, position_from, is_reached_within, erdp_address, Header, Register, Usbcmd, Crcr, Dcbaap, Config, Erstsz, Erstba, Erdp, Reg, Read, event_shape, with_register, same_register, run_bit, reset_bit, Known, run_or_stop, valued, register_written, command_at, next_command, learned, changes, may_pass, is_late_reset, is_early_start, is_bad_register, is_bad_erdp, register_tests, is_impossible_by_kind, is_past_room, is_impossible, event_tests, lenient_tests, lenient, broken_of, AfterStop, BadRegister, BadErdp, HeldMore, Square}
+use Rattle.safety.proofs.Words.{list_any, range_with_len, cases_Bool, and_parts, and_from, or_parts, or_cases, or_left, or_right, cond-true, cond-false, not-false, not_from_true, false≢true, Block, kind, cycle, is_event, Shape, place_count, address_of, cycle_of, position_from, is_reached_within, erdp_address, Header, Register, Usbcmd, Crcr, Dcbaap, Config, Erstsz, Erstba, Erdp, Reg, Read, event_shape, with_register, same_register, run_bit, reset_bit, Known, run_or_stop, valued, register_written, command_at, next_command, learned, changes, may_pass, is_late_reset, is_early_start, is_wrong_start, is_bad_register, is_bad_erdp, register_tests, is_impossible_by_kind, is_past_room, is_impossible, event_tests, lenient_tests, lenient, broken_of, AfterStop, BadRegister, BadErdp, HeldMore, Square}
 use Rattle.safety.proofs.TestsPassed.{AllFail, clean_tests, tests_fail}
-use Rattle.safety.proofs.ErdpMoves.{position_within}
+use Rattle.safety.proofs.ErdpMoves.{erdp_says, erdp_within, reached_is_good}
 use Rattle.safety.proofs.SameDriver.{SameDriver, both_drivers}
 use Rattle.safety.proofs.Alike.{Alike, held_same}
 use Rattle.safety.proofs.AlikeEvents.{EventAlike, ReadAlike, read_alike}
@@ -78,33 +78,35 @@ module _ (h : Header) where
 
   register_still : (k l : Known) (r : Register) (v : ℕ) → k.started ≡ true → l.started ≡ true → is_bad_register h k r v ≡ false → is_bad_register h l r v ≡ false
   unfolding is_bad_register
-  register_still k l Usbcmd v on also good = ap (λ b. not b && (is_late_reset l v || is_early_start l v)) also
+  register_still k l Usbcmd v on also good = ap (λ b. not b && (is_late_reset l v || is_early_start l v || is_wrong_start h l v)) also
   register_still k l Crcr v on also good = absurd (false≢true (sym (or_parts k.started _ good).0 ∙ on))
   register_still k l Dcbaap v on also good = absurd (false≢true (sym good ∙ on))
   register_still k l Config v on also good = absurd (false≢true (sym good ∙ on))
-  register_still k l Erstsz v on also good = absurd (false≢true (sym (or_parts k.started _ (or_parts _ _ good).0).0 ∙ on))
-  register_still k l Erstba v on also good = absurd (false≢true (sym (or_parts k.started _ (or_parts _ _ (or_parts _ _ good).0).0).0 ∙ on))
+  register_still k l Erstsz v on also good = absurd (false≢true (sym (or_parts k.started _ good).0 ∙ on))
+  register_still k l Erstba v on also good = absurd (false≢true (sym (or_parts k.started _ (or_parts _ _ (or_parts _ _ (or_parts _ _ good).0).0).0).0 ∙ on))
   register_still k l _ v on also good = refl
 
-  erdp_still : (k l : Known) (r : Register) (v : ℕ) → l.started ≡ k.started → l.dequeue ≡ k.dequeue → k.reads ≤ l.reads → is_bad_erdp h k r v ≡ false → is_bad_erdp h l r v ≡ false
+  erdp_still : (k l : Known) (r : Register) (v : ℕ) → k.started ≡ true → l.started ≡ k.started → l.dequeue ≡ k.dequeue → k.reads ≤ l.reads → is_bad_erdp h k r v ≡ false → is_bad_erdp h l r v ≡ false
   unfolding is_bad_erdp may_pass
-  erdp_still k l Erdp v started dequeue reads good =
+  erdp_still k l Erdp v on started dequeue reads good =
       let shape : Shape = event_shape h in
       let test : ℕ → Bool = λ q. address_of shape q == erdp_address v in
+      let reached_before : is_reached_within shape k.dequeue (may_pass k) (erdp_address v) ≡ true =
+      elim (erdp_says h k v good) [ inl reached ↦ reached | inr waits ↦ absurd (false≢true (sym waits.0 ∙ on)) ] in
       let m : ℕ = if k.started then k.reads - k.dequeue else 0 in
       let n : ℕ = if l.started then l.reads - l.dequeue else 0 in
       let further : m ≤ n =
       subst (λ b. m ≤ (if b then l.reads - l.dequeue else 0)) (sym started)
       (both_below k.started (k.reads - k.dequeue) (l.reads - l.dequeue) (omega arith)) in
-      let parts = and_parts (nat_lt 0 (place_count shape)) (list_any test (range_with_len k.dequeue (m + 1))) (not-false (is_reached_within shape k.dequeue m (erdp_address v)) good) in
-      not_from_true (is_reached_within shape l.dequeue n (erdp_address v))
+      let parts = and_parts (nat_lt 0 (place_count shape)) (list_any test (range_with_len k.dequeue (m + 1))) reached_before in
+      reached_is_good h l v
       (ap (λ p. is_reached_within shape p n (erdp_address v)) dequeue
       ∙ and_from (nat_lt 0 (place_count shape)) (list_any test (range_with_len k.dequeue (n + 1))) parts.0 (any_longer test k.dequeue (m + 1) (n + 1) (omega arith) parts.1))
     where
       both_below : (b : Bool) (x y : ℕ) → x ≤ y → (if b then x else 0) ≤ (if b then y else 0)
       both_below true x y less = less
       both_below false x y less = omega arith
-  erdp_still k l _ v started dequeue reads good = refl
+  erdp_still k l _ v on started dequeue reads good = refl
 
   none_broken : (x y : Bool) → x ≡ false → y ≡ false → broken_of ((BadRegister, x) ∷ (BadErdp, y) ∷ []) ≡ []
   none_broken x y one two = rw (one, two) refl
@@ -119,9 +121,7 @@ module _ (h : Header) where
   register_facts k r v clean = let fails : AllFail (register_tests h k r v) = tests_fail h k (Reg r v) clean in (fails.0, fails.1.0)
 
   dequeue_grows : (k : Known) (r : Register) (v : ℕ) → is_bad_erdp h k r v ≡ false → k.dequeue ≤ dequeue_after k.dequeue r v
-  unfolding is_bad_erdp
-  dequeue_grows k Erdp v good =
-      (position_within (event_shape h) k.dequeue (may_pass k) (erdp_address v) (not-false (is_reached_within (event_shape h) k.dequeue (may_pass k) (erdp_address v)) good)).0
+  dequeue_grows k Erdp v good = (erdp_within h k v good).0
   dequeue_grows k _ v good = omega arith
 
   -- ---- the two
@@ -196,7 +196,7 @@ module _ (h : Header) where
       record {
         event = subst (λ x. lenient h x (Read e) ≡ []) (sym one) read.possible;
         row = register_clean k_read r v (same.stopped ∙ running) (register_still k k_read r v on (same.started ∙ on) facts.0)
-            (erdp_still k k_read r v same.started same.dequeue (let reads = same.reads in omega arith) facts.1);
+            (erdp_still k k_read r v on same.started same.dequeue (let reads = same.reads in omega arith) facts.1);
         after = subst (λ x. HeldMore x (learned h (learned h k (Reg r v)) (Read e))) (sym two) (subst (λ x. HeldMore (with_value k_read r v) (learned h x (Read e))) (sym one)
             (held_more (with_value k_read r v) l_read driver states_too (λ q. (read.after.rings q).floor) (λ q. (read.after.rings q).held)));
         awake = refl;

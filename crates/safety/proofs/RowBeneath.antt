@@ -1,6 +1,6 @@
 -- A driver's row beneath the events that aren't read yet: they stay possible, and what is known when they are read differs from what
 -- the row adds to it at the end in the numbers at which rings are held, if at all
-use Rattle.std.proofs.Common.{◌≡◌, ◌+◌, ◌-◌, ◌≤◌, ◌∷◌, ◌∙◌, ℕ, false, List, [], length, All, Some, arith, refl, sym, ap, subst}
+use Rattle.std.proofs.Common.{◌≡◌, ◌+◌, ◌-◌, ◌≤◌, ◌∷◌, ◌∙◌, ℕ, false, List, [], length, All, Some, arith, refl, sym, ap, subst, inl, inr}
 use Rattle.safety.proofs.Words.{cond_both, not-false, All-cons, All-head, All-tail, same_Some, Block, IsBlock, kind, erdp_address, is_reached_within, Header, Row, Sub, Write, Reg, Bell, Read, Register, Erdp, IsHeader, event_shape, IsRow, World, stored, counted, Known, learned, known, may_pass, is_bad_erdp, lenient, IsLenient, DriverKeeps, IsDriverRow, Agrees, Runs, reading, HeldMore, is_idle, Square, SquareLaw, MoreLaw}
 use Rattle.controller_model.specs.DriverRows as driver
 use Rattle.safety.proofs.TestsPassed.{clean_tests}
@@ -11,6 +11,7 @@ use Rattle.safety.proofs.HeldTwice.{held_more_same, held_more_twice}
 use Rattle.safety.proofs.HeldWeaker.{weaker}
 use Rattle.safety.proofs.RowDeclares.{declares_agree}
 use Rattle.safety.proofs.RowRings.{rings_agree}
+use Rattle.safety.proofs.ErdpMoves.{erdp_says}
 use Rattle.safety.proofs.RowRegisters.{MayMove, register_agrees}
 use Rattle.safety.proofs.RowWrites.{writes_agree}
 
@@ -44,12 +45,16 @@ module _ (h : Header) where
   within k low = cond_both k.started (k.reads - k.dequeue) 0 (λ n. k.dequeue + n ≤ k.reads) (λ on. omega arith) (λ off. omega arith)
 
   may_move : (k : Known) (w : World) (r : Register) (x : ℕ) → w.reads ≡ k.reads → w.dequeue ≡ k.dequeue → w.dequeue ≤ w.reads → is_bad_erdp h k r x ≡ false → MayMove h w r x
-  unfolding MayMove is_bad_erdp
-  may_move k w Erdp x reads dequeue low good = record {
-    more = may_pass k;
-    reached = ap (λ n. is_reached_within (event_shape h) n (may_pass k) (erdp_address x)) dequeue ∙ not-false (is_reached_within (event_shape h) k.dequeue (may_pass k) (erdp_address x)) good;
-    within = omega (arith, within k (omega (arith, low, reads, dequeue)), reads, dequeue);
-  }
+  unfolding MayMove
+  may_move k w Erdp x reads dequeue low good =
+      elim (erdp_says h k x good) [
+        | inl reached ↦ inl (record {
+          more = may_pass k;
+          reached = ap (λ n. is_reached_within (event_shape h) n (may_pass k) (erdp_address x)) dequeue ∙ reached;
+          within = omega (arith, within k (omega (arith, low, reads, dequeue)), reads, dequeue);
+        })
+        | inr none ↦ inr none.1
+      ]
   may_move k w _ x reads dequeue low good = tt
 
   row_agrees : IsHeader h → (now k : Known) (unread : List Block) (w v : World) (d : Row) → IsDriverRow d → DriverKeeps h k → Agrees h k unread w → w.reads ≡ now.reads → w.dequeue ≡ now.dequeue →

@@ -1,13 +1,13 @@
 -- A write of a register where all events are read: what is known agrees with the world
-use Rattle.std.proofs.Common.{◌≡◌, ◌%◌, ◌+◌, ◌*◌, ◌<◌, ◌≤◌, ◌==◌, if◌then◌else◌, ◌∷◌, ◌∙◌, ℕ, suc, zero, length, slice_index, nat_lt, Bool, true, List, [], Option, None, Some, option_and_then, slice_get, arith, refl, sym, ap, subst, ltb-true}
-use Rattle.safety.proofs.Words.{list_any, range_with_len, mod-lt, some_of, and_parts, or_left, or_right, cond-true, Block, Command, command_of, named_context, Shape, is_due, Header, Register, shape_of, command_id, event_shape, event_size, with_register, same_register, address_of, place_count, data_places, AreInOrder, position_from, is_reached_within, is_event_place, World, UnderWay, counted, Known, IsUnfinished, IsUnchanged, Matches, Agrees}
+use Rattle.std.proofs.Common.{◌≡◌, ◌%◌, ◌+◌, ◌*◌, ◌<◌, ◌≤◌, ◌==◌, if◌then◌else◌, ◌∷◌, ◌∙◌, ℕ, suc, zero, length, slice_index, nat_lt, Bool, true, false, List, [], Option, None, Some, option_and_then, slice_get, arith, refl, sym, ap, subst, ltb-true}
+use Rattle.safety.proofs.Words.{list_any, range_with_len, mod-lt, some_of, and_parts, cond-true, cond-false, Block, Command, command_of, named_context, Shape, is_due, Header, Register, shape_of, command_id, event_shape, event_size, with_register, same_register, address_of, place_count, data_places, AreInOrder, position_from, is_reached_within, is_event_place, World, UnderWay, counted, Known, IsUnfinished, IsUnchanged, Matches, Agrees}
 use Rattle.world_state.specs.World as of_world
 use Rattle.controller_model.specs.DriverRows as driver
 use Rattle.ring_knowledge.specs.Rings as of_rings
 use Rattle.ring_knowledge.specs.Registers as registers
 use Rattle.safety.proofs.RingGoesOn.{RingGoesOn, newest_same}
 use Rattle.safety.proofs.DriverGoesOn.{goes_same}
-use Rattle.safety.proofs.ErdpMoves.{position_within}
+use Rattle.safety.proofs.ErdpMoves.{no_place_stays, place_of, position_within}
 use Rattle.safety.proofs.Counted.{agrees_counted}
 use Rattle.safety.proofs.MatchesGoesOn.{KnownGoesOn, SameController, matches_go_on}
 
@@ -90,16 +90,11 @@ pub record ErdpReached (h : Header) (w : World) (a : ℕ) : Type 0 where
   pub reached : is_reached_within (event_shape h) w.dequeue more a ≡ true
   pub within : w.dequeue + more ≤ w.reads
 
-any_index : (test : ℕ → Bool) (xs : List ℕ) (i : ℕ) → i < length xs → test (slice_index xs i) ≡ true → list_any test xs ≡ true
-any_index test [] i low at = absurd (omega arith)
-any_index test (x ∷ xs) zero low at = or_left (test x) (list_any test xs) at
-any_index test (x ∷ xs) (suc i) low at = or_right (test x) (list_any test xs) (any_index test xs i (omega arith) at)
-
-event_place : (shape : Shape) (p more a : ℕ) → is_reached_within shape p more a ≡ true → is_event_place shape a ≡ true
+pub event_place : (shape : Shape) (p more a : ℕ) → is_reached_within shape p more a ≡ true → is_event_place shape a ≡ true
 event_place shape p more a reached =
     let parts = and_parts (nat_lt 0 (place_count shape)) (list_any (λ q. address_of shape q == a) (range_with_len p (more + 1))) reached in
     let found = some_of (λ q. address_of shape q == a) (range_with_len p (more + 1)) parts.1 in
-    any_index (λ x. x == a) (data_places shape) (found.0 % place_count shape) (mod-lt found.0 (ltb-true 0 (place_count shape) parts.0)) found.2
+    place_of shape found.0 a (ltb-true 0 (place_count shape) parts.0) found.2
 
 module _ (h : Header) (k : Known) (unread : List Block) (w : World) (g : Agrees h k unread w) (a : ℕ) (may : ErdpReached h w a) where
   moved_known : Known
@@ -141,3 +136,11 @@ module _ (h : Header) (k : Known) (unread : List Block) (w : World) (g : Agrees 
   unfolding moved_known moved_world driver.with_dequeue
   erdp_agrees =
       subst (λ v. Agrees h moved_known unread v) (sym (cond-true (is_event_place (event_shape h) a) moved_world w (event_place (event_shape h) w.dequeue may.more a may.reached))) moved_agrees
+
+-- an address that is no event place changes nothing
+pub erdp_stays : (h : Header) (k : Known) (unread : List Block) (w : World) → Agrees h k unread w → (a : ℕ) → is_event_place (event_shape h) a ≡ false →
+    Agrees h (record k { dequeue = position_from (event_shape h) k.dequeue a }) unread (driver.with_dequeue h w a)
+unfolding driver.with_dequeue
+erdp_stays h k unread w g a none =
+    subst (λ v. Agrees h (record k { dequeue = position_from (event_shape h) k.dequeue a }) unread v) (sym (cond-false (is_event_place (event_shape h) a) (record w { dequeue = position_from (event_shape h) w.dequeue a }) w none))
+    (subst (λ n. Agrees h (record k { dequeue = n }) unread w) (sym (no_place_stays (event_shape h) k.dequeue a none)) g)

@@ -1,11 +1,11 @@
 -- A write of any register, but one that stops the controller, where all events are read: what is known agrees with the world
-use Rattle.std.proofs.Common.{◌≡◌, ◌&&◌, ◌||◌, if◌then◌else◌, ◌∙◌, ℕ, not, true, false, List, [], Option, None, Some, is_some, refl, sym, ap, subst, inl, inr}
-use Rattle.safety.proofs.Words.{cases_Bool, cond-true, cond-false, not_from_false, not_from_true, false≢true, Block, erdp_address, Header, Register, Usbcmd, Crcr, Erdp, Reg, IsHeader, run_bit, reset_bit, World, counted, Known, learned, is_bad_register, lenient, Unstarted, CommandRingNamed, DriverKeeps, Agrees}
+use Rattle.std.proofs.Common.{◌≡◌, ◌&&◌, ◌||◌, ◌⊎◌, if◌then◌else◌, ◌∙◌, ℕ, not, true, false, List, [], Option, None, Some, is_some, refl, sym, ap, subst, inl, inr}
+use Rattle.safety.proofs.Words.{cases_Bool, cond-true, cond-false, not_from_false, not_from_true, false≢true, Block, erdp_address, is_event_place, event_shape, Header, Register, Usbcmd, Crcr, Erdp, Reg, IsHeader, run_bit, reset_bit, World, counted, Known, learned, is_bad_register, lenient, Unstarted, CommandRingNamed, DriverKeeps, Agrees}
 use Rattle.controller_model.specs.DriverRows as driver
 use Rattle.ring_knowledge.specs.Registers as registers
 use Rattle.safety.proofs.CleanRows.{register_facts}
 use Rattle.safety.proofs.KeptRegisters.{starts_written}
-use Rattle.safety.proofs.RowRegister.{ErdpReached, agrees_once_counted, valued_agrees, erdp_agrees}
+use Rattle.safety.proofs.RowRegister.{ErdpReached, agrees_once_counted, valued_agrees, erdp_agrees, erdp_stays}
 use Rattle.safety.proofs.RowStart.{start_agrees}
 
 some_value : (o : Option ℕ) → is_some o ≡ true → (x : ℕ) × (o ≡ Some x)
@@ -67,7 +67,7 @@ module _ (h : Header) (is : IsHeader h) (k : Known) (unread : List Block) (w : W
 
 -- where an ERDP may go, in the world as it is
 unfoldable pub MayMove : Header → World → Register → ℕ → Type 0
-MayMove h w Erdp x = ErdpReached h w (erdp_address x)
+MayMove h w Erdp x = ErdpReached h w (erdp_address x) ⊎ (is_event_place (event_shape h) (erdp_address x) ≡ false)
 MayMove h w _ x = Unit {0}
 
 unstarted_valued : (h : Header) (k : Known) (r : Register) (x : ℕ) → Unstarted h k → Unstarted h (registers.valued k r x)
@@ -91,7 +91,12 @@ module _ (h : Header) (is : IsHeader h) (k : Known) (unread : List Block) (w : W
   register_by Usbcmd x may good on still =
       run_agrees h is (registers.valued k Usbcmd x) unread (driver.valued w Usbcmd x) (valued_agrees h k unread w g Usbcmd x) x (may_start x good) on still
   register_by Erdp x may good on still =
-      erdp_agrees h (registers.valued k Erdp x) unread (driver.valued w Erdp x) (valued_agrees h k unread w g Erdp x) (erdp_address x) (reached_valued h w Erdp x (erdp_address x) may)
+      elim may [
+        | inl reached ↦
+            erdp_agrees h (registers.valued k Erdp x) unread (driver.valued w Erdp x) (valued_agrees h k unread w g Erdp x) (erdp_address x)
+            (reached_valued h w Erdp x (erdp_address x) reached)
+        | inr none ↦ erdp_stays h (registers.valued k Erdp x) unread (driver.valued w Erdp x) (valued_agrees h k unread w g Erdp x) (erdp_address x) none
+      ]
   register_by r x may good on still = valued_agrees h k unread w g r x
 
   pub register_agrees : (r : Register) (x : ℕ) → MayMove h w r x → lenient h k (Reg r x) ≡ [] → k.stopped ≡ false → (learned h k (Reg r x)).stopped ≡ false →

@@ -34,7 +34,7 @@ unfoldable pub use Rattle.ownership_rules.specs.Moves.{binding_in, binds, binds_
 pub use Rattle.ownership_rules.specs.OpenLeases.{DeviceContext, InputContext, Leased, Range, SegmentTable, SlotEntry, Use}
 unfoldable pub use Rattle.ownership_rules.specs.OpenLeases.{context_ranges, covers, device_ranges, entry_ranges, is_leased, lease_bytes, lease_start, open_leases, open_on, open_ranges, range_of_command, range_of_context, range_of_device, range_of_entry, segment_ranges, slots, table_range}
 pub use Rattle.ownership_rules.specs.Refusal.{Test, broken_of}
-unfoldable pub use Rattle.ownership_rules.specs.Registers.{is_bad_crcr, is_bad_erdp, is_bad_register, is_bad_size, is_early_start, is_late_reset, is_no_first_block, is_unwritten, is_written, may_pass, register_tests}
+unfoldable pub use Rattle.ownership_rules.specs.Registers.{is_bad_crcr, is_bad_erdp, is_bad_register, is_bad_size, is_wrong_start, names_no_place, is_early_start, is_late_reset, is_no_first_block, is_unwritten, is_written, may_pass, register_tests}
 unfoldable pub use Rattle.ownership_rules.specs.Rules.{lenient, lenient_tests}
 unfoldable pub use Rattle.ownership_rules.specs.Writes.{holds_of, on_crossing, on_position, some_command, some_crossed, some_given, write_tests}
 pub use Rattle.ownership_rules.specs.declared.refusal.Refusal.{Refusal}

@@ -1,6 +1,5 @@
 -- Segments by their number, and the data places of a list of segments: where each lies, and that no two overlap
-use Rattle.std.proofs.Common.{◌≡◌, ◌+◌, ◌-◌, ◌*◌, ◌<◌, ◌≤◌, ◌∷◌, ◌∙◌, ℕ, suc, zero, Bool, true, false, not, List, [], length, ap, inl, inr, arith, refl, get_or, length-append, zero-add, add-one}
-use Rattle.segments.proofs.Words.{flat_map, list_any, cases_lt, and_parts, or_parts, not-true, nat_tests, get_or_append_left, get_or-append_right, RingKind, Segment, blocks_from, data_count, overlap, segments_overlap, are_apart}
+use Rattle.segments.proofs.Words.{◌≡◌, ◌+◌, ◌-◌, ◌*◌, ◌<◌, ◌≤◌, ◌∷◌, ◌∙◌, ℕ, suc, zero, Bool, true, false, not, List, [], length, ap, inl, inr, arith, refl, get_or, length-append, zero-add, add-one, flat_map, list_any, cases_lt, and_parts, or_parts, not-true, nat_tests, get_or_append_left, get_or-append_right, RingKind, Segment, blocks_from, data_count, overlap, segments_overlap, are_apart}
 
 -- segment j of a list
 abbrev pub segment_at : List Segment → ℕ → Segment

@@ -1,6 +1,5 @@
 -- Crossings: which Link is crossed on the way to a position, where it lies, where it leads, and how often: xHCI 4.11.5.1
-use Rattle.std.proofs.Common.{◌≡◌, ◌≢◌, ◌+◌, ◌-◌, ◌*◌, ◌%◌, ◌<◌, ◌≤◌, ◌==◌, if◌then◌else◌, ◌∷◌, ◌∙◌, ℕ, suc, zero, true, false, List, [], length, slice_index, Option, Some, None, position, is_some, unwrap_or, arith, sym, ap, refl, inl, inr, get_or, add-one, add-zero, eqb-true, eq-eqb, ne_eqb}
-use Rattle.segments.proofs.Words.{cases_lt, cases_eq, cases_order, false≢true, cond-true, cond-false, length-map, get_or-map, position-Some, none-some, add-mod_right, mod-lt, mod-eq_of_lt, mod_self, RingKind, Cmd, Evt, Xfer, Segment, Shape, data_count, data_places, place_count, address_of, cycle_of, links_of, links, ends_from, ends_of, ends, link_crossed, is_crossing, link_address, link_target, toggles, IsShape}
+use Rattle.segments.proofs.Words.{◌≡◌, ◌≢◌, ◌+◌, ◌-◌, ◌*◌, ◌%◌, ◌<◌, ◌≤◌, ◌==◌, if◌then◌else◌, ◌∷◌, ◌∙◌, ℕ, suc, zero, true, false, List, [], length, slice_index, Some, position, is_some, unwrap_or, arith, sym, ap, refl, inl, inr, get_or, add-one, add-zero, eqb-true, eq-eqb, ne_eqb, rules, cases_lt, cases_eq, cases_order, false≢true, cond-true, cond-false, length-map, get_or-map, position-Some, none-some, add-mod_right, mod-lt, mod-eq_of_lt, mod_self, RingKind, Cmd, Evt, Xfer, Segment, Shape, data_count, data_places, place_count, address_of, cycle_of, links_of, links, ends_from, ends_of, ends, link_crossed, is_crossing, link_address, link_target, toggles, IsShape}
 use Rattle.segments.proofs.Blocks.{segment_at, places_of, before, before-next, before-all, before-zero}
 use Rattle.segments.proofs.ShapeFacts.{IsSegment, shape_facts}
 use Rattle.segments.proofs.DataPlaces.{block_is, IsPlace, link_is, same_link, length-links, place_is, segment_start}
@@ -34,9 +33,9 @@ ends_at Xfer ss j h =
     (inside, rw add-one (omega (arith, (ends_at_from Xfer ss 0 j (λ s. refl) inside).1)))
 
 as_many : (kind : RingKind) (ss : List Segment) → length (ends_of kind ss) ≡ length (links_of kind ss)
-as_many Evt ss = refl
-as_many Cmd ss = length-ends_from ss 0 ∙ sym (length-map ss (λ s. s.base + 16 * (s.count - 1)))
-as_many Xfer ss = length-ends_from ss 0 ∙ sym (length-map ss (λ s. s.base + 16 * (s.count - 1)))
+as_many Evt ss = search (rules, length-ends_from, length-map)
+as_many Cmd ss = search (rules, length-ends_from, length-map)
+as_many Xfer ss = search (rules, length-ends_from, length-map)
 
 -- one end for each Link
 pub length-ends : (shape : Shape) → length (ends shape) ≡ length (links shape)
@@ -102,15 +101,8 @@ same_end shape is i j hi hj e =
 -- ---- which Link is crossed on the way to a position
 
 link_crossed-pos : (shape : Shape) (q : ℕ) → 0 < q → link_crossed shape q ≡ position (λ n. n == (q - 1) % place_count shape + 1) (ends shape)
-link_crossed-pos shape zero h = absurd (omega arith)
-link_crossed-pos shape (suc q) h = ap (λ n. position (λ m. m == n % place_count shape + 1) (ends shape)) (one_less q)
-  where
-    one_less : (q : ℕ) → q ≡ suc q - 1
-    one_less q = omega arith
-
--- none is crossed on the way to the first position
-pub link_crossed-zero : (shape : Shape) → link_crossed shape 0 ≡ None
-link_crossed-zero shape = refl
+link_crossed-pos shape zero h = search rules
+link_crossed-pos shape (suc q) h = search rules
 
 -- crossing q goes over Link i
 pub record Crosses (shape : Shape) (q i : ℕ) : Type 0 where
@@ -119,33 +111,15 @@ pub record Crosses (shape : Shape) (q i : ℕ) : Type 0 where
   pub end : slice_index (ends shape) i ≡ (q - 1) % place_count shape + 1
 
 pub crosses : (shape : Shape) (q i : ℕ) → link_crossed shape q ≡ Some i → Crosses shape q i
-crosses shape zero i h = absurd (none-some i h)
-crosses shape (suc q) i h =
-    let found = position-Some (λ n. n == q % place_count shape + 1) (ends shape) i 0 h in
-    record {
-      positive = omega arith;
-      link = omega (arith, length-ends shape, found.0);
-      end = eqb-true (slice_index (ends shape) i) (q % place_count shape + 1) found.1 ∙ ap (λ n. n % place_count shape + 1) (one_less q);
-    }
-  where
-    one_less : (q : ℕ) → q ≡ suc q - 1
-    one_less q = omega arith
+crosses shape zero i h = search (rules, none-some, position-Some, length-ends, eqb-true)
+crosses shape (suc q) i h = search (rules, none-some, position-Some, length-ends, eqb-true)
 
 pub crosses-from : (shape : Shape) → IsShape shape → (q i : ℕ) → Crosses shape q i → link_crossed shape q ≡ Some i
-crosses-from shape is q i c =
-    link_crossed-pos shape q c.positive
-    ∙ position_only (λ n. n == (q - 1) % place_count shape + 1) (ends shape) i 0 (omega (arith, length-ends shape, c.link))
-    (eq-eqb (slice_index (ends shape) i) ((q - 1) % place_count shape + 1) c.end)
-    (λ k l t. same_end shape is k i (omega (arith, length-ends shape)) c.link
-    (eqb-true (slice_index (ends shape) k) ((q - 1) % place_count shape + 1) t ∙ sym c.end))
+crosses-from shape is q i c = search (rules, link_crossed-pos, position_only, length-ends, eq-eqb, same_end, eqb-true)
 
 -- the Link that a crossing goes over
 pub crossed_link : (shape : Shape) (q : ℕ) → is_crossing shape q ≡ true → (i : ℕ) × (link_crossed shape q ≡ Some i)
-crossed_link shape q h = the_some (link_crossed shape q) h
-  where
-    the_some : (o : Option ℕ) → is_some o ≡ true → (i : ℕ) × (o ≡ Some i)
-    the_some None h = absurd (false≢true h)
-    the_some (Some i) h = (i, refl)
+crossed_link shape q h = search (rules, false≢true)
 
 pub is_crossing-from : (shape : Shape) (q i : ℕ) → link_crossed shape q ≡ Some i → is_crossing shape q ≡ true
 is_crossing-from shape q i h = ap (λ o. is_some o) h
@@ -158,10 +132,8 @@ link_address_is shape q i h = ap (λ o. slice_index (links shape) (unwrap_or o 0
 
 -- an event ring has no Links
 pub no_crossing : (shape : Shape) → shape.kind ≡ Evt → (q : ℕ) → is_crossing shape q ≡ false
-no_crossing shape event zero = refl
-no_crossing shape event (suc q) =
-    let none : ends shape ≡ [] = ap (λ kind. ends_of kind shape.segments) event in
-    ap (λ xs. is_some (position (λ n. n == q % place_count shape + 1) xs)) none
+no_crossing shape event zero = search rules
+no_crossing shape event (suc q) = search rules
 
 -- ---- from lap to lap
 
@@ -177,22 +149,10 @@ link_crossed-lap shape q h =
 
 -- the remainder one before, by the remainder
 before_zero : (n p : ℕ) → 0 < n → 0 < p → p % n ≡ 0 → (p - 1) % n + 1 ≡ n
-before_zero n p pos h e =
-    let one : p - 1 + 1 ≡ p = omega arith in
-    let below : (p - 1) % n < n = mod-lt (p - 1) pos in
-    elim (cases_lt ((p - 1) % n + 1) n) [
-      | inl inner ↦ let at : p % n ≡ (p - 1) % n + 1 = rw one at (next_within n (p - 1) inner).1 in absurd (omega arith)
-      | inr last ↦ omega arith
-    ]
+before_zero n p pos h e = search (rules, mod-lt, cases_lt, next_within)
 
 before_more : (n p : ℕ) → 0 < n → 0 < p → 0 < p % n → (p - 1) % n + 1 ≡ p % n
-before_more n p pos h more =
-    let one : p - 1 + 1 ≡ p = omega arith in
-    let below : (p - 1) % n < n = mod-lt (p - 1) pos in
-    elim (cases_lt ((p - 1) % n + 1) n) [
-      | inl inner ↦ sym (rw one at (next_within n (p - 1) inner).1)
-      | inr last ↦ let at : p % n ≡ 0 = rw one at (next_at_end n (p - 1) pos (omega arith)).1 in absurd (omega arith)
-    ]
+before_more n p pos h more = search (rules, mod-lt, cases_lt, next_within, next_at_end)
 
 -- which Link is crossed depends on the position's place alone
 pub link_crossed-same : (shape : Shape) → IsShape shape → (p q : ℕ) → 0 < p → 0 < q → p % place_count shape ≡ q % place_count shape →

@@ -1,6 +1,5 @@
 -- Where data places and Links of a ring lie: on 16 byte boundaries, inside its segments, and apart
-use Rattle.std.proofs.Common.{◌≡◌, ◌+◌, ◌-◌, ◌*◌, ◌%◌, ◌^◌, ◌<◌, ◌≤◌, ◌∷◌, ◌∙◌, ℕ, suc, true, List, [], length, slice_index, arith, sym, ap, refl, inl, inr, get_or, add-zero, le-leb, lt-ltb}
-use Rattle.segments.proofs.Words.{sum_by, cases_lt, and_from, length-map, get_or-map, list_any_at, sum_by-cons, RingKind, Cmd, Evt, Xfer, Segment, Shape, data_count, data_places, place_count, links_of, links, segment_has, is_inside, IsShape, are_apart}
+use Rattle.segments.proofs.Words.{◌≡◌, ◌+◌, ◌-◌, ◌*◌, ◌%◌, ◌^◌, ◌<◌, ◌≤◌, ◌∷◌, ◌∙◌, ℕ, suc, true, List, [], length, slice_index, arith, ap, refl, inl, inr, get_or, add-zero, le-leb, lt-ltb, cases_lt, and_from, length-map, get_or-map, list_any_at, RingKind, Cmd, Evt, Xfer, Segment, Shape, data_count, data_places, place_count, links_of, links, segment_has, is_inside, IsShape, are_apart}
 use Rattle.segments.proofs.Blocks.{segment_at, places_of, before, LiesAt, place_lies, block_lies, same_segment, length-places_of-cons}
 use Rattle.segments.proofs.ShapeFacts.{IsSegment, shape_facts}
 
@@ -213,14 +212,6 @@ place_not_link shape is i j hi hj near far =
     not_data kind ss i j k l same all =
         let counts = ap (λ n. data_count kind (segment_at ss n)) same in
         omega arith
-
--- how many data places there are: those of all segments together
-pub place_count-sum : (shape : Shape) → place_count shape ≡ sum_by (data_count shape.kind) shape.segments
-place_count-sum shape = in_all shape.kind shape.segments
-  where
-    in_all : (kind : RingKind) (ss : List Segment) → length (places_of kind ss) ≡ sum_by (data_count kind) ss
-    in_all kind [] = refl
-    in_all kind (s ∷ rest) = length-places_of-cons kind s rest ∙ ap (λ n. data_count kind s + n) (in_all kind rest) ∙ sym (sum_by-cons (data_count kind) s rest)
 
 -- there are at most 64 times 4,096 of them
 pub place_count_most : (shape : Shape) → IsShape shape → place_count shape ≤ 64 * 4096

@@ -1,6 +1,5 @@
 -- A declaration keeps the rules of a ring
-use Rattle.std.proofs.Common.{◌≡◌, ◌+◌, ◌-◌, ◌<◌, ◌≤◌, ◌∷◌, ◌++◌, ◌∙◌, ℕ, false, List, [], length, sum, Some, slice_get, All, arith, refl, sym, ap, subst, inl, inr, get_or, length-append, ltb-false}
-use Rattle.segments.proofs.Words.{cases_lt, slice_get-get_or, slice_get_within, get_or_from_slice_get, get_or_append_left, get_or-append_right, All-push, All-get_or, sum_by_push, Block, kind, is_link, Shape, place_count, IsShape, RingView, Declares, changed, declared, floor_number, is_step_given, is_way_given, given_count, has_no_room, descriptor_length, RingKeeps, MayDeclare, MayHold}
+use Rattle.segments.proofs.Words.{◌≡◌, ◌+◌, ◌-◌, ◌<◌, ◌≤◌, ◌∷◌, ◌++◌, ◌∙◌, ℕ, false, List, [], length, sum, Some, slice_get, All, arith, refl, sym, ap, subst, inl, inr, get_or, length-append, ltb-false, cases_lt, slice_get-get_or, slice_get_within, get_or_from_slice_get, get_or_append_left, get_or-append_right, All-push, All-get_or, sum_by_push, Block, kind, is_link, Shape, place_count, IsShape, RingView, Declares, changed, declared, floor_number, is_step_given, is_way_given, given_count, has_no_room, descriptor_length, RingKeeps, MayDeclare, MayHold}
 use Rattle.segments.proofs.Positions.{place_count_pos}
 use Rattle.segments.proofs.GivenCount.{given_count_same}
 use Rattle.segments.proofs.StepFacts.{whole_more, length_from-push}

@@ -1,6 +1,5 @@
 -- Which numbers stand in the lists of due, given and leased positions and crossings
-use Rattle.std.proofs.Common.{◌≡◌, ◌+◌, ◌-◌, ◌<◌, ◌≤◌, ◌&&◌, ◌∷◌, ◌∙◌, ℕ, not, Bool, true, false, List, [], length, Contains, filter, suc, zero, arith, refl, sym, ap, subst, inl, inr, get_or}
-use Rattle.segments.proofs.Words.{range_with_len, cases_Bool, and_parts, and_from, not-true, not_from_false, cond-true, cond-false, All-contains, All-filter, All-contains_itself, filter_passes, Contains-append_right, length-range_with_len, get_or-range_with_len, Shape, place_count, is_crossing, RingView, floor_number, is_due, is_crossing_due, gives, gives_crossing, due_positions, due_crossings, positions_given, crossings_given, leased_positions, leased_crossings}
+use Rattle.segments.proofs.Words.{◌≡◌, ◌+◌, ◌-◌, ◌<◌, ◌≤◌, ◌&&◌, ◌∷◌, ◌∙◌, ℕ, not, Bool, true, false, List, [], length, Contains, filter, suc, zero, arith, refl, sym, ap, subst, inl, inr, get_or, range_with_len, cases_Bool, and_parts, and_from, not-true, not_from_false, cond-true, cond-false, All-contains, All-filter, All-contains_itself, filter_passes, Contains-append_right, length-range_with_len, get_or-range_with_len, Shape, place_count, is_crossing, RingView, floor_number, is_due, is_crossing_due, gives, gives_crossing, due_positions, due_crossings, positions_given, crossings_given, leased_positions, leased_crossings}
 use Rattle.segments.proofs.Giving.{due_is, due_from, crossing_due_is, gives_is, gives_crossing_is}
 
 -- ---- a range, and a filter

@@ -1,15 +1,7 @@
 -- Small rings, place by place
 use Rattle.std.specs.Prelude.{◌≡◌, true, false, [], ◌∷◌, Some, None, map, refl}
-use Rattle.std.specs.List.{range_with_len}
-use Rattle.trb.specs.declared.ring_kind.RingKind.TheVariants.{Cmd, Evt, Xfer}
+use Rattle.segments.proofs.Words.{range_with_len, Cmd, Evt, Xfer, Data, Link, Shape, shape_of, data_places, place_count, address_of, cycle_of, links, ends, link_crossed, link_address, link_target, toggles, is_inside, touches, place_at, is_shape, spot_address, spot_cycle, spots_from, named_spot, Writes, changed, is_due, is_crossing_due, new_ring}
 use Rattle.segments.specs.declared.place.Place.TheVariants.{Data as DataWord, Link as LinkWord}
-use Rattle.segments.specs.declared.spot.Spot.TheVariants.{Data, Link}
-use Rattle.segments.specs.ShapeValue.{Shape, shape_of}
-use Rattle.segments.specs.Places.{data_places, place_count, address_of, cycle_of, links, ends, link_crossed, link_address, link_target, toggles, is_inside, touches}
-use Rattle.segments.specs.PlaceAt.{place_at}
-use Rattle.segments.specs.Shape.{is_shape}
-use Rattle.segments.specs.Spots.{spot_address, spot_cycle, spots_from, named_spot}
-use Rattle.segments.specs.RingView.{Writes, changed, is_due, is_crossing_due, new_ring}
 
 -- two segments of three blocks
 abbrev two : Shape

@@ -1,6 +1,5 @@
 -- What is given of a ring ends with a descriptor
-use Rattle.std.proofs.Common.{◌≡◌, ◌+◌, ◌<◌, ◌≤◌, ◌⊎◌, ◌==◌, ◌∷◌, ◌∙◌, ℕ, true, List, [], All, sum, arith, refl, sym, inl, inr, eq-eqb, ne_eqb}
-use Rattle.segments.proofs.Words.{cases_eq, cases_lt, cond-true, cond-false, or_left, or_right, false≢true, All-head, All-tail, sum_by-cons, Shape, IsShape, RingView, given_count, is_border, length_from, descriptor_length, RingKeeps}
+use Rattle.segments.proofs.Words.{◌≡◌, ◌+◌, ◌<◌, ◌≤◌, ◌⊎◌, ◌==◌, ◌∷◌, ◌∙◌, ℕ, true, List, [], All, sum, arith, refl, sym, inl, inr, eq-eqb, ne_eqb, cases_eq, cases_lt, cond-true, cond-false, or_left, or_right, false≢true, All-head, All-tail, sum_by-cons, Shape, IsShape, RingView, given_count, is_border, length_from, descriptor_length, RingKeeps}
 use Rattle.segments.proofs.GivenCount.{given_below, given_count_stops}
 use Rattle.segments.proofs.StepFacts.{step_is, whole_is}
 use Rattle.segments.proofs.Reaching.{given_count_near, given_count_declared}

@@ -1,6 +1,5 @@
 -- How much of a ring is given: the number below which all steps are given, and the first that isn't
-use Rattle.std.proofs.Common.{◌≡◌, ◌+◌, ◌<◌, ◌≤◌, ◌∙◌, ℕ, suc, zero, true, false, arith, refl, sym, ap, inl, inr}
-use Rattle.segments.proofs.Words.{cases_Bool, cases_lt, cases_eq, cases_order, cond-true, cond-false, false≢true, Shape, place_count, RingView, floor_number, is_step_given, first_not_given, given_count}
+use Rattle.segments.proofs.Words.{◌≡◌, ◌+◌, ◌<◌, ◌≤◌, ◌∙◌, ℕ, suc, zero, true, false, arith, refl, sym, ap, inl, inr, cases_Bool, cases_lt, cases_eq, cases_order, cond-true, cond-false, false≢true, Shape, place_count, RingView, floor_number, is_step_given, first_not_given, given_count}
 
 -- ---- the first step that isn't given, of n from q on
 
@@ -15,14 +14,6 @@ first_on shape v n q given = cond-true (is_step_given shape v q) (first_not_give
 first_here : (shape : Shape) (v : RingView) (n q : ℕ) → is_step_given shape v q ≡ false → first_not_given shape v (suc n) q ≡ q
 unfolding first_not_given
 first_here shape v n q missing = cond-false (is_step_given shape v q) (first_not_given shape v n (q + 1)) q missing
-
-first_low : (shape : Shape) (v : RingView) (n q : ℕ) → q ≤ first_not_given shape v n q
-first_low shape v zero q = omega (arith, first_none shape v q)
-first_low shape v (suc n) q =
-    elim (cases_Bool (is_step_given shape v q)) [
-      | inl given ↦ omega (arith, first_on shape v n q given, first_low shape v n (q + 1))
-      | inr missing ↦ omega (arith, first_here shape v n q missing)
-    ]
 
 first_high : (shape : Shape) (v : RingView) (n q : ℕ) → first_not_given shape v n q ≤ q + n
 first_high shape v zero q = omega (arith, first_none shape v q)

@@ -1,6 +1,5 @@
 -- Bytes and words inside a ring's segments, and rings that are apart
-use Rattle.std.proofs.Common.{◌≡◌, ◌+◌, ◌*◌, ◌%◌, ◌<◌, ◌||◌, ◌∷◌, ◌∙◌, ℕ, suc, Bool, true, false, List, [], length, nat_lt, is_some, arith, sym, ap, refl, inl, inr, get_or, lt-ltb}
-use Rattle.segments.proofs.Words.{list_any, cases_Bool, false≢true, or_parts, and_from, nat_tests, Segment, Shape, overlap, segment_has, is_in, is_inside, touches, place_at, IsShape, segments_overlap}
+use Rattle.segments.proofs.Words.{◌≡◌, ◌+◌, ◌*◌, ◌%◌, ◌<◌, ◌||◌, ◌∷◌, ◌∙◌, ℕ, suc, Bool, true, false, List, [], length, nat_lt, is_some, arith, sym, ap, refl, inl, inr, get_or, lt-ltb, list_any, cases_Bool, false≢true, or_parts, and_from, nat_tests, Segment, Shape, overlap, segment_has, is_in, is_inside, touches, place_at, IsShape, segments_overlap}
 use Rattle.segments.proofs.Blocks.{segment_at}
 use Rattle.segments.proofs.ShapeFacts.{shape_facts}
 use Rattle.segments.proofs.PlaceAtLemmas.{is_in-parts, place_at-inside, is_inside-place_at}

@@ -1,10 +1,9 @@
 -- Steps of the walks over a ring's segments, from the first one on. The walks see the segments as a slice of their own
-use Rattle.std.proofs.Common.{◌≡◌, ◌≢◌, ◌+◌, ◌-◌, ◌*◌, ◌/◌, ◌%◌, ◌<◌, ◌≤◌, if◌then◌else◌, ◌∙◌, ℕ, nat_lt, true, false, List, length, slice_index, Some, None, arith, sym, ap, inl, inr, below_more}
-use Rattle.segments.proofs.Words.{false≢true, mod-lt, RingKind, Evt, Segment, Shape, data_count, place_count, address_of, links, ends, link_crossed, is_in, place_at, IsShape}
+use Rattle.segments.proofs.Words.{◌≡◌, ◌≢◌, ◌+◌, ◌-◌, ◌*◌, ◌/◌, ◌%◌, ◌<◌, ◌≤◌, if◌then◌else◌, ◌∙◌, ℕ, nat_lt, true, false, List, length, slice_index, Some, None, arith, sym, ap, inl, inr, below_more, false≢true, mod-lt, RingKind, Evt, Segment, Shape, data_count, place_count, address_of, links, ends, link_crossed, is_in, place_at, IsShape}
 use Rattle.segments.specs.declared.place.Place.TheVariants.{Data, Link}
 use Rattle.segments.proofs.Blocks.{segment_at, places_of, before, before-zero, before-next, before-all, before_within, block_lies}
 use Rattle.segments.proofs.DataPlaces.{link_is, length-links}
-use Rattle.segments.proofs.Crossings.{end_is, crosses, crosses-from, no_crossing, is_crossing-from}
+use Rattle.segments.proofs.Crossings.{end_is, crosses, crosses-from}
 use Rattle.segments.proofs.Search.{cases_option}
 use Rattle.segments.proofs.PlaceAtLemmas.{is_in-true, is_in-parts, place_at-block, place_at-outside}
 
@@ -105,14 +104,6 @@ crossed_nowhere shape is kind segments places j end q sees some all past =
           let at : slice_index (ends shape) i ≡ before kind segments (i + 1) =
           end_is shape i c.link ∙ ap (λ k. before k shape.segments (i + 1)) sees.kind_is ∙ ap (λ ss. before kind ss (i + 1)) sees.segments_are in
           absurd (past.missed i (omega (arith, link.segment)) (sym at ∙ c.end ∙ ap (λ n. (q - 1) % n + 1) (sym sees.places_are)))
-    ]
-
-pub crossed_in_event_ring : (shape : Shape) (kind : RingKind) (segments : List Segment) (places q : ℕ) → Sees shape kind segments places →
-    kind ≡ Evt → link_crossed shape q ≡ None
-crossed_in_event_ring shape kind segments places q sees event =
-    elim (cases_option (link_crossed shape q)) [
-      | inl none ↦ none
-      | inr found ↦ absurd (false≢true (sym (no_crossing shape (sees.kind_is ∙ event) q) ∙ is_crossing-from shape q found.0 found.1))
     ]
 
 -- ---- the word with an address

@@ -1,6 +1,5 @@
 -- The spot that a pointer and a cycle state name is the one to which the ring may be moved
-use Rattle.std.proofs.Common.{◌≡◌, ◌+◌, ◌-◌, ◌≤◌, ◌==◌, ◌&&◌, if◌then◌else◌, ◌∷◌, ◌∙◌, ℕ, suc, zero, Bool, true, List, [], All, Some, arith, sym, ap, subst, inl, inr, eqb-true}
-use Rattle.segments.proofs.Words.{range_with_len, flat_map, cases_lt, and_parts, All-nil, All-cons, All-get_or, Any-from_list_any, Spot, Data, Link, Shape, IsSpot, is_spot, rank, number, spot_address, spot_cycle, IsShape, RingView, declared, floor_number, is_border, is_target, spots_between, target, is_reached, may_move_to, is_move, RingKeeps}
+use Rattle.segments.proofs.Words.{◌≡◌, ◌+◌, ◌-◌, ◌≤◌, ◌==◌, ◌&&◌, if◌then◌else◌, ◌∷◌, ◌∙◌, ℕ, suc, zero, Bool, true, List, [], All, Some, arith, sym, ap, subst, inl, inr, eqb-true, range_with_len, flat_map, cases_lt, and_parts, All-nil, All-cons, All-get_or, Any-from_list_any, Spot, Data, Link, Shape, IsSpot, is_spot, rank, number, spot_address, spot_cycle, IsShape, RingView, declared, floor_number, is_border, is_target, spots_between, target, is_reached, may_move_to, is_move, RingKeeps}
 use Rattle.segments.proofs.SpotOrder.{rank_least, rank_most, same_spot}
 use Rattle.segments.proofs.Named.{found_is}
 

@@ -1,6 +1,5 @@
 -- A spot to which a ring may be moved stays one, whatever is declared, written or reached since
-use Rattle.std.proofs.Common.{◌≡◌, ◌+◌, ◌-◌, ◌<◌, ◌≤◌, ◌==◌, ◌&&◌, ◌||◌, ◌∷◌, ◌++◌, ◌∙◌, ℕ, suc, zero, not, Bool, true, List, [], length, arith, sym, ap, subst, inl, inr}
-use Rattle.segments.proofs.Words.{list_any, range_with_len, flat_map, cases_eq, and_parts, and_from, or_cases, or_left, or_right, All-get_or, Any-from_list_any, Block, Spot, Data, Link, Shape, is_crossing, number, RingView, Declares, Writes, changed, is_way_given, is_border, is_target, spots_between, are_given, are_ways_given, is_reached, may_move_to, is_move}
+use Rattle.segments.proofs.Words.{◌≡◌, ◌+◌, ◌-◌, ◌<◌, ◌≤◌, ◌==◌, ◌&&◌, ◌||◌, ◌∷◌, ◌++◌, ◌∙◌, ℕ, suc, zero, not, Bool, true, List, [], length, arith, sym, ap, subst, inl, inr, list_any, range_with_len, flat_map, cases_eq, and_parts, and_from, or_cases, or_left, or_right, All-get_or, Any-from_list_any, Block, Spot, Data, Link, Shape, is_crossing, number, RingView, Declares, Writes, changed, is_way_given, is_border, is_target, spots_between, are_given, are_ways_given, is_reached, may_move_to, is_move}
 use Rattle.segments.proofs.StepFacts.{GivesMore, in_range_all, all_in_range}
 use Rattle.segments.proofs.Writing.{writes_more}
 use Rattle.segments.proofs.MoveTargets.{between}

@@ -1,6 +1,5 @@
 -- The spots that events and pointers name, and how far a ring's controller may have gone
-use Rattle.std.proofs.Common.{◌≡◌, ◌+◌, ◌-◌, ◌<◌, ◌≤◌, ◌==◌, ◌&&◌, if◌then◌else◌, ◌∷◌, ◌∙◌, ℕ, suc, zero, Bool, true, List, [], All, find, Option, None, Some, unwrap_or, arith, refl, sym, ap, subst, inl, inr, ltb-true}
-use Rattle.segments.proofs.Words.{range_with_len, flat_map, cases_Bool, cond-true, cond-false, false≢true, and_parts, none-some, same_Some, All-nil, All-cons, All-head, All-tail, Spot, Data, Link, Shape, IsSpot, is_spot, number, spot_address, spot_cycle, IsShape, RingView, declared, floor_number, given_count, ceiling, named, is_data_below, is_target, spots_between, target, RingKeeps, MayReach, MayHold}
+use Rattle.segments.proofs.Words.{◌≡◌, ◌+◌, ◌-◌, ◌<◌, ◌≤◌, ◌==◌, ◌&&◌, if◌then◌else◌, ◌∷◌, ◌∙◌, ℕ, suc, zero, Bool, true, List, [], All, find, Option, None, Some, unwrap_or, arith, refl, sym, ap, subst, inl, inr, ltb-true, range_with_len, flat_map, cases_Bool, cond-true, cond-false, false≢true, and_parts, none-some, same_Some, All-nil, All-cons, All-head, All-tail, Spot, Data, Link, Shape, IsSpot, is_spot, number, spot_address, spot_cycle, IsShape, RingView, declared, floor_number, given_count, ceiling, named, is_data_below, is_target, spots_between, target, RingKeeps, MayReach, MayHold}
 use Rattle.segments.proofs.Crossings.{crossing_positive}
 use Rattle.segments.proofs.SpotOrder.{rank_least, rank_most}
 use Rattle.segments.proofs.NamedSpots.{IsNamed, named_spot-Some}

@@ -1,6 +1,5 @@
 -- Which spot an event names: the least one from a spot on with this address
-use Rattle.std.proofs.Common.{◌≡◌, ◌≢◌, ◌+◌, ◌-◌, ◌*◌, ◌<◌, ◌≤◌, ◌==◌, ◌&&◌, ◌∙◌, ℕ, suc, zero, Bool, true, false, nat_le, Some, None, find, arith, sym, ap, refl, subst, inl, inr, eqb-true, eq-eqb, leb-true, le-leb}
-use Rattle.segments.proofs.Words.{cases_Bool, cases_eq, cond-true, cond-false, false≢true, and_parts, and_from, none-some, same_Some, Spot, Shape, place_count, IsSpot, rank, number, next, spot_address, spots_from, named_spot, IsShape}
+use Rattle.segments.proofs.Words.{◌≡◌, ◌≢◌, ◌+◌, ◌-◌, ◌*◌, ◌<◌, ◌≤◌, ◌==◌, ◌&&◌, ◌∙◌, ℕ, suc, zero, Bool, true, false, nat_le, Some, None, find, arith, sym, ap, refl, subst, inl, inr, eqb-true, eq-eqb, leb-true, le-leb, cases_Bool, cases_eq, cond-true, cond-false, false≢true, and_parts, and_from, none-some, same_Some, Spot, Shape, place_count, IsSpot, rank, number, next, spot_address, spots_from, named_spot, IsShape}
 use Rattle.segments.proofs.Search.{cases_option}
 use Rattle.segments.proofs.SpotOrder.{rank_least, rank_most, same_rank, next_is_spot, next_later, next_least, same_spot}
 

@@ -1,6 +1,5 @@
 -- Before anything happens on a ring the rules are kept
-use Rattle.std.proofs.Common.{◌≡◌, ◌+◌, ◌-◌, ◌%◌, ◌<◌, ◌≤◌, ◌≢◌, ℕ, arith, refl, inl, inr}
-use Rattle.segments.proofs.Words.{false≢true, none-some, same_Some, All-nil, Data, Shape, place_count, address_of, cycle_of, link_address, IsShape, new_ring, RingKeeps}
+use Rattle.segments.proofs.Words.{◌≡◌, ◌+◌, ◌-◌, ◌%◌, ◌<◌, ◌≤◌, ◌≢◌, ℕ, arith, refl, inl, inr, false≢true, none-some, same_Some, All-nil, Data, Shape, place_count, address_of, cycle_of, link_address, IsShape, new_ring, RingKeeps}
 use Rattle.segments.proofs.Positions.{place_count_pos, cycle_of-first}
 use Rattle.segments.proofs.Crossings.{crossing_positive}
 use Rattle.segments.proofs.Giving.{due_is, crossing_due_is}

@@ -1,6 +1,5 @@
 -- Which word of a ring's blocks has an address: each word has one answer, and each answer is of such a word
-use Rattle.std.proofs.Common.{◌≡◌, ◌≢◌, ◌+◌, ◌-◌, ◌*◌, ◌/◌, ◌%◌, ◌<◌, ◌≤◌, ◌==◌, if◌then◌else◌, ◌∙◌, ℕ, true, length, slice_index, nat_le, nat_lt, Some, None, is_some, arith, sym, ap, inl, inr, eq-eqb, ne_eqb, le-leb, lt-ltb, le-ltb, leb-true, ltb-true}
-use Rattle.segments.proofs.Words.{option_map, option_or, none-some, same_Some, cases_lt, cases_eq, and_parts, and_from, cond-true, cond-false, false_from_ne_true, get_or_default, Any-from_list_any, position-Some, Place, RingKind, Cmd, Evt, Xfer, Segment, Shape, data_count, segment_has, data_places, place_count, address_of, links, link_crossed, link_address, is_in, is_inside, data_place_at, link_at, place_at, IsShape}
+use Rattle.segments.proofs.Words.{◌≡◌, ◌≢◌, ◌+◌, ◌-◌, ◌*◌, ◌/◌, ◌%◌, ◌<◌, ◌≤◌, ◌==◌, if◌then◌else◌, ◌∙◌, ℕ, true, length, slice_index, nat_le, nat_lt, Some, None, is_some, arith, sym, ap, inl, inr, eq-eqb, ne_eqb, le-leb, lt-ltb, le-ltb, leb-true, ltb-true, option_map, option_or, none-some, same_Some, cases_lt, cases_eq, and_parts, and_from, cond-true, cond-false, false_from_ne_true, get_or_default, Any-from_list_any, position-Some, Place, RingKind, Cmd, Evt, Xfer, Segment, Shape, data_count, segment_has, data_places, place_count, address_of, links, link_crossed, link_address, is_in, is_inside, data_place_at, link_at, place_at, IsShape}
 use Rattle.segments.specs.declared.place.Place.TheVariants.{Data, Link}
 use Rattle.segments.proofs.DataPlaces.{IsPlace, place_is, block_is, link_is, length-links, byte_inside, places_apart, place_aligned, place_not_link, links_apart, link_aligned}
 use Rattle.segments.proofs.Positions.{place_below, address_of-first}

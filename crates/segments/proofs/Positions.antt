@@ -1,6 +1,5 @@
 -- Positions from lap to lap: their addresses and Cycle bits, xHCI 4.9.2
-use Rattle.std.proofs.Common.{◌≡◌, ◌≢◌, ◌+◌, ◌-◌, ◌*◌, ◌/◌, ◌%◌, ◌^◌, ◌<◌, ◌≤◌, ℕ, slice_index, arith, sym, ap, refl, inl, inr}
-use Rattle.segments.proofs.Words.{cases_order, cases_lt, mul-le, div-mul-add, mod-mul-add, add-mod_right, add-div_right, mod-lt, mod-eq_of_lt, div-eq_of_lt, div-add-mod, div-add-mod', add-mul-mod_self_right, Shape, data_places, place_count, address_of, cycle_of, IsShape}
+use Rattle.segments.proofs.Words.{◌≡◌, ◌≢◌, ◌+◌, ◌-◌, ◌*◌, ◌/◌, ◌%◌, ◌^◌, ◌<◌, ◌≤◌, ℕ, slice_index, arith, ap, refl, inl, inr, rules, cases_order, cases_lt, mul-le, div-mul-add, mod-mul-add, add-mod_right, add-div_right, mod-lt, mod-eq_of_lt, div-eq_of_lt, div-add-mod, div-add-mod', Shape, data_places, place_count, address_of, cycle_of, IsShape}
 use Rattle.segments.proofs.ShapeFacts.{shape_facts}
 use Rattle.segments.proofs.DataPlaces.{places_apart, place_aligned, place_ends}
 
@@ -43,10 +42,6 @@ place_below shape is p = mod-lt p (place_count_pos shape is)
 pub address_of-lap : (shape : Shape) (p : ℕ) → address_of shape (p + place_count shape) ≡ address_of shape p
 address_of-lap shape p = ap (λ i. slice_index (data_places shape) i) (add-mod_right p (place_count shape))
 
--- laps laps later a position lies where it lay
-pub address_of-laps : (shape : Shape) (p laps : ℕ) → address_of shape (p + laps * place_count shape) ≡ address_of shape p
-address_of-laps shape p laps = ap (λ i. slice_index (data_places shape) i) (add-mul-mod_self_right p laps (place_count shape))
-
 -- in the first lap positions are places
 pub address_of-first : (shape : Shape) (p : ℕ) → p < place_count shape → address_of shape p ≡ slice_index (data_places shape) p
 address_of-first shape p h = ap (λ i. slice_index (data_places shape) i) (mod-eq_of_lt h)
@@ -64,22 +59,16 @@ address_ends shape is p = place_ends shape is (p % place_count shape) (place_bel
 -- two positions with a byte of their places in common lie at one place
 pub same_place_of : (shape : Shape) → IsShape shape → (p q : ℕ) → address_of shape p < address_of shape q + 16 → address_of shape q < address_of shape p + 16 →
     p % place_count shape ≡ q % place_count shape
-same_place_of shape is p q near far =
-    places_apart shape is (p % place_count shape) (q % place_count shape) (place_below shape is p) (place_below shape is q) near far
+same_place_of shape is p q near far = search (rules, places_apart, place_below)
 
 -- two positions at one address, less than a lap apart, are equal
 pub same_position : (shape : Shape) → IsShape shape → (p q : ℕ) → p ≤ q → q < p + place_count shape → address_of shape p ≡ address_of shape q → p ≡ q
-same_position shape is p q le near same =
-    same_in_lap (place_count shape) p q (place_count_pos shape is) le near (same_place_of shape is p q (omega arith) (omega arith))
+same_position shape is p q le near same = search (rules, same_in_lap, place_count_pos, same_place_of)
 
 -- as same_position, with neither known to be the lower one
 pub same_position_near : (shape : Shape) → IsShape shape → (p q : ℕ) → p < q + place_count shape → q < p + place_count shape →
     address_of shape p ≡ address_of shape q → p ≡ q
-same_position_near shape is p q far near same =
-    elim (cases_lt p q) [
-      | inl lower ↦ same_position shape is p q (omega arith) near same
-      | inr upper ↦ sym (same_position shape is q p upper far (sym same))
-    ]
+same_position_near shape is p q far near same = search (rules, cases_lt, same_position)
 
 pub cycle_of_bit : (shape : Shape) (p : ℕ) → cycle_of shape p < 2
 cycle_of_bit shape p = omega arith
@@ -90,16 +79,10 @@ cycle_of-first shape p h = rw (div-eq_of_lt h) refl
 
 -- from lap to lap the Cycle bit flips
 pub cycle_of-lap : (shape : Shape) → IsShape shape → (p : ℕ) → cycle_of shape (p + place_count shape) ≡ 1 - cycle_of shape p
-cycle_of-lap shape is p = flipped (p / place_count shape) ((p + place_count shape) / place_count shape) (add-div_right p (place_count_pos shape is))
-  where
-    flipped : (a b : ℕ) → b ≡ a + 1 → 1 - b % 2 ≡ 1 - (1 - a % 2)
-    flipped a b e = omega arith
+cycle_of-lap shape is p = search (rules, add-div_right, place_count_pos)
 
 pub cycle_of_flips : (shape : Shape) → IsShape shape → (p : ℕ) → cycle_of shape (p + place_count shape) ≢ cycle_of shape p
-cycle_of_flips shape is p same = other (cycle_of shape p) (cycle_of shape (p + place_count shape)) (cycle_of_bit shape p) (cycle_of-lap shape is p) same
-  where
-    other : (a b : ℕ) → a < 2 → b ≡ 1 - a → b ≡ a → ⊥
-    other a b l e f = omega arith
+cycle_of_flips shape is p same = search (rules, cycle_of_bit, cycle_of-lap)
 
 -- within a lap the Cycle bit stays
 pub cycle_of-same_lap : (shape : Shape) (p q : ℕ) → p / place_count shape ≡ q / place_count shape → cycle_of shape p ≡ cycle_of shape q
@@ -110,7 +93,4 @@ pub cycle_of-next : (shape : Shape) (p : ℕ) → p % place_count shape + 1 < pl
 cycle_of-next shape p h = cycle_of-same_lap shape (p + 1) p (next_within (place_count shape) p h).0
 
 pub cycle_of-next_lap : (shape : Shape) → IsShape shape → (p : ℕ) → p % place_count shape + 1 ≡ place_count shape → cycle_of shape (p + 1) ≡ 1 - cycle_of shape p
-cycle_of-next_lap shape is p h = flipped (p / place_count shape) ((p + 1) / place_count shape) (next_at_end (place_count shape) p (place_count_pos shape is) h).0
-  where
-    flipped : (a b : ℕ) → b ≡ a + 1 → 1 - b % 2 ≡ 1 - (1 - a % 2)
-    flipped a b e = omega arith
+cycle_of-next_lap shape is p h = search (rules, next_at_end, place_count_pos)

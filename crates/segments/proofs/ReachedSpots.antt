@@ -1,6 +1,5 @@
 -- Spots that the controller's pointer may be known to have reached: behind a finished block, where it stopped, where it is moved
-use Rattle.std.proofs.Common.{◌≡◌, ◌+◌, ◌-◌, ◌<◌, ◌≤◌, ◌==◌, ◌&&◌, ◌∙◌, ℕ, not, true, nat_lt, arith, refl, sym, ap, subst, inl, inr, ltb-true, leb-true, eqb-true}
-use Rattle.segments.proofs.Words.{cases_eq, and_parts, or_cases, not-true, false≢true, Spot, Data, Link, Shape, is_crossing, IsSpot, number, after, RingView, floor_number, is_way_given, is_step_given, given_count, is_stop_spot, stopped_number, are_given, are_ways_given, is_reached, MayReach}
+use Rattle.segments.proofs.Words.{◌≡◌, ◌+◌, ◌-◌, ◌<◌, ◌≤◌, ◌==◌, ◌&&◌, ◌∙◌, ℕ, not, true, nat_lt, arith, refl, sym, ap, subst, inl, inr, ltb-true, leb-true, eqb-true, cases_eq, and_parts, or_cases, not-true, false≢true, Spot, Data, Link, Shape, is_crossing, IsSpot, number, after, RingView, floor_number, is_way_given, is_step_given, given_count, is_stop_spot, stopped_number, are_given, are_ways_given, is_reached, MayReach}
 use Rattle.segments.proofs.Crossings.{crossing_positive}
 use Rattle.segments.proofs.SpotOrder.{after_is}
 use Rattle.segments.proofs.GivenCount.{given_below}

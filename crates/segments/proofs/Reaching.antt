@@ -1,6 +1,5 @@
 -- A spot that is reached, a ring that is opened or held: what the rules keep of a ring stays
-use Rattle.std.proofs.Common.{◌≡◌, ◌≢◌, ◌+◌, ◌-◌, ◌%◌, ◌<◌, ◌≤◌, ◌∙◌, ℕ, true, false, [], Option, None, Some, arith, refl, sym, ap, inl, inr, get_or}
-use Rattle.segments.proofs.Words.{cases_lt, cases_eq, false≢true, none-some, same_Some, slice_get-get_or, Block, word, with_cycle, Spot, Shape, place_count, address_of, cycle_of, is_crossing, link_address, number, IsShape, RingView, Reaches, Opens, Holds, changed, declared, floor_number, is_due, is_crossing_due, is_step_given, is_way_given, given_count, descriptor_length, RingKeeps, MayReach, MayHold}
+use Rattle.segments.proofs.Words.{◌≡◌, ◌≢◌, ◌+◌, ◌-◌, ◌%◌, ◌<◌, ◌≤◌, ◌∙◌, ℕ, true, false, [], Option, None, Some, arith, refl, sym, ap, inl, inr, get_or, cases_lt, cases_eq, false≢true, none-some, same_Some, slice_get-get_or, Block, word, with_cycle, Spot, Shape, place_count, address_of, cycle_of, is_crossing, link_address, number, IsShape, RingView, Reaches, Opens, Holds, changed, declared, floor_number, is_due, is_crossing_due, is_step_given, is_way_given, given_count, descriptor_length, RingKeeps, MayReach, MayHold}
 use Rattle.segments.proofs.Positions.{place_count_pos, address_of-lap, cycle_of_bit, cycle_of_flips}
 use Rattle.segments.proofs.Crossings.{crossed_link, is_crossing-lap, link_address-lap}
 use Rattle.segments.proofs.SpotOrder.{rank_least}

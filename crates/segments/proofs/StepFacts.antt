@@ -1,6 +1,5 @@
 -- Steps that are given, and descriptors all of whose blocks are
-use Rattle.std.proofs.Common.{◌≡◌, ◌+◌, ◌-◌, ◌<◌, ◌≤◌, ◌==◌, ◌||◌, ◌∷◌, ◌++◌, ◌∙◌, ℕ, suc, zero, not, Bool, true, false, List, [], sum, arith, refl, sym, ap, inl, inr, get_or, eq-eqb, ne_eqb}
-use Rattle.segments.proofs.Words.{list_all, range_with_len, cases_Bool, cases_eq, cond-true, cond-false, false≢true, and_parts, and_from, or_left, or_right, not_from_false, not_from_true, not-false, not-true, or_cases, list_all_at, sum_by-cons, length-range_with_len, get_or-range_with_len, Shape, is_crossing, RingView, is_way_given, is_step_given, length_from, descriptor_length, is_not_whole}
+use Rattle.segments.proofs.Words.{◌≡◌, ◌+◌, ◌-◌, ◌<◌, ◌≤◌, ◌==◌, ◌||◌, ◌∷◌, ◌++◌, ◌∙◌, ℕ, suc, zero, not, Bool, true, false, List, [], sum, arith, refl, sym, ap, inl, inr, get_or, eq-eqb, ne_eqb, list_all, range_with_len, cases_Bool, cases_eq, cond-true, cond-false, false≢true, and_parts, and_from, or_left, or_right, not_from_false, not_from_true, not-false, not-true, or_cases, list_all_at, sum_by-cons, length-range_with_len, get_or-range_with_len, Shape, is_crossing, RingView, is_way_given, is_step_given, length_from, descriptor_length, is_not_whole}
 
 -- ---- a step
 

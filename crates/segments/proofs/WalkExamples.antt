@@ -1,6 +1,5 @@
 -- What a controller reads of a small ring, on numbers
-use Rattle.std.proofs.Common.{◌≡◌, ◌∷◌, ℕ, [], map, refl, true}
-use Rattle.segments.proofs.Words.{put, Block, Xfer, Data, Link, Shape, shape_of, RingView, Declares, Writes, changed, new_ring, given_count, is_border, looks, walk, data_of, laid_between, standing, views_on_literals}
+use Rattle.segments.proofs.Words.{◌≡◌, ◌∷◌, ℕ, [], map, refl, true, put, Block, Xfer, Data, Link, Shape, shape_of, RingView, Declares, Writes, changed, new_ring, given_count, is_border, looks, walk, data_of, laid_between, standing, views_on_literals}
 
 -- two segments of two blocks: a data place and a Link each
 abbrev small : Shape

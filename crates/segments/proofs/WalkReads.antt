@@ -1,6 +1,5 @@
 -- From the floor's spot the controller reads whole descriptors as declared, in order, through given Links, and then waits
-use Rattle.std.proofs.Common.{◌≡◌, ◌+◌, ◌-◌, ◌*◌, ◌<◌, ◌≤◌, ◌∷◌, ◌∙◌, ℕ, suc, zero, not, true, false, List, [], length, All, map, take, filter, Some, arith, refl, sym, ap, subst, inl, inr, take_all}
-use Rattle.segments.proofs.Words.{range_with_len, filter_map, cons_option, cases_eq, cond-true, cond-false, false≢true, not_from_true, not_from_false, take-map, All-nil, All-cons, All-map, All-take, All-contains, All-same, All-weaker, Block, Evt, kind, is_link, Spot, Data, Link, Shape, is_inside, link_address, IsSpot, rank, number, next, spot_address, spots_from, IsShape, RingView, floor_number, given_count, RingKeeps, Pointer, WalkReads, block_under, is_shown, behind, looks, walk, data_of, laid, laid_between, standing}
+use Rattle.segments.proofs.Words.{◌≡◌, ◌+◌, ◌-◌, ◌*◌, ◌<◌, ◌≤◌, ◌∷◌, ◌∙◌, ℕ, suc, zero, not, true, false, List, [], length, All, map, take, filter, Some, arith, refl, sym, ap, subst, inl, inr, take_all, range_with_len, filter_map, cons_option, cases_eq, cond-true, cond-false, false≢true, not_from_true, not_from_false, take-map, All-nil, All-cons, All-map, All-take, All-contains, All-same, All-weaker, Block, Evt, kind, is_link, Spot, Data, Link, Shape, is_inside, link_address, IsSpot, rank, number, next, spot_address, spots_from, IsShape, RingView, floor_number, given_count, RingKeeps, Pointer, WalkReads, block_under, is_shown, behind, looks, walk, data_of, laid, laid_between, standing}
 use Rattle.segments.proofs.SpotOrder.{rank_least, rank_most, same_rank, next_is_spot, next_later, next_least}
 use Rattle.segments.proofs.ReachedSpots.{number-after}
 use Rattle.segments.proofs.Reaching.{given_count_declared, floor_given}

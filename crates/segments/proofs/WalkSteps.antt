@@ -1,6 +1,5 @@
 -- One step of the walk: at each spot up to the first that isn't given a block stands that leads to the next spot, and there none
-use Rattle.std.proofs.Common.{◌≡◌, ◌≢◌, ◌+◌, ◌-◌, ◌*◌, ◌/◌, ◌^◌, ◌%◌, ◌<◌, ◌≤◌, ◌==◌, ◌||◌, if◌then◌else◌, ◌∙◌, ℕ, not, Bool, true, false, [], Some, slice_get, arith, refl, sym, ap, inl, inr, get_or, eq-eqb, ne_eqb, eqb-true}
-use Rattle.segments.proofs.Words.{option_map, cases_Bool, cases_lt, cases_eq, cond-true, cond-false, or_parts, not-false, false≢true, false_from_ne_true, slice_get-get_or, mod-eq_of_lt, Block, Evt, is_set, aligned, block_at, word, cycle, kind, pointer, with_cycle, is_link, kind-with_cycle, Spot, Data, Link, Shape, address_of, cycle_of, is_crossing, link_address, link_target, toggles, IsSpot, rank, number, after, next, spot_address, spot_cycle, IsShape, RingView, floor_number, given_count, same, is_wrong_link, RingKeeps, Pointer, block_under, is_shown, behind, laid, standing}
+use Rattle.segments.proofs.Words.{◌≡◌, ◌≢◌, ◌+◌, ◌-◌, ◌*◌, ◌/◌, ◌^◌, ◌%◌, ◌<◌, ◌≤◌, ◌==◌, ◌||◌, if◌then◌else◌, ◌∙◌, ℕ, not, Bool, true, false, [], Some, slice_get, arith, refl, sym, ap, inl, inr, get_or, eq-eqb, ne_eqb, eqb-true, option_map, cases_Bool, cases_lt, cases_eq, cond-true, cond-false, or_parts, not-false, false≢true, false_from_ne_true, slice_get-get_or, mod-eq_of_lt, Block, Evt, is_set, aligned, block_at, word, cycle, kind, pointer, with_cycle, is_link, kind-with_cycle, Spot, Data, Link, Shape, address_of, cycle_of, is_crossing, link_address, link_target, toggles, IsSpot, rank, number, after, next, spot_address, spot_cycle, IsShape, RingView, floor_number, given_count, same, is_wrong_link, RingKeeps, Pointer, block_under, is_shown, behind, laid, standing}
 use Rattle.segments.proofs.DataPlaces.{link_ends}
 use Rattle.segments.proofs.Positions.{address_ends, cycle_of_bit}
 use Rattle.segments.proofs.Crossings.{crosses, crossed_link, link_address_is, link_target-crossed, cycle_of-crossed}

@@ -20,7 +20,8 @@ pub use Rattle.segments.specs.declared.place.Place.{Place}
 pub use Rattle.segments.specs.declared.segment.Segment.{Segment}
 pub use Rattle.segments.specs.declared.spot.Spot.{Spot}
 pub use Rattle.segments.specs.declared.spot.Spot.TheVariants.{Data, Link}
-pub use Rattle.std.proofs.Math.Nat.{add-div_right, add-mod_right, add-mul-mod_self_right, div-add-mod, div-add-mod', div-eq_of_lt, mod-eq_of_lt, mod-lt, mod_self}
+pub use Rattle.std.proofs.Common.{All, AllPairs, Bool, Contains, List, None, Option, Some, [], add-one, add-zero, ap, append-nil, arith, below_more, drop, eq-eqb, eqb-true, false, filter, find, get_or, if◌then◌else◌, inl, inr, is_some, le-leb, le-ltb, leb-false, leb-true, length, length-append, lt-ltb, ltb-false, ltb-true, map, nat_le, nat_lt, ne_eqb, not, position, refl, rules, slice_get, slice_index, subst, suc, sum, sym, take, take_all, true, unwrap_or, zero, zero-add, ℕ, ◌%◌, ◌&&◌, ◌*◌, ◌++◌, ◌+◌, ◌-◌, ◌/◌, ◌<◌, ◌==◌, ◌^◌, ◌||◌, ◌∙◌, ◌∷◌, ◌≡◌, ◌≢◌, ◌≤◌, ◌⊎◌}
+pub use Rattle.std.proofs.Math.Nat.{add-div_right, add-mod_right, div-add-mod, div-add-mod', div-eq_of_lt, mod-eq_of_lt, mod-lt, mod_self}
 pub use Rattle.std.proofs.lemmas.Bool.{and_from, and_parts, cases_Bool, cases_eq, cases_lt, cases_order, cond-false, cond-true, false_from_ne_true, false≢true, not-false, not-true, not_from_false, not_from_true, or_cases, or_left, or_parts, or_right}
 pub use Rattle.std.proofs.lemmas.Bool.Decides.{nat_tests}
 pub use Rattle.std.proofs.lemmas.List.{drop_more, get_or-append_right, get_or-map, get_or_append_left, get_or_default, length-map, map_push, take-map, take_more, take_rest}

@@ -1,6 +1,5 @@
 -- A write keeps the rules of a ring: it changes no leased block or Link, and what it gives stands as it must
-use Rattle.std.proofs.Common.{◌≡◌, ◌≢◌, ◌+◌, ◌-◌, ◌%◌, ◌<◌, ◌≤◌, ◌⊎◌, ◌||◌, ◌∙◌, ℕ, Bool, true, false, Some, slice_get, unwrap_or, arith, refl, sym, ap, inl, inr, leb-false}
-use Rattle.segments.proofs.Words.{cases_eq, or_cases, or_parts, or_left, false≢true, not-false, All-contains, put, Block, block_at, with_cycle, Shape, address_of, cycle_of, link_crossed, link_address, overlap, RingView, Writes, changed, declared, floor_number, is_due, is_crossing_due, gives, gives_crossing, positions_given, crossings_given, leased_positions, leased_crossings, given_count, descriptor_length, is_declared_as, is_other_than_declared, is_not_declared, is_not_whole, is_wrong_link, link_of, leads_wrong, RingKeeps, MayWrite, MayHold}
+use Rattle.segments.proofs.Words.{◌≡◌, ◌≢◌, ◌+◌, ◌-◌, ◌%◌, ◌<◌, ◌≤◌, ◌⊎◌, ◌||◌, ◌∙◌, ℕ, Bool, true, false, Some, slice_get, unwrap_or, arith, refl, sym, ap, inl, inr, leb-false, cases_eq, or_cases, or_parts, or_left, false≢true, not-false, All-contains, put, Block, block_at, with_cycle, Shape, address_of, cycle_of, link_crossed, link_address, overlap, RingView, Writes, changed, declared, floor_number, is_due, is_crossing_due, gives, gives_crossing, positions_given, crossings_given, leased_positions, leased_crossings, given_count, descriptor_length, is_declared_as, is_other_than_declared, is_not_declared, is_not_whole, is_wrong_link, link_of, leads_wrong, RingKeeps, MayWrite, MayHold}
 use Rattle.segments.proofs.Giving.{gives_is, gives_from, gives_crossing_is, gives_crossing_from, due_from}
 use Rattle.segments.proofs.DueLists.{leased_position, leased_crossing, position_given, crossing_given}
 use Rattle.segments.proofs.GivenCount.{given_count_grows}

@@ -4,7 +4,7 @@ use Rattle.std.proofs.lemmas.Bool.{agree_below_at, cases_lt, eqb-true}
 use Rattle.std.proofs.lemmas.List.{get_or_past}
 use Rattle.trb.specs.declared.kind.BlockKind.{BlockKind}
 use Rattle.trb.specs.declared.kind.BlockKind.TheVariants.{Unknown}
-use Rattle.trb.specs.Kind.{kinds, kind_numbered, number_of}
+use Rattle.trb.specs.Kind.{kinds, kind_numbered}
 
 abbrev pub is_unknown : BlockKind → ℕ → Bool
 is_unknown (Unknown m) n = m == n
@@ -25,13 +25,4 @@ kind_numbered-unnamed n h =
           is_unknown-true (kind_numbered n) n
           (agree_below_at (λ m. is_unknown (kind_numbered m) m) (λ m. not (is_named m)) 40 n refl below ∙ ap not h)
       | inr past ↦ get_or_past kinds n (Unknown n) past
-    ]
-
-pub number_of-kind_numbered : (n : ℕ) → number_of (kind_numbered n) ≡ n
-number_of-kind_numbered n =
-    elim (cases_lt n 40) [
-      | inl below ↦
-          eqb-true (number_of (kind_numbered n)) n
-          (agree_below_at (λ m. number_of (kind_numbered m) == m) (λ _. true) 40 n refl below)
-      | inr past ↦ ap number_of (get_or_past kinds n (Unknown n) past)
     ]

@@ -41,3 +41,7 @@ IsCheckAnswer contents before after known (BadLine line fault) = IsFirstBad know
 IsCheckAnswer contents before after known Memory = IsHindered contents before after known
 IsCheckAnswer contents before after known Device = IsHindered contents before after known
 IsCheckAnswer contents before after known _ = ⊥
+
+-- an answer to a trace is right where no certificate is asked for
+abbrev pub IsVerdictAlone : Trace → Answer → Type 0
+IsVerdictAlone trace answer = IsVerdict {C = Unit {0}} (λ _. None) None None answer trace

@@ -6,6 +6,7 @@ mod file_on_write;
 mod plan_run;
 mod replay_run;
 mod schedule_run;
+mod several_run;
 mod verify_run;
 
 use answers::{Asked, Status, run_decode, tell_failure};
@@ -16,6 +17,7 @@ use file_on_write::FileOnWrite;
 use plan_run::run_write;
 use replay_run::run_replay;
 use schedule_run::run_schedule;
+use several_run::run_check_named;
 use std::alloc::AllocError;
 use std::env;
 use std::fs::File;
@@ -55,7 +57,12 @@ fn obey(rt: &HostRuntime) -> io::Result<ExitCode> {
         Err(error) => return Err(error),
     };
     match command_line::command(alloc)?.try_get_matches_from(words.as_slice()) {
-        Ok(matches) => Ok(ExitCode::from(status_of(rt, &matches).number())),
+        Ok(matches) => {
+            if wants_certificate_of_several(&matches) {
+                return usage(rt, command_line::one_certificate(alloc)?);
+            }
+            Ok(ExitCode::from(status_of(rt, &matches).number()))
+        }
         Err(error) => usage(rt, error),
     }
 }
@@ -96,12 +103,7 @@ fn status_of(rt: &HostRuntime, matches: &ArgMatches) -> Status {
         return schedule_at(rt, path(schedule, "TRACE"), explains(rt, schedule));
     }
     match matches.subcommand_matches("check") {
-        Some(check) => check_at(
-            rt,
-            path(check, "TRACE"),
-            check.get_str("cert"),
-            explains(rt, check),
-        ),
+        Some(check) => check_all(rt, check, explains(rt, check)),
         None => check_at(rt, None, None, rt.stderr().is_terminal()),
     }
 }
@@ -109,6 +111,69 @@ fn status_of(rt: &HostRuntime, matches: &ArgMatches) -> Status {
 /// What is wrong is told in plain words too: where that is asked for, or a person reads it.
 fn explains(rt: &HostRuntime, matches: &ArgMatches) -> bool {
     matches.get_flag("explain") || rt.stderr().is_terminal()
+}
+
+/// Whether a certificate is asked for, and several traces are named.
+fn wants_certificate_of_several(matches: &ArgMatches) -> bool {
+    match matches.subcommand_matches("check") {
+        Some(check) => check.contains_id("cert") && paths(check).len() > 1,
+        None => false,
+    }
+}
+
+/// The files of the traces that are to be checked.
+fn paths<'a>(check: &'a ArgMatches<'_>) -> &'a [&'a str] {
+    check.get_strs("TRACE").unwrap_or(&[])
+}
+
+/// Checks a trace, or each of several ones.
+fn check_all(rt: &HostRuntime, check: &ArgMatches, explains: bool) -> Status {
+    let paths = paths(check);
+    if paths.len() > 1 {
+        check_each(rt, paths, explains)
+    } else {
+        check_at(rt, path(check, "TRACE"), check.get_str("cert"), explains)
+    }
+}
+
+/// Checks the traces in these files one after the other. How that ends is the worst of them.
+fn check_each(rt: &HostRuntime, paths: &[&str], explains: bool) -> Status {
+    let mut worst = Status::Clean;
+    for path in paths {
+        match check_named(rt, path, explains) {
+            Ok(status) => worst = worst.worse(status),
+            Err(error) => {
+                let asked = Asked {
+                    input: "standard output",
+                    explains,
+                };
+                return tell_failure(
+                    rt.alloc(),
+                    &asked,
+                    error,
+                    &mut rt.stdout(),
+                    &mut rt.stderr(),
+                );
+            }
+        }
+    }
+    worst
+}
+
+/// Checks the trace in one of several files, where `-` is standard input.
+fn check_named(rt: &HostRuntime, path: &str, explains: bool) -> io::Result<Status> {
+    let alloc = rt.alloc();
+    let asked = Asked {
+        input: path,
+        explains,
+    };
+    let mut out = rt.stdout();
+    let mut err = rt.stderr();
+    if path == "-" {
+        return run_check_named(alloc, &asked, Ok(rt.stdin()), &mut out, &mut err);
+    }
+    let file = File::open(rt, path);
+    run_check_named(alloc, &asked, file, &mut out, &mut err)
 }
 
 /// Checks the trace in a file, or on standard input; its certificate goes to another file, where one is named.

@@ -1,5 +1,8 @@
 //! What is said of a bad line: what was expected there, and the line itself.
-use super::words::{LIMITS, SHAPES, STEPS, plan_line_form, trace_line_form};
+use super::words::{
+    LIMITS, PLAN_LIMITS, PLAN_SHAPES, SCHEDULE_LIMITS, SHAPES, STEPS, plan_line_form,
+    trace_line_form,
+};
 use std::alloc::{AllocError, Global};
 use std::str::from_utf8;
 use trace_reader::LineFault;
@@ -37,8 +40,8 @@ pub fn bad_plan_line(
         LineFault::Header => "line 1 to be `xplan 1`",
         LineFault::Row if line == 2 => "line 2 to be `ring ID cmd|xfer BASE:COUNT ..`",
         LineFault::Row | LineFault::Number => plan_line_form(first_word(bytes)),
-        LineFault::Limit => LIMITS,
-        LineFault::Shape => SHAPES,
+        LineFault::Limit => PLAN_LIMITS,
+        LineFault::Shape => PLAN_SHAPES,
     };
     expected_note(alloc, text, bytes, expected)
 }
@@ -54,7 +57,7 @@ pub fn bad_schedule_line(
     let expected = match fault {
         LineFault::Header => "line 1 of the schedule to be `xsched 1`",
         LineFault::Row | LineFault::Number | LineFault::Shape => STEPS,
-        LineFault::Limit => LIMITS,
+        LineFault::Limit => SCHEDULE_LIMITS,
     };
     expected_note(alloc, text, bytes, expected)
 }

@@ -3,13 +3,12 @@ ghost use Rattle.std.specs.Prelude.{IfOk, string_bytes};
 ghost use Rattle.answers.specs.Telling.{IsNote};
 
 mod bad_line;
-mod refused_row;
 mod words;
 
 use crate::answer::Answer;
 use crate::decode::BlockWords;
 use bad_line::{bad_plan_line, bad_schedule_line, bad_trace_line};
-use refused_row::refused_row;
+use explanations::explain_refused;
 use std::alloc::{AllocError, Global};
 use std::io;
 use words::{NOT_VERIFIED, TOO_LONG, why_no_certificate, why_unfollowed};
@@ -37,7 +36,9 @@ pub fn note_on_trace(
     }
     match answer {
         Answer::BadLine { line, fault } => bad_trace_line(alloc, text, *line, *fault),
-        Answer::Refused { row, refusal } => refused_row(alloc, text, *row, *refusal),
+        Answer::Refused { row, refusal } => {
+            explain_refused(alloc, asked.input, text, *row, *refusal)
+        }
         Answer::Verified { holds: false } => format!(in alloc; "xhcitrace: {NOT_VERIFIED}\n"),
         Answer::TooLong => format!(in alloc; "xhcitrace: {TOO_LONG}\n"),
         _ => Ok(String::new(alloc)),

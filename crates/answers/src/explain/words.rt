@@ -1,13 +1,24 @@
 //! The rules of the texts and of ownership in plain words.
 use certificate::CertFault;
-use ownership_rules::Refusal;
 use plan_writer::PlanRefusal;
 
+/// The limits of a trace.
 pub const LIMITS: &str =
-    "at most 16384 bytes a line, 1048576 lines, 256 rings and 256 blocks a declaration";
+    "at most 16384 bytes a line, 1048576 lines, 256 rings and 256 TRBs a `sub` row";
 
+/// The limits of a plan.
+pub const PLAN_LIMITS: &str = "at most 16384 bytes a line, 1048576 lines and 256 TRBs a `sub` line";
+
+/// The limits of a schedule.
+pub const SCHEDULE_LIMITS: &str = "at most 16384 bytes a line and 4194304 lines";
+
+/// The shapes of a trace's rings.
 pub const SHAPES: &str =
-    "segments of 2 to 4096 blocks (evt: 16 to 4096), at most 64, on 16-byte boundaries (cmd and evt: 64), over no 64 KB boundary, which overlap nothing, with two places at least, a new ID, and one cmd and one evt ring";
+    "segments of 2 to 4096 TRBs (evt: 16 to 4096), at most 64, on 16-byte boundaries (cmd and evt: 64), over no 64 KB boundary, which overlap nothing, with two TRBs at least beside Link TRBs, a new ID, and one cmd and one evt ring";
+
+/// The shape of a plan's ring.
+pub const PLAN_SHAPES: &str =
+    "a cmd or xfer ring, with segments of 2 to 4096 TRBs, at most 64, on 16-byte boundaries (cmd: 64), over no 64 KB boundary, which overlap nothing, with two TRBs at least beside Link TRBs";
 
 const RING: &str =
     "`ring ID cmd|evt|xfer BASE:COUNT ..` before all rows: an ID of 2 hex digits, each segment's address of 16 and its blocks of 4";
@@ -38,40 +49,6 @@ pub fn plan_line_form(first: &str) -> &'static str {
         "ret" => "`ret P`: a position of 16 hex digits",
         _ =>
             "a line that begins with sub or ret, with one space between fields and a line feed behind",
-    }
-}
-
-/// What a row did that breaks this rule.
-pub fn why_refused(refusal: Refusal) -> &'static str {
-    match refusal {
-        Refusal::WriteToOwned =>
-            "the row writes into memory that the controller owns: only reading the event that ends its lease gives it back",
-        Refusal::NotAsSubmitted =>
-            "the row gives a block to the controller whose words in memory aren't the declared ones",
-        Refusal::NotDeclared =>
-            "no ring has this ID, or the row gives a block that no sub row has declared",
-        Refusal::NotWhole =>
-            "the row gives the first block of a descriptor before all its other blocks and the Links between them are given",
-        Refusal::LinkFault =>
-            "the row gives a Link that isn't as it must be: type 6, leading to the next segment, with Toggle Cycle exactly on the last one and Chain exactly inside a descriptor",
-        Refusal::RingFull =>
-            "the row declares more blocks than there is room for: one place stays free, and places come back only by events that were read",
-        Refusal::BadDescriptor =>
-            "the blocks that the row declares make no descriptor of this ring",
-        Refusal::BadRegister =>
-            "the row writes a register out of its time, or with a value that doesn't fit what was declared",
-        Refusal::BadDoorbell =>
-            "the row rings a doorbell before the start, or that of an endpoint that doesn't work or that a command is changing",
-        Refusal::BadCommand =>
-            "the row gives a command that its slot, its endpoint or its input context doesn't allow",
-        Refusal::Busy =>
-            "the row gives a command for a slot, or for a ring, that an unfinished command already concerns",
-        Refusal::ImpossibleEvent => "no controller can have posted this event here",
-        Refusal::BadErdp =>
-            "the value of ERDP names no event place up to the one that is read next",
-        Refusal::NotInProfile => "the row has a form of the standard that this checker leaves out",
-        Refusal::AfterStop => "the row comes after the controller was stopped or reset",
-        Refusal::BadMove => "the row binds or moves a ring to where it may not stand",
     }
 }
 

@@ -1,5 +1,4 @@
-use Rattle.std.proofs.Common.{◌≡◌, ◌+◌, ◌*◌, drop}
-use Rattle.event_ring.specs.EventRing.{lists}
+use Rattle.event_ring.proofs.Words.{◌≡◌, ◌+◌, ◌*◌, drop, lists}
 use Rattle.event_ring.proofs.table.lists.Given as goal
 
 -- what is left to list is left of the segments

@@ -1,5 +1,4 @@
-use Rattle.std.proofs.Common.{◌++◌, map, sym, ap, ◌∙◌}
-use Rattle.ring_finder.specs.Finding.{start_of}
+use Rattle.ring_finder.proofs.Words.{◌++◌, map, sym, ap, ◌∙◌, start_of}
 use Rattle.ring_finder.proofs.Starts.{starts_push}
 use Rattle.ring_finder.proofs.finder.all_starts.Goals as goal
 

@@ -1,5 +1,4 @@
-use Rattle.std.proofs.Common.{◌≡◌, take}
-use Rattle.ring_finder.specs.Finding.{starts_from}
+use Rattle.ring_finder.proofs.Words.{◌≡◌, take, starts_from}
 use Rattle.ring_finder.proofs.finder.all_starts.Given as goal
 
 abbrev pub invariant-loop-number : goal.invariant-loop-number

@@ -1,5 +1,4 @@
-use Rattle.std.proofs.Common.{◌≡◌, ◌++◌, map, take}
-use Rattle.ring_finder.specs.Finding.{start_of}
+use Rattle.ring_finder.proofs.Words.{◌≡◌, ◌++◌, map, take, start_of}
 use Rattle.ring_finder.proofs.finder.push_starts.Given as goal
 
 abbrev pub invariant-loop-segment : goal.invariant-loop-segment

@@ -1,5 +1,4 @@
-use Rattle.std.proofs.Common.{◌+◌, rules, ℕ, sym, subst, length, set, refl, Some}
-use Rattle.ring_finder.proofs.Words.{slice_get_read, AreNumbers}
+use Rattle.ring_finder.proofs.Words.{◌+◌, rules, ℕ, sym, subst, length, set, refl, Some, slice_get_read, AreNumbers}
 use Rattle.ring_finder.proofs.Numbers.{one_number}
 use Rattle.ring_finder.proofs.finder.ring_numbers.Goals as goal
 

@@ -1,5 +1,4 @@
-use Rattle.std.proofs.Common.{◌≡◌, ℕ, ◌%◌, ◌+◌, List, Bool, refl, sym, arith, subst}
-use Rattle.ring_knowledge.specs.Marks.{AreCleared}
+use Rattle.ring_knowledge.proofs.Words.{◌≡◌, ℕ, ◌%◌, ◌+◌, List, Bool, refl, sym, arith, subst, AreCleared}
 use Rattle.ring_knowledge.proofs.ClearedMarks.{none_cleared, one_cleared}
 use Rattle.ring_knowledge.proofs.ring_record.clear_places.Goals as goal
 

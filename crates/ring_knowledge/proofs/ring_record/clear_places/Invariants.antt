@@ -1,5 +1,4 @@
-use Rattle.std.proofs.Common.{◌≡◌, ◌%◌}
-use Rattle.ring_knowledge.specs.Marks.{AreCleared}
+use Rattle.ring_knowledge.proofs.Words.{◌≡◌, ◌%◌, AreCleared}
 use Rattle.ring_knowledge.proofs.ring_record.clear_places.Given as goal
 
 abbrev pub invariant-loop-position : goal.invariant-loop-position

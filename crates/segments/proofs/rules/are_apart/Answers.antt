@@ -1,5 +1,4 @@
-use Rattle.std.proofs.Common.{◌∙◌, ◌&&◌, ◌+◌, sym, ap, not, map, drop}
-use Rattle.segments.proofs.Words.{are_apart, segment_of}
+use Rattle.segments.proofs.Words.{◌∙◌, ◌&&◌, ◌+◌, sym, ap, not, map, drop, are_apart, segment_of}
 use Rattle.segments.proofs.Pairs.{are_apart_step}
 use Rattle.segments.proofs.rules.are_apart.Goals as goal
 

@@ -1,5 +1,4 @@
-use Rattle.std.proofs.Common.{◌≡◌, map, drop}
-use Rattle.segments.proofs.Words.{are_apart, segment_of}
+use Rattle.segments.proofs.Words.{◌≡◌, map, drop, are_apart, segment_of}
 use Rattle.segments.proofs.rules.are_apart.Given as goal
 
 abbrev pub invariant-loop-i : goal.invariant-loop-i

@@ -1,5 +1,4 @@
-use Rattle.std.proofs.Common.{◌≡◌, ◌≤◌, ◌*◌, take}
-use Rattle.segments.proofs.Words.{place_count, shape_of}
+use Rattle.segments.proofs.Words.{◌≡◌, ◌≤◌, ◌*◌, take, place_count, shape_of}
 use Rattle.segments.proofs.rules.count_places.Given as goal
 
 abbrev pub invariant-loop-base : goal.invariant-loop-base

@@ -1,5 +1,4 @@
-use Rattle.ring_knowledge.specs.Completions.{changed_by}
-use Rattle.device_record.specs.Endpoints.{named_by}
+use Rattle.device_record.proofs.Words.{changed_by, named_by}
 use Rattle.device_record.proofs.TurnedOff.{follows_disabled}
 use Rattle.device_record.proofs.kept.DeviceRecord.disable.Goals as goal
 

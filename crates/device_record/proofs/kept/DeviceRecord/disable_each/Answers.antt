@@ -1,6 +1,5 @@
-use Rattle.std.proofs.Common.{◌≡◌, ◌==◌, ◌&&◌, arith}
+use Rattle.device_record.proofs.Words.{◌≡◌, ◌==◌, ◌&&◌, arith, named_by}
 use Rattle.std.specs.Prelude.{nat_lt}
-use Rattle.device_record.specs.Endpoints.{named_by}
 use Rattle.device_record.proofs.TurnedOff.{disabled_none, disabled_twice, disabled_all, one_more, none_below, all_below}
 use Rattle.device_record.proofs.kept.DeviceRecord.disable_each.Goals as goal
 

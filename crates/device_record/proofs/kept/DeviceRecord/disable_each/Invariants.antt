@@ -1,5 +1,4 @@
-use Rattle.std.proofs.Common.{◌&&◌, nat_lt}
-use Rattle.device_record.proofs.Words.{named_by, IsDisabled}
+use Rattle.device_record.proofs.Words.{◌&&◌, nat_lt, named_by, IsDisabled}
 use Rattle.device_record.proofs.kept.DeviceRecord.disable_each.Given as goal
 
 -- those below the index are disabled

@@ -1,6 +1,4 @@
-use Rattle.std.proofs.Common.{false, ap}
-use Rattle.ring_knowledge.specs.Completions.{stop_ended}
-use Rattle.device_record.specs.declared.kept.Endpoint.{Endpoint}
+use Rattle.device_record.proofs.Words.{false, ap, stop_ended, Endpoint}
 use Rattle.device_record.proofs.Steps.{follows_stop_seen}
 use Rattle.device_record.proofs.kept.DeviceRecord.end_stop.Goals as goal
 

@@ -1,5 +1,4 @@
-use Rattle.std.proofs.Common.{◌≡◌, ◌∙◌, unwrap_or, ap, sym}
-use Rattle.device_record.proofs.Words.{SlotState, slot_success, changed_by, Slot}
+use Rattle.device_record.proofs.Words.{◌≡◌, ◌∙◌, unwrap_or, ap, sym, SlotState, slot_success, changed_by, Slot}
 use Rattle.device_record.proofs.Steps.{follows_slot_state}
 use Rattle.device_record.proofs.kept.DeviceRecord.go_on.Goals as goal
 

@@ -1,6 +1,4 @@
-use Rattle.std.proofs.Common.{ap, sym}
-use Rattle.ring_knowledge.specs.Completions.{changed_by}
-use Rattle.device_record.specs.declared.kept.Slot.{Slot}
+use Rattle.device_record.proofs.Words.{ap, sym, changed_by, Slot}
 use Rattle.device_record.proofs.Steps.{follows_device}
 use Rattle.device_record.proofs.kept.DeviceRecord.leave_device.Goals as goal
 

@@ -1,5 +1,4 @@
-use Rattle.std.proofs.Common.{◌≡◌, ◌∙◌, ap, sym, subst}
-use Rattle.device_record.proofs.Words.{EndpointState, changed_by, Endpoint, placed_endpoint, ring_got, IsWithBound, endpoint_at}
+use Rattle.device_record.proofs.Words.{◌≡◌, ◌∙◌, ap, sym, subst, EndpointState, changed_by, Endpoint, placed_endpoint, ring_got, IsWithBound, endpoint_at}
 use Rattle.device_record.proofs.Placing.{follows_place}
 use Rattle.device_record.proofs.kept.DeviceRecord.place.Goals as goal
 

@@ -1,5 +1,4 @@
-use Rattle.std.proofs.Common.{◌∙◌, ap}
-use Rattle.device_record.specs.Endpoints.{transferred_endpoint}
+use Rattle.device_record.proofs.Words.{◌∙◌, ap, transferred_endpoint}
 use Rattle.device_record.proofs.TransferEvents.{follows_transferred}
 use Rattle.device_record.proofs.kept.DeviceRecord.read_transfer.Goals as goal
 

@@ -1,5 +1,4 @@
-use Rattle.std.proofs.Common.{◌∙◌, ap}
-use Rattle.device_record.specs.Endpoints.{rung_endpoint}
+use Rattle.device_record.proofs.Words.{◌∙◌, ap, rung_endpoint}
 use Rattle.device_record.proofs.Bells.{follows_first, follows_beyond, follows_rung}
 use Rattle.device_record.proofs.kept.DeviceRecord.ring_bell.Goals as goal
 

@@ -1,6 +1,4 @@
-use Rattle.std.proofs.Common.{ap}
-use Rattle.ring_knowledge.specs.Completions.{in_state}
-use Rattle.device_record.specs.declared.kept.Endpoint.{Endpoint}
+use Rattle.device_record.proofs.Words.{ap, in_state, Endpoint}
 use Rattle.device_record.proofs.Steps.{follows_state}
 use Rattle.device_record.proofs.kept.DeviceRecord.set_state.Goals as goal
 

@@ -1,5 +1,4 @@
-use Rattle.commands.specs.declared.state.EndpointState.TheVariants.{Stopped}
-use Rattle.ring_knowledge.specs.Completions.{changed_by, in_state}
+use Rattle.device_record.proofs.Words.{Stopped, changed_by, in_state}
 use Rattle.device_record.proofs.Moves.{follows_held}
 use Rattle.device_record.proofs.kept.DeviceRecord.stop.Goals as goal
 

@@ -1,5 +1,4 @@
-use Rattle.std.proofs.Common.{Some, ap, sym}
-use Rattle.device_record.proofs.Words.{put, with_device, Slot}
+use Rattle.device_record.proofs.Words.{Some, ap, sym, put, with_device, Slot}
 use Rattle.device_record.proofs.Steps.{follows_beside, follows_device}
 use Rattle.device_record.proofs.kept.DeviceRecord.take_device.Goals as goal
 

@@ -1,5 +1,4 @@
-use Rattle.std.proofs.Common.{◌∙◌, if◌then◌else◌, None, ap}
-use Rattle.device_record.specs.Unfinished.{is_slot, kept_of}
+use Rattle.device_record.proofs.Words.{◌∙◌, if◌then◌else◌, None, ap, is_slot, kept_of}
 use Rattle.device_record.proofs.NamedCommands.{follows_finished}
 use Rattle.device_record.proofs.unfinished.UnfinishedCommands.finish.Goals as goal
 

@@ -1,5 +1,4 @@
-use Rattle.std.proofs.Common.{◌∙◌, if◌then◌else◌, Some, ap}
-use Rattle.device_record.specs.Unfinished.{is_slot, kept_of}
+use Rattle.device_record.proofs.Words.{◌∙◌, if◌then◌else◌, Some, ap, is_slot, kept_of}
 use Rattle.device_record.proofs.NamedCommands.{follows_given}
 use Rattle.device_record.proofs.unfinished.UnfinishedCommands.give.Goals as goal
 

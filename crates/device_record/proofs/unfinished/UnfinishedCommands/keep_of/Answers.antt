@@ -1,5 +1,4 @@
-use Rattle.std.proofs.Common.{arith}
-use Rattle.device_record.specs.Addressing.{is_addressing}
+use Rattle.device_record.proofs.Words.{arith, is_addressing}
 use Rattle.device_record.proofs.Addressing.{at_most_one, few_addressing}
 use Rattle.device_record.proofs.unfinished.UnfinishedCommands.keep_of.Goals as goal
 

@@ -1,5 +1,4 @@
-use Rattle.std.proofs.Common.{◌≡◌, ◌∙◌, Option, Some, None, ap, sym, IfSome, List, true}
-use Rattle.device_record.proofs.Words.{list_any, Command, FollowsUnfinished, as_list, kept_of, names}
+use Rattle.device_record.proofs.Words.{◌≡◌, ◌∙◌, Option, Some, None, ap, sym, IfSome, List, true, list_any, Command, FollowsUnfinished, as_list, kept_of, names}
 use Rattle.device_record.proofs.Addressing.{kept_names}
 use Rattle.device_record.proofs.NamedCommands.{found_of_slot}
 use Rattle.device_record.proofs.unfinished.UnfinishedCommands.of_slot.Goals as goal

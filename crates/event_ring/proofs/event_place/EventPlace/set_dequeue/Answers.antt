@@ -1,5 +1,4 @@
-use Rattle.std.proofs.Common.{◌≡◌, ◌≤◌, ◌+◌, ◌-◌, ◌%◌, ◌<◌, ◌∙◌, ℕ, sym, ap, Some, le-leb}
-use Rattle.event_ring.proofs.Words.{lt-leb, place_count, place_at, Data, erdp_address, EventState, dequeued_at}
+use Rattle.event_ring.proofs.Words.{◌≡◌, ◌≤◌, ◌+◌, ◌-◌, ◌%◌, ◌<◌, ◌∙◌, ℕ, sym, ap, Some, le-leb, lt-leb, place_count, place_at, Data, erdp_address, EventState, dequeued_at}
 use Rattle.event_ring.proofs.DequeueLemmas.{ahead, may_dequeue-place, may_dequeue-none, dequeued_at-place}
 use Rattle.event_ring.proofs.event_place.EventPlace.set_dequeue.Goals as goal
 

@@ -1,5 +1,4 @@
-use Rattle.std.proofs.Common.{◌≡◌, ◌≤◌, ℕ, List, true, false, length, sym, subst, ap, arith, leb, rules}
-use Rattle.range_words.proofs.Words.{insert, IsNonDecreasingBy, IsPartitionPoint, IsPartitionPoint-from_clause, IsPartitionedBy-leb}
+use Rattle.range_words.proofs.Words.{◌≡◌, ◌≤◌, ℕ, List, true, false, length, sym, subst, ap, arith, leb, rules, insert, IsNonDecreasingBy, IsPartitionPoint, IsPartitionPoint-from_clause, IsPartitionedBy-leb}
 use Rattle.range_words.proofs.AreaLists.{added_sorted, added_all}
 use Rattle.range_words.proofs.areas.Areas.add.Goals as goal
 

@@ -1,5 +1,4 @@
-use Rattle.std.proofs.Common.{◌≡◌, ◌<◌, ◌∙◌, ℕ, List, length, get_or, subst, ap, arith, Err}
-use Rattle.range_words.proofs.Words.{remove, IsBinarySearchResult, nat_cmp, nat_tests}
+use Rattle.range_words.proofs.Words.{◌≡◌, ◌<◌, ◌∙◌, ℕ, List, length, get_or, subst, ap, arith, Err, remove, IsBinarySearchResult, nat_cmp, nat_tests}
 use Rattle.range_words.proofs.Counts.{without}
 use Rattle.range_words.proofs.AreaLists.{removed_sorted, not_missed}
 use Rattle.range_words.proofs.areas.Areas.remove.Goals as goal

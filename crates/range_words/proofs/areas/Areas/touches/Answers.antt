@@ -1,5 +1,4 @@
-use Rattle.std.proofs.Common.{◌≡◌, ◌-◌, ◌+◌, ◌<◌, ◌≤◌, ◌∙◌, ℕ, List, true, false, length, get_or, sym, subst, ap, arith, rules, nat_lt}
-use Rattle.range_words.proofs.Words.{IsNonDecreasingBy, IsPartitionPoint, IsPartitionPoint-from_clause, IsPartitionedBy-ltb, list_any-IsPermutation, overlap}
+use Rattle.range_words.proofs.Words.{◌≡◌, ◌-◌, ◌+◌, ◌<◌, ◌≤◌, ◌∙◌, ℕ, List, true, false, length, get_or, sym, subst, ap, arith, rules, nat_lt, IsNonDecreasingBy, IsPartitionPoint, IsPartitionPoint-from_clause, IsPartitionedBy-ltb, list_any-IsPermutation, overlap}
 use Rattle.range_words.proofs.AreaLists.{none_touches, last_touches}
 use Rattle.range_words.proofs.areas.Areas.touches.Goals as goal
 

@@ -1,6 +1,5 @@
-use Rattle.std.proofs.Common.{◌≡◌, ℕ, ◌+◌, ◌*◌, ◌<◌, false}
+use Rattle.range_words.proofs.Words.{◌≡◌, ℕ, ◌+◌, ◌*◌, ◌<◌, false, word_in}
 use Rattle.std.specs.Prelude.{nat_lt}
-use Rattle.guest_memory.specs.Page.{word_in}
 use Rattle.range_words.proofs.soiled.SoiledWords.any_in.Given as goal
 
 abbrev pub invariant-loop-i : goal.invariant-loop-i

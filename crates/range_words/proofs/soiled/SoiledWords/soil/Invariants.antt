@@ -1,5 +1,4 @@
-use Rattle.std.proofs.Common.{◌≡◌, ◌*◌, ◌%◌, ◌||◌, ℕ, nat_lt}
-use Rattle.range_words.proofs.Words.{word_in, is_in}
+use Rattle.range_words.proofs.Words.{◌≡◌, ◌*◌, ◌%◌, ◌||◌, ℕ, nat_lt, word_in, is_in}
 use Rattle.range_words.proofs.soiled.SoiledWords.soil.Given as goal
 
 abbrev pub invariant-loop-i : goal.invariant-loop-i

@@ -1,5 +1,4 @@
-use Rattle.std.proofs.Common.{◌∙◌, List, length, subst, ap, rules, position}
-use Rattle.ring_finder.proofs.Words.{IsPermutation, IsNonDecreasingBy-from_sort_by_key, is_command_kind, Ring, Start, AreNumbers, starts_from}
+use Rattle.ring_finder.proofs.Words.{◌∙◌, List, length, subst, ap, rules, position, IsPermutation, IsNonDecreasingBy-from_sort_by_key, is_command_kind, Ring, Start, AreNumbers, starts_from}
 use Rattle.ring_finder.proofs.finder.Finder.new.Goals as goal
 
 pub returns : goal.returns

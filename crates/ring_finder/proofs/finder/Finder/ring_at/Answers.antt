@@ -1,6 +1,5 @@
-use Rattle.std.proofs.Common.{get_or, sym, ap, ◌∙◌}
+use Rattle.ring_finder.proofs.Words.{get_or, sym, ap, ◌∙◌, Ring}
 use Rattle.segments.specs.Places.{touches}
-use Rattle.traces.specs.declared.ring.Ring.{Ring}
 use Rattle.ring_finder.proofs.Starts.{nothing_before, ring_hit, ring_miss}
 use Rattle.ring_finder.proofs.finder.Finder.ring_at.Goals as goal
 

@@ -1,5 +1,4 @@
-use Rattle.std.proofs.Common.{◌≡◌, ◌-◌, ◌<◌, ◌≤◌, List, true, false, length, get_or, sym, subst, ap, arith, leb, rules}
-use Rattle.ring_finder.proofs.Words.{IsNonDecreasingBy, IsPartitionPoint, IsPartitionPoint-from_clause, IsPartitionedBy-leb, Contains-get_or, Start}
+use Rattle.ring_finder.proofs.Words.{◌≡◌, ◌-◌, ◌<◌, ◌≤◌, List, true, false, length, get_or, sym, subst, ap, arith, leb, rules, IsNonDecreasingBy, IsPartitionPoint, IsPartitionPoint-from_clause, IsPartitionedBy-leb, Contains-get_or, Start}
 use Rattle.ring_finder.proofs.Starts.{none_before, last_before, number_below}
 use Rattle.ring_finder.proofs.finder.Finder.ring_before.Goals as goal
 

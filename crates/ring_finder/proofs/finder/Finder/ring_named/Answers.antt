@@ -1,5 +1,4 @@
-use Rattle.std.proofs.Common.{None, ◌∙◌, ap, get_or, arith}
-use Rattle.std.specs.Option.{option_flatten}
+use Rattle.ring_finder.proofs.Words.{None, ◌∙◌, ap, get_or, arith, option_flatten}
 use Rattle.ring_finder.proofs.Numbers.{named_is, flattened}
 use Rattle.ring_finder.proofs.finder.Finder.ring_named.Goals as goal
 

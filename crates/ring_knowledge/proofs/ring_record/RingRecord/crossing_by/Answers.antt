@@ -1,5 +1,4 @@
-use Rattle.std.proofs.Common.{◌≡◌, ◌≢◌, ◌%◌, ◌<◌, ◌≤◌, ◌+◌, ◌-◌, ◌∙◌, Some, ap, sym, arith, max, eqb-true}
-use Rattle.ring_knowledge.proofs.Words.{eqb-false, number, place_count, cycle_of, link_crossed, place_at-Link}
+use Rattle.ring_knowledge.proofs.Words.{◌≡◌, ◌≢◌, ◌%◌, ◌<◌, ◌≤◌, ◌+◌, ◌-◌, ◌∙◌, Some, ap, sym, arith, max, eqb-true, eqb-false, number, place_count, cycle_of, link_crossed, place_at-Link}
 use Rattle.ring_knowledge.proofs.DueNumbers.{crossing_behind}
 use Rattle.ring_knowledge.proofs.DueWrites.{gives_crossing-link, gives_crossing-other_word, gives_crossing-other_cycle}
 use Rattle.ring_knowledge.proofs.ring_record.RingRecord.crossing_by.Goals as goal

@@ -1,5 +1,4 @@
-use Rattle.std.proofs.Common.{◌≡◌, ◌∙◌, sym, ap, arith, inl, inr}
-use Rattle.ring_knowledge.proofs.Words.{cases_lt, number, is_step_given}
+use Rattle.ring_knowledge.proofs.Words.{◌≡◌, ◌∙◌, sym, ap, arith, inl, inr, cases_lt, number, is_step_given}
 use Rattle.ring_knowledge.proofs.GivenCount.{past_not_given}
 use Rattle.ring_knowledge.proofs.ring_record.RingRecord.first_not_given.Goals as goal
 

@@ -1,5 +1,4 @@
-use Rattle.std.proofs.Common.{◌≡◌, ◌+◌, ◌<◌, ◌≤◌, ℕ, true}
-use Rattle.ring_knowledge.proofs.Words.{RingView, is_step_given, FollowsMarks}
+use Rattle.ring_knowledge.proofs.Words.{◌≡◌, ◌+◌, ◌<◌, ◌≤◌, ℕ, true, RingView, is_step_given, FollowsMarks}
 use Rattle.ring_knowledge.proofs.ring_record.RingRecord.is_whole.Given as goal
 
 -- the steps so far are given

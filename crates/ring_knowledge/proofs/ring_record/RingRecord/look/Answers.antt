@@ -1,5 +1,4 @@
-use Rattle.std.proofs.Common.{◌≡◌, ◌∙◌, rules, false, ap, sym, get_or, option_map}
-use Rattle.ring_knowledge.proofs.Words.{place_at, Position, Crossing, positions_of, crossings_of}
+use Rattle.ring_knowledge.proofs.Words.{◌≡◌, ◌∙◌, rules, false, ap, sym, get_or, option_map, place_at, Position, Crossing, positions_of, crossings_of}
 use Rattle.ring_knowledge.proofs.DueWrites.{found, no_crossing_of_data, no_position_of_link, no_position_elsewhere, no_crossing_elsewhere}
 use Rattle.ring_knowledge.proofs.GivenWords.{positions_none, positions_marked, positions_found, crossings_none, crossings_marked, crossings_found, no_crossing_named, no_position_named}
 use Rattle.ring_knowledge.proofs.OwnedWords.{owned_data, owned_link, owned_nowhere}

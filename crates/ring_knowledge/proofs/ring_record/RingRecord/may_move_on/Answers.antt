@@ -1,5 +1,4 @@
-use Rattle.std.proofs.Common.{◌≡◌, ◌+◌, ◌<◌, ◌∙◌, ap, arith, length}
-use Rattle.ring_knowledge.proofs.Words.{place_count, declared, ceiling, is_move}
+use Rattle.ring_knowledge.proofs.Words.{◌≡◌, ◌+◌, ◌<◌, ◌∙◌, ap, arith, length, place_count, declared, ceiling, is_move}
 use Rattle.ring_knowledge.proofs.MoveTests.{no_move_between}
 use Rattle.ring_knowledge.proofs.ring_record.RingRecord.may_move_on.Goals as goal
 

@@ -1,5 +1,4 @@
-use Rattle.std.proofs.Common.{◌∙◌, ◌&&◌, ap, sym}
-use Rattle.ring_knowledge.proofs.Words.{is_border, is_reached, may_move_to}
+use Rattle.ring_knowledge.proofs.Words.{◌∙◌, ◌&&◌, ap, sym, is_border, is_reached, may_move_to}
 use Rattle.ring_knowledge.proofs.ring_record.RingRecord.may_move_to.Goals as goal
 
 pub returns-then-is_border : goal.returns-then-is_border

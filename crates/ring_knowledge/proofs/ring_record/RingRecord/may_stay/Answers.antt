@@ -1,5 +1,4 @@
-use Rattle.std.proofs.Common.{◌≡◌, ◌∙◌, ap, arith, length}
-use Rattle.ring_knowledge.proofs.Words.{declared, is_move, place_count_pos}
+use Rattle.ring_knowledge.proofs.Words.{◌≡◌, ◌∙◌, ap, arith, length, declared, is_move, place_count_pos}
 use Rattle.ring_knowledge.proofs.ring_record.RingRecord.may_stay.Goals as goal
 
 pub returns : goal.returns

@@ -1,5 +1,4 @@
-use Rattle.std.proofs.Common.{◌∙◌, ap, subst, arith, length}
-use Rattle.ring_knowledge.proofs.Words.{number, after, Reaches, changed, is_reached, FollowsRing}
+use Rattle.ring_knowledge.proofs.Words.{◌∙◌, ap, subst, arith, length, number, after, Reaches, changed, is_reached, FollowsRing}
 use Rattle.ring_knowledge.proofs.PassedBlocks.{behind_reached}
 use Rattle.ring_knowledge.proofs.ring_record.RingRecord.pass.Goals as goal
 

@@ -1,5 +1,4 @@
-use Rattle.std.proofs.Common.{◌≡◌, ◌%◌, ◌<◌, ◌≤◌, ◌+◌, ◌∙◌, ap, sym, arith, eqb-true}
-use Rattle.ring_knowledge.proofs.Words.{eqb-false, number, place_count, cycle_of, place_at-Data}
+use Rattle.ring_knowledge.proofs.Words.{◌≡◌, ◌%◌, ◌<◌, ◌≤◌, ◌+◌, ◌∙◌, ap, sym, arith, eqb-true, eqb-false, number, place_count, cycle_of, place_at-Data}
 use Rattle.ring_knowledge.proofs.DueWrites.{gives-data, gives-other_word, gives-other_cycle}
 use Rattle.ring_knowledge.proofs.ring_record.RingRecord.position_by.Goals as goal
 

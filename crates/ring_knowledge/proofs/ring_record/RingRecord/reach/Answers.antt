@@ -1,5 +1,4 @@
-use Rattle.std.proofs.Common.{◌≡◌, ◌∙◌, Some, refl, ap, sym, arith}
-use Rattle.ring_knowledge.proofs.Words.{number, link_crossed, floor_number}
+use Rattle.ring_knowledge.proofs.Words.{◌≡◌, ◌∙◌, Some, refl, ap, sym, arith, number, link_crossed, floor_number}
 use Rattle.ring_knowledge.proofs.ClearedMarks.{same_places, same_numbers}
 use Rattle.ring_knowledge.proofs.ReachedSpots.{reached_marks}
 use Rattle.ring_knowledge.proofs.GivenCount.{reached_step}

@@ -1,6 +1,5 @@
-use Rattle.std.proofs.Common.{subst, sym, ◌∙◌}
+use Rattle.ring_knowledge.proofs.Words.{subst, sym, ◌∙◌, FollowsRing}
 use Rattle.segments.specs.RingView.{Holds, Reaches, changed}
-use Rattle.ring_knowledge.specs.RingRecords.{FollowsRing}
 use Rattle.ring_knowledge.proofs.StopSpots.{stop_reached}
 use Rattle.ring_knowledge.proofs.PassedBlocks.{held_reached}
 use Rattle.ring_knowledge.proofs.ring_record.RingRecord.stop_at.Goals as goal

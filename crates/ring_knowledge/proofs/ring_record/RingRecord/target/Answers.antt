@@ -1,5 +1,4 @@
-use Rattle.std.proofs.Common.{◌≡◌, ◌∙◌, ap, sym, arith, length}
-use Rattle.ring_knowledge.proofs.Words.{number, declared}
+use Rattle.ring_knowledge.proofs.Words.{◌≡◌, ◌∙◌, ap, sym, arith, length, number, declared}
 use Rattle.ring_knowledge.proofs.NamedNow.{target_is, few_within}
 use Rattle.ring_knowledge.proofs.ring_record.RingRecord.target.Goals as goal
 

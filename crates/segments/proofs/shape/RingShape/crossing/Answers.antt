@@ -1,5 +1,4 @@
-use Rattle.std.proofs.Common.{rules, ◌≡◌, ◌%◌, ◌-◌, ◌+◌, arith, sym, ◌∙◌, Some, None}
-use Rattle.segments.specs.Places.{link_crossed}
+use Rattle.segments.proofs.Words.{rules, ◌≡◌, ◌%◌, ◌-◌, ◌+◌, arith, sym, ◌∙◌, Some, None, link_crossed}
 use Rattle.segments.proofs.DataPlaces.{place_count_most}
 use Rattle.segments.proofs.Lookups.{sees_from, past_first, past_next, count_within, crossed_here, crossed_nowhere}
 use Rattle.segments.proofs.shape.RingShape.crossing.Goals as goal

@@ -1,5 +1,4 @@
-use Rattle.std.proofs.Common.{◌≡◌, ◌%◌, ◌/◌, ◌+◌, ◌∙◌, if◌then◌else◌, arith, sym, ap, Some, None, nat_lt, lt-ltb, le-ltb}
-use Rattle.segments.proofs.Words.{cond-true, cond-false, false_from_ne_true, place_at}
+use Rattle.segments.proofs.Words.{◌≡◌, ◌%◌, ◌/◌, ◌+◌, ◌∙◌, if◌then◌else◌, arith, sym, ap, Some, None, nat_lt, lt-ltb, le-ltb, cond-true, cond-false, false_from_ne_true, place_at}
 use Rattle.segments.specs.declared.place.Place.TheVariants.{Data, Link}
 use Rattle.segments.proofs.DataPlaces.{place_count_most}
 use Rattle.segments.proofs.Lookups.{sees_from, outside_first, outside_next, count_within, place_here, place_nowhere}

@@ -1,0 +1,110 @@
+//! The diagnostic of a refused row, by the rule that it breaks.
+ghost use Rattle.std.specs.Prelude.{◌≡◌, IfOk};
+
+use crate::declarations::{bad_descriptor, ring_full};
+use crate::diagnostic::{Diagnostic, InFile};
+use crate::finding::{Case, Finding, line_of};
+use crate::givings::{link_fault, not_declared, write_to_owned};
+use crate::profile::not_in_profile;
+use crate::registers::{after_stop, bad_erdp, bad_register};
+use crate::source::quote;
+use crate::words::{general_head, why_refused};
+use ownership_rules::Refusal;
+use std::alloc::{AllocError, Global};
+use trace_reader::{ReadFault, read_trace};
+use traces::{Row, Trace};
+
+/// What is told of a refused row of a text, which is read again; nothing where the text is no trace.
+pub fn explain_refused(
+    alloc: Global,
+    path: &str,
+    text: &[u8],
+    row: u32,
+    refusal: Refusal,
+) -> Result<String, AllocError> {
+    match read_trace(alloc, text) {
+        Ok(trace) => {
+            let diagnostic = diagnostic_of(alloc, text, &trace, row, refusal)?;
+            let told = InFile {
+                path,
+                diagnostic: &diagnostic,
+            };
+            format!(in alloc; "{told}")
+        }
+        Err(ReadFault::Memory) => Err(AllocError),
+        Err(ReadFault::Line { .. }) => Ok(String::new(alloc)),
+    }
+}
+
+/// The diagnostic of a row of a trace that breaks a rule.
+pub fn diagnostic_of(
+    alloc: Global,
+    text: &[u8],
+    trace: &Trace,
+    row: u32,
+    refusal: Refusal,
+) -> Result<Diagnostic, AllocError>
+    ensures rule { IfOk result (λ diagnostic. diagnostic.refusal ≡ refusal) }
+    ensures row { IfOk result (λ diagnostic. diagnostic.refused.line ≡ row) }
+{
+    let rows = trace.rows.as_slice();
+    let index = (row.saturating_sub(trace.first) as usize).min(rows.len());
+    let case = Case {
+        alloc,
+        header: &trace.header,
+        first: trace.first,
+        before: &rows[..index],
+    };
+    let finding = match rows.get(index) {
+        Some(refused) => finding_of(&case, refused, refusal)?,
+        None => general(&case, refusal)?,
+    };
+    let Finding {
+        head,
+        here,
+        earlier,
+        notes,
+        help,
+    } = finding;
+    let earlier = match earlier {
+        Some(mark) => Some(quote(alloc, text, line_of(trace.first, mark.index), mark.label)?),
+        None => None,
+    };
+    Ok(Diagnostic {
+        refusal,
+        head,
+        refused: quote(alloc, text, row, here)?,
+        earlier,
+        notes,
+        help,
+    })
+}
+
+/// What is found of a row that breaks a rule.
+fn finding_of(case: &Case, row: &Row, refusal: Refusal) -> Result<Finding, AllocError> {
+    match (refusal, row) {
+        (Refusal::WriteToOwned, Row::Write { at, word }) => write_to_owned(case, at.get(), *word),
+        (Refusal::NotDeclared, Row::Sub { ring, .. }) => not_declared(case, *ring),
+        (Refusal::LinkFault, Row::Write { at, word }) => link_fault(case, at.get(), *word),
+        (Refusal::RingFull, Row::Sub { ring, blocks }) => {
+            ring_full(case, *ring, blocks.as_slice().len())
+        }
+        (Refusal::BadDescriptor, Row::Sub { ring, blocks }) => {
+            bad_descriptor(case, *ring, blocks.as_slice())
+        }
+        (Refusal::BadRegister, Row::Reg { register, value }) => {
+            bad_register(case, *register, *value)
+        }
+        (Refusal::BadErdp, Row::Reg { value, .. }) => bad_erdp(case, *value),
+        (Refusal::NotInProfile, row) => not_in_profile(case, row),
+        (Refusal::AfterStop, _) => after_stop(case),
+        _ => general(case, refusal),
+    }
+}
+
+/// What is said of every row that breaks a rule.
+fn general(case: &Case, refusal: Refusal) -> Result<Finding, AllocError> {
+    let mut finding = Finding::new(case.alloc, general_head(refusal), "refused")?;
+    finding.say(case.alloc, why_refused(refusal))?;
+    Ok(finding)
+}

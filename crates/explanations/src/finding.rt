@@ -1,0 +1,82 @@
+//! What was found of a refused row, before its lines are quoted.
+use std::alloc::{AllocError, Global};
+use traces::{Header, Row};
+
+/// A refused row and what stands before it.
+#[derive(Clone, Copy)]
+pub(crate) struct Case<'a> {
+    pub(crate) alloc: Global,
+    pub(crate) header: &'a Header,
+    /// The line of the first row.
+    pub(crate) first: u32,
+    /// The rows before the refused one.
+    pub(crate) before: &'a [Row],
+}
+
+/// An earlier row, by its index, and what it has to do with the refused one.
+#[derive(Drop)]
+pub(crate) struct Mark {
+    pub(crate) index: usize,
+    pub(crate) label: String,
+}
+
+/// What was found.
+#[derive(Drop)]
+pub(crate) struct Finding {
+    pub(crate) head: String,
+    /// What the refused row is.
+    pub(crate) here: String,
+    pub(crate) earlier: Option<Mark>,
+    pub(crate) notes: Vec<String>,
+    pub(crate) help: Option<String>,
+}
+
+impl Finding {
+    /// A finding with nothing but its head and what the row is.
+    pub(crate) fn new(alloc: Global, head: &str, here: &str) -> Result<Finding, AllocError> {
+        Ok(Finding {
+            head: String::from_str(alloc, head)?,
+            here: String::from_str(alloc, here)?,
+            earlier: None,
+            notes: Vec::new(alloc),
+            help: None,
+        })
+    }
+
+    /// Adds a note.
+    pub(crate) fn note(&mut self, note: String) -> Result<(), AllocError> {
+        self.notes.push(note)?;
+        Ok(())
+    }
+
+    /// Adds a note that stands so.
+    pub(crate) fn say(&mut self, alloc: Global, note: &str) -> Result<(), AllocError> {
+        let note = String::from_str(alloc, note)?;
+        self.note(note)
+    }
+
+    /// Says what helps.
+    pub(crate) fn help(&mut self, alloc: Global, help: &str) -> Result<(), AllocError> {
+        self.help = Some(String::from_str(alloc, help)?);
+        Ok(())
+    }
+
+    /// Points at an earlier row.
+    pub(crate) fn mark(
+        &mut self,
+        alloc: Global,
+        index: Option<usize>,
+        label: &str,
+    ) -> Result<(), AllocError> {
+        if let Some(index) = index {
+            let label = String::from_str(alloc, label)?;
+            self.earlier = Some(Mark { index, label });
+        }
+        Ok(())
+    }
+}
+
+/// The line of a row, by its index.
+pub(crate) fn line_of(first: u32, index: usize) -> u32 {
+    first.saturating_add(u32::try_from(index).unwrap_or(u32::MAX))
+}

@@ -1,0 +1,17 @@
+//! What is told of a refused row, as a compiler tells of an error: the rule, the row, the other row that matters, what was found and
+//! what was expected, and what helps.
+#![tactic(auto)]
+
+mod declarations;
+mod diagnostic;
+mod explain;
+mod finding;
+mod givings;
+mod profile;
+mod registers;
+mod rows;
+mod source;
+mod words;
+
+pub use diagnostic::{Diagnostic, InFile, Quote};
+pub use explain::{diagnostic_of, explain_refused};
