@@ -189,7 +189,7 @@ module _ (h : Header) (k : Known) (v : ℕ) where
   unfolding stricter older is_bad_erdp names_no_place
   passed_is s =
       ap (λ n. ((not k.started && is_some (event_ring h) && not (is_event_place (event_shape h) (erdp_address v))) && not (is_three h.version))
-          || (not (not k.started && is_some (event_ring h) && not (is_event_place (event_shape h) (erdp_address v))) && not (is_reached_within (event_shape h) k.dequeue n (erdp_address v))))
+      || (not (not k.started && is_some (event_ring h) && not (is_event_place (event_shape h) (erdp_address v))) && not (is_reached_within (event_shape h) k.dequeue n (erdp_address v))))
       (may k.started refl)
       ∙ by_tests k.started (is_some (event_ring h)) (is_event_place (event_shape h) (erdp_address v)) reached (is_three h.version) reached_place
     where

@@ -22,6 +22,15 @@ pub or_goes : (a b c : Bool) → a ≡ false → c ≡ b → c ≡ (a || b)
 or_goes true b c e f = absurd (cc)
 or_goes false b c e f = f
 
+pub and_true : (a b : Bool) → not b ≡ true → (a && not b) ≡ a
+and_true true b e = e
+and_true false b e = refl
+
+pub and_none : (a b : Bool) → b ≡ true → false ≡ (a && not b)
+and_none true true e = refl
+and_none true false e = absurd (cc)
+and_none false b e = refl
+
 pub or_none : (b : Bool) → (b || false) ≡ b
 or_none true = refl
 or_none false = refl

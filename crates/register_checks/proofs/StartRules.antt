@@ -176,3 +176,7 @@ some_is_written k r v is = ap (λ o. is_none o) (sym is)
 pub last_is : (h : Header) (k : Known) (v : ℕ) → Some v ≡ k.register Erstsz → is_bad_size h v ≡ is_wrong_size h k
 unfolding is_wrong_size
 last_is h k v is = ap (λ o. is_bad_size h (unwrap_or o 0)) is
+
+pub size_wrong : (h : Header) (k : Known) (size : ℕ) → size ≡ register_or_zero k.register Erstsz → is_bad_size h size ≡ is_wrong_size h k
+unfolding is_wrong_size
+size_wrong h k size is = ap (is_bad_size h) is

@@ -51,7 +51,13 @@ pub fn check_register<M: WordMemory>(
     if is_bad_register(header, finder, t, memory, register, value) {
         return Err(StepFault::Refused(Refusal::BadRegister));
     }
-    if !note_dequeue(header, t.registers.is_started(), &mut t.events, register, value) {
+    if !note_dequeue(
+        header,
+        t.registers.is_started(),
+        &mut t.events,
+        register,
+        value,
+    ) {
         return Err(StepFault::Refused(Refusal::BadErdp));
     }
     t.registers.write(register, value);
@@ -108,8 +114,20 @@ fn is_bad_sizing(header: &Header, t: &TraceRecord, value: u64) -> bool
     ensures { (k : Known) (m : ℕ → ℕ) → FollowsTrace header.now k t.now m →
         result ≡ (((is_written k Register.Erstsz || is_bad_size header.now value) && not (is_three header.now.version)) || (k.started || is_none (event_ring header.now))) }
 {
-    let is_older = is_written(&t.registers, Register::Erstsz) || is_bad_size(t, value);
-    (is_older && !header.version.is_three()) || (t.registers.is_started() || t.events.is_none())
+    if is_refused_size(header, t, value) {
+        return true;
+    }
+    t.registers.is_started() || t.events.is_none()
+}
+
+/// Whether ERSTSZ is written again or with a wrong value, which versions 1 and 2 refuse.
+fn is_refused_size(header: &Header, t: &TraceRecord, value: u64) -> bool
+    ensures { (k : Known) (m : ℕ → ℕ) → FollowsTrace header.now k t.now m → result ≡ ((is_written k Register.Erstsz || is_bad_size header.now value) && not (is_three header.now.version)) }
+{
+    if header.version.is_three() {
+        return false;
+    }
+    is_written(&t.registers, Register::Erstsz) || is_bad_size(t, value)
 }
 
 /// Whether the register was written.
@@ -175,9 +193,7 @@ fn is_set_up_wrong(t: &TraceRecord) -> bool
     let size = t.registers.value(Register::Erstsz).unwrap_or(0);
     let dequeue = t.registers.value(Register::Erdp).unwrap_or(0);
     match &t.events {
-        Some(events) => {
-            is_bad_size(t, size) || dequeue / 16 * 16 != events.shape().address(0)
-        }
+        Some(events) => { is_bad_size(t, size) || dequeue / 16 * 16 != events.shape().address(0) }
         None => true,
     }
 }
@@ -274,15 +290,14 @@ fn note_dequeue(
     value: u64,
 ) -> bool
     requires headed { IsHeader header.now }
-    ensures moved { result ≡ true → (k : Known) → FollowsEvents header.now k events.old → FollowsEvents header.now (register_written header.now k register value) events.new }
+    ensures moved { result ≡ true → (k : Known) → k.started ≡ is_started → FollowsEvents header.now k events.old → FollowsEvents header.now (register_written header.now k register value) events.new }
     ensures exact { (k : Known) → k.started ≡ is_started → FollowsEvents header.now k events.old → IsSetUp header.now k →
         (stricter header.now k (Reg register value) BadErdp || is_bad_erdp header.now k register value) ≡ not result }
     ensures reads { (n : ℕ) → IsWithin events.old n → IsWithin events.new n }
 {
     match register {
         Register::Erdp => {
-            set_dequeue(events, value)
-                || (header.version.is_three() && !is_started && has_no_place(header, events, value))
+            set_dequeue(events, value) || may_be_ignored(header, is_started, events, value)
         }
         _ => true,
     }
@@ -301,6 +316,26 @@ fn set_dequeue(events: &mut Option<EventPlace>, value: u64) -> bool
     }
 }
 
+/// Whether a value of ERDP has no effect, and may be: before the start, in version 3.
+fn may_be_ignored(
+    header: &Header,
+    is_started: bool,
+    events: &Option<EventPlace>,
+    value: u64,
+) -> bool
+    requires headed { IsHeader header.now }
+    ensures { (k : Known) → k.started ≡ is_started → FollowsEvents header.now k events.now →
+        result ≡ (is_three header.now.version && (not k.started && (is_some (event_ring header.now) && not (is_event_place (event_shape header.now) (erdp_address value))))) }
+{
+    if is_started {
+        return false;
+    }
+    if !header.version.is_three() {
+        return false;
+    }
+    has_no_place(header, events, value)
+}
+
 /// Whether a value of ERDP names no place of the event ring, where there is one.
 fn has_no_place(header: &Header, events: &Option<EventPlace>, value: u64) -> bool
     requires headed { IsHeader header.now }
@@ -317,5 +352,10 @@ fn is_event_place(shape: &RingShape, address: u64) -> bool
     requires aligned { address % 16 ≡ 0 }
     ensures { result ≡ is_event_place shape.now address }
 {
-    shape.places() > 0 && matches!(shape.place_at(address), Some(Place::Data { .. }))
+    let count = shape.places();
+    match shape.place_at(address) {
+        None => false,
+        Some(Place::Link { .. }) => false,
+        Some(Place::Data { place, .. }) => place < count,
+    }
 }

@@ -18,4 +18,4 @@ returns-clause-ok g c = λ k f s on.
     (sym (c.is_bad_register.ensures k f s) ∙ c.if-is_bad_register.false)
     (c.note_dequeue.ensures.exact k (sym (c.is_started.ensures k f.registers)) f.events s ∙ ap not c.if-not-note_dequeue.false)
     c.write.new.self c.note_dequeue.new.events (c.write.ensures c.args.header.now k f.registers)
-    (c.note_dequeue.ensures.moved c.if-not-note_dequeue.false k f.events)
+    (c.note_dequeue.ensures.moved c.if-not-note_dequeue.false k (sym (c.is_started.ensures k f.registers)) f.events)

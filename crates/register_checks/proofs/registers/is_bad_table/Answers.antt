@@ -13,8 +13,8 @@ returns-then-is_bad_size g c = λ k f s.
     or_goes _ _ _ (some_is_written k Erstsz c.in-Some.size (c.in-Some.ensures k f.registers))
     (or_ends _ _ (sym (last_is c.args.header.now k c.in-Some.size (c.in-Some.ensures k f.registers)) ∙ sym (c.is_bad_size.ensures c.args.header.now k _ f) ∙ c.if-is_bad_size.true))
 
-pub returns-in-Some : goal.returns-in-Some
-returns-in-Some g c = λ k f s.
+pub returns-in-Some-events : goal.returns-in-Some-events
+returns-in-Some-events g c = λ k f s.
     let place = subst (FollowsEvents c.args.header.now k) c.in-Some-events.is f.events in
     or_goes _ _ _ (some_is_written k Erstsz c.in-Some.size (c.in-Some.ensures k f.registers))
     (or_goes _ _ _ (sym (last_is c.args.header.now k c.in-Some.size (c.in-Some.ensures k f.registers)) ∙ sym (c.is_bad_size.ensures c.args.header.now k _ f) ∙ c.if-is_bad_size.false)
