@@ -70,7 +70,7 @@ fn note_words(
     for (index, (want, have)) in wanted.w.iter().zip(found.w.iter()).enumerate() {
         if *want != *have {
             let (want, have) = (*want, *have);
-            let note = match last_write(case.before, base + 4 * (index as u64 % 4)) {
+            let note = match last_write(case.before, base.saturating_add(4 * (index as u64 % 4))) {
                 Some(row) => {
                     let line = line_of(case.first, row);
                     if index == 3 {
