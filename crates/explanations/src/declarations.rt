@@ -1,8 +1,7 @@
 //! Rows that submit TRBs: no room, and TRBs that make no TD.
-use crate::finding::{Case, Finding};
+use crate::finding::{Case, Finding, ring_known};
 use crate::words::{ring_with, type_name};
 use std::alloc::{AllocError, Global};
-use traces::Row;
 use trb::{Block, BlockFlags, BlockKind, Flags, RingKind};
 
 /// A TD for which the ring has no room.
@@ -16,16 +15,18 @@ pub(crate) fn ring_full(case: &Case, id: u8, count: usize) -> Result<Finding, Al
         "the ring has no room for this TD",
         here.as_str(),
     )?;
-    if let Some(ring) = ring_with(case.header.rings.as_slice(), id) {
+    if let Some((ring, known)) = ring_known(case, id) {
         let places = ring.shape.places();
         let usable = places - 1;
-        let submitted = submitted_on(case.before, id);
+        let submitted = known.declared_count() as u64;
+        let back = known.floor_number();
+        let used = submitted.saturating_sub(back);
         let note = format!(in case.alloc;
             "ring {id:02x} has {places} TRBs beside its Link TRBs, of which one stays free: {usable} may be in use"
         )?;
         finding.note(note)?;
         let note = format!(in case.alloc;
-            "{submitted} were submitted before; TRBs come back only by events that were read"
+            "{submitted} were submitted, and events gave back the first {back}: {used} are in use"
         )?;
         finding.note(note)?;
     }
@@ -34,19 +35,6 @@ pub(crate) fn ring_full(case: &Case, id: u8, count: usize) -> Result<Finding, Al
         "read an event of the ring before you submit, or use a longer ring",
     )?;
     Ok(finding)
-}
-
-/// How many TRBs rows submitted on a ring.
-fn submitted_on(rows: &[Row], id: u8) -> u64 {
-    let mut count = 0u64;
-    for row in rows {
-        if let Row::Sub { ring, blocks } = row {
-            if *ring == id {
-                count = count.saturating_add(blocks.as_slice().len() as u64);
-            }
-        }
-    }
-    count
 }
 
 /// Why TRBs make no TD of a ring. TRBs of a TD count from 1.

@@ -2,12 +2,17 @@
 ghost use Rattle.std.specs.Prelude.{◌≡◌, IfOk};
 
 use crate::declarations::{bad_descriptor, ring_full};
+use crate::devices::{bad_command, bad_doorbell, busy};
 use crate::diagnostic::{Diagnostic, InFile};
+use crate::events::impossible_event;
 use crate::finding::{Case, Finding, line_of};
 use crate::givings::{link_fault, not_declared, write_to_owned};
+use crate::known::known_after;
+use crate::moves::bad_move;
 use crate::profile::not_in_profile;
 use crate::registers::{after_stop, bad_erdp, bad_register};
 use crate::source::quote;
+use crate::submissions::{never_submitted, not_as_submitted, not_whole};
 use crate::words::{general_head, why_refused};
 use ownership_rules::Refusal;
 use std::alloc::{AllocError, Global};
@@ -49,11 +54,13 @@ pub fn diagnostic_of(
 {
     let rows = trace.rows.as_slice();
     let index = (row.saturating_sub(trace.first) as usize).min(rows.len());
+    let known = known_after(alloc, &trace.header, &rows[..index])?;
     let case = Case {
         alloc,
         header: &trace.header,
         first: trace.first,
         before: &rows[..index],
+        known: &known,
     };
     let finding = match rows.get(index) {
         Some(refused) => finding_of(&case, refused, refusal)?,
@@ -96,8 +103,25 @@ fn finding_of(case: &Case, row: &Row, refusal: Refusal) -> Result<Finding, Alloc
             bad_register(case, *register, *value)
         }
         (Refusal::BadErdp, Row::Reg { value, .. }) => bad_erdp(case, *value),
+        (Refusal::BadDoorbell, Row::Bell { slot, target }) => bad_doorbell(case, *slot, *target),
+        (Refusal::ImpossibleEvent, Row::Read { event }) => impossible_event(case, *event),
         (Refusal::NotInProfile, row) => not_in_profile(case, row),
         (Refusal::AfterStop, _) => after_stop(case),
+        (_, Row::Write { at, word }) => {
+            let found = match refusal {
+                Refusal::BadMove => bad_move(case, at.get(), *word)?,
+                Refusal::NotAsSubmitted => not_as_submitted(case, *at, *word)?,
+                Refusal::NotDeclared => never_submitted(case, *at, *word)?,
+                Refusal::NotWhole => not_whole(case, *at, *word)?,
+                Refusal::BadCommand => bad_command(case, *at, *word)?,
+                Refusal::Busy => busy(case, *at, *word)?,
+                _ => None,
+            };
+            match found {
+                Some(finding) => Ok(finding),
+                None => general(case, refusal),
+            }
+        }
         _ => general(case, refusal),
     }
 }

@@ -1,6 +1,8 @@
 //! What was found of a refused row, before its lines are quoted.
+use crate::known::Known;
+use ring_knowledge::RingRecord;
 use std::alloc::{AllocError, Global};
-use traces::{Header, Row};
+use traces::{Header, Ring, Row};
 
 /// A refused row and what stands before it.
 #[derive(Clone, Copy)]
@@ -11,6 +13,8 @@ pub(crate) struct Case<'a> {
     pub(crate) first: u32,
     /// The rows before the refused one.
     pub(crate) before: &'a [Row],
+    /// What is known behind them.
+    pub(crate) known: &'a Known,
 }
 
 /// An earlier row, by its index, and what it has to do with the refused one.
@@ -79,4 +83,24 @@ impl Finding {
 /// The line of a row, by its index.
 pub(crate) fn line_of(first: u32, index: usize) -> u32 {
     first.saturating_add(u32::try_from(index).unwrap_or(u32::MAX))
+}
+
+/// The ring with this ID, and what is known of it.
+pub(crate) fn ring_known<'a>(case: &Case<'a>, id: u8) -> Option<(&'a Ring, &'a RingRecord)> {
+    let rings = case.header.rings.as_slice();
+    let number = rings.iter().position(|ring| ring.id == id)?;
+    let ring = rings.get(number)?;
+    let known = case.known.rings.get(number)?;
+    Some((ring, known))
+}
+
+/// The ring that has the word at an address, and what is known of it.
+pub(crate) fn ring_at<'a>(case: &Case<'a>, address: u64) -> Option<(&'a Ring, &'a RingRecord)> {
+    let rings = case.header.rings.as_slice();
+    let number = rings
+        .iter()
+        .position(|ring| ring.shape.place_at(address).is_some())?;
+    let ring = rings.get(number)?;
+    let known = case.known.rings.get(number)?;
+    Some((ring, known))
 }

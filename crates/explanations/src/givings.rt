@@ -1,6 +1,7 @@
 //! Writes of memory: to what the controller owns, of TRBs that weren't submitted, and of Link TRBs.
 use crate::finding::{Case, Finding};
 use crate::rows::{last_write, word_at};
+use crate::words::NOT_JUDGED;
 use segments::{Place, RingShape};
 use std::alloc::AllocError;
 use traces::Ring;
@@ -74,8 +75,9 @@ fn write_to_ring(
     if last_write(case.before, address).is_some() && word_at(case.before, address) == word {
         finding.say(
             case.alloc,
-            "the word is the same as before: no controller sees a difference. Not judged: xHCI allows this, the profile doesn't",
+            "the word is the same as before: no controller sees a difference",
         )?;
+        finding.say(case.alloc, NOT_JUDGED)?;
         finding.help(case.alloc, "leave out the second write")?;
     } else {
         finding.help(

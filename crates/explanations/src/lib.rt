@@ -3,14 +3,20 @@
 #![tactic(auto)]
 
 mod declarations;
+mod devices;
 mod diagnostic;
+mod events;
 mod explain;
 mod finding;
 mod givings;
+mod known;
+mod moves;
+mod positions;
 mod profile;
 mod registers;
 mod rows;
 mod source;
+mod submissions;
 mod words;
 
 pub use diagnostic::{Diagnostic, InFile, Quote};

@@ -1,6 +1,6 @@
 //! What xHCI allows and the profile leaves out.
 use crate::finding::{Case, Finding};
-use crate::words::type_name;
+use crate::words::{NOT_JUDGED, type_name};
 use std::alloc::{AllocError, Global};
 use traces::Row;
 use trb::{Block, BlockFlags, BlockKind, Flags};

@@ -1,7 +1,7 @@
 //! Writes of registers.
 use crate::finding::{Case, Finding, line_of};
 use crate::rows::{last_read, last_register, reads, start, stop};
-use crate::words::{register_name, ring_of_kind};
+use crate::words::{NOT_JUDGED, register_name, ring_of_kind};
 use segments::RingShape;
 use std::alloc::AllocError;
 use traces::Register;
@@ -30,8 +30,9 @@ pub(crate) fn bad_register(
         finding.mark(case.alloc, started, "the controller starts here")?;
         finding.say(
             case.alloc,
-            "Command Stop (bit 1) or Command Abort (bit 2) is 1. Not judged: xHCI allows this, the profile doesn't",
+            "Command Stop (bit 1) or Command Abort (bit 2) is 1",
         )?;
+        finding.say(case.alloc, NOT_JUDGED)?;
         return Ok(finding);
     }
     if started.is_some() && register != Register::Usbcmd {

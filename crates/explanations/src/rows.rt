@@ -53,6 +53,23 @@ pub(crate) fn last_register(rows: &[Row], register: Register) -> Option<usize> {
     last
 }
 
+/// The last value that the rows write to a register.
+pub(crate) fn register_value(rows: &[Row], register: Register) -> Option<u64> {
+    let mut last = None;
+    for row in rows {
+        if let Row::Reg {
+            register: written,
+            value,
+        } = row
+        {
+            if *written == register {
+                last = Some(*value);
+            }
+        }
+    }
+    last
+}
+
 /// The row that starts the controller: the first with Run/Stop 1 and HCRST 0.
 pub(crate) fn start(rows: &[Row]) -> Option<usize> {
     rows.iter().position(|row| runs(row) == Some(true))

@@ -1,7 +1,11 @@
 //! The rules, and the types of TRBs, in the standard's words.
+use commands::{Command, EndpointState, SlotState};
 use ownership_rules::Refusal;
 use traces::{Register, Ring};
 use trb::{BlockKind, RingKind};
+
+/// That a row breaks a rule of the profile alone.
+pub(crate) const NOT_JUDGED: &str = "not judged: xHCI allows this, the profile doesn't";
 
 /// What is wrong with a row that breaks this rule.
 pub(crate) fn general_head(refusal: Refusal) -> &'static str {
@@ -107,6 +111,61 @@ pub(crate) fn type_name(kind: BlockKind) -> &'static str {
         BlockKind::DeviceNotification => "Device Notification Event",
         BlockKind::MfindexWrap => "MFINDEX Wrap Event",
         BlockKind::Unknown(_) => "a TRB of a reserved type",
+    }
+}
+
+/// The name of a Completion Code (xHCI table 6-90).
+pub(crate) fn code_name(code: u8) -> &'static str {
+    match code {
+        1 => "Success",
+        3 => "Babble Detected Error",
+        4 => "USB Transaction Error",
+        5 => "TRB Error",
+        6 => "Stall Error",
+        13 => "Short Packet",
+        26 => "Stopped",
+        27 => "Stopped - Length Invalid",
+        28 => "Stopped - Short Packet",
+        36 => "Split Transaction Error",
+        _ => "another Completion Code",
+    }
+}
+
+/// The name of a slot's state (xHCI 4.5.3).
+pub(crate) fn slot_state_name(state: SlotState) -> &'static str {
+    match state {
+        SlotState::Disabled => "Disabled",
+        SlotState::Enabled => "Enabled",
+        SlotState::Default => "Default",
+        SlotState::Addressed => "Addressed",
+        SlotState::Configured => "Configured",
+    }
+}
+
+/// The name of a command (xHCI 4.6).
+pub(crate) fn command_name(command: Command) -> &'static str {
+    match command {
+        Command::NoOp => "No Op Command",
+        Command::EnableSlot => "Enable Slot",
+        Command::DisableSlot { .. } => "Disable Slot",
+        Command::AddressDevice { .. } => "Address Device",
+        Command::ConfigureEndpoint { .. } => "Configure Endpoint",
+        Command::EvaluateContext { .. } => "Evaluate Context",
+        Command::ResetEndpoint { .. } => "Reset Endpoint",
+        Command::StopEndpoint { .. } => "Stop Endpoint",
+        Command::SetTrDequeue { .. } => "Set TR Dequeue Pointer",
+        Command::ResetDevice { .. } => "Reset Device",
+    }
+}
+
+/// The name of an endpoint's state (xHCI 4.8.3).
+pub(crate) fn endpoint_state_name(state: EndpointState) -> &'static str {
+    match state {
+        EndpointState::Disabled => "Disabled",
+        EndpointState::Running => "Running",
+        EndpointState::Halted => "Halted",
+        EndpointState::Stopped => "Stopped",
+        EndpointState::Error => "Error",
     }
 }
 

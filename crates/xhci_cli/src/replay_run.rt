@@ -55,9 +55,13 @@ fn run_beside<S: Read + Drop, O: Write, E: Write>(
         × IsTold asked.now.explains answer result (O.contents out.old) (O.contents out.new) (E.contents err.old) (E.contents err.new) }
     ensures err { asked.now.explains ≡ false → goes_out result ≡ true → err.new ≡ err.old }
 {
+    let named = Asked {
+        input: "the schedule",
+        explains: asked.explains,
+    };
     let mut schedule = match schedule {
         Ok(schedule) => schedule,
-        Err(error) => return tell_failure(alloc, asked, error, out, err),
+        Err(error) => return tell_failure(alloc, &named, error, out, err),
     };
     let mut text = Vec::new(alloc);
     match schedule.read_to_end(&mut text) {
@@ -66,7 +70,7 @@ fn run_beside<S: Read + Drop, O: Write, E: Write>(
             let note = note_on_schedule(alloc, asked, &text, &answer);
             tell(alloc, asked.explains, answer, note, out, err)
         }
-        Err(error) => tell_failure(alloc, asked, error, out, err),
+        Err(error) => tell_failure(alloc, &named, error, out, err),
     }
 }
 

@@ -1,0 +1,238 @@
+//! Events that no controller can have posted.
+use crate::finding::{Case, Finding, line_of, ring_known};
+use crate::positions::{is_handed_over, submission};
+use crate::rows::{last_register, last_write, reads, start};
+use crate::words::{code_name, endpoint_state_name, ring_of_kind, type_name};
+use commands::EndpointState;
+use ring_knowledge::RingRecord;
+use segments::Place;
+use std::alloc::AllocError;
+use traces::{Register, Ring};
+use trb::{Block, BlockKind, RingKind};
+
+/// An event that no controller can have posted.
+pub(crate) fn impossible_event(case: &Case, event: Block) -> Result<Finding, AllocError> {
+    let (kind, code) = (type_name(event.kind()), code_name(event.code()));
+    let here = format!(in case.alloc; "{kind}, {code}")?;
+    let mut finding = Finding::new(
+        case.alloc,
+        "no controller of the model can have posted this event here",
+        here.as_str(),
+    )?;
+    let started = start(case.before);
+    if started.is_none() {
+        finding.say(
+            case.alloc,
+            "the controller isn't started: USBCMD with Run/Stop 1 comes first",
+        )?;
+    } else if !note_event_ring(case, &mut finding, event)? {
+        match event.kind() {
+            BlockKind::CommandCompletion => note_completion(case, &mut finding, event)?,
+            BlockKind::TransferEvent => note_transfer(case, &mut finding, event)?,
+            _ => finding.say(case.alloc, "its type is no event's")?,
+        }
+    }
+    if finding.help.is_none() {
+        finding.help(
+            case.alloc,
+            "look at the hook for events and for rows that are missing: the trace isn't what happened, or the driver read a stale event",
+        )?;
+    }
+    Ok(finding)
+}
+
+/// Notes that the event has no place in the Event Ring: another Cycle bit, or no room. Whether it is so.
+fn note_event_ring(case: &Case, finding: &mut Finding, event: Block) -> Result<bool, AllocError> {
+    let Some(ring) = ring_of_kind(case.header.rings.as_slice(), RingKind::Evt) else {
+        finding.say(case.alloc, "the header has no `evt` ring")?;
+        return Ok(true);
+    };
+    let count = reads(case.before);
+    let number = count.saturating_add(1);
+    let wanted = ring.shape.cycle(count as u64);
+    if event.cycle() != wanted {
+        let (have, want) = (u8::from(event.cycle()), u8::from(wanted));
+        let note = format!(in case.alloc;
+            "its Cycle bit is {have}, and event {number} has {want}: the driver read a TRB that isn't posted yet"
+        )?;
+        finding.note(note)?;
+        finding.help(
+            case.alloc,
+            "read an event only where its Cycle bit is the Consumer Cycle State, and flip that at the ring's end (xHCI 4.9.4)",
+        )?;
+        return Ok(true);
+    }
+    let before = match last_register(case.before, Register::Erdp) {
+        Some(row) => reads(&case.before[..row.min(case.before.len())]),
+        None => 0,
+    };
+    let most = u64::from(ring.shape.places()).saturating_sub(1);
+    let unread = count.saturating_sub(before) as u64;
+    if unread >= most {
+        let note = format!(in case.alloc;
+            "the Event Ring was full: {unread} events read since ERDP was written, and it holds {most}"
+        )?;
+        finding.note(note)?;
+        finding.mark(
+            case.alloc,
+            last_register(case.before, Register::Erdp),
+            "ERDP is written here",
+        )?;
+        finding.help(
+            case.alloc,
+            "write ERDP after some events, before the ring is full",
+        )?;
+        return Ok(true);
+    }
+    Ok(false)
+}
+
+/// What is wrong with a Command Completion Event.
+fn note_completion(case: &Case, finding: &mut Finding, event: Block) -> Result<(), AllocError> {
+    let Some(command_ring) = ring_of_kind(case.header.rings.as_slice(), RingKind::Cmd) else {
+        return finding.say(case.alloc, "the header has no `cmd` ring");
+    };
+    let Some((ring, known)) = ring_known(case, command_ring.id) else {
+        return Ok(());
+    };
+    let next = known.floor_number();
+    let wanted = ring.shape.address(next);
+    let found = event.pointer();
+    if found != wanted {
+        let note = format!(in case.alloc;
+            "it names {found:016x}; the next command to complete is at {wanted:016x}"
+        )?;
+        return finding.note(note);
+    }
+    if !is_handed_over(ring, known, next) {
+        return note_stale(case, finding, ring, known, next);
+    }
+    let gave = last_write(case.before, wanted | 12);
+    if known.ceiling() <= next {
+        finding.mark(
+            case.alloc,
+            gave,
+            "this row hands the command to the controller",
+        )?;
+        finding.say(case.alloc, "no doorbell of the Command Ring rang since")?;
+        return finding.help(case.alloc, "log the write of doorbell 0 as `db 00 00`");
+    }
+    finding.mark(case.alloc, gave, "the command that it completes")?;
+    let slot = event.slot();
+    let note = format!(in case.alloc;
+        "it names slot {slot}; the command can't complete so in the states that slot and endpoint have (xHCI 4.5.3, 4.8.3)"
+    )?;
+    finding.note(note)
+}
+
+/// What is wrong with a Transfer Event.
+fn note_transfer(case: &Case, finding: &mut Finding, event: Block) -> Result<(), AllocError> {
+    let (slot, endpoint) = (event.slot(), event.endpoint());
+    let state = case.known.devices.endpoint_state(slot, endpoint);
+    let name = endpoint_state_name(state);
+    let Some(id) = case.known.devices.ring_of(slot, endpoint) else {
+        let note = format!(in case.alloc;
+            "slot {slot}, DCI {endpoint} is {name} and has no ring: no Address Device or Configure Endpoint that adds it has completed"
+        )?;
+        return finding.note(note);
+    };
+    let Some((ring, known)) = ring_known(case, id) else {
+        return Ok(());
+    };
+    let pointer = event.pointer();
+    let Some(Place::Data { place, .. }) = ring.shape.place_at(pointer) else {
+        let note = format!(in case.alloc;
+            "it names {pointer:016x}, which is no TRB of ring {id:02x}, the ring of slot {slot}, DCI {endpoint}"
+        )?;
+        return finding.note(note);
+    };
+    let position = position_of(ring, known, u64::from(place));
+    if position >= known.declared_count() as u64 {
+        let note = format!(in case.alloc;
+            "it names TRB {place} of ring {id:02x}, which wasn't submitted since it came back"
+        )?;
+        return finding.note(note);
+    }
+    if !is_handed_over(ring, known, position) {
+        return note_stale(case, finding, ring, known, position);
+    }
+    let gave = last_write(case.before, pointer | 12);
+    finding.mark(case.alloc, gave, "this row hands the TRB to the controller")?;
+    if known.ceiling() <= position {
+        let note = format!(in case.alloc;
+            "no doorbell of slot {slot}, DCI {endpoint} rang since the ring was bound, stopped or moved, or a TRB before isn't handed over"
+        )?;
+        return finding.note(note);
+    }
+    let note = match state {
+        EndpointState::Running => {
+            format!(in case.alloc;
+                "slot {slot}, DCI {endpoint} is Running; an event for a stopped endpoint comes before the completion of its Stop Endpoint, and no such command is the next to complete"
+            )?
+        }
+        _ => format!(in case.alloc;
+            "slot {slot}, DCI {endpoint} is {name}, and only a Running endpoint reports so"
+        )?,
+    };
+    finding.note(note)
+}
+
+/// The least position from the floor on at a place.
+fn position_of(ring: &Ring, known: &RingRecord, place: u64) -> u64 {
+    let places = u64::from(ring.shape.places());
+    let floor = known.floor_number();
+    let reached = floor % places;
+    let ahead = if place < reached {
+        (places - reached).saturating_add(place)
+    } else {
+        place - reached
+    };
+    floor.saturating_add(ahead)
+}
+
+/// Notes that a TRB was never handed over, and the write that gave it a stale Cycle bit.
+fn note_stale(
+    case: &Case,
+    finding: &mut Finding,
+    ring: &Ring,
+    known: &RingRecord,
+    position: u64,
+) -> Result<(), AllocError> {
+    let id = ring.id;
+    let places = u64::from(ring.shape.places());
+    let place = position % places;
+    let wanted = u8::from(ring.shape.cycle(position));
+    let lap = (position / places).saturating_add(1);
+    let note = format!(in case.alloc;
+        "TRB {place} of ring {id:02x} was never handed to the controller: in lap {lap} of the ring that takes Cycle bit {wanted}"
+    )?;
+    finding.note(note)?;
+    if position >= known.declared_count() as u64 {
+        return finding.say(case.alloc, "it wasn't submitted either");
+    }
+    if let (Some(td), Some(wrote)) = (
+        submission(case, id, position),
+        last_write(case.before, ring.shape.address(position) | 12),
+    ) {
+        let line = line_of(case.first, td.row);
+        if wrote > td.row {
+            let note = format!(in case.alloc; "it was submitted at row {line}")?;
+            finding.note(note)?;
+            finding.mark(
+                case.alloc,
+                Some(wrote),
+                "its control word, with the Cycle bit of another lap",
+            )?;
+            return finding.help(
+                case.alloc,
+                "flip the Producer Cycle State where you pass the Link TRB with Toggle Cycle (xHCI 4.9.2)",
+            );
+        }
+        finding.mark(
+            case.alloc,
+            Some(td.row),
+            "submitted here, and its control word isn't written since",
+        )?;
+    }
+    Ok(())
+}

@@ -1,0 +1,328 @@
+//! Commands that bind an endpoint to a ring, or move its ring.
+use crate::finding::{Case, Finding, line_of, ring_known};
+use crate::known::Binding;
+use crate::rows::last_write;
+use crate::words::{NOT_JUDGED, endpoint_state_name};
+use commands::{Command, EndpointState};
+use ring_knowledge::RingRecord;
+use segments::Place;
+use std::alloc::AllocError;
+use traces::Ring;
+use trb::{Block, RingKind};
+
+/// How many places where a ring may go on are told.
+const TOLD: usize = 4;
+
+/// A command that binds or moves a ring to where it may not stand; `address` is that of its control word.
+pub(crate) fn bad_move(
+    case: &Case,
+    address: u64,
+    word: u32,
+) -> Result<Option<Finding>, AllocError> {
+    let base = address & !15;
+    let block = Block {
+        w: [
+            case.known.word(base),
+            case.known.word(base + 4),
+            case.known.word(base + 8),
+            word,
+        ],
+    };
+    match Command::read(&block) {
+        Ok(
+            Command::SetTrDequeue {
+                slot,
+                endpoint,
+                dequeue,
+                cycle,
+            },
+        ) => {
+            let here = format!(in case.alloc;
+                "Set TR Dequeue Pointer of slot {slot}, DCI {endpoint}"
+            )?;
+            let mut finding = Finding::new(
+                case.alloc,
+                "Set TR Dequeue Pointer to where the ring may not go on",
+                here.as_str(),
+            )?;
+            note_dequeue(case, &mut finding, slot, endpoint, dequeue, cycle)?;
+            Ok(Some(finding))
+        }
+        Ok(
+            Command::AddressDevice {
+                slot,
+                input_context,
+                ..
+            },
+        ) => {
+            let here = format!(in case.alloc; "Address Device of slot {slot}")?;
+            let mut finding = Finding::new(
+                case.alloc,
+                "Address Device binds an endpoint to a ring that it may not have",
+                here.as_str(),
+            )?;
+            note_added(case, &mut finding, slot, input_context, 1)?;
+            Ok(Some(finding))
+        }
+        Ok(
+            Command::ConfigureEndpoint {
+                slot,
+                input_context,
+                ..
+            },
+        ) => {
+            let here = format!(in case.alloc; "Configure Endpoint of slot {slot}")?;
+            let mut finding = Finding::new(
+                case.alloc,
+                "Configure Endpoint binds an endpoint to a ring that it may not have",
+                here.as_str(),
+            )?;
+            for endpoint in 2..32 {
+                note_added(case, &mut finding, slot, input_context, endpoint)?;
+            }
+            Ok(Some(finding))
+        }
+        _ => Ok(None),
+    }
+}
+
+/// What is wrong with a Set TR Dequeue Pointer.
+fn note_dequeue(
+    case: &Case,
+    finding: &mut Finding,
+    slot: u8,
+    endpoint: u8,
+    dequeue: u64,
+    cycle: bool,
+) -> Result<(), AllocError> {
+    let state = case.known.devices.endpoint_state(slot, endpoint);
+    if !matches!(state, EndpointState::Stopped | EndpointState::Error) {
+        let name = endpoint_state_name(state);
+        let note = format!(in case.alloc;
+            "slot {slot}, DCI {endpoint} is {name}, and must be Stopped or Error (xHCI 4.6.10)"
+        )?;
+        finding.note(note)?;
+        finding.help(
+            case.alloc,
+            "Stop Endpoint, or Reset Endpoint after a halt, first, and read its completion",
+        )?;
+    }
+    let Some(id) = case.known.devices.ring_of(slot, endpoint) else {
+        let note = format!(in case.alloc; "slot {slot}, DCI {endpoint} has no ring")?;
+        return finding.note(note);
+    };
+    if let Some((ring, known)) = ring_known(case, id) {
+        note_bound_by(case, finding, id)?;
+        note_named(case, finding, ring, dequeue, cycle)?;
+        note_reached(case, finding, ring, known, dequeue, cycle)?;
+        note_allowed(case, finding, ring, known)?;
+    }
+    Ok(())
+}
+
+/// Points at the row that bound a ring.
+fn note_bound_by(case: &Case, finding: &mut Finding, id: u8) -> Result<(), AllocError> {
+    match last_binding(case, id) {
+        Some(bound) => {
+            let (slot, endpoint) = (bound.slot, bound.endpoint);
+            let label = format!(in case.alloc;
+                "this completion bound slot {slot}, DCI {endpoint} to ring {id:02x}"
+            )?;
+            finding.mark(case.alloc, Some(bound.row), label.as_str())
+        }
+        None => Ok(()),
+    }
+}
+
+/// The last row that bound a ring.
+fn last_binding(case: &Case, id: u8) -> Option<Binding> {
+    let mut last = None;
+    for bound in &case.known.bindings {
+        if bound.ring == id {
+            last = Some(*bound);
+        }
+    }
+    last
+}
+
+/// What a pointer names.
+fn note_named(
+    case: &Case,
+    finding: &mut Finding,
+    ring: &Ring,
+    pointer: u64,
+    cycle: bool,
+) -> Result<(), AllocError> {
+    let id = ring.id;
+    let dcs = u8::from(cycle);
+    let note = match ring.shape.place_at(pointer) {
+        Some(Place::Data { place, .. }) => {
+            format!(in case.alloc;
+                "the command says {pointer:016x}, DCS {dcs}: TRB {place} of ring {id:02x}"
+            )?
+        }
+        Some(Place::Link { segment, .. }) => {
+            format!(in case.alloc;
+                "the command says {pointer:016x}, DCS {dcs}: the Link TRB of segment {segment} of ring {id:02x}"
+            )?
+        }
+        None => {
+            format!(in case.alloc;
+                "the command says {pointer:016x}, DCS {dcs}: no TRB of the endpoint's ring {id:02x}"
+            )?
+        }
+    };
+    finding.note(note)
+}
+
+/// Why the ring may not go on there.
+fn note_reached(
+    case: &Case,
+    finding: &mut Finding,
+    ring: &Ring,
+    known: &RingRecord,
+    pointer: u64,
+    cycle: bool,
+) -> Result<(), AllocError> {
+    if ring.shape.place_at(pointer).is_none() {
+        return Ok(());
+    }
+    if known.target(&ring.shape, pointer, cycle).is_some() {
+        return finding.say(
+            case.alloc,
+            "that is inside a TD, before TDs that the controller may have begun or passed, or behind a TRB or Link TRB that isn't handed over",
+        );
+    }
+    if known.target(&ring.shape, pointer, !cycle).is_some() {
+        return finding.say(
+            case.alloc,
+            "Dequeue Cycle State is that of another lap: it is the Cycle bit with which the TRB there is handed over",
+        );
+    }
+    finding.say(case.alloc, "no TD that isn't finished begins or ends there")
+}
+
+/// Where the ring may go on.
+fn note_allowed(
+    case: &Case,
+    finding: &mut Finding,
+    ring: &Ring,
+    known: &RingRecord,
+) -> Result<(), AllocError> {
+    let mut text = String::from_str(case.alloc, "the ring may go on at")?;
+    let mut told = 0usize;
+    let end = (known.declared_count() as u64).saturating_add(1);
+    for position in known.ceiling()..end {
+        let pointer = ring.shape.address(position);
+        let cycle = ring.shape.cycle(position);
+        if told < TOLD && known.may_move_on(&ring.shape, pointer, cycle) {
+            let dcs = u8::from(cycle);
+            let place = format!(in case.alloc; " {pointer:016x} with DCS {dcs}")?;
+            text.push_str(place.as_str())?;
+            told += 1;
+        }
+    }
+    if told == 0 {
+        return finding.say(
+            case.alloc,
+            "the ring may go on nowhere yet: a TRB or Link TRB before each TD's beginning isn't handed over",
+        );
+    }
+    finding.note(text)
+}
+
+/// What is wrong with the ring of an endpoint that a command adds.
+fn note_added(
+    case: &Case,
+    finding: &mut Finding,
+    slot: u8,
+    context: u64,
+    endpoint: u8,
+) -> Result<(), AllocError> {
+    let Some((pointer, cycle)) = case.known.added(case.header, context, endpoint) else {
+        return Ok(());
+    };
+    let dcs = u8::from(cycle);
+    let state = case.known.devices.endpoint_state(slot, endpoint);
+    if endpoint == 1 && state != EndpointState::Disabled {
+        let note = format!(in case.alloc;
+            "slot {slot}, DCI 1 has its ring already: a second Address Device names the place where that ring stands, with nothing left on it; it says {pointer:016x}, DCS {dcs}"
+        )?;
+        finding.note(note)?;
+        return finding.say(
+            case.alloc,
+            "where TDs are left on the ring it is not judged: xHCI allows this, the profile doesn't",
+        );
+    }
+    let beginning = case
+        .header
+        .rings
+        .as_slice()
+        .iter()
+        .find(|ring| begins_at(ring, pointer));
+    match beginning {
+        None => {
+            let row = context_row(case, context, endpoint);
+            finding.mark(
+                case.alloc,
+                row,
+                "the TR Dequeue Pointer of the Endpoint Context is written here",
+            )?;
+            let note = format!(in case.alloc;
+                "DCI {endpoint}: the Endpoint Context says {pointer:016x}, DCS {dcs}; no `xfer` ring of the header begins there"
+            )?;
+            finding.note(note)?;
+            finding.help(
+                case.alloc,
+                "name the first TRB of a ring, or declare that ring in the header",
+            )
+        }
+        Some(ring) => note_ring(case, finding, ring, endpoint, cycle),
+    }
+}
+
+/// What is wrong with a ring that an endpoint gets.
+fn note_ring(
+    case: &Case,
+    finding: &mut Finding,
+    ring: &Ring,
+    endpoint: u8,
+    cycle: bool,
+) -> Result<(), AllocError> {
+    let id = ring.id;
+    if !cycle {
+        let note = format!(in case.alloc;
+            "DCI {endpoint}: Dequeue Cycle State is 0, and must be 1: ring {id:02x} begins with Cycle bit 1"
+        )?;
+        finding.note(note)?;
+    }
+    match last_binding(case, id) {
+        Some(bound) => {
+            let line = line_of(case.first, bound.row);
+            let (owner, index) = (bound.slot, bound.endpoint);
+            note_bound_by(case, finding, id)?;
+            let note = format!(in case.alloc;
+                "DCI {endpoint} would get ring {id:02x}, which slot {owner}, DCI {index} got at row {line}; the profile binds a ring once"
+            )?;
+            finding.note(note)?;
+            finding.say(case.alloc, NOT_JUDGED)?;
+            finding.help(
+                case.alloc,
+                "this says nothing against the driver; to have the rest judged, bind a ring that wasn't used, or leave the endpoint as it is",
+            )
+        }
+        None => Ok(()),
+    }
+}
+
+/// Whether a transfer ring begins at an address.
+fn begins_at(ring: &Ring, address: u64) -> bool {
+    ring.shape.kind() == RingKind::Xfer && ring.shape.address(0) == address
+}
+
+/// The row that wrote the TR Dequeue Pointer of an Endpoint Context.
+fn context_row(case: &Case, context: u64, endpoint: u8) -> Option<usize> {
+    let offset = (u64::from(endpoint) + 1) * case.header.context_size.bytes() + 8;
+    let address = context.checked_add(offset)?;
+    last_write(case.before, address)
+}
