@@ -1,13 +1,11 @@
 -- Records one after another: what is written is read, and what is read is what was written
-use Rattle.std.specs.Prelude.{◌≡◌, ℕ, suc, zero, ◌+◌, ◌*◌, ◌<◌, ◌≤◌, true, List, [], ◌∷◌, ◌++◌, length, take, drop, All}
+use Rattle.std.proofs.Common.{◌≡◌, ◌+◌, ◌*◌, ◌<◌, ◌≤◌, ◌∷◌, ◌++◌, ◌∙◌, ℕ, suc, zero, true, List, [], length, take, drop, All, arith, sym, ap, refl, append_assoc, add-one, inl, inr, drop-drop, length-drop, get_or-take, get_or-drop, length-take-le, get_or}
 use Rattle.std.specs.List.{flat_map, list_all}
-use Rattle.std.proofs.Common.{arith, sym, ◌∙◌, ap, refl, append_assoc, add-one, inl, inr}
-use Rattle.std.proofs.lemmas.List.{drop-drop, length-drop, get_or-take, get_or-drop, length-take-le, get_or_past}
+use Rattle.std.proofs.lemmas.List.{get_or_past}
 use Rattle.std.proofs.Math.Seq.{take-add}
 use Rattle.std.proofs.lemmas.List.Elements.{All-head, All-tail}
 use Rattle.std.proofs.lemmas.Bool.{and_from, cases_lt}
 use Rattle.std.proofs.lemmas.Nat.{le_bytes_4, le_bytes_8}
-use Rattle.std.proofs.Common.{get_or}
 use Rattle.byteorder.specs.Endian.{little_bytes, little_number}
 use Rattle.byteorder.specs.Numbers.{little_number-reads_back}
 use Rattle.ring_knowledge.specs.declared.lease.Lease.{Lease}

@@ -1,11 +1,9 @@
 -- A list's spelling is read as that list, and bytes that are read as a list are its spelling
-use Rattle.std.specs.Prelude.{◌≡◌, ℕ, ◌*◌, ◌/◌, ◌%◌, ◌==◌, Bool, true, false, List, ◌++◌, length, take, drop, All, Result, Ok, Err, IfOk}
+use Rattle.std.proofs.Common.{◌≡◌, ◌*◌, ◌/◌, ◌%◌, ◌==◌, ◌++◌, ◌∙◌, ℕ, Bool, true, false, List, length, take, drop, All, Result, Ok, Err, IfOk, arith, sym, ap, refl, cond, inl, inr, eq-eqb, take-append-drop, take_all}
 use Rattle.std.specs.List.{flat_map, list_all}
 use Rattle.std.specs.Str.{bytes_eq}
-use Rattle.std.proofs.Common.{arith, sym, ◌∙◌, ap, refl, cond, inl, inr}
-use Rattle.std.proofs.lemmas.Bool.{cases_Bool, eq-eqb}
+use Rattle.std.proofs.lemmas.Bool.{cases_Bool}
 use Rattle.std.proofs.lemmas.Bool.Decides.{nat_tests}
-use Rattle.std.proofs.lemmas.List.{take-append-drop, take_all}
 use Rattle.std.proofs.lemmas.Slice.Eq.{bytes_eq-Decides}
 use Rattle.ring_knowledge.specs.declared.lease.Lease.{Lease}
 use Rattle.certificate.specs.declared.fault.CertFault.{CertFault}

@@ -1,6 +1,5 @@
 -- What the end of a lease changes
-use Rattle.std.proofs.Common.{◌≡◌, ◌≢◌, ◌==◌, ◌&&◌, ◌||◌, ◌∷◌, ◌∙◌, ℕ, zero, suc, Bool, true, false, List, [], filter, length, map, slice_get, sym, ap, refl, inl, inr, cond, eqb-true}
-use Rattle.certificate_log.proofs.CitedWords.{list_any, cases_Bool, and_parts, or_parts, or_from, false≢true, Lease, Leased, without_end, Lent, ended_where, is_unended, lease_of, agree, agrees, begins_as, test_of, IsOnlyAt, is_open_of}
+use Rattle.certificate_log.proofs.CitedWords.{◌≡◌, ◌≢◌, ◌==◌, ◌&&◌, ◌||◌, ◌∷◌, ◌∙◌, ℕ, zero, suc, Bool, true, false, List, [], filter, length, map, slice_get, sym, ap, refl, inl, inr, cond, eqb-true, list_any, cases_Bool, and_parts, or_parts, or_from, false≢true, Lease, Leased, without_end, Lent, ended_where, is_unended, lease_of, agree, agrees, begins_as, test_of, IsOnlyAt, is_open_of}
 use Rattle.certificate_log.proofs.Agreement.{same_beginning}
 
 -- a row of the number of no row ends nothing

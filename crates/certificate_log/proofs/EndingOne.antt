@@ -1,6 +1,5 @@
 -- One lease ends at a row, if it is open
-use Rattle.std.proofs.Common.{◌≡◌, ◌≢◌, ◌-◌, ◌<◌, ◌==◌, ◌&&◌, ◌∙◌, ℕ, suc, Bool, true, false, not, List, map, slice_get, arith, sym, ap, inl, inr, subst, eqb-true, eq-eqb}
-use Rattle.certificate_log.proofs.CitedWords.{list_any, cases_Bool, and_parts, false≢true, Header, Lease, Leased, same_leased, as_lease, without_end, IndexTables, Lent, ended_where, share_a_place, FollowedList, agree, has_words_of, test_of, IsCrossed, IsOnly, IsOnlyAt, is_open_of, number_at, Ends, FollowsList}
+use Rattle.certificate_log.proofs.CitedWords.{◌≡◌, ◌≢◌, ◌-◌, ◌<◌, ◌==◌, ◌&&◌, ◌∙◌, ℕ, suc, Bool, true, false, not, List, map, slice_get, arith, sym, ap, inl, inr, subst, eqb-true, eq-eqb, list_any, cases_Bool, and_parts, false≢true, Header, Lease, Leased, same_leased, as_lease, without_end, IndexTables, Lent, ended_where, share_a_place, FollowedList, agree, has_words_of, test_of, IsCrossed, IsOnly, IsOnlyAt, is_open_of, number_at, Ends, FollowsList}
 use Rattle.certificate_log.proofs.Following.{ends_so, never, stays}
 use Rattle.certificate_log.proofs.OpenPlaces.{at_less, none_less}
 use Rattle.certificate_log.proofs.Standing.{apart_less}

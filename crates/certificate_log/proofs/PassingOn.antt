@@ -1,6 +1,5 @@
 -- The walk along a ring passes a position at which no Link is crossed
-use Rattle.std.proofs.Common.{◌≡◌, ◌+◌, ◌≤◌, ◌||◌, ◌∙◌, ℕ, Bool, false, not, List, map, sym, ap, refl, inl, inr, subst}
-use Rattle.certificate_log.proofs.CitedWords.{cases_Bool, false≢true, length-map, is_crossing, Header, shape_of, Lease, Leased, Block, Link, Range, same_leased, IndexTables, IsFound, Lent, ended_where, is_passed, ended_alike, passed_block, FollowedList, agree, IsCrossed, number_at, FollowsList}
+use Rattle.certificate_log.proofs.CitedWords.{◌≡◌, ◌+◌, ◌≤◌, ◌||◌, ◌∙◌, ℕ, Bool, false, not, List, map, sym, ap, refl, inl, inr, subst, cases_Bool, false≢true, length-map, is_crossing, Header, shape_of, Lease, Leased, Block, Link, Range, same_leased, IndexTables, IsFound, Lent, ended_where, is_passed, ended_alike, passed_block, FollowedList, agree, IsCrossed, number_at, FollowsList}
 use Rattle.certificate_log.proofs.Agreement.{agree_unended}
 
 -- where the tables have its number, they find what is crossed

@@ -1,6 +1,5 @@
 -- Where what is lent stands among what was and is lent
-use Rattle.std.proofs.Common.{◌≡◌, ◌+◌, ◌<◌, ◌%◌, ◌==◌, ◌&&◌, ◌∷◌, ◌∙◌, ℕ, zero, suc, Bool, true, false, List, [], arith, sym, ap, refl, inl, inr, subst, eq-eqb}
-use Rattle.certificate_log.proofs.CitedWords.{list_any, cases_Bool, and_parts, false≢true, or_from, place_count, link_of, Header, shape_of, Leased, Block, Link, Range, Use, same_leased, leased_is, AllUnended, Lent, is_place_free, is_unended, share_a_place, StandsAt, is_lent, either_holds, not_later, not_true, IsOnlyAt, is_open_of}
+use Rattle.certificate_log.proofs.CitedWords.{◌≡◌, ◌+◌, ◌<◌, ◌%◌, ◌==◌, ◌&&◌, ◌∷◌, ◌∙◌, ℕ, zero, suc, Bool, true, false, List, [], arith, sym, ap, refl, inl, inr, subst, eq-eqb, list_any, cases_Bool, and_parts, false≢true, or_from, place_count, link_of, Header, shape_of, Leased, Block, Link, Range, Use, same_leased, leased_is, AllUnended, Lent, is_place_free, is_unended, share_a_place, StandsAt, is_lent, either_holds, not_later, not_true, IsOnlyAt, is_open_of}
 
 module _ (l : Leased) where
   abbrev is_this : Lent → Bool

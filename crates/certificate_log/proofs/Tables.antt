@@ -1,6 +1,5 @@
 -- A number is put for the place of a lease
-use Rattle.std.proofs.Common.{◌≡◌, ◌%◌, ◌==◌, ◌&&◌, ◌∙◌, ℕ, Bool, true, false, sym, ap, refl, eqb-true, eq-eqb}
-use Rattle.certificate_log.proofs.CitedWords.{and_parts, false≢true, place_count, link_of, Header, shape_of, Leased, Block, Link, Range, Use, IndexTables, index_at, share_a_place, IsPut, elsewhere, number_at}
+use Rattle.certificate_log.proofs.CitedWords.{◌≡◌, ◌%◌, ◌==◌, ◌&&◌, ◌∙◌, ℕ, Bool, true, false, sym, ap, refl, eqb-true, eq-eqb, and_parts, false≢true, place_count, link_of, Header, shape_of, Leased, Block, Link, Range, Use, IndexTables, index_at, share_a_place, IsPut, elsewhere, number_at}
 
 -- the number of its place, and of no other, is this one now
 pub record IsNumbered (h : Header) (blocks links new_blocks new_links : IndexTables) (l : Leased) (n : ℕ) : Type 0 where

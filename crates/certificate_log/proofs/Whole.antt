@@ -1,6 +1,5 @@
 -- A list that agrees is whole where it has as many leases, and as many without an end
-use Rattle.std.proofs.Common.{◌≡◌, ◌≤◌, ◌==◌, ◌&&◌, ◌||◌, ◌∷◌, ◌∙◌, Bool, true, false, List, [], filter, length, map, suc, arith, sym, ap, refl, inl, inr, cond, eqb-true, eq-eqb}
-use Rattle.certificate_log.proofs.CitedWords.{cases_Bool, and_parts, and_from, false≢true, Lease, Leased, Block, Link, Range, as_lease, without_end, Lent, is_unended, lease_of, agree, agrees, begins_as, has_words_of, is_endless}
+use Rattle.certificate_log.proofs.CitedWords.{◌≡◌, ◌≤◌, ◌==◌, ◌&&◌, ◌||◌, ◌∷◌, ◌∙◌, Bool, true, false, List, [], filter, length, map, suc, arith, sym, ap, refl, inl, inr, cond, eqb-true, eq-eqb, cases_Bool, and_parts, and_from, false≢true, Lease, Leased, Block, Link, Range, as_lease, without_end, Lent, is_unended, lease_of, agree, agrees, begins_as, has_words_of, is_endless}
 
 same_fields : (l m : Lease) → l.kind ≡ m.kind → l.ring ≡ m.ring → l.pos ≡ m.pos → l.from ≡ m.from → l.to ≡ m.to → l ≡ m
 same_fields l m k r p f t =

@@ -1,6 +1,6 @@
 -- A lease of the list has the words of what ends
 use Rattle.std.specs.Prelude.{◌≡◌, ℕ, ◌<◌, ◌==◌, ◌&&◌, ◌||◌, Bool, true}
-use Rattle.std.proofs.Common.{sym, ◌∙◌, ap, refl}
+use Rattle.certificate_log.proofs.CitedWords.{sym, ◌∙◌, ap, refl, is_open_as, IsPositive, block_alike, link_alike, range_alike, agrees, begins_as, has_words_of, IsCrossed, is_open_of}
 use Rattle.std.proofs.lemmas.Bool.{and_parts, eqb-true}
 use Rattle.segments.proofs.Crossings.{crossing_positive}
 use Rattle.traces.specs.declared.header.Header.{Header}
@@ -9,12 +9,7 @@ use Rattle.ring_knowledge.specs.declared.lease.Lease.{Lease}
 use Rattle.ownership_rules.specs.OpenLeases.{Leased, Block, Link, Range, Use, same_leased}
 use Rattle.ownership_rules.specs.Leases.{as_lease, without_end}
 use Rattle.ownership_rules.proofs.Among.{leased_is}
-use Rattle.lease_book.specs.Endings.{is_open_as}
 use Rattle.lease_book.specs.Lents.{Lent, is_unended, lease_of}
-use Rattle.lease_book.proofs.Ending.{IsPositive, block_alike, link_alike}
-use Rattle.lease_book.proofs.EndingRange.{range_alike}
-use Rattle.certificate_log.specs.Agreement.{agrees, begins_as, has_words_of}
-use Rattle.certificate_log.specs.OpenPlaces.{IsCrossed, is_open_of}
 use Rattle.certificate_log.proofs.Whole.{end_is}
 
 module _ (t : Lent) (m : Lease) (same : agrees t m ≡ true) (unended : is_unended t ≡ true) (x : Lease) where

@@ -1,24 +1,6 @@
 -- The command ring of a header
-use Rattle.std.proofs.Common.{◌≡◌, ℕ, ◌<◌, ◌∙◌, List, [], ◌∷◌, Bool, true, None, Some, refl, ap, sym, get_or, length}
-use Rattle.std.specs.Prelude.{is_some, position, slice_get}
-use Rattle.std.proofs.lemmas.Option.{slice_get-get_or, slice_get_read}
-use Rattle.std.proofs.lemmas.List.Quantifiers.{position-Some}
-use Rattle.std.proofs.lemmas.Bool.{false≢true}
-use Rattle.trb.specs.declared.block.Block.{Block}
-use Rattle.trb.specs.declared.ring_kind.RingKind.{RingKind}
-use Rattle.trb.specs.declared.ring_kind.RingKind.TheVariants.{Cmd, Evt, Xfer}
-use Rattle.segments.specs.RingView.{floor_number}
-use Rattle.traces.specs.declared.ring.Ring.{Ring}
-use Rattle.traces.specs.declared.header.Header.{Header}
-use Rattle.traces.specs.Header.{IsHeader, command_ring, command_id, id_or_none, is_command_kind, is_driver_kind, shape_of}
-use Rattle.ring_knowledge.specs.Known.{Known}
-use Rattle.ring_knowledge.specs.Rings.{command_at, next_command}
+use Rattle.command_ends.proofs.Words.{◌≡◌, ◌<◌, ◌∙◌, ◌∷◌, ℕ, List, [], Bool, true, None, Some, refl, ap, sym, get_or, length, is_some, position, slice_get, slice_get-get_or, slice_get_read, position-Some, false≢true, Block, RingKind, Cmd, Evt, Xfer, floor_number, Ring, Header, IsHeader, command_ring, command_id, id_or_none, is_command_kind, is_driver_kind, shape_of, Known, command_at, next_command, IsAmong, among_at, command_found, find_some, shape_there, IsSetUp, command_in, is_no_completion}
 use Rattle.ownership_rules.specs.Events as events
-use Rattle.ring_finder.proofs.RingsApart.{IsAmong, among_at}
-use Rattle.ring_finder.proofs.FoundRings.{command_found}
-use Rattle.ring_finder.proofs.HeaderRings.{find_some, shape_there}
-use Rattle.trace_record.specs.Premises.{IsSetUp}
-use Rattle.command_ends.specs.Commands.{command_in, is_no_completion}
 
 pub driven : (kind : RingKind) → is_command_kind kind ≡ true → is_driver_kind kind ≡ true
 driven Cmd e = refl

@@ -1,23 +1,5 @@
 -- Which event can end a command
-use Rattle.std.proofs.Common.{◌≡◌, ℕ, Bool, true, false, Option, None, Some, Result, Ok, Err, refl, sym}
-use Rattle.std.specs.Prelude.{◌==◌, ◌&&◌, ◌↔◌, not, is_some, if◌then◌else◌, IfSome}
-use Rattle.std.specs.Result.{result_ok}
-use Rattle.std.proofs.lemmas.Bool.{eq-eqb, ne_eqb}
-use Rattle.trb.specs.declared.block.Block.{Block}
-use Rattle.trb.specs.declared.fault.Fault.{Fault}
-use Rattle.trb.specs.Block.{code, slot}
-use Rattle.commands.specs.declared.command.Command.{Command}
-use Rattle.commands.specs.declared.command.Command.TheVariants.{StopEndpoint}
-use Rattle.commands.specs.declared.state.SlotState.{SlotState}
-use Rattle.commands.specs.declared.state.EndpointState.{EndpointState}
-use Rattle.controller_model.specs.Following.{IsWell}
-use Rattle.controller_model.proofs.CommandLemmas.{command_well}
-use Rattle.commands.specs.Command.{command_of, may_answer_slot, named_endpoint, named_slot}
-use Rattle.commands.specs.States.{can_succeed, endpoint_meant, endpoint_success, is_slot_enabled, slot_meant, slot_success}
-use Rattle.traces.specs.declared.register.Register.TheVariants.{Config}
-use Rattle.traces.specs.Register.{register_or_zero}
-use Rattle.ring_knowledge.specs.Known.{Known}
-use Rattle.ownership_rules.specs.Events.{can_finish, was_stop_seen}
+use Rattle.command_ends.proofs.Words.{◌≡◌, ◌==◌, ◌&&◌, ◌↔◌, if◌then◌else◌, ℕ, Bool, true, false, Option, None, Some, Result, Ok, Err, refl, sym, not, is_some, IfSome, eq-eqb, ne_eqb, result_ok, Block, Fault, code, slot, Command, StopEndpoint, SlotState, EndpointState, IsWell, command_well, command_of, may_answer_slot, named_endpoint, named_slot, can_succeed, endpoint_meant, endpoint_success, is_slot_enabled, slot_meant, slot_success, Config, register_or_zero, Known, can_finish, was_stop_seen}
 
 -- what a block says that was read
 pub read_is : (o : Option Command) (r : Result Command Fault) → ((c : Command) → (r ≡ Ok c) ↔ (o ≡ Some c)) → result_ok r ≡ o

@@ -1,42 +1,5 @@
 -- The end of the next command, where the driver has kept the rules
-use Rattle.std.proofs.Common.{◌≡◌, ℕ, ◌+◌, ◌<◌, ◌≤◌, ◌==◌, ◌∙◌, if◌then◌else◌, ◌∷◌, true, false, Some, None, ap, sym, subst, refl, inl, inr, arith}
-use Rattle.std.specs.Prelude.{◌^◌, nat_lt, unwrap_or}
-use Rattle.std.specs.List.{cons_option}
-use Rattle.std.proofs.lemmas.Bool.{cases_Bool, cond-true, cond-false, eq-eqb, ne_eqb, false≢true, or_parts}
-use Rattle.std.proofs.lemmas.Bool.Decides.{nat_tests}
-use Rattle.guest_memory.specs.Memory.{put}
-use Rattle.trb.specs.declared.block.Block.{Block}
-use Rattle.trb.specs.Block.{code, slot}
-use Rattle.segments.specs.Spots.{after}
-use Rattle.segments.specs.RingView.{RingView, Reaches, declared, floor_number}
-use Rattle.segments.specs.Ceiling.{ceiling, given_count}
-use Rattle.contexts.specs.Contexts.{input_context_bytes}
-use Rattle.commands.specs.declared.command.Command.{Command}
-use Rattle.commands.specs.declared.command.Command.TheVariants.{AddressDevice, ConfigureEndpoint, DisableSlot, StopEndpoint}
-use Rattle.commands.specs.Command.{named_context}
-use Rattle.commands.specs.Changes.{changes}
-use Rattle.traces.specs.declared.header.Header.{Header}
-use Rattle.traces.specs.Header.{IsHeader, command_id, shape_of}
-use Rattle.controller_model.specs.Following.{HasRoom}
-use Rattle.ring_knowledge.specs.Known.{Known}
-use Rattle.ring_knowledge.specs.Rings.{command_at, next_command, on_ring, unfinished}
-use Rattle.ring_knowledge.specs.Completions.{completed, finished, stop_ended}
-use Rattle.device_record.proofs.UnfinishedFinished.{unfinished_completed}
-use Rattle.ownership_rules.specs.Areas.{is_soiled, is_bad_area}
-use Rattle.ownership_rules.specs.Commands.{has_bad_context}
-use Rattle.ownership_rules.specs.Events.{can_finish, is_impossible_completion}
-use Rattle.safety.specs.Keeps.{IsDriverRing, CommandKeeps, DriverKeeps, Unstarted}
-use Rattle.safety.specs.Placings.{MayChangeAll}
-use Rattle.safety.proofs.AreaFacts.{area_parts}
-use Rattle.safety.proofs.Areas.{bad_command_context}
-use Rattle.safety.proofs.DriverRings.{rings_of, endpoints_of}
-use Rattle.safety.proofs.EndpointHistories.{finish_elsewhere}
-use Rattle.safety.proofs.Headers.{ring_shape}
-use Rattle.safety.proofs.KeptRings.{CompletionFacts, by_completion, command_holds, next_at_floor, next_unfinished}
-use Rattle.safety.proofs.NoWait.{ceiling_given}
-use Rattle.safety.proofs.Placings.{still_places}
-use Rattle.safety.proofs.SafeContext.{AtFloor, command_is_ring}
-use Rattle.command_ends.specs.Places.{AreSlots, IsNextGiven, succeeded_if}
+use Rattle.command_ends.proofs.Words.{◌≡◌, ◌+◌, ◌<◌, ◌≤◌, ◌==◌, ◌∙◌, if◌then◌else◌, ◌∷◌, ◌^◌, ℕ, true, false, Some, None, ap, sym, subst, refl, inl, inr, arith, nat_lt, unwrap_or, eq-eqb, ne_eqb, cons_option, cases_Bool, cond-true, cond-false, false≢true, or_parts, nat_tests, put, Block, code, slot, after, RingView, Reaches, declared, floor_number, ceiling, given_count, input_context_bytes, Command, AddressDevice, ConfigureEndpoint, DisableSlot, StopEndpoint, named_context, changes, Header, IsHeader, command_id, shape_of, HasRoom, Known, command_at, next_command, on_ring, unfinished, completed, finished, stop_ended, unfinished_completed, is_soiled, is_bad_area, has_bad_context, can_finish, is_impossible_completion, IsDriverRing, CommandKeeps, DriverKeeps, Unstarted, MayChangeAll, area_parts, bad_command_context, rings_of, endpoints_of, finish_elsewhere, ring_shape, CompletionFacts, by_completion, command_holds, next_at_floor, next_unfinished, ceiling_given, still_places, AtFloor, command_is_ring, AreSlots, IsNextGiven, succeeded_if}
 use Rattle.command_ends.proofs.Ends.{none_finishes}
 use Rattle.command_ends.proofs.Rest.{devices_by, disable_one, finished_rest, others_none}
 

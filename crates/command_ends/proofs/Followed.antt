@@ -1,20 +1,5 @@
 -- What the record of a trace holds behind a completion
-use Rattle.std.proofs.Common.{◌≡◌, ℕ, ◌∙◌, Option, Some, None, ap, sym, subst}
-use Rattle.segments.specs.RingView.{RingChange}
-use Rattle.contexts.specs.Contexts.{device_context_bytes, input_context_bytes}
-use Rattle.traces.specs.declared.header.Header.{Header}
-use Rattle.event_ring.specs.EventPlaceValue.{EventState}
-use Rattle.ring_knowledge.specs.declared.register_record.RegisterRecord.{RegisterRecord}
-use Rattle.ring_knowledge.specs.Known.{Known}
-use Rattle.ring_knowledge.specs.Rings.{on_ring, unfinished}
-use Rattle.ring_knowledge.specs.RegisterRecords.{FollowsRegisters}
-use Rattle.ring_finder.specs.RecordsOfRings.{FollowsRings}
-use Rattle.device_record.specs.Devices.{FollowsDevices}
-use Rattle.device_record.specs.Unfinished.{FollowsUnfinished}
-use Rattle.device_record.proofs.Steps.{follows_beside}
-use Rattle.range_words.specs.Holding.{HoldsAreas, HoldsSoiled}
-use Rattle.trace_record.specs.declared.trace_record.TraceRecord.{TraceRecord}
-use Rattle.trace_record.specs.FollowsTrace.{FollowsEvents, FollowsTrace, device_contexts, inputs_of}
+use Rattle.command_ends.proofs.Words.{◌≡◌, ◌∙◌, ℕ, Option, Some, None, ap, sym, subst, RingChange, device_context_bytes, input_context_bytes, Header, EventState, RegisterRecord, Known, on_ring, unfinished, FollowsRegisters, FollowsRings, FollowsDevices, FollowsUnfinished, follows_beside, HoldsAreas, HoldsSoiled, TraceRecord, FollowsEvents, FollowsTrace, device_contexts, inputs_of}
 use Rattle.command_ends.proofs.Rest.{IsRest}
 
 module _ (k l : Known) (f : ℕ → Option ℕ) (rest : IsRest k l f) where

@@ -8,3 +8,4 @@ pub mod Rest
 pub mod Slots
 pub mod Finished
 pub mod Followed
+pub mod Words

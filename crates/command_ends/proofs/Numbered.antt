@@ -1,27 +1,5 @@
 -- The records of rings where the ring with an ID has changed, by its number
-use Rattle.std.proofs.Common.{◌≡◌, ℕ, ◌≤◌, ◌∙◌, ◌<◌, List, Bool, true, Option, None, Some, refl, ap, sym, subst, arith, get_or}
-use Rattle.std.specs.Prelude.{◌==◌, slice_get, slice_set, position}
-use Rattle.std.proofs.lemmas.Bool.{eqb-true}
-use Rattle.std.proofs.lemmas.Option.{slice_get_within}
-use Rattle.segments.specs.declared.spot.Spot.{Spot}
-use Rattle.segments.specs.Spots.{after, number}
-use Rattle.segments.specs.ShapeValue.{Shape}
-use Rattle.segments.specs.declared.spot.Spot.TheVariants.{Data}
-use Rattle.segments.specs.RingView.{RingView, Holds, Reaches, changed, declared, floor_number}
-use Rattle.segments.specs.Ceiling.{ceiling, given_count}
-use Rattle.segments.specs.Moves.{is_reached, target}
-use Rattle.traces.specs.declared.ring.Ring.{Ring}
-use Rattle.traces.specs.declared.header.Header.{Header}
-use Rattle.traces.specs.Header.{IsHeader, command_id, command_ring, is_driver_kind, shape_of}
-use Rattle.ring_knowledge.specs.declared.ring_record.RingRecord.{RingRecord}
-use Rattle.ring_knowledge.specs.RingRecords.{FollowsRing}
-use Rattle.ring_knowledge.specs.Known.{Known}
-use Rattle.ring_knowledge.specs.Rings.{next_command, on_ring}
-use Rattle.ring_knowledge.specs.Completions.{bound_to, moved, held_at_ceiling}
-use Rattle.device_record.proofs.UnfinishedSame.{ring_here, ring_elsewhere}
-use Rattle.ring_finder.specs.RecordsOfRings.{FollowsRings}
-use Rattle.command_ends.specs.OneRing.{IsAtStart, MayMoveTo, ReachesTarget, number_in, set_on}
-use Rattle.command_ends.specs.Places.{IsNextGiven}
+use Rattle.command_ends.proofs.Words.{◌≡◌, ◌≤◌, ◌∙◌, ◌<◌, ◌==◌, ℕ, List, Bool, true, Option, None, Some, refl, ap, sym, subst, arith, get_or, slice_get, slice_set, position, eqb-true, slice_get_within, Spot, after, number, Shape, Data, RingView, Holds, Reaches, changed, declared, floor_number, ceiling, given_count, is_reached, target, Ring, Header, IsHeader, command_id, command_ring, is_driver_kind, shape_of, RingRecord, FollowsRing, Known, next_command, on_ring, bound_to, moved, held_at_ceiling, ring_here, ring_elsewhere, FollowsRings, IsAtStart, MayMoveTo, ReachesTarget, number_in, set_on, IsNextGiven}
 use Rattle.command_ends.proofs.CommandRings.{command_id_is, found_at, read_at}
 use Rattle.command_ends.proofs.OneRing.{IsOnRing, on_bound, on_moved, on_held, one_at, ring_shape, rings_elsewhere, rings_with, start_is_reached}
 

@@ -1,29 +1,5 @@
 -- The records of rings where one ring has changed
-use Rattle.std.proofs.Common.{◌≡◌, ◌≢◌, ℕ, zero, suc, ◌∙◌, List, [], ◌∷◌, Bool, true, Option, None, Some, refl, ap, sym, subst, inl, inr, arith}
-use Rattle.std.specs.Prelude.{◌==◌, ◌⊎◌, slice_get, slice_set, position}
-use Rattle.std.proofs.lemmas.Bool.{eq-eqb, false≢true}
-use Rattle.std.proofs.Math.ListN.{length-set}
-use Rattle.segments.specs.ShapeValue.{Shape}
-use Rattle.segments.specs.declared.spot.Spot.{Spot}
-use Rattle.segments.specs.declared.spot.Spot.TheVariants.{Data}
-use Rattle.segments.specs.Spots.{number}
-use Rattle.segments.specs.RingView.{RingView, Reaches, Holds, changed}
-use Rattle.segments.specs.Ceiling.{ceiling}
-use Rattle.segments.specs.Moves.{are_given, are_ways_given, is_reached, target}
-use Rattle.traces.specs.declared.ring.Ring.{Ring}
-use Rattle.traces.specs.declared.header.Header.{Header}
-use Rattle.traces.specs.Header.{IsHeader, is_driver_kind, shape_of}
-use Rattle.ring_knowledge.specs.declared.ring_record.RingRecord.{RingRecord}
-use Rattle.ring_knowledge.specs.RingRecords.{FollowsRing}
-use Rattle.ring_knowledge.specs.Known.{Known}
-use Rattle.ring_knowledge.specs.Rings.{on_ring}
-use Rattle.ring_knowledge.specs.Completions.{set_to, bound_to, moved, moved_to, held_at_ceiling}
-use Rattle.ring_finder.specs.RecordsOfRings.{FollowsRings}
-use Rattle.ring_finder.proofs.RingsApart.{Apart, among_at, numbers_apart}
-use Rattle.ring_finder.proofs.FoundRings.{none_here}
-use Rattle.ring_finder.proofs.HeaderRings.{shape_there, together}
-use Rattle.device_record.proofs.UnfinishedSame.{ring_here, ring_elsewhere}
-use Rattle.command_ends.specs.OneRing.{set_on}
+use Rattle.command_ends.proofs.Words.{◌≡◌, ◌≢◌, ◌∙◌, ◌∷◌, ◌==◌, ◌⊎◌, ℕ, zero, suc, List, [], Bool, true, Option, None, Some, refl, ap, sym, subst, inl, inr, arith, slice_get, slice_set, position, eq-eqb, false≢true, length-set, Shape, Spot, Data, number, RingView, Reaches, Holds, changed, ceiling, are_given, are_ways_given, is_reached, target, Ring, Header, IsHeader, is_driver_kind, shape_of, RingRecord, FollowsRing, Known, on_ring, set_to, bound_to, moved, moved_to, held_at_ceiling, FollowsRings, Apart, among_at, numbers_apart, none_here, shape_there, together, ring_here, ring_elsewhere, set_on}
 
 -- ---- what is known of rings
 

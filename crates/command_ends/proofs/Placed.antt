@@ -1,20 +1,5 @@
 -- An endpoint that is placed, and those that an input context adds
-use Rattle.std.proofs.Common.{◌≡◌, ℕ, List, [], ◌∷◌, Bool, true, false, refl, ap, sym, subst}
-use Rattle.std.proofs.lemmas.Bool.{cond-true, cond-false}
-use Rattle.commands.specs.declared.command.Command.{Command}
-use Rattle.commands.specs.declared.state.EndpointState.{EndpointState}
-use Rattle.commands.specs.States.{is_off}
-use Rattle.commands.specs.Changes.{Change, Places}
-use Rattle.traces.specs.declared.header.Header.{Header}
-use Rattle.traces.specs.Header.{ring_beginning_at}
-use Rattle.ring_knowledge.specs.declared.ring_record.RingRecord.{RingRecord}
-use Rattle.ring_knowledge.specs.Known.{Known}
-use Rattle.ring_knowledge.specs.Completions.{bound_to, changed_by, changed_by_all, in_state, moved, pointed}
-use Rattle.ring_finder.specs.RecordsOfRings.{FollowsRings}
-use Rattle.device_record.specs.declared.kept.DeviceRecord.{DeviceRecord}
-use Rattle.safety.specs.Placings.{MayChangeAll, MayPoint}
-use Rattle.command_ends.specs.OneRing.{IsAtStart, MayMoveTo}
-use Rattle.command_ends.specs.Places.{FollowsPlaces, HasDone}
+use Rattle.command_ends.proofs.Words.{◌≡◌, ◌∷◌, ℕ, List, [], Bool, true, false, refl, ap, sym, subst, cond-true, cond-false, Command, EndpointState, is_off, Change, Places, Header, ring_beginning_at, RingRecord, Known, bound_to, changed_by, changed_by_all, in_state, moved, pointed, FollowsRings, DeviceRecord, MayChangeAll, MayPoint, IsAtStart, MayMoveTo, FollowsPlaces, HasDone}
 use Rattle.command_ends.proofs.OneRing.{rings_same}
 
 module _ (h : Header) (k : Known) (s i p : ℕ) (cycle : Bool) where
@@ -38,19 +23,6 @@ module _ (h : Header) (k : Known) (s i p : ℕ) (cycle : Bool) where
   placed_rings c state rs f = rings_same h (pointed h k s i p cycle) (changed_by h c k (Places s i p cycle state)) rs f refl
 
 module _ (h : Header) (c : Command) (rs : List RingRecord) (d : DeviceRecord) where
-  -- nothing is done yet
-  pub nothing_done : (k : Known) (all : List Change) → FollowsPlaces h k rs d → MayChangeAll h c k all → HasDone h c k all all rs d
-  nothing_done k all f may = record { known = k; follows = f; may = may; same = refl }
-
-  -- nothing is to be done next
-  pub none_done : (k : Known) (all left : List Change) → all ≡ left → FollowsPlaces h k rs d → MayChangeAll h c k all → HasDone h c k all left rs d
-  none_done k all left same f may = record {
-    known = k;
-    follows = f;
-    may = subst (λ xs. MayChangeAll h c k xs) same may;
-    same = ap (λ xs. changed_by_all h c k xs) (sym same);
-  }
-
   -- the next change is done
   pub one_done : (k : Known) (all left : List Change) (change : Change) → all ≡ change ∷ left → FollowsPlaces h (changed_by h c k change) rs d → MayChangeAll h c k all → HasDone h c k all left rs d
   unfolding changed_by_all

@@ -1,11 +1,5 @@
 -- The device contexts of slots, where one slot lets go of its own
-use Rattle.std.proofs.Common.{◌≡◌, ℕ, zero, suc, ◌+◌, ◌<◌, ◌≤◌, ◌∙◌, List, [], ◌∷◌, Option, Some, None, ap, sym, refl, inl, inr, arith}
-use Rattle.std.specs.Prelude.{◌≢◌, ◌==◌, ◌++◌}
-use Rattle.std.specs.List.{filter_map, cons_option, range_with_len}
-use Rattle.std.proofs.Math.Path.{fun_ext}
-use Rattle.std.proofs.lemmas.Bool.{cases_eq, cond-true, cond-false, eq-eqb, ne_eqb}
-use Rattle.guest_memory.specs.Memory.{put}
-use Rattle.ownership_rules.specs.OpenLeases.{slots}
+use Rattle.command_ends.proofs.Words.{◌≡◌, ◌+◌, ◌<◌, ◌≤◌, ◌∙◌, ◌∷◌, ◌≢◌, ◌==◌, ◌++◌, ℕ, zero, suc, List, [], Option, Some, None, ap, sym, refl, inl, inr, arith, eq-eqb, ne_eqb, filter_map, cons_option, range_with_len, fun_ext, cases_eq, cond-true, cond-false, put, slots}
 
 module _ (f : ℕ → Option ℕ) (s : ℕ) where
   put_other : (t : ℕ) → t ≢ s → put f s None t ≡ f t

@@ -1,20 +1,5 @@
 -- What the success of each command does to the records of rings and devices
-use Rattle.std.proofs.Common.{◌≡◌, ℕ, List, [], ◌∷◌, Bool, true, false, refl, ap, sym}
-use Rattle.std.proofs.Math.Path.{fun_ext}
-use Rattle.contexts.specs.declared.size.ContextSize.{ContextSize}
-use Rattle.contexts.specs.Contexts.{added_endpoints}
-use Rattle.commands.specs.declared.command.Command.{Command}
-use Rattle.commands.specs.declared.command.Command.TheVariants.{NoOp, EnableSlot, DisableSlot, AddressDevice, ConfigureEndpoint, EvaluateContext, ResetEndpoint, StopEndpoint, SetTrDequeue, ResetDevice}
-use Rattle.commands.specs.declared.state.EndpointState.TheVariants.{Stopped}
-use Rattle.commands.specs.Changes.{Change, SlotGoesOn, DeviceLeft, Disables, Places, Stops, Resets, changes, is_above_control}
-use Rattle.traces.specs.declared.header.Header.{Header}
-use Rattle.ring_knowledge.specs.declared.ring_record.RingRecord.{RingRecord}
-use Rattle.ring_knowledge.specs.Known.{Known}
-use Rattle.ring_knowledge.specs.Completions.{changed_by, changed_by_all, disabled, held_at_ceiling, in_state, succeeded}
-use Rattle.ring_finder.specs.RecordsOfRings.{FollowsRings}
-use Rattle.device_record.specs.declared.kept.DeviceRecord.{DeviceRecord}
-use Rattle.device_record.specs.Devices.{FollowsDevices}
-use Rattle.command_ends.specs.Places.{FollowsPlaces, HasWords, addressed, configured}
+use Rattle.command_ends.proofs.Words.{◌≡◌, ◌∷◌, ℕ, List, [], Bool, true, false, refl, ap, sym, fun_ext, ContextSize, added_endpoints, Command, NoOp, EnableSlot, DisableSlot, AddressDevice, ConfigureEndpoint, EvaluateContext, ResetEndpoint, StopEndpoint, SetTrDequeue, ResetDevice, Stopped, Change, SlotGoesOn, DeviceLeft, Disables, Places, Stops, Resets, changes, is_above_control, Header, RingRecord, Known, changed_by, changed_by_all, disabled, held_at_ceiling, in_state, succeeded, FollowsRings, DeviceRecord, FollowsDevices, FollowsPlaces, HasWords, addressed, configured}
 use Rattle.command_ends.proofs.OneRing.{rings_same}
 
 -- where rings stay as they are
@@ -41,14 +26,6 @@ module _ (h : Header) (c : Command) (k : Known) where
   pub in_state_rings : (s i : ℕ) → (in_state h k s i Stopped).ring ≡ k.ring
   unfolding in_state
   in_state_rings s i = refl
-
-  pub none_changed : changed_by_all h c k [] ≡ k
-  unfolding changed_by_all
-  none_changed = refl
-
-  pub next_changed : (change : Change) (rest : List Change) → changed_by_all h c (changed_by h c k change) rest ≡ changed_by_all h c k (change ∷ rest)
-  unfolding changed_by_all
-  next_changed change rest = refl
 
   pub let_go_rings : (s : ℕ) (which : ℕ → Bool) → (changed_by_all h c k (SlotGoesOn s ∷ DeviceLeft s ∷ Disables s which ∷ [])).ring ≡ k.ring
   unfolding changed_by_all changed_by disabled

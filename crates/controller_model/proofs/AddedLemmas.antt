@@ -1,6 +1,5 @@
 -- The endpoints that an input context adds, one after another
-use Rattle.std.proofs.Common.{◌≡◌, ◌+◌, ◌-◌, ◌<◌, ◌∙◌, ◌∷◌, ℕ, suc, true, false, List, [], Option, Some, None, map, filter, refl, ap, arith, option_and_then}
-use Rattle.controller_model.proofs.Words.{range_with_len, cond-true, cond-false, ContextSize, context_cycle, context_pointer, input_add_flag, Command, Running, Change, placed_by_context, Header, ring_having, World, changed_by, changed_by_all, placed_on, places_from}
+use Rattle.controller_model.proofs.Words.{◌≡◌, ◌+◌, ◌-◌, ◌<◌, ◌∙◌, ◌∷◌, ℕ, suc, true, false, List, [], Option, Some, None, map, filter, refl, ap, arith, option_and_then, range_with_len, cond-true, cond-false, ContextSize, context_cycle, context_pointer, input_add_flag, Command, Running, Change, placed_by_context, Header, ring_having, World, changed_by, changed_by_all, placed_on, places_from}
 
 module _ (size : ContextSize) (memory : ℕ → ℕ) (s a i : ℕ) where
   range_is : i < 32 → range_with_len i (32 - i) ≡ i ∷ range_with_len (i + 1) (32 - (i + 1))

@@ -1,6 +1,5 @@
 -- What the doorbell of the host controller does
-use Rattle.std.proofs.Common.{◌≡◌, ◌≢◌, ◌<◌, ◌==◌, ◌&&◌, ◌∙◌, ◌∷◌, ℕ, ap, sym, subst, true, false, Bool, List, [], Some, None, find, is_some, length, inl, inr, arith, eq-eqb, ne_eqb}
-use Rattle.controller_model.proofs.Words.{cases_Bool, cond-true, cond-false, slice_get_within, Ring, Header, command_id, command_ring, ring_with, is_command_kind, id_or_none, World, activated, bell_row, endpoint_bell, RingState, RingHeld, FollowsRing, FollowsRings}
+use Rattle.controller_model.proofs.Words.{◌≡◌, ◌≢◌, ◌<◌, ◌==◌, ◌&&◌, ◌∙◌, ◌∷◌, ℕ, ap, sym, subst, true, false, Bool, List, [], Some, None, find, is_some, length, inl, inr, arith, eq-eqb, ne_eqb, cases_Bool, cond-true, cond-false, slice_get_within, Ring, Header, command_id, command_ring, ring_with, is_command_kind, id_or_none, World, activated, bell_row, endpoint_bell, RingState, RingHeld, FollowsRing, FollowsRings}
 
 -- the world has the same of each ring
 pub follows_same : (h : Header) (before after : ℕ → RingHeld) (rings : List RingState) → length rings ≡ 256 → ((q : ℕ) → q < 256 → after q ≡ before q) →

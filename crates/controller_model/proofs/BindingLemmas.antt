@@ -1,6 +1,5 @@
 -- When an endpoint gets a ring
-use Rattle.std.proofs.Common.{◌≡◌, ◌==◌, ◌&&◌, ◌∙◌, ℕ, Bool, true, false, not, List, Option, Some, None, find, is_some, sym, ap, refl}
-use Rattle.controller_model.proofs.Words.{cond-true, cond-false, EndpointState, is_inside, Ring, Header, id_of, is_transfer_kind, ring_having, ring_with, World, is_had_by_another, placed, placed_on, may_get}
+use Rattle.controller_model.proofs.Words.{◌≡◌, ◌==◌, ◌&&◌, ◌∙◌, ℕ, Bool, true, false, not, List, Option, Some, None, find, is_some, sym, ap, refl, cond-true, cond-false, EndpointState, is_inside, Ring, Header, id_of, is_transfer_kind, ring_having, ring_with, World, is_had_by_another, placed, placed_on, may_get}
 use Rattle.controller_model.proofs.BellLemmas.{found_by_id}
 
 id_known : (test : Ring → Bool) (rings : List Ring) (r : ℕ) (o : Option Ring) → find test rings ≡ o → id_of o ≡ Some r → is_some (find (λ x. x.id == r) rings) ≡ true

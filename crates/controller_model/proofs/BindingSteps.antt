@@ -1,6 +1,5 @@
 -- What letting a ring go and getting one do to what the world has of each ring
-use Rattle.std.proofs.Common.{◌≡◌, ◌≢◌, ◌==◌, ◌&&◌, ◌∷◌, ◌∙◌, if◌then◌else◌, ℕ, not, Bool, true, false, Option, Some, None, length, refl, sym, ap, eq-eqb, ne_eqb}
-use Rattle.controller_model.proofs.Words.{cond-true, put, put_pair, EndpointState, is_ring, World, Placed, takes_of, inactive, is_had_by_another, placed, ring_held, released, freed, bound}
+use Rattle.controller_model.proofs.Words.{◌≡◌, ◌≢◌, ◌==◌, ◌&&◌, ◌∷◌, ◌∙◌, if◌then◌else◌, ℕ, not, Bool, true, false, Option, Some, None, length, refl, sym, ap, eq-eqb, ne_eqb, cond-true, put, put_pair, EndpointState, is_ring, World, Placed, takes_of, inactive, is_had_by_another, placed, ring_held, released, freed, bound}
 use Rattle.controller_model.proofs.RingLemmas.{put_same, put_other}
 use Rattle.controller_model.proofs.HolderLemmas.{put_pair_id, put_pair_twice, put_pair_map}
 use Rattle.controller_model.proofs.HadByAnother.{any_same}

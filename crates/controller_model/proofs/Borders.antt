@@ -1,6 +1,5 @@
 -- Where descriptors begin and end once one more is declared
-use Rattle.std.proofs.Common.{◌≡◌, ◌+◌, ◌<◌, ◌==◌, ◌||◌, ◌++◌, ◌∷◌, ℕ, [], List, true, false, refl, sym, arith, add-zero, eq-eqb, ne_eqb}
-use Rattle.controller_model.proofs.Words.{or_assoc, or-true, is_border, blocks_of}
+use Rattle.controller_model.proofs.Words.{◌≡◌, ◌+◌, ◌<◌, ◌==◌, ◌||◌, ◌++◌, ◌∷◌, ℕ, [], List, true, false, refl, sym, arith, add-zero, eq-eqb, ne_eqb, or_assoc, or-true, is_border, blocks_of}
 
 pub is_border-append : (lengths : List ℕ) (start n q : ℕ) →
     is_border (lengths ++ n ∷ []) start q ≡ (is_border lengths start q || start + blocks_of lengths + n == q)

@@ -1,7 +1,5 @@
 -- Changes that the definitions allow as told
-use Rattle.std.proofs.Common.{◌≡◌, Bool, true, false, Option, Some, None, refl, sym, subst}
-use Rattle.world_state.specs.World.{World}
-use Rattle.controller_model.specs.Following.{IsChange}
+use Rattle.controller_model.proofs.Words.{◌≡◌, Bool, true, false, Option, Some, None, refl, sym, subst, World, IsChange}
 
 pub change_made : (o : Option World) (w : World) (P : World → Type 0) → o ≡ Some w → P w → IsChange true o P
 change_made o w P made holds = let Q : Option World → Type 0 = λ v. IsChange true v P in subst Q (sym made) holds

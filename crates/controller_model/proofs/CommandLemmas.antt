@@ -1,6 +1,5 @@
 -- A command that a block says is well: its addresses are on 16-byte boundaries, its indices below 32
-use Rattle.std.proofs.Common.{◌≡◌, ◌*◌, ◌/◌, ◌%◌, ◌<◌, ◌^◌, if◌then◌else◌, ℕ, Bool, true, false, Some, None, subst, arith}
-use Rattle.controller_model.proofs.Words.{Block, BlockKind, kind, pointer, word, is_command_left_out, Command, command_by_kind, command_of, IsWell}
+use Rattle.controller_model.proofs.Words.{◌≡◌, ◌*◌, ◌/◌, ◌%◌, ◌<◌, ◌^◌, if◌then◌else◌, ℕ, Bool, true, false, Some, None, subst, arith, Block, BlockKind, kind, pointer, word, is_command_left_out, Command, command_by_kind, command_of, IsWell}
 use Rattle.trb.specs.declared.kind.BlockKind.TheVariants as kinds
 
 on_boundary : (p : ℕ) → p / 16 * 16 % 16 ≡ 0

@@ -1,6 +1,5 @@
 -- What is declared by position once one more descriptor is declared
-use Rattle.std.proofs.Common.{◌≡◌, ◌+◌, ◌-◌, ◌<◌, ◌==◌, ◌||◌, ◌++◌, ◌∷◌, ◌∙◌, ℕ, zero, suc, [], List, Option, Some, None, length, true, false, refl, sym, ap, arith, inl, inr, slice_get, option_map, length-append, append_assoc, subst, take, get_or, eq-eqb, ne_eqb, length-take-le}
-use Rattle.controller_model.proofs.Words.{cases_lt, cases_eq, slice_get_within, take_at_read, Block, DeclaredBlock, declared_at, is_border, Declared, Declarations, Declares, as_declared, entries, blocks_of}
+use Rattle.controller_model.proofs.Words.{◌≡◌, ◌+◌, ◌-◌, ◌<◌, ◌==◌, ◌||◌, ◌++◌, ◌∷◌, ◌∙◌, ℕ, zero, suc, [], List, Option, Some, None, length, true, false, refl, sym, ap, arith, inl, inr, slice_get, option_map, length-append, append_assoc, subst, take, get_or, eq-eqb, ne_eqb, length-take-le, cases_lt, cases_eq, slice_get_within, take_at_read, Block, DeclaredBlock, declared_at, is_border, Declared, Declarations, Declares, as_declared, entries, blocks_of}
 use Rattle.controller_model.proofs.Borders.{is_border-append, is_border-past, is_border-end}
 
 slice_get-left : {X : Type 0} (xs ys : List X) (p : ℕ) → p < length xs → slice_get (xs ++ ys) p ≡ slice_get xs p

@@ -1,6 +1,5 @@
 -- Endpoints are disabled one after another
-use Rattle.std.proofs.Common.{◌≡◌, ◌+◌, ◌<◌, ◌≤◌, ◌==◌, ◌&&◌, ◌||◌, ◌∙◌, if◌then◌else◌, ◌∷◌, ℕ, suc, zero, not, Bool, true, false, List, [], Option, Some, None, refl, sym, ap, inl, inr, arith, nat_lt, eq-eqb, ne_eqb, lt-ltb, le-ltb}
-use Rattle.controller_model.proofs.Words.{list_any, range_with_len, cases_eq, cases_lt, put, Off, is_ring, World, disabled, has_one_of, freed, turned_off}
+use Rattle.controller_model.proofs.Words.{◌≡◌, ◌+◌, ◌<◌, ◌≤◌, ◌==◌, ◌&&◌, ◌||◌, ◌∙◌, if◌then◌else◌, ◌∷◌, ℕ, suc, zero, not, Bool, true, false, List, [], Option, Some, None, refl, sym, ap, inl, inr, arith, nat_lt, eq-eqb, ne_eqb, lt-ltb, le-ltb, list_any, range_with_len, cases_eq, cases_lt, put, Off, is_ring, World, disabled, has_one_of, freed, turned_off}
 use Rattle.controller_model.proofs.HadByAnother.{any_none}
 use Rattle.controller_model.proofs.HolderLemmas.{put_pair_twice}
 

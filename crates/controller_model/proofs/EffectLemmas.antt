@@ -1,6 +1,5 @@
 -- What the success of each command leads to
-use Rattle.std.proofs.Common.{◌≡◌, ◌∙◌, ℕ, Bool, true, false, Option, Some, None, is_some, sym, ap, option_and_then}
-use Rattle.controller_model.proofs.Words.{put, ContextSize, added_endpoints, context_cycle, context_pointer, is_dropped, Command, NoOp, EnableSlot, DisableSlot, AddressDevice, ConfigureEndpoint, EvaluateContext, ResetEndpoint, StopEndpoint, SetTrDequeue, ResetDevice, Running, Stopped, changes, slot_gone_on, is_above_control, Header, ring_having, World, changed_by, changed_by_all, disabled, in_state, inactive, placed_on, places_from}
+use Rattle.controller_model.proofs.Words.{◌≡◌, ◌∙◌, ℕ, Bool, true, false, Option, Some, None, is_some, sym, ap, option_and_then, put, ContextSize, added_endpoints, context_cycle, context_pointer, is_dropped, Command, NoOp, EnableSlot, DisableSlot, AddressDevice, ConfigureEndpoint, EvaluateContext, ResetEndpoint, StopEndpoint, SetTrDequeue, ResetDevice, Running, Stopped, changes, slot_gone_on, is_above_control, Header, ring_having, World, changed_by, changed_by_all, disabled, in_state, inactive, placed_on, places_from}
 
 -- the slot's state goes on
 abbrev pub gone : Command → World → ℕ → World

@@ -1,6 +1,5 @@
 -- One endpoint is changed, and what a doorbell does
-use Rattle.std.proofs.Common.{◌≡◌, ◌≢◌, ◌+◌, ◌*◌, ◌<◌, ◌==◌, ◌&&◌, ◌||◌, ◌∙◌, IsSome, ℕ, ap, sym, subst, refl, true, false, Bool, List, Option, Some, None, length, slice_get, get_or, set, inl, inr, arith, eq-eqb, ne_eqb}
-use Rattle.controller_model.proofs.Words.{cases_eq, cond-true, cond-false, put_pair, EndpointState, Running, is_running, is_stopped, Header, ring_with, World, activated, endpoint_bell, Endpoint, FollowsEndpoints}
+use Rattle.controller_model.proofs.Words.{◌≡◌, ◌≢◌, ◌+◌, ◌*◌, ◌<◌, ◌==◌, ◌&&◌, ◌||◌, ◌∙◌, IsSome, ℕ, ap, sym, subst, refl, true, false, Bool, List, Option, Some, None, length, slice_get, get_or, set, inl, inr, arith, eq-eqb, ne_eqb, cases_eq, cond-true, cond-false, put_pair, EndpointState, Running, is_running, is_stopped, Header, ring_with, World, activated, endpoint_bell, Endpoint, FollowsEndpoints}
 use Rattle.controller_model.proofs.RingLemmas.{read_at, slice_get-set_same, slice_get-set_other}
 
 pub put_pair_same : {A : Type 0} (f : ℕ → ℕ → A) (s i : ℕ) (x : A) → put_pair f s i x s i ≡ x

@@ -1,6 +1,5 @@
 -- Which event position a written ERDP names in the model
-use Rattle.std.proofs.Common.{◌≡◌, ◌≢◌, ◌+◌, ◌-◌, ◌*◌, ◌%◌, ◌<◌, ◌==◌, ◌∙◌, ◌∷◌, ℕ, suc, true, false, Bool, List, [], Some, None, get_or, length, ap, sym, refl, arith, eq-eqb, ne_eqb}
-use Rattle.controller_model.proofs.Words.{list_any, cond-true, cond-false, or_from, list_any_at, Shape, IsShape, data_places, place_count, address_of, place_at, Data, place_at-Data, place_at-address_of, address_aligned, address_of-first, is_event_place, position_from, position_from-place, Header, event_ring, event_shape, shape_or, Evt, World, with_dequeue}
+use Rattle.controller_model.proofs.Words.{◌≡◌, ◌≢◌, ◌+◌, ◌-◌, ◌*◌, ◌%◌, ◌<◌, ◌==◌, ◌∙◌, ◌∷◌, ℕ, suc, true, false, Bool, List, [], Some, None, get_or, length, ap, sym, refl, arith, eq-eqb, ne_eqb, list_any, cond-true, cond-false, or_from, list_any_at, Shape, IsShape, data_places, place_count, address_of, place_at, Data, place_at-Data, place_at-address_of, address_aligned, address_of-first, is_event_place, position_from, position_from-place, Header, event_ring, event_shape, shape_or, Evt, World, with_dequeue}
 
 none_passes : (test : ℕ → Bool) (xs : List ℕ) → ((k : ℕ) → k < length xs → test (get_or xs k 0) ≡ false) → list_any test xs ≡ false
 none_passes test [] fails = refl

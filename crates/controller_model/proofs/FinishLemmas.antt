@@ -1,6 +1,5 @@
 -- A finish is a completion that is posted
-use Rattle.std.proofs.Common.{◌≡◌, ◌==◌, ◌&&◌, ◌∙◌, not, Bool, true, false, Option, Some, None, Ok, Err, option_map, ap, sym, subst, refl}
-use Rattle.controller_model.proofs.Words.{cond-true, cond-false, Block, code, kind, pointer, slot, is_command_completion, command_of, may_answer_slot, Header, World, UnderWay, Seen, StepFault, NotPossible, Spent, Memory, can_post, ended, ended_with, finished, finished_as, IsPart, completed, completed_with, IsStep}
+use Rattle.controller_model.proofs.Words.{◌≡◌, ◌==◌, ◌&&◌, ◌∙◌, not, Bool, true, false, Option, Some, None, Ok, Err, option_map, ap, sym, subst, refl, cond-true, cond-false, Block, code, kind, pointer, slot, is_command_completion, command_of, may_answer_slot, Header, World, UnderWay, Seen, StepFault, NotPossible, Spent, Memory, can_post, ended, ended_with, finished, finished_as, IsPart, completed, completed_with, IsStep}
 use Rattle.controller_model.proofs.ChangeLemmas.{Made}
 use Rattle.controller_model.proofs.ReportPosts.{map_choice}
 

@@ -1,6 +1,5 @@
 -- Whether another endpoint has a ring, by who is kept as having it
-use Rattle.std.proofs.Common.{◌≡◌, ◌+◌, ◌<◌, ◌≤◌, ◌==◌, ◌&&◌, ◌||◌, ◌∙◌, ℕ, suc, zero, not, Bool, true, false, Option, Some, None, refl, sym, ap, inl, inr, arith, eq-eqb}
-use Rattle.controller_model.proofs.Words.{list_any, range_with_len, cases_lt, cases_Bool, false≢true, or_from, is_ring, World, Holder, is_had_by_another, FollowsHolder, IsEndpoint, is_other}
+use Rattle.controller_model.proofs.Words.{◌≡◌, ◌+◌, ◌<◌, ◌≤◌, ◌==◌, ◌&&◌, ◌||◌, ◌∙◌, ℕ, suc, zero, not, Bool, true, false, Option, Some, None, refl, sym, ap, inl, inr, arith, eq-eqb, list_any, range_with_len, cases_lt, cases_Bool, false≢true, or_from, is_ring, World, Holder, is_had_by_another, FollowsHolder, IsEndpoint, is_other}
 use Rattle.controller_model.proofs.HolderLemmas.{here, elsewhere, place_of}
 
 pub any_none : (test : ℕ → Bool) (from n : ℕ) → ((k : ℕ) → from ≤ k → k < from + n → test k ≡ false) → list_any test (range_with_len from n) ≡ false

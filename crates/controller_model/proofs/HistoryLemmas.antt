@@ -1,6 +1,5 @@
 -- One more thing that happens on a ring
-use Rattle.std.proofs.Common.{◌≡◌, ◌+◌, ◌-◌, ◌<◌, ◌≤◌, ◌==◌, ◌||◌, ◌++◌, if◌then◌else◌, ◌∷◌, ◌∙◌, ℕ, suc, not, [], List, Option, length, drop, true, false, refl, sym, ap, arith, length-append, inl, inr, eq-eqb, ne_eqb, slice_index_or}
-use Rattle.controller_model.proofs.Words.{drop-append-le, drop_all, false≢true, cases_eq, cond-true, cond-false, Block, Shape, address_of, cycle_of, DeclaredBlock, RingEvent, Took, Placed, takes_of, next_take, was_placed, first_at, is_as_declared, is_right_place, is_out_of_order, has_other_words, is_end, is_inside_descriptor, Header, is_last, History, Keeps}
+use Rattle.controller_model.proofs.Words.{◌≡◌, ◌+◌, ◌-◌, ◌<◌, ◌≤◌, ◌==◌, ◌||◌, ◌++◌, if◌then◌else◌, ◌∷◌, ◌∙◌, ℕ, suc, not, [], List, Option, length, drop, true, false, refl, sym, ap, arith, length-append, inl, inr, eq-eqb, ne_eqb, slice_index_or, drop-append-le, drop_all, false≢true, cases_eq, cond-true, cond-false, Block, Shape, address_of, cycle_of, DeclaredBlock, RingEvent, Took, Placed, takes_of, next_take, was_placed, first_at, is_as_declared, is_right_place, is_out_of_order, has_other_words, is_end, is_inside_descriptor, Header, is_last, History, Keeps}
 
 -- a bit by a test
 pub as_bit : (shape : Shape) (p : ℕ) → (if cycle_of shape p == 1 then 1 else 0) ≡ cycle_of shape p

@@ -1,6 +1,5 @@
 -- Which way a look goes
-use Rattle.std.proofs.Common.{◌≡◌, ◌==◌, ◌||◌, ◌&&◌, ◌∙◌, ◌↔◌, ℕ, not, Bool, true, false, Option, Some, None, Ok, Err, is_some, option_map, ap, sym, subst, refl, Result}
-use Rattle.controller_model.proofs.Words.{cond-true, cond-false, Block, block_at, cycle, kind, is_link, Command, NoOp, EnableSlot, DisableSlot, AddressDevice, ConfigureEndpoint, EvaluateContext, ResetEndpoint, StopEndpoint, SetTrDequeue, ResetDevice, result_ok, Header, command_id, World, Seen, Waited, Crossed, StepFault, NotPossible, looked_at, looked, seen_by_look, crossed, taken, taken_on, command_begun, may_scribble, look_shows, IsStep, addressed, is_it, under_way_of, Pending}
+use Rattle.controller_model.proofs.Words.{◌≡◌, ◌==◌, ◌||◌, ◌&&◌, ◌∙◌, ◌↔◌, ℕ, not, Bool, true, false, Option, Some, None, Ok, Err, is_some, option_map, ap, sym, subst, refl, Result, cond-true, cond-false, Block, block_at, cycle, kind, is_link, Command, NoOp, EnableSlot, DisableSlot, AddressDevice, ConfigureEndpoint, EvaluateContext, ResetEndpoint, StopEndpoint, SetTrDequeue, ResetDevice, result_ok, Header, command_id, World, Seen, Waited, Crossed, StepFault, NotPossible, looked_at, looked, seen_by_look, crossed, taken, taken_on, command_begun, may_scribble, look_shows, IsStep, addressed, is_it, under_way_of, Pending}
 use Rattle.controller_model.specs.declared.seen.Seen.TheVariants.{Took}
 
 -- a step as the definitions give it

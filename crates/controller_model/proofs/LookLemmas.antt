@@ -1,6 +1,5 @@
 -- What a look does to what is kept of a ring
-use Rattle.std.proofs.Common.{◌≡◌, ◌+◌, ◌%◌, ◌^◌, ◌∷◌, ◌∙◌, if◌then◌else◌, ℕ, Option, IsSome, true, ap, sym, subst}
-use Rattle.controller_model.proofs.Words.{Block, Shape, DeclaredBlock, declared_at, Header, shape_of, ring_with, Took, next_take, RingState, History, Declares, Keeps, RingHeld, FollowsRing, FollowsHolder, taken_held}
+use Rattle.controller_model.proofs.Words.{◌≡◌, ◌+◌, ◌%◌, ◌^◌, ◌∷◌, ◌∙◌, if◌then◌else◌, ℕ, Option, IsSome, true, ap, sym, subst, Block, Shape, DeclaredBlock, declared_at, Header, shape_of, ring_with, Took, next_take, RingState, History, Declares, Keeps, RingHeld, FollowsRing, FollowsHolder, taken_held}
 
 -- what a take says of its position, in the world's terms
 took_as : (h : Header) (r : ℕ) (held : RingHeld) (shape : Shape) (x : RingState) (b : Block) (d : Option DeclaredBlock) (p : ℕ) (after : History) → shape ≡ shape_of h r →

@@ -1,6 +1,5 @@
 -- The rows that are left, and how one of them is made
-use Rattle.std.proofs.Common.{◌≡◌, ◌+◌, ◌∙◌, ◌∷◌, ℕ, zero, suc, List, [], drop, slice_get, Option, Some, None, Ok, Err, ap, sym, subst, refl, arith, drop-drop}
-use Rattle.controller_model.proofs.Words.{Header, Row, World, Kept, row_done, next_row, Seen, StepFault, NotPossible, Spent, Memory, Follows, IsStep}
+use Rattle.controller_model.proofs.Words.{◌≡◌, ◌+◌, ◌∙◌, ◌∷◌, ℕ, zero, suc, List, [], drop, slice_get, Option, Some, None, Ok, Err, ap, sym, subst, refl, arith, drop-drop, Header, Row, World, Kept, row_done, next_row, Seen, StepFault, NotPossible, Spent, Memory, Follows, IsStep}
 
 nothing_left : {X : Type 0} (xs : List X) (n : ℕ) → slice_get xs n ≡ None → drop n xs ≡ []
 nothing_left [] zero e = refl

@@ -1,6 +1,5 @@
 -- When an event may be posted
-use Rattle.std.proofs.Common.{◌≡◌, ◌≤◌, ◌==◌, ◌&&◌, ◌∙◌, ℕ, Bool, true, false, Some, None, ap, sym, arith, nat_lt, lt-ltb}
-use Rattle.controller_model.proofs.Words.{cond-true, cond-false, Block, cycle, kind, is_other_event, Shape, place_count, cycle_of, has_room, Header, event_ring, event_shape, event_size, shape_or, Evt, World, can_post, posted, other_posted}
+use Rattle.controller_model.proofs.Words.{◌≡◌, ◌≤◌, ◌==◌, ◌&&◌, ◌∙◌, ℕ, Bool, true, false, Some, None, ap, sym, arith, nat_lt, lt-ltb, cond-true, cond-false, Block, cycle, kind, is_other_event, Shape, place_count, cycle_of, has_room, Header, event_ring, event_shape, event_size, shape_or, Evt, World, can_post, posted, other_posted}
 
 pub no_ring : (h : Header) (w : World) (b : Block) → None ≡ event_ring h → can_post h w b ≡ false
 unfolding can_post event_size event_shape

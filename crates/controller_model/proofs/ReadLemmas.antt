@@ -1,6 +1,5 @@
 -- When the driver may read an event
-use Rattle.std.proofs.Common.{◌≡◌, ◌+◌, ◌<◌, ◌≤◌, ◌&&◌, true, false, Some, None, ap, nat_lt, lt-ltb, le-ltb}
-use Rattle.controller_model.proofs.Words.{cond-true, cond-false, Block, same_words, Header, World, event_at, event_read}
+use Rattle.controller_model.proofs.Words.{◌≡◌, ◌+◌, ◌<◌, ◌≤◌, ◌&&◌, true, false, Some, None, ap, nat_lt, lt-ltb, le-ltb, cond-true, cond-false, Block, same_words, Header, World, event_at, event_read}
 
 module _ (h : Header) (w : World) (e : Block) where
   pub read_nothing : w.posted ≤ w.reads → event_read h w e ≡ None

@@ -1,6 +1,5 @@
 -- What a written register does
-use Rattle.std.proofs.Common.{◌&&◌, ◌||◌, ◌≡◌, ◌≢◌, ◌%◌, ◌==◌, ◌∙◌, if◌then◌else◌, Bool, true, false, not, ℕ, Option, ap, sym, refl, inl, inr, arith, eq-eqb, ne_eqb}
-use Rattle.controller_model.proofs.Words.{cases_eq, cond-true, cond-false, Register, Usbcmd, Usbsts, Dnctrl, Crcr, Dcbaap, Config, Iman, Imod, Erstsz, Erstba, Erdp, with_register, base_address, ring_cycle_state, run_bit, reset_bit, Header, register_row, run_or_stop, started_with, valued, World, Registers, FollowsRegisters, ring_held, noted, pointed}
+use Rattle.controller_model.proofs.Words.{◌&&◌, ◌||◌, ◌≡◌, ◌≢◌, ◌%◌, ◌==◌, ◌∙◌, if◌then◌else◌, Bool, true, false, not, ℕ, Option, ap, sym, refl, inl, inr, arith, eq-eqb, ne_eqb, cases_eq, cond-true, cond-false, Register, Usbcmd, Usbsts, Dnctrl, Crcr, Dcbaap, Config, Iman, Imod, Erstsz, Erstba, Erdp, with_register, base_address, ring_cycle_state, run_bit, reset_bit, Header, register_row, run_or_stop, started_with, valued, World, Registers, FollowsRegisters, ring_held, noted, pointed}
 use Rattle.controller_model.proofs.RingLemmas.{put_same, put_other}
 
 pub registers_noted : (k : Registers) (values : Register → Option ℕ) (r : Register) (v : ℕ) → FollowsRegisters k values → FollowsRegisters (noted k r v) (with_register values r v)

@@ -1,6 +1,5 @@
 -- What a Transfer Event does
-use Rattle.std.proofs.Common.{◌≡◌, ◌+◌, ◌-◌, ◌<◌, ◌==◌, ◌&&◌, ◌∙◌, ◌∷◌, ℕ, [], List, not, Bool, true, false, Some, None, length, position, option_map, ap, refl, arith}
-use Rattle.controller_model.proofs.Words.{cond-true, cond-false, false≢true, is_success, is_halting, is_trb_error, is_stopping, EndpointState, Halted, Error, is_running, Header, World, unreported, inactive, in_state, is_last, is_stop_under_way, report_code, report_error, report_stop, report_success, stopped_with, with_reported}
+use Rattle.controller_model.proofs.Words.{◌≡◌, ◌+◌, ◌-◌, ◌<◌, ◌==◌, ◌&&◌, ◌∙◌, ◌∷◌, ℕ, [], List, not, Bool, true, false, Some, None, length, position, option_map, ap, refl, arith, cond-true, cond-false, false≢true, is_success, is_halting, is_trb_error, is_stopping, EndpointState, Halted, Error, is_running, Header, World, unreported, inactive, in_state, is_last, is_stop_under_way, report_code, report_error, report_stop, report_success, stopped_with, with_reported}
 
 module _ (h : Header) (w : World) (r a : ℕ) where
   pub success_none : position (λ b. b == a) (unreported w r) ≡ None → report_success h w r a ≡ None

@@ -1,6 +1,5 @@
 -- What a Transfer Event says doesn't rest on its own post
-use Rattle.std.proofs.Common.{◌≡◌, ◌+◌, ◌==◌, ◌&&◌, ◌∙◌, if◌then◌else◌, ℕ, not, Bool, true, false, Option, Some, None, position, option_map, ap, refl}
-use Rattle.controller_model.proofs.Words.{cond-true, cond-false, Block, is_set, code, endpoint, kind, pointer, slot, word, is_success, is_halting, is_trb_error, is_stopping, is_transfer_event, EndpointState, Halted, Error, is_running, Header, World, stored, stored_block, unreported, can_post, is_last, is_stop_under_way, posted, report_code, report_error, report_stop, report_success, reported, reported_on, stopped_with, with_reported, told}
+use Rattle.controller_model.proofs.Words.{◌≡◌, ◌+◌, ◌==◌, ◌&&◌, ◌∙◌, if◌then◌else◌, ℕ, not, Bool, true, false, Option, Some, None, position, option_map, ap, refl, cond-true, cond-false, Block, is_set, code, endpoint, kind, pointer, slot, word, is_success, is_halting, is_trb_error, is_stopping, is_transfer_event, EndpointState, Halted, Error, is_running, Header, World, stored, stored_block, unreported, can_post, is_last, is_stop_under_way, posted, report_code, report_error, report_stop, report_success, reported, reported_on, stopped_with, with_reported, told}
 
 map_twice : {A B C : Type 0} (f : B → C) (g : A → B) (o : Option A) → option_map (λ n. f (g n)) o ≡ option_map f (option_map g o)
 map_twice f g None = refl

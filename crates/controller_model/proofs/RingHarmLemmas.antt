@@ -1,6 +1,5 @@
 -- What a step at one ring does to the rings' harms
-use Rattle.std.proofs.Common.{◌≡◌, ◌≢◌, ◌==◌, ◌&&◌, ◌||◌, ◌∙◌, if◌then◌else◌, ◌∷◌, ◌+◌, ◌%◌, ℕ, is_some, not, Bool, true, false, List, [], Option, Some, None, option_map, ap, sym, subst, refl, inl, inr, IsSome, find, eq-eqb, ne_eqb, arith, nat_lt}
-use Rattle.controller_model.proofs.Words.{list_any, cases_Bool, cases_eq, cond-false, cond-true, Block, block_at, cycle, kind, is_link, Header, Ring, Look, NextRow, command_id, ring_with, shape_of, some_ring, World, has_other_words, is_inside_descriptor, is_out_of_order, waits, RingHarms, command_begun, crossed, looked, looked_at, seen_by_look, taken, taken_on, counted, made, stepped, while_running, put, bits, same_words, Row, Sub, Write, Read, event_at, stored, declared, event_read, next_row, row_done, RingHeld, ring_held, ChangesOnly, HasRingHarms}
+use Rattle.controller_model.proofs.Words.{◌≡◌, ◌≢◌, ◌==◌, ◌&&◌, ◌||◌, ◌∙◌, if◌then◌else◌, ◌∷◌, ◌+◌, ◌%◌, ℕ, is_some, not, Bool, true, false, List, [], Option, Some, None, option_map, ap, sym, subst, refl, inl, inr, IsSome, find, eq-eqb, ne_eqb, arith, nat_lt, list_any, cases_Bool, cases_eq, cond-false, cond-true, Block, block_at, cycle, kind, is_link, Header, Ring, Look, NextRow, command_id, ring_with, shape_of, some_ring, World, has_other_words, is_inside_descriptor, is_out_of_order, waits, RingHarms, command_begun, crossed, looked, looked_at, seen_by_look, taken, taken_on, counted, made, stepped, while_running, put, bits, same_words, Row, Sub, Write, Read, event_at, stored, declared, event_read, next_row, row_done, RingHeld, ring_held, ChangesOnly, HasRingHarms}
 use Rattle.controller_model.proofs.RingLemmas.{put_other}
 use Rattle.controller_model.proofs.NextRowLemmas.{behind}
 use Rattle.controller_model.proofs.LookBranches.{looked_active, looked_inactive, waits as look_waits, crosses, refuses, takes, taken_transfer, taken_command}

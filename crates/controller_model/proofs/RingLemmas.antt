@@ -1,6 +1,5 @@
 -- One ring's state is changed
-use Rattle.std.proofs.Common.{◌≡◌, ◌≢◌, ◌<◌, ◌==◌, ◌∙◌, ◌∷◌, ℕ, zero, suc, ap, refl, sym, List, [], Some, length, slice_get, get_or, set, subst, inl, inr, arith, eq-eqb, ne_eqb}
-use Rattle.controller_model.proofs.Words.{cases_eq, cond-true, cond-false, slice_get-get_or, put, Header, RingState, RingHeld, FollowsRing, FollowsRings}
+use Rattle.controller_model.proofs.Words.{◌≡◌, ◌≢◌, ◌<◌, ◌==◌, ◌∙◌, ◌∷◌, ℕ, zero, suc, ap, refl, sym, List, [], Some, length, slice_get, get_or, set, subst, inl, inr, arith, eq-eqb, ne_eqb, cases_eq, cond-true, cond-false, slice_get-get_or, put, Header, RingState, RingHeld, FollowsRing, FollowsRings}
 
 pub put_same : {A : Type 0} (f : ℕ → A) (n : ℕ) (x : A) → put f n x n ≡ x
 put_same f n x = cond-true (n == n) x (f n) (eq-eqb n n refl)

@@ -1,6 +1,5 @@
 -- What single changes of the world do to what it has of each ring
-use Rattle.std.proofs.Common.{◌≡◌, ◌≢◌, ◌+◌, ◌∷◌, ◌++◌, ◌-◌, ◌%◌, ◌^◌, if◌then◌else◌, ◌∙◌, ℕ, [], Bool, true, List, Some, length, refl, false, ap}
-use Rattle.controller_model.proofs.Words.{put, aligned, pointer, word, is_set, shape_of, declared_at, next_take, declared_next, crossed, taken_on, taken_held, Block, Header, World, Took, declared, activated, inactive, with_reported, ring_held}
+use Rattle.controller_model.proofs.Words.{◌≡◌, ◌≢◌, ◌+◌, ◌∷◌, ◌++◌, ◌-◌, ◌%◌, ◌^◌, if◌then◌else◌, ◌∙◌, ℕ, [], Bool, true, List, Some, length, refl, false, ap, put, aligned, pointer, word, is_set, shape_of, declared_at, next_take, declared_next, crossed, taken_on, taken_held, Block, Header, World, Took, declared, activated, inactive, with_reported, ring_held}
 use Rattle.controller_model.proofs.RingLemmas.{put_same, put_other}
 
 pub declared_here : (h : Header) (w : World) (r : ℕ) (bs : List Block) →

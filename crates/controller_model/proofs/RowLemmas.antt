@@ -1,6 +1,5 @@
 -- What rows do to what is kept
-use Rattle.std.proofs.Common.{◌≡◌, ◌+◌, ◌<◌, ◌≤◌, ◌^◌, ◌∙◌, ◌==◌, ◌%◌, subst, ℕ, ap, sym, List, arith, ne_eqb}
-use Rattle.controller_model.proofs.Words.{cond-false, Header, Row, World, stored, stored_block, Block, word, Kept, Stamps, held, held_by, held_stored, held_block, Follows}
+use Rattle.controller_model.proofs.Words.{◌≡◌, ◌+◌, ◌<◌, ◌≤◌, ◌^◌, ◌∙◌, ◌==◌, ◌%◌, subst, ℕ, ap, sym, List, arith, ne_eqb, cond-false, Header, Row, World, stored, stored_block, Block, word, Kept, Stamps, held, held_by, held_stored, held_block, Follows}
 
 -- a word was stored: what memory then holds, and that none is beyond the last address
 pub record Stored (words : ℕ → ℕ) (stamps : Stamps) (w : World) : Type 0 where

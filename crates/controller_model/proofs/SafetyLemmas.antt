@@ -1,6 +1,5 @@
 -- Which harms a world has
-use Rattle.std.proofs.Common.{◌≡◌, ◌+◌, ◌-◌, ◌*◌, ◌/◌, ◌==◌, ◌&&◌, ◌||◌, ◌<◌, ◌≤◌, ◌∙◌, ◌∷◌, ℕ, zero, suc, List, get_or, length, take, Bool, true, false, not, Option, Some, None, find, option_map, ap, sym, refl, arith, [], nat_lt, nat_le, option_and_then, lt-ltb}
-use Rattle.controller_model.proofs.Words.{list_any, range_with_len, list_any_more, Block, Evt, block_at, cycle, Shape, place_count, Command, command_of, named_context, input_context_bytes, Header, Row, event_ring, event_shape, event_size, shape_of, shape_or, some_ring, World, Harm, TakenOutOfOrder, TakenOtherWords, WaitsInsideDescriptor, LooksOutside, PostsOverUnread, InputContextChanged, harm_of, harms, waits, is_inside_descriptor, is_out_of_order, has_other_words, has_changed_context, is_context_changed, is_changed_since, RingState, Kept, Pending, changed_at, written_at, Follows, FollowsRing, ring_held, under_way_of}
+use Rattle.controller_model.proofs.Words.{◌≡◌, ◌+◌, ◌-◌, ◌*◌, ◌/◌, ◌==◌, ◌&&◌, ◌||◌, ◌<◌, ◌≤◌, ◌∙◌, ◌∷◌, ℕ, zero, suc, List, get_or, length, take, Bool, true, false, not, Option, Some, None, find, option_map, ap, sym, refl, arith, [], nat_lt, nat_le, option_and_then, lt-ltb, list_any, range_with_len, list_any_more, Block, Evt, block_at, cycle, Shape, place_count, Command, command_of, named_context, input_context_bytes, Header, Row, event_ring, event_shape, event_size, shape_of, shape_or, some_ring, World, Harm, TakenOutOfOrder, TakenOtherWords, WaitsInsideDescriptor, LooksOutside, PostsOverUnread, InputContextChanged, harm_of, harms, waits, is_inside_descriptor, is_out_of_order, has_other_words, has_changed_context, is_context_changed, is_changed_since, RingState, Kept, Pending, changed_at, written_at, Follows, FollowsRing, ring_held, under_way_of}
 
 -- one more element of a list, as at a step of a loop
 pub any_more : {X : Type 0} (p : X → Bool) (xs : List X) (i : ℕ) (x : X) (a b : Bool) → i < length xs → x ≡ get_or xs i x → a ≡ list_any p (take i xs) → b ≡ p x →

@@ -1,6 +1,5 @@
 -- One slot is changed
-use Rattle.std.proofs.Common.{◌≡◌, ◌<◌, ◌==◌, ◌||◌, ◌∙◌, ℕ, ap, sym, subst, refl, true, false, Bool, List, Some, length, slice_get, get_or, set, inl, inr, eq-eqb, ne_eqb}
-use Rattle.controller_model.proofs.Words.{cases_eq, or-true, put, SlotState, Slot, FollowsSlots}
+use Rattle.controller_model.proofs.Words.{◌≡◌, ◌<◌, ◌==◌, ◌||◌, ◌∙◌, ℕ, ap, sym, subst, refl, true, false, Bool, List, Some, length, slice_get, get_or, set, inl, inr, eq-eqb, ne_eqb, cases_eq, or-true, put, SlotState, Slot, FollowsSlots}
 use Rattle.controller_model.proofs.RingLemmas.{put_same, put_other, read_at, slice_get-set_same, slice_get-set_other}
 
 or_false : (b : Bool) → (b || false) ≡ b

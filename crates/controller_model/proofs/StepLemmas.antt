@@ -1,6 +1,5 @@
 -- Which definition a step goes by
-use Rattle.std.proofs.Common.{◌≡◌, ◌≢◌, ◌+◌, ◌∙◌, ℕ, Bool, true, false, Option, Some, None, Ok, Err, option_map, ap, sym, subst, refl}
-use Rattle.controller_model.proofs.Words.{cond-true, cond-false, Header, Step, NextRow, Look, Report, Finish, Other, Scribble, World, Seen, StepFault, NotPossible, Spent, Memory, counted, made, stepped, while_running, IsStep}
+use Rattle.controller_model.proofs.Words.{◌≡◌, ◌≢◌, ◌+◌, ◌∙◌, ℕ, Bool, true, false, Option, Some, None, Ok, Err, option_map, ap, sym, subst, refl, cond-true, cond-false, Header, Step, NextRow, Look, Report, Finish, Other, Scribble, World, Seen, StepFault, NotPossible, Spent, Memory, counted, made, stepped, while_running, IsStep}
 
 module _ (h : Header) (w : World) where
   pub running : (o : Option World) → w.stopped ≡ false → while_running h w o ≡ o

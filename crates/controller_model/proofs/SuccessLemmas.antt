@@ -1,6 +1,5 @@
 -- When a command can succeed
-use Rattle.std.proofs.Common.{◌≡◌, ◌+◌, ◌≤◌, ◌^◌, ◌∙◌, ◌||◌, if◌then◌else◌, ℕ, Bool, true, false, not, Option, Some, None, is_some, ap, refl, nat_lt, option_and_then, ltb-false}
-use Rattle.controller_model.proofs.Words.{cond-true, cond-false, ContextSize, context_cycle, context_pointer, input_context_bytes, Command, NoOp, EnableSlot, DisableSlot, AddressDevice, ConfigureEndpoint, EvaluateContext, ResetEndpoint, StopEndpoint, SetTrDequeue, ResetDevice, Running, Stopped, named_context, changes, can_succeed, Header, Config, ring_having, register_or_zero, World, changed_by, changed_by_all, effect, is_had_by_another, placed_on, passes_end, succeeded, HasRoom, may_get}
+use Rattle.controller_model.proofs.Words.{◌≡◌, ◌+◌, ◌≤◌, ◌^◌, ◌∙◌, ◌||◌, if◌then◌else◌, ℕ, Bool, true, false, not, Option, Some, None, is_some, ap, refl, nat_lt, option_and_then, ltb-false, cond-true, cond-false, ContextSize, context_cycle, context_pointer, input_context_bytes, Command, NoOp, EnableSlot, DisableSlot, AddressDevice, ConfigureEndpoint, EvaluateContext, ResetEndpoint, StopEndpoint, SetTrDequeue, ResetDevice, Running, Stopped, named_context, changes, can_succeed, Header, Config, ring_having, register_or_zero, World, changed_by, changed_by_all, effect, is_had_by_another, placed_on, passes_end, succeeded, HasRoom, may_get}
 use Rattle.controller_model.proofs.BindingLemmas.{may_get_is}
 use Rattle.controller_model.proofs.EffectLemmas.{gone}
 

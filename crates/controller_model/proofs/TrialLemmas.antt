@@ -1,6 +1,5 @@
 -- Whether another endpoint has a ring, by the rings of one slot's endpoints and who has it elsewhere
-use Rattle.std.proofs.Common.{◌≡◌, ◌≢◌, ◌∷◌, ◌+◌, ◌<◌, ◌≤◌, ◌==◌, ◌&&◌, ◌||◌, ◌∙◌, ℕ, suc, zero, [], length, set, slice_get, unwrap_or, not, Bool, true, false, List, Option, Some, None, refl, sym, ap, inl, inr, arith, eq-eqb, ne_eqb}
-use Rattle.controller_model.proofs.Words.{list_any, range_with_len, cases_eq, cases_Bool, is_ring, World, Holder, put_pair, EndpointState, is_had_by_another, placed, FollowsHolder, is_holder, Sees, has_own, is_elsewhere, own_ring}
+use Rattle.controller_model.proofs.Words.{◌≡◌, ◌≢◌, ◌∷◌, ◌+◌, ◌<◌, ◌≤◌, ◌==◌, ◌&&◌, ◌||◌, ◌∙◌, ℕ, suc, zero, [], length, set, slice_get, unwrap_or, not, Bool, true, false, List, Option, Some, None, refl, sym, ap, inl, inr, arith, eq-eqb, ne_eqb, list_any, range_with_len, cases_eq, cases_Bool, is_ring, World, Holder, put_pair, EndpointState, is_had_by_another, placed, FollowsHolder, is_holder, Sees, has_own, is_elsewhere, own_ring}
 use Rattle.controller_model.proofs.RingLemmas.{slice_get-set_other}
 use Rattle.controller_model.proofs.EndpointLemmas.{put_pair_same, put_pair_index}
 use Rattle.controller_model.proofs.HolderLemmas.{put_pair_there}

@@ -1,6 +1,5 @@
 -- Words that are watched: what a write of another word leaves
-use Rattle.std.proofs.Common.{◌≡◌, ◌≢◌, ◌+◌, ◌-◌, ◌*◌, ◌/◌, ◌<◌, ◌≤◌, ◌==◌, ◌&&◌, ◌||◌, ◌∙◌, if◌then◌else◌, ℕ, zero, suc, Bool, true, false, nat_le, nat_lt, ap, refl, sym, arith, inl, inr, le-ltb, eq-eqb, ne_eqb, le-leb, lt-ltb}
-use Rattle.controller_model.proofs.Words.{list_any, range_with_len, cases_Bool, cond-true, cond-false, false≢true, and_from, or_left, or_right, put, is_changed_behind, may_touch}
+use Rattle.controller_model.proofs.Words.{◌≡◌, ◌≢◌, ◌+◌, ◌-◌, ◌*◌, ◌/◌, ◌<◌, ◌≤◌, ◌==◌, ◌&&◌, ◌||◌, ◌∙◌, if◌then◌else◌, ℕ, zero, suc, Bool, true, false, nat_le, nat_lt, ap, refl, sym, arith, inl, inr, le-ltb, eq-eqb, ne_eqb, le-leb, lt-ltb, list_any, range_with_len, cases_Bool, cond-true, cond-false, false≢true, and_from, or_left, or_right, put, is_changed_behind, may_touch}
 use Rattle.controller_model.proofs.ScribbleLemmas.{none_in_range}
 
 -- tests that agree on a range find the same there

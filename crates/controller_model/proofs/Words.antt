@@ -2,7 +2,7 @@
 pub use Rattle.commands.specs.Changes.{Change, is_above_control, placed_by_context, slot_gone_on}
 unfoldable pub use Rattle.commands.specs.Changes.{changes}
 pub use Rattle.commands.specs.Command.{command_by_kind, command_of, may_answer_slot, named_context}
-pub use Rattle.commands.specs.States.{is_running, is_slot_enabled, is_stopped, slot_success}
+pub use Rattle.commands.specs.States.{endpoint_meant, endpoint_success, is_running, is_slot_enabled, is_stopped, slot_success}
 unfoldable pub use Rattle.commands.specs.States.{can_succeed}
 pub use Rattle.commands.specs.declared.command.Command.{Command}
 pub use Rattle.commands.specs.declared.command.Command.TheVariants.{AddressDevice, ConfigureEndpoint, DisableSlot, EnableSlot, EvaluateContext, NoOp, ResetDevice, ResetEndpoint, SetTrDequeue, StopEndpoint}
@@ -12,6 +12,7 @@ pub use Rattle.commands.specs.declared.state.SlotState.{SlotState}
 pub use Rattle.contexts.specs.Contexts.{context_cycle, context_pointer, has_flag, input_add_flag, input_context_bytes, is_dropped}
 unfoldable pub use Rattle.contexts.specs.Contexts.{added_endpoints}
 pub use Rattle.contexts.specs.declared.size.ContextSize.{ContextSize}
+pub use Rattle.contexts.specs.declared.size.ContextSize.TheVariants.{Bytes32}
 unfoldable pub use Rattle.controller_model.specs.Bindings.{changed_by, changed_by_all, disabled, effect, has_one_of, in_state, inactive, is_had_by_another, placed, placed_on}
 pub use Rattle.controller_model.specs.Completions.{IsPart, completed, completed_with}
 pub use Rattle.controller_model.specs.Declarations.{Declares, as_declared, blocks_of, entries}
@@ -21,8 +22,10 @@ pub use Rattle.controller_model.specs.Following.{Follows, FollowsEndpoints, Foll
 pub use Rattle.controller_model.specs.Held.{Held, changed_at, held, held_block, held_by, held_stored, written_at}
 pub use Rattle.controller_model.specs.Histories.{Keeps}
 unfoldable pub use Rattle.controller_model.specs.Looks.{command_begun, crossed, looked, looked_at, may_scribble, seen_by_look, taken, taken_on}
+unfoldable pub use Rattle.controller_model.specs.OnLiterals.{model_on_literals}
 unfoldable pub use Rattle.controller_model.specs.Posts.{can_post, is_last, is_stop_under_way, other_posted, posted, report_code, report_error, report_stop, report_success, reported, reported_on, stopped_with, with_reported, with_stopped}
 pub use Rattle.controller_model.specs.RingHarms.{ChangesOnly, HasRingHarms, IsFollowed}
+pub use Rattle.controller_model.specs.Showing.{replayed}
 unfoldable pub use Rattle.controller_model.specs.Showing.{look_shows, shows}
 unfoldable pub use Rattle.controller_model.specs.Steps.{counted, is_scribbled, made, scribbled, stepped, while_running}
 pub use Rattle.controller_model.specs.Trials.{GoesOnAs, Sees, has_own, is_elsewhere, own_ring}
@@ -48,6 +51,8 @@ pub use Rattle.event_ring.proofs.DequeueLemmas.{position_from-place}
 pub use Rattle.event_ring.proofs.Words.{Data, Link, address_aligned, has_room, or_from, place_at-Data, place_at-address_of, position_from, same_in_lap}
 pub use Rattle.event_ring.specs.EventRing.{is_event_place}
 pub use Rattle.guest_memory.specs.Memory.{put_pair}
+pub use Rattle.segments.proofs.Crossings.{link_target-crossed}
+pub use Rattle.segments.proofs.InsideLemmas.{is_inside-word}
 pub use Rattle.segments.proofs.PlaceAtLemmas.{place_at-link_address}
 pub use Rattle.segments.proofs.Positions.{address_of-first}
 pub use Rattle.segments.proofs.Search.{cases_option}
@@ -55,11 +60,14 @@ pub use Rattle.segments.proofs.Words.{All-push, Block, Evt, IsShape, Shape, Xfer
 unfoldable pub use Rattle.segments.proofs.Words.{is_border}
 pub use Rattle.segments.specs.Descriptors.{DeclaredBlock}
 unfoldable pub use Rattle.segments.specs.Descriptors.{declared_at}
+pub use Rattle.std.proofs.Common.{All, Bool, Err, IfSome, IsSome, List, None, Ok, Option, Result, Some, [], add-zero, ap, append_assoc, arith, drop, drop-drop, eq-eqb, eqb-true, false, filter, find, get_or, if◌then◌else◌, inl, inr, is_some, le-leb, le-ltb, length, length-append, length-take-le, lt-ltb, ltb-false, map, nat_le, nat_lt, ne_eqb, not, option_and_then, option_map, position, refl, set, slice_get, slice_index, slice_index_or, subst, suc, sym, take, true, unwrap_or, zero, ℕ, ◌%◌, ◌&&◌, ◌*◌, ◌++◌, ◌+◌, ◌-◌, ◌/◌, ◌<◌, ◌==◌, ◌^◌, ◌||◌, ◌↔◌, ◌∙◌, ◌∷◌, ◌≡◌, ◌≢◌, ◌≤◌, ◌⊎◌}
 pub use Rattle.std.proofs.Math.Bool.{or-true, or_assoc}
 pub use Rattle.std.proofs.Math.ListN.{length-set}
+pub use Rattle.std.proofs.Math.Nat.{add-mod_right, div-add-mod'}
 pub use Rattle.std.proofs.lemmas.Grind.{common_steps, take_at_read}
-pub use Rattle.std.proofs.lemmas.List.{drop-append-le, drop_all}
+pub use Rattle.std.proofs.lemmas.List.{drop-append-le, drop_all, take_all}
 pub use Rattle.std.proofs.lemmas.List.Folds.{list_any_more}
+pub use Rattle.std.proofs.lemmas.Nat.{mod-mul-add}
 pub use Rattle.std.proofs.lemmas.Option.{slice_get_past}
 pub use Rattle.std.proofs.lemmas.Result.{err_from_is_err_and}
 pub use Rattle.std.specs.Result.{result_ok}
@@ -71,7 +79,7 @@ pub use Rattle.traces.specs.declared.register.Register.{Register}
 pub use Rattle.traces.specs.declared.register.Register.TheVariants.{Config, Crcr, Dcbaap, Dnctrl, Erdp, Erstba, Erstsz, Iman, Imod, Usbcmd, Usbsts}
 pub use Rattle.traces.specs.declared.ring.Ring.{Ring}
 pub use Rattle.traces.specs.declared.row.Row.{Row, Row as RowValue}
-pub use Rattle.traces.specs.declared.row.Row.TheVariants.{Read, Sub, Write}
+pub use Rattle.traces.specs.declared.row.Row.TheVariants.{Bell, Read, Reg, Sub, Write}
 pub use Rattle.traces.specs.declared.step.Step.{Step}
 pub use Rattle.traces.specs.declared.step.Step.TheVariants.{Finish, Look, NextRow, Other, Report, Scribble}
 pub use Rattle.trb.specs.Bits.{bits}

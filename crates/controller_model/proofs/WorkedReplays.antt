@@ -1,23 +1,21 @@
 -- Replays with their endings, one for each harm, by evaluation; tests/rows and tests/harms have these and more for the program
-use Rattle.std.specs.Prelude.{◌≡◌, List, [], ◌∷◌, refl}
+use Rattle.std.specs.Prelude.{ℕ, ◌++◌, replicate, ◌≡◌, List, [], ◌∷◌, refl}
 use Rattle.trb.specs.declared.ring_kind.RingKind.TheVariants.{Cmd, Evt, Xfer}
-use Rattle.contexts.specs.declared.size.ContextSize.TheVariants.{Bytes32}
 use Rattle.traces.specs.declared.version.Version.TheVariants.{One}
-use Rattle.traces.specs.declared.header.Header.{Header}
-use Rattle.traces.specs.declared.row.Row.{Row}
-use Rattle.traces.specs.declared.row.Row.TheVariants.{Sub, Write, Reg, Bell, Read}
-use Rattle.traces.specs.declared.register.Register.TheVariants.{Usbcmd, Crcr, Dcbaap, Config, Erstsz, Erstba, Erdp}
-use Rattle.traces.specs.declared.step.Step.{Step}
-use Rattle.traces.specs.declared.step.Step.TheVariants.{NextRow, Look, Report, Finish, Other, Scribble}
-use Rattle.world_state.specs.declared.harm.Harm.TheVariants.{TakenOutOfOrder, TakenOtherWords, WaitsInsideDescriptor, LooksOutside, PostsOverUnread, InputContextChanged}
+use Rattle.controller_model.proofs.Words.{Bytes32, Header, Row, Sub, Write, Reg, Bell, Read, Usbcmd, Crcr, Dcbaap, Config, Erstsz, Erstba, Erdp, Step, NextRow, Look, Report, Finish, Other, Scribble, TakenOutOfOrder, TakenOtherWords, WaitsInsideDescriptor, LooksOutside, PostsOverUnread, InputContextChanged, model_on_literals}
 use Rattle.controller_model.specs.Steps.{ending_of, NoHarm, NotPossible, Harmful}
-use Rattle.controller_model.specs.OnLiterals.{model_on_literals}
 
-abbrev pub event_ring_fills_header : Header
-event_ring_fills_header = record { version = One; context_size = Bytes32; rings = record { id = 0; shape = record { kind = Cmd; segments = record { base = 65536; count = 16 } ∷ [] } } ∷ record { id = 1; shape = record { kind = Evt; segments = record { base = 131072; count = 16 } ∷ [] } } ∷ record { id = 2; shape = record { kind = Xfer; segments = record { base = 196608; count = 4 } ∷ [] } } ∷ [] }
+-- a Command Ring and an Event Ring of 16 blocks, alone
+abbrev two_rings : Header
+two_rings = record { version = One; context_size = Bytes32; rings = record { id = 0; shape = record { kind = Cmd; segments = record { base = 65536; count = 16 } ∷ [] } } ∷ record { id = 1; shape = record { kind = Evt; segments = record { base = 131072; count = 16 } ∷ [] } } ∷ [] }
 
-abbrev pub event_ring_fills_rows : List Row
-event_ring_fills_rows =
+-- and a Transfer Ring behind them
+abbrev pub three_rings : ℕ → Header
+three_rings count = record { version = One; context_size = Bytes32; rings = record { id = 0; shape = record { kind = Cmd; segments = record { base = 65536; count = 16 } ∷ [] } } ∷ record { id = 1; shape = record { kind = Evt; segments = record { base = 131072; count = 16 } ∷ [] } } ∷ record { id = 2; shape = record { kind = Xfer; segments = record { base = 196608; count = count } ∷ [] } } ∷ [] }
+
+-- the registers are written, and the controller runs
+abbrev started : List Row → List Row
+started behind =
     Write 262144 131072
     ∷ Write 262152 16
     ∷ Reg Erstsz 1
@@ -27,266 +25,63 @@ event_ring_fills_rows =
     ∷ Reg Dcbaap 327680
     ∷ Reg Config 8
     ∷ Reg Usbcmd 1
-    ∷ []
+    ∷ behind
 
-abbrev pub event_ring_fills_steps : List Step
-event_ring_fills_steps =
-    NextRow
-    ∷ NextRow
-    ∷ NextRow
-    ∷ NextRow
-    ∷ NextRow
-    ∷ NextRow
-    ∷ NextRow
-    ∷ NextRow
-    ∷ NextRow
-    ∷ Other (record { w = 16777216 ∷ 0 ∷ 16777216 ∷ 34817 ∷ [] })
-    ∷ Other (record { w = 16777216 ∷ 0 ∷ 16777216 ∷ 34817 ∷ [] })
-    ∷ Other (record { w = 16777216 ∷ 0 ∷ 16777216 ∷ 34817 ∷ [] })
-    ∷ Other (record { w = 16777216 ∷ 0 ∷ 16777216 ∷ 34817 ∷ [] })
-    ∷ Other (record { w = 16777216 ∷ 0 ∷ 16777216 ∷ 34817 ∷ [] })
-    ∷ Other (record { w = 16777216 ∷ 0 ∷ 16777216 ∷ 34817 ∷ [] })
-    ∷ Other (record { w = 16777216 ∷ 0 ∷ 16777216 ∷ 34817 ∷ [] })
-    ∷ Other (record { w = 16777216 ∷ 0 ∷ 16777216 ∷ 34817 ∷ [] })
-    ∷ Other (record { w = 16777216 ∷ 0 ∷ 16777216 ∷ 34817 ∷ [] })
-    ∷ Other (record { w = 16777216 ∷ 0 ∷ 16777216 ∷ 34817 ∷ [] })
-    ∷ Other (record { w = 16777216 ∷ 0 ∷ 16777216 ∷ 34817 ∷ [] })
-    ∷ Other (record { w = 16777216 ∷ 0 ∷ 16777216 ∷ 34817 ∷ [] })
-    ∷ Other (record { w = 16777216 ∷ 0 ∷ 16777216 ∷ 34817 ∷ [] })
-    ∷ Other (record { w = 16777216 ∷ 0 ∷ 16777216 ∷ 34817 ∷ [] })
-    ∷ Other (record { w = 16777216 ∷ 0 ∷ 16777216 ∷ 34817 ∷ [] })
-    ∷ Other (record { w = 16777216 ∷ 0 ∷ 16777216 ∷ 34817 ∷ [] })
-    ∷ []
+-- a slot is enabled, and Address Device starts its Default Control Endpoint
+abbrev addressed : List Row → List Row
+addressed behind =
+    started
+    (Sub 0 (record { w = 0 ∷ 0 ∷ 0 ∷ 9216 ∷ [] } ∷ [])
+    ∷ Write 65548 9217
+    ∷ Bell 0 0
+    ∷ Read (record { w = 65536 ∷ 0 ∷ 16777216 ∷ 16811009 ∷ [] })
+    ∷ Write 327688 458752
+    ∷ Write 393220 3
+    ∷ Write 393284 32
+    ∷ Write 393288 196609
+    ∷ Sub 0 (record { w = 393216 ∷ 0 ∷ 0 ∷ 16788480 ∷ [] } ∷ [])
+    ∷ Write 65552 393216
+    ∷ Write 65564 16788481
+    ∷ Bell 0 0
+    ∷ Read (record { w = 65552 ∷ 0 ∷ 16777216 ∷ 16811009 ∷ [] })
+    ∷ behind)
 
-pub event_ring_fills : ending_of event_ring_fills_header event_ring_fills_rows event_ring_fills_steps ≡ NotPossible 25
+abbrev addressed_steps : List Step → List Step
+addressed_steps behind = replicate 12 NextRow ++ (Look 0 ∷ Finish (record { w = 65536 ∷ 0 ∷ 16777216 ∷ 16811009 ∷ [] }) ∷ replicate 9 NextRow ++ (Look 0 ∷ Finish (record { w = 65552 ∷ 0 ∷ 16777216 ∷ 16811009 ∷ [] }) ∷ behind))
+
+pub event_ring_fills : ending_of (three_rings 4) (started []) (replicate 9 NextRow ++ (replicate 16 (Other (record { w = 16777216 ∷ 0 ∷ 16777216 ∷ 34817 ∷ [] })))) ≡ NotPossible 25
 unfolding model_on_literals
 event_ring_fills = refl
 
-abbrev pub replay_of_a_lazy_schedule_header : Header
-replay_of_a_lazy_schedule_header = record { version = One; context_size = Bytes32; rings = record { id = 0; shape = record { kind = Cmd; segments = record { base = 65536; count = 16 } ∷ [] } } ∷ record { id = 1; shape = record { kind = Evt; segments = record { base = 131072; count = 16 } ∷ [] } } ∷ record { id = 2; shape = record { kind = Xfer; segments = record { base = 196608; count = 4 } ∷ [] } } ∷ [] }
-
 abbrev pub replay_of_a_lazy_schedule_rows : List Row
-replay_of_a_lazy_schedule_rows =
-    Write 262144 131072
-    ∷ Write 262152 16
-    ∷ Reg Erstsz 1
-    ∷ Reg Erstba 262144
-    ∷ Reg Erdp 131072
-    ∷ Reg Crcr 65537
-    ∷ Reg Dcbaap 327680
-    ∷ Reg Config 8
-    ∷ Reg Usbcmd 1
-    ∷ Sub 0 (record { w = 0 ∷ 0 ∷ 0 ∷ 9216 ∷ [] } ∷ [])
-    ∷ Write 65548 9217
-    ∷ Bell 0 0
-    ∷ Read (record { w = 65536 ∷ 0 ∷ 16777216 ∷ 16811009 ∷ [] })
-    ∷ Write 327688 458752
-    ∷ Write 393220 3
-    ∷ Write 393284 32
-    ∷ Write 393288 196609
-    ∷ Sub 0 (record { w = 393216 ∷ 0 ∷ 0 ∷ 16788480 ∷ [] } ∷ [])
-    ∷ Write 65552 393216
-    ∷ Write 65564 16788481
-    ∷ Bell 0 0
-    ∷ Read (record { w = 65552 ∷ 0 ∷ 16777216 ∷ 16811009 ∷ [] })
-    ∷ Sub 2 (record { w = 0 ∷ 0 ∷ 0 ∷ 8224 ∷ [] } ∷ [])
-    ∷ Write 196620 8225
-    ∷ Sub 2 (record { w = 0 ∷ 0 ∷ 0 ∷ 8224 ∷ [] } ∷ [])
-    ∷ Write 196636 8225
-    ∷ Bell 1 1
-    ∷ Read (record { w = 196608 ∷ 0 ∷ 16777216 ∷ 16875521 ∷ [] })
-    ∷ Sub 2 (record { w = 0 ∷ 0 ∷ 0 ∷ 8224 ∷ [] } ∷ [])
-    ∷ Write 196652 8225
-    ∷ []
+replay_of_a_lazy_schedule_rows = addressed (Sub 2 (record { w = 0 ∷ 0 ∷ 0 ∷ 8224 ∷ [] } ∷ []) ∷ Write 196620 8225 ∷ Sub 2 (record { w = 0 ∷ 0 ∷ 0 ∷ 8224 ∷ [] } ∷ []) ∷ Write 196636 8225 ∷ Bell 1 1 ∷ Read (record { w = 196608 ∷ 0 ∷ 16777216 ∷ 16875521 ∷ [] }) ∷ Sub 2 (record { w = 0 ∷ 0 ∷ 0 ∷ 8224 ∷ [] } ∷ []) ∷ Write 196652 8225 ∷ [])
 
 abbrev pub replay_of_a_lazy_schedule_steps : List Step
-replay_of_a_lazy_schedule_steps =
-    NextRow
-    ∷ NextRow
-    ∷ NextRow
-    ∷ NextRow
-    ∷ NextRow
-    ∷ NextRow
-    ∷ NextRow
-    ∷ NextRow
-    ∷ NextRow
-    ∷ NextRow
-    ∷ NextRow
-    ∷ NextRow
-    ∷ Look 0
-    ∷ Finish (record { w = 65536 ∷ 0 ∷ 16777216 ∷ 16811009 ∷ [] })
-    ∷ NextRow
-    ∷ NextRow
-    ∷ NextRow
-    ∷ NextRow
-    ∷ NextRow
-    ∷ NextRow
-    ∷ NextRow
-    ∷ NextRow
-    ∷ NextRow
-    ∷ Look 0
-    ∷ Finish (record { w = 65552 ∷ 0 ∷ 16777216 ∷ 16811009 ∷ [] })
-    ∷ NextRow
-    ∷ NextRow
-    ∷ NextRow
-    ∷ NextRow
-    ∷ NextRow
-    ∷ NextRow
-    ∷ Look 2
-    ∷ Report (record { w = 196608 ∷ 0 ∷ 16777216 ∷ 16875521 ∷ [] })
-    ∷ NextRow
-    ∷ NextRow
-    ∷ NextRow
-    ∷ []
+replay_of_a_lazy_schedule_steps = addressed_steps (replicate 6 NextRow ++ (Look 2 ∷ Report (record { w = 196608 ∷ 0 ∷ 16777216 ∷ 16875521 ∷ [] }) ∷ NextRow ∷ NextRow ∷ NextRow ∷ []))
 
-pub replay_of_a_lazy_schedule : ending_of replay_of_a_lazy_schedule_header replay_of_a_lazy_schedule_rows replay_of_a_lazy_schedule_steps ≡ NoHarm
+pub replay_of_a_lazy_schedule : ending_of (three_rings 4) replay_of_a_lazy_schedule_rows replay_of_a_lazy_schedule_steps ≡ NoHarm
 unfolding model_on_literals
 replay_of_a_lazy_schedule = refl
 
-abbrev pub replay_of_a_write_after_the_doorbell_header : Header
-replay_of_a_write_after_the_doorbell_header = record { version = One; context_size = Bytes32; rings = record { id = 0; shape = record { kind = Cmd; segments = record { base = 65536; count = 16 } ∷ [] } } ∷ record { id = 1; shape = record { kind = Evt; segments = record { base = 131072; count = 16 } ∷ [] } } ∷ record { id = 2; shape = record { kind = Xfer; segments = record { base = 196608; count = 4 } ∷ [] } } ∷ [] }
-
 abbrev pub replay_of_a_write_after_the_doorbell_rows : List Row
-replay_of_a_write_after_the_doorbell_rows =
-    Write 262144 131072
-    ∷ Write 262152 16
-    ∷ Reg Erstsz 1
-    ∷ Reg Erstba 262144
-    ∷ Reg Erdp 131072
-    ∷ Reg Crcr 65537
-    ∷ Reg Dcbaap 327680
-    ∷ Reg Config 8
-    ∷ Reg Usbcmd 1
-    ∷ Sub 0 (record { w = 0 ∷ 0 ∷ 0 ∷ 9216 ∷ [] } ∷ [])
-    ∷ Write 65548 9217
-    ∷ Bell 0 0
-    ∷ Read (record { w = 65536 ∷ 0 ∷ 16777216 ∷ 16811009 ∷ [] })
-    ∷ Write 327688 458752
-    ∷ Write 393220 3
-    ∷ Write 393284 32
-    ∷ Write 393288 196609
-    ∷ Sub 0 (record { w = 393216 ∷ 0 ∷ 0 ∷ 16788480 ∷ [] } ∷ [])
-    ∷ Write 65552 393216
-    ∷ Write 65564 16788481
-    ∷ Bell 0 0
-    ∷ Read (record { w = 65552 ∷ 0 ∷ 16777216 ∷ 16811009 ∷ [] })
-    ∷ Sub 2 (record { w = 0 ∷ 0 ∷ 0 ∷ 8224 ∷ [] } ∷ [])
-    ∷ Write 196620 8225
-    ∷ Bell 1 1
-    ∷ Write 196608 1
-    ∷ []
+replay_of_a_write_after_the_doorbell_rows = addressed (Sub 2 (record { w = 0 ∷ 0 ∷ 0 ∷ 8224 ∷ [] } ∷ []) ∷ Write 196620 8225 ∷ Bell 1 1 ∷ Write 196608 1 ∷ [])
 
 abbrev pub replay_of_a_write_after_the_doorbell_steps : List Step
-replay_of_a_write_after_the_doorbell_steps =
-    NextRow
-    ∷ NextRow
-    ∷ NextRow
-    ∷ NextRow
-    ∷ NextRow
-    ∷ NextRow
-    ∷ NextRow
-    ∷ NextRow
-    ∷ NextRow
-    ∷ NextRow
-    ∷ NextRow
-    ∷ NextRow
-    ∷ Look 0
-    ∷ Finish (record { w = 65536 ∷ 0 ∷ 16777216 ∷ 16811009 ∷ [] })
-    ∷ NextRow
-    ∷ NextRow
-    ∷ NextRow
-    ∷ NextRow
-    ∷ NextRow
-    ∷ NextRow
-    ∷ NextRow
-    ∷ NextRow
-    ∷ NextRow
-    ∷ Look 0
-    ∷ Finish (record { w = 65552 ∷ 0 ∷ 16777216 ∷ 16811009 ∷ [] })
-    ∷ NextRow
-    ∷ NextRow
-    ∷ NextRow
-    ∷ NextRow
-    ∷ NextRow
-    ∷ Look 2
-    ∷ []
+replay_of_a_write_after_the_doorbell_steps = addressed_steps (replicate 5 NextRow ++ (Look 2 ∷ []))
 
-pub replay_of_a_write_after_the_doorbell : ending_of replay_of_a_write_after_the_doorbell_header replay_of_a_write_after_the_doorbell_rows replay_of_a_write_after_the_doorbell_steps ≡ Harmful 31 TakenOtherWords
+pub replay_of_a_write_after_the_doorbell : ending_of (three_rings 4) replay_of_a_write_after_the_doorbell_rows replay_of_a_write_after_the_doorbell_steps ≡ Harmful 31 TakenOtherWords
 unfolding model_on_literals
 replay_of_a_write_after_the_doorbell = refl
 
-abbrev pub replay_waits_inside_a_descriptor_header : Header
-replay_waits_inside_a_descriptor_header = record { version = One; context_size = Bytes32; rings = record { id = 0; shape = record { kind = Cmd; segments = record { base = 65536; count = 16 } ∷ [] } } ∷ record { id = 1; shape = record { kind = Evt; segments = record { base = 131072; count = 16 } ∷ [] } } ∷ record { id = 2; shape = record { kind = Xfer; segments = record { base = 196608; count = 8 } ∷ [] } } ∷ [] }
-
 abbrev pub replay_waits_inside_a_descriptor_rows : List Row
-replay_waits_inside_a_descriptor_rows =
-    Write 262144 131072
-    ∷ Write 262152 16
-    ∷ Reg Erstsz 1
-    ∷ Reg Erstba 262144
-    ∷ Reg Erdp 131072
-    ∷ Reg Crcr 65537
-    ∷ Reg Dcbaap 327680
-    ∷ Reg Config 8
-    ∷ Reg Usbcmd 1
-    ∷ Sub 0 (record { w = 0 ∷ 0 ∷ 0 ∷ 9216 ∷ [] } ∷ [])
-    ∷ Write 65548 9217
-    ∷ Bell 0 0
-    ∷ Read (record { w = 65536 ∷ 0 ∷ 16777216 ∷ 16811009 ∷ [] })
-    ∷ Write 327688 458752
-    ∷ Write 393220 3
-    ∷ Write 393284 32
-    ∷ Write 393288 196609
-    ∷ Sub 0 (record { w = 393216 ∷ 0 ∷ 0 ∷ 16788480 ∷ [] } ∷ [])
-    ∷ Write 65552 393216
-    ∷ Write 65564 16788481
-    ∷ Bell 0 0
-    ∷ Read (record { w = 65552 ∷ 0 ∷ 16777216 ∷ 16811009 ∷ [] })
-    ∷ Sub 2 (record { w = 0 ∷ 0 ∷ 0 ∷ 1040 ∷ [] } ∷ record { w = 0 ∷ 0 ∷ 0 ∷ 1056 ∷ [] } ∷ [])
-    ∷ Write 196620 1041
-    ∷ Bell 1 1
-    ∷ []
+replay_waits_inside_a_descriptor_rows = addressed (Sub 2 (record { w = 0 ∷ 0 ∷ 0 ∷ 1040 ∷ [] } ∷ record { w = 0 ∷ 0 ∷ 0 ∷ 1056 ∷ [] } ∷ []) ∷ Write 196620 1041 ∷ Bell 1 1 ∷ [])
 
 abbrev pub replay_waits_inside_a_descriptor_steps : List Step
-replay_waits_inside_a_descriptor_steps =
-    NextRow
-    ∷ NextRow
-    ∷ NextRow
-    ∷ NextRow
-    ∷ NextRow
-    ∷ NextRow
-    ∷ NextRow
-    ∷ NextRow
-    ∷ NextRow
-    ∷ NextRow
-    ∷ NextRow
-    ∷ NextRow
-    ∷ Look 0
-    ∷ Finish (record { w = 65536 ∷ 0 ∷ 16777216 ∷ 16811009 ∷ [] })
-    ∷ NextRow
-    ∷ NextRow
-    ∷ NextRow
-    ∷ NextRow
-    ∷ NextRow
-    ∷ NextRow
-    ∷ NextRow
-    ∷ NextRow
-    ∷ NextRow
-    ∷ Look 0
-    ∷ Finish (record { w = 65552 ∷ 0 ∷ 16777216 ∷ 16811009 ∷ [] })
-    ∷ NextRow
-    ∷ NextRow
-    ∷ NextRow
-    ∷ NextRow
-    ∷ Look 2
-    ∷ []
+replay_waits_inside_a_descriptor_steps = addressed_steps (replicate 4 NextRow ++ (Look 2 ∷ []))
 
-pub replay_waits_inside_a_descriptor : ending_of replay_waits_inside_a_descriptor_header replay_waits_inside_a_descriptor_rows replay_waits_inside_a_descriptor_steps ≡ Harmful 30 WaitsInsideDescriptor
+pub replay_waits_inside_a_descriptor : ending_of (three_rings 8) replay_waits_inside_a_descriptor_rows replay_waits_inside_a_descriptor_steps ≡ Harmful 30 WaitsInsideDescriptor
 unfolding model_on_literals
 replay_waits_inside_a_descriptor = refl
-
-abbrev pub undeclared_blocks_may_be_given_header : Header
-undeclared_blocks_may_be_given_header = record { version = One; context_size = Bytes32; rings = record { id = 0; shape = record { kind = Cmd; segments = record { base = 65536; count = 16 } ∷ [] } } ∷ record { id = 1; shape = record { kind = Evt; segments = record { base = 131072; count = 16 } ∷ [] } } ∷ [] }
 
 abbrev pub undeclared_blocks_may_be_given_rows : List Row
 undeclared_blocks_may_be_given_rows =
@@ -302,25 +97,11 @@ undeclared_blocks_may_be_given_rows =
     ∷ []
 
 abbrev pub undeclared_blocks_may_be_given_steps : List Step
-undeclared_blocks_may_be_given_steps =
-    NextRow
-    ∷ NextRow
-    ∷ NextRow
-    ∷ NextRow
-    ∷ NextRow
-    ∷ NextRow
-    ∷ NextRow
-    ∷ NextRow
-    ∷ NextRow
-    ∷ Look 0
-    ∷ []
+undeclared_blocks_may_be_given_steps = replicate 9 NextRow ++ (Look 0 ∷ [])
 
-pub undeclared_blocks_may_be_given_harmful : ending_of undeclared_blocks_may_be_given_header undeclared_blocks_may_be_given_rows undeclared_blocks_may_be_given_steps ≡ Harmful 10 TakenOutOfOrder
+pub undeclared_blocks_may_be_given_harmful : ending_of two_rings undeclared_blocks_may_be_given_rows undeclared_blocks_may_be_given_steps ≡ Harmful 10 TakenOutOfOrder
 unfolding model_on_literals
 undeclared_blocks_may_be_given_harmful = refl
-
-abbrev pub crcr_may_name_any_address_header : Header
-crcr_may_name_any_address_header = record { version = One; context_size = Bytes32; rings = record { id = 0; shape = record { kind = Cmd; segments = record { base = 65536; count = 16 } ∷ [] } } ∷ record { id = 1; shape = record { kind = Evt; segments = record { base = 131072; count = 16 } ∷ [] } } ∷ [] }
 
 abbrev pub crcr_may_name_any_address_rows : List Row
 crcr_may_name_any_address_rows =
@@ -335,19 +116,9 @@ crcr_may_name_any_address_rows =
     ∷ []
 
 abbrev pub crcr_may_name_any_address_steps : List Step
-crcr_may_name_any_address_steps =
-    NextRow
-    ∷ NextRow
-    ∷ NextRow
-    ∷ NextRow
-    ∷ NextRow
-    ∷ NextRow
-    ∷ NextRow
-    ∷ NextRow
-    ∷ Look 0
-    ∷ []
+crcr_may_name_any_address_steps = replicate 8 NextRow ++ (Look 0 ∷ [])
 
-pub crcr_may_name_any_address_harmful : ending_of crcr_may_name_any_address_header crcr_may_name_any_address_rows crcr_may_name_any_address_steps ≡ Harmful 9 LooksOutside
+pub crcr_may_name_any_address_harmful : ending_of two_rings crcr_may_name_any_address_rows crcr_may_name_any_address_steps ≡ Harmful 9 LooksOutside
 unfolding model_on_literals
 crcr_may_name_any_address_harmful = refl
 
@@ -380,33 +151,7 @@ device_contexts_over_input_contexts_rows =
     ∷ []
 
 abbrev pub device_contexts_over_input_contexts_steps : List Step
-device_contexts_over_input_contexts_steps =
-    NextRow
-    ∷ NextRow
-    ∷ NextRow
-    ∷ NextRow
-    ∷ NextRow
-    ∷ NextRow
-    ∷ NextRow
-    ∷ NextRow
-    ∷ NextRow
-    ∷ NextRow
-    ∷ NextRow
-    ∷ NextRow
-    ∷ Look 0
-    ∷ Finish (record { w = 65600 ∷ 0 ∷ 16777216 ∷ 16811009 ∷ [] })
-    ∷ NextRow
-    ∷ NextRow
-    ∷ NextRow
-    ∷ NextRow
-    ∷ NextRow
-    ∷ NextRow
-    ∷ NextRow
-    ∷ NextRow
-    ∷ NextRow
-    ∷ Look 0
-    ∷ Scribble 75712 4294967295
-    ∷ []
+device_contexts_over_input_contexts_steps = replicate 12 NextRow ++ (Look 0 ∷ Finish (record { w = 65600 ∷ 0 ∷ 16777216 ∷ 16811009 ∷ [] }) ∷ replicate 9 NextRow ++ (Look 0 ∷ Scribble 75712 4294967295 ∷ []))
 
 pub device_contexts_over_input_contexts_harmful : ending_of device_contexts_over_input_contexts_header device_contexts_over_input_contexts_rows device_contexts_over_input_contexts_steps ≡ Harmful 25 InputContextChanged
 unfolding model_on_literals
@@ -434,39 +179,7 @@ erdp_past_what_was_read_rows =
     ∷ []
 
 abbrev pub erdp_past_what_was_read_steps : List Step
-erdp_past_what_was_read_steps =
-    NextRow
-    ∷ NextRow
-    ∷ NextRow
-    ∷ NextRow
-    ∷ NextRow
-    ∷ NextRow
-    ∷ NextRow
-    ∷ NextRow
-    ∷ NextRow
-    ∷ NextRow
-    ∷ NextRow
-    ∷ Other (record { w = 2315381515 ∷ 1965134629 ∷ 2315381515 ∷ 39937 ∷ [] })
-    ∷ NextRow
-    ∷ NextRow
-    ∷ Look 0
-    ∷ Finish (record { w = 65600 ∷ 0 ∷ 16777216 ∷ 16811009 ∷ [] })
-    ∷ Other (record { w = 0 ∷ 0 ∷ 16777216 ∷ 34817 ∷ [] })
-    ∷ Other (record { w = 0 ∷ 0 ∷ 16777216 ∷ 34817 ∷ [] })
-    ∷ Other (record { w = 0 ∷ 0 ∷ 16777216 ∷ 34817 ∷ [] })
-    ∷ Other (record { w = 0 ∷ 0 ∷ 16777216 ∷ 34817 ∷ [] })
-    ∷ Other (record { w = 0 ∷ 0 ∷ 16777216 ∷ 34817 ∷ [] })
-    ∷ Other (record { w = 0 ∷ 0 ∷ 16777216 ∷ 34817 ∷ [] })
-    ∷ Other (record { w = 0 ∷ 0 ∷ 16777216 ∷ 34817 ∷ [] })
-    ∷ Other (record { w = 0 ∷ 0 ∷ 16777216 ∷ 34817 ∷ [] })
-    ∷ NextRow
-    ∷ Other (record { w = 0 ∷ 0 ∷ 16777216 ∷ 34817 ∷ [] })
-    ∷ Other (record { w = 0 ∷ 0 ∷ 16777216 ∷ 34817 ∷ [] })
-    ∷ Other (record { w = 0 ∷ 0 ∷ 16777216 ∷ 34817 ∷ [] })
-    ∷ Other (record { w = 0 ∷ 0 ∷ 16777216 ∷ 34817 ∷ [] })
-    ∷ Other (record { w = 0 ∷ 0 ∷ 16777216 ∷ 34817 ∷ [] })
-    ∷ Other (record { w = 0 ∷ 0 ∷ 16777216 ∷ 34817 ∷ [] })
-    ∷ []
+erdp_past_what_was_read_steps = replicate 11 NextRow ++ (Other (record { w = 2315381515 ∷ 1965134629 ∷ 2315381515 ∷ 39937 ∷ [] }) ∷ NextRow ∷ NextRow ∷ Look 0 ∷ Finish (record { w = 65600 ∷ 0 ∷ 16777216 ∷ 16811009 ∷ [] }) ∷ replicate 8 (Other (record { w = 0 ∷ 0 ∷ 16777216 ∷ 34817 ∷ [] })) ++ (NextRow ∷ replicate 6 (Other (record { w = 0 ∷ 0 ∷ 16777216 ∷ 34817 ∷ [] }))))
 
 pub erdp_past_what_was_read_harmful : ending_of erdp_past_what_was_read_header erdp_past_what_was_read_rows erdp_past_what_was_read_steps ≡ Harmful 31 PostsOverUnread
 unfolding model_on_literals

@@ -1,15 +1,8 @@
 -- What the steps of worked replays show
 use Rattle.std.specs.Prelude.{◌≡◌, [], ◌∷◌, List, take, refl}
-use Rattle.traces.specs.declared.row.Row.{Row}
-use Rattle.traces.specs.declared.row.Row.TheVariants.{Write, Reg, Bell}
-use Rattle.traces.specs.declared.register.Register.TheVariants.{Usbcmd, Crcr}
-use Rattle.traces.specs.declared.step.Step.{Step}
-use Rattle.traces.specs.declared.step.Step.TheVariants.{NextRow, Look}
-use Rattle.world_state.specs.declared.harm.Harm.TheVariants.{TakenOutOfOrder, LooksOutside}
+use Rattle.controller_model.proofs.Words.{Row, Write, Reg, Bell, Usbcmd, Crcr, Step, NextRow, Look, TakenOutOfOrder, LooksOutside, replayed, model_on_literals}
 use Rattle.controller_model.specs.declared.seen.Seen.TheVariants as seen
 use Rattle.controller_model.specs.Steps.{NotPossible, Harmful, NoHarm}
-use Rattle.controller_model.specs.Showing.{replayed}
-use Rattle.controller_model.specs.OnLiterals.{model_on_literals}
 use Rattle.controller_model.proofs.WorkedReplays as worked
 
 -- a block with a Cycle bit in the command ring's first place, the start and the doorbell
@@ -20,7 +13,7 @@ abbrev looks_behind : List Step → List Step
 looks_behind steps = NextRow ∷ NextRow ∷ NextRow ∷ steps
 
 -- a command is taken and finished: the lazy schedule's begin
-pub takes_and_finishes : replayed worked.replay_of_a_lazy_schedule_header worked.replay_of_a_lazy_schedule_rows (take 14 worked.replay_of_a_lazy_schedule_steps) ≡ record {
+pub takes_and_finishes : replayed (worked.three_rings 4) worked.replay_of_a_lazy_schedule_rows (take 14 worked.replay_of_a_lazy_schedule_steps) ≡ record {
   seen =
       seen.Row ∷ seen.Row ∷ seen.Row ∷ seen.Row ∷ seen.Row ∷ seen.Row ∷ seen.Row ∷ seen.Row ∷ seen.Row ∷ seen.Row ∷ seen.Row ∷ seen.Row
       ∷ seen.Took 0 65536 (record { w = 0 ∷ 0 ∷ 0 ∷ 9217 ∷ [] }) ∷ seen.Posted 131072 ∷ [];
@@ -30,7 +23,7 @@ unfolding model_on_literals
 takes_and_finishes = refl
 
 -- a look at an empty place waits, and doesn't become possible by it
-pub waits : replayed worked.replay_of_a_lazy_schedule_header (rows_with []) (looks_behind (Look 0 ∷ Look 0 ∷ NextRow ∷ Look 0 ∷ [])) ≡ record {
+pub waits : replayed (worked.three_rings 4) (rows_with []) (looks_behind (Look 0 ∷ Look 0 ∷ NextRow ∷ Look 0 ∷ [])) ≡ record {
   seen = seen.Row ∷ seen.Row ∷ seen.Row ∷ seen.Waited ∷ seen.Waited ∷ [];
   ending = NotPossible 6;
 }
@@ -38,7 +31,7 @@ unfolding model_on_literals
 waits = refl
 
 -- an undeclared command is taken: the harmful step shows what it took
-pub takes_undeclared : replayed worked.replay_of_a_lazy_schedule_header (rows_with (Write 65548 9217 ∷ [])) (looks_behind (NextRow ∷ Look 0 ∷ Look 0 ∷ [])) ≡ record {
+pub takes_undeclared : replayed (worked.three_rings 4) (rows_with (Write 65548 9217 ∷ [])) (looks_behind (NextRow ∷ Look 0 ∷ Look 0 ∷ [])) ≡ record {
   seen = seen.Row ∷ seen.Row ∷ seen.Row ∷ seen.Row ∷ seen.Took 0 65536 (record { w = 0 ∷ 0 ∷ 0 ∷ 9217 ∷ [] }) ∷ [];
   ending = Harmful 5 TakenOutOfOrder;
 }
@@ -46,7 +39,7 @@ unfolding model_on_literals
 takes_undeclared = refl
 
 -- a Link is followed out of the ring's segments
-pub crosses_out : replayed worked.replay_of_a_lazy_schedule_header (rows_with (Write 65548 6145 ∷ [])) (looks_behind (NextRow ∷ Look 0 ∷ Look 0 ∷ [])) ≡ record {
+pub crosses_out : replayed (worked.three_rings 4) (rows_with (Write 65548 6145 ∷ [])) (looks_behind (NextRow ∷ Look 0 ∷ Look 0 ∷ [])) ≡ record {
   seen = seen.Row ∷ seen.Row ∷ seen.Row ∷ seen.Row ∷ seen.Crossed ∷ seen.Waited ∷ [];
   ending = Harmful 6 LooksOutside;
 }

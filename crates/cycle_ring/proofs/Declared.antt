@@ -1,6 +1,5 @@
 -- A descriptor for which there is room may be declared
-use Rattle.std.proofs.Common.{◌≡◌, ◌+◌, ◌-◌, ◌^◌, ◌<◌, ◌≤◌, ◌==◌, ◌&&◌, ◌||◌, ◌∷◌, if◌then◌else◌, ℕ, not, Bool, true, false, List, [], length, All, nat_le, nat_lt, Option, Some, None, arith, refl, sym}
-use Rattle.cycle_ring.proofs.Words.{list_any, or_parts, false≢true, nat_tests, All-weaker, All-nil, All-cons, Block, BlockKind, Fault, BadDescriptor, RingKind, Cmd, Evt, Xfer, kind, is_link, is_transfer, is_command, is_left_out_command, fault_of, is_badly_formed, is_bad_descriptor, is_no_command, has_other_type, has_left_out_type, is_transfer_arrangement, IsShape, place_count, RingView, declared, floor_number, has_no_room, place_count_pos, Progress, has_room, IsAllowed, IsEnqueuedSo, MayBeDeclared}
+use Rattle.cycle_ring.proofs.Words.{◌≡◌, ◌+◌, ◌-◌, ◌^◌, ◌<◌, ◌≤◌, ◌==◌, ◌&&◌, ◌||◌, ◌∷◌, if◌then◌else◌, ℕ, not, Bool, true, false, List, [], length, All, nat_le, nat_lt, Option, Some, None, arith, refl, sym, list_any, or_parts, false≢true, nat_tests, All-weaker, All-nil, All-cons, Block, BlockKind, Fault, BadDescriptor, RingKind, Cmd, Evt, Xfer, kind, is_link, is_transfer, is_command, is_left_out_command, fault_of, is_badly_formed, is_bad_descriptor, is_no_command, has_other_type, has_left_out_type, is_transfer_arrangement, IsShape, place_count, RingView, declared, floor_number, has_no_room, place_count_pos, Progress, has_room, IsAllowed, IsEnqueuedSo, MayBeDeclared}
 use Rattle.trb.specs.declared.kind.BlockKind.TheVariants.{Link}
 
 has_room_on_ring : (p : Progress) (v : RingView) (n : ℕ) → IsShape p.shape → p.retired ≤ p.enqueued → has_room p n ≡ true → IsEnqueuedSo p v → has_no_room p.shape v n ≡ false

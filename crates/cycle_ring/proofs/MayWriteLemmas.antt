@@ -1,6 +1,5 @@
 -- When a word may be written on a ring, by what it touches and what it gives
-use Rattle.std.proofs.Common.{◌≡◌, ◌+◌, ◌*◌, ◌%◌, ◌<◌, ◌≤◌, ◌∙◌, ℕ, true, false, List, nat_lt, All, Contains, slice_index, arith, sym, ap, ltb-true}
-use Rattle.cycle_ring.proofs.Words.{and_parts, false_from_ne_true, All-weaker, All-contains_itself, Shape, IsShape, data_places, links, place_count, address_of, is_crossing, link_address, overlap, RingView, floor_number, is_due, positions_given, crossings_given, leased_positions, leased_crossings, is_other_than_declared, is_not_declared, is_not_whole, leads_wrong, interrupts, MayWrite, place_not_link, link_aligned, links_apart, place_below, same_place_of, same_position_near, crosses, crossed_link, link_address_is, same_crossing_at, Gives, GivesCrossing, gives_is, gives_crossing_is, leased_position_is, leased_crossing_is, position_given_is, crossing_given_is}
+use Rattle.cycle_ring.proofs.Words.{◌≡◌, ◌+◌, ◌*◌, ◌%◌, ◌<◌, ◌≤◌, ◌∙◌, ℕ, true, false, List, nat_lt, All, Contains, slice_index, arith, sym, ap, ltb-true, and_parts, false_from_ne_true, All-weaker, All-contains_itself, Shape, IsShape, data_places, links, place_count, address_of, is_crossing, link_address, overlap, RingView, floor_number, is_due, positions_given, crossings_given, leased_positions, leased_crossings, is_other_than_declared, is_not_declared, is_not_whole, leads_wrong, interrupts, MayWrite, place_not_link, link_aligned, links_apart, place_below, same_place_of, same_position_near, crosses, crossed_link, link_address_is, same_crossing_at, Gives, GivesCrossing, gives_is, gives_crossing_is, leased_position_is, leased_crossing_is, position_given_is, crossing_given_is}
 
 all_in : (P : ℕ → Type 0) (xs : List ℕ) → ((x : ℕ) → Contains xs x → P x) → All P xs
 all_in P xs each = All-weaker (Contains xs) P each xs (All-contains_itself xs)

@@ -1,6 +1,5 @@
 -- What memory holds at an address after writes
-use Rattle.std.proofs.Common.{◌≡◌, ◌≢◌, ◌+◌, ◌∷◌, ◌∙◌, ◌==◌, ◌⊎◌, ℕ, zero, suc, List, [], arith, refl, ap, sym, inl, inr, Contains, eqb-true}
-use Rattle.cycle_ring.proofs.Words.{cases_Bool, nat_tests, put, Block, block_at, played}
+use Rattle.cycle_ring.proofs.Words.{◌≡◌, ◌≢◌, ◌+◌, ◌∷◌, ◌∙◌, ◌==◌, ◌⊎◌, ℕ, zero, suc, List, [], arith, refl, ap, sym, inl, inr, Contains, eqb-true, cases_Bool, nat_tests, put, Block, block_at, played}
 
 -- an element is contained in front of others, and behind another
 pub Contains-here : {A : Type 0} (x : A) (xs : List A) → Contains (x ∷ xs) x

@@ -21,6 +21,7 @@ pub use Rattle.segments.proofs.Writing.{writes_keeps}
 unfoldable pub use Rattle.segments.specs.Givings.{interrupts}
 pub use Rattle.segments.specs.declared.place.Place.{Place}
 pub use Rattle.segments.specs.declared.place.Place.TheVariants.{Data, Link}
+pub use Rattle.std.proofs.Common.{All, Bool, Contains, List, None, Option, Some, [], ap, append_assoc, arith, drop, eq-eqb, eqb-true, false, get_or, if◌then◌else◌, inl, inr, is_some, leb-true, length, length-append, lit<, lt-ltb, ltb-true, nat_le, nat_lt, ne_eqb, not, refl, slice_get, slice_index, subst, suc, sum, sym, take, take-append-drop, true, unwrap_or, zero, ℕ, ◌%◌, ◌&&◌, ◌*◌, ◌++◌, ◌+◌, ◌-◌, ◌/◌, ◌<◌, ◌==◌, ◌^◌, ◌||◌, ◌∙◌, ◌∷◌, ◌≡◌, ◌≢◌, ◌≤◌, ◌⊎◌}
 pub use Rattle.std.proofs.Math.Seq.{drop-append_seam}
 pub use Rattle.std.proofs.lemmas.List.{take-append-le}
 pub use Rattle.std.proofs.lemmas.List.Elements.{Contains-append_cases, Contains-append_left}

@@ -1,14 +1,5 @@
 -- One turn of the pass that fills the needs into the notes
-use Rattle.std.specs.Prelude.{◌≡◌, ℕ, ◌+◌, ◌<◌, ◌≤◌, ◌==◌, true, false, max, List, [], ◌∷◌, ◌++◌, ◌-◌, length, take, drop, slice_index, replicate}
-use Rattle.std.proofs.Common.{sym, ◌∙◌, ap, arith, get_or, add-one, inl, inr, eq-eqb}
-use Rattle.std.proofs.Math.ListN.{set, get_or-append}
-use Rattle.std.proofs.Math.Seq.{drop-cons, set-append_seam}
-use Rattle.std.proofs.lemmas.Bool.{cases_Bool, cond-true, cond-false, eqb-true}
-use Rattle.std.proofs.lemmas.List.{append_assoc, take_more, get_or-take, length-take-le, get_or-set_same, get_or-set_other, get_or-replicate, append-nil, take_all, drop_all}
-use Rattle.lazy_steps.specs.declared.note.Note.{Note}
-use Rattle.lazy_steps.specs.declared.note.Note.TheVariants.{Begun, Succeeded}
-use Rattle.lazy_steps.specs.Passes.{need_before, need_in, with_need, filled}
-use Rattle.lazy_steps.specs.Tables.{IsTable}
+use Rattle.lazy_steps.proofs.Words.{◌≡◌, ◌+◌, ◌<◌, ◌≤◌, ◌∷◌, ◌++◌, ◌-◌, ◌∙◌, ℕ, List, [], length, take, drop, slice_index, replicate, sym, ap, arith, get_or, add-one, append_assoc, get_or-take, length-take-le, append-nil, take_all, set, get_or-append, drop-cons, set-append_seam, take_more, get_or-replicate, drop_all, Note, need_before, need_in, with_need, filled, IsTable}
 
 -- the notes, of which those from position i on are filled
 abbrev pub filled_from : ℕ → List Note → List Note
@@ -40,46 +31,6 @@ one_filled s i d lt =
 pub need_from : (s : List Note) (i : ℕ) (d : Note) (r : ℕ) → i < length s → need_before (get_or s i d) r (need_in (drop (i + 1) s) r) ≡ need_in (drop i s) r
 unfolding need_in
 need_from s i d r lt = ap (λ (l : List Note). need_in l r) (sym (behind s i d lt))
-
-pub begun_table : (t : List ℕ) (q : ℕ) (f : ℕ → ℕ) → length t ≡ 256 → q < 256 → IsTable t f → IsTable (set t q 0) (λ r. need_before (Begun q) r (f r))
-unfolding need_before
-begun_table t q f size small is r lt =
-    elim (cases_Bool (q == r)) [
-      | inl same ↦
-          let equal : q ≡ r = eqb-true q r same in
-          ap (λ n. slice_index (set t q 0) n) (sym equal) ∙ get_or-set_same t q 0 0 (omega arith) ∙ sym (cond-true (q == r) 0 (f r) same)
-      | inr other ↦ get_or-set_other t q r 0 0 (λ e. absurd (false_true (sym other ∙ eq-eqb q r (sym e)))) ∙ is r lt ∙ sym (cond-false (q == r) 0 (f r) other)
-    ]
-  where
-    false_true : false ≡ true → ⊥
-    false_true e = cc
-
-pub raised_table : (t : List ℕ) (q m : ℕ) (f : ℕ → ℕ) → length t ≡ 256 → q < 256 → slice_index t q < m → IsTable t f → IsTable (set t q m) (λ r. need_before (Succeeded q m) r (f r))
-unfolding need_before
-raised_table t q m f size small low is r lt =
-    elim (cases_Bool (q == r)) [
-      | inl same ↦
-          let equal : q ≡ r = eqb-true q r same in
-          let held : slice_index t q ≡ f r = is q small ∙ ap f equal in
-          let most : m ≡ max m (f r) = omega arith in
-          ap (λ n. slice_index (set t q m) n) (sym equal) ∙ get_or-set_same t q m 0 (omega arith) ∙ most ∙ sym (cond-true (q == r) (max m (f r)) (f r) same)
-      | inr other ↦ get_or-set_other t q r m 0 (λ e. absurd (false_true (sym other ∙ eq-eqb q r (sym e)))) ∙ is r lt ∙ sym (cond-false (q == r) (max m (f r)) (f r) other)
-    ]
-  where
-    false_true : false ≡ true → ⊥
-    false_true e = cc
-
-pub high_table : (t : List ℕ) (q m : ℕ) (f : ℕ → ℕ) → q < 256 → m ≤ slice_index t q → IsTable t f → IsTable t (λ r. need_before (Succeeded q m) r (f r))
-unfolding need_before
-high_table t q m f small high is r lt =
-    elim (cases_Bool (q == r)) [
-      | inl same ↦
-          let equal : q ≡ r = eqb-true q r same in
-          let held : slice_index t q ≡ f r = is q small ∙ ap f equal in
-          let most : f r ≡ max m (f r) = omega arith in
-          is r lt ∙ most ∙ sym (cond-true (q == r) (max m (f r)) (f r) same)
-      | inr other ↦ is r lt ∙ sym (cond-false (q == r) (max m (f r)) (f r) other)
-    ]
 
 -- ---- a turn in terms of the code
 

@@ -7,3 +7,4 @@ pub mod Walks
 pub mod PointerTables
 pub mod RingShapes
 pub mod WalkedNotes
+pub mod Words

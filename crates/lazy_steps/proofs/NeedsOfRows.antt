@@ -1,29 +1,5 @@
 -- The notes of rows need of each ring what the rows need
-use Rattle.std.specs.Prelude.{◌≡◌, ℕ, ◌+◌, ◌==◌, ◌&&◌, ◌||◌, Bool, true, false, not, max, List, [], ◌∷◌, ◌++◌, if◌then◌else◌, map, Option, Some, None}
-use Rattle.std.proofs.Common.{refl, sym, ◌∙◌, ap, arith}
-use Rattle.std.proofs.lemmas.List.{append_assoc}
-use Rattle.trb.specs.declared.block.Block.{Block}
-use Rattle.trb.specs.declared.kind.BlockKind.{BlockKind}
-use Rattle.trb.specs.declared.kind.BlockKind.TheVariants.{TransferEvent, CommandCompletion}
-use Rattle.trb.specs.Block.{kind, code, slot}
-use Rattle.trb.specs.Kind.{is_command_completion, is_transfer_event}
-use Rattle.trb.specs.CompletionCode.{is_success, is_stopping}
-use Rattle.segments.specs.Spots.{number}
-use Rattle.traces.specs.declared.header.Header.{Header}
-use Rattle.traces.specs.declared.row.Row.{Row}
-use Rattle.traces.specs.declared.row.Row.TheVariants.{Sub, Write, Reg, Bell, Read}
-use Rattle.traces.specs.declared.step.Step.TheVariants.{NextRow}
-use Rattle.traces.specs.Header.{is_ring}
-use Rattle.ring_knowledge.specs.Known.{Known}
-use Rattle.ring_knowledge.specs.Learned.{learned}
-use Rattle.ring_knowledge.specs.Rings.{RingSpot, event_at, command_at, next_command}
-use Rattle.lazy_runs.specs.Needs.{number_behind, is_placed_by, is_placed, begins_anew, number_reported, need}
-use Rattle.lazy_runs.specs.Lazy.{post_of}
-use Rattle.lazy_steps.specs.declared.note.Note.{Note}
-use Rattle.lazy_steps.specs.declared.note.Note.TheVariants.{Begun, Succeeded, Made}
-use Rattle.lazy_steps.specs.Notes.{listed, open_stopped, placed, placed_note, reporting_look, transfer_notes, completing_look, event_notes, row_notes, notes}
-use Rattle.lazy_steps.specs.Passes.{need_before, need_in}
-use Rattle.lazy_steps.specs.Law.{NeedsLaw}
+use Rattle.lazy_steps.proofs.Words.{◌≡◌, ◌+◌, ◌==◌, ◌&&◌, ◌||◌, ◌∷◌, ◌++◌, if◌then◌else◌, ◌∙◌, ℕ, Bool, true, false, not, max, List, [], map, Option, Some, None, refl, sym, ap, arith, append_assoc, Block, BlockKind, TransferEvent, CommandCompletion, kind, code, slot, is_command_completion, is_transfer_event, is_success, is_stopping, number, Header, Row, Sub, Write, Reg, Bell, Read, NextRow, is_ring, Known, learned, RingSpot, event_at, command_at, next_command, number_behind, is_placed_by, is_placed, begins_anew, number_reported, need, post_of, Note, Begun, Succeeded, Made, listed, open_stopped, placed, placed_note, reporting_look, transfer_notes, completing_look, event_notes, row_notes, notes, need_before, need_in, NeedsLaw}
 use Rattle.lazy_steps.proofs.PlacedRings.{has, has_listed, has_placed}
 
 zero_most : (n : ℕ) → max 0 n ≡ n

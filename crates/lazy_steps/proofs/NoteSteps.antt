@@ -1,36 +1,5 @@
 -- The steps of the notes of one row are those of the lazy schedule before it
-use Rattle.std.specs.Prelude.{◌≡◌, ℕ, ◌+◌, ◌==◌, ◌&&◌, ◌||◌, Bool, true, false, List, [], ◌∷◌, ◌++◌, if◌then◌else◌, map, Option, Some, None}
-use Rattle.std.specs.List.{flat_map}
-use Rattle.std.proofs.Common.{refl, sym, ◌∙◌, ap, eq-eqb, inl, inr}
-use Rattle.std.proofs.Math.Path.{fun_ext}
-use Rattle.std.proofs.lemmas.Bool.{cases_Bool, false≢true, eqb-true}
-use Rattle.std.proofs.lemmas.List.{append_assoc}
-use Rattle.guest_memory.specs.Memory.{put}
-use Rattle.trb.specs.declared.block.Block.{Block}
-use Rattle.trb.specs.declared.kind.BlockKind.{BlockKind}
-use Rattle.trb.specs.declared.kind.BlockKind.TheVariants.{TransferEvent, CommandCompletion}
-use Rattle.trb.specs.Block.{kind, code, slot}
-use Rattle.trb.specs.Kind.{is_command_completion}
-use Rattle.trb.specs.CompletionCode.{is_success, is_stopping}
-use Rattle.segments.specs.declared.spot.Spot.{Spot}
-use Rattle.segments.specs.Spots.{number}
-use Rattle.segments.specs.Ceiling.{is_open}
-use Rattle.commands.specs.declared.command.Command.{Command}
-use Rattle.commands.specs.declared.command.Command.TheVariants.{StopEndpoint}
-use Rattle.traces.specs.declared.header.Header.{Header}
-use Rattle.traces.specs.declared.row.Row.{Row}
-use Rattle.traces.specs.declared.row.Row.TheVariants.{Sub, Write, Reg, Bell, Read}
-use Rattle.traces.specs.declared.step.Step.{Step}
-use Rattle.traces.specs.Header.{command_id}
-use Rattle.ring_knowledge.specs.Known.{Known}
-use Rattle.ring_knowledge.specs.Learned.{learned}
-use Rattle.ring_knowledge.specs.Rings.{RingSpot, event_at, command_at, next_command}
-use Rattle.lazy_runs.specs.Needs.{is_placed_by, is_placed, need}
-use Rattle.lazy_runs.specs.Lazy.{taken_up_to, stop_goal, command_taken, report_goals, open_goals, stopped_goals, goals, post_of, looks_to, steps_before, brought, pointers_after}
-use Rattle.lazy_steps.specs.declared.note.Note.{Note}
-use Rattle.lazy_steps.specs.declared.note.Note.TheVariants.{Begun, Succeeded, Taken, StoppedAt, StoppedOpen, Made}
-use Rattle.lazy_steps.specs.Notes.{listed, if_open, open_stopped, placed, placed_note, reporting_look, transfer_notes, completing_look, event_notes, row_notes}
-use Rattle.lazy_steps.specs.Passes.{need_before, need_in, with_need, filled, note_goals, note_steps, pointers_behind, steps_of}
+use Rattle.lazy_steps.proofs.Words.{◌≡◌, ◌+◌, ◌==◌, ◌&&◌, ◌||◌, ◌∷◌, ◌++◌, if◌then◌else◌, ◌∙◌, ℕ, Bool, true, false, List, [], map, Option, Some, None, refl, sym, ap, eq-eqb, inl, inr, eqb-true, append_assoc, flat_map, fun_ext, cases_Bool, false≢true, put, Block, BlockKind, TransferEvent, CommandCompletion, kind, code, slot, is_command_completion, is_success, is_stopping, Spot, number, is_open, Command, StopEndpoint, Header, Row, Sub, Write, Reg, Bell, Read, Step, command_id, Known, learned, RingSpot, event_at, command_at, next_command, is_placed_by, is_placed, need, taken_up_to, stop_goal, command_taken, report_goals, open_goals, stopped_goals, goals, post_of, looks_to, steps_before, brought, pointers_after, Note, Begun, Succeeded, Taken, StoppedAt, StoppedOpen, Made, listed, if_open, open_stopped, placed, placed_note, reporting_look, transfer_notes, completing_look, event_notes, row_notes, need_before, need_in, with_need, filled, note_goals, note_steps, pointers_behind, steps_of}
 use Rattle.lazy_steps.proofs.PlacedRings.{has, has_placed}
 use Rattle.lazy_steps.proofs.NeedsOfRows.{placed_need}
 

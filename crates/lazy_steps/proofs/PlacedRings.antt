@@ -1,20 +1,5 @@
 -- The rings that an event's command binds or moves, as a list and as a test
-use Rattle.std.specs.Prelude.{◌≡◌, ℕ, ◌==◌, ◌&&◌, ◌||◌, Bool, true, false, List, [], ◌∷◌, if◌then◌else◌, Option, Some, None}
-use Rattle.std.specs.List.{list_any}
-use Rattle.std.proofs.Common.{refl, ◌∙◌, ap}
-use Rattle.std.proofs.Math.Bool.{or-false}
-use Rattle.std.proofs.lemmas.List.Folds.{list_any-append}
-use Rattle.trb.specs.declared.block.Block.{Block}
-use Rattle.trb.specs.Block.{code, slot}
-use Rattle.commands.specs.declared.command.Command.{Command}
-use Rattle.commands.specs.Changes.{Change, changes}
-use Rattle.traces.specs.declared.header.Header.{Header}
-use Rattle.traces.specs.Header.{is_ring}
-use Rattle.ring_knowledge.specs.Known.{Known}
-use Rattle.ring_knowledge.specs.Rings.{command_at, next_command}
-use Rattle.ring_knowledge.specs.Completions.{changed_by}
-use Rattle.lazy_runs.specs.Needs.{ring_placed, is_placed_by_all, is_placed_by}
-use Rattle.lazy_steps.specs.Notes.{listed, placed_by_all, placed_by, placed}
+use Rattle.lazy_steps.proofs.Words.{◌≡◌, ◌==◌, ◌&&◌, ◌||◌, ◌∷◌, if◌then◌else◌, ◌∙◌, ℕ, Bool, true, false, List, [], Option, Some, None, refl, ap, list_any, or-false, list_any-append, Block, code, slot, Command, Change, changes, Header, is_ring, Known, command_at, next_command, changed_by, ring_placed, is_placed_by_all, is_placed_by, listed, placed_by_all, placed_by, placed}
 
 abbrev pub has : ℕ → List ℕ → Bool
 has r rings = list_any (λ q. q == r) rings

@@ -1,19 +1,5 @@
 -- Pointers in a table, by ring ID
-use Rattle.std.specs.Prelude.{◌≡◌, ℕ, suc, zero, ◌<◌, ◌==◌, true, false, if◌then◌else◌, List, length, nat_lt, Result, Ok, Err, OnOk}
-use Rattle.std.specs.declared.alloc.AllocError.{AllocError}
-use Rattle.std.proofs.Common.{sym, ◌∙◌, ap, add-one, arith, get_or, inl, inr, eq-eqb}
-use Rattle.std.proofs.Math.ListN.{set}
-use Rattle.std.proofs.Math.Path.{fun_ext}
-use Rattle.std.proofs.lemmas.Bool.{cases_Bool, cond-true, cond-false, eqb-true, false≢true}
-use Rattle.std.proofs.lemmas.List.{get_or-set_same, get_or-set_other}
-use Rattle.guest_memory.specs.Memory.{put}
-use Rattle.segments.specs.ShapeValue.{Shape}
-use Rattle.segments.specs.Places.{is_crossing}
-use Rattle.segments.specs.declared.spot.Spot.{Spot}
-use Rattle.segments.specs.declared.spot.Spot.TheVariants.{Data, Link}
-use Rattle.segments.specs.Spots.{rank}
-use Rattle.lazy_runs.specs.Lazy.{behind_taken, further}
-use Rattle.lazy_steps.specs.Tables.{spot_in}
+use Rattle.lazy_steps.proofs.Words.{◌≡◌, ◌<◌, ◌==◌, if◌then◌else◌, ◌∙◌, ℕ, suc, zero, true, false, List, length, nat_lt, Result, Ok, Err, OnOk, sym, ap, add-one, arith, get_or, inl, inr, eq-eqb, eqb-true, get_or-set_same, get_or-set_other, AllocError, set, fun_ext, cases_Bool, cond-true, cond-false, false≢true, put, Shape, is_crossing, Spot, Data, Link, rank, behind_taken, further, spot_in}
 
 pub some_taken : (shape : Shape) (n : ℕ) → 0 < n → (if is_crossing shape n then Link n else Data n) ≡ behind_taken shape n
 unfolding behind_taken

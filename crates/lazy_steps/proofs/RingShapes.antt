@@ -1,15 +1,5 @@
 -- The shape of an ID, by the number that a search finds
-use Rattle.std.specs.Prelude.{◌≡◌, ℕ, ◌==◌, List, Bool, Some, None, length, nat_lt, position, slice_get}
-use Rattle.std.specs.List.{position_or_len}
-use Rattle.std.proofs.Common.{refl, sym, ◌∙◌, ap, get_or, inl, inr}
-use Rattle.std.proofs.lemmas.Bool.{cases_Bool, cond-true, cond-false}
-use Rattle.std.proofs.lemmas.List.Folds.{find_at}
-use Rattle.trb.specs.declared.ring_kind.RingKind.TheVariants.{Xfer}
-use Rattle.traces.specs.declared.ring.Ring.{Ring}
-use Rattle.traces.specs.declared.header.Header.{Header}
-use Rattle.traces.specs.Header.{no_shape, shape_or, shape_of}
-use Rattle.ring_finder.proofs.HeaderRings.{not_found}
-use Rattle.ring_finder.proofs.FoundRings.{ring_here, none_here}
+use Rattle.lazy_steps.proofs.Words.{◌≡◌, ◌==◌, ◌∙◌, ℕ, List, Bool, Some, None, length, nat_lt, position, slice_get, refl, sym, ap, get_or, inl, inr, position_or_len, cases_Bool, cond-true, cond-false, find_at, Xfer, Ring, Header, no_shape, shape_or, shape_of, not_found, ring_here, none_here}
 
 found_first : (p : Ring → Bool) (rings : List Ring) (n : ℕ) → position p rings ≡ Some n → position_or_len p rings ≡ n
 found_first p rings n some =

@@ -1,21 +1,5 @@
 -- The steps of a trace's notes are its lazy schedule
-use Rattle.std.specs.Prelude.{◌≡◌, ℕ, List, [], ◌∷◌, ◌++◌, reverse}
-use Rattle.std.proofs.Common.{refl, sym, ◌∙◌, ap}
-use Rattle.std.proofs.lemmas.List.{append-nil, append_assoc, reverse-append, reverse-reverse}
-use Rattle.segments.specs.declared.spot.Spot.{Spot}
-use Rattle.traces.specs.declared.header.Header.{Header}
-use Rattle.traces.specs.declared.row.Row.{Row}
-use Rattle.traces.specs.declared.step.Step.{Step}
-use Rattle.traces.specs.declared.step.Step.TheVariants.{NextRow}
-use Rattle.ring_knowledge.specs.Known.{Known}
-use Rattle.ring_knowledge.specs.Learned.{learned, known}
-use Rattle.safety.proofs.HeadlineFrom.{one_more}
-use Rattle.lazy_runs.specs.Lazy.{steps_before, brought, pointers_after, pointers_at, lazy_run, lazy_steps}
-use Rattle.lazy_steps.specs.declared.note.Note.{Note}
-use Rattle.lazy_steps.specs.declared.note.Note.TheVariants.{Made}
-use Rattle.lazy_steps.specs.Notes.{notes}
-use Rattle.lazy_steps.specs.Passes.{need_before, need_in, with_need, filled, note_goals, note_steps, pointers_behind, steps_of}
-use Rattle.lazy_steps.specs.Law.{StepsLaw}
+use Rattle.lazy_steps.proofs.Words.{◌≡◌, ◌∷◌, ◌++◌, ◌∙◌, ℕ, List, [], reverse, refl, sym, ap, append-nil, append_assoc, reverse-append, reverse-reverse, Spot, Header, Row, Step, NextRow, Known, learned, known, one_more, steps_before, brought, pointers_after, pointers_at, lazy_run, lazy_steps, Note, Made, notes, need_before, need_in, with_need, filled, note_goals, note_steps, pointers_behind, steps_of, StepsLaw}
 use Rattle.lazy_steps.proofs.NeedsOfRows.{needs_law}
 use Rattle.lazy_steps.proofs.NoteSteps.{row_steps}
 

@@ -1,21 +1,5 @@
 -- The steps of a note, and where the pointers stand behind it, by what the code has done
-use Rattle.std.specs.Prelude.{◌≡◌, ℕ, ◌+◌, ◌<◌, ◌≤◌, ◌⊎◌, List, [], ◌∷◌, ◌++◌, length, drop, replicate}
-use Rattle.std.specs.List.{flat_map}
-use Rattle.std.proofs.Common.{refl, sym, ◌∙◌, ap, get_or, add-one, zero, suc, inl, inr}
-use Rattle.std.proofs.Math.Path.{fun_ext}
-use Rattle.std.proofs.Math.Seq.{drop-cons}
-use Rattle.std.proofs.lemmas.List.{append_assoc, append-nil, drop_all}
-use Rattle.guest_memory.specs.Memory.{put}
-use Rattle.segments.specs.declared.spot.Spot.{Spot}
-use Rattle.segments.specs.declared.spot.Spot.TheVariants.{Data}
-use Rattle.traces.specs.declared.header.Header.{Header}
-use Rattle.traces.specs.declared.step.Step.{Step}
-use Rattle.ring_knowledge.specs.Rings.{RingSpot}
-use Rattle.lazy_runs.specs.Lazy.{further, looks_to, brought, stop_goal, taken_up_to}
-use Rattle.lazy_steps.specs.declared.note.Note.{Note}
-use Rattle.lazy_steps.specs.declared.note.Note.TheVariants.{Begun, Succeeded, Taken, StoppedAt, StoppedOpen, Made, Placed}
-use Rattle.lazy_steps.specs.Passes.{note_goals, note_steps, pointers_behind, steps_of}
-use Rattle.lazy_steps.specs.Tables.{spot_in}
+use Rattle.lazy_steps.proofs.Words.{◌≡◌, ◌+◌, ◌<◌, ◌≤◌, ◌⊎◌, ◌∷◌, ◌++◌, ◌∙◌, ℕ, List, [], length, drop, replicate, refl, sym, ap, get_or, add-one, zero, suc, inl, inr, append_assoc, append-nil, flat_map, fun_ext, drop-cons, drop_all, put, Spot, Data, Header, Step, RingSpot, further, looks_to, brought, stop_goal, taken_up_to, Note, Begun, Succeeded, Taken, StoppedAt, StoppedOpen, Made, Placed, note_goals, note_steps, pointers_behind, steps_of, spot_in}
 
 module _ (h : Header) where
   pub one_looked : (p : ℕ → Spot) (made now : List Step) (a : RingSpot) → now ≡ made ++ looks_to h p a → now ≡ made ++ flat_map (looks_to h p) (a ∷ [])

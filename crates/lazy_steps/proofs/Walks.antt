@@ -1,17 +1,5 @@
 -- The spots before another one, one by one
-use Rattle.std.specs.Prelude.{◌≡◌, ℕ, suc, zero, ◌+◌, ◌-◌, ◌*◌, ◌<◌, ◌≤◌, Bool, true, false, if◌then◌else◌, List, [], ◌∷◌, ◌++◌, ◌^◌, nat_lt, filter, map}
-use Rattle.std.proofs.Common.{refl, sym, ◌∙◌, ap, arith}
-use Rattle.std.proofs.lemmas.Bool.{cond-true, cond-false}
-use Rattle.std.proofs.lemmas.Bool.Decides.{nat_tests}
-use Rattle.std.proofs.lemmas.List.{append_assoc, append-nil}
-use Rattle.segments.specs.ShapeValue.{Shape}
-use Rattle.segments.specs.Places.{is_crossing}
-use Rattle.segments.specs.declared.spot.Spot.{Spot}
-use Rattle.segments.specs.declared.spot.Spot.TheVariants.{Data, Link}
-use Rattle.segments.specs.Spots.{number, rank, next, spots_from}
-use Rattle.traces.specs.declared.step.Step.{Step}
-use Rattle.traces.specs.declared.step.Step.TheVariants.{Look}
-use Rattle.lazy_runs.specs.Lazy.{spots_before}
+use Rattle.lazy_steps.proofs.Words.{◌≡◌, ◌+◌, ◌-◌, ◌*◌, ◌<◌, ◌≤◌, if◌then◌else◌, ◌∷◌, ◌++◌, ◌∙◌, ℕ, suc, zero, Bool, true, false, List, [], nat_lt, filter, map, refl, sym, ap, arith, append_assoc, append-nil, cond-true, cond-false, nat_tests, Shape, is_crossing, Spot, Data, Link, number, rank, next, spots_from, Step, Look, spots_before}
 
 number_low : (s : Spot) → 2 * number s ≤ rank s
 number_low (Data q) = omega arith
@@ -77,7 +65,3 @@ one_look made ring shape s t before =
 
 pub no_look : (made : List Step) (ring : ℕ) (shape : Shape) (s t : Spot) → rank t ≤ rank s → made ++ map (λ u. Look ring) (spots_before shape s t) ≡ made
 no_look made ring shape s t past = ap (λ (l : List Spot). made ++ map (λ u. Look ring) l) (walk_ends shape t s past) ∙ append-nil made
-
-pub rank_below : (s : Spot) → number s < 2 ^ 64 → rank s < 2 ^ 65
-rank_below (Data q) fits = omega arith
-rank_below (Link q) fits = omega arith

@@ -1,6 +1,5 @@
 -- The completion of a command leaves the device context of a slot that it disables, and no other
-use Rattle.std.proofs.Common.{◌≡◌, ◌==◌, if◌then◌else◌, ◌∷◌, ◌∙◌, ℕ, Bool, true, false, List, [], map, Option, Some, None, ap, refl}
-use Rattle.lease_book.proofs.Words.{cond_both, added_endpoints, is_dropped, Trb, code, slot, Spot, target, Command, NoOp, EnableSlot, DisableSlot, AddressDevice, ConfigureEndpoint, EvaluateContext, ResetEndpoint, StopEndpoint, SetTrDequeue, ResetDevice, is_off, Change, SlotGoesOn, DeviceLeft, Disables, Places, Stops, Resets, changes, placed_by_context, Header, ring_beginning_at, shape_of, Known, command_at, next_command, on_ring, bound_to, changed_by, changed_by_all, completed, disabled, finished, held_at_ceiling, in_state, moved, moved_to, pointed, set_to, stop_ended, succeeded, devices_without, slot_disabled, slot_left}
+use Rattle.lease_book.proofs.Words.{◌≡◌, ◌==◌, if◌then◌else◌, ◌∷◌, ◌∙◌, ℕ, Bool, true, false, List, [], map, Option, Some, None, ap, refl, cond_both, added_endpoints, is_dropped, Trb, code, slot, Spot, target, Command, NoOp, EnableSlot, DisableSlot, AddressDevice, ConfigureEndpoint, EvaluateContext, ResetEndpoint, StopEndpoint, SetTrDequeue, ResetDevice, is_off, Change, SlotGoesOn, DeviceLeft, Disables, Places, Stops, Resets, changes, placed_by_context, Header, ring_beginning_at, shape_of, Known, command_at, next_command, on_ring, bound_to, changed_by, changed_by_all, completed, disabled, finished, held_at_ceiling, in_state, moved, moved_to, pointed, set_to, stop_ended, succeeded, devices_without, slot_disabled, slot_left}
 
 -- the change lets no device context go
 abbrev Holds : Change → Type 0
@@ -12,9 +11,6 @@ AllHold [] = Unit {0}
 AllHold (change ∷ rest) = Holds change × AllHold rest
 
 module _ (h : Header) where
-  SameDevice : Known → Known → Type 0
-  SameDevice k l = l.device ≡ k.device
-
   bound_device : (k : Known) (s i : ℕ) (o : Option ℕ) → (bound_to h k s i o).device ≡ k.device
   unfolding bound_to set_to on_ring
   bound_device k s i None = refl

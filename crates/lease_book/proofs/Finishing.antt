@@ -1,6 +1,5 @@
 -- What is lent after the end of a command: what its completion passes and lets go of ends, and nothing begins
-use Rattle.std.proofs.Common.{◌≡◌, ◌+◌, ◌≤◌, ◌∷◌, ℕ, List, length, map, Option}
-use Rattle.lease_book.proofs.Words.{Header, Ring, Row, driver_rings, Known, known, learned, without_end, IsIn, ended_where, lents, let_go}
+use Rattle.lease_book.proofs.Words.{◌≡◌, ◌+◌, ◌≤◌, ◌∷◌, ℕ, List, length, map, Option, Header, Ring, Row, driver_rings, Known, known, learned, without_end, IsIn, ended_where, lents, let_go}
 use Rattle.lease_book.proofs.LettingGo.{Finishes, ranges_narrow}
 use Rattle.lease_book.proofs.Narrowing.{floors, is_left, narrows}
 use Rattle.lease_book.proofs.PassedLeases.{Moves}

@@ -1,6 +1,5 @@
 -- Before the first row no range that ends is under lease
-use Rattle.std.proofs.Common.{◌*◌, ℕ, [], map, sym, subst}
-use Rattle.lease_book.proofs.Words.{Segment, Header, event_shape, nothing, Leased, Block, Link, Range, EventSegment, SegmentTable, InputContext, SlotEntry, DeviceContext, open_leases, segment_ranges, IsIn, RangeIndexes, begun_at, in_turn, lents, with_begun, FindsRanges, IsRangeFound}
+use Rattle.lease_book.proofs.Words.{◌*◌, ℕ, [], map, sym, subst, Segment, Header, event_shape, nothing, Leased, Block, Link, Range, EventSegment, SegmentTable, InputContext, SlotEntry, DeviceContext, open_leases, segment_ranges, IsIn, RangeIndexes, begun_at, in_turn, lents, with_begun, FindsRanges, IsRangeFound}
 use Rattle.lease_book.proofs.FirstBook.{open_at_first}
 use Rattle.lease_book.proofs.Rows.{all_new, from_turn}
 use Rattle.lease_book.proofs.Members.{from_map}

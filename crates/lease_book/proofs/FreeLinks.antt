@@ -1,6 +1,5 @@
 -- No lease that is open shares its Link with a due crossing that isn't given
-use Rattle.std.proofs.Common.{◌≡◌, ◌+◌, ◌<◌, ◌≤◌, ◌==◌, ◌&&◌, ◌∙◌, ℕ, true, false, not, nat_lt, List, length, max, Some, arith, sym, ap, refl, inl, inr, subst, eqb-true}
-use Rattle.lease_book.proofs.Words.{flat_map, cases_Bool, false≢true, and_parts, nat_tests, Shape, IsShape, is_crossing, place_count, link_of, RingView, floor_number, crossed_link, crossing_positive, Header, Ring, Row, driver_rings, shape_of, Known, known, link_of-crossed, same_due_crossing, Leased, Block, Link, Range, is_among, open_leases, open_on, open_ranges, without_end, IsIn, among_is, is_place_free, lents, share_a_place}
+use Rattle.lease_book.proofs.Words.{◌≡◌, ◌+◌, ◌<◌, ◌≤◌, ◌==◌, ◌&&◌, ◌∙◌, ℕ, true, false, not, nat_lt, List, length, max, Some, arith, sym, ap, refl, inl, inr, subst, eqb-true, flat_map, cases_Bool, false≢true, and_parts, nat_tests, Shape, IsShape, is_crossing, place_count, link_of, RingView, floor_number, crossed_link, crossing_positive, Header, Ring, Row, driver_rings, shape_of, Known, known, link_of-crossed, same_due_crossing, Leased, Block, Link, Range, is_among, open_leases, open_on, open_ranges, without_end, IsIn, among_is, is_place_free, lents, share_a_place}
 use Rattle.lease_book.proofs.FreePlaces.{none_shares}
 use Rattle.lease_book.proofs.Members.{InOn, block, link, from_flat_map, in_either, in_on}
 use Rattle.lease_book.proofs.RangesAlone.{IsRange, open_are_ranges}

@@ -1,6 +1,5 @@
 -- No lease that is open shares its place with a position that isn't given
-use Rattle.std.proofs.Common.{◌≡◌, ◌+◌, ◌%◌, ◌<◌, ◌≤◌, ◌==◌, ◌&&◌, ◌∷◌, ◌∙◌, ℕ, Bool, true, false, not, List, [], length, sym, ap, refl, inl, inr, subst, eqb-true}
-use Rattle.lease_book.proofs.Words.{flat_map, list_any, cases_Bool, false≢true, and_parts, Shape, place_count, floor_number, Header, Ring, Row, driver_rings, shape_of, Known, known, same_due, Leased, Block, Link, Range, is_among, open_leases, open_on, open_ranges, without_end, IsIn, among_is, Lent, is_place_free, is_unended, lents, share_a_place, AllUnended}
+use Rattle.lease_book.proofs.Words.{◌≡◌, ◌+◌, ◌%◌, ◌<◌, ◌≤◌, ◌==◌, ◌&&◌, ◌∷◌, ◌∙◌, ℕ, Bool, true, false, not, List, [], length, sym, ap, refl, inl, inr, subst, eqb-true, flat_map, list_any, cases_Bool, false≢true, and_parts, Shape, place_count, floor_number, Header, Ring, Row, driver_rings, shape_of, Known, known, same_due, Leased, Block, Link, Range, is_among, open_leases, open_on, open_ranges, without_end, IsIn, among_is, Lent, is_place_free, is_unended, lents, share_a_place, AllUnended}
 use Rattle.lease_book.proofs.Members.{InOn, block, link, from_flat_map, in_either, in_on}
 use Rattle.lease_book.proofs.RangesAlone.{IsRange, open_are_ranges}
 use Rattle.lease_book.proofs.Rows.{unended_open}

@@ -1,7 +1,6 @@
 -- Where a slot has no device, no range is lent for its entry in the DCBAA, nor for its device context; where a due position isn't given, none
 -- for the input context of its command
-use Rattle.std.proofs.Common.{◌≡◌, ◌+◌, ◌*◌, ◌<◌, ◌≤◌, ◌==◌, ◌∷◌, ◌++◌, ◌∙◌, ℕ, true, false, not, List, [], length, Option, Some, None, sym, ap, refl, inl, inr, subst, eqb-true}
-use Rattle.lease_book.proofs.Words.{flat_map, range_with_len, cases_Bool, false≢true, Command, named_context, Segment, place_count, RingView, due_positions, floor_number, Header, Ring, Row, Erstba, command_id, driver_rings, event_shape, shape_of, Known, known, same_due, Leased, Block, Link, Range, EventSegment, SegmentTable, InputContext, SlotEntry, DeviceContext, is_among, open_leases, open_on, open_ranges, segment_ranges, table_range, context_ranges, range_of_command, range_of_context, entry_ranges, range_of_entry, device_ranges, range_of_device, slots, without_end, IsIn, among_is, from_filter, lents, command_place, is_use_free, shares_use}
+use Rattle.lease_book.proofs.Words.{◌≡◌, ◌+◌, ◌*◌, ◌<◌, ◌≤◌, ◌==◌, ◌∷◌, ◌++◌, ◌∙◌, ℕ, true, false, not, List, [], length, Option, Some, None, sym, ap, refl, inl, inr, subst, eqb-true, flat_map, range_with_len, cases_Bool, false≢true, Command, named_context, Segment, place_count, RingView, due_positions, floor_number, Header, Ring, Row, Erstba, command_id, driver_rings, event_shape, shape_of, Known, known, same_due, Leased, Block, Link, Range, EventSegment, SegmentTable, InputContext, SlotEntry, DeviceContext, is_among, open_leases, open_on, open_ranges, segment_ranges, table_range, context_ranges, range_of_command, range_of_context, entry_ranges, range_of_entry, device_ranges, range_of_device, slots, without_end, IsIn, among_is, from_filter, lents, command_place, is_use_free, shares_use}
 use Rattle.ring_knowledge.specs.Rings as rings
 use Rattle.lease_book.proofs.FreePlaces.{none_shares}
 use Rattle.lease_book.proofs.Members.{InOn, block, link, from_flat_map, from_map, from_range, in_either, in_on}

@@ -1,7 +1,6 @@
 -- What is lent after any write: what it gives begins, with the input context of the command that it gives, and the entry and the device
 -- context of a slot that takes one; nothing ends
-use Rattle.std.proofs.Common.{◌≡◌, ◌≢◌, ◌+◌, ◌<◌, ◌≤◌, ◌==◌, ◌&&◌, ◌||◌, if◌then◌else◌, ◌∷◌, ◌++◌, ◌∙◌, ℕ, Bool, true, false, not, List, [], filter, length, map, Option, Some, None, option_and_then, slice_get, zero, suc, arith, sym, ap, refl, inl, inr, subst, eqb-true, eq-eqb, append-nil}
-use Rattle.lease_book.proofs.Words.{flat_map, range_with_len, cases_Bool, false≢true, or_left, filter-append, place_count, RingView, due_positions, floor_number, gives, leased_crossings, leased_positions, positions_given, command_of, device_context_bytes, Header, Ring, Row, Write, Erstba, command_id, driver_rings, shape_of, Known, known, learned, command_given, entry_of, taken_device, with_device, with_word, written, Leased, Block, Link, Range, Use, InputContext, SlotEntry, DeviceContext, context_ranges, device_ranges, entry_ranges, is_among, open_leases, open_on, open_ranges, range_of_command, range_of_device, range_of_entry, segment_ranges, slots, table_range, begun, without_end, IsIn, among_is, from_filter, in_among, in_filter, in_turn, lents, with_begun}
+use Rattle.lease_book.proofs.Words.{◌≡◌, ◌≢◌, ◌+◌, ◌<◌, ◌≤◌, ◌==◌, ◌&&◌, ◌||◌, if◌then◌else◌, ◌∷◌, ◌++◌, ◌∙◌, ℕ, Bool, true, false, not, List, [], filter, length, map, Option, Some, None, option_and_then, slice_get, zero, suc, arith, sym, ap, refl, inl, inr, subst, eqb-true, eq-eqb, append-nil, flat_map, range_with_len, cases_Bool, false≢true, or_left, filter-append, place_count, RingView, due_positions, floor_number, gives, leased_crossings, leased_positions, positions_given, command_of, device_context_bytes, Header, Ring, Row, Write, Erstba, command_id, driver_rings, shape_of, Known, known, learned, command_given, entry_of, taken_device, with_device, with_word, written, Leased, Block, Link, Range, Use, InputContext, SlotEntry, DeviceContext, context_ranges, device_ranges, entry_ranges, is_among, open_leases, open_on, open_ranges, range_of_command, range_of_device, range_of_entry, segment_ranges, slots, table_range, begun, without_end, IsIn, among_is, from_filter, in_among, in_filter, in_turn, lents, with_begun}
 use Rattle.ring_knowledge.specs.Rings as rings
 use Rattle.lease_book.proofs.FreeRanges.{of_open}
 use Rattle.lease_book.proofs.LettingGo.{HasUse, use_of_command}

@@ -1,7 +1,5 @@
 -- The leases of a trace are what was and is lent after its rows
-use Rattle.std.proofs.Common.{◌≡◌, ◌+◌, ◌<◌, ◌≤◌, ◌==◌, ◌∷◌, ◌++◌, ◌∙◌, ℕ, Bool, true, false, not, List, [], length, map, reverse, arith, sym, ap, refl, inl, inr, cond, eqb-true, append-nil}
-use Rattle.lease_book.proofs.Words.{cases_Bool, nat_tests, Header, Row, Lease, Known, nothing, learned, known, Leased, Block, Link, Range, is_among, open_leases, as_lease, begun, comes_before, end_from, in_order, leases, leases_from, with_ends, with_lease, without_end, Lent, lease_of, is_unended, begun_at, precedes, with_leased, in_turn, ended_where, with_begun, grown, lents}
-use mathlib.Core.List.{reverse_aux}
+use Rattle.lease_book.proofs.Words.{◌≡◌, ◌+◌, ◌<◌, ◌≤◌, ◌==◌, ◌∷◌, ◌++◌, ◌∙◌, ℕ, Bool, true, false, not, List, [], length, map, reverse, arith, sym, ap, refl, inl, inr, cond, eqb-true, append-nil, reverse_aux, cases_Bool, nat_tests, Header, Row, Lease, Known, nothing, learned, known, Leased, Block, Link, Range, is_among, open_leases, as_lease, begun, comes_before, end_from, in_order, leases, leases_from, with_ends, with_lease, without_end, Lent, lease_of, is_unended, begun_at, precedes, with_leased, in_turn, ended_where, with_begun, grown, lents}
 
 -- when a lease begins and ends doesn't matter for its place
 placed_alike : (a b : Leased) (f e g d : ℕ) → comes_before (as_lease f e a) (as_lease g d b) ≡ precedes a b

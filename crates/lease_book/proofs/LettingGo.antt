@@ -1,6 +1,5 @@
 -- A command comes to its end: the range of its input context is let go, and with a slot that is disabled those of its entry and device context
-use Rattle.std.proofs.Common.{◌≡◌, ◌≢◌, ◌+◌, ◌<◌, ◌≤◌, ◌==◌, ◌&&◌, if◌then◌else◌, ◌∷◌, ◌++◌, ◌*◌, ◌∙◌, ◌⊎◌, ℕ, Bool, true, false, not, nat_lt, List, [], filter, Option, Some, None, arith, sym, ap, refl, inl, inr, subst, eqb-true, eq-eqb, ltb-true}
-use Rattle.lease_book.proofs.Words.{flat_map, range_with_len, cases_Bool, false≢true, and_parts, and_from, nat_tests, Segment, place_count, RingView, due_positions, floor_number, Command, named_context, device_context_bytes, Header, Erstba, command_id, driver_rings, event_shape, shape_of, Known, entry_of, Leased, Block, Link, Range, Use, EventSegment, SegmentTable, InputContext, SlotEntry, DeviceContext, context_ranges, device_ranges, entry_ranges, is_among, open_leases, open_on, open_ranges, range_of_command, range_of_context, range_of_device, range_of_entry, segment_ranges, slots, table_range, IsIn, among_is, both_ways, from_filter, in_among, in_filter, devices_without, let_go, slot_ranges}
+use Rattle.lease_book.proofs.Words.{◌≡◌, ◌≢◌, ◌+◌, ◌<◌, ◌≤◌, ◌==◌, ◌&&◌, if◌then◌else◌, ◌∷◌, ◌++◌, ◌*◌, ◌∙◌, ◌⊎◌, ℕ, Bool, true, false, not, nat_lt, List, [], filter, Option, Some, None, arith, sym, ap, refl, inl, inr, subst, eqb-true, eq-eqb, ltb-true, range_with_len, cases_Bool, false≢true, and_parts, and_from, nat_tests, Segment, place_count, RingView, due_positions, floor_number, Command, named_context, device_context_bytes, Header, Erstba, command_id, event_shape, shape_of, Known, entry_of, Leased, Block, Link, Range, Use, EventSegment, SegmentTable, InputContext, SlotEntry, DeviceContext, context_ranges, device_ranges, entry_ranges, is_among, open_ranges, range_of_command, range_of_context, range_of_device, range_of_entry, segment_ranges, slots, table_range, IsIn, among_is, both_ways, from_filter, in_among, in_filter, devices_without, let_go, slot_ranges}
 use Rattle.ring_knowledge.specs.Rings as rings
 use Rattle.lease_book.proofs.Members.{from_flat_map, from_map, from_range, in_either, in_flat_map, in_left, in_range, in_right}
 use Rattle.lease_book.proofs.PassedLeases.{IsWithinLap, not_false}
@@ -105,43 +104,6 @@ module _ (h : Header) where
       elim (in_either l (range_of_command h n (rings.command_at h k n)) (slot_ranges h k left) (among_is (let_go h k left) l among)) [
         | inl context ↦ is_range (InputContext n) l (use_of_command n (rings.command_at h k n) l context)
         | inr slot ↦ let found = use_of_slot k left l slot in elim found.2 [ inl entry ↦ is_range (SlotEntry found.0) l entry | inr device ↦ is_range (DeviceContext found.0) l device ]
-      ]
-
-  -- they were open
-  pub gone_were_open : (k : Known) (left : Option ℕ) → ((c : Command) → rings.command_at h k (rings.next_command h k) ≡ Some c → IsIn (rings.next_command h k) (rings.unfinished_positions h k)) →
-      ((s d : ℕ) → left ≡ Some s → k.device s ≡ Some d → IsIn s slots) → (l : Leased) → is_among (let_go h k left) l ≡ true → is_among (open_leases h k) l ≡ true
-  unfolding open_leases open_ranges context_ranges entry_ranges device_ranges
-  gone_were_open k left unfinished slot l among =
-      let n : ℕ = rings.next_command h k in
-      let s = segment_ranges h in
-      let t = table_range h (k.register Erstba) in
-      let c = context_ranges h k in
-      let e = entry_ranges k in
-      let d = device_ranges h k in
-      in_among (open_leases h k) l (in_right l (flat_map (open_on h k) (driver_rings h)) (s ++ t ++ c ++ e ++ d)
-      (elim (in_either l (range_of_command h n (rings.command_at h k n)) (slot_ranges h k left) (among_is (let_go h k left) l among)) [
-        | inl context ↦
-            in_left l (s ++ t ++ c ++ e) d (in_left l (s ++ t ++ c) e (in_right l (s ++ t) c
-            (in_flat_map (λ p. range_of_command h p (rings.command_at h k p)) (rings.unfinished_positions h k) n l (some_command (rings.command_at h k n) refl context) context)))
-        | inr of_slot ↦ by left refl of_slot
-      ]))
-    where
-      some_command : (o : Option Command) → rings.command_at h k (rings.next_command h k) ≡ o → IsIn l (range_of_command h (rings.next_command h k) o) → IsIn (rings.next_command h k) (rings.unfinished_positions h k)
-      some_command None is at = absurd (no_command (rings.next_command h k) l at)
-      some_command (Some c) is at = unfinished c is
-
-      by : (o : Option ℕ) → left ≡ o → IsIn l (slot_ranges h k o) → IsIn l (segment_ranges h ++ table_range h (k.register Erstba) ++ context_ranges h k ++ entry_ranges k ++ device_ranges h k)
-      by None is at = absurd at
-      by (Some x) is at = elim (in_either l (range_of_entry k x (k.device x)) (range_of_device h x (k.device x)) at) [
-        | inl entry ↦
-            let one = in_entry k x (k.device x) l entry in
-            in_left l (segment_ranges h ++ table_range h (k.register Erstba) ++ context_ranges h k ++ entry_ranges k) (device_ranges h k)
-            (in_right l (segment_ranges h ++ table_range h (k.register Erstba) ++ context_ranges h k) (entry_ranges k)
-            (in_flat_map (λ y. range_of_entry k y (k.device y)) slots x l (slot x one.0 is one.1) entry))
-        | inr device ↦
-            let one = in_device x (k.device x) l device in
-            in_right l (segment_ranges h ++ table_range h (k.register Erstba) ++ context_ranges h k ++ entry_ranges k) (device_ranges h k)
-            (in_flat_map (λ y. range_of_device h y (k.device y)) slots x l (slot x one.0 is one.1) device)
       ]
 
 -- ---- the law

@@ -1,6 +1,5 @@
 -- Floors of rings move on, and some ranges are let go: the leases of the blocks and Links that are passed end, and of these ranges
-use Rattle.std.proofs.Common.{◌≡◌, ◌≤◌, ◌==◌, ◌&&◌, ◌||◌, ◌++◌, ◌∙◌, ℕ, Bool, true, false, not, nat_le, nat_lt, List, [], arith, sym, ap, refl, inl, inr, eqb-true}
-use Rattle.lease_book.proofs.Words.{flat_map, cases_Bool, and_parts, and_from, nat_tests, is_crossing, floor_number, Header, Ring, driver_rings, Known, Leased, Block, Link, Range, is_among, open_leases, open_on, open_ranges, IsIn, among_is, both_ways, in_among, is_passed}
+use Rattle.lease_book.proofs.Words.{◌≡◌, ◌≤◌, ◌==◌, ◌&&◌, ◌||◌, ◌++◌, ◌∙◌, ℕ, Bool, true, false, not, nat_le, nat_lt, List, [], arith, sym, ap, refl, inl, inr, eqb-true, flat_map, cases_Bool, and_parts, and_from, nat_tests, is_crossing, floor_number, Header, Ring, driver_rings, Known, Leased, Block, Link, Range, is_among, open_leases, open_on, open_ranges, IsIn, among_is, both_ways, in_among, is_passed}
 use Rattle.lease_book.proofs.Members.{InOn, block, link, from_flat_map, in_either, in_flat_map, in_left, in_on, in_right, on_in}
 use Rattle.lease_book.proofs.PassedLeases.{Moves, block_was, link_was, not_false}
 use Rattle.lease_book.proofs.RangesAlone.{IsRange, open_are_ranges}
@@ -115,9 +114,3 @@ module _ (from to : ℕ → ℕ) (r : ℕ) (others : (q : ℕ) → (q == r) ≡ 
   one_ring_left (Range n a e) = refl
   one_ring_left (Block s p) = passed_there s p
   one_ring_left (Link s p) = passed_there s p
-
-  -- and with ranges that are let go
-  pub one_ring_and_ranges : (gone : List Leased) → ((l : Leased) → is_among gone l ≡ true → IsRange l) → (l : Leased) → is_left from to gone l ≡ (is_passed r (from r) (to r) l || is_among gone l)
-  one_ring_and_ranges gone ranges (Range n a e) = refl
-  one_ring_and_ranges gone ranges (Block s p) = passed_there s p ∙ alone _ (is_among gone (Block s p)) (ranges (Block s p))
-  one_ring_and_ranges gone ranges (Link s p) = passed_there s p ∙ alone _ (is_among gone (Link s p)) (ranges (Link s p))

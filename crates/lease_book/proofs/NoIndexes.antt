@@ -1,6 +1,5 @@
 -- Tables in which no index is put
-use Rattle.std.proofs.Common.{◌≡◌, ◌∷◌, ◌++◌, ℕ, List, [], slice_get, zero, suc, refl}
-use Rattle.lease_book.proofs.Words.{Indexes, index_in, index_of}
+use Rattle.lease_book.proofs.Words.{◌≡◌, ◌∷◌, ◌++◌, ℕ, List, [], slice_get, zero, suc, refl, Indexes, index_in, index_of}
 
 abbrev pub NoIndexes : List Indexes → Type 0
 NoIndexes ts = (r m : ℕ) → index_of (slice_get ts r) m ≡ 0

@@ -1,6 +1,5 @@
 -- The floor of a ring moves on: the leases of the blocks and Links that are passed end, and no others
-use Rattle.std.proofs.Common.{◌≡◌, ◌≢◌, ◌+◌, ◌<◌, ◌≤◌, ◌==◌, ◌&&◌, ◌++◌, ◌∙◌, ℕ, Bool, true, false, not, nat_le, nat_lt, arith, sym, ap, refl, inl, inr, subst, eqb-true, eq-eqb}
-use Rattle.lease_book.proofs.Words.{flat_map, cases_Bool, false≢true, and_parts, and_from, nat_tests, number, Shape, is_crossing, place_count, RingView, floor_number, Header, Ring, driver_rings, Known, Leased, Block, Link, Range, is_among, open_leases, open_on, open_ranges, IsIn, among_is, both_ways, in_among, is_passed}
+use Rattle.lease_book.proofs.Words.{◌≡◌, ◌≢◌, ◌+◌, ◌<◌, ◌≤◌, ◌==◌, ◌&&◌, ◌++◌, ◌∙◌, ℕ, Bool, true, false, not, nat_le, nat_lt, arith, sym, ap, refl, inl, inr, subst, eqb-true, eq-eqb, flat_map, cases_Bool, false≢true, and_parts, and_from, nat_tests, number, Shape, is_crossing, place_count, RingView, floor_number, Header, Ring, driver_rings, Known, Leased, Block, Link, Range, is_among, open_leases, open_on, open_ranges, IsIn, among_is, both_ways, in_among, is_passed}
 use Rattle.lease_book.proofs.SameLeases.{LeasesSame}
 use Rattle.lease_book.proofs.Members.{InOn, block, link, from_flat_map, in_either, in_flat_map, in_left, in_on, in_right, on_in}
 use Rattle.lease_book.proofs.RangesAlone.{IsRange, open_are_ranges}

@@ -1,6 +1,5 @@
 -- The tables find a lease that begins, and still all others
-use Rattle.std.proofs.Common.{◌≡◌, ◌≢◌, ◌+◌, ◌%◌, ◌==◌, ◌&&◌, ◌||◌, ◌∷◌, ◌++◌, ◌∙◌, ℕ, Bool, true, false, not, List, [], length, map, arith, sym, ap, refl, inl, inr, subst, eqb-true, eq-eqb}
-use Rattle.lease_book.proofs.Words.{list_any, cases_Bool, false≢true, place_count, is_crossing, link_of, Header, shape_of, length-map, Lease, Leased, Block, Link, Range, Use, as_lease, without_end, IndexTables, index_at, Lent, is_unended, begun_at, lease_of, is_place_free, share_a_place, with_begun, AllUnended, IsFound, HoldsLents, LeaseBook}
+use Rattle.lease_book.proofs.Words.{◌≡◌, ◌≢◌, ◌+◌, ◌%◌, ◌==◌, ◌&&◌, ◌||◌, ◌∷◌, ◌++◌, ◌∙◌, ℕ, Bool, true, false, not, List, [], length, map, arith, sym, ap, refl, inl, inr, subst, eqb-true, eq-eqb, list_any, cases_Bool, false≢true, place_count, is_crossing, link_of, Header, shape_of, length-map, Lease, Leased, Block, Link, Range, Use, as_lease, without_end, IndexTables, index_at, Lent, is_unended, begun_at, lease_of, is_place_free, share_a_place, with_begun, AllUnended, IsFound, HoldsLents, LeaseBook}
 use Rattle.lease_book.proofs.Growing.{map_append}
 use Rattle.lease_book.proofs.Unended.{all_begun}
 

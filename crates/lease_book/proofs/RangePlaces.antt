@@ -1,6 +1,5 @@
 -- The indexes find each range that is under lease, when one begins and when some end
-use Rattle.std.proofs.Common.{◌≡◌, ◌≢◌, ◌==◌, ◌&&◌, ◌||◌, ◌∷◌, ◌∙◌, ℕ, Bool, true, false, List, [], length, map, OnOk, Result, Ok, Err, arith, sym, refl, subst, eq-eqb}
-use Rattle.lease_book.proofs.Words.{list_any, false≢true, Header, Leased, Block, Link, Range, Use, EventSegment, SegmentTable, InputContext, SlotEntry, DeviceContext, Indexes, RangeIndexes, index_in, Lent, is_unended, ended_where, with_begun, FindsRanges, IsRangeFound, IsUseFound, StandsAt, command_place, is_use_free, share_a_use, shares_use}
+use Rattle.lease_book.proofs.Words.{◌≡◌, ◌≢◌, ◌==◌, ◌&&◌, ◌||◌, ◌∷◌, ◌∙◌, ℕ, Bool, true, false, List, [], length, map, OnOk, Result, Ok, Err, arith, sym, refl, subst, eq-eqb, list_any, false≢true, Header, Leased, Block, Link, Range, Use, EventSegment, SegmentTable, InputContext, SlotEntry, DeviceContext, Indexes, RangeIndexes, index_in, Lent, is_unended, ended_where, with_begun, FindsRanges, IsRangeFound, IsUseFound, StandsAt, command_place, is_use_free, share_a_use, shares_use}
 use Rattle.lease_book.proofs.Places.{not_true}
 use Rattle.lease_book.proofs.Unended.{all_anew, all_begun, all_ended}
 

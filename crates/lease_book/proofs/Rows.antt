@@ -1,6 +1,5 @@
 -- What is lent after one more row, by which leases are open after it
-use Rattle.std.proofs.Common.{◌≡◌, ◌+◌, ◌<◌, ◌≤◌, ◌==◌, ◌&&◌, ◌∷◌, ◌++◌, ◌∙◌, ℕ, Bool, true, false, not, List, [], length, map, filter, arith, sym, ap, refl, inl, inr, cond, append-nil}
-use Rattle.lease_book.proofs.Words.{false≢true, and_parts, nat_tests, Header, Row, Known, nothing, learned, known, Leased, is_among, open_leases, begun, without_end, IsIn, from_filter, in_among, Lent, is_unended, begun_at, precedes, with_leased, in_turn, ended_where, with_begun, grown, lents, AllUnended}
+use Rattle.lease_book.proofs.Words.{◌≡◌, ◌+◌, ◌<◌, ◌≤◌, ◌==◌, ◌&&◌, ◌∷◌, ◌++◌, ◌∙◌, ℕ, Bool, true, false, not, List, [], length, map, filter, arith, sym, ap, refl, inl, inr, cond, append-nil, false≢true, and_parts, nat_tests, Header, Row, Known, nothing, learned, known, Leased, is_among, open_leases, begun, without_end, IsIn, from_filter, in_among, Lent, is_unended, begun_at, precedes, with_leased, in_turn, ended_where, with_begun, grown, lents, AllUnended}
 use Rattle.lease_book.proofs.Passing.{ended_alike, none_over}
 
 -- what stands in order stood there before

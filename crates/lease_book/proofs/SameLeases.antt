@@ -1,6 +1,5 @@
 -- Rows that neither begin nor end a lease: doorbells, declarations, most registers
-use Rattle.std.proofs.Common.{◌≡◌, ◌≢◌, ◌<◌, ◌==◌, ◌&&◌, ◌||◌, ◌∷◌, ◌++◌, ◌∙◌, ◌⊎◌, ℕ, Bool, true, false, not, List, [], length, Option, Some, None, slice_get, option_and_then, zero, suc, arith, sym, ap, refl, inl, inr, cond, eqb-true}
-use Rattle.lease_book.proofs.Words.{flat_map, cases_Bool, RingView, RingChange, Declares, Opens, Holds, changed, due_crossings, due_positions, leased_crossings, leased_positions, Trb, command_of, Header, Ring, Register, Usbcmd, Usbsts, Dnctrl, Crcr, Dcbaap, Config, Iman, Imod, Erstsz, Erstba, Erdp, Sub, Reg, Bell, command_id, driver_rings, shape_of, reset_bit, run_bit, with_register, Known, learned, entry_of, context_ranges, device_ranges, entry_ranges, open_leases, open_on, open_ranges, range_of_command, range_of_entry, slots, IsIn}
+use Rattle.lease_book.proofs.Words.{◌≡◌, ◌≢◌, ◌<◌, ◌==◌, ◌&&◌, ◌||◌, ◌∷◌, ◌++◌, ◌∙◌, ◌⊎◌, ℕ, Bool, true, false, not, List, [], length, Option, Some, None, slice_get, option_and_then, zero, suc, arith, sym, ap, refl, inl, inr, cond, eqb-true, flat_map, cases_Bool, RingView, RingChange, Declares, Opens, Holds, changed, due_crossings, due_positions, leased_crossings, leased_positions, Trb, command_of, Header, Ring, Register, Usbcmd, Usbsts, Dnctrl, Crcr, Dcbaap, Config, Iman, Imod, Erstsz, Erstba, Erdp, Sub, Reg, Bell, command_id, driver_rings, shape_of, reset_bit, run_bit, with_register, Known, learned, entry_of, context_ranges, device_ranges, entry_ranges, open_leases, open_on, open_ranges, range_of_command, range_of_entry, slots, IsIn}
 use Rattle.ring_knowledge.specs.Rings as rings
 use Rattle.ring_knowledge.specs.Registers as registers
 

@@ -1,6 +1,5 @@
 -- The write of ERSTBA begins the lease of the segment table, and no other
-use Rattle.std.proofs.Common.{◌≡◌, ◌+◌, ◌≤◌, ◌∷◌, ◌++◌, ◌∙◌, ℕ, Bool, true, not, List, [], filter, length, Option, Some, None, sym, ap, subst, refl, inl, inr}
-use Rattle.lease_book.proofs.Words.{flat_map, cases_Bool, filter-append, Command, named_context, table_bytes, Header, Ring, Row, Reg, Erstba, driver_rings, event_shape, base_address, Known, known, learned, register_written, valued, entry_of, Leased, Block, Link, Range, EventSegment, SegmentTable, InputContext, SlotEntry, DeviceContext, context_ranges, device_ranges, entry_ranges, is_among, open_leases, open_on, open_ranges, range_of_command, range_of_context, range_of_device, range_of_entry, segment_ranges, slots, table_range, begun, without_end, IsIn, among_is, in_among, in_turn, lents, with_begun, with_leased}
+use Rattle.lease_book.proofs.Words.{◌≡◌, ◌+◌, ◌≤◌, ◌∷◌, ◌++◌, ◌∙◌, ℕ, Bool, true, not, List, [], filter, length, Option, Some, None, sym, ap, subst, refl, inl, inr, flat_map, cases_Bool, filter-append, Command, named_context, table_bytes, Header, Ring, Row, Reg, Erstba, driver_rings, event_shape, base_address, Known, known, learned, register_written, valued, entry_of, Leased, Block, Link, Range, EventSegment, SegmentTable, InputContext, SlotEntry, DeviceContext, context_ranges, device_ranges, entry_ranges, is_among, open_leases, open_on, open_ranges, range_of_command, range_of_context, range_of_device, range_of_entry, segment_ranges, slots, table_range, begun, without_end, IsIn, among_is, in_among, in_turn, lents, with_begun, with_leased}
 use Rattle.ring_knowledge.specs.Rings as rings
 use Rattle.lease_book.proofs.Members.{InOn, block, link, from_flat_map, from_map, in_either, in_left, in_on, in_right}
 use Rattle.lease_book.proofs.Rows.{none_new, only_begun}

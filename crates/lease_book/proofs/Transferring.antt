@@ -1,6 +1,5 @@
 -- What is lent after a Transfer Event: the leases end of what it tells to be passed on the ring of its endpoint
-use Rattle.std.proofs.Common.{◌≡◌, ◌≢◌, ◌+◌, ◌≤◌, ◌==◌, ◌&&◌, ◌∷◌, ◌++◌, ◌∙◌, ℕ, Bool, true, false, not, List, [], length, map, Some, filter, option_and_then, slice_get, arith, sym, ap, refl, inl, inr, subst, eqb-true, eq-eqb}
-use Rattle.lease_book.proofs.Words.{flat_map, cases_Bool, Trb, TransferEvent, code, endpoint, kind, slot, is_halting, is_stopping, is_success, is_trb_error, Spot, Shape, number, RingView, due_positions, floor_number, number-after, command_of, Header, Ring, Row, Read, Dcbaap, Erstba, command_id, driver_rings, shape_of, EndpointState, Error, Halted, Known, event_read, known, learned, RingSpot, event_at, broken_off, passed, stopped_at, transfer_read, transferred, transferred_at, Leased, context_ranges, device_ranges, entry_ranges, open_leases, open_ranges, range_of_command, range_of_device, segment_ranges, slots, table_range, is_among, without_end, IsIn, come_to, ended_where, is_passed, lents}
+use Rattle.lease_book.proofs.Words.{◌≡◌, ◌≢◌, ◌+◌, ◌≤◌, ◌==◌, ◌&&◌, ◌∷◌, ◌++◌, ◌∙◌, ℕ, Bool, true, false, not, List, [], length, map, Some, filter, option_and_then, slice_get, arith, sym, ap, refl, inl, inr, subst, eqb-true, eq-eqb, flat_map, cases_Bool, Trb, TransferEvent, code, endpoint, kind, slot, is_halting, is_stopping, is_success, is_trb_error, Spot, Shape, number, RingView, due_positions, floor_number, number-after, command_of, Header, Ring, Row, Read, Dcbaap, Erstba, command_id, driver_rings, shape_of, EndpointState, Error, Halted, Known, event_read, known, learned, RingSpot, event_at, broken_off, passed, stopped_at, transfer_read, transferred, transferred_at, Leased, context_ranges, device_ranges, entry_ranges, open_leases, open_ranges, range_of_command, range_of_device, segment_ranges, slots, table_range, is_among, without_end, IsIn, come_to, ended_where, is_passed, lents}
 use Rattle.ring_knowledge.specs.Rings as rings
 use Rattle.lease_book.proofs.Narrowing.{Narrows, floors, narrows, one_ring_left}
 use Rattle.lease_book.proofs.PassedLeases.{IsWithinLap, Moves}

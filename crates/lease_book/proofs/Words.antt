@@ -29,46 +29,33 @@ unfoldable pub use Rattle.ownership_rules.specs.Leases.{as_lease, begun, comes_b
 pub use Rattle.ownership_rules.specs.OpenLeases.{Block, DeviceContext, EventSegment, InputContext, Leased, Link, Range, SegmentTable, SlotEntry, Use, same_leased}
 unfoldable pub use Rattle.ownership_rules.specs.OpenLeases.{context_ranges, device_ranges, entry_ranges, is_among, open_leases, open_on, open_ranges, range_of_command, range_of_context, range_of_device, range_of_entry, segment_ranges, slots, table_range}
 pub use Rattle.ring_knowledge.proofs.DueNumbers.{link_of-crossed, same_due, same_due_crossing}
+pub use Rattle.ring_knowledge.proofs.Words.{Declares, Evt, Header, Holds, IsShape, Known, Opens, Register, RingView, Segment, Shape, Spot, Usbcmd, Writes, after, and_from, and_parts, cases_Bool, changed, crossed_link, crossing_positive, false≢true, flat_map, floor_number, gives, gives_crossing, is_crossing, is_crossing_due, length-map, link_crossed, list_any, nat_tests, new_ring, number, or_left, place_count, range_with_len, reset_bit, run_bit, with_register}
+unfoldable pub use Rattle.ring_knowledge.proofs.Words.{crossings_given, due_crossings, due_positions, leased_crossings, leased_positions, link_of, nothing, positions_given, register_written, target, valued}
 unfoldable pub use Rattle.ring_knowledge.specs.Completions.{bound_to, changed_by, changed_by_all, completed, disabled, finished, held_at_ceiling, in_state, moved, moved_to, pointed, set_to, stop_ended, succeeded}
-pub use Rattle.ring_knowledge.specs.Known.{Known}
-unfoldable pub use Rattle.ring_knowledge.specs.Known.{nothing}
 unfoldable pub use Rattle.ring_knowledge.specs.Learned.{event_read, known, learned}
-unfoldable pub use Rattle.ring_knowledge.specs.Registers.{register_written, valued}
 pub use Rattle.ring_knowledge.specs.Rings.{Crossing, Given, Position, RingSpot}
 unfoldable pub use Rattle.ring_knowledge.specs.Rings.{command_at, event_at, next_command, on_ring}
 unfoldable pub use Rattle.ring_knowledge.specs.Transfers.{broken_off, passed, stopped_at, transfer_read, transferred, transferred_at}
 unfoldable pub use Rattle.ring_knowledge.specs.Writes.{command_given, entry_of, taken_device, with_device, with_word, written}
 pub use Rattle.ring_knowledge.specs.declared.lease.Lease.{Lease}
-pub use Rattle.segments.proofs.Crossings.{crossed_link, crossing_positive}
 pub use Rattle.segments.proofs.ReachedSpots.{number-after}
-unfoldable pub use Rattle.segments.specs.Givings.{link_of}
-unfoldable pub use Rattle.segments.specs.Moves.{target}
-pub use Rattle.segments.specs.Places.{is_crossing, link_crossed, place_count}
-pub use Rattle.segments.specs.RingView.{Declares, Holds, Opens, Reaches as ReachesSpot, RingChange, RingView, Writes, changed, floor_number, gives, gives_crossing, is_crossing_due, new_ring}
-unfoldable pub use Rattle.segments.specs.RingView.{crossings_given, due_crossings, due_positions, leased_crossings, leased_positions, positions_given}
-pub use Rattle.segments.specs.Shape.{IsShape}
-pub use Rattle.segments.specs.ShapeValue.{Shape}
-pub use Rattle.segments.specs.Spots.{after, number}
-pub use Rattle.segments.specs.declared.segment.Segment.{Segment}
-pub use Rattle.segments.specs.declared.spot.Spot.{Spot}
-pub use Rattle.std.proofs.lemmas.Bool.{and_from, and_parts, cases_Bool, cond_both, false≢true, or_left}
-pub use Rattle.std.proofs.lemmas.Bool.Decides.{nat_tests}
-pub use Rattle.std.proofs.lemmas.List.{drop_all, length-map}
+pub use Rattle.segments.specs.RingView.{RingChange}
+pub use Rattle.std.proofs.Common.{Bool, Err, List, None, Ok, OnOk, Option, Result, Some, [], ap, append-nil, arith, cond, drop, drop-cons, eq-eqb, eqb-true, false, filter, get_or, if◌then◌else◌, inl, inr, insert, is_some, length, ltb-true, map, max, nat_le, nat_lt, not, option_and_then, position, refl, reverse, slice_get, slice_set, subst, suc, sym, take_all, true, unwrap_or, vec_len, zero, ℕ, ◌%◌, ◌&&◌, ◌*◌, ◌++◌, ◌+◌, ◌-◌, ◌<◌, ◌==◌, ◌||◌, ◌∙◌, ◌∷◌, ◌≡◌, ◌≢◌, ◌≤◌, ◌⊎◌}
+pub use Rattle.std.proofs.lemmas.Bool.{cond_both}
+pub use Rattle.std.proofs.lemmas.List.{drop_all}
 pub use Rattle.std.proofs.lemmas.List.Elements.{filter-append}
-pub use Rattle.std.specs.List.{flat_map, list_any, position_or_len, range_with_len}
+pub use Rattle.std.specs.List.{position_or_len}
 pub use Rattle.std.specs.Option.{option_copied}
 pub use Rattle.std.specs.Result.{IfOk}
 pub use Rattle.traces.specs.Header.{shape_or}
 unfoldable pub use Rattle.traces.specs.Header.{command_id, driver_rings, event_shape, ring_beginning_at, shape_of}
-pub use Rattle.traces.specs.Register.{base_address, reset_bit, run_bit, with_register}
-pub use Rattle.traces.specs.declared.header.Header.{Header}
-pub use Rattle.traces.specs.declared.register.Register.{Register}
-pub use Rattle.traces.specs.declared.register.Register.TheVariants.{Config, Crcr, Dcbaap, Dnctrl, Erdp, Erstba, Erstsz, Iman, Imod, Usbcmd, Usbsts}
+pub use Rattle.traces.specs.Register.{base_address}
+pub use Rattle.traces.specs.declared.register.Register.TheVariants.{Config, Crcr, Dcbaap, Dnctrl, Erdp, Erstba, Erstsz, Iman, Imod, Usbsts}
 pub use Rattle.traces.specs.declared.ring.Ring.{Ring}
 pub use Rattle.traces.specs.declared.row.Row.{Row}
 pub use Rattle.traces.specs.declared.row.Row.TheVariants.{Bell, Read, Reg, Sub, Write}
 pub use Rattle.trb.specs.Block.{code, endpoint, kind, slot}
 pub use Rattle.trb.specs.CompletionCode.{is_halting, is_stopping, is_success, is_trb_error}
 pub use Rattle.trb.specs.declared.block.Block.{Block as Trb}
-pub use Rattle.trb.specs.declared.kind.BlockKind.TheVariants.{CommandCompletion, TransferEvent}
-pub use Rattle.trb.specs.declared.ring_kind.RingKind.TheVariants.{Evt}
+pub use Rattle.trb.specs.declared.kind.BlockKind.TheVariants.{TransferEvent}
+pub use mathlib.Core.List.{reverse_aux}

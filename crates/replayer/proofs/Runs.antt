@@ -1,7 +1,6 @@
 -- What a replay answers from a world on
-use Rattle.std.proofs.Common.{◌≡◌, ℕ, zero, suc, ◌+◌, ◌<◌, ◌≤◌, ◌++◌, ◌∙◌, List, [], ◌∷◌, drop, get_or, length, Option, Some, None, Ok, Err, is_some, ap, sym, subst, refl, arith}
+use Rattle.std.proofs.Common.{◌≡◌, ◌+◌, ◌<◌, ◌≤◌, ◌++◌, ◌∙◌, ◌∷◌, ℕ, zero, suc, List, [], drop, get_or, length, Option, Some, None, Ok, Err, is_some, ap, sym, subst, refl, arith, option_map, option_to_list}
 use Rattle.std.proofs.lemmas.Bool.{cond-true, cond-false}
-use Rattle.std.specs.Prelude.{option_map, option_to_list}
 use Rattle.traces.specs.declared.header.Header.{Header}
 use Rattle.traces.specs.declared.step.Step.{Step}
 use Rattle.world_state.specs.World.{World}

@@ -1,6 +1,5 @@
 -- The first rule that is broken, test by test
-use Rattle.std.proofs.Common.{◌≡◌, ◌∷◌, List, [], None, refl, inl, inr}
-use Rattle.trace_record.proofs.Words.{cases_Bool, Refusal, Test, broken_of, first_of, first_broken}
+use Rattle.trace_record.proofs.Words.{◌≡◌, ◌∷◌, List, [], None, refl, inl, inr, cases_Bool, Refusal, Test, broken_of, first_of, first_broken}
 
 pub first_broken-is : (tests : List Test) → first_of (broken_of tests) ≡ first_broken tests
 first_broken-is [] = refl

@@ -1,6 +1,5 @@
 -- Before the first row, and what a search through the rings finds
-use Rattle.std.proofs.Common.{◌≡◌, ◌+◌, ◌<◌, ◌∷◌, ◌++◌, ◌∙◌, ◌⊎◌, ℕ, zero, suc, List, [], true, false, Some, None, refl, ap, sym, inl, inr, length, get_or, subst, length-append, slice_get, is_some}
-use Rattle.trace_record.proofs.Words.{slice_get_read, new_ring, due_positions, Ring, Header, IsHeader, is_event_kind, event_shape, event_ring, shape_or, shape_of, command_id, RingRecord, FollowsRing, nothing, FollowsTrace, FollowsEvents, FollowsPlace, inputs_of, device_contexts, AreFresh, IsFreshSo, EventState, FollowsDevices, EventCounts, Evt, FollowsRegisters, TraceRecord, among_at, each_among, not_found, event_found, filter_nothing, device_context_bytes, input_context_bytes, FollowsUnfinished, unfinished, unfinished_positions, SoiledWords, HoldsAreas, HoldsSoiled, slots, Command}
+use Rattle.trace_record.proofs.Words.{◌≡◌, ◌+◌, ◌<◌, ◌∷◌, ◌++◌, ◌∙◌, ◌⊎◌, ℕ, zero, suc, List, [], true, false, Some, None, refl, ap, sym, inl, inr, length, get_or, subst, length-append, slice_get, is_some, slice_get_read, new_ring, due_positions, Ring, Header, IsHeader, is_event_kind, event_shape, event_ring, shape_or, shape_of, command_id, RingRecord, FollowsRing, nothing, FollowsTrace, FollowsEvents, FollowsPlace, inputs_of, device_contexts, AreFresh, IsFreshSo, EventState, FollowsDevices, EventCounts, Evt, FollowsRegisters, TraceRecord, among_at, each_among, not_found, event_found, filter_nothing, device_context_bytes, input_context_bytes, FollowsUnfinished, unfinished, unfinished_positions, SoiledWords, HoldsAreas, HoldsSoiled, slots, Command}
 
 one_at : (rs : List Ring) (i : ℕ) (q r : Ring) → slice_get rs i ≡ Some q → slice_get rs i ≡ Some r → q ≡ r
 one_at rs i q r e f = some_is (sym e ∙ f)

@@ -1,6 +1,5 @@
 -- Of the rings of a header only the one that has a word can own it, or give something by its write
-use Rattle.std.proofs.Common.{◌≡◌, ◌%◌, ◌++◌, ◌∙◌, ◌||◌, ℕ, [], Bool, true, false, Option, Some, None, refl, ap, sym, inl, inr, map, append-nil}
-use Rattle.trace_record.proofs.Words.{list_any, RingKind, Cmd, Evt, Xfer, is_inside, touches, overlap, address_of, link_address, positions_given, crossings_given, leased_positions, leased_crossings, touches-word, Ring, Header, IsHeader, is_driver_kind, is_event_kind, shape_or, driver_rings, event_ring, event_shape, Known, Position, Crossing, given_of, given_by, false_unless, or_false, any_append, any_map, IsAmong, Apart, same_or_apart, together, shape_allowed, shape_there, event_here, find_some, one_driver, no_driver, all_from_one, nothing_from, is_owned, rings_have}
+use Rattle.trace_record.proofs.Words.{◌≡◌, ◌%◌, ◌++◌, ◌∙◌, ◌||◌, ℕ, [], Bool, true, false, Option, Some, None, refl, ap, sym, inl, inr, map, append-nil, list_any, RingKind, Cmd, Evt, Xfer, is_inside, touches, overlap, address_of, link_address, positions_given, crossings_given, leased_positions, leased_crossings, touches-word, Ring, Header, IsHeader, is_driver_kind, is_event_kind, shape_or, driver_rings, event_ring, event_shape, Known, Position, Crossing, given_of, given_by, false_unless, or_false, any_append, any_map, IsAmong, Apart, same_or_apart, together, shape_allowed, shape_there, event_here, find_some, one_driver, no_driver, all_from_one, nothing_from, is_owned, rings_have}
 use Rattle.ownership_rules.specs.OpenLeases as leases
 use Rattle.trace_record.proofs.WordsInside.{not_owned, gives_no_position, gives_no_crossing}
 

@@ -1,6 +1,5 @@
 -- The contexts under lease, by the addresses at which they start
-use Rattle.std.proofs.Common.{◌≡◌, ◌∷◌, ◌++◌, ◌∙◌, ◌||◌, ℕ, List, [], Bool, true, false, Option, Some, None, refl, ap, sym}
-use Rattle.trace_record.proofs.Words.{list_any, filter_map, flat_map, cons_option, overlap, Command, named_context, device_context_bytes, input_context_bytes, Header, Erstba, driver_rings, Known, or_false, any_append, any_flat_map, inputs_of, device_contexts, rings_have, table_has, entries_have}
+use Rattle.trace_record.proofs.Words.{◌≡◌, ◌∷◌, ◌++◌, ◌∙◌, ◌||◌, ℕ, List, [], Bool, true, false, Option, Some, None, refl, ap, sym, list_any, filter_map, flat_map, cons_option, overlap, Command, named_context, device_context_bytes, input_context_bytes, Header, Erstba, driver_rings, Known, or_false, any_append, any_flat_map, inputs_of, device_contexts, rings_have, table_has, entries_have}
 use Rattle.ring_knowledge.specs.Rings as rings
 use Rattle.ownership_rules.specs.OpenLeases as leases
 

@@ -1,6 +1,5 @@
 -- The entries of the DCBAA under lease, by the slot whose entry has a word
-use Rattle.std.proofs.Common.{◌≡◌, ◌≢◌, ◌+◌, ◌-◌, ◌*◌, ◌/◌, ◌%◌, ◌<◌, ◌≤◌, ◌∷◌, ◌∙◌, ◌||◌, ◌&&◌, ◌⊎◌, ℕ, zero, suc, List, [], Bool, true, false, Option, Some, None, refl, ap, sym, arith, inl, inr, is_some}
-use Rattle.trace_record.proofs.Words.{list_any, range_with_len, cases_eq, nat_tests, overlap, Header, Dcbaap, register_or_zero, Known, entry_of, or_false, and_false, any_flat_map, entries_have}
+use Rattle.trace_record.proofs.Words.{◌≡◌, ◌≢◌, ◌+◌, ◌-◌, ◌*◌, ◌/◌, ◌%◌, ◌<◌, ◌≤◌, ◌∷◌, ◌∙◌, ◌||◌, ◌&&◌, ◌⊎◌, ℕ, zero, suc, List, [], Bool, true, false, Option, Some, None, refl, ap, sym, arith, inl, inr, is_some, list_any, range_with_len, cases_eq, nat_tests, overlap, Header, Dcbaap, register_or_zero, Known, entry_of, or_false, and_false, any_flat_map, entries_have}
 use Rattle.ownership_rules.specs.OpenLeases as leases
 
 range_none : (p : ℕ → Bool) (first n : ℕ) → ((s : ℕ) → first ≤ s → s < first + n → p s ≡ false) → list_any p (range_with_len first n) ≡ false

@@ -1,6 +1,5 @@
 -- What the place of a word says
-use Rattle.std.proofs.Common.{◌≡◌, ◌∙◌, ℕ, true, Bool, Option, None, Some, refl, sym, subst, slice_get}
-use Rattle.trace_record.proofs.Words.{positions_given, crossings_given, Ring, Header, Row, Write, is_driver_kind, is_event_kind, RingGiving, Known, positions_of, crossings_of, WordPlace, IsGivenBy, IsGivenOn, IsOwnedSo, IsPlaced}
+use Rattle.trace_record.proofs.Words.{◌≡◌, ◌∙◌, ℕ, true, Bool, Option, None, Some, refl, sym, subst, slice_get, positions_given, crossings_given, Ring, Header, Row, Write, is_driver_kind, is_event_kind, RingGiving, Known, positions_of, crossings_of, WordPlace, IsGivenBy, IsGivenOn, IsOwnedSo, IsPlaced}
 use Rattle.trace_record.proofs.OneRingHas.{no_driver_event}
 
 module _ (h : Header) (k : Known) (at word n : ℕ) (ring : Ring) (here : slice_get h.rings n ≡ Some ring) where

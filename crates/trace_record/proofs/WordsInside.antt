@@ -1,6 +1,5 @@
 -- A word outside a ring is none that the ring owns, and its write gives nothing of the ring
-use Rattle.std.proofs.Common.{◌≡◌, ◌+◌, ◌/◌, ◌%◌, ◌<◌, ◌≤◌, ◌∙◌, ◌==◌, ◌&&◌, ◌||◌, ◌-◌, ℕ, [], Bool, true, false, ap, sym, arith, not, nat_lt, filter, ltb-true, eqb-true, nat_le}
-use Rattle.trace_record.proofs.Words.{fun_ext, false≢true, Data, Link, Shape, IsShape, place_count, address_of, cycle_of, is_inside, is_crossing, link_address, overlap, RingView, Writes, changed, gives, gives_crossing, is_due, is_crossing_due, positions_given, crossings_given, leased_positions, leased_crossings, due_positions, due_crossings, floor_number, place_below, address_aligned, link_aligned, place_at-data, place_at-link, is_inside-place_at, crosses, crossed_link, link_address_is, is_owned, false_unless, and_left, and_right, and_false, or_false, any_nowhere, any_filter, filter_nothing}
+use Rattle.trace_record.proofs.Words.{◌≡◌, ◌+◌, ◌/◌, ◌%◌, ◌<◌, ◌≤◌, ◌∙◌, ◌==◌, ◌&&◌, ◌||◌, ◌-◌, ℕ, [], Bool, true, false, ap, sym, arith, not, nat_lt, filter, ltb-true, eqb-true, nat_le, fun_ext, false≢true, Data, Link, Shape, IsShape, place_count, address_of, cycle_of, is_inside, is_crossing, link_address, overlap, RingView, Writes, changed, gives, gives_crossing, is_due, is_crossing_due, positions_given, crossings_given, leased_positions, leased_crossings, due_positions, due_crossings, floor_number, place_below, address_aligned, link_aligned, place_at-data, place_at-link, is_inside-place_at, crosses, crossed_link, link_address_is, is_owned, false_unless, and_left, and_right, and_false, or_false, any_nowhere, any_filter, filter_nothing}
 
 module _ (shape : Shape) (allowed : IsShape shape) (a : ℕ) (aligned : a % 4 ≡ 0) where
   block_inside : (p : ℕ) → address_of shape p ≤ a → a < address_of shape p + 16 → is_inside shape a ≡ true

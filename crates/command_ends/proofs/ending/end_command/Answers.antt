@@ -1,9 +1,6 @@
-use Rattle.std.proofs.Common.{subst}
-use Rattle.ring_knowledge.specs.Known.{Known}
-use Rattle.command_ends.specs.Places.{FollowsPlaces, succeeded_if}
+use Rattle.command_ends.proofs.Words.{subst, Known, FollowsPlaces, succeeded_if, stop_ended}
 use Rattle.command_ends.proofs.Finished.{ended_is, stop_keeps_rings}
 use Rattle.command_ends.proofs.Succeeded.{devices_only}
-use Rattle.ring_knowledge.specs.Completions.{stop_ended}
 use Rattle.command_ends.proofs.ending.end_command.Goals as goal
 
 pub returns : goal.returns

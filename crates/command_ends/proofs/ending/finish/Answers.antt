@@ -1,17 +1,4 @@
-use Rattle.std.proofs.Common.{◌≡◌, ◌∙◌, [], ◌∷◌, List, Some, ap, refl, subst, sym}
-use Rattle.segments.specs.Spots.{after}
-use Rattle.segments.specs.RingView.{Reaches}
-use Rattle.contexts.specs.Contexts.{device_context_bytes, input_context_bytes}
-use Rattle.commands.specs.declared.command.Command.{Command}
-use Rattle.traces.specs.Header.{command_id, shape_of}
-use Rattle.ring_knowledge.specs.Known.{Known}
-use Rattle.ring_knowledge.specs.Rings.{command_at, next_command, on_ring, unfinished}
-use Rattle.ring_knowledge.specs.Completions.{completed}
-use Rattle.device_record.specs.Unfinished.{FollowsUnfinished}
-use Rattle.range_words.specs.Holding.{HoldsAreas}
-use Rattle.trace_record.specs.declared.trace_record.TraceRecord.{TraceRecord}
-use Rattle.trace_record.specs.FollowsTrace.{FollowsTrace, inputs_of}
-use Rattle.command_ends.specs.Places.{FollowsPlaces}
+use Rattle.command_ends.proofs.Words.{◌≡◌, ◌∙◌, ◌∷◌, [], List, Some, ap, refl, subst, sym, after, Reaches, device_context_bytes, input_context_bytes, Command, command_id, shape_of, Known, command_at, next_command, on_ring, unfinished, completed, FollowsUnfinished, HoldsAreas, TraceRecord, FollowsTrace, inputs_of, FollowsPlaces}
 use Rattle.command_ends.proofs.CommandRings.{set_up_commands}
 use Rattle.command_ends.proofs.Finished.{completed_is, done, done_given, has_next, has_room, may_change, slots_of, unfinished_is, was_started}
 use Rattle.command_ends.proofs.Followed.{followed_behind}

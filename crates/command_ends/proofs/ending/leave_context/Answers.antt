@@ -1,7 +1,4 @@
-use Rattle.std.proofs.Common.{ℕ, ◌∙◌, Option, sym, subst}
-use Rattle.std.specs.List.{filter_map}
-use Rattle.ownership_rules.specs.OpenLeases.{slots}
-use Rattle.range_words.specs.Holding.{HoldsAreas}
+use Rattle.command_ends.proofs.Words.{◌∙◌, ℕ, Option, sym, subst, filter_map, slots, HoldsAreas}
 use Rattle.command_ends.proofs.Finished.{devices_disabled, devices_failed, devices_others}
 use Rattle.command_ends.proofs.Slots.{Among, among_slots, put_none}
 use Rattle.command_ends.proofs.ending.leave_context.Goals as goal

@@ -1,5 +1,4 @@
-use Rattle.std.proofs.Common.{◌∙◌, sym}
-use Rattle.ring_finder.proofs.FoundRings.{no_command_ring}
+use Rattle.command_ends.proofs.Words.{◌∙◌, sym, no_command_ring}
 use Rattle.command_ends.proofs.CommandRings.{IsCommandNumber, command_is, command_number, has_commands, read_at}
 use Rattle.command_ends.proofs.next.command_among.Goals as goal
 

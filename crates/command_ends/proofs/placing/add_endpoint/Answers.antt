@@ -1,8 +1,4 @@
-use Rattle.std.proofs.Common.{◌+◌, ◌∙◌, sym, subst}
-use Rattle.commands.specs.Changes.{placed_by_context}
-use Rattle.controller_model.specs.Following.{places_from}
-use Rattle.controller_model.proofs.AddedLemmas.{adds_next}
-use Rattle.safety.specs.Placings.{MayChangeAll}
+use Rattle.command_ends.proofs.Words.{◌+◌, ◌∙◌, sym, subst, placed_by_context, places_from, adds_next, MayChangeAll}
 use Rattle.command_ends.proofs.Placed.{one_done}
 use Rattle.command_ends.proofs.placing.add_endpoint.Goals as goal
 

@@ -1,7 +1,4 @@
-use Rattle.std.proofs.Common.{arith, subst}
-use Rattle.controller_model.specs.Following.{places_from}
-use Rattle.controller_model.proofs.AddedLemmas.{adds_end}
-use Rattle.command_ends.specs.Places.{HasDone}
+use Rattle.command_ends.proofs.Words.{arith, subst, places_from, adds_end, HasDone}
 use Rattle.command_ends.proofs.Placed.{all_done}
 use Rattle.command_ends.proofs.placing.add_endpoints.Goals as goal
 

@@ -1,8 +1,4 @@
-use Rattle.commands.specs.declared.command.Command.{Command}
-use Rattle.controller_model.specs.Following.{places_from}
-use Rattle.ring_knowledge.specs.Known.{Known}
-use Rattle.safety.specs.Placings.{MayChangeAll}
-use Rattle.command_ends.specs.Places.{FollowsPlaces, HasDone}
+use Rattle.command_ends.proofs.Words.{Command, places_from, Known, MayChangeAll, FollowsPlaces, HasDone}
 use Rattle.command_ends.proofs.placing.add_endpoints.Given as goal
 
 -- the endpoints below the index are placed

@@ -1,10 +1,4 @@
-use Rattle.std.proofs.Common.{◌≡◌, true, false, ap, sym, subst, ◌∙◌}
-use Rattle.commands.specs.States.{is_off}
-use Rattle.ring_knowledge.specs.Known.{Known}
-use Rattle.ring_knowledge.specs.Completions.{bound_to, moved}
-use Rattle.ring_finder.specs.RecordsOfRings.{FollowsRings}
-use Rattle.safety.proofs.StatesPlaced.{is_off_of, on_is}
-use Rattle.command_ends.specs.OneRing.{IsAtStart, MayMoveTo}
+use Rattle.command_ends.proofs.Words.{◌≡◌, ◌∙◌, true, false, ap, sym, subst, is_off, Known, bound_to, moved, FollowsRings, is_off_of, on_is, IsAtStart, MayMoveTo}
 use Rattle.command_ends.proofs.Placed.{may_move, pointed_off, pointed_on, starts}
 use Rattle.command_ends.proofs.placing.point_ring.Goals as goal
 

@@ -1,9 +1,4 @@
-use Rattle.std.proofs.Common.{Some, ap, sym, ◌∙◌}
-use Rattle.std.specs.Prelude.{not}
-use Rattle.commands.specs.Command.{may_answer_slot}
-use Rattle.commands.specs.States.{can_succeed}
-use Rattle.traces.specs.declared.register.Register.TheVariants.{Config}
-use Rattle.traces.specs.Register.{register_or_zero}
+use Rattle.command_ends.proofs.Words.{◌∙◌, Some, ap, sym, not, may_answer_slot, can_succeed, Config, register_or_zero}
 use Rattle.command_ends.proofs.Ends.{answers_other, on_success, on_failure}
 use Rattle.command_ends.proofs.possible.can_finish.Goals as goal
 

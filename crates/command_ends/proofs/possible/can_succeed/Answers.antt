@@ -1,7 +1,4 @@
-use Rattle.std.proofs.Common.{ap, ◌∙◌}
-use Rattle.commands.specs.States.{is_slot_enabled}
-use Rattle.traces.specs.Register.{register_or_zero}
-use Rattle.traces.specs.declared.register.Register.TheVariants.{Config}
+use Rattle.command_ends.proofs.Words.{◌∙◌, ap, is_slot_enabled, register_or_zero, Config}
 use Rattle.command_ends.proofs.Ends.{succeeds_is}
 use Rattle.command_ends.proofs.possible.can_succeed.Goals as goal
 

@@ -1,7 +1,4 @@
-use Rattle.std.proofs.Common.{◌∙◌, sym, subst}
-use Rattle.segments.proofs.Named.{IsAhead, target_ahead}
-use Rattle.ring_knowledge.specs.RingRecords.{FollowsRing}
-use Rattle.command_ends.specs.OneRing.{set_on}
+use Rattle.command_ends.proofs.Words.{◌∙◌, sym, subst, IsAhead, target_ahead, FollowsRing, set_on}
 use Rattle.command_ends.proofs.rings.move_to_target.Goals as goal
 
 pub returns-in-Some : goal.returns-in-Some

@@ -1,10 +1,4 @@
-use Rattle.std.proofs.Common.{ap, subst, sym}
-use Rattle.commands.specs.Changes.{SlotGoesOn, placed_by_context}
-use Rattle.ring_knowledge.specs.Known.{Known}
-use Rattle.ring_knowledge.specs.Completions.{changed_by, changed_by_all}
-use Rattle.safety.specs.Placings.{MayChange}
-use Rattle.contexts.specs.View.{View}
-use Rattle.command_ends.specs.Places.{FollowsPlaces, addressed}
+use Rattle.command_ends.proofs.Words.{ap, subst, sym, SlotGoesOn, placed_by_context, Known, changed_by, changed_by_all, MayChange, View, FollowsPlaces, addressed}
 use Rattle.command_ends.proofs.Succeeded.{devices_only, goes_on_rings}
 use Rattle.command_ends.proofs.success.address_device.Goals as goal
 

@@ -1,15 +1,4 @@
-use Rattle.std.proofs.Common.{ap, subst, sym}
-use Rattle.contexts.specs.Contexts.{is_dropped}
-use Rattle.contexts.specs.View.{View}
-use Rattle.commands.specs.Changes.{Disables, SlotGoesOn}
-use Rattle.controller_model.specs.Following.{places_from}
-use Rattle.ring_knowledge.specs.Known.{Known}
-use Rattle.ring_knowledge.specs.Completions.{changed_by, changed_by_all}
-use Rattle.device_record.specs.declared.disabling.Named.TheVariants.{Dropped}
-use Rattle.device_record.specs.Devices.{FollowsDevices}
-use Rattle.device_record.specs.Endpoints.{named_by}
-use Rattle.safety.specs.Placings.{MayChangeAll}
-use Rattle.command_ends.specs.Places.{FollowsPlaces, configured}
+use Rattle.command_ends.proofs.Words.{ap, subst, sym, is_dropped, View, Disables, SlotGoesOn, places_from, Known, changed_by, changed_by_all, Dropped, FollowsDevices, named_by, MayChangeAll, FollowsPlaces, configured}
 use Rattle.command_ends.proofs.Succeeded.{devices_only, disables_rings, goes_on_rings}
 use Rattle.command_ends.proofs.success.configure.Goals as goal
 

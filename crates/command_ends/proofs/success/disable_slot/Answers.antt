@@ -1,6 +1,4 @@
-use Rattle.commands.specs.Changes.{DeviceLeft, SlotGoesOn}
-use Rattle.ring_knowledge.specs.Known.{Known}
-use Rattle.ring_knowledge.specs.Completions.{changed_by, changed_by_all}
+use Rattle.command_ends.proofs.Words.{DeviceLeft, SlotGoesOn, Known, changed_by, changed_by_all}
 use Rattle.command_ends.proofs.success.disable_slot.Goals as goal
 
 pub returns : goal.returns

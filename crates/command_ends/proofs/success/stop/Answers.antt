@@ -1,8 +1,4 @@
-use Rattle.std.proofs.Common.{subst}
-use Rattle.commands.specs.declared.state.EndpointState.TheVariants.{Stopped}
-use Rattle.ring_knowledge.specs.Known.{Known}
-use Rattle.ring_knowledge.specs.Completions.{held_at_ceiling, in_state}
-use Rattle.ring_finder.specs.RecordsOfRings.{FollowsRings}
+use Rattle.command_ends.proofs.Words.{subst, Stopped, Known, held_at_ceiling, in_state, FollowsRings}
 use Rattle.command_ends.proofs.OneRing.{rings_same}
 use Rattle.command_ends.proofs.Succeeded.{in_state_rings, stops_rings}
 use Rattle.command_ends.proofs.success.stop.Goals as goal

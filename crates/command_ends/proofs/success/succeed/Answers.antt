@@ -1,13 +1,4 @@
-use Rattle.std.proofs.Common.{◌≡◌, ◌∙◌, List, [], ◌∷◌, true, false, ap, subst, sym}
-use Rattle.commands.specs.declared.command.Command.TheVariants.{ConfigureEndpoint}
-use Rattle.commands.specs.declared.state.EndpointState.TheVariants.{Stopped}
-use Rattle.commands.specs.Changes.{Change, DeviceLeft, Disables, Places, Resets, SlotGoesOn, Stops, changes, is_above_control}
-use Rattle.controller_model.specs.Following.{HasRoom}
-use Rattle.ring_knowledge.specs.Known.{Known}
-use Rattle.ring_knowledge.specs.Completions.{changed_by, changed_by_all}
-use Rattle.safety.specs.Placings.{MayChangeAll, MayPoint}
-use Rattle.command_ends.specs.declared.placing.Placing.{Placing}
-use Rattle.command_ends.specs.Places.{FollowsPlaces, addressed, configured}
+use Rattle.command_ends.proofs.Words.{◌≡◌, ◌∙◌, ◌∷◌, List, [], true, false, ap, subst, sym, ConfigureEndpoint, Stopped, Change, DeviceLeft, Disables, Places, Resets, SlotGoesOn, Stops, changes, is_above_control, HasRoom, Known, changed_by, changed_by_all, MayChangeAll, MayPoint, Placing, FollowsPlaces, addressed, configured}
 use Rattle.command_ends.proofs.Succeeded.{devices_only, dropped_rings, goes_on_rings, let_go_rings, no_success, of_address, of_configure, of_deconfigure, of_dequeue, of_disable, of_enable, of_evaluate, of_no_op, of_reset_device, of_reset_endpoint, of_stop, one_success, resets_rings, success_is, words_are}
 use Rattle.command_ends.proofs.success.succeed.Goals as goal
 

@@ -1,6 +1,4 @@
-use Rattle.std.proofs.Common.{◌<◌, length, refl, arith}
-use Rattle.controller_model.specs.DriverRows.{activated}
-use Rattle.controller_model.specs.Following.{ring_held}
+use Rattle.controller_model.proofs.Words.{◌<◌, length, refl, arith, activated, ring_held}
 use Rattle.controller_model.proofs.RingLemmas.{read_at, follows_change}
 use Rattle.controller_model.proofs.RingSteps.{activated_here, activated_other}
 use Rattle.controller_model.proofs.bells.activate.Goals as goal

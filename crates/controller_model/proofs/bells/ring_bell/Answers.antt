@@ -1,5 +1,4 @@
-use Rattle.std.proofs.Common.{◌==◌, ◌&&◌, ◌∙◌, ℕ, ap, sym, subst, arith}
-use Rattle.controller_model.proofs.Words.{World, activated, Follows, ring_held}
+use Rattle.controller_model.proofs.Words.{◌==◌, ◌&&◌, ◌∙◌, ℕ, ap, sym, subst, arith, World, activated, Follows, ring_held}
 use Rattle.controller_model.proofs.RingSteps.{activated_other}
 use Rattle.controller_model.proofs.BellLemmas.{follows_same, command_ring_known, command_id-some, command_id-none, bell_endpoint, bell_nothing, bell_commands}
 use Rattle.controller_model.proofs.bells.ring_bell.Goals as goal

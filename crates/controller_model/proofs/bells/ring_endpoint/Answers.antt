@@ -1,5 +1,4 @@
-use Rattle.std.proofs.Common.{◌||◌, ◌∙◌, ap, sym, subst}
-use Rattle.controller_model.proofs.Words.{is_running, is_stopped, World, in_state, activated, Follows}
+use Rattle.controller_model.proofs.Words.{◌||◌, ◌∙◌, ap, sym, subst, is_running, is_stopped, World, in_state, activated, Follows}
 use Rattle.controller_model.proofs.EndpointLemmas.{bell_none, bell_idle, bell_rings}
 use Rattle.controller_model.proofs.bells.ring_endpoint.Goals as goal
 

@@ -1,5 +1,4 @@
-use Rattle.std.proofs.Common.{◌≡◌, ◌<◌, ◌+◌, ◌*◌, ◌∷◌, ℕ, true, Option, Some, IsSome, length, refl, sym, subst, arith}
-use Rattle.controller_model.proofs.Words.{false≢true, put_pair, Shape, is_ring, ring_with, Placed, takes_of, Holder, Keeps, ring_held, bound, FollowsHolder}
+use Rattle.controller_model.proofs.Words.{◌≡◌, ◌<◌, ◌+◌, ◌*◌, ◌∷◌, ℕ, true, Option, Some, IsSome, length, refl, sym, subst, arith, false≢true, put_pair, Shape, is_ring, ring_with, Placed, takes_of, Holder, Keeps, ring_held, bound, FollowsHolder}
 use Rattle.controller_model.proofs.RingLemmas.{read_at, follows_change}
 use Rattle.controller_model.proofs.EndpointLemmas.{endpoints_set}
 use Rattle.controller_model.proofs.HolderLemmas.{holder_taken}

@@ -1,5 +1,4 @@
-use Rattle.std.proofs.Common.{◌∙◌, not, ap, sym}
-use Rattle.controller_model.specs.Following.{may_get}
+use Rattle.controller_model.proofs.Words.{◌∙◌, not, ap, sym, may_get}
 use Rattle.controller_model.proofs.bindings.can_place.Goals as goal
 
 pub returns-in-Some : goal.returns-in-Some

@@ -1,5 +1,4 @@
-use Rattle.std.proofs.Common.{ℕ, Option, ◌∙◌, sym, subst}
-use Rattle.controller_model.specs.Following.{Follows, freed}
+use Rattle.controller_model.proofs.Words.{ℕ, Option, ◌∙◌, sym, subst, Follows, freed}
 use Rattle.controller_model.proofs.bindings.free.Goals as goal
 
 pub returns-in-None-clause-change : goal.returns-in-None-clause-change

@@ -1,5 +1,4 @@
-use Rattle.std.proofs.Common.{◌≡◌, ◌∙◌, is_some, ap, sym, subst, refl}
-use Rattle.controller_model.proofs.Words.{false≢true, Xfer, ring_having, shape_of, shape_or, World, Follows, bound, freed}
+use Rattle.controller_model.proofs.Words.{◌≡◌, ◌∙◌, is_some, ap, sym, subst, refl, false≢true, Xfer, ring_having, shape_of, shape_or, World, Follows, bound, freed}
 use Rattle.controller_model.proofs.BindingSteps.{placed_is, freed_has, freed_had}
 use Rattle.controller_model.proofs.BindingLemmas.{having_known, placed_none, placed_some}
 use Rattle.controller_model.proofs.bindings.place.Goals as goal

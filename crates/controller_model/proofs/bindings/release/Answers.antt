@@ -1,5 +1,4 @@
-use Rattle.std.proofs.Common.{◌≡◌, ◌<◌, ◌+◌, ◌*◌, ◌∙◌, ℕ, true, false, Option, None, Some, length, set, refl, ap, sym, subst, arith, eq-eqb}
-use Rattle.controller_model.proofs.Words.{false≢true, put_pair, is_ring, EndpointState, Endpoint, Holder, ring_held, released, FollowsHolder, FollowsEndpoints}
+use Rattle.controller_model.proofs.Words.{◌≡◌, ◌<◌, ◌+◌, ◌*◌, ◌∙◌, ℕ, true, false, Option, None, Some, length, set, refl, ap, sym, subst, arith, eq-eqb, false≢true, put_pair, is_ring, EndpointState, Endpoint, Holder, ring_held, released, FollowsHolder, FollowsEndpoints}
 use Rattle.controller_model.proofs.RingLemmas.{read_at, follows_change}
 use Rattle.controller_model.proofs.EndpointLemmas.{endpoints_set}
 use Rattle.controller_model.proofs.HolderLemmas.{holder_left, put_pair_id}

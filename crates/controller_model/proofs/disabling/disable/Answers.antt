@@ -1,5 +1,4 @@
-use Rattle.std.proofs.Common.{◌≡◌, ◌==◌, ◌&&◌, ◌∙◌, ℕ, sym, subst, refl, arith, nat_lt}
-use Rattle.controller_model.proofs.Words.{World, disabled, Follows, named_by}
+use Rattle.controller_model.proofs.Words.{◌≡◌, ◌==◌, ◌&&◌, ◌∙◌, ℕ, sym, subst, refl, arith, nat_lt, World, disabled, Follows, named_by}
 use Rattle.controller_model.proofs.DisabledRings.{disabled_below}
 use Rattle.controller_model.proofs.DisabledWorlds.{disabled_same, disabled_none, disabled_twice, one_more, none_below, all_below}
 use Rattle.controller_model.proofs.disabling.disable.Goals as goal

@@ -1,5 +1,4 @@
-use Rattle.std.proofs.Common.{◌&&◌, ℕ, List, nat_lt}
-use Rattle.controller_model.proofs.Words.{Header, Row, World, disabled, Follows, KeepsRun, named_by}
+use Rattle.controller_model.proofs.Words.{◌&&◌, ℕ, List, nat_lt, Header, Row, World, disabled, Follows, KeepsRun, named_by}
 use Rattle.controller_model.proofs.disabling.disable.Given as goal
 
 -- those below the index are disabled

@@ -1,6 +1,4 @@
-use Rattle.std.proofs.Common.{◌∙◌, sym, subst}
-use Rattle.world_state.specs.World.{World}
-use Rattle.controller_model.specs.Following.{Follows, named_by}
+use Rattle.controller_model.proofs.Words.{◌∙◌, sym, subst, World, Follows, named_by}
 use Rattle.controller_model.proofs.DisabledWorlds.{disabled_same, disabled_none, only_unnamed, only_named}
 use Rattle.controller_model.proofs.disabling.disable_named.Goals as goal
 

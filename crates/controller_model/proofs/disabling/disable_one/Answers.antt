@@ -1,5 +1,4 @@
-use Rattle.std.proofs.Common.{◌<◌, refl, sym, subst, ap, arith}
-use Rattle.controller_model.proofs.Words.{is_ring, World, Follows, freed}
+use Rattle.controller_model.proofs.Words.{◌<◌, refl, sym, subst, ap, arith, is_ring, World, Follows, freed}
 use Rattle.controller_model.proofs.BindingSteps.{freed_has}
 use Rattle.controller_model.proofs.DisabledWorlds.{disabled_first, disabled_later}
 use Rattle.controller_model.proofs.disabling.disable_one.Goals as goal

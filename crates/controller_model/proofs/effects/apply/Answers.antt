@@ -1,5 +1,4 @@
-use Rattle.std.proofs.Common.{false, subst, inl, inr}
-use Rattle.controller_model.proofs.Words.{put, ConfigureEndpoint, World, Follows}
+use Rattle.controller_model.proofs.Words.{false, subst, inl, inr, put, ConfigureEndpoint, World, Follows}
 use Rattle.controller_model.proofs.EffectLemmas.{gone, no_op, evaluated, enabled, disabled_slot, addressed_slot, made_as, reset_endpoint, stopped_endpoint, moved, reset_slot}
 use Rattle.controller_model.proofs.effects.apply.Goals as goal
 

@@ -1,5 +1,4 @@
-use Rattle.std.proofs.Common.{◌≡◌, ◌&&◌, ℕ, ap, subst, slice_index, nat_le}
-use Rattle.controller_model.proofs.Words.{has_flag, is_dropped, World, disabled, Follows}
+use Rattle.controller_model.proofs.Words.{◌≡◌, ◌&&◌, ℕ, ap, subst, slice_index, nat_le, has_flag, is_dropped, World, disabled, Follows}
 use Rattle.controller_model.proofs.EffectLemmas.{gone, configured, deconfigured}
 use Rattle.controller_model.proofs.effects.configure.Goals as goal
 

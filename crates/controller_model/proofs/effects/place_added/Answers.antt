@@ -1,6 +1,4 @@
-use Rattle.std.proofs.Common.{◌+◌, ◌∙◌, ap, sym}
-use Rattle.controller_model.specs.Bindings.{changed_by_all}
-use Rattle.controller_model.specs.Following.{places_from}
+use Rattle.controller_model.proofs.Words.{◌+◌, ◌∙◌, ap, sym, changed_by_all, places_from}
 use Rattle.controller_model.proofs.AddedLemmas.{adds_next, adds_later, first_of}
 use Rattle.controller_model.proofs.effects.place_added.Goals as goal
 

@@ -1,5 +1,4 @@
-use Rattle.std.proofs.Common.{◌∙◌, ap, sym, subst, arith}
-use Rattle.controller_model.proofs.Words.{World, changed_by_all, Follows}
+use Rattle.controller_model.proofs.Words.{◌∙◌, ap, sym, subst, arith, World, changed_by_all, Follows}
 use Rattle.controller_model.proofs.AddedLemmas.{adds_end, all_made}
 use Rattle.controller_model.proofs.effects.place_all.Goals as goal
 

@@ -1,5 +1,4 @@
-use Rattle.std.proofs.Common.{◌≡◌, ℕ, List, Some}
-use Rattle.controller_model.proofs.Words.{Command, Row, World, changed_by_all, Follows, GoesOn, KeepsRun, places_from}
+use Rattle.controller_model.proofs.Words.{◌≡◌, ℕ, List, Some, Command, Row, World, changed_by_all, Follows, GoesOn, KeepsRun, places_from}
 use Rattle.controller_model.proofs.effects.place_all.Given as goal
 
 -- the endpoints below the index have their rings

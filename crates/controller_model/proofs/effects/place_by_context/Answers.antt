@@ -1,5 +1,4 @@
-use Rattle.std.proofs.Common.{◌∙◌}
-use Rattle.controller_model.proofs.Words.{Running, ring_having, placed_on}
+use Rattle.controller_model.proofs.Words.{◌∙◌, Running, ring_having, placed_on}
 use Rattle.controller_model.proofs.effects.place_by_context.Goals as goal
 
 pub returns-clause-change : goal.returns-clause-change

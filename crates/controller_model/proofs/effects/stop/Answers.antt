@@ -1,5 +1,4 @@
-use Rattle.std.proofs.Common.{◌∙◌, ℕ, Option, sym, subst}
-use Rattle.controller_model.proofs.Words.{Stopped, in_state, inactive, Follows}
+use Rattle.controller_model.proofs.Words.{◌∙◌, ℕ, Option, sym, subst, Stopped, in_state, inactive, Follows}
 use Rattle.controller_model.proofs.effects.stop.Goals as goal
 
 pub returns-in-None-clause-change : goal.returns-in-None-clause-change

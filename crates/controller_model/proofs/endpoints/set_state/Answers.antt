@@ -1,5 +1,4 @@
-use Rattle.std.proofs.Common.{◌≡◌, ◌+◌, ◌*◌, refl, arith}
-use Rattle.controller_model.specs.Bindings.{in_state}
+use Rattle.controller_model.proofs.Words.{◌≡◌, ◌+◌, ◌*◌, refl, arith, in_state}
 use Rattle.controller_model.proofs.EndpointLemmas.{endpoints_state}
 use Rattle.controller_model.proofs.endpoints.set_state.Goals as goal
 

@@ -1,5 +1,4 @@
-use Rattle.std.proofs.Common.{◌≡◌, ◌∙◌, ap, sym, refl, option_map}
-use Rattle.controller_model.proofs.Words.{err_from_is_err_and, Evt, address_of, event_shape, shape_or, Posted, ended, finished, completed, Follows}
+use Rattle.controller_model.proofs.Words.{◌≡◌, ◌∙◌, ap, sym, refl, option_map, err_from_is_err_and, Evt, address_of, event_shape, shape_or, Posted, ended, finished, completed, Follows}
 use Rattle.controller_model.proofs.LookBranches.{step_made, step_refused}
 use Rattle.controller_model.proofs.PostLemmas.{no_ring}
 use Rattle.controller_model.proofs.FinishLemmas.{finish_not_now, finish_not_so, finish_completed, made_of_part, step_fails}

@@ -1,5 +1,4 @@
-use Rattle.std.proofs.Common.{◌≡◌, ◌∙◌, None, Some, is_some, ap, sym, true, false}
-use Rattle.controller_model.proofs.Words.{changes, command_of, changed_by_all, succeeded, Follows}
+use Rattle.controller_model.proofs.Words.{◌≡◌, ◌∙◌, None, Some, is_some, ap, sym, true, false, changes, command_of, changed_by_all, succeeded, Follows}
 use Rattle.controller_model.proofs.CommandLemmas.{command_well}
 use Rattle.controller_model.proofs.SuccessLemmas.{no_success_without, some_of, none_of_test, success_changes}
 use Rattle.controller_model.proofs.FinishLemmas.{part_made, part_refused}

@@ -1,6 +1,4 @@
-use Rattle.std.proofs.Common.{◌≡◌, ◌+◌, ◌-◌, ◌*◌, ◌/◌, ◌%◌, ◌∙◌, arith}
-use Rattle.std.proofs.lemmas.Nat.{mod-mul-add}
-use Rattle.std.proofs.Math.Nat.{add-mod_right, div-add-mod'}
+use Rattle.controller_model.proofs.Words.{◌≡◌, ◌+◌, ◌-◌, ◌*◌, ◌/◌, ◌%◌, ◌∙◌, arith, mod-mul-add, add-mod_right, div-add-mod'}
 use Rattle.controller_model.proofs.history.lap_position.Goals as goal
 
 pub returns-then-here-from-clause-place : goal.returns-then-here-from-clause-place

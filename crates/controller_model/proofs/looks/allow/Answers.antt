@@ -1,5 +1,4 @@
-use Rattle.std.proofs.Common.{ℕ, Option, ◌||◌, sym, subst}
-use Rattle.controller_model.specs.Following.{Follows, is_it}
+use Rattle.controller_model.proofs.Words.{ℕ, Option, ◌||◌, sym, subst, Follows, is_it}
 use Rattle.controller_model.proofs.looks.allow.Goals as goal
 
 pub returns-in-Some : goal.returns-in-Some

@@ -1,5 +1,4 @@
-use Rattle.std.proofs.Common.{◌≡◌, ◌||◌, ◌∙◌, ℕ, Bool, refl, ap, sym, subst}
-use Rattle.controller_model.proofs.Words.{command_of, command_begun, may_scribble, FollowsSlots, addressed, is_it}
+use Rattle.controller_model.proofs.Words.{◌≡◌, ◌||◌, ◌∙◌, ℕ, Bool, refl, ap, sym, subst, command_of, command_begun, may_scribble, FollowsSlots, addressed, is_it}
 use Rattle.controller_model.proofs.LookBranches.{may_scribble_is}
 use Rattle.controller_model.proofs.looks.begin.Goals as goal
 

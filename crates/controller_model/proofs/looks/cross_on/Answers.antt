@@ -1,6 +1,4 @@
-use Rattle.std.proofs.Common.{◌<◌, length, arith}
-use Rattle.controller_model.specs.Looks.{crossed}
-use Rattle.controller_model.specs.Following.{ring_held}
+use Rattle.controller_model.proofs.Words.{◌<◌, length, arith, crossed, ring_held}
 use Rattle.controller_model.proofs.RingLemmas.{read_at, follows_change}
 use Rattle.controller_model.proofs.RingSteps.{crossed_here, crossed_other}
 use Rattle.controller_model.proofs.looks.cross_on.Goals as goal

@@ -1,5 +1,4 @@
-use Rattle.std.proofs.Common.{◌≡◌, ◌%◌, ◌∙◌, ap, sym, is_some, arith}
-use Rattle.segments.proofs.InsideLemmas.{is_inside-word}
+use Rattle.controller_model.proofs.Words.{◌≡◌, ◌%◌, ◌∙◌, ap, sym, is_some, arith, is_inside-word}
 use Rattle.controller_model.proofs.looks.is_inside.Goals as goal
 
 pub returns-then-places-gt0 : goal.returns-then-places-gt0

@@ -1,5 +1,4 @@
-use Rattle.std.proofs.Common.{◌≡◌, ◌<◌, ◌∙◌, length, ap, sym, arith, is_some}
-use Rattle.controller_model.proofs.Words.{false≢true, block_at, Xfer, shape_of, shape_or, looked, looked_at, look_shows, Follows}
+use Rattle.controller_model.proofs.Words.{◌≡◌, ◌<◌, ◌∙◌, length, ap, sym, arith, is_some, false≢true, block_at, Xfer, shape_of, shape_or, looked, looked_at, look_shows, Follows}
 use Rattle.controller_model.proofs.RingLemmas.{read_at}
 use Rattle.controller_model.proofs.LookBranches.{step_refused, step_along, looked_inactive, looked_active}
 use Rattle.controller_model.proofs.looks.look.Goals as goal

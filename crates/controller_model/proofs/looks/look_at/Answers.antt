@@ -1,5 +1,4 @@
-use Rattle.std.proofs.Common.{◌∙◌, sym}
-use Rattle.controller_model.proofs.Words.{seen_by_look, looked_at, crossed, taken, look_shows, Waited, Crossed, Follows}
+use Rattle.controller_model.proofs.Words.{◌∙◌, sym, seen_by_look, looked_at, crossed, taken, look_shows, Waited, Crossed, Follows}
 use Rattle.controller_model.specs.declared.seen.Seen.TheVariants.{Took}
 use Rattle.controller_model.proofs.LookBranches.{step_made, step_refused, waits, shows_waited, crosses, shows_crossed, refuses, takes, shows_taken, busy}
 use Rattle.controller_model.proofs.looks.look_at.Goals as goal

@@ -1,5 +1,4 @@
-use Rattle.std.proofs.Common.{◌≡◌, ◌||◌, ◌∙◌, not, sym}
-use Rattle.controller_model.proofs.Words.{is_inside, shape_of, seen_by_look}
+use Rattle.controller_model.proofs.Words.{◌≡◌, ◌||◌, ◌∙◌, not, sym, is_inside, shape_of, seen_by_look}
 use Rattle.controller_model.proofs.looks.note_look.Goals as goal
 
 pub returns : goal.returns

@@ -1,6 +1,5 @@
-use Rattle.std.proofs.Common.{refl, sym, subst}
+use Rattle.controller_model.proofs.Words.{refl, sym, subst, Keeps}
 use Rattle.segments.specs.ShapeValue.{Shape}
-use Rattle.controller_model.specs.Histories.{Keeps}
 use Rattle.controller_model.proofs.LookLemmas.{take_follows}
 use Rattle.controller_model.proofs.looks.take.Goals as goal
 

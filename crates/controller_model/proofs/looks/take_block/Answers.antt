@@ -1,5 +1,4 @@
-use Rattle.std.proofs.Common.{ℕ, sym, subst}
-use Rattle.controller_model.proofs.Words.{World, taken_on, command_begun, Follows}
+use Rattle.controller_model.proofs.Words.{ℕ, sym, subst, World, taken_on, command_begun, Follows}
 use Rattle.controller_model.proofs.LookBranches.{taken_command, taken_transfer}
 use Rattle.controller_model.proofs.looks.take_block.Goals as goal
 

@@ -1,6 +1,4 @@
-use Rattle.std.proofs.Common.{◌<◌, length, arith}
-use Rattle.controller_model.specs.Looks.{taken_on}
-use Rattle.controller_model.specs.Following.{ring_held}
+use Rattle.controller_model.proofs.Words.{◌<◌, length, arith, taken_on, ring_held}
 use Rattle.controller_model.proofs.RingLemmas.{read_at, follows_change}
 use Rattle.controller_model.proofs.RingSteps.{taken_here, taken_other}
 use Rattle.controller_model.proofs.looks.take_on.Goals as goal

@@ -1,5 +1,4 @@
-use Rattle.std.proofs.Common.{◌≡◌, ◌+◌, ◌≤◌, ◌<◌, ◌∙◌, Some, ap, sym, refl, drop, length, slice_get, arith}
-use Rattle.controller_model.proofs.Words.{slice_get_past, err_from_is_err_and, RowSeen, row_done, next_row, Follows}
+use Rattle.controller_model.proofs.Words.{◌≡◌, ◌+◌, ◌≤◌, ◌<◌, ◌∙◌, Some, ap, sym, refl, drop, length, slice_get, arith, slice_get_past, err_from_is_err_and, RowSeen, row_done, next_row, Follows}
 use Rattle.controller_model.proofs.LookBranches.{step_refused}
 use Rattle.controller_model.proofs.RingLemmas.{read_at}
 use Rattle.controller_model.proofs.NextRowLemmas.{behind, no_row, this_row, follows_behind, left_after, step_failed, step_seen}

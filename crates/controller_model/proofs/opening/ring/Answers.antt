@@ -1,6 +1,4 @@
-use Rattle.std.proofs.Common.{◌≡◌, refl}
-use Rattle.traces.specs.Header.{shape_of}
-use Rattle.world_state.specs.World.{opening}
+use Rattle.controller_model.proofs.Words.{◌≡◌, refl, shape_of, opening}
 use Rattle.controller_model.proofs.opening.ring.Goals as goal
 
 pub returns : goal.returns

@@ -1,5 +1,4 @@
-use Rattle.std.proofs.Common.{◌≡◌, ℕ, List, All, length}
-use Rattle.controller_model.proofs.Words.{HeaderValue, RowValue, opening, FollowsRing, ring_held}
+use Rattle.controller_model.proofs.Words.{◌≡◌, ℕ, List, All, length, HeaderValue, RowValue, opening, FollowsRing, ring_held}
 use Rattle.controller_model.proofs.opening.rings.Given as goal
 
 -- so many rings are there, each as before the first row

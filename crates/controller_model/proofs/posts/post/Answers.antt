@@ -1,5 +1,4 @@
-use Rattle.std.proofs.Common.{◌≡◌, ◌+◌, ◌∙◌, ℕ, ap, sym, subst, arith}
-use Rattle.controller_model.proofs.Words.{common_steps, address_of, event_shape, stored, stored_block, posted}
+use Rattle.controller_model.proofs.Words.{◌≡◌, ◌+◌, ◌∙◌, ℕ, ap, sym, subst, arith, common_steps, address_of, event_shape, stored, stored_block, posted}
 use Rattle.controller_model.proofs.RowLemmas.{Stored, follows_stored_block}
 use Rattle.controller_model.proofs.posts.post.Goals as goal
 

@@ -1,5 +1,4 @@
-use Rattle.std.proofs.Common.{◌≡◌, ◌∙◌, ap, sym}
-use Rattle.controller_model.proofs.Words.{Evt, address_of, event_shape, shape_or, Posted, posted, other_posted, Follows}
+use Rattle.controller_model.proofs.Words.{◌≡◌, ◌∙◌, ap, sym, Evt, address_of, event_shape, shape_or, Posted, posted, other_posted, Follows}
 use Rattle.controller_model.proofs.LookBranches.{step_made, step_refused}
 use Rattle.controller_model.proofs.PostLemmas.{no_ring, other_not_now, other_not_so, other_made}
 use Rattle.controller_model.proofs.posts.post_other.Goals as goal

@@ -1,5 +1,4 @@
-use Rattle.std.proofs.Common.{◌≡◌, ◌+◌, ◌<◌, ◌≤◌, ◌∙◌, ap, sym, refl, arith}
-use Rattle.controller_model.proofs.Words.{block_at, same_words, address_of, event_shape, event_at, event_read, Follows}
+use Rattle.controller_model.proofs.Words.{◌≡◌, ◌+◌, ◌<◌, ◌≤◌, ◌∙◌, ap, sym, refl, arith, block_at, same_words, address_of, event_shape, event_at, event_read, Follows}
 use Rattle.controller_model.specs.declared.seen.Seen.TheVariants.{Row}
 use Rattle.controller_model.proofs.LookBranches.{step_made, step_refused}
 use Rattle.controller_model.proofs.ReadLemmas.{read_nothing, read_other, read_made}

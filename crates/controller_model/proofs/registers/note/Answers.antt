@@ -1,5 +1,4 @@
-use Rattle.std.proofs.Common.{sym, subst}
-use Rattle.controller_model.proofs.Words.{with_register, Registers, valued, FollowsRegisters}
+use Rattle.controller_model.proofs.Words.{sym, subst, with_register, Registers, valued, FollowsRegisters}
 use Rattle.controller_model.proofs.RegisterLemmas.{registers_noted}
 use Rattle.controller_model.proofs.registers.note.Goals as goal
 

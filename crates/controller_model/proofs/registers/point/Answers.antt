@@ -1,5 +1,4 @@
-use Rattle.std.proofs.Common.{◌<◌, length, refl, arith}
-use Rattle.controller_model.specs.Following.{ring_held, pointed}
+use Rattle.controller_model.proofs.Words.{◌<◌, length, refl, arith, ring_held, pointed}
 use Rattle.controller_model.proofs.RingLemmas.{read_at, follows_change}
 use Rattle.controller_model.proofs.RegisterLemmas.{pointed_here, pointed_other, lowest_bit}
 use Rattle.controller_model.proofs.registers.point.Goals as goal

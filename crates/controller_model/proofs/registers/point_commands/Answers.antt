@@ -1,5 +1,4 @@
-use Rattle.std.proofs.Common.{ℕ, sym, subst, arith}
-use Rattle.controller_model.specs.Following.{Follows, ring_held, pointed}
+use Rattle.controller_model.proofs.Words.{ℕ, sym, subst, arith, Follows, ring_held, pointed}
 use Rattle.controller_model.proofs.BellLemmas.{follows_same, command_id-some, command_id-none}
 use Rattle.controller_model.proofs.RegisterLemmas.{pointed_other}
 use Rattle.controller_model.proofs.registers.point_commands.Goals as goal

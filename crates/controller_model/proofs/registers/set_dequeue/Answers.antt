@@ -1,5 +1,4 @@
-use Rattle.std.proofs.Common.{◌≡◌, ◌∙◌, ◌+◌, ◌-◌, ◌%◌, ℕ, Option, Some, ap, sym, subst, IfSome}
-use Rattle.controller_model.proofs.Words.{place_count, none-some, Evt, event_shape, shape_or, Data, Link, is_event_place, position_from, World, Follows, with_dequeue}
+use Rattle.controller_model.proofs.Words.{◌≡◌, ◌∙◌, ◌+◌, ◌-◌, ◌%◌, ℕ, Option, Some, ap, sym, subst, IfSome, place_count, none-some, Evt, event_shape, shape_or, Data, Link, is_event_place, position_from, World, Follows, with_dequeue}
 use Rattle.controller_model.proofs.RowLemmas.{follows_along}
 use Rattle.controller_model.proofs.EventPlaces.{is_place, position_is, no_place, dequeue_kept, dequeue_set, no_ring_place}
 use Rattle.controller_model.proofs.registers.set_dequeue.Goals as goal

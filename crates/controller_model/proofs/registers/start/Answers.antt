@@ -1,5 +1,4 @@
-use Rattle.std.proofs.Common.{ℕ, true, sym, subst}
-use Rattle.controller_model.proofs.Words.{command_id, started_with, Follows, pointed}
+use Rattle.controller_model.proofs.Words.{ℕ, true, sym, subst, command_id, started_with, Follows, pointed}
 use Rattle.controller_model.proofs.registers.start.Goals as goal
 
 pub returns : goal.returns

@@ -1,5 +1,4 @@
-use Rattle.std.proofs.Common.{◌∙◌, sym, subst}
-use Rattle.controller_model.proofs.Words.{Usbcmd, World, valued, Follows}
+use Rattle.controller_model.proofs.Words.{◌∙◌, sym, subst, Usbcmd, World, valued, Follows}
 use Rattle.controller_model.proofs.RegisterLemmas.{row_starts, row_waits, row_stops, row_goes_on}
 use Rattle.controller_model.proofs.registers.write_command.Goals as goal
 

@@ -1,5 +1,4 @@
-use Rattle.traces.specs.declared.register.Register.TheVariants.{Erdp}
-use Rattle.controller_model.specs.DriverRows.{register_row, valued}
+use Rattle.controller_model.proofs.Words.{Erdp, register_row, valued}
 use Rattle.controller_model.proofs.registers.write_dequeue.Goals as goal
 
 pub returns : goal.returns

@@ -1,6 +1,4 @@
-use Rattle.std.proofs.Common.{ap}
-use Rattle.traces.specs.declared.register.Register.TheVariants.{Erdp, Usbcmd}
-use Rattle.controller_model.specs.DriverRows.{register_row, valued}
+use Rattle.controller_model.proofs.Words.{ap, Erdp, Usbcmd, register_row, valued}
 use Rattle.controller_model.proofs.RegisterLemmas.{other_register}
 use Rattle.controller_model.proofs.RowLemmas.{follows_along}
 use Rattle.controller_model.proofs.registers.write_register.Goals as goal

@@ -1,6 +1,4 @@
-use Rattle.std.proofs.Common.{◌∙◌, ap, sym}
-use Rattle.world_state.specs.Takes.{unreported}
-use Rattle.controller_model.specs.Posts.{is_last}
+use Rattle.controller_model.proofs.Words.{◌∙◌, ap, sym, unreported, is_last}
 use Rattle.controller_model.proofs.reports.is_last.Goals as goal
 
 pub returns : goal.returns

@@ -1,5 +1,4 @@
-use Rattle.std.proofs.Common.{◌∙◌, ap, sym, option_map}
-use Rattle.controller_model.proofs.Words.{with_stopped, under_way_of}
+use Rattle.controller_model.proofs.Words.{◌∙◌, ap, sym, option_map, with_stopped, under_way_of}
 use Rattle.controller_model.proofs.reports.note_stopped.Goals as goal
 
 pub returns-in-Some-clause-change : goal.returns-in-Some-clause-change

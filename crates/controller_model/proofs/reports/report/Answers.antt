@@ -1,5 +1,4 @@
-use Rattle.std.proofs.Common.{◌≡◌, ◌∙◌, None, Some, ap, sym, subst, Bool}
-use Rattle.controller_model.proofs.Words.{Evt, slot, endpoint, address_of, event_shape, shape_or, Posted, posted, reported, Follows, IsChange, told}
+use Rattle.controller_model.proofs.Words.{◌≡◌, ◌∙◌, None, Some, ap, sym, subst, Bool, Evt, slot, endpoint, address_of, event_shape, shape_or, Posted, posted, reported, Follows, IsChange, told}
 use Rattle.controller_model.proofs.LookBranches.{step_made, step_refused}
 use Rattle.controller_model.proofs.PostLemmas.{no_ring}
 use Rattle.controller_model.proofs.ChangeLemmas.{made_of, none_of}

@@ -1,5 +1,4 @@
-use Rattle.std.proofs.Common.{◌∙◌, sym}
-use Rattle.controller_model.proofs.Words.{Halted, Error, report_code, report_success, report_error, report_stop, Follows}
+use Rattle.controller_model.proofs.Words.{◌∙◌, sym, Halted, Error, report_code, report_success, report_error, report_stop, Follows}
 use Rattle.controller_model.proofs.ChangeLemmas.{change_along, change_refused}
 use Rattle.controller_model.proofs.ReportLemmas.{code_success, code_halting, code_error, code_stopping, code_other}
 use Rattle.controller_model.proofs.reports.report_code.Goals as goal

@@ -1,5 +1,4 @@
-use Rattle.std.proofs.Common.{◌+◌, ◌≤◌, ◌∙◌, ℕ, Some, length, sym, subst, arith}
-use Rattle.controller_model.proofs.Words.{unreported, inactive, in_state, report_error, with_reported, Follows}
+use Rattle.controller_model.proofs.Words.{◌+◌, ◌≤◌, ◌∙◌, ℕ, Some, length, sym, subst, arith, unreported, inactive, in_state, report_error, with_reported, Follows}
 use Rattle.controller_model.proofs.ChangeLemmas.{change_made, change_refused}
 use Rattle.controller_model.proofs.ReportLemmas.{error_idle, error_elsewhere, error_made}
 use Rattle.controller_model.proofs.reports.report_error.Goals as goal

@@ -1,5 +1,4 @@
-use Rattle.std.proofs.Common.{◌≡◌, ◌∙◌, None, Some, ap, sym}
-use Rattle.controller_model.proofs.Words.{endpoint, slot, report_code, Follows, told}
+use Rattle.controller_model.proofs.Words.{◌≡◌, ◌∙◌, None, Some, ap, sym, endpoint, slot, report_code, Follows, told}
 use Rattle.controller_model.proofs.ChangeLemmas.{change_along, change_refused}
 use Rattle.controller_model.proofs.reports.report_on.Goals as goal
 

@@ -1,5 +1,4 @@
-use Rattle.std.proofs.Common.{◌≡◌, ◌+◌, ◌-◌, ◌≤◌, ◌==◌, ◌∙◌, ℕ, false, true, length, ap, sym, subst, arith, eq-eqb, ne_eqb}
-use Rattle.controller_model.proofs.Words.{unreported, report_stop, stopped_with, Follows}
+use Rattle.controller_model.proofs.Words.{◌≡◌, ◌+◌, ◌-◌, ◌≤◌, ◌==◌, ◌∙◌, ℕ, false, true, length, ap, sym, subst, arith, eq-eqb, ne_eqb, unreported, report_stop, stopped_with, Follows}
 use Rattle.controller_model.proofs.ChangeLemmas.{change_made, change_refused}
 use Rattle.controller_model.proofs.ReportLemmas.{is_last_some, stop_not_asked, stop_idly, stop_at_last, stop_at_pointer, stop_elsewhere}
 use Rattle.controller_model.proofs.reports.report_stop.Goals as goal

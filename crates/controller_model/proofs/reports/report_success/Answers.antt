@@ -1,5 +1,4 @@
-use Rattle.std.proofs.Common.{◌+◌, ◌≤◌, ◌<◌, ◌∙◌, ℕ, IfSome, Option, length, sym, subst, arith}
-use Rattle.controller_model.proofs.Words.{unreported, report_success, with_reported, Follows}
+use Rattle.controller_model.proofs.Words.{◌+◌, ◌≤◌, ◌<◌, ◌∙◌, ℕ, IfSome, Option, length, sym, subst, arith, unreported, report_success, with_reported, Follows}
 use Rattle.controller_model.proofs.ChangeLemmas.{change_made, change_refused}
 use Rattle.controller_model.proofs.ReportLemmas.{success_none, success_made}
 use Rattle.controller_model.proofs.reports.report_success.Goals as goal

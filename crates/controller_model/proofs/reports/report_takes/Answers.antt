@@ -1,5 +1,4 @@
-use Rattle.std.proofs.Common.{◌<◌, ◌≤◌, length, ap, arith}
-use Rattle.controller_model.proofs.Words.{unreported, with_reported, ring_held}
+use Rattle.controller_model.proofs.Words.{◌<◌, ◌≤◌, length, ap, arith, unreported, with_reported, ring_held}
 use Rattle.controller_model.proofs.RingLemmas.{read_at, follows_change}
 use Rattle.controller_model.proofs.RingSteps.{reported_here, reported_other}
 use Rattle.controller_model.proofs.reports.report_takes.Goals as goal

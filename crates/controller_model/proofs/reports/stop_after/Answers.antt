@@ -1,6 +1,4 @@
-use Rattle.std.proofs.Common.{Some, ◌+◌}
-use Rattle.controller_model.specs.Bindings.{inactive}
-use Rattle.controller_model.specs.Posts.{stopped_with, with_reported}
+use Rattle.controller_model.proofs.Words.{Some, ◌+◌, inactive, stopped_with, with_reported}
 use Rattle.controller_model.proofs.reports.stop_after.Goals as goal
 
 pub returns-clause-change : goal.returns-clause-change

@@ -1,5 +1,4 @@
-use Rattle.std.proofs.Common.{ℕ, ◌<◌, ◌==◌, ◌∙◌, List, IfSome, length, position, ap, sym, subst}
-use Rattle.world_state.specs.Takes.{unreported}
+use Rattle.controller_model.proofs.Words.{ℕ, ◌<◌, ◌==◌, ◌∙◌, List, IfSome, length, position, ap, sym, subst, unreported}
 use Rattle.controller_model.proofs.reports.take_at.Goals as goal
 
 pub returns-clause-value : goal.returns-clause-value

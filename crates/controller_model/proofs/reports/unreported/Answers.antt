@@ -1,5 +1,4 @@
-use Rattle.std.proofs.Common.{◌∙◌, length, ap, sym}
-use Rattle.world_state.specs.Takes.{unreported}
+use Rattle.controller_model.proofs.Words.{◌∙◌, length, ap, sym, unreported}
 use Rattle.controller_model.proofs.reports.unreported.Goals as goal
 
 pub returns : goal.returns

@@ -1,5 +1,4 @@
-use Rattle.std.proofs.Common.{◌&&◌, ◌∙◌, ap, sym}
-use Rattle.commands.specs.States.{is_running}
+use Rattle.controller_model.proofs.Words.{◌&&◌, ◌∙◌, ap, sym, is_running}
 use Rattle.controller_model.proofs.reports.works.Goals as goal
 
 pub returns : goal.returns

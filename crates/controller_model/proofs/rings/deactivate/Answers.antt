@@ -1,5 +1,4 @@
-use Rattle.std.proofs.Common.{◌<◌, Some, length, refl, arith}
-use Rattle.controller_model.proofs.Words.{false≢true, inactive, ring_held}
+use Rattle.controller_model.proofs.Words.{◌<◌, Some, length, refl, arith, false≢true, inactive, ring_held}
 use Rattle.controller_model.proofs.RingLemmas.{read_at, follows_change}
 use Rattle.controller_model.proofs.RingSteps.{inactive_here, inactive_other}
 use Rattle.controller_model.proofs.rings.deactivate.Goals as goal

@@ -1,6 +1,4 @@
-use Rattle.std.proofs.Common.{◌<◌, length, arith}
-use Rattle.controller_model.specs.DriverRows.{declared}
-use Rattle.controller_model.specs.Following.{ring_held}
+use Rattle.controller_model.proofs.Words.{◌<◌, length, arith, declared, ring_held}
 use Rattle.controller_model.proofs.RingLemmas.{read_at, follows_change}
 use Rattle.controller_model.proofs.RingSteps.{declared_here, declared_other}
 use Rattle.controller_model.proofs.rows.declare.Goals as goal

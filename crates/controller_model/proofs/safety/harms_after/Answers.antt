@@ -1,5 +1,4 @@
-use Rattle.std.proofs.Common.{◌∙◌, ap, sym}
-use Rattle.controller_model.specs.Steps.{stepped}
+use Rattle.controller_model.proofs.Words.{◌∙◌, ap, sym, stepped}
 use Rattle.controller_model.proofs.safety.harms_after.Goals as goal
 
 pub returns-in-Look : goal.returns-in-Look

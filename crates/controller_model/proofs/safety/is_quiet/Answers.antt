@@ -1,5 +1,4 @@
-use Rattle.std.proofs.Common.{◌≡◌, ◌<◌, ◌∙◌, Some, ap, length, slice_get, sym, refl, arith}
-use Rattle.controller_model.specs.Steps.{stepped}
+use Rattle.controller_model.proofs.Words.{◌≡◌, ◌<◌, ◌∙◌, Some, ap, length, slice_get, sym, refl, arith, stepped}
 use Rattle.controller_model.proofs.NextRowLemmas.{behind, this_row}
 use Rattle.controller_model.proofs.RingHarmLemmas.{row_harms}
 use Rattle.controller_model.proofs.RingLemmas.{read_at}

@@ -1,6 +1,5 @@
-use Rattle.std.proofs.Common.{◌%◌, ◌∙◌, ap, sym}
+use Rattle.controller_model.proofs.Words.{◌%◌, ◌∙◌, ap, sym, row_done}
 use Rattle.std.proofs.lemmas.Bool.{eqb-true}
-use Rattle.controller_model.specs.DriverRows.{row_done}
 use Rattle.controller_model.proofs.RingHarmLemmas.{declared_harms, read_harms, stored_harms}
 use Rattle.controller_model.proofs.safety.keeps_harms.Goals as goal
 

@@ -1,5 +1,4 @@
-use Rattle.std.proofs.Common.{◌≡◌, ◌<◌, ◌∙◌, ◌&&◌, Some, ap, get_or, length, slice_get, sym, arith}
-use Rattle.controller_model.proofs.Words.{list_any, shape_of, some_ring, has_other_words, is_inside_descriptor, is_out_of_order, waits}
+use Rattle.controller_model.proofs.Words.{◌≡◌, ◌<◌, ◌∙◌, ◌&&◌, Some, ap, get_or, length, slice_get, sym, arith, list_any, shape_of, some_ring, has_other_words, is_inside_descriptor, is_out_of_order, waits}
 use Rattle.controller_model.proofs.RingLemmas.{read_at}
 use Rattle.controller_model.proofs.SafetyLemmas.{any_more, take_past}
 use Rattle.controller_model.proofs.safety.ring_harms.Goals as goal

@@ -1,6 +1,5 @@
-use Rattle.std.proofs.Common.{◌≡◌, ℕ, ◌<◌, ◌∙◌, sym, subst, false, arith, inl, inr}
+use Rattle.controller_model.proofs.Words.{◌≡◌, ℕ, ◌<◌, ◌∙◌, sym, subst, false, arith, inl, inr, is_scribbled}
 use Rattle.std.proofs.lemmas.Bool.{cases_lt}
-use Rattle.controller_model.specs.Steps.{is_scribbled}
 use Rattle.controller_model.proofs.ScribbleLemmas.{any_in_range, none_in_range}
 use Rattle.controller_model.proofs.scribbles.may_scribble.Goals as goal
 

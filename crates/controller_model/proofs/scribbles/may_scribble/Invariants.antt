@@ -1,5 +1,4 @@
-use Rattle.std.proofs.Common.{◌≡◌, ◌<◌, ℕ, List, false}
-use Rattle.controller_model.proofs.Words.{RowValue, World, is_scribbled, Follows}
+use Rattle.controller_model.proofs.Words.{◌≡◌, ◌<◌, ℕ, List, false, RowValue, World, is_scribbled, Follows}
 use Rattle.controller_model.proofs.scribbles.may_scribble.Given as goal
 
 -- the word belongs to no device context of a slot so far

@@ -1,5 +1,4 @@
-use Rattle.std.proofs.Common.{◌∙◌, sym, refl}
-use Rattle.controller_model.proofs.Words.{stored, Scribbled, scribbled, Follows}
+use Rattle.controller_model.proofs.Words.{◌∙◌, sym, refl, stored, Scribbled, scribbled, Follows}
 use Rattle.controller_model.proofs.LookBranches.{step_made, step_refused}
 use Rattle.controller_model.proofs.ScribbleLemmas.{scribbled_not, scribbled_so}
 use Rattle.controller_model.proofs.scribbles.scribble.Goals as goal

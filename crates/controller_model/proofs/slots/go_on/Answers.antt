@@ -1,5 +1,4 @@
-use Rattle.std.proofs.Common.{◌≡◌, ◌<◌, ◌∙◌, length, unwrap_or, set, ap, sym, subst, refl, arith}
-use Rattle.controller_model.proofs.Words.{put, slot_success, SlotState, FollowsSlots}
+use Rattle.controller_model.proofs.Words.{◌≡◌, ◌<◌, ◌∙◌, length, unwrap_or, set, ap, sym, subst, refl, arith, put, slot_success, SlotState, FollowsSlots}
 use Rattle.controller_model.proofs.RingLemmas.{read_at}
 use Rattle.controller_model.proofs.SlotLemmas.{slots_state}
 use Rattle.controller_model.proofs.slots.go_on.Goals as goal

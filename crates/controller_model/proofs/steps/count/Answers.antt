@@ -1,5 +1,4 @@
-use Rattle.std.proofs.Common.{◌≡◌, ◌+◌, ◌∙◌, ap, sym}
-use Rattle.controller_model.specs.Steps.{counted}
+use Rattle.controller_model.proofs.Words.{◌≡◌, ◌+◌, ◌∙◌, ap, sym, counted}
 use Rattle.controller_model.proofs.steps.count.Goals as goal
 
 pub returns : goal.returns

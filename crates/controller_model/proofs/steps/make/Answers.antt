@@ -1,5 +1,4 @@
-use Rattle.std.proofs.Common.{◌≡◌, ◌∙◌, Option, ap, refl, true, false}
-use Rattle.controller_model.proofs.Words.{address_of, block_at, event_shape, World, RowSeen, Posted, Scribbled, next_row, looked, reported, other_posted, finished, look_shows, shows, made, scribbled, Follows}
+use Rattle.controller_model.proofs.Words.{◌≡◌, ◌∙◌, Option, ap, refl, true, false, address_of, block_at, event_shape, World, RowSeen, Posted, Scribbled, next_row, looked, reported, other_posted, finished, look_shows, shows, made, scribbled, Follows}
 use Rattle.controller_model.proofs.LookBranches.{step_along}
 use Rattle.controller_model.proofs.StepLemmas.{running}
 use Rattle.controller_model.proofs.steps.make.Goals as goal

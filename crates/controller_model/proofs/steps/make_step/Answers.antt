@@ -1,5 +1,4 @@
-use Rattle.std.proofs.Common.{◌≡◌, ◌∙◌}
-use Rattle.controller_model.proofs.Words.{err_from_is_err_and, shows, Follows}
+use Rattle.controller_model.proofs.Words.{◌≡◌, ◌∙◌, err_from_is_err_and, shows, Follows}
 use Rattle.controller_model.proofs.StepLemmas.{step_counted, step_uncounted}
 use Rattle.controller_model.proofs.steps.make_step.Goals as goal
 

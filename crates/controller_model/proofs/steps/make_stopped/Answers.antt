@@ -1,5 +1,4 @@
-use Rattle.std.proofs.Common.{◌≡◌, ap, refl}
-use Rattle.controller_model.proofs.Words.{NextRow, RowSeen, next_row, shows, made, Follows}
+use Rattle.controller_model.proofs.Words.{◌≡◌, ap, refl, NextRow, RowSeen, next_row, shows, made, Follows}
 use Rattle.controller_model.proofs.LookBranches.{step_along, step_refused}
 use Rattle.controller_model.proofs.StepLemmas.{made_stopped}
 use Rattle.controller_model.proofs.steps.make_stopped.Goals as goal

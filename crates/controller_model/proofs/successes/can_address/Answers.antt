@@ -1,6 +1,4 @@
-use Rattle.std.proofs.Common.{◌∙◌, ap}
-use Rattle.traces.specs.Header.{ring_having}
-use Rattle.controller_model.specs.Following.{may_get}
+use Rattle.controller_model.proofs.Words.{◌∙◌, ap, ring_having, may_get}
 use Rattle.controller_model.proofs.successes.can_address.Goals as goal
 
 pub returns : goal.returns

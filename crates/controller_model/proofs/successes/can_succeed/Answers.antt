@@ -1,5 +1,4 @@
-use Rattle.std.proofs.Common.{◌≡◌, ◌&&◌, ◌∙◌, ap, sym}
-use Rattle.controller_model.proofs.Words.{can_succeed, is_slot_enabled, Config, register_or_zero}
+use Rattle.controller_model.proofs.Words.{◌≡◌, ◌&&◌, ◌∙◌, ap, sym, can_succeed, is_slot_enabled, Config, register_or_zero}
 use Rattle.controller_model.proofs.successes.can_succeed.Goals as goal
 
 pub returns : goal.returns

@@ -1,5 +1,4 @@
-use Rattle.std.proofs.Common.{◌∙◌, is_some, ap}
-use Rattle.commands.specs.States.{endpoint_success}
+use Rattle.controller_model.proofs.Words.{◌∙◌, is_some, ap, endpoint_success}
 use Rattle.controller_model.proofs.successes.endpoint_allows.Goals as goal
 
 pub returns : goal.returns

@@ -1,5 +1,4 @@
-use Rattle.std.proofs.Common.{◌∙◌, ap, sym}
-use Rattle.commands.specs.States.{endpoint_meant}
+use Rattle.controller_model.proofs.Words.{◌∙◌, ap, sym, endpoint_meant}
 use Rattle.controller_model.proofs.successes.endpoint_meant.Goals as goal
 
 pub returns-in-Some : goal.returns-in-Some

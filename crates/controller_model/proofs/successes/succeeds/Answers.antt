@@ -1,6 +1,4 @@
-use Rattle.std.proofs.Common.{◌≡◌, ◌∙◌, is_some, ap, sym}
-use Rattle.commands.specs.Changes.{changes}
-use Rattle.controller_model.specs.Bindings.{changed_by_all}
+use Rattle.controller_model.proofs.Words.{◌≡◌, ◌∙◌, is_some, ap, sym, changes, changed_by_all}
 use Rattle.controller_model.proofs.SuccessLemmas.{has_room, no_success_past, no_success_now, success_is}
 use Rattle.controller_model.proofs.successes.succeeds.Goals as goal
 

@@ -1,5 +1,4 @@
-use Rattle.std.proofs.Common.{◌∙◌, is_some, refl, ap, sym, arith}
-use Rattle.controller_model.specs.Bindings.{changed_by_all}
+use Rattle.controller_model.proofs.Words.{◌∙◌, is_some, refl, ap, sym, arith, changed_by_all}
 use Rattle.controller_model.proofs.AddedLemmas.{adds_end, none_left}
 use Rattle.controller_model.proofs.trials.can_add_all.Goals as goal
 

@@ -1,5 +1,4 @@
-use Rattle.std.proofs.Common.{ℕ, List}
-use Rattle.controller_model.proofs.Words.{Command, Row, World, changed_by_all, Follows, places_from, GoesOnAs, Sees}
+use Rattle.controller_model.proofs.Words.{ℕ, List, Command, Row, World, changed_by_all, Follows, places_from, GoesOnAs, Sees}
 use Rattle.controller_model.proofs.trials.can_add_all.Given as goal
 
 -- the endpoints below the index would have their rings

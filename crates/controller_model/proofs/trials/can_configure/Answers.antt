@@ -1,5 +1,4 @@
-use Rattle.std.proofs.Common.{◌≡◌, ◌&&◌, ◌∙◌, if◌then◌else◌, None, is_some, slice_index, ap, sym, refl, nat_le, eq-eqb}
-use Rattle.controller_model.proofs.Words.{has_flag, is_dropped, disabled, Sees}
+use Rattle.controller_model.proofs.Words.{◌≡◌, ◌&&◌, ◌∙◌, if◌then◌else◌, None, is_some, slice_index, ap, sym, refl, nat_le, eq-eqb, has_flag, is_dropped, disabled, Sees}
 use Rattle.controller_model.proofs.EffectLemmas.{gone, can_deconfigure, configures_as}
 use Rattle.controller_model.proofs.trials.can_configure.Goals as goal
 

@@ -1,6 +1,4 @@
-use Rattle.std.proofs.Common.{◌≡◌, ℕ, ◌<◌, ◌≤◌, ◌==◌, ◌&&◌, not, false}
-use Rattle.traces.specs.Header.{is_ring}
-use Rattle.controller_model.specs.Trials.{own_ring}
+use Rattle.controller_model.proofs.Words.{◌≡◌, ℕ, ◌<◌, ◌≤◌, ◌==◌, ◌&&◌, not, false, is_ring, own_ring}
 use Rattle.controller_model.proofs.trials.has_own.Given as goal
 
 -- none so far has it

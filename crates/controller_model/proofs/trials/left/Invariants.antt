@@ -1,5 +1,4 @@
-use Rattle.std.proofs.Common.{◌≡◌, ◌<◌, if◌then◌else◌, ℕ, List, None, length}
-use Rattle.controller_model.proofs.Words.{Header, Row, World, Follows, named_by, own_ring}
+use Rattle.controller_model.proofs.Words.{◌≡◌, ◌<◌, if◌then◌else◌, ℕ, List, None, length, Header, Row, World, Follows, named_by, own_ring}
 use Rattle.controller_model.proofs.trials.left.Given as goal
 
 -- the rings below the index are those that are left

@@ -1,6 +1,5 @@
-use Rattle.std.proofs.Common.{◌∙◌, None, sym}
+use Rattle.controller_model.proofs.Words.{◌∙◌, None, sym, named_by}
 use Rattle.std.proofs.lemmas.Bool.{cond-false}
-use Rattle.controller_model.specs.Following.{named_by}
 use Rattle.controller_model.proofs.trials.left_at.Goals as goal
 
 pub returns-else-is_named : goal.returns-else-is_named

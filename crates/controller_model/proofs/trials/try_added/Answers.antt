@@ -1,5 +1,4 @@
-use Rattle.std.proofs.Common.{◌≡◌, ◌+◌, ◌∙◌, None, Some, ap, sym, arith}
-use Rattle.controller_model.proofs.Words.{Running, context_cycle, context_pointer, ring_having, changed_by_all, placed, placed_on, places_from}
+use Rattle.controller_model.proofs.Words.{◌≡◌, ◌+◌, ◌∙◌, None, Some, ap, sym, arith, Running, context_cycle, context_pointer, ring_having, changed_by_all, placed, placed_on, places_from}
 use Rattle.controller_model.proofs.AddedLemmas.{adds_next, adds_later, added_as}
 use Rattle.controller_model.proofs.BindingLemmas.{placed_free, placed_had, placed_nowhere}
 use Rattle.controller_model.proofs.TrialLemmas.{sees_placed}

@@ -1,5 +1,4 @@
-use Rattle.std.proofs.Common.{◌≡◌, ◌+◌, ◌++◌, drop}
-use Rattle.cycle_ring.specs.Writes.{later_writes}
+use Rattle.cycle_ring.proofs.Words.{◌≡◌, ◌+◌, ◌++◌, drop, later_writes}
 use Rattle.cycle_ring.proofs.writes.push_later_blocks.Given as goal
 
 -- the writes so far and those of the blocks that are left are all

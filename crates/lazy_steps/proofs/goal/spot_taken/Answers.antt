@@ -1,5 +1,4 @@
-use Rattle.std.proofs.Common.{arith, ◌∙◌}
-use Rattle.lazy_steps.specs.Shapes.{shape_behind}
+use Rattle.lazy_steps.proofs.Words.{arith, ◌∙◌, shape_behind}
 use Rattle.lazy_steps.proofs.PointerTables.{some_taken, none_taken}
 use Rattle.lazy_steps.proofs.goal.spot_taken.Goals as goal
 

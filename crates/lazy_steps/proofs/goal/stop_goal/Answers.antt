@@ -1,11 +1,4 @@
-use Rattle.std.specs.Prelude.{◌≡◌, ◌+◌, ◌==◌, true, false}
-use Rattle.std.proofs.Common.{arith, sym, ◌∙◌}
-use Rattle.std.proofs.lemmas.Bool.{cond-true, cond-false}
-use Rattle.std.proofs.lemmas.Bool.Decides.{nat_tests}
-use Rattle.segments.specs.Spots.{number}
-use Rattle.ring_knowledge.specs.Rings.{RingSpot}
-use Rattle.lazy_runs.specs.Lazy.{stop_goal, taken_up_to}
-use Rattle.lazy_steps.specs.Goals.{place_of}
+use Rattle.lazy_steps.proofs.Words.{◌≡◌, ◌+◌, ◌==◌, ◌∙◌, true, false, arith, sym, cond-true, cond-false, nat_tests, number, RingSpot, stop_goal, taken_up_to, place_of}
 use Rattle.lazy_steps.proofs.goal.stop_goal.Goals as goal
 use Rattle.lazy_steps.proofs.goal.stop_goal.Goals.{else-need-gt0-via-then-need-gt0+else-need-number_of, else-need-gt0-via-else-need-gt0}
 

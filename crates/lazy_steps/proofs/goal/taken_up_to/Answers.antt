@@ -1,8 +1,4 @@
-use Rattle.std.proofs.Common.{ℕ, ap, ◌∙◌}
-use Rattle.segments.specs.ShapeValue.{Shape}
-use Rattle.segments.specs.declared.spot.Spot.{Spot}
-use Rattle.ring_knowledge.specs.Rings.{RingSpot}
-use Rattle.lazy_runs.specs.Lazy.{behind_taken, taken_up_to}
+use Rattle.lazy_steps.proofs.Words.{◌∙◌, ℕ, ap, Shape, Spot, RingSpot, behind_taken, taken_up_to}
 use Rattle.lazy_steps.proofs.goal.taken_up_to.Goals as goal
 
 spot_on : ℕ → Spot → RingSpot

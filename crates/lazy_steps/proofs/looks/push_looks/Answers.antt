@@ -1,11 +1,4 @@
-use Rattle.std.proofs.Common.{◌≡◌, ◌<◌, ◌≤◌, ◌++◌, ◌∷◌, [], List, map, ap, sym, ◌∙◌, arith}
-use Rattle.std.proofs.lemmas.Bool.Decides.{nat_tests}
-use Rattle.segments.specs.declared.spot.Spot.{Spot}
-use Rattle.segments.specs.Spots.{rank}
-use Rattle.traces.specs.declared.step.Step.{Step}
-use Rattle.traces.specs.declared.step.Step.TheVariants.{Look}
-use Rattle.lazy_runs.specs.Lazy.{spots_before}
-use Rattle.lazy_steps.specs.Shapes.{shape_behind}
+use Rattle.lazy_steps.proofs.Words.{◌≡◌, ◌<◌, ◌≤◌, ◌++◌, ◌∷◌, ◌∙◌, [], List, map, ap, sym, arith, nat_tests, Spot, rank, Step, Look, spots_before, shape_behind}
 use Rattle.lazy_steps.proofs.Walks.{one_look, no_look}
 use Rattle.lazy_steps.proofs.looks.push_looks.Goals as goal
 

@@ -1,8 +1,4 @@
-use Rattle.std.proofs.Common.{◌≡◌, ◌-◌, ◌++◌, map}
-use Rattle.segments.specs.Spots.{rank}
-use Rattle.traces.specs.declared.step.Step.TheVariants.{Look}
-use Rattle.lazy_runs.specs.Lazy.{spots_before}
-use Rattle.lazy_steps.specs.Shapes.{shape_behind}
+use Rattle.lazy_steps.proofs.Words.{◌≡◌, ◌-◌, ◌++◌, map, rank, Look, spots_before, shape_behind}
 use Rattle.lazy_steps.proofs.looks.push_looks.Given as goal
 
 abbrev pub invariant-loop-to : goal.invariant-loop-to

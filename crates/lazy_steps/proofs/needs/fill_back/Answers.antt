@@ -1,6 +1,4 @@
-use Rattle.std.proofs.Common.{refl, ℕ, ◌-◌, ◌<◌, length, arith, get_or, drop, ◌∙◌, ap}
-use Rattle.std.proofs.lemmas.List.{length-replicate}
-use Rattle.lazy_steps.specs.Passes.{need_in}
+use Rattle.lazy_steps.proofs.Words.{refl, ℕ, ◌-◌, ◌<◌, length, arith, get_or, drop, ◌∙◌, ap, length-replicate, need_in}
 use Rattle.lazy_steps.proofs.Filling.{none_filled, all_zero, turn_notes, turn_table}
 use Rattle.lazy_steps.proofs.needs.fill_back.Goals as goal
 

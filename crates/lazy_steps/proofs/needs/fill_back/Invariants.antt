@@ -1,6 +1,4 @@
-use Rattle.std.proofs.Common.{◌≡◌, ◌≤◌, drop, length}
-use Rattle.lazy_steps.specs.Passes.{need_in}
-use Rattle.lazy_steps.specs.Tables.{IsTable}
+use Rattle.lazy_steps.proofs.Words.{◌≡◌, ◌≤◌, drop, length, need_in, IsTable}
 use Rattle.lazy_steps.proofs.Filling.{filled_from}
 use Rattle.lazy_steps.proofs.needs.fill_back.Given as goal
 

@@ -1,10 +1,4 @@
-use Rattle.std.proofs.Common.{◌++◌, List, map, ap, ◌∙◌}
-use Rattle.segments.specs.ShapeValue.{Shape}
-use Rattle.traces.specs.declared.step.Step.{Step}
-use Rattle.traces.specs.declared.step.Step.TheVariants.{Look}
-use Rattle.lazy_runs.specs.Lazy.{looks_to, spots_before}
-use Rattle.lazy_steps.specs.Shapes.{shape_behind}
-use Rattle.lazy_steps.specs.Tables.{spot_in}
+use Rattle.lazy_steps.proofs.Words.{◌++◌, ◌∙◌, List, map, ap, Shape, Step, Look, looks_to, spots_before, shape_behind, spot_in}
 use Rattle.lazy_steps.proofs.PointerTables.{on_ok}
 use Rattle.lazy_steps.proofs.pointers.look_towards.Goals as goal
 

@@ -1,7 +1,4 @@
-use Rattle.std.proofs.Common.{◌≡◌, ◌<◌, ap, sym, ◌∙◌, arith, length, true, false, nat_lt}
-use Rattle.std.proofs.Math.ListN.{set}
-use Rattle.segments.specs.Spots.{rank}
-use Rattle.lazy_steps.specs.Tables.{spot_in}
+use Rattle.lazy_steps.proofs.Words.{◌≡◌, ◌<◌, ◌∙◌, ap, sym, arith, length, true, false, nat_lt, set, rank, spot_in}
 use Rattle.lazy_steps.proofs.PointerTables.{further_in, no_further}
 use Rattle.lazy_steps.proofs.pointers.move_on.Goals as goal
 

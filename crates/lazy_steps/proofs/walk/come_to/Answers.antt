@@ -1,5 +1,4 @@
-use Rattle.lazy_steps.specs.Goals.{place_of}
-use Rattle.lazy_steps.specs.Tables.{spot_in}
+use Rattle.lazy_steps.proofs.Words.{place_of, spot_in}
 use Rattle.lazy_steps.proofs.WalkedNotes.{one_looked, one_moved}
 use Rattle.lazy_steps.proofs.walk.come_to.Goals as goal
 

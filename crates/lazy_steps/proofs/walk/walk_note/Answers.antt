@@ -1,8 +1,4 @@
-use Rattle.std.proofs.Common.{◌++◌, ◌∷◌, [], List, ap, sym, ◌∙◌}
-use Rattle.std.proofs.lemmas.List.{append-nil}
-use Rattle.traces.specs.declared.step.Step.{Step}
-use Rattle.lazy_steps.specs.Goals.{place_of}
-use Rattle.lazy_steps.specs.Tables.{spot_in}
+use Rattle.lazy_steps.proofs.Words.{◌++◌, ◌∷◌, ◌∙◌, [], List, ap, sym, append-nil, Step, place_of, spot_in}
 use Rattle.lazy_steps.proofs.PointerTables.{on_ok}
 use Rattle.lazy_steps.proofs.WalkedNotes.{HasGoals, none_moved, begun_goals, taken_goals, stopped_goals, open_goals, made_steps, made_pointers, placed_steps, placed_pointers}
 use Rattle.lazy_steps.proofs.walk.walk_note.Goals as goal

@@ -1,5 +1,4 @@
-use Rattle.std.proofs.Common.{sym, ◌∙◌, refl, arith}
-use Rattle.lazy_steps.specs.Tables.{spot_in}
+use Rattle.lazy_steps.proofs.Words.{sym, ◌∙◌, refl, arith, spot_in}
 use Rattle.lazy_steps.proofs.WalkedNotes.{first_notes, one_note, no_note}
 use Rattle.lazy_steps.proofs.walk.walk_notes.Goals as goal
 

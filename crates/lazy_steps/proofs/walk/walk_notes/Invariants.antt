@@ -1,7 +1,4 @@
-use Rattle.std.proofs.Common.{◌≡◌, length}
-use Rattle.segments.specs.declared.spot.Spot.TheVariants.{Data}
-use Rattle.lazy_steps.specs.Passes.{steps_of}
-use Rattle.lazy_steps.specs.Tables.{spot_in}
+use Rattle.lazy_steps.proofs.Words.{◌≡◌, length, Data, steps_of, spot_in}
 use Rattle.lazy_steps.proofs.WalkedNotes.{steps_with}
 use Rattle.lazy_steps.proofs.walk.walk_notes.Given as goal
 

@@ -1,6 +1,4 @@
-use Rattle.std.proofs.Common.{◌≡◌, ◌+◌, List, length, sym, subst, arith}
-use Rattle.ring_knowledge.specs.declared.ring_record.RingRecord.{RingRecord}
-use Rattle.trace_record.specs.Fresh.{IsFreshSo}
+use Rattle.trace_record.proofs.Words.{◌≡◌, ◌+◌, List, length, sym, subst, arith, RingRecord, IsFreshSo}
 use Rattle.trace_record.proofs.FreshRecords.{fresh_push}
 use Rattle.trace_record.proofs.fresh.fresh_records.Goals as goal
 

@@ -1,5 +1,4 @@
-use Rattle.std.proofs.Common.{subst}
-use Rattle.trace_record.specs.FollowsTrace.{FollowsEvents}
+use Rattle.trace_record.proofs.Words.{subst, FollowsEvents}
 use Rattle.trace_record.proofs.TableWords.{no_bytes}
 use Rattle.trace_record.proofs.owned.table_bytes.Goals as goal
 

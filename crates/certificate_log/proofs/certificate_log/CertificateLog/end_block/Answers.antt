@@ -1,5 +1,4 @@
-use Rattle.std.proofs.Common.{◌≡◌, ◌%◌, ◌∙◌, List, map, ap, sym, refl, subst, arith}
-use Rattle.certificate_log.proofs.CitedWords.{place_count, shape_of, Block, same_leased, index_at, Lent, ended_where, share_a_place, put_at, CertificateLog, FollowedList, FollowsCertificate}
+use Rattle.certificate_log.proofs.CitedWords.{◌≡◌, ◌%◌, ◌∙◌, List, map, ap, sym, refl, subst, arith, place_count, shape_of, Block, same_leased, index_at, Lent, ended_where, share_a_place, put_at, CertificateLog, FollowedList, FollowsCertificate}
 use Rattle.certificate_log.proofs.EndingOne.{another_numbered, none_numbered, this_numbered}
 use Rattle.certificate_log.proofs.Standing.{block_itself}
 use Rattle.certificate_log.proofs.Tables.{block_numbered}

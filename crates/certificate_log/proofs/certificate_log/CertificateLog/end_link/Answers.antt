@@ -1,5 +1,4 @@
-use Rattle.std.proofs.Common.{◌≡◌, ◌∙◌, List, map, ap, sym, refl, subst, arith, unwrap_or}
-use Rattle.certificate_log.proofs.CitedWords.{link_crossed, link_of, crossing_positive, shape_of, Link, same_leased, index_at, Lent, ended_where, share_a_place, put_at, CertificateLog, FollowedList, FollowsCertificate}
+use Rattle.certificate_log.proofs.CitedWords.{◌≡◌, ◌∙◌, List, map, ap, sym, refl, subst, arith, unwrap_or, link_crossed, link_of, crossing_positive, shape_of, Link, same_leased, index_at, Lent, ended_where, share_a_place, put_at, CertificateLog, FollowedList, FollowsCertificate}
 use Rattle.certificate_log.proofs.EndingOne.{another_numbered, none_numbered, this_numbered}
 use Rattle.certificate_log.proofs.Standing.{link_itself}
 use Rattle.certificate_log.proofs.Tables.{link_numbered}

@@ -1,5 +1,4 @@
-use Rattle.std.proofs.Common.{◌∙◌, sym}
-use Rattle.certificate_log.proofs.CitedWords.{false≢true, lents, leases_are}
+use Rattle.certificate_log.proofs.CitedWords.{◌∙◌, sym, false≢true, lents, leases_are}
 use Rattle.certificate_log.proofs.Log.{tells_whole, whole_tells}
 use Rattle.certificate_log.proofs.certificate_log.CertificateLog.is_whole.Goals as goal
 

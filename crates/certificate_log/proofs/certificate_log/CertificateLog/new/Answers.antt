@@ -1,5 +1,4 @@
-use Rattle.std.proofs.Common.{◌∙◌, arith}
-use Rattle.lease_book.proofs.FirstBook.{first_list}
+use Rattle.certificate_log.proofs.CitedWords.{◌∙◌, arith, first_list}
 use Rattle.certificate_log.proofs.Beginning.{all_begun, next_begins, nothing_begun}
 use Rattle.certificate_log.proofs.certificate_log.CertificateLog.new.Goals as goal
 

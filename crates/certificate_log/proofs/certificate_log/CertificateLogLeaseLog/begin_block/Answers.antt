@@ -1,5 +1,4 @@
-use Rattle.std.proofs.Common.{◌≡◌, ◌%◌, ◌∙◌, ap, sym, refl, subst}
-use Rattle.certificate_log.proofs.CitedWords.{place_count, shape_of, Lease, Block, put_at, Begins}
+use Rattle.certificate_log.proofs.CitedWords.{◌≡◌, ◌%◌, ◌∙◌, ap, sym, refl, subst, place_count, shape_of, Lease, Block, put_at, Begins}
 use Rattle.certificate_log.proofs.Following.{goes_on}
 use Rattle.certificate_log.proofs.Standing.{free_none}
 use Rattle.certificate_log.proofs.Tables.{block_numbered}

@@ -1,5 +1,4 @@
-use Rattle.std.proofs.Common.{◌≡◌, ◌∙◌, ap, sym, refl, subst, unwrap_or}
-use Rattle.certificate_log.proofs.CitedWords.{is_crossing, link_crossed, link_of, shape_of, Lease, Link, put_at, Begins}
+use Rattle.certificate_log.proofs.CitedWords.{◌≡◌, ◌∙◌, ap, sym, refl, subst, unwrap_or, is_crossing, link_crossed, link_of, shape_of, Lease, Link, put_at, Begins}
 use Rattle.certificate_log.proofs.Following.{goes_on}
 use Rattle.certificate_log.proofs.Standing.{free_none}
 use Rattle.certificate_log.proofs.Tables.{link_numbered}

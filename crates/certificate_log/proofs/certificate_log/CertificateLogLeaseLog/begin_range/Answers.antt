@@ -1,6 +1,5 @@
-use Rattle.std.proofs.Common.{subst}
+use Rattle.certificate_log.proofs.CitedWords.{subst, Begins}
 use Rattle.ring_knowledge.specs.declared.lease.Lease.{Lease}
-use Rattle.certificate_log.specs.Following.{Begins}
 use Rattle.certificate_log.proofs.Beginning.{range_begins}
 use Rattle.certificate_log.proofs.certificate_log.CertificateLogLeaseLog.begin_range.Goals as goal
 

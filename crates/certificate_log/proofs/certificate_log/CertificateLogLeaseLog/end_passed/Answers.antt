@@ -1,5 +1,4 @@
-use Rattle.std.proofs.Common.{◌≡◌, ◌≤◌, ◌+◌, ◌∙◌, ◌||◌, ℕ, List, map, false, sym, ap, subst, arith, is_some}
-use Rattle.certificate_log.proofs.CitedWords.{is_crossing, Block, Link, same_leased, Lent, ended_where, is_passed, all_twice, none_over, none_passed, over_alike, passed_crossing, CertificateLog, FollowsCertificate}
+use Rattle.certificate_log.proofs.CitedWords.{◌≡◌, ◌≤◌, ◌+◌, ◌∙◌, ◌||◌, ℕ, List, map, false, sym, ap, subst, arith, is_some, is_crossing, Block, Link, same_leased, Lent, ended_where, is_passed, all_twice, none_over, none_passed, over_alike, passed_crossing, CertificateLog, FollowsCertificate}
 use Rattle.certificate_log.proofs.PassingOn.{passed_on}
 use Rattle.certificate_log.proofs.certificate_log.CertificateLogLeaseLog.end_passed.Goals as goal
 use Rattle.certificate_log.proofs.certificate_log.CertificateLogLeaseLog.end_passed.Goals.{then-is_some, else-is_some}

@@ -1,5 +1,4 @@
-use Rattle.std.proofs.Common.{◌≡◌, List, map}
-use Rattle.certificate_log.proofs.CitedWords.{Header, shape_of, Lease, Lent, ended_where, is_passed, FollowsCertificate}
+use Rattle.certificate_log.proofs.CitedWords.{◌≡◌, List, map, Header, shape_of, Lease, Lent, ended_where, is_passed, FollowsCertificate}
 use Rattle.certificate_log.proofs.certificate_log.CertificateLogLeaseLog.end_passed.Given as goal
 
 abbrev pub invariant-loop-number : goal.invariant-loop-number

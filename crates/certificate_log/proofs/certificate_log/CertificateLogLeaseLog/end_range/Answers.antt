@@ -1,5 +1,4 @@
-use Rattle.std.proofs.Common.{◌∙◌, map, sym, inl, inr, subst}
-use Rattle.certificate_log.proofs.CitedWords.{cases_Bool, false≢true, Range, same_leased, ended_where, FollowedList, FollowsList}
+use Rattle.certificate_log.proofs.CitedWords.{◌∙◌, map, sym, inl, inr, subst, cases_Bool, false≢true, Range, same_leased, ended_where, FollowedList, FollowsList}
 use Rattle.certificate_log.proofs.EndingOne.{another_there, this_there}
 use Rattle.certificate_log.proofs.Standing.{range_apart, stands_only}
 use Rattle.certificate_log.proofs.Tables.{range_numbered}

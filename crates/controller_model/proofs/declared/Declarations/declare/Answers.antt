@@ -1,6 +1,4 @@
-use Rattle.std.proofs.Common.{◌∙◌, ap, length, take, ◌++◌, ◌-◌, ◌≡◌}
-use Rattle.std.proofs.lemmas.List.{take_all}
-use Rattle.controller_model.specs.Declarations.{entries}
+use Rattle.controller_model.proofs.Words.{◌∙◌, ap, length, take, ◌++◌, ◌-◌, ◌≡◌, take_all, entries}
 use Rattle.controller_model.proofs.DeclaredLemmas.{entries_push, declares_more}
 use Rattle.controller_model.proofs.declared.Declarations.declare.Goals as goal
 

@@ -1,5 +1,4 @@
-use Rattle.std.proofs.Common.{◌≡◌, ◌++◌, take}
-use Rattle.controller_model.specs.Declarations.{entries}
+use Rattle.controller_model.proofs.Words.{◌≡◌, ◌++◌, take, entries}
 use Rattle.controller_model.proofs.declared.Declarations.declare.Given as goal
 
 -- so many blocks were added

@@ -1,6 +1,4 @@
-use Rattle.std.proofs.Common.{refl, ap, length, slice_get, option_map}
-use Rattle.controller_model.specs.Declarations.{as_declared}
-use Rattle.segments.specs.Descriptors.{declared_at}
+use Rattle.controller_model.proofs.Words.{refl, ap, length, slice_get, option_map, as_declared, declared_at}
 use Rattle.controller_model.proofs.declared.Declarations.new.Goals as goal
 
 pub returns : goal.returns

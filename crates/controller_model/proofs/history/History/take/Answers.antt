@@ -1,6 +1,4 @@
-use Rattle.std.proofs.Common.{refl, ap, not, ◌||◌, ◌==◌}
-use Rattle.std.proofs.lemmas.Grind.{common_steps}
-use Rattle.std.proofs.Common.{arith}
+use Rattle.controller_model.proofs.Words.{refl, ap, not, ◌||◌, ◌==◌, common_steps, arith}
 use Rattle.controller_model.proofs.HistoryLemmas.{keeps_took}
 use Rattle.controller_model.proofs.history.History.take.Goals as goal
 

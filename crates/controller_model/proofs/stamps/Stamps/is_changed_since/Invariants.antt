@@ -1,5 +1,4 @@
-use Rattle.std.proofs.Common.{◌≡◌, ℕ, ◌+◌, ◌*◌, ◌<◌, nat_lt, false}
-use Rattle.controller_model.specs.Held.{changed_at}
+use Rattle.controller_model.proofs.Words.{◌≡◌, ℕ, ◌+◌, ◌*◌, ◌<◌, nat_lt, false, changed_at}
 use Rattle.controller_model.proofs.stamps.Stamps.is_changed_since.Given as goal
 
 -- no word so far was changed after the step

@@ -1,5 +1,4 @@
-use Rattle.std.proofs.Common.{refl}
-use Rattle.world_state.specs.World.{opening}
+use Rattle.controller_model.proofs.Words.{refl, opening}
 use Rattle.controller_model.proofs.world.World.new.Goals as goal
 
 pub returns : goal.returns

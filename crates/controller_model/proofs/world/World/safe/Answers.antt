@@ -1,5 +1,4 @@
-use Rattle.std.proofs.Common.{◌∙◌, ap, sym, subst}
-use Rattle.controller_model.proofs.Words.{Header, harm_of, Follows, HasRingHarms}
+use Rattle.controller_model.proofs.Words.{◌∙◌, ap, sym, subst, Header, harm_of, Follows, HasRingHarms}
 use Rattle.controller_model.proofs.world.World.safe.Goals as goal
 
 pub returns-in-None : goal.returns-in-None

@@ -1,6 +1,4 @@
-use Rattle.std.proofs.Common.{◌∙◌, ap, sym}
-use Rattle.trb.specs.Descriptor.{fault_of}
-use Rattle.cycle_ring.specs.Progress.{Progress}
+use Rattle.cycle_ring.proofs.Words.{◌∙◌, ap, sym, fault_of, Progress}
 use Rattle.cycle_ring.proofs.EnqueueLemmas.{appended_blocks, appended_links, appended_others, appended_last, appended_declared, appended_rules}
 use Rattle.cycle_ring.proofs.producer.Producer.enqueue.Goals as goal
 

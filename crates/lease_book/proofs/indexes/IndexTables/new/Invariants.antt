@@ -1,6 +1,5 @@
-use Rattle.std.proofs.Common.{◌≡◌, ℕ, vec_len}
+use Rattle.lease_book.proofs.Words.{◌≡◌, ℕ, vec_len, index_of}
 use Rattle.std.specs.Prelude.{slice_get}
-use Rattle.lease_book.specs.IndexTables.{index_of}
 use Rattle.lease_book.proofs.indexes.IndexTables.new.Given as goal
 
 abbrev pub invariant-loop : goal.invariant-loop

@@ -1,5 +1,4 @@
-use Rattle.std.proofs.Common.{◌≡◌, ◌%◌, ◌∙◌, ap, sym}
-use Rattle.lease_book.proofs.Words.{Block, same_leased, place_count, shape_of, ended_at, IsFound}
+use Rattle.lease_book.proofs.Words.{◌≡◌, ◌%◌, ◌∙◌, ap, sym, Block, same_leased, place_count, shape_of, ended_at, IsFound}
 use Rattle.lease_book.proofs.Holding.{block_ends}
 use Rattle.lease_book.proofs.Unended.{all_ended}
 use Rattle.lease_book.proofs.lease_book.LeaseBook.end_block.Goals as goal

@@ -1,5 +1,4 @@
-use Rattle.std.proofs.Common.{◌≡◌, ◌∙◌, ap, sym, unwrap_or}
-use Rattle.lease_book.proofs.Words.{Link, same_leased, link_crossed, link_of, crossing_positive, shape_of, ended_at, IsFound}
+use Rattle.lease_book.proofs.Words.{◌≡◌, ◌∙◌, ap, sym, unwrap_or, Link, same_leased, link_crossed, link_of, crossing_positive, shape_of, ended_at, IsFound}
 use Rattle.lease_book.proofs.Holding.{link_ends}
 use Rattle.lease_book.proofs.Unended.{all_ended}
 use Rattle.lease_book.proofs.lease_book.LeaseBook.end_link.Goals as goal

@@ -1,5 +1,4 @@
-use Rattle.std.proofs.Common.{◌≡◌, ◌%◌, ◌∙◌, ap, sym}
-use Rattle.lease_book.proofs.Words.{Block, place_count, shape_of}
+use Rattle.lease_book.proofs.Words.{◌≡◌, ◌%◌, ◌∙◌, ap, sym, Block, place_count, shape_of}
 use Rattle.lease_book.proofs.Places.{block_found, list_begun, length_held, put_at}
 use Rattle.lease_book.proofs.lease_book.LeaseBookLeaseLog.begin_block.Goals as goal
 

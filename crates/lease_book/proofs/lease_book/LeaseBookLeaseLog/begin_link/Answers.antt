@@ -1,5 +1,4 @@
-use Rattle.std.proofs.Common.{◌≡◌, ◌∙◌, ap, sym, unwrap_or}
-use Rattle.lease_book.proofs.Words.{Link, link_of, shape_of, link_crossed, is_crossing}
+use Rattle.lease_book.proofs.Words.{◌≡◌, ◌∙◌, ap, sym, unwrap_or, Link, link_of, shape_of, link_crossed, is_crossing}
 use Rattle.lease_book.proofs.Places.{link_found, list_begun, length_held, put_at}
 use Rattle.lease_book.proofs.lease_book.LeaseBookLeaseLog.begin_link.Goals as goal
 

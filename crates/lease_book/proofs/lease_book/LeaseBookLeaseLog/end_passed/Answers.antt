@@ -1,5 +1,4 @@
-use Rattle.std.proofs.Common.{◌≡◌, ◌≤◌, ◌+◌, ◌∙◌, ◌||◌, ℕ, List, map, true, false, sym, ap, subst, arith, is_some}
-use Rattle.lease_book.proofs.Words.{is_crossing, Block, Link, same_leased, LeaseBook, Lent, ended_where, is_passed, HoldsLents, IsFound}
+use Rattle.lease_book.proofs.Words.{◌≡◌, ◌≤◌, ◌+◌, ◌∙◌, ◌||◌, ℕ, List, map, true, false, sym, ap, subst, arith, is_some, is_crossing, Block, Link, same_leased, LeaseBook, Lent, ended_where, is_passed, HoldsLents, IsFound}
 use Rattle.lease_book.proofs.Passing.{all_twice, ended_alike, over_alike, none_over, none_passed, passed_block, passed_crossing}
 use Rattle.lease_book.proofs.lease_book.LeaseBookLeaseLog.end_passed.Goals as goal
 use Rattle.lease_book.proofs.lease_book.LeaseBookLeaseLog.end_passed.Goals.{then-is_some, else-is_some}

@@ -1,5 +1,4 @@
-use Rattle.std.proofs.Common.{◌≡◌, List, map}
-use Rattle.lease_book.proofs.Words.{Header, shape_of, Lent, ended_where, is_passed, HoldsLents}
+use Rattle.lease_book.proofs.Words.{◌≡◌, List, map, Header, shape_of, Lent, ended_where, is_passed, HoldsLents}
 use Rattle.lease_book.proofs.lease_book.LeaseBookLeaseLog.end_passed.Given as goal
 
 abbrev pub invariant-loop-number : goal.invariant-loop-number

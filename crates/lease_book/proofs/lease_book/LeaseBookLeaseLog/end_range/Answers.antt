@@ -1,5 +1,4 @@
-use Rattle.ownership_rules.specs.OpenLeases.{Range, same_leased}
-use Rattle.lease_book.specs.Books.{IsFound}
+use Rattle.lease_book.proofs.Words.{Range, same_leased, IsFound}
 use Rattle.lease_book.proofs.EndingRange.{range_ends}
 use Rattle.lease_book.proofs.Unended.{all_ended}
 use Rattle.lease_book.proofs.lease_book.LeaseBookLeaseLog.end_range.Goals as goal

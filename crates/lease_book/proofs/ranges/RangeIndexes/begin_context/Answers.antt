@@ -1,5 +1,4 @@
-use Rattle.std.proofs.Common.{◌≡◌, ◌%◌, ◌∙◌, sym, ap}
-use Rattle.lease_book.proofs.Words.{place_count, InputContext, index_in, command_place}
+use Rattle.lease_book.proofs.Words.{◌≡◌, ◌%◌, ◌∙◌, sym, ap, place_count, InputContext, index_in, command_place}
 use Rattle.lease_book.proofs.RangePlaces.{always_ok, context_put, range_begins}
 use Rattle.lease_book.proofs.ranges.RangeIndexes.begin_context.Goals as goal
 

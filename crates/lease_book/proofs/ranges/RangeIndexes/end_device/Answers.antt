@@ -1,6 +1,4 @@
-use Rattle.std.proofs.Common.{sym, ap, ◌∙◌}
-use Rattle.ownership_rules.specs.OpenLeases.{DeviceContext}
-use Rattle.lease_book.specs.IndexTables.{index_in}
+use Rattle.lease_book.proofs.Words.{sym, ap, ◌∙◌, DeviceContext, index_in}
 use Rattle.lease_book.proofs.RangePlaces.{stands}
 use Rattle.lease_book.proofs.ranges.RangeIndexes.end_device.Goals as goal
 

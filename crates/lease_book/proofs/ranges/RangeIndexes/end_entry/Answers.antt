@@ -1,6 +1,4 @@
-use Rattle.std.proofs.Common.{sym, ap, ◌∙◌}
-use Rattle.ownership_rules.specs.OpenLeases.{SlotEntry}
-use Rattle.lease_book.specs.IndexTables.{index_in}
+use Rattle.lease_book.proofs.Words.{sym, ap, ◌∙◌, SlotEntry, index_in}
 use Rattle.lease_book.proofs.RangePlaces.{stands}
 use Rattle.lease_book.proofs.ranges.RangeIndexes.end_entry.Goals as goal
 

@@ -1,5 +1,4 @@
-use Rattle.std.proofs.Common.{◌≡◌, ◌∙◌, ap, sym, inl, inr, unwrap_or, is_some}
-use Rattle.trace_record.proofs.Words.{register_or_zero, Dcbaap}
+use Rattle.trace_record.proofs.Words.{◌≡◌, ◌∙◌, ap, sym, inl, inr, unwrap_or, is_some, register_or_zero, Dcbaap}
 use Rattle.trace_record.proofs.OpenEntries.{below_entries, no_slot, one_slot}
 use Rattle.trace_record.proofs.trace_record.TraceRecord.is_in_entry.Goals as goal
 

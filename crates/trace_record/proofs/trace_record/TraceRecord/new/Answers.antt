@@ -1,6 +1,4 @@
-use Rattle.std.proofs.Common.{subst, ◌*◌, ℕ, []}
-use Rattle.range_words.specs.Holding.{HoldsAreas}
-use Rattle.trace_record.specs.Fresh.{AreFresh}
+use Rattle.trace_record.proofs.Words.{subst, ◌*◌, ℕ, [], HoldsAreas, AreFresh}
 use Rattle.trace_record.proofs.FreshRecords.{follows_first}
 use Rattle.trace_record.proofs.trace_record.TraceRecord.new.Goals as goal
 

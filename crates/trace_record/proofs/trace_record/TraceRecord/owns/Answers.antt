@@ -1,6 +1,4 @@
-use Rattle.std.proofs.Common.{sym, subst}
-use Rattle.traces.specs.declared.row.Row.{Row}
-use Rattle.trace_record.specs.WordPlaces.{IsOwnedSo, IsPlaced}
+use Rattle.trace_record.proofs.Words.{sym, subst, Row, IsOwnedSo, IsPlaced}
 use Rattle.trace_record.proofs.PlacedWords.{owned_other}
 use Rattle.trace_record.proofs.trace_record.TraceRecord.owns.Goals as goal
 

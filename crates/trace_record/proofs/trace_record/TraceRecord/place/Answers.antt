@@ -1,6 +1,4 @@
-use Rattle.std.proofs.Common.{sym, subst}
-use Rattle.traces.specs.declared.row.Row.{Row}
-use Rattle.trace_record.specs.WordPlaces.{IsPlaced}
+use Rattle.trace_record.proofs.Words.{sym, subst, Row, IsPlaced}
 use Rattle.trace_record.proofs.PlacedWords.{placed_other}
 use Rattle.trace_record.proofs.trace_record.TraceRecord.place.Goals as goal
 

@@ -1,5 +1,4 @@
-use Rattle.std.proofs.Common.{◌≡◌, ◌∙◌, true, get_or, sym, ap, arith, refl, length, not, position}
-use Rattle.trace_record.proofs.Words.{slice_get_read, slice_get_within, touches, is_driver_kind, ring_here, none_here, among_at}
+use Rattle.trace_record.proofs.Words.{◌≡◌, ◌∙◌, true, get_or, sym, ap, arith, refl, length, not, position, slice_get_read, slice_get_within, touches, is_driver_kind, ring_here, none_here, among_at}
 use Rattle.trace_record.proofs.OneRingHas.{rings_nowhere, rings_in_events, rings_here}
 use Rattle.trace_record.proofs.PlacedWords.{nothing_of_events, given_on}
 use Rattle.trace_record.proofs.trace_record.TraceRecord.word_place.Goals as goal

@@ -1,0 +1,26 @@
+-- The words of std, of the crates below and of this crate's own definitions that its proofs cite, passed on by one file
+unfoldable pub use Rattle.lazy_runs.specs.Lazy.{behind_taken, brought, command_taken, further, goals, lazy_run, lazy_steps, looks_to, open_goals, pointers_after, pointers_at, post_of, report_goals, spots_before, steps_before, stop_goal, stopped_goals, taken_up_to}
+unfoldable pub use Rattle.lazy_runs.specs.Needs.{begins_anew, is_placed, is_placed_by, is_placed_by_all, need, number_behind, number_reported, ring_placed}
+pub use Rattle.lazy_steps.specs.Goals.{place_of}
+pub use Rattle.lazy_steps.specs.Law.{NeedsLaw, StepsLaw}
+pub use Rattle.lazy_steps.specs.Notes.{listed}
+unfoldable pub use Rattle.lazy_steps.specs.Notes.{completing_look, event_notes, if_open, notes, open_stopped, placed, placed_by, placed_by_all, placed_note, reporting_look, row_notes, transfer_notes}
+unfoldable pub use Rattle.lazy_steps.specs.Passes.{filled, need_before, need_in, note_goals, note_steps, pointers_behind, steps_of, with_need}
+pub use Rattle.lazy_steps.specs.Shapes.{shape_behind}
+pub use Rattle.lazy_steps.specs.Tables.{IsTable, spot_in}
+pub use Rattle.lazy_steps.specs.declared.note.Note.{Note}
+pub use Rattle.lazy_steps.specs.declared.note.Note.TheVariants.{Begun, Made, Placed, StoppedAt, StoppedOpen, Succeeded, Taken}
+pub use Rattle.ring_finder.proofs.FoundRings.{none_here, ring_here}
+pub use Rattle.ring_finder.proofs.HeaderRings.{not_found}
+pub use Rattle.safety.proofs.HeadlineFrom.{one_more}
+pub use Rattle.safety.proofs.Words.{Bell, Block, BlockKind, Change, Command, CommandCompletion, Data, Header, Known, Link, Look, NextRow, Read, Reg, Ring, RingSpot, Row, Shape, Spot, Step, StopEndpoint, Sub, TransferEvent, Write, Xfer, cases_Bool, code, cond-false, cond-true, drop_all, false≢true, flat_map, fun_ext, is_command_completion, is_crossing, is_ring, is_stopping, is_success, is_transfer_event, kind, list_any, list_any-append, number, put, rank, reverse-append, shape_or, slot}
+unfoldable pub use Rattle.safety.proofs.Words.{changed_by, changes, command_at, command_id, event_at, is_open, known, learned, next_command, shape_of}
+pub use Rattle.segments.proofs.Words.{nat_tests, next, position_or_len, spots_from, take_more}
+pub use Rattle.std.proofs.Common.{Bool, Err, List, None, Ok, OnOk, Option, Result, Some, [], add-one, ap, append-nil, append_assoc, arith, drop, eq-eqb, eqb-true, false, filter, get_or, get_or-set_other, get_or-set_same, get_or-take, if◌then◌else◌, inl, inr, length, length-take-le, map, max, nat_lt, not, position, refl, replicate, reverse, slice_get, slice_index, suc, sym, take, take_all, true, zero, ℕ, ◌&&◌, ◌*◌, ◌++◌, ◌+◌, ◌-◌, ◌<◌, ◌==◌, ◌||◌, ◌∙◌, ◌∷◌, ◌≡◌, ◌≤◌, ◌⊎◌}
+pub use Rattle.std.proofs.Math.Bool.{or-false}
+pub use Rattle.std.proofs.Math.ListN.{get_or-append, set}
+pub use Rattle.std.proofs.Math.Seq.{drop-cons, set-append_seam}
+pub use Rattle.std.proofs.lemmas.List.{get_or-replicate, length-replicate, reverse-reverse}
+pub use Rattle.std.proofs.lemmas.List.Folds.{find_at}
+pub use Rattle.std.specs.declared.alloc.AllocError.{AllocError}
+pub use Rattle.traces.specs.Header.{no_shape}
