@@ -35,18 +35,7 @@ pub fn explain_bad_line(
     fault: LineFault,
 ) -> Result<String, AllocError> {
     let bytes = line_at(text, line);
-    let why = match fault {
-        _ if bytes.ends_with(b"\r") => Why::plain(
-            alloc,
-            "the line ends in a carriage return",
-            "save the file with line feeds alone",
-        )?,
-        LineFault::Header => header_fault(alloc, bytes, line)?,
-        LineFault::Row => row_fault(alloc, text, bytes, line)?,
-        LineFault::Number => number_fault(alloc, bytes)?,
-        LineFault::Limit => limit_fault(alloc, bytes, line)?,
-        LineFault::Shape => ring_fault(alloc, text, bytes, line)?,
-    };
+    let why = condition(alloc, text, bytes, line, fault)?;
     let here = String::from_str(alloc, "")?;
     let earlier = match why.earlier {
         Some((line, label)) => Some(quote(alloc, text, line, String::from_str(alloc, label)?)?),
@@ -65,6 +54,30 @@ pub fn explain_bad_line(
         diagnostic: &diagnostic,
     };
     format!(in alloc; "{told}")
+}
+
+/// The condition that a bad line breaks.
+fn condition(
+    alloc: Global,
+    text: &[u8],
+    bytes: &[u8],
+    line: u32,
+    fault: LineFault,
+) -> Result<Why, AllocError> {
+    if bytes.ends_with(b"\r") {
+        return Why::plain(
+            alloc,
+            "the line ends in a carriage return",
+            "save the file with line feeds alone",
+        );
+    }
+    match fault {
+        LineFault::Header => header_fault(alloc, bytes, line),
+        LineFault::Row => row_fault(alloc, text, bytes, line),
+        LineFault::Number => number_fault(alloc, bytes),
+        LineFault::Limit => limit_fault(alloc, bytes, line),
+        LineFault::Shape => ring_fault(alloc, text, bytes, line),
+    }
 }
 
 /// A bad line of the two that every trace begins with.
