@@ -27,9 +27,13 @@ pub(crate) fn bad_command(
         "a command that its slot, endpoint or Input Context does not allow",
         here.as_str(),
     )?;
-    let told = note_states(case, &mut finding, command, slot)?
-        || note_place(case, &mut finding, command)?
-        || note_content(case, &mut finding, command)?;
+    let mut told = note_states(case, &mut finding, command, slot)?;
+    if !told {
+        told = note_place(case, &mut finding, command)?;
+    }
+    if !told {
+        told = note_content(case, &mut finding, command)?;
+    }
     if !told {
         finding.say(
             case.alloc,

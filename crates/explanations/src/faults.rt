@@ -1,4 +1,6 @@
 //! What is told of the first bad line of a trace: the one condition that it breaks.
+ghost use Rattle.std.specs.Prelude.{◌≡◌, IfOk};
+
 use crate::diagnostic::{Diagnostic, InFile, Matter};
 use crate::fields::{Field, first_field, number_fault, word_count};
 use crate::ring_lines::ring_fault;
@@ -34,37 +36,62 @@ pub fn explain_bad_line(
     line: u32,
     fault: LineFault,
 ) -> Result<String, AllocError> {
-    let bytes = line_at(text, line);
-    let why = match fault {
-        _ if bytes.ends_with(b"\r") => Why::plain(
-            alloc,
-            "the line ends in a carriage return",
-            "save the file with line feeds alone",
-        )?,
-        LineFault::Header => header_fault(alloc, bytes, line)?,
-        LineFault::Row => row_fault(alloc, text, bytes, line)?,
-        LineFault::Number => number_fault(alloc, bytes)?,
-        LineFault::Limit => limit_fault(alloc, bytes, line)?,
-        LineFault::Shape => ring_fault(alloc, text, bytes, line)?,
+    let diagnostic = diagnostic_of_line(alloc, text, line, fault)?;
+    let told = InFile {
+        path,
+        diagnostic: &diagnostic,
     };
+    format!(in alloc; "{told}")
+}
+
+/// The diagnostic of the first bad line of a trace's text.
+pub fn diagnostic_of_line(
+    alloc: Global,
+    text: &[u8],
+    line: u32,
+    fault: LineFault,
+) -> Result<Diagnostic, AllocError>
+    ensures fault { IfOk result (λ diagnostic. diagnostic.matter ≡ Matter.Fault fault) }
+    ensures line { IfOk result (λ diagnostic. diagnostic.refused.line ≡ line) }
+{
+    let why = condition(alloc, text, line_at(text, line), line, fault)?;
     let here = String::from_str(alloc, "")?;
     let earlier = match why.earlier {
         Some((line, label)) => Some(quote(alloc, text, line, String::from_str(alloc, label)?)?),
         None => None,
     };
-    let diagnostic = Diagnostic {
+    Ok(Diagnostic {
         matter: Matter::Fault(fault),
         head: why.head,
         refused: quote(alloc, text, line, here)?,
         earlier,
         notes: Vec::new(alloc),
         help: Some(String::from_str(alloc, why.help)?),
-    };
-    let told = InFile {
-        path,
-        diagnostic: &diagnostic,
-    };
-    format!(in alloc; "{told}")
+    })
+}
+
+/// The condition that a bad line breaks.
+fn condition(
+    alloc: Global,
+    text: &[u8],
+    bytes: &[u8],
+    line: u32,
+    fault: LineFault,
+) -> Result<Why, AllocError> {
+    if bytes.ends_with(b"\r") {
+        return Why::plain(
+            alloc,
+            "the line ends in a carriage return",
+            "save the file with line feeds alone",
+        );
+    }
+    match fault {
+        LineFault::Header => header_fault(alloc, bytes, line),
+        LineFault::Row => row_fault(alloc, text, bytes, line),
+        LineFault::Number => number_fault(alloc, bytes),
+        LineFault::Limit => limit_fault(alloc, bytes, line),
+        LineFault::Shape => ring_fault(alloc, text, bytes, line),
+    }
 }
 
 /// A bad line of the two that every trace begins with.

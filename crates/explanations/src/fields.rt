@@ -29,13 +29,16 @@ impl Field {
 
     /// How many digits the field with this number has, from 1; 0 where it isn't a number.
     fn digits(self, number: usize) -> usize {
-        match (self, number) {
-            (_, 1) => 0,
-            (Field::Ring | Field::Sub | Field::Bell, 2) | (Field::Bell, _) => 2,
-            (Field::Write | Field::Reg, 2) => if self == Field::Write { 16 } else { 0 },
-            (Field::Reg, _) => 16,
-            (Field::Ring, _) => 0,
-            _ => 8,
+        if number == 1 {
+            return 0;
+        }
+        match self {
+            Field::Ring => if number == 2 { 2 } else { 0 },
+            Field::Sub => if number == 2 { 2 } else { 8 },
+            Field::Write => if number == 2 { 16 } else { 8 },
+            Field::Reg => if number == 2 { 0 } else { 16 },
+            Field::Bell => 2,
+            Field::Event => 8,
         }
     }
 }

@@ -168,7 +168,8 @@ impl Known {
     fn learn_command(&mut self, row: usize, block: Block) -> Result<(), AllocError> {
         if let Ok(Command::AddressDevice { slot, .. }) = Command::read(&block) {
             if self.devices.device(slot).is_none() {
-                self.devices.take_device(slot, self.device_named(slot));
+                let address = self.device_named(slot);
+                self.devices.take_device(slot, address);
                 self.takings.push(Taking { slot, row })?;
             }
         }

@@ -28,5 +28,5 @@ mod words;
 
 pub use diagnostic::{Diagnostic, InFile, Matter, Quote};
 pub use explain::{diagnostic_of, explain_refused};
-pub use faults::explain_bad_line;
+pub use faults::{diagnostic_of_line, explain_bad_line};
 pub use replays::explain_step;

@@ -76,14 +76,14 @@ fn harm_note(harm: Harm) -> &'static str {
         Harm::TakenOutOfOrder =>
             "a TRB with the controller's Cycle bit stands where it fetches, and no `sub` row has it there (xHCI 4.9.2)",
         Harm::TakenOtherWords =>
-            "the TRB that it took, which is the last line of standard output, isn't that of the `sub` row (xHCI 4.9.2)",
+            "the TRB that it took, in the last `took` line, isn't that of the `sub` row (xHCI 4.9.2)",
         Harm::WaitsInsideDescriptor =>
             "a TRB of a TD was taken, and the next one doesn't have the controller's Cycle bit (xHCI 4.11)",
         Harm::LooksOutside => "a Link TRB, or a TR Dequeue Pointer, led there (xHCI 4.9.2.1)",
         Harm::PostsOverUnread =>
             "ERDP let it go on over events that the driver has not read (xHCI 4.9.4)",
         Harm::InputContextChanged =>
-            "the driver wrote it before the Command Completion Event (xHCI 4.6, 6.2.5)",
+            "it was written before the Command Completion Event, by the driver or by the controller as a Device Context (xHCI 4.6, 6.2.5)",
     }
 }
 

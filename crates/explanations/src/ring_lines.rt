@@ -125,7 +125,7 @@ fn part_fault(alloc: Global, kind: RingKind, part: Part) -> Result<Option<Why>, 
             help: "write the segment's first address (xHCI table 6-1)",
         }));
     }
-    if base % 0x10000 + part.bytes() > 0x10000 {
+    if base % 0x10000 + 16 * count > 0x10000 {
         let page = (base / 0x10000)
             .saturating_mul(0x10000)
             .saturating_add(0x10000);
