@@ -6,6 +6,7 @@ mod answer;
 mod decode;
 mod explain;
 mod keeping;
+mod page;
 mod replay_lines;
 mod telling;
 
@@ -15,5 +16,6 @@ pub use explain::{
     Asked, note_on_certificate, note_on_failure, note_on_plan, note_on_schedule, note_on_trace,
 };
 pub use keeping::keep;
+pub use page::run_explain;
 pub use replay_lines::ReplayEnd;
 pub use telling::{tell, tell_failure, tell_named};
