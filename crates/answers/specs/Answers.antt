@@ -2,7 +2,8 @@
 use Rattle.std.specs.Prelude.{◌≡◌, ℕ, List, [], ◌∷◌, ◌++◌, Bool, true, false, if◌then◌else◌, Some, None, codes, decimal}
 use Rattle.std.specs.declared.io.ErrorKind.{ErrorKind}
 use Rattle.std.specs.declared.io.ErrorKind.TheVariants.{OutOfMemory as NoMemory}
-use Rattle.ownership_rules.specs.Refusal as rule
+use Rattle.ownership_rules.specs.Refusal as rules
+use Rattle.ownership_rules.specs.declared.refusal.Refusal.{Refusal}
 use Rattle.trace_reader.specs.Faults.{fault_number, fault_name}
 use Rattle.trace_reader.specs.Values.{block_of}
 use Rattle.trace_reader.specs.declared.fault.ReadFault.{ReadFault}
@@ -16,7 +17,7 @@ use Rattle.plan_writer.specs.declared.fault.PlanFault.TheVariants.{Line as BadPl
 use Rattle.answers.specs.Decoding.{decoded_text}
 use Rattle.answers.specs.Replays.{end_status, replay_text}
 use Rattle.answers.specs.declared.answer.Answer.{Answer}
-use Rattle.answers.specs.declared.answer.Answer.TheVariants.{Accepted, Written, Decoded, Replayed, Verified, Scheduled, Refused, Unfollowed, BadLine, BadWord, BadCertificate, TooLong, Memory, Device}
+use Rattle.answers.specs.declared.answer.Answer.TheVariants.{Accepted, Written, Decoded, Replayed, Verified, Scheduled, Explained, Refused, Unfollowed, BadLine, BadWord, BadCertificate, TooLong, Memory, Device}
 use Rattle.answers.specs.declared.answer.Status.{Status}
 use Rattle.answers.specs.declared.answer.Status.TheVariants.{Clean, Unclean, Unreadable, Unanswered}
 
@@ -28,6 +29,7 @@ status_of (Decoded block) = Clean
 status_of (Replayed seen ending) = end_status ending
 status_of (Verified holds) = if holds then Clean else Unclean
 status_of (Scheduled schedule) = Clean
+status_of (Explained rule page) = Clean
 status_of (Refused row refusal) = Unclean
 status_of (Unfollowed line refusal) = Unclean
 status_of (BadLine line fault) = Unreadable
@@ -57,6 +59,10 @@ memory_line = codes "xhcitrace: 30 Memory\n"
 abbrev pub device_line : List ℕ
 device_line = codes "xhcitrace: 31 Device\n"
 
+-- the page on a rule: its number and name stand before it
+abbrev pub page_text : Refusal → List ℕ → List ℕ
+page_text rule page = decimal (rules.number_of rule) ++ codes " " ++ rules.name_of rule ++ codes ": " ++ page
+
 -- the text of an answer, its line feed too
 abbrev pub text_of : Answer → List ℕ
 text_of (Accepted leases) = codes "accepted: " ++ decimal leases ++ codes " leases" ++ 10 ∷ []
@@ -65,7 +71,8 @@ text_of (Decoded block) = decoded_text block ++ 10 ∷ []
 text_of (Replayed seen ending) = replay_text seen.items ending
 text_of (Verified holds) = if holds then codes "yes\n" else codes "no\n"
 text_of (Scheduled schedule) = schedule.items
-text_of (Refused row refusal) = codes "row " ++ decimal row ++ codes ": " ++ decimal (rule.number_of refusal) ++ codes " " ++ rule.name_of refusal ++ 10 ∷ []
+text_of (Explained rule page) = page_text rule page.now
+text_of (Refused row refusal) = codes "row " ++ decimal row ++ codes ": " ++ decimal (rules.number_of refusal) ++ codes " " ++ rules.name_of refusal ++ 10 ∷ []
 text_of (Unfollowed line refusal) = codes "line " ++ decimal line ++ codes ": " ++ decimal (refusal_number refusal) ++ codes " " ++ refusal_name refusal ++ 10 ∷ []
 text_of (BadLine line fault) = codes "xhcitrace: line " ++ decimal line ++ codes ": " ++ decimal (fault_number fault) ++ codes " " ++ fault_name fault ++ 10 ∷ []
 text_of BadWord = codes "xhcitrace: 3 Number\n"
@@ -101,6 +108,12 @@ answer_of_cert_fault fault = BadCertificate fault
 abbrev pub answer_of_kind : ErrorKind → Answer
 answer_of_kind NoMemory = Memory
 answer_of_kind _ = Device
+
+-- an answer to the question for a rule is right: the page on that rule; or memory failed
+abbrev pub IsPageAnswer : Refusal → Answer → Type 0
+IsPageAnswer rule (Explained explained page) = explained ≡ rule
+IsPageAnswer rule Memory = Unit {0}
+IsPageAnswer rule _ = ⊥
 
 -- an answer to four words is right: the block that they spell, or that one of them is no word; or that memory or the device failed
 abbrev pub IsBlockAnswer : List ℕ → List ℕ → List ℕ → List ℕ → Answer → Type 0

@@ -1,6 +1,6 @@
 //! What is answered, its text, and the exit status that goes with it.
 ghost use Rattle.std.specs.Prelude.{◌≡◌, ◌++◌, ◌∷◌, [], IfOk, IsOk, OnOk, codes, decimal, max, string_bytes};
-ghost use Rattle.answers.specs.Answers.{exit_number, status_of, text_of};
+ghost use Rattle.answers.specs.Answers.{exit_number, page_text, status_of, text_of};
 
 use crate::decode::line_of;
 use crate::replay_lines::{ReplayEnd, replay_text};
@@ -28,6 +28,8 @@ pub enum Answer {
     Verified { holds: bool },
     /// The lazy schedule of the trace, as it is printed.
     Scheduled { schedule: Vec<u8> },
+    /// The page on a rule.
+    Explained { rule: Refusal, page: &'static str },
     /// The first row that breaks a rule, by its line from 1, and the least rule that it breaks.
     Refused { row: u32, refusal: Refusal },
     /// The first line of a plan that can't be followed, from 1, and why.
@@ -90,6 +92,15 @@ fn named(alloc: Global, number: u8, name: &str) -> Result<String, AllocError>
     format!(in alloc; "xhcitrace: {number} {name}")
 }
 
+/// The page on a rule, its number and name before it.
+fn headed_page(alloc: Global, rule: Refusal, page: &str) -> Result<Vec<u8>, AllocError>
+    ensures { IfOk result (λ text. text.items ≡ page_text rule page.now) }
+{
+    let number = rule.number();
+    let text = format!(in alloc; "{number} {rule}: {page}")?;
+    Ok(text.into_bytes())
+}
+
 /// What is written where memory is wanted: it needs none.
 pub const MEMORY_LINE: &str = "xhcitrace: 30 Memory\n";
 
@@ -104,7 +115,8 @@ impl Answer {
             Answer::Accepted { .. }
             | Answer::Written { .. }
             | Answer::Decoded { .. }
-            | Answer::Scheduled { .. } => Status::Clean,
+            | Answer::Scheduled { .. }
+            | Answer::Explained { .. } => Status::Clean,
             Answer::Replayed { ending, .. } => ending.status(),
             Answer::Verified { holds } => if *holds {
                 Status::Clean
@@ -161,6 +173,7 @@ impl Answer {
                 Vec::from_slice(alloc, word)
             }
             Answer::Scheduled { schedule } => Ok(schedule),
+            Answer::Explained { rule, page } => headed_page(alloc, rule, page),
             Answer::Refused { row, refusal } => {
                 ended(numbered(alloc, "row ", row, refusal.number(), refusal.name()))
             },

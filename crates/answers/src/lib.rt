@@ -6,6 +6,7 @@ mod answer;
 mod decode;
 mod explain;
 mod keeping;
+mod page;
 mod replay_lines;
 mod telling;
 
@@ -16,5 +17,6 @@ pub use explain::{
     note_on_trace,
 };
 pub use keeping::keep;
+pub use page::run_explain;
 pub use replay_lines::ReplayEnd;
 pub use telling::{tell, tell_failure, tell_named};

@@ -2,11 +2,14 @@
 #![tactic(auto)]
 
 ghost use Rattle.clap.specs.Matches.{first_value, found_of};
-ghost use Rattle.std.specs.Prelude.{◌≡◌, ◌≢◌, ◌⊎◌, None, Some, IfNone, IfSome, codes};
+ghost use Rattle.rule_pages.specs.Naming.{IsCalled};
+ghost use Rattle.std.specs.Prelude.{◌≡◌, ◌≢◌, ◌⊎◌, ℕ, List, None, Some, IfNone, IfSome, codes};
 
 use answers::BlockWords;
 use clap::error::ErrorKind;
 use clap::{Arg, ArgAction, ArgMatches, Command, Error};
+use ownership_rules::Refusal;
+use rule_pages::rule_called;
 use std::alloc::{AllocError, Global};
 
 const STATUSES: &str = "\
@@ -74,6 +77,14 @@ Prints one line, status 0; on standard error that a word isn't 8 hex digits, sta
 Example:
   xhcitrace decode 00030000 00000000 01000000 01018001";
 
+const EXPLAIN: &str = "\
+Prints what the rule is for, what a controller does to a driver that breaks it, what to write instead, and a trace that breaks
+it, status 0; else status 3. The rules have the numbers 10 to 25.
+
+Examples:
+  xhcitrace explain 13
+  xhcitrace explain WriteToOwned";
+
 /// What the program can be asked for.
 pub fn command<'a>(alloc: Global) -> Result<Command<'a>, AllocError> {
     Command::new(alloc, "xhcitrace")
@@ -86,7 +97,8 @@ pub fn command<'a>(alloc: Global) -> Result<Command<'a>, AllocError> {
         .subcommand(schedule(alloc)?)?
         .subcommand(replay(alloc)?)?
         .subcommand(write(alloc)?)?
-        .subcommand(decode(alloc)?)
+        .subcommand(decode(alloc)?)?
+        .subcommand(tell_rule(alloc)?)
 }
 
 fn check<'a>(alloc: Global) -> Result<Command<'a>, AllocError> {
@@ -165,6 +177,17 @@ fn decode<'a>(alloc: Global) -> Result<Command<'a>, AllocError> {
         .arg(explain(alloc))
 }
 
+fn tell_rule<'a>(alloc: Global) -> Result<Command<'a>, AllocError> {
+    Command::new(alloc, "explain")
+        .about("Explains a rule, with a trace that breaks it")
+        .after_help(EXPLAIN)
+        .arg(needed(
+            alloc,
+            "RULE",
+            "Its number or its name, in upper or lower case",
+        ))
+}
+
 /// What is told of arguments that aren't text.
 pub fn not_text(alloc: Global) -> Result<Error, AllocError> {
     command(alloc)?.error(ErrorKind::InvalidValue, "an argument isn't UTF-8")
@@ -175,6 +198,14 @@ pub fn one_certificate(alloc: Global) -> Result<Error, AllocError> {
     command(alloc)?.error(
         ErrorKind::ArgumentConflict,
         "--cert writes the certificate of one trace, and several are named",
+    )
+}
+
+/// What is told where a word is asked for that is no rule.
+pub fn no_rule(alloc: Global) -> Result<Error, AllocError> {
+    command(alloc)?.error(
+        ErrorKind::InvalidValue,
+        "there is no such rule: a rule has a number from 10 to 25, or a name as WriteToOwned",
     )
 }
 
@@ -230,6 +261,13 @@ pub fn block_words<'a>(decode: &ArgMatches<'a>) -> Option<BlockWords<'a>>
         third: decode.get_str("WORD2")?,
         fourth: decode.get_str("WORD3")?,
     })
+}
+
+/// The rule that is to be explained, where the word is one.
+pub fn rule(explain: &ArgMatches) -> Option<Refusal>
+    ensures { IfSome result (λ rule. (word : List ℕ) × (Some word ≡ first_value (found_of explain.now) (codes "RULE")) × IsCalled rule word) }
+{
+    rule_called(explain.get_str("RULE")?)
 }
 
 /// The file that is named so, where there is one and it isn't standard input.

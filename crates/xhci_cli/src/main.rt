@@ -10,11 +10,12 @@ mod schedule_run;
 mod several_run;
 mod verify_run;
 
-use answers::{Asked, Status, run_decode, tell_failure};
+use answers::{Asked, Status, run_decode, run_explain, tell_failure};
 use check_run::run_check;
 use clap::ArgMatches;
-use command_line::{block_words, path};
+use command_line::{block_words, path, rule};
 use file_on_write::FileOnWrite;
+use ownership_rules::Refusal;
 use plan_run::run_write;
 use replay_run::run_replay;
 use schedule_run::run_schedule;
@@ -62,6 +63,9 @@ fn obey(rt: &HostRuntime) -> io::Result<ExitCode> {
             if wants_certificate_of_several(&matches) {
                 return usage(rt, command_line::one_certificate(alloc)?);
             }
+            if asks_for_no_rule(&matches) {
+                return usage(rt, command_line::no_rule(alloc)?);
+            }
             Ok(ExitCode::from(status_of(rt, &matches).number()))
         }
         Err(error) => usage(rt, error),
@@ -91,6 +95,11 @@ fn status_of(rt: &HostRuntime, matches: &ArgMatches) -> Status {
             );
         }
     }
+    if let Some(explain) = matches.subcommand_matches("explain") {
+        if let Some(rule) = rule(explain) {
+            return page_at(rt, rule);
+        }
+    }
     if let Some(write) = matches.subcommand_matches("write") {
         return write_at(rt, path(write, "PLAN"), explains(rt, write));
     }
@@ -118,6 +127,14 @@ fn explains(rt: &HostRuntime, matches: &ArgMatches) -> bool {
 fn wants_certificate_of_several(matches: &ArgMatches) -> bool {
     match matches.subcommand_matches("check") {
         Some(check) => check.contains_id("cert") && paths(check).len() > 1,
+        None => false,
+    }
+}
+
+/// Whether a rule is to be explained that there is none.
+fn asks_for_no_rule(matches: &ArgMatches) -> bool {
+    match matches.subcommand_matches("explain") {
+        Some(explain) => rule(explain).is_none(),
         None => false,
     }
 }
@@ -207,6 +224,18 @@ fn check_at(
             &mut err,
         ),
     }
+}
+
+/// Writes the page on a rule.
+fn page_at(rt: &HostRuntime, rule: Refusal) -> Status {
+    let explains = rt.stderr().is_terminal();
+    run_explain(
+        rt.alloc(),
+        explains,
+        rule,
+        &mut rt.stdout(),
+        &mut rt.stderr(),
+    )
 }
 
 /// Writes the trace of the plan in a file, or on standard input.
