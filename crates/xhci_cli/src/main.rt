@@ -1,6 +1,7 @@
 //! `xhcitrace`: checks recorded traces of USB host controller drivers.
 #![tactic(auto)]
 
+mod arguments;
 mod check_run;
 mod file_on_write;
 mod input;
@@ -8,9 +9,11 @@ mod plan_run;
 mod reading;
 mod replay_run;
 mod schedule_run;
+mod streams;
 mod verify_run;
 
 use answers::{Asked, Status, run_decode, tell_failure};
+use arguments::clash;
 use check_run::run_check;
 use clap::ArgMatches;
 use command_line::{block_words, path};
@@ -19,6 +22,7 @@ use input::Input;
 use plan_run::run_write;
 use replay_run::run_replay;
 use schedule_run::run_schedule;
+use streams::{NULL, hold_streams};
 use std::alloc::AllocError;
 use std::env;
 use std::io::{self, ErrorKind, IsTerminal};
@@ -26,23 +30,29 @@ use std::process::ExitCode;
 use verify_run::run_verify;
 
 fn main(rt: HostRuntime) -> ExitCode {
+    if let Err(error) = hold_streams(&rt) {
+        return failed(&rt, NULL, error);
+    }
     match obey(&rt) {
         Ok(code) => code,
-        Err(error) => {
-            let asked = Asked {
-                input: "the command line",
-                explains: rt.stderr().is_terminal(),
-            };
-            let status = tell_failure(
-                rt.alloc(),
-                &asked,
-                error,
-                &mut rt.stdout(),
-                &mut rt.stderr(),
-            );
-            ExitCode::from(status.number())
-        }
+        Err(error) => failed(&rt, "the command line", error),
     }
+}
+
+/// Tells why the program couldn't begin.
+fn failed(rt: &HostRuntime, input: &str, error: io::Error) -> ExitCode {
+    let asked = Asked {
+        input,
+        explains: rt.stderr().is_terminal(),
+    };
+    let status = tell_failure(
+        rt.alloc(),
+        &asked,
+        error,
+        &mut rt.stdout(),
+        &mut rt.stderr(),
+    );
+    ExitCode::from(status.number())
 }
 
 /// Does what the command line says.
@@ -57,7 +67,13 @@ fn obey(rt: &HostRuntime) -> io::Result<ExitCode> {
         Err(error) => return Err(error),
     };
     match command_line::command(alloc)?.try_get_matches_from(words.as_slice()) {
-        Ok(matches) => Ok(ExitCode::from(status_of(rt, &matches).number())),
+        Ok(matches) => match clash(rt, &matches) {
+            Some(why) => usage(
+                rt,
+                command_line::command(alloc)?.error(clap::error::ErrorKind::ArgumentConflict, why)?,
+            ),
+            None => Ok(ExitCode::from(status_of(rt, &matches).number())),
+        },
         Err(error) => usage(rt, error),
     }
 }
