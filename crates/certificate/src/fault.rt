@@ -3,6 +3,7 @@ ghost use Rattle.std.specs.Fmt.{padded};
 ghost use Rattle.certificate.specs.Spelling.{cert_fault_number, cert_fault_name};
 
 use std::alloc::AllocError;
+use std::error::Error;
 use std::fmt;
 
 /// Why bytes are no certificate.
@@ -53,6 +54,8 @@ impl fmt::Display for CertFault {
         f.pad(self.name())
     }
 }
+
+impl Error for CertFault {}
 
 impl From<AllocError> for CertFault {
     ghost use Rattle.certificate.specs.declared.fault.CertFault.TheVariants.{Memory};
