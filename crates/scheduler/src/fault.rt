@@ -1,13 +1,16 @@
 ghost use Rattle.std.specs.Prelude.{◌≡◌};
 
 use std::alloc::AllocError;
+use thiserror::Error;
 
 /// Why no schedule is answered.
-#[derive(Clone, Copy, Debug, PartialEq, Eq)]
+#[derive(Clone, Copy, Debug, Error, PartialEq, Eq)]
 pub enum ScheduleFault {
     /// It has more lines than a schedule may have.
+    #[error("more lines than a schedule may have")]
     TooLong,
     /// A growth of memory was refused.
+    #[error("memory is wanted")]
     Memory,
 }
 
