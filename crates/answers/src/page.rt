@@ -21,9 +21,16 @@ pub fn run_explain<O: Write, E: Write>(
     ensures told { (answer : Answer) × IsPageAnswer rule answer × IsTold explains answer result (O.contents out.old) (O.contents out.new) (E.contents err.old) (E.contents err.new) }
     ensures err { explains ≡ false → goes_out result ≡ true → err.new ≡ err.old }
 {
-    let answer = Answer::Explained {
+    let answer = page_answer(rule);
+    tell(alloc, explains, answer, Ok(String::new(alloc)), out, err)
+}
+
+/// The answer to the question for a rule.
+fn page_answer(rule: Refusal) -> Answer
+    ensures { IsPageAnswer rule result }
+{
+    Answer::Explained {
         rule,
         page: page(rule),
-    };
-    tell(alloc, explains, answer, Ok(String::new(alloc)), out, err)
+    }
 }

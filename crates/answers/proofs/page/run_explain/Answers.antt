@@ -1,7 +1,6 @@
-use Rattle.std.proofs.Common.{refl}
 use Rattle.answers.specs.Answers.{IsPageAnswer}
 use Rattle.answers.proofs.Told.{told_right}
 use Rattle.answers.proofs.page.run_explain.Goals as goal
 
 pub returns-clause-told : goal.returns-clause-told
-returns-clause-told g c = told_right (λ a. IsPageAnswer c.args.rule a) _ _ _ _ _ _ _ refl tt c.tell.ensures.told
+returns-clause-told g c = told_right (λ a. IsPageAnswer c.args.rule a) _ _ _ _ _ _ _ c.page_answer-answer.ensures tt c.tell.ensures.told
