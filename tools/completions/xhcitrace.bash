@@ -4,14 +4,14 @@ _xhcitrace() {
   local options
   COMPREPLY=()
   if [ "$COMP_CWORD" -eq 1 ]; then
-    mapfile -t COMPREPLY < <(compgen -W 'check verify schedule replay write decode help --help --version -h -V' -- "$word")
+    mapfile -t COMPREPLY < <(compgen -W 'check verify schedule replay show write decode help --help --version -h -V' -- "$word")
     return
   fi
   case $command in
     check) options='--cert --explain --help -h' ;;
-    verify | schedule | replay | write | decode) options='--explain --help -h' ;;
+    verify | schedule | replay | show | write | decode) options='--explain --help -h' ;;
     help)
-      mapfile -t COMPREPLY < <(compgen -W 'check verify schedule replay write decode help' -- "$word")
+      mapfile -t COMPREPLY < <(compgen -W 'check verify schedule replay show write decode help' -- "$word")
       return ;;
     *) return ;;
   esac

@@ -1,5 +1,5 @@
 -- The text of each answer, how the program ends on it, and what is right to answer to the words of a block
-use Rattle.std.specs.Prelude.{◌≡◌, ℕ, List, [], ◌∷◌, ◌++◌, Bool, true, false, if◌then◌else◌, Some, None, codes, decimal}
+use Rattle.std.specs.Prelude.{◌≡◌, ℕ, List, [], ◌∷◌, ◌++◌, Bool, true, false, if◌then◌else◌, Some, None, codes, decimal, nat_lt}
 use Rattle.std.specs.declared.io.ErrorKind.{ErrorKind}
 use Rattle.std.specs.declared.io.ErrorKind.TheVariants.{OutOfMemory as NoMemory}
 use Rattle.ownership_rules.specs.Refusal as rule
@@ -16,7 +16,7 @@ use Rattle.plan_writer.specs.declared.fault.PlanFault.TheVariants.{Line as BadPl
 use Rattle.answers.specs.Decoding.{decoded_text}
 use Rattle.answers.specs.Replays.{end_status, replay_text}
 use Rattle.answers.specs.declared.answer.Answer.{Answer}
-use Rattle.answers.specs.declared.answer.Answer.TheVariants.{Accepted, Written, Decoded, Replayed, Verified, Scheduled, Refused, Unfollowed, BadLine, BadWord, BadCertificate, TooLong, Memory, Device}
+use Rattle.answers.specs.declared.answer.Answer.TheVariants.{Accepted, Written, Decoded, Replayed, Verified, Scheduled, Shown, Refused, Unfollowed, BadLine, BadWord, BadCertificate, TooLong, NoRow, Memory, Device}
 use Rattle.answers.specs.declared.answer.Status.{Status}
 use Rattle.answers.specs.declared.answer.Status.TheVariants.{Clean, Unclean, Unreadable, Unanswered}
 
@@ -28,12 +28,14 @@ status_of (Decoded block) = Clean
 status_of (Replayed seen ending) = end_status ending
 status_of (Verified holds) = if holds then Clean else Unclean
 status_of (Scheduled schedule) = Clean
+status_of (Shown page) = Clean
 status_of (Refused row refusal) = Unclean
 status_of (Unfollowed line refusal) = Unclean
 status_of (BadLine line fault) = Unreadable
 status_of BadWord = Unreadable
 status_of (BadCertificate fault) = Unreadable
 status_of TooLong = Unreadable
+status_of (NoRow first last) = Unreadable
 status_of Memory = Unanswered
 status_of Device = Unanswered
 
@@ -57,6 +59,12 @@ memory_line = codes "xhcitrace: 30 Memory\n"
 abbrev pub device_line : List ℕ
 device_line = codes "xhcitrace: 31 Device\n"
 
+-- which rows may be asked for
+abbrev pub range_text : ℕ → ℕ → List ℕ
+range_text first last =
+    if nat_lt last first then codes "xhcitrace: no such row: the trace has none"
+    else codes "xhcitrace: no such row: " ++ decimal first ++ codes " to " ++ decimal last ++ codes " can be shown"
+
 -- the text of an answer, its line feed too
 abbrev pub text_of : Answer → List ℕ
 text_of (Accepted leases) = codes "accepted: " ++ decimal leases ++ codes " leases" ++ 10 ∷ []
@@ -65,12 +73,14 @@ text_of (Decoded block) = decoded_text block ++ 10 ∷ []
 text_of (Replayed seen ending) = replay_text seen.items ending
 text_of (Verified holds) = if holds then codes "yes\n" else codes "no\n"
 text_of (Scheduled schedule) = schedule.items
+text_of (Shown page) = page.items
 text_of (Refused row refusal) = codes "row " ++ decimal row ++ codes ": " ++ decimal (rule.number_of refusal) ++ codes " " ++ rule.name_of refusal ++ 10 ∷ []
 text_of (Unfollowed line refusal) = codes "line " ++ decimal line ++ codes ": " ++ decimal (refusal_number refusal) ++ codes " " ++ refusal_name refusal ++ 10 ∷ []
 text_of (BadLine line fault) = codes "xhcitrace: line " ++ decimal line ++ codes ": " ++ decimal (fault_number fault) ++ codes " " ++ fault_name fault ++ 10 ∷ []
 text_of BadWord = codes "xhcitrace: 3 Number\n"
 text_of (BadCertificate fault) = codes "xhcitrace: " ++ decimal (cert_fault_number fault) ++ codes " " ++ cert_fault_name fault ++ 10 ∷ []
 text_of TooLong = codes "xhcitrace: 4 Limit\n"
+text_of (NoRow first last) = range_text first last ++ 10 ∷ []
 text_of Memory = memory_line
 text_of Device = device_line
 

@@ -1,6 +1,6 @@
 //! What is answered, its text, and the exit status that goes with it.
 ghost use Rattle.std.specs.Prelude.{◌≡◌, ◌++◌, ◌∷◌, [], IfOk, IsOk, OnOk, codes, decimal, max, string_bytes};
-ghost use Rattle.answers.specs.Answers.{exit_number, status_of, text_of};
+ghost use Rattle.answers.specs.Answers.{exit_number, range_text, status_of, text_of};
 
 use crate::decode::line_of;
 use crate::replay_lines::{ReplayEnd, replay_text};
@@ -28,6 +28,8 @@ pub enum Answer {
     Verified { holds: bool },
     /// The lazy schedule of the trace, as it is printed.
     Scheduled { schedule: Vec<u8> },
+    /// What is known, and who owns what, before a row of a trace, as a page of text.
+    Shown { page: Vec<u8> },
     /// The first row that breaks a rule, by its line from 1, and the least rule that it breaks.
     Refused { row: u32, refusal: Refusal },
     /// The first line of a plan that can't be followed, from 1, and why.
@@ -40,6 +42,8 @@ pub enum Answer {
     BadCertificate { fault: CertFault },
     /// The schedule has more lines than a schedule may have.
     TooLong,
+    /// A row that was asked for is none of those from `first` to `last`, by their lines; there are none where `last` is the less.
+    NoRow { first: u32, last: u32 },
     /// A growth of memory was refused.
     Memory,
     /// The trace couldn't be opened or read, or the answer couldn't be written.
@@ -49,12 +53,13 @@ pub enum Answer {
 /// How the program ends.
 #[derive(Clone, Copy, Debug, PartialEq, Eq)]
 pub enum Status {
-    /// The trace is accepted, the plan, the block or the schedule is written, the replay shows no harm, or the certificate holds.
+    /// The trace is accepted, the plan, the block, the schedule or the page is written, the replay shows no harm, or the certificate
+    /// holds.
     Clean,
     /// A row breaks a rule, a line of a plan can't be followed, a replay does harm or isn't possible, or a certificate doesn't hold.
     Unclean,
-    /// The text is no trace, no plan, no schedule or no block, the bytes are no certificate, a schedule would be too long, or the
-    /// arguments are wrong.
+    /// The text is no trace, no plan, no schedule or no block, the bytes are no certificate, a schedule would be too long, the
+    /// trace hasn't the row, or the arguments are wrong.
     Unreadable,
     /// Memory or a device failed.
     Unanswered,
@@ -90,6 +95,17 @@ fn named(alloc: Global, number: u8, name: &str) -> Result<String, AllocError>
     format!(in alloc; "xhcitrace: {number} {name}")
 }
 
+/// Which rows may be asked for.
+fn row_range(alloc: Global, first: u32, last: u32) -> Result<String, AllocError>
+    ensures { IfOk result (λ text. string_bytes text ≡ range_text first last) }
+{
+    if last < first {
+        format!(in alloc; "xhcitrace: no such row: the trace has none")
+    } else {
+        format!(in alloc; "xhcitrace: no such row: {first} to {last} can be shown")
+    }
+}
+
 /// What is written where memory is wanted: it needs none.
 pub const MEMORY_LINE: &str = "xhcitrace: 30 Memory\n";
 
@@ -104,7 +120,8 @@ impl Answer {
             Answer::Accepted { .. }
             | Answer::Written { .. }
             | Answer::Decoded { .. }
-            | Answer::Scheduled { .. } => Status::Clean,
+            | Answer::Scheduled { .. }
+            | Answer::Shown { .. } => Status::Clean,
             Answer::Replayed { ending, .. } => ending.status(),
             Answer::Verified { holds } => if *holds {
                 Status::Clean
@@ -115,7 +132,8 @@ impl Answer {
             Answer::BadLine { .. }
             | Answer::BadWord
             | Answer::BadCertificate { .. }
-            | Answer::TooLong => Status::Unreadable,
+            | Answer::TooLong
+            | Answer::NoRow { .. } => Status::Unreadable,
             Answer::Memory | Answer::Device => Status::Unanswered,
         }
     }
@@ -161,6 +179,7 @@ impl Answer {
                 Vec::from_slice(alloc, word)
             }
             Answer::Scheduled { schedule } => Ok(schedule),
+            Answer::Shown { page } => Ok(page),
             Answer::Refused { row, refusal } => {
                 ended(numbered(alloc, "row ", row, refusal.number(), refusal.name()))
             },
@@ -181,6 +200,7 @@ impl Answer {
                 ended(named(alloc, fault.number(), fault.name()))
             }
             Answer::TooLong => Vec::from_slice(alloc, b"xhcitrace: 4 Limit\n"),
+            Answer::NoRow { first, last } => ended(row_range(alloc, first, last)),
             Answer::Memory => Vec::from_slice(alloc, MEMORY_LINE.as_bytes()),
             Answer::Device => Vec::from_slice(alloc, DEVICE_LINE.as_bytes()),
         }

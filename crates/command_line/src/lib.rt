@@ -13,11 +13,12 @@ const STATUSES: &str = "\
 Without a command it checks the trace on standard input.
 
 Exit status:
-  0  the trace is accepted; the plan, the block or the schedule is printed; a replay does no harm; a certificate is the trace's
+  0  the trace is accepted; the plan, the block, the schedule or the page of `show` is printed; a replay does no harm; a
+     certificate is the trace's
   1  a row breaks a rule (row R: C Name), a line of a plan can't be followed (line L: C Name), a replay does harm, or a
      certificate isn't the trace's
   2  a line is no line of a trace, a plan or a schedule (xhcitrace: line L: C Name), a file is no certificate, a word is no
-     number, a schedule would be too long (xhcitrace: 4 Limit), or the arguments are wrong
+     number, a schedule would be too long (xhcitrace: 4 Limit), a row can't be shown, or the arguments are wrong
   3  memory is wanted (xhcitrace: 30 Memory), or a file can't be opened, read or written (xhcitrace: 31 Device)";
 
 const CHECK: &str = "\
@@ -68,6 +69,16 @@ status 2; else status 3. The certificate is read first.
 Example:
   xhcitrace check --cert leases examples/two_descriptors.xtrace && xhcitrace verify examples/two_descriptors.xtrace leases";
 
+const SHOW: &str = "\
+Prints a page, status 0: whether the controller runs, the registers that were written, each ring (its endpoint and that one's
+state; how many TRBs are declared, given and passed; its floor, which the controller's dequeue pointer has surely reached, and its
+ceiling, which it may have reached; `open` where it goes on to what is given next), the slots, the unfinished commands, and what
+is under lease with the row that gave it. Errors are those of `check`; a row that can't be shown is told with those that can
+(`xhcitrace: no such row: A to B can be shown`), status 2: nothing is known behind the first row that breaks a rule.
+
+Example:
+  xhcitrace show examples/write_after_the_doorbell.xtrace";
+
 const DECODE: &str = "\
 Prints one line, status 0; on standard error that a word isn't 8 hex digits, status 2; else status 3.
 
@@ -85,6 +96,7 @@ pub fn command<'a>(alloc: Global) -> Result<Command<'a>, AllocError> {
         .subcommand(verify(alloc)?)?
         .subcommand(schedule(alloc)?)?
         .subcommand(replay(alloc)?)?
+        .subcommand(show(alloc)?)?
         .subcommand(write(alloc)?)?
         .subcommand(decode(alloc)?)
 }
@@ -154,6 +166,15 @@ fn replay<'a>(alloc: Global) -> Result<Command<'a>, AllocError> {
         .arg(explain(alloc))
 }
 
+fn show<'a>(alloc: Global) -> Result<Command<'a>, AllocError> {
+    Command::new(alloc, "show")
+        .about("Shows who owns what before a row: registers, rings, slots, commands, leases")
+        .after_help(SHOW)
+        .arg(needed(alloc, "TRACE", "The file of the trace; -: standard input"))?
+        .arg(row(alloc))?
+        .arg(explain(alloc))
+}
+
 fn decode<'a>(alloc: Global) -> Result<Command<'a>, AllocError> {
     Command::new(alloc, "decode")
         .about("Tells what a block (TRB) of four words says")
@@ -206,6 +227,13 @@ fn certificate<'a>(alloc: Global) -> Arg<'a> {
     Arg::new(alloc, "cert").long("cert").value_name("FILE").help(
         "Writes the certificate of an accepted trace to FILE: which memory the controller owned, and when",
     )
+}
+
+/// The row before which a trace is shown.
+fn row<'a>(alloc: Global) -> Arg<'a> {
+    Arg::new(alloc, "ROW")
+        .value_parser(clap::value_parser!(u32))
+        .help("The row, by its line from 1; none: the first that breaks a rule, or the end")
 }
 
 /// A word of the block that is to be decoded.

@@ -2,4 +2,5 @@ pub mod CheckAnswers
 pub mod PlanAnswers
 pub mod ReplayAnswers
 pub mod ScheduleAnswers
+pub mod ShowAnswers
 pub mod VerifyAnswers

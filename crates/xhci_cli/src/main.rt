@@ -7,6 +7,7 @@ mod plan_run;
 mod replay_run;
 mod schedule_run;
 mod several_run;
+mod show_run;
 mod verify_run;
 
 use answers::{Asked, Status, run_decode, tell_failure};
@@ -18,6 +19,7 @@ use plan_run::run_write;
 use replay_run::run_replay;
 use schedule_run::run_schedule;
 use several_run::run_check_named;
+use show_run::run_show;
 use std::alloc::AllocError;
 use std::env;
 use std::fs::File;
@@ -98,6 +100,9 @@ fn status_of(rt: &HostRuntime, matches: &ArgMatches) -> Status {
     }
     if let Some(verify) = matches.subcommand_matches("verify") {
         return verify_at(rt, verify, explains(rt, verify));
+    }
+    if let Some(show) = matches.subcommand_matches("show") {
+        return show_at(rt, show, explains(rt, show));
     }
     if let Some(schedule) = matches.subcommand_matches("schedule") {
         return schedule_at(rt, path(schedule, "TRACE"), explains(rt, schedule));
@@ -237,6 +242,24 @@ fn schedule_at(rt: &HostRuntime, path: Option<&str>, explains: bool) -> Status {
             Err(error) => tell_failure(alloc, &asked, error, &mut out, &mut err),
         },
         None => run_schedule(alloc, &asked, &mut rt.stdin(), &mut out, &mut err),
+    }
+}
+
+/// Shows what stands before a row of the trace in a file, or on standard input.
+fn show_at(rt: &HostRuntime, matches: &ArgMatches, explains: bool) -> Status {
+    let alloc = rt.alloc();
+    let mut out = rt.stdout();
+    let mut err = rt.stderr();
+    let row = matches.get_one::<u32>("ROW");
+    let path = path(matches, "TRACE");
+    let input = path.unwrap_or("standard input");
+    let asked = Asked { input, explains };
+    match path {
+        Some(path) => match File::open(rt, path) {
+            Ok(mut file) => run_show(alloc, &asked, row, &mut file, &mut out, &mut err),
+            Err(error) => tell_failure(alloc, &asked, error, &mut out, &mut err),
+        },
+        None => run_show(alloc, &asked, row, &mut rt.stdin(), &mut out, &mut err),
     }
 }
 

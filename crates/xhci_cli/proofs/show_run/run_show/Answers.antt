@@ -1,0 +1,17 @@
+use Rattle.std.proofs.Common.{inl}
+use Rattle.answers.proofs.Held.{answer_held}
+use Rattle.answers.proofs.Told.{failure, read_is, told_right}
+use Rattle.xhci_cli.specs.ShowAnswers.{IsPageAnswer, IsShowAnswer}
+use Rattle.xhci_cli.proofs.show_run.run_show.Goals as goal
+
+pub returns-in-Ok-clause-told : goal.returns-in-Ok-clause-told
+returns-in-Ok-clause-told g c =
+    let known = g.R.Read.remaining c.args.input.now in
+    let right = answer_held (IsPageAnswer c.args.row) known _ c.show_answer-answer.result (read_is known _ _ c.new-text.ensures.items c.in-Ok.ensures.bytes)
+    (rw c.deref.ensures.value at c.show_answer-answer.ensures) in
+    told_right (λ a. IsShowAnswer c.args.row known a) _ _ _ _ _ _ _ right (inl tt) c.tell.ensures.told
+
+pub returns-clause-told : goal.returns-clause-told
+returns-clause-told g c =
+    let known = g.R.Read.remaining c.args.input.now in
+    told_right (λ a. IsShowAnswer c.args.row known a) _ _ _ _ _ _ _ (failure (λ a. IsShowAnswer c.args.row known a) (inl tt) (inl tt) _) (inl tt) c.tell_failure.ensures.told
