@@ -1,12 +1,12 @@
 //! Which row a page is about, and what stands before it.
-ghost use Rattle.std.specs.Prelude.{IfOk, IfErr};
+ghost use Rattle.std.specs.Prelude.{◌≡◌, ◌≤◌, length, take, IfOk, IfErr};
 ghost use Rattle.knowledge_page.specs.Shown.{IfNoRow, IsBefore, IsRange, IsShown};
 
 use crate::standing::{Standing, standing_behind};
 use ownership_checker::CheckFault;
 use ownership_rules::Refusal;
 use std::alloc::Global;
-use traces::Trace;
+use traces::{Row, Trace};
 
 /// Where in a trace a page stands. Rows are named by their lines, which count from 1.
 #[derive(Clone, Copy, Debug, PartialEq, Eq)]
@@ -74,7 +74,7 @@ fn standing_before(alloc: Global, trace: &Trace, row: u32) -> Result<Standing, S
     if row < trace.first || (row - trace.first) as usize >= rows.len() {
         return Err(no_row(alloc, trace));
     }
-    let before = &rows[..(row - trace.first) as usize];
+    let before = first_rows(rows, (row - trace.first) as usize);
     match standing_behind(alloc, &trace.header, trace.first, before) {
         Ok(standing) => Ok(standing),
         Err(CheckFault::Refused { row, .. }) => Err(ShowFault::NoRow {
@@ -83,6 +83,14 @@ fn standing_before(alloc: Global, trace: &Trace, row: u32) -> Result<Standing, S
         }),
         Err(CheckFault::Memory) => Err(ShowFault::Memory),
     }
+}
+
+/// So many of the first rows.
+fn first_rows(rows: &[Row], count: usize) -> &[Row]
+    requires { count ≤ length rows.now }
+    ensures { result.now ≡ take count rows.now }
+{
+    &rows[..count]
 }
 
 /// That a row is none of those that may be asked for.
