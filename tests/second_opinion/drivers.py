@@ -93,6 +93,9 @@ class Driver:
         segments = self.trace.event_segments
         for i, segment in enumerate(segments):
             self.write(TABLE + 16 * i, *halves(segment.base), segment.count)
+        if self.trace.version == 3 and self.pick.random() < 0.3:
+            self.make(Register('erstsz', self.pick.choice([0, len(segments), len(segments) + 1])))
+            self.make(Register('erdp', self.pick.choice([0, 8, segments[0].base, TABLE])))
         self.make(Register('erstsz', len(segments)))
         self.make(Register('erstba', TABLE))
         self.make(Register('erdp', segments[0].base))

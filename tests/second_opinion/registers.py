@@ -3,13 +3,25 @@ from areas import is_bad_area
 from blocks import aligned, bits, is_set
 
 
+def is_right_size(known, value):
+    return bits(value, 0, 16) == len(known.trace.event_segments) > 0
+
+
+def is_event_ring_named(known):
+    """The last ERSTSZ and ERDP are those of the event ring, from its first block on."""
+    ring = known.trace.event_ring
+    return ring is not None and is_right_size(known, known.register('erstsz')) and aligned(known.register('erdp'), 16) == ring.address(0)
+
+
 def is_bad_usbcmd(known, value):
-    """A reset after registers were set up; the start before they all are."""
+    """A reset after registers were set up; the start before they all are, or with the event ring named wrongly."""
     if known.is_started:
         return False
     if is_set(value, 1):
         return any(known.is_written(name) for name in ('crcr', 'dcbaap', 'config', 'erstsz', 'erstba', 'erdp'))
-    return is_set(value, 0) and not all(known.is_written(name) for name in ('crcr', 'erstsz', 'erstba', 'erdp'))
+    if not is_set(value, 0):
+        return False
+    return not all(known.is_written(name) for name in ('crcr', 'erstsz', 'erstba', 'erdp')) or not is_event_ring_named(known)
 
 
 def is_bad_crcr(known, value):
@@ -19,8 +31,10 @@ def is_bad_crcr(known, value):
 
 
 def is_bad_erstsz(known, value):
-    segments = known.trace.event_segments
-    return known.is_written('erstsz') or not segments or bits(value, 0, 16) != len(segments)
+    """There is no event ring; before version 3 a second write, or another value than the number of its segments."""
+    if known.trace.version >= 3:
+        return not known.trace.event_segments
+    return known.is_written('erstsz') or not is_right_size(known, value)
 
 
 def lists(known, base, segments):
@@ -32,5 +46,6 @@ def lists(known, base, segments):
 
 def is_bad_erstba(known, value):
     segments, base = known.trace.event_segments, aligned(value, 64)
-    is_in_turn = known.is_written('erstsz') and not known.is_written('erstba')
+    is_sized = known.is_written('erstsz') and is_right_size(known, known.register('erstsz'))
+    is_in_turn = is_sized and not known.is_written('erstba')
     return not is_in_turn or is_bad_area(known, base, 16 * len(segments)) or not lists(known, base, segments)

@@ -78,7 +78,7 @@ def bad_descriptor(known, row):
 # ---- 17 and 22: registers
 
 def bad_register(known, row):
-    """A set-up register is written too late, twice, too early or with a wrong value."""
+    """A set-up register is written too late, too early, with a wrong value or, before version 3, twice."""
     if row.name == 'usbcmd':
         return is_bad_usbcmd(known, row.value)
     tests = {'crcr': is_bad_crcr, 'erstsz': is_bad_erstsz, 'erstba': is_bad_erstba}
@@ -88,12 +88,16 @@ def bad_register(known, row):
 
 
 def bad_erdp(known, row):
-    """ERDP names no event place up to the one read next; before the start another than the first."""
+    """ERDP names no event place up to the one read next; before the start another than the first, but in version 3 also none."""
     ring = known.trace.event_ring
     if row.name != 'erdp':
         return False
-    last = known.reads if known.is_started else known.dequeue
-    return ring is None or aligned(row.value, 16) not in [ring.address(p) for p in range(known.dequeue, last + 1)]
+    if ring is None:
+        return True
+    address, last = aligned(row.value, 16), known.reads if known.is_started else known.dequeue
+    if known.trace.version >= 3 and not known.is_started and address not in [ring.address(p) for p in range(ring.place_count)]:
+        return False
+    return address not in [ring.address(p) for p in range(known.dequeue, last + 1)]
 
 
 # ---- 18: doorbells

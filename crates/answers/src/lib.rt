@@ -12,7 +12,8 @@ mod telling;
 pub use answer::{Answer, Status};
 pub use decode::{BlockWords, run_decode};
 pub use explain::{
-    Asked, note_on_certificate, note_on_failure, note_on_plan, note_on_schedule, note_on_trace,
+    Asked, note_on_certificate, note_on_failure, note_on_leases, note_on_plan, note_on_schedule,
+    note_on_trace,
 };
 pub use keeping::keep;
 pub use replay_lines::ReplayEnd;

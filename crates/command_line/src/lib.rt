@@ -243,12 +243,14 @@ fn word<'a>(alloc: Global, name: &'a str) -> Arg<'a> {
         .required(true)
 }
 
-/// The words of the block that is to be decoded, in their order.
+/// The words of the block that is to be decoded, in their order; none only where one of them wasn't given.
 pub fn block_words<'a>(decode: &ArgMatches<'a>) -> Option<BlockWords<'a>>
     ensures first { IfSome result (λ words. Some words.first.now ≡ first_value (found_of decode.now) (codes "WORD0")) }
     ensures second { IfSome result (λ words. Some words.second.now ≡ first_value (found_of decode.now) (codes "WORD1")) }
     ensures third { IfSome result (λ words. Some words.third.now ≡ first_value (found_of decode.now) (codes "WORD2")) }
     ensures fourth { IfSome result (λ words. Some words.fourth.now ≡ first_value (found_of decode.now) (codes "WORD3")) }
+    ensures none { IfNone result (((first_value (found_of decode.now) (codes "WORD0") ≡ None) ⊎ (first_value (found_of decode.now) (codes "WORD1") ≡ None))
+        ⊎ ((first_value (found_of decode.now) (codes "WORD2") ≡ None) ⊎ (first_value (found_of decode.now) (codes "WORD3") ≡ None))) }
 {
     Some(BlockWords {
         first: decode.get_str("WORD0")?,

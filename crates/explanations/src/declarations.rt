@@ -17,7 +17,7 @@ pub(crate) fn ring_full(case: &Case, id: u8, count: usize) -> Result<Finding, Al
     )?;
     if let Some((ring, known)) = ring_known(case, id) {
         let places = ring.shape.places();
-        let usable = places - 1;
+        let usable = places.saturating_sub(1);
         let submitted = known.declared_count() as u64;
         let back = known.floor_number();
         let used = submitted.saturating_sub(back);
@@ -29,6 +29,13 @@ pub(crate) fn ring_full(case: &Case, id: u8, count: usize) -> Result<Finding, Al
             "{submitted} were submitted, and events gave back the first {back}: {used} are in use"
         )?;
         finding.note(note)?;
+        if count as u64 > u64::from(usable) {
+            finding.help(
+                case.alloc,
+                "use a longer ring: the TD never fits into this one",
+            )?;
+            return Ok(finding);
+        }
     }
     finding.help(
         case.alloc,

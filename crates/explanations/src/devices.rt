@@ -1,55 +1,25 @@
 //! Doorbells and commands that the states of slots and endpoints don't allow.
-use crate::finding::{Case, Finding, ring_known};
-use crate::positions::is_handed_over;
-use crate::rows::{last_write, register_value, start};
-use crate::words::{NOT_JUDGED, command_name, endpoint_state_name, ring_of_kind, slot_state_name};
+use crate::finding::{Case, Finding, ring_at};
+use crate::positions::position_given;
+use crate::rows::start;
+use crate::unfinished::{Unfinished, all_unfinished, command_at, unfinished_of};
+use crate::words::{NOT_JUDGED, command_name, endpoint_state_name};
 use commands::{Command, EndpointState};
 use guest_memory::Addr;
 use std::alloc::AllocError;
-use traces::Register;
-use trb::{Block, RingKind};
 
-/// A command that was given and whose completion wasn't read, and the row that gave it.
+/// Why a doorbell may not ring.
 #[derive(Clone, Copy)]
-struct Unfinished {
-    command: Command,
-    row: Option<usize>,
-}
-
-/// The first unfinished command that names a slot.
-fn unfinished_of(case: &Case, slot: u8) -> Option<Unfinished> {
-    let id = ring_of_kind(case.header.rings.as_slice(), RingKind::Cmd)?.id;
-    let (ring, known) = ring_known(case, id)?;
-    let floor = known.floor_number();
-    for position in floor..known.declared_count() as u64 {
-        if is_handed_over(ring, known, position) {
-            let command = match known.declared(position) {
-                Some(block) => Command::read(&block).ok(),
-                None => None,
-            };
-            if let Some(command) = command {
-                if command.slot() == Some(slot) {
-                    let row = last_write(case.before, ring.shape.address(position) | 12);
-                    return Some(Unfinished { command, row });
-                }
-            }
-        }
-    }
-    None
-}
-
-/// The command that a write of a control word gives.
-fn command_at(case: &Case, at: Addr, word: u32) -> Option<Command> {
-    let base = at.get() & !15;
-    let block = Block {
-        w: [
-            case.known.word(base),
-            case.known.word(base + 4),
-            case.known.word(base + 8),
-            word,
-        ],
-    };
-    Command::read(&block).ok()
+enum NoBell {
+    NotStarted,
+    /// Doorbell 0 with another DB Target than 0.
+    CommandTarget,
+    /// No DCI.
+    NoEndpoint,
+    Disabled,
+    Halted(EndpointState),
+    Unfinished(Unfinished),
+    Unmoved,
 }
 
 /// A doorbell that may not ring now.
@@ -60,66 +30,85 @@ pub(crate) fn bad_doorbell(case: &Case, slot: u8, target: u8) -> Result<Finding,
         "a doorbell that may not ring now",
         here.as_str(),
     )?;
-    let state = case.known.devices.endpoint_state(slot, target);
-    let name = endpoint_state_name(state);
-    if start(case.before).is_none() {
-        finding.say(
-            case.alloc,
-            "the controller isn't started: USBCMD with Run/Stop 1 comes first (xHCI 4.2)",
-        )?;
-    } else if slot == 0 {
-        finding.say(
-            case.alloc,
-            "doorbell 0 is the Command Ring's, and its DB Target is 0",
-        )?;
-    } else if target == 0 || target > 31 {
-        finding.say(
-            case.alloc,
-            "the DB Target of a device slot is a DCI from 1 to 31; streams aren't judged",
-        )?;
-    } else if matches!(state, EndpointState::Disabled) {
-        finding.say(
-            case.alloc,
-            "the endpoint is Disabled: no Address Device or Configure Endpoint that adds it has completed",
-        )?;
-    } else if matches!(state, EndpointState::Halted | EndpointState::Error) {
-        let note = format!(in case.alloc; "the endpoint is {name}")?;
-        finding.note(note)?;
-        finding.help(
-            case.alloc,
-            "Reset Endpoint after a halt, then Set TR Dequeue Pointer, and ring behind its completion",
-        )?;
-    } else if let Some(unfinished) = unfinished_of(case, slot) {
-        let name = command_name(unfinished.command);
-        let label = format!(in case.alloc; "{name}, unfinished")?;
-        finding.mark(case.alloc, unfinished.row, label.as_str())?;
-        finding.say(
-            case.alloc,
-            "this command changes the endpoint, and its completion wasn't read yet",
-        )?;
-        finding.help(case.alloc, "ring behind its Command Completion Event")?;
-    } else {
-        finding.say(
-            case.alloc,
-            "the endpoint halted, and its TR Dequeue Pointer wasn't set since",
-        )?;
-        finding.help(
-            case.alloc,
-            "Set TR Dequeue Pointer to the next TD first (xHCI 4.6.8)",
-        )?;
+    let cause = bell_cause(case, slot, target)?;
+    if let NoBell::Unfinished(command) = cause {
+        finding.earlier = command.mark(case)?;
     }
+    finding.say(case.alloc, bell_note(cause))?;
+    finding.help(case.alloc, bell_help(cause))?;
     Ok(finding)
+}
+
+fn bell_cause(case: &Case, slot: u8, target: u8) -> Result<NoBell, AllocError> {
+    if start(case.before).is_none() {
+        return Ok(NoBell::NotStarted);
+    }
+    if slot == 0 {
+        return Ok(NoBell::CommandTarget);
+    }
+    if target == 0 || target > 31 {
+        return Ok(NoBell::NoEndpoint);
+    }
+    let state = case.known.devices.endpoint_state(slot, target);
+    match state {
+        EndpointState::Disabled => Ok(NoBell::Disabled),
+        EndpointState::Halted | EndpointState::Error => Ok(NoBell::Halted(state)),
+        EndpointState::Running | EndpointState::Stopped => {
+            if case.known.devices.must_move(slot, target) {
+                return Ok(NoBell::Unmoved);
+            }
+            match unfinished_of(case, slot)? {
+                Some(command) => Ok(NoBell::Unfinished(command)),
+                None => Ok(NoBell::Unmoved),
+            }
+        }
+    }
+}
+
+fn bell_note(cause: NoBell) -> &'static str {
+    match cause {
+        NoBell::NotStarted => "the controller isn't started (xHCI 4.2)",
+        NoBell::CommandTarget => "doorbell 0 is the Command Ring's, and its DB Target is 0",
+        NoBell::NoEndpoint => "the DB Target of a device slot is a DCI, 1 to 31 (xHCI 5.6)",
+        NoBell::Disabled =>
+            "the endpoint is Disabled: no Address Device or Configure Endpoint that adds it has completed",
+        NoBell::Halted(EndpointState::Error) => "the endpoint is in the state Error",
+        NoBell::Halted(_) => "the endpoint is Halted",
+        NoBell::Unfinished(_) =>
+            "this command changes the endpoint, and its Command Completion Event wasn't read yet",
+        NoBell::Unmoved => "the endpoint halted, and its TR Dequeue Pointer wasn't set since",
+    }
+}
+
+fn bell_help(cause: NoBell) -> &'static str {
+    match cause {
+        NoBell::NotStarted => "write USBCMD with Run/Stop 1 first",
+        NoBell::CommandTarget => "log `db 00 00` for a command",
+        NoBell::NoEndpoint => "ring with the DCI of the endpoint whose ring has the TD",
+        NoBell::Disabled => "ring behind the Command Completion Event of the command that adds it",
+        NoBell::Halted(EndpointState::Error) =>
+            "Set TR Dequeue Pointer, and ring behind its Command Completion Event",
+        NoBell::Halted(_) =>
+            "Reset Endpoint, then Set TR Dequeue Pointer, and ring behind its Command Completion Event",
+        NoBell::Unfinished(_) => "ring behind its Command Completion Event",
+        NoBell::Unmoved => "Set TR Dequeue Pointer to the next TD first (xHCI 4.6.8)",
+    }
 }
 
 /// A second command for a slot, or a TRB on a ring that an unfinished Address Device moves.
 pub(crate) fn busy(case: &Case, at: Addr, word: u32) -> Result<Option<Finding>, AllocError> {
-    let Some(command) = command_at(case, at, word) else {
-        return Ok(None);
-    };
-    let Some(slot) = command.slot() else {
-        return Ok(None);
-    };
-    let Some(unfinished) = unfinished_of(case, slot) else {
+    match command_at(case, at.get(), word) {
+        Some(command) => match command.slot() {
+            Some(slot) => busy_slot(case, command, slot),
+            None => Ok(None),
+        },
+        None => busy_ring(case, at, word),
+    }
+}
+
+/// A second command for a slot.
+fn busy_slot(case: &Case, command: Command, slot: u8) -> Result<Option<Finding>, AllocError> {
+    let Some(first) = unfinished_of(case, slot)? else {
         return Ok(None);
     };
     let name = command_name(command);
@@ -129,9 +118,7 @@ pub(crate) fn busy(case: &Case, at: Addr, word: u32) -> Result<Option<Finding>, 
         "a second command for a slot whose first is unfinished",
         here.as_str(),
     )?;
-    let name = command_name(unfinished.command);
-    let label = format!(in case.alloc; "{name} of slot {slot}, unfinished")?;
-    finding.mark(case.alloc, unfinished.row, label.as_str())?;
+    finding.earlier = first.mark(case)?;
     finding.say(case.alloc, "its Command Completion Event wasn't read yet")?;
     finding.say(case.alloc, NOT_JUDGED)?;
     finding.help(
@@ -141,60 +128,42 @@ pub(crate) fn busy(case: &Case, at: Addr, word: u32) -> Result<Option<Finding>, 
     Ok(Some(finding))
 }
 
-/// A command that its slot, its endpoint or its Input Context doesn't allow.
-pub(crate) fn bad_command(case: &Case, at: Addr, word: u32) -> Result<Option<Finding>, AllocError> {
-    let Some(command) = command_at(case, at, word) else {
+/// A TRB on a ring that an unfinished Address Device moves.
+fn busy_ring(case: &Case, at: Addr, word: u32) -> Result<Option<Finding>, AllocError> {
+    let Some((ring, known)) = ring_at(case, at.get()) else {
         return Ok(None);
     };
-    let Some(slot) = command.slot() else {
+    let Some(position) = position_given(ring, known, at, word) else {
         return Ok(None);
     };
-    let name = command_name(command);
-    let here = format!(in case.alloc; "{name} of slot {slot}")?;
+    let (id, place) = (ring.id, position % u64::from(ring.shape.places()));
+    let here = format!(in case.alloc; "TRB {place} of ring {id:02x}")?;
     let mut finding = Finding::new(
         case.alloc,
-        "a command that its slot, endpoint or Input Context does not allow",
+        "a TRB is handed over on a ring that an unfinished Address Device moves",
         here.as_str(),
     )?;
-    let state = slot_state_name(case.known.devices.slot_state(slot));
-    let note = format!(in case.alloc; "slot {slot} is {state}")?;
-    finding.note(note)?;
-    if let Some((_, endpoint)) = command.endpoint() {
-        let state = endpoint_state_name(case.known.devices.endpoint_state(slot, endpoint));
-        let note = format!(in case.alloc; "DCI {endpoint} is {state}")?;
-        finding.note(note)?;
+    for given in &all_unfinished(case)? {
+        if moves_ring(case, given.command, id) {
+            finding.earlier = given.mark(case)?;
+        }
     }
-    if let Some(context) = command.input_context() {
-        note_context(case, &mut finding, slot, context)?;
-    }
+    finding.say(case.alloc, "its Command Completion Event wasn't read yet")?;
+    finding.say(case.alloc, NOT_JUDGED)?;
+    finding.help(case.alloc, "wait for it, and hand the TRB over then")?;
     Ok(Some(finding))
 }
 
-/// What an Input Context says, and the slot's entry of the DCBAA.
-fn note_context(
-    case: &Case,
-    finding: &mut Finding,
-    slot: u8,
-    context: u64,
-) -> Result<(), AllocError> {
-    let drops = case.known.word(context);
-    let adds = case.known.word(context.saturating_add(4));
-    let note = format!(in case.alloc;
-        "Input Context at {context:016x}: Drop Context flags {drops:08x}, Add Context flags {adds:08x}"
-    )?;
-    finding.note(note)?;
-    let Some(array) = register_value(case.before, Register::Dcbaap) else {
-        return finding.say(case.alloc, "DCBAAP wasn't written");
-    };
-    let entry = (array / 64 * 64).saturating_add(8 * u64::from(slot));
-    let low = u64::from(case.known.word(entry));
-    let device = u64::from(case.known.word(entry.saturating_add(4))) << 32 | low;
-    let note = format!(in case.alloc;
-        "DCBAA entry {slot} at {entry:016x}: Device Context at {device:016x}"
-    )?;
-    finding.note(note)?;
-    finding.say(
-        case.alloc,
-        "Address Device needs A0 and A1, and an endpoint that is added an EP Type; Input Context, DCBAA entry and Device Context touch neither each other, nor a ring, nor what the controller has, nor words that it may have changed",
-    )
+/// Whether a command is an Address Device for a slot whose default control endpoint has this ring.
+fn moves_ring(case: &Case, command: Command, ring: u8) -> bool {
+    match command {
+        Command::AddressDevice { slot, .. } => case.known.devices.ring_of(slot, 1) == Some(ring),
+        _ => false,
+    }
+}
+
+/// The name of an endpoint's state, with its slot and DCI.
+pub(crate) fn named_state(case: &Case, slot: u8, endpoint: u8) -> Result<String, AllocError> {
+    let name = endpoint_state_name(case.known.devices.endpoint_state(slot, endpoint));
+    format!(in case.alloc; "slot {slot}, DCI {endpoint} is {name}")
 }

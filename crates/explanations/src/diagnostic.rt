@@ -1,6 +1,8 @@
 //! A diagnostic, and how it is shown.
 use ownership_rules::Refusal;
 use std::fmt;
+use trace_reader::LineFault;
+use world_state::Harm;
 
 /// A row that is quoted, and what it has to do with what is wrong.
 #[derive(Debug, Drop)]
@@ -11,16 +13,49 @@ pub struct Quote {
     pub label: String,
 }
 
-/// What is wrong with a row.
+/// What a diagnostic is about.
+#[derive(Clone, Copy, Debug, PartialEq, Eq)]
+pub enum Matter {
+    /// A row breaks this rule.
+    Rule(Refusal),
+    /// A line has this fault.
+    Fault(LineFault),
+    /// A step of a schedule does this harm.
+    Harm(Harm),
+    /// No controller makes a step of a schedule.
+    NotPossible,
+}
+
+impl fmt::Display for Matter {
+    fn fmt<W: fmt::Write>(&self, f: &mut fmt::Formatter<W>) -> fmt::Result {
+        match *self {
+            Matter::Rule(refusal) => {
+                let (number, name) = (refusal.number(), refusal.name());
+                write!(f, "{number} {name}")
+            }
+            Matter::Fault(fault) => {
+                let (number, name) = (fault.number(), fault.name());
+                write!(f, "{number} {name}")
+            }
+            Matter::Harm(harm) => {
+                let number = harm.number();
+                write!(f, "harm {number}")
+            }
+            Matter::NotPossible => f.write_str("not possible"),
+        }
+    }
+}
+
+/// What is wrong with a line.
 #[derive(Debug, Drop)]
 pub struct Diagnostic {
-    /// The rule that the row breaks.
-    pub refusal: Refusal,
+    /// The rule that a row breaks, the fault of a line, or what a step does.
+    pub matter: Matter,
     /// What is wrong, in the standard's words.
     pub head: String,
-    /// The refused row.
+    /// The line.
     pub refused: Quote,
-    /// The earlier row that matters most, where there is one.
+    /// The earlier line that matters most, where there is one.
     pub earlier: Option<Quote>,
     /// What was found and what was expected.
     pub notes: Vec<String>,
@@ -51,11 +86,10 @@ fn write_head<W: fmt::Write>(
     diagnostic: &Diagnostic,
     width: usize,
 ) -> fmt::Result {
-    let number = diagnostic.refusal.number();
-    let name = diagnostic.refusal.name();
+    let matter = diagnostic.matter;
     let head = diagnostic.head.as_str();
     let line = diagnostic.refused.line;
-    writeln!(f, "error[{number} {name}]: {head}")?;
+    writeln!(f, "error[{matter}]: {head}")?;
     write_times(f, " ", width)?;
     writeln!(f, "--> {path}:{line}")
 }
@@ -94,11 +128,13 @@ fn write_quote<W: fmt::Write>(
     let text = quote.text.as_str();
     let label = quote.label.as_str();
     write_times(f, " ", width.saturating_sub(digits(line)))?;
-    writeln!(f, "{line} | {text}")?;
+    let gap = if text.is_empty() { "" } else { " " };
+    writeln!(f, "{line} |{gap}{text}")?;
     write_times(f, " ", width)?;
-    f.write_str(" | ")?;
+    write!(f, " |{gap}")?;
     write_times(f, mark, text.len())?;
-    writeln!(f, " {label}")
+    let space = if label.is_empty() { "" } else { " " };
+    writeln!(f, "{space}{label}")
 }
 
 /// The notes, and what helps.

@@ -2,12 +2,14 @@
 use crate::finding::{Case, Finding, line_of, ring_known};
 use crate::positions::{is_handed_over, submission};
 use crate::rows::{last_register, last_write, reads, start};
-use crate::words::{code_name, endpoint_state_name, ring_of_kind, type_name};
-use commands::EndpointState;
+use crate::words::{
+    code_name, command_name, endpoint_state_name, ring_of_kind, slot_state_name, type_name,
+};
+use commands::{Command, EndpointState};
 use ring_knowledge::RingRecord;
 use segments::Place;
 use std::alloc::AllocError;
-use traces::{Register, Ring};
+use traces::{Register, Ring, Row};
 use trb::{Block, BlockKind, RingKind};
 
 /// An event that no controller can have posted.
@@ -47,6 +49,9 @@ fn note_event_ring(case: &Case, finding: &mut Finding, event: Block) -> Result<b
         finding.say(case.alloc, "the header has no `evt` ring")?;
         return Ok(true);
     };
+    if note_full(case, finding, ring)? {
+        return Ok(true);
+    }
     let count = reads(case.before);
     let number = count.saturating_add(1);
     let wanted = ring.shape.cycle(count as u64);
@@ -62,29 +67,50 @@ fn note_event_ring(case: &Case, finding: &mut Finding, event: Block) -> Result<b
         )?;
         return Ok(true);
     }
-    let before = match last_register(case.before, Register::Erdp) {
-        Some(row) => reads(&case.before[..row.min(case.before.len())]),
-        None => 0,
-    };
-    let most = u64::from(ring.shape.places()).saturating_sub(1);
-    let unread = count.saturating_sub(before) as u64;
-    if unread >= most {
-        let note = format!(in case.alloc;
-            "the Event Ring was full: {unread} events read since ERDP was written, and it holds {most}"
-        )?;
-        finding.note(note)?;
-        finding.mark(
-            case.alloc,
-            last_register(case.before, Register::Erdp),
-            "ERDP is written here",
-        )?;
-        finding.help(
-            case.alloc,
-            "write ERDP after some events, before the ring is full",
-        )?;
-        return Ok(true);
-    }
     Ok(false)
+}
+
+/// Notes that the Event Ring had no room for one more event. Whether it is so.
+fn note_full(case: &Case, finding: &mut Finding, ring: &Ring) -> Result<bool, AllocError> {
+    let most = u64::from(ring.shape.places()).saturating_sub(1);
+    let unread = (reads(case.before) as u64).saturating_sub(given_back(case, ring));
+    if unread < most {
+        return Ok(false);
+    }
+    let note = format!(in case.alloc;
+        "the Event Ring was full: ERDP gave back all but {unread} of the events that were read, and the ring holds {most}"
+    )?;
+    finding.note(note)?;
+    finding.mark(
+        case.alloc,
+        last_register(case.before, Register::Erdp),
+        "ERDP is written here",
+    )?;
+    finding.help(
+        case.alloc,
+        "write ERDP after some events, before the ring is full",
+    )?;
+    Ok(true)
+}
+
+/// How many events the writes of ERDP gave back.
+fn given_back(case: &Case, ring: &Ring) -> u64 {
+    let places = u64::from(ring.shape.places());
+    let mut back = 0u64;
+    for row in case.before {
+        if let Row::Reg {
+            register: Register::Erdp,
+            value,
+        } = row
+        {
+            if let Some(Place::Data { place, .. }) = ring.shape.place_at(*value / 16 * 16) {
+                let reached = back % places;
+                let ahead = (u64::from(place) + places).saturating_sub(reached) % places;
+                back = back.saturating_add(ahead);
+            }
+        }
+    }
+    back
 }
 
 /// What is wrong with a Command Completion Event.
@@ -118,10 +144,52 @@ fn note_completion(case: &Case, finding: &mut Finding, event: Block) -> Result<(
         return finding.help(case.alloc, "log the write of doorbell 0 as `db 00 00`");
     }
     finding.mark(case.alloc, gave, "the command that it completes")?;
-    let slot = event.slot();
-    let note = format!(in case.alloc;
-        "it names slot {slot}; the command can't complete so in the states that slot and endpoint have (xHCI 4.5.3, 4.8.3)"
-    )?;
+    if event.code() == 0 {
+        return finding.say(
+            case.alloc,
+            "Completion Code 0 is never posted (xHCI table 6-90)",
+        );
+    }
+    match known.declared(next) {
+        Some(block) => note_answer(case, finding, Command::read(&block).ok(), event.slot()),
+        None => Ok(()),
+    }
+}
+
+/// Why a command can't have completed with an event that names this slot.
+fn note_answer(
+    case: &Case,
+    finding: &mut Finding,
+    command: Option<Command>,
+    slot: u8,
+) -> Result<(), AllocError> {
+    let Some(command) = command else {
+        return Ok(());
+    };
+    let name = command_name(command);
+    let named = command.slot().unwrap_or(slot);
+    if named != slot {
+        let note = format!(in case.alloc;
+            "it names slot {slot}, and the {name} is for slot {named}"
+        )?;
+        return finding.note(note);
+    }
+    let state = slot_state_name(case.known.devices.slot_state(slot));
+    let note = match command.endpoint() {
+        Some((_, endpoint)) => {
+            let endpoint_state = endpoint_state_name(
+                case.known.devices.endpoint_state(slot, endpoint),
+            );
+            format!(in case.alloc;
+                "{name} can't complete so where slot {slot} is {state} and DCI {endpoint} {endpoint_state} (xHCI 4.8.3)"
+            )?
+        }
+        None => {
+            format!(in case.alloc;
+                "{name} can't complete so where slot {slot} is {state} (xHCI 4.5.3)"
+            )?
+        }
+    };
     finding.note(note)
 }
 
@@ -158,22 +226,21 @@ fn note_transfer(case: &Case, finding: &mut Finding, event: Block) -> Result<(),
     }
     let gave = last_write(case.before, pointer | 12);
     finding.mark(case.alloc, gave, "this row hands the TRB to the controller")?;
+    if !matches!(event.code(), 1 | 13) && state != EndpointState::Running {
+        let note = format!(in case.alloc;
+            "slot {slot}, DCI {endpoint} is {name}, and only a Running endpoint reports so"
+        )?;
+        return finding.note(note);
+    }
     if known.ceiling() <= position {
         let note = format!(in case.alloc;
             "no doorbell of slot {slot}, DCI {endpoint} rang since the ring was bound, stopped or moved, or a TRB before isn't handed over"
         )?;
         return finding.note(note);
     }
-    let note = match state {
-        EndpointState::Running => {
-            format!(in case.alloc;
-                "slot {slot}, DCI {endpoint} is Running; an event for a stopped endpoint comes before the completion of its Stop Endpoint, and no such command is the next to complete"
-            )?
-        }
-        _ => format!(in case.alloc;
-            "slot {slot}, DCI {endpoint} is {name}, and only a Running endpoint reports so"
-        )?,
-    };
+    let note = format!(in case.alloc;
+        "slot {slot}, DCI {endpoint} is {name}; an event for a stopped endpoint comes before the completion of its Stop Endpoint, and no such command is the next to complete"
+    )?;
     finding.note(note)
 }
 

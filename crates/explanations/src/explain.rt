@@ -1,9 +1,10 @@
 //! The diagnostic of a refused row, by the rule that it breaks.
 ghost use Rattle.std.specs.Prelude.{◌≡◌, IfOk};
 
+use crate::commands_given::bad_command;
 use crate::declarations::{bad_descriptor, ring_full};
-use crate::devices::{bad_command, bad_doorbell, busy};
-use crate::diagnostic::{Diagnostic, InFile};
+use crate::devices::{bad_doorbell, busy};
+use crate::diagnostic::{Diagnostic, InFile, Matter};
 use crate::events::impossible_event;
 use crate::finding::{Case, Finding, line_of};
 use crate::givings::{link_fault, not_declared, write_to_owned};
@@ -49,7 +50,7 @@ pub fn diagnostic_of(
     row: u32,
     refusal: Refusal,
 ) -> Result<Diagnostic, AllocError>
-    ensures rule { IfOk result (λ diagnostic. diagnostic.refusal ≡ refusal) }
+    ensures rule { IfOk result (λ diagnostic. diagnostic.matter ≡ Matter.Rule refusal) }
     ensures row { IfOk result (λ diagnostic. diagnostic.refused.line ≡ row) }
 {
     let rows = trace.rows.as_slice();
@@ -78,7 +79,7 @@ pub fn diagnostic_of(
         None => None,
     };
     Ok(Diagnostic {
-        refusal,
+        matter: Matter::Rule(refusal),
         head,
         refused: quote(alloc, text, row, here)?,
         earlier,
@@ -113,7 +114,7 @@ fn finding_of(case: &Case, row: &Row, refusal: Refusal) -> Result<Finding, Alloc
                 Refusal::NotAsSubmitted => not_as_submitted(case, *at, *word)?,
                 Refusal::NotDeclared => never_submitted(case, *at, *word)?,
                 Refusal::NotWhole => not_whole(case, *at, *word)?,
-                Refusal::BadCommand => bad_command(case, *at, *word)?,
+                Refusal::BadCommand => bad_command(case, at.get(), *word)?,
                 Refusal::Busy => busy(case, *at, *word)?,
                 _ => None,
             };

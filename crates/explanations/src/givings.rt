@@ -1,6 +1,8 @@
 //! Writes of memory: to what the controller owns, of TRBs that weren't submitted, and of Link TRBs.
+use crate::areas::write_to_area;
 use crate::finding::{Case, Finding};
 use crate::rows::{last_write, word_at};
+use crate::unfinished::trb_at;
 use crate::words::NOT_JUDGED;
 use segments::{Place, RingShape};
 use std::alloc::AllocError;
@@ -88,22 +90,6 @@ fn write_to_ring(
     Ok(finding)
 }
 
-/// A write to a context, an entry of the DCBAA or the segment table.
-fn write_to_area(case: &Case, address: u64) -> Result<Finding, AllocError> {
-    let here = format!(in case.alloc; "{address:016x} is in use by the controller")?;
-    let mut finding = Finding::new(
-        case.alloc,
-        "write to a context, DCBAA entry or ERST that the controller owns",
-        here.as_str(),
-    )?;
-    finding.say(
-        case.alloc,
-        "an Input Context comes back with its command's Command Completion Event, a Device Context and its DCBAA entry with the success of Disable Slot, the ERST never while the controller runs",
-    )?;
-    finding.help(case.alloc, "wait for that event, or use other memory")?;
-    Ok(finding)
-}
-
 /// A `sub` row for no ring that takes TDs.
 pub(crate) fn not_declared(case: &Case, id: u8) -> Result<Finding, AllocError> {
     let mut here = format!(in case.alloc; "ring {id:02x} is not in the header")?;
@@ -122,12 +108,14 @@ pub(crate) fn not_declared(case: &Case, id: u8) -> Result<Finding, AllocError> {
 /// The rings that take TDs or commands.
 fn driver_rings(case: &Case) -> Result<String, AllocError> {
     let mut text = String::from_str(case.alloc, "rings that take TDs or commands:")?;
+    let mut before = "";
     for ring in case.header.rings.as_slice() {
         if ring.shape.kind() != RingKind::Evt {
             let id = ring.id;
             let kind = ring.shape.kind().name();
-            let named = format!(in case.alloc; " {id:02x} ({kind})")?;
+            let named = format!(in case.alloc; "{before} {id:02x} ({kind})")?;
             text.push_str(named.as_str())?;
+            before = ",";
         }
     }
     Ok(text)
@@ -142,14 +130,7 @@ pub(crate) fn link_fault(case: &Case, address: u64, word: u32) -> Result<Finding
     )?;
     for ring in case.header.rings.as_slice() {
         if let Some(Place::Link { segment, .. }) = ring.shape.place_at(address) {
-            let link = Block {
-                w: [
-                    word_at(case.before, address & !15),
-                    word_at(case.before, (address & !15) + 4),
-                    word_at(case.before, (address & !15) + 8),
-                    word,
-                ],
-            };
+            let link = trb_at(case, address, word);
             note_link(case, &mut finding, ring, segment, link)?;
         }
     }
@@ -183,6 +164,12 @@ fn note_link(
         finding.note(note)?;
         let better = link.w[3] ^ 2;
         finding.help = Some(format!(in case.alloc; "write {better:08x}")?);
+    }
+    if finding.help.is_none() {
+        finding.help(
+            case.alloc,
+            "mend that field before the word with the Cycle bit is written",
+        )?;
     }
     Ok(())
 }

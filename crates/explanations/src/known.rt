@@ -4,14 +4,14 @@ ghost use Rattle.traces.specs.Header.{IsHeader};
 ghost use Rattle.ring_finder.specs.Finding.{IsFinder};
 
 use commands::{Command, EndpointState};
-use contexts::InputContext;
+use contexts::{EndpointContext, InputContext};
 use device_record::{DeviceRecord, Named};
 use guest_memory::{Addr, PageMemory, WordMemory};
 use ring_finder::Finder;
-use ring_knowledge::RingRecord;
+use ring_knowledge::{RingGiving, RingRecord};
 use segments::Spot;
 use std::alloc::{AllocError, Global};
-use traces::{Header, Row};
+use traces::{Header, Register, Row};
 use trb::{Block, BlockKind};
 
 /// That an endpoint got a ring.
@@ -24,6 +24,14 @@ pub(crate) struct Binding {
     pub(crate) row: usize,
 }
 
+/// That a slot got its Device Context.
+#[derive(Clone, Copy)]
+pub(crate) struct Taking {
+    pub(crate) slot: u8,
+    /// The index of the row that gave the Address Device.
+    pub(crate) row: usize,
+}
+
 /// What is known after some rows.
 #[derive(Drop)]
 pub(crate) struct Known {
@@ -33,6 +41,10 @@ pub(crate) struct Known {
     pub(crate) devices: DeviceRecord,
     /// In the order of their rows.
     pub(crate) bindings: Vec<Binding>,
+    /// In the order of their rows.
+    pub(crate) takings: Vec<Taking>,
+    /// Where the DCBAA lies, once DCBAAP was written.
+    pub(crate) array: Option<u64>,
 }
 
 /// What is known after these rows.
@@ -49,6 +61,8 @@ pub(crate) fn known_after(alloc: Global, header: &Header, rows: &[Row]) -> Resul
         rings,
         devices: DeviceRecord::new(alloc)?,
         bindings: Vec::new(alloc),
+        takings: Vec::new(alloc),
+        array: None,
     };
     for (index, row) in rows.iter().enumerate() {
         known.learn(header, &finder, index, row)?;
@@ -70,8 +84,13 @@ impl Known {
     {
         match row {
             Row::Sub { ring, blocks } => self.learn_declared(finder, *ring, blocks.as_slice()),
-            Row::Write { at, word } => self.learn_word(header, finder, *at, *word),
-            Row::Reg { .. } => Ok(()),
+            Row::Write { at, word } => self.learn_word(header, finder, index, *at, *word),
+            Row::Reg { register, value } => {
+                if *register == Register::Dcbaap {
+                    self.array = Some(*value / 64 * 64);
+                }
+                Ok(())
+            }
             Row::Bell { slot, target } => {
                 self.learn_bell(finder, *slot, *target);
                 Ok(())
@@ -113,6 +132,7 @@ impl Known {
         &mut self,
         header: &Header,
         finder: &Finder,
+        row: usize,
         at: Addr,
         word: u32,
     ) -> Result<(), AllocError>
@@ -123,14 +143,58 @@ impl Known {
         let Some(number) = finder.ring_at(header, at.get()) else {
             return Ok(());
         };
+        let mut given = None;
         if let (Some(ring), Some(known)) = (
             header.rings.as_slice().get(number),
             self.rings.get_mut(number),
         ) {
             let standing = known.look(&ring.shape, at, word);
             known.note_giving(&ring.shape, standing.giving);
+            if let Some(RingGiving::Position(position)) = standing.giving {
+                given = known.declared(position);
+            }
+        }
+        match given {
+            Some(block) => if finder.commands == Some(number) {
+                self.learn_command(row, block)
+            } else {
+                Ok(())
+            },
+            None => Ok(()),
+        }
+    }
+
+    /// A command was given: the first Address Device of a slot takes its Device Context.
+    fn learn_command(&mut self, row: usize, block: Block) -> Result<(), AllocError> {
+        if let Ok(Command::AddressDevice { slot, .. }) = Command::read(&block) {
+            if self.devices.device(slot).is_none() {
+                self.devices.take_device(slot, self.device_named(slot));
+                self.takings.push(Taking { slot, row })?;
+            }
         }
         Ok(())
+    }
+
+    /// Where a slot's entry of the DCBAA lies; the array counts as one at 0 before DCBAAP was written.
+    pub(crate) fn entry_of(&self, slot: u8) -> u64 {
+        self.array.unwrap_or(0).saturating_add(8 * u64::from(slot))
+    }
+
+    /// The address in a slot's entry of the DCBAA.
+    pub(crate) fn device_named(&self, slot: u8) -> u64 {
+        let entry = self.entry_of(slot);
+        u64::from(self.word(entry.saturating_add(4))) << 32 | u64::from(self.word(entry))
+    }
+
+    /// The row that gave the Address Device by which a slot got its Device Context.
+    pub(crate) fn taken_by(&self, slot: u8) -> Option<usize> {
+        let mut last = None;
+        for taking in &self.takings {
+            if taking.slot == slot {
+                last = Some(taking.row);
+            }
+        }
+        last
     }
 
     /// A doorbell was rung.
@@ -241,6 +305,7 @@ impl Known {
             Command::EnableSlot => self.devices.go_on(&command, slot),
             Command::DisableSlot { slot } => {
                 self.devices.go_on(&command, slot);
+                self.devices.leave_device(slot);
                 self.devices.disable(slot, Named::All);
             }
             Command::ResetDevice { slot }
@@ -326,15 +391,15 @@ impl Known {
         requires found { IsFinder header.now.rings finder.now }
     {
         for endpoint in from..to {
-            if let Some((pointer, cycle)) = self.added(header, context, endpoint) {
+            if let Some(added) = self.added(header, context, endpoint) {
                 self.learn_place(
                     header,
                     finder,
                     row,
                     slot,
                     endpoint,
-                    pointer,
-                    cycle,
+                    added.pointer,
+                    added.dcs,
                     EndpointState::Running,
                 )?;
             }
@@ -342,17 +407,22 @@ impl Known {
         Ok(())
     }
 
-    /// The dequeue pointer and cycle state of an endpoint that an Input Context adds.
-    pub(crate) fn added(&self, header: &Header, context: u64, endpoint: u8) -> Option<(u64, bool)> {
+    /// The Endpoint Context of an endpoint that an Input Context adds.
+    pub(crate) fn added(
+        &self,
+        header: &Header,
+        context: u64,
+        endpoint: u8,
+    ) -> Option<EndpointContext> {
         if context % 4 != 0 || endpoint == 0 || endpoint >= 32 {
             return None;
         }
         let input = InputContext::at(&self.memory, context, header.context_size)?;
-        if !input.adds(endpoint) {
-            return None;
+        if input.adds(endpoint) {
+            Some(input.endpoint(endpoint))
+        } else {
+            None
         }
-        let found = input.endpoint(endpoint);
-        Some((found.pointer, found.dcs))
     }
 
     /// An endpoint is placed: a Disabled one gets the ring that begins at a pointer, any other has its own moved there.

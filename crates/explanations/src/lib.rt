@@ -2,11 +2,15 @@
 //! what was expected, and what helps.
 #![tactic(auto)]
 
+mod areas;
+mod commands_given;
 mod declarations;
 mod devices;
 mod diagnostic;
 mod events;
 mod explain;
+mod faults;
+mod fields;
 mod finding;
 mod givings;
 mod known;
@@ -14,10 +18,15 @@ mod moves;
 mod positions;
 mod profile;
 mod registers;
+mod replays;
+mod ring_lines;
 mod rows;
 mod source;
 mod submissions;
+mod unfinished;
 mod words;
 
-pub use diagnostic::{Diagnostic, InFile, Quote};
+pub use diagnostic::{Diagnostic, InFile, Matter, Quote};
 pub use explain::{diagnostic_of, explain_refused};
+pub use faults::explain_bad_line;
+pub use replays::explain_step;

@@ -1,14 +1,16 @@
 //! Commands that bind an endpoint to a ring, or move its ring.
 use crate::finding::{Case, Finding, line_of, ring_known};
 use crate::known::Binding;
+use crate::positions::{is_handed_over, submission};
 use crate::rows::last_write;
+use crate::unfinished::command_at;
 use crate::words::{NOT_JUDGED, endpoint_state_name};
 use commands::{Command, EndpointState};
 use ring_knowledge::RingRecord;
-use segments::Place;
+use segments::{Place, Spot};
 use std::alloc::AllocError;
 use traces::Ring;
-use trb::{Block, RingKind};
+use trb::RingKind;
 
 /// How many places where a ring may go on are told.
 const TOLD: usize = 4;
@@ -19,17 +21,8 @@ pub(crate) fn bad_move(
     address: u64,
     word: u32,
 ) -> Result<Option<Finding>, AllocError> {
-    let base = address & !15;
-    let block = Block {
-        w: [
-            case.known.word(base),
-            case.known.word(base + 4),
-            case.known.word(base + 8),
-            word,
-        ],
-    };
-    match Command::read(&block) {
-        Ok(
+    match command_at(case, address, word) {
+        Some(
             Command::SetTrDequeue {
                 slot,
                 endpoint,
@@ -48,7 +41,7 @@ pub(crate) fn bad_move(
             note_dequeue(case, &mut finding, slot, endpoint, dequeue, cycle)?;
             Ok(Some(finding))
         }
-        Ok(
+        Some(
             Command::AddressDevice {
                 slot,
                 input_context,
@@ -64,7 +57,7 @@ pub(crate) fn bad_move(
             note_added(case, &mut finding, slot, input_context, 1)?;
             Ok(Some(finding))
         }
-        Ok(
+        Some(
             Command::ConfigureEndpoint {
                 slot,
                 input_context,
@@ -102,10 +95,10 @@ fn note_dequeue(
             "slot {slot}, DCI {endpoint} is {name}, and must be Stopped or Error (xHCI 4.6.10)"
         )?;
         finding.note(note)?;
-        finding.help(
+        return finding.help(
             case.alloc,
             "Stop Endpoint, or Reset Endpoint after a halt, first, and read its completion",
-        )?;
+        );
     }
     let Some(id) = case.known.devices.ring_of(slot, endpoint) else {
         let note = format!(in case.alloc; "slot {slot}, DCI {endpoint} has no ring")?;
@@ -187,11 +180,9 @@ fn note_reached(
     if ring.shape.place_at(pointer).is_none() {
         return Ok(());
     }
-    if known.target(&ring.shape, pointer, cycle).is_some() {
-        return finding.say(
-            case.alloc,
-            "that is inside a TD, before TDs that the controller may have begun or passed, or behind a TRB or Link TRB that isn't handed over",
-        );
+    if let Some(spot) = known.target(&ring.shape, pointer, cycle) {
+        let (Spot::Data(number) | Spot::Link(number)) = spot;
+        return note_number(case, finding, ring, known, number);
     }
     if known.target(&ring.shape, pointer, !cycle).is_some() {
         return finding.say(
@@ -200,6 +191,44 @@ fn note_reached(
         );
     }
     finding.say(case.alloc, "no TD that isn't finished begins or ends there")
+}
+
+/// Why the ring may not go on at a position.
+fn note_number(
+    case: &Case,
+    finding: &mut Finding,
+    ring: &Ring,
+    known: &RingRecord,
+    number: u64,
+) -> Result<(), AllocError> {
+    if number < known.ceiling() {
+        return finding.say(
+            case.alloc,
+            "the controller may have come past that place already, and begun the TD there",
+        );
+    }
+    for position in known.ceiling()..number {
+        if !is_handed_over(ring, known, position) {
+            let place = position % u64::from(ring.shape.places());
+            let note = format!(in case.alloc;
+                "TRB {place}, which is before that place, isn't handed over yet"
+            )?;
+            return finding.note(note);
+        }
+    }
+    if let Some(td) = submission(case, ring.id, number) {
+        if td.first != number {
+            let line = line_of(case.first, td.row);
+            let note = format!(in case.alloc;
+                "that is inside the TD that row {line} submitted, and a ring goes on where a TD begins"
+            )?;
+            return finding.note(note);
+        }
+    }
+    finding.say(
+        case.alloc,
+        "a Link TRB before that place isn't handed over yet",
+    )
 }
 
 /// Where the ring may go on.
@@ -217,18 +246,27 @@ fn note_allowed(
         let cycle = ring.shape.cycle(position);
         if told < TOLD && known.may_move_on(&ring.shape, pointer, cycle) {
             let dcs = u8::from(cycle);
-            let place = format!(in case.alloc; " {pointer:016x} with DCS {dcs}")?;
+            let before = if told == 0 { "" } else { "," };
+            let place = format!(in case.alloc; "{before} {pointer:016x} with DCS {dcs}")?;
             text.push_str(place.as_str())?;
             told += 1;
         }
     }
     if told == 0 {
-        return finding.say(
+        finding.say(
             case.alloc,
             "the ring may go on nowhere yet: a TRB or Link TRB before each TD's beginning isn't handed over",
+        )?;
+        return finding.help(
+            case.alloc,
+            "hand over all before the place where the ring is to go on, and then give the command",
         );
     }
-    finding.note(text)
+    finding.note(text)?;
+    finding.help(
+        case.alloc,
+        "set the TR Dequeue Pointer to one of these, with its DCS",
+    )
 }
 
 /// What is wrong with the ring of an endpoint that a command adds.
@@ -239,20 +277,24 @@ fn note_added(
     context: u64,
     endpoint: u8,
 ) -> Result<(), AllocError> {
-    let Some((pointer, cycle)) = case.known.added(case.header, context, endpoint) else {
+    let Some(added) = case.known.added(case.header, context, endpoint) else {
         return Ok(());
     };
+    let (pointer, cycle) = (added.pointer, added.dcs);
     let dcs = u8::from(cycle);
     let state = case.known.devices.endpoint_state(slot, endpoint);
     if endpoint == 1 && state != EndpointState::Disabled {
         let note = format!(in case.alloc;
-            "slot {slot}, DCI 1 has its ring already: a second Address Device names the place where that ring stands, with nothing left on it; it says {pointer:016x}, DCS {dcs}"
+            "slot {slot}, DCI 1 has its ring already: a second Address Device names the place where that ring stands, with nothing left on it; this one says {pointer:016x}, DCS {dcs}"
         )?;
         finding.note(note)?;
-        return finding.say(
+        let row = context_row(case, context, endpoint);
+        finding.mark(
             case.alloc,
-            "where TDs are left on the ring it is not judged: xHCI allows this, the profile doesn't",
-        );
+            row,
+            "the TR Dequeue Pointer of the Endpoint Context is written here",
+        )?;
+        return note_second(case, finding, slot);
     }
     let beginning = case
         .header
@@ -281,6 +323,39 @@ fn note_added(
     }
 }
 
+/// What is wrong with a second Address Device of a slot.
+fn note_second(case: &Case, finding: &mut Finding, slot: u8) -> Result<(), AllocError> {
+    let Some(id) = case.known.devices.ring_of(slot, 1) else {
+        return Ok(());
+    };
+    let Some((ring, known)) = ring_known(case, id) else {
+        return Ok(());
+    };
+    let left = (known.declared_count() as u64).saturating_sub(known.floor_number());
+    if left > 0 {
+        let note = format!(in case.alloc;
+            "not all TDs on ring {id:02x}, which the command moves, have come back: TRBs left: {left}"
+        )?;
+        finding.note(note)?;
+        finding.say(case.alloc, NOT_JUDGED)?;
+        return finding.help(
+            case.alloc,
+            "read the events of all TDs on the ring before the command",
+        );
+    }
+    let position = known.floor_number();
+    let (address, dcs) = (
+        ring.shape.address(position),
+        u8::from(ring.shape.cycle(position)),
+    );
+    let note = format!(in case.alloc; "ring {id:02x} stands at {address:016x}, DCS {dcs}")?;
+    finding.note(note)?;
+    finding.help(
+        case.alloc,
+        "write that into the Endpoint Context: a ring whose TDs have all come back stays where it is",
+    )
+}
+
 /// What is wrong with a ring that an endpoint gets.
 fn note_ring(
     case: &Case,
@@ -295,6 +370,7 @@ fn note_ring(
             "DCI {endpoint}: Dequeue Cycle State is 0, and must be 1: ring {id:02x} begins with Cycle bit 1"
         )?;
         finding.note(note)?;
+        finding.help(case.alloc, "set DCS, bit 0 of the TR Dequeue Pointer, to 1")?;
     }
     match last_binding(case, id) {
         Some(bound) => {

@@ -1,6 +1,9 @@
 //! What xHCI allows and the profile leaves out.
 use crate::finding::{Case, Finding};
+use crate::rows::last_write;
+use crate::unfinished::{command_at, trb_at};
 use crate::words::{NOT_JUDGED, type_name};
+use commands::Command;
 use std::alloc::{AllocError, Global};
 use traces::Row;
 use trb::{Block, BlockFlags, BlockKind, Flags};
@@ -8,25 +11,91 @@ use trb::{Block, BlockFlags, BlockKind, Flags};
 /// A row with a form of the standard that isn't judged.
 pub(crate) fn not_in_profile(case: &Case, row: &Row) -> Result<Finding, AllocError> {
     let mut finding = Finding::new(case.alloc, "not in the checker's profile", "left out")?;
-    let what = match row {
-        Row::Sub { blocks, .. } => left_out_among(case.alloc, blocks.as_slice())?,
-        Row::Read { event } => left_out_event(case.alloc, *event)?,
-        Row::Write { .. } => String::from_str(
-            case.alloc,
-            "an isochronous endpoint, an endpoint with streams (MaxPStreams above 0), or a Link TRB with Interrupt On Completion",
-        )?,
-        Row::Reg { .. } | Row::Bell { .. } => String::new(case.alloc),
-    };
-    finding.note(what)?;
-    finding.say(
+    match row {
+        Row::Sub { blocks, .. } => {
+            let what = left_out_among(case.alloc, blocks.as_slice())?;
+            finding.note(what)?;
+        }
+        Row::Read { event } => {
+            let what = left_out_event(case.alloc, *event)?;
+            finding.note(what)?;
+        }
+        Row::Write { at, word } => note_write(case, &mut finding, at.get(), *word)?,
+        Row::Reg { .. } | Row::Bell { .. } => {}
+    }
+    finding.say(case.alloc, NOT_JUDGED)?;
+    finding.help(
         case.alloc,
-        "not judged: xHCI allows this, the profile doesn't",
-    )?;
-    finding.say(
-        case.alloc,
-        "this says nothing against the driver: neither this row nor those behind it are judged",
+        "this says nothing against the driver: neither this row nor those behind it are judged; record a run without it",
     )?;
     Ok(finding)
+}
+
+/// Notes what a write of memory hands over that is left out: a command that adds such an endpoint, or a Link TRB that interrupts.
+fn note_write(
+    case: &Case,
+    finding: &mut Finding,
+    address: u64,
+    word: u32,
+) -> Result<(), AllocError> {
+    if trb_at(case, address, word).kind() == BlockKind::Link {
+        return finding.say(
+            case.alloc,
+            "a Link TRB with Interrupt On Completion (IOC, word 3 bit 5) 1: its event isn't judged",
+        );
+    }
+    let Some(command) = command_at(case, address, word) else {
+        return Ok(());
+    };
+    let Some(context) = command.input_context() else {
+        return Ok(());
+    };
+    let first = match command {
+        Command::AddressDevice { .. } => 1,
+        _ => 2,
+    };
+    for endpoint in first..32 {
+        note_endpoint(case, finding, context, endpoint)?;
+    }
+    Ok(())
+}
+
+/// Notes why an endpoint that a command adds is left out, where it is.
+fn note_endpoint(
+    case: &Case,
+    finding: &mut Finding,
+    context: u64,
+    endpoint: u8,
+) -> Result<(), AllocError> {
+    let Some(added) = case.known.added(case.header, context, endpoint) else {
+        return Ok(());
+    };
+    let (kind, streams) = (added.ep_type, added.streams);
+    let offset = (u64::from(endpoint) + 1) * case.header.context_size.bytes();
+    let first = context.saturating_add(offset);
+    if streams > 0 {
+        let note = format!(in case.alloc;
+            "DCI {endpoint} is added with MaxPStreams {streams}: streams aren't judged"
+        )?;
+        finding.note(note)?;
+        finding.mark(
+            case.alloc,
+            last_write(case.before, first),
+            "MaxPStreams of its Endpoint Context is written here",
+        )?;
+    }
+    if kind % 4 == 1 {
+        let note = format!(in case.alloc;
+            "DCI {endpoint} is added as an isochronous endpoint (EP Type {kind}): `xtrace 3` allows that, while its ring gets no TD"
+        )?;
+        finding.note(note)?;
+        finding.mark(
+            case.alloc,
+            last_write(case.before, first.saturating_add(4)),
+            "EP Type of its Endpoint Context is written here",
+        )?;
+    }
+    Ok(())
 }
 
 /// Which of some TRBs is left out, and why. They count from 1.

@@ -1,10 +1,11 @@
 //! Writes of registers.
+use crate::areas::{Beside, clash};
 use crate::finding::{Case, Finding, line_of};
-use crate::rows::{last_read, last_register, reads, start, stop};
+use crate::rows::{last_read, last_register, reads, register_value, start, stop};
 use crate::words::{NOT_JUDGED, register_name, ring_of_kind};
 use segments::RingShape;
 use std::alloc::AllocError;
-use traces::Register;
+use traces::{Register, Ring};
 use trb::RingKind;
 
 /// The registers that are set up before the start.
@@ -33,6 +34,10 @@ pub(crate) fn bad_register(
             "Command Stop (bit 1) or Command Abort (bit 2) is 1",
         )?;
         finding.say(case.alloc, NOT_JUDGED)?;
+        finding.help(
+            case.alloc,
+            "end the trace before a stop of the Command Ring; this says nothing against the driver",
+        )?;
         return Ok(finding);
     }
     if started.is_some() && register != Register::Usbcmd {
@@ -71,7 +76,7 @@ fn note_command(case: &Case, finding: &mut Finding, value: u64) -> Result<(), Al
                     "a reset loses what is set up here",
                 )?;
                 let note = format!(in case.alloc;
-                    "HCRST is 1, and {name} was written before: a reset puts it back (xHCI 5.4.1.1)"
+                    "HCRST is 1, and {name} was written before: a reset puts it back (xHCI 5.4.1)"
                 )?;
                 finding.note(note)?;
             }
@@ -81,17 +86,71 @@ fn note_command(case: &Case, finding: &mut Finding, value: u64) -> Result<(), Al
             "reset first, then set up the registers; each run that is set up anew is a trace of its own",
         );
     }
+    let mut complete = true;
     for register in SET_UP {
         if last_register(case.before, register).is_none() {
+            complete = false;
             let name = register_name(register);
             let note = format!(in case.alloc; "the start comes before {name} was written")?;
             finding.note(note)?;
         }
     }
+    if complete {
+        return note_wrong_start(case, finding);
+    }
     finding.help(
         case.alloc,
         "write CRCR, ERSTSZ, ERDP and ERSTBA before Run/Stop (xHCI 4.2)",
     )
+}
+
+/// A start with another ERSTSZ than the Event Ring's, or another ERDP than its first TRB.
+fn note_wrong_start(case: &Case, finding: &mut Finding) -> Result<(), AllocError> {
+    let Some(ring) = ring_of_kind(case.header.rings.as_slice(), RingKind::Evt) else {
+        return no_event_ring(case, finding);
+    };
+    let size = register_value(case.before, Register::Erstsz).unwrap_or(0);
+    if size % 0x10000 != ring.shape.segments().len() as u64 {
+        finding.mark(
+            case.alloc,
+            last_register(case.before, Register::Erstsz),
+            "ERSTSZ is written here",
+        )?;
+        return note_size(case, finding, ring, size);
+    }
+    let found = register_value(case.before, Register::Erdp).unwrap_or(0) / 16 * 16;
+    let first = ring.shape.address(0);
+    finding.mark(
+        case.alloc,
+        last_register(case.before, Register::Erdp),
+        "ERDP is written here",
+    )?;
+    let note = format!(in case.alloc;
+        "ERDP is {found:016x}, and must be {first:016x} at the start, the first TRB of the Event Ring (xHCI 4.9.4)"
+    )?;
+    finding.note(note)?;
+    finding.help(
+        case.alloc,
+        "write ERDP with the first TRB of the Event Ring before Run/Stop",
+    )
+}
+
+/// Notes which size of the table ERSTSZ must say.
+fn note_size(
+    case: &Case,
+    finding: &mut Finding,
+    ring: &Ring,
+    value: u64,
+) -> Result<(), AllocError> {
+    let found = value % 0x10000;
+    let segments = ring.shape.segments().len();
+    let id = ring.id;
+    let note = format!(in case.alloc;
+        "its size is {found}, and must be {segments}, the number of segments of ring {id:02x}, the Event Ring"
+    )?;
+    finding.note(note)?;
+    let help = format!(in case.alloc; "write {segments} to ERSTSZ")?;
+    finding.help(case.alloc, help.as_str())
 }
 
 /// The registers that a reset behind their set-up loses.
@@ -133,6 +192,8 @@ fn note_crcr(case: &Case, finding: &mut Finding, value: u64) -> Result<(), Alloc
                     "Ring Cycle State (bit 0) is 0, and must be 1: the rings of a trace begin with Cycle bit 1",
                 )?;
             }
+            let help = format!(in case.alloc; "write {base:x} + 1 to CRCR")?;
+            finding.help(case.alloc, help.as_str())?;
         }
     }
     Ok(())
@@ -142,53 +203,83 @@ fn note_crcr(case: &Case, finding: &mut Finding, value: u64) -> Result<(), Alloc
 fn note_table_size(case: &Case, finding: &mut Finding, value: u64) -> Result<(), AllocError> {
     if let Some(index) = last_register(case.before, Register::Erstsz) {
         finding.mark(case.alloc, Some(index), "ERSTSZ is written here")?;
-        return finding.say(case.alloc, "a trace writes it once");
+        finding.say(case.alloc, "`xtrace 1` and `xtrace 2` have it written once")?;
+        return finding.help(
+            case.alloc,
+            "write it once, or record `xtrace 3`, where its last value counts",
+        );
     }
     match ring_of_kind(case.header.rings.as_slice(), RingKind::Evt) {
-        None => finding.say(case.alloc, "the header has no `evt` ring"),
-        Some(ring) => {
-            let found = value % 0x10000;
-            let segments = ring.shape.segments().len();
-            let id = ring.id;
-            let note = format!(in case.alloc;
-                "its size is {found}, and must be {segments}, the number of segments of ring {id:02x}, the Event Ring"
-            )?;
-            finding.note(note)
-        }
+        None => no_event_ring(case, finding),
+        Some(ring) => note_size(case, finding, ring, value),
     }
+}
+
+/// Notes that the trace declares no Event Ring.
+fn no_event_ring(case: &Case, finding: &mut Finding) -> Result<(), AllocError> {
+    finding.say(case.alloc, "the header has no `evt` ring")?;
+    finding.help(
+        case.alloc,
+        "declare the Event Ring by a `ring ID evt ..` line",
+    )
 }
 
 /// ERSTBA twice, before ERSTSZ, or where no table of the Event Ring lies.
 fn note_table(case: &Case, finding: &mut Finding, value: u64) -> Result<(), AllocError> {
     if let Some(index) = last_register(case.before, Register::Erstba) {
         finding.mark(case.alloc, Some(index), "ERSTBA is written here")?;
-        return finding.say(case.alloc, "a trace writes it once");
+        finding.say(
+            case.alloc,
+            "the controller reads the table when ERSTBA is written (xHCI 4.9.4)",
+        )?;
+        return finding.help(case.alloc, "write ERSTBA once in a trace");
     }
     if last_register(case.before, Register::Erstsz).is_none() {
         finding.say(case.alloc, "ERSTSZ wasn't written yet")?;
         return finding.help(case.alloc, "write ERSTSZ first (xHCI 5.5.2.3.2)");
     }
     match ring_of_kind(case.header.rings.as_slice(), RingKind::Evt) {
-        None => finding.say(case.alloc, "the header has no `evt` ring"),
-        Some(ring) => note_entries(case, finding, &ring.shape, value / 64 * 64),
+        None => no_event_ring(case, finding),
+        Some(ring) => {
+            let size = register_value(case.before, Register::Erstsz).unwrap_or(0);
+            if size % 0x10000 != ring.shape.segments().len() as u64 {
+                finding.mark(
+                    case.alloc,
+                    last_register(case.before, Register::Erstsz),
+                    "ERSTSZ is written here",
+                )?;
+                return note_size(case, finding, ring, size);
+            }
+            note_entries(case, finding, &ring.shape, value / 64 * 64)
+        }
     }
 }
 
-/// Which entries a table must have.
+/// Which entry of the table isn't as it must be, or where the table may not lie.
 fn note_entries(
     case: &Case,
     finding: &mut Finding,
     shape: &RingShape,
     base: u64,
 ) -> Result<(), AllocError> {
-    let note = format!(in case.alloc;
-        "at {base:016x} the Event Ring Segment Table doesn't list the segments of the `evt` ring, or it touches a ring or the end of memory"
-    )?;
-    finding.note(note)?;
+    let bytes = (shape.segments().len() as u64).saturating_mul(16);
+    if let Some(why) = clash(case, base, bytes, Beside::Devices)? {
+        let note = format!(in case.alloc;
+            "the Event Ring Segment Table, {bytes} bytes at {base:016x}, {why}"
+        )?;
+        finding.note(note)?;
+        return finding.help(case.alloc, "put the table into memory of its own");
+    }
     for (index, segment) in shape.segments().iter().enumerate() {
-        if index < 4 {
-            let (at, count) = (segment.base, segment.count);
-            let note = format!(in case.alloc; "entry {index} must be {at:016x} with {count} TRBs")?;
+        let at = base.saturating_add((index as u64).saturating_mul(16));
+        let low = u64::from(case.known.word(at));
+        let found = u64::from(case.known.word(at.saturating_add(4))) << 32 | low;
+        let size = case.known.word(at.saturating_add(8)) % 0x10000;
+        let (start, count) = (segment.base, segment.count);
+        if found / 64 * 64 != start || size != u32::from(count) {
+            let note = format!(in case.alloc;
+                "entry {index} at {at:016x} says {found:016x} with {size} TRBs, and must say {start:016x} with {count}, a segment of the `evt` ring"
+            )?;
             finding.note(note)?;
         }
     }

@@ -3,13 +3,12 @@ ghost use Rattle.std.specs.Prelude.{◌≡◌, IfOk};
 
 use crate::diagnostic::Quote;
 use std::alloc::{AllocError, Global};
-use std::str::from_utf8;
 
 /// How many bytes of a line are quoted.
 const QUOTED: usize = 76;
 
 /// The bytes of a line, which is counted from 1, without its line feed.
-fn line_at(text: &[u8], line: u32) -> &[u8] {
+pub(crate) fn line_at(text: &[u8], line: u32) -> &[u8] {
     let before = line.saturating_sub(1) as usize;
     text.split(|b| *b == b'\n').nth(before).unwrap_or(&[])
 }
@@ -21,7 +20,7 @@ pub fn quote(alloc: Global, text: &[u8], line: u32, label: String) -> Result<Quo
     let bytes = line_at(text, line);
     let shown = &bytes[..bytes.len().min(QUOTED)];
     let dots = if shown.len() < bytes.len() { ".." } else { "" };
-    let row = from_utf8(shown).unwrap_or("");
+    let row = shown.escape_ascii();
     let text = format!(in alloc; "{row}{dots}")?;
     Ok(Quote { line, text, label })
 }

@@ -2,6 +2,7 @@
 use crate::finding::{Case, Finding, line_of, ring_at};
 use crate::positions::{is_handed_over, position_given, submission};
 use crate::rows::last_write;
+use crate::unfinished::trb_at;
 use crate::words::type_name;
 use guest_memory::Addr;
 use ring_knowledge::RingRecord;
@@ -28,15 +29,7 @@ pub(crate) fn not_as_submitted(
         return Ok(None);
     };
     let wanted = wanted.with_cycle(ring.shape.cycle(position));
-    let base = at.get() & !15;
-    let found = Block {
-        w: [
-            case.known.word(base),
-            case.known.word(base + 4),
-            case.known.word(base + 8),
-            word,
-        ],
-    };
+    let found = trb_at(case, at.get(), word);
     let [w0, w1, w2, w3] = found.w;
     let here = format!(in case.alloc; "in memory: {w0:08x} {w1:08x} {w2:08x} {w3:08x}")?;
     let mut finding = Finding::new(
@@ -51,7 +44,7 @@ pub(crate) fn not_as_submitted(
         )?;
         finding.mark(case.alloc, Some(td.row), label.as_str())?;
     }
-    note_words(case, &mut finding, base, wanted, found)?;
+    note_words(case, &mut finding, at.get() & !15, wanted, found)?;
     finding.help(
         case.alloc,
         "write all four words of a TRB, the one with its Cycle bit last, and log in `sub` what you mean to write",
@@ -196,7 +189,8 @@ fn note_missing(
     for position in first.saturating_add(1)..end {
         if told < TOLD && !is_handed_over(ring, known, position) {
             let place = position % u64::from(ring.shape.places());
-            let name = format!(in case.alloc; " TRB {place}")?;
+            let before = if told == 0 { "" } else { "," };
+            let name = format!(in case.alloc; "{before} TRB {place}")?;
             text.push_str(name.as_str())?;
             told += 1;
         }

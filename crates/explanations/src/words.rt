@@ -117,6 +117,7 @@ pub(crate) fn type_name(kind: BlockKind) -> &'static str {
 /// The name of a Completion Code (xHCI table 6-90).
 pub(crate) fn code_name(code: u8) -> &'static str {
     match code {
+        0 => "Invalid",
         1 => "Success",
         3 => "Babble Detected Error",
         4 => "USB Transaction Error",

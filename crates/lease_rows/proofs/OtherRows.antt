@@ -37,12 +37,12 @@ driver_now h headed first past row number t m next = driver_keeps h headed past 
 
 unwritten_before : (h : Header) (k : Known) (v : ℕ) → is_bad_register h k Erstba v ≡ false → k.register Erstba ≡ None
 unfolding is_bad_register is_written
-unwritten_before h k v fine = by k.started (k.register Erstba) _ _ fine
+unwritten_before h k v fine = by k.started (k.register Erstba) _ _ _ fine
   where
-    by : (s : Bool) (o : Option ℕ) (a b : Bool) → (s || is_some o || a || b) ≡ false → o ≡ None
-    by true o a b e = absurd (cc)
-    by false None a b e = refl
-    by false (Some x) a b e = absurd (cc)
+    by : (s : Bool) (o : Option ℕ) (a b c : Bool) → (s || is_some o || a || b || c) ≡ false → o ≡ None
+    by true o a b c e = absurd (cc)
+    by false None a b c e = refl
+    by false (Some x) a b c e = absurd (cc)
 
 -- DCBAAP isn't written once a slot may have a device context
 no_device : (h : Header) (k : Known) (v : ℕ) → DriverKeeps h k → is_bad_register h k Dcbaap v ≡ false → (s : ℕ) → k.device s ≡ None

@@ -3,6 +3,7 @@
 
 mod check_run;
 mod file_on_write;
+mod no_note;
 mod plan_run;
 mod replay_run;
 mod schedule_run;
@@ -348,8 +349,16 @@ fn replay_with<R: Read>(
     match path(matches, "SCHEDULE") {
         Some(path) => {
             let schedule = File::open(rt, path);
-            run_replay(alloc, asked, trace, schedule, &mut out, &mut err)
+            run_replay(alloc, asked, path, trace, schedule, &mut out, &mut err)
         }
-        None => run_replay(alloc, asked, trace, Ok(rt.stdin()), &mut out, &mut err),
+        None => run_replay(
+            alloc,
+            asked,
+            "standard input",
+            trace,
+            Ok(rt.stdin()),
+            &mut out,
+            &mut err,
+        ),
     }
 }

@@ -15,10 +15,11 @@ use trace_reader::{read_schedule, read_trace};
 use traces::{Schedule, Trace};
 
 /// Replays the schedule that `schedule` holds beside the trace that `trace` holds, which is read first. The takes go to `out`,
-/// and how the replay ends; what hinders it to `err`.
+/// and how the replay ends; what hinders it to `err`. `beside` is how the schedule is called in messages.
 pub fn run_replay<R: Read, S: Read + Drop, O: Write, E: Write>(
     alloc: Global,
     asked: &Asked,
+    beside: &str,
     trace: &mut R,
     schedule: io::Result<S>,
     out: &mut O,
@@ -33,7 +34,7 @@ pub fn run_replay<R: Read, S: Read + Drop, O: Write, E: Write>(
         return tell_failure(alloc, asked, error, out, err);
     }
     match read_trace(alloc, &text) {
-        Ok(trace) => run_beside(alloc, asked, &trace, schedule, out, err),
+        Ok(trace) => run_beside(alloc, asked, beside, &trace, schedule, out, err),
         Err(fault) => {
             let answer = Answer::from(fault);
             let note = note_on_trace(alloc, asked, &text, &answer);
@@ -46,6 +47,7 @@ pub fn run_replay<R: Read, S: Read + Drop, O: Write, E: Write>(
 fn run_beside<S: Read + Drop, O: Write, E: Write>(
     alloc: Global,
     asked: &Asked,
+    beside: &str,
     trace: &Trace,
     schedule: io::Result<S>,
     out: &mut O,
@@ -56,7 +58,7 @@ fn run_beside<S: Read + Drop, O: Write, E: Write>(
     ensures err { asked.now.explains ≡ false → goes_out result ≡ true → err.new ≡ err.old }
 {
     let named = Asked {
-        input: "the schedule",
+        input: beside,
         explains: asked.explains,
     };
     let mut schedule = match schedule {
@@ -67,7 +69,7 @@ fn run_beside<S: Read + Drop, O: Write, E: Write>(
     match schedule.read_to_end(&mut text) {
         Ok(_) => {
             let answer = replay_answer(alloc, trace, &text);
-            let note = note_on_schedule(alloc, asked, &text, &answer);
+            let note = note_on_schedule(alloc, &named, &text, &answer);
             tell(alloc, asked.explains, answer, note, out, err)
         }
         Err(error) => tell_failure(alloc, &named, error, out, err),

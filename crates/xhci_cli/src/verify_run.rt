@@ -5,7 +5,8 @@ ghost use Rattle.answers.specs.Inputs.{opened};
 ghost use Rattle.answers.specs.Telling.{IsTold};
 ghost use Rattle.xhci_cli.specs.VerifyAnswers.{IsVerdictBeside, IsVerdictOn, IsVerifyAnswer};
 
-use answers::{Answer, Asked, Status, note_on_certificate, note_on_trace, tell, tell_failure};
+use crate::no_note::note_on_verdict;
+use answers::{Answer, Asked, Status, note_on_certificate, tell, tell_failure};
 use certificate::decode;
 use ring_knowledge::Lease;
 use std::alloc::Global;
@@ -69,7 +70,7 @@ fn verify_beside<R: Read + Drop, O: Write, E: Write>(
     match trace.read_to_end(&mut text) {
         Ok(_) => {
             let answer = verify_answer(alloc, leases, &text);
-            let note = note_on_trace(alloc, asked, &text, &answer);
+            let note = note_on_verdict(alloc, asked, leases, &text, &answer);
             tell(alloc, asked.explains, answer, note, out, err)
         }
         Err(error) => tell_failure(alloc, asked, error, out, err),

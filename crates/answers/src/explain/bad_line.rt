@@ -1,32 +1,11 @@
-//! What is said of a bad line: what was expected there, and the line itself.
-use super::words::{
-    LIMITS, PLAN_LIMITS, PLAN_SHAPES, SCHEDULE_LIMITS, SHAPES, STEPS, plan_line_form,
-    trace_line_form,
-};
+//! What is said of a bad line of a plan or a schedule: what was expected there, and the line itself.
+use super::words::{PLAN_LIMITS, PLAN_SHAPES, SCHEDULE_LIMITS, STEPS, plan_line_form};
 use std::alloc::{AllocError, Global};
 use std::str::from_utf8;
 use trace_reader::LineFault;
 
 /// How many bytes of a line are quoted.
 const QUOTED: usize = 72;
-
-/// What a person is told of the first bad line of a trace.
-pub fn bad_trace_line(
-    alloc: Global,
-    text: &[u8],
-    line: u32,
-    fault: LineFault,
-) -> Result<String, AllocError> {
-    let bytes = line_at(text, line);
-    let expected = match fault {
-        LineFault::Header =>
-            "line 1 to be `xtrace 1`, `xtrace 2` or `xtrace 3`, and line 2 `ctx 20` or `ctx 40`",
-        LineFault::Row | LineFault::Number => trace_line_form(first_word(bytes)),
-        LineFault::Limit => LIMITS,
-        LineFault::Shape => SHAPES,
-    };
-    expected_note(alloc, text, bytes, expected)
-}
 
 /// What a person is told of the first bad line of a plan.
 pub fn bad_plan_line(

@@ -7,11 +7,13 @@ mod words;
 
 use crate::answer::Answer;
 use crate::decode::BlockWords;
-use bad_line::{bad_plan_line, bad_schedule_line, bad_trace_line};
-use explanations::explain_refused;
+use crate::replay_lines::ReplayEnd;
+use bad_line::{bad_plan_line, bad_schedule_line};
+use explanations::{explain_bad_line, explain_refused, explain_step};
+use ring_knowledge::Lease;
 use std::alloc::{AllocError, Global};
 use std::io;
-use words::{NOT_VERIFIED, TOO_LONG, why_no_certificate, why_unfollowed};
+use words::{TOO_LONG, lease_words, why_no_certificate, why_unfollowed};
 
 /// What a command is asked for beside its answer.
 #[derive(Clone, Copy)]
@@ -35,11 +37,12 @@ pub fn note_on_trace(
         return Ok(String::new(alloc));
     }
     match answer {
-        Answer::BadLine { line, fault } => bad_trace_line(alloc, text, *line, *fault),
+        Answer::BadLine { line, fault } => {
+            explain_bad_line(alloc, asked.input, text, *line, *fault)
+        }
         Answer::Refused { row, refusal } => {
             explain_refused(alloc, asked.input, text, *row, *refusal)
         }
-        Answer::Verified { holds: false } => format!(in alloc; "xhcitrace: {NOT_VERIFIED}\n"),
         Answer::TooLong => format!(in alloc; "xhcitrace: {TOO_LONG}\n"),
         _ => Ok(String::new(alloc)),
     }
@@ -81,6 +84,14 @@ pub fn note_on_schedule(
     }
     match answer {
         Answer::BadLine { line, fault } => bad_schedule_line(alloc, text, *line, *fault),
+        Answer::Replayed {
+            ending: ReplayEnd::Harmful { step, harm },
+            ..
+        } => explain_step(alloc, asked.input, text, *step, Some(*harm)),
+        Answer::Replayed {
+            ending: ReplayEnd::NotPossible { step },
+            ..
+        } => explain_step(alloc, asked.input, text, *step, None),
         _ => Ok(String::new(alloc)),
     }
 }
@@ -103,6 +114,31 @@ pub fn note_on_certificate(
         }
         _ => Ok(String::new(alloc)),
     }
+}
+
+/// What a person is told of a certificate that isn't the list of its trace's leases: the first that differs.
+pub fn note_on_leases(
+    alloc: Global,
+    asked: &Asked,
+    given: &[Lease],
+    own: &[Lease],
+) -> Result<String, AllocError>
+    ensures { IfOk result (λ note. IsNote asked.now.explains (string_bytes note)) }
+{
+    if !asked.explains {
+        return Ok(String::new(alloc));
+    }
+    let same = given
+        .iter()
+        .zip(own.iter())
+        .take_while(|pair| pair.0 == pair.1)
+        .count();
+    let number = same.saturating_add(1);
+    let there = lease_words(alloc, given.get(same).copied())?;
+    let wanted = lease_words(alloc, own.get(same).copied())?;
+    format!(in alloc;
+        "error[no]: the certificate isn't the list of the trace's leases\n = note: lease {number} of the certificate: {there}\n = note: lease {number} of the trace: {wanted}\n = help: no row breaks a rule; `xhcitrace check --cert CERT TRACE` writes the trace's certificate\n"
+    )
 }
 
 /// What a person is told of words that make no block.

@@ -1,10 +1,8 @@
 //! The rules of the texts and of ownership in plain words.
 use certificate::CertFault;
 use plan_writer::PlanRefusal;
-
-/// The limits of a trace.
-pub const LIMITS: &str =
-    "at most 16384 bytes a line, 1048576 lines, 256 rings and 256 TRBs a `sub` row";
+use ring_knowledge::Lease;
+use std::alloc::{AllocError, Global};
 
 /// The limits of a plan.
 pub const PLAN_LIMITS: &str = "at most 16384 bytes a line, 1048576 lines and 256 TRBs a `sub` line";
@@ -12,34 +10,15 @@ pub const PLAN_LIMITS: &str = "at most 16384 bytes a line, 1048576 lines and 256
 /// The limits of a schedule.
 pub const SCHEDULE_LIMITS: &str = "at most 16384 bytes a line and 4194304 lines";
 
-/// The shapes of a trace's rings.
-pub const SHAPES: &str =
-    "segments of 2 to 4096 TRBs (evt: 16 to 4096), at most 64, on 16-byte boundaries (cmd and evt: 64), over no 64 KB boundary, which overlap nothing, with two TRBs at least beside Link TRBs, a new ID, and one cmd and one evt ring";
-
 /// The shape of a plan's ring.
 pub const PLAN_SHAPES: &str =
     "a cmd or xfer ring, with segments of 2 to 4096 TRBs, at most 64, on 16-byte boundaries (cmd: 64), over no 64 KB boundary, which overlap nothing, with two TRBs at least beside Link TRBs";
 
 const RING: &str =
-    "`ring ID cmd|evt|xfer BASE:COUNT ..` before all rows: an ID of 2 hex digits, each segment's address of 16 and its blocks of 4";
+    "`ring ID cmd|xfer BASE:COUNT ..`: an ID of 2 hex digits, each segment's address of 16 and its TRBs of 4";
 
 const SUB: &str =
-    "`sub ID W W W W ..`: a ring's ID of 2 hex digits, and four words of 8 for each block";
-
-/// What a line of a trace must be that begins with this word.
-pub fn trace_line_form(first: &str) -> &'static str {
-    match first {
-        "ring" => RING,
-        "sub" => SUB,
-        "w" => "`w ADDR WORD`: an address of 16 hex digits, a multiple of 4, and a word of 8",
-        "reg" =>
-            "`reg NAME VALUE`: usbcmd, usbsts, dnctrl, crcr, dcbaap, config, iman, imod, erstsz, erstba or erdp, and a value of 16 hex digits, at most ffffffff for a register of 32 bits",
-        "db" => "`db SLOT TARGET`: two numbers of 2 hex digits",
-        "ev" => "`ev W W W W`: four words of 8 hex digits",
-        _ =>
-            "a line that begins with ring, sub, w, reg, db or ev, with one space between fields and a line feed behind",
-    }
-}
+    "`sub ID W W W W ..`: a ring's ID of 2 hex digits, and four words of 8 for each TRB";
 
 /// What a line of a plan must be that begins with this word.
 pub fn plan_line_form(first: &str) -> &'static str {
@@ -57,10 +36,10 @@ pub fn why_unfollowed(refusal: PlanRefusal) -> &'static str {
     match refusal {
         PlanRefusal::NotDeclared => "the line names another ring than the plan's",
         PlanRefusal::RingFull =>
-            "there is no room for the blocks: one place stays free, and a ret line gives places back",
-        PlanRefusal::BadDescriptor => "the blocks make no descriptor of this ring",
+            "there is no room for the TRBs: one stays free, and a ret line gives TRBs back",
+        PlanRefusal::BadDescriptor => "the TRBs make no TD of this ring",
         PlanRefusal::NotInProfile =>
-            "the blocks have a form of the standard that this program leaves out",
+            "the TRBs have a form of the standard that this program leaves out",
         PlanRefusal::NotGiven =>
             "the position is below what is retired already, or above what is enqueued",
     }
@@ -69,10 +48,6 @@ pub fn why_unfollowed(refusal: PlanRefusal) -> &'static str {
 /// What a line of a schedule may be.
 pub const STEPS: &str =
     "`row`, `look ID`, `report W W W W`, `finish W W W W`, `other W W W W` or `scrib ADDR WORD`";
-
-/// Why a certificate isn't that of its trace.
-pub const NOT_VERIFIED: &str =
-    "a row breaks a rule, which `xhcitrace check` names, or the certificate isn't the list of the trace's leases";
 
 /// Why a schedule isn't printed.
 pub const TOO_LONG: &str = "a schedule has at most 4194304 lines, and that of this trace has more";
@@ -86,5 +61,31 @@ pub fn why_no_certificate(fault: CertFault) -> &'static str {
         CertFault::Field =>
             "a lease has a kind up to 2, the ID of a ring up to 255 where it is of a ring, and an end after its first row",
         CertFault::Memory => "memory is wanted",
+    }
+}
+
+/// What a lease says; where there is none, that.
+pub fn lease_words(alloc: Global, lease: Option<Lease>) -> Result<String, AllocError> {
+    let Some(lease) = lease else {
+        return String::from_str(alloc, "none");
+    };
+    let Lease {
+        kind,
+        ring,
+        pos,
+        from,
+        to,
+    } = lease;
+    let what = match kind {
+        0 => format!(in alloc;
+            "TRB {pos} of ring {ring:02x}, counted from the first one submitted"
+        )?,
+        1 => format!(in alloc; "the Link TRB behind TRB {pos} of ring {ring:02x}")?,
+        _ => format!(in alloc; "{ring} bytes at {pos:016x}")?,
+    };
+    if to == u32::MAX {
+        format!(in alloc; "{what}, from row {from} on")
+    } else {
+        format!(in alloc; "{what}, from row {from} to row {to}")
     }
 }

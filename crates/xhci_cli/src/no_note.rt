@@ -1,0 +1,41 @@
+//! What is told of a certificate that isn't that of its trace.
+ghost use Rattle.std.specs.Prelude.{IfOk, string_bytes};
+ghost use Rattle.answers.specs.Telling.{IsNote};
+
+use answers::{Answer, Asked, note_on_leases, note_on_trace};
+use ownership_checker::{CheckFault, check};
+use ring_knowledge::Lease;
+use std::alloc::{AllocError, Global};
+use trace_reader::{ReadFault, read_trace};
+
+/// What a person is told of an answer to leases beside the text of a trace. Where the answer is no: the row that breaks a rule, or else the
+/// first lease that isn't the trace's.
+pub fn note_on_verdict(
+    alloc: Global,
+    asked: &Asked,
+    leases: &[Lease],
+    text: &[u8],
+    answer: &Answer,
+) -> Result<String, AllocError>
+    ensures { IfOk result (λ note. IsNote asked.now.explains (string_bytes note)) }
+{
+    match answer {
+        Answer::Verified { holds: false } => {}
+        _ => return note_on_trace(alloc, asked, text, answer),
+    }
+    if !asked.explains {
+        return Ok(String::new(alloc));
+    }
+    match read_trace(alloc, text) {
+        Ok(trace) => match check(alloc, &trace) {
+            Ok(own) => note_on_leases(alloc, asked, leases, &own.leases),
+            Err(CheckFault::Refused { row, refusal }) => {
+                let refused = Answer::Refused { row, refusal };
+                note_on_trace(alloc, asked, text, &refused)
+            }
+            Err(CheckFault::Memory) => Err(AllocError),
+        },
+        Err(ReadFault::Memory) => Err(AllocError),
+        Err(ReadFault::Line { .. }) => Ok(String::new(alloc)),
+    }
+}
