@@ -2,6 +2,7 @@
 use Rattle.std.proofs.Common.{◌≡◌, ℕ, ◌+◌, ◌≤◌, List, ap, ◌∙◌, refl, subst, length}
 use Rattle.std.specs.Prelude.{reverse, take}
 use Rattle.std.specs.declared.vec.Vec.{Vec}
+use Rattle.std.specs.declared.alloc.Global.{Global}
 use Rattle.traces.specs.declared.row.Row.{Row}
 use Rattle.traces.specs.declared.header.Header.{Header}
 use Rattle.ring_knowledge.specs.Known.{Known}
@@ -34,7 +35,7 @@ own_memory h k t m f = record {
 }
 
 pub stands : (h : Header) (rows : List Row) (first i number : ℕ) (kept : TraceRecord) (m : ℕ → ℕ) (book : LeaseBook) (ranges : RangeIndexes) →
-    IsProgress h rows first i number kept m book ranges → i ≡ length rows → (leases : Vec Lease) → first + length rows ≤ without_end →
+    IsProgress h rows first i number kept m book ranges → i ≡ length rows → (leases : Vec Lease Global) → first + length rows ≤ without_end →
     ((past : List Row) → first + length past ≤ without_end → FollowsLeases h first past book → leases.items ≡ leases_of h first (reverse past)) →
     IsStanding h first rows (record { kept = kept; leases = leases })
 stands h rows first i number kept m book ranges p all leases room listed =
