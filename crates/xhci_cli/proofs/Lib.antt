@@ -1,3 +1,4 @@
 pub mod Certified
 pub mod HeldAnswers
 pub mod Replayed
+pub mod Unanswered

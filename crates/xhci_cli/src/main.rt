@@ -3,7 +3,9 @@
 
 mod check_run;
 mod file_on_write;
+mod input;
 mod plan_run;
+mod reading;
 mod replay_run;
 mod schedule_run;
 mod several_run;
@@ -14,14 +16,14 @@ use check_run::run_check;
 use clap::ArgMatches;
 use command_line::{block_words, path};
 use file_on_write::FileOnWrite;
+use input::Input;
 use plan_run::run_write;
 use replay_run::run_replay;
 use schedule_run::run_schedule;
 use several_run::run_check_named;
 use std::alloc::AllocError;
 use std::env;
-use std::fs::File;
-use std::io::{self, ErrorKind, IsTerminal, Read};
+use std::io::{self, ErrorKind, IsTerminal};
 use std::process::ExitCode;
 use verify_run::run_verify;
 
@@ -162,18 +164,18 @@ fn check_each(rt: &HostRuntime, paths: &[&str], explains: bool) -> Status {
 
 /// Checks the trace in one of several files, where `-` is standard input.
 fn check_named(rt: &HostRuntime, path: &str, explains: bool) -> io::Result<Status> {
-    let alloc = rt.alloc();
     let asked = Asked {
         input: path,
         explains,
     };
-    let mut out = rt.stdout();
-    let mut err = rt.stderr();
-    if path == "-" {
-        return run_check_named(alloc, &asked, Ok(rt.stdin()), &mut out, &mut err);
-    }
-    let file = File::open(rt, path);
-    run_check_named(alloc, &asked, file, &mut out, &mut err)
+    let file = if path == "-" { None } else { Some(path) };
+    run_check_named(
+        rt.alloc(),
+        &asked,
+        Input::open(rt, file),
+        &mut rt.stdout(),
+        &mut rt.stderr(),
+    )
 }
 
 /// Checks the trace in a file, or on standard input; its certificate goes to another file, where one is named.
@@ -183,150 +185,72 @@ fn check_at(
     certificate: Option<&str>,
     explains: bool,
 ) -> Status {
-    let alloc = rt.alloc();
     let mut kept = match certificate {
         Some(path) => Some(FileOnWrite::new(rt, path)),
         None => None,
     };
-    let mut out = rt.stdout();
-    let mut err = rt.stderr();
-    let input = path.unwrap_or("standard input");
-    let asked = Asked { input, explains };
-    match path {
-        Some(path) => match File::open(rt, path) {
-            Ok(mut file) => run_check(alloc, &asked, &mut file, &mut kept, &mut out, &mut err),
-            Err(error) => tell_failure(alloc, &asked, error, &mut out, &mut err),
-        },
-        None => run_check(
-            alloc,
-            &asked,
-            &mut rt.stdin(),
-            &mut kept,
-            &mut out,
-            &mut err,
-        ),
-    }
+    run_check(
+        rt.alloc(),
+        &asked(path, explains),
+        Input::open(rt, path),
+        &mut kept,
+        &mut rt.stdout(),
+        &mut rt.stderr(),
+    )
 }
 
 /// Writes the trace of the plan in a file, or on standard input.
 fn write_at(rt: &HostRuntime, path: Option<&str>, explains: bool) -> Status {
-    let alloc = rt.alloc();
-    let mut out = rt.stdout();
-    let mut err = rt.stderr();
-    let input = path.unwrap_or("standard input");
-    let asked = Asked { input, explains };
-    match path {
-        Some(path) => match File::open(rt, path) {
-            Ok(mut file) => run_write(alloc, &asked, &mut file, &mut out, &mut err),
-            Err(error) => tell_failure(alloc, &asked, error, &mut out, &mut err),
-        },
-        None => run_write(alloc, &asked, &mut rt.stdin(), &mut out, &mut err),
-    }
+    run_write(
+        rt.alloc(),
+        &asked(path, explains),
+        Input::open(rt, path),
+        &mut rt.stdout(),
+        &mut rt.stderr(),
+    )
 }
 
 /// Writes the lazy schedule of the trace in a file, or on standard input.
 fn schedule_at(rt: &HostRuntime, path: Option<&str>, explains: bool) -> Status {
-    let alloc = rt.alloc();
-    let mut out = rt.stdout();
-    let mut err = rt.stderr();
-    let input = path.unwrap_or("standard input");
-    let asked = Asked { input, explains };
-    match path {
-        Some(path) => match File::open(rt, path) {
-            Ok(mut file) => run_schedule(alloc, &asked, &mut file, &mut out, &mut err),
-            Err(error) => tell_failure(alloc, &asked, error, &mut out, &mut err),
-        },
-        None => run_schedule(alloc, &asked, &mut rt.stdin(), &mut out, &mut err),
-    }
+    run_schedule(
+        rt.alloc(),
+        &asked(path, explains),
+        Input::open(rt, path),
+        &mut rt.stdout(),
+        &mut rt.stderr(),
+    )
 }
 
-/// Verifies the certificate in one file, which is read first, beside the trace in another; one of them may be standard input.
+/// Verifies the certificate in one file beside the trace in another; one of them may be standard input.
 fn verify_at(rt: &HostRuntime, matches: &ArgMatches, explains: bool) -> Status {
-    let certificate = path(matches, "CERT");
-    let input = path(matches, "TRACE").unwrap_or("standard input");
-    let asked = Asked { input, explains };
-    match certificate {
-        Some(certificate) => match File::open(rt, certificate) {
-            Ok(mut file) => verify_with(rt, matches, &asked, &mut file),
-            Err(error) => {
-                let opened = Asked {
-                    input: certificate,
-                    explains,
-                };
-                tell_failure(
-                    rt.alloc(),
-                    &opened,
-                    error,
-                    &mut rt.stdout(),
-                    &mut rt.stderr(),
-                )
-            }
-        },
-        None => verify_with(rt, matches, &asked, &mut rt.stdin()),
-    }
-}
-
-/// Verifies the certificate that an input holds beside the trace in a file, or on standard input.
-fn verify_with<R: Read>(
-    rt: &HostRuntime,
-    matches: &ArgMatches,
-    asked: &Asked,
-    certificate: &mut R,
-) -> Status {
-    let alloc = rt.alloc();
-    let mut out = rt.stdout();
-    let mut err = rt.stderr();
-    match path(matches, "TRACE") {
-        Some(path) => {
-            let trace = File::open(rt, path);
-            run_verify(alloc, asked, certificate, trace, &mut out, &mut err)
-        }
-        None => run_verify(
-            alloc,
-            asked,
-            certificate,
-            Ok(rt.stdin()),
-            &mut out,
-            &mut err,
-        ),
-    }
+    let trace = path(matches, "TRACE");
+    run_verify(
+        rt.alloc(),
+        &asked(trace, explains),
+        Input::open(rt, path(matches, "CERT")),
+        Input::open(rt, trace),
+        &mut rt.stdout(),
+        &mut rt.stderr(),
+    )
 }
 
 /// Replays the schedule in one file beside the trace in another; one of them may be standard input.
 fn replay_at(rt: &HostRuntime, matches: &ArgMatches, explains: bool) -> Status {
     let trace = path(matches, "TRACE");
-    let input = trace.unwrap_or("standard input");
-    let asked = Asked { input, explains };
-    match trace {
-        Some(trace) => match File::open(rt, trace) {
-            Ok(mut file) => replay_with(rt, matches, &asked, &mut file),
-            Err(error) => tell_failure(
-                rt.alloc(),
-                &asked,
-                error,
-                &mut rt.stdout(),
-                &mut rt.stderr(),
-            ),
-        },
-        None => replay_with(rt, matches, &asked, &mut rt.stdin()),
-    }
+    run_replay(
+        rt.alloc(),
+        &asked(trace, explains),
+        Input::open(rt, trace),
+        Input::open(rt, path(matches, "SCHEDULE")),
+        &mut rt.stdout(),
+        &mut rt.stderr(),
+    )
 }
 
-/// Replays the schedule in a file, or on standard input, beside the trace that an input holds.
-fn replay_with<R: Read>(
-    rt: &HostRuntime,
-    matches: &ArgMatches,
-    asked: &Asked,
-    trace: &mut R,
-) -> Status {
-    let alloc = rt.alloc();
-    let mut out = rt.stdout();
-    let mut err = rt.stderr();
-    match path(matches, "SCHEDULE") {
-        Some(path) => {
-            let schedule = File::open(rt, path);
-            run_replay(alloc, asked, trace, schedule, &mut out, &mut err)
-        }
-        None => run_replay(alloc, asked, trace, Ok(rt.stdin()), &mut out, &mut err),
+/// How a command's input is called in messages, and whether it explains.
+fn asked(path: Option<&str>, explains: bool) -> Asked<'_> {
+    Asked {
+        input: path.unwrap_or("standard input"),
+        explains,
     }
 }

@@ -1,10 +1,11 @@
 //! Replays a schedule beside a trace, and writes the answer.
-ghost use Rattle.std.specs.Prelude.{Some, ◌≡◌, false, true};
+ghost use Rattle.std.specs.Prelude.{Some, ◌≡◌, false, true, IsErr};
 ghost use Rattle.answers.specs.Answers.{goes_out};
 ghost use Rattle.answers.specs.Inputs.{opened};
 ghost use Rattle.xhci_cli.specs.ReplayAnswers.{IsReplayAnswer, IsReplayBeside, IsReplayed};
 ghost use Rattle.answers.specs.Telling.{IsTold};
 
+use crate::reading::bytes_of;
 use answers::{
     Answer, Asked, ReplayEnd, Status, note_on_schedule, note_on_trace, tell, tell_failure,
 };
@@ -16,22 +17,27 @@ use traces::{Schedule, Trace};
 
 /// Replays the schedule that `schedule` holds beside the trace that `trace` holds, which is read first. The takes go to `out`,
 /// and how the replay ends; what hinders it to `err`.
-pub fn run_replay<R: Read, S: Read + Drop, O: Write, E: Write>(
+pub fn run_replay<R: Read + Drop, S: Read + Drop, O: Write, E: Write>(
     alloc: Global,
     asked: &Asked,
-    trace: &mut R,
+    trace: io::Result<R>,
     schedule: io::Result<S>,
     out: &mut O,
     err: &mut E,
 ) -> Status
-    ensures told { (answer : Answer) × IsReplayAnswer (R.remaining trace.old) (opened S.remaining schedule) answer
+    ensures told { (answer : Answer) × IsReplayAnswer (opened R.remaining trace) (opened S.remaining schedule) answer
         × IsTold asked.now.explains answer result (O.contents out.old) (O.contents out.new) (E.contents err.old) (E.contents err.new) }
+    ensures out { result ≡ Status.Unreadable → out.new ≡ out.old }
     ensures err { asked.now.explains ≡ false → goes_out result ≡ true → err.new ≡ err.old }
+    ensures untraced { IsErr trace → out.new ≡ out.old }
+    ensures unstarted { IsErr trace → goes_out result ≡ false }
+    ensures unopened { IsErr schedule → out.new ≡ out.old }
+    ensures unanswered { IsErr schedule → goes_out result ≡ false }
 {
-    let mut text = Vec::new(alloc);
-    if let Err(error) = trace.read_to_end(&mut text) {
-        return tell_failure(alloc, asked, error, out, err);
-    }
+    let text = match bytes_of(alloc, trace) {
+        Ok(text) => text,
+        Err(error) => return tell_failure(alloc, asked, error, out, err),
+    };
     match read_trace(alloc, &text) {
         Ok(trace) => run_beside(alloc, asked, &trace, schedule, out, err),
         Err(fault) => {
@@ -53,24 +59,24 @@ fn run_beside<S: Read + Drop, O: Write, E: Write>(
 ) -> Status
     ensures told { (answer : Answer) × IsReplayBeside trace.now (opened S.remaining schedule) answer
         × IsTold asked.now.explains answer result (O.contents out.old) (O.contents out.new) (E.contents err.old) (E.contents err.new) }
+    ensures out { result ≡ Status.Unreadable → out.new ≡ out.old }
     ensures err { asked.now.explains ≡ false → goes_out result ≡ true → err.new ≡ err.old }
+    ensures unopened { IsErr schedule → out.new ≡ out.old }
+    ensures unanswered { IsErr schedule → goes_out result ≡ false }
 {
-    let named = Asked {
-        input: "the schedule",
-        explains: asked.explains,
-    };
-    let mut schedule = match schedule {
-        Ok(schedule) => schedule,
-        Err(error) => return tell_failure(alloc, &named, error, out, err),
-    };
-    let mut text = Vec::new(alloc);
-    match schedule.read_to_end(&mut text) {
-        Ok(_) => {
+    match bytes_of(alloc, schedule) {
+        Ok(text) => {
             let answer = replay_answer(alloc, trace, &text);
             let note = note_on_schedule(alloc, asked, &text, &answer);
             tell(alloc, asked.explains, answer, note, out, err)
         }
-        Err(error) => tell_failure(alloc, &named, error, out, err),
+        Err(error) => {
+            let named = Asked {
+                input: "the schedule",
+                explains: asked.explains,
+            };
+            tell_failure(alloc, &named, error, out, err)
+        }
     }
 }
 

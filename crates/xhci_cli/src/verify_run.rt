@@ -1,10 +1,11 @@
 //! Verifies a certificate beside a trace, and writes the answer.
-ghost use Rattle.std.specs.Prelude.{Some, ◌≡◌, false, true};
+ghost use Rattle.std.specs.Prelude.{Some, ◌≡◌, false, true, IsErr};
 ghost use Rattle.answers.specs.Answers.{goes_out};
 ghost use Rattle.answers.specs.Inputs.{opened};
 ghost use Rattle.answers.specs.Telling.{IsTold};
 ghost use Rattle.xhci_cli.specs.VerifyAnswers.{IsVerdictBeside, IsVerdictOn, IsVerifyAnswer};
 
+use crate::reading::bytes_of;
 use answers::{Answer, Asked, Status, note_on_certificate, note_on_trace, tell, tell_failure};
 use certificate::decode;
 use ring_knowledge::Lease;
@@ -16,27 +17,33 @@ use verifier::verify;
 
 /// Verifies the certificate that `certificate` holds, which is read first, beside the trace that `trace` holds. `yes` or `no` goes to
 /// `out`, and what hinders it to `err`.
-pub fn run_verify<C: Read, R: Read + Drop, O: Write, E: Write>(
+pub fn run_verify<C: Read + Drop, R: Read + Drop, O: Write, E: Write>(
     alloc: Global,
     asked: &Asked,
-    certificate: &mut C,
+    certificate: io::Result<C>,
     trace: io::Result<R>,
     out: &mut O,
     err: &mut E,
 ) -> Status
-    ensures told { (answer : Answer) × IsVerifyAnswer (C.remaining certificate.old) (opened R.remaining trace) answer
+    ensures told { (answer : Answer) × IsVerifyAnswer (opened C.remaining certificate) (opened R.remaining trace) answer
         × IsTold asked.now.explains answer result (O.contents out.old) (O.contents out.new) (E.contents err.old) (E.contents err.new) }
     ensures out { result ≡ Status.Unreadable → out.new ≡ out.old }
     ensures err { asked.now.explains ≡ false → goes_out result ≡ true → err.new ≡ err.old }
+    ensures uncertified { IsErr certificate → out.new ≡ out.old }
+    ensures unverified { IsErr certificate → goes_out result ≡ false }
+    ensures unopened { IsErr trace → out.new ≡ out.old }
+    ensures unanswered { IsErr trace → goes_out result ≡ false }
 {
-    let mut bytes = Vec::new(alloc);
-    if let Err(error) = certificate.read_to_end(&mut bytes) {
-        let read = Asked {
-            input: "the certificate",
-            explains: asked.explains,
-        };
-        return tell_failure(alloc, &read, error, out, err);
-    }
+    let bytes = match bytes_of(alloc, certificate) {
+        Ok(bytes) => bytes,
+        Err(error) => {
+            let read = Asked {
+                input: "the certificate",
+                explains: asked.explains,
+            };
+            return tell_failure(alloc, &read, error, out, err);
+        }
+    };
     match decode(alloc, &bytes) {
         Ok(leases) => verify_beside(alloc, asked, &leases, trace, out, err),
         Err(fault) => {
@@ -60,14 +67,11 @@ fn verify_beside<R: Read + Drop, O: Write, E: Write>(
         × IsTold asked.now.explains answer result (O.contents out.old) (O.contents out.new) (E.contents err.old) (E.contents err.new) }
     ensures out { result ≡ Status.Unreadable → out.new ≡ out.old }
     ensures err { asked.now.explains ≡ false → goes_out result ≡ true → err.new ≡ err.old }
+    ensures unopened { IsErr trace → out.new ≡ out.old }
+    ensures unanswered { IsErr trace → goes_out result ≡ false }
 {
-    let mut trace = match trace {
-        Ok(trace) => trace,
-        Err(error) => return tell_failure(alloc, asked, error, out, err),
-    };
-    let mut text = Vec::new(alloc);
-    match trace.read_to_end(&mut text) {
-        Ok(_) => {
+    match bytes_of(alloc, trace) {
+        Ok(text) => {
             let answer = verify_answer(alloc, leases, &text);
             let note = note_on_trace(alloc, asked, &text, &answer);
             tell(alloc, asked.explains, answer, note, out, err)
