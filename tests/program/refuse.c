@@ -1,4 +1,5 @@
-/* Laid under the program (LD_PRELOAD), refuses one call: REFUSE=CALL:N, where CALL is malloc, open, read or write and N counts from 1.
+/* Laid under the program (LD_PRELOAD), refuses one call: REFUSE=CALL:N, where CALL is malloc, open, read, write or close and N counts from 1.
+   Of close those of files that the program creates are counted; they are closed all the same.
    CALL may also be shortread or shortwrite: then each call moves one byte at most. COUNTS=FILE writes how many calls of each kind
    there were. */
 #define _GNU_SOURCE
@@ -14,7 +15,8 @@
 extern void *__libc_malloc(size_t);
 extern void *__libc_realloc(void *, size_t);
 
-static long mallocs, opens, reads, writes;
+static long mallocs, opens, reads, writes, closes;
+static int created = -1;
 
 static int is_refused(const char *call, long number) {
   const char *refuse = getenv("REFUSE");
@@ -43,7 +45,17 @@ int open(const char *path, int flags, ...) {
   int mode = va_arg(rest, int);
   va_end(rest);
   if (is_refused("open", ++opens)) { errno = EACCES; return -1; }
-  return syscall(SYS_openat, AT_FDCWD, path, flags, mode);
+  int fd = syscall(SYS_openat, AT_FDCWD, path, flags, mode);
+  if (fd >= 0 && (flags & O_CREAT)) created = fd;
+  return fd;
+}
+
+int close(int fd) {
+  int status = syscall(SYS_close, fd);
+  if (fd != created) return status;
+  created = -1;
+  if (is_refused("close", ++closes)) { errno = EIO; return -1; }
+  return status;
 }
 
 ssize_t read(int fd, void *to, size_t size) {
@@ -61,7 +73,7 @@ ssize_t __write(int fd, const void *from, size_t size) { return write(fd, from, 
 __attribute__((destructor)) static void count(void) {
   const char *path = getenv("COUNTS");
   char text[128];
-  int length = snprintf(text, sizeof text, "%ld %ld %ld %ld", mallocs, opens, reads, writes);
+  int length = snprintf(text, sizeof text, "%ld %ld %ld %ld %ld", mallocs, opens, reads, writes, closes);
   int fd = path ? syscall(SYS_openat, AT_FDCWD, path, O_WRONLY | O_CREAT | O_TRUNC, 0600) : -1;
   if (fd >= 0) { syscall(SYS_write, fd, text, length); syscall(SYS_close, fd); }
 }

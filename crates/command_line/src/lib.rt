@@ -170,12 +170,9 @@ pub fn not_text(alloc: Global) -> Result<Error, AllocError> {
     command(alloc)?.error(ErrorKind::InvalidValue, "an argument isn't UTF-8")
 }
 
-/// What is told where the certificate of several traces is asked for.
-pub fn one_certificate(alloc: Global) -> Result<Error, AllocError> {
-    command(alloc)?.error(
-        ErrorKind::ArgumentConflict,
-        "--cert writes the certificate of one trace, and several are named",
-    )
+/// What is told of arguments that are right one by one, and not together.
+pub fn clash(alloc: Global, why: &str) -> Result<Error, AllocError> {
+    command(alloc)?.error(ErrorKind::ArgumentConflict, why)
 }
 
 fn file<'a>(alloc: Global, name: &'a str, help: &'a str) -> Arg<'a> {

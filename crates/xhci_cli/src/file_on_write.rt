@@ -1,13 +1,21 @@
 //! A file that stands only where something was written to it.
 use std::fs::File;
-use std::io::{self, Write};
+use std::io::{self, Error, ErrorKind, Write};
+use std::os::fd::IntoRawFd;
 
-/// A file that the first write creates, or empties where there is one.
+/// A file that the first write creates, or empties where there is one, and a flush closes.
 #[derive(Drop)]
 pub struct FileOnWrite<'a> {
     rt: &'a HostRuntime,
     path: &'a str,
-    file: Option<File>,
+    state: State,
+}
+
+#[derive(Drop)]
+enum State {
+    Untouched,
+    Open(File),
+    Closed,
 }
 
 impl<'a> FileOnWrite<'a> {
@@ -16,26 +24,37 @@ impl<'a> FileOnWrite<'a> {
         FileOnWrite {
             rt,
             path,
-            file: None,
+            state: State::Untouched,
         }
     }
 }
 
 impl<'a> Write for FileOnWrite<'a> {
     fn write(&mut self, buf: &[u8]) -> io::Result<usize> {
-        if let Some(file) = &mut self.file {
-            return file.write(buf);
+        match &mut self.state {
+            State::Open(file) => return file.write(buf),
+            State::Closed => return Err(ErrorKind::BrokenPipe.into()),
+            State::Untouched => {}
         }
         let mut file = File::create(self.rt, self.path)?;
         let written = file.write(buf);
-        self.file = Some(file);
+        self.state = State::Open(file);
         written
     }
 
     fn flush(&mut self) -> io::Result<()> {
-        match &mut self.file {
-            Some(file) => file.flush(),
-            None => Ok(()),
+        match std::mem::replace(&mut self.state, State::Closed) {
+            State::Open(file) => close(file),
+            State::Untouched | State::Closed => Ok(()),
         }
+    }
+}
+
+/// Closes a file. Only that may tell that what was written couldn't be kept.
+fn close(file: File) -> io::Result<()> {
+    if libc::close(file.into_raw_fd()) == 0 {
+        Ok(())
+    } else {
+        Err(Error::from_raw_os_error(os::errno()))
     }
 }

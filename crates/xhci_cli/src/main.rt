@@ -1,6 +1,7 @@
 //! `xhcitrace`: checks recorded traces of USB host controller drivers.
 #![tactic(auto)]
 
+mod arguments;
 mod check_run;
 mod file_on_write;
 mod input;
@@ -9,9 +10,11 @@ mod reading;
 mod replay_run;
 mod schedule_run;
 mod several_run;
+mod streams;
 mod verify_run;
 
 use answers::{Asked, Status, run_decode, tell_failure};
+use arguments::{clash, paths};
 use check_run::run_check;
 use clap::ArgMatches;
 use command_line::{block_words, path};
@@ -25,26 +28,33 @@ use std::alloc::AllocError;
 use std::env;
 use std::io::{self, ErrorKind, IsTerminal};
 use std::process::ExitCode;
+use streams::{NULL, hold_streams};
 use verify_run::run_verify;
 
 fn main(rt: HostRuntime) -> ExitCode {
+    if let Err(error) = hold_streams(&rt) {
+        return failed(&rt, NULL, error);
+    }
     match obey(&rt) {
         Ok(code) => code,
-        Err(error) => {
-            let asked = Asked {
-                input: "the command line",
-                explains: rt.stderr().is_terminal(),
-            };
-            let status = tell_failure(
-                rt.alloc(),
-                &asked,
-                error,
-                &mut rt.stdout(),
-                &mut rt.stderr(),
-            );
-            ExitCode::from(status.number())
-        }
+        Err(error) => failed(&rt, "the command line", error),
     }
+}
+
+/// Tells why the program couldn't begin.
+fn failed(rt: &HostRuntime, input: &str, error: io::Error) -> ExitCode {
+    let asked = Asked {
+        input,
+        explains: rt.stderr().is_terminal(),
+    };
+    let status = tell_failure(
+        rt.alloc(),
+        &asked,
+        error,
+        &mut rt.stdout(),
+        &mut rt.stderr(),
+    );
+    ExitCode::from(status.number())
 }
 
 /// Does what the command line says.
@@ -59,12 +69,10 @@ fn obey(rt: &HostRuntime) -> io::Result<ExitCode> {
         Err(error) => return Err(error),
     };
     match command_line::command(alloc)?.try_get_matches_from(words.as_slice()) {
-        Ok(matches) => {
-            if wants_certificate_of_several(&matches) {
-                return usage(rt, command_line::one_certificate(alloc)?);
-            }
-            Ok(ExitCode::from(status_of(rt, &matches).number()))
-        }
+        Ok(matches) => match clash(rt, &matches)? {
+            Some(why) => usage(rt, command_line::clash(alloc, why)?),
+            None => Ok(ExitCode::from(status_of(rt, &matches).number())),
+        },
         Err(error) => usage(rt, error),
     }
 }
@@ -113,19 +121,6 @@ fn status_of(rt: &HostRuntime, matches: &ArgMatches) -> Status {
 /// What is wrong is told in plain words too: where that is asked for, or a person reads it.
 fn explains(rt: &HostRuntime, matches: &ArgMatches) -> bool {
     matches.get_flag("explain") || rt.stderr().is_terminal()
-}
-
-/// Whether a certificate is asked for, and several traces are named.
-fn wants_certificate_of_several(matches: &ArgMatches) -> bool {
-    match matches.subcommand_matches("check") {
-        Some(check) => check.contains_id("cert") && paths(check).len() > 1,
-        None => false,
-    }
-}
-
-/// The files of the traces that are to be checked.
-fn paths<'a>(check: &'a ArgMatches<'_>) -> &'a [&'a str] {
-    check.get_strs("TRACE").unwrap_or(&[])
 }
 
 /// Checks a trace, or each of several ones.
@@ -221,27 +216,27 @@ fn schedule_at(rt: &HostRuntime, path: Option<&str>, explains: bool) -> Status {
     )
 }
 
-/// Verifies the certificate in one file beside the trace in another; one of them may be standard input.
+/// Verifies the certificate in one file, which is opened first, beside the trace in another; one of them may be standard input.
 fn verify_at(rt: &HostRuntime, matches: &ArgMatches, explains: bool) -> Status {
     let trace = path(matches, "TRACE");
     run_verify(
         rt.alloc(),
         &asked(trace, explains),
         Input::open(rt, path(matches, "CERT")),
-        Input::open(rt, trace),
+        || Input::open(rt, trace),
         &mut rt.stdout(),
         &mut rt.stderr(),
     )
 }
 
-/// Replays the schedule in one file beside the trace in another; one of them may be standard input.
+/// Replays the schedule in one file, which is opened behind it, beside the trace in another; one of them may be standard input.
 fn replay_at(rt: &HostRuntime, matches: &ArgMatches, explains: bool) -> Status {
     let trace = path(matches, "TRACE");
     run_replay(
         rt.alloc(),
         &asked(trace, explains),
         Input::open(rt, trace),
-        Input::open(rt, path(matches, "SCHEDULE")),
+        || Input::open(rt, path(matches, "SCHEDULE")),
         &mut rt.stdout(),
         &mut rt.stderr(),
     )

@@ -1,7 +1,7 @@
 //! Replays a schedule beside a trace, and writes the answer.
 ghost use Rattle.std.specs.Prelude.{Some, ◌≡◌, false, true, IsErr};
 ghost use Rattle.answers.specs.Answers.{goes_out};
-ghost use Rattle.answers.specs.Inputs.{opened};
+ghost use Rattle.answers.specs.Inputs.{IsUnread, opened};
 ghost use Rattle.xhci_cli.specs.ReplayAnswers.{IsReplayAnswer, IsReplayBeside, IsReplayed};
 ghost use Rattle.answers.specs.Telling.{IsTold};
 
@@ -15,31 +15,37 @@ use std::io::{self, Read, Write};
 use trace_reader::{read_schedule, read_trace};
 use traces::{Schedule, Trace};
 
-/// Replays the schedule that `schedule` holds beside the trace that `trace` holds, which is read first. The takes go to `out`,
-/// and how the replay ends; what hinders it to `err`.
-pub fn run_replay<R: Read + Drop, S: Read + Drop, O: Write, E: Write>(
+/// Replays the schedule of the input that `open_schedule` opens beside the trace that `trace` holds, once the trace was read; where
+/// it is none, the schedule isn't opened. The takes go to `out`, and how the replay ends; what hinders it to `err`.
+pub fn run_replay<R, S, F, O: Write, E: Write>(
     alloc: Global,
     asked: &Asked,
     trace: io::Result<R>,
-    schedule: io::Result<S>,
+    open_schedule: F,
     out: &mut O,
     err: &mut E,
 ) -> Status
-    ensures told { (answer : Answer) × IsReplayAnswer (opened R.remaining trace) (opened S.remaining schedule) answer
+where
+    R: Read + Drop,
+    S: Read + Drop,
+    F: FnOnce() -> io::Result<S> + Drop,
+    requires { F.pre open_schedule }
+    ensures told { (answer : Answer) × (IsUnread (opened R.remaining trace) answer
+        ⊎ ((schedule : _) × F.post open_schedule schedule × IsReplayAnswer (opened R.remaining trace) (opened S.remaining schedule) answer))
         × IsTold asked.now.explains answer result (O.contents out.old) (O.contents out.new) (E.contents err.old) (E.contents err.new) }
     ensures out { result ≡ Status.Unreadable → out.new ≡ out.old }
     ensures err { asked.now.explains ≡ false → goes_out result ≡ true → err.new ≡ err.old }
     ensures untraced { IsErr trace → out.new ≡ out.old }
     ensures unstarted { IsErr trace → goes_out result ≡ false }
-    ensures unopened { IsErr schedule → out.new ≡ out.old }
-    ensures unanswered { IsErr schedule → goes_out result ≡ false }
+    ensures unopened { ((schedule : _) → F.post open_schedule schedule → IsErr schedule) → out.new ≡ out.old }
+    ensures unanswered { ((schedule : _) → F.post open_schedule schedule → IsErr schedule) → goes_out result ≡ false }
 {
     let text = match bytes_of(alloc, trace) {
         Ok(text) => text,
         Err(error) => return tell_failure(alloc, asked, error, out, err),
     };
     match read_trace(alloc, &text) {
-        Ok(trace) => run_beside(alloc, asked, &trace, schedule, out, err),
+        Ok(trace) => run_beside(alloc, asked, &trace, open_schedule(), out, err),
         Err(fault) => {
             let answer = Answer::from(fault);
             let note = note_on_trace(alloc, asked, &text, &answer);

@@ -3,7 +3,7 @@ ghost use Rattle.std.specs.Prelude.{Some, ◌≡◌, false, true, IsErr};
 ghost use Rattle.answers.specs.Answers.{goes_out};
 ghost use Rattle.answers.specs.Inputs.{opened};
 ghost use Rattle.answers.specs.Telling.{IsTold};
-ghost use Rattle.xhci_cli.specs.VerifyAnswers.{IsVerdictBeside, IsVerdictOn, IsVerifyAnswer};
+ghost use Rattle.xhci_cli.specs.VerifyAnswers.{IsUncertified, IsVerdictBeside, IsVerdictOn, IsVerifyAnswer};
 
 use crate::reading::bytes_of;
 use answers::{Answer, Asked, Status, note_on_certificate, note_on_trace, tell, tell_failure};
@@ -15,24 +15,30 @@ use trace_reader::read_trace;
 use traces::Trace;
 use verifier::verify;
 
-/// Verifies the certificate that `certificate` holds, which is read first, beside the trace that `trace` holds. `yes` or `no` goes to
-/// `out`, and what hinders it to `err`.
-pub fn run_verify<C: Read + Drop, R: Read + Drop, O: Write, E: Write>(
+/// Verifies the certificate that `certificate` holds beside the trace of the input that `open_trace` opens, once the certificate was
+/// read; where it is none, the trace isn't opened. `yes` or `no` goes to `out`, and what hinders it to `err`.
+pub fn run_verify<C, R, F, O: Write, E: Write>(
     alloc: Global,
     asked: &Asked,
     certificate: io::Result<C>,
-    trace: io::Result<R>,
+    open_trace: F,
     out: &mut O,
     err: &mut E,
 ) -> Status
-    ensures told { (answer : Answer) × IsVerifyAnswer (opened C.remaining certificate) (opened R.remaining trace) answer
+where
+    C: Read + Drop,
+    R: Read + Drop,
+    F: FnOnce() -> io::Result<R> + Drop,
+    requires { F.pre open_trace }
+    ensures told { (answer : Answer) × (IsUncertified (opened C.remaining certificate) answer
+        ⊎ ((trace : _) × F.post open_trace trace × IsVerifyAnswer (opened C.remaining certificate) (opened R.remaining trace) answer))
         × IsTold asked.now.explains answer result (O.contents out.old) (O.contents out.new) (E.contents err.old) (E.contents err.new) }
     ensures out { result ≡ Status.Unreadable → out.new ≡ out.old }
     ensures err { asked.now.explains ≡ false → goes_out result ≡ true → err.new ≡ err.old }
     ensures uncertified { IsErr certificate → out.new ≡ out.old }
     ensures unverified { IsErr certificate → goes_out result ≡ false }
-    ensures unopened { IsErr trace → out.new ≡ out.old }
-    ensures unanswered { IsErr trace → goes_out result ≡ false }
+    ensures unopened { ((trace : _) → F.post open_trace trace → IsErr trace) → out.new ≡ out.old }
+    ensures unanswered { ((trace : _) → F.post open_trace trace → IsErr trace) → goes_out result ≡ false }
 {
     let bytes = match bytes_of(alloc, certificate) {
         Ok(bytes) => bytes,
@@ -45,7 +51,7 @@ pub fn run_verify<C: Read + Drop, R: Read + Drop, O: Write, E: Write>(
         }
     };
     match decode(alloc, &bytes) {
-        Ok(leases) => verify_beside(alloc, asked, &leases, trace, out, err),
+        Ok(leases) => verify_beside(alloc, asked, &leases, open_trace(), out, err),
         Err(fault) => {
             let answer = Answer::from(fault);
             let note = note_on_certificate(alloc, asked, &answer);
