@@ -11,6 +11,8 @@ mod context_fields;
 #[cfg(test)]
 mod enqueues;
 #[cfg(test)]
+mod events;
+#[cfg(test)]
 mod lazy;
 #[cfg(test)]
 mod memory;
