@@ -1,4 +1,4 @@
-/* Laid under the program (LD_PRELOAD), refuses one call: REFUSE=CALL:N, where CALL is malloc, open, read or write and N counts from 1.
+/* Laid under the program (LD_PRELOAD), refuses one call: REFUSE=CALL:N, where CALL is malloc, open, read, write or sync and N counts from 1.
    CALL may also be shortread or shortwrite: then each call moves one byte at most. COUNTS=FILE writes how many calls of each kind
    there were. */
 #define _GNU_SOURCE
@@ -14,7 +14,7 @@
 extern void *__libc_malloc(size_t);
 extern void *__libc_realloc(void *, size_t);
 
-static long mallocs, opens, reads, writes;
+static long mallocs, opens, reads, writes, syncs;
 
 static int is_refused(const char *call, long number) {
   const char *refuse = getenv("REFUSE");
@@ -58,10 +58,15 @@ ssize_t write(int fd, const void *from, size_t size) {
 
 ssize_t __write(int fd, const void *from, size_t size) { return write(fd, from, size); }
 
+int fsync(int fd) {
+  if (is_refused("sync", ++syncs)) { errno = EIO; return -1; }
+  return syscall(SYS_fsync, fd);
+}
+
 __attribute__((destructor)) static void count(void) {
   const char *path = getenv("COUNTS");
   char text[128];
-  int length = snprintf(text, sizeof text, "%ld %ld %ld %ld", mallocs, opens, reads, writes);
+  int length = snprintf(text, sizeof text, "%ld %ld %ld %ld %ld", mallocs, opens, reads, writes, syncs);
   int fd = path ? syscall(SYS_openat, AT_FDCWD, path, O_WRONLY | O_CREAT | O_TRUNC, 0600) : -1;
   if (fd >= 0) { syscall(SYS_write, fd, text, length); syscall(SYS_close, fd); }
 }

@@ -4,19 +4,19 @@ _xhcitrace() {
   local options
   COMPREPLY=()
   if [ "$COMP_CWORD" -eq 1 ]; then
-    mapfile -t COMPREPLY < <(compgen -W 'check verify schedule replay write decode explain help --help --version -h -V' -- "$word")
+    mapfile -t COMPREPLY < <(compgen -W 'check verify schedule replay show write decode explain help --help --version -h -V' -- "$word")
     return
   fi
   case $command in
-    check) options='--cert --explain --help -h' ;;
-    verify | schedule | replay | write | decode) options='--explain --help -h' ;;
+    check) options='--cert --show --search --explain --help -h' ;;
+    verify | schedule | replay | show | write | decode) options='--explain --help -h' ;;
     explain)
       mapfile -t COMPREPLY < <(compgen -W '10 11 12 13 14 15 16 17 18 19 20 21 22 23 24 25 WriteToOwned NotAsSubmitted NotDeclared NotWhole
         LinkFault RingFull BadDescriptor BadRegister BadDoorbell BadCommand Busy ImpossibleEvent BadErdp NotInProfile AfterStop BadMove
         --help -h' -- "$word")
       return ;;
     help)
-      mapfile -t COMPREPLY < <(compgen -W 'check verify schedule replay write decode explain help' -- "$word")
+      mapfile -t COMPREPLY < <(compgen -W 'check verify schedule replay show write decode explain help' -- "$word")
       return ;;
     *) return ;;
   esac

@@ -128,7 +128,8 @@ class Conversion:
         reader, notes = self.reader, []
         why = reader.fault or why or (None if reader.ended else 'QEMU did not end by itself')
         if why:
-            notes.append(f'the recording ends after store number {reader.count:x}, line {reader.number + 1} of the log: {why}')
+            count, line = reader.end
+            notes.append(f'the recording ends after store number {count:x}, line {line} of the log: {why}')
         if reader.lost:
             notes.append(f"{reader.lost} of the plugin's lines are missing in the log: don't trust this trace")
         return notes

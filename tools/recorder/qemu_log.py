@@ -4,6 +4,9 @@ Each item has a key: the plugin's count of stores, then what comes first at that
 their keys, but for stores that are remembered when a page comes to be watched. What QEMU does for a store to a register stands in
 the log before that store's own line, and is given its count. What QEMU's main loop does is only known to lie between two stores to
 registers.
+
+A log may break off while the plugin still tells of a store to a register, or of a page that comes to be watched and of what is
+remembered of it. Half of that would be wrong, so the recording ends before it.
 """
 import re
 from collections import namedtuple
@@ -52,7 +55,10 @@ def words_of(parameter, status, control):
 
 
 class LogReader:
-    """`items` yields what happened, up to the first line that isn't understood; then `fault` says why it ended there."""
+    """`items` yields what happened, up to the first line that isn't understood; then `fault` says why it ended there.
+
+    `end` is where the recording ends: the greatest count, and how many lines of the log were taken.
+    """
 
     def __init__(self):
         self.context_size = 32
@@ -63,18 +69,38 @@ class LogReader:
         self.number = self.said = 0  # lines so far, and those of the plugin
         self.waiting = []    # trace lines from a register write on, until the line of its store
         self.found = []      # words found, until the remembered stores to their page are told
+        self.in_page = False # whether the plugin may still tell of a page that comes to be watched
+        self.end = (0, 0)
 
     def items(self, lines):
+        held = []  # what may not be told to its end yet
         for self.number, line in enumerate(lines):
+            self.in_page = self.in_page and not self.is_after_page(line)
+            if self.is_told():
+                yield from held
+                held, self.end = [], (self.count, self.number)
             try:
-                yield from self.line(self.number, line)
+                held += self.line(self.number, line)
             except (ValueError, TypeError, IndexError, KeyError):
                 self.fault = f'line {self.number + 1} of the log is not understood: {line.strip()[:200]}'
             if self.fault:
                 break
-        yield from self.all_found()
-        for number, make in self.waiting:
-            yield make(key_of(self.count, LATER, number))
+        if self.ended or self.is_told():
+            yield from held + self.all_found()
+            for number, make in self.waiting:
+                yield make(key_of(self.count, LATER, number))
+            self.end = (self.count, self.number + 1)
+
+    def is_told(self):
+        """Whether the plugin isn't in the middle of a store to a register, or of a page."""
+        return not self.waiting and not self.in_page
+
+    def is_after_page(self, line):
+        """Whether this line can't be one of those that tell of a page: the CPU goes on."""
+        fields = line.split()
+        if fields[:1] != ['xr']:
+            return False
+        return fields[1:2] in (['d'], ['e'], ['end']) or (fields[1:2] == ['w'] and is_beyond(fields[2:3], self.count))
 
     def line(self, number, line):
         if line.startswith('xr '):
@@ -100,6 +126,7 @@ class LogReader:
             return before
         if kind == 'e':
             return before + [Seen(key_of(count, CPU, number), rest[0], tuple(rest[1:]))]
+        self.in_page = self.in_page or kind == 'p'
         item, rank = {'w': (Store, CPU), 'p': (Page, LATER)}[kind]
         return before + [item(key_of(count, rank, number), *rest)]
 
@@ -145,6 +172,14 @@ class LogReader:
         first = int(match[1], 16 if kind == 'fetch' else 10)
         words = words_of(*(int(match[i], 16) for i in (2, 3, 4)))
         return lambda key: (Fetch if kind == 'fetch' else Post)(key, first, words)
+
+
+def is_beyond(fields, count):
+    """Whether a line's count, as its field has it, is greater."""
+    try:
+        return int(fields[0], 16) > count
+    except (ValueError, IndexError):
+        return False
 
 
 def whole_lines(file):

@@ -1,5 +1,5 @@
 -- That what is right of the bytes that were read is right of the input, of which nothing may be known
-use Rattle.std.proofs.Common.{◌≡◌, ℕ, List, Option, Some, None, ◌⊎◌, inl, inr, Result, Ok, Err, subst, sym}
+use Rattle.std.proofs.Common.{◌≡◌, ℕ, List, Option, Some, None, inl, inr, Result, Ok, Err, subst, sym}
 use Rattle.std.specs.Prelude.{IfSome}
 use Rattle.traces.specs.declared.trace.Trace.{Trace}
 use Rattle.trace_reader.specs.Entries.{IfBadLine, text_of as spelled}

@@ -1,5 +1,5 @@
 -- The text of each answer, how the program ends on it, and what is right to answer to the words of a block
-use Rattle.std.specs.Prelude.{◌≡◌, ℕ, List, [], ◌∷◌, ◌++◌, Bool, true, false, if◌then◌else◌, Some, None, codes, decimal}
+use Rattle.std.specs.Prelude.{◌≡◌, ℕ, List, [], ◌∷◌, ◌++◌, Bool, true, false, if◌then◌else◌, Option, Some, None, codes, decimal, nat_lt}
 use Rattle.std.specs.declared.io.ErrorKind.{ErrorKind}
 use Rattle.std.specs.declared.io.ErrorKind.TheVariants.{OutOfMemory as NoMemory}
 use Rattle.ownership_rules.specs.Refusal as rules
@@ -16,8 +16,9 @@ use Rattle.plan_writer.specs.declared.fault.PlanFault.{PlanFault}
 use Rattle.plan_writer.specs.declared.fault.PlanFault.TheVariants.{Line as BadPlanLine, Refused as RefusedLine, Memory as NoPlanMemory}
 use Rattle.answers.specs.Decoding.{decoded_text}
 use Rattle.answers.specs.Replays.{end_status, replay_text}
+use Rattle.answers.specs.declared.answer.FoundHarm.{FoundHarm}
 use Rattle.answers.specs.declared.answer.Answer.{Answer}
-use Rattle.answers.specs.declared.answer.Answer.TheVariants.{Accepted, Written, Decoded, Replayed, Verified, Scheduled, Explained, Refused, Unfollowed, BadLine, BadWord, BadCertificate, TooLong, Memory, Device}
+use Rattle.answers.specs.declared.answer.Answer.TheVariants.{Accepted, Written, Decoded, Replayed, Verified, Scheduled, Explained, Shown, Refused, HarmShown, Unfollowed, BadLine, BadWord, BadCertificate, NoRow, Memory, Device}
 use Rattle.answers.specs.declared.answer.Status.{Status}
 use Rattle.answers.specs.declared.answer.Status.TheVariants.{Clean, Unclean, Unreadable, Unanswered}
 
@@ -30,12 +31,14 @@ status_of (Replayed seen ending) = end_status ending
 status_of (Verified holds) = if holds then Clean else Unclean
 status_of (Scheduled schedule) = Clean
 status_of (Explained rule page) = Clean
+status_of (Shown page) = Clean
 status_of (Refused row refusal) = Unclean
+status_of (HarmShown row refusal harm) = Unclean
 status_of (Unfollowed line refusal) = Unclean
 status_of (BadLine line fault) = Unreadable
 status_of BadWord = Unreadable
 status_of (BadCertificate fault) = Unreadable
-status_of TooLong = Unreadable
+status_of (NoRow first last) = Unreadable
 status_of Memory = Unanswered
 status_of Device = Unanswered
 
@@ -63,6 +66,21 @@ device_line = codes "xhcitrace: 31 Device\n"
 abbrev pub page_text : Refusal → List ℕ → List ℕ
 page_text rule page = decimal (rules.number_of rule) ++ codes " " ++ rules.name_of rule ++ codes ": " ++ page
 
+-- which rows may be asked for
+abbrev pub range_text : ℕ → ℕ → List ℕ
+range_text first last =
+    if nat_lt last first then codes "xhcitrace: no such row: the trace has none"
+    else codes "xhcitrace: no such row: " ++ decimal first ++ codes " to " ++ decimal last ++ codes " can be shown"
+
+-- a row that breaks a rule, and the rule
+abbrev pub refused_text : ℕ → Refusal → List ℕ
+refused_text row refusal = codes "row " ++ decimal row ++ codes ": " ++ decimal (rules.number_of refusal) ++ codes " " ++ rules.name_of refusal ++ 10 ∷ []
+
+-- the schedule of a run that does harm, or that none was found
+abbrev pub harm_text : Option FoundHarm → List ℕ
+harm_text (Some found) = found.schedule.items
+harm_text None = codes "no harmful schedule found\n"
+
 -- the text of an answer, its line feed too
 abbrev pub text_of : Answer → List ℕ
 text_of (Accepted leases) = codes "accepted: " ++ decimal leases ++ codes " leases" ++ 10 ∷ []
@@ -72,12 +90,14 @@ text_of (Replayed seen ending) = replay_text seen.items ending
 text_of (Verified holds) = if holds then codes "yes\n" else codes "no\n"
 text_of (Scheduled schedule) = schedule.items
 text_of (Explained rule page) = page_text rule page.now
-text_of (Refused row refusal) = codes "row " ++ decimal row ++ codes ": " ++ decimal (rules.number_of refusal) ++ codes " " ++ rules.name_of refusal ++ 10 ∷ []
+text_of (Shown page) = page.items
+text_of (Refused row refusal) = refused_text row refusal
+text_of (HarmShown row refusal harm) = refused_text row refusal ++ harm_text harm
 text_of (Unfollowed line refusal) = codes "line " ++ decimal line ++ codes ": " ++ decimal (refusal_number refusal) ++ codes " " ++ refusal_name refusal ++ 10 ∷ []
 text_of (BadLine line fault) = codes "xhcitrace: line " ++ decimal line ++ codes ": " ++ decimal (fault_number fault) ++ codes " " ++ fault_name fault ++ 10 ∷ []
 text_of BadWord = codes "xhcitrace: 3 Number\n"
 text_of (BadCertificate fault) = codes "xhcitrace: " ++ decimal (cert_fault_number fault) ++ codes " " ++ cert_fault_name fault ++ 10 ∷ []
-text_of TooLong = codes "xhcitrace: 4 Limit\n"
+text_of (NoRow first last) = range_text first last ++ 10 ∷ []
 text_of Memory = memory_line
 text_of Device = device_line
 

@@ -1,6 +1,6 @@
 //! What is answered, its text, and the exit status that goes with it.
 ghost use Rattle.std.specs.Prelude.{◌≡◌, ◌++◌, ◌∷◌, [], IfOk, IsOk, OnOk, codes, decimal, max, string_bytes};
-ghost use Rattle.answers.specs.Answers.{exit_number, page_text, status_of, text_of};
+ghost use Rattle.answers.specs.Answers.{exit_number, harm_text, page_text, range_text, refused_text, status_of, text_of};
 
 use crate::decode::line_of;
 use crate::replay_lines::{ReplayEnd, replay_text};
@@ -12,51 +12,100 @@ use std::alloc::{AllocError, Global};
 use std::io;
 use trace_reader::{LineFault, ReadFault};
 use trb::Block;
+use world_state::Harm;
 
 /// The answer to a trace, alone or beside a schedule or a certificate, to a plan or to a block.
 #[derive(Debug, Drop, PartialEq, Eq)]
 pub enum Answer {
     /// The trace is clean, with so many leases.
-    Accepted { leases: u64 },
+    Accepted {
+        leases: u64,
+    },
     /// The trace of a plan, as it is printed.
-    Written { trace: Vec<u8> },
+    Written {
+        trace: Vec<u8>,
+    },
     /// What the block says.
-    Decoded { block: Block },
+    Decoded {
+        block: Block,
+    },
     /// What the steps of a schedule showed, and how its replay ends.
-    Replayed { seen: Vec<Seen>, ending: ReplayEnd },
+    Replayed {
+        seen: Vec<Seen>,
+        ending: ReplayEnd,
+    },
     /// Whether the certificate is that of the trace.
-    Verified { holds: bool },
+    Verified {
+        holds: bool,
+    },
     /// The lazy schedule of the trace, as it is printed.
-    Scheduled { schedule: Vec<u8> },
+    Scheduled {
+        schedule: Vec<u8>,
+    },
     /// The page on a rule.
-    Explained { rule: Refusal, page: &'static str },
+    Explained {
+        rule: Refusal,
+        page: &'static str,
+    },
+    /// What is known, and who owns what, before a row of a trace, as a page of text.
+    Shown {
+        page: Vec<u8>,
+    },
     /// The first row that breaks a rule, by its line from 1, and the least rule that it breaks.
-    Refused { row: u32, refusal: Refusal },
+    Refused {
+        row: u32,
+        refusal: Refusal,
+    },
+    /// The same, and a run that does harm beside the trace, where one was found.
+    HarmShown {
+        row: u32,
+        refusal: Refusal,
+        harm: Option<FoundHarm>,
+    },
     /// The first line of a plan that can't be followed, from 1, and why.
-    Unfollowed { line: u32, refusal: PlanRefusal },
+    Unfollowed {
+        line: u32,
+        refusal: PlanRefusal,
+    },
     /// The first bad line, from 1, and its fault.
-    BadLine { line: u32, fault: LineFault },
+    BadLine {
+        line: u32,
+        fault: LineFault,
+    },
     /// A word of a block isn't 8 hex digits.
     BadWord,
     /// The bytes are no certificate.
-    BadCertificate { fault: CertFault },
-    /// The schedule has more lines than a schedule may have.
-    TooLong,
+    BadCertificate {
+        fault: CertFault,
+    },
+    /// A row that was asked for is none of those from `first` to `last`, by their lines; there are none where `last` is the less.
+    NoRow {
+        first: u32,
+        last: u32,
+    },
     /// A growth of memory was refused.
     Memory,
     /// The trace couldn't be opened or read, or the answer couldn't be written.
     Device,
 }
 
+/// A run that does harm beside a trace: its schedule, as it is printed, and the harm behind its last step.
+#[derive(Debug, Drop, PartialEq, Eq)]
+pub struct FoundHarm {
+    pub schedule: Vec<u8>,
+    pub harm: Harm,
+}
+
 /// How the program ends.
 #[derive(Clone, Copy, Debug, PartialEq, Eq)]
 pub enum Status {
-    /// The trace is accepted, the plan, the block or the schedule is written, the replay shows no harm, or the certificate holds.
+    /// The trace is accepted, the plan, the block, the schedule or the page is written, the replay shows no harm, or the certificate
+    /// holds.
     Clean,
     /// A row breaks a rule, a line of a plan can't be followed, a replay does harm or isn't possible, or a certificate doesn't hold.
     Unclean,
-    /// The text is no trace, no plan, no schedule or no block, the bytes are no certificate, a schedule would be too long, or the
-    /// arguments are wrong.
+    /// The text is no trace, no plan, no schedule or no block, the bytes are no certificate, the trace hasn't the row, or the arguments
+    /// are wrong.
     Unreadable,
     /// Memory or a device failed.
     Unanswered,
@@ -85,6 +134,25 @@ fn numbered(
     format!(in alloc; "{head}{line}: {number} {name}")
 }
 
+/// The line on a row that breaks a rule.
+fn refused_line(alloc: Global, row: u32, refusal: Refusal) -> Result<Vec<u8>, AllocError>
+    ensures { IfOk result (λ text. text.items ≡ refused_text row refusal) }
+{
+    ended(numbered(alloc, "row ", row, refusal.number(), refusal.name()))
+}
+
+/// A text with the schedule of a run that does harm behind it, or that none was found.
+fn with_harm(text: Vec<u8>, harm: Option<FoundHarm>) -> Result<Vec<u8>, AllocError>
+    ensures { IfOk result (λ all. all.items ≡ text.items ++ harm_text harm) }
+{
+    let mut text = text;
+    match harm {
+        Some(found) => text.extend_from_slice(&found.schedule)?,
+        None => text.extend_from_slice(NO_HARM.as_bytes())?,
+    }
+    Ok(text)
+}
+
 /// What is told of bytes that are no certificate.
 fn named(alloc: Global, number: u8, name: &str) -> Result<String, AllocError>
     ensures { IfOk result (λ text. string_bytes text ≡ codes "xhcitrace: " ++ (decimal number ++ (codes " " ++ name.now))) }
@@ -101,6 +169,27 @@ fn headed_page(alloc: Global, rule: Refusal, page: &str) -> Result<Vec<u8>, Allo
     Ok(text.into_bytes())
 }
 
+/// Which rows may be asked for.
+fn row_range(alloc: Global, first: u32, last: u32) -> Result<String, AllocError>
+    ensures { IfOk result (λ text. string_bytes text ≡ range_text first last) }
+{
+    if last < first {
+        format!(in alloc; "xhcitrace: no such row: the trace has none")
+    } else {
+        rows_between(alloc, first, last)
+    }
+}
+
+/// That rows from one to another may be asked for.
+fn rows_between(alloc: Global, first: u32, last: u32) -> Result<String, AllocError>
+    ensures { IfOk result (λ text. string_bytes text ≡ codes "xhcitrace: no such row: " ++ (decimal first ++ (codes " to " ++ (decimal last ++ codes " can be shown")))) }
+{
+    format!(in alloc; "xhcitrace: no such row: {first} to {last} can be shown")
+}
+
+/// What is written where no run was found that does harm.
+const NO_HARM: &str = "no harmful schedule found\n";
+
 /// What is written where memory is wanted: it needs none.
 pub const MEMORY_LINE: &str = "xhcitrace: 30 Memory\n";
 
@@ -116,18 +205,21 @@ impl Answer {
             | Answer::Written { .. }
             | Answer::Decoded { .. }
             | Answer::Scheduled { .. }
-            | Answer::Explained { .. } => Status::Clean,
+            | Answer::Explained { .. }
+            | Answer::Shown { .. } => Status::Clean,
             Answer::Replayed { ending, .. } => ending.status(),
             Answer::Verified { holds } => if *holds {
                 Status::Clean
             } else {
                 Status::Unclean
             },
-            Answer::Refused { .. } | Answer::Unfollowed { .. } => Status::Unclean,
+            Answer::Refused { .. } | Answer::HarmShown { .. } | Answer::Unfollowed { .. } => {
+                Status::Unclean
+            }
             Answer::BadLine { .. }
             | Answer::BadWord
             | Answer::BadCertificate { .. }
-            | Answer::TooLong => Status::Unreadable,
+            | Answer::NoRow { .. } => Status::Unreadable,
             Answer::Memory | Answer::Device => Status::Unanswered,
         }
     }
@@ -174,9 +266,11 @@ impl Answer {
             }
             Answer::Scheduled { schedule } => Ok(schedule),
             Answer::Explained { rule, page } => headed_page(alloc, rule, page),
-            Answer::Refused { row, refusal } => {
-                ended(numbered(alloc, "row ", row, refusal.number(), refusal.name()))
-            },
+            Answer::Shown { page } => Ok(page),
+            Answer::Refused { row, refusal } => refused_line(alloc, row, refusal),
+            Answer::HarmShown { row, refusal, harm } => {
+                with_harm(refused_line(alloc, row, refusal)?, harm)
+            }
             Answer::Unfollowed { line, refusal } => {
                 ended(numbered(alloc, "line ", line, refusal.number(), refusal.name()))
             },
@@ -193,7 +287,7 @@ impl Answer {
             Answer::BadCertificate { fault } => {
                 ended(named(alloc, fault.number(), fault.name()))
             }
-            Answer::TooLong => Vec::from_slice(alloc, b"xhcitrace: 4 Limit\n"),
+            Answer::NoRow { first, last } => ended(row_range(alloc, first, last)),
             Answer::Memory => Vec::from_slice(alloc, MEMORY_LINE.as_bytes()),
             Answer::Device => Vec::from_slice(alloc, DEVICE_LINE.as_bytes()),
         }

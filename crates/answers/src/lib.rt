@@ -10,7 +10,7 @@ mod page;
 mod replay_lines;
 mod telling;
 
-pub use answer::{Answer, Status};
+pub use answer::{Answer, FoundHarm, Status};
 pub use decode::{BlockWords, run_decode};
 pub use explain::{
     Asked, note_on_certificate, note_on_failure, note_on_leases, note_on_plan, note_on_schedule,

@@ -1,5 +1,5 @@
 -- Records one after another: what is written is read, and what is read is what was written
-use Rattle.std.proofs.Common.{◌≡◌, ◌+◌, ◌*◌, ◌<◌, ◌≤◌, ◌∷◌, ◌++◌, ◌∙◌, ℕ, suc, zero, true, List, [], length, take, drop, All, arith, sym, ap, refl, append_assoc, add-one, inl, inr, drop-drop, length-drop, get_or-take, get_or-drop, length-take-le, get_or}
+use Rattle.std.proofs.Common.{◌≡◌, ◌+◌, ◌*◌, ◌<◌, ◌≤◌, ◌∷◌, ◌++◌, ◌∙◌, ℕ, suc, zero, true, List, [], length, take, drop, All, arith, sym, ap, refl, add-one, inl, inr, drop-drop, length-drop, get_or-take, get_or-drop, length-take-le, get_or}
 use Rattle.std.specs.List.{flat_map, list_all}
 use Rattle.std.proofs.lemmas.List.{get_or_past}
 use Rattle.std.proofs.Math.Seq.{take-add}
@@ -20,10 +20,6 @@ leases_in-push bytes (suc n) =
     let later : drop (24 * n) (drop 24 bytes) ≡ drop (24 * suc n) bytes = drop-drop (24 * n) 24 bytes ∙ ap (λ m. drop m bytes) next in
     let rest : leases_in (drop 24 bytes) (suc n) ≡ leases_in (drop 24 bytes) n ++ lease_in (drop (24 * n) (drop 24 bytes)) ∷ [] = rw add-one at (leases_in-push (drop 24 bytes) n) in
     rw add-one (ap (λ ls. lease_in bytes ∷ ls) (rest ∙ ap (λ b. leases_in (drop 24 bytes) n ++ lease_in b ∷ []) later))
-
--- what is appended five times is appended at once
-pub appended : (x a b c d e p q r s t : List ℕ) → p ≡ x ++ a → q ≡ p ++ b → r ≡ q ++ c → s ≡ r ++ d → t ≡ s ++ e → t ≡ x ++ (a ++ b ++ c ++ d ++ e)
-appended x a b c d e p q r s t h i j k l = rw (l, k, j, i, h) (simp append_assoc)
 
 same_lease : (k r p f t a b c d e : ℕ) → k ≡ a → r ≡ b → p ≡ c → f ≡ d → t ≡ e →
     ◌≡◌ {A = Lease} (record { kind = k; ring = r; pos = p; from = f; to = t }) (record { kind = a; ring = b; pos = c; from = d; to = e })

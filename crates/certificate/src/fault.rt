@@ -4,6 +4,7 @@ ghost use Rattle.certificate.specs.Spelling.{cert_fault_number, cert_fault_name}
 
 use std::alloc::AllocError;
 use std::fmt;
+use thiserror::Error;
 
 /// Why bytes are no certificate.
 #[derive(Clone, Copy, Debug, PartialEq, Eq)]
@@ -54,6 +55,8 @@ impl fmt::Display for CertFault {
     }
 }
 
+impl std::error::Error for CertFault {}
+
 impl From<AllocError> for CertFault {
     ghost use Rattle.certificate.specs.declared.fault.CertFault.TheVariants.{Memory};
 
@@ -61,5 +64,24 @@ impl From<AllocError> for CertFault {
 
     fn from(_error: AllocError) -> CertFault {
         CertFault::Memory
+    }
+}
+
+/// Why a certificate wasn't written whole.
+#[derive(Clone, Copy, Debug, Error, PartialEq, Eq)]
+pub enum EncodeFault {
+    /// The device failed when it had taken so many bytes of the certificate, and these alone.
+    #[error("the device failed when it had taken {done} bytes")]
+    Device { done: u64 },
+}
+
+impl EncodeFault {
+    /// The number that is printed.
+    pub fn number(self) -> u8
+        ensures { result ≡ 31 }
+    {
+        match self {
+            EncodeFault::Device { .. } => 31,
+        }
     }
 }

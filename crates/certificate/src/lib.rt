@@ -3,8 +3,10 @@
 
 mod fault;
 mod reading;
+mod sink;
 mod writing;
 
-pub use fault::CertFault;
-pub use reading::decode;
-pub use writing::encode;
+pub use fault::{CertFault, EncodeFault};
+pub use reading::{BadLease, decode, first_bad_lease};
+pub use sink::{CountedSink, Failed, Sink};
+pub use writing::{encode, encode_to};

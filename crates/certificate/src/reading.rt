@@ -1,5 +1,5 @@
 //! The leases that bytes spell.
-ghost use Rattle.std.specs.Prelude.{◌≡◌, ◌≢◌, ◌≤◌, ◌/◌, Ok, Err, length, drop, IfOk, IfErr};
+ghost use Rattle.std.specs.Prelude.{◌≡◌, ◌≢◌, ◌≤◌, ◌/◌, Ok, Err, false, length, drop, IfOk, IfErr, IfSome};
 ghost use Rattle.std.specs.List.{list_all};
 ghost use Rattle.certificate.specs.Spelling.{certificate_of, has_lease_fields, lease_in, leases_in, records_of, spelling};
 
@@ -9,7 +9,7 @@ use ring_knowledge::Lease;
 use std::alloc::{AllocError, Global};
 
 /// The bytes of a record.
-const RECORD: usize = 24;
+pub(crate) const RECORD: usize = 24;
 
 /// The leases that a certificate spells; else the least fault that the bytes have, or want of memory.
 pub fn decode(alloc: Global, bytes: &[u8]) -> Result<Vec<Lease>, CertFault>
@@ -83,4 +83,37 @@ fn has_lease_fields(lease: Lease) -> bool
     ensures { result ≡ has_lease_fields lease }
 {
     lease.kind <= 2 && (lease.kind == 2 || lease.ring <= 255) && lease.from < lease.to
+}
+
+/// A lease of a certificate that has a field that no lease has, and its number, from 1.
+#[derive(Clone, Copy, Debug, PartialEq, Eq)]
+pub struct BadLease {
+    pub number: usize,
+    pub lease: Lease,
+}
+
+/// The first lease of a certificate that has a field that no lease has.
+pub fn first_bad_lease(bytes: &[u8]) -> Option<BadLease>
+    ensures { IfSome result (λ bad. has_lease_fields bad.lease ≡ false) }
+{
+    match bytes.strip_prefix(b"XHCICRT1") {
+        Some(records) => bad_lease_in(records),
+        None => None,
+    }
+}
+
+/// The first of some records that has such a field.
+fn bad_lease_in(records: &[u8]) -> Option<BadLease>
+    ensures { IfSome result (λ bad. has_lease_fields bad.lease ≡ false) }
+{
+    for record in 0..records.len() / RECORD {
+        let lease = lease_in(&records[RECORD * record..]);
+        if !has_lease_fields(lease) {
+            return Some(BadLease {
+                number: record.saturating_add(1),
+                lease,
+            });
+        }
+    }
+    None
 }

@@ -1,8 +1,14 @@
 //! Leases as bytes: 8 bytes that name the format, then a record of 24 bytes for each, little-endian.
-ghost use Rattle.std.specs.Prelude.{◌≡◌, ◌++◌, All, Ok, IfOk, OnOk};
-ghost use Rattle.byteorder.specs.Endian.{little_bytes};
+ghost use Rattle.std.specs.Prelude.{◌≡◌, ◌++◌, ◌+◌, ◌^◌, ◌<◌, ◌≤◌, ◌*◌, All, Ok, IfOk, IfErr, OnOk, length};
+ghost use Rattle.std.specs.List.{flat_map};
+ghost use Rattle.std.specs.Io.KnownBytes.{Appends};
+ghost use Rattle.certificate.specs.Sinks.{IsCutBehind, IsCutOff, failures_behind};
 ghost use Rattle.certificate.specs.Spelling.{FitsLease, certificate_of, lease_bytes, spelling};
 
+use crate::fault::EncodeFault;
+use crate::reading::RECORD;
+use crate::sink::{Failed, Sink};
+use arrayvec::ArrayVec;
 use byteorder::{ByteOrder, LittleEndian};
 use ring_knowledge::Lease;
 use std::alloc::{AllocError, Global};
@@ -22,34 +28,116 @@ fn bytes_of(alloc: Global, leases: &[Lease]) -> Result<Vec<u8>, AllocError>
     let mut bytes = Vec::new(alloc);
     bytes.extend_from_slice(b"XHCICRT1")?;
     for lease in leases {
-        push_lease(&mut bytes, *lease)?;
+        bytes.extend_from_slice(&record_of(*lease))?;
     }
     Ok(bytes)
 }
 
-fn push_lease(bytes: &mut Vec<u8>, lease: Lease) -> Result<(), AllocError>
-    ensures { OnOk result (bytes.new.items ≡ bytes.old.items ++ lease_bytes lease) }
+/// The record of a lease: kind, ring, position, first and last row.
+#[tactic(auto, unfolding(crate::specs::Spelling::lease_bytes))]
+fn record_of(lease: Lease) -> [u8; RECORD]
+    ensures bytes { result ≡ lease_bytes lease }
+    ensures size { length result ≡ 24 }
 {
-    push_u32(bytes, lease.kind)?;
-    push_u32(bytes, lease.ring)?;
-    push_u64(bytes, lease.pos)?;
-    push_u32(bytes, lease.from)?;
-    push_u32(bytes, lease.to)?;
+    let mut record = [0; RECORD];
+    LittleEndian::write_u32(&mut record, lease.kind);
+    LittleEndian::write_u32(&mut record[4..], lease.ring);
+    LittleEndian::write_u64(&mut record[8..], lease.pos);
+    LittleEndian::write_u32(&mut record[16..], lease.from);
+    LittleEndian::write_u32(&mut record[20..], lease.to);
+    record
+}
+
+/// As many records are written at once.
+const AT_ONCE: usize = 170;
+
+/// The bytes that are written at once: those that name the format, and records.
+const BUFFER: usize = 4096;
+
+/// Writes the bytes of a list of leases, in its order. It takes no memory, and ends at the first failure.
+pub fn encode_to<S: Sink>(sink: &mut S, leases: &[Lease]) -> Result<(), EncodeFault>
+    ensures whole { OnOk result (Appends (S.taken sink.old) (S.taken sink.new) (spelling leases.now)) }
+    ensures part { IfErr result (λ fault. IsCutOff (S.taken sink.old) (S.taken sink.new) (spelling leases.now) fault) }
+    ensures failures { S.failed sink.new ≡ failures_behind (S.failed sink.old) result }
+{
+    let _fits = size_of_records(leases);
+    let (first, later) = leases.split_at(leases.len().min(AT_ONCE));
+    let mut done = write_records(sink, 0, b"XHCICRT1", first)?;
+    let mut rest = later;
+    while !rest.is_empty() {
+        let (next, later) = rest.split_at(rest.len().min(AT_ONCE));
+        done = write_records(sink, done, b"", next)?;
+        rest = later;
+    }
     Ok(())
 }
 
-fn push_u32(bytes: &mut Vec<u8>, number: u32) -> Result<(), AllocError>
-    ensures { OnOk result (bytes.new.items ≡ bytes.old.items ++ little_bytes 4 number) }
+/// How many bytes the records have: as many as the leases have in memory.
+fn size_of_records(leases: &[Lease]) -> usize
+    ensures size { result ≡ 24 * length leases.now }
+    ensures small { result < 2 ^ 63 }
 {
-    let mut field = [0; 4];
-    LittleEndian::write_u32(&mut field, number);
-    bytes.extend_from_slice(&field)
+    RECORD * leases.len()
 }
 
-fn push_u64(bytes: &mut Vec<u8>, number: u64) -> Result<(), AllocError>
-    ensures { OnOk result (bytes.new.items ≡ bytes.old.items ++ little_bytes 8 number) }
+/// Writes records, `front` before them, where so many bytes were written before; how many are written then.
+fn write_records<S: Sink>(
+    sink: &mut S,
+    done: u64,
+    front: &[u8],
+    leases: &[Lease],
+) -> Result<u64, EncodeFault>
+    requires few { length front.now + 24 * length leases.now ≤ 4096 }
+    requires fits { done + (length front.now + 24 * length leases.now) < 2 ^ 64 }
+    ensures whole { OnOk result (Appends (S.taken sink.old) (S.taken sink.new) (front.now ++ flat_map lease_bytes leases.now)) }
+    ensures done { IfOk result (λ now. now ≡ done + length (front.now ++ flat_map lease_bytes leases.now)) }
+    ensures part { IfErr result (λ fault. IsCutBehind (S.taken sink.old) (S.taken sink.new) done (front.now ++ flat_map lease_bytes leases.now) fault) }
+    ensures failures { S.failed sink.new ≡ failures_behind (S.failed sink.old) result }
 {
-    let mut field = [0; 8];
-    LittleEndian::write_u64(&mut field, number);
-    bytes.extend_from_slice(&field)
+    let bytes = records_behind(front, leases);
+    write_all(sink, done, bytes.as_slice())
+}
+
+/// Records, `front` before them.
+fn records_behind(front: &[u8], leases: &[Lease]) -> ArrayVec<u8, BUFFER>
+    requires { length front.now + 24 * length leases.now ≤ 4096 }
+    ensures { result.items ≡ front.now ++ flat_map lease_bytes leases.now }
+{
+    let mut bytes = ArrayVec::new();
+    push(&mut bytes, front);
+    for lease in leases {
+        push(&mut bytes, &record_of(*lease));
+    }
+    bytes
+}
+
+/// Appends bytes, for which there is room.
+fn push(bytes: &mut ArrayVec<u8, BUFFER>, more: &[u8])
+    requires { length bytes.old.items + length more.now ≤ 4096 }
+    ensures items { bytes.new.items ≡ bytes.old.items ++ more.now }
+    ensures size { length bytes.new.items ≡ length bytes.old.items + length more.now }
+{
+    let _fits = bytes.try_extend_from_slice(more);
+}
+
+/// Writes all of the bytes, where so many were written before; how many are written then.
+fn write_all<S: Sink>(sink: &mut S, done: u64, bytes: &[u8]) -> Result<u64, EncodeFault>
+    requires { done + length bytes.now < 2 ^ 64 }
+    ensures whole { OnOk result (Appends (S.taken sink.old) (S.taken sink.new) bytes.now) }
+    ensures done { IfOk result (λ now. now ≡ done + length bytes.now) }
+    ensures part { IfErr result (λ fault. IsCutBehind (S.taken sink.old) (S.taken sink.new) done bytes.now fault) }
+    ensures failures { S.failed sink.new ≡ failures_behind (S.failed sink.old) result }
+{
+    let mut taken = 0;
+    while taken < bytes.len() {
+        match sink.write(&bytes[taken..]) {
+            Ok(more) => taken += more,
+            Err(Failed) => {
+                return Err(EncodeFault::Device {
+                    done: done + taken as u64,
+                });
+            }
+        }
+    }
+    Ok(done + taken as u64)
 }

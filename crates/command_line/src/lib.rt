@@ -16,11 +16,12 @@ const STATUSES: &str = "\
 Without a command it checks the trace on standard input.
 
 Exit status:
-  0  the trace is accepted; the plan, the block or the schedule is printed; a replay does no harm; a certificate is the trace's
+  0  the trace is accepted; the plan, the block, the schedule or the page of `show` is printed; a replay does no harm; a
+     certificate is the trace's
   1  a row breaks a rule (row R: C Name), a line of a plan can't be followed (line L: C Name), a replay does harm, or a
      certificate isn't the trace's
   2  a line is no line of a trace, a plan or a schedule (xhcitrace: line L: C Name), a file is no certificate, a word is no
-     number, a schedule would be too long (xhcitrace: 4 Limit), or the arguments are wrong
+     number, a row can't be shown, or the arguments are wrong
   3  memory is wanted (xhcitrace: 30 Memory), or a file can't be opened, read or written (xhcitrace: 31 Device)";
 
 const CHECK: &str = "\
@@ -28,11 +29,16 @@ Prints `accepted: N leases`, status 0, or the first row that breaks a rule of ow
 standard error the first bad line as `xhcitrace: line L: C Name`, status 2; else status 3. The certificate is the leases of the
 trace, and is written before `accepted` is; of every other trace no file is written.
 
+With --show a schedule stands behind `row R: C Name`: a run of a controller that goes no further than row R and does harm with its
+last step, as `replay` tells; or `no harmful schedule found`, which doesn't say that there is none. With --search beside it more
+are tried: ring by ring, runs in which the controller is late on this ring.
+
 Of several traces each is checked, in order, and `FILE: ` stands before each answer; the status is the greatest. There is no
-certificate of several traces.
+certificate of several traces, and no --show.
 
 Examples:
   xhcitrace check --explain examples/written_to_owned.xtrace
+  xhcitrace check --show examples/write_after_the_doorbell.xtrace
   xhcitrace check --cert leases examples/two_descriptors.xtrace
   xhcitrace check traces/*.xtrace";
 
@@ -56,9 +62,9 @@ Example:
 
 const SCHEDULE: &str = "\
 Prints the schedule, status 0, or the first row that breaks a rule of ownership as `row R: C Name`, status 1; on standard error
-the first bad line as `xhcitrace: line L: C Name`, or that the schedule is too long as `xhcitrace: 4 Limit`, status 2; else
-status 3. It has all rows, and directly before each event that is read the controller's steps that it needs. `replay` replays it
-and finds no harm, where the trace reads no success of a ring that the driver holds.
+the first bad line as `xhcitrace: line L: C Name`, status 2; else status 3. It has all rows, and directly before each event that
+is read the controller's steps that it needs. `replay` replays it and finds no harm, where the trace reads no success of a ring
+that the driver holds.
 
 Example:
   xhcitrace schedule examples/control_transfer.xtrace";
@@ -70,6 +76,16 @@ status 2; else status 3. The certificate is read first.
 
 Example:
   xhcitrace check --cert leases examples/two_descriptors.xtrace && xhcitrace verify examples/two_descriptors.xtrace leases";
+
+const SHOW: &str = "\
+Prints a page, status 0: whether the controller runs, the registers that were written, each ring (its endpoint and that one's
+state; how many TRBs are declared, given and passed; its floor, which the controller's dequeue pointer has surely reached, and its
+ceiling, which it may have reached; `open` where it goes on to what is given next), the slots, the unfinished commands, and what
+is under lease with the row that gave it. Errors are those of `check`; a row that can't be shown is told with those that can
+(`xhcitrace: no such row: A to B can be shown`), status 2: nothing is known behind the first row that breaks a rule.
+
+Example:
+  xhcitrace show examples/write_after_the_doorbell.xtrace";
 
 const DECODE: &str = "\
 Prints one line, status 0; on standard error that a word isn't 8 hex digits, status 2; else status 3.
@@ -96,6 +112,7 @@ pub fn command<'a>(alloc: Global) -> Result<Command<'a>, AllocError> {
         .subcommand(verify(alloc)?)?
         .subcommand(schedule(alloc)?)?
         .subcommand(replay(alloc)?)?
+        .subcommand(show(alloc)?)?
         .subcommand(write(alloc)?)?
         .subcommand(decode(alloc)?)?
         .subcommand(tell_rule(alloc)?)
@@ -107,6 +124,8 @@ fn check<'a>(alloc: Global) -> Result<Command<'a>, AllocError> {
         .after_help(CHECK)
         .arg(traces(alloc))?
         .arg(certificate(alloc))?
+        .arg(shown(alloc))?
+        .arg(searched(alloc)?)?
         .arg(explain(alloc))
 }
 
@@ -166,6 +185,15 @@ fn replay<'a>(alloc: Global) -> Result<Command<'a>, AllocError> {
         .arg(explain(alloc))
 }
 
+fn show<'a>(alloc: Global) -> Result<Command<'a>, AllocError> {
+    Command::new(alloc, "show")
+        .about("Shows who owns what before a row: registers, rings, slots, commands, leases")
+        .after_help(SHOW)
+        .arg(needed(alloc, "TRACE", "The file of the trace; -: standard input"))?
+        .arg(row(alloc))?
+        .arg(explain(alloc))
+}
+
 fn decode<'a>(alloc: Global) -> Result<Command<'a>, AllocError> {
     Command::new(alloc, "decode")
         .about("Tells what a block (TRB) of four words says")
@@ -201,11 +229,35 @@ pub fn one_certificate(alloc: Global) -> Result<Error, AllocError> {
     )
 }
 
+/// What is told where a schedule that does harm is asked for of several traces.
+pub fn one_shown(alloc: Global) -> Result<Error, AllocError> {
+    command(alloc)?.error(
+        ErrorKind::ArgumentConflict,
+        "--show makes a schedule for one trace, and several are named",
+    )
+}
+
 /// What is told where a word is asked for that is no rule.
 pub fn no_rule(alloc: Global) -> Result<Error, AllocError> {
     command(alloc)?.error(
         ErrorKind::InvalidValue,
         "there is no such rule: a rule has a number from 10 to 25, or a name as WriteToOwned",
+    )
+}
+
+/// What is told where standard input is to be two inputs.
+pub fn read_twice(alloc: Global) -> Result<Error, AllocError> {
+    command(alloc)?.error(
+        ErrorKind::ArgumentConflict,
+        "standard input, -, can be one of the files alone",
+    )
+}
+
+/// What is told where the certificate would be written over the trace.
+pub fn over_the_trace(alloc: Global) -> Result<Error, AllocError> {
+    command(alloc)?.error(
+        ErrorKind::ArgumentConflict,
+        "--cert would write the certificate over the trace",
     )
 }
 
@@ -237,6 +289,32 @@ fn certificate<'a>(alloc: Global) -> Arg<'a> {
     Arg::new(alloc, "cert").long("cert").value_name("FILE").help(
         "Writes the certificate of an accepted trace to FILE: which memory the controller owned, and when",
     )
+}
+
+/// Whether a schedule that does harm is made.
+fn shown<'a>(alloc: Global) -> Arg<'a> {
+    Arg::new(alloc, "show")
+        .long("show")
+        .action(ArgAction::SetTrue)
+        .help(
+            "Prints, behind a row that breaks a rule, a schedule of a controller that does harm there",
+        )
+}
+
+/// Whether more schedules than two are tried to do harm.
+fn searched<'a>(alloc: Global) -> Result<Arg<'a>, AllocError> {
+    Arg::new(alloc, "search")
+        .long("search")
+        .action(ArgAction::SetTrue)
+        .help("Tries more schedules for --show: in each of them the controller is late on one ring")
+        .requires_arg("show")
+}
+
+/// The row before which a trace is shown.
+fn row<'a>(alloc: Global) -> Arg<'a> {
+    Arg::new(alloc, "ROW")
+        .value_parser(clap::value_parser!(u32))
+        .help("The row, by its line from 1; none: the first that breaks a rule, or the end")
 }
 
 /// A word of the block that is to be decoded.
@@ -278,4 +356,14 @@ pub fn path<'a>(matches: &ArgMatches<'a>, name: &str) -> Option<&'a str>
 {
     let path = matches.get_str(name)?;
     if path == "-" { None } else { Some(path) }
+}
+
+/// The files of the traces that are to be checked, where `-` is standard input.
+pub fn paths<'a>(check: &'a ArgMatches<'_>) -> &'a [&'a str] {
+    check.get_strs("TRACE").unwrap_or(&[])
+}
+
+/// Whether standard input is more than one of the files.
+pub fn is_read_twice(paths: &[&str]) -> bool {
+    paths.iter().filter(|path| **path == "-").count() > 1
 }

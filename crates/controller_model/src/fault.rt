@@ -2,15 +2,19 @@ ghost use Rattle.std.specs.Prelude.{◌≡◌};
 ghost use Rattle.controller_model.specs.Faults.{number_of};
 
 use std::alloc::AllocError;
+use thiserror::Error;
 
 /// Why a step isn't made.
-#[derive(Clone, Copy, Debug, PartialEq, Eq)]
+#[derive(Clone, Copy, Debug, Error, PartialEq, Eq)]
 pub enum StepFault {
     /// No controller may make this step now. Nothing is changed.
+    #[error("no controller may make this step now")]
     NotPossible,
     /// Memory was refused in an earlier step, so the world can't go on.
+    #[error("memory was wanted in an earlier step")]
     Spent,
     /// Memory was refused, so this step can't be made, nor any later one.
+    #[error("memory is wanted")]
     Memory,
 }
 

@@ -3,6 +3,7 @@ ghost use Rattle.std.specs.Fmt.{padded};
 ghost use Rattle.cycle_ring.specs.Progress.{enqueue_fault_number, enqueue_fault_name};
 
 use std::alloc::AllocError;
+use std::error::Error;
 use std::fmt;
 use trb::Fault;
 
@@ -54,6 +55,8 @@ impl fmt::Display for EnqueueFault {
         f.pad(self.name())
     }
 }
+
+impl Error for EnqueueFault {}
 
 impl From<Fault> for EnqueueFault {
     ghost use Rattle.std.specs.Prelude.{◌≡◌};
@@ -109,3 +112,5 @@ impl fmt::Display for NotGiven {
         f.pad(self.name())
     }
 }
+
+impl Error for NotGiven {}

@@ -1,21 +1,18 @@
 //! The diagnostic of a refused row, by the rule that it breaks.
-ghost use Rattle.std.specs.Prelude.{◌≡◌, IfOk};
+ghost use Rattle.std.specs.Prelude.{◌≡◌, IfOk, IsOk, string_bytes};
+ghost use Rattle.diagnostics.specs.Layout.{IsToldOf};
+ghost use Rattle.trace_reader.specs.Reading.{trace_of};
 
-use crate::commands_given::bad_command;
-use crate::declarations::{bad_descriptor, ring_full};
-use crate::devices::{bad_doorbell, busy};
-use crate::diagnostic::{Diagnostic, InFile, Matter};
-use crate::events::impossible_event;
-use crate::finding::{Case, Finding, line_of};
-use crate::givings::{link_fault, not_declared, write_to_owned};
-use crate::known::known_after;
-use crate::moves::bad_move;
-use crate::profile::not_in_profile;
-use crate::registers::{after_stop, bad_erdp, bad_register};
-use crate::source::quote;
-use crate::submissions::{never_submitted, not_as_submitted, not_whole};
-use crate::words::{general_head, why_refused};
+use command_findings::{
+    after_stop, bad_command, bad_doorbell, bad_erdp, bad_register, busy, not_in_profile,
+};
+use diagnostics::{Diagnostic, Matter, quote};
 use ownership_rules::Refusal;
+use ring_findings::{
+    bad_descriptor, bad_move, impossible_event, link_fault, never_submitted, not_as_submitted,
+    not_declared, not_whole, ring_full, write_to_owned,
+};
+use row_history::{Case, Finding, general_head, known_after, line_of, why_refused};
 use std::alloc::{AllocError, Global};
 use trace_reader::{ReadFault, read_trace};
 use traces::{Row, Trace};
@@ -27,19 +24,29 @@ pub fn explain_refused(
     text: &[u8],
     row: u32,
     refusal: Refusal,
-) -> Result<String, AllocError> {
+) -> Result<String, AllocError>
+    ensures { IsOk (trace_of text.now) → IfOk result (λ told. IsToldOf path.now (Matter.Rule refusal) row (string_bytes told)) }
+{
     match read_trace(alloc, text) {
-        Ok(trace) => {
-            let diagnostic = diagnostic_of(alloc, text, &trace, row, refusal)?;
-            let told = InFile {
-                path,
-                diagnostic: &diagnostic,
-            };
-            format!(in alloc; "{told}")
-        }
+        Ok(trace) => explain_row(alloc, path, text, &trace, row, refusal),
         Err(ReadFault::Memory) => Err(AllocError),
         Err(ReadFault::Line { .. }) => Ok(String::new(alloc)),
     }
+}
+
+/// What is told of a refused row of a trace.
+fn explain_row(
+    alloc: Global,
+    path: &str,
+    text: &[u8],
+    trace: &Trace,
+    row: u32,
+    refusal: Refusal,
+) -> Result<String, AllocError>
+    ensures { IfOk result (λ told. IsToldOf path.now (Matter.Rule refusal) row (string_bytes told)) }
+{
+    let diagnostic = diagnostic_of(alloc, text, trace, row, refusal)?;
+    diagnostic.told(alloc, path)
 }
 
 /// The diagnostic of a row of a trace that breaks a rule.

@@ -10,7 +10,7 @@ abbrev pub with_rest : World → List Row → World
 with_rest w rest = record w { rows = rest }
 
 module _ (h : Header) where
-  lazy_row : (row : Row) (past later : List Row) → IsDriverRow row → lazy.lazy_run h (row ∷ past) later ≡ NextRow ∷ lazy.lazy_run h past (row ∷ later)
+  pub lazy_row : (row : Row) (past later : List Row) → IsDriverRow row → lazy.lazy_run h (row ∷ past) later ≡ NextRow ∷ lazy.lazy_run h past (row ∷ later)
   unfolding lazy.lazy_run lazy.steps_before
   lazy_row (Sub r blocks) past later driver_row = refl
   lazy_row (Write a x) past later driver_row = refl

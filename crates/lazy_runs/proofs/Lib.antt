@@ -43,5 +43,13 @@ pub mod DequeueCompletions
 pub mod AddressCompletions
 pub mod ConfigureCompletions
 pub mod Completions
+pub mod Totals
+pub mod Counts
+pub mod LooksCounted
+pub mod Progress
+pub mod GivenCounted
+pub mod EventGoals
+pub mod PointersNear
+pub mod StepsCounted
 pub mod LazyRuns
 pub mod Words

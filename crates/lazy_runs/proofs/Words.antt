@@ -25,6 +25,7 @@ pub use Rattle.ownership_rules.proofs.Among.{IsIn}
 unfoldable pub use Rattle.ownership_rules.specs.Areas.{is_bad_area}
 pub use Rattle.ownership_rules.specs.Clean.{IsLenient}
 unfoldable pub use Rattle.ownership_rules.specs.Commands.{has_bad_context}
+pub use Rattle.ownership_rules.specs.Declarations.{is_driver_ring}
 unfoldable pub use Rattle.ownership_rules.specs.Doorbells.{is_bad_bell, is_touched}
 unfoldable pub use Rattle.ownership_rules.specs.Events.{can_finish, can_report, can_report_at, event_tests, is_impossible, is_impossible_by_kind, is_impossible_completion, is_impossible_transfer, is_in_profile, is_past_room, is_stopping_now, is_working, may_be_taken, was_stop_seen}
 unfoldable pub use Rattle.ownership_rules.specs.Moves.{binding_in, has_repeats, is_among, ring_bound}
@@ -41,7 +42,8 @@ pub use Rattle.safety.proofs.AtSpots.{Crossable, Takeable, crossable, takeable}
 pub use Rattle.safety.proofs.CleanRows.{BellFacts, EventFacts, bell_facts, event_facts}
 pub use Rattle.safety.proofs.ContextWords.{address_same, configure_same, same_context}
 pub use Rattle.safety.proofs.DriverHistories.{driver_keeps, run_keeps}
-pub use Rattle.safety.proofs.DriverRows.{ring_elsewhere, ring_here}
+pub use Rattle.safety.proofs.DriverRings.{driver_ring, driver_test, endpoints_of, rings_of, transfer_ring}
+pub use Rattle.safety.proofs.DriverRows.{nothing_keeps, ring_elsewhere, ring_here}
 pub use Rattle.safety.proofs.EndpointsOff.{slot_above}
 pub use Rattle.safety.proofs.EventRead.{learned_read}
 pub use Rattle.safety.proofs.FinishAddress.{first_binds, second_moves, slot_binds, slot_moves, slot_was}
@@ -51,10 +53,12 @@ pub use Rattle.safety.proofs.FinishDequeue.{may_move}
 pub use Rattle.safety.proofs.FinishKinds.{completion_kind, failed_read, finish_is, let_go, next_known, seen_after, stop_ended_is}
 pub use Rattle.safety.proofs.FinishRuns.{finish_runs}
 pub use Rattle.safety.proofs.FinishSlots.{AreNoPlacings, IsNoPlacing, PlacesNone, change_keeps}
-pub use Rattle.safety.proofs.Headers.{EventRing, event_ring_is, found_in, ring_shape, shape_is, transfer_driver, transfer_not_command}
+pub use Rattle.safety.proofs.FloorsGrow.{floors_grow}
+pub use Rattle.safety.proofs.Headers.{EventRing, each_passes, event_ring_is, found_in, header_parts, ring_shape, shape_is, transfer_driver, transfer_not_command}
 pub use Rattle.safety.proofs.HeadlineFrom.{later_clean, one_more, runs_rest}
 pub use Rattle.safety.proofs.HeldFurther.{more_law}
-pub use Rattle.safety.proofs.KeptRings.{next_at_floor, next_unfinished}
+pub use Rattle.safety.proofs.Histories.{row_keeps}
+pub use Rattle.safety.proofs.KeptRings.{next_at_floor, next_unfinished, still_of}
 pub use Rattle.safety.proofs.LookKinds.{behind_block, behind_link, cond_is, only_begun, only_crossed, only_taken, put_at, put_off, seen}
 pub use Rattle.safety.proofs.LookRuns.{look_runs}
 pub use Rattle.safety.proofs.LookSpots.{CrossDone, TakeDone, block_no_link, cross_done, link_is, take_done}
@@ -67,6 +71,7 @@ pub use Rattle.safety.proofs.NumberedHistories.{are_numbered}
 pub use Rattle.safety.proofs.OnlyRing.{OnlyRing}
 pub use Rattle.safety.proofs.Opens.{opens}
 pub use Rattle.safety.proofs.Other.{other_runs, says_nothing}
+pub use Rattle.safety.proofs.OtherRingsWritten.{not_in_both}
 pub use Rattle.safety.proofs.PlaceEach.{MayAdd, WereBound, bound_next, may_behind, ring_at}
 pub use Rattle.safety.proofs.PlaceKeeps.{MayBind, MayMove, bind_keeps, move_keeps}
 pub use Rattle.safety.proofs.PlacedKnown.{binds_placed, moves_placed}
@@ -79,28 +84,34 @@ pub use Rattle.safety.proofs.ReadRow.{read_runs}
 pub use Rattle.safety.proofs.ReportRuns.{report_runs}
 pub use Rattle.safety.proofs.ReportSuccess.{report_is, transfer_kind}
 pub use Rattle.safety.proofs.ReportedRing.{open_takes}
-pub use Rattle.safety.proofs.RowFrames.{bell_leaves, declaration_leaves, register_leaves, write_leaves}
+pub use Rattle.safety.proofs.RingIds.{beginning_transfer}
+pub use Rattle.safety.proofs.RowFrames.{bell_leaves, declaration_leaves, register_leaves, write_leaves, written_view}
 pub use Rattle.safety.proofs.RowRuns.{row_runs}
 pub use Rattle.safety.proofs.RowsLeft.{looked_left, row_left}
 pub use Rattle.safety.proofs.Safe.{block_found, stands_at}
 pub use Rattle.safety.proofs.SafeContext.{AtFloor, at_floor, command_at_is, command_is_ring, next_is, none_in_range}
 pub use Rattle.safety.proofs.SameCommand.{command_of-with_cycle}
-pub use Rattle.safety.proofs.SameDriver.{view_after}
+pub use Rattle.safety.proofs.SameDriver.{event_same, view_after}
 pub use Rattle.safety.proofs.Squares.{square_law}
+pub use Rattle.safety.proofs.StillPlacing.{still_reads}
 pub use Rattle.safety.proofs.StillRings.{still_rings}
 pub use Rattle.safety.proofs.StopRead.{StopCode}
 pub use Rattle.safety.proofs.TestsPassed.{AllFail, any_of_map, clean_tests, each_fails, tests_fail}
 pub use Rattle.safety.proofs.TransferLeaves.{TransferLeaves, transferred_leaves}
 pub use Rattle.safety.proofs.Transfers.{chain, spot_is}
 pub use Rattle.safety.proofs.WithReads.{with_reads}
+pub use Rattle.safety.specs.EndpointsKeep.{EndpointsKeep}
 pub use Rattle.safety.specs.Invariant.{Runs, reading}
 pub use Rattle.safety.specs.Keeps.{CommandKeeps, DriverKeeps, IsDriverRing, IsTransferRing}
 pub use Rattle.safety.specs.KeptHistories.{IsDriverRow}
 pub use Rattle.safety.specs.Matches.{Agrees, BoundRing, CommandMatches, RingMatches, RingState, TakenCommand, UnderWayMatches, Unreported, state_of}
 pub use Rattle.safety.specs.Stands.{Stands}
 pub use Rattle.segments.proofs.Crossings.{crossing_positive}
+pub use Rattle.segments.proofs.Elsewhere.{address_inside}
+pub use Rattle.segments.proofs.Giving.{gives_is}
 pub use Rattle.segments.proofs.Named.{ceiling_within, named_ahead}
 pub use Rattle.segments.proofs.NamedSpots.{IsNamed, named_spot-Some}
+pub use Rattle.segments.proofs.OneGiving.{gives_one}
 pub use Rattle.segments.proofs.Positions.{cycle_of_bit, same_in_lap}
 pub use Rattle.segments.proofs.ReachedSpots.{after_reached, number-after, stop_spot_reached}
 pub use Rattle.segments.proofs.Search.{cases_option, position-None}
@@ -110,19 +121,19 @@ unfoldable pub use Rattle.segments.specs.Ceiling.{ceiling, given_count, is_data_
 unfoldable pub use Rattle.segments.specs.Moves.{target}
 pub use Rattle.segments.specs.Places.{address_of, cycle_of, is_inside, place_count}
 pub use Rattle.segments.specs.RingKeeps.{MayReach, RingKeeps}
-pub use Rattle.segments.specs.RingView.{Holds, Opens, Reaches, RingView, declared, floor_number}
-pub use Rattle.segments.specs.Shape.{IsShape}
+pub use Rattle.segments.specs.RingView.{Declares, Holds, Opens, Reaches, RingView, Writes, changed, declared, floor_number, gives}
+pub use Rattle.segments.specs.Shape.{IsShape, is_shape}
 pub use Rattle.segments.specs.ShapeValue.{Shape}
 pub use Rattle.segments.specs.Spots.{IsSpot, after, next, number, rank, spot_address, spot_cycle, spots_from}
 pub use Rattle.segments.specs.declared.spot.Spot.{Spot}
 pub use Rattle.segments.specs.declared.spot.Spot.TheVariants.{Data, Link}
 pub use Rattle.std.proofs.lemmas.Bool.{and_cases, and_from, and_left, and_parts, and_right, cases_Bool, cases_eq, cases_lt, cond-false, cond-true, cond_both, false_from_ne_true, false≢true, not-false, not-true, not_from_false, not_from_true, or_cases, or_from, or_parts}
-pub use Rattle.std.proofs.lemmas.List.{reverse-append, reverse-reverse}
+pub use Rattle.std.proofs.lemmas.List.{length-map, length-reverse, reverse-append, reverse-reverse}
 pub use Rattle.std.proofs.lemmas.List.Elements.{All-cons, All-head, All-nil, All-tail}
 pub use Rattle.std.proofs.lemmas.List.FromFn.{get_or-map-range_with_len, length-map-range_with_len}
 pub use Rattle.std.proofs.lemmas.Option.{none-some, same_Some}
 pub use Rattle.std.specs.List.{flat_map, list_any, range_with_len}
-pub use Rattle.traces.specs.Header.{IsHeader, id_of, is_ring, is_transfer_kind}
+pub use Rattle.traces.specs.Header.{IsHeader, id_of, is_ring, is_transfer_kind, ring_with}
 unfoldable pub use Rattle.traces.specs.Header.{command_id, event_shape, event_size, ring_beginning_at, ring_having, shape_of}
 pub use Rattle.traces.specs.Register.{base_address, register_or_zero, reset_bit, ring_cycle_state, run_bit}
 pub use Rattle.traces.specs.Rows.{IsRow}

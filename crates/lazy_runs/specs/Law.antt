@@ -1,5 +1,5 @@
--- That there is a run: the lazy schedule of a clean trace without late events reads all its rows
-use Rattle.std.specs.Prelude.{◌≡◌, ℕ, List, [], ◌++◌, All, reverse, Some}
+-- That there is a run: the lazy schedule of a clean trace without late events reads all its rows. And how long it is at most
+use Rattle.std.specs.Prelude.{◌≡◌, ◌≤◌, ◌+◌, ◌*◌, ℕ, length, List, [], ◌++◌, All, reverse, Some}
 use Rattle.segments.specs.Spots.{spot_address, spot_cycle}
 use Rattle.traces.specs.declared.header.Header.{Header}
 use Rattle.traces.specs.declared.row.Row.{Row}
@@ -48,3 +48,7 @@ module _ (h : Header) where
   AllAreRead =
       (rows : List Row) → IsHeader h → All IsRow rows → IsLenient h (reverse rows) → IsTimely h (reverse rows) →
       ContainsAll rows (reverse (lazy_steps h rows))
+
+  -- a clean trace, also one with late events, has at most three steps for each of its rows, and three more
+  abbrev pub FewSteps : Type 0
+  FewSteps = (rows : List Row) → IsHeader h → IsLenient h (reverse rows) → length (lazy_steps h rows) ≤ 3 * length rows + 3

@@ -11,6 +11,8 @@ mod context_fields;
 #[cfg(test)]
 mod enqueues;
 #[cfg(test)]
+mod faults;
+#[cfg(test)]
 mod lazy;
 #[cfg(test)]
 mod memory;
@@ -20,6 +22,8 @@ mod plans;
 mod replays;
 #[cfg(test)]
 mod ring_shapes;
+#[cfg(test)]
+mod sinks;
 #[cfg(test)]
 mod telling;
 #[cfg(test)]

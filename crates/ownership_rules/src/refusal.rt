@@ -2,6 +2,7 @@ ghost use Rattle.std.specs.Prelude.{◌≡◌, Some};
 ghost use Rattle.std.specs.Fmt.{padded};
 ghost use Rattle.ownership_rules.specs.Refusal.{number_of, name_of};
 
+use std::error::Error;
 use std::fmt;
 
 /// The rule that a row breaks, in the order of the printed numbers.
@@ -100,3 +101,5 @@ impl fmt::Display for Refusal {
         f.pad(self.name())
     }
 }
+
+impl Error for Refusal {}

@@ -1,8 +1,11 @@
-ghost use Rattle.std.specs.Prelude.{◌≡◌};
+ghost use Rattle.std.specs.Prelude.{◌≡◌, Some};
+ghost use Rattle.std.specs.Fmt.{padded};
 ghost use Rattle.plan_writer.specs.PlanRefusals.{refusal_number, refusal_name};
 
 use cycle_ring::{EnqueueFault, NotGiven};
 use std::alloc::AllocError;
+use std::fmt;
+use thiserror::Error;
 use trace_reader::{LineFault, ReadFault};
 
 /// Why a line of a plan can't be followed.
@@ -48,14 +51,29 @@ impl PlanRefusal {
     }
 }
 
+impl fmt::Display for PlanRefusal {
+    ghost output = { λ refusal. Some (refusal_name refusal) };
+
+    ghost styled_output = { λ refusal spec. Some (padded spec (refusal_name refusal)) };
+
+    fn fmt<W: fmt::Write>(&self, f: &mut fmt::Formatter<W>) -> fmt::Result {
+        f.pad(self.name())
+    }
+}
+
+impl std::error::Error for PlanRefusal {}
+
 /// Why no trace was written.
-#[derive(Debug, Drop, PartialEq, Eq)]
+#[derive(Debug, Drop, Error, PartialEq, Eq)]
 pub enum PlanFault {
     /// The first bad line of the text, from 1, and its fault.
+    #[error("line {line}: {fault}")]
     Line { line: u32, fault: LineFault },
     /// The first line that can't be followed, from 1. All lines were read before.
+    #[error("line {line}: {refusal}")]
     Refused { line: u32, refusal: PlanRefusal },
     /// A growth of memory was refused.
+    #[error("memory is wanted")]
     Memory,
 }
 

@@ -1,29 +1,36 @@
-ghost use Rattle.std.specs.Prelude.{◌≡◌, ◌==◌, ◌+◌, ◌*◌, ◌%◌, ◌^◌, ◌≤◌, ◌&&◌, ◌||◌, ℕ, Bool, false, not, nat_lt, OnOk, OnErr};
+ghost use Rattle.std.specs.Prelude.{◌≡◌, ◌==◌, ◌+◌, ◌*◌, ◌/◌, ◌%◌, ◌^◌, ◌<◌, ◌≤◌, ◌&&◌, ◌||◌, ℕ, Bool, false, not, nat_le, nat_lt, OnOk, OnErr};
+ghost use Rattle.std.specs.Int.{bit_at};
 ghost use Rattle.std.specs.List.{list_any, range_with_len};
 ghost use Rattle.guest_memory.specs.Memory.{put};
-ghost use Rattle.guest_memory.specs.Page.{word_in};
 ghost use Rattle.segments.specs.Places.{is_in};
 
-use guest_memory::{Addr, PageMemory, WordMemory};
+use guest_memory::Addr;
 use std::alloc::{AllocError, Global};
+use std::collections::BTreeMap;
+
+/// The words of a group: one for each bit of a number.
+const GROUP: u64 = 64;
+
+/// The bytes of a group.
+const GROUP_BYTES: u64 = 256;
 
 /// The soiled words: those that the controller may have changed, and the driver hasn't written since. Contracts compare them with a test
 /// of addresses.
 #[derive(Drop)]
 pub struct SoiledWords {
-    /// A word that isn't 0 for each of them.
-    words: PageMemory,
+    /// A bit for each word of a group, by the number of the group, in the order of their addresses: no choice of addresses makes it slow.
+    groups: BTreeMap<u64, u64>,
 }
 
 impl SoiledWords {
-    ghost use Rattle.range_words.specs.Holding.{HoldsSoiled};
+    ghost use Rattle.range_words.specs.Holding.{HoldsSoiled, bits_of};
 
     /// No word is soiled.
     pub fn new(alloc: Global) -> SoiledWords
         ensures { HoldsSoiled (λ a. false) result }
     {
         SoiledWords {
-            words: PageMemory::new(alloc),
+            groups: BTreeMap::new(alloc),
         }
     }
 
@@ -31,7 +38,8 @@ impl SoiledWords {
     pub fn is_soiled(&self, at: Addr) -> bool
         ensures { (soiled : ℕ → Bool) → HoldsSoiled soiled self.now → result ≡ soiled at }
     {
-        self.words.word(at) != 0
+        let (group, bit) = place(at);
+        self.bits(group) & bit != 0
     }
 
     /// One of these words is soiled.
@@ -40,8 +48,11 @@ impl SoiledWords {
         requires within { from + 4 * words ≤ 2 ^ 64 }
         ensures { (soiled : ℕ → Bool) → HoldsSoiled soiled self.now → result ≡ list_any (λ i. soiled (from + 4 * i)) (range_with_len 0 words) }
     {
-        for i in 0..words {
-            if self.has(from + 4 * i) {
+        let first = from / 4;
+        let end = first + words;
+        for group in first / GROUP..(end + 63) / GROUP {
+            let common = self.bits(group) & mask(group, first, end);
+            if common != 0 {
                 return true;
             }
         }
@@ -54,42 +65,63 @@ impl SoiledWords {
         requires within { from + 4 * words ≤ 2 ^ 64 }
         ensures { OnOk result ((soiled : ℕ → Bool) → HoldsSoiled soiled self.old → HoldsSoiled (λ x. is_in x from (4 * words) || soiled x) self.new) }
     {
-        for i in 0..words {
-            self.mark(from + 4 * i)?;
+        let first = from / 4;
+        let end = first + words;
+        for group in first / GROUP..(end + 63) / GROUP {
+            let bits = self.bits(group) | mask(group, first, end);
+            self.set_bits(group, bits)?;
         }
         Ok(())
     }
 
-    /// The driver wrote this word. That costs memory only where it was soiled. Want of memory changes nothing.
+    /// The driver wrote this word. Want of memory changes nothing.
     pub fn clear(&mut self, at: Addr) -> Result<(), AllocError>
         ensures ok { OnOk result ((soiled : ℕ → Bool) → HoldsSoiled soiled self.old → HoldsSoiled (λ x. soiled x && not (x == at)) self.new) }
         ensures err { OnErr result ((soiled : ℕ → Bool) → HoldsSoiled soiled self.old → HoldsSoiled soiled self.new) }
     {
-        if self.is_soiled(at) {
-            self.words.set(at, 0)?;
+        let (group, bit) = place(at);
+        let bits = self.bits(group);
+        if bits & bit != 0 {
+            self.set_bits(group, bits & !bit)?;
         }
         Ok(())
     }
 
-    /// The word at this address is soiled.
-    fn has(&self, address: u64) -> bool
-        requires { address % 4 ≡ 0 }
-        ensures { result ≡ nat_lt 0 (word_in self.now.words address) }
+    /// The bits of a group: 0 where none of its words was soiled.
+    fn bits(&self, group: u64) -> u64
+        ensures { result ≡ bits_of self.now group }
     {
-        match Addr::new(address) {
-            Some(at) => self.words.word(at) != 0,
-            None => false,
-        }
+        self.groups.get(&group).copied().unwrap_or(0)
     }
 
-    /// Soils the word at this address.
-    fn mark(&mut self, address: u64) -> Result<(), AllocError>
-        requires { address % 4 ≡ 0 }
-        ensures { OnOk result ((a : ℕ) → word_in self.new.words a ≡ put (word_in self.old.words) address 1 a) }
+    /// Sets the bits of a group. Want of memory changes nothing.
+    fn set_bits(&mut self, group: u64, bits: u64) -> Result<(), AllocError>
+        ensures ok { OnOk result ((g : ℕ) → bits_of self.new g ≡ put (bits_of self.old) group bits g) }
+        ensures err { OnErr result ((g : ℕ) → bits_of self.new g ≡ bits_of self.old g) }
     {
-        if let Some(at) = Addr::new(address) {
-            self.words.set(at, 1)?;
-        }
+        self.groups.insert(group, bits)?;
         Ok(())
     }
+}
+
+/// The number of a word's group, and its bit there.
+fn place(at: Addr) -> (u64, u64)
+    ensures group { result.0 ≡ at / 256 }
+    ensures bit { result.1 ≡ 2 ^ (at / 4 % 64) }
+    ensures aligned { at % 4 ≡ 0 }
+{
+    let address = at.get();
+    (address / GROUP_BYTES, 1 << (address / 4 % GROUP))
+}
+
+/// The bits of those words of a group that lie from one word up to another, both by their number in memory.
+fn mask(group: u64, first: u64, end: u64) -> u64
+    requires begun { first < 64 * group + 64 }
+    requires unfinished { 64 * group < end }
+    ensures { (i : ℕ) → i < 64 → nat_lt 0 (bit_at result i) ≡ (nat_le first (64 * group + i) && nat_lt (64 * group + i) end) }
+{
+    let start = GROUP * group;
+    let low = first.saturating_sub(start);
+    let high = (end - start).min(GROUP);
+    (u64::MAX << low) & (u64::MAX >> (GROUP - high))
 }

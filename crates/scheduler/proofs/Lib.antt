@@ -1,3 +1,5 @@
 pub mod Replays
 pub mod Noting
 pub mod Fitting
+pub mod Refused
+pub mod HarmsFound

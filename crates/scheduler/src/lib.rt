@@ -1,9 +1,11 @@
-//! The lazy schedule of a trace: a run of the controller's model that reads all its rows.
+//! Schedules that are made beside a trace: the lazy one, a run of the controller's model that reads all its rows; and where a row
+//! breaks a rule, one that does harm.
 #![tactic(auto)]
 
-mod fault;
+mod attempt;
+mod harmful;
 mod lazy;
 mod notes;
 
-pub use fault::ScheduleFault;
+pub use harmful::{HarmfulRun, Search, harmful_run, harmful_schedule};
 pub use lazy::lazy_schedule;

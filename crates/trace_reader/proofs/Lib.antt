@@ -5,6 +5,7 @@ pub mod ReadSteps
 pub mod LinePieces
 pub mod SpelledFields
 pub mod SpelledValues
+pub mod FixedPlaces
 pub mod SpelledSegments
 pub mod SpelledWords
 pub mod Grammar

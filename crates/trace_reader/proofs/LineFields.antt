@@ -1,6 +1,6 @@
 -- What a line says by its fields
 use Rattle.std.proofs.Common.{◌≡◌, ◌<◌, ◌≤◌, ◌||◌, ◌&&◌, ◌∙◌, ℕ, List, Bool, true, false, Option, Some, None, Result, Ok, Err, refl, ap, sym, cond, length, nat_lt, arith, is_none}
-use Rattle.trace_reader.proofs.Words.{option_and_then, option_map_or, nat_tests, fields_of, has_empty_field, TextLine, LineFault, BadRow, Number, Limit, LineError, Fault, Memory, Answers, content_fault, said_by, said_by_fields, said_by_line, unless_begun, Form, form_of, is_ring_form, most_lines, most_bytes, State, form_in, is_bad_row, is_past_limit, is_too_long, is_too_much, next_number, said_in, said_of, Said}
+use Rattle.trace_reader.proofs.Words.{option_and_then, option_map_or, nat_tests, fields_of, has_empty_field, TextLine, LineFault, BadRow, Number, Limit, LineError, Fault, Memory, Answers, content_fault, said_alone, said_by, said_by_fields, said_by_line, unless_begun, Form, form_of, is_ring_form, most_lines, most_bytes, State, form_in, is_bad_row, is_past_limit, is_too_long, is_too_much, next_number, said_in, said_of, Said}
 
 -- a line with this number may not say too much, or be past the limit
 abbrev pub limited : ℕ → Result Said LineFault → Result Said LineFault
@@ -30,20 +30,25 @@ within_line st line false true true is_long is_ended is_empty = rw (is_long, is_
 within_line st line false true false is_long is_ended is_empty = rw (is_long, is_ended, is_empty) (by_form st.begun (next_number st) (form_of (fields_of line.content)))
 
 -- a line by its content's fault, or else by its fields
-pub by_fields : (st : State) (line : TextLine) →
+by_fields : (st : State) (line : TextLine) →
     said_by_line st line ≡ option_map_or Err (content_fault line) (limited (next_number st) (said_by_fields st.begun (fields_of line.content)))
 by_fields st line = within_line st line (nat_lt most_bytes (length line.content)) line.is_ended (has_empty_field (fields_of line.content)) refl refl refl
 
-pub faulty : (st : State) (line : TextLine) (fault : LineFault) → content_fault line ≡ Some fault → said_by_line st line ≡ Err fault
-faulty st line fault is = by_fields st line ∙ ap (λ f. option_map_or Err f (limited (next_number st) (said_by_fields st.begun (fields_of line.content)))) is
+limit_last : (number : ℕ) (fault : Option LineFault) (wanted : Result Said LineFault) → option_map_or Err fault (limited number wanted) ≡ limited number (option_map_or Err fault wanted)
+limit_last number (Some fault) wanted = refl
+limit_last number None wanted = refl
 
-pub faultless : (st : State) (line : TextLine) (begun : Bool) (content : List ℕ) → content_fault line ≡ None → st.begun ≡ begun → content ≡ line.content →
-    said_by_line st line ≡ limited (next_number st) (said_by_fields begun (fields_of content))
-faultless st line begun content whole started is =
-    by_fields st line ∙ ap (λ f. option_map_or Err f (limited (next_number st) (said_by_fields st.begun (fields_of line.content)))) whole
-    ∙ ap (λ b. limited (next_number st) (said_by_fields b (fields_of line.content))) started ∙ ap (λ xs. limited (next_number st) (said_by_fields begun (fields_of xs))) (sym is)
+-- a line by what it says by itself
+pub alone : (st : State) (line : TextLine) (begun : Bool) → st.begun ≡ begun → said_by_line st line ≡ limited (next_number st) (said_alone begun line)
+alone st line begun started =
+    by_fields st line ∙ limit_last (next_number st) (content_fault line) (said_by_fields st.begun (fields_of line.content)) ∙ ap (λ b. limited (next_number st) (said_alone b line)) started
 
--- a fault of the fields is the line's
+-- what the fields of a line without a fault of its own say
+pub by_its_fields : (line : TextLine) (begun : Bool) (content : List ℕ) → content_fault line ≡ None → content ≡ line.content → said_alone begun line ≡ said_by_fields begun (fields_of content)
+by_its_fields line begun content whole is =
+    ap (λ f. option_map_or Err f (said_by_fields begun (fields_of line.content))) whole ∙ ap (λ xs. said_by_fields begun (fields_of xs)) (sym is)
+
+-- a fault of what it says by itself is the line's
 pub passed_on : (number : ℕ) (e : LineError) (wanted : Result Said LineFault) → Answers (Err e) wanted → Answers (Err e) (limited number wanted)
 passed_on number (Fault fault) wanted is = rw is refl
 passed_on number Memory wanted is = tt

@@ -1,7 +1,7 @@
 -- What is read of a text is the valid trace that the text spells
 use Rattle.std.proofs.Common.{◌≡◌, ◌-◌, ◌≤◌, ◌&&◌, ◌↔◌, ◌∷◌, ◌++◌, ◌∙◌, ℕ, Bool, true, false, inl, inr, cond, List, [], length, nat_lt, Option, Some, None, Result, Ok, Err, IsTrue, is_none, refl, sym, ap, subst, arith, codes, ltb-false, le-ltb}
 use Rattle.trace_reader.proofs.Words.{Version, One, Two, Three, join_with_byte, list_all, bytes_eq, and_parts, and_from, cases_Bool, ContextSize, Bytes32, Bytes64, fields_of, TextLine, lines_of, join-fields_of, LineFault, BadHeader, Ring, Row, may_stand_together, most_lines, State, TraceText, after, line_fault, next_number, read_line, read_lines, size_of, start, trace_of, version_of, whole, with_size, with_version, Field, Word, are_written, is_written, lines_written, size_fields, size_word, spells, trace_lines, version_fields, version_word, IsTrace}
-use Rattle.trace_reader.proofs.SpelledFields.{same_bytes, are_same_bytes, then_are}
+use Rattle.trace_reader.proofs.SpelledFields.{same_bytes, then_are}
 use Rattle.trace_reader.proofs.SpelledWords.{word_first}
 use Rattle.trace_reader.proofs.SpelledLines.{ok_there, there}
 use Rattle.trace_reader.proofs.SpelledTraces.{is_line_ring, lines_for, lines_go_on, lines_read, read_on, spells_from_read, with_front}

@@ -10,23 +10,23 @@ word_field n = Digits (digits_of w32 n)
 -- ---- a block
 
 -- four fields that say the four words of a block
-record Words (a b c d : List ℕ) (block : Block) : Type 0 where
-  x : ℕ
-  y : ℕ
-  z : ℕ
-  u : ℕ
-  first : number_of w32 a ≡ Some x
-  second : number_of w32 b ≡ Some y
-  third : number_of w32 c ≡ Some z
-  fourth : number_of w32 d ≡ Some u
-  are : record { w = x ∷ y ∷ z ∷ u ∷ [] } ≡ block
+pub record Words (a b c d : List ℕ) (block : Block) : Type 0 where
+  pub x : ℕ
+  pub y : ℕ
+  pub z : ℕ
+  pub u : ℕ
+  pub first : number_of w32 a ≡ Some x
+  pub second : number_of w32 b ≡ Some y
+  pub third : number_of w32 c ≡ Some z
+  pub fourth : number_of w32 d ≡ Some u
+  pub are : record { w = x ∷ y ∷ z ∷ u ∷ [] } ≡ block
 
 rebuilt : (x y z u : ℕ) (e s r q w : List ℕ) (block : Block) → [] ≡ e → u ∷ e ≡ s → z ∷ s ≡ r → y ∷ r ≡ q → x ∷ q ≡ w → record { w = w } ≡ block → record { w = x ∷ y ∷ z ∷ u ∷ [] } ≡ block
 rebuilt x y z u e s r q w block nothing us zs ys xs is =
     let words : x ∷ y ∷ z ∷ u ∷ [] ≡ w = cc in
     ap (λ (ws : List ℕ). record { w = ws }) words ∙ is
 
-words_there : (a b c d : List ℕ) (block : Block) → block_of a b c d ≡ Some block → Words a b c d block
+pub words_there : (a b c d : List ℕ) (block : Block) → block_of a b c d ≡ Some block → Words a b c d block
 unfolding block_of
 words_there a b c d block says =
     let of = mapped_there (λ words. record { w = words }) _ block says in

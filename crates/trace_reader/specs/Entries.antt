@@ -1,5 +1,5 @@
 -- What the reader's functions answer, in the words of Reading
-use Rattle.std.specs.Prelude.{◌≡◌, ℕ, ◌&&◌, Bool, not, List, [], ◌∷◌, ◌++◌, length, Option, Some, None, Result, Ok, Err, nat_lt, vec_len, ◌==◌, codes, if◌then◌else◌}
+use Rattle.std.specs.Prelude.{◌≡◌, ℕ, ◌&&◌, Bool, true, not, List, [], ◌∷◌, ◌++◌, length, Option, Some, None, Result, Ok, Err, nat_lt, vec_len, ◌==◌, codes, if◌then◌else◌}
 use Rattle.std.specs.Option.{option_map_or}
 use Rattle.std.specs.Str.{bytes_eq}
 use Rattle.segments.specs.ShapeValue.{shape_of}
@@ -96,6 +96,14 @@ content_fault line =
     else if not line.is_ended then Some BadRow
     else if has_empty_field (fields_of line.content) then Some BadRow
     else None
+
+-- a line by itself: its content's fault, or what its fields say
+abbrev pub said_alone : Bool → TextLine → Result Said LineFault
+said_alone begun line = option_map_or Err (content_fault line) (said_by_fields begun (fields_of line.content))
+
+-- a line of these bytes says the row, behind rings and behind rows
+abbrev pub SaysAlone : Row → List ℕ → Type 0
+SaysAlone row content = (begun : Bool) → said_alone begun (record { content = content; is_ended = true }) ≡ Ok (SaysRow row)
 
 -- a line behind the header, before its ring is placed among the others
 unfoldable pub said_by_line : State → TextLine → Result Said LineFault

@@ -8,6 +8,7 @@ mod line;
 mod plan_line;
 mod plans;
 mod print;
+mod quick;
 mod read;
 mod schedules;
 mod so_far;

@@ -1,10 +1,11 @@
 ghost use Rattle.std.specs.Prelude.{◌≡◌, ◌≤◌, ◌+◌, Some, None, OnOk, IfOk, IfErr};
-ghost use Rattle.trace_reader.specs.Entries.{Answers, content_fault, said_by_line, value_of};
+ghost use Rattle.trace_reader.specs.Entries.{Answers, content_fault, said_alone, said_by_line, value_of};
 ghost use Rattle.traces.specs.Limits.{most_lines};
 ghost use Rattle.trace_reader.specs.Reading.{State, is_too_much, size_of, version_of};
 
 use crate::entry::{Entry, entry_of};
 use crate::fault::{LineError, LineFault};
+use crate::quick::quick_row;
 use contexts::ContextSize;
 use line_text::{Fields, Line, Survey};
 use std::alloc::Global;
@@ -57,8 +58,7 @@ pub fn entry_in(alloc: Global, lines: u32, begun: bool, line: &Line) -> Result<E
     ensures answer { (st : State) → st.lines ≡ lines → st.begun ≡ begun → Answers result (said_by_line st line.now) }
     ensures within { OnOk result (lines + 1 ≤ most_lines) }
 {
-    let content = content_of(line)?;
-    let entry = entry_of(alloc, begun, Survey::of(content).count, Fields::of(content))?;
+    let entry = entry_alone(alloc, begun, line)?;
     if lines >= MOST_LINES {
         return Err(LineFault::Limit.into());
     }
@@ -66,6 +66,17 @@ pub fn entry_in(alloc: Global, lines: u32, begun: bool, line: &Line) -> Result<E
         return Err(LineFault::Limit.into());
     }
     Ok(entry)
+}
+
+/// What a line behind the header says by itself.
+fn entry_alone(alloc: Global, begun: bool, line: &Line) -> Result<Entry, LineError>
+    ensures { Answers result (said_alone begun line.now) }
+{
+    if let Some(row) = quick_row(alloc, line)? {
+        return Ok(Entry::Row(row));
+    }
+    let content = content_of(line)?;
+    entry_of(alloc, begun, Survey::of(content).count, Fields::of(content))
 }
 
 /// The bytes of a line that has not too many, ends with a line feed, and has no empty field.

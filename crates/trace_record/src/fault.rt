@@ -2,13 +2,16 @@ ghost use Rattle.std.specs.Prelude.{◌≡◌};
 
 use ownership_rules::Refusal;
 use std::alloc::AllocError;
+use thiserror::Error;
 
 /// Why a row isn't accepted.
-#[derive(Debug, Drop)]
+#[derive(Debug, Drop, Error)]
 pub enum StepFault {
     /// The least of the rules that the row breaks.
+    #[error("{0}")]
     Refused(Refusal),
     /// A growth of memory was refused.
+    #[error("memory is wanted")]
     Memory,
 }
 

@@ -2,6 +2,7 @@ ghost use Rattle.std.specs.Prelude.{◌≡◌, Some};
 ghost use Rattle.std.specs.Fmt.{padded};
 ghost use Rattle.trb.specs.Descriptor.{fault_number, fault_name};
 
+use std::error::Error;
 use std::fmt;
 
 /// What is wrong with a list of blocks as a descriptor.
@@ -44,3 +45,5 @@ impl fmt::Display for Fault {
         f.pad(self.name())
     }
 }
+
+impl Error for Fault {}

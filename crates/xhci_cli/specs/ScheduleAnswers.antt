@@ -1,6 +1,5 @@
 -- What is right to answer to the text of a trace whose lazy schedule is asked for
-use Rattle.std.specs.Prelude.{◌≡◌, ◌+◌, ◌<◌, ℕ, List, length, reverse, Option, Some, Ok}
-use Rattle.traces.specs.Limits.{most_schedule_lines}
+use Rattle.std.specs.Prelude.{◌≡◌, ℕ, List, reverse, Option, Some, Ok}
 use Rattle.traces.specs.declared.trace.Trace.{Trace}
 use Rattle.trace_reader.specs.Schedules.{schedule_of}
 use Rattle.trace_reader.specs.ScheduleSpelling.{printed_schedule}
@@ -14,7 +13,7 @@ use Rattle.lazy_runs.specs.Law.{ContainsAll}
 use Rattle.lazy_runs.specs.Lazy.{lazy_steps}
 use Rattle.answers.specs.Inputs.{IsTraceAnswer}
 use Rattle.answers.specs.declared.answer.Answer.{Answer}
-use Rattle.answers.specs.declared.answer.Answer.TheVariants.{Scheduled, Refused, TooLong, Memory}
+use Rattle.answers.specs.declared.answer.Answer.TheVariants.{Scheduled, Refused, Memory}
 
 -- the text is the lazy schedule of a trace that breaks no rule, and is read as that; where no event is late, it is a run of the
 -- controller's model that contains all rows, and its replay does no harm
@@ -25,17 +24,11 @@ pub record IsLazySchedule (trace : Trace) (text : List ℕ) : Type 0 where
   pub runs : IsTimely trace.header (reverse trace.rows) → ContainsAll trace.header trace.rows (reverse (lazy_steps trace.header trace.rows))
   pub harmless : IsTimely trace.header (reverse trace.rows) → (replayed trace.header trace.rows (lazy_steps trace.header trace.rows)).ending ≡ NoHarm
 
--- the trace breaks no rule, and its lazy schedule has more lines than a schedule may have, the first one too
-pub record IsTooLong (trace : Trace) : Type 0 where
-  pub clean : IsClean trace.header (reverse trace.rows)
-  pub lines : most_schedule_lines < length (lazy_steps trace.header trace.rows) + 1
-
--- what is right to answer of a trace: its lazy schedule, or that this is too long; its first row that breaks a rule, and the least
--- rule that it breaks; or that memory was wanted
+-- what is right to answer of a trace: its lazy schedule; its first row that breaks a rule, and the least rule that it breaks; or that
+-- memory was wanted
 abbrev pub IsScheduled : Trace → Answer → Type 0
 IsScheduled trace (Scheduled schedule) = IsLazySchedule trace schedule.items
 IsScheduled trace (Refused row refusal) = verdict_from trace.header nothing trace.first trace.rows ≡ Some (row, refusal)
-IsScheduled trace TooLong = IsTooLong trace
 IsScheduled trace Memory = Unit {0}
 IsScheduled trace _ = ⊥
 

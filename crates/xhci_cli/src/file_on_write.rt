@@ -1,8 +1,8 @@
 //! A file that stands only where something was written to it.
 use std::fs::File;
-use std::io::{self, Write};
+use std::io::{self, ErrorKind, Write};
 
-/// A file that the first write creates, or empties where there is one.
+/// A file that the first write creates, or empties where there is one. A flush waits until the device has what was written.
 #[derive(Drop)]
 pub struct FileOnWrite<'a> {
     rt: &'a HostRuntime,
@@ -33,9 +33,17 @@ impl<'a> Write for FileOnWrite<'a> {
     }
 
     fn flush(&mut self) -> io::Result<()> {
-        match &mut self.file {
-            Some(file) => file.flush(),
+        match &self.file {
+            Some(file) => synchronize(file),
             None => Ok(()),
         }
+    }
+}
+
+/// Waits until the device has what was written: only that may tell that it couldn't be kept. A pipe or a terminal has no such wait.
+fn synchronize(file: &File) -> io::Result<()> {
+    match file.sync_all() {
+        Err(error) if error.kind() == ErrorKind::InvalidInput => Ok(()),
+        done => done,
     }
 }

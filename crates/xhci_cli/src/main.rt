@@ -1,50 +1,65 @@
 //! `xhcitrace`: checks recorded traces of USB host controller drivers.
 #![tactic(auto)]
 
+mod arguments;
 mod check_run;
 mod file_on_write;
+mod inputs;
 mod no_note;
 mod plan_run;
+mod reading;
 mod replay_run;
 mod schedule_run;
 mod several_run;
+mod show_run;
+mod streams;
 mod verify_run;
 
 use answers::{Asked, Status, run_decode, run_explain, tell_failure};
+use arguments::wrong_arguments;
 use check_run::run_check;
 use clap::ArgMatches;
-use command_line::{block_words, path, rule};
+use command_line::{block_words, path, paths, rule};
 use file_on_write::FileOnWrite;
+use inputs::Input;
 use ownership_rules::Refusal;
 use plan_run::run_write;
 use replay_run::run_replay;
 use schedule_run::run_schedule;
+use scheduler::Search;
 use several_run::run_check_named;
+use show_run::run_show;
 use std::alloc::AllocError;
 use std::env;
-use std::fs::File;
-use std::io::{self, ErrorKind, IsTerminal, Read};
+use std::io::{self, ErrorKind, IsTerminal};
 use std::process::ExitCode;
+use streams::{NULL, hold_streams};
 use verify_run::run_verify;
 
 fn main(rt: HostRuntime) -> ExitCode {
+    if let Err(error) = hold_streams(&rt) {
+        return failed(&rt, NULL, error);
+    }
     match obey(&rt) {
         Ok(code) => code,
-        Err(error) => {
-            let asked = Asked {
-                input: "the command line",
-                explains: rt.stderr().is_terminal(),
-            };
-            let status = tell_failure(
-                rt.alloc(),
-                &asked,
-                error,
-                &mut rt.stdout(),
-                &mut rt.stderr(),
-            );
-            ExitCode::from(status.number())
-        }
+        Err(error) => failed(&rt, "the command line", error),
     }
+}
+
+/// Tells why the program couldn't begin.
+fn failed(rt: &HostRuntime, input: &str, error: io::Error) -> ExitCode {
+    let asked = Asked {
+        input,
+        explains: rt.stderr().is_terminal(),
+    };
+    let status = tell_failure(
+        rt.alloc(),
+        &asked,
+        error,
+        &mut rt.stdout(),
+        &mut rt.stderr(),
+    );
+    ExitCode::from(status.number())
 }
 
 /// Does what the command line says.
@@ -59,15 +74,10 @@ fn obey(rt: &HostRuntime) -> io::Result<ExitCode> {
         Err(error) => return Err(error),
     };
     match command_line::command(alloc)?.try_get_matches_from(words.as_slice()) {
-        Ok(matches) => {
-            if wants_certificate_of_several(&matches) {
-                return usage(rt, command_line::one_certificate(alloc)?);
-            }
-            if asks_for_no_rule(&matches) {
-                return usage(rt, command_line::no_rule(alloc)?);
-            }
-            Ok(ExitCode::from(status_of(rt, &matches).number()))
-        }
+        Ok(matches) => match wrong_arguments(rt, &matches)? {
+            Some(error) => usage(rt, error),
+            None => Ok(ExitCode::from(status_of(rt, &matches).number())),
+        },
         Err(error) => usage(rt, error),
     }
 }
@@ -109,12 +119,15 @@ fn status_of(rt: &HostRuntime, matches: &ArgMatches) -> Status {
     if let Some(verify) = matches.subcommand_matches("verify") {
         return verify_at(rt, verify, explains(rt, verify));
     }
+    if let Some(show) = matches.subcommand_matches("show") {
+        return show_at(rt, show, explains(rt, show));
+    }
     if let Some(schedule) = matches.subcommand_matches("schedule") {
         return schedule_at(rt, path(schedule, "TRACE"), explains(rt, schedule));
     }
     match matches.subcommand_matches("check") {
         Some(check) => check_all(rt, check, explains(rt, check)),
-        None => check_at(rt, None, None, rt.stderr().is_terminal()),
+        None => check_at(rt, None, None, None, rt.stderr().is_terminal()),
     }
 }
 
@@ -123,34 +136,30 @@ fn explains(rt: &HostRuntime, matches: &ArgMatches) -> bool {
     matches.get_flag("explain") || rt.stderr().is_terminal()
 }
 
-/// Whether a certificate is asked for, and several traces are named.
-fn wants_certificate_of_several(matches: &ArgMatches) -> bool {
-    match matches.subcommand_matches("check") {
-        Some(check) => check.contains_id("cert") && paths(check).len() > 1,
-        None => false,
-    }
-}
-
-/// Whether a rule is to be explained that there is none.
-fn asks_for_no_rule(matches: &ArgMatches) -> bool {
-    match matches.subcommand_matches("explain") {
-        Some(explain) => rule(explain).is_none(),
-        None => false,
-    }
-}
-
-/// The files of the traces that are to be checked.
-fn paths<'a>(check: &'a ArgMatches<'_>) -> &'a [&'a str] {
-    check.get_strs("TRACE").unwrap_or(&[])
-}
-
 /// Checks a trace, or each of several ones.
 fn check_all(rt: &HostRuntime, check: &ArgMatches, explains: bool) -> Status {
     let paths = paths(check);
     if paths.len() > 1 {
         check_each(rt, paths, explains)
     } else {
-        check_at(rt, path(check, "TRACE"), check.get_str("cert"), explains)
+        check_at(
+            rt,
+            path(check, "TRACE"),
+            check.get_str("cert"),
+            search(check),
+            explains,
+        )
+    }
+}
+
+/// How far a run that does harm is looked for, where one is asked for.
+fn search(check: &ArgMatches) -> Option<Search> {
+    if check.get_flag("search") {
+        Some(Search::Wide)
+    } else if check.get_flag("show") {
+        Some(Search::Brief)
+    } else {
+        None
     }
 }
 
@@ -180,18 +189,18 @@ fn check_each(rt: &HostRuntime, paths: &[&str], explains: bool) -> Status {
 
 /// Checks the trace in one of several files, where `-` is standard input.
 fn check_named(rt: &HostRuntime, path: &str, explains: bool) -> io::Result<Status> {
-    let alloc = rt.alloc();
     let asked = Asked {
         input: path,
         explains,
     };
-    let mut out = rt.stdout();
-    let mut err = rt.stderr();
-    if path == "-" {
-        return run_check_named(alloc, &asked, Ok(rt.stdin()), &mut out, &mut err);
-    }
-    let file = File::open(rt, path);
-    run_check_named(alloc, &asked, file, &mut out, &mut err)
+    let file = if path == "-" { None } else { Some(path) };
+    run_check_named(
+        rt.alloc(),
+        &asked,
+        Input::open(rt, file),
+        &mut rt.stdout(),
+        &mut rt.stderr(),
+    )
 }
 
 /// Checks the trace in a file, or on standard input; its certificate goes to another file, where one is named.
@@ -199,31 +208,22 @@ fn check_at(
     rt: &HostRuntime,
     path: Option<&str>,
     certificate: Option<&str>,
+    shows: Option<Search>,
     explains: bool,
 ) -> Status {
-    let alloc = rt.alloc();
     let mut kept = match certificate {
         Some(path) => Some(FileOnWrite::new(rt, path)),
         None => None,
     };
-    let mut out = rt.stdout();
-    let mut err = rt.stderr();
-    let input = path.unwrap_or("standard input");
-    let asked = Asked { input, explains };
-    match path {
-        Some(path) => match File::open(rt, path) {
-            Ok(mut file) => run_check(alloc, &asked, &mut file, &mut kept, &mut out, &mut err),
-            Err(error) => tell_failure(alloc, &asked, error, &mut out, &mut err),
-        },
-        None => run_check(
-            alloc,
-            &asked,
-            &mut rt.stdin(),
-            &mut kept,
-            &mut out,
-            &mut err,
-        ),
-    }
+    run_check(
+        rt.alloc(),
+        &asked(path, explains),
+        shows,
+        Input::open(rt, path),
+        &mut kept,
+        &mut rt.stdout(),
+        &mut rt.stderr(),
+    )
 }
 
 /// Writes the page on a rule.
@@ -240,131 +240,78 @@ fn page_at(rt: &HostRuntime, rule: Refusal) -> Status {
 
 /// Writes the trace of the plan in a file, or on standard input.
 fn write_at(rt: &HostRuntime, path: Option<&str>, explains: bool) -> Status {
-    let alloc = rt.alloc();
-    let mut out = rt.stdout();
-    let mut err = rt.stderr();
-    let input = path.unwrap_or("standard input");
-    let asked = Asked { input, explains };
-    match path {
-        Some(path) => match File::open(rt, path) {
-            Ok(mut file) => run_write(alloc, &asked, &mut file, &mut out, &mut err),
-            Err(error) => tell_failure(alloc, &asked, error, &mut out, &mut err),
-        },
-        None => run_write(alloc, &asked, &mut rt.stdin(), &mut out, &mut err),
-    }
+    run_write(
+        rt.alloc(),
+        &asked(path, explains),
+        Input::open(rt, path),
+        &mut rt.stdout(),
+        &mut rt.stderr(),
+    )
 }
 
 /// Writes the lazy schedule of the trace in a file, or on standard input.
 fn schedule_at(rt: &HostRuntime, path: Option<&str>, explains: bool) -> Status {
-    let alloc = rt.alloc();
-    let mut out = rt.stdout();
-    let mut err = rt.stderr();
-    let input = path.unwrap_or("standard input");
-    let asked = Asked { input, explains };
-    match path {
-        Some(path) => match File::open(rt, path) {
-            Ok(mut file) => run_schedule(alloc, &asked, &mut file, &mut out, &mut err),
-            Err(error) => tell_failure(alloc, &asked, error, &mut out, &mut err),
-        },
-        None => run_schedule(alloc, &asked, &mut rt.stdin(), &mut out, &mut err),
-    }
+    run_schedule(
+        rt.alloc(),
+        &asked(path, explains),
+        Input::open(rt, path),
+        &mut rt.stdout(),
+        &mut rt.stderr(),
+    )
 }
 
-/// Verifies the certificate in one file, which is read first, beside the trace in another; one of them may be standard input.
+/// Shows what stands before a row of the trace in a file, or on standard input.
+fn show_at(rt: &HostRuntime, matches: &ArgMatches, explains: bool) -> Status {
+    let trace = path(matches, "TRACE");
+    run_show(
+        rt.alloc(),
+        &asked(trace, explains),
+        matches.get_one::<u32>("ROW"),
+        Input::open(rt, trace),
+        &mut rt.stdout(),
+        &mut rt.stderr(),
+    )
+}
+
+/// Verifies the certificate in one file, which is opened first, beside the trace in another; one of them may be standard input.
 fn verify_at(rt: &HostRuntime, matches: &ArgMatches, explains: bool) -> Status {
     let certificate = path(matches, "CERT");
-    let input = path(matches, "TRACE").unwrap_or("standard input");
-    let asked = Asked { input, explains };
-    match certificate {
-        Some(certificate) => match File::open(rt, certificate) {
-            Ok(mut file) => verify_with(rt, matches, &asked, &mut file),
-            Err(error) => {
-                let opened = Asked {
-                    input: certificate,
-                    explains,
-                };
-                tell_failure(
-                    rt.alloc(),
-                    &opened,
-                    error,
-                    &mut rt.stdout(),
-                    &mut rt.stderr(),
-                )
-            }
-        },
-        None => verify_with(rt, matches, &asked, &mut rt.stdin()),
-    }
+    let trace = path(matches, "TRACE");
+    run_verify(
+        rt.alloc(),
+        &asked(trace, explains),
+        called(certificate),
+        Input::open(rt, certificate),
+        || Input::open(rt, trace),
+        &mut rt.stdout(),
+        &mut rt.stderr(),
+    )
 }
 
-/// Verifies the certificate that an input holds beside the trace in a file, or on standard input.
-fn verify_with<R: Read>(
-    rt: &HostRuntime,
-    matches: &ArgMatches,
-    asked: &Asked,
-    certificate: &mut R,
-) -> Status {
-    let alloc = rt.alloc();
-    let mut out = rt.stdout();
-    let mut err = rt.stderr();
-    match path(matches, "TRACE") {
-        Some(path) => {
-            let trace = File::open(rt, path);
-            run_verify(alloc, asked, certificate, trace, &mut out, &mut err)
-        }
-        None => run_verify(
-            alloc,
-            asked,
-            certificate,
-            Ok(rt.stdin()),
-            &mut out,
-            &mut err,
-        ),
-    }
-}
-
-/// Replays the schedule in one file beside the trace in another; one of them may be standard input.
+/// Replays the schedule in one file beside the trace in another, which is opened first; one of them may be standard input.
 fn replay_at(rt: &HostRuntime, matches: &ArgMatches, explains: bool) -> Status {
     let trace = path(matches, "TRACE");
-    let input = trace.unwrap_or("standard input");
-    let asked = Asked { input, explains };
-    match trace {
-        Some(trace) => match File::open(rt, trace) {
-            Ok(mut file) => replay_with(rt, matches, &asked, &mut file),
-            Err(error) => tell_failure(
-                rt.alloc(),
-                &asked,
-                error,
-                &mut rt.stdout(),
-                &mut rt.stderr(),
-            ),
-        },
-        None => replay_with(rt, matches, &asked, &mut rt.stdin()),
+    let schedule = path(matches, "SCHEDULE");
+    run_replay(
+        rt.alloc(),
+        &asked(trace, explains),
+        called(schedule),
+        Input::open(rt, trace),
+        || Input::open(rt, schedule),
+        &mut rt.stdout(),
+        &mut rt.stderr(),
+    )
+}
+
+/// How an input is called in messages, and whether a command explains.
+fn asked(path: Option<&str>, explains: bool) -> Asked<'_> {
+    Asked {
+        input: called(path),
+        explains,
     }
 }
 
-/// Replays the schedule in a file, or on standard input, beside the trace that an input holds.
-fn replay_with<R: Read>(
-    rt: &HostRuntime,
-    matches: &ArgMatches,
-    asked: &Asked,
-    trace: &mut R,
-) -> Status {
-    let alloc = rt.alloc();
-    let mut out = rt.stdout();
-    let mut err = rt.stderr();
-    match path(matches, "SCHEDULE") {
-        Some(path) => {
-            let schedule = File::open(rt, path);
-            run_replay(alloc, asked, path, trace, schedule, &mut out, &mut err)
-        }
-        None => run_replay(
-            alloc,
-            asked,
-            "standard input",
-            trace,
-            Ok(rt.stdin()),
-            &mut out,
-            &mut err,
-        ),
-    }
+/// How an input is called in messages.
+fn called(path: Option<&str>) -> &str {
+    path.unwrap_or("standard input")
 }

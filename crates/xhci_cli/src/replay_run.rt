@@ -1,10 +1,11 @@
 //! Replays a schedule beside a trace, and writes the answer.
-ghost use Rattle.std.specs.Prelude.{Some, ◌≡◌, false, true};
+ghost use Rattle.std.specs.Prelude.{Some, ◌≡◌, ◌⊎◌, false, true, IsErr};
 ghost use Rattle.answers.specs.Answers.{goes_out};
-ghost use Rattle.answers.specs.Inputs.{opened};
+ghost use Rattle.answers.specs.Inputs.{IsUnread, opened};
 ghost use Rattle.xhci_cli.specs.ReplayAnswers.{IsReplayAnswer, IsReplayBeside, IsReplayed};
 ghost use Rattle.answers.specs.Telling.{IsTold};
 
+use crate::reading::bytes_of;
 use answers::{
     Answer, Asked, ReplayEnd, Status, note_on_schedule, note_on_trace, tell, tell_failure,
 };
@@ -14,27 +15,39 @@ use std::io::{self, Read, Write};
 use trace_reader::{read_schedule, read_trace};
 use traces::{Schedule, Trace};
 
-/// Replays the schedule that `schedule` holds beside the trace that `trace` holds, which is read first. The takes go to `out`,
-/// and how the replay ends; what hinders it to `err`. `beside` is how the schedule is called in messages.
-pub fn run_replay<R: Read, S: Read + Drop, O: Write, E: Write>(
+/// Replays the schedule of the input that `open_schedule` opens beside the trace that `trace` holds, once the trace was read; where it
+/// is none, the schedule isn't opened. The takes go to `out`, and how the replay ends; what hinders it to `err`. `beside` is how the
+/// schedule is called in messages.
+pub fn run_replay<R, S, F, O: Write, E: Write>(
     alloc: Global,
     asked: &Asked,
     beside: &str,
-    trace: &mut R,
-    schedule: io::Result<S>,
+    trace: io::Result<R>,
+    open_schedule: F,
     out: &mut O,
     err: &mut E,
 ) -> Status
-    ensures told { (answer : Answer) × IsReplayAnswer (R.remaining trace.old) (opened S.remaining schedule) answer
+where
+    R: Read + Drop,
+    S: Read + Drop,
+    F: FnOnce() -> io::Result<S> + Drop,
+    requires { F.pre open_schedule }
+    ensures told { (answer : Answer) × (IsUnread (opened R.remaining trace) answer
+        ⊎ ((schedule : _) × F.post open_schedule schedule × IsReplayAnswer (opened R.remaining trace) (opened S.remaining schedule) answer))
         × IsTold asked.now.explains answer result (O.contents out.old) (O.contents out.new) (E.contents err.old) (E.contents err.new) }
+    ensures out { result ≡ Status.Unreadable → out.new ≡ out.old }
     ensures err { asked.now.explains ≡ false → goes_out result ≡ true → err.new ≡ err.old }
+    ensures untraced { IsErr trace → out.new ≡ out.old }
+    ensures unstarted { IsErr trace → goes_out result ≡ false }
+    ensures unopened { ((schedule : _) → F.post open_schedule schedule → IsErr schedule) → out.new ≡ out.old }
+    ensures unanswered { ((schedule : _) → F.post open_schedule schedule → IsErr schedule) → goes_out result ≡ false }
 {
-    let mut text = Vec::new(alloc);
-    if let Err(error) = trace.read_to_end(&mut text) {
-        return tell_failure(alloc, asked, error, out, err);
-    }
+    let text = match bytes_of(alloc, trace) {
+        Ok(text) => text,
+        Err(error) => return tell_failure(alloc, asked, error, out, err),
+    };
     match read_trace(alloc, &text) {
-        Ok(trace) => run_beside(alloc, asked, beside, &trace, schedule, out, err),
+        Ok(trace) => run_beside(alloc, asked, beside, &trace, open_schedule(), out, err),
         Err(fault) => {
             let answer = Answer::from(fault);
             let note = note_on_trace(alloc, asked, &text, &answer);
@@ -55,21 +68,19 @@ fn run_beside<S: Read + Drop, O: Write, E: Write>(
 ) -> Status
     ensures told { (answer : Answer) × IsReplayBeside trace.now (opened S.remaining schedule) answer
         × IsTold asked.now.explains answer result (O.contents out.old) (O.contents out.new) (E.contents err.old) (E.contents err.new) }
+    ensures out { result ≡ Status.Unreadable → out.new ≡ out.old }
     ensures err { asked.now.explains ≡ false → goes_out result ≡ true → err.new ≡ err.old }
+    ensures unopened { IsErr schedule → out.new ≡ out.old }
+    ensures unanswered { IsErr schedule → goes_out result ≡ false }
 {
     let named = Asked {
         input: beside,
         explains: asked.explains,
     };
-    let mut schedule = match schedule {
-        Ok(schedule) => schedule,
-        Err(error) => return tell_failure(alloc, &named, error, out, err),
-    };
-    let mut text = Vec::new(alloc);
-    match schedule.read_to_end(&mut text) {
-        Ok(_) => {
+    match bytes_of(alloc, schedule) {
+        Ok(text) => {
             let answer = replay_answer(alloc, trace, &text);
-            let note = note_on_schedule(alloc, &named, &text, &answer);
+            let note = note_on_schedule(alloc, &named, trace, &text, &answer);
             tell(alloc, asked.explains, answer, note, out, err)
         }
         Err(error) => tell_failure(alloc, &named, error, out, err),

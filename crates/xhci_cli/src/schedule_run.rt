@@ -1,35 +1,38 @@
 //! Makes the lazy schedule of a trace, and writes the answer.
-ghost use Rattle.std.specs.Prelude.{Some, ◌≡◌, false, true, reverse};
+ghost use Rattle.std.specs.Prelude.{Some, ◌≡◌, false, true, reverse, IsErr};
 ghost use Rattle.answers.specs.Answers.{goes_out};
+ghost use Rattle.answers.specs.Inputs.{opened};
 ghost use Rattle.answers.specs.Telling.{IsTold};
 ghost use Rattle.ownership_rules.specs.Clean.{IsClean};
 ghost use Rattle.xhci_cli.specs.ScheduleAnswers.{IsScheduleAnswer, IsScheduled};
 
+use crate::reading::bytes_of;
 use answers::{Answer, Asked, Status, note_on_trace, tell, tell_failure};
 use ownership_checker::{CheckFault, check};
-use scheduler::{ScheduleFault, lazy_schedule};
+use scheduler::lazy_schedule;
 use std::alloc::Global;
-use std::io::{Read, Write};
+use std::io::{self, Read, Write};
 use trace_reader::{print_schedule, read_trace};
 use traces::Trace;
 
 /// Writes the lazy schedule of the trace that `input` holds to `out`: all its rows, and directly before each event that is read the
 /// controller's steps that it needs. A row that breaks a rule is told there in its place, and what hinders the answer to `err`.
-pub fn run_schedule<R: Read, O: Write, E: Write>(
+pub fn run_schedule<R: Read + Drop, O: Write, E: Write>(
     alloc: Global,
     asked: &Asked,
-    input: &mut R,
+    input: io::Result<R>,
     out: &mut O,
     err: &mut E,
 ) -> Status
-    ensures told { (answer : Answer) × IsScheduleAnswer (R.remaining input.old) answer
+    ensures told { (answer : Answer) × IsScheduleAnswer (opened R.remaining input) answer
         × IsTold asked.now.explains answer result (O.contents out.old) (O.contents out.new) (E.contents err.old) (E.contents err.new) }
     ensures out { result ≡ Status.Unreadable → out.new ≡ out.old }
     ensures err { asked.now.explains ≡ false → goes_out result ≡ true → err.new ≡ err.old }
+    ensures unopened { IsErr input → out.new ≡ out.old }
+    ensures unanswered { IsErr input → goes_out result ≡ false }
 {
-    let mut text = Vec::new(alloc);
-    match input.read_to_end(&mut text) {
-        Ok(_) => {
+    match bytes_of(alloc, input) {
+        Ok(text) => {
             let answer = schedule_answer(alloc, &text);
             let note = note_on_trace(alloc, asked, &text, &answer);
             tell(alloc, asked.explains, answer, note, out, err)
@@ -69,7 +72,6 @@ fn clean_answer(alloc: Global, trace: &Trace) -> Answer
             Ok(schedule) => Answer::Scheduled { schedule },
             Err(error) => Answer::from(error),
         },
-        Err(ScheduleFault::TooLong) => Answer::TooLong,
-        Err(ScheduleFault::Memory) => Answer::Memory,
+        Err(error) => Answer::from(error),
     }
 }

@@ -1,11 +1,12 @@
 //! Verifies a certificate beside a trace, and writes the answer.
-ghost use Rattle.std.specs.Prelude.{Some, ◌≡◌, false, true};
+ghost use Rattle.std.specs.Prelude.{Some, ◌≡◌, ◌⊎◌, false, true, IsErr};
 ghost use Rattle.answers.specs.Answers.{goes_out};
 ghost use Rattle.answers.specs.Inputs.{opened};
 ghost use Rattle.answers.specs.Telling.{IsTold};
-ghost use Rattle.xhci_cli.specs.VerifyAnswers.{IsVerdictBeside, IsVerdictOn, IsVerifyAnswer};
+ghost use Rattle.xhci_cli.specs.VerifyAnswers.{IsUncertified, IsVerdictBeside, IsVerdictOn, IsVerifyAnswer};
 
 use crate::no_note::note_on_verdict;
+use crate::reading::bytes_of;
 use answers::{Answer, Asked, Status, note_on_certificate, tell, tell_failure};
 use certificate::decode;
 use ring_knowledge::Lease;
@@ -15,34 +16,48 @@ use trace_reader::read_trace;
 use traces::Trace;
 use verifier::verify;
 
-/// Verifies the certificate that `certificate` holds, which is read first, beside the trace that `trace` holds. `yes` or `no` goes to
-/// `out`, and what hinders it to `err`.
-pub fn run_verify<C: Read, R: Read + Drop, O: Write, E: Write>(
+/// Verifies the certificate that `certificate` holds beside the trace of the input that `open_trace` opens, once the certificate was
+/// read; where it is none, the trace isn't opened. `yes` or `no` goes to `out`, and what hinders it to `err`. `beside` is how the
+/// certificate is called in messages.
+pub fn run_verify<C, R, F, O: Write, E: Write>(
     alloc: Global,
     asked: &Asked,
-    certificate: &mut C,
-    trace: io::Result<R>,
+    beside: &str,
+    certificate: io::Result<C>,
+    open_trace: F,
     out: &mut O,
     err: &mut E,
 ) -> Status
-    ensures told { (answer : Answer) × IsVerifyAnswer (C.remaining certificate.old) (opened R.remaining trace) answer
+where
+    C: Read + Drop,
+    R: Read + Drop,
+    F: FnOnce() -> io::Result<R> + Drop,
+    requires { F.pre open_trace }
+    ensures told { (answer : Answer) × (IsUncertified (opened C.remaining certificate) answer
+        ⊎ ((trace : _) × F.post open_trace trace × IsVerifyAnswer (opened C.remaining certificate) (opened R.remaining trace) answer))
         × IsTold asked.now.explains answer result (O.contents out.old) (O.contents out.new) (E.contents err.old) (E.contents err.new) }
     ensures out { result ≡ Status.Unreadable → out.new ≡ out.old }
     ensures err { asked.now.explains ≡ false → goes_out result ≡ true → err.new ≡ err.old }
+    ensures uncertified { IsErr certificate → out.new ≡ out.old }
+    ensures unverified { IsErr certificate → goes_out result ≡ false }
+    ensures unopened { ((trace : _) → F.post open_trace trace → IsErr trace) → out.new ≡ out.old }
+    ensures unanswered { ((trace : _) → F.post open_trace trace → IsErr trace) → goes_out result ≡ false }
 {
-    let mut bytes = Vec::new(alloc);
-    if let Err(error) = certificate.read_to_end(&mut bytes) {
-        let read = Asked {
-            input: "the certificate",
-            explains: asked.explains,
-        };
-        return tell_failure(alloc, &read, error, out, err);
-    }
+    let bytes = match bytes_of(alloc, certificate) {
+        Ok(bytes) => bytes,
+        Err(error) => {
+            let read = Asked {
+                input: beside,
+                explains: asked.explains,
+            };
+            return tell_failure(alloc, &read, error, out, err);
+        }
+    };
     match decode(alloc, &bytes) {
-        Ok(leases) => verify_beside(alloc, asked, &leases, trace, out, err),
+        Ok(leases) => verify_beside(alloc, asked, &leases, open_trace(), out, err),
         Err(fault) => {
             let answer = Answer::from(fault);
-            let note = note_on_certificate(alloc, asked, &answer);
+            let note = note_on_certificate(alloc, asked, &bytes, &answer);
             tell(alloc, asked.explains, answer, note, out, err)
         }
     }
@@ -61,14 +76,11 @@ fn verify_beside<R: Read + Drop, O: Write, E: Write>(
         × IsTold asked.now.explains answer result (O.contents out.old) (O.contents out.new) (E.contents err.old) (E.contents err.new) }
     ensures out { result ≡ Status.Unreadable → out.new ≡ out.old }
     ensures err { asked.now.explains ≡ false → goes_out result ≡ true → err.new ≡ err.old }
+    ensures unopened { IsErr trace → out.new ≡ out.old }
+    ensures unanswered { IsErr trace → goes_out result ≡ false }
 {
-    let mut trace = match trace {
-        Ok(trace) => trace,
-        Err(error) => return tell_failure(alloc, asked, error, out, err),
-    };
-    let mut text = Vec::new(alloc);
-    match trace.read_to_end(&mut text) {
-        Ok(_) => {
+    match bytes_of(alloc, trace) {
+        Ok(text) => {
             let answer = verify_answer(alloc, leases, &text);
             let note = note_on_verdict(alloc, asked, leases, &text, &answer);
             tell(alloc, asked.explains, answer, note, out, err)

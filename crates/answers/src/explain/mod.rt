@@ -2,18 +2,26 @@
 ghost use Rattle.std.specs.Prelude.{IfOk, string_bytes};
 ghost use Rattle.answers.specs.Telling.{IsNote};
 
-mod bad_line;
+mod certificates;
+mod harms;
 mod words;
 
 use crate::answer::Answer;
 use crate::decode::BlockWords;
 use crate::replay_lines::ReplayEnd;
-use bad_line::{bad_plan_line, bad_schedule_line};
-use explanations::{explain_bad_line, explain_refused, explain_step};
+use certificates::{no_certificate, other_lease};
+use diagnostics::{
+    Matter, explain_bad_line, explain_plan_line, explain_schedule_line, explain_step,
+};
+use explanations::{explain_refused, explain_unfollowed};
+use harms::harm_words;
+use ownership_rules::Refusal;
+use plan_writer::PlanRefusal;
+use ring_findings::notes_on_harm;
 use ring_knowledge::Lease;
 use std::alloc::{AllocError, Global};
 use std::io;
-use words::{TOO_LONG, lease_words, why_no_certificate, why_unfollowed};
+use traces::Trace;
 
 /// What a command is asked for beside its answer.
 #[derive(Clone, Copy)]
@@ -43,7 +51,11 @@ pub fn note_on_trace(
         Answer::Refused { row, refusal } => {
             explain_refused(alloc, asked.input, text, *row, *refusal)
         }
-        Answer::TooLong => format!(in alloc; "xhcitrace: {TOO_LONG}\n"),
+        Answer::HarmShown { row, refusal, harm } => {
+            let mut note = explain_refused(alloc, asked.input, text, *row, *refusal)?;
+            note.push_str(&harm_words(alloc, *row, harm)?)?;
+            Ok(note)
+        }
         _ => Ok(String::new(alloc)),
     }
 }
@@ -61,19 +73,32 @@ pub fn note_on_plan(
         return Ok(String::new(alloc));
     }
     match answer {
-        Answer::BadLine { line, fault } => bad_plan_line(alloc, text, *line, *fault),
-        Answer::Unfollowed { refusal, .. } => {
-            let why = why_unfollowed(*refusal);
-            format!(in alloc; "xhcitrace: {why}\n")
+        Answer::BadLine { line, fault } => {
+            explain_plan_line(alloc, asked.input, text, *line, *fault)
+        }
+        Answer::Unfollowed { line, refusal } => {
+            explain_unfollowed(alloc, asked.input, text, *line, matter_of(*refusal))
         }
         _ => Ok(String::new(alloc)),
     }
 }
 
-/// What a person is told of an answer to a schedule, beside its line.
+/// The matter of a line of a plan that can't be followed.
+fn matter_of(refusal: PlanRefusal) -> Matter {
+    match refusal {
+        PlanRefusal::NotDeclared => Matter::Rule(Refusal::NotDeclared),
+        PlanRefusal::RingFull => Matter::Rule(Refusal::RingFull),
+        PlanRefusal::BadDescriptor => Matter::Rule(Refusal::BadDescriptor),
+        PlanRefusal::NotInProfile => Matter::Rule(Refusal::NotInProfile),
+        PlanRefusal::NotGiven => Matter::NotGiven,
+    }
+}
+
+/// What a person is told of an answer to a schedule beside a trace, beside its line.
 pub fn note_on_schedule(
     alloc: Global,
     asked: &Asked,
+    trace: &Trace,
     text: &[u8],
     answer: &Answer,
 ) -> Result<String, AllocError>
@@ -83,15 +108,20 @@ pub fn note_on_schedule(
         return Ok(String::new(alloc));
     }
     match answer {
-        Answer::BadLine { line, fault } => bad_schedule_line(alloc, text, *line, *fault),
+        Answer::BadLine { line, fault } => {
+            explain_schedule_line(alloc, asked.input, text, *line, *fault)
+        }
         Answer::Replayed {
             ending: ReplayEnd::Harmful { step, harm },
-            ..
-        } => explain_step(alloc, asked.input, text, *step, Some(*harm)),
+            seen,
+        } => {
+            let found = notes_on_harm(alloc, trace, *harm, seen.as_slice())?;
+            explain_step(alloc, asked.input, text, *step, Some(*harm), found)
+        }
         Answer::Replayed {
             ending: ReplayEnd::NotPossible { step },
             ..
-        } => explain_step(alloc, asked.input, text, *step, None),
+        } => explain_step(alloc, asked.input, text, *step, None, Vec::new(alloc)),
         _ => Ok(String::new(alloc)),
     }
 }
@@ -100,6 +130,7 @@ pub fn note_on_schedule(
 pub fn note_on_certificate(
     alloc: Global,
     asked: &Asked,
+    bytes: &[u8],
     answer: &Answer,
 ) -> Result<String, AllocError>
     ensures { IfOk result (λ note. IsNote asked.now.explains (string_bytes note)) }
@@ -108,10 +139,7 @@ pub fn note_on_certificate(
         return Ok(String::new(alloc));
     }
     match answer {
-        Answer::BadCertificate { fault } => {
-            let why = why_no_certificate(*fault);
-            format!(in alloc; "xhcitrace: {why}\n")
-        }
+        Answer::BadCertificate { fault } => no_certificate(alloc, bytes, *fault),
         _ => Ok(String::new(alloc)),
     }
 }
@@ -128,17 +156,7 @@ pub fn note_on_leases(
     if !asked.explains {
         return Ok(String::new(alloc));
     }
-    let same = given
-        .iter()
-        .zip(own.iter())
-        .take_while(|pair| pair.0 == pair.1)
-        .count();
-    let number = same.saturating_add(1);
-    let there = lease_words(alloc, given.get(same).copied())?;
-    let wanted = lease_words(alloc, own.get(same).copied())?;
-    format!(in alloc;
-        "error[no]: the certificate isn't the list of the trace's leases\n = note: lease {number} of the certificate: {there}\n = note: lease {number} of the trace: {wanted}\n = help: no row breaks a rule; `xhcitrace check --cert CERT TRACE` writes the trace's certificate\n"
-    )
+    other_lease(alloc, given, own)
 }
 
 /// What a person is told of words that make no block.

@@ -1,7 +1,6 @@
-use Rattle.std.proofs.Common.{rules, [], ℕ, List, ◌++◌, refl, subst, string_bytes}
-use Rattle.answers.specs.Telling.{Begins, cut, named_err, named_out, whole}
+use Rattle.std.proofs.Common.{rules, [], refl, string_bytes}
+use Rattle.answers.specs.Telling.{cut, named_err, whole}
 use Rattle.answers.proofs.Writing.{nothing_begun, told_note}
-use Rattle.std.specs.Io.KnownBytes.{Appends}
 use Rattle.answers.proofs.telling.tell_named.Goals as goal
 
 pub returns-in_err-lines : goal.returns-in_err-lines

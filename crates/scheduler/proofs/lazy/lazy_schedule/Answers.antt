@@ -1,4 +1,4 @@
-use Rattle.std.proofs.Common.{◌≡◌, ◌∙◌, ◌+◌, ◌<◌, ◌≤◌, List, ap, arith, length, reverse, subst, sym}
+use Rattle.std.proofs.Common.{◌≡◌, ◌∙◌, ◌+◌, ◌*◌, ◌≤◌, ℕ, List, ap, arith, length, reverse, subst, sym}
 use Rattle.std.specs.Prelude.{All}
 use Rattle.std.proofs.lemmas.List.Elements.{All-weaker}
 use Rattle.traces.specs.declared.row.Row.{Row}
@@ -7,6 +7,7 @@ use Rattle.traces.specs.Rows.{AreSteps, FitsLine, IsRow}
 use Rattle.lazy_runs.specs.Lazy.{lazy_steps}
 use Rattle.lazy_runs.specs.Law.{ContainsAll}
 use Rattle.lazy_runs.proofs.LazyRuns.{all_are_read}
+use Rattle.lazy_runs.proofs.StepsCounted.{few_steps}
 use Rattle.row_checks.proofs.CleanHistories.{lenient_history}
 use Rattle.row_checks.proofs.Harmless.{harmless}
 use Rattle.scheduler.proofs.Fitting.{lazy_steps_are}
@@ -16,8 +17,8 @@ use Rattle.scheduler.proofs.lazy.lazy_schedule.Goals as goal
 are_rows : (rows : List Row) → All (λ row. IsRow row × FitsLine row) rows → All IsRow rows
 are_rows rows are = All-weaker (λ row. IsRow row × FitsLine row) IsRow (λ row fits. fits.0) rows are
 
-within_lines : (l m : List Step) → l ≡ m → length m < 4194304 → length l + 1 ≤ 4194304
-within_lines l m same few = let e : length l ≡ length m = ap length same in omega arith
+few_are : (l m : List Step) (n : ℕ) → l ≡ m → length m ≤ n → length l ≤ n
+few_are l m n same few = omega (arith, ap length same, few)
 
 pub invariant_of-result : goal.invariant_of-result
 invariant_of-result c =
@@ -25,7 +26,7 @@ invariant_of-result c =
     let steps : c.new-2.result ≡ lazy_steps t.header t.rows = c.new-2.ensures ∙ c.in_ok-steps.ensures ∙ ap (λ rows. lazy_steps t.header rows) c.as_slice.ensures in
     record {
       fitting = subst AreSteps (sym steps) (lazy_steps_are t.header t.headed t.rows (are_rows t.rows t.fitting) (lenient_history t.header (reverse t.rows) c.requires.clean));
-      within = within_lines c.new-2.result c.in_ok-steps.steps.items c.new-2.ensures (omega arith);
+      within = omega (arith, t.placed, t.within, few_are c.new-2.result (lazy_steps t.header t.rows) (3 * length t.rows + 3) steps (few_steps t.header t.rows t.headed (lenient_history t.header (reverse t.rows) c.requires.clean)));
     }
 
 pub returns-clause-runs : goal.returns-clause-runs
@@ -41,3 +42,9 @@ returns-clause-replays c = λ timely.
     let fitting : AreSteps c.new-2.result = subst AreSteps (sym steps) (lazy_steps_are t.header t.headed t.rows (are_rows t.rows t.fitting) (lenient_history t.header (reverse t.rows) c.requires.clean)) in
     without_harm t.header t.rows (harmless t.header t.rows t.headed t.fitting c.requires.clean) c.new-2.result fitting
     (subst (λ l. ContainsAll t.header t.rows (reverse l)) (sym steps) (all_are_read t.header t.rows t.headed (are_rows t.rows t.fitting) (lenient_history t.header (reverse t.rows) c.requires.clean) timely))
+
+pub returns-clause-few : goal.returns-clause-few
+returns-clause-few c =
+    let t = c.args.trace.now in
+    let steps : c.new-2.result ≡ lazy_steps t.header t.rows = c.new-2.ensures ∙ c.in_ok-steps.ensures ∙ ap (λ rows. lazy_steps t.header rows) c.as_slice.ensures in
+    few_are c.new-2.result (lazy_steps t.header t.rows) (3 * length t.rows + 3) steps (few_steps t.header t.rows t.headed (lenient_history t.header (reverse t.rows) c.requires.clean))

@@ -1,6 +1,5 @@
-use Rattle.range_words.proofs.Words.{◌≡◌, ℕ, ◌+◌, ◌*◌, ◌<◌, false, word_in}
-use Rattle.std.specs.Prelude.{nat_lt}
+use Rattle.range_words.proofs.Words.{◌≡◌, ℕ, ◌+◌, ◌*◌, ◌/◌, ◌%◌, ◌<◌, ◌≤◌, false, bits_of, is_marked}
 use Rattle.range_words.proofs.soiled.SoiledWords.any_in.Given as goal
 
-abbrev pub invariant-loop-i : goal.invariant-loop-i
-invariant-loop-i l = (k : ℕ) → k < l.i → nat_lt 0 (word_in l.self.words (l.from + 4 * k)) ≡ false
+abbrev pub invariant-loop-group : goal.invariant-loop-group
+invariant-loop-group l = (a : ℕ) → a % 4 ≡ 0 → l.from ≤ a → a < l.from + 4 * l.words → a / 256 < l.group → is_marked (bits_of l.self) a ≡ false

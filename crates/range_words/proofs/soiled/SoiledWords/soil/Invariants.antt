@@ -1,5 +1,5 @@
-use Rattle.range_words.proofs.Words.{◌≡◌, ◌*◌, ◌%◌, ◌||◌, ℕ, nat_lt, word_in, is_in}
+use Rattle.range_words.proofs.Words.{◌≡◌, ◌*◌, ◌/◌, ◌%◌, ◌&&◌, ◌||◌, ℕ, nat_lt, bits_of, is_marked, is_in}
 use Rattle.range_words.proofs.soiled.SoiledWords.soil.Given as goal
 
-abbrev pub invariant-loop-i : goal.invariant-loop-i
-invariant-loop-i l = (a : ℕ) → a % 4 ≡ 0 → nat_lt 0 (word_in l.self.words a) ≡ (is_in a l.from (4 * l.i) || nat_lt 0 (word_in l.fn.self.words a))
+abbrev pub invariant-loop-group : goal.invariant-loop-group
+invariant-loop-group l = (a : ℕ) → a % 4 ≡ 0 → is_marked (bits_of l.self) a ≡ ((is_in a l.from (4 * l.words) && nat_lt (a / 256) l.group) || is_marked (bits_of l.fn.self) a)

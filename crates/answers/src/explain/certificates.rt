@@ -1,0 +1,98 @@
+//! What is said of the bytes of a certificate: why they are none, or which lease isn't the trace's.
+use super::words::lease_words;
+use certificate::{BadLease, CertFault, first_bad_lease};
+use ring_knowledge::Lease;
+use std::alloc::{AllocError, Global};
+
+/// How a certificate is made.
+const HELP: &str = "`xhcitrace check --cert CERT TRACE` writes the trace's certificate";
+
+/// What a person is told of bytes that are no certificate.
+pub fn no_certificate(alloc: Global, bytes: &[u8], fault: CertFault) -> Result<String, AllocError> {
+    let (number, name) = (fault.number(), fault.name());
+    let (head, note) = match fault {
+        CertFault::Magic => (
+            String::from_str(alloc, "the file isn't a certificate")?,
+            first_bytes(alloc, bytes)?,
+        ),
+        CertFault::Length => (
+            String::from_str(
+                alloc,
+                "the certificate is cut off, or has too much behind it",
+            )?,
+            leases_and_rest(alloc, bytes)?,
+        ),
+        CertFault::Field | CertFault::Memory => match first_bad_lease(bytes) {
+            Some(bad) => (lease_head(alloc, bad)?, lease_fault(alloc, bad.lease)?),
+            None => return Ok(String::new(alloc)),
+        },
+    };
+    format!(in alloc; "error[{number} {name}]: {head}\n = note: {note}\n = help: {HELP}\n")
+}
+
+/// What stands where a certificate's first bytes must.
+fn first_bytes(alloc: Global, bytes: &[u8]) -> Result<String, AllocError> {
+    let count = bytes.len();
+    if count < 8 {
+        return format!(in alloc;
+            "it has {count} bytes, and a certificate begins with the 8 bytes `XHCICRT1`"
+        );
+    }
+    let shown = &bytes[..count.min(8)];
+    let found = shown.escape_ascii();
+    format!(in alloc; "it begins with `{found}`, and must begin with `XHCICRT1`")
+}
+
+/// How many leases there are, and how many bytes behind them.
+fn leases_and_rest(alloc: Global, bytes: &[u8]) -> Result<String, AllocError> {
+    let behind = bytes.len().saturating_sub(8);
+    let (leases, rest) = (behind / 24, behind % 24);
+    format!(in alloc;
+        "behind its first 8 bytes it has {behind}, which are {leases} leases of 24 bytes and {rest} bytes more"
+    )
+}
+
+/// Which lease is none, and where it stands.
+fn lease_head(alloc: Global, bad: BadLease) -> Result<String, AllocError> {
+    let number = bad.number;
+    let at = number
+        .saturating_sub(1)
+        .saturating_mul(24)
+        .saturating_add(8);
+    format!(in alloc; "lease {number} of the certificate, the 24 bytes from byte {at} on, is none")
+}
+
+/// The field that no lease has.
+fn lease_fault(alloc: Global, lease: Lease) -> Result<String, AllocError> {
+    let Lease {
+        kind,
+        ring,
+        from,
+        to,
+        ..
+    } = lease;
+    if kind > 2 {
+        return format!(in alloc;
+            "its kind is {kind}, and must be 0 (a TRB), 1 (a Link TRB) or 2 (bytes)"
+        );
+    }
+    if kind < 2 && ring > 255 {
+        return format!(in alloc; "its ring is {ring}, and the ID of a ring is at most 255");
+    }
+    format!(in alloc; "it ends at row {to}, and must end behind row {from}, where it begins")
+}
+
+/// What a person is told of a certificate that isn't the list of its trace's leases: the first that differs.
+pub fn other_lease(alloc: Global, given: &[Lease], own: &[Lease]) -> Result<String, AllocError> {
+    let same = given
+        .iter()
+        .zip(own.iter())
+        .take_while(|pair| pair.0 == pair.1)
+        .count();
+    let number = same.saturating_add(1);
+    let there = lease_words(alloc, given.get(same).copied())?;
+    let wanted = lease_words(alloc, own.get(same).copied())?;
+    format!(in alloc;
+        "error[no]: the certificate isn't the list of the trace's leases\n = note: lease {number} of the certificate: {there}\n = note: lease {number} of the trace: {wanted}\n = help: no row breaks a rule; {HELP}\n"
+    )
+}

@@ -1,0 +1,178 @@
+//! Doorbells and commands that the states of slots and endpoints don't allow.
+use commands::{Command, EndpointState};
+use guest_memory::Addr;
+use row_history::{
+    Case, Finding, NOT_JUDGED, Unfinished, all_unfinished, command_at, command_name,
+    endpoint_state_name, position_given, ring_at, start, unfinished_of,
+};
+use std::alloc::AllocError;
+
+/// Why a doorbell may not ring.
+#[derive(Clone, Copy)]
+enum NoBell {
+    NotStarted,
+    /// Doorbell 0 with another DB Target than 0.
+    CommandTarget,
+    /// No DCI.
+    NoEndpoint,
+    Disabled,
+    Halted(EndpointState),
+    Unfinished(Unfinished),
+    Unmoved,
+}
+
+/// A doorbell that may not ring now.
+pub fn bad_doorbell(case: &Case, slot: u8, target: u8) -> Result<Finding, AllocError> {
+    let here = if slot == 0 {
+        format!(in case.alloc; "the Command Ring, DB Target {target}")?
+    } else {
+        format!(in case.alloc; "slot {slot}, DCI {target}")?
+    };
+    let mut finding = Finding::new(
+        case.alloc,
+        "a doorbell that may not ring now",
+        here.as_str(),
+    )?;
+    let cause = bell_cause(case, slot, target)?;
+    match cause {
+        NoBell::Unfinished(command) => finding.earlier = command.mark(case)?,
+        NoBell::Disabled => {
+            if let Some(command) = unfinished_of(case, slot)? {
+                finding.earlier = command.mark(case)?;
+            }
+        }
+        _ => {}
+    }
+    finding.say(case.alloc, bell_note(cause))?;
+    finding.help(case.alloc, bell_help(cause))?;
+    Ok(finding)
+}
+
+fn bell_cause(case: &Case, slot: u8, target: u8) -> Result<NoBell, AllocError> {
+    if start(case.before).is_none() {
+        return Ok(NoBell::NotStarted);
+    }
+    if slot == 0 {
+        return Ok(NoBell::CommandTarget);
+    }
+    if target == 0 || target > 31 {
+        return Ok(NoBell::NoEndpoint);
+    }
+    let state = case.known.devices.endpoint_state(slot, target);
+    match state {
+        EndpointState::Disabled => Ok(NoBell::Disabled),
+        EndpointState::Halted | EndpointState::Error => Ok(NoBell::Halted(state)),
+        EndpointState::Running | EndpointState::Stopped => {
+            if case.known.devices.must_move(slot, target) {
+                return Ok(NoBell::Unmoved);
+            }
+            match unfinished_of(case, slot)? {
+                Some(command) => Ok(NoBell::Unfinished(command)),
+                None => Ok(NoBell::Unmoved),
+            }
+        }
+    }
+}
+
+fn bell_note(cause: NoBell) -> &'static str {
+    match cause {
+        NoBell::NotStarted => "the controller isn't started (xHCI 4.2)",
+        NoBell::CommandTarget => "doorbell 0 is the Command Ring's, and its DB Target is 0",
+        NoBell::NoEndpoint => "the DB Target of a device slot is a DCI, 1 to 31 (xHCI 5.6)",
+        NoBell::Disabled =>
+            "the endpoint is Disabled: no Address Device or Configure Endpoint that adds it has completed",
+        NoBell::Halted(EndpointState::Error) => "the endpoint is in the state Error",
+        NoBell::Halted(_) => "the endpoint is Halted",
+        NoBell::Unfinished(_) =>
+            "this command changes the endpoint, and its Command Completion Event wasn't read yet",
+        NoBell::Unmoved => "the endpoint halted, and its TR Dequeue Pointer wasn't set since",
+    }
+}
+
+fn bell_help(cause: NoBell) -> &'static str {
+    match cause {
+        NoBell::NotStarted => "write USBCMD with Run/Stop 1 first",
+        NoBell::CommandTarget => "log `db 00 00` for a command",
+        NoBell::NoEndpoint => "ring with the DCI of the endpoint whose ring has the TD",
+        NoBell::Disabled => "ring behind the Command Completion Event of the command that adds it",
+        NoBell::Halted(EndpointState::Error) =>
+            "Set TR Dequeue Pointer, and ring behind its Command Completion Event",
+        NoBell::Halted(_) =>
+            "Reset Endpoint, then Set TR Dequeue Pointer, and ring behind its Command Completion Event",
+        NoBell::Unfinished(_) => "ring behind its Command Completion Event",
+        NoBell::Unmoved => "Set TR Dequeue Pointer to the next TD first (xHCI 4.6.8)",
+    }
+}
+
+/// A second command for a slot, or a TRB on a ring that an unfinished Address Device moves.
+pub fn busy(case: &Case, at: Addr, word: u32) -> Result<Option<Finding>, AllocError> {
+    match command_at(case, at.get(), word) {
+        Some(command) => match command.slot() {
+            Some(slot) => busy_slot(case, command, slot),
+            None => Ok(None),
+        },
+        None => busy_ring(case, at, word),
+    }
+}
+
+/// A second command for a slot.
+fn busy_slot(case: &Case, command: Command, slot: u8) -> Result<Option<Finding>, AllocError> {
+    let Some(first) = unfinished_of(case, slot)? else {
+        return Ok(None);
+    };
+    let name = command_name(command);
+    let here = format!(in case.alloc; "{name} of slot {slot}")?;
+    let mut finding = Finding::new(
+        case.alloc,
+        "a second command for a slot whose first is unfinished",
+        here.as_str(),
+    )?;
+    finding.earlier = first.mark(case)?;
+    finding.say(case.alloc, "its Command Completion Event wasn't read yet")?;
+    finding.say(case.alloc, NOT_JUDGED)?;
+    finding.help(
+        case.alloc,
+        "wait for it, and hand the second command over then",
+    )?;
+    Ok(Some(finding))
+}
+
+/// A TRB on a ring that an unfinished Address Device moves.
+fn busy_ring(case: &Case, at: Addr, word: u32) -> Result<Option<Finding>, AllocError> {
+    let Some((ring, known)) = ring_at(case, at.get()) else {
+        return Ok(None);
+    };
+    let Some(position) = position_given(ring, known, at, word) else {
+        return Ok(None);
+    };
+    let (id, place) = (ring.id, position % u64::from(ring.shape.places()));
+    let here = format!(in case.alloc; "TRB {place} of ring {id:02x}")?;
+    let mut finding = Finding::new(
+        case.alloc,
+        "a TRB is handed over on a ring that an unfinished Address Device moves",
+        here.as_str(),
+    )?;
+    for given in &all_unfinished(case)? {
+        if moves_ring(case, given.command, id) {
+            finding.earlier = given.mark(case)?;
+        }
+    }
+    finding.say(case.alloc, "its Command Completion Event wasn't read yet")?;
+    finding.say(case.alloc, NOT_JUDGED)?;
+    finding.help(case.alloc, "wait for it, and hand the TRB over then")?;
+    Ok(Some(finding))
+}
+
+/// Whether a command is an Address Device for a slot whose default control endpoint has this ring.
+fn moves_ring(case: &Case, command: Command, ring: u8) -> bool {
+    match command {
+        Command::AddressDevice { slot, .. } => case.known.devices.ring_of(slot, 1) == Some(ring),
+        _ => false,
+    }
+}
+
+/// The name of an endpoint's state, with its slot and DCI.
+pub fn named_state(case: &Case, slot: u8, endpoint: u8) -> Result<String, AllocError> {
+    let name = endpoint_state_name(case.known.devices.endpoint_state(slot, endpoint));
+    format!(in case.alloc; "slot {slot}, DCI {endpoint} is {name}")
+}

@@ -1,0 +1,42 @@
+use Rattle.std.proofs.Common.{◌≡◌, [], Some, length, sym, subst, arith}
+use Rattle.ring_knowledge.specs.Known.{nothing}
+use Rattle.ring_knowledge.specs.Learned.{known}
+use Rattle.ownership_rules.specs.declared.refusal.Refusal.{Refusal}
+use Rattle.ownership_rules.specs.Rules.{verdict_from}
+use Rattle.row_checks.proofs.Passes.{by_place, refused, room_for}
+use Rattle.ownership_checker.proofs.Checking.{started, stepped}
+use Rattle.knowledge_page.proofs.Standings.{stands}
+use Rattle.knowledge_page.proofs.standing.pass.Goals as goal
+
+pub loop-row-init : goal.loop-row-init
+loop-row-init g c =
+    started c.args.header.now c.args.rows.now c.args.first c.requires.headed c.in_ok-kept.kept (g.M.WordMemory.words c.args.memory) c.in_ok-book.book c.new-ranges.result
+    (c.in_ok-kept.ensures.follows (g.M.WordMemory.words c.args.memory) c.requires.zero) c.in_ok-kept.ensures.unread (record { held = c.in_ok-book.ensures c.args.first; found = c.new-ranges.ensures c.args.header.now c.args.first })
+
+pub loop-row-preserved : goal.loop-row-preserved
+loop-row-preserved g c =
+    let p = c.loop-row.invariant in
+    stepped c.args.header.now c.args.rows.now c.args.first c.requires.headed c.loop-row.row-index c.loop-row.number c.loop-row.kept c.check_row.new.kept
+    (g.M.WordMemory.words c.loop-row.memory) (g.M.WordMemory.words c.check_row.new.memory) c.row-item.result c.row-item.result c.loop-row.book c.note_row.new.book c.loop-row.ranges c.note_row.new.ranges
+    (room_for c.args.first (length c.args.rows.now) c.requires.within) p c.loop-row-test.true (sym c.row-item.is)
+    (c.in-Ok.ensures.reads c.loop-row.row-index p.pass.few_reads)
+    (λ k t.
+    let placed = c.place-place.ensures k (g.M.WordMemory.words c.loop-row.memory) t.follows in
+    c.in-Ok.ensures.ok k t placed (c.owns-owned.ensures c.args.header.now k (g.M.WordMemory.words c.loop-row.memory) t.follows placed))
+    (λ past clean held. c.in_ok-note_row.ensures [] c.args.first past (c.place-place.ensures (known c.args.header.now past) (g.M.WordMemory.words c.loop-row.memory) clean.followed) clean held)
+
+pub returns-in-Err-Refused-clause-refused : goal.returns-in-Err-Refused-clause-refused
+returns-in-Err-Refused-clause-refused g c =
+    subst (λ (r : Refusal). verdict_from c.args.header.now nothing c.args.first c.args.rows.now ≡ Some (c.loop-row.number, r)) (sym c.in-Err-Refused.refusal-is)
+    (refused c.args.header.now c.args.rows.now c.args.first c.loop-row.row-index c.loop-row.number c.loop-row.kept (g.M.WordMemory.words c.loop-row.memory)
+    c.row-item.result c.row-item.result c.in-Err-Refused.refusal c.in-Err-Refused.field-0 c.in-Err-Refused.field-0-is c.loop-row.invariant.pass c.loop-row-test.true (sym c.row-item.is)
+    (by_place c.args.header.now c.loop-row.kept (g.M.WordMemory.words c.loop-row.memory) c.row-item.result c.place-place.result c.owns-owned.result
+    (λ k f. c.place-place.ensures k (g.M.WordMemory.words c.loop-row.memory) f) (λ k f placed. c.owns-owned.ensures c.args.header.now k (g.M.WordMemory.words c.loop-row.memory) f placed)
+    c.in-Err-Refused.field-0 c.in-Err-Refused.ensures.refused))
+
+pub returns-clause-standing : goal.returns-clause-standing
+returns-clause-standing g c =
+    let ends = c.loop-row.auto.row-index-end in
+    let past = c.loop-row-test.false in
+    stands c.args.header.now c.args.rows.now c.args.first c.loop-row.row-index c.loop-row.number c.loop-row.kept (g.M.WordMemory.words c.loop-row.memory) c.loop-row.book c.loop-row.ranges c.loop-row.invariant (omega arith)
+    c.into_leases.result (room_for c.args.first (length c.args.rows.now) c.requires.within) (λ past room held. c.into_leases.ensures c.args.header.now c.args.first past room held)

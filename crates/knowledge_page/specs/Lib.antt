@@ -1,0 +1,3 @@
+pub mod Standing
+pub mod Shown
+pub mod Rings

@@ -1,0 +1,52 @@
+//! The registers, and whether the controller runs.
+use crate::words::register_name;
+use ring_knowledge::RegisterRecord;
+use std::alloc::AllocError;
+use traces::Register;
+
+/// Whether the controller runs, and the last value written to each register.
+pub(crate) fn write_controller(
+    page: &mut String,
+    registers: &RegisterRecord,
+) -> Result<(), AllocError> {
+    let state = if registers.is_stopped() {
+        "was stopped or reset"
+    } else if registers.is_started() {
+        "runs"
+    } else {
+        "isn't started"
+    };
+    writeln!(page, "controller: {state}")?;
+    let mut count = 0u32;
+    for register in Register::ALL {
+        if let Some(value) = registers.value(register) {
+            write_register(page, count, register, value)?;
+            count = count.saturating_add(1);
+        }
+    }
+    if count == 0 {
+        writeln!(page, "registers: none is written")
+    } else {
+        writeln!(page)
+    }
+}
+
+/// A register behind so many others: four on a line.
+fn write_register(
+    page: &mut String,
+    before: u32,
+    register: Register,
+    value: u64,
+) -> Result<(), AllocError> {
+    let name = register_name(register);
+    match before % 4 {
+        _ if before == 0 => write!(page, "registers: ")?,
+        0 => write!(page, "\n           ")?,
+        _ => write!(page, "  ")?,
+    }
+    if register.is_wide() {
+        write!(page, "{name} {value:016x}")
+    } else {
+        write!(page, "{name} {value:08x}")
+    }
+}

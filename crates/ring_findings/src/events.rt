@@ -1,0 +1,479 @@
+//! Events that no controller can have posted.
+use commands::{Command, EndpointState};
+use ring_knowledge::RingRecord;
+use row_history::{
+    Case, Finding, code_name, command_name, endpoint_state_name, is_handed_over, last_register,
+    last_write, line_of, reads, register_value, ring_known, ring_of_kind, slot_state_name, start,
+    submission, type_name,
+};
+use segments::Place;
+use std::alloc::AllocError;
+use traces::{Register, Ring, Row};
+use trb::{Block, BlockKind, RingKind};
+
+/// An event that no controller can have posted.
+pub fn impossible_event(case: &Case, event: Block) -> Result<Finding, AllocError> {
+    let (kind, code) = (type_name(event.kind()), code_name(event.code()));
+    let here = format!(in case.alloc; "{kind}, {code}")?;
+    let mut finding = Finding::new(
+        case.alloc,
+        "no controller of the model can have posted this event here",
+        here.as_str(),
+    )?;
+    let started = start(case.before);
+    if started.is_none() {
+        finding.say(
+            case.alloc,
+            "the controller isn't started: USBCMD with Run/Stop 1 comes first",
+        )?;
+    } else if !note_event_ring(case, &mut finding, event)? {
+        match event.kind() {
+            BlockKind::CommandCompletion => note_completion(case, &mut finding, event)?,
+            BlockKind::TransferEvent => note_transfer(case, &mut finding, event)?,
+            _ => finding.say(case.alloc, "its type is no event's")?,
+        }
+    }
+    if finding.help.is_none() {
+        finding.help(
+            case.alloc,
+            "look at the hook for events and for rows that are missing: the trace isn't what happened, or the driver read a stale event",
+        )?;
+    }
+    Ok(finding)
+}
+
+/// Notes that the event has no place in the Event Ring: another Cycle bit, or no room. Whether it is so.
+fn note_event_ring(case: &Case, finding: &mut Finding, event: Block) -> Result<bool, AllocError> {
+    let Some(ring) = ring_of_kind(case.header.rings.as_slice(), RingKind::Evt) else {
+        finding.say(case.alloc, "the header has no `evt` ring")?;
+        return Ok(true);
+    };
+    if note_full(case, finding, ring)? {
+        return Ok(true);
+    }
+    let count = reads(case.before);
+    let number = count.saturating_add(1);
+    let wanted = ring.shape.cycle(count as u64);
+    if event.cycle() != wanted {
+        let (have, want) = (u8::from(event.cycle()), u8::from(wanted));
+        let note = format!(in case.alloc;
+            "its Cycle bit is {have}, and event {number} has {want}: the driver read a TRB that isn't posted yet"
+        )?;
+        finding.note(note)?;
+        finding.help(
+            case.alloc,
+            "read an event only where its Cycle bit is the Consumer Cycle State, and flip that at the ring's end (xHCI 4.9.4)",
+        )?;
+        return Ok(true);
+    }
+    Ok(false)
+}
+
+/// Notes that the Event Ring had no room for one more event. Whether it is so.
+fn note_full(case: &Case, finding: &mut Finding, ring: &Ring) -> Result<bool, AllocError> {
+    let most = u64::from(ring.shape.places()).saturating_sub(1);
+    let unread = (reads(case.before) as u64).saturating_sub(given_back(case, ring));
+    if unread < most {
+        return Ok(false);
+    }
+    let note = format!(in case.alloc;
+        "the Event Ring was full: ERDP gave back all but {unread} of the events that were read, and the ring holds {most}"
+    )?;
+    finding.note(note)?;
+    finding.mark(
+        case.alloc,
+        last_register(case.before, Register::Erdp),
+        "ERDP is written here",
+    )?;
+    finding.help(
+        case.alloc,
+        "write ERDP after some events, before the ring is full",
+    )?;
+    Ok(true)
+}
+
+/// How many events the writes of ERDP gave back.
+fn given_back(case: &Case, ring: &Ring) -> u64 {
+    let places = u64::from(ring.shape.places());
+    let mut back = 0u64;
+    for row in case.before {
+        if let Row::Reg {
+            register: Register::Erdp,
+            value,
+        } = row
+        {
+            if let Some(Place::Data { place, .. }) = ring.shape.place_at(*value / 16 * 16) {
+                let reached = back % places;
+                let ahead = (u64::from(place) + places).saturating_sub(reached) % places;
+                back = back.saturating_add(ahead);
+            }
+        }
+    }
+    back
+}
+
+/// What is wrong with a Command Completion Event.
+fn note_completion(case: &Case, finding: &mut Finding, event: Block) -> Result<(), AllocError> {
+    let Some(command_ring) = ring_of_kind(case.header.rings.as_slice(), RingKind::Cmd) else {
+        return finding.say(case.alloc, "the header has no `cmd` ring");
+    };
+    let Some((ring, known)) = ring_known(case, command_ring.id) else {
+        return Ok(());
+    };
+    let next = known.floor_number();
+    let wanted = ring.shape.address(next);
+    let found = event.pointer();
+    if found != wanted {
+        let note = format!(in case.alloc;
+            "it names {found:016x}; the next command to complete is at {wanted:016x}"
+        )?;
+        return finding.note(note);
+    }
+    if !is_handed_over(ring, known, next) {
+        return note_stale(case, finding, ring, known, next);
+    }
+    let gave = last_write(case.before, wanted | 12);
+    if known.ceiling() <= next {
+        finding.mark(
+            case.alloc,
+            gave,
+            "this row hands the command to the controller",
+        )?;
+        if known.is_open() {
+            return finding.say(
+                case.alloc,
+                "the Link TRB before that command isn't handed over: the controller waits there",
+            );
+        }
+        finding.say(case.alloc, "no doorbell of the Command Ring rang since")?;
+        return finding.help(case.alloc, "log the write of doorbell 0 as `db 00 00`");
+    }
+    finding.mark(case.alloc, gave, "the command that it completes")?;
+    if event.code() == 0 {
+        return finding.say(
+            case.alloc,
+            "Completion Code 0 is never posted (xHCI table 6-90)",
+        );
+    }
+    match known.declared(next) {
+        Some(block) => note_answer(case, finding, Command::read(&block).ok(), event),
+        None => Ok(()),
+    }
+}
+
+/// Why a command can't have completed with an event.
+fn note_answer(
+    case: &Case,
+    finding: &mut Finding,
+    command: Option<Command>,
+    event: Block,
+) -> Result<(), AllocError> {
+    let Some(command) = command else {
+        return Ok(());
+    };
+    let (name, slot, code) = (command_name(command), event.slot(), event.code());
+    if let Some(named) = command.slot() {
+        if named != slot {
+            let note = format!(in case.alloc;
+                "its Slot ID is {slot}, and the {name} is for slot {named}"
+            )?;
+            return finding.note(note);
+        }
+    }
+    if code != 1 {
+        let note = format!(in case.alloc;
+            "its Completion Code is {code}: once the Stopped event of a {name} was read, it ends with Success (xHCI 4.6.9)"
+        )?;
+        return finding.note(note);
+    }
+    if matches!(command, Command::EnableSlot) && note_slot(case, finding, slot)? {
+        return Ok(());
+    }
+    note_state(case, finding, command, slot)
+}
+
+/// Notes that CONFIG doesn't enable the slot that an Enable Slot answers. Whether it is so.
+fn note_slot(case: &Case, finding: &mut Finding, slot: u8) -> Result<bool, AllocError> {
+    let slots = register_value(case.before, Register::Config).unwrap_or(0) % 256;
+    if slot > 0 && u64::from(slot) <= slots {
+        return Ok(false);
+    }
+    let note = if slots == 0 {
+        format!(in case.alloc;
+            "its Slot ID is {slot}, and CONFIG enables no slot (MaxSlotsEn, xHCI 5.4.7)"
+        )?
+    } else {
+        format!(in case.alloc;
+            "its Slot ID is {slot}, and CONFIG enables slots 1 to {slots} (MaxSlotsEn, xHCI 5.4.7)"
+        )?
+    };
+    finding.note(note)?;
+    finding.help(
+        case.alloc,
+        "log the write of CONFIG before the start as `reg config VALUE`",
+    )?;
+    Ok(true)
+}
+
+/// Why a command can't have succeeded in the states that its slot and its endpoint have.
+fn note_state(
+    case: &Case,
+    finding: &mut Finding,
+    command: Command,
+    slot: u8,
+) -> Result<(), AllocError> {
+    let name = command_name(command);
+    let state = slot_state_name(case.known.devices.slot_state(slot));
+    let note = match command.endpoint() {
+        Some((_, endpoint)) => {
+            let endpoint_state = endpoint_state_name(
+                case.known.devices.endpoint_state(slot, endpoint),
+            );
+            format!(in case.alloc;
+                "{name} can't succeed where slot {slot} is {state} and DCI {endpoint} {endpoint_state} (xHCI 4.5.3, 4.8.3)"
+            )?
+        }
+        None => {
+            format!(in case.alloc;
+                "{name} can't succeed where slot {slot} is {state} (xHCI 4.5.3)"
+            )?
+        }
+    };
+    finding.note(note)
+}
+
+/// What is wrong with a Transfer Event.
+fn note_transfer(case: &Case, finding: &mut Finding, event: Block) -> Result<(), AllocError> {
+    let (slot, endpoint) = (event.slot(), event.endpoint());
+    let Some(id) = case.known.devices.ring_of(slot, endpoint) else {
+        let name = endpoint_state_name(case.known.devices.endpoint_state(slot, endpoint));
+        let note = format!(in case.alloc;
+            "slot {slot}, DCI {endpoint} is {name} and has no ring: no Address Device or Configure Endpoint that adds it has completed"
+        )?;
+        return finding.note(note);
+    };
+    let Some((ring, known)) = ring_known(case, id) else {
+        return Ok(());
+    };
+    let pointer = event.pointer();
+    match ring.shape.place_at(pointer) {
+        Some(Place::Data { place, word: 0 }) => {
+            let position = position_of(ring, known, u64::from(place));
+            note_named_trb(case, finding, ring, known, position, event)
+        }
+        Some(Place::Link { segment, word: 0 }) => {
+            if is_stopped(event.code()) {
+                return note_stopped(case, finding, event, known);
+            }
+            let note = format!(in case.alloc;
+                "it names the Link TRB of segment {segment} of ring {id:02x}, which a Stopped event alone does (xHCI 4.6.9)"
+            )?;
+            finding.note(note)
+        }
+        Some(_) => {
+            let note = format!(in case.alloc;
+                "it names {pointer:016x}, which is inside a TRB of ring {id:02x}: a TRB's address is a multiple of 16"
+            )?;
+            finding.note(note)
+        }
+        None => {
+            let note = format!(in case.alloc;
+                "it names {pointer:016x}, which is no TRB of ring {id:02x}, the ring of slot {slot}, DCI {endpoint}"
+            )?;
+            finding.note(note)
+        }
+    }
+}
+
+/// Whether a Completion Code is that of a stop.
+fn is_stopped(code: u8) -> bool {
+    matches!(code, 26..=28)
+}
+
+/// What is wrong with a Transfer Event that names a TRB.
+fn note_named_trb(
+    case: &Case,
+    finding: &mut Finding,
+    ring: &Ring,
+    known: &RingRecord,
+    position: u64,
+    event: Block,
+) -> Result<(), AllocError> {
+    let (slot, endpoint, code) = (event.slot(), event.endpoint(), event.code());
+    let (id, place) = (ring.id, position % u64::from(ring.shape.places()));
+    if is_stopped(code) {
+        return note_stopped(case, finding, event, known);
+    }
+    if position >= known.declared_count() as u64 {
+        let note = format!(in case.alloc;
+            "it names TRB {place} of ring {id:02x}, which wasn't submitted since it came back"
+        )?;
+        return finding.note(note);
+    }
+    if !is_handed_over(ring, known, position) {
+        return note_stale(case, finding, ring, known, position);
+    }
+    let gave = last_write(case.before, ring.shape.address(position) | 12);
+    finding.mark(case.alloc, gave, "this row hands the TRB to the controller")?;
+    let state = case.known.devices.endpoint_state(slot, endpoint);
+    if !matches!(code, 1 | 13) && state != EndpointState::Running {
+        let name = endpoint_state_name(state);
+        let note = format!(in case.alloc;
+            "slot {slot}, DCI {endpoint} is {name}, and only a Running endpoint reports so"
+        )?;
+        return finding.note(note);
+    }
+    if known.given_count() <= position {
+        return note_gap(case, finding, ring, known);
+    }
+    note_no_bell(case, finding, slot, endpoint)
+}
+
+/// Notes that no doorbell let the controller go to the ring.
+fn note_no_bell(
+    case: &Case,
+    finding: &mut Finding,
+    slot: u8,
+    endpoint: u8,
+) -> Result<(), AllocError> {
+    let note = format!(in case.alloc;
+        "no doorbell of slot {slot}, DCI {endpoint} rang since the ring was bound, stopped or moved"
+    )?;
+    finding.note(note)?;
+    finding.help(case.alloc, "log each write of a doorbell as a `db` row")
+}
+
+/// Notes where the controller waits before it comes to a TRB.
+fn note_gap(
+    case: &Case,
+    finding: &mut Finding,
+    ring: &Ring,
+    known: &RingRecord,
+) -> Result<(), AllocError> {
+    let next = known.given_count();
+    let (id, place) = (ring.id, next % u64::from(ring.shape.places()));
+    let note = if is_handed_over(ring, known, next) {
+        format!(in case.alloc;
+            "the Link TRB before TRB {place} of ring {id:02x} isn't handed over: the controller waits there"
+        )?
+    } else {
+        format!(in case.alloc;
+            "TRB {place} of ring {id:02x}, which comes before, isn't handed over: the controller waits there"
+        )?
+    };
+    finding.note(note)
+}
+
+/// What is wrong with a Stopped event.
+fn note_stopped(
+    case: &Case,
+    finding: &mut Finding,
+    event: Block,
+    known: &RingRecord,
+) -> Result<(), AllocError> {
+    let (slot, endpoint) = (event.slot(), event.endpoint());
+    let state = case.known.devices.endpoint_state(slot, endpoint);
+    let name = endpoint_state_name(state);
+    if state != EndpointState::Running {
+        let note = format!(in case.alloc;
+            "slot {slot}, DCI {endpoint} is {name}, and only a Running endpoint is stopped"
+        )?;
+        return finding.note(note);
+    }
+    if !known.is_open() {
+        return note_no_bell(case, finding, slot, endpoint);
+    }
+    if !is_stopping(case, slot, endpoint) {
+        let note = format!(in case.alloc;
+            "slot {slot}, DCI {endpoint} is {name}: a Stopped event comes before the completion of its Stop Endpoint (xHCI 4.6.9), and that isn't the next command to complete"
+        )?;
+        return finding.note(note);
+    }
+    let pointer = event.pointer();
+    let note = format!(in case.alloc;
+        "it names {pointer:016x}, behind where the controller can have come: a TRB or Link TRB before isn't handed over"
+    )?;
+    finding.note(note)
+}
+
+/// Whether the next command to complete is a Stop Endpoint for this endpoint, and the controller may have come to it.
+fn is_stopping(case: &Case, slot: u8, endpoint: u8) -> bool {
+    let Some(commands) = ring_of_kind(case.header.rings.as_slice(), RingKind::Cmd) else {
+        return false;
+    };
+    let Some((_, known)) = ring_known(case, commands.id) else {
+        return false;
+    };
+    let next = known.floor_number();
+    let Some(block) = known.declared(next) else {
+        return false;
+    };
+    match Command::read(&block) {
+        Ok(
+            Command::StopEndpoint {
+                slot: stopped,
+                endpoint: index,
+            },
+        ) => next < known.ceiling() && stopped == slot && index == endpoint,
+        _ => false,
+    }
+}
+
+/// The least position from the floor on at a place.
+fn position_of(ring: &Ring, known: &RingRecord, place: u64) -> u64 {
+    let places = u64::from(ring.shape.places());
+    let floor = known.floor_number();
+    let reached = floor % places;
+    let ahead = if place < reached {
+        (places - reached).saturating_add(place)
+    } else {
+        place - reached
+    };
+    floor.saturating_add(ahead)
+}
+
+/// Notes that a TRB was never handed over, and the write that gave it a stale Cycle bit.
+fn note_stale(
+    case: &Case,
+    finding: &mut Finding,
+    ring: &Ring,
+    known: &RingRecord,
+    position: u64,
+) -> Result<(), AllocError> {
+    let id = ring.id;
+    let places = u64::from(ring.shape.places());
+    let place = position % places;
+    let wanted = u8::from(ring.shape.cycle(position));
+    let lap = (position / places).saturating_add(1);
+    let note = format!(in case.alloc;
+        "TRB {place} of ring {id:02x} was never handed to the controller: in lap {lap} of the ring that takes Cycle bit {wanted}"
+    )?;
+    finding.note(note)?;
+    if position >= known.declared_count() as u64 {
+        return finding.say(case.alloc, "it wasn't submitted either");
+    }
+    let Some(td) = submission(case, id, position) else {
+        return Ok(());
+    };
+    match last_write(case.before, ring.shape.address(position) | 12) {
+        Some(wrote) if wrote > td.row => {
+            let line = line_of(case.first, td.row);
+            let note = format!(in case.alloc; "it was submitted at row {line}")?;
+            finding.note(note)?;
+            finding.mark(
+                case.alloc,
+                Some(wrote),
+                "its control word, with the Cycle bit of another lap",
+            )?;
+            finding.help(
+                case.alloc,
+                "flip the Producer Cycle State where you pass the Link TRB with Toggle Cycle (xHCI 4.9.2)",
+            )
+        }
+        _ => finding.mark(
+            case.alloc,
+            Some(td.row),
+            "submitted here, and its control word isn't written since",
+        ),
+    }
+}

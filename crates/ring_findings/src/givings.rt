@@ -1,0 +1,259 @@
+//! Writes of memory: to what the controller owns, of TRBs that weren't submitted, and of Link TRBs.
+use row_history::{Case, Finding, NOT_JUDGED, last_write, trb_at, word_at, write_to_area};
+use segments::Place;
+use std::alloc::AllocError;
+use traces::Ring;
+use trb::{Block, BlockKind, RingKind};
+
+/// A write to memory that the controller owns.
+pub fn write_to_owned(case: &Case, address: u64, word: u32) -> Result<Finding, AllocError> {
+    for ring in case.header.rings.as_slice() {
+        if let Some(place) = ring.shape.place_at(address) {
+            return match ring.shape.kind() {
+                RingKind::Evt => write_to_events(case, ring.id),
+                RingKind::Cmd | RingKind::Xfer => write_to_ring(case, ring, place, address, word),
+            };
+        }
+    }
+    write_to_area(case, address)
+}
+
+/// A write into the event ring.
+fn write_to_events(case: &Case, id: u8) -> Result<Finding, AllocError> {
+    let here = format!(in case.alloc;
+        "ring {id:02x} is the Event Ring, which the controller alone writes"
+    )?;
+    let mut finding = Finding::new(
+        case.alloc,
+        "the driver writes into the Event Ring",
+        here.as_str(),
+    )?;
+    finding.help(
+        case.alloc,
+        "clear it before the trace begins, and leave it to the controller from then on",
+    )?;
+    Ok(finding)
+}
+
+/// A write to a TRB or a Link TRB of a command or transfer ring.
+fn write_to_ring(
+    case: &Case,
+    ring: &Ring,
+    place: Place,
+    address: u64,
+    word: u32,
+) -> Result<Finding, AllocError> {
+    let (kind, is_link) = (ring.shape.kind(), matches!(place, Place::Link { .. }));
+    let head = if is_link {
+        "write to a Link TRB that the controller owns"
+    } else {
+        "write to a TRB that the controller owns"
+    };
+    let here = word_named(case, ring.id, place)?;
+    let mut finding = Finding::new(case.alloc, head, here.as_str())?;
+    let gave = last_write(case.before, address | 12);
+    finding.mark(
+        case.alloc,
+        gave,
+        "the Cycle bit written here hands it to the controller",
+    )?;
+    note_return(case, &mut finding, kind, is_link)?;
+    let is_same = last_write(case.before, address).is_some()
+        && word_at(case.before, address) == word;
+    note_instead(case, &mut finding, kind, is_link, is_same)?;
+    Ok(finding)
+}
+
+/// Which word of a ring that the controller owns is written.
+fn word_named(case: &Case, id: u8, place: Place) -> Result<String, AllocError> {
+    match place {
+        Place::Data { place, word } => {
+            format!(in case.alloc;
+                "word {word} of TRB {place} of ring {id:02x}, before an event gives it back"
+            )
+        }
+        Place::Link { segment, word } => {
+            format!(in case.alloc;
+                "word {word} of the Link TRB of segment {segment} of ring {id:02x}, before an event gives it back"
+            )
+        }
+    }
+}
+
+/// Notes when a TRB or a Link TRB comes back.
+fn note_return(
+    case: &Case,
+    finding: &mut Finding,
+    kind: RingKind,
+    is_link: bool,
+) -> Result<(), AllocError> {
+    let returns = match (kind, is_link) {
+        (RingKind::Cmd, false) =>
+            "it comes back with the Command Completion Event of this command or a later one",
+        (RingKind::Cmd, true) =>
+            "it comes back with the Command Completion Event of a command behind it",
+        (_, false) =>
+            "it comes back with a Transfer Event that names it or a later TRB of the ring",
+        (_, true) => "it comes back with a Transfer Event that names a TRB behind it",
+    };
+    finding.say(case.alloc, returns)
+}
+
+/// Says what to do in place of a write to a TRB that the controller owns.
+fn note_instead(
+    case: &Case,
+    finding: &mut Finding,
+    kind: RingKind,
+    is_link: bool,
+    is_same: bool,
+) -> Result<(), AllocError> {
+    if is_same {
+        finding.say(
+            case.alloc,
+            "the word is the same as before: no controller sees a difference",
+        )?;
+        finding.say(case.alloc, NOT_JUDGED)?;
+        return finding.help(case.alloc, "leave out the second write");
+    }
+    let help = match (kind, is_link) {
+        (_, true) =>
+            "write a Link TRB's words 0 to 2 first and word 3, with the Cycle bit, last and once",
+        (RingKind::Cmd, false) =>
+            "write a command's words 0 to 2 first and word 3, with the Cycle bit, last and once",
+        (_, false) =>
+            "write a TRB's words 0 to 2 first and word 3, with the Cycle bit, last and once; to take a TRB back: Stop Endpoint, then Set TR Dequeue Pointer past it",
+    };
+    finding.help(case.alloc, help)
+}
+
+/// A `sub` row for no ring that takes TDs.
+pub fn not_declared(case: &Case, id: u8) -> Result<Finding, AllocError> {
+    let mut here = format!(in case.alloc; "ring {id:02x} is not in the header")?;
+    for ring in case.header.rings.as_slice() {
+        if ring.id == id {
+            here = format!(in case.alloc; "ring {id:02x} is the Event Ring, which takes no TDs")?;
+        }
+    }
+    let mut finding = Finding::new(case.alloc, "a TD for a ring that takes none", here.as_str())?;
+    let rings = driver_rings(case)?;
+    finding.note(rings)?;
+    finding.help(case.alloc, "name a `cmd` or `xfer` ring of the header")?;
+    Ok(finding)
+}
+
+/// The rings that take TDs or commands.
+fn driver_rings(case: &Case) -> Result<String, AllocError> {
+    let mut text = String::from_str(case.alloc, "rings that take TDs or commands:")?;
+    let mut before = "";
+    for ring in case.header.rings.as_slice() {
+        if ring.shape.kind() != RingKind::Evt {
+            let id = ring.id;
+            let kind = ring.shape.kind().name();
+            let named = format!(in case.alloc; "{before} {id:02x} ({kind})")?;
+            text.push_str(named.as_str())?;
+            before = ",";
+        }
+    }
+    Ok(text)
+}
+
+/// A Link TRB that is handed over with a wrong field.
+pub fn link_fault(case: &Case, address: u64, word: u32) -> Result<Finding, AllocError> {
+    let mut finding = Finding::new(
+        case.alloc,
+        "a Link TRB is handed over that the ring must not have",
+        "its Cycle bit goes to the controller here",
+    )?;
+    for ring in case.header.rings.as_slice() {
+        if let Some(Place::Link { segment, .. }) = ring.shape.place_at(address) {
+            let link = trb_at(case, address, word);
+            note_link(case, &mut finding, ring, segment, link)?;
+        }
+    }
+    Ok(finding)
+}
+
+/// Notes which fields of a Link TRB are wrong.
+fn note_link(
+    case: &Case,
+    finding: &mut Finding,
+    ring: &Ring,
+    segment: u32,
+    link: Block,
+) -> Result<(), AllocError> {
+    let id = ring.id;
+    finding.here = format!(in case.alloc; "the Link TRB of segment {segment} of ring {id:02x}")?;
+    let kind = link.kind();
+    if kind != BlockKind::Link {
+        let number = kind.number();
+        let note = format!(in case.alloc; "its TRB Type is {number}, and must be 6 (Link)")?;
+        finding.note(note)?;
+    }
+    let toggles = link.w[3] / 2 % 2 == 1;
+    let last = segment as usize + 1 == ring.shape.segments().len();
+    if toggles != last {
+        let (is, must) = (u8::from(toggles), u8::from(last));
+        let note = format!(in case.alloc;
+            "its Toggle Cycle bit (word 3 bit 1) is {is}, and must be {must}: it is 1 in the Link TRB of the last segment alone"
+        )?;
+        finding.note(note)?;
+    }
+    let better = link.w[3] & 0xffff03fd | 0x1800 | u32::from(last) << 1;
+    finding.help = Some(format!(in case.alloc; "write {better:08x}")?);
+    note_target(case, finding, ring, segment, link.pointer() & !15, better)
+}
+
+/// Notes where a Link TRB leads, where that is wrong.
+fn note_target(
+    case: &Case,
+    finding: &mut Finding,
+    ring: &Ring,
+    segment: u32,
+    found: u64,
+    better: u32,
+) -> Result<(), AllocError> {
+    let segments = ring.shape.segments();
+    let behind = segment as usize + 1;
+    let Some(target) = segments.get(behind).or(segments.first()) else {
+        return Ok(());
+    };
+    let base = target.base;
+    if base == found {
+        return Ok(());
+    }
+    let note = format!(in case.alloc;
+        "its Ring Segment Pointer is {found:016x}, and must be {base:016x}, where the next segment begins"
+    )?;
+    finding.note(note)?;
+    match pointer_row(case, ring, segment) {
+        Some(row) => finding.mark(
+            case.alloc,
+            Some(row),
+            "its Ring Segment Pointer is written here",
+        )?,
+        None => finding.say(
+            case.alloc,
+            "its words 0 and 1 were never written: memory counts as 0",
+        )?,
+    }
+    let (low, high) = (base % 0x1_0000_0000, base >> 32);
+    let help = format!(in case.alloc;
+        "write {low:08x} and {high:08x} to its words 0 and 1, and then {better:08x} to word 3"
+    )?;
+    finding.help(case.alloc, help.as_str())
+}
+
+/// The row that last wrote a word of a Link TRB's pointer.
+fn pointer_row(case: &Case, ring: &Ring, segment: u32) -> Option<usize> {
+    let place = ring.shape.segments().get(segment as usize)?;
+    let link = place.base.saturating_add(
+        u64::from(place.count).saturating_sub(1).saturating_mul(16),
+    );
+    let low = last_write(case.before, link);
+    let high = last_write(case.before, link.saturating_add(4));
+    match (low, high) {
+        (Some(low), Some(high)) => Some(low.max(high)),
+        (Some(row), None) | (None, Some(row)) => Some(row),
+        (None, None) => None,
+    }
+}

@@ -1,0 +1,503 @@
+//! Commands that bind an endpoint to a ring, or move its ring.
+use commands::{Command, EndpointState};
+use ring_knowledge::RingRecord;
+use row_history::{
+    Binding, Case, Finding, NOT_JUDGED, Unfinished, all_unfinished, command_at,
+    endpoint_state_name, is_handed_over, last_write, line_of, ring_at, ring_known, submission,
+};
+use segments::{Place, Spot};
+use std::alloc::AllocError;
+use traces::Ring;
+use trb::RingKind;
+
+/// How many places where a ring may go on are told.
+const TOLD: usize = 4;
+
+/// A command that binds or moves a ring to where it may not stand; `address` is that of its control word.
+pub fn bad_move(case: &Case, address: u64, word: u32) -> Result<Option<Finding>, AllocError> {
+    match command_at(case, address, word) {
+        Some(
+            Command::SetTrDequeue {
+                slot,
+                endpoint,
+                dequeue,
+                cycle,
+            },
+        ) => {
+            let here = format!(in case.alloc;
+                "Set TR Dequeue Pointer of slot {slot}, DCI {endpoint}"
+            )?;
+            let mut finding = Finding::new(
+                case.alloc,
+                "Set TR Dequeue Pointer to where the ring may not go on",
+                here.as_str(),
+            )?;
+            note_dequeue(case, &mut finding, slot, endpoint, dequeue, cycle)?;
+            Ok(Some(finding))
+        }
+        Some(
+            Command::AddressDevice {
+                slot,
+                input_context,
+                ..
+            },
+        ) => {
+            let here = format!(in case.alloc; "Address Device of slot {slot}")?;
+            let mut finding = Finding::new(
+                case.alloc,
+                "Address Device binds an endpoint to a ring that it may not have",
+                here.as_str(),
+            )?;
+            note_added(case, &mut finding, slot, input_context, 1)?;
+            Ok(Some(finding))
+        }
+        Some(
+            Command::ConfigureEndpoint {
+                slot,
+                input_context,
+                ..
+            },
+        ) => {
+            let here = format!(in case.alloc; "Configure Endpoint of slot {slot}")?;
+            let mut finding = Finding::new(
+                case.alloc,
+                "Configure Endpoint binds an endpoint to a ring that it may not have",
+                here.as_str(),
+            )?;
+            for endpoint in 2..32 {
+                note_added(case, &mut finding, slot, input_context, endpoint)?;
+                note_twice(case, &mut finding, input_context, endpoint)?;
+            }
+            Ok(Some(finding))
+        }
+        _ => Ok(None),
+    }
+}
+
+/// What is wrong with a Set TR Dequeue Pointer.
+fn note_dequeue(
+    case: &Case,
+    finding: &mut Finding,
+    slot: u8,
+    endpoint: u8,
+    dequeue: u64,
+    cycle: bool,
+) -> Result<(), AllocError> {
+    let state = case.known.devices.endpoint_state(slot, endpoint);
+    if !matches!(state, EndpointState::Stopped | EndpointState::Error) {
+        let name = endpoint_state_name(state);
+        let note = format!(in case.alloc;
+            "slot {slot}, DCI {endpoint} is {name}, and must be Stopped or Error (xHCI 4.6.10)"
+        )?;
+        finding.note(note)?;
+        return finding.help(
+            case.alloc,
+            "Stop Endpoint, or Reset Endpoint after a halt, first, and read its completion",
+        );
+    }
+    let Some(id) = case.known.devices.ring_of(slot, endpoint) else {
+        let note = format!(in case.alloc; "slot {slot}, DCI {endpoint} has no ring")?;
+        return finding.note(note);
+    };
+    if let Some((ring, known)) = ring_known(case, id) {
+        note_bound_by(case, finding, id)?;
+        note_named(case, finding, ring, dequeue, cycle)?;
+        note_reached(case, finding, ring, known, dequeue, cycle)?;
+        note_allowed(case, finding, ring, known)?;
+    }
+    Ok(())
+}
+
+/// Points at the row that bound a ring.
+fn note_bound_by(case: &Case, finding: &mut Finding, id: u8) -> Result<(), AllocError> {
+    match last_binding(case, id) {
+        Some(bound) => {
+            let (slot, endpoint) = (bound.slot, bound.endpoint);
+            let label = format!(in case.alloc;
+                "this completion bound slot {slot}, DCI {endpoint} to ring {id:02x}"
+            )?;
+            finding.mark(case.alloc, Some(bound.row), label.as_str())
+        }
+        None => Ok(()),
+    }
+}
+
+/// The last row that bound a ring.
+fn last_binding(case: &Case, id: u8) -> Option<Binding> {
+    let mut last = None;
+    for bound in &case.known.bindings {
+        if bound.ring == id {
+            last = Some(*bound);
+        }
+    }
+    last
+}
+
+/// What a pointer names.
+fn note_named(
+    case: &Case,
+    finding: &mut Finding,
+    ring: &Ring,
+    pointer: u64,
+    cycle: bool,
+) -> Result<(), AllocError> {
+    let id = ring.id;
+    let dcs = u8::from(cycle);
+    let note = match ring.shape.place_at(pointer) {
+        Some(Place::Data { place, .. }) => {
+            format!(in case.alloc;
+                "the command says {pointer:016x}, DCS {dcs}: TRB {place} of ring {id:02x}"
+            )?
+        }
+        Some(Place::Link { segment, .. }) => {
+            format!(in case.alloc;
+                "the command says {pointer:016x}, DCS {dcs}: the Link TRB of segment {segment} of ring {id:02x}"
+            )?
+        }
+        None => {
+            format!(in case.alloc;
+                "the command says {pointer:016x}, DCS {dcs}: no TRB of the endpoint's ring {id:02x}"
+            )?
+        }
+    };
+    finding.note(note)
+}
+
+/// Why the ring may not go on there.
+fn note_reached(
+    case: &Case,
+    finding: &mut Finding,
+    ring: &Ring,
+    known: &RingRecord,
+    pointer: u64,
+    cycle: bool,
+) -> Result<(), AllocError> {
+    if ring.shape.place_at(pointer).is_none() {
+        return Ok(());
+    }
+    if let Some(spot) = known.target(&ring.shape, pointer, cycle) {
+        let (Spot::Data(number) | Spot::Link(number)) = spot;
+        return note_number(case, finding, ring, known, number);
+    }
+    if known.target(&ring.shape, pointer, !cycle).is_some() {
+        return finding.say(
+            case.alloc,
+            "Dequeue Cycle State is that of another lap: it is the Cycle bit with which the TRB there is handed over",
+        );
+    }
+    finding.say(
+        case.alloc,
+        "no TD that isn't finished begins or ends there: the ring has gone past it, or nothing is submitted there",
+    )
+}
+
+/// Why the ring may not go on at a position.
+fn note_number(
+    case: &Case,
+    finding: &mut Finding,
+    ring: &Ring,
+    known: &RingRecord,
+    number: u64,
+) -> Result<(), AllocError> {
+    if number < known.ceiling() {
+        return finding.say(
+            case.alloc,
+            "the controller may have come past that place already, and begun the TD there",
+        );
+    }
+    for position in known.ceiling()..number {
+        if !is_handed_over(ring, known, position) {
+            let place = position % u64::from(ring.shape.places());
+            let note = format!(in case.alloc;
+                "TRB {place}, which is before that place, isn't handed over yet"
+            )?;
+            return finding.note(note);
+        }
+    }
+    if let Some(td) = submission(case, ring.id, number) {
+        if td.first != number {
+            let line = line_of(case.first, td.row);
+            let note = format!(in case.alloc;
+                "that is inside the TD that row {line} submitted, and a ring goes on where a TD begins"
+            )?;
+            return finding.note(note);
+        }
+    }
+    finding.say(
+        case.alloc,
+        "a Link TRB before that place isn't handed over yet",
+    )
+}
+
+/// Where the ring may go on.
+fn note_allowed(
+    case: &Case,
+    finding: &mut Finding,
+    ring: &Ring,
+    known: &RingRecord,
+) -> Result<(), AllocError> {
+    let mut text = String::from_str(case.alloc, "the ring may go on at")?;
+    let mut told = 0usize;
+    let end = (known.declared_count() as u64).saturating_add(1);
+    for position in known.ceiling()..end {
+        let pointer = ring.shape.address(position);
+        let cycle = ring.shape.cycle(position);
+        if told < TOLD && known.may_move_on(&ring.shape, pointer, cycle) {
+            let dcs = u8::from(cycle);
+            let before = if told == 0 { "" } else { "," };
+            let place = format!(in case.alloc; "{before} {pointer:016x} with DCS {dcs}")?;
+            text.push_str(place.as_str())?;
+            told += 1;
+        }
+    }
+    if told == 0 {
+        finding.say(
+            case.alloc,
+            "the ring may go on nowhere yet: a TRB or Link TRB before each TD's beginning isn't handed over",
+        )?;
+        return finding.help(
+            case.alloc,
+            "hand over all before the place where the ring is to go on, and then give the command",
+        );
+    }
+    finding.note(text)?;
+    finding.help(
+        case.alloc,
+        "set the TR Dequeue Pointer to one of these, with its DCS",
+    )
+}
+
+/// What is wrong with the ring of an endpoint that a command adds.
+fn note_added(
+    case: &Case,
+    finding: &mut Finding,
+    slot: u8,
+    context: u64,
+    endpoint: u8,
+) -> Result<(), AllocError> {
+    let Some(added) = case.known.added(case.header, context, endpoint) else {
+        return Ok(());
+    };
+    let (pointer, cycle) = (added.pointer, added.dcs);
+    let dcs = u8::from(cycle);
+    let state = case.known.devices.endpoint_state(slot, endpoint);
+    if endpoint == 1 && state != EndpointState::Disabled {
+        let note = format!(in case.alloc;
+            "slot {slot}, DCI 1 has its ring already: a second Address Device names the place where that ring stands, with nothing left on it; this one says {pointer:016x}, DCS {dcs}"
+        )?;
+        finding.note(note)?;
+        let row = context_row(case, context, endpoint);
+        finding.mark(
+            case.alloc,
+            row,
+            "the TR Dequeue Pointer of the Endpoint Context is written here",
+        )?;
+        return note_second(case, finding, slot);
+    }
+    let beginning = case
+        .header
+        .rings
+        .as_slice()
+        .iter()
+        .find(|ring| begins_at(ring, pointer));
+    match beginning {
+        None => note_nowhere(case, finding, context, endpoint, pointer, cycle),
+        Some(ring) => note_ring(case, finding, ring, endpoint, cycle),
+    }
+}
+
+/// What is wrong with the pointer of an endpoint that no ring begins at.
+fn note_nowhere(
+    case: &Case,
+    finding: &mut Finding,
+    context: u64,
+    endpoint: u8,
+    pointer: u64,
+    cycle: bool,
+) -> Result<(), AllocError> {
+    finding.mark(
+        case.alloc,
+        context_row(case, context, endpoint),
+        "the TR Dequeue Pointer of the Endpoint Context is written here",
+    )?;
+    let dcs = u8::from(cycle);
+    let note = format!(in case.alloc;
+        "DCI {endpoint}: the Endpoint Context says {pointer:016x}, DCS {dcs}; no `xfer` ring of the header begins there"
+    )?;
+    finding.note(note)?;
+    if let Some((ring, _)) = ring_at(case, pointer) {
+        if ring.shape.kind() == RingKind::Xfer {
+            let (id, first) = (ring.id, ring.shape.address(0));
+            let note = format!(in case.alloc;
+                "that is inside ring {id:02x}: the profile binds a ring at its first TRB, {first:016x}"
+            )?;
+            finding.note(note)?;
+            finding.say(case.alloc, NOT_JUDGED)?;
+        }
+    }
+    finding.help(
+        case.alloc,
+        "name the first TRB of a ring, or declare that ring in the header",
+    )
+}
+
+/// Notes that an endpoint that is added gets the ring of one that the command adds before it.
+fn note_twice(
+    case: &Case,
+    finding: &mut Finding,
+    context: u64,
+    endpoint: u8,
+) -> Result<(), AllocError> {
+    let Some(added) = case.known.added(case.header, context, endpoint) else {
+        return Ok(());
+    };
+    for earlier in 2..endpoint {
+        if let Some(other) = case.known.added(case.header, context, earlier) {
+            if other.pointer == added.pointer {
+                let pointer = added.pointer;
+                let note = format!(in case.alloc;
+                    "DCI {earlier} and DCI {endpoint} both get the ring at {pointer:016x}: a ring serves one endpoint (xHCI 4.9.2)"
+                )?;
+                finding.note(note)?;
+                finding.mark(
+                    case.alloc,
+                    context_row(case, context, endpoint),
+                    "the second TR Dequeue Pointer is written here",
+                )?;
+                return finding.help(case.alloc, "give each endpoint a ring of its own");
+            }
+        }
+    }
+    Ok(())
+}
+
+/// What is wrong with a second Address Device of a slot.
+fn note_second(case: &Case, finding: &mut Finding, slot: u8) -> Result<(), AllocError> {
+    let Some(id) = case.known.devices.ring_of(slot, 1) else {
+        return Ok(());
+    };
+    let Some((ring, known)) = ring_known(case, id) else {
+        return Ok(());
+    };
+    let left = (known.declared_count() as u64).saturating_sub(known.floor_number());
+    if left > 0 {
+        let note = format!(in case.alloc;
+            "not all TDs on ring {id:02x}, which the command moves, have come back: TRBs left: {left}"
+        )?;
+        finding.note(note)?;
+        finding.say(case.alloc, NOT_JUDGED)?;
+        return finding.help(
+            case.alloc,
+            "read the events of all TDs on the ring before the command",
+        );
+    }
+    let position = known.floor_number();
+    let (address, dcs) = (
+        ring.shape.address(position),
+        u8::from(ring.shape.cycle(position)),
+    );
+    let note = format!(in case.alloc; "ring {id:02x} stands at {address:016x}, DCS {dcs}")?;
+    finding.note(note)?;
+    finding.help(
+        case.alloc,
+        "write that into the Endpoint Context: a ring whose TDs have all come back stays where it is",
+    )
+}
+
+/// What is wrong with a ring that an endpoint gets.
+fn note_ring(
+    case: &Case,
+    finding: &mut Finding,
+    ring: &Ring,
+    endpoint: u8,
+    cycle: bool,
+) -> Result<(), AllocError> {
+    let id = ring.id;
+    if !cycle {
+        let note = format!(in case.alloc;
+            "DCI {endpoint}: Dequeue Cycle State is 0, and must be 1: the rings of a trace begin with Cycle bit 1, and so does ring {id:02x}"
+        )?;
+        finding.note(note)?;
+        finding.help(
+            case.alloc,
+            "set DCS, bit 0 of the TR Dequeue Pointer, to 1, and begin the ring with Cycle bit 1",
+        )?;
+    }
+    if let Some(given) = unfinished_binding(case, ring)? {
+        finding.earlier = given.mark(case)?;
+        let note = format!(in case.alloc;
+            "DCI {endpoint} would get ring {id:02x}, which that unfinished command gives to an endpoint already; the profile binds a ring once"
+        )?;
+        finding.note(note)?;
+        finding.say(case.alloc, NOT_JUDGED)?;
+        return finding.help(case.alloc, BIND_ANOTHER);
+    }
+    let Some(bound) = last_binding(case, id) else {
+        return Ok(());
+    };
+    let line = line_of(case.first, bound.row);
+    let (owner, index) = (bound.slot, bound.endpoint);
+    note_bound_by(case, finding, id)?;
+    let note = format!(in case.alloc;
+        "DCI {endpoint} would get ring {id:02x}, which slot {owner}, DCI {index} got at row {line}; the profile binds a ring once"
+    )?;
+    finding.note(note)?;
+    finding.say(case.alloc, NOT_JUDGED)?;
+    finding.help(case.alloc, BIND_ANOTHER)
+}
+
+const BIND_ANOTHER: &str =
+    "this says nothing against the driver; to have the rest judged, bind a ring that wasn't used, or leave the endpoint as it is";
+
+/// An unfinished command that gives an endpoint this ring.
+fn unfinished_binding(case: &Case, ring: &Ring) -> Result<Option<Unfinished>, AllocError> {
+    let all = all_unfinished(case)?;
+    Ok(
+        all.iter()
+            .find(|given| gives_ring(case, given.command, ring.shape.address(0)))
+            .copied(),
+    )
+}
+
+/// Whether a command gives an endpoint the ring that begins at an address.
+fn gives_ring(case: &Case, command: Command, first: u64) -> bool {
+    let (context, from, to) = match command {
+        Command::AddressDevice {
+            slot,
+            input_context,
+            ..
+        } => {
+            if case.known.devices.endpoint_state(slot, 1) != EndpointState::Disabled {
+                return false;
+            }
+            (input_context, 1, 2)
+        }
+        Command::ConfigureEndpoint {
+            deconfigure: false,
+            input_context,
+            ..
+        } => (input_context, 2, 32),
+        _ => return false,
+    };
+    (from..to).any(|endpoint| begins_ring(case, context, endpoint, first))
+}
+
+/// Whether an endpoint that an Input Context adds gets the ring that begins at an address.
+fn begins_ring(case: &Case, context: u64, endpoint: u8, first: u64) -> bool {
+    match case.known.added(case.header, context, endpoint) {
+        Some(added) => added.pointer == first,
+        None => false,
+    }
+}
+
+/// Whether a transfer ring begins at an address.
+fn begins_at(ring: &Ring, address: u64) -> bool {
+    ring.shape.kind() == RingKind::Xfer && ring.shape.address(0) == address
+}
+
+/// The row that wrote the TR Dequeue Pointer of an Endpoint Context.
+fn context_row(case: &Case, context: u64, endpoint: u8) -> Option<usize> {
+    let offset = (u64::from(endpoint) + 1) * case.header.context_size.bytes() + 8;
+    let address = context.checked_add(offset)?;
+    last_write(case.before, address)
+}

@@ -1,0 +1,205 @@
+//! TRBs that are handed over: with other words than the submitted ones, without a submission, or before the rest of their TD.
+use guest_memory::Addr;
+use ring_knowledge::RingRecord;
+use row_history::{
+    Case, Finding, is_handed_over, last_write, line_of, position_given, ring_at, submission,
+    trb_at, type_name,
+};
+use std::alloc::AllocError;
+use traces::Ring;
+use trb::Block;
+
+/// How many TRBs of a TD are told.
+const TOLD: usize = 4;
+
+/// A TRB that is handed over with other words than the submitted ones.
+pub fn not_as_submitted(case: &Case, at: Addr, word: u32) -> Result<Option<Finding>, AllocError> {
+    let Some((ring, known)) = ring_at(case, at.get()) else {
+        return Ok(None);
+    };
+    let Some(position) = position_given(ring, known, at, word) else {
+        return Ok(None);
+    };
+    let Some(wanted) = known.declared(position) else {
+        return Ok(None);
+    };
+    let wanted = wanted.with_cycle(ring.shape.cycle(position));
+    let found = trb_at(case, at.get(), word);
+    let [w0, w1, w2, w3] = found.w;
+    let here = format!(in case.alloc; "in memory: {w0:08x} {w1:08x} {w2:08x} {w3:08x}")?;
+    let mut finding = Finding::new(
+        case.alloc,
+        "the TRB handed to the controller is not the one that was submitted",
+        here.as_str(),
+    )?;
+    if let Some(td) = submission(case, ring.id, position) {
+        let [w0, w1, w2, w3] = wanted.w;
+        let label = format!(in case.alloc;
+            "submitted here: {w0:08x} {w1:08x} {w2:08x} {w3:08x} with its Cycle bit"
+        )?;
+        finding.mark(case.alloc, Some(td.row), label.as_str())?;
+    }
+    note_words(case, &mut finding, at.get() & !15, wanted, found)?;
+    finding.help(
+        case.alloc,
+        "write all four words of a TRB, the one with its Cycle bit last, and log in `sub` what you mean to write",
+    )?;
+    Ok(Some(finding))
+}
+
+/// Notes the words that differ.
+fn note_words(
+    case: &Case,
+    finding: &mut Finding,
+    base: u64,
+    wanted: Block,
+    found: Block,
+) -> Result<(), AllocError> {
+    for (index, (want, have)) in wanted.w.iter().zip(found.w.iter()).enumerate() {
+        if *want != *have {
+            let (want, have) = (*want, *have);
+            let note = match last_write(case.before, base.saturating_add(4 * (index as u64 % 4))) {
+                Some(row) => {
+                    let line = line_of(case.first, row);
+                    if index == 3 {
+                        format!(in case.alloc;
+                            "word 3 differs: submitted {want:08x}, written {have:08x}"
+                        )?
+                    } else {
+                        format!(in case.alloc;
+                            "word {index} differs: submitted {want:08x}, in memory {have:08x} (row {line})"
+                        )?
+                    }
+                }
+                None => if index == 3 {
+                    format!(in case.alloc;
+                        "word 3 differs: submitted {want:08x}, written {have:08x}"
+                    )?
+                } else {
+                    format!(in case.alloc;
+                        "word {index} differs: submitted {want:08x}, never written: memory counts as 0"
+                    )?
+                },
+            };
+            finding.note(note)?;
+        }
+    }
+    Ok(())
+}
+
+/// A TRB that is handed over and wasn't submitted.
+pub fn never_submitted(case: &Case, at: Addr, word: u32) -> Result<Option<Finding>, AllocError> {
+    let Some((ring, known)) = ring_at(case, at.get()) else {
+        return Ok(None);
+    };
+    let Some(position) = position_given(ring, known, at, word) else {
+        return Ok(None);
+    };
+    let id = ring.id;
+    let place = position % u64::from(ring.shape.places());
+    let kind = type_name(Block { w: [0, 0, 0, word] }.kind());
+    let here = format!(in case.alloc;
+        "TRB {place} of ring {id:02x} ({kind}) gets the controller's Cycle bit"
+    )?;
+    let mut finding = Finding::new(
+        case.alloc,
+        "a TRB goes to the controller that was never submitted",
+        here.as_str(),
+    )?;
+    let count = known.declared_count();
+    let number = position.saturating_add(1);
+    let note = format!(in case.alloc;
+        "{count} TRBs were submitted on ring {id:02x}, and this would be number {number}"
+    )?;
+    finding.note(note)?;
+    let cycle = u8::from(ring.shape.cycle(position));
+    let note = format!(in case.alloc;
+        "in this lap of the ring Cycle bit {cycle} hands a TRB over"
+    )?;
+    finding.note(note)?;
+    finding.help(
+        case.alloc,
+        "log a `sub` row with the whole TD before its first write; where no TRB was meant, write the other Cycle bit",
+    )?;
+    Ok(Some(finding))
+}
+
+/// The first TRB of a TD that is handed over before the rest.
+pub fn not_whole(case: &Case, at: Addr, word: u32) -> Result<Option<Finding>, AllocError> {
+    let Some((ring, known)) = ring_at(case, at.get()) else {
+        return Ok(None);
+    };
+    let Some(position) = position_given(ring, known, at, word) else {
+        return Ok(None);
+    };
+    let id = ring.id;
+    let place = position % u64::from(ring.shape.places());
+    let here = format!(in case.alloc;
+        "the Cycle bit of the first TRB, TRB {place} of ring {id:02x}"
+    )?;
+    let mut finding = Finding::new(
+        case.alloc,
+        "the first TRB of a TD goes to the controller before the rest of the TD",
+        here.as_str(),
+    )?;
+    if let Some(td) = submission(case, id, position) {
+        let count = td.count;
+        let label = format!(in case.alloc; "a TD of {count} TRBs")?;
+        finding.mark(case.alloc, Some(td.row), label.as_str())?;
+        note_missing(
+            case,
+            &mut finding,
+            ring,
+            known,
+            position,
+            td.first.saturating_add(count),
+        )?;
+    }
+    finding.say(
+        case.alloc,
+        "a controller that fetches now waits inside the TD",
+    )?;
+    finding.help(
+        case.alloc,
+        "write the first TRB with the other Cycle bit, then all others, and flip the first one's Cycle bit last (xHCI 4.9.2.2)",
+    )?;
+    Ok(Some(finding))
+}
+
+/// Notes which TRBs of a TD aren't handed over.
+fn note_missing(
+    case: &Case,
+    finding: &mut Finding,
+    ring: &Ring,
+    known: &RingRecord,
+    first: u64,
+    end: u64,
+) -> Result<(), AllocError> {
+    let mut text = String::from_str(case.alloc, "not handed over yet:")?;
+    let mut told = 0usize;
+    let mut more = 0usize;
+    for position in first.saturating_add(1)..end {
+        if !is_handed_over(ring, known, position) {
+            if told < TOLD {
+                let place = position % u64::from(ring.shape.places());
+                let before = if told == 0 { "" } else { "," };
+                let name = format!(in case.alloc; "{before} TRB {place}")?;
+                text.push_str(name.as_str())?;
+                told += 1;
+            } else {
+                more = more.saturating_add(1);
+            }
+        }
+    }
+    if told == 0 {
+        return finding.say(
+            case.alloc,
+            "the Link TRB between its TRBs isn't handed over yet: it too has a Cycle bit",
+        );
+    }
+    if more > 0 {
+        let rest = format!(in case.alloc; " and {more} more")?;
+        text.push_str(rest.as_str())?;
+    }
+    finding.note(text)
+}

@@ -1,0 +1,519 @@
+//! What is known before the refused row: memory, rings, slots and endpoints, as the rows tell of them.
+ghost use Rattle.std.specs.Prelude.{◌≡◌, ◌<◌, ◌%◌};
+ghost use Rattle.traces.specs.Header.{IsHeader};
+ghost use Rattle.ring_finder.specs.Finding.{IsFinder};
+
+use commands::{Command, EndpointState};
+use contexts::{EndpointContext, InputContext};
+use device_record::{DeviceRecord, Named};
+use guest_memory::{Addr, PageMemory, WordMemory};
+use ring_finder::Finder;
+use ring_knowledge::{RingGiving, RingRecord};
+use segments::Spot;
+use std::alloc::{AllocError, Global};
+use traces::{Header, Register, Row};
+use trb::{Block, BlockKind};
+
+/// That an endpoint got a ring.
+#[derive(Clone, Copy)]
+pub struct Binding {
+    pub ring: u8,
+    pub slot: u8,
+    pub endpoint: u8,
+    /// The index of the row that read the command's completion.
+    pub row: usize,
+}
+
+/// That a slot got its Device Context.
+#[derive(Clone, Copy)]
+pub struct Taking {
+    pub slot: u8,
+    /// Where it lies.
+    pub from: u64,
+    pub bytes: u64,
+    /// The index of the row that gave the Address Device.
+    pub row: usize,
+}
+
+/// What is known after some rows.
+#[derive(Drop)]
+pub struct Known {
+    pub memory: PageMemory,
+    /// In the order of the header.
+    pub rings: Vec<RingRecord>,
+    pub devices: DeviceRecord,
+    /// In the order of their rows.
+    pub bindings: Vec<Binding>,
+    /// In the order of their rows.
+    pub takings: Vec<Taking>,
+    /// Where the DCBAA lies, once DCBAAP was written.
+    pub array: Option<u64>,
+}
+
+/// What is known after these rows.
+pub fn known_after(alloc: Global, header: &Header, rows: &[Row]) -> Result<Known, AllocError>
+    requires { IsHeader header.now }
+{
+    let finder = Finder::new(alloc, header)?;
+    let mut rings = Vec::new(alloc);
+    for ring in header.rings.as_slice() {
+        rings.push(RingRecord::new(alloc, &ring.shape)?)?;
+    }
+    let mut known = Known {
+        memory: PageMemory::new(alloc),
+        rings,
+        devices: DeviceRecord::new(alloc)?,
+        bindings: Vec::new(alloc),
+        takings: Vec::new(alloc),
+        array: None,
+    };
+    for (index, row) in rows.iter().enumerate() {
+        known.learn(header, &finder, index, row)?;
+    }
+    Ok(known)
+}
+
+impl Known {
+    /// Notes one more row.
+    fn learn(
+        &mut self,
+        header: &Header,
+        finder: &Finder,
+        index: usize,
+        row: &Row,
+    ) -> Result<(), AllocError>
+        requires headed { IsHeader header.now }
+        requires found { IsFinder header.now.rings finder.now }
+    {
+        match row {
+            Row::Sub { ring, blocks } => self.learn_declared(finder, *ring, blocks.as_slice()),
+            Row::Write { at, word } => self.learn_word(header, finder, index, *at, *word),
+            Row::Reg { register, value } => {
+                if *register == Register::Dcbaap {
+                    self.array = Some(*value / 64 * 64);
+                }
+                Ok(())
+            }
+            Row::Bell { slot, target } => {
+                self.learn_bell(finder, *slot, *target);
+                Ok(())
+            }
+            Row::Read { event } => match event.kind() {
+                BlockKind::TransferEvent => {
+                    self.learn_transfer(header, finder, *event);
+                    Ok(())
+                }
+                BlockKind::CommandCompletion => self.learn_completion(
+                    header, finder, index, *event,
+                ),
+                _ => Ok(()),
+            },
+        }
+    }
+
+    /// TRBs were submitted.
+    fn learn_declared(
+        &mut self,
+        finder: &Finder,
+        id: u8,
+        blocks: &[Block],
+    ) -> Result<(), AllocError> {
+        let Some(number) = finder.ring_named(id) else {
+            return Ok(());
+        };
+        if blocks.is_empty() || blocks.len() > 256 {
+            return Ok(());
+        }
+        match self.rings.get_mut(number) {
+            Some(known) => known.declare(blocks),
+            None => Ok(()),
+        }
+    }
+
+    /// A word was written.
+    fn learn_word(
+        &mut self,
+        header: &Header,
+        finder: &Finder,
+        row: usize,
+        at: Addr,
+        word: u32,
+    ) -> Result<(), AllocError>
+        requires headed { IsHeader header.now }
+        requires found { IsFinder header.now.rings finder.now }
+    {
+        self.memory.set(at, word)?;
+        let Some(number) = finder.ring_at(header, at.get()) else {
+            return Ok(());
+        };
+        let mut given = None;
+        if let (Some(ring), Some(known)) = (
+            header.rings.as_slice().get(number),
+            self.rings.get_mut(number),
+        ) {
+            let standing = known.look(&ring.shape, at, word);
+            known.note_giving(&ring.shape, standing.giving);
+            if let Some(RingGiving::Position(position)) = standing.giving {
+                given = known.declared(position);
+            }
+        }
+        match given {
+            Some(block) => if finder.commands == Some(number) {
+                self.learn_command(header, row, block)
+            } else {
+                Ok(())
+            },
+            None => Ok(()),
+        }
+    }
+
+    /// A command was given: the first Address Device of a slot takes its Device Context.
+    fn learn_command(
+        &mut self,
+        header: &Header,
+        row: usize,
+        block: Block,
+    ) -> Result<(), AllocError> {
+        if let Ok(Command::AddressDevice { slot, .. }) = Command::read(&block) {
+            if self.devices.device(slot).is_none() {
+                let address = self.device_named(slot);
+                self.devices.take_device(slot, address);
+                self.takings.push(Taking {
+                    slot,
+                    from: address,
+                    bytes: 32 * header.context_size.bytes(),
+                    row,
+                })?;
+            }
+        }
+        Ok(())
+    }
+
+    /// Where a slot's entry of the DCBAA lies; the array counts as one at 0 before DCBAAP was written.
+    pub fn entry_of(&self, slot: u8) -> u64 {
+        self.array.unwrap_or(0).saturating_add(8 * u64::from(slot))
+    }
+
+    /// The address in a slot's entry of the DCBAA.
+    pub fn device_named(&self, slot: u8) -> u64 {
+        let entry = self.entry_of(slot);
+        u64::from(self.word(entry.saturating_add(4))) << 32 | u64::from(self.word(entry))
+    }
+
+    /// The row that gave the Address Device by which a slot got its Device Context.
+    pub fn taken_by(&self, slot: u8) -> Option<usize> {
+        let mut last = None;
+        for taking in &self.takings {
+            if taking.slot == slot {
+                last = Some(taking.row);
+            }
+        }
+        last
+    }
+
+    /// The last Device Context that had the word at an address.
+    pub fn device_over(&self, address: u64) -> Option<Taking> {
+        let mut last = None;
+        for taking in &self.takings {
+            if address >= taking.from && address - taking.from < taking.bytes {
+                last = Some(*taking);
+            }
+        }
+        last
+    }
+
+    /// A doorbell was rung.
+    fn learn_bell(&mut self, finder: &Finder, slot: u8, target: u8) {
+        let number = if slot == 0 {
+            finder.commands
+        } else {
+            match self.devices.ring_of(slot, target) {
+                Some(id) => finder.ring_named(id),
+                None => None,
+            }
+        };
+        if let Some(number) = number {
+            if let Some(known) = self.rings.get_mut(number) {
+                known.open();
+            }
+        }
+        self.devices.ring_bell(slot, target);
+    }
+
+    /// A Transfer Event was read.
+    fn learn_transfer(&mut self, header: &Header, finder: &Finder, event: Block) {
+        let (slot, endpoint, code) = (event.slot(), event.endpoint(), event.code());
+        let Some(id) = self.devices.ring_of(slot, endpoint) else {
+            return;
+        };
+        let Some(number) = finder.ring_named(id) else {
+            return;
+        };
+        if let (Some(ring), Some(known)) = (
+            header.rings.as_slice().get(number),
+            self.rings.get_mut(number),
+        ) {
+            if let Some(spot) = known.named(&ring.shape, event.pointer()) {
+                match code {
+                    1 | 13 => known.pass(&ring.shape, spot),
+                    3 | 4 | 5 | 6 | 36 => known.break_off(&ring.shape, spot),
+                    26 | 27 | 28 => known.stop_at(&ring.shape, spot),
+                    _ => {}
+                }
+            }
+        }
+        if endpoint < 32 {
+            self.devices.read_transfer(code, slot, endpoint);
+        }
+    }
+
+    /// A Command Completion Event was read: the next command has come to its end.
+    fn learn_completion(
+        &mut self,
+        header: &Header,
+        finder: &Finder,
+        row: usize,
+        event: Block,
+    ) -> Result<(), AllocError>
+        requires headed { IsHeader header.now }
+        requires found { IsFinder header.now.rings finder.now }
+    {
+        let Some(number) = finder.commands else {
+            return Ok(());
+        };
+        let mut command = None;
+        if let (Some(ring), Some(known)) = (
+            header.rings.as_slice().get(number),
+            self.rings.get_mut(number),
+        ) {
+            if let Some(block) = known.declared(known.floor_number()) {
+                command = Command::read(&block).ok();
+            }
+            let floor = known.floor();
+            known.pass(&ring.shape, floor);
+        }
+        match command {
+            Some(command) => {
+                if event.code() == 1 {
+                    self.learn_success(header, finder, row, command, event.slot())?;
+                }
+                self.learn_end(command);
+                Ok(())
+            }
+            None => Ok(()),
+        }
+    }
+
+    /// A Stop Endpoint has come to its end, whatever its code.
+    fn learn_end(&mut self, command: Command) {
+        if let Command::StopEndpoint { slot, endpoint } = command {
+            if endpoint < 32 {
+                self.devices.end_stop(slot, endpoint);
+            }
+        }
+    }
+
+    /// A command has succeeded; `slot` is that of its completion.
+    fn learn_success(
+        &mut self,
+        header: &Header,
+        finder: &Finder,
+        row: usize,
+        command: Command,
+        slot: u8,
+    ) -> Result<(), AllocError>
+        requires headed { IsHeader header.now }
+        requires found { IsFinder header.now.rings finder.now }
+    {
+        match command {
+            Command::NoOp | Command::EvaluateContext { .. } => {}
+            Command::EnableSlot => self.devices.go_on(&command, slot),
+            Command::DisableSlot { slot } => {
+                self.devices.go_on(&command, slot);
+                self.devices.leave_device(slot);
+                self.devices.disable(slot, Named::All);
+            }
+            Command::ResetDevice { slot }
+            | Command::ConfigureEndpoint {
+                slot,
+                deconfigure: true,
+                ..
+            } => {
+                self.devices.go_on(&command, slot);
+                self.devices.disable(slot, Named::AboveControl);
+            }
+            Command::AddressDevice {
+                slot,
+                input_context,
+                ..
+            } => {
+                self.devices.go_on(&command, slot);
+                return self.learn_context(header, finder, row, slot, input_context, 1, 2);
+            }
+            Command::ConfigureEndpoint {
+                slot,
+                input_context,
+                ..
+            } => {
+                self.devices.go_on(&command, slot);
+                let flags = self.word(input_context);
+                self.devices.disable(slot, Named::Dropped(flags));
+                return self.learn_context(header, finder, row, slot, input_context, 2, 32);
+            }
+            Command::ResetEndpoint { slot, endpoint } => {
+                if endpoint < 32 {
+                    self.devices.reset(slot, endpoint);
+                }
+            }
+            Command::StopEndpoint { slot, endpoint } => self.learn_stop(finder, slot, endpoint),
+            Command::SetTrDequeue {
+                slot,
+                endpoint,
+                dequeue,
+                cycle,
+            } => {
+                return self.learn_place(
+                    header,
+                    finder,
+                    row,
+                    slot,
+                    endpoint,
+                    dequeue,
+                    cycle,
+                    EndpointState::Stopped,
+                );
+            }
+        }
+        Ok(())
+    }
+
+    /// A Stop Endpoint has succeeded: the ring is held where its controller may be.
+    fn learn_stop(&mut self, finder: &Finder, slot: u8, endpoint: u8) {
+        if let Some(id) = self.devices.ring_of(slot, endpoint) {
+            if let Some(number) = finder.ring_named(id) {
+                if let Some(known) = self.rings.get_mut(number) {
+                    known.hold_at_ceiling();
+                }
+            }
+        }
+        if endpoint < 32 {
+            self.devices.stop(slot, endpoint);
+        }
+    }
+
+    /// The endpoints from one index up to another that an Input Context adds are placed.
+    fn learn_context(
+        &mut self,
+        header: &Header,
+        finder: &Finder,
+        row: usize,
+        slot: u8,
+        context: u64,
+        from: u8,
+        to: u8,
+    ) -> Result<(), AllocError>
+        requires headed { IsHeader header.now }
+        requires found { IsFinder header.now.rings finder.now }
+    {
+        for endpoint in from..to {
+            if let Some(added) = self.added(header, context, endpoint) {
+                self.learn_place(
+                    header,
+                    finder,
+                    row,
+                    slot,
+                    endpoint,
+                    added.pointer,
+                    added.dcs,
+                    EndpointState::Running,
+                )?;
+            }
+        }
+        Ok(())
+    }
+
+    /// The Endpoint Context of an endpoint that an Input Context adds.
+    pub fn added(&self, header: &Header, context: u64, endpoint: u8) -> Option<EndpointContext> {
+        if context % 4 != 0 || endpoint == 0 || endpoint >= 32 {
+            return None;
+        }
+        let input = InputContext::at(&self.memory, context, header.context_size)?;
+        if input.adds(endpoint) {
+            Some(input.endpoint(endpoint))
+        } else {
+            None
+        }
+    }
+
+    /// An endpoint is placed: a Disabled one gets the ring that begins at a pointer, any other has its own moved there.
+    fn learn_place(
+        &mut self,
+        header: &Header,
+        finder: &Finder,
+        row: usize,
+        slot: u8,
+        endpoint: u8,
+        pointer: u64,
+        cycle: bool,
+        state: EndpointState,
+    ) -> Result<(), AllocError>
+        requires headed { IsHeader header.now }
+        requires found { IsFinder header.now.rings finder.now }
+    {
+        let is_new = self.devices.endpoint_state(slot, endpoint) == EndpointState::Disabled;
+        let beginning = finder.ring_beginning_at(header, pointer);
+        let id = if is_new {
+            beginning
+        } else {
+            self.devices.ring_of(slot, endpoint)
+        };
+        if let Some(id) = id {
+            self.set_ring(header, finder, id, is_new, pointer, cycle);
+            if is_new {
+                self.bindings.push(Binding {
+                    ring: id,
+                    slot,
+                    endpoint,
+                    row,
+                })?;
+            }
+        }
+        if endpoint < 32 {
+            self.devices.place(slot, endpoint, beginning, state);
+        }
+        Ok(())
+    }
+
+    /// The ring of an endpoint begins anew, or its pointer is moved.
+    fn set_ring(
+        &mut self,
+        header: &Header,
+        finder: &Finder,
+        id: u8,
+        is_new: bool,
+        pointer: u64,
+        cycle: bool,
+    ) {
+        let Some(number) = finder.ring_named(id) else {
+            return;
+        };
+        if let (Some(ring), Some(known)) = (
+            header.rings.as_slice().get(number),
+            self.rings.get_mut(number),
+        ) {
+            if is_new {
+                known.set_to(&ring.shape, Spot::Data(0));
+            } else if let Some(spot) = known.target(&ring.shape, pointer, cycle) {
+                known.set_to(&ring.shape, spot);
+            }
+        }
+    }
+
+    /// The word at an address; 0 where none can be.
+    pub fn word(&self, address: u64) -> u32 {
+        match Addr::new(address) {
+            Some(at) => self.memory.word(at),
+            None => 0,
+        }
+    }
+}

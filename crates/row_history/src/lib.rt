@@ -1,0 +1,24 @@
+//! What the rows before a refused row say: what was known behind them, who wrote a word or a register, which commands are unfinished;
+//! and what is found of the row, in words, before its lines are quoted.
+#![tactic(auto)]
+
+mod areas;
+mod finding;
+mod known;
+mod positions;
+mod rows;
+mod soiled;
+mod unfinished;
+mod words;
+
+pub use areas::{Beside, clash, write_to_area};
+pub use finding::{Case, Finding, Mark, line_of, ring_at, ring_known};
+pub use known::{Binding, Known, Taking, known_after};
+pub use positions::{Submitted, is_handed_over, position_given, submission};
+pub use rows::{last_read, last_register, last_write, reads, register_value, start, stop, word_at};
+pub use soiled::{SoiledWord, soiled_word};
+pub use unfinished::{Unfinished, all_unfinished, command_at, trb_at, unfinished_of};
+pub use words::{
+    NOT_JUDGED, code_name, command_name, endpoint_state_name, general_head, register_name,
+    ring_of_kind, ring_with, slot_state_name, type_name, why_refused,
+};

@@ -1,0 +1,124 @@
+//! Searches through the rows before the refused one, each in one pass.
+ghost use Rattle.std.specs.Prelude.{◌≡◌, ◌<◌, length, IfSome, true, slice_get};
+ghost use Rattle.row_history.specs.Rows.{is_writer, writes_word};
+
+use traces::{Register, Row};
+
+/// Whether a row writes the word at this address.
+fn writes(row: &Row, address: u64) -> bool
+    ensures { result ≡ writes_word address row.now }
+{
+    match row {
+        Row::Write { at, .. } => at.get() == address,
+        _ => false,
+    }
+}
+
+/// The last of the rows that writes the word at this address. Of a TRB that the controller owns its control word was last
+/// written by the row that gave it.
+pub fn last_write(rows: &[Row], address: u64) -> Option<usize>
+    ensures inside { IfSome result (λ index. index < length rows.now) }
+    ensures writer { IfSome result (λ index. is_writer address (slice_get rows.now index) ≡ true) }
+{
+    rows.iter().rposition(|row| writes(row, address))
+}
+
+/// The word at this address, as the rows left it: memory that they haven't written is 0.
+pub fn word_at(rows: &[Row], address: u64) -> u32 {
+    let mut found = 0;
+    for row in rows {
+        if let Row::Write { at, word } = row {
+            if at.get() == address {
+                found = *word;
+            }
+        }
+    }
+    found
+}
+
+/// The last of the rows that writes a register.
+pub fn last_register(rows: &[Row], register: Register) -> Option<usize> {
+    let mut last = None;
+    for (index, row) in rows.iter().enumerate() {
+        if let Row::Reg {
+            register: written,
+            ..
+        } = row
+        {
+            if *written == register {
+                last = Some(index);
+            }
+        }
+    }
+    last
+}
+
+/// The last value that the rows write to a register.
+pub fn register_value(rows: &[Row], register: Register) -> Option<u64> {
+    let mut last = None;
+    for row in rows {
+        if let Row::Reg {
+            register: written,
+            value,
+        } = row
+        {
+            if *written == register {
+                last = Some(*value);
+            }
+        }
+    }
+    last
+}
+
+/// The row that starts the controller: the first with Run/Stop 1 and HCRST 0.
+pub fn start(rows: &[Row]) -> Option<usize> {
+    rows.iter().position(|row| runs(row) == Some(true))
+}
+
+/// The row that stops the controller after the start.
+pub fn stop(rows: &[Row]) -> Option<usize> {
+    let mut started = false;
+    for (index, row) in rows.iter().enumerate() {
+        match runs(row) {
+            Some(true) => started = true,
+            Some(false) => {
+                if started {
+                    return Some(index);
+                }
+            }
+            None => {}
+        }
+    }
+    None
+}
+
+/// Of a write of USBCMD: whether Run/Stop is 1 and HCRST 0 there.
+fn runs(row: &Row) -> Option<bool> {
+    match row {
+        Row::Reg {
+            register: Register::Usbcmd,
+            value,
+        } => Some(*value % 4 == 1),
+        _ => None,
+    }
+}
+
+/// How many events the rows read, and the last row that reads one.
+pub fn last_read(rows: &[Row]) -> Option<usize> {
+    let mut last = None;
+    for (index, row) in rows.iter().enumerate() {
+        if let Row::Read { .. } = row {
+            last = Some(index);
+        }
+    }
+    last
+}
+
+/// How many events the rows read.
+pub fn reads(rows: &[Row]) -> usize {
+    rows.iter().filter(|row| is_read(row)).count()
+}
+
+fn is_read(row: &Row) -> bool {
+    matches!(row, Row::Read { .. })
+}

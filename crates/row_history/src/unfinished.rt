@@ -1,0 +1,86 @@
+//! Commands: the one that a write gives, and those that were given and whose completion wasn't read.
+use crate::finding::{Case, Mark, ring_known};
+use crate::positions::is_handed_over;
+use crate::rows::last_write;
+use crate::words::{command_name, ring_of_kind};
+use commands::Command;
+use std::alloc::AllocError;
+use trb::{Block, RingKind};
+
+/// A command that was given and whose completion wasn't read, and the row that gave it.
+#[derive(Clone, Copy)]
+pub struct Unfinished {
+    pub command: Command,
+    pub row: Option<usize>,
+}
+
+/// The unfinished commands, in the order of their positions.
+pub fn all_unfinished(case: &Case) -> Result<Vec<Unfinished>, AllocError> {
+    let mut found = Vec::new(case.alloc);
+    let Some(commands) = ring_of_kind(case.header.rings.as_slice(), RingKind::Cmd) else {
+        return Ok(found);
+    };
+    let Some((ring, known)) = ring_known(case, commands.id) else {
+        return Ok(found);
+    };
+    for position in known.floor_number()..known.declared_count() as u64 {
+        if is_handed_over(ring, known, position) {
+            if let Some(command) = command_of(known.declared(position)) {
+                let row = last_write(case.before, ring.shape.address(position) | 12);
+                found.push(Unfinished { command, row })?;
+            }
+        }
+    }
+    Ok(found)
+}
+
+/// The first unfinished command that names a slot.
+pub fn unfinished_of(case: &Case, slot: u8) -> Result<Option<Unfinished>, AllocError> {
+    let all = all_unfinished(case)?;
+    Ok(
+        all.iter()
+            .find(|given| given.command.slot() == Some(slot))
+            .copied(),
+    )
+}
+
+impl Unfinished {
+    /// Points at the row that gave the command.
+    pub fn mark(&self, case: &Case) -> Result<Option<Mark>, AllocError> {
+        let Some(index) = self.row else {
+            return Ok(None);
+        };
+        let name = command_name(self.command);
+        let label = match self.command.slot() {
+            Some(slot) => format!(in case.alloc; "{name} of slot {slot}, unfinished")?,
+            None => format!(in case.alloc; "{name}, unfinished")?,
+        };
+        Ok(Some(Mark { index, label }))
+    }
+}
+
+/// The command that a block says.
+fn command_of(block: Option<Block>) -> Option<Command> {
+    match block {
+        Some(block) => Command::read(&block).ok(),
+        None => None,
+    }
+}
+
+/// The TRB that memory has once the control word at an address is this one.
+pub fn trb_at(case: &Case, address: u64, word: u32) -> Block {
+    let base = address & !15;
+    Block {
+        w: [
+            case.known.word(base),
+            case.known.word(base | 4),
+            case.known.word(base | 8),
+            word,
+        ],
+    }
+}
+
+/// The command that a write of a control word gives.
+pub fn command_at(case: &Case, address: u64, word: u32) -> Option<Command> {
+    command_of(Some(trb_at(case, address, word)))
+}

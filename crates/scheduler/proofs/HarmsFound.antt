@@ -1,0 +1,115 @@
+-- A replay that ends with harm: up to there the steps are a run, and the world after them isn't safe
+use Rattle.std.proofs.Common.{◌≡◌, ◌∙◌, ℕ, zero, suc, ◌+◌, ◌≤◌, List, [], ◌∷◌, ◌++◌, Option, Some, None, refl, sym, subst, ap, arith, length}
+use Rattle.std.specs.Prelude.{take, reverse, option_and_then}
+use Rattle.std.proofs.lemmas.Grind.{common_steps}
+use Rattle.traces.specs.declared.header.Header.{Header}
+use Rattle.traces.specs.declared.row.Row.{Row}
+use Rattle.traces.specs.declared.step.Step.{Step}
+use Rattle.world_state.specs.World.{World, opening}
+use Rattle.world_state.specs.declared.harm.Harm.{Harm}
+use Rattle.world_state.specs.Harms.{harm_of}
+use Rattle.controller_model.specs.Steps.{Ending, NoHarm, NotPossible, Harmful, ending_from, ending_of, judged, reached, stepped}
+use Rattle.controller_model.specs.Showing.{Replay, replayed}
+use Rattle.scheduler.specs.Harmful.{DoesHarm, rows_made}
+
+module _ (h : Header) (rows : List Row) where
+  -- the first so many of these steps, behind those done, lead to a world that isn't safe, and the replay of them alone ends as that of all
+  record IsFound (steps done : List Step) (from : Option World) (m n : ℕ) (k : Harm) : Type 0 where
+    pub count : ℕ
+    pub numbered : n ≡ m + count
+    pub within : count ≤ length steps
+    pub world : World
+    pub run : reached h rows (reverse (take count steps) ++ done) ≡ Some world
+    pub harmful : harm_of h world ≡ Some k
+    pub replay : ending_from h m from (take count steps) ≡ Harmful n k
+
+  turned : (s : Step) (xs ys : List Step) → reverse xs ++ s ∷ ys ≡ reverse (s ∷ xs) ++ ys
+  turned s xs ys = grind (arith, common_steps)
+
+  abbrev harm_at : ℕ → Harm → Ending h
+  harm_at m j = Harmful m j
+
+  same_number : (m n : ℕ) (j k : Harm) → harm_at m j ≡ harm_at n k → m ≡ n
+  same_number m n j k e = cc
+
+  same_harm : (m n : ℕ) (j k : Harm) → harm_at m j ≡ harm_at n k → j ≡ k
+  same_harm m n j k e = cc
+
+  harm_now : (w : World) (steps done : List Step) (m n : ℕ) (j k : Harm) → reached h rows done ≡ Some w → harm_of h w ≡ Some j → harm_at m j ≡ harm_at n k → IsFound steps done (Some w) m n k
+  unfolding ending_from judged
+  harm_now w steps done m n j k here is e =
+      let number = same_number m n j k e in
+      record {
+        count = 0;
+        numbered = omega (arith, number);
+        within = omega arith;
+        world = w;
+        run = here;
+        harmful = is ∙ ap Some (same_harm m n j k e);
+        replay = ap (λ o. judged h m o NoHarm) is ∙ e;
+      }
+
+  goes_on : (w : World) (s : Step) (rest : List Step) (m : ℕ) → harm_of h w ≡ None → ending_from h m (Some w) (s ∷ rest) ≡ ending_from h (m + 1) (stepped h w s) rest
+  unfolding ending_from judged
+  goes_on w s rest m safe = ap (λ o. judged h m o (ending_from h (m + 1) (stepped h w s) rest)) safe
+
+  one_more : (w : World) (s : Step) (done : List Step) → reached h rows done ≡ Some w → reached h rows (s ∷ done) ≡ stepped h w s
+  unfolding reached
+  one_more w s done here = ap (λ o. option_and_then (λ v. stepped h v s) o) here
+
+  harm_later : (w : World) (s : Step) (rest done : List Step) (m n : ℕ) (k : Harm) → harm_of h w ≡ None → IsFound rest (s ∷ done) (stepped h w s) (m + 1) n k → IsFound (s ∷ rest) done (Some w) m n k
+  harm_later w s rest done m n k safe later =
+      let numbered = later.numbered in
+      let within = later.within in
+      record {
+        count = suc later.count;
+        numbered = omega (arith, numbered);
+        within = omega (arith, within);
+        world = later.world;
+        run = ap (λ l. reached h rows l) (sym (turned s (take later.count rest) done)) ∙ later.run;
+        harmful = later.harmful;
+        replay = goes_on w s (take later.count rest) m safe ∙ later.replay;
+      }
+
+  found : (steps done : List Step) (o : Option World) (m n : ℕ) (k : Harm) → reached h rows done ≡ o → ending_from h m o steps ≡ Harmful n k → IsFound steps done o m n k
+  unfolding ending_from judged
+  found steps done None m n k here e = absurd (cc)
+  found [] done (Some w) m n k here e = by (harm_of h w) refl e
+    where
+      by : (j : Option Harm) → harm_of h w ≡ j → judged h m j NoHarm ≡ Harmful n k → IsFound [] done (Some w) m n k
+      by None is e = absurd (cc)
+      by (Some j) is e = harm_now w [] done m n j k here is e
+  found (s ∷ rest) done (Some w) m n k here e =
+      by (harm_of h w) refl e (λ next. found rest (s ∷ done) (stepped h w s) (m + 1) n k (one_more w s done here) next)
+    where
+      by : (j : Option Harm) → harm_of h w ≡ j → judged h m j (ending_from h (m + 1) (stepped h w s) rest) ≡ Harmful n k →
+          (ending_from h (m + 1) (stepped h w s) rest ≡ Harmful n k → IsFound rest (s ∷ done) (stepped h w s) (m + 1) n k) → IsFound (s ∷ rest) done (Some w) m n k
+      by None is e later = harm_later w s rest done m n k is (later e)
+      by (Some j) is e later = harm_now w (s ∷ rest) done m n j k here is e
+
+  module _ (steps : List Step) (n : ℕ) (k : Harm) (ends : (replayed h rows steps).ending ≡ Harmful n k) where
+    all_found : IsFound steps [] (Some (opening rows)) 0 n k
+    unfolding replayed ending_of reached
+    all_found = found steps [] (Some (opening rows)) 0 n k refl ends
+
+    counted : n ≡ all_found.count
+    counted = omega (arith, all_found.numbered)
+
+    pub within_steps : n ≤ length steps
+    within_steps = omega (arith, counted, all_found.within)
+
+    length_done : length (take n steps) ≡ n
+    length_done = grind (arith, common_steps, within_steps)
+
+    none_behind : (xs : List Step) → xs ++ [] ≡ xs
+    none_behind xs = grind (arith, common_steps)
+
+    pub does_harm : (most : ℕ) → rows_made (take n steps) ≤ most → DoesHarm h rows most (take n steps) k
+    unfolding replayed ending_of
+    does_harm most few = record {
+      world = all_found.world;
+      run = ap (λ i. reached h rows (reverse (take i steps))) counted ∙ ap (λ l. reached h rows l) (sym (none_behind (reverse (take all_found.count steps)))) ∙ all_found.run;
+      few = few;
+      harmful = all_found.harmful;
+      replay = ap (λ i. ending_from h 0 (Some (opening rows)) (take i steps)) counted ∙ all_found.replay ∙ ap (λ i. Harmful i k) (sym length_done);
+    }

@@ -1,0 +1,14 @@
+use Rattle.std.proofs.Common.{◌≡◌, ◌∙◌, List, sym, subst}
+use Rattle.traces.specs.Rows.{AreSteps}
+use Rattle.lazy_runs.specs.Lazy.{lazy_steps}
+use Rattle.row_checks.proofs.CleanHistories.{lenient_history}
+use Rattle.std.specs.Prelude.{reverse}
+use Rattle.scheduler.proofs.Fitting.{lazy_steps_are}
+use Rattle.scheduler.proofs.harmful.lazy_schedule_behind.Goals as goal
+
+pub make_all-requires : goal.make_all-requires
+make_all-requires c =
+    let h = c.args.trace.now.header in
+    let rows = c.args.rows.now in
+    let same : c.deref.result.now ≡ lazy_steps h rows = c.deref.ensures.value ∙ c.in_ok-steps.ensures in
+    subst AreSteps (sym same) (lazy_steps_are h c.args.trace.now.headed rows c.requires.fitting (lenient_history h (reverse rows) c.requires.clean))

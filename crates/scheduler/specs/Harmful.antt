@@ -1,0 +1,28 @@
+-- What a schedule that does harm shows
+use Rattle.std.specs.Prelude.{◌≡◌, ◌≤◌, ℕ, Bool, true, false, List, length, filter, reverse, Some}
+use Rattle.traces.specs.declared.header.Header.{Header}
+use Rattle.traces.specs.declared.row.Row.{Row}
+use Rattle.traces.specs.declared.step.Step.{Step}
+use Rattle.traces.specs.declared.step.Step.TheVariants.{NextRow}
+use Rattle.world_state.specs.declared.harm.Harm.{Harm}
+use Rattle.world_state.specs.World.{World}
+use Rattle.world_state.specs.Harms.{harm_of}
+use Rattle.controller_model.specs.Steps.{reached, Harmful}
+use Rattle.controller_model.specs.Showing.{Replay, replayed}
+
+abbrev pub makes_row : Step → Bool
+makes_row NextRow = true
+makes_row _ = false
+
+-- how many rows of the trace are made
+abbrev pub rows_made : List Step → ℕ
+rows_made steps = length (filter makes_row steps)
+
+-- these steps are a run beside the rows, of which it makes no more than the first n, and the world after the last step isn't safe, with this
+-- as its least harm; before that step it was safe, so the replay ends there
+pub record DoesHarm (h : Header) (rows : List Row) (n : ℕ) (steps : List Step) (harm : Harm) : Type 0 where
+  pub world : World
+  pub run : reached h rows (reverse steps) ≡ Some world
+  pub few : rows_made steps ≤ n
+  pub harmful : harm_of h world ≡ Some harm
+  pub replay : (replayed h rows steps).ending ≡ Harmful (length steps) harm

@@ -1,0 +1,5 @@
+use Rattle.std.proofs.Common.{inr}
+use Rattle.xhci_cli.proofs.show_run.show_answer.Goals as goal
+
+pub returns-in-Ok : goal.returns-in-Ok
+returns-in-Ok c = inr (c.in-Ok.trace, c.in-Ok.ensures.read, c.page_answer.ensures)

@@ -1,0 +1,29 @@
+//! What a command reads.
+use std::fs::File;
+use std::io::{self, Read, Stdin};
+
+/// An open input.
+#[derive(Drop)]
+pub enum Input {
+    Standard(Stdin),
+    File(File),
+}
+
+impl Input {
+    /// Opens the file of a path; of none it is standard input.
+    pub fn open(rt: &HostRuntime, path: Option<&str>) -> io::Result<Input> {
+        match path {
+            Some(path) => Ok(Input::File(File::open(rt, path)?)),
+            None => Ok(Input::Standard(rt.stdin())),
+        }
+    }
+}
+
+impl Read for Input {
+    fn read(&mut self, buf: &mut [u8]) -> io::Result<usize> {
+        match self {
+            Input::Standard(stdin) => stdin.read(buf),
+            Input::File(file) => file.read(buf),
+        }
+    }
+}
