@@ -2,7 +2,7 @@
 use Rattle.std.proofs.Common.{◌≡◌, ℕ, List, [], ◌∷◌, ◌++◌, Bool, false, Option, Some, None, refl, ap, sym, ◌∙◌}
 use Rattle.std.specs.Prelude.{◌*◌, ◌||◌, ◌&&◌, is_some}
 use Rattle.std.specs.List.{list_any, filter_map, cons_option}
-use Rattle.segments.specs.Places.{overlap, touches}
+use Rattle.segments.specs.Places.{overlap}
 use Rattle.event_ring.specs.EventRing.{table_bytes}
 use Rattle.contexts.specs.Contexts.{device_context_bytes, input_context_bytes}
 use Rattle.commands.specs.declared.command.Command.{Command}
@@ -18,7 +18,7 @@ use Rattle.ownership_rules.specs.Areas.{is_in_range_lease}
 use Rattle.ownership_rules.specs.OpenLeases.{EventSegment, Range, context_ranges, covers, device_ranges, entry_ranges, lease_bytes, lease_start, open_ranges, range_of_command, range_of_context, range_of_device, range_of_entry, segment_ranges, slots, table_range}
 use Rattle.ring_finder.proofs.ListTests.{any_append, any_map, any_flat_map, or_false}
 use Rattle.trace_record.specs.FollowsTrace.{device_contexts, inputs_of}
-use Rattle.context_checks.specs.Entries.{touches_entry}
+use Rattle.context_checks.specs.Entries.{touches_entry, touches_event_segment}
 use Rattle.context_checks.proofs.RestOfRange.{any_left}
 
 found_step : {Y : Type 0} (test : Y → Bool) (found : Option Y → Bool) (ys : List Y) (o : Option Y) → found None ≡ false → ((y : Y) → found (Some y) ≡ test y) →
@@ -102,7 +102,7 @@ module _ (h : Header) (k : Known) (from len : ℕ) where
 
   -- all ranges
   pub any_range : is_in_range_lease h k from len ≡
-      (touches (event_shape h) from len || list_any (covers h from len) (table_range h (k.register Erstba)) || list_any (covers h from len) (context_ranges h k)
+      (touches_event_segment h from len || list_any (covers h from len) (table_range h (k.register Erstba)) || list_any (covers h from len) (context_ranges h k)
       || list_any (covers h from len) (entry_ranges k) || list_any (covers h from len) (device_ranges h k))
   unfolding is_in_range_lease open_ranges segment_ranges covers lease_start lease_bytes
   any_range =

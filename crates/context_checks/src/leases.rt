@@ -1,7 +1,6 @@
-ghost use Rattle.std.specs.Prelude.{◌≡◌, ℕ, ◌+◌, ◌^◌, ◌≤◌};
+ghost use Rattle.std.specs.Prelude.{◌≡◌, ℕ, ◌+◌, ◌*◌, ◌^◌, ◌≤◌};
 ghost use Rattle.std.specs.List.{list_any};
-ghost use Rattle.segments.specs.Places.{touches};
-ghost use Rattle.traces.specs.Header.{event_shape};
+ghost use Rattle.segments.specs.Places.{overlap};
 ghost use Rattle.traces.specs.declared.header.Header.{Header};
 ghost use Rattle.traces.specs.declared.register.Register.TheVariants.{Erstba};
 ghost use Rattle.ring_knowledge.specs.Known.{Known};
@@ -9,10 +8,11 @@ ghost use Rattle.ownership_rules.specs.Areas.{is_in_range_lease};
 ghost use Rattle.event_ring.specs.EventRing.{table_bytes};
 ghost use Rattle.ownership_rules.specs.OpenLeases.{context_ranges, covers, entry_ranges, table_range};
 ghost use Rattle.trace_record.specs.FollowsTrace.{FollowsTrace};
-ghost use Rattle.context_checks.specs.Entries.{touches_entry};
+ghost use Rattle.context_checks.specs.Entries.{touches_entry, touches_event_segment};
 
 use crate::areas::{overlap, touches_devices};
 use crate::devices::entry_at;
+use segments::Segment;
 use trace_record::TraceRecord;
 use traces::{Header, Register};
 
@@ -31,12 +31,21 @@ pub fn is_in_range_lease(header: &Header, t: &TraceRecord, from: u64, len: u64) 
 
 /// Whether these bytes touch a segment of the event ring.
 fn touches_events(t: &TraceRecord, from: u64, len: u64) -> bool
-    ensures { (h : Header) (k : Known) (memory : ℕ → ℕ) → FollowsTrace h k t.now memory → result ≡ touches (event_shape h) from len }
+    ensures { (h : Header) (k : Known) (memory : ℕ → ℕ) → FollowsTrace h k t.now memory → result ≡ touches_event_segment h from len }
 {
     match &t.events {
-        Some(events) => events.shape().overlaps(from, len),
+        Some(events) => touches_segment(events.shape().segments(), from, len),
         None => false,
     }
+}
+
+/// Whether these bytes touch one of these segments.
+fn touches_segment(segments: &[Segment], from: u64, len: u64) -> bool
+    ensures { result ≡ list_any (λ s. overlap from len s.base (16 * s.count)) segments.now }
+{
+    segments
+        .iter()
+        .any(|segment| overlap(from, len, segment.base, 16 * u64::from(segment.count)))
 }
 
 /// Whether these bytes touch the segment table, once ERSTBA is written (xHCI 6.5).

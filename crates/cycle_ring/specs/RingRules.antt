@@ -1,12 +1,14 @@
 -- What a producer's words mean by the rules of its ring: xHCI 4.9.2, 4.11.5.1
-use Rattle.std.specs.Prelude.{◌≡◌, ℕ, ◌+◌, ◌≤◌, ◌&&◌, nat_lt, false, List, [], ◌∷◌, length, fold, All}
+use Rattle.std.specs.Prelude.{◌≡◌, ℕ, ◌+◌, ◌≤◌, ◌&&◌, nat_lt, false, List, [], ◌∷◌, length, fold, All, Some}
 use Rattle.guest_memory.specs.Memory.{put}
 use Rattle.trb.specs.declared.block.Block.{Block}
 use Rattle.segments.specs.ShapeValue.{Shape}
 use Rattle.segments.specs.Places.{is_crossing}
-use Rattle.segments.specs.RingView.{RingView, Declares, Writes, changed, declared, floor_number, new_ring, crossings_given}
+use Rattle.segments.specs.declared.spot.Spot.{Spot}
+use Rattle.segments.specs.Spots.{number}
+use Rattle.segments.specs.RingView.{RingView, Declares, Writes, Reaches, changed, declared, floor_number, new_ring, crossings_given}
 use Rattle.segments.specs.Givings.{interrupts}
-use Rattle.segments.specs.RingKeeps.{RingKeeps, MayDeclare, MayWrite}
+use Rattle.segments.specs.RingKeeps.{RingKeeps, MayDeclare, MayWrite, MayReach}
 use Rattle.cycle_ring.specs.Progress.{Progress}
 use Rattle.cycle_ring.specs.Played.{played}
 
@@ -55,6 +57,17 @@ pub record BeginsWithTheRing (p : Progress) : Type 0 where
   pub enqueued : IsEnqueuedSo p new_ring
   pub keeps : (memory : ℕ → ℕ) → ((a : ℕ) → memory a ≡ 0) → RingKeeps p.shape memory new_ring
 
--- where the ring is as the producer had it, and its controller has surely passed the first count blocks, it is as the producer has it now
-abbrev pub FollowsPassed : Progress → ℕ → Progress → Type 0
-FollowsPassed old count new = (v : RingView) → IsEnqueuedSo old v → count ≤ floor_number v → IsEnqueuedSo new v
+-- the controller's pointer is known to have come to this spot, with the first count blocks behind it: all before the spot is given, the
+-- pointer doesn't go back, and a ring that is held is held no lower
+pub record MayPass (shape : Shape) (v : RingView) (count : ℕ) (t : Spot) : Type 0 where
+  pub reach : MayReach shape v t
+  pub past : count ≤ number t
+  pub within : (m : ℕ) → v.held ≡ Some m → number t ≤ m
+
+-- what stands once the first count blocks are retired
+pub record FollowsPassed (old : Progress) (count : ℕ) (new : Progress) : Type 0 where
+  -- where the ring is as the producer had it, and its controller has surely passed them, it is as the producer has it now
+  pub stands : (v : RingView) → IsEnqueuedSo old v → count ≤ floor_number v → IsEnqueuedSo new v
+  -- where an event tells that the controller has passed them, that is so behind the event, and the rules of the ring stay kept
+  pub reached : (memory : ℕ → ℕ) (v : RingView) (t : Spot) → RingKeeps old.shape memory v → IsEnqueuedSo old v → MayPass old.shape v count t
+      → RingKeeps new.shape memory (changed old.shape v (Reaches t)) × IsEnqueuedSo new (changed old.shape v (Reaches t))

@@ -11,6 +11,8 @@ mod context_fields;
 #[cfg(test)]
 mod enqueues;
 #[cfg(test)]
+mod events;
+#[cfg(test)]
 mod faults;
 #[cfg(test)]
 mod lazy;

@@ -36,3 +36,14 @@ fn reads_back_what_was_written(rt: HostRuntime) -> Result<(), Fail> {
     assert_eq!(rt; memory.word(at(0x30000)?), 7);
     Ok(())
 }
+
+#[test]
+fn has_a_last_word(rt: HostRuntime) -> Result<(), Fail> {
+    let mut memory = PageMemory::new(rt.alloc());
+    let last = at(0xffff_ffff_ffff_fffc)?;
+    memory.set(last, 7)?;
+    assert_eq!(rt; memory.word(last), 7);
+    assert_eq!(rt; memory.word(at(0xffff_ffff_ffff_fff8)?), 0);
+    assert_eq!(rt; memory.word(at(0)?), 0);
+    Ok(())
+}

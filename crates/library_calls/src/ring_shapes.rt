@@ -38,3 +38,22 @@ fn a_ring_of_four_blocks(rt: HostRuntime) -> Result<(), Fail> {
     assert_eq!(rt; ring.place_at(0x30002), None);
     Ok(())
 }
+
+#[test]
+fn a_ring_at_the_end_of_memory(rt: HostRuntime) -> Result<(), Fail> {
+    let ring = RingShape::new(rt.alloc(), RingKind::Xfer, &[(0xffff_ffff_ffff_ffc0, 4)])?;
+    assert_eq!(rt; ring.address(2), 0xffff_ffff_ffff_ffe0);
+    assert_eq!(rt;
+        ring.place_at(0xffff_ffff_ffff_ffec),
+        Some(Place::Data { place: 2, word: 3 })
+    );
+    assert_eq!(rt;
+        ring.place_at(0xffff_ffff_ffff_fffc),
+        Some(Place::Link {
+            segment: 0,
+            word: 3
+        })
+    );
+    assert_eq!(rt; ring.place_at(0), None);
+    Ok(())
+}

@@ -1,5 +1,7 @@
 use answers::{BlockWords, Status, keep, run_decode};
+use ring_knowledge::Lease;
 use std::io::{self, Write};
+use std::test::Fail;
 
 /// Takes so many bytes a write, fails at once where that is none, and says how often it was called.
 #[derive(Drop)]
@@ -39,6 +41,29 @@ fn writer_of(rt: &HostRuntime, most: usize, can_flush: bool) -> Taking {
         writes: 0,
         flushes: 0,
         can_flush,
+    }
+}
+
+/// Takes a byte at every other call, and is interrupted at those before.
+#[derive(Drop)]
+struct Interrupted {
+    bytes: Vec<u8>,
+    calls: usize,
+}
+
+impl Write for Interrupted {
+    fn write(&mut self, buf: &[u8]) -> io::Result<usize> {
+        self.calls = self.calls.wrapping_add(1);
+        if self.calls % 2 == 1 {
+            return Err(io::ErrorKind::Interrupted.into());
+        }
+        let taken = buf.len().min(1);
+        self.bytes.extend_from_slice(&buf[..taken])?;
+        Ok(taken)
+    }
+
+    fn flush(&mut self) -> io::Result<()> {
+        Ok(())
     }
 }
 
@@ -117,4 +142,41 @@ fn keeps_a_certificate_in_one_write(rt: HostRuntime) {
         }
         None => assert!(rt; false),
     }
+}
+
+#[test]
+fn goes_on_after_each_interruption(rt: HostRuntime) {
+    let mut out = Interrupted {
+        bytes: Vec::new(rt.alloc()),
+        calls: 0,
+    };
+    let mut err = writer_of(&rt, 0, true);
+    let status = run_decode(rt.alloc(), false, &WORDS, &mut out, &mut err);
+    assert_eq!(rt; status, Status::Clean);
+    assert_eq!(rt; out.bytes.as_slice(), DECODED.as_bytes());
+    assert_eq!(rt; err.writes, 0);
+}
+
+#[test]
+fn keeps_a_certificate_in_as_many_writes_as_it_has_bytes(rt: HostRuntime) -> Result<(), Fail> {
+    let mut leases = Vec::new(rt.alloc());
+    for pos in 0..5000u64 {
+        leases.push(Lease {
+            kind: 0,
+            ring: 2,
+            pos,
+            from: 5,
+            to: u32::MAX,
+        })?;
+    }
+    let mut certificate = Some(writer_of(&rt, 1, true));
+    keep(rt.alloc(), &leases, &mut certificate)?;
+    match certificate {
+        Some(writer) => {
+            assert_eq!(rt; writer.bytes.len(), 120_008);
+            assert_eq!(rt; (writer.writes, writer.flushes), (120_008, 1));
+        }
+        None => assert!(rt; false),
+    }
+    Ok(())
 }

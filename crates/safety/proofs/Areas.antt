@@ -21,12 +21,13 @@ clean_word k from len i none l = none_of_range (λ i. k.soiled (from + 4 * i)) 0
 -- a byte inside a ring's segments is in no area that touches none
 pub byte_apart : (shape : Shape) (from len x : ℕ) → touches shape from len ≡ false → is_inside shape x ≡ true → from ≤ x → x < from + len → ⊥
 byte_apart shape from len x none inside low high =
+    let some = lt-ltb 0 len (omega arith) in
     let s = some_of (segment_has x) shape.segments inside in
     let parts = and_parts _ _ s.2 in
     let a = leb-true s.0.base x parts.0 in
     let b = ltb-true x (s.0.base + 16 * s.0.count) parts.1 in
-    false≢true (sym none ∙ any_of (λ s. overlap from len s.base (16 * s.count)) shape.segments s.0 s.1
-    (and_from (nat_lt from (s.0.base + 16 * s.0.count)) (nat_lt s.0.base (from + len)) (lt-ltb from (s.0.base + 16 * s.0.count) (omega arith)) (lt-ltb s.0.base (from + len) (omega arith))))
+    false≢true (sym none ∙ and_from _ _ some (any_of (λ s. overlap from len s.base (16 * s.count)) shape.segments s.0 s.1
+    (and_from (nat_lt from (s.0.base + 16 * s.0.count)) (nat_lt s.0.base (from + len)) (lt-ltb from (s.0.base + 16 * s.0.count) (omega arith)) (lt-ltb s.0.base (from + len) (omega arith)))))
 
 pub ring_untouched : (h : Header) (from len : ℕ) → touches_ring h from len ≡ false → (r : Ring) → IsIn r h.rings → touches r.shape from len ≡ false
 unfolding touches_ring

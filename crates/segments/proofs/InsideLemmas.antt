@@ -1,5 +1,5 @@
 -- Bytes and words inside a ring's segments, and rings that are apart
-use Rattle.segments.proofs.Words.{◌≡◌, ◌+◌, ◌*◌, ◌%◌, ◌<◌, ◌||◌, ◌∷◌, ◌∙◌, ℕ, suc, Bool, true, false, List, [], length, nat_lt, is_some, arith, sym, ap, refl, inl, inr, get_or, lt-ltb, list_any, cases_Bool, false≢true, or_parts, and_from, nat_tests, Segment, Shape, overlap, segment_has, is_in, is_inside, touches, place_at, IsShape, segments_overlap}
+use Rattle.segments.proofs.Words.{◌≡◌, ◌+◌, ◌*◌, ◌%◌, ◌<◌, ◌||◌, ◌∷◌, ◌∙◌, ℕ, suc, Bool, true, false, List, [], length, nat_lt, is_some, arith, sym, ap, refl, inl, inr, get_or, lt-ltb, list_any, cases_Bool, false≢true, or_parts, and_from, nat_tests, Segment, Shape, overlap, segment_has, is_in, is_inside, touches, place_at, IsShape, segments_overlap, rings_overlap}
 use Rattle.segments.proofs.Blocks.{segment_at}
 use Rattle.segments.proofs.ShapeFacts.{shape_facts}
 use Rattle.segments.proofs.PlaceAtLemmas.{is_in-parts, place_at-inside, is_inside-place_at}
@@ -30,10 +30,6 @@ is_inside-word shape is x word =
             | inr some ↦ absurd (false≢true (sym outside ∙ is_inside-place_at shape is x some.0 some.1))
           ]
     ]
-
--- a segment of one ring overlaps one of the other
-abbrev pub rings_overlap : Shape → Shape → Bool
-rings_overlap a b = list_any (λ s. list_any (segments_overlap s) b.segments) a.segments
 
 in_any : {X : Type 0} (p : X → Bool) (xs : List X) → list_any p xs ≡ true → (q : X → Bool) → list_any q xs ≡ false → (x : X) × (p x ≡ true) × (q x ≡ false)
 in_any p [] h q none = absurd (false≢true h)

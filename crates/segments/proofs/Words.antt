@@ -11,7 +11,7 @@ pub use Rattle.segments.specs.Places.{address_of, blocks_from, cycle_of, data_co
 pub use Rattle.segments.specs.RingKeeps.{MayDeclare, MayHold, MayReach, MayWrite, RingKeeps}
 pub use Rattle.segments.specs.RingView.{Declares, Holds, Opens, Reaches, RingView, Writes, changed, declared, floor_number, gives, gives_crossing, is_crossing_due, is_due, new_ring}
 unfoldable pub use Rattle.segments.specs.RingView.{crossings_given, due_crossings, due_positions, leased_crossings, leased_positions, positions_given}
-pub use Rattle.segments.specs.Shape.{IsShape, alignment, are_apart, is_in_one_page, is_segment, is_shape, least_count, most_blocks, most_segments, segments_overlap}
+pub use Rattle.segments.specs.Shape.{IsShape, alignment, are_apart, is_in_one_page, is_segment, is_shape, least_count, most_blocks, most_segments, rings_overlap, segments_overlap}
 pub use Rattle.segments.specs.ShapeValue.{Shape, segment_of, shape_of}
 pub use Rattle.segments.specs.Spots.{IsSpot, after, is_spot, named_spot, next, number, rank, spot_address, spot_cycle, spots_from}
 pub use Rattle.segments.specs.Walk.{Pointer, WalkReads, behind, block_under, data_of, is_shown, laid, laid_between, standing}

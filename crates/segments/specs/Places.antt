@@ -77,7 +77,7 @@ toggles shape i = i + 1 == length shape.segments
 abbrev pub is_in : ℕ → ℕ → ℕ → Bool
 is_in address base len = nat_le base address && nat_lt address (base + len)
 
--- m bytes from a on and n bytes from b on have a byte in common
+-- m bytes from a on and n bytes from b on, neither of them none, have a byte in common
 abbrev pub overlap : ℕ → ℕ → ℕ → ℕ → Bool
 overlap a m b n = nat_lt a (b + n) && nat_lt b (a + m)
 
@@ -88,6 +88,6 @@ segment_has address s = is_in address s.base (16 * s.count)
 abbrev pub is_inside : Shape → ℕ → Bool
 is_inside shape address = list_any (segment_has address) shape.segments
 
--- a segment has one of len bytes from this address on
+-- a segment has one of len bytes from this address on; of no bytes none has one
 abbrev pub touches : Shape → ℕ → ℕ → Bool
-touches shape from len = list_any (λ s. overlap from len s.base (16 * s.count)) shape.segments
+touches shape from len = nat_lt 0 len && list_any (λ s. overlap from len s.base (16 * s.count)) shape.segments

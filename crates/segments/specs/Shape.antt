@@ -38,8 +38,13 @@ abbrev pub is_segment : RingKind → Segment → Bool
 is_segment kind s =
     nat_lt s.base (2 ^ 64) && s.base % alignment kind == 0 && nat_le (least_count kind) s.count && nat_le s.count most_blocks && is_in_one_page s
 
+-- a byte lies in both
 abbrev pub segments_overlap : Segment → Segment → Bool
 segments_overlap s t = overlap s.base (16 * s.count) t.base (16 * t.count)
+
+-- a segment of one ring overlaps one of the other
+abbrev pub rings_overlap : Shape → Shape → Bool
+rings_overlap a b = list_any (λ s. list_any (segments_overlap s) b.segments) a.segments
 
 abbrev pub are_apart : List Segment → Bool
 are_apart [] = true

@@ -60,21 +60,12 @@ pub(crate) fn overlap(a: u64, m: u64, b: u64, n: u64) -> bool
     u128::from(a) < u128::from(b) + u128::from(n) && u128::from(b) < u128::from(a) + u128::from(m)
 }
 
-fn segments_overlap(s: Segment, t: Segment) -> bool
-    ensures { result ≡ segments_overlap s t }
-{
-    overlap(
-        s.base,
-        16 * u64::from(s.count),
-        t.base,
-        16 * u64::from(t.count),
-    )
-}
-
 fn overlaps_any(segment: Segment, others: &[(u64, u16)]) -> bool
     ensures { result ≡ list_any (λ t. segments_overlap segment (segment_of t)) others.now }
 {
-    others.iter().any(|&(base, count)| segments_overlap(segment, Segment { base, count }))
+    others
+        .iter()
+        .any(|&(base, count)| segment.overlaps(Segment { base, count }))
 }
 
 fn are_apart(segments: &[(u64, u16)]) -> bool

@@ -1,6 +1,9 @@
 ghost use Rattle.std.specs.Prelude.{◌≡◌, ◌*◌, ◌/◌, ◌-◌, true};
 ghost use Rattle.std.specs.Option.{SomeIff};
 ghost use Rattle.segments.specs.Places.{is_in};
+ghost use Rattle.segments.specs.Shape.{segments_overlap};
+
+use crate::rules::overlap;
 
 /// A segment of a ring: `count` blocks of 16 bytes from the address `base` on (xHCI 4.9). In a command or transfer
 /// ring the last block of a segment is its Link.
@@ -11,6 +14,18 @@ pub struct Segment {
 }
 
 impl Segment {
+    /// Whether a byte lies in both. Nothing wraps.
+    pub fn overlaps(self, other: Segment) -> bool
+        ensures { result ≡ segments_overlap self other }
+    {
+        overlap(
+            self.base,
+            16 * u64::from(self.count),
+            other.base,
+            16 * u64::from(other.count),
+        )
+    }
+
     /// The number of the block that has this byte, from 0, where one has.
     pub(crate) fn block_at(self, address: u64) -> Option<u16>
         ensures { SomeIff result (is_in address self.base (16 * self.count) ≡ true) ((address - self.base) / 16) }

@@ -144,16 +144,17 @@ impl RingShape {
         None
     }
 
-    /// Whether a segment has one of `len` bytes from `at` on. Nothing wraps.
+    /// Whether a segment has one of `len` bytes from `at` on; of no bytes none has one. Nothing wraps.
     pub fn overlaps(&self, at: u64, len: u64) -> bool
         ensures { result ≡ touches self.now at len }
     {
-        self.segments.iter().any(|segment| overlap(
-            at,
-            len,
-            segment.base,
-            16 * u64::from(segment.count),
-        ))
+        len > 0
+            && self.segments.iter().any(|segment| overlap(
+                at,
+                len,
+                segment.base,
+                16 * u64::from(segment.count),
+            ))
     }
 
     /// The Link that is crossed on the way to position `q`, by the number of its segment (xHCI 4.11.5.1).

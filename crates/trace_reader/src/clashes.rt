@@ -1,9 +1,9 @@
-ghost use Rattle.std.specs.Prelude.{◌≡◌, ◌||◌, ◌*◌};
+ghost use Rattle.std.specs.Prelude.{◌≡◌, ◌||◌};
 ghost use Rattle.std.specs.List.{list_any};
-ghost use Rattle.segments.specs.Places.{touches};
+ghost use Rattle.segments.specs.Shape.{rings_overlap, segments_overlap};
 ghost use Rattle.traces.specs.Header.{clash, is_command_kind, is_event_kind};
 
-use segments::RingShape;
+use segments::{RingShape, Segment};
 use traces::Ring;
 use trb::RingKind;
 
@@ -14,23 +14,29 @@ pub fn clashes_with_one(ring: &Ring, others: &[Ring]) -> bool
     others.iter().any(|other| clash(ring, other))
 }
 
-/// Both have the ID, or a segment touches one of the other, or both are the command ring, or the event ring.
+/// Both have the ID, or a segment of one overlaps one of the other, or both are the command ring, or the event ring.
 fn clash(ring: &Ring, other: &Ring) -> bool
     ensures { result ≡ clash ring.now other.now }
 {
     ring.id == other.id
-        || touch(&ring.shape, &other.shape)
+        || overlap(&ring.shape, &other.shape)
         || (is_command_kind(ring.shape.kind()) && is_command_kind(other.shape.kind()))
         || (is_event_kind(ring.shape.kind()) && is_event_kind(other.shape.kind()))
 }
 
-fn touch(shape: &RingShape, other: &RingShape) -> bool
-    ensures { result ≡ list_any (λ s. touches other.now s.base (16 * s.count)) shape.now.segments }
+fn overlap(shape: &RingShape, other: &RingShape) -> bool
+    ensures { result ≡ rings_overlap shape.now other.now }
 {
-    shape.segments().iter().any(|segment| other.overlaps(
-        segment.base,
-        16 * u64::from(segment.count),
-    ))
+    shape
+        .segments()
+        .iter()
+        .any(|segment| overlaps_one(*segment, other.segments()))
+}
+
+fn overlaps_one(segment: Segment, others: &[Segment]) -> bool
+    ensures { result ≡ list_any (segments_overlap segment) others.now }
+{
+    others.iter().any(|other| segment.overlaps(*other))
 }
 
 fn is_command_kind(kind: RingKind) -> bool

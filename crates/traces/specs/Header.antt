@@ -5,7 +5,7 @@ use Rattle.trb.specs.declared.ring_kind.RingKind.{RingKind}
 use Rattle.trb.specs.declared.ring_kind.RingKind.TheVariants.{Cmd, Evt, Xfer}
 use Rattle.segments.specs.ShapeValue.{Shape}
 use Rattle.segments.specs.Places.{place_count, address_of, is_inside, touches}
-use Rattle.segments.specs.Shape.{is_shape}
+use Rattle.segments.specs.Shape.{is_shape, rings_overlap}
 use Rattle.traces.specs.declared.ring.Ring.{Ring}
 use Rattle.traces.specs.declared.header.Header.{Header}
 
@@ -28,10 +28,10 @@ is_transfer_kind Xfer = true
 abbrev pub is_driver_kind : RingKind → Bool
 is_driver_kind kind = not (is_event_kind kind)
 
--- both have the ID, or a segment touches one of the other, or both are the command ring, or the event ring
+-- both have the ID, or a segment of one overlaps one of the other, or both are the command ring, or the event ring
 abbrev pub clash : Ring → Ring → Bool
 clash r q =
-    r.id == q.id || list_any (λ s. touches q.shape s.base (16 * s.count)) r.shape.segments
+    r.id == q.id || rings_overlap r.shape q.shape
     || (is_command_kind r.shape.kind && is_command_kind q.shape.kind) || (is_event_kind r.shape.kind && is_event_kind q.shape.kind)
 
 abbrev pub may_stand_together : List Ring → Bool
