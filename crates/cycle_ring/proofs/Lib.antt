@@ -9,3 +9,4 @@ pub mod LinkBlocks
 pub mod Runs
 pub mod KeepsTheRing
 pub mod Words
+pub mod Retired

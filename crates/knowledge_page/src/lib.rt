@@ -13,4 +13,4 @@ mod words;
 pub use page::page_of;
 pub use rings::{RingFacts, ring_facts};
 pub use shown::{Place, ShowFault, Shown, shown_before};
-pub use standing::{Standing, standing_behind};
+pub use standing::Standing;

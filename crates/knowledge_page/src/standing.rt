@@ -29,7 +29,7 @@ pub struct Standing {
 
 /// What is known, and what is lent, behind rows, `first` the line of the first; or the first of them that breaks a rule, and the least
 /// rule that it breaks. `Memory` is answered only where a growth was refused.
-pub fn standing_behind(
+pub(crate) fn standing_behind(
     alloc: Global,
     header: &Header,
     first: u32,

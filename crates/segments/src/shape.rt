@@ -1,6 +1,7 @@
 ghost use Rattle.std.specs.Prelude.{◌≡◌, ◌<◌, ◌≤◌, ◌*◌, ◌==◌, ◌↔◌, false, length, map, slice_index, IfOk, IfSome};
 ghost use Rattle.segments.specs.PlaceAt.{place_at, IsLinkOf};
-ghost use Rattle.segments.specs.Places.{address_of, cycle_of, link_crossed, link_target, links, place_count, toggles, touches};
+ghost use Rattle.std.specs.List.{list_any};
+ghost use Rattle.segments.specs.Places.{address_of, cycle_of, link_crossed, link_target, links, overlap, place_count, toggles, touches};
 ghost use Rattle.segments.specs.Shape.{IsShape, is_shape};
 ghost use Rattle.segments.specs.ShapeValue.{segment_of, shape_of};
 
@@ -148,13 +149,7 @@ impl RingShape {
     pub fn overlaps(&self, at: u64, len: u64) -> bool
         ensures { result ≡ touches self.now at len }
     {
-        len > 0
-            && self.segments.iter().any(|segment| overlap(
-                at,
-                len,
-                segment.base,
-                16 * u64::from(segment.count),
-            ))
+        len > 0 && some_overlaps(&self.segments, at, len)
     }
 
     /// The Link that is crossed on the way to position `q`, by the number of its segment (xHCI 4.11.5.1).
@@ -222,4 +217,11 @@ impl RingShape {
             places: self.places,
         })
     }
+}
+
+/// Whether one of these segments has one of some bytes, not none.
+fn some_overlaps(segments: &[Segment], at: u64, len: u64) -> bool
+    ensures { result ≡ list_any (λ s. overlap at len s.base (16 * s.count)) segments.now }
+{
+    segments.iter().any(|segment| overlap(at, len, segment.base, 16 * u64::from(segment.count)))
 }
