@@ -28,6 +28,7 @@ class Areas:
         self.fixed = []      # the DCBAA, the segment table, contexts
         self.rings = []      # RingUse, in the order in which they are named
         self.segments = []   # of the event ring: (start, blocks)
+        self.streams = []    # slot and DCI of each endpoint with streams: their rings are named in memory, by no command
         self.dcbaap = 0
         self.of_registers(registers)
         for command in commands:
@@ -87,7 +88,11 @@ class Areas:
             if dropped >> index & 1 and command.read and command_list.succeeded(command):
                 self.end(lambda ring: ring.slot == slot and ring.index == index and ring.named < command.given, command.read)
             if added >> index & 1:
-                words = self.memory.block(at + (index + 1) * self.size + 8, command.key)
+                context = at + (index + 1) * self.size
+                if blocks.streams(self.memory.word(context, command.key)):
+                    self.streams.append((slot, index))
+                    continue
+                words = self.memory.block(context + 8, command.key)
                 self.endpoint(RingUse('xfer', blocks.target(words), command.given, slot, index, command_list.succeeded(command)))
 
     def endpoint(self, use):

@@ -47,3 +47,8 @@ def endpoint(words):
 def drops_all(words):
     """Configure Endpoint with DC 1."""
     return words[3] >> 9 & 1
+
+
+def streams(context):
+    """MaxPStreams in word 0 of an Endpoint Context (6.2.3): above 0 the context names an array of streams and no ring."""
+    return context >> 10 & 31

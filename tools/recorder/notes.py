@@ -5,9 +5,14 @@ from qemu_log import Bell
 
 
 def of_run(run, memory, finder, rows, cut, schedule):
-    lines = finder.notes + of_memory(memory, rows) + of_cut(rows, cut) + of_rows(run) + of_events(run)
+    lines = finder.notes + of_streams(finder.areas) + of_memory(memory, rows) + of_cut(rows, cut) + of_rows(run) + of_events(run)
     lines += of_controller(schedule)
     return lines
+
+
+def of_streams(areas):
+    return [f'the endpoint with DCI {index} of slot {slot} has streams: a trace has no rings of streams'
+            for slot, index in sorted(set(areas.streams))]
 
 
 def of_memory(memory, rows):
