@@ -126,13 +126,13 @@ fn step_help(step: &[u8]) -> &'static str {
     let word = step.split(|b| *b == b' ').next().unwrap_or(&[]);
     match from_utf8(word).unwrap_or("") {
         "row" =>
-            "an `ev` row reads an event that is posted: put the controller's step before it; and behind the trace's last row there is none",
+            "an `ev` row reads the oldest event that is posted and unread, word for word: put the controller's step before it; behind the trace's last row there is none",
         "look" =>
-            "a controller fetches from a ring whose doorbell rang, whose endpoint is Running, and with no command under way where it is the Command Ring",
+            "a controller fetches from a ring whose doorbell rang since it was bound, moved, stopped or halted, and takes no command while one is under way",
         "report" =>
-            "a Transfer Event is posted for a TRB that was taken, with a code that its endpoint's state allows, where the Event Ring has room",
+            "a Transfer Event names a TRB that was taken and isn't reported (a Stopped event also the one that is fetched next), with a code that its endpoint's state allows and the Cycle bit of its place, where the Event Ring has room",
         "finish" =>
-            "a Command Completion Event is posted for the command that was taken, with a code and a slot that it allows, where the Event Ring has room",
+            "a Command Completion Event names the command that was taken and isn't completed, with a code and a slot that it allows and the Cycle bit of its place, where the Event Ring has room",
         "other" =>
             "an event that is neither Transfer Event nor Command Completion Event is posted where the controller runs and the Event Ring has room, with the Cycle bit of its place",
         _ =>

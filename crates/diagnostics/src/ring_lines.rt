@@ -156,6 +156,14 @@ fn part_fault(alloc: Global, kind: RingKind, part: Part) -> Result<Option<Why>, 
             help: "write the segment's first address (xHCI table 6-1)",
         }));
     }
+    if base > u64::MAX - (16 * count - 1) {
+        let head = format!(in alloc; "the segment at {base:016x} ends above 2^64")?;
+        return Ok(Some(Why {
+            head,
+            earlier: None,
+            help: "write the segment's first address and its number of TRBs, in hex",
+        }));
+    }
     if base % 0x10000 + 16 * count > 0x10000 {
         let page = (base / 0x10000)
             .saturating_mul(0x10000)
