@@ -105,8 +105,12 @@ module _ (h : Header) (k : Known) (a : ℕ) where
 
   -- they are under lease
   within_leases : (r s t c e v : Bool) → (((((r || s) || t) || c) || e) || v) ≡ false → (s || v) ≡ false
-  within_leases false false false false false false none = refl
-  within_leases false false false false false true none = none
+  within_leases false false false false false v none = none
+  within_leases false false false false true v none = cc
+  within_leases false false false true e v none = cc
+  within_leases false false true c e v none = cc
+  within_leases false true t c e v none = cc
+  within_leases true s t c e v none = cc
 
   pub controllers_leased : leases.is_leased h k a ≡ false → leases.is_the_controllers h k a ≡ false
   controllers_leased free =
@@ -117,7 +121,7 @@ module _ (h : Header) (k : Known) (a : ℕ) where
   -- ---- what a write may not do, by the trace's version
 
   judged : (leased three alone same : Bool) → (leased ≡ false → alone ≡ false) → ((leased && not three) || (alone || (leased && not same))) ≡ (leased && (not three || (not same || alone)))
-  judged false three alone same within = within refl
+  judged false three alone same within = or_false alone ∙ within refl
   judged true false alone same within = refl
   judged true true false same within = sym (or_false (not same))
   judged true true true true within = refl
@@ -126,3 +130,19 @@ module _ (h : Header) (k : Known) (a : ℕ) where
   pub owned_is : (w : ℕ) → writes_to_owned h k a w ≡ (leases.is_leased h k a && (not (is_three h.version) || (not (k.memory a == w) || leases.is_the_controllers h k a)))
   unfolding writes_to_owned stricter older changes_owned
   owned_is w = judged (leases.is_leased h k a) (is_three h.version) (leases.is_the_controllers h k a) (k.memory a == w) controllers_leased
+
+  -- the three answers, by what was asked
+  abbrev disturbs : ℕ → Bool
+  disturbs w = not (k.memory a == w) || leases.is_the_controllers h k a
+
+  pub owned_by_version : (w : ℕ) → leases.is_leased h k a ≡ true → not (is_three h.version) ≡ true → writes_to_owned h k a w ≡ true
+  owned_by_version w leased older =
+      owned_is w ∙ ap (λ l. l && (not (is_three h.version) || disturbs w)) leased ∙ ap (λ o. o || disturbs w) older
+
+  pub owned_by_change : (w : ℕ) → leases.is_leased h k a ≡ true → not (is_three h.version) ≡ false →
+      writes_to_owned h k a w ≡ (not (k.memory a == w) || leases.is_the_controllers h k a)
+  owned_by_change w leased newer =
+      owned_is w ∙ ap (λ l. l && (not (is_three h.version) || disturbs w)) leased ∙ ap (λ o. o || disturbs w) newer
+
+  pub not_owned : (w : ℕ) → leases.is_leased h k a ≡ false → writes_to_owned h k a w ≡ false
+  not_owned w free = owned_is w ∙ ap (λ l. l && (not (is_three h.version) || disturbs w)) free
