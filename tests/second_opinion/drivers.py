@@ -120,11 +120,18 @@ class Driver:
             block = with_cycle(self.known.queue(ring)[position], ring.cycle(position))
             self.write(ring.address(position), *block[:3])
             self.make(Write(ring.address(position) + 12, block[3]))
+            if self.trace.version == 3 and self.pick.random() < 0.2:
+                self.store_again(ring.address(position), block)
 
     def give_link(self, ring, crossing):
         self.write(ring.link_address(crossing), *halves(ring.link_target(crossing)))
         toggle = 2 if ring.toggles(crossing) else 0
         self.make(Write(ring.link_address(crossing) + 12, LINK << 10 | toggle | ring.cycle(crossing - 1)))
+
+    def store_again(self, address, words):
+        """What stands there already, as a driver does that stores each command twice."""
+        for i, word in enumerate(words):
+            self.make(Write(address + 4 * i, word))
 
     def give_some(self):
         self.give(self.pick.choice(self.trace.driver_rings))
@@ -217,7 +224,7 @@ class Driver:
         context = 0x1000 * self.pick.randrange(3)
         areas = [self.pick.choice(ring.places), self.array, TABLE, INPUT_CONTEXTS + context, DEVICE_CONTEXTS + context]
         address = self.pick.choice(areas) + 4 * self.pick.randrange(8)
-        self.make(Write(address, self.pick.choice([0, 1, self.known.word(address) ^ 1, self.pick.getrandbits(32)])))
+        self.make(Write(address, self.pick.choice([0, 1, self.known.word(address), self.known.word(address) ^ 1, self.pick.getrandbits(32)])))
 
     def clear_device_context(self):
         address = DEVICE_CONTEXTS + 0x1000 * self.pick.randrange(3)

@@ -4,7 +4,7 @@ from blocks import (ADDRESS_DEVICE, COMMAND_COMPLETION, EVENT_TYPES, LINK, SET_T
 from commands import name_one_slot
 from events import is_impossible_completion, is_impossible_transfer, is_in_profile
 from given_commands import adds_left_out_endpoint, changes_endpoint, is_refused, moves_ring
-from leases import is_touched, open_leases
+from leases import device_contexts, event_segments, is_touched, open_leases
 from moves import is_bad_binding, is_bad_dequeue, is_bad_stay
 from registers import is_bad_crcr, is_bad_erstba, is_bad_erstsz, is_bad_usbcmd
 from trace import Declare, Doorbell, Event, Register, Write
@@ -25,8 +25,10 @@ def links_given(known, write):
 # ---- 10 to 14: writes of blocks and Links
 
 def write_to_owned(known, row):
-    """The word is under lease."""
-    return any(is_touched(leased, row.address, 4) for leased in open_leases(known))
+    """The word is under lease. Version 3 lets it be written as it stands, but in event segments and device contexts."""
+    has = lambda leases: any(is_touched(leased, row.address, 4) for leased in leases)
+    is_stored_again = known.word(row.address) == row.word and not has([*event_segments(known.trace), *device_contexts(known)])
+    return has(open_leases(known)) and not (known.trace.version >= 3 and is_stored_again)
 
 
 def not_as_submitted(known, row):

@@ -1,4 +1,4 @@
-"""A trace of version 1, read from its text."""
+"""A trace, read from its text."""
 from dataclasses import dataclass
 
 from rings import Ring, Segment, clash, is_shape

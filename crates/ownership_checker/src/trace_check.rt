@@ -41,7 +41,7 @@ fn check_rows<M: WordMemory + Drop>(
     let mut ranges = RangeIndexes::new(alloc);
     for row in rows {
         let place = kept.place(header, &finder, row);
-        let owned = kept.owns(row, place);
+        let owned = kept.owns(header, &memory, row, place);
         note_row(
             &mut book,
             &mut ranges,

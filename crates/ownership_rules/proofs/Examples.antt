@@ -1,8 +1,9 @@
 -- Worked examples of Links that are given: where they lead, which of them toggle the cycle, and what they may not say
 use Rattle.std.specs.Prelude.{◌≡◌, ℕ, ◌+◌, List, [], ◌∷◌, ◌++◌, Option, Some, None, refl}
-use Rattle.trb.specs.declared.ring_kind.RingKind.TheVariants.{Xfer}
+use Rattle.trb.specs.declared.ring_kind.RingKind.TheVariants.{Evt, Xfer}
 use Rattle.contexts.specs.declared.size.ContextSize.TheVariants.{Bytes32}
-use Rattle.traces.specs.declared.version.Version.TheVariants.{One}
+use Rattle.traces.specs.declared.version.Version.TheVariants.{One, Two, Three}
+use Rattle.traces.specs.declared.version.Version.{Version}
 use Rattle.traces.specs.declared.header.Header.{Header}
 use Rattle.traces.specs.declared.row.Row.{Row}
 use Rattle.traces.specs.declared.row.Row.TheVariants.{Write}
@@ -13,8 +14,8 @@ use Rattle.ownership_rules.specs.Rules.{verdict_from}
 use Rattle.ownership_rules.specs.OnLiterals.{rules_on_literals}
 
 -- a transfer ring of two segments, of 3 blocks at 0x30000 and of 2 blocks at 0x31000
-abbrev two_segments : Header
-two_segments = record { version = One; context_size = Bytes32; rings = record { id = 2; shape = record { kind = Xfer; segments = record { base = 0x30000; count = 3 } ∷ record { base = 0x31000; count = 2 } ∷ [] } } ∷ [] }
+abbrev two_segments : Version → Header
+two_segments version = record { version = version; context_size = Bytes32; rings = record { id = 2; shape = record { kind = Xfer; segments = record { base = 0x30000; count = 3 } ∷ record { base = 0x31000; count = 2 } ∷ [] } } ∷ [] }
 
 -- the two rows that give a Link: its pointer, then its control word
 abbrev link : ℕ → ℕ → ℕ → List Row
@@ -28,8 +29,11 @@ abbrev last : ℕ → ℕ → List Row
 last target control = link 0x31010 target control
 
 -- the verdict on a trace with these rows: lines 1 to 3 are the header, the first row is line 4
+abbrev verdict_by : Version → List Row → Option (ℕ × Refusal)
+verdict_by version rows = verdict_from (two_segments version) nothing 4 rows
+
 abbrev verdict : List Row → Option (ℕ × Refusal)
-verdict rows = verdict_from two_segments nothing 4 rows
+verdict rows = verdict_by One rows
 
 -- control words: type 6 with the Cycle bit, with Toggle Cycle (TC), with Interrupt On Completion (IOC)
 abbrev plain : ℕ
@@ -95,3 +99,27 @@ wrong_link_interrupts = refl
 pub link_written_again : verdict (first 0x31000 plain ++ Write 0x30020 0x30000 ∷ []) ≡ Some (6, WriteToOwned)
 unfolding rules_on_literals
 link_written_again = refl
+
+-- by version 3 it may be written as it stands, by versions 1 and 2 not at all
+abbrev stored_again : List Row
+stored_again = first 0x31000 plain ++ Write 0x3002c plain ∷ Write 0x30020 0x31000 ∷ []
+
+pub link_stored_again : verdict_by Three stored_again ≡ None
+unfolding rules_on_literals
+link_stored_again = refl
+
+pub link_stored_again_before : (verdict_by One stored_again ≡ Some (6, WriteToOwned)) × (verdict_by Two stored_again ≡ Some (6, WriteToOwned))
+unfolding rules_on_literals
+link_stored_again_before = (refl, refl)
+
+pub link_changed : verdict_by Three (first 0x31000 plain ++ Write 0x3002c plain ∷ Write 0x30020 0x30000 ∷ []) ≡ Some (7, WriteToOwned)
+unfolding rules_on_literals
+link_changed = refl
+
+-- a word of an event segment may not be written at all: here it is 0
+abbrev with_events : Header
+with_events = record { version = Three; context_size = Bytes32; rings = record { id = 1; shape = record { kind = Evt; segments = record { base = 0x20000; count = 16 } ∷ [] } } ∷ [] }
+
+pub event_word_stored : verdict_from with_events nothing 4 (Write 0x20004 0 ∷ []) ≡ Some (4, WriteToOwned)
+unfolding rules_on_literals
+event_word_stored = refl

@@ -8,15 +8,17 @@ use Rattle.traces.specs.declared.row.Row.TheVariants.{Write, Reg}
 use Rattle.traces.specs.Versions.{is_three}
 use Rattle.ring_knowledge.specs.Known.{Known}
 use Rattle.ownership_rules.specs.declared.refusal.Refusal.{Refusal}
-use Rattle.ownership_rules.specs.declared.refusal.Refusal.TheVariants.{BadRegister, BadErdp, NotInProfile}
+use Rattle.ownership_rules.specs.declared.refusal.Refusal.TheVariants.{WriteToOwned, BadRegister, BadErdp, NotInProfile}
+use Rattle.ownership_rules.specs.OpenLeases.{is_leased}
 use Rattle.ownership_rules.specs.Commands as commands
 use Rattle.ownership_rules.specs.Registers as registers
 use Rattle.ownership_rules.specs.Writes as writes
 
 module _ (h : Header) where
-  -- NotInProfile: an isochronous endpoint (xHCI 4.14.2), also one that stays unused; BadRegister: ERSTSZ a second time, or with a
+  -- WriteToOwned: a word under lease, also one that the write leaves as it is; NotInProfile: an isochronous endpoint (xHCI 4.14.2), also one that stays unused; BadRegister: ERSTSZ a second time, or with a
   -- value that is never used; BadErdp: before the start no event place
   unfoldable pub older : Known → Row → Refusal → Bool
+  older k (Write a w) WriteToOwned = is_leased h k a
   older k (Write a w) NotInProfile = writes.some_command h k a w (commands.adds_isochronous h k)
   older k (Reg Erstsz v) BadRegister = registers.is_written k Erstsz || registers.is_bad_size h v
   older k (Reg Erdp v) BadErdp = registers.names_no_place h k v
@@ -25,6 +27,10 @@ module _ (h : Header) where
   -- what the trace's version refuses besides, by this rule
   unfoldable pub stricter : Known → Row → Refusal → Bool
   stricter k row rule = older k row rule && not (is_three h.version)
+
+  -- the write breaks WriteToOwned, by the trace's version
+  unfoldable pub writes_to_owned : Known → ℕ → ℕ → Bool
+  writes_to_owned k a w = stricter k (Write a w) WriteToOwned || writes.changes_owned h k a w
 
   -- of a command that is given: an endpoint that is added has streams, or is isochronous where the version refuses that
   unfoldable pub has_left_out_endpoint : Known → Command → Bool

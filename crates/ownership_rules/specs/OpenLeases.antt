@@ -127,3 +127,7 @@ module _ (h : Header) where
   -- the word at this address is under lease
   unfoldable pub is_leased : Known → ℕ → Bool
   is_leased k a = list_any (covers a 4) (open_leases k)
+
+  -- the word is the controller's alone to write: of an event segment, or of a device context under lease
+  unfoldable pub is_the_controllers : Known → ℕ → Bool
+  is_the_controllers k a = list_any (covers a 4) (segment_ranges ++ device_ranges k)

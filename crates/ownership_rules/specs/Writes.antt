@@ -1,5 +1,5 @@
 -- The rules of a write of memory (`w`)
-use Rattle.std.specs.Prelude.{ℕ, ◌||◌, Bool, false, List, [], ◌∷◌, Option, Some, None}
+use Rattle.std.specs.Prelude.{ℕ, ◌==◌, ◌&&◌, ◌||◌, Bool, false, not, List, [], ◌∷◌, Option, Some, None}
 use Rattle.std.specs.List.{list_any}
 use Rattle.segments.specs.Givings.{is_other_than_declared, is_not_declared, is_not_whole, leads_wrong, interrupts}
 use Rattle.commands.specs.declared.command.Command.{Command}
@@ -10,7 +10,7 @@ use Rattle.ring_knowledge.specs.Rings.{Given, Position, Crossing, given_by}
 use Rattle.ring_knowledge.specs.Writes.{command_given}
 use Rattle.ownership_rules.specs.Refusal.{Test}
 use Rattle.ownership_rules.specs.declared.refusal.Refusal.TheVariants.{WriteToOwned, NotAsSubmitted, NotDeclared, NotWhole, LinkFault, BadCommand, Busy, NotInProfile, BadMove}
-use Rattle.ownership_rules.specs.OpenLeases.{is_leased}
+use Rattle.ownership_rules.specs.OpenLeases.{is_leased, is_the_controllers}
 use Rattle.ownership_rules.specs.Commands as commands
 use Rattle.ownership_rules.specs.Moves as moves
 
@@ -40,9 +40,13 @@ module _ (h : Header) where
   unfoldable pub some_command : Known → ℕ → ℕ → (Command → Bool) → Bool
   some_command k a w test = holds_of test (command_given h k a w)
 
+  -- the write changes a word under lease, or is to one that only the controller may write
+  unfoldable pub changes_owned : Known → ℕ → ℕ → Bool
+  changes_owned k a w = is_the_controllers h k a || (is_leased h k a && not (k.memory a == w))
+
   unfoldable pub write_tests : Known → ℕ → ℕ → List Test
   write_tests k a w =
-      (WriteToOwned, is_leased h k a)
+      (WriteToOwned, changes_owned k a w)
       ∷ (NotAsSubmitted, some_given k a w (λ r p. is_other_than_declared (shape_of h r) (k.ring r) k.memory a w p))
       ∷ (NotDeclared, some_given k a w (λ r p. is_not_declared (k.ring r) p))
       ∷ (NotWhole, some_given k a w (λ r p. is_not_whole (shape_of h r) (k.ring r) p))

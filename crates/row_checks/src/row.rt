@@ -5,7 +5,7 @@ ghost use Rattle.traces.specs.Limits.{most_lines};
 ghost use Rattle.traces.specs.declared.row.Row.TheVariants.{Bell, Write};
 ghost use Rattle.ring_knowledge.specs.Known.{Known};
 ghost use Rattle.ring_finder.specs.Finding.{IsFinder};
-ghost use Rattle.ownership_rules.specs.OpenLeases.{is_leased};
+ghost use Rattle.ownership_rules.specs.Older.{writes_to_owned};
 ghost use Rattle.safety.specs.Keeps.{DriverKeeps};
 ghost use Rattle.trace_record.specs.FollowsTrace.{FollowsTrace};
 ghost use Rattle.trace_record.specs.Fresh.{IsWithin};
@@ -25,7 +25,8 @@ use trace_record::{StepFault, TraceRecord, WordPlace};
 use traces::{Header, Row};
 use write_checks::check_write;
 
-/// Checks a row, and notes it. Where it writes a word, `place` is where the word lies, and `owned` whether it is under lease.
+/// Checks a row, and notes it. Where it writes a word, `place` is where the word lies, and `owned` whether the controller
+/// owns what is written.
 pub fn check_row<M: WordMemory>(
     header: &Header,
     finder: &Finder,
@@ -83,9 +84,9 @@ fn check_word<M: WordMemory>(
     requires headed { IsHeader header.now }
     requires found { IsFinder header.now.rings finder.now }
     ensures ok { OnOk result ((k : Known) → FollowsTrace header.now k kept.old (M.words memory.old) → DriverKeeps header.now k → k.stopped ≡ false →
-        IsPlacedSo header.now k at word place → owned ≡ is_leased header.now k at → IsRowStep header.now k (Write at word) kept.new (M.words memory.new)) }
+        IsPlacedSo header.now k at word place → owned ≡ writes_to_owned header.now k at word → IsRowStep header.now k (Write at word) kept.new (M.words memory.new)) }
     ensures refused { IfErr result (λ e. IfRefused e (λ c. (k : Known) → FollowsTrace header.now k kept.old (M.words memory.old) → DriverKeeps header.now k → k.stopped ≡ false →
-        IsPlacedSo header.now k at word place → owned ≡ is_leased header.now k at → IsLeast header.now k (Write at word) c)) }
+        IsPlacedSo header.now k at word place → owned ≡ writes_to_owned header.now k at word → IsLeast header.now k (Write at word) c)) }
     ensures events { OnOk result (kept.new.events ≡ kept.old.events) }
 {
     match check_write(header, finder, kept, memory, at, word, place, owned) {

@@ -21,8 +21,9 @@ What to write instead
   Write all else of a TRB before the word with its Cycle bit, and nothing
   behind it. A TRB is yours again once you have read an event of its TD or of
   a later one of its ring, or have moved the ring past it (Stop Endpoint, Set
-  TR Dequeue Pointer). The same word stored once more does no harm, and is
-  refused too.
+  TR Dequeue Pointer). The same word stored once more does no harm. Versions
+  1 and 2 refuse it too; version 3 only in Device Contexts and the Event Ring,
+  where the controller writes.
 
 A trace that breaks it
   Row 5 hands a No Op over; row 6 stores into it, and is refused.

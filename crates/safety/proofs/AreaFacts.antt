@@ -1,8 +1,8 @@
 -- Areas and ranges under lease that have no byte in common
-use Rattle.std.proofs.Common.{◌≡◌, ◌≢◌, ◌+◌, ◌*◌, ◌/◌, ◌^◌, ◌<◌, ◌≤◌, ◌⊎◌, ◌||◌, ◌∷◌, ◌∙◌, ℕ, Bool, false, List, [], nat_lt, nat_le, Option, None, Some, arith, refl, sym, inl, inr, lt-ltb, le-ltb, ltb-true, leb-true}
-use Rattle.safety.proofs.Words.{list_any, flat_map, cases_lt, and_left, and_right, or_parts, or_from, and_parts, and_cases, false≢true, false_from_ne_true, list_any-append, is_in, overlap, device_context_bytes, input_context_bytes, Command, named_context, table_bytes, event_shape, base_address, Erstba, Header, touches_ring, Known, entry_of, Range, SegmentTable, Use, InputContext, SlotEntry, DeviceContext, slots, covers, lease_start, lease_bytes, range_of_device, device_ranges, open_ranges, open_leases, is_leased, is_bad_area, is_in_range_lease, is_soiled, IsUnfinished}
+use Rattle.std.proofs.Common.{◌≡◌, ◌≢◌, ◌+◌, ◌*◌, ◌/◌, ◌^◌, ◌<◌, ◌≤◌, ◌⊎◌, ◌||◌, ◌∷◌, ◌∙◌, ℕ, Bool, false, List, [], nat_lt, nat_le, Option, None, Some, arith, refl, sym, inl, inr, lt-ltb, le-ltb, ltb-true, leb-true, ◌++◌}
+use Rattle.safety.proofs.Words.{list_any, flat_map, cases_lt, and_left, and_right, or_parts, or_from, and_parts, and_cases, false≢true, false_from_ne_true, list_any-append, is_in, overlap, device_context_bytes, input_context_bytes, Command, named_context, table_bytes, event_shape, base_address, Erstba, Header, touches_ring, Known, entry_of, Range, SegmentTable, Use, InputContext, SlotEntry, DeviceContext, slots, covers, lease_start, lease_bytes, range_of_device, device_ranges, open_ranges, open_leases, is_leased, is_bad_area, is_in_range_lease, is_soiled, IsUnfinished, is_the_controllers, segment_ranges}
 use Rattle.safety.proofs.SafeContext.{none_in_range}
-use Rattle.safety.proofs.UnfinishedLists.{fails_in, context_leased, device_listed, device_leased, entry_leased, table_leased}
+use Rattle.safety.proofs.UnfinishedLists.{fails_in, context_leased, device_listed, device_leased, entry_leased, table_leased, in_right}
 
 -- ---- two ranges of bytes
 
@@ -115,3 +115,11 @@ module _ (h : Header) where
   pub word_free : (k : Known) (a : ℕ) → is_leased h k a ≡ false → list_any (covers h a 4) (open_ranges h k) ≡ false
   unfolding is_leased open_leases
   word_free k a free = (or_parts _ _ (sym (list_any-append (covers h a 4) _ (open_ranges h k)) ∙ free)).1
+
+  -- a word that the controller doesn't write alone is in no device context under lease
+  pub not_in_device : (k : Known) (a : ℕ) → is_the_controllers h k a ≡ false → (s d : ℕ) → 0 < s → s < 256 → k.device s ≡ Some d → overlap a 4 d (device_context_bytes h.context_size) ≡ false
+  unfolding is_the_controllers
+  not_in_device k a none s d low high at =
+      sym (covers_range a 4 (device_context_bytes h.context_size) d (DeviceContext s))
+      ∙ fails_in (covers h a 4) (segment_ranges h ++ device_ranges h k) _ none
+      (in_right (Range (device_context_bytes h.context_size) d (DeviceContext s)) (segment_ranges h) (device_ranges h k) (device_listed h k s d low high at))

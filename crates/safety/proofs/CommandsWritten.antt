@@ -1,12 +1,12 @@
 -- A write keeps what is kept of unfinished commands, and of the command that it gives holds what was tested
 use Rattle.std.proofs.Common.{◌≡◌, ◌≢◌, ◌<◌, ◌==◌, ◌∙◌, ℕ, not, Bool, true, false, [], Option, None, Some, arith, refl, sym, ap, subst, inl, inr, le-leb, eq-eqb, eqb-true}
-use Rattle.safety.proofs.Words.{list_any, or_parts, or_from, and_from, cases_lt, not_from_false, false≢true, false_from_ne_true, All-contains, Shape, RingView, Writes, changed, declared, floor_number, gives, positions_given, ceiling, is_not_declared, MayWrite, cases_option, gives_is, position_given, gives_one, move-writes, ceiling_held, Command, AddressDevice, EndpointState, Off, named_slot, same_slot, name_one_slot, is_off, is_at_rest, is_running, Header, Write, IsHeader, shape_of, command_id, is_ring, Known, unfinished, binds_ring, is_used, moves_ring, is_being_moved, write_tests, lenient_tests, lenient, IsDriverRing, IsUnfinished, DriverKeeps, CommandsKeep}
+use Rattle.safety.proofs.Words.{list_any, or_parts, or_from, and_from, cases_lt, not_from_false, false≢true, false_from_ne_true, All-contains, Shape, RingView, Writes, changed, declared, floor_number, gives, positions_given, ceiling, is_not_declared, cases_option, gives_is, position_given, gives_one, move-writes, ceiling_held, Command, AddressDevice, EndpointState, Off, named_slot, same_slot, name_one_slot, is_off, is_at_rest, is_running, Header, Write, IsHeader, shape_of, command_id, is_ring, Known, unfinished, binds_ring, is_used, moves_ring, is_being_moved, write_tests, lenient_tests, lenient, IsDriverRing, IsUnfinished, DriverKeeps, CommandsKeep}
 use Rattle.ownership_rules.specs.Commands as commands
 use Rattle.safety.proofs.TestsPassed.{AllFail, tests_fail}
 use Rattle.safety.proofs.RingsOfHeader.{has_ring}
 use Rattle.safety.proofs.Headers.{ring_shape, transfer_driver}
 use Rattle.safety.proofs.DriverRings.{driver_test}
-use Rattle.safety.proofs.Writing.{none_given, may_write}
+use Rattle.safety.proofs.Writing.{none_given}
 use Rattle.safety.proofs.RowFrames.{write_leaves}
 use Rattle.safety.proofs.UnfinishedLists.{unfinished_fails}
 use Rattle.safety.proofs.GivenRules.{GivenFacts, given_facts}
@@ -75,11 +75,13 @@ module _ (h : Header) (is : IsHeader h) (k : Known) (d : DriverKeeps h k) (a w :
   -- nor on one of which all that is declared was passed
   none_declared : (s r : ℕ) → k.ring_of s 1 ≡ Some r → declared (k.ring r) ≡ floor_number (k.ring r) → (p : ℕ) → (k.ring r).given p ≡ false →
       gives (shape_of h r) (k.ring r).floor p a w ≡ true → ⊥
+  unfolding lenient_tests write_tests
   none_declared s r has end p fresh now =
+      let fails : AllFail (write_tests h k a w) = tests_fail h k (Write a w) clean in
       let driver : IsDriverRing h r = transfer_driver h r (d.states.transfer s 1 r has) in
-      let may : MayWrite (shape_of h r) k.memory (k.ring r) a w = may_write h k a w clean r (driver_test h r driver) in
+      let each = none_given h k a w r (has_ring h r (driver_test h r driver)) (λ r p. is_not_declared (k.ring r) p) fails.1.1.0 in
       let below = declared_is (k.ring r) p
-      (All-contains (λ p. is_not_declared (k.ring r) p ≡ false) (positions_given (shape_of h r) (k.ring r) a w) p may.declared (position_given (shape_of h r) (k.ring r) a w p fresh now)) in
+      (All-contains (λ p. is_not_declared (k.ring r) p ≡ false) (positions_given (shape_of h r) (k.ring r) a w) p each (position_given (shape_of h r) (k.ring r) a w p fresh now)) in
       let from = (gives_is (shape_of h r) (k.ring r).floor p a w now).from in
       omega arith
 

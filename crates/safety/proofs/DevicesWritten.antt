@@ -4,12 +4,13 @@ use Rattle.safety.proofs.Words.{cases_lt, and_left, and_from, and_parts, or_from
 use Rattle.safety.proofs.Headers.{ring_shape}
 use Rattle.safety.proofs.CommandRing.{due_has_ring}
 use Rattle.safety.proofs.Areas.{clean_word}
-use Rattle.safety.proofs.AreaFacts.{area_parts, not_in_other, overlap_turned, word_elsewhere, is_soiled_from, device_apart, device_free, entry_free, table_free, lease_free, word_free}
+use Rattle.safety.proofs.AreaFacts.{area_parts, not_in_other, overlap_turned, word_elsewhere, is_soiled_from, device_apart, device_free, entry_free, table_free, lease_free, word_free, not_in_device}
 use Rattle.safety.proofs.EndpointPut.{at_number}
 use Rattle.safety.proofs.KeptClean.{taking, not_in_area}
 use Rattle.safety.proofs.RowFrames.{write_leaves}
 use Rattle.safety.proofs.WrittenKnown.{command_slot_low, after_write, taken, written_memory, written_device, written_device_none, written_soiled, written_soiled_none}
-use Rattle.safety.proofs.WriteBeside.{is_free, rules_of}
+use Rattle.safety.proofs.Writing.{not_the_controllers}
+use Rattle.safety.proofs.WriteBeside.{rules_of, word_stays}
 use Rattle.safety.proofs.DeviceFrames.{entry_same}
 
 named_from : (k l : Known) (s : ℕ) → l.register Dcbaap ≡ k.register Dcbaap → ((x : ℕ) → entry_of k s ≤ x → x < entry_of k s + 8 → l.memory x ≡ k.memory x) → device_named l s ≡ device_named k s
@@ -93,7 +94,6 @@ module _ (h : Header) (is : IsHeader h) (k : Known) (d : DriverKeeps h k) (a w :
   old_device : (s c : ℕ) → k.device s ≡ Some c → DeviceKeeps h l s c
   old_device s c at =
       let was : DeviceKeeps h k s c = d.devices s c at in
-      let free = word_free h k a (is_free h is k d a w clean) in
       record {
         slot = was.slot;
         aligned = was.aligned;
@@ -101,9 +101,9 @@ module _ (h : Header) (is : IsHeader h) (k : Known) (d : DriverKeeps h k) (a w :
         rings = was.rings;
         soiled = λ x inside.
             let within = in_bytes x c (device_context_bytes h.context_size) inside in
-            still_soiled x (word_elsewhere a c (device_context_bytes h.context_size) x (device_free h k a 4 free s c was.slot.0 was.slot.1 at) within.0 within.1) (was.soiled x inside);
+            still_soiled x (word_elsewhere a c (device_context_bytes h.context_size) x (not_in_device h k a (not_the_controllers h k a w clean) s c was.slot.0 was.slot.1 at) within.0 within.1) (was.soiled x inside);
         written = ap is_some dcbaap ∙ was.written;
-        entry = named_from k l s dcbaap (λ x low high. word_same x (word_elsewhere a (entry_of k s) 8 x (entry_free h k a 4 free s c was.slot.0 was.slot.1 at) low high)) ∙ was.entry;
+        entry = named_from k l s dcbaap (word_stays h is k d a w clean (entry_of k s) 8 (λ free. entry_free h k a 4 (word_free h k a free) s c was.slot.0 was.slot.1 at)) ∙ was.entry;
         entry_clean = ap (λ e. is_soiled l e 8) (entry_is s) ∙ clean_after (entry_of k s) 8 was.entry_clean (λ e some. taken_entry e some s c at);
         entry_rings = ap (λ e. touches_ring h e 8) (entry_is s) ∙ was.entry_rings;
         others = λ t e there other.

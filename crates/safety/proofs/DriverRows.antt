@@ -4,7 +4,8 @@ use Rattle.safety.proofs.Words.{cases_eq, cond-true, cond-false, cond_both, Bloc
 use Rattle.safety.specs.RingsKeep.{IsDriverRing}
 use Rattle.safety.proofs.RingsOfHeader.{shape_allowed}
 use Rattle.safety.proofs.Declaring.{may_declare}
-use Rattle.safety.proofs.Writing.{may_write}
+use Rattle.safety.proofs.KeptWords.{same_word_keeps}
+use Rattle.safety.proofs.Writing.{free_or_same, may_write}
 
 module _ (h : Header) where
   -- only memory and rings are spoken of
@@ -61,7 +62,11 @@ module _ (h : Header) where
 
   word_keeps : (k : Known) (a w : ℕ) → RingsKeep h k → lenient h k (Write a w) ≡ [] → RingsKeep h (with_word h k a w)
   unfolding with_word
-  word_keeps k a w keeps clean r driver = writes_keeps (shape_of h r) k.memory (k.ring r) a w (keeps r driver) (may_write h k a w clean r driver)
+  word_keeps k a w keeps clean r driver =
+      elim (free_or_same h k a w clean) [
+        | inl free ↦ writes_keeps (shape_of h r) k.memory (k.ring r) a w (keeps r driver) (may_write h k a w clean free r driver)
+        | inr same ↦ same_word_keeps (shape_of h r) k.memory (k.ring r) (keeps r driver) a w same
+      ]
 
   device_keeps : (k : Known) (taken : Option (ℕ × ℕ)) → RingsKeep h k → RingsKeep h (with_device h k taken)
   unfolding with_device

@@ -1,12 +1,10 @@
 -- What a write gives of a ring it gives also behind an event: what is due only there is a lap behind what is leased, and what was
 -- due only before is passed, hence given
-use Rattle.std.proofs.Common.{◌≡◌, ◌+◌, ◌-◌, ◌<◌, ◌≤◌, ◌⊎◌, ◌||◌, ◌∙◌, ℕ, Bool, true, false, nat_lt, arith, refl, sym, ap, inl, inr, lt-ltb}
-use Rattle.safety.proofs.Words.{cases_lt, cases_eq, false≢true, and_from, All-contains, Shape, IsShape, place_count, address_of, is_crossing, link_address, overlap, Link, rank, RingView, floor_number, gives, gives_crossing, leased_positions, leased_crossings, RingKeeps, MayWrite, address_of-lap, is_crossing-lap, link_address-lap, rank_least, crossed_due, IsCrossingDue, due_from, gives_is, gives_from, crossing_due_from, gives_crossing_is, gives_crossing_from, leased_position, leased_crossing, both_ways}
+use Rattle.std.proofs.Common.{◌≡◌, ◌+◌, ◌-◌, ◌<◌, ◌≤◌, ◌⊎◌, ◌||◌, ◌∙◌, ℕ, Bool, true, false, arith, refl, sym, ap, inl, inr, ◌%◌}
+use Rattle.safety.proofs.Words.{cases_lt, cases_eq, false≢true, Shape, IsShape, place_count, address_of, is_crossing, link_address, Link, rank, RingView, floor_number, gives, gives_crossing, RingKeeps, address_of-lap, is_crossing-lap, link_address-lap, rank_least, crossed_due, IsCrossingDue, due_from, gives_is, gives_from, crossing_due_from, gives_crossing_is, gives_crossing_from, both_ways, cycle_of}
+use Rattle.segments.proofs.Positions.{cycle_of_flips}
+use Rattle.safety.proofs.KeptWords.{KeepsCycles}
 use Rattle.safety.proofs.SameDriver.{SameGiven}
-
--- the control word of a block has a byte in common with it
-control_touches : (a b : ℕ) → a ≡ b + 12 → overlap a 4 b 16 ≡ true
-control_touches a b at = and_from (nat_lt a (b + 16)) (nat_lt b (a + 4)) (lt-ltb a (b + 16) (omega arith)) (lt-ltb b (a + 4) (omega arith))
 
 -- u is the ring behind the event, v before it
 pub record RingBehind (shape : Shape) (memory : ℕ → ℕ) (v u : RingView) : Type 0 where
@@ -56,11 +54,11 @@ module _ (shape : Shape) (memory : ℕ → ℕ) (v u : RingView) (b : RingBehind
       let g = gives_crossing_is shape v.floor q a x gives_now in
       ap (λ y. gives_crossing shape u.floor q y x) g.at ∙ gives_crossing_from shape u.floor q x (crossing_due_from shape u.floor q (crossing_behind q g.due fresh)) g.cycle
 
-  -- ---- what is due and writes no leased word was due
+  -- ---- what is due and changes no leased word was due
 
-  module _ (may : MayWrite shape memory v a x) where
-    position_near : (p : ℕ) → p < floor_number u + place_count shape → a ≡ address_of shape p + 12 → p < floor_number v + place_count shape
-    position_near p within at =
+  module _ (keeps : KeepsCycles shape v a x) where
+    position_near : (p : ℕ) → p < floor_number u + place_count shape → a ≡ address_of shape p + 12 → x % 2 ≡ cycle_of shape p → p < floor_number v + place_count shape
+    position_near p within at cycle =
         elim (cases_lt p (floor_number v + place_count shape)) [
           | inl near ↦ near
           | inr far ↦
@@ -69,17 +67,17 @@ module _ (shape : Shape) (memory : ℕ → ℕ) (v u : RingView) (b : RingBehind
               let place : address_of shape p ≡ address_of shape (p - place_count shape) = ap (λ n. address_of shape n) (sym lap) ∙ address_of-lap shape (p - place_count shape) in
               let given : v.given (p - place_count shape) ≡ true = given_there (p - place_count shape) (b.behind.passed (p - place_count shape) (omega arith)) in
               let due = due_from shape v.floor (p - place_count shape) (omega arith) (b.before.given_within (p - place_count shape) given) in
-              let free = All-contains (λ p. overlap a 4 (address_of shape p) 16 ≡ false) (leased_positions shape v) (p - place_count shape) may.blocks (leased_position shape v (p - place_count shape) due given) in
-              absurd (false≢true (sym free ∙ control_touches a (address_of shape (p - place_count shape)) (omega arith)))
+              let before = keeps.blocks (p - place_count shape) due given (omega arith) in
+              absurd (cycle_of_flips shape b.is (p - place_count shape) (ap (λ n. cycle_of shape n) lap ∙ sym cycle ∙ before))
         ]
 
     pub gives_before : (p : ℕ) → gives shape u.floor p a x ≡ true → gives shape v.floor p a x ≡ true
     gives_before p gives_now =
         let g = gives_is shape u.floor p a x gives_now in
-        ap (λ y. gives shape v.floor p y x) g.at ∙ gives_from shape v.floor p x (due_from shape v.floor p (omega (arith, g.from, b.on)) (position_near p g.within g.at)) g.cycle
+        ap (λ y. gives shape v.floor p y x) g.at ∙ gives_from shape v.floor p x (due_from shape v.floor p (omega (arith, g.from, b.on)) (position_near p g.within g.at g.cycle)) g.cycle
 
-    link_near : (q : ℕ) → IsCrossingDue shape u.floor q → a ≡ link_address shape q + 12 → (q < floor_number v + place_count shape) ⊎ ((q ≡ place_count shape) × (floor_number v ≡ 0))
-    link_near q due at =
+    link_near : (q : ℕ) → IsCrossingDue shape u.floor q → a ≡ link_address shape q + 12 → x % 2 ≡ cycle_of shape (q - 1) → (q < floor_number v + place_count shape) ⊎ ((q ≡ place_count shape) × (floor_number v ≡ 0))
+    link_near q due at cycle =
         elim (cases_lt q (floor_number v + place_count shape)) [
           | inl near ↦ inl near
           | inr far ↦ elim (cases_eq q (place_count shape)) [
@@ -95,16 +93,16 @@ module _ (shape : Shape) (memory : ℕ → ℕ) (v u : RingView) (b : RingBehind
                 let given : v.crossed (q - place_count shape) ≡ true =
                 crossed_there (q - place_count shape) (b.behind.passed_links (q - place_count shape) crossing (omega (arith, rank_least u.floor))) in
                 let was_due = crossed_due shape b.is memory v b.before (q - place_count shape) (omega arith) given in
-                let free = All-contains (λ q. overlap a 4 (link_address shape q) 16 ≡ false) (leased_crossings shape v) (q - place_count shape) may.links
-                (leased_crossing shape v (q - place_count shape) was_due given) in
-                absurd (false≢true (sym free ∙ control_touches a (link_address shape (q - place_count shape)) (omega arith)))
+                let before = keeps.links (q - place_count shape) was_due given (omega arith) in
+                let one : q - place_count shape - 1 + place_count shape ≡ q - 1 = omega arith in
+                absurd (cycle_of_flips shape b.is (q - place_count shape - 1) (ap (λ n. cycle_of shape n) one ∙ sym cycle ∙ before))
           ]
         ]
 
     pub crosses_before : (q : ℕ) → gives_crossing shape u.floor q a x ≡ true → gives_crossing shape v.floor q a x ≡ true
     crosses_before q gives_now =
         let g = gives_crossing_is shape u.floor q a x gives_now in
-        let due : IsCrossingDue shape v.floor q = record { crossing = g.due.crossing; from = omega (arith, g.due.from, b.on); within = link_near q g.due g.at } in
+        let due : IsCrossingDue shape v.floor q = record { crossing = g.due.crossing; from = omega (arith, g.due.from, b.on); within = link_near q g.due g.at g.cycle } in
         ap (λ y. gives_crossing shape v.floor q y x) g.at ∙ gives_crossing_from shape v.floor q x (crossing_due_from shape v.floor q due) g.cycle
 
     -- ---- so the write gives the same

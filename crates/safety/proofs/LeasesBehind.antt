@@ -1,6 +1,6 @@
 -- An event begins no lease: behind it no word is under lease that wasn't before
 use Rattle.std.proofs.Common.{◌≡◌, ◌+◌, ◌<◌, ◌≤◌, ◌⊎◌, ◌==◌, ◌&&◌, ◌∷◌, ◌++◌, ◌∙◌, ℕ, suc, zero, Bool, true, false, List, [], map, Option, None, Some, arith, refl, sym, ap, subst, inl, inr, eq-eqb}
-use Rattle.safety.proofs.Words.{list_any, flat_map, range_with_len, false≢true, false_from_ne_true, and_parts, and_from, or_parts, Shape, place_count, is_crossing, RingView, floor_number, due_positions, due_crossings, leased_positions, leased_crossings, Header, Ring, Erstba, IsHeader, shape_of, command_id, driver_rings, is_driver_kind, clash, Known, command_at, unfinished_positions, entry_of, Leased, Range, SlotEntry, slots, covers, segment_ranges, table_range, range_of_command, context_ranges, range_of_entry, entry_ranges, range_of_device, device_ranges, open_ranges, open_on, open_leases, is_leased, IsIn, some_of, any_of, in_filter, from_filter}
+use Rattle.safety.proofs.Words.{list_any, flat_map, range_with_len, false≢true, false_from_ne_true, and_parts, and_from, or_parts, Shape, place_count, is_crossing, RingView, floor_number, due_positions, due_crossings, leased_positions, leased_crossings, Header, Ring, Erstba, IsHeader, shape_of, command_id, driver_rings, is_driver_kind, clash, Known, command_at, unfinished_positions, entry_of, Leased, Range, SlotEntry, slots, covers, segment_ranges, table_range, range_of_command, context_ranges, range_of_entry, entry_ranges, range_of_device, device_ranges, open_ranges, open_on, open_leases, is_leased, IsIn, some_of, any_of, in_filter, from_filter, is_the_controllers}
 use Rattle.ownership_rules.specs.OpenLeases.{Block, Link}
 use Rattle.safety.specs.RingsKeep.{IsDriverRing}
 use Rattle.safety.proofs.RingsOfHeader.{HasRing, has_ring}
@@ -187,3 +187,9 @@ module _ (h : Header) where
     pub still_free : (a : ℕ) → is_leased h k a ≡ false → is_leased h l a ≡ false
     unfolding is_leased
     still_free a free = none_fewer (covers h a 4) (open_leases h k) (open_leases h l) leases_fewer free
+
+    pub not_the_controllers_behind : (a : ℕ) → is_the_controllers h k a ≡ false → is_the_controllers h l a ≡ false
+    unfolding is_the_controllers
+    not_the_controllers_behind a none =
+        none_fewer (covers h a 4) (segment_ranges h ++ device_ranges h k) (segment_ranges h ++ device_ranges h l)
+        (λ x at. both_fewer x (segment_ranges h) (device_ranges h l) (segment_ranges h) (device_ranges h k) (λ y. y) (devices_fewer x) at) none

@@ -1,6 +1,7 @@
 pub mod TestsPassed
 pub mod RingsOfHeader
 pub mod Declaring
+pub mod KeptWords
 pub mod Writing
 pub mod DriverRows
 pub mod Transfers

@@ -1,12 +1,13 @@
 -- A write of memory where all events are read: what is known agrees with the world
 use Rattle.std.proofs.Common.{◌≡◌, ◌≢◌, ◌+◌, ◌*◌, ◌/◌, ◌<◌, ◌⊎◌, ◌==◌, ◌&&◌, ◌||◌, ◌++◌, ◌∙◌, ℕ, not, nat_lt, Bool, true, false, List, [], Option, None, Some, option_and_then, slice_get, arith, refl, sym, ap, subst, inl, inr, add-zero, lt-ltb, ne_eqb}
-use Rattle.safety.proofs.Words.{list_any, flat_map, cases_eq, or_parts, or_cases, and_from, false≢true, not_from_false, list_any-append, slice_get_within, put, Block, address_of, is_in, is_inside, Writes, changed, is_due, gives, put_here, put_elsewhere, gives_is, address_inside, Command, command_of, named_context, device_context_bytes, input_context_bytes, Header, Write, Erstba, IsHeader, shape_of, command_id, event_shape, driver_rings, World, UnderWay, stored, counted, Known, learned, command_at, next_command, with_device, with_word, written, command_given, taken_device, Leased, Range, InputContext, covers, lease_start, lease_bytes, segment_ranges, table_range, context_ranges, entry_ranges, device_ranges, open_on, open_ranges, open_leases, is_leased, write_tests, lenient_tests, lenient, IsIn, IsUnfinished, DriverKeeps, Stands, EventsStand, touches_events, IsUnchanged, Matches, Agrees}
+use Rattle.safety.proofs.Words.{list_any, cases_eq, or_parts, or_cases, and_from, false≢true, not_from_false, list_any-append, slice_get_within, put, Block, address_of, is_in, is_inside, Writes, changed, is_due, gives, put_here, put_elsewhere, gives_is, address_inside, Command, command_of, named_context, device_context_bytes, input_context_bytes, Header, Write, IsHeader, shape_of, command_id, event_shape, World, UnderWay, stored, counted, Known, learned, command_at, next_command, with_device, with_word, written, command_given, taken_device, covers, lease_start, lease_bytes, segment_ranges, device_ranges, is_leased, lenient, IsUnfinished, DriverKeeps, Stands, EventsStand, touches_events, IsUnchanged, Matches, Agrees, is_the_controllers}
 use Rattle.world_state.specs.World.{event_at}
 use Rattle.world_state.specs.World as of_world
-use Rattle.safety.proofs.TestsPassed.{AllFail, tests_fail, any_of_map}
-use Rattle.safety.proofs.UnfinishedLists.{fails_in, in_ranges, context_leased}
+use Rattle.safety.proofs.TestsPassed.{any_of_map}
 use Rattle.safety.proofs.Headers.{EventRing, event_ring_is}
-use Rattle.safety.proofs.Areas.{byte_apart}
+use Rattle.safety.proofs.Areas.{byte_apart, clean_word, context_lies}
+use Rattle.safety.proofs.AreaFacts.{context_free, word_elsewhere, word_free}
+use Rattle.safety.proofs.Writing.{free_or_same, not_the_controllers}
 use Rattle.safety.proofs.RingMemory.{same_block_at}
 use Rattle.safety.proofs.EndpointPut.{at_number}
 use Rattle.safety.proofs.RowFrames.{WriteLeaves, write_leaves}
@@ -64,10 +65,6 @@ unfolding learned written with_word
 written_device h k a x s some = device_kept h (with_word h k a x) (option_and_then (taken_device k) (command_given h k a x)) s some
 
 module _ (h : Header) (is : IsHeader h) (k : Known) (unread : List Block) (w : World) (a x : ℕ) (d : DriverKeeps h k) (g : Agrees h k unread w) (clean : lenient h k (Write a x) ≡ []) where
-  free : is_leased h k a ≡ false
-  unfolding lenient_tests write_tests
-  free = let fails : AllFail (write_tests h k a x) = tests_fail h k (Write a x) clean in fails.0
-
   m : Known
   m = learned h k (Write a x)
 
@@ -79,28 +76,25 @@ module _ (h : Header) (is : IsHeader h) (k : Known) (unread : List Block) (w : W
 
   -- ---- what the word isn't
 
-  no_range : (l : Leased) → IsIn l (open_ranges h k) → covers h a 4 l ≡ false
-  unfolding is_leased
-  no_range l at = fails_in (covers h a 4) (open_leases h k) l free (in_ranges h k l at)
-
-  in_no_context : (p n i : ℕ) (c : Command) → IsUnfinished h k p c → named_context c ≡ Some n → i < input_context_bytes h.context_size / 4 → n + 4 * i ≢ a
-  unfolding covers lease_start lease_bytes
-  in_no_context p n i c u named low same =
-      let none : (nat_lt a (n + input_context_bytes h.context_size) && nat_lt n (a + 4)) ≡ false = no_range (Range (input_context_bytes h.context_size) n (InputContext p)) (context_leased h k p n c u named) in
-      false≢true (sym none ∙ and_from _ _ (lt-ltb a (n + input_context_bytes h.context_size) (omega arith)) (lt-ltb n (a + 4) (omega arith)))
-
   segments_free : list_any (covers h a 4) (segment_ranges h) ≡ false
-  unfolding is_leased open_leases open_ranges
-  segments_free =
-      let ranges = (none_of_both (covers h a 4) (flat_map (open_on h k) (driver_rings h)) (open_ranges h k) free).1 in
-      let four = (none_of_both (covers h a 4) (segment_ranges h ++ table_range h (k.register Erstba) ++ context_ranges h k ++ entry_ranges k) (device_ranges h k) ranges).0 in
-      let three = (none_of_both (covers h a 4) (segment_ranges h ++ table_range h (k.register Erstba) ++ context_ranges h k) (entry_ranges k) four).0 in
-      let two = (none_of_both (covers h a 4) (segment_ranges h ++ table_range h (k.register Erstba)) (context_ranges h k) three).0 in
-      (none_of_both (covers h a 4) (segment_ranges h) (table_range h (k.register Erstba)) two).0
+  unfolding is_the_controllers
+  segments_free = (none_of_both (covers h a 4) (segment_ranges h) (device_ranges h k) (not_the_controllers h k a x clean)).0
 
   not_event : touches_events h a ≡ false
   unfolding segment_ranges covers lease_start lease_bytes
   not_event = sym (any_of_map (covers h a 4) _ (event_shape h).segments) ∙ segments_free
+
+  -- a word of the input context of an unfinished command is written as it stands in the world
+  in_context_same : (p n i : ℕ) (c : Command) → IsUnfinished h k p c → named_context c ≡ Some n → i < input_context_bytes h.context_size / 4 → n + 4 * i ≡ a → w.memory a ≡ x
+  in_context_same p n i c u named low here =
+      elim (free_or_same h k a x clean) [
+        | inl free ↦
+            let apart = context_free h k a 4 (word_free h k a free) p n c u named in
+            absurd (word_elsewhere a n (input_context_bytes h.context_size) (n + 4 * i) apart (omega arith) (omega arith) here)
+        | inr same ↦
+            let clean_there : k.soiled a ≡ false = ap k.soiled (sym here) ∙ clean_word k n (input_context_bytes h.context_size) i (context_lies h k d p n c u named).clean low in
+            g.stands.quiet a clean_there not_event ∙ same
+      ]
 
   event_apart : (e : EventRing h) (p j : ℕ) → j < 16 → address_of (event_shape h) p + j ≢ a
   event_apart e p j low same =
@@ -187,7 +181,7 @@ module _ (h : Header) (is : IsHeader h) (k : Known) (unread : List Block) (w : W
   contexts p c u =
       elim (was_or_now p c u) [
         | inl was ↦
-            unchanged_stored h w a x (address_of (shape_of h (command_id h)) p) (named_context c) late (λ n i named low. in_no_context p n i c was named low) (g.matches.contexts p c was)
+            unchanged_stored h w a x (address_of (shape_of h (command_id h)) p) (named_context c) late (λ n i named low. in_context_same p n i c was named low) (g.matches.contexts p c was)
         | inr now ↦ given_now (address_of (shape_of h (command_id h)) p) (named_context c) now
       ]
 

@@ -1,5 +1,5 @@
 -- A word that the controller writes: what stands in the world and what the controller did stay
-use Rattle.std.proofs.Common.{◌≡◌, ◌≢◌, ◌+◌, ◌*◌, ◌/◌, ◌<◌, ◌≤◌, ◌==◌, ◌⊎◌, ◌∙◌, ℕ, true, Option, Some, None, arith, refl, sym, ap, inl, inr}
+use Rattle.std.proofs.Common.{◌≡◌, ◌≢◌, ◌+◌, ◌*◌, ◌/◌, ◌<◌, ◌≤◌, ◌==◌, ◌⊎◌, ◌∙◌, ℕ, true, Option, Some, None, arith, refl, sym, ap, inl, inr, eq-eqb}
 use Rattle.safety.proofs.Words.{cases_Bool, cases_eq, false≢true, cond-true, cond-false, put, put_here, put_elsewhere, Command, named_context, input_context_bytes, Header, shape_of, command_id, address_of, World, stored, Known, IsUnfinished, Stands, touches_events, IsUnchanged, Matches}
 
 -- within a step a stamp is at most that of the step
@@ -30,13 +30,13 @@ module _ (h : Header) where
         ]
       ]
 
-  -- a word other than the one written keeps its stamp
-  changed_elsewhere : (w : World) (a x b : ℕ) → b ≢ a → (stored w a x).changed b ≡ w.changed b
+  -- a word other than the one written keeps its stamp, and so does that one where it is written as it stands
+  changed_kept : (w : World) (a x b : ℕ) → (b ≡ a → w.memory a ≡ x) → (stored w a x).changed b ≡ w.changed b
   unfolding stored
-  changed_elsewhere w a x b other =
+  changed_kept w a x b stands =
       elim (cases_Bool (w.memory a == x)) [
         | inl same ↦ ap (λ f. f b) (cond-true (w.memory a == x) w.changed (put w.changed a (w.steps + 1)) same)
-        | inr new ↦ ap (λ f. f b) (cond-false (w.memory a == x) w.changed (put w.changed a (w.steps + 1)) new) ∙ put_elsewhere w.changed a (w.steps + 1) b other
+        | inr new ↦ ap (λ f. f b) (cond-false (w.memory a == x) w.changed (put w.changed a (w.steps + 1)) new) ∙ put_elsewhere w.changed a (w.steps + 1) b (λ here. false≢true (sym new ∙ eq-eqb (w.memory a) x (stands here)))
       ]
 
   -- a write is stamped, and no other write's stamp changes
@@ -48,11 +48,11 @@ module _ (h : Header) where
         | inr other ↦ omega (arith, put_elsewhere w.written a (w.steps + 1) b other)
       ]
 
-  pub unchanged_stored : (w : World) (a x at : ℕ) (o : Option ℕ) → Late w → ((n i : ℕ) → o ≡ Some n → i < input_context_bytes h.context_size / 4 → n + 4 * i ≢ a) →
+  pub unchanged_stored : (w : World) (a x at : ℕ) (o : Option ℕ) → Late w → ((n i : ℕ) → o ≡ Some n → i < input_context_bytes h.context_size / 4 → n + 4 * i ≡ a → w.memory a ≡ x) →
       IsUnchanged h w at o → IsUnchanged h (stored w a x) at o
-  unchanged_stored w a x at None late apart same = tt
-  unchanged_stored w a x at (Some n) late apart same = λ i l.
-      let kept = changed_elsewhere w a x (n + 4 * i) (apart n i refl l) in
+  unchanged_stored w a x at None late stands same = tt
+  unchanged_stored w a x at (Some n) late stands same = λ i l.
+      let kept = changed_kept w a x (n + 4 * i) (stands n i refl l) in
       let high = written_later w a x (at + 12) (w.changed (n + 4 * i)) (same i l) (late (n + 4 * i)) in
       omega arith
 
@@ -67,7 +67,7 @@ module _ (h : Header) where
     before = λ off. let b = m.before off in record { inactive = b.inactive; no_events = b.no_events; none = b.none };
     command = λ on. let c = m.command on in record { spot = c.spot; ring = c.ring; under_way = c.under_way };
     scribbles = m.scribbles;
-    contexts = λ p c u. unchanged_stored w a x (address_of (shape_of h (command_id h)) p) (named_context c) late (λ n i is l. apart p n i c u is l) (m.contexts p c u);
+    contexts = λ p c u. unchanged_stored w a x (address_of (shape_of h (command_id h)) p) (named_context c) late (λ n i is l here. absurd (apart p n i c u is l here)) (m.contexts p c u);
     inside = m.inside;
   }
 

@@ -32,11 +32,11 @@ unfoldable pub use Rattle.ownership_rules.specs.Events.{can_finish, can_report, 
 pub use Rattle.ownership_rules.specs.Moves.{Binding}
 unfoldable pub use Rattle.ownership_rules.specs.Moves.{binding_in, binds, binds_ring, has_repeats, is_among, is_bad_binding, is_bad_dequeue, is_bad_move, is_bad_stay, is_being_moved, is_unused_ring, is_used, moves_ring, ring_bound}
 pub use Rattle.ownership_rules.specs.OpenLeases.{DeviceContext, InputContext, Leased, Range, SegmentTable, SlotEntry, Use}
-unfoldable pub use Rattle.ownership_rules.specs.OpenLeases.{context_ranges, covers, device_ranges, entry_ranges, is_leased, lease_bytes, lease_start, open_leases, open_on, open_ranges, range_of_command, range_of_context, range_of_device, range_of_entry, segment_ranges, slots, table_range}
+unfoldable pub use Rattle.ownership_rules.specs.OpenLeases.{context_ranges, covers, device_ranges, entry_ranges, is_leased, is_the_controllers, lease_bytes, lease_start, open_leases, open_on, open_ranges, range_of_command, range_of_context, range_of_device, range_of_entry, segment_ranges, slots, table_range}
 pub use Rattle.ownership_rules.specs.Refusal.{Test, broken_of}
 unfoldable pub use Rattle.ownership_rules.specs.Registers.{is_bad_crcr, is_bad_erdp, is_bad_register, is_bad_size, is_wrong_start, names_no_place, is_early_start, is_late_reset, is_no_first_block, is_unwritten, is_written, may_pass, register_tests}
 unfoldable pub use Rattle.ownership_rules.specs.Rules.{lenient, lenient_tests}
-unfoldable pub use Rattle.ownership_rules.specs.Writes.{holds_of, on_crossing, on_position, some_command, some_crossed, some_given, write_tests}
+unfoldable pub use Rattle.ownership_rules.specs.Writes.{changes_owned, holds_of, on_crossing, on_position, some_command, some_crossed, some_given, write_tests}
 pub use Rattle.ownership_rules.specs.declared.refusal.Refusal.{Refusal}
 pub use Rattle.ownership_rules.specs.declared.refusal.Refusal.TheVariants.{AfterStop, BadDescriptor, BadDoorbell, BadErdp, BadRegister, ImpossibleEvent, NotDeclared, NotInProfile, RingFull}
 unfoldable pub use Rattle.ring_knowledge.specs.Completions.{bound_to, changed_by, changed_by_all, completed, disabled, finished, held_at_ceiling, in_state, moved, moved_to, pointed, set_to, stop_ended, succeeded}

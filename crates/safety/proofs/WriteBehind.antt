@@ -1,24 +1,25 @@
 -- Behind an event that may be read a write gives the same command as before it, and breaks no rule that speaks of no command
-use Rattle.std.proofs.Common.{◌≡◌, ◌+◌, ◌<◌, ◌&&◌, ◌∷◌, ◌++◌, ◌∙◌, ℕ, not, Bool, true, false, List, [], length, map, slice_get, nat_le, None, option_and_then, arith, refl, sym, ap, subst, inl, inr}
-use Rattle.safety.proofs.Words.{list_any, range_with_len, fun_ext, not-true, cases_Bool, cond-false, false≢true, false_from_ne_true, and_parts, and_from, or_parts, or_from, put, Block, block_at, Shape, place_count, address_of, cycle_of, RingView, floor_number, gives, gives_crossing, due_positions, due_crossings, positions_given, crossings_given, MayWrite, length_from, is_declared_as, is_other_than_declared, is_not_declared, descriptor_length, is_not_whole, leads_wrong, interrupts, gives_is, gives_crossing_is, positions_given-one, whole_more, Command, Header, Write, Read, IsHeader, shape_of, command_id, driver_rings, Known, Given, Position, Crossing, given_of, given_by, command_at, command_given, learned, Test, broken_of, AfterStop, lenient_tests, lenient, on_position, on_crossing, holds_of, some_given, some_crossed, some_command, write_tests, is_leased, is_being_moved, IsIn, some_of, any_of, in_filter, from_filter, DriverKeeps}
+use Rattle.std.proofs.Common.{◌≡◌, ◌+◌, ◌<◌, ◌&&◌, ◌∷◌, ◌++◌, ◌∙◌, ℕ, not, Bool, true, false, List, [], length, map, slice_get, nat_le, None, option_and_then, arith, refl, sym, ap, subst, inl, inr, ◌||◌, ◌==◌, eq-eqb}
+use Rattle.safety.proofs.Words.{list_any, range_with_len, fun_ext, not-true, cases_Bool, cond-false, false≢true, false_from_ne_true, and_parts, and_from, or_parts, or_from, put, Block, block_at, Shape, place_count, address_of, cycle_of, RingView, floor_number, gives, gives_crossing, due_positions, due_crossings, positions_given, crossings_given, length_from, is_declared_as, is_other_than_declared, is_not_declared, descriptor_length, is_not_whole, leads_wrong, interrupts, gives_is, gives_crossing_is, positions_given-one, whole_more, Command, Header, Write, Read, IsHeader, shape_of, command_id, driver_rings, Known, Given, Position, Crossing, given_of, given_by, command_at, command_given, learned, Test, broken_of, AfterStop, lenient_tests, lenient, on_position, on_crossing, holds_of, some_given, some_crossed, some_command, write_tests, is_leased, is_being_moved, IsIn, some_of, any_of, in_filter, from_filter, DriverKeeps, and_left, and_right, is_the_controllers, changes_owned}
 use Rattle.safety.proofs.TestsPassed.{AllFail, clean_tests, tests_fail}
-use Rattle.safety.proofs.Writing.{may_write}
+use Rattle.safety.proofs.KeptWords.{KeepsCycles}
+use Rattle.safety.proofs.Writing.{free_or_same, keeps_cycles, not_the_controllers}
 use Rattle.safety.proofs.UnfinishedLists.{in_range}
 use Rattle.safety.proofs.HeldFurther.{command_same}
 use Rattle.safety.proofs.GivingBeneath.{RingBehind, gives_behind, gives_before, crosses_before}
-use Rattle.safety.proofs.LeasesBehind.{Behind, both_fewer, flat_fewer, map_fewer, still_free}
+use Rattle.safety.proofs.LeasesBehind.{Behind, both_fewer, flat_fewer, map_fewer, not_the_controllers_behind, still_free}
 use Rattle.safety.proofs.EventBehind.{event_behind}
 use Rattle.safety.proofs.UnfinishedBehind.{moved_before}
 
 -- ---- one ring
 
-module _ (shape : Shape) (memory : ℕ → ℕ) (v u : RingView) (b : RingBehind shape memory v u) (a x : ℕ) (may : MayWrite shape memory v a x) where
+module _ (shape : Shape) (memory : ℕ → ℕ) (v u : RingView) (b : RingBehind shape memory v u) (a x : ℕ) (keeps : KeepsCycles shape v a x) where
   position_was : (p : ℕ) → IsIn p (positions_given shape u a x) → IsIn p (positions_given shape v a x)
   unfolding positions_given due_positions
   position_was p at =
       let found = from_filter (λ p. not (u.given p) && gives shape u.floor p a x) (range_with_len (floor_number u) (place_count shape)) p at in
       let parts = and_parts (not (u.given p)) (gives shape u.floor p a x) found.1 in
-      let gives_then : gives shape v.floor p a x ≡ true = gives_before shape memory v u b a x may p parts.1 in
+      let gives_then : gives shape v.floor p a x ≡ true = gives_before shape memory v u b a x keeps p parts.1 in
       let g = gives_is shape v.floor p a x gives_then in
       in_filter (λ p. not (v.given p) && gives shape v.floor p a x) (range_with_len (floor_number v) (place_count shape)) p
       (in_range (floor_number v) (place_count shape) p g.from g.within)
@@ -29,7 +30,7 @@ module _ (shape : Shape) (memory : ℕ → ℕ) (v u : RingView) (b : RingBehind
   crossing_was q at =
       let found = from_filter (λ q. not (u.crossed q) && gives_crossing shape u.floor q a x) (range_with_len (floor_number u) (place_count shape + 1)) q at in
       let parts = and_parts (not (u.crossed q)) (gives_crossing shape u.floor q a x) found.1 in
-      let gives_then : gives_crossing shape v.floor q a x ≡ true = crosses_before shape memory v u b a x may q parts.1 in
+      let gives_then : gives_crossing shape v.floor q a x ≡ true = crosses_before shape memory v u b a x keeps q parts.1 in
       let g = gives_crossing_is shape v.floor q a x gives_then in
       let below : q < floor_number v + (place_count shape + 1) = elim g.due.within [ inl near ↦ omega arith | inr first ↦ omega arith ] in
       in_filter (λ q. not (v.crossed q) && gives_crossing shape v.floor q a x) (range_with_len (floor_number v) (place_count shape + 1)) q
@@ -108,7 +109,7 @@ module _ (h : Header) (is : IsHeader h) (k : Known) (d : DriverKeeps h k) (a w :
       (λ r there here. elim (b.rings r.id) [
         | inl same ↦ subst (λ (v : RingView). IsIn g (map (Position r.id) (positions_given (shape_of h r.id) v a w) ++ map (Crossing r.id) (crossings_given (shape_of h r.id) v a w))) same here
         | inr on ↦
-            let writes = may_write h k a w clean r.id on.0 in
+            let writes = keeps_cycles h is k a w clean r.id on.0 on.1.before in
             both_fewer g (map (Position r.id) (positions_given (shape_of h r.id) (l.ring r.id) a w)) (map (Crossing r.id) (crossings_given (shape_of h r.id) (l.ring r.id) a w))
             (map (Position r.id) (positions_given (shape_of h r.id) (k.ring r.id) a w)) (map (Crossing r.id) (crossings_given (shape_of h r.id) (k.ring r.id) a w))
             (map_fewer (Position r.id) (positions_given (shape_of h r.id) (l.ring r.id) a w) (positions_given (shape_of h r.id) (k.ring r.id) a w) g
@@ -158,7 +159,7 @@ module _ (h : Header) (is : IsHeader h) (k : Known) (d : DriverKeeps h k) (a w :
 
   -- the rules that speak of no command
   pub record RingRules (m : Known) : Type 0 where
-    pub free : is_leased h m a ≡ false
+    pub unowned : changes_owned h m a w ≡ false
     pub declared_as : some_given h m a w (λ r p. is_other_than_declared (shape_of h r) (m.ring r) m.memory a w p) ≡ false
     pub declared : some_given h m a w (λ r p. is_not_declared (m.ring r) p) ≡ false
     pub whole : some_given h m a w (λ r p. is_not_whole (shape_of h r) (m.ring r) p) ≡ false
@@ -170,6 +171,18 @@ module _ (h : Header) (is : IsHeader h) (k : Known) (d : DriverKeeps h k) (a w :
   unfolding lenient_tests
   fails = tests_fail h k (Write a w) clean
 
+  still_same : (is_leased h l a && not (l.memory a == w)) ≡ false
+  still_same =
+      elim (free_or_same h k a w clean) [
+        | inl free ↦ and_left (is_leased h l a) (not (l.memory a == w)) (still_free h is k l b a free)
+        | inr same ↦ and_right (is_leased h l a) (not (l.memory a == w)) (ap not (eq-eqb (l.memory a) w (ap (λ m. m a) memory_same ∙ same)))
+      ]
+
+  still_unowned : changes_owned h l a w ≡ false
+  unfolding changes_owned
+  still_unowned =
+      or_from (is_the_controllers h l a) (is_leased h l a && not (l.memory a == w)) (not_the_controllers_behind h is k l b a (not_the_controllers h k a w clean)) still_same
+
   pub rules_behind : RingRules l
   unfolding write_tests
   rules_behind =
@@ -177,7 +190,7 @@ module _ (h : Header) (is : IsHeader h) (k : Known) (d : DriverKeeps h k) (a w :
       let busy = or_parts _ _ all.1.1.1.1.1.1.0 in
       let profile = or_parts _ _ all.1.1.1.1.1.1.1.0 in
       record {
-        free = still_free h is k l b a all.0;
+        unowned = still_unowned;
         declared_as = given_none _ _ other_was all.1.0;
         declared = given_none _ _ undeclared_was all.1.1.0;
         whole = given_none _ _ partial_was all.1.1.1.0;
@@ -196,7 +209,7 @@ module _ (h : Header) (is : IsHeader h) (k : Known) (d : DriverKeeps h k) (a w :
       elim (b.rings (command_id h)) [
         | inl same ↦ ap (λ (v : RingView). positions_given (shape_of h (command_id h)) v a w) same
         | inr on ↦
-            positions_same (shape_of h (command_id h)) k.memory (k.ring (command_id h)) (l.ring (command_id h)) on.1 a w (may_write h k a w clean (command_id h) on.0)
+            positions_same (shape_of h (command_id h)) k.memory (k.ring (command_id h)) (l.ring (command_id h)) on.1 a w (keeps_cycles h is k a w clean (command_id h) on.0 on.1.before)
       ]
 
   pub command_behind : command_given h l a w ≡ command_given h k a w
@@ -219,7 +232,7 @@ module _ (h : Header) (is : IsHeader h) (k : Known) (d : DriverKeeps h k) (a w :
         let stopped : l.stopped ≡ false = b.driver.stopped ∙ (clean_tests h k (Write a w) clean).0 in
         cond-false l.stopped (AfterStop ∷ []) (broken_of (write_tests h l a w)) stopped
         ∙ broken_none (write_tests h l a w) (
-          rules.free,
+          rules.unowned,
           (
             rules.declared_as,
             (

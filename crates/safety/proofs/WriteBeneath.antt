@@ -2,7 +2,7 @@
 use Rattle.std.proofs.Common.{◌≡◌, ◌==◌, ◌&&◌, ◌∙◌, ℕ, not, Bool, [], None, refl, sym, ap, subst, inl, inr}
 use Rattle.safety.proofs.Words.{fun_ext, put, Block, RingView, Writes, changed, Header, Write, Read, IsHeader, shape_of, Known, with_word, command_given, learned, lenient, DriverKeeps, HeldMore, Square}
 use Rattle.safety.proofs.CleanRows.{event_facts}
-use Rattle.safety.proofs.Writing.{may_write}
+use Rattle.safety.proofs.Writing.{keeps_cycles}
 use Rattle.safety.proofs.SameDriver.{SameGiven, SameDriver, both_drivers}
 use Rattle.safety.proofs.AlikeEvents.{ReadAlike}
 use Rattle.safety.proofs.HeldFurther.{EverySlot, SameStates, states_from, held_more, counted, read_same}
@@ -39,7 +39,7 @@ module _ (h : Header) (is : IsHeader h) (k : Known) (d : DriverKeeps h k) (a w :
         | inl same ↦ subst (λ (v : RingView). SameGiven (changed (shape_of h r) v (Writes a w)) (changed (shape_of h r) (k.ring r) (Writes a w))) (sym same)
             (record { queue = refl; lengths = refl; given = refl; crossed = refl })
         | inr on ↦
-            let writes = may_write h k a w clean r on.0 in
+            let writes = keeps_cycles h is k a w clean r on.0 on.1.before in
             record {
               queue = sym (b.driver.rings r).queue;
               lengths = sym (b.driver.rings r).lengths;

@@ -1,8 +1,9 @@
 -- A write leaves what unfinished commands read of contexts and device contexts
 use Rattle.std.proofs.Common.{◌≡◌, ◌≢◌, ◌+◌, ◌*◌, ◌/◌, ◌<◌, ◌≤◌, ◌==◌, ◌&&◌, ◌∙◌, ℕ, not, Bool, true, false, [], nat_le, nat_lt, Option, None, Some, option_and_then, arith, refl, sym, ap, inl, inr, lt-ltb, le-leb}
-use Rattle.safety.proofs.Words.{or_parts, or_from, and_left, and_from, false≢true, none-some, same_Some, is_in, is_inside, overlap, cases_option, address_inside, gives_is, put_elsewhere, Command, AddressDevice, named_context, is_disabled, is_off, device_context_bytes, input_context_bytes, Header, Write, IsHeader, shape_of, command_id, Known, learned, no_device, taken_device, device_named, command_given, is_bad_area, is_soiled, lenient_tests, lenient, write_tests, is_leased, IsUnfinished, CommandKeeps, DriverKeeps}
+use Rattle.safety.proofs.Words.{or_parts, or_from, and_left, and_from, false≢true, none-some, same_Some, is_in, is_inside, overlap, cases_option, address_inside, gives_is, put_elsewhere, Command, AddressDevice, named_context, is_disabled, is_off, device_context_bytes, input_context_bytes, Header, Write, IsHeader, shape_of, command_id, Known, learned, no_device, taken_device, device_named, command_given, is_bad_area, is_soiled, lenient, IsUnfinished, CommandKeeps, DriverKeeps, is_leased}
 use Rattle.ownership_rules.specs.Commands as commands
-use Rattle.safety.proofs.TestsPassed.{AllFail, tests_fail}
+use Rattle.safety.proofs.KeptWords.{put_same}
+use Rattle.safety.proofs.Writing.{free_or_same}
 use Rattle.safety.proofs.Headers.{ring_shape}
 use Rattle.safety.proofs.Areas.{clean_word}
 use Rattle.safety.proofs.AreaFacts.{AreaParts, area_parts, area_from, not_in_other, overlap_turned, word_elsewhere, is_soiled_from, device_apart, devices_apart, context_free, lease_free, word_free}
@@ -34,21 +35,23 @@ module _ (h : Header) (is : IsHeader h) (k : Known) (d : DriverKeeps h k) (a w :
   abbrev l : Known
   l = learned h k (Write a w)
 
-  pub is_free : is_leased h k a ≡ false
-  unfolding lenient_tests write_tests
-  is_free = let fails : AllFail (write_tests h k a w) = tests_fail h k (Write a w) clean in fails.0
+  -- a range under lease has the word as it was
+  pub word_stays : (b len : ℕ) → (is_leased h k a ≡ false → overlap a 4 b len ≡ false) → (x : ℕ) → b ≤ x → x < b + len → l.memory x ≡ k.memory x
+  word_stays b len apart x low high =
+      ap (λ f. f x) (written_memory h k a w)
+      ∙ elim (free_or_same h k a w clean) [
+        | inl free ↦ put_elsewhere k.memory a w x (word_elsewhere a b len x (apart free) low high)
+        | inr same ↦ ap (λ f. f x) (put_same k.memory a w same)
+      ]
 
   -- a device context that is taken
   pub rules_of : (e : ℕ × ℕ) (at : taken h k a w ≡ Some e) → DeviceRules h k e.0 e.1 (taking h k a w e clean at).takes.context
   rules_of e at = taken_rules h k d a w e.0 e.1 (taking h k a w e clean at)
 
-  -- ---- an input context apart from the word that is written and from the device context that is taken
+  -- ---- an input context whose words stay, apart from the device context that is taken
 
-  module _ (n : ℕ) (good : commands.has_bad_context h k (Some n) ≡ false) (word : (x : ℕ) → n ≤ x → x < n + input_context_bytes h.context_size → x ≢ a)
+  module _ (n : ℕ) (good : commands.has_bad_context h k (Some n) ≡ false) (agree : AgreeIn h.context_size k.memory l.memory n)
       (apart : (e : ℕ × ℕ) → taken h k a w ≡ Some e → overlap e.1 (device_context_bytes h.context_size) n (input_context_bytes h.context_size) ≡ false) where
-    agree : AgreeIn h.context_size k.memory l.memory n
-    agree x low high = ap (λ f. f x) (written_memory h k a w) ∙ put_elsewhere k.memory a w x (word x low high)
-
     parts : ContextParts h k n
     parts = context_parts h k n good
 
@@ -118,15 +121,15 @@ module _ (h : Header) (is : IsHeader h) (k : Known) (d : DriverKeeps h k) (a w :
 
   -- ---- commands
 
-  beside_with : (c : Command) → ((n : ℕ) → named_context c ≡ Some n → (x : ℕ) → n ≤ x → x < n + input_context_bytes h.context_size → x ≢ a) →
+  beside_with : (c : Command) → ((n : ℕ) → named_context c ≡ Some n → AgreeIn h.context_size k.memory l.memory n) →
       ((n : ℕ) → named_context c ≡ Some n → (e : ℕ × ℕ) → taken h k a w ≡ Some e → overlap e.1 (device_context_bytes h.context_size) n (input_context_bytes h.context_size) ≡ false) →
       commands.is_bad_command h k c ≡ false → ((s n : ℕ) (bsr : Bool) → c ≡ AddressDevice s bsr n → l.device s ≢ None) → Beside h k l c
-  beside_with c word apart good device =
+  beside_with c agree apart good device =
       let leaves = write_leaves h k a w in
       let of : (n : ℕ) → named_context c ≡ Some n → commands.has_bad_context h k (Some n) ≡ false = λ n at. ap (λ o. commands.has_bad_context h k o) (sym at) ∙ context_good h k c good in
       record {
-        memory = λ n at. agree n (of n at) (word n at) (apart n at);
-        context = λ n at. still_good n (of n at) (word n at) (apart n at);
+        memory = agree;
+        context = λ n at. still_good n (of n at) (agree n at) (apart n at);
         slot = λ s at on. ap (λ f. is_disabled (f s)) leaves.slots.slot_state ∙ on;
         off = λ s i at. ap (λ f. is_off (f s i)) leaves.endpoint_state;
         device = device;
@@ -136,7 +139,7 @@ module _ (h : Header) (is : IsHeader h) (k : Known) (d : DriverKeeps h k) (a w :
   beside_old p c u =
       let keeps : CommandKeeps h k p c = d.unfinished p c u in
       beside_with c
-      (λ n at x low high. word_elsewhere a n (input_context_bytes h.context_size) x (context_free h k a 4 (word_free h k a is_free) p n c u at) low high)
+      (λ n at. word_stays n (input_context_bytes h.context_size) (λ free. context_free h k a 4 (word_free h k a free) p n c u at))
       (λ n at e some.
       context_free h k e.1 (device_context_bytes h.context_size) (lease_free h k e.1 (device_context_bytes h.context_size) (rules_of e some).free) p n c u at)
       keeps.good (λ s n bsr at. device_stays s (keeps.device s n bsr at))
@@ -163,4 +166,4 @@ module _ (h : Header) (is : IsHeader h) (k : Known) (d : DriverKeeps h k) (a w :
 
   pub beside_new : (p : ℕ) (c : Command) → GivesCommand h k a w p c → commands.is_bad_command h k c ≡ false → Beside h k l c
   beside_new p c g good =
-      beside_with c (given_word p c g good) (given_apart p c g) good (λ s n bsr at. device_now s n bsr (g.command ∙ ap (λ x. Some x) at))
+      beside_with c (λ n at x low high. ap (λ f. f x) (written_memory h k a w) ∙ put_elsewhere k.memory a w x (given_word p c g good n at x low high)) (given_apart p c g) good (λ s n bsr at. device_now s n bsr (g.command ∙ ap (λ x. Some x) at))

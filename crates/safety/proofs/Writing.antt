@@ -1,10 +1,11 @@
 -- A write that breaks no rule is one that each ring allows
-use Rattle.std.proofs.Common.{◌≡◌, ◌++◌, ◌∙◌, ℕ, Bool, false, List, [], map, All, sym, ap, subst}
-use Rattle.safety.proofs.Words.{list_any, flat_map, or_parts, list_any-append, address_of, link_address, overlap, positions_given, crossings_given, leased_positions, leased_crossings, is_other_than_declared, is_not_declared, is_not_whole, leads_wrong, MayWrite, Header, Write, shape_of, driver_rings, Known, Given, Position, Crossing, given_of, given_by, covers, lease_start, lease_bytes, open_on, open_ranges, open_leases, is_leased, on_position, on_crossing, some_given, some_crossed, write_tests, lenient_tests, lenient}
+use Rattle.std.proofs.Common.{◌≡◌, ◌++◌, ◌∙◌, ℕ, Bool, false, List, [], map, All, sym, ap, subst, ◌&&◌, ◌||◌, ◌==◌, ◌⊎◌, not, inl, inr, eqb-true}
+use Rattle.safety.proofs.Words.{list_any, flat_map, or_parts, list_any-append, address_of, link_address, overlap, positions_given, crossings_given, leased_positions, leased_crossings, is_other_than_declared, is_not_declared, is_not_whole, leads_wrong, MayWrite, Header, Write, shape_of, driver_rings, Known, Given, Position, Crossing, given_of, given_by, covers, lease_start, lease_bytes, open_on, open_ranges, open_leases, is_leased, on_position, on_crossing, some_given, some_crossed, write_tests, lenient_tests, lenient, and_cases, not-false, is_the_controllers, changes_owned, IsHeader, RingKeeps}
 use Rattle.ownership_rules.specs.OpenLeases.{Block, Link}
 use Rattle.safety.specs.RingsKeep.{IsDriverRing}
 use Rattle.safety.proofs.TestsPassed.{AllFail, tests_fail, each_fails, any_of_map}
-use Rattle.safety.proofs.RingsOfHeader.{HasRing, has_ring, none_of_ring}
+use Rattle.safety.proofs.RingsOfHeader.{HasRing, has_ring, none_of_ring, shape_allowed}
+use Rattle.safety.proofs.KeptWords.{KeepsCycles, free_keeps_cycles, same_keeps_cycles}
 
 none_of_both : {X : Type 0} (test : X → Bool) (xs ys : List X) → list_any test (xs ++ ys) ≡ false → (list_any test xs ≡ false) × (list_any test ys ≡ false)
 none_of_both test xs ys none = or_parts (list_any test xs) (list_any test ys) (sym (list_any-append test xs ys) ∙ none)
@@ -63,17 +64,45 @@ module _ (h : Header) (k : Known) (a w r : ℕ) (has : HasRing h r) where
       ∙ (none_of_both (on_crossing test) (map (Position r) (positions_given (shape_of h r) (k.ring r) a w)) (map (Crossing r) (crossings_given (shape_of h r) (k.ring r) a w))
       (of_ring (on_crossing test) none)).1)
 
+module _ (h : Header) (k : Known) (a w : ℕ) (clean : lenient h k (Write a w) ≡ []) where
+  not_owned : changes_owned h k a w ≡ false
+  unfolding lenient_tests write_tests
+  not_owned = let fails : AllFail (write_tests h k a w) = tests_fail h k (Write a w) clean in fails.0
+
+  -- the word isn't one that the controller alone writes
+  pub not_the_controllers : is_the_controllers h k a ≡ false
+  unfolding changes_owned
+  not_the_controllers = (or_parts (is_the_controllers h k a) _ not_owned).0
+
+  -- it isn't under lease, or is written as it stands
+  pub free_or_same : (is_leased h k a ≡ false) ⊎ (k.memory a ≡ w)
+  unfolding changes_owned
+  free_or_same =
+      elim (and_cases (is_leased h k a) (not (k.memory a == w)) (or_parts (is_the_controllers h k a) (is_leased h k a && not (k.memory a == w)) not_owned).1) [
+        | inl free ↦ inl free
+        | inr same ↦ inr (eqb-true (k.memory a) w (not-false (k.memory a == w) same))
+      ]
+
 -- of each command and transfer ring
-pub may_write : (h : Header) (k : Known) (a w : ℕ) → lenient h k (Write a w) ≡ [] → (r : ℕ) → IsDriverRing h r → MayWrite (shape_of h r) k.memory (k.ring r) a w
+pub may_write : (h : Header) (k : Known) (a w : ℕ) → lenient h k (Write a w) ≡ [] → is_leased h k a ≡ false → (r : ℕ) → IsDriverRing h r → MayWrite (shape_of h r) k.memory (k.ring r) a w
 unfolding lenient_tests write_tests
-may_write h k a w clean r driver =
+may_write h k a w clean free r driver =
     let has = has_ring h r driver in
     let fails : AllFail (write_tests h k a w) = tests_fail h k (Write a w) clean in
     record {
-      blocks = blocks_free h k a w r has fails.0;
-      links = links_free h k a w r has fails.0;
+      blocks = blocks_free h k a w r has free;
+      links = links_free h k a w r has free;
       as_declared = none_given h k a w r has (λ r p. is_other_than_declared (shape_of h r) (k.ring r) k.memory a w p) fails.1.0;
       declared = none_given h k a w r has (λ r p. is_not_declared (k.ring r) p) fails.1.1.0;
       whole = none_given h k a w r has (λ r p. is_not_whole (shape_of h r) (k.ring r) p) fails.1.1.1.0;
       leads = none_crossed h k a w r has (λ r q. leads_wrong (shape_of h r) k.memory a w q) fails.1.1.1.1.0;
     }
+
+-- each given block and Link keeps the Cycle bit that it shows
+pub keeps_cycles : (h : Header) → IsHeader h → (k : Known) (a w : ℕ) → lenient h k (Write a w) ≡ [] → (r : ℕ) → IsDriverRing h r → RingKeeps (shape_of h r) k.memory (k.ring r) →
+    KeepsCycles (shape_of h r) (k.ring r) a w
+keeps_cycles h is k a w clean r driver keeps =
+    elim (free_or_same h k a w clean) [
+      | inl free ↦ free_keeps_cycles (shape_of h r) k.memory (k.ring r) a w (may_write h k a w clean free r driver)
+      | inr same ↦ same_keeps_cycles (shape_of h r) k.memory (k.ring r) keeps a w same (shape_allowed h is r driver)
+    ]

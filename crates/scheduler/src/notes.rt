@@ -37,7 +37,7 @@ pub fn notes_of<M: WordMemory + Drop>(
     for row in rows {
         let placed = note_row(alloc, header, finder, &kept, &memory, row, &mut list)?;
         let place = kept.place(header, finder, row);
-        let owned = kept.owns(row, place);
+        let owned = kept.owns(header, &memory, row, place);
         match check_row(header, finder, &mut kept, &mut memory, row, place, owned) {
             Ok(()) => {}
             Err(StepFault::Memory) => return Err(AllocError),

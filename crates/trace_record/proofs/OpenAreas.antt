@@ -1,7 +1,10 @@
 -- The contexts under lease, by the addresses at which they start
-use Rattle.trace_record.proofs.Words.{◌≡◌, ◌∷◌, ◌++◌, ◌∙◌, ◌||◌, ℕ, List, [], Bool, true, false, Option, Some, None, refl, ap, sym, list_any, filter_map, flat_map, cons_option, overlap, Command, named_context, device_context_bytes, input_context_bytes, Header, Erstba, driver_rings, Known, or_false, any_append, any_flat_map, inputs_of, device_contexts, rings_have, table_has, entries_have}
+use Rattle.trace_record.proofs.Words.{◌≡◌, ◌∷◌, ◌++◌, ◌∙◌, ◌||◌, ℕ, List, [], Bool, true, false, Option, Some, None, refl, ap, sym, list_any, filter_map, flat_map, cons_option, overlap, Command, named_context, device_context_bytes, input_context_bytes, Header, Erstba, driver_rings, Known, or_false, any_append, any_flat_map, inputs_of, device_contexts, rings_have, table_has, entries_have, ◌&&◌, ◌==◌, not, Shape, touches, event_shape, event_ring, shape_or, any_map, Evt}
 use Rattle.ring_knowledge.specs.Rings as rings
 use Rattle.ownership_rules.specs.OpenLeases as leases
+use Rattle.ownership_rules.specs.Older.{older, stricter, writes_to_owned}
+use Rattle.ownership_rules.specs.Writes.{changes_owned}
+use Rattle.traces.specs.Versions.{is_three}
 
 or_groups : (d s t c e v : Bool) → (d || ((((s || t) || c) || e) || v)) ≡ (((((d || s) || t) || c) || e) || v)
 or_groups true s t c e v = refl
@@ -82,3 +85,64 @@ module _ (h : Header) (k : Known) (a : ℕ) where
       ∙ or_groups on_rings (Has (leases.segment_ranges h)) (table_has h k a) (Has (leases.context_ranges h k)) (entries_have h k a) (Has (leases.device_ranges h k))
       ∙ ap (λ b. (((rings_have h k a || table_has h k a) || b) || entries_have h k a) || Has (leases.device_ranges h k)) (sym inputs_are)
       ∙ ap (λ b. (((rings_have h k a || table_has h k a) || list_any in_input (inputs_of (rings.unfinished h k))) || entries_have h k a) || b) (sym devices_are)
+
+  -- ---- the words that only the controller may write
+
+  segments_are : touches (event_shape h) a 4 ≡ Has (leases.segment_ranges h)
+  unfolding leases.segment_ranges leases.covers leases.lease_start leases.lease_bytes
+  segments_are = sym (any_map (leases.covers h a 4) _ (event_shape h).segments)
+
+  pub in_segments : (shape : Shape) → event_shape h ≡ shape → touches shape a 4 ≡ Has (leases.segment_ranges h)
+  in_segments shape is = ap (λ s. touches s a 4) (sym is) ∙ segments_are
+
+  pub in_no_segments : event_ring h ≡ None → false ≡ Has (leases.segment_ranges h)
+  unfolding event_shape
+  in_no_segments none = ap (λ o. touches (shape_or Evt o) a 4) (sym none) ∙ segments_are
+
+  pub controllers_are : leases.is_the_controllers h k a ≡ (Has (leases.segment_ranges h) || list_any in_device (device_contexts k))
+  unfolding leases.is_the_controllers
+  controllers_are = any_append (leases.covers h a 4) (leases.segment_ranges h) (leases.device_ranges h k) ∙ ap (λ b. Has (leases.segment_ranges h) || b) (sym devices_are)
+
+  -- they are under lease
+  within_leases : (r s t c e v : Bool) → (((((r || s) || t) || c) || e) || v) ≡ false → (s || v) ≡ false
+  within_leases false false false false false v none = none
+  within_leases false false false false true v none = cc
+  within_leases false false false true e v none = cc
+  within_leases false false true c e v none = cc
+  within_leases false true t c e v none = cc
+  within_leases true s t c e v none = cc
+
+  pub controllers_leased : leases.is_leased h k a ≡ false → leases.is_the_controllers h k a ≡ false
+  controllers_leased free =
+      controllers_are
+      ∙ within_leases (list_any (λ q. Has (leases.open_on h k q)) (driver_rings h)) (Has (leases.segment_ranges h)) (table_has h k a) (list_any in_input (inputs_of (rings.unfinished h k)))
+      (entries_have h k a) (list_any in_device (device_contexts k)) (sym leased_is ∙ free)
+
+  -- ---- what a write may not do, by the trace's version
+
+  judged : (leased three alone same : Bool) → (leased ≡ false → alone ≡ false) → ((leased && not three) || (alone || (leased && not same))) ≡ (leased && (not three || (not same || alone)))
+  judged false three alone same within = or_false alone ∙ within refl
+  judged true false alone same within = refl
+  judged true true false same within = sym (or_false (not same))
+  judged true true true true within = refl
+  judged true true true false within = refl
+
+  pub owned_is : (w : ℕ) → writes_to_owned h k a w ≡ (leases.is_leased h k a && (not (is_three h.version) || (not (k.memory a == w) || leases.is_the_controllers h k a)))
+  unfolding writes_to_owned stricter older changes_owned
+  owned_is w = judged (leases.is_leased h k a) (is_three h.version) (leases.is_the_controllers h k a) (k.memory a == w) controllers_leased
+
+  -- the three answers, by what was asked
+  abbrev disturbs : ℕ → Bool
+  disturbs w = not (k.memory a == w) || leases.is_the_controllers h k a
+
+  pub owned_by_version : (w : ℕ) → leases.is_leased h k a ≡ true → not (is_three h.version) ≡ true → writes_to_owned h k a w ≡ true
+  owned_by_version w leased older =
+      owned_is w ∙ ap (λ l. l && (not (is_three h.version) || disturbs w)) leased ∙ ap (λ o. o || disturbs w) older
+
+  pub owned_by_change : (w : ℕ) → leases.is_leased h k a ≡ true → not (is_three h.version) ≡ false →
+      writes_to_owned h k a w ≡ (not (k.memory a == w) || leases.is_the_controllers h k a)
+  owned_by_change w leased newer =
+      owned_is w ∙ ap (λ l. l && (not (is_three h.version) || disturbs w)) leased ∙ ap (λ o. o || disturbs w) newer
+
+  pub not_owned : (w : ℕ) → leases.is_leased h k a ≡ false → writes_to_owned h k a w ≡ false
+  not_owned w free = owned_is w ∙ ap (λ l. l && (not (is_three h.version) || disturbs w)) free

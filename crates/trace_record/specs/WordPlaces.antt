@@ -1,4 +1,4 @@
--- Where the word of a row lies that writes memory, and whether it is under lease
+-- Where the word of a row lies that writes memory, and whether the controller owns what it writes
 use Rattle.std.specs.Prelude.{◌≡◌, ℕ, ◌%◌, true, Bool, Option, None, Some, position, slice_get}
 use Rattle.segments.specs.Places.{touches}
 use Rattle.segments.specs.RingView.{positions_given, crossings_given}
@@ -10,7 +10,7 @@ use Rattle.traces.specs.Header.{is_driver_kind, is_event_kind}
 use Rattle.ring_knowledge.specs.declared.ring_record.RingGiving.{RingGiving}
 use Rattle.ring_knowledge.specs.Known.{Known}
 use Rattle.ring_knowledge.specs.RingRecords.{positions_of, crossings_of}
-use Rattle.ownership_rules.specs.OpenLeases.{is_leased}
+use Rattle.ownership_rules.specs.Older.{writes_to_owned}
 use Rattle.trace_record.specs.declared.word_place.WordPlace.{WordPlace}
 use Rattle.trace_record.specs.Owned.{rings_have}
 
@@ -37,7 +37,7 @@ abbrev pub IsPlaced : Header → Known → Row → WordPlace → Type 0
 IsPlaced h k (Write at word) p = IsPlacedSo h k at word p
 IsPlaced h k _ p = Unit {0}
 
--- whether the word is under lease that a row writes
+-- whether a row writes to what the controller owns
 abbrev pub IsOwnedSo : Header → Known → Row → Bool → Type 0
-IsOwnedSo h k (Write at word) owned = owned ≡ is_leased h k at
+IsOwnedSo h k (Write at word) owned = owned ≡ writes_to_owned h k at word
 IsOwnedSo h k _ owned = Unit {0}

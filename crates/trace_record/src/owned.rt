@@ -1,4 +1,5 @@
-ghost use Rattle.std.specs.Prelude.{◌≡◌, ◌<◌, ◌^◌, ℕ};
+ghost use Rattle.std.specs.Prelude.{◌≡◌, ◌<◌, ◌^◌, ◌==◌, ◌||◌, ℕ, not};
+ghost use Rattle.std.specs.List.{list_any};
 ghost use Rattle.segments.specs.Places.{overlap};
 ghost use Rattle.event_ring.specs.EventRing.{table_bytes};
 ghost use Rattle.traces.specs.Header.{event_shape};
@@ -6,32 +7,49 @@ ghost use Rattle.traces.specs.declared.header.Header.{Header as HeaderValue};
 ghost use Rattle.ring_knowledge.specs.Known.{Known};
 ghost use Rattle.ring_knowledge.specs.RegisterRecords.{FollowsRegisters};
 ghost use Rattle.device_record.specs.Devices.{FollowsDevices};
-ghost use Rattle.ownership_rules.specs.OpenLeases.{is_leased};
+ghost use Rattle.ownership_rules.specs.OpenLeases.{covers, is_leased, is_the_controllers, segment_ranges};
 ghost use Rattle.trace_record.specs.FollowsTrace.{FollowsEvents, FollowsTrace};
 ghost use Rattle.trace_record.specs.WordPlaces.{IsOwnedSo, IsPlaced};
 
 use crate::trace_record::TraceRecord;
 use crate::word_place::WordPlace;
 use event_ring::EventPlace;
-use guest_memory::Addr;
-use traces::{Register, Row};
+use guest_memory::{Addr, WordMemory};
+use traces::{Header, Register, Row};
 
 impl TraceRecord {
     ghost use Rattle.trace_record.specs.Owned.{entries_have, rings_have, table_has};
 
-    /// Whether the word that a row writes is under lease, so that the controller may read or change it at any moment: it is of
-    /// a ring, the segment table, an input context, an entry of the DCBAA or a device context (xHCI 4.9.2, 4.9.4, 4.6.5, 6.1).
-    /// Of another row: no.
-    pub fn owns(&self, row: &Row, place: WordPlace) -> bool
-        ensures { (h : HeaderValue) (k : Known) (memory : ℕ → ℕ) → FollowsTrace h k self.now memory → IsPlaced h k row.now place → IsOwnedSo h k row.now result }
+    /// Whether a row writes to what the controller owns (WriteToOwned), where `place` is where its word lies: to a word under
+    /// lease; by version 3 only where it changes that word, or where nobody but the controller may write it. Of another row: no.
+    pub fn owns<M: WordMemory>(&self, header: &Header, memory: &M, row: &Row, place: WordPlace) -> bool
+        ensures { (k : Known) → FollowsTrace header.now k self.now (M.words memory.now) → IsPlaced header.now k row.now place → IsOwnedSo header.now k row.now result }
     {
         match row {
-            Row::Write { at, .. } => self.is_leased(*at, place.is_lent),
+            Row::Write { at, word } => {
+                self.is_leased(*at, place.is_lent)
+                    && (!header.version.is_three() || self.is_disturbed(memory, *at, *word))
+            }
             _ => false,
         }
     }
 
-    /// Whether a word is under lease, where it is known whether a lease of its ring has it.
+    /// Whether a write would change a word, or is to one that only the controller may write.
+    fn is_disturbed<M: WordMemory>(&self, memory: &M, at: Addr, word: u32) -> bool
+        ensures { (h : HeaderValue) (k : Known) → FollowsTrace h k self.now (M.words memory.now) → result ≡ (not (k.memory at == word) || is_the_controllers h k at) }
+    {
+        memory.word(at) != word || self.is_the_controllers(at)
+    }
+
+    /// Whether only the controller may write a word: it is of an event segment or of a device context under lease (xHCI 4.9.4, 6.1).
+    fn is_the_controllers(&self, at: Addr) -> bool
+        ensures { (h : HeaderValue) (k : Known) (memory : ℕ → ℕ) → FollowsTrace h k self.now memory → result ≡ is_the_controllers h k at }
+    {
+        is_in_segment(&self.events, at) || self.contexts.touches(at.get(), 4)
+    }
+
+    /// Whether a word is under lease, where it is known whether a lease of its ring has it: it is of a ring, the segment table,
+    /// an input context, an entry of the DCBAA or a device context (xHCI 4.9.2, 4.9.4, 4.6.5, 6.1).
     fn is_leased(&self, at: Addr, is_lent: bool) -> bool
         ensures { (h : HeaderValue) (k : Known) (memory : ℕ → ℕ) → FollowsTrace h k self.now memory → is_lent ≡ rings_have h k at → result ≡ is_leased h k at }
     {
@@ -66,6 +84,16 @@ impl TraceRecord {
             return false;
         }
         self.devices.device(slot as u8).is_some()
+    }
+}
+
+/// Whether a word is of an event segment.
+fn is_in_segment(events: &Option<EventPlace>, at: Addr) -> bool
+    ensures { (h : HeaderValue) (k : Known) → FollowsEvents h k events.now → result ≡ list_any (covers h at 4) (segment_ranges h) }
+{
+    match events {
+        None => false,
+        Some(events) => events.shape().overlaps(at.get(), 4),
     }
 }
 

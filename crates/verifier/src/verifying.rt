@@ -56,7 +56,7 @@ fn verify_rows<M: WordMemory + Drop>(
     let mut number = first;
     for row in rows {
         let place = kept.place(header, &finder, row);
-        let owned = kept.owns(row, place);
+        let owned = kept.owns(header, &memory, row, place);
         note_row(
             &mut log,
             &mut ranges,

@@ -1,4 +1,4 @@
--- Of the rings of a header only the one that has a word gives something by its write; a word of an event segment is under lease
+-- Of the rings of a header only the one that has a word gives something by its write; a word of an event segment is the controller's
 use Rattle.std.proofs.Common.{◌≡◌, ℕ, ◌%◌, List, [], ◌++◌, Bool, true, false, refl, ap, sym, ◌∙◌}
 use Rattle.std.specs.Prelude.{◌||◌, map}
 use Rattle.std.specs.List.{list_any, flat_map}
@@ -8,7 +8,6 @@ use Rattle.segments.specs.RingView.{positions_given, crossings_given}
 use Rattle.segments.proofs.InsideLemmas.{touches-word}
 use Rattle.traces.specs.declared.ring.Ring.{Ring}
 use Rattle.traces.specs.declared.header.Header.{Header}
-use Rattle.traces.specs.declared.register.Register.TheVariants.{Erstba}
 use Rattle.traces.specs.Header.{IsHeader, is_driver_kind, is_event_kind, driver_rings, event_shape}
 use Rattle.ring_knowledge.specs.Known.{Known}
 use Rattle.ring_knowledge.specs.Rings.{Position, Crossing, given_of, given_by}
@@ -18,15 +17,8 @@ use Rattle.ring_finder.proofs.RingsApart.{IsAmong, Apart}
 use Rattle.ring_finder.proofs.HeaderRings.{together, shape_allowed, shape_there, event_here, all_from_one, nothing_from}
 use Rattle.trace_record.proofs.WordsInside.{gives_no_position, gives_no_crossing}
 
-or_true : (b : Bool) → (b || true) ≡ true
-or_true true = refl
-or_true false = refl
-
 any_first : {X : Type 0} (f : X → Bool) (xs ys : List X) → list_any f xs ≡ true → list_any f (xs ++ ys) ≡ true
 any_first f xs ys e = any_append f xs ys ∙ ap (λ b. b || list_any f ys) e
-
-any_second : {X : Type 0} (f : X → Bool) (xs ys : List X) → list_any f ys ≡ true → list_any f (xs ++ ys) ≡ true
-any_second f xs ys e = any_append f xs ys ∙ ap (λ b. list_any f xs || b) e ∙ or_true (list_any f xs)
 
 module _ (h : Header) (headed : IsHeader h) (k : Known) (a : ℕ) (aligned : a % 4 ≡ 0) where
   pub inside_is : (q : Ring) → IsAmong q h.rings → touches q.shape a 4 ≡ is_inside q.shape a
@@ -37,20 +29,11 @@ module _ (h : Header) (headed : IsHeader h) (k : Known) (a : ℕ) (aligned : a %
   segments_cover = any_map (leases.covers h a 4) _ (event_shape h).segments
 
   -- the event ring has the word
-  pub leased_in_events : (e : Ring) → IsAmong e h.rings → is_event_kind e.shape.kind ≡ true → touches e.shape a 4 ≡ true → leases.is_leased h k a ≡ true
-  unfolding leases.is_leased leases.open_leases leases.open_ranges
-  leased_in_events e among event touched =
-      let cover : leases.Leased → Bool = leases.covers h a 4 in
-      let segments = leases.segment_ranges h in
-      let table = leases.table_range h (k.register Erstba) in
-      let contexts = leases.context_ranges h k in
-      let entries = leases.entry_ranges k in
-      let devices = leases.device_ranges h k in
-      any_second cover (flat_map (leases.open_on h k) (driver_rings h)) (segments ++ table ++ contexts ++ entries ++ devices)
-      (any_first cover (segments ++ table ++ contexts ++ entries) devices
-      (any_first cover (segments ++ table ++ contexts) entries
-      (any_first cover (segments ++ table) contexts
-      (any_first cover segments table (segments_cover ∙ ap (λ s. touches s a 4) (event_here h headed e among event) ∙ touched)))))
+  pub owned_in_events : (e : Ring) → IsAmong e h.rings → is_event_kind e.shape.kind ≡ true → touches e.shape a 4 ≡ true → leases.is_the_controllers h k a ≡ true
+  unfolding leases.is_the_controllers
+  owned_in_events e among event touched =
+      any_first (leases.covers h a 4) (leases.segment_ranges h) (leases.device_ranges h k)
+      (segments_cover ∙ ap (λ s. touches s a 4) (event_here h headed e among event) ∙ touched)
 
   given_here : (w : ℕ) (q : Ring) → IsAmong q h.rings → given_of h k a w q.id
       ≡ map (Position q.id) (positions_given q.shape (k.ring q.id) a w) ++ map (Crossing q.id) (crossings_given q.shape (k.ring q.id) a w)

@@ -1,5 +1,5 @@
 -- Which rules a write breaks
-use Rattle.std.proofs.Common.{◌≡◌, ℕ, ◌%◌, ◌&&◌, not, List, [], ◌∷◌, Bool, true, false, Option, None, Some, refl, ap, sym, ◌∙◌}
+use Rattle.std.proofs.Common.{◌≡◌, ℕ, ◌%◌, ◌==◌, ◌&&◌, not, List, [], ◌∷◌, Bool, true, false, Option, None, Some, refl, ap, sym, ◌∙◌}
 use Rattle.std.specs.Prelude.{◌||◌, map, if◌then◌else◌}
 use Rattle.std.specs.List.{list_any}
 use Rattle.segments.specs.Places.{touches}
@@ -19,21 +19,22 @@ use Rattle.ring_knowledge.specs.declared.ring_record.RingGiving.{RingGiving}
 use Rattle.ring_knowledge.specs.declared.ring_record.RingGiving.TheVariants.{Position, Crossing}
 use Rattle.ownership_rules.specs.declared.refusal.Refusal.TheVariants.{WriteToOwned, NotAsSubmitted, NotDeclared, NotWhole, LinkFault, BadCommand, Busy, NotInProfile, BadMove, AfterStop}
 use Rattle.ownership_rules.specs.Refusal.{Test, broken_of, first_of, first_broken}
-use Rattle.ownership_rules.specs.OpenLeases.{is_leased}
+use Rattle.ownership_rules.specs.OpenLeases.{is_leased, is_the_controllers}
 use Rattle.ownership_rules.specs.Commands as commands
 use Rattle.ownership_rules.specs.Moves as moves
-use Rattle.ownership_rules.specs.Older.{has_left_out_endpoint, older, stricter}
-use Rattle.ownership_rules.specs.Writes.{write_tests, some_given, some_crossed, some_command, holds_of, on_position, on_crossing}
+use Rattle.ownership_rules.specs.Older.{has_left_out_endpoint, older, stricter, writes_to_owned}
+use Rattle.ownership_rules.specs.Writes.{write_tests, changes_owned, some_given, some_crossed, some_command, holds_of, on_position, on_crossing}
 use Rattle.ownership_rules.specs.Rules.{broken, lenient_tests, tests}
 use Rattle.trace_record.specs.Steps.{IsLeast}
+use Rattle.std.proofs.lemmas.Bool.{or_left, or_right}
 use Rattle.ring_finder.proofs.ListTests.{or_false, any_append, any_map, any_nowhere}
 use Rattle.ring_finder.proofs.RingsApart.{IsAmong}
 use Rattle.ring_finder.proofs.HeaderRings.{shape_there}
 use Rattle.write_checks.specs.WriteTests.{GivesOnPosition, given_tests}
 use Rattle.trace_record.proofs.FirstBroken.{first_broken-is}
-use Rattle.write_checks.proofs.OnRing.{given_by_one, given_nowhere, leased_in_events}
+use Rattle.write_checks.proofs.OnRing.{given_by_one, given_nowhere, owned_in_events}
 
--- the tests of a word that isn't under lease, of what is given of one ring
+-- the tests of a write that isn't to what the controller owns, of what is given of one ring
 module _ (h : Header) (k : Known) (a w : ℕ) (r : Ring) where
   abbrev pub of_ring : Option RingGiving → Option Command → List Test
   of_ring giving command =
@@ -72,7 +73,7 @@ module _ (h : Header) (headed : IsHeader h) (k : Known) (on : k.stopped ≡ fals
   -- the rules of the trace's version
   abbrev version_tests_with : Bool → List Test
   version_tests_with left_out =
-      (WriteToOwned, is_leased h k a)
+      (WriteToOwned, writes_to_owned h k a w)
       ∷ (NotAsSubmitted, some_given h k a w (λ r p. is_other_than_declared (shape_of h r) (k.ring r) k.memory a w p))
       ∷ (NotDeclared, some_given h k a w (λ r p. is_not_declared (k.ring r) p))
       ∷ (NotWhole, some_given h k a w (λ r p. is_not_whole (shape_of h r) (k.ring r) p))
@@ -97,29 +98,35 @@ module _ (h : Header) (headed : IsHeader h) (k : Known) (on : k.stopped ≡ fals
       or_assoc false y z = refl
 
   pub least_is : first_of (broken h k (Write a w)) ≡ first_broken version_tests
-  unfolding broken tests lenient_tests write_tests older stricter some_command
+  unfolding broken tests lenient_tests write_tests older stricter writes_to_owned some_command
   least_is =
       ap (λ b. first_of (if b then AfterStop ∷ [] else broken_of (tests h k (Write a w)))) on
       ∙ ap (λ t. first_of (broken_of (version_tests_with t))) (left_out_is (command_given h k a w) (some_crossed h k a w (λ r q. interrupts (shape_of h r) k.memory a w q)))
       ∙ first_broken-is version_tests
 
-  -- the word is under lease
-  pub owned : is_leased h k a ≡ true → IsLeast h k (Write a w) WriteToOwned
+  -- the write is to what the controller owns
+  pub owned : writes_to_owned h k a w ≡ true → IsLeast h k (Write a w) WriteToOwned
   unfolding write_tests
-  owned leased = least_is ∙ rw leased refl
+  owned owns = least_is ∙ rw owns refl
+
+  -- whatever the version, nobody but the controller may write the word
+  the_controllers : is_the_controllers h k a ≡ true → writes_to_owned h k a w ≡ true
+  unfolding writes_to_owned changes_owned
+  the_controllers owns =
+      or_right (stricter h k (Write a w) WriteToOwned) (changes_owned h k a w) (or_left (is_the_controllers h k a) (is_leased h k a && not (k.memory a == w)) owns)
 
   module _ (aligned : a % 4 ≡ 0) where
     -- an event segment has it
     pub owned_by_events : (e : Ring) → IsAmong e h.rings → is_event_kind e.shape.kind ≡ true → touches e.shape a 4 ≡ true → IsLeast h k (Write a w) WriteToOwned
-    owned_by_events e among event has = owned (leased_in_events h headed k a aligned e among event has)
+    owned_by_events e among event has = owned (the_controllers (owned_in_events h headed k a aligned e among event has))
 
     -- no ring has it
-    pub nothing_breaks : ((q : Ring) → IsAmong q h.rings → touches q.shape a 4 ≡ false) → is_leased h k a ≡ false → command_given h k a w ≡ None → first_of (broken h k (Write a w)) ≡ None
+    pub nothing_breaks : ((q : Ring) → IsAmong q h.rings → touches q.shape a 4 ≡ false) → writes_to_owned h k a w ≡ false → command_given h k a w ≡ None → first_of (broken h k (Write a w)) ≡ None
     unfolding write_tests some_given some_crossed some_command holds_of
     nothing_breaks none free no_command = least_is ∙ rw (free, given_nowhere h headed k a aligned none w, no_command) refl
 
     -- a command or transfer ring has it
-    module _ (r : Ring) (among : IsAmong r h.rings) (driver : is_driver_kind r.shape.kind ≡ true) (has : touches r.shape a 4 ≡ true) (free : is_leased h k a ≡ false) where
+    module _ (r : Ring) (among : IsAmong r h.rings) (driver : is_driver_kind r.shape.kind ≡ true) (has : touches r.shape a 4 ≡ true) (free : writes_to_owned h k a w ≡ false) where
       given_is : (test : ℕ → ℕ → Bool) → some_given h k a w test ≡ list_any (test r.id) (positions_given r.shape (k.ring r.id) a w)
       unfolding some_given on_position
       given_is test =

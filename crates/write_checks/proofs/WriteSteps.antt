@@ -16,7 +16,7 @@ use Rattle.ring_knowledge.specs.RingRecords.{positions_of, crossings_of}
 use Rattle.ring_knowledge.specs.declared.ring_record.RingGiving.{RingGiving}
 use Rattle.ownership_rules.specs.declared.refusal.Refusal.{Refusal}
 use Rattle.ownership_rules.specs.Refusal.{first_of, first_broken}
-use Rattle.ownership_rules.specs.OpenLeases.{is_leased}
+use Rattle.ownership_rules.specs.Older.{writes_to_owned}
 use Rattle.ownership_rules.specs.Moves as moves
 use Rattle.ownership_rules.specs.Rules.{broken}
 use Rattle.safety.specs.Keeps.{DriverKeeps}
@@ -34,7 +34,7 @@ none_some : {X Y : Type 0} (x : X) → None ≡ Some x → Y
 none_some x e = cc
 
 -- no ring has the word
-pub nowhere_allowed : (h : Header) → IsHeader h → (k : Known) → k.stopped ≡ false → (a w : ℕ) → a % 4 ≡ 0 → is_leased h k a ≡ false →
+pub nowhere_allowed : (h : Header) → IsHeader h → (k : Known) → k.stopped ≡ false → (a w : ℕ) → a % 4 ≡ 0 → writes_to_owned h k a w ≡ false →
     ((q : Ring) → IsAmong q h.rings → touches q.shape a 4 ≡ false) → IsAllowed h k a w None
 nowhere_allowed h headed k on a w aligned free none =
     let no_command : command_given h k a w ≡ None = none_nowhere h headed k a w aligned (λ q among. sym (inside_is h headed k a aligned q among) ∙ none q among) in
@@ -56,7 +56,7 @@ module _ (h : Header) (headed : IsHeader h) (a w : ℕ) (aligned : a % 4 ≡ 0) 
     pub said : command ≡ (if is_command_kind r.shape.kind then command_on (k.ring r.id) (positions_of giving) else None)
     pub quiet : GivesOnPosition giving command
 
-  module _ (k : Known) (t : TraceRecord) (m : ℕ → ℕ) (f : FollowsTrace h k t m) (keeps : DriverKeeps h k) (on : k.stopped ≡ false) (free : is_leased h k a ≡ false) (told : IsTold k) where
+  module _ (k : Known) (t : TraceRecord) (m : ℕ → ℕ) (f : FollowsTrace h k t m) (keeps : DriverKeeps h k) (on : k.stopped ≡ false) (free : writes_to_owned h k a w ≡ false) (told : IsTold k) where
     gives : command_given h k a w ≡ command
     gives =
         command_is h headed k a w aligned r among (inside h headed k a aligned r among driver has)

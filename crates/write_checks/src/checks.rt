@@ -4,7 +4,7 @@ ghost use Rattle.traces.specs.declared.row.Row.TheVariants.{Write};
 ghost use Rattle.ring_knowledge.specs.Known.{Known};
 ghost use Rattle.ring_knowledge.specs.RingRecords.{FollowsRing};
 ghost use Rattle.ring_finder.specs.Finding.{IsFinder};
-ghost use Rattle.ownership_rules.specs.OpenLeases.{is_leased};
+ghost use Rattle.ownership_rules.specs.Older.{writes_to_owned};
 ghost use Rattle.ownership_rules.specs.Refusal.{first_broken};
 ghost use Rattle.safety.specs.Keeps.{DriverKeeps};
 ghost use Rattle.trace_record.specs.FollowsTrace.{FollowsTrace};
@@ -28,7 +28,7 @@ use trace_record::{TraceRecord, WordPlace};
 use traces::{Header, Ring};
 
 /// Checks a write of memory before the stop: the command that it gives, if it gives one, or the least of the rules that it breaks.
-/// `place` is where the word lies, and `owned` whether it is under lease.
+/// `place` is where the word lies, and `owned` whether the controller owns what is written.
 pub fn check_write<M: WordMemory>(
     header: &Header,
     finder: &Finder,
@@ -42,10 +42,10 @@ pub fn check_write<M: WordMemory>(
     requires headed { IsHeader header.now }
     requires found { IsFinder header.now.rings finder.now }
     ensures ok { IfOk result (λ command. (k : Known) → FollowsTrace header.now k t.now (M.words memory.now) → DriverKeeps header.now k → ContextsFit header.now k → k.stopped ≡ false →
-        IsPlacedSo header.now k at word place → owned ≡ is_leased header.now k at → IsAllowed header.now k at word command) }
+        IsPlacedSo header.now k at word place → owned ≡ writes_to_owned header.now k at word → IsAllowed header.now k at word command) }
     ensures fits { IfOk result (λ command. IfSome command (FitsMemory header.now.context_size)) }
     ensures refused { IfErr result (λ c. (k : Known) → FollowsTrace header.now k t.now (M.words memory.now) → DriverKeeps header.now k → ContextsFit header.now k → k.stopped ≡ false →
-        IsPlacedSo header.now k at word place → owned ≡ is_leased header.now k at → IsLeast header.now k (Write at word) c) }
+        IsPlacedSo header.now k at word place → owned ≡ writes_to_owned header.now k at word → IsLeast header.now k (Write at word) c) }
 {
     if owned {
         return Err(Refusal::WriteToOwned);
@@ -82,7 +82,7 @@ pub fn check_write<M: WordMemory>(
     }
 }
 
-/// Which rule a write to a word that isn't under lease breaks first, where it gives this of a ring, and this command.
+/// Which rule a write breaks first that isn't to what the controller owns, where it gives this of a ring, and this command.
 fn giving_refusal<M: WordMemory>(
     header: &Header,
     finder: &Finder,

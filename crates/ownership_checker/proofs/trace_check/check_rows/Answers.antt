@@ -21,7 +21,7 @@ loop-row-preserved g c =
     (c.in-Ok.ensures.reads c.loop-row.row-index p.pass.few_reads)
     (λ k t.
     let placed = c.place-place.ensures k (g.M.WordMemory.words c.loop-row.memory) t.follows in
-    c.in-Ok.ensures.ok k t placed (c.owns-owned.ensures c.args.header.now k (g.M.WordMemory.words c.loop-row.memory) t.follows placed))
+    c.in-Ok.ensures.ok k t placed (c.owns-owned.ensures k t.follows placed))
     (λ past clean held. c.in_ok-note_row.ensures [] c.args.first past (c.place-place.ensures (known c.args.header.now past) (g.M.WordMemory.words c.loop-row.memory) clean.followed) clean held)
 
 pub returns-in-Err-Refused-clause-refused : goal.returns-in-Err-Refused-clause-refused
@@ -30,7 +30,7 @@ returns-in-Err-Refused-clause-refused g c =
     (refused c.args.header.now c.args.rows.now c.args.first c.loop-row.row-index c.loop-row.number c.loop-row.kept (g.M.WordMemory.words c.loop-row.memory)
     c.row-item.result c.row-item.result c.in-Err-Refused.refusal c.in-Err-Refused.field-0 c.in-Err-Refused.field-0-is c.loop-row.invariant.pass c.loop-row-test.true (sym c.row-item.is)
     (by_place c.args.header.now c.loop-row.kept (g.M.WordMemory.words c.loop-row.memory) c.row-item.result c.place-place.result c.owns-owned.result
-    (λ k f. c.place-place.ensures k (g.M.WordMemory.words c.loop-row.memory) f) (λ k f placed. c.owns-owned.ensures c.args.header.now k (g.M.WordMemory.words c.loop-row.memory) f placed)
+    (λ k f. c.place-place.ensures k (g.M.WordMemory.words c.loop-row.memory) f) (λ k f placed. c.owns-owned.ensures k f placed)
     c.in-Err-Refused.field-0 c.in-Err-Refused.ensures.refused))
 
 pub returns-clause-accepted : goal.returns-clause-accepted

@@ -23,7 +23,7 @@ unreachable-requires g c =
     let row = c.row-item.result in
     none_refuses h c.requires.headed c.args.rows.now c.requires.clean i c.loop-row.kept m row row c.loop-row.list.items c.loop-row.invariant c.loop-row-test.true (sym c.row-item.is)
     c.in-Err-Refused.field-0-0 c.in-Err-Refused.field-0 c.in-Err-Refused.field-0-is
-    (by_place h c.loop-row.kept m row c.place-place.result c.owns-owned.result (λ k f. c.place-place.ensures k m f) (λ k f placed. c.owns-owned.ensures h k m f placed)
+    (by_place h c.loop-row.kept m row c.place-place.result c.owns-owned.result (λ k f. c.place-place.ensures k m f) (λ k f placed. c.owns-owned.ensures k f placed)
     c.in-Err-Refused.field-0 c.in-Err-Refused.ensures.refused)
 
 pub loop-row-preserved : goal.loop-row-preserved
@@ -39,7 +39,7 @@ loop-row-preserved g c =
     let d = keeps h c.requires.headed c.args.rows.now c.requires.clean i c.loop-row.kept m row row c.loop-row.list.items p c.loop-row-test.true (sym c.row-item.is) in
     let none = passes_all h c.requires.headed c.args.rows.now c.requires.clean i c.loop-row.kept m row row c.loop-row.list.items p c.loop-row-test.true (sym c.row-item.is) in
     let noted = c.in_ok-placed.ensures k t.follows d none in
-    let step = λ (j : Known) (u : IsTracked h j c.loop-row.kept m). let placed = c.place-place.ensures j m u.follows in c.in-Ok.ensures.ok j u placed (c.owns-owned.ensures h j m u.follows placed) in
+    let step = λ (j : Known) (u : IsTracked h j c.loop-row.kept m). let placed = c.place-place.ensures j m u.follows in c.in-Ok.ensures.ok j u placed (c.owns-owned.ensures j u.follows placed) in
     let after = (step k t).followed in
     let rows = c.args.rows.now in
     let placed = c.in_ok-placed.placed.items in

@@ -1,11 +1,33 @@
-use Rattle.trace_record.proofs.Words.{sym, subst, Row, IsOwnedSo, IsPlaced}
-use Rattle.trace_record.proofs.PlacedWords.{owned_other}
+use Rattle.trace_record.proofs.Words.{◌≡◌, ◌∙◌, ℕ, ap, not, sym, subst, Bool, Header, Known, Row, Write, IsOwnedSo, IsPlaced, true, false}
+use Rattle.traces.specs.Versions.{is_three}
+use Rattle.ownership_rules.specs.Older.{writes_to_owned}
+use Rattle.trace_record.proofs.OpenAreas.{not_owned, owned_by_change, owned_by_version}
 use Rattle.trace_record.proofs.trace_record.TraceRecord.owns.Goals as goal
 
-pub returns-in-Write : goal.returns-in-Write
-returns-in-Write c = λ h k memory f placed.
-    let place = subst (λ (row : Row). IsPlaced h k row c.args.place) c.in-Write.is placed in
-    subst (λ (row : Row). IsOwnedSo h k row c.is_leased.result) (sym c.in-Write.is) (c.is_leased.ensures h k memory f place.lent)
+owned_at : (h : Header) (k : Known) (row : Row) (at word : ℕ) (owned : Bool) → row ≡ Write at word → owned ≡ writes_to_owned h k at word → IsOwnedSo h k row owned
+owned_at h k row at word owned is says = subst (λ (r : Row). IsOwnedSo h k r owned) (sym is) says
 
-pub returns-in_default : goal.returns-in_default
-returns-in_default c = λ h k memory f placed. owned_other h k c.args.row.now _ c.in_default.not-Write
+pub returns-then-not-is_three : goal.returns-then-not-is_three
+returns-then-not-is_three g c = λ k f placed.
+    let h = c.args.header.now in
+    let place = subst (λ (row : Row). IsPlaced h k row c.args.place) c.in-Write.is placed in
+    let leased = sym (c.is_leased.ensures h k (g.M.WordMemory.words c.args.memory.now) f place.lent) ∙ c.if-is_leased.true in
+    let version : not (is_three h.version) ≡ true = ap not (sym c.is_three.ensures ∙ c.if-not-is_three.true) in
+    owned_at h k c.args.row.now c.in-Write.at c.in-Write.word _ c.in-Write.is
+    (ap not c.if-not-is_three.true ∙ sym (owned_by_version h k c.in-Write.at c.in-Write.word leased version))
+
+pub returns-else-not-is_three : goal.returns-else-not-is_three
+returns-else-not-is_three g c = λ k f placed.
+    let h = c.args.header.now in
+    let place = subst (λ (row : Row). IsPlaced h k row c.args.place) c.in-Write.is placed in
+    let leased = sym (c.is_leased.ensures h k (g.M.WordMemory.words c.args.memory.now) f place.lent) ∙ c.if-is_leased.true in
+    let version : not (is_three h.version) ≡ false = ap not (sym c.is_three.ensures ∙ c.if-not-is_three.false) in
+    owned_at h k c.args.row.now c.in-Write.at c.in-Write.word _ c.in-Write.is
+    (c.is_disturbed.ensures h k f ∙ sym (owned_by_change h k c.in-Write.at c.in-Write.word leased version))
+
+pub returns-else-is_leased : goal.returns-else-is_leased
+returns-else-is_leased g c = λ k f placed.
+    let h = c.args.header.now in
+    let place = subst (λ (row : Row). IsPlaced h k row c.args.place) c.in-Write.is placed in
+    let free = sym (c.is_leased.ensures h k (g.M.WordMemory.words c.args.memory.now) f place.lent) ∙ c.if-is_leased.false in
+    owned_at h k c.args.row.now c.in-Write.at c.in-Write.word _ c.in-Write.is (c.if-is_leased.false ∙ sym (not_owned h k c.in-Write.at c.in-Write.word free))

@@ -1,0 +1,71 @@
+-- A write changes no word under lease: each given block and Link keeps the Cycle bit that it shows, and a word that is written as it
+-- stands gives nothing
+use Rattle.std.proofs.Common.{◌≡◌, ◌%◌, ◌+◌, ◌-◌, ◌||◌, ◌∙◌, ℕ, Bool, true, false, nat_lt, arith, lt-ltb, refl, sym, ap, subst, inl, inr}
+use Rattle.safety.proofs.Words.{fun_ext, and_from, cases_eq, crossed_link, due_is, false≢true, All-contains, put, put_here, put_elsewhere, Shape, IsShape, address_of, cycle_of, link_address, overlap, RingView, Writes, changed, is_due, is_crossing_due, gives, gives_crossing, gives_is, gives_crossing_is, leased_positions, leased_crossings, leased_position, leased_crossing, RingKeeps, MayWrite}
+use Rattle.segments.proofs.Giving.{crossing_due_is}
+use Rattle.segments.proofs.Reaching.{kept_cycle}
+
+-- the control word of a block has a byte in common with it
+control_touches : (a b : ℕ) → a ≡ b + 12 → overlap a 4 b 16 ≡ true
+control_touches a b at = and_from (nat_lt a (b + 16)) (nat_lt b (a + 4)) (lt-ltb a (b + 16) (omega arith)) (lt-ltb b (a + 4) (omega arith))
+
+-- what is written to the control word of a given block, or of a given Link, has the Cycle bit with which it was given
+pub record KeepsCycles (shape : Shape) (v : RingView) (a w : ℕ) : Type 0 where
+  pub blocks : (p : ℕ) → is_due shape v.floor p ≡ true → v.given p ≡ true → a ≡ address_of shape p + 12 → w % 2 ≡ cycle_of shape p
+  pub links : (q : ℕ) → is_crossing_due shape v.floor q ≡ true → v.crossed q ≡ true → a ≡ link_address shape q + 12 → w % 2 ≡ cycle_of shape (q - 1)
+
+-- the word isn't under lease
+pub free_keeps_cycles : (shape : Shape) (memory : ℕ → ℕ) (v : RingView) (a w : ℕ) → MayWrite shape memory v a w → KeepsCycles shape v a w
+free_keeps_cycles shape memory v a w may =
+    record {
+      blocks = λ p due given at.
+          let free = All-contains (λ p. overlap a 4 (address_of shape p) 16 ≡ false) (leased_positions shape v) p may.blocks (leased_position shape v p due given) in
+          absurd (false≢true (sym free ∙ control_touches a (address_of shape p) at));
+      links = λ q due given at.
+          let free = All-contains (λ q. overlap a 4 (link_address shape q) 16 ≡ false) (leased_crossings shape v) q may.links (leased_crossing shape v q due given) in
+          absurd (false≢true (sym free ∙ control_touches a (link_address shape q) at));
+    }
+
+-- ---- the word is written as it stands
+
+pub put_same : (memory : ℕ → ℕ) (a w : ℕ) → memory a ≡ w → put memory a w ≡ memory
+put_same memory a w same =
+    fun_ext (λ x. elim (cases_eq x a) [
+      | inl here ↦ ap (λ y. put memory a w y) here ∙ put_here memory a w ∙ sym same ∙ ap memory (sym here)
+      | inr other ↦ put_elsewhere memory a w x other
+    ])
+
+module _ (shape : Shape) (memory : ℕ → ℕ) (v : RingView) (k : RingKeeps shape memory v) (a w : ℕ) (same : memory a ≡ w) where
+  pub same_keeps_cycles : IsShape shape → KeepsCycles shape v a w
+  same_keeps_cycles is =
+      record {
+        blocks = λ p due given at. ap (λ x. x % 2) (sym same ∙ ap memory at) ∙ kept_cycle shape is memory v k p (due_is shape v.floor p due).0 given;
+        links = λ q due given at.
+            let link = crossed_link shape q (crossing_due_is shape v.floor q due).crossing in
+            ap (λ x. x % 2) (sym same ∙ ap memory at) ∙ (k.kept_link q link.0 due given link.1).1;
+      }
+
+  or_given : (g f : Bool) → (g ≡ false → f ≡ true → ⊥) → (g || f) ≡ g
+  or_given true f none = refl
+  or_given false true none = absurd (none refl refl)
+  or_given false false none = refl
+
+  given_same : (p : ℕ) → (v.given p || gives shape v.floor p a w) ≡ v.given p
+  given_same p =
+      or_given (v.given p) (gives shape v.floor p a w) (λ fresh now.
+      let g = gives_is shape v.floor p a w now in
+      k.not_yet p g.due fresh (ap (λ x. x % 2) (ap memory (sym g.at) ∙ same) ∙ g.cycle))
+
+  crossed_same : (q : ℕ) → (v.crossed q || gives_crossing shape v.floor q a w) ≡ v.crossed q
+  crossed_same q =
+      or_given (v.crossed q) (gives_crossing shape v.floor q a w) (λ fresh now.
+      let g = gives_crossing_is shape v.floor q a w now in
+      k.not_yet_link q g.is_due fresh (ap (λ x. x % 2) (ap memory (sym g.at) ∙ same) ∙ g.cycle))
+
+  pub same_view : changed shape v (Writes a w) ≡ v
+  same_view =
+      ap {B = RingView} (λ g. record v { given = g; crossed = λ q. v.crossed q || gives_crossing shape v.floor q a w }) (fun_ext given_same)
+      ∙ ap {B = RingView} (λ c. record v { crossed = c }) (fun_ext crossed_same)
+
+  pub same_word_keeps : RingKeeps shape (put memory a w) (changed shape v (Writes a w))
+  same_word_keeps = subst (λ u. RingKeeps shape (put memory a w) u) (sym same_view) (subst (λ (m : ℕ → ℕ). RingKeeps shape m v) (sym (put_same memory a w same)) k)
