@@ -22,7 +22,13 @@ impl TraceRecord {
 
     /// Whether a row writes to what the controller owns (WriteToOwned), where `place` is where its word lies: to a word under
     /// lease; by version 3 only where it changes that word, or where nobody but the controller may write it. Of another row: no.
-    pub fn owns<M: WordMemory>(&self, header: &Header, memory: &M, row: &Row, place: WordPlace) -> bool
+    pub fn owns<M: WordMemory>(
+        &self,
+        header: &Header,
+        memory: &M,
+        row: &Row,
+        place: WordPlace,
+    ) -> bool
         ensures { (k : Known) → FollowsTrace header.now k self.now (M.words memory.now) → IsPlaced header.now k row.now place → IsOwnedSo header.now k row.now result }
     {
         match row {
