@@ -3,7 +3,7 @@ use crate::devices::named_state;
 use commands::{Command, EndpointState, SlotState};
 use row_history::{
     Beside, Case, Finding, SoiledWord, clash, command_at, command_name, last_write, line_of,
-    soiled_word,
+    note_dropped, soiled_word,
 };
 use std::alloc::AllocError;
 
@@ -67,12 +67,16 @@ fn note_states(
     if case.known.devices.endpoint_state(slot, endpoint) != EndpointState::Disabled {
         return Ok(false);
     }
-    let note = named_state(case, slot, endpoint)?;
-    finding.note(note)?;
-    finding.help(
-        case.alloc,
-        "add the endpoint by Configure Endpoint first, and read its completion",
-    )?;
+    if !note_dropped(case, finding, slot, endpoint)? {
+        let note = named_state(case, slot, endpoint)?;
+        finding.note(note)?;
+    }
+    let help = if endpoint == 1 {
+        "add the endpoint by Address Device first, and read its completion"
+    } else {
+        "add the endpoint by Configure Endpoint first, and read its completion"
+    };
+    finding.help(case.alloc, help)?;
     Ok(true)
 }
 

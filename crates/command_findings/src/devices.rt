@@ -3,7 +3,7 @@ use commands::{Command, EndpointState};
 use guest_memory::Addr;
 use row_history::{
     Case, Finding, NOT_JUDGED, Unfinished, all_unfinished, command_at, command_name,
-    endpoint_state_name, position_given, ring_at, start, unfinished_of,
+    endpoint_state_name, last_halt, note_dropped, position_given, ring_at, start, unfinished_of,
 };
 use std::alloc::AllocError;
 
@@ -34,18 +34,47 @@ pub fn bad_doorbell(case: &Case, slot: u8, target: u8) -> Result<Finding, AllocE
         here.as_str(),
     )?;
     let cause = bell_cause(case, slot, target)?;
+    mark_cause(case, &mut finding, cause, slot, target)?;
+    finding.help(case.alloc, bell_help(cause))?;
+    let is_told = matches!(cause, NoBell::Disabled)
+        && note_dropped(case, &mut finding, slot, target)?;
+    if !is_told {
+        finding.say(case.alloc, bell_note(cause))?;
+    }
+    Ok(finding)
+}
+
+/// Points at the row by which a doorbell may not ring.
+fn mark_cause(
+    case: &Case,
+    finding: &mut Finding,
+    cause: NoBell,
+    slot: u8,
+    target: u8,
+) -> Result<(), AllocError> {
     match cause {
-        NoBell::Unfinished(command) => finding.earlier = command.mark(case)?,
+        NoBell::Unfinished(command) => {
+            finding.earlier = command.mark(case)?;
+            Ok(())
+        }
         NoBell::Disabled => {
             if let Some(command) = unfinished_of(case, slot)? {
                 finding.earlier = command.mark(case)?;
             }
+            Ok(())
         }
-        _ => {}
+        NoBell::Halted(EndpointState::Error) => finding.mark(
+            case.alloc,
+            last_halt(case.before, slot, target),
+            "with this event the endpoint came into the state Error",
+        ),
+        NoBell::Halted(_) | NoBell::Unmoved => finding.mark(
+            case.alloc,
+            last_halt(case.before, slot, target),
+            "with this event the endpoint came to a halt",
+        ),
+        NoBell::NotStarted | NoBell::CommandTarget | NoBell::NoEndpoint => Ok(()),
     }
-    finding.say(case.alloc, bell_note(cause))?;
-    finding.help(case.alloc, bell_help(cause))?;
-    Ok(finding)
 }
 
 fn bell_cause(case: &Case, slot: u8, target: u8) -> Result<NoBell, AllocError> {

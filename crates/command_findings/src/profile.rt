@@ -2,7 +2,7 @@
 use commands::Command;
 use row_history::{Case, Finding, NOT_JUDGED, command_at, last_write, trb_at, type_name};
 use std::alloc::{AllocError, Global};
-use traces::Row;
+use traces::{Row, Version};
 use trb::{Block, BlockFlags, BlockKind, Flags};
 
 /// A row with a form of the standard that isn't judged.
@@ -81,7 +81,7 @@ fn note_endpoint(
             "MaxPStreams of its Endpoint Context is written here",
         )?;
     }
-    if kind % 4 == 1 {
+    if kind % 4 == 1 && case.header.version != Version::Three {
         let note = format!(in case.alloc;
             "DCI {endpoint} is added as an isochronous endpoint (EP Type {kind}): `xtrace 3` allows that, while its ring gets no TD"
         )?;

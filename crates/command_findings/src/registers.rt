@@ -1,9 +1,9 @@
 //! Writes of registers.
 use row_history::{
-    Beside, Case, Finding, NOT_JUDGED, clash, last_read, last_register, line_of, reads,
+    Beside, Case, Finding, NOT_JUDGED, clash, given_back, last_read, last_register, line_of, reads,
     register_name, register_value, ring_of_kind, start, stop,
 };
-use segments::RingShape;
+use segments::{Place, RingShape};
 use std::alloc::AllocError;
 use traces::{Register, Ring};
 use trb::RingKind;
@@ -77,6 +77,7 @@ fn note_command(case: &Case, finding: &mut Finding, value: u64) -> Result<(), Al
                 finding.note(note)?;
             }
         }
+        finding.say(case.alloc, NOT_JUDGED)?;
         return finding.help(
             case.alloc,
             "reset first, then set up the registers; each run that is set up anew is a trace of its own",
@@ -291,35 +292,87 @@ fn note_entries(
     )
 }
 
-/// ERDP past what was read.
+/// ERDP past what was read, or back to what it gave back.
 pub fn bad_erdp(case: &Case, value: u64) -> Result<Finding, AllocError> {
     let found = value / 16 * 16;
     let here = format!(in case.alloc; "ERDP = {found:x}")?;
+    let Some(ring) = ring_of_kind(case.header.rings.as_slice(), RingKind::Evt) else {
+        let mut finding = Finding::new(case.alloc, NOT_REACHED, here.as_str())?;
+        no_event_ring(case, &mut finding)?;
+        return Ok(finding);
+    };
+    match event_behind(case, ring, found) {
+        Some(number) => back_erdp(case, ring, number, here.as_str()),
+        None => ahead_erdp(case, ring, found, here.as_str()),
+    }
+}
+
+const NOT_REACHED: &str = "ERDP names an event that the driver has not reached";
+
+/// The number, from 1, of the event that ERDP gave back last at an address, where that is nearer than the events that aren't read yet.
+fn event_behind(case: &Case, ring: &Ring, address: u64) -> Option<u64> {
+    let Some(Place::Data { place, .. }) = ring.shape.place_at(address) else {
+        return None;
+    };
+    let (places, place) = (u64::from(ring.shape.places()), u64::from(place));
+    let (back, next) = (given_back(case, ring), reads(case.before) as u64);
+    let last = back.checked_sub(1)?;
+    let beyond = last.checked_sub(place)? % places;
+    let ahead = (place + places).saturating_sub(next % places) % places;
+    if beyond < ahead {
+        Some(back - beyond)
+    } else {
+        None
+    }
+}
+
+/// ERDP back at an event that it gave back.
+fn back_erdp(case: &Case, ring: &Ring, number: u64, here: &str) -> Result<Finding, AllocError> {
     let mut finding = Finding::new(
         case.alloc,
-        "ERDP names an event that the driver has not reached",
-        here.as_str(),
+        "ERDP goes back to an event that it gave back before",
+        here,
     )?;
+    finding.mark(
+        case.alloc,
+        last_register(case.before, Register::Erdp),
+        "ERDP is written here",
+    )?;
+    let note = format!(in case.alloc;
+        "that is the place of event {number}, which was read and given back"
+    )?;
+    finding.note(note)?;
+    let stands = ring.shape.address(given_back(case, ring));
+    let next = ring.shape.address(reads(case.before) as u64);
+    let note = format!(in case.alloc;
+        "ERDP stands at {stands:016x}, and may go up to {next:016x}, the event that is read next"
+    )?;
+    finding.note(note)?;
+    finding.help(
+        case.alloc,
+        "write the address of the next event that you will read: ERDP goes forward alone (xHCI 4.9.4)",
+    )?;
+    Ok(finding)
+}
+
+/// ERDP past what was read, or at no event's place.
+fn ahead_erdp(case: &Case, ring: &Ring, found: u64, here: &str) -> Result<Finding, AllocError> {
+    let mut finding = Finding::new(case.alloc, NOT_REACHED, here)?;
     finding.mark(
         case.alloc,
         last_read(case.before),
         "the last event that was read",
     )?;
-    match ring_of_kind(case.header.rings.as_slice(), RingKind::Evt) {
-        None => finding.say(case.alloc, "the header has no `evt` ring")?,
-        Some(ring) => {
-            let count = reads(case.before);
-            let next = ring.shape.address(count as u64);
-            if ring.shape.place_at(found).is_none() {
-                let note = format!(in case.alloc; "{found:016x} is no TRB of the Event Ring")?;
-                finding.note(note)?;
-            }
-            let note = format!(in case.alloc;
-                "events read so far: {count}; ERDP may go up to {next:016x}, the event that is read next"
-            )?;
-            finding.note(note)?;
-        }
+    if ring.shape.place_at(found).is_none() {
+        let note = format!(in case.alloc; "{found:016x} is no TRB of the Event Ring")?;
+        finding.note(note)?;
     }
+    let count = reads(case.before);
+    let next = ring.shape.address(count as u64);
+    let note = format!(in case.alloc;
+        "events read so far: {count}; ERDP may go up to {next:016x}, the event that is read next"
+    )?;
+    finding.note(note)?;
     finding.help(
         case.alloc,
         "write the address of the next event that you will read, after you read those before it",
@@ -341,6 +394,7 @@ pub fn after_stop(case: &Case) -> Result<Finding, AllocError> {
         let note = format!(in case.alloc; "Run/Stop is 0 or HCRST is 1 from row {line} on")?;
         finding.note(note)?;
     }
+    finding.say(case.alloc, NOT_JUDGED)?;
     finding.help(
         case.alloc,
         "begin a new trace with the next run: a file for each",

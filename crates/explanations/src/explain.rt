@@ -6,11 +6,13 @@ ghost use Rattle.trace_reader.specs.Reading.{trace_of};
 use command_findings::{
     after_stop, bad_command, bad_doorbell, bad_erdp, bad_register, busy, not_in_profile,
 };
+use controller_findings::impossible_event;
 use diagnostics::{Diagnostic, Matter, quote};
+use move_findings::bad_move;
 use ownership_rules::Refusal;
 use ring_findings::{
-    bad_descriptor, bad_move, impossible_event, link_fault, never_submitted, not_as_submitted,
-    not_declared, not_whole, ring_full, write_to_owned,
+    bad_descriptor, link_fault, never_submitted, not_as_submitted, not_declared, not_whole,
+    ring_full, write_to_owned,
 };
 use row_history::{Case, Finding, general_head, known_after, line_of, why_refused};
 use std::alloc::{AllocError, Global};

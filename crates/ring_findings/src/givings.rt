@@ -1,8 +1,12 @@
 //! Writes of memory: to what the controller owns, of TRBs that weren't submitted, and of Link TRBs.
-use row_history::{Case, Finding, NOT_JUDGED, last_write, trb_at, word_at, write_to_area};
+use ring_knowledge::RingRecord;
+use row_history::{
+    Case, Finding, last_event, last_write, line_of, note_unchanged, ring_known, trb_at,
+    write_to_area,
+};
 use segments::Place;
 use std::alloc::AllocError;
-use traces::Ring;
+use traces::{Ring, Row};
 use trb::{Block, BlockKind, RingKind};
 
 /// A write to memory that the controller owns.
@@ -15,7 +19,7 @@ pub fn write_to_owned(case: &Case, address: u64, word: u32) -> Result<Finding, A
             };
         }
     }
-    write_to_area(case, address)
+    write_to_area(case, address, word)
 }
 
 /// A write into the event ring.
@@ -58,9 +62,11 @@ fn write_to_ring(
         "the Cycle bit written here hands it to the controller",
     )?;
     note_return(case, &mut finding, kind, is_link)?;
-    let is_same = last_write(case.before, address).is_some()
-        && word_at(case.before, address) == word;
-    note_instead(case, &mut finding, kind, is_link, is_same)?;
+    note_stopped(case, &mut finding, address & !15)?;
+    if !note_unchanged(case, &mut finding, address, word)? {
+        finding.help(case.alloc, instead(kind, is_link))?;
+        note_early(case, &mut finding, ring, place)?;
+    }
     Ok(finding)
 }
 
@@ -99,31 +105,84 @@ fn note_return(
     finding.say(case.alloc, returns)
 }
 
-/// Says what to do in place of a write to a TRB that the controller owns.
-fn note_instead(
-    case: &Case,
-    finding: &mut Finding,
-    kind: RingKind,
-    is_link: bool,
-    is_same: bool,
-) -> Result<(), AllocError> {
-    if is_same {
-        finding.say(
-            case.alloc,
-            "the word is the same as before: no controller sees a difference",
-        )?;
-        finding.say(case.alloc, NOT_JUDGED)?;
-        return finding.help(case.alloc, "leave out the second write");
+/// Notes that a Stopped event named the TRB, which it leaves with the controller.
+fn note_stopped(case: &Case, finding: &mut Finding, base: u64) -> Result<(), AllocError> {
+    let Some(read) = last_event(case.before, BlockKind::TransferEvent, base) else {
+        return Ok(());
+    };
+    let is_behind = last_write(case.before, base | 12).is_some_and(|gave| gave < read);
+    if !is_behind || !reads_stop(case.before.get(read)) {
+        return Ok(());
     }
-    let help = match (kind, is_link) {
+    let line = line_of(case.first, read);
+    let note = format!(in case.alloc;
+        "the Stopped event of row {line} names it, and gives back the TRBs before it alone (xHCI 4.6.9)"
+    )?;
+    finding.note(note)
+}
+
+/// Whether a row reads a Stopped event.
+fn reads_stop(row: Option<&Row>) -> bool {
+    match row {
+        Some(Row::Read { event }) => matches!(event.code(), 26..=28),
+        _ => false,
+    }
+}
+
+/// What to do in place of a write to a TRB that the controller owns.
+fn instead(kind: RingKind, is_link: bool) -> &'static str {
+    match (kind, is_link) {
         (_, true) =>
             "write a Link TRB's words 0 to 2 first and word 3, with the Cycle bit, last and once",
         (RingKind::Cmd, false) =>
             "write a command's words 0 to 2 first and word 3, with the Cycle bit, last and once",
         (_, false) =>
             "write a TRB's words 0 to 2 first and word 3, with the Cycle bit, last and once; to take a TRB back: Stop Endpoint, then Set TR Dequeue Pointer past it",
+    }
+}
+
+/// Notes that a Link TRB was handed over before the ring came to it.
+fn note_early(
+    case: &Case,
+    finding: &mut Finding,
+    ring: &Ring,
+    place: Place,
+) -> Result<(), AllocError> {
+    let (Place::Link { segment, .. }, Some((_, known))) = (place, ring_known(case, ring.id)) else {
+        return Ok(());
     };
-    finding.help(case.alloc, help)
+    let before = trbs_before(ring, known, segment);
+    let submitted = known.declared_count() as u64;
+    if submitted >= before {
+        return Ok(());
+    }
+    let note = format!(in case.alloc;
+        "it was handed over early: it stands behind TRB number {before} of the ring, and TRBs submitted so far are {submitted}"
+    )?;
+    finding.note(note)?;
+    finding.help(
+        case.alloc,
+        "leave a Link TRB's Cycle bit the other one until the TRB before it is written, and flip it then",
+    )
+}
+
+/// How many TRBs of a ring, from its beginning on, stand before the Link TRB of a segment that the controller comes to next.
+fn trbs_before(ring: &Ring, known: &RingRecord, segment: u32) -> u64 {
+    let mut lap = 0u64;
+    for part in ring.shape.segments().iter().take(segment as usize + 1) {
+        lap = lap.saturating_add(u64::from(part.count).saturating_sub(1));
+    }
+    let floor = known.floor_number();
+    if floor <= lap {
+        return lap;
+    }
+    let places = u64::from(ring.shape.places());
+    let behind = (floor - lap) % places;
+    if behind == 0 {
+        floor
+    } else {
+        floor.saturating_add(places).saturating_sub(behind)
+    }
 }
 
 /// A `sub` row for no ring that takes TDs.

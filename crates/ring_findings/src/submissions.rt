@@ -2,8 +2,8 @@
 use guest_memory::Addr;
 use ring_knowledge::RingRecord;
 use row_history::{
-    Case, Finding, is_handed_over, last_write, line_of, position_given, ring_at, submission,
-    trb_at, type_name,
+    Case, Finding, NOT_JUDGED, Submitted, is_handed_over, last_write, line_of, position_given,
+    ring_at, submission, trb_at, type_name,
 };
 use std::alloc::AllocError;
 use traces::Ring;
@@ -33,10 +33,7 @@ pub fn not_as_submitted(case: &Case, at: Addr, word: u32) -> Result<Option<Findi
         here.as_str(),
     )?;
     if let Some(td) = submission(case, ring.id, position) {
-        let [w0, w1, w2, w3] = wanted.w;
-        let label = format!(in case.alloc;
-            "submitted here: {w0:08x} {w1:08x} {w2:08x} {w3:08x} with its Cycle bit"
-        )?;
+        let label = submitted_words(case, td, position, wanted)?;
         finding.mark(case.alloc, Some(td.row), label.as_str())?;
     }
     note_words(case, &mut finding, at.get() & !15, wanted, found)?;
@@ -45,6 +42,28 @@ pub fn not_as_submitted(case: &Case, at: Addr, word: u32) -> Result<Option<Findi
         "write all four words of a TRB, the one with its Cycle bit last, and log in `sub` what you mean to write",
     )?;
     Ok(Some(finding))
+}
+
+/// The words with which a TRB of a TD was submitted.
+fn submitted_words(
+    case: &Case,
+    td: Submitted,
+    position: u64,
+    wanted: Block,
+) -> Result<String, AllocError> {
+    let [w0, w1, w2, w3] = wanted.w;
+    if td.count == 1 {
+        return format!(in case.alloc;
+            "submitted here: {w0:08x} {w1:08x} {w2:08x} {w3:08x} with its Cycle bit"
+        );
+    }
+    let (number, count) = (
+        position.saturating_sub(td.first).saturating_add(1),
+        td.count,
+    );
+    format!(in case.alloc;
+        "submitted here as TRB {number} of {count}: {w0:08x} {w1:08x} {w2:08x} {w3:08x} with its Cycle bit"
+    )
 }
 
 /// Notes the words that differ.
@@ -108,8 +127,9 @@ pub fn never_submitted(case: &Case, at: Addr, word: u32) -> Result<Option<Findin
     )?;
     let count = known.declared_count();
     let number = position.saturating_add(1);
+    let were = if count == 1 { "TRB was" } else { "TRBs were" };
     let note = format!(in case.alloc;
-        "{count} TRBs were submitted on ring {id:02x}, and this would be number {number}"
+        "{count} {were} submitted on ring {id:02x}, and this would be number {number}"
     )?;
     finding.note(note)?;
     let cycle = u8::from(ring.shape.cycle(position));
@@ -159,6 +179,7 @@ pub fn not_whole(case: &Case, at: Addr, word: u32) -> Result<Option<Finding>, Al
         case.alloc,
         "a controller that fetches now waits inside the TD",
     )?;
+    finding.say(case.alloc, NOT_JUDGED)?;
     finding.help(
         case.alloc,
         "write the first TRB with the other Cycle bit, then all others, and flip the first one's Cycle bit last (xHCI 4.9.2.2)",

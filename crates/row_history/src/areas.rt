@@ -1,15 +1,15 @@
 //! What the controller has beside rings: the Event Ring Segment Table, Input Contexts, entries of the DCBAA and Device Contexts.
 use crate::finding::{Case, Finding};
-use crate::rows::{last_register, register_value};
+use crate::rows::{last_register, last_write, register_value};
 use crate::unfinished::all_unfinished;
-use crate::words::ring_of_kind;
+use crate::words::{NOT_JUDGED, ring_of_kind};
 use std::alloc::AllocError;
 use std::fmt;
 use traces::Register;
 use trb::RingKind;
 
 /// What an area is.
-#[derive(Clone, Copy)]
+#[derive(Clone, Copy, PartialEq, Eq)]
 enum AreaKind {
     Table,
     InputContext,
@@ -105,14 +105,19 @@ fn push_device(case: &Case, found: &mut Vec<Area>, slot: u8) -> Result<(), Alloc
     Ok(())
 }
 
-/// The first area of the controller that has one of some bytes.
+/// The area of the controller that has one of some bytes and comes back last: the table, or else the last in the order.
 fn area_touched(case: &Case, from: u64, bytes: u64) -> Result<Option<Area>, AllocError> {
-    let all = areas(case)?;
-    Ok(all.iter().find(|area| area.touches(from, bytes)).copied())
+    let mut found: Option<Area> = None;
+    for area in &areas(case)? {
+        if area.touches(from, bytes) && !found.is_some_and(|kept| kept.kind == AreaKind::Table) {
+            found = Some(*area);
+        }
+    }
+    Ok(found)
 }
 
 /// A write to a context, an entry of the DCBAA or the segment table.
-pub fn write_to_area(case: &Case, address: u64) -> Result<Finding, AllocError> {
+pub fn write_to_area(case: &Case, address: u64, word: u32) -> Result<Finding, AllocError> {
     let Some(area) = area_touched(case, address, 4)? else {
         return Finding::new(
             case.alloc,
@@ -128,7 +133,35 @@ pub fn write_to_area(case: &Case, address: u64) -> Result<Finding, AllocError> {
     finding.mark(case.alloc, area.row, "this row hands it to the controller")?;
     finding.say(case.alloc, comes_back(kind))?;
     finding.help(case.alloc, instead(kind))?;
+    if !matches!(kind, AreaKind::Device(_)) {
+        note_unchanged(case, &mut finding, address, word)?;
+    }
     Ok(finding)
+}
+
+/// Notes that a write to memory which the controller only reads leaves the word as it is. Whether it does.
+pub fn note_unchanged(
+    case: &Case,
+    finding: &mut Finding,
+    address: u64,
+    word: u32,
+) -> Result<bool, AllocError> {
+    if case.known.word(address) != word {
+        return Ok(false);
+    }
+    match last_write(case.before, address) {
+        Some(_) => finding.say(
+            case.alloc,
+            "the word is the same as before: no controller sees a difference",
+        )?,
+        None => finding.say(
+            case.alloc,
+            "the word was never written and counts as 0, which it stays: no controller sees a difference",
+        )?,
+    }
+    finding.say(case.alloc, NOT_JUDGED)?;
+    finding.help(case.alloc, "leave out the second write")?;
+    Ok(true)
 }
 
 /// When an area comes back.

@@ -1,5 +1,6 @@
 //! What was found of a refused row, before its lines are quoted.
 use crate::known::Known;
+use crate::words::{command_name, endpoint_state_name};
 use ring_knowledge::RingRecord;
 use std::alloc::{AllocError, Global};
 use traces::{Header, Ring, Row};
@@ -78,6 +79,31 @@ impl Finding {
         }
         Ok(())
     }
+}
+
+/// Notes which command disabled an endpoint that had a ring, and points at its completion where nothing else is pointed at. Whether
+/// there is one.
+pub fn note_dropped(
+    case: &Case,
+    finding: &mut Finding,
+    slot: u8,
+    endpoint: u8,
+) -> Result<bool, AllocError> {
+    let Some(dropping) = case.known.dropping_of(slot, endpoint) else {
+        return Ok(false);
+    };
+    let state = endpoint_state_name(case.known.devices.endpoint_state(slot, endpoint));
+    let name = command_name(dropping.command);
+    let line = line_of(case.first, dropping.row);
+    let note = format!(in case.alloc;
+        "slot {slot}, DCI {endpoint} is {state}: the {name} that completed at row {line} disabled it"
+    )?;
+    finding.note(note)?;
+    if finding.earlier.is_none() {
+        let label = format!(in case.alloc; "this completion of {name} disabled the endpoint")?;
+        finding.mark(case.alloc, Some(dropping.row), label.as_str())?;
+    }
+    Ok(true)
 }
 
 /// The line of a row, by its index.

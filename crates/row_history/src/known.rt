@@ -24,6 +24,16 @@ pub struct Binding {
     pub row: usize,
 }
 
+/// That a command disabled an endpoint that had a ring.
+#[derive(Clone, Copy)]
+pub struct Dropping {
+    pub slot: u8,
+    pub endpoint: u8,
+    pub command: Command,
+    /// The index of the row that read the command's completion.
+    pub row: usize,
+}
+
 /// That a slot got its Device Context.
 #[derive(Clone, Copy)]
 pub struct Taking {
@@ -45,6 +55,8 @@ pub struct Known {
     /// In the order of their rows.
     pub bindings: Vec<Binding>,
     /// In the order of their rows.
+    pub droppings: Vec<Dropping>,
+    /// In the order of their rows.
     pub takings: Vec<Taking>,
     /// Where the DCBAA lies, once DCBAAP was written.
     pub array: Option<u64>,
@@ -64,6 +76,7 @@ pub fn known_after(alloc: Global, header: &Header, rows: &[Row]) -> Result<Known
         rings,
         devices: DeviceRecord::new(alloc)?,
         bindings: Vec::new(alloc),
+        droppings: Vec::new(alloc),
         takings: Vec::new(alloc),
         array: None,
     };
@@ -331,6 +344,7 @@ impl Known {
             Command::DisableSlot { slot } => {
                 self.devices.go_on(&command, slot);
                 self.devices.leave_device(slot);
+                self.note_droppings(row, command, slot, Named::All)?;
                 self.devices.disable(slot, Named::All);
             }
             Command::ResetDevice { slot }
@@ -340,6 +354,7 @@ impl Known {
                 ..
             } => {
                 self.devices.go_on(&command, slot);
+                self.note_droppings(row, command, slot, Named::AboveControl)?;
                 self.devices.disable(slot, Named::AboveControl);
             }
             Command::AddressDevice {
@@ -356,8 +371,9 @@ impl Known {
                 ..
             } => {
                 self.devices.go_on(&command, slot);
-                let flags = self.word(input_context);
-                self.devices.disable(slot, Named::Dropped(flags));
+                let dropped = Named::Dropped(self.word(input_context));
+                self.note_droppings(row, command, slot, dropped)?;
+                self.devices.disable(slot, dropped);
                 return self.learn_context(header, finder, row, slot, input_context, 2, 32);
             }
             Command::ResetEndpoint { slot, endpoint } => {
@@ -385,6 +401,38 @@ impl Known {
             }
         }
         Ok(())
+    }
+
+    /// Notes which endpoints of a slot have a ring and are disabled now.
+    fn note_droppings(
+        &mut self,
+        row: usize,
+        command: Command,
+        slot: u8,
+        named: Named,
+    ) -> Result<(), AllocError> {
+        for endpoint in 1..32 {
+            if is_named(named, endpoint) && self.devices.ring_of(slot, endpoint).is_some() {
+                self.droppings.push(Dropping {
+                    slot,
+                    endpoint,
+                    command,
+                    row,
+                })?;
+            }
+        }
+        Ok(())
+    }
+
+    /// The command that disabled an endpoint last.
+    pub fn dropping_of(&self, slot: u8, endpoint: u8) -> Option<Dropping> {
+        let mut last = None;
+        for dropping in &self.droppings {
+            if dropping.slot == slot && dropping.endpoint == endpoint {
+                last = Some(*dropping);
+            }
+        }
+        last
     }
 
     /// A Stop Endpoint has succeeded: the ring is held where its controller may be.
@@ -515,5 +563,14 @@ impl Known {
             Some(at) => self.memory.word(at),
             None => 0,
         }
+    }
+}
+
+/// Whether an endpoint is among those that are disabled.
+fn is_named(named: Named, endpoint: u8) -> bool {
+    match named {
+        Named::All => true,
+        Named::AboveControl => endpoint > 1,
+        Named::Dropped(flags) => endpoint > 1 && flags >> (endpoint % 32) & 1 == 1,
     }
 }

@@ -3,6 +3,7 @@
 #![tactic(auto)]
 
 mod areas;
+mod event_places;
 mod finding;
 mod known;
 mod positions;
@@ -11,11 +12,15 @@ mod soiled;
 mod unfinished;
 mod words;
 
-pub use areas::{Beside, clash, write_to_area};
-pub use finding::{Case, Finding, Mark, line_of, ring_at, ring_known};
-pub use known::{Binding, Known, Taking, known_after};
+pub use areas::{Beside, clash, note_unchanged, write_to_area};
+pub use event_places::given_back;
+pub use finding::{Case, Finding, Mark, line_of, note_dropped, ring_at, ring_known};
+pub use known::{Binding, Dropping, Known, Taking, known_after};
 pub use positions::{Submitted, is_handed_over, position_given, submission};
-pub use rows::{last_read, last_register, last_write, reads, register_value, start, stop, word_at};
+pub use rows::{
+    last_event, last_halt, last_read, last_register, last_write, reads, register_value, start,
+    stop, word_at,
+};
 pub use soiled::{SoiledWord, soiled_word};
 pub use unfinished::{Unfinished, all_unfinished, command_at, trb_at, unfinished_of};
 pub use words::{

@@ -10,6 +10,7 @@ use crate::answer::Answer;
 use crate::decode::BlockWords;
 use crate::replay_lines::ReplayEnd;
 use certificates::{no_certificate, other_lease};
+use controller_findings::{notes_on_harm, notes_on_stuck};
 use diagnostics::{
     Matter, explain_bad_line, explain_plan_line, explain_schedule_line, explain_step,
 };
@@ -17,7 +18,6 @@ use explanations::{explain_refused, explain_unfollowed};
 use harms::harm_words;
 use ownership_rules::Refusal;
 use plan_writer::PlanRefusal;
-use ring_findings::notes_on_harm;
 use ring_knowledge::Lease;
 use std::alloc::{AllocError, Global};
 use std::io;
@@ -120,8 +120,11 @@ pub fn note_on_schedule(
         }
         Answer::Replayed {
             ending: ReplayEnd::NotPossible { step },
-            ..
-        } => explain_step(alloc, asked.input, text, *step, None, Vec::new(alloc)),
+            seen,
+        } => {
+            let found = notes_on_stuck(alloc, trace, seen.as_slice())?;
+            explain_step(alloc, asked.input, text, *step, None, found)
+        }
         _ => Ok(String::new(alloc)),
     }
 }

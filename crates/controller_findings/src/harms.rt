@@ -67,7 +67,7 @@ fn last_take(seen: &[Seen]) -> Option<Taken> {
 }
 
 /// How many rows of the trace the driver made.
-fn rows_made(seen: &[Seen]) -> usize {
+pub(crate) fn rows_made(seen: &[Seen]) -> usize {
     seen.iter().filter(|shown| is_row(shown)).count()
 }
 

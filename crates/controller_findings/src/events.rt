@@ -2,9 +2,9 @@
 use commands::{Command, EndpointState};
 use ring_knowledge::RingRecord;
 use row_history::{
-    Case, Finding, code_name, command_name, endpoint_state_name, is_handed_over, last_register,
-    last_write, line_of, reads, register_value, ring_known, ring_of_kind, slot_state_name, start,
-    submission, type_name,
+    Case, Finding, code_name, command_name, endpoint_state_name, given_back, is_handed_over,
+    last_event, last_halt, last_register, last_write, line_of, note_dropped, reads, register_value,
+    ring_known, ring_of_kind, slot_state_name, start, submission, type_name,
 };
 use segments::Place;
 use std::alloc::AllocError;
@@ -92,26 +92,6 @@ fn note_full(case: &Case, finding: &mut Finding, ring: &Ring) -> Result<bool, Al
     Ok(true)
 }
 
-/// How many events the writes of ERDP gave back.
-fn given_back(case: &Case, ring: &Ring) -> u64 {
-    let places = u64::from(ring.shape.places());
-    let mut back = 0u64;
-    for row in case.before {
-        if let Row::Reg {
-            register: Register::Erdp,
-            value,
-        } = row
-        {
-            if let Some(Place::Data { place, .. }) = ring.shape.place_at(*value / 16 * 16) {
-                let reached = back % places;
-                let ahead = (u64::from(place) + places).saturating_sub(reached) % places;
-                back = back.saturating_add(ahead);
-            }
-        }
-    }
-    back
-}
-
 /// What is wrong with a Command Completion Event.
 fn note_completion(case: &Case, finding: &mut Finding, event: Block) -> Result<(), AllocError> {
     let Some(command_ring) = ring_of_kind(case.header.rings.as_slice(), RingKind::Cmd) else {
@@ -124,10 +104,7 @@ fn note_completion(case: &Case, finding: &mut Finding, event: Block) -> Result<(
     let wanted = ring.shape.address(next);
     let found = event.pointer();
     if found != wanted {
-        let note = format!(in case.alloc;
-            "it names {found:016x}; the next command to complete is at {wanted:016x}"
-        )?;
-        return finding.note(note);
+        return note_other_command(case, finding, ring, found, wanted);
     }
     if !is_handed_over(ring, known, next) {
         return note_stale(case, finding, ring, known, next);
@@ -140,10 +117,11 @@ fn note_completion(case: &Case, finding: &mut Finding, event: Block) -> Result<(
             "this row hands the command to the controller",
         )?;
         if known.is_open() {
-            return finding.say(
+            let note = String::from_str(
                 case.alloc,
                 "the Link TRB before that command isn't handed over: the controller waits there",
-            );
+            )?;
+            return note_ungiven_link(case, finding, ring, next, note);
         }
         finding.say(case.alloc, "no doorbell of the Command Ring rang since")?;
         return finding.help(case.alloc, "log the write of doorbell 0 as `db 00 00`");
@@ -159,6 +137,56 @@ fn note_completion(case: &Case, finding: &mut Finding, event: Block) -> Result<(
         Some(block) => note_answer(case, finding, Command::read(&block).ok(), event),
         None => Ok(()),
     }
+}
+
+/// Notes that a Command Completion Event names another TRB than the next command's.
+fn note_other_command(
+    case: &Case,
+    finding: &mut Finding,
+    ring: &Ring,
+    found: u64,
+    wanted: u64,
+) -> Result<(), AllocError> {
+    let what = match ring.shape.place_at(found) {
+        Some(Place::Data { word: 0, .. }) => "",
+        _ => ", which is no command's",
+    };
+    let note = format!(in case.alloc;
+        "it names {found:016x}{what}; the next command to complete is at {wanted:016x}"
+    )?;
+    finding.note(note)?;
+    match last_event(case.before, BlockKind::CommandCompletion, found) {
+        Some(row) => finding.mark(case.alloc, Some(row), "the last completion that named it"),
+        None => Ok(()),
+    }
+}
+
+/// Notes that a Link TRB isn't handed over, and points at the last write of its control word. `next` is the position behind it.
+fn note_ungiven_link(
+    case: &Case,
+    finding: &mut Finding,
+    ring: &Ring,
+    next: u64,
+    note: String,
+) -> Result<(), AllocError> {
+    finding.note(note)?;
+    let Some(before) = next.checked_sub(1) else {
+        return Ok(());
+    };
+    let link = ring.shape.address(before).saturating_add(16);
+    let Some(row) = last_write(case.before, link | 12) else {
+        return finding.say(case.alloc, "its control word was never written");
+    };
+    let cycle = u8::from(ring.shape.cycle(before));
+    let note = format!(in case.alloc;
+        "Cycle bit {cycle} hands it over there, that of the TRB before it"
+    )?;
+    finding.note(note)?;
+    finding.mark(
+        case.alloc,
+        Some(row),
+        "its control word was last written here",
+    )
 }
 
 /// Why a command can't have completed with an event.
@@ -223,6 +251,7 @@ fn note_state(
     slot: u8,
 ) -> Result<(), AllocError> {
     let name = command_name(command);
+    let option = option_name(command);
     let state = slot_state_name(case.known.devices.slot_state(slot));
     let note = match command.endpoint() {
         Some((_, endpoint)) => {
@@ -235,17 +264,41 @@ fn note_state(
         }
         None => {
             format!(in case.alloc;
-                "{name} can't succeed where slot {slot} is {state} (xHCI 4.5.3)"
+                "{name}{option} can't succeed where slot {slot} is {state} (xHCI 4.5.3)"
             )?
         }
     };
     finding.note(note)
 }
 
+/// The flag of a command on which its success depends.
+fn option_name(command: Command) -> &'static str {
+    match command {
+        Command::AddressDevice {
+            block_set_address: true,
+            ..
+        } => " with BSR 1",
+        Command::ConfigureEndpoint {
+            deconfigure: true,
+            ..
+        } => " with DC 1",
+        _ => "",
+    }
+}
+
 /// What is wrong with a Transfer Event.
 fn note_transfer(case: &Case, finding: &mut Finding, event: Block) -> Result<(), AllocError> {
     let (slot, endpoint) = (event.slot(), event.endpoint());
+    if endpoint == 0 {
+        return finding.say(
+            case.alloc,
+            "its Endpoint ID is 0, and a DCI is 1 to 31 (xHCI 6.4.2.1)",
+        );
+    }
     let Some(id) = case.known.devices.ring_of(slot, endpoint) else {
+        if note_dropped(case, finding, slot, endpoint)? {
+            return Ok(());
+        }
         let name = endpoint_state_name(case.known.devices.endpoint_state(slot, endpoint));
         let note = format!(in case.alloc;
             "slot {slot}, DCI {endpoint} is {name} and has no ring: no Address Device or Configure Endpoint that adds it has completed"
@@ -263,7 +316,7 @@ fn note_transfer(case: &Case, finding: &mut Finding, event: Block) -> Result<(),
         }
         Some(Place::Link { segment, word: 0 }) => {
             if is_stopped(event.code()) {
-                return note_stopped(case, finding, event, known);
+                return note_stopped(case, finding, event, ring, known);
             }
             let note = format!(in case.alloc;
                 "it names the Link TRB of segment {segment} of ring {id:02x}, which a Stopped event alone does (xHCI 4.6.9)"
@@ -280,9 +333,29 @@ fn note_transfer(case: &Case, finding: &mut Finding, event: Block) -> Result<(),
             let note = format!(in case.alloc;
                 "it names {pointer:016x}, which is no TRB of ring {id:02x}, the ring of slot {slot}, DCI {endpoint}"
             )?;
-            finding.note(note)
+            finding.note(note)?;
+            note_owner(case, finding, pointer)
         }
     }
+}
+
+/// Notes which ring has an address, where one has it.
+fn note_owner(case: &Case, finding: &mut Finding, address: u64) -> Result<(), AllocError> {
+    let rings = case.header.rings.as_slice();
+    match rings.iter().find(|ring| has_place(ring, address)) {
+        Some(ring) => {
+            let id = ring.id;
+            let note = format!(in case.alloc;
+                "ring {id:02x} has it: look at the event's Slot ID and Endpoint ID"
+            )?;
+            finding.note(note)
+        }
+        None => Ok(()),
+    }
+}
+
+fn has_place(ring: &Ring, address: u64) -> bool {
+    ring.shape.place_at(address).is_some()
 }
 
 /// Whether a Completion Code is that of a stop.
@@ -300,15 +373,11 @@ fn note_named_trb(
     event: Block,
 ) -> Result<(), AllocError> {
     let (slot, endpoint, code) = (event.slot(), event.endpoint(), event.code());
-    let (id, place) = (ring.id, position % u64::from(ring.shape.places()));
     if is_stopped(code) {
-        return note_stopped(case, finding, event, known);
+        return note_stopped(case, finding, event, ring, known);
     }
     if position >= known.declared_count() as u64 {
-        let note = format!(in case.alloc;
-            "it names TRB {place} of ring {id:02x}, which wasn't submitted since it came back"
-        )?;
-        return finding.note(note);
+        return note_unsubmitted(case, finding, ring, position, event.pointer());
     }
     if !is_handed_over(ring, known, position) {
         return note_stale(case, finding, ring, known, position);
@@ -329,13 +398,56 @@ fn note_named_trb(
     note_no_bell(case, finding, slot, endpoint)
 }
 
-/// Notes that no doorbell let the controller go to the ring.
+/// Notes that the TRB that an event names isn't submitted, and the event with which it came back before.
+fn note_unsubmitted(
+    case: &Case,
+    finding: &mut Finding,
+    ring: &Ring,
+    position: u64,
+    pointer: u64,
+) -> Result<(), AllocError> {
+    let places = u64::from(ring.shape.places());
+    let (id, place) = (ring.id, position % places);
+    if position < places {
+        let note = format!(in case.alloc;
+            "it names TRB {place} of ring {id:02x}, which wasn't submitted"
+        )?;
+        return finding.note(note);
+    }
+    finding.mark(
+        case.alloc,
+        last_event(case.before, BlockKind::TransferEvent, pointer),
+        "the last event that named it",
+    )?;
+    let note = format!(in case.alloc;
+        "it names TRB {place} of ring {id:02x}, which wasn't submitted since it came back"
+    )?;
+    finding.note(note)
+}
+
+/// Notes that no doorbell let the controller go on along the ring.
 fn note_no_bell(
     case: &Case,
     finding: &mut Finding,
     slot: u8,
     endpoint: u8,
 ) -> Result<(), AllocError> {
+    let state = case.known.devices.endpoint_state(slot, endpoint);
+    let name = endpoint_state_name(state);
+    let stands = matches!(state, EndpointState::Halted | EndpointState::Error);
+    if stands || case.known.devices.must_move(slot, endpoint) {
+        finding.mark(
+            case.alloc,
+            last_halt(case.before, slot, endpoint),
+            "with this event the controller came to a halt",
+        )?;
+        let how = if stands { "is" } else { "halted there and is" };
+        let when = if stands { " since" } else { "" };
+        let note = format!(in case.alloc;
+            "slot {slot}, DCI {endpoint} {how} {name}{when}: the controller goes on behind a Set TR Dequeue Pointer and a doorbell alone (xHCI 4.6.8, 4.6.10)"
+        )?;
+        return finding.note(note);
+    }
     let note = format!(in case.alloc;
         "no doorbell of slot {slot}, DCI {endpoint} rang since the ring was bound, stopped or moved"
     )?;
@@ -352,15 +464,15 @@ fn note_gap(
 ) -> Result<(), AllocError> {
     let next = known.given_count();
     let (id, place) = (ring.id, next % u64::from(ring.shape.places()));
-    let note = if is_handed_over(ring, known, next) {
-        format!(in case.alloc;
+    if is_handed_over(ring, known, next) {
+        let note = format!(in case.alloc;
             "the Link TRB before TRB {place} of ring {id:02x} isn't handed over: the controller waits there"
-        )?
-    } else {
-        format!(in case.alloc;
-            "TRB {place} of ring {id:02x}, which comes before, isn't handed over: the controller waits there"
-        )?
-    };
+        )?;
+        return note_ungiven_link(case, finding, ring, next, note);
+    }
+    let note = format!(in case.alloc;
+        "TRB {place} of ring {id:02x}, which comes before, isn't handed over: the controller waits there"
+    )?;
     finding.note(note)
 }
 
@@ -369,6 +481,7 @@ fn note_stopped(
     case: &Case,
     finding: &mut Finding,
     event: Block,
+    ring: &Ring,
     known: &RingRecord,
 ) -> Result<(), AllocError> {
     let (slot, endpoint) = (event.slot(), event.endpoint());
@@ -384,39 +497,93 @@ fn note_stopped(
         return note_no_bell(case, finding, slot, endpoint);
     }
     if !is_stopping(case, slot, endpoint) {
+        return note_no_stop(case, finding, slot, endpoint);
+    }
+    let pointer = event.pointer();
+    if has_come_back(ring, known, pointer) {
+        finding.mark(
+            case.alloc,
+            last_event(case.before, BlockKind::TransferEvent, pointer),
+            "the last event that named it",
+        )?;
         let note = format!(in case.alloc;
-            "slot {slot}, DCI {endpoint} is {name}: a Stopped event comes before the completion of its Stop Endpoint (xHCI 4.6.9), and that isn't the next command to complete"
+            "it names {pointer:016x}, which came back before, and isn't submitted since"
         )?;
         return finding.note(note);
     }
-    let pointer = event.pointer();
     let note = format!(in case.alloc;
         "it names {pointer:016x}, behind where the controller can have come: a TRB or Link TRB before isn't handed over"
     )?;
     finding.note(note)
 }
 
-/// Whether the next command to complete is a Stop Endpoint for this endpoint, and the controller may have come to it.
-fn is_stopping(case: &Case, slot: u8, endpoint: u8) -> bool {
-    let Some(commands) = ring_of_kind(case.header.rings.as_slice(), RingKind::Cmd) else {
-        return false;
-    };
-    let Some((_, known)) = ring_known(case, commands.id) else {
-        return false;
-    };
-    let next = known.floor_number();
-    let Some(block) = known.declared(next) else {
-        return false;
-    };
-    match Command::read(&block) {
-        Ok(
-            Command::StopEndpoint {
-                slot: stopped,
-                endpoint: index,
-            },
-        ) => next < known.ceiling() && stopped == slot && index == endpoint,
+/// Whether the TRB at an address came back before, and isn't submitted since.
+fn has_come_back(ring: &Ring, known: &RingRecord, address: u64) -> bool {
+    match ring.shape.place_at(address) {
+        Some(Place::Data { place, .. }) => {
+            let position = position_of(ring, known, u64::from(place));
+            position >= u64::from(ring.shape.places()) && position > known.declared_count() as u64
+        }
         _ => false,
     }
+}
+
+/// Notes that no Stop Endpoint for the endpoint is the next command to complete, or that the controller can't have come to it.
+fn note_no_stop(
+    case: &Case,
+    finding: &mut Finding,
+    slot: u8,
+    endpoint: u8,
+) -> Result<(), AllocError> {
+    if is_next_stop(case, slot, endpoint) {
+        return finding.say(
+            case.alloc,
+            "its Stop Endpoint is submitted, and isn't handed over yet, or no doorbell of the Command Ring rang since",
+        );
+    }
+    let note = format!(in case.alloc;
+        "slot {slot}, DCI {endpoint} is Running: a Stopped event comes before the completion of its Stop Endpoint (xHCI 4.6.9), and that isn't the next command to complete"
+    )?;
+    finding.note(note)
+}
+
+/// Whether the next command to complete is a Stop Endpoint for this endpoint, and the controller may have come to it.
+fn is_stopping(case: &Case, slot: u8, endpoint: u8) -> bool {
+    match next_command(case) {
+        Some(next) => next.may_be_taken && is_stop_of(next.command, slot, endpoint),
+        None => false,
+    }
+}
+
+/// Whether the next command to complete is a Stop Endpoint for this endpoint.
+fn is_next_stop(case: &Case, slot: u8, endpoint: u8) -> bool {
+    match next_command(case) {
+        Some(next) => is_stop_of(next.command, slot, endpoint),
+        None => false,
+    }
+}
+
+fn is_stop_of(command: Command, slot: u8, endpoint: u8) -> bool {
+    command == Command::StopEndpoint { slot, endpoint }
+}
+
+/// The next command to complete, and whether the controller may have come to it.
+#[derive(Clone, Copy)]
+struct NextCommand {
+    command: Command,
+    may_be_taken: bool,
+}
+
+fn next_command(case: &Case) -> Option<NextCommand> {
+    let commands = ring_of_kind(case.header.rings.as_slice(), RingKind::Cmd)?;
+    let (_, known) = ring_known(case, commands.id)?;
+    let next = known.floor_number();
+    let block = known.declared(next)?;
+    let command = Command::read(&block).ok()?;
+    Some(NextCommand {
+        command,
+        may_be_taken: next < known.ceiling(),
+    })
 }
 
 /// The least position from the floor on at a place.

@@ -3,7 +3,8 @@ use commands::{Command, EndpointState};
 use ring_knowledge::RingRecord;
 use row_history::{
     Binding, Case, Finding, NOT_JUDGED, Unfinished, all_unfinished, command_at,
-    endpoint_state_name, is_handed_over, last_write, line_of, ring_at, ring_known, submission,
+    endpoint_state_name, is_handed_over, last_halt, last_write, line_of, ring_at, ring_known,
+    submission,
 };
 use segments::{Place, Spot};
 use std::alloc::AllocError;
@@ -90,9 +91,14 @@ fn note_dequeue(
             "slot {slot}, DCI {endpoint} is {name}, and must be Stopped or Error (xHCI 4.6.10)"
         )?;
         finding.note(note)?;
-        return finding.help(
+        finding.help(
             case.alloc,
             "Stop Endpoint, or Reset Endpoint after a halt, first, and read its completion",
+        )?;
+        return finding.mark(
+            case.alloc,
+            halt_row(case, state, slot, endpoint),
+            "with this event the endpoint halted",
         );
     }
     let Some(id) = case.known.devices.ring_of(slot, endpoint) else {
@@ -106,6 +112,15 @@ fn note_dequeue(
         note_allowed(case, finding, ring, known)?;
     }
     Ok(())
+}
+
+/// The row that reads the event by which an endpoint halted, where it is Halted.
+fn halt_row(case: &Case, state: EndpointState, slot: u8, endpoint: u8) -> Option<usize> {
+    if state == EndpointState::Halted {
+        last_halt(case.before, slot, endpoint)
+    } else {
+        None
+    }
 }
 
 /// Points at the row that bound a ring.
@@ -238,11 +253,16 @@ fn note_allowed(
 ) -> Result<(), AllocError> {
     let mut text = String::from_str(case.alloc, "the ring may go on at")?;
     let mut told = 0usize;
+    let mut more = 0usize;
     let end = (known.declared_count() as u64).saturating_add(1);
     for position in known.ceiling()..end {
         let pointer = ring.shape.address(position);
         let cycle = ring.shape.cycle(position);
-        if told < TOLD && known.may_move_on(&ring.shape, pointer, cycle) {
+        if known.may_move_on(&ring.shape, pointer, cycle) {
+            if told == TOLD {
+                more = more.saturating_add(1);
+                continue;
+            }
             let dcs = u8::from(cycle);
             let before = if told == 0 { "" } else { "," };
             let place = format!(in case.alloc; "{before} {pointer:016x} with DCS {dcs}")?;
@@ -259,6 +279,10 @@ fn note_allowed(
             case.alloc,
             "hand over all before the place where the ring is to go on, and then give the command",
         );
+    }
+    if more > 0 {
+        let rest = format!(in case.alloc; ", and at {more} more")?;
+        text.push_str(rest.as_str())?;
     }
     finding.note(text)?;
     finding.help(
@@ -294,13 +318,7 @@ fn note_added(
         )?;
         return note_second(case, finding, slot);
     }
-    let beginning = case
-        .header
-        .rings
-        .as_slice()
-        .iter()
-        .find(|ring| begins_at(ring, pointer));
-    match beginning {
+    match ring_beginning(case, pointer) {
         None => note_nowhere(case, finding, context, endpoint, pointer, cycle),
         Some(ring) => note_ring(case, finding, ring, endpoint, cycle),
     }
@@ -353,7 +371,7 @@ fn note_twice(
     };
     for earlier in 2..endpoint {
         if let Some(other) = case.known.added(case.header, context, earlier) {
-            if other.pointer == added.pointer {
+            if other.pointer == added.pointer && is_beginning(case, added.pointer) {
                 let pointer = added.pointer;
                 let note = format!(in case.alloc;
                     "DCI {earlier} and DCI {endpoint} both get the ring at {pointer:016x}: a ring serves one endpoint (xHCI 4.9.2)"
@@ -418,6 +436,7 @@ fn note_ring(
             "DCI {endpoint}: Dequeue Cycle State is 0, and must be 1: the rings of a trace begin with Cycle bit 1, and so does ring {id:02x}"
         )?;
         finding.note(note)?;
+        finding.say(case.alloc, NOT_JUDGED)?;
         finding.help(
             case.alloc,
             "set DCS, bit 0 of the TR Dequeue Pointer, to 1, and begin the ring with Cycle bit 1",
@@ -488,6 +507,16 @@ fn begins_ring(case: &Case, context: u64, endpoint: u8, first: u64) -> bool {
         Some(added) => added.pointer == first,
         None => false,
     }
+}
+
+/// The transfer ring that begins at an address.
+fn ring_beginning<'a>(case: &Case<'a>, address: u64) -> Option<&'a Ring> {
+    let rings = case.header.rings.as_slice();
+    rings.iter().find(|ring| begins_at(ring, address))
+}
+
+fn is_beginning(case: &Case, address: u64) -> bool {
+    ring_beginning(case, address).is_some()
 }
 
 /// Whether a transfer ring begins at an address.
