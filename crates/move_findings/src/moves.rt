@@ -259,7 +259,7 @@ fn note_allowed(
         let pointer = ring.shape.address(position);
         let cycle = ring.shape.cycle(position);
         if known.may_move_on(&ring.shape, pointer, cycle) {
-            if told == TOLD {
+            if told >= TOLD {
                 more = more.saturating_add(1);
                 continue;
             }
