@@ -2,7 +2,7 @@
 
 ghost use Rattle.std.specs.Prelude.{◌≡◌, ◌≤◌, length, map};
 ghost use Rattle.std.specs.List.{list_all, list_any};
-ghost use Rattle.segments.specs.Places.{data_count, overlap, place_count};
+ghost use Rattle.segments.specs.Places.{data_count, place_count};
 ghost use Rattle.segments.specs.Shape.{alignment, are_apart, is_segment, is_shape, least_count, segments_overlap};
 ghost use Rattle.segments.specs.ShapeValue.{segment_of, shape_of};
 
@@ -51,13 +51,6 @@ fn is_segment(kind: RingKind, segment: Segment) -> bool
         && segment.count >= least_count(kind)
         && segment.count <= MOST_BLOCKS
         && segment.base % PAGE + 16 * u64::from(segment.count) <= PAGE
-}
-
-/// Whether `m` bytes from `a` on and `n` bytes from `b` on have a byte in common. Nothing wraps.
-pub(crate) fn overlap(a: u64, m: u64, b: u64, n: u64) -> bool
-    ensures { result ≡ overlap a m b n }
-{
-    u128::from(a) < u128::from(b) + u128::from(n) && u128::from(b) < u128::from(a) + u128::from(m)
 }
 
 fn overlaps_any(segment: Segment, others: &[(u64, u16)]) -> bool

@@ -1,9 +1,7 @@
 ghost use Rattle.std.specs.Prelude.{◌≡◌, ◌*◌, ◌/◌, ◌-◌, true};
 ghost use Rattle.std.specs.Option.{SomeIff};
-ghost use Rattle.segments.specs.Places.{is_in};
+ghost use Rattle.segments.specs.Places.{is_in, overlap};
 ghost use Rattle.segments.specs.Shape.{segments_overlap};
-
-use crate::rules::overlap;
 
 /// A segment of a ring: `count` blocks of 16 bytes from the address `base` on (xHCI 4.9). In a command or transfer
 /// ring the last block of a segment is its Link.
@@ -35,4 +33,11 @@ impl Segment {
             .ok()
             .filter(|block| *block < self.count)
     }
+}
+
+/// Whether `m` bytes from `a` on and `n` bytes from `b` on have a byte in common. Nothing wraps.
+pub(crate) fn overlap(a: u64, m: u64, b: u64, n: u64) -> bool
+    ensures { result ≡ overlap a m b n }
+{
+    u128::from(a) < u128::from(b) + u128::from(n) && u128::from(b) < u128::from(a) + u128::from(m)
 }

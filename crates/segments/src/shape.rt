@@ -7,8 +7,8 @@ ghost use Rattle.segments.specs.ShapeValue.{segment_of, shape_of};
 
 use crate::fault::ShapeFault;
 use crate::place::Place;
-use crate::rules::{count_places, data_blocks, is_shape, overlap};
-use crate::segment::Segment;
+use crate::rules::{count_places, data_blocks, is_shape};
+use crate::segment::{Segment, overlap};
 use std::alloc::{AllocError, Global};
 use std::marker::Model;
 use trb::RingKind;
