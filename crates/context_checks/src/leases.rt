@@ -44,9 +44,7 @@ fn touches_events(t: &TraceRecord, from: u64, len: u64) -> bool
 fn touches_segment(segments: &[Segment], from: u64, len: u64) -> bool
     ensures { result ≡ list_any (λ s. overlap from len s.base (16 * s.count)) segments.now }
 {
-    segments
-        .iter()
-        .any(|segment| overlap(from, len, segment.base, 16 * u64::from(segment.count)))
+    segments.iter().any(|segment| overlap(from, len, segment.base, 16 * u64::from(segment.count)))
 }
 
 /// Whether these bytes touch the segment table, once ERSTBA is written (xHCI 6.5).
