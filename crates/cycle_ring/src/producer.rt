@@ -110,6 +110,8 @@ impl Producer {
         if upto < self.retired || upto > self.enqueued {
             return Err(NotGiven);
         }
+        // a ring has such a shape, on which its rules rest
+        prove!(self.shape.places() > 0);
         self.retired = upto;
         Ok(())
     }

@@ -1,5 +1,5 @@
 -- A finder finds the transfer ring that begins at an address, as a walk over all would
-use Rattle.ring_finder.proofs.Words.{◌≡◌, ◌%◌, ◌<◌, ◌∷◌, ◌∙◌, ◌==◌, ◌&&◌, ℕ, List, [], Bool, true, false, Option, Some, None, refl, ap, sym, arith, inl, inr, length, get_or, subst, find, position, eqb-true, cases_Bool, false≢true, and_parts, position-Some, address_of, is_inside, touches, address_inside, address_aligned, touches-word, position-None, Ring, Header, IsHeader, id_of, is_transfer_kind, ring_beginning_at}
+use Rattle.ring_finder.proofs.Words.{◌≡◌, ◌%◌, ◌<◌, ◌∷◌, ◌∙◌, ◌==◌, ◌&&◌, ℕ, List, [], Bool, true, false, Some, None, refl, ap, sym, arith, inl, inr, length, get_or, subst, find, position, eqb-true, cases_Bool, false≢true, and_parts, position-Some, address_of, is_inside, touches, address_inside, address_aligned, touches-word, position-None, Ring, Header, IsHeader, id_of, is_transfer_kind, ring_beginning_at}
 use Rattle.ring_finder.proofs.ListTests.{false_unless}
 use Rattle.ring_finder.proofs.RingsApart.{IsAmong, among_get, each_among, same_or_apart}
 use Rattle.ring_finder.proofs.HeaderRings.{not_found, shape_allowed, together}

@@ -1,5 +1,6 @@
 -- The rings of a header lie apart: no two have the same ID or a byte in common
-use Rattle.ring_finder.proofs.Words.{◌≡◌, ◌≢◌, ◌*◌, ◌<◌, ◌∷◌, ◌∙◌, ◌==◌, ◌&&◌, ◌||◌, ◌⊎◌, ℕ, List, [], Bool, true, false, Some, None, refl, ap, sym, arith, length, get_or, zero, suc, inl, inr, subst, not, slice_get, get_or_from_slice_get, slice_get_within, list_any, or_parts, and_parts, false≢true, nat_tests, is_inside, touches, rings_apart, Ring, clash, may_stand_together, is_command_kind, is_event_kind}
+use Rattle.segments.specs.Shape.{rings_overlap}
+use Rattle.ring_finder.proofs.Words.{◌≡◌, ◌≢◌, ◌<◌, ◌∷◌, ◌∙◌, ◌==◌, ◌&&◌, ◌||◌, ◌⊎◌, ℕ, List, [], Bool, true, false, Some, None, refl, ap, sym, arith, length, get_or, zero, suc, inl, inr, subst, not, slice_get, get_or_from_slice_get, slice_get_within, list_any, or_parts, and_parts, false≢true, nat_tests, is_inside, rings_apart, Ring, clash, may_stand_together, is_command_kind, is_event_kind}
 
 pub same_number : (n : ℕ) → (n == n) ≡ true
 same_number n = grind (arith, nat_tests)
@@ -42,10 +43,10 @@ not_equal m n e same = false≢true (sym e ∙ ap (λ x. x == n) same ∙ same_n
 
 apart_from : (r q : Ring) → clash r q ≡ false → Apart r q
 apart_from r q e =
-    let first = or_parts (r.id == q.id || list_any (λ s. touches q.shape s.base (16 * s.count)) r.shape.segments || (is_command_kind r.shape.kind && is_command_kind q.shape.kind))
+    let first = or_parts (r.id == q.id || rings_overlap r.shape q.shape || (is_command_kind r.shape.kind && is_command_kind q.shape.kind))
     (is_event_kind r.shape.kind && is_event_kind q.shape.kind) e in
-    let second = or_parts (r.id == q.id || list_any (λ s. touches q.shape s.base (16 * s.count)) r.shape.segments) (is_command_kind r.shape.kind && is_command_kind q.shape.kind) first.0 in
-    let third = or_parts (r.id == q.id) (list_any (λ s. touches q.shape s.base (16 * s.count)) r.shape.segments) second.0 in
+    let second = or_parts (r.id == q.id || rings_overlap r.shape q.shape) (is_command_kind r.shape.kind && is_command_kind q.shape.kind) first.0 in
+    let third = or_parts (r.id == q.id) (rings_overlap r.shape q.shape) second.0 in
     record {
       ids = not_equal r.id q.id third.0;
       memory = λ a here there. rings_apart r.shape q.shape a third.1 here there;

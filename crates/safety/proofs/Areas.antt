@@ -29,6 +29,19 @@ byte_apart shape from len x none inside low high =
     false≢true (sym none ∙ and_from _ _ some (any_of (λ s. overlap from len s.base (16 * s.count)) shape.segments s.0 s.1
     (and_from (nat_lt from (s.0.base + 16 * s.0.count)) (nat_lt s.0.base (from + len)) (lt-ltb from (s.0.base + 16 * s.0.count) (omega arith)) (lt-ltb s.0.base (from + len) (omega arith)))))
 
+-- a part of an area that touches no segment touches none
+pub part_apart : (shape : Shape) (from len a n : ℕ) → touches shape from len ≡ false → from ≤ a → a + n ≤ from + len → touches shape a n ≡ false
+part_apart shape from len a n apart low high =
+    false_from_ne_true (touches shape a n) (λ t.
+    let both = and_parts (nat_lt 0 n) (list_any (λ s. overlap a n s.base (16 * s.count)) shape.segments) t in
+    let some = ltb-true 0 n both.0 in
+    let s = some_of (λ s. overlap a n s.base (16 * s.count)) shape.segments both.1 in
+    let parts = and_parts (nat_lt a (s.0.base + 16 * s.0.count)) (nat_lt s.0.base (a + n)) s.2 in
+    let one = ltb-true a (s.0.base + 16 * s.0.count) parts.0 in
+    let two = ltb-true s.0.base (a + n) parts.1 in
+    false≢true (sym apart ∙ and_from _ _ (lt-ltb 0 len (omega arith)) (any_of (λ s. overlap from len s.base (16 * s.count)) shape.segments s.0 s.1
+    (and_from (nat_lt from (s.0.base + 16 * s.0.count)) (nat_lt s.0.base (from + len)) (lt-ltb from (s.0.base + 16 * s.0.count) (omega arith)) (lt-ltb s.0.base (from + len) (omega arith))))))
+
 pub ring_untouched : (h : Header) (from len : ℕ) → touches_ring h from len ≡ false → (r : Ring) → IsIn r h.rings → touches r.shape from len ≡ false
 unfolding touches_ring
 ring_untouched h from len none r at = false_from_ne_true (touches r.shape from len) (λ t. false≢true (sym none ∙ any_of (λ r. touches r.shape from len) h.rings r at t))

@@ -1,21 +1,11 @@
 -- The input context of a command that is given stands in the world as the driver wrote it: its success does what is known
-use Rattle.std.proofs.Common.{◌≡◌, ◌+◌, ◌*◌, ◌/◌, ◌^◌, ◌<◌, ◌≤◌, ◌&&◌, ◌∷◌, ◌∙◌, ℕ, suc, zero, Bool, false, List, [], map, filter, nat_le, nat_lt, All, arith, refl, sym, ap, inl, inr, lt-ltb, ltb-true}
-use Rattle.safety.proofs.Words.{range_with_len, cases_eq, false_from_ne_true, false≢true, and_parts, and_from, All-nil, All-cons, All-head, All-tail, All-filter, Shape, overlap, AddressDevice, ConfigureEndpoint, Running, SlotGoesOn, Disables, Places, changes, placed_by_context, ContextSize, Bytes32, Bytes64, input_context_bytes, has_flag, input_add_flag, input_endpoint, added_endpoints, is_dropped, Header, IsHeader, event_size, touches_ring, World, Known, any_of, some_of, Stands, touches_events}
+use Rattle.std.proofs.Common.{◌≡◌, ◌+◌, ◌*◌, ◌/◌, ◌^◌, ◌<◌, ◌≤◌, ◌&&◌, ◌∷◌, ◌∙◌, ℕ, suc, zero, Bool, false, List, [], map, filter, nat_le, All, arith, refl, sym, ap, inl, inr}
+use Rattle.safety.proofs.Words.{range_with_len, cases_eq, All-nil, All-cons, All-head, All-tail, All-filter, AddressDevice, ConfigureEndpoint, Running, SlotGoesOn, Disables, Places, changes, placed_by_context, ContextSize, Bytes32, Bytes64, input_context_bytes, has_flag, input_add_flag, input_endpoint, added_endpoints, is_dropped, Header, IsHeader, event_size, touches_ring, World, Known, Stands, touches_events}
 use Rattle.segments.specs.Places.{touches}
 use Rattle.safety.proofs.Headers.{EventRing, event_ring_is, no_events}
-use Rattle.safety.proofs.Areas.{ContextLies, clean_word, ring_untouched}
+use Rattle.safety.proofs.Areas.{ContextLies, clean_word, part_apart, ring_untouched}
 
 -- ---- one word
-
-touches_within : (shape : Shape) (from len x : ℕ) → touches shape from len ≡ false → from ≤ x → x + 4 ≤ from + len → touches shape x 4 ≡ false
-touches_within shape from len x none low high =
-    false_from_ne_true (touches shape x 4) (λ some.
-    let s = some_of (λ s. overlap x 4 s.base (16 * s.count)) shape.segments some in
-    let parts = and_parts (nat_lt x (s.0.base + 16 * s.0.count)) (nat_lt s.0.base (x + 4)) s.2 in
-    let below = ltb-true x (s.0.base + 16 * s.0.count) parts.0 in
-    let above = ltb-true s.0.base (x + 4) parts.1 in
-    false≢true (sym none ∙ and_from _ _ (lt-ltb 0 len (omega arith)) (any_of (λ s. overlap from len s.base (16 * s.count)) shape.segments s.0 s.1
-    (and_from (nat_lt from (s.0.base + 16 * s.0.count)) (nat_lt s.0.base (from + len)) (lt-ltb from (s.0.base + 16 * s.0.count) (omega arith)) (lt-ltb s.0.base (from + len) (omega arith))))))
 
 untouched : (h : Header) → IsHeader h → (from len x : ℕ) → touches_ring h from len ≡ false → from ≤ x → x + 4 ≤ from + len → touches_events h x ≡ false
 untouched h is from len x none low high =
@@ -23,7 +13,7 @@ untouched h is from len x none low high =
       | inl empty ↦ no_events h is empty x
       | inr some ↦
           let e : EventRing h = event_ring_is h is (omega arith) in
-          ap (λ s. touches s x 4) e.shape ∙ touches_within e.ring.shape from len x (ring_untouched h from len none e.ring e.at) low high
+          ap (λ s. touches s x 4) e.shape ∙ part_apart e.ring.shape from len x 4 (ring_untouched h from len none e.ring e.at) low high
     ]
 
 -- two memories have the same words of an input context

@@ -1,7 +1,7 @@
 -- No two rings of a header have one ID, so each is found by its own
-use Rattle.std.proofs.Common.{◌≡◌, ◌*◌, ◌<◌, ◌==◌, ◌&&◌, ◌||◌, ◌∷◌, ◌∙◌, ℕ, not, Bool, true, false, List, [], nat_lt, Option, Some, None, find, arith, refl, sym, ap, subst, inl, inr, eq-eqb, eqb-true, ltb-true}
+use Rattle.std.proofs.Common.{◌≡◌, ◌<◌, ◌==◌, ◌&&◌, ◌||◌, ◌∷◌, ◌∙◌, ℕ, not, Bool, true, false, List, [], nat_lt, Option, Some, None, find, arith, refl, sym, ap, subst, inl, inr, eq-eqb, eqb-true, ltb-true}
 use Rattle.safety.proofs.Words.{list_any, list_all, cases_Bool, cond-true, cond-false, false≢true, and_parts, or_parts, not-true, none-some, same_Some, RingKind, Cmd, Evt, Xfer, address_of, is_shape, Header, Ring, IsHeader, clash, may_stand_together, is_command_kind, is_event_kind, is_transfer_kind, is_driver_kind, ring_with, id_of, id_or_none, command_ring, command_id, ring_beginning_at, is_driver_ring, is_transfer_ring}
-use Rattle.segments.specs.Places.{touches}
+use Rattle.segments.specs.Shape.{rings_overlap}
 use Rattle.safety.specs.RingsKeep.{IsDriverRing}
 use Rattle.safety.specs.EndpointsKeep.{IsTransferRing}
 use Rattle.safety.proofs.RingsOfHeader.{found_passes, found_allowed}
@@ -18,10 +18,10 @@ found_fails test fails (q ∷ rest) r found none =
 
 other_ids : (x r : Ring) → clash x r ≡ false → (x.id == r.id) ≡ false
 other_ids x r e =
-    let first = or_parts (x.id == r.id || list_any (λ s. touches r.shape s.base (16 * s.count)) x.shape.segments || (is_command_kind x.shape.kind && is_command_kind r.shape.kind))
+    let first = or_parts (x.id == r.id || rings_overlap x.shape r.shape || (is_command_kind x.shape.kind && is_command_kind r.shape.kind))
     (is_event_kind x.shape.kind && is_event_kind r.shape.kind) e in
-    let second = or_parts (x.id == r.id || list_any (λ s. touches r.shape s.base (16 * s.count)) x.shape.segments) (is_command_kind x.shape.kind && is_command_kind r.shape.kind) first.0 in
-    (or_parts (x.id == r.id) (list_any (λ s. touches r.shape s.base (16 * s.count)) x.shape.segments) second.0).0
+    let second = or_parts (x.id == r.id || rings_overlap x.shape r.shape) (is_command_kind x.shape.kind && is_command_kind r.shape.kind) first.0 in
+    (or_parts (x.id == r.id) (rings_overlap x.shape r.shape) second.0).0
 
 -- what any test finds is found by its ID
 pub found_again : (test : Ring → Bool) (rs : List Ring) (r : Ring) → may_stand_together rs ≡ true → find test rs ≡ Some r → find (λ q. q.id == r.id) rs ≡ Some r

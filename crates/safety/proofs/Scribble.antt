@@ -1,6 +1,6 @@
 -- The controller writes a word of a device context that it may write: the run goes on
-use Rattle.std.proofs.Common.{◌≡◌, ◌≢◌, ◌+◌, ◌*◌, ◌<◌, ◌≤◌, ◌∙◌, ℕ, true, false, List, nat_lt, nat_le, Option, Some, None, slice_get, unwrap_or, arith, refl, sym, ap, subst, inl, inr, add-zero, lt-ltb, leb-true, ltb-true}
-use Rattle.safety.proofs.Words.{list_any, range_with_len, cases_lt, false≢true, false_from_ne_true, and_parts, and_from, cond_some, slice_get_within, Block, address_of, is_in, is_inside, overlap, Shape, address_inside, device_context, device_context_bytes, slot_entry, Header, Row, Dcbaap, IsHeader, event_shape, event_size, touches_ring, register_or_zero, World, stored, is_scribbled, scribbled, counted, Known, known, device_named, entry_of, any_of, some_of, DeviceKeeps, DriverKeeps, EventsStand, touches_events, Agrees, Runs, reading}
+use Rattle.std.proofs.Common.{◌≡◌, ◌≢◌, ◌+◌, ◌*◌, ◌<◌, ◌≤◌, ◌∙◌, ℕ, true, false, List, nat_lt, nat_le, Option, Some, None, slice_get, unwrap_or, arith, refl, sym, ap, subst, inl, inr, add-zero, leb-true, ltb-true}
+use Rattle.safety.proofs.Words.{list_any, range_with_len, cases_lt, and_parts, cond_some, slice_get_within, Block, address_of, is_in, is_inside, address_inside, device_context, device_context_bytes, slot_entry, Header, Row, Dcbaap, IsHeader, event_shape, event_size, touches_ring, register_or_zero, World, stored, is_scribbled, scribbled, counted, Known, known, device_named, entry_of, some_of, DeviceKeeps, DriverKeeps, EventsStand, touches_events, Agrees, Runs, reading}
 use Rattle.segments.specs.Places.{touches}
 use Rattle.world_state.specs.World.{event_at}
 use Rattle.world_state.specs.World as of_world
@@ -8,7 +8,7 @@ use Rattle.safety.proofs.Headers.{EventRing, event_ring_is, no_events}
 use Rattle.safety.proofs.RingMemory.{same_block_at}
 use Rattle.safety.proofs.Stored.{late_stored, matches_stored, stands_stored, memory_stored}
 use Rattle.safety.proofs.Counted.{agrees_counted}
-use Rattle.safety.proofs.Areas.{byte_apart, clean_word, ring_untouched, soiled_in_no_context}
+use Rattle.safety.proofs.Areas.{byte_apart, clean_word, part_apart, ring_untouched, soiled_in_no_context}
 
 scribbled_is : (h : Header) (w v : World) (a x : ℕ) → scribbled h w a x ≡ Some v → (list_any (is_scribbled h w a) (range_with_len 0 256) ≡ true) × (stored w a x ≡ v)
 unfolding scribbled
@@ -26,17 +26,6 @@ device_is k s = refl
 entry_is : (k : Known) (s : ℕ) → entry_of k s ≡ slot_entry (register_or_zero k.register Dcbaap) s
 unfolding entry_of
 entry_is k s = refl
-
--- a part of an area that touches no segment touches none
-part_apart : (shape : Shape) (from len a n : ℕ) → touches shape from len ≡ false → from ≤ a → a + n ≤ from + len → touches shape a n ≡ false
-part_apart shape from len a n apart low high =
-    false_from_ne_true (touches shape a n) (λ t.
-    let s = some_of (λ s. overlap a n s.base (16 * s.count)) shape.segments t in
-    let parts = and_parts (nat_lt a (s.0.base + 16 * s.0.count)) (nat_lt s.0.base (a + n)) s.2 in
-    let one = ltb-true a (s.0.base + 16 * s.0.count) parts.0 in
-    let two = ltb-true s.0.base (a + n) parts.1 in
-    false≢true (sym apart ∙ any_of (λ s. overlap from len s.base (16 * s.count)) shape.segments s.0 s.1
-    (and_from (nat_lt from (s.0.base + 16 * s.0.count)) (nat_lt s.0.base (from + len)) (lt-ltb from (s.0.base + 16 * s.0.count) (omega arith)) (lt-ltb s.0.base (from + len) (omega arith)))))
 
 some_device : (o : Option ℕ) → (o ≡ None → ⊥) → (d : ℕ) × (o ≡ Some d)
 some_device None h = absurd (h refl)

@@ -57,6 +57,13 @@ module _ (kind : RingKind) (segments : List Segment) (firsts : List ℕ) (are : 
           ];
         }
 
+-- a ring of one segment has all its places there
+pub only_segment : (kind : RingKind) (segments : List Segment) (firsts : List ℕ) (place : ℕ) → AreFirsts kind segments (length segments) firsts → length firsts ≡ 1 →
+    place < before kind segments (length segments) → IsSegmentOf kind segments place 0
+only_segment kind [] firsts place are one within = absurd (omega (arith, are.many))
+only_segment kind (s ∷ []) firsts place are one within = record { number = omega arith; first = omega arith; end = within }
+only_segment kind (s ∷ t ∷ rest) firsts place are one within = absurd (omega (arith, are.many))
+
 -- one segment more
 pub firsts_push : (kind : RingKind) (segments : List Segment) (n : ℕ) (firsts : List ℕ) (place : ℕ) → AreFirsts kind segments n firsts →
     place ≡ before kind segments n → AreFirsts kind segments (n + 1) (firsts ++ place ∷ [])

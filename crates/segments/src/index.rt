@@ -46,6 +46,10 @@ impl SegmentIndex {
     pub(crate) fn segment_of(&self, place: u32) -> usize
         ensures { (kind : RingKind) (segments : List Segment) → IsIndex kind segments self.now → place < before kind segments (length segments) → IsSegmentOf kind segments place result }
     {
+        // most rings have one segment alone
+        if self.firsts.len() == 1 {
+            return 0;
+        }
         let after = self.firsts.partition_point(|first| *first <= place);
         after.saturating_sub(1)
     }

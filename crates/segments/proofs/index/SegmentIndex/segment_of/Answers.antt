@@ -1,5 +1,5 @@
 use Rattle.segments.proofs.Words.{◌≡◌, ◌-◌, ◌≤◌, ℕ, List, true, false, length, sym, subst, ap, arith, leb, rules, IsNonDecreasingBy, IsPartitionPoint, IsPartitionPoint-from_clause, IsPartitionedBy-leb}
-use Rattle.segments.proofs.IndexSearch.{firsts_rise, segment_found}
+use Rattle.segments.proofs.IndexSearch.{firsts_rise, only_segment, segment_found}
 use Rattle.segments.proofs.index.SegmentIndex.segment_of.Goals as goal
 
 pub returns : goal.returns
@@ -11,3 +11,6 @@ returns c = λ kind segments is within.
     let bound : c.partition_point-after.result ≤ length c.args.self.now.firsts.items = omega (arith, c.partition_point-after.ensures.bound, ap length c.deref.ensures.value) in
     let one : c.saturating_sub.result ≡ c.partition_point-after.result - 1 = search rules in
     rw one (segment_found kind segments c.args.self.now.firsts.items is.firsts c.args.place c.partition_point-after.result point bound within)
+
+pub returns-then-len-eq1 : goal.returns-then-len-eq1
+returns-then-len-eq1 c = λ kind segments is within. only_segment kind segments c.args.self.now.firsts.items c.args.place is.firsts (search rules) within
