@@ -79,7 +79,6 @@ module _ (h : Header) (k m : Known) (w v : World) (c : ChangeKeeps h k m w v) (s
     endpoints = c.states.endpoints;
     ring_of = c.states.ring_of;
     rings = λ q other. endpoint_ring u q other (c.states.rings q other);
-    fresh = c.states.fresh;
     before = λ off. absurd (false≢true (sym off ∙ on));
     command = λ started. let x = y.command on in record {
       spot = x.spot;

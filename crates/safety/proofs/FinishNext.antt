@@ -78,7 +78,6 @@ module _ (h : Header) (is : IsHeader h) (k : Known) (d : DriverKeeps h k) (on : 
       endpoints = y.endpoints;
       ring_of = y.ring_of;
       rings = λ q other. other_ring u q other (y.rings q other);
-      fresh = y.fresh;
       before = λ off. let b = y.before off in record { inactive = b.inactive; no_events = b.no_events; none = refl };
       command = λ started. record {
         spot = t;

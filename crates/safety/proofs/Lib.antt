@@ -56,6 +56,7 @@ pub mod SlotChanges
 pub mod StopChange
 pub mod DisableChange
 pub mod NumberedChanges
+pub mod SameRings
 pub mod NumberedHistories
 pub mod FinishSlots
 pub mod StoppedRing

@@ -32,8 +32,7 @@ module _ (h : Header) (rows : List Row) where
     slots = λ s. refl;
     endpoints = λ s i. refl;
     ring_of = λ s i. refl;
-    rings = λ r other. inr (record { none = λ s i at. none-some r at; rests = record { inactive = refl; in_order = refl; as_declared = refl } });
-    fresh = λ r other unbound. refl;
+    rings = λ r other. inr (record { none = λ s i at. none-some r at; rests = record { inactive = refl; in_order = refl; as_declared = refl }; from = omega arith; to = omega arith });
     before = λ off. record { inactive = refl; no_events = refl; none = refl };
     command = λ on. absurd (false≢true on);
     scribbles = λ s on. absurd (false≢true on);
