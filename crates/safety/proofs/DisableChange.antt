@@ -1,6 +1,6 @@
 -- The change of endpoints that are disabled: they have no ring, and what ring they had is inactive
 use Rattle.std.proofs.Common.{◌≡◌, ◌⊎◌, ◌+◌, ◌<◌, ◌≤◌, ◌==◌, ◌&&◌, if◌then◌else◌, ◌∙◌, ℕ, suc, zero, Bool, true, false, not, Option, Some, None, arith, refl, sym, ap, subst, inl, inr, eq-eqb, eqb-true, ne_eqb}
-use Rattle.safety.proofs.Words.{list_any, range_with_len, cases_Bool, cases_eq, false≢true, and_from, and_left, and_right, and_parts, or_left, or_right, cond-false, none-some, same_Some, Command, Off, Disables, Header, is_ring, shape_of, command_id, World, Known, RingState, state_of, BoundRing, FreeRing, EndpointRing}
+use Rattle.safety.proofs.Words.{list_any, range_with_len, cases_Bool, cases_eq, false≢true, and_from, and_left, and_right, and_parts, or_left, or_right, cond-false, none-some, same_Some, Command, Off, Disables, Header, is_ring, shape_of, command_id, World, Known, RingState, state_of, BoundRing, FreeRing, EndpointRing, rank_least, rank_most}
 use Rattle.controller_model.specs.Bindings as bindings
 use Rattle.ring_knowledge.specs.Completions as completions
 use Rattle.safety.proofs.SafeContext.{none_in_range}

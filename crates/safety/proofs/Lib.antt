@@ -66,6 +66,7 @@ pub mod ReportStop
 pub mod ReportRuns
 pub mod RowsLeft
 pub mod ContextReads
+pub mod BoundRings
 pub mod CommandsBeside
 pub mod CommandsStay
 pub mod CommandsSame

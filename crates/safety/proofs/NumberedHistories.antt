@@ -33,7 +33,7 @@ module _ (h : Header) where
   event_numbered k b CommandCompletion all = completed_numbered k b all
   event_numbered k b _ all = all
 
-  row_numbered : (k : Known) (row : Row) → AreNumbered k → AreNumbered (learned h k row)
+  pub row_numbered : (k : Known) (row : Row) → AreNumbered k → AreNumbered (learned h k row)
   unfolding learned on_ring
   row_numbered k (Sub r blocks) all = same_numbered h k (on_ring h k r (Declares blocks)) refl all
   row_numbered k (Write a w) all = same_numbered h k (written h k a w) (written_same h k a w) all

@@ -1,6 +1,6 @@
 -- Before the first row: nothing is known, nothing is posted, and the opening world agrees with that
 use Rattle.std.proofs.Common.{◌≡◌, ◌≤◌, ℕ, false, List, [], arith, refl, inr}
-use Rattle.safety.proofs.Words.{false≢true, All-nil, none-some, IsBlock, Header, Row, opening, nothing, known, Stands, EventsStand, Matches, Runs}
+use Rattle.safety.proofs.Words.{false≢true, All-nil, none-some, IsBlock, Header, Row, opening, nothing, known, Stands, EventsStand, Matches, Runs, next_take, ceiling}
 use Rattle.world_state.specs.Harms as of_harms
 
 module _ (h : Header) (rows : List Row) where
@@ -27,7 +27,7 @@ module _ (h : Header) (rows : List Row) where
   }
 
   matches : Matches h nothing (opening rows)
-  unfolding nothing opening of_harms.is_out_of_order of_harms.has_other_words
+  unfolding nothing opening of_harms.is_out_of_order of_harms.has_other_words next_take ceiling
   matches = record {
     slots = λ s. refl;
     endpoints = λ s i. refl;

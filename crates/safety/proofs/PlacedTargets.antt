@@ -1,6 +1,6 @@
 -- Where more is declared of rings, an unfinished command places endpoints at the same targets
 use Rattle.std.proofs.Common.{◌≡◌, ◌+◌, ◌≤◌, ◌==◌, ◌&&◌, ◌||◌, if◌then◌else◌, ◌∷◌, ◌∙◌, ℕ, zero, suc, not, Bool, true, false, List, [], map, filter, All, Option, Some, None, arith, refl, sym, ap, eq-eqb}
-use Rattle.safety.proofs.Words.{range_with_len, cond-true, cond_both, false≢true, or_parts, not-false, All-head, All-tail, All-weaker, Spot, declared, floor_number, ceiling, target, is_move, given_count_declared, floor_given, ceiling_within, Command, NoOp, EnableSlot, DisableSlot, AddressDevice, ConfigureEndpoint, EvaluateContext, ResetEndpoint, StopEndpoint, SetTrDequeue, ResetDevice, EndpointState, Off, Running, is_off, is_at_rest, Change, SlotGoesOn, Disables, Places, changes, placed_by_context, added_endpoints, input_add_flag, is_dropped, context_pointer, context_cycle, Header, IsHeader, shape_of, ring_beginning_at, Known, on_ring, set_to, bound_to, moved_to, moved, pointed, disabled, in_state, changed_by, is_bad_dequeue, is_bad_move, IsDriverRing, DriverKeeps, StillHolds}
+use Rattle.safety.proofs.Words.{range_with_len, cond-true, cond_both, false≢true, or_parts, not-false, All-head, All-tail, All-weaker, Spot, declared, floor_number, ceiling, target, is_move, given_count_declared, floor_given, ceiling_within, Command, NoOp, EnableSlot, DisableSlot, AddressDevice, ConfigureEndpoint, EvaluateContext, ResetEndpoint, StopEndpoint, SetTrDequeue, ResetDevice, EndpointState, Off, Running, is_off, is_at_rest, Change, SlotGoesOn, Disables, Places, changes, placed_by_context, added_endpoints, input_add_flag, is_dropped, context_pointer, context_cycle, Header, IsHeader, shape_of, ring_having, Known, on_ring, set_to, bound_to, moved_to, moved, pointed, disabled, in_state, changed_by, is_bad_dequeue, is_bad_move, IsDriverRing, DriverKeeps, StillHolds}
 use Rattle.safety.proofs.Headers.{ring_shape, transfer_driver}
 use Rattle.safety.proofs.EndpointPut.{at_pair}
 use Rattle.safety.proofs.AlikeChanges.{TargetsAre}
@@ -45,11 +45,6 @@ module _ (h : Header) where
   unfolding set_to on_ring
   set_states k r t = refl
 
-  bound_states : (k : Known) (s i : ℕ) (o : Option ℕ) → (bound_to h k s i o).endpoint_state ≡ k.endpoint_state
-  unfolding bound_to
-  bound_states k s i None = refl
-  bound_states k s i (Some r) = set_states k r _
-
   target_states : (k : Known) (r : ℕ) (o : Option Spot) → (moved_to h k r o).endpoint_state ≡ k.endpoint_state
   unfolding moved_to
   target_states k r None = refl
@@ -60,11 +55,16 @@ module _ (h : Header) where
   moved_states k None p cycle = refl
   moved_states k (Some r) p cycle = target_states k r (target (shape_of h r) (k.ring r) p cycle)
 
+  bound_states : (k : Known) (s i : ℕ) (o : Option ℕ) (p : ℕ) (cycle : Bool) → (bound_to h k s i o p cycle).endpoint_state ≡ k.endpoint_state
+  unfolding bound_to
+  bound_states k s i None p cycle = refl
+  bound_states k s i (Some r) p cycle = moved_states k (Some r) p cycle
+
   pointed_states : (k : Known) (s i p : ℕ) (cycle : Bool) → (pointed h k s i p cycle).endpoint_state ≡ k.endpoint_state
   unfolding pointed
   pointed_states k s i p cycle =
-      cond_both (is_off (k.endpoint_state s i)) (bound_to h k s i (ring_beginning_at h p)) (moved h k (k.ring_of s i) p cycle) (λ x. x.endpoint_state ≡ k.endpoint_state)
-      (λ _. bound_states k s i (ring_beginning_at h p)) (λ _. moved_states k (k.ring_of s i) p cycle)
+      cond_both (is_off (k.endpoint_state s i)) (bound_to h k s i (ring_having h p) p cycle) (moved h k (k.ring_of s i) p cycle) (λ x. x.endpoint_state ≡ k.endpoint_state)
+      (λ _. bound_states k s i (ring_having h p) p cycle) (λ _. moved_states k (k.ring_of s i) p cycle)
 
   placed_states : (c : Command) (k : Known) (s i p : ℕ) (cycle : Bool) (state : EndpointState) (j : ℕ) → i + 1 ≤ j → (changed_by h c k (Places s i p cycle state)).endpoint_state s j ≡ k.endpoint_state s j
   unfolding changed_by in_state

@@ -69,7 +69,7 @@ pub use Rattle.segments.proofs.Giving.{IsCrossingDue, crossing_due_from, due_fro
 pub use Rattle.segments.proofs.InsideLemmas.{rings_apart, touches-word}
 pub use Rattle.segments.proofs.MemoryWords.{put_elsewhere, put_here}
 pub use Rattle.segments.proofs.MoveTargets.{between, move_target}
-pub use Rattle.segments.proofs.MovesStay.{is_border-push, move-declares, move-writes, move_more}
+pub use Rattle.segments.proofs.MovesStay.{is_border-push, move-declares, move-writes, move_more, placement_still}
 pub use Rattle.segments.proofs.Named.{IsAhead, below_is, ceiling_held, ceiling_open, ceiling_within, found_is, named_ahead, start_reached, target_ahead}
 pub use Rattle.segments.proofs.NamedSpots.{IsNamed, named_spot-Some, named_spot-is, named_spot-near}
 pub use Rattle.segments.proofs.NewRing.{new_ring_keeps}
