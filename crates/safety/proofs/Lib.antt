@@ -209,3 +209,6 @@ pub mod CommandGood
 pub mod GivenSquare
 pub mod WriteSquare
 pub mod Words
+pub mod RingsKept
+pub mod OpenedBefore
+pub mod BoundBehind

@@ -7,7 +7,7 @@ use Rattle.safety.proofs.RingsOfHeader.{shape_allowed}
 use Rattle.safety.proofs.RingIds.{having_transfer, transfer_driver}
 use Rattle.safety.proofs.DriverRows.{ring_elsewhere}
 
-at_rest_on : (state : EndpointState) → is_at_rest state ≡ true → is_off state ≡ true → ⊥
+pub at_rest_on : (state : EndpointState) → is_at_rest state ≡ true → is_off state ≡ true → ⊥
 at_rest_on Off rest off = false≢true rest
 at_rest_on _ rest off = false≢true off
 
