@@ -62,7 +62,7 @@ pub use Rattle.safety.specs.Stands.{EventsStand, Stands, touches_events}
 pub use Rattle.segments.proofs.Crossings.{crossed_link, crosses, cycle_of-crossed, is_crossing-lap, link_address-lap, link_address_is, link_target-crossed}
 pub use Rattle.segments.proofs.DataPlaces.{link_aligned, link_ends}
 pub use Rattle.segments.proofs.Declaring.{declares_keeps, given_count-declares, slice_get-append}
-pub use Rattle.segments.proofs.DueLists.{leased_crossing, leased_position, position_given, position_given_is}
+pub use Rattle.segments.proofs.DueLists.{crossing_given, leased_crossing, leased_position, position_given, position_given_is}
 pub use Rattle.segments.proofs.Elsewhere.{address_inside, link_address_inside}
 pub use Rattle.segments.proofs.GivenCount.{given_below, given_count_grows, given_count_same, given_count_stops}
 pub use Rattle.segments.proofs.Giving.{IsCrossingDue, crossing_due_from, due_from, due_is, gives_crossing_from, gives_crossing_is, gives_from, gives_is}
