@@ -134,7 +134,8 @@ pub mod WrittenKnown
 pub mod WriteBeside
 pub mod CommandsWritten
 pub mod SlotCommands
-pub mod OtherSlots
+pub mod Concerned
+pub mod Untouched
 pub mod ReadRow
 pub mod StopRow
 pub mod CommandsFinished

@@ -1,0 +1,225 @@
+-- The success of a command leaves other slots, and the rings that it doesn't name; that of a command of an endpoint leaves the other endpoints of its slot too
+use Rattle.std.proofs.Common.{◌≡◌, ◌==◌, ◌&&◌, ◌∷◌, ◌∙◌, ℕ, Bool, true, false, List, [], Option, None, Some, refl, sym, ap, subst, ne_eqb}
+use Rattle.safety.proofs.Words.{cond_both, cond-false, and_left, none-some, put_pair, Spot, Data, number, RingChange, Reaches, Holds, ceiling, target, Command, EndpointState, Off, Stopped, is_off, Change, SlotGoesOn, DeviceLeft, Disables, Places, Stops, Resets, Header, shape_of, ring_beginning_at, Known, on_ring, set_to, bound_to, moved_to, moved, pointed, disabled, in_state, held_at_ceiling, changed_by, changed_by_all}
+use Rattle.safety.proofs.DriverRows.{ring_elsewhere}
+use Rattle.safety.proofs.EndpointPut.{at_pair, at_number}
+
+-- i is part of what changed of a slot: one endpoint's index, or the whole slot
+abbrev pub IsPart : Option ℕ → ℕ → Type 0
+IsPart None i = Unit {0}
+IsPart (Some j) i = i ≡ j
+
+-- what the success of a command may have left as it was: all but slot s, or all but one endpoint of it, and but the rings of which B holds
+pub record Untouched (k l : Known) (s : ℕ) (part : Option ℕ) (B : ℕ → Type 0) : Type 0 where
+  pub device : (t : ℕ) → (t ≡ s → part ≡ None → ⊥) → l.device t ≡ k.device t
+  pub fewer : (t e : ℕ) → l.device t ≡ Some e → k.device t ≡ Some e
+  pub slot_state : (t : ℕ) → (t ≡ s → part ≡ None → ⊥) → l.slot_state t ≡ k.slot_state t
+  pub states : (t i : ℕ) → (t ≡ s → IsPart part i → ⊥) → l.endpoint_state t i ≡ k.endpoint_state t i
+  pub ring_of : (t i : ℕ) → (t ≡ s → IsPart part i → ⊥) → l.ring_of t i ≡ k.ring_of t i
+  pub within : (i r : ℕ) → IsPart part i → l.ring_of s i ≡ Some r → B r
+  pub was_bound : (r : ℕ) → (B r → ⊥) → l.was_bound r ≡ k.was_bound r
+  pub rings : (r : ℕ) → (B r → ⊥) → l.ring r ≡ k.ring r
+
+module _ (s : ℕ) (part : Option ℕ) (B : ℕ → Type 0) where
+  abbrev pub Within : Known → Type 0
+  Within k = (i r : ℕ) → IsPart part i → k.ring_of s i ≡ Some r → B r
+
+  pub all_untouched : (k : Known) → Within k → Untouched k k s part B
+  all_untouched k within = record {
+    device = λ t other. refl;
+    fewer = λ t e at. at;
+    slot_state = λ t other. refl;
+    states = λ t i other. refl;
+    ring_of = λ t i other. refl;
+    within = within;
+    was_bound = λ r out. refl;
+    rings = λ r out. refl;
+  }
+
+  pub both_untouched : (k l m : Known) → Untouched k l s part B → Untouched l m s part B → Untouched k m s part B
+  both_untouched k l m a b = record {
+    device = λ t other. b.device t other ∙ a.device t other;
+    fewer = λ t e at. a.fewer t e (b.fewer t e at);
+    slot_state = λ t other. b.slot_state t other ∙ a.slot_state t other;
+    states = λ t i other. b.states t i other ∙ a.states t i other;
+    ring_of = λ t i other. b.ring_of t i other ∙ a.ring_of t i other;
+    within = b.within;
+    was_bound = λ r out. b.was_bound r out ∙ a.was_bound r out;
+    rings = λ r out. b.rings r out ∙ a.rings r out;
+  }
+
+  part_is : (i j : ℕ) → IsPart part i → j ≡ i → IsPart part j
+  part_is i j mine same = subst (λ x. IsPart part x) (sym same) mine
+
+  all_part : (i : ℕ) → part ≡ None → IsPart part i
+  all_part i whole = subst (λ o. IsPart o i) (sym whole) tt
+
+  module _ (h : Header) where
+    -- a ring of which B holds
+    pub on_untouched : (k : Known) → Within k → (r : ℕ) (change : RingChange) → B r → Untouched k (on_ring h k r change) s part B
+    unfolding on_ring
+    on_untouched k within r change named = record {
+      device = λ t other. refl;
+      fewer = λ t e at. at;
+      slot_state = λ t other. refl;
+      states = λ t i other. refl;
+      ring_of = λ t i other. refl;
+      within = within;
+      was_bound = λ q out. refl;
+      rings = λ q out. ring_elsewhere h k r q change (λ same. out (subst B (sym same) named));
+    }
+
+    on_within : (k : Known) → Within k → (r : ℕ) (change : RingChange) → Within (on_ring h k r change)
+    unfolding on_ring
+    on_within k within r change = within
+
+    set_untouched : (k : Known) → Within k → (r : ℕ) (t : Spot) → B r → Untouched k (set_to h k r t) s part B
+    unfolding set_to
+    set_untouched k within r t named =
+        both_untouched k (on_ring h k r (Reaches t)) (on_ring h (on_ring h k r (Reaches t)) r (Holds (number t))) (on_untouched k within r (Reaches t) named)
+        (on_untouched (on_ring h k r (Reaches t)) (on_within k within r (Reaches t)) r (Holds (number t)) named)
+
+    bound_untouched : (k : Known) → Within k → (i : ℕ) → IsPart part i → (o : Option ℕ) → ((r : ℕ) → o ≡ Some r → B r) → Untouched k (bound_to h k s i o) s part B
+    unfolding bound_to
+    bound_untouched k within i mine None named = all_untouched k within
+    bound_untouched k within i mine (Some r) named =
+        let set : Untouched k (set_to h k r (Data 0)) s part B = set_untouched k within r (Data 0) (named r refl) in
+        record {
+          device = set.device;
+          fewer = set.fewer;
+          slot_state = set.slot_state;
+          states = set.states;
+          ring_of = λ t j other. at_pair (λ o. o ≡ k.ring_of t j) k.ring_of s i (Some r) t j (λ a b. absurd (other a (part_is i j mine b))) (λ apart. refl);
+          within = λ j q its. at_pair (λ o. o ≡ Some q → B q) k.ring_of s i (Some r) s j (λ a b at. named q at) (λ apart at. within j q its at);
+          was_bound = λ q out. at_number (λ x. x ≡ k.was_bound q) k.was_bound r true q (λ same. absurd (out (named q (ap (λ n. Some n) (sym same))))) (λ apart. refl);
+          rings = set.rings;
+        }
+
+    moved_untouched : (k : Known) → Within k → (i p : ℕ) → IsPart part i → (cycle : Bool) (o : Option ℕ) → k.ring_of s i ≡ o → Untouched k (moved h k o p cycle) s part B
+    unfolding moved moved_to
+    moved_untouched k within i p mine cycle None at = all_untouched k within
+    moved_untouched k within i p mine cycle (Some r) at = by (target (shape_of h r) (k.ring r) p cycle)
+      where
+        by : (o : Option Spot) → Untouched k (moved_to h k r o) s part B
+        by None = all_untouched k within
+        by (Some t) = set_untouched k within r t (within i r mine at)
+
+    pointed_untouched : (k : Known) → Within k → (i p : ℕ) → IsPart part i → (cycle : Bool) → (is_off (k.endpoint_state s i) ≡ true → (r : ℕ) → ring_beginning_at h p ≡ Some r → B r) →
+        Untouched k (pointed h k s i p cycle) s part B
+    unfolding pointed
+    pointed_untouched k within i p mine cycle named =
+        cond_both (is_off (k.endpoint_state s i)) (bound_to h k s i (ring_beginning_at h p)) (moved h k (k.ring_of s i) p cycle) (λ l. Untouched k l s part B)
+        (λ off. bound_untouched k within i mine (ring_beginning_at h p) (named off)) (λ on. moved_untouched k within i p mine cycle (k.ring_of s i) refl)
+
+    state_untouched : (k : Known) → Within k → (i : ℕ) → IsPart part i → (state : EndpointState) → Untouched k (in_state h k s i state) s part B
+    unfolding in_state
+    state_untouched k within i mine state = record {
+      device = λ t other. refl;
+      fewer = λ t e at. at;
+      slot_state = λ t other. refl;
+      states = λ t j other. at_pair (λ e. e ≡ k.endpoint_state t j) k.endpoint_state s i state t j (λ a b. absurd (other a (part_is i j mine b))) (λ apart. refl);
+      ring_of = λ t j other. refl;
+      within = within;
+      was_bound = λ r out. refl;
+      rings = λ r out. refl;
+    }
+
+    held_untouched : (k : Known) → Within k → (i : ℕ) → IsPart part i → (o : Option ℕ) → k.ring_of s i ≡ o → Untouched k (held_at_ceiling h k o) s part B
+    unfolding held_at_ceiling
+    held_untouched k within i mine None at = all_untouched k within
+    held_untouched k within i mine (Some r) at = on_untouched k within r (Holds (ceiling (shape_of h r) (k.ring r))) (within i r mine at)
+
+    must_untouched : (k l : Known) (f : ℕ → ℕ → Bool) → Untouched k l s part B → Untouched k (let m : Known = record l { must_move = f } in m) s part B
+    must_untouched k l f o =
+        record { device = o.device; fewer = o.fewer; slot_state = o.slot_state; states = o.states; ring_of = o.ring_of; within = o.within; was_bound = o.was_bound; rings = o.rings }
+
+    -- a change of slot s, which binds rings of which B holds
+    abbrev pub ChangesOnly : Known → Change → Type 0
+    ChangesOnly k (SlotGoesOn t) = (t ≡ s) × (part ≡ None)
+    ChangesOnly k (DeviceLeft t) = (t ≡ s) × (part ≡ None)
+    ChangesOnly k (Disables t which) = (t ≡ s) × (part ≡ None)
+    ChangesOnly k (Places t i p cycle state) = (t ≡ s) × IsPart part i × (is_off (k.endpoint_state s i) ≡ true → (r : ℕ) → ring_beginning_at h p ≡ Some r → B r)
+    ChangesOnly k (Stops t i) = (t ≡ s) × IsPart part i
+    ChangesOnly k (Resets t i) = (t ≡ s) × IsPart part i
+
+    goes_on : (c : Command) (k : Known) → Within k → part ≡ None → Untouched k (changed_by h c k (SlotGoesOn s)) s part B
+    unfolding changed_by
+    goes_on c k within whole = record {
+      device = λ t other. refl;
+      fewer = λ t e at. at;
+      slot_state = λ t other. at_number (λ x. x ≡ k.slot_state t) k.slot_state s _ t (λ same. absurd (other same whole)) (λ apart. refl);
+      states = λ t j other. refl;
+      ring_of = λ t j other. refl;
+      within = within;
+      was_bound = λ r out. refl;
+      rings = λ r out. refl;
+    }
+
+    leaves_device : (c : Command) (k : Known) → Within k → part ≡ None → Untouched k (changed_by h c k (DeviceLeft s)) s part B
+    unfolding changed_by
+    leaves_device c k within whole = record {
+      device = λ t other. at_number (λ x. x ≡ k.device t) k.device s None t (λ same. absurd (other same whole)) (λ apart. refl);
+      fewer = λ t e. at_number (λ x. x ≡ Some e → k.device t ≡ Some e) k.device s None t (λ same at. absurd (none-some e at)) (λ apart at. at);
+      slot_state = λ t other. refl;
+      states = λ t j other. refl;
+      ring_of = λ t j other. refl;
+      within = within;
+      was_bound = λ r out. refl;
+      rings = λ r out. refl;
+    }
+
+    disables : (c : Command) (k : Known) (which : ℕ → Bool) → Within k → part ≡ None → Untouched k (changed_by h c k (Disables s which)) s part B
+    unfolding changed_by disabled
+    disables c k which within whole = record {
+      device = λ t other. refl;
+      fewer = λ t e at. at;
+      slot_state = λ t other. refl;
+      states = λ t j other. cond-false (t == s && which j) Off (k.endpoint_state t j) (and_left (t == s) (which j) (ne_eqb t s (λ same. other same (all_part j whole))));
+      ring_of = λ t j other. cond-false (t == s && which j) None (k.ring_of t j) (and_left (t == s) (which j) (ne_eqb t s (λ same. other same (all_part j whole))));
+      within = λ j r mine. cond_both (s == s && which j) None (k.ring_of s j) (λ o. o ≡ Some r → B r) (λ off at. absurd (none-some r at)) (λ on at. within j r mine at);
+      was_bound = λ r out. refl;
+      rings = λ r out. refl;
+    }
+
+    places : (c : Command) (k : Known) (i p : ℕ) (cycle : Bool) (state : EndpointState) → Within k → IsPart part i →
+        (is_off (k.endpoint_state s i) ≡ true → (r : ℕ) → ring_beginning_at h p ≡ Some r → B r) → Untouched k (changed_by h c k (Places s i p cycle state)) s part B
+    unfolding changed_by
+    places c k i p cycle state within mine named =
+        let l : Known = pointed h k s i p cycle in
+        let pointing : Untouched k (pointed h k s i p cycle) s part B = pointed_untouched k within i p mine cycle named in
+        must_untouched k (in_state h l s i state) (put_pair k.must_move s i false) (both_untouched k l (in_state h l s i state) pointing (state_untouched l pointing.within i mine state))
+
+    ring_same : (k : Known) (i : ℕ) → (in_state h k s i Stopped).ring_of s i ≡ k.ring_of s i
+    unfolding in_state
+    ring_same k i = refl
+
+    stops : (c : Command) (k : Known) (i : ℕ) → Within k → IsPart part i → Untouched k (changed_by h c k (Stops s i)) s part B
+    unfolding changed_by
+    stops c k i within mine =
+        let l : Known = in_state h k s i Stopped in
+        let stopped : Untouched k (in_state h k s i Stopped) s part B = state_untouched k within i mine Stopped in
+        both_untouched k l (held_at_ceiling h l (k.ring_of s i)) stopped (held_untouched l stopped.within i mine (k.ring_of s i) (ring_same k i))
+
+    resets : (c : Command) (k : Known) (i : ℕ) → Within k → IsPart part i → Untouched k (changed_by h c k (Resets s i)) s part B
+    unfolding changed_by
+    resets c k i within mine = state_untouched k within i mine Stopped
+
+    pub change_untouched : (c : Command) (k : Known) (change : Change) → Within k → ChangesOnly k change → Untouched k (changed_by h c k change) s part B
+    change_untouched c k (SlotGoesOn t) within only = subst (λ x. Untouched k (changed_by h c k (SlotGoesOn x)) s part B) (sym only.0) (goes_on c k within only.1)
+    change_untouched c k (DeviceLeft t) within only = subst (λ x. Untouched k (changed_by h c k (DeviceLeft x)) s part B) (sym only.0) (leaves_device c k within only.1)
+    change_untouched c k (Disables t which) within only = subst (λ x. Untouched k (changed_by h c k (Disables x which)) s part B) (sym only.0) (disables c k which within only.1)
+    change_untouched c k (Places t i p cycle state) within only = subst (λ x. Untouched k (changed_by h c k (Places x i p cycle state)) s part B) (sym only.0) (places c k i p cycle state within only.1 only.2)
+    change_untouched c k (Stops t i) within only = subst (λ x. Untouched k (changed_by h c k (Stops x i)) s part B) (sym only.0) (stops c k i within only.1)
+    change_untouched c k (Resets t i) within only = subst (λ x. Untouched k (changed_by h c k (Resets x i)) s part B) (sym only.0) (resets c k i within only.1)
+
+    abbrev pub AllOnly : Command → Known → List Change → Type 0
+    AllOnly c k [] = Unit {0}
+    AllOnly c k (change ∷ rest) = ChangesOnly k change × AllOnly c (changed_by h c k change) rest
+
+    pub changes_untouched : (c : Command) (k : Known) (all : List Change) → Within k → AllOnly c k all → Untouched k (changed_by_all h c k all) s part B
+    unfolding changed_by_all
+    changes_untouched c k [] within only = all_untouched k within
+    changes_untouched c k (change ∷ rest) within only =
+        let l : Known = changed_by h c k change in
+        let first : Untouched k (changed_by h c k change) s part B = change_untouched c k change within only.0 in
+        both_untouched k l (changed_by_all h c l rest) first (changes_untouched c l rest first.within only.1)
