@@ -7,8 +7,8 @@ use Rattle.safety.proofs.NoWait.{ceiling_given}
 use Rattle.safety.proofs.SafeContext.{AtFloor, at_floor, command_is_ring}
 use Rattle.safety.proofs.SameDriver.{completion_same}
 use Rattle.safety.proofs.TakenDevices.{slot_above, slot_named}
-use Rattle.safety.proofs.Untouched.{IsPart, Untouched, all_untouched, both_untouched, on_untouched}
-use Rattle.safety.proofs.SlotCommands.{changed_slot, changed_part, OfCommand, Commands, of_slot, success_untouched}
+use Rattle.safety.proofs.OtherSlots.{IsPart, OtherSlots, same_others, both_others, on_others}
+use Rattle.safety.proofs.SlotCommands.{changed_slot, changed_part, OfCommand, Commands, of_slot, success_others}
 use Rattle.safety.proofs.Concerned.{Concerns, not_both}
 use Rattle.safety.proofs.CommandsStay.{own_keeps, pair_keeps, commands_stay}
 use Rattle.safety.proofs.CommandsFinished.{beside_finished, rings_finished, unfinished_before}
@@ -29,11 +29,11 @@ named_on : (k : Known) (t : ℕ) → commands.names_disabled_slot k (Some t) ≡
 unfolding commands.names_disabled_slot
 named_on k t on = on
 
-stop_untouched : (h : Header) (k x : Known) (s : ℕ) (part : Option ℕ) (B : ℕ → Type 0) (e : Command) → Untouched k x s part B → Untouched k (stop_ended h x e) s part B
+stop_others : (h : Header) (k x : Known) (s : ℕ) (part : Option ℕ) (B : ℕ → Type 0) (e : Command) → OtherSlots k x s part B → OtherSlots k (stop_ended h x e) s part B
 unfolding stop_ended
-stop_untouched h k x s part B (StopEndpoint t i) o =
+stop_others h k x s part B (StopEndpoint t i) o =
     record { device = o.device; fewer = o.fewer; slot_state = o.slot_state; states = o.states; ring_of = o.ring_of; within = o.within; was_bound = o.was_bound; rings = o.rings }
-stop_untouched h k x s part B _ o = o
+stop_others h k x s part B _ o = o
 
 module _ (h : Header) (is : IsHeader h) (k : Known) (d : DriverKeeps h k) (b : Block) (e : Command) (here : command_at h k (next_command h k) ≡ Some e) (ends : IsUnfinished h k (next_command h k) e)
     (ring : IsDriverRing h (command_id h)) where
@@ -41,17 +41,17 @@ module _ (h : Header) (is : IsHeader h) (k : Known) (d : DriverKeeps h k) (b : B
   l = completed h k b
 
   -- all that changed is of one slot, or of one endpoint, or a ring that the command names, or the command ring
-  finished_untouched : (s : ℕ) (part : Option ℕ) → Untouched k (if code b == 1 then succeeded h k (slot b) e else k) s part (OfCommand h k s part e) →
-      Untouched k l s part (OfCommand h k s part e)
+  finished_others : (s : ℕ) (part : Option ℕ) → OtherSlots k (if code b == 1 then succeeded h k (slot b) e else k) s part (OfCommand h k s part e) →
+      OtherSlots k l s part (OfCommand h k s part e)
   unfolding completed finished
-  finished_untouched s part o =
+  finished_others s part o =
       let m : Known = finished h k b (Some e) in
       let t : Spot = after (shape_of h (command_id h)) (next_command h k) in
-      let stopped : Untouched k (finished h k b (Some e)) s part (OfCommand h k s part e) =
-      stop_untouched h k (if code b == 1 then succeeded h k (slot b) e else k) s part (OfCommand h k s part e) e o in
-      subst (λ x. Untouched k (on_ring h (finished h k b x) (command_id h) (Reaches (after (shape_of h (command_id h)) (next_command h k)))) s part (OfCommand h k s part e)) (sym here)
-      (both_untouched s part (OfCommand h k s part e) k m (on_ring h m (command_id h) (Reaches t)) stopped
-      (on_untouched s part (OfCommand h k s part e) h m stopped.within (command_id h) (Reaches t) (Commands refl)))
+      let stopped : OtherSlots k (finished h k b (Some e)) s part (OfCommand h k s part e) =
+      stop_others h k (if code b == 1 then succeeded h k (slot b) e else k) s part (OfCommand h k s part e) e o in
+      subst (λ x. OtherSlots k (on_ring h (finished h k b x) (command_id h) (Reaches (after (shape_of h (command_id h)) (next_command h k)))) s part (OfCommand h k s part e)) (sym here)
+      (both_others s part (OfCommand h k s part e) k m (on_ring h m (command_id h) (Reaches t)) stopped
+      (on_others s part (OfCommand h k s part e) h m stopped.within (command_id h) (Reaches t) (Commands refl)))
 
   -- ---- commands that concern nothing that changed
 
@@ -82,7 +82,7 @@ module _ (h : Header) (is : IsHeader h) (k : Known) (d : DriverKeeps h k) (b : B
   pub record Changed : Type 0 where
     pub slot : ℕ
     pub part : Option ℕ
-    pub untouched : Untouched k l slot part (OfCommand h k slot part e)
+    pub others : OtherSlots k l slot part (OfCommand h k slot part e)
     pub apart : (p : ℕ) (c : Command) (t i : ℕ) → IsUnfinished h k p c → p ≢ next_command h k → Concerns c t i → t ≡ slot → IsPart part i → ⊥
 
   pub changed_by_code : (if code b == 1 then can_succeed k.slot_state k.endpoint_state (register_or_zero k.register Config) (slot b) e else not (was_stop_seen k e)) ≡ true → Changed
@@ -94,18 +94,18 @@ module _ (h : Header) (is : IsHeader h) (k : Known) (d : DriverKeeps h k) (b : B
             record {
               slot = s;
               part = changed_part e;
-              untouched = finished_untouched s (changed_part e)
-                  (subst (λ x. Untouched k x s (changed_part e) (OfCommand h k s (changed_part e) e)) (sym (cond-true (code b == 1) (succeeded h k (slot b) e) k success))
-                  (success_untouched h k (slot b) e (d.unfinished (next_command h k) e ends).moves_on));
+              others = finished_others s (changed_part e)
+                  (subst (λ x. OtherSlots k x s (changed_part e) (OfCommand h k s (changed_part e) e)) (sym (cond-true (code b == 1) (succeeded h k (slot b) e) k success))
+                  (success_others h k (slot b) e (d.unfinished (next_command h k) e ends).moves_on));
               apart = λ p c t i u other. not_concerned e (slot b) p c t i can u ((d.unfinished p c u).alone (next_command h k) e ends (λ same. other (sym same)));
             }
         | inr fails ↦
             record {
               slot = 0;
               part = None;
-              untouched = finished_untouched 0 None
-                  (subst (λ x. Untouched k x 0 None (OfCommand h k 0 None e)) (sym (cond-false (code b == 1) (succeeded h k (slot b) e) k fails))
-                  (all_untouched 0 None (OfCommand h k 0 None e) k (of_slot h k 0 None e)));
+              others = finished_others 0 None
+                  (subst (λ x. OtherSlots k x 0 None (OfCommand h k 0 None e)) (sym (cond-false (code b == 1) (succeeded h k (slot b) e) k fails))
+                  (same_others 0 None (OfCommand h k 0 None e) k (of_slot h k 0 None e)));
               apart = λ p c t i u other its same part. not_zero p c t u its.0 same;
             }
       ]
@@ -119,9 +119,9 @@ module _ (h : Header) (is : IsHeader h) (k : Known) (d : DriverKeeps h k) (b : B
       commands_stay h k l (λ p f u. own_keeps h k p f (d.unfinished p f (before p f u).0))
       (λ p q f g u v other. pair_keeps h k p q f g (d.unfinished p f (before p f u).0) (before q g v).0 other)
       (λ p f u. let was = before p f u in
-      beside_finished h is k d (next_command h k) e ends c.slot c.part l driver c.untouched p f was.0 was.1 (λ t i its. c.apart p f t i was.0 was.1 its))
+      beside_finished h is k d (next_command h k) e ends c.slot c.part l driver c.others p f was.0 was.1 (λ t i its. c.apart p f t i was.0 was.1 its))
       (λ p f u. let was = before p f u in
-      rings_finished h is k d (next_command h k) e ends c.slot c.part l driver c.untouched p f was.0 was.1 (λ t i its. c.apart p f t i was.0 was.1 its))
+      rings_finished h is k d (next_command h k) e ends c.slot c.part l driver c.others p f was.0 was.1 (λ t i its. c.apart p f t i was.0 was.1 its))
 
 module _ (h : Header) (is : IsHeader h) (k : Known) (d : DriverKeeps h k) (b : Block) where
   pub may_answer : (o : Option Command) → can_finish k b o ≡ true → (e : Command) × (o ≡ Some e)
@@ -161,4 +161,4 @@ module _ (h : Header) (is : IsHeader h) (k : Known) (d : DriverKeeps h k) (b : B
   pub completion_devices : k.started ≡ true → is_impossible_completion h k b ≡ false → (t c : ℕ) → (completed h k b).device t ≡ Some c → k.device t ≡ Some c
   completion_devices on possible =
       let e : Ending = ending on possible in
-      (changed_by_code h is k d b e.command e.here e.unfinished e.ring e.may).untouched.fewer
+      (changed_by_code h is k d b e.command e.here e.unfinished e.ring e.may).others.fewer

@@ -13,7 +13,7 @@ use Rattle.safety.proofs.SafeContext.{next_is}
 use Rattle.safety.proofs.SameDriver.{SameDriver}
 use Rattle.safety.proofs.AreaFacts.{clean_same, area_parts, area_from, device_apart, devices_apart}
 use Rattle.safety.proofs.WriteBeside.{ContextParts, context_parts, context_from}
-use Rattle.safety.proofs.Untouched.{IsPart, Untouched}
+use Rattle.safety.proofs.OtherSlots.{IsPart, OtherSlots}
 use Rattle.safety.proofs.SlotCommands.{OfCommand, Has, Binds, Commands}
 use Rattle.safety.proofs.CommandsBeside.{Beside}
 use Rattle.safety.proofs.Concerned.{Concerns, some_concerned}
@@ -30,7 +30,7 @@ bound_transfer h is k r c bound =
 -- ---- a command that concerns nothing that changed: it is of another slot, or of another endpoint of the slot
 
 module _ (h : Header) (is : IsHeader h) (k : Known) (d : DriverKeeps h k) (q : ℕ) (e : Command) (ends : IsUnfinished h k q e) (s : ℕ) (part : Option ℕ) (l : Known)
-    (driver : SameDriver k l) (o : Untouched k l s part (OfCommand h k s part e)) (p : ℕ) (c : Command) (u : IsUnfinished h k p c) (other : p ≢ q)
+    (driver : SameDriver k l) (o : OtherSlots k l s part (OfCommand h k s part e)) (p : ℕ) (c : Command) (u : IsUnfinished h k p c) (other : p ≢ q)
     (apart : (t i : ℕ) → Concerns c t i → t ≡ s → IsPart part i → ⊥) where
   keeps : CommandKeeps h k p c
   keeps = d.unfinished p c u

@@ -135,7 +135,7 @@ pub mod WriteBeside
 pub mod CommandsWritten
 pub mod SlotCommands
 pub mod Concerned
-pub mod Untouched
+pub mod OtherSlots
 pub mod ReadRow
 pub mod StopRow
 pub mod CommandsFinished

@@ -2,7 +2,7 @@
 use Rattle.std.proofs.Common.{◌≡◌, if◌then◌else◌, ◌∷◌, ◌∙◌, ℕ, not, Bool, true, false, List, [], map, Option, None, Some, refl, ap, inl, inr, eq-eqb}
 use Rattle.safety.proofs.Words.{list_any, or_parts, or_left, not-false, false≢true, Command, NoOp, EnableSlot, DisableSlot, AddressDevice, ConfigureEndpoint, EvaluateContext, ResetEndpoint, StopEndpoint, SetTrDequeue, ResetDevice, EndpointState, Off, Running, Halted, Stopped, Error, is_off, is_at_rest, changes, placed_by_context, added_endpoints, context_pointer, Header, command_id, is_ring, ring_beginning_at, Known, changed_by, succeeded, binding_in, binds, ring_bound, binds_ring, is_bad_dequeue, is_bad_move, IsIn, any_of, MovesIf}
 use Rattle.safety.proofs.TestsPassed.{any_of_map}
-use Rattle.safety.proofs.Untouched.{IsPart, Untouched, Within, AllOnly, changes_untouched}
+use Rattle.safety.proofs.OtherSlots.{IsPart, OtherSlots, Within, AllOnly, changes_others}
 
 -- the slot that the success of a command changes; n is that of its completion
 abbrev pub changed_slot : Command → ℕ → ℕ
@@ -90,9 +90,9 @@ module _ (h : Header) (k : Known) where
   only_own n (SetTrDequeue s i p cycle) moves = ((refl, refl, λ off r at. absurd (rest_not_off (k.endpoint_state s i) (set_rests s i p cycle moves) off)), tt)
   only_own n (ResetDevice s) moves = ((refl, refl), ((refl, refl), tt))
 
-  pub success_untouched : (n : ℕ) (e : Command) → MovesIf h k e →
-      Untouched k (succeeded h k n e) (changed_slot e n) (changed_part e) (OfCommand (changed_slot e n) (changed_part e) e)
+  pub success_others : (n : ℕ) (e : Command) → MovesIf h k e →
+      OtherSlots k (succeeded h k n e) (changed_slot e n) (changed_part e) (OfCommand (changed_slot e n) (changed_part e) e)
   unfolding succeeded
-  success_untouched n e moves =
-      changes_untouched (changed_slot e n) (changed_part e) (OfCommand (changed_slot e n) (changed_part e) e) h e k (changes h.context_size k.memory n e)
+  success_others n e moves =
+      changes_others (changed_slot e n) (changed_part e) (OfCommand (changed_slot e n) (changed_part e) e) h e k (changes h.context_size k.memory n e)
       (of_slot (changed_slot e n) (changed_part e) e) (only_own n e moves)

@@ -47,7 +47,7 @@ module _ (h : Header) (is : IsHeader h) (k : Known) (d : DriverKeeps h k) where
     staying may p c t i u its =
         let was = unfinished_before h is k d b ring p c u in
         let changed : Changed h is k d b e here ends ring = changed_by_code h is k d b e here ends ring may in
-        changed.untouched.ring_of t i (changed.apart p c t i was.0 was.1 its)
+        changed.others.ring_of t i (changed.apart p c t i was.0 was.1 its)
 
   -- ---- any event
 
