@@ -3,6 +3,7 @@ use Rattle.std.proofs.Common.{◌≡◌, ◌==◌, ◌∙◌, ℕ, Bool, true, f
 use Rattle.safety.proofs.Words.{Any-from_list_any, and_parts, false≢true, Command, NoOp, EnableSlot, DisableSlot, AddressDevice, ConfigureEndpoint, EvaluateContext, ResetEndpoint, StopEndpoint, SetTrDequeue, ResetDevice, named_slot, is_dropped, Header, IsHeader, is_ring, Known, Binding, drops, binds, ring_bound, binds_ring}
 use Rattle.safety.specs.EndpointsKeep as endpoints
 use Rattle.safety.proofs.RingIds.{having_transfer}
+use Rattle.safety.proofs.Concerned.{Concerns}
 
 pub ring_is : (r : ℕ) (o : Option ℕ) → is_ring r o ≡ true → o ≡ Some r
 ring_is r None h = absurd (false≢true h)
@@ -28,6 +29,21 @@ drops_named k (ResetEndpoint t j) s i is = absurd (false≢true is)
 drops_named k (StopEndpoint t j) s i is = absurd (false≢true is)
 drops_named k (SetTrDequeue t j p cycle) s i is = absurd (false≢true is)
 drops_named k (ResetDevice t) s i is = absurd (false≢true is)
+
+-- it is one that the command concerns
+pub drops_concerned : (k : Known) (c : Command) (s i : ℕ) → drops k c s i ≡ true → Concerns c s i
+unfolding drops
+drops_concerned k (ConfigureEndpoint t false n) s i is = (drops_named k (ConfigureEndpoint t false n) s i is, tt)
+drops_concerned k (ConfigureEndpoint t true n) s i is = absurd (false≢true is)
+drops_concerned k NoOp s i is = absurd (false≢true is)
+drops_concerned k EnableSlot s i is = absurd (false≢true is)
+drops_concerned k (DisableSlot t) s i is = absurd (false≢true is)
+drops_concerned k (AddressDevice t bsr n) s i is = absurd (false≢true is)
+drops_concerned k (EvaluateContext t n) s i is = absurd (false≢true is)
+drops_concerned k (ResetEndpoint t j) s i is = absurd (false≢true is)
+drops_concerned k (StopEndpoint t j) s i is = absurd (false≢true is)
+drops_concerned k (SetTrDequeue t j p cycle) s i is = absurd (false≢true is)
+drops_concerned k (ResetDevice t) s i is = absurd (false≢true is)
 
 pub stops_drop_none : (k : Known) (c : Command) (s i t j : ℕ) → drops k c s i ≡ true → c ≡ StopEndpoint t j → ⊥
 unfolding drops
