@@ -1,6 +1,7 @@
 //! What is told of a row that an older version of the format refuses, and version 3 doesn't.
-ghost use Rattle.std.specs.Prelude.{IfOk, string_bytes};
+ghost use Rattle.std.specs.Prelude.{◌≡◌, IfOk, string_bytes};
 ghost use Rattle.answers.specs.Telling.{IsNote};
+ghost use Rattle.xhci_cli.specs.VersionNotes.{breaks_no_rule_of_three, in_version_three};
 
 use answers::{Answer, Asked, note_on_trace};
 use ownership_checker::{CheckFault, check};
@@ -32,7 +33,7 @@ pub(crate) fn note_on_check(
     Ok(note)
 }
 
-/// Whether a row of a trace, the first one that its version refuses, breaks no rule of version 3.
+/// Whether a row of a trace, the first one that its version refuses, breaks no rule of version 3; of a trace of version 3, or of none, no row does so.
 fn breaks_older_rules_alone(alloc: Global, text: &[u8], row: u32) -> Result<bool, AllocError> {
     let trace = match read_trace(alloc, text) {
         Ok(trace) => trace,
@@ -41,16 +42,25 @@ fn breaks_older_rules_alone(alloc: Global, text: &[u8], row: u32) -> Result<bool
     };
     match trace.header.version {
         Version::Three => Ok(false),
-        Version::One | Version::Two => match check(alloc, &in_version_three(trace)) {
-            Ok(_) => Ok(true),
-            Err(CheckFault::Refused { row: later, .. }) => Ok(row < later),
-            Err(CheckFault::Memory) => Err(AllocError),
-        },
+        Version::One | Version::Two => breaks_no_rule_of_three(alloc, trace, row),
+    }
+}
+
+/// Whether version 3 refuses neither this row of a trace nor one before it.
+fn breaks_no_rule_of_three(alloc: Global, trace: Trace, row: u32) -> Result<bool, AllocError>
+    ensures { IfOk result (λ none. none ≡ breaks_no_rule_of_three trace row) }
+{
+    match check(alloc, &in_version_three(trace)) {
+        Ok(_) => Ok(true),
+        Err(CheckFault::Refused { row: refused, .. }) => Ok(row < refused),
+        Err(CheckFault::Memory) => Err(AllocError),
     }
 }
 
 /// The same rows, to be judged by version 3.
-fn in_version_three(trace: Trace) -> Trace {
+fn in_version_three(trace: Trace) -> Trace
+    ensures { result ≡ in_version_three trace }
+{
     let Trace {
         header,
         first,
