@@ -6,6 +6,7 @@ use crate::standing::{Standing, standing_behind};
 use ownership_checker::CheckFault;
 use ownership_rules::Refusal;
 use std::alloc::Global;
+use thiserror::Error;
 use traces::{Row, Trace};
 
 /// Where in a trace a page stands. Rows are named by their lines, which count from 1.
@@ -27,12 +28,14 @@ pub struct Shown {
 }
 
 /// Why nothing is shown.
-#[derive(Clone, Copy, Debug, PartialEq, Eq)]
+#[derive(Clone, Copy, Debug, Error, PartialEq, Eq)]
 pub enum ShowFault {
     /// The row that was asked for is none of those from `first` to `last`: the rows of the trace, up to the first that breaks a rule,
     /// which may still be asked for. There are none where `last` is below `first`.
+    #[error("no such row: rows {first} to {last} can be shown")]
     NoRow { first: u32, last: u32 },
     /// A growth of memory was refused.
+    #[error("memory is wanted")]
     Memory,
 }
 

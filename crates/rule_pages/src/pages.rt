@@ -291,18 +291,21 @@ const BUSY: &str = "\
 a second command for a slot whose first is unfinished
 
 What it is for
-  One unfinished command for each slot, and no TRB for a ring that an
-  unfinished Address Device moves: what holds of the slot behind the command
-  is known once its completion is read.
+  One unfinished command for each slot: what holds of the slot behind it is
+  known once its completion is read. No TRB for a ring that an unfinished
+  Address Device moves, nor for an open ring that an unfinished command gives
+  to an endpoint: it would count before the new Dequeue Pointer and behind it.
 
 What a controller does to a driver that breaks it
   What the second rests on may not be so yet: the TRB may be taken before the
   ring is moved, or behind it.
 
 What to write instead
-  Read the completion of the first command before you write the second. (xHCI
-  lets a driver enqueue commands for one slot one behind the other; that isn't
-  judged here.)
+  Read the completion of the first command before you write the second. In
+  `xtrace 3` Stop Endpoint, Reset Endpoint and Set TR Dequeue Pointer of
+  different endpoints may be unfinished side by side. (xHCI lets a driver
+  enqueue any commands for one slot one behind the other; that isn't judged
+  here.)
 
 A trace that breaks it
   Row 19 disables slot 1, and row 21 once more before its completion: refused.
@@ -466,11 +469,12 @@ What a controller does to a driver that breaks it
   Dequeue Cycle State it takes TRBs of the last lap.
 
 What to write instead
-  A new endpoint: the first TRB of a ring that no endpoint had, with DCS 1.
-  Set TR Dequeue Pointer: of an endpoint that rests, to the first TRB of a TD
-  that can't have been begun, or behind the last TD, with DCS the Cycle bit of
-  that place in this lap. Not judged is an endpoint that is dropped and added
-  again on its ring: xHCI allows it.
+  A new endpoint: the first TRB of a ring that no endpoint had, with DCS 1. In
+  `xtrace 3` also any ring that no other endpoint keeps, at the TRB past which
+  the controller can't have gone: it halted or was stopped there, or no later
+  TRB was handed over. Set TR Dequeue Pointer: of an endpoint that rests, to
+  the first TRB of a TD that can't have been begun, or behind the last TD. DCS
+  is the Cycle bit of that place in this lap.
 
 A trace that breaks it
   Row 25 hands over an Address Device whose ring has DCS 0, and is refused.

@@ -1,3 +1,4 @@
+mod VersionNotes
 pub mod Certified
 pub mod HeldAnswers
 pub mod Replayed

@@ -5,3 +5,4 @@ pub mod ReplayAnswers
 pub mod ScheduleAnswers
 pub mod ShowAnswers
 pub mod VerifyAnswers
+pub mod VersionNotes

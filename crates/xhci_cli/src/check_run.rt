@@ -10,7 +10,8 @@ ghost use Rattle.ownership_rules.specs.Rules.{verdict_from};
 ghost use Rattle.xhci_cli.specs.HarmAnswers.{IsHarmFound, IsRefusalTold};
 
 use crate::reading::bytes_of;
-use answers::{Answer, Asked, FoundHarm, Status, keep, note_on_trace, tell, tell_failure};
+use crate::version_note::note_on_check;
+use answers::{Answer, Asked, FoundHarm, Status, keep, tell, tell_failure};
 use ownership_checker::{Certificate, CheckFault, check};
 use ownership_rules::Refusal;
 use scheduler::{Search, harmful_run};
@@ -46,7 +47,7 @@ pub fn run_check<R: Read + Drop, C: Write, O: Write, E: Write>(
     };
     match check_answer(alloc, shows, &text, certificate) {
         Ok(answer) => {
-            let note = note_on_trace(alloc, asked, &text, &answer);
+            let note = note_on_check(alloc, asked, &text, &answer);
             tell(alloc, asked.explains, answer, note, out, err)
         }
         Err(error) => {

@@ -14,6 +14,7 @@ mod several_run;
 mod show_run;
 mod streams;
 mod verify_run;
+mod version_note;
 
 use answers::{Asked, Status, run_decode, run_explain, tell_failure};
 use arguments::wrong_arguments;

@@ -2,6 +2,7 @@
 ghost use Rattle.std.specs.Prelude.{IfOk, string_bytes};
 ghost use Rattle.answers.specs.Telling.{IsNote};
 
+use crate::version_note::note_on_check;
 use answers::{Answer, Asked, note_on_leases, note_on_trace};
 use ownership_checker::{CheckFault, check};
 use ring_knowledge::Lease;
@@ -31,7 +32,7 @@ pub fn note_on_verdict(
             Ok(own) => note_on_leases(alloc, asked, leases, &own.leases),
             Err(CheckFault::Refused { row, refusal }) => {
                 let refused = Answer::Refused { row, refusal };
-                note_on_trace(alloc, asked, text, &refused)
+                note_on_check(alloc, asked, text, &refused)
             }
             Err(CheckFault::Memory) => Err(AllocError),
         },

@@ -7,7 +7,8 @@ ghost use Rattle.ownership_rules.specs.Clean.{IsClean};
 ghost use Rattle.xhci_cli.specs.ScheduleAnswers.{IsScheduleAnswer, IsScheduled};
 
 use crate::reading::bytes_of;
-use answers::{Answer, Asked, Status, note_on_trace, tell, tell_failure};
+use crate::version_note::note_on_check;
+use answers::{Answer, Asked, Status, tell, tell_failure};
 use ownership_checker::{CheckFault, check};
 use scheduler::lazy_schedule;
 use std::alloc::Global;
@@ -34,7 +35,7 @@ pub fn run_schedule<R: Read + Drop, O: Write, E: Write>(
     match bytes_of(alloc, input) {
         Ok(text) => {
             let answer = schedule_answer(alloc, &text);
-            let note = note_on_trace(alloc, asked, &text, &answer);
+            let note = note_on_check(alloc, asked, &text, &answer);
             tell(alloc, asked.explains, answer, note, out, err)
         }
         Err(error) => tell_failure(alloc, asked, error, out, err),

@@ -6,7 +6,8 @@ ghost use Rattle.answers.specs.Inputs.{IsTraceAnswer, opened};
 ghost use Rattle.answers.specs.Telling.{IsToldOf};
 ghost use Rattle.xhci_cli.specs.CheckAnswers.{IsVerdictAlone};
 
-use answers::{Answer, Asked, Status, note_on_failure, note_on_trace, tell_named};
+use crate::version_note::note_on_check;
+use answers::{Answer, Asked, Status, note_on_failure, tell_named};
 use ownership_checker::{CheckFault, check};
 use std::alloc::Global;
 use std::io::{self, Read, Write};
@@ -33,7 +34,7 @@ pub fn run_check_named<R: Read + Drop, O: Write, E: Write>(
     match input.read_to_end(&mut text) {
         Ok(_) => {
             let answer = text_verdict(alloc, &text);
-            let note = note_on_trace(alloc, asked, &text, &answer);
+            let note = note_on_check(alloc, asked, &text, &answer);
             tell_named(alloc, asked, answer, note, out, err)
         }
         Err(error) => tell_unread(alloc, asked, error, out, err),
