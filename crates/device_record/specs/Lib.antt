@@ -1,4 +1,5 @@
 pub mod Endpoints
 pub mod Devices
+pub mod Indices
 pub mod Unfinished
 pub mod Addressing
