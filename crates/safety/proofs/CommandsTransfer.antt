@@ -1,6 +1,6 @@
 -- A Transfer Event keeps what is kept of unfinished commands
 use Rattle.std.proofs.Common.{◌≡◌, ◌≢◌, ◌==◌, ◌&&◌, ◌||◌, ◌∙◌, ℕ, not, Bool, true, false, nat_lt, Option, None, Some, arith, refl, sym, ap, subst, inl, inr, eqb-true, eq-eqb, ltb-true}
-use Rattle.safety.proofs.Words.{cases_Bool, cases_eq, and_parts, and_cases, or_parts, not-false, false≢true, Block, code, slot, endpoint, pointer, is_success, is_halting, is_trb_error, Spot, number, ceiling, is_data_below, is_stop_spot, cases_option, given_below, step_is, ceiling_within, below_is, IsAhead, named_ahead, Command, NoOp, EnableSlot, DisableSlot, AddressDevice, ConfigureEndpoint, EvaluateContext, ResetEndpoint, StopEndpoint, SetTrDequeue, ResetDevice, is_stop_of, EndpointState, Off, Running, Halted, Stopped, Error, is_off, is_running, is_at_rest, Header, IsHeader, shape_of, command_id, Known, RingSpot, event_at, command_at, next_command, transferred, transferred_at, transfer_read, is_in_profile, is_working, may_be_taken, is_stopping_now, can_report, can_report_at, is_impossible_transfer, IsDriverRing, IsUnfinished, Stays, DriverKeeps, CommandsKeep}
+use Rattle.safety.proofs.Words.{cases_Bool, cases_eq, and_from, and_parts, and_cases, or_parts, not-false, false≢true, Block, code, slot, endpoint, pointer, is_success, is_halting, is_trb_error, Spot, number, ceiling, is_data_below, is_stop_spot, cases_option, given_below, step_is, ceiling_within, below_is, IsAhead, named_ahead, Command, NoOp, EnableSlot, DisableSlot, AddressDevice, ConfigureEndpoint, EvaluateContext, ResetEndpoint, StopEndpoint, SetTrDequeue, ResetDevice, is_stop_of, EndpointState, Off, Running, Halted, Stopped, Error, is_off, is_running, is_at_rest, Header, IsHeader, shape_of, command_id, Known, RingSpot, event_at, command_at, next_command, transferred, transferred_at, transfer_read, is_in_profile, is_working, may_be_taken, is_stopping_now, can_report, can_report_at, is_impossible_transfer, IsDriverRing, IsUnfinished, Stays, DriverKeeps, CommandsKeep}
 use Rattle.safety.proofs.Headers.{ring_shape, transfer_driver, transfer_not_command}
 use Rattle.safety.proofs.NoWait.{ceiling_given}
 use Rattle.safety.proofs.SafeContext.{AtFloor, at_floor}
@@ -73,7 +73,7 @@ module _ (h : Header) (is : IsHeader h) (k : Known) (d : DriverKeeps h k) where
         elim (cases_eq (next_command h k) u) [
           | inl same ↦ address_not_stop s s 1 n bsr (sym unfinished_at.command ∙ ap (λ p. command_at h k p) (sym same) ∙ other.command)
           | inr apart ↦
-              false≢true (sym ((d.unfinished u (AddressDevice s bsr n) unfinished_at).alone (next_command h k) (StopEndpoint s 1) other apart) ∙ eq-eqb s s refl)
+              false≢true (sym ((d.unfinished u (AddressDevice s bsr n) unfinished_at).alone (next_command h k) (StopEndpoint s 1) other apart) ∙ and_from (s == s) true (eq-eqb s s refl) refl)
         ]
 
     pub no_report : (c : ℕ) → can_report h k c s 1 r t ≡ true → ⊥
