@@ -1,5 +1,5 @@
 -- The endpoint that a given command names
-use Rattle.std.proofs.Common.{◌≡◌, ◌≢◌, ◌⊎◌, ℕ, ◌+◌, ◌<◌, ◌==◌, ◌||◌, ◌∙◌, if◌then◌else◌, Bool, true, false, List, [], ◌∷◌, Option, Some, None, ap, arith, inl, inr, subst, sym}
+use Rattle.std.proofs.Common.{◌≡◌, ◌≢◌, ◌⊎◌, ℕ, ◌<◌, ◌==◌, ◌||◌, ◌∙◌, if◌then◌else◌, Bool, true, false, Option, Some, None, arith, inl, inr, subst, sym}
 use Rattle.std.specs.Prelude.{option_and_then, slice_get}
 use Rattle.std.proofs.lemmas.Bool.{cases_eq, eq-eqb, false≢true, or_parts}
 use Rattle.trb.specs.declared.block.Block.{Block}

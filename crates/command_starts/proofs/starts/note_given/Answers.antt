@@ -1,10 +1,8 @@
-use Rattle.std.proofs.Common.{◌≡◌, ◌∙◌, List, Some, subst, sym}
+use Rattle.std.proofs.Common.{subst, sym}
 use Rattle.std.proofs.lemmas.Result.{on_ok_weaker}
-use Rattle.commands.specs.declared.command.Command.{Command}
 use Rattle.commands.specs.Command.{named_context}
-use Rattle.device_record.specs.Unfinished.{FollowsUnfinished}
 use Rattle.trace_record.specs.FollowsTrace.{inputs_of}
-use Rattle.command_starts.specs.Starting.{IsWith, MayBeGiven}
+use Rattle.command_starts.specs.Starting.{IsWith}
 use Rattle.command_starts.proofs.Inserting.{mapped_with}
 use Rattle.command_starts.proofs.starts.note_given.Goals as goal
 
