@@ -293,7 +293,9 @@ a second command for a slot whose first is unfinished
 What it is for
   One unfinished command for each slot, and no TRB for a ring that an
   unfinished Address Device moves: what holds of the slot behind the command
-  is known once its completion is read.
+  is known once its completion is read. In version 3 each endpoint of a slot
+  may have its own Stop Endpoint, Reset Endpoint or Set TR Dequeue Pointer,
+  unfinished beside those of other endpoints.
 
 What a controller does to a driver that breaks it
   What the second rests on may not be so yet: the TRB may be taken before the

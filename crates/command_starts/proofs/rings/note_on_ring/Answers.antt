@@ -1,4 +1,4 @@
-use Rattle.std.proofs.Common.{ℕ, Option, get_or, sym, ◌∙◌, ap, refl, length, set, subst}
+use Rattle.std.proofs.Common.{◌≡◌, ℕ, Option, get_or, sym, ◌∙◌, ap, refl, length, set, subst}
 use Rattle.std.proofs.lemmas.Option.{slice_get_read}
 use Rattle.std.proofs.lemmas.Bool.{ltb-true}
 use Rattle.segments.specs.Places.{touches}
