@@ -15,7 +15,7 @@ pub struct KeptCommand {
 }
 
 /// The unfinished commands by the slot and the endpoint that they name: those that were given and whose completion wasn't read. Each
-/// endpoint has at most one, and so have commands that name a slot and no endpoint of it (xHCI 4.6). Contracts compare it with the list of
+/// endpoint has at most one, and each slot at most one that names none of its endpoints (xHCI 4.6). Contracts compare it with the list of
 /// these commands, in the order of their positions.
 #[derive(Drop)]
 pub struct UnfinishedCommands {
