@@ -1,5 +1,5 @@
--- The Address Device commands among the unfinished ones, counted
-use Rattle.device_record.proofs.Words.{◌≡◌, ◌<◌, ◌≤◌, ◌+◌, ◌*◌, ◌/◌, ◌%◌, ◌&&◌, ◌||◌, ◌∙◌, ◌∷◌, if◌then◌else◌, ℕ, zero, suc, Bool, true, false, List, [], Option, Some, None, ap, sym, refl, arith, inl, inr, length, get_or, slice_index_or, All, nat_lt, filter, le-ltb, lt-ltb, eq-eqb, list_any, sum_by, cases_Bool, cases_lt, and_parts, false≢true, sum_by-le, sum_by-cons, Command, AddressDevice, KeptCommand, UnfinishedCommands, addressing_count, is_address_device, is_addressing, FollowsUnfinished, as_list, is_about, kept_of, no_command}
+-- The Address Device commands among the unfinished ones, counted by slot
+use Rattle.device_record.proofs.Words.{◌≡◌, ◌<◌, ◌≤◌, ◌&&◌, ◌||◌, ◌∙◌, ◌∷◌, if◌then◌else◌, ℕ, zero, suc, Bool, true, false, List, [], Option, Some, None, ap, sym, refl, arith, inl, inr, length, get_or, All, nat_lt, filter, le-ltb, lt-ltb, eq-eqb, list_any, sum_by, cases_Bool, cases_lt, and_parts, false≢true, sum_by-le, sum_by-cons, Command, AddressDevice, KeptCommand, UnfinishedCommands, addressing_count, is_address_device, is_addressing, FollowsUnfinished, as_list, is_about, kept_of, no_command}
 use Rattle.device_record.proofs.NamedCommands.{found_about}
 
 -- ---- how many there are
@@ -11,8 +11,8 @@ at_most_one false = omega arith
 each_at_most : (xs : List KeptCommand) → All (λ x. addressing_count x ≤ 1) xs
 each_at_most xs = λ k d below. at_most_one (is_addressing (get_or xs k d).command)
 
--- no more than are kept
-pub few_addressing : (xs : List KeptCommand) → length xs ≡ 256 * 32 → sum_by addressing_count xs ≤ 256 * 32
+-- no more than slots
+pub few_addressing : (xs : List KeptCommand) → length xs ≡ 256 → sum_by addressing_count xs ≤ 256
 few_addressing xs many = omega (arith, sum_by-le addressing_count 1 xs (each_at_most xs), many)
 
 one_counted : (b : Bool) → b ≡ true → ◌≡◌ {A = ℕ} (if b then 1 else 0) 1
@@ -107,28 +107,18 @@ module _ (u : UnfinishedCommands) (all : List Command) (f : FollowsUnfinished al
   )
   kept_of_command _ is holds = absurd (false≢true is)
 
-  -- what is kept at a place of the list
-  kept_there : (n : ℕ) → is_addressing (get_or u.by_index.items n no_command).command ≡ true → is_addressing (kept_of u (n / 32) (n % 32)) ≡ true
-  kept_there n is =
-      ap (λ b. is_addressing (if b then slice_index_or u.by_index.items (n / 32 * 32 + n % 32) no_command else no_command).command) (lt-ltb (n % 32) 32 (omega arith))
-      ∙ ap (λ m. is_addressing (slice_index_or u.by_index.items m no_command).command) (omega arith) ∙ is
-
-  kept_first : (s : ℕ) → is_addressing (kept_of u s 0) ≡ true → is_addressing (get_or u.by_index.items (s * 32 + 0) no_command).command ≡ true
-  kept_first s is = is
-
   -- an Address Device is among them exactly if one is counted
-  pub addressing_is : nat_lt 0 (sum_by addressing_count u.by_index.items) ≡ list_any is_address_device all
-  addressing_is = elim (cases_lt 0 (sum_by addressing_count u.by_index.items)) [
+  pub addressing_is : nat_lt 0 (sum_by addressing_count u.by_slot.items) ≡ list_any is_address_device all
+  addressing_is = elim (cases_lt 0 (sum_by addressing_count u.by_slot.items)) [
     | inl some ↦
-        let there = counted_where u.by_index.items some in
-        lt-ltb 0 (sum_by addressing_count u.by_index.items) some
-        ∙ sym (of_kept (there.0 / 32) (there.0 % 32) (kept_of u (there.0 / 32) (there.0 % 32)) refl (kept_there there.0 there.1))
-    | inr none ↦ le-ltb 0 (sum_by addressing_count u.by_index.items) none ∙ sym (nothing (list_any is_address_device all) refl none)
+        let there = counted_where u.by_slot.items some in
+        lt-ltb 0 (sum_by addressing_count u.by_slot.items) some ∙ sym (of_kept there.0 0 (kept_of u there.0 0) refl there.1)
+    | inr none ↦ le-ltb 0 (sum_by addressing_count u.by_slot.items) none ∙ sym (nothing (list_any is_address_device all) refl none)
   ]
     where
-      nothing : (b : Bool) → list_any is_address_device all ≡ b → sum_by addressing_count u.by_index.items ≤ 0 → list_any is_address_device all ≡ false
+      nothing : (b : Bool) → list_any is_address_device all ≡ b → sum_by addressing_count u.by_slot.items ≤ 0 → list_any is_address_device all ≡ false
       nothing false is none = is
       nothing true is none =
           let one = any_gives is_address_device all is in
           let there = kept_of_command one.0 one.1 one.2 in
-          absurd (omega (arith, none, counted_at u.by_index.items (there.0 * 32 + 0) (kept_first there.0 there.1)))
+          absurd (omega (arith, none, counted_at u.by_slot.items there.0 there.1))

@@ -7,6 +7,7 @@ pub mod Moves
 pub mod Placing
 pub mod TurnedOff
 pub mod OtherRows
+pub mod EndpointCounts
 pub mod AtMostOne
 pub mod NamedCommands
 pub mod Addressing

@@ -1,6 +1,7 @@
 -- Which of the unfinished commands are about a slot or an endpoint
-use Rattle.device_record.proofs.Words.{◌≡◌, ◌==◌, ◌<◌, ◌+◌, ◌*◌, ◌++◌, ◌&&◌, ◌||◌, if◌then◌else◌, ◌∙◌, ◌∷◌, ℕ, not, Bool, true, false, List, [], Option, Some, None, All, All-head, All-nil, All-tail, ap, arith, sym, subst, refl, inl, inr, replicate, filter, nat_lt, slice_index_or, is_some, eqb-true, eq-eqb, ne_eqb, list_any, filter-append, and_parts, or_parts, cases_eq, false≢true, Command, NoOp, EnableSlot, DisableSlot, AddressDevice, ConfigureEndpoint, EvaluateContext, ResetEndpoint, StopEndpoint, SetTrDequeue, ResetDevice, exclude, name_one_slot, named_endpoint, named_slot, other_endpoint, same_slot, UnfinishedCommands, KeptCommand, FollowsUnfinished, IsEndpoint, IsOnlyAbout, NamesEndpoint, as_list, endpoint_index, index_of, is_about, is_slot, kept_at, kept_of, names, no_command}
+use Rattle.device_record.proofs.Words.{◌≡◌, ◌==◌, ◌<◌, ◌+◌, ◌*◌, ◌++◌, ◌&&◌, ◌||◌, ◌≢◌, ◌⊎◌, if◌then◌else◌, ◌∙◌, ◌∷◌, ℕ, not, Bool, true, false, List, [], Option, Some, None, All, All-head, All-nil, All-tail, ap, arith, sym, subst, refl, inl, inr, replicate, filter, nat_lt, slice_index_or, is_some, eqb-true, eq-eqb, ne_eqb, lt-ltb, le-ltb, cases_lt, list_any, filter-append, and_parts, or_parts, cases_eq, false≢true, Command, NoOp, EnableSlot, DisableSlot, AddressDevice, ConfigureEndpoint, EvaluateContext, ResetEndpoint, StopEndpoint, SetTrDequeue, ResetDevice, exclude, name_one_slot, named_endpoint, named_slot, other_endpoint, same_slot, UnfinishedCommands, KeptCommand, FollowsUnfinished, IsEndpoint, IsOnlyAbout, NamesEndpoint, as_list, endpoint_index, index_of, is_about, is_slot, endpoint_count, kept_at, kept_of, names, no_command}
 use Rattle.device_record.proofs.NewRecord.{alike}
+use Rattle.device_record.proofs.EndpointCounts.{count_none, count_where}
 use Rattle.device_record.proofs.AtMostOne.{all_back, all_with, all_without, alone, any_either, any_filtered, any_more, any_none, any_one, any_same, any_same_of, none_passes, not_empty, only_left}
 
 -- with an element in a list that has at most one, none is left without it
@@ -219,16 +220,41 @@ none_named_by s (d ∷ rest) fit none =
 pub none_named : (u : UnfinishedCommands) (all : List Command) (s : ℕ) → FollowsUnfinished all u → ((i : ℕ) → i < 32 → is_some (kept_of u s i) ≡ false) → list_any (names s) all ≡ false
 none_named u all s f none = none_named_by s all f.endpoints (λ i below. sym (kept_about u all f s i) ∙ none i below)
 
+-- none is kept of the slot as a whole: a command names it exactly where one is counted of an endpoint
+pub counts_named : (u : UnfinishedCommands) (all : List Command) → FollowsUnfinished all u → (s : ℕ) → is_some (kept_of u s 0) ≡ false →
+    nat_lt 0 (endpoint_count u.by_endpoint.items s) ≡ list_any (names s) all
+counts_named u all f s whole = elim (cases_lt 0 (endpoint_count u.by_endpoint.items s)) [
+  | inl some ↦
+      let there = count_where u.by_endpoint.items s some in
+      lt-ltb 0 (endpoint_count u.by_endpoint.items s) some
+      ∙ sym (some_named u all f s there.0 (ap is_some (at_endpoint there.0 there.1) ∙ there.2))
+  | inr none ↦
+      le-ltb 0 (endpoint_count u.by_endpoint.items s) none
+      ∙ sym (none_named u all s f (λ i below. by i below (cases_eq i 0) (omega (arith, none))))
+]
+  where
+    at_endpoint : (i : ℕ) → 0 < i → kept_of u s i ≡ (kept_at u.by_endpoint.items s i).command
+    at_endpoint i some =
+        ap (λ b. if b then (slice_index_or u.by_slot.items s no_command).command else (kept_at u.by_endpoint.items s i).command)
+        (ne_eqb i 0 (λ zero. absurd (omega (arith, some, zero))))
+
+    by : (i : ℕ) → i < 32 → (i ≡ 0) ⊎ (i ≢ 0) → endpoint_count u.by_endpoint.items s ≡ 0 → is_some (kept_of u s i) ≡ false
+    by i below (inl zero) none = ap (λ j. is_some (kept_of u s j)) zero ∙ whole
+    by i below (inr other) none =
+        let some : 0 < i = omega (arith, other) in
+        ap is_some (at_endpoint i some) ∙ count_none u.by_endpoint.items s none i some below
+
 pub none_shares : (all : List Command) (c : Command) → named_slot c ≡ None → list_any (name_one_slot c) all ≡ false
 none_shares [] c named = refl
 none_shares (d ∷ all) c named = λ i. (ap (λ n. same_slot n (named_slot d)) named) i || none_shares all c named i
 
-pub follows_none : (u : UnfinishedCommands) → u.by_index.items ≡ replicate (256 * 32) no_command → FollowsUnfinished [] u
-follows_none u is = record {
-  each = λ s i. sym (ap (λ (x : KeptCommand). as_list x.command) (ap (λ xs. kept_at xs s i) is ∙ by (nat_lt i 32) s i));
-  endpoints = All-nil NamesEndpoint;
-}
+pub follows_none : (u : UnfinishedCommands) → u.by_slot.items ≡ replicate 256 no_command → u.by_endpoint.items ≡ replicate (256 * 32) no_command → FollowsUnfinished [] u
+follows_none u slots endpoints = record { each = λ s i. sym (ap as_list (by (i == 0) s i)); endpoints = All-nil NamesEndpoint }
   where
-    by : (b : Bool) (s i : ℕ) → (if b then slice_index_or (replicate (256 * 32) no_command) (s * 32 + i) no_command else no_command) ≡ no_command
-    by true s i = alike (256 * 32) (s * 32 + i) no_command
-    by false s i = refl
+    at_endpoint : (b : Bool) (s i : ℕ) → (if b then slice_index_or (replicate (256 * 32) no_command) (s * 32 + i) no_command else no_command) ≡ no_command
+    at_endpoint true s i = alike (256 * 32) (s * 32 + i) no_command
+    at_endpoint false s i = refl
+
+    by : (b : Bool) (s i : ℕ) → (if b then (slice_index_or u.by_slot.items s no_command).command else (kept_at u.by_endpoint.items s i).command) ≡ None
+    by true s i = ap (λ (x : KeptCommand). x.command) (ap (λ xs. slice_index_or xs s no_command) slots ∙ alike 256 s no_command)
+    by false s i = ap (λ (x : KeptCommand). x.command) (ap (λ xs. kept_at xs s i) endpoints ∙ at_endpoint (nat_lt i 32) s i)

@@ -14,8 +14,10 @@ pub use Rattle.contexts.specs.declared.size.ContextSize.{ContextSize}
 pub use Rattle.device_record.specs.Addressing.{addressing_count, is_address_device, is_addressing}
 pub use Rattle.device_record.specs.Devices.{FollowsDevices, IsDisabled, IsWithBound, IsWithEndpoint, IsWithSlot, endpoint_at, fresh_endpoint, fresh_slot, slot_at}
 pub use Rattle.device_record.specs.Endpoints.{named_by, placed_endpoint, ring_got, rung_endpoint, transferred_endpoint, turned_off}
+pub use Rattle.device_record.specs.Counts.{kept_at, kept_count, no_command}
+unfoldable pub use Rattle.device_record.specs.Counts.{endpoint_count}
 pub use Rattle.device_record.specs.Indices.{IsEndpoint, IsOnlyAbout, NamesEndpoint, endpoint_index, index_of, is_about, is_slot, names}
-pub use Rattle.device_record.specs.Unfinished.{FollowsUnfinished, as_list, kept_at, kept_of, no_command}
+pub use Rattle.device_record.specs.Unfinished.{FollowsUnfinished, as_list, kept_of}
 pub use Rattle.device_record.specs.declared.kept.DeviceRecord.{DeviceRecord}
 pub use Rattle.device_record.specs.declared.kept.Endpoint.{Endpoint}
 pub use Rattle.device_record.specs.declared.kept.Slot.{Slot}
@@ -36,8 +38,8 @@ pub use Rattle.segments.proofs.OneGiving.{positions_given-one}
 pub use Rattle.segments.proofs.ReachedSpots.{number-after}
 pub use Rattle.segments.proofs.Words.{cons_option, filter_map, kind, option_map, pointer, put, same_Some, sum_by}
 pub use Rattle.segments.specs.RingView.{RingChange}
-pub use Rattle.std.proofs.Common.{All, Bool, IfSome, List, None, Option, Some, [], ap, arith, eq-eqb, eqb-true, false, filter, get_or, get_or-set_other, get_or-set_same, if◌then◌else◌, inl, inr, is_some, le-ltb, length, lt-ltb, map, nat_lt, ne_eqb, not, option_and_then, refl, replicate, slice_get, slice_index_or, slice_set, subst, suc, sym, true, unwrap_or, zero, ℕ, ◌&&◌, ◌%◌, ◌*◌, ◌++◌, ◌+◌, ◌/◌, ◌<◌, ◌==◌, ◌||◌, ◌∙◌, ◌∷◌, ◌≡◌, ◌≢◌, ◌≤◌, ◌⊎◌}
-pub use Rattle.std.proofs.lemmas.Bool.{and_from, cond_both, or_left, or_parts, or_right}
+pub use Rattle.std.proofs.Common.{All, Bool, IfSome, List, None, Option, Some, [], ap, arith, eq-eqb, eqb-true, false, filter, get_or, get_or-set_other, get_or-set_same, if◌then◌else◌, inl, inr, is_some, le-ltb, length, lt-ltb, map, nat_lt, ne_eqb, not, option_and_then, refl, replicate, slice_get, slice_index_or, slice_set, subst, suc, sym, true, unwrap_or, zero, ℕ, ◌&&◌, ◌%◌, ◌*◌, ◌++◌, ◌+◌, ◌-◌, ◌/◌, ◌<◌, ◌==◌, ◌||◌, ◌∙◌, ◌∷◌, ◌≡◌, ◌≢◌, ◌≤◌, ◌⊎◌}
+pub use Rattle.std.proofs.lemmas.Bool.{and_from, and_left, and_right, cond_both, or_left, or_parts, or_right}
 pub use Rattle.std.proofs.lemmas.List.Elements.{All-append, All-cons, All-from_recursion, All-head, All-nil, All-tail, filter-append, filter_map-append}
 pub use Rattle.std.proofs.lemmas.List.Sums.{sum_by-le}
 pub use Rattle.traces.specs.Header.{IsHeader, shape_or}

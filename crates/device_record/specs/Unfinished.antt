@@ -1,25 +1,18 @@
 -- What a record of the unfinished commands holds: of each slot the one that is about the slot as a whole, and the one of each endpoint
-use Rattle.std.specs.Prelude.{◌≡◌, ℕ, ◌+◌, ◌*◌, if◌then◌else◌, List, [], ◌∷◌, Option, Some, None, filter, nat_lt, slice_index_or}
+use Rattle.std.specs.Prelude.{◌≡◌, ℕ, ◌==◌, if◌then◌else◌, List, [], ◌∷◌, Option, Some, None, filter, slice_index_or}
 use Rattle.std.specs.List.{All}
 use Rattle.commands.specs.declared.command.Command.{Command}
-use Rattle.device_record.specs.declared.unfinished.KeptCommand.{KeptCommand}
 use Rattle.device_record.specs.declared.unfinished.UnfinishedCommands.{UnfinishedCommands}
+use Rattle.device_record.specs.Counts.{kept_at, no_command}
 use Rattle.device_record.specs.Indices.{NamesEndpoint, is_about}
 
 abbrev pub as_list : Option Command → List Command
 as_list None = []
 as_list (Some c) = c ∷ []
 
-abbrev pub no_command : KeptCommand
-no_command = record { command = None }
-
--- of each slot there are 32 indices
-abbrev pub kept_at : List KeptCommand → ℕ → ℕ → KeptCommand
-kept_at kept s i = if nat_lt i 32 then slice_index_or kept (s * 32 + i) no_command else no_command
-
--- the command that is kept of an index of a slot
+-- the command that is kept of an index of a slot; index 0 is that of the slot as a whole
 abbrev pub kept_of : UnfinishedCommands → ℕ → ℕ → Option Command
-kept_of u s i = (kept_at u.by_index.items s i).command
+kept_of u s i = if i == 0 then (slice_index_or u.by_slot.items s no_command).command else (kept_at u.by_endpoint.items s i).command
 
 -- of these commands at most one is about each slot as a whole, and about each endpoint at most one, and that one is kept; slots above 255
 -- are named by none

@@ -1,14 +1,15 @@
-ghost use Rattle.std.specs.Prelude.{◌≡◌, ℕ, ◌*◌, ◌<◌, ◌==◌, ◌&&◌, ◌||◌, ◌++◌, if◌then◌else◌, Bool, true, false, List, [], ◌∷◌, Option, Some, None, IfOk, IfSome, length, replicate};
+ghost use Rattle.std.specs.Prelude.{◌≡◌, ℕ, ◌*◌, ◌<◌, ◌==◌, ◌&&◌, ◌||◌, ◌++◌, if◌then◌else◌, Bool, true, false, List, [], ◌∷◌, Option, Some, None, IfOk, IfSome, length, replicate, slice_index_or};
 ghost use Rattle.std.specs.List.{list_any, sum_by};
 ghost use Rattle.commands.specs.declared.command.Command.{Command as CommandValue};
 ghost use Rattle.commands.specs.Command.{exclude, name_one_slot};
 ghost use Rattle.device_record.specs.Addressing.{addressing_count, is_address_device, is_addressing};
-ghost use Rattle.device_record.specs.Indices.{IsOnlyAbout, NamesEndpoint, index_of, is_about, names};
+ghost use Rattle.device_record.specs.Counts.{endpoint_count, kept_count};
+ghost use Rattle.device_record.specs.Indices.{IsOnlyAbout, NamesEndpoint, is_about, names};
 
 use commands::Command;
 use std::alloc::{AllocError, Global};
 
-/// The unfinished command of a slot as a whole, or of an endpoint.
+/// The unfinished command of a slot or an endpoint.
 #[derive(Clone, Copy, Debug)]
 pub struct KeptCommand {
     command: Option<Command>,
@@ -19,12 +20,19 @@ pub struct KeptCommand {
 /// these commands, in the order of their positions.
 #[derive(Drop)]
 pub struct UnfinishedCommands {
-    /// By slot and Device Context Index (DCI), 32 a slot: index 0 is that of the slot as a whole (xHCI 4.5.1).
-    by_index: Vec<KeptCommand>,
-    /// How many of them are an Address Device.
+    /// By slot: that which names none of its endpoints.
+    by_slot: Vec<KeptCommand>,
+    /// By slot and endpoint index (DCI), 32 a slot.
+    by_endpoint: Vec<KeptCommand>,
+    /// By slot: how many of its endpoints have one.
+    counts: Vec<usize>,
+    /// How many of those of slots are an Address Device.
     addressing: usize,
-    ghost indices_many: { length by_index.items ≡ 256 * 32 },
-    ghost addressing_all: { addressing ≡ sum_by addressing_count by_index.items },
+    ghost slots_many: { length by_slot.items ≡ 256 },
+    ghost endpoints_many: { length by_endpoint.items ≡ 256 * 32 },
+    ghost counts_many: { length counts.items ≡ 256 },
+    ghost addressing_all: { addressing ≡ sum_by addressing_count by_slot.items },
+    ghost counts_all: { (s : ℕ) → s < 256 → slice_index_or counts.items s 0 ≡ endpoint_count by_endpoint.items s },
 }
 
 impl UnfinishedCommands {
@@ -35,7 +43,9 @@ impl UnfinishedCommands {
         ensures { IfOk result (FollowsUnfinished []) }
     {
         Ok(UnfinishedCommands {
-            by_index: no_commands(alloc)?,
+            by_slot: no_commands(alloc, 256)?,
+            by_endpoint: no_commands(alloc, 256 * 32)?,
+            counts: vec![in alloc; 0; 256]?,
             addressing: 0,
         })
     }
@@ -46,7 +56,7 @@ impl UnfinishedCommands {
         ensures one { (all : List CommandValue) (p : CommandValue → Bool) → FollowsUnfinished all self.now → IsOnlyAbout slot 0 p → list_any p (as_list result) ≡ list_any p all }
         ensures named { IfSome result (λ c. (all : List CommandValue) → FollowsUnfinished all self.now → is_about slot 0 c ≡ true) }
     {
-        self.kept(slot, 0)
+        self.kept_of_slot(slot)
     }
 
     /// The unfinished command that names an endpoint. What holds of such commands alone holds of some unfinished command exactly if it
@@ -105,35 +115,58 @@ impl UnfinishedCommands {
     fn keep(&mut self, about: &Command, command: Option<Command>)
         ensures { NamesEndpoint about.now → (s i : ℕ) → kept_of self.new s i ≡ (if is_about s i about.now then command else kept_of self.old s i) }
     {
-        let Some(slot) = about.slot() else {
-            return;
-        };
-        let index = index_of(about);
-        if index < 32 {
-            self.keep_of(slot, index, command);
+        match about.endpoint() {
+            Some((slot, endpoint)) => self.keep_of_endpoint(slot, endpoint, command),
+            None => {
+                if let Some(slot) = about.slot() {
+                    self.keep_of_slot(slot, command);
+                }
+            }
         }
     }
 
-    /// Keeps this of an index of a slot.
-    fn keep_of(&mut self, slot: u8, index: u8, command: Option<Command>)
-        requires { index < 32 }
-        ensures { (s i : ℕ) → kept_of self.new s i ≡ (if s == slot && index == i then command else kept_of self.old s i) }
+    /// Keeps this of a slot as a whole.
+    fn keep_of_slot(&mut self, slot: u8, command: Option<Command>)
+        ensures { (s i : ℕ) → kept_of self.new s i ≡ (if s == slot && 0 == i then command else kept_of self.old s i) }
     {
-        let number = usize::from(slot) * 32 + usize::from(index);
-        let before = addressing_count(self.by_index[number]);
+        let before = addressing_count(self.by_slot[usize::from(slot)]);
         let kept = KeptCommand { command };
         self.addressing = self.addressing - before + addressing_count(kept);
-        self.by_index[number] = kept;
+        self.by_slot[usize::from(slot)] = kept;
     }
 
-    /// What is kept of an index of a slot. Nothing is of one above 31.
+    /// Keeps this of an endpoint, if its index is one of 1 to 31.
+    fn keep_of_endpoint(&mut self, slot: u8, endpoint: u8, command: Option<Command>)
+        ensures { 0 < endpoint → endpoint < 32 → (s i : ℕ) → kept_of self.new s i ≡ (if s == slot && endpoint == i then command else kept_of self.old s i) }
+    {
+        if endpoint == 0 || endpoint >= 32 {
+            return;
+        }
+        let number = usize::from(slot) * 32 + usize::from(endpoint);
+        let before = kept_count(self.by_endpoint[number]);
+        let kept = KeptCommand { command };
+        self.counts[usize::from(slot)] = self.counts[usize::from(slot)] - before + kept_count(kept);
+        self.by_endpoint[number] = kept;
+    }
+
+    /// What is kept of a slot as a whole.
+    fn kept_of_slot(&self, slot: u8) -> Option<Command>
+        ensures { result ≡ kept_of self.now slot 0 }
+    {
+        self.by_slot[usize::from(slot)].command
+    }
+
+    /// What is kept of an index of a slot: 0 is that of the slot as a whole. Nothing is of one above 31.
     fn kept(&self, slot: u8, index: u8) -> Option<Command>
         ensures { result ≡ kept_of self.now slot index }
     {
+        if index == 0 {
+            return self.kept_of_slot(slot);
+        }
         if index >= 32 {
             return None;
         }
-        self.by_index[usize::from(slot) * 32 + usize::from(index)].command
+        self.by_endpoint[usize::from(slot) * 32 + usize::from(index)].command
     }
 
     /// Whether a command of an endpoint is excluded: by one of the slot as a whole, or of the same endpoint.
@@ -141,29 +174,14 @@ impl UnfinishedCommands {
         ensures { (all : List CommandValue) → FollowsUnfinished all self.now →
             result ≡ (list_any (is_about slot 0) all || list_any (is_about slot endpoint) all) }
     {
-        self.kept(slot, 0).is_some() || self.kept(slot, endpoint).is_some()
+        self.kept_of_slot(slot).is_some() || self.kept(slot, endpoint).is_some()
     }
 
     /// Whether the slot has an unfinished command, of its own or of an endpoint.
     fn has_command(&self, slot: u8) -> bool
         ensures { (all : List CommandValue) → FollowsUnfinished all self.now → result ≡ list_any (names slot) all }
     {
-        for index in 0..32 {
-            if self.kept(slot, index).is_some() {
-                return true;
-            }
-        }
-        false
-    }
-}
-
-/// The Device Context Index (DCI) of what a command is about: of the endpoint that it names, else that of the slot (xHCI 4.5.1).
-fn index_of(command: &Command) -> u8
-    ensures { result ≡ index_of command.now }
-{
-    match command.endpoint() {
-        None => 0,
-        Some((_, endpoint)) => endpoint,
+        self.kept_of_slot(slot).is_some() || self.counts[usize::from(slot)] > 0
     }
 }
 
@@ -177,9 +195,16 @@ fn addressing_count(kept: KeptCommand) -> usize
     }
 }
 
-fn no_commands(alloc: Global) -> Result<Vec<KeptCommand>, AllocError>
-    ensures { IfOk result (λ commands. commands.items ≡ replicate (256 * 32) (record { command = None })) }
+/// One for a command, else none.
+fn kept_count(kept: KeptCommand) -> usize
+    ensures { result ≡ kept_count kept }
+{
+    if kept.command.is_some() { 1 } else { 0 }
+}
+
+fn no_commands(alloc: Global, many: usize) -> Result<Vec<KeptCommand>, AllocError>
+    ensures { IfOk result (λ commands. commands.items ≡ replicate many (record { command = None })) }
 {
     let none = KeptCommand { command: None };
-    vec![in alloc; none; 256 * 32]
+    vec![in alloc; none; many]
 }

@@ -4,10 +4,10 @@ use Rattle.device_record.proofs.NamedCommands.{found_about}
 use Rattle.device_record.proofs.unfinished.UnfinishedCommands.of_slot.Goals as goal
 
 pub returns-clause-one : goal.returns-clause-one
-returns-clause-one c = λ all p f only. ap (λ o. list_any p (as_list o)) c.kept.ensures ∙ found_about c.args.self.now all f c.args.slot 0 p only
+returns-clause-one c = λ all p f only. ap (λ o. list_any p (as_list o)) c.kept_of_slot.ensures ∙ found_about c.args.self.now all f c.args.slot 0 p only
 
 pub returns-clause-named : goal.returns-clause-named
-returns-clause-named c = by c.kept.result c.kept.ensures
+returns-clause-named c = by c.kept_of_slot.result c.kept_of_slot.ensures
   where
     by : (o : Option Command) → o ≡ kept_of c.args.self.now c.args.slot 0 → IfSome o (λ d. (all : List Command) → FollowsUnfinished all c.args.self.now → is_about c.args.slot 0 d ≡ true)
     by None is = tt
