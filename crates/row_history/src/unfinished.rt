@@ -49,10 +49,7 @@ pub fn unfinished_on(
 }
 
 /// The first unfinished command by which a command of its slot may not be given now.
-pub fn unfinished_beside(
-    case: &Case,
-    command: Command,
-) -> Result<Option<Unfinished>, AllocError> {
+pub fn unfinished_beside(case: &Case, command: Command) -> Result<Option<Unfinished>, AllocError> {
     let is_three = case.header.version.is_three();
     let all = all_unfinished(case)?;
     Ok(
