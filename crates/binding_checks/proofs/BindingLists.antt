@@ -13,6 +13,7 @@ use Rattle.traces.specs.declared.header.Header.{Header}
 use Rattle.traces.specs.Header.{is_ring}
 use Rattle.ring_knowledge.specs.Known.{Known}
 use Rattle.ring_knowledge.specs.Rings.{unfinished}
+use Rattle.device_record.specs.Indices.{index_of}
 use Rattle.ownership_rules.specs.Moves.{Binding, binding_in, binds, binds_ring, has_repeats, is_among, is_bad_binding, is_unused_ring, is_used, ring_bound}
 use Rattle.binding_checks.specs.declared.binding.RingBinding.{RingBinding}
 use Rattle.binding_checks.specs.declared.ring_set.RingSet.{RingSet}
@@ -87,6 +88,13 @@ module _ (h : Header) (k : Known) where
   binding_names r (AddressDevice s bsr n) e = refl
   binding_names r (ConfigureEndpoint s dc n) e = refl
   binding_names r _ e = absurd (cc)
+
+  -- a command that binds a ring names no endpoint
+  pub binding_whole : (r : ℕ) (c : Command) → binds_ring h k r c ≡ true → index_of c ≡ 0
+  unfolding binds_ring binds
+  binding_whole r (AddressDevice s bsr n) e = refl
+  binding_whole r (ConfigureEndpoint s dc n) e = refl
+  binding_whole r _ e = absurd (cc)
 
   pub nothing_bad : (c : Command) → binds h k c ≡ [] → is_bad_binding h k c ≡ false
   unfolding is_bad_binding has_repeats

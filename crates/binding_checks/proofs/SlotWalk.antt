@@ -2,7 +2,7 @@
 use Rattle.std.proofs.Common.{◌≡◌, ℕ, ◌+◌, ◌%◌, ◌^◌, ◌<◌, ◌≤◌, ◌==◌, ◌&&◌, ◌||◌, if◌then◌else◌, Bool, true, false, List, [], ◌∷◌, Option, Some, None, All, refl, ap, sym, ◌∙◌, arith, subst}
 use Rattle.std.specs.Prelude.{not, nat_le, nat_lt, is_some, IfSome, option_and_then, slice_get}
 use Rattle.std.specs.List.{cons_option, filter_map, list_any}
-use Rattle.std.proofs.lemmas.Bool.{and_parts, false≢true}
+use Rattle.std.proofs.lemmas.Bool.{and_parts, eq-eqb, false≢true}
 use Rattle.std.proofs.lemmas.Bool.Decides.{nat_tests}
 use Rattle.std.proofs.lemmas.List.Folds.{list_any_none}
 use Rattle.trb.specs.declared.block.Block.{Block}
@@ -13,12 +13,14 @@ use Rattle.trb.specs.Descriptor.{is_command_left_out}
 use Rattle.contexts.specs.declared.size.ContextSize.{ContextSize}
 use Rattle.contexts.specs.Contexts.{input_context_bytes}
 use Rattle.commands.specs.declared.command.Command.{Command}
+use Rattle.commands.specs.declared.command.Command.TheVariants.{AddressDevice, ConfigureEndpoint, EvaluateContext}
 use Rattle.commands.specs.Command.{command_by_kind, command_of, named_context, named_slot}
 use Rattle.traces.specs.declared.header.Header.{Header}
 use Rattle.traces.specs.Header.{command_id}
 use Rattle.ring_knowledge.specs.Known.{Known}
 use Rattle.ring_knowledge.specs.Rings.{command_at, unfinished, unfinished_positions}
-use Rattle.device_record.specs.Unfinished.{IsOfSlot, as_list, is_slot, names}
+use Rattle.device_record.specs.Indices.{IsOnlyAbout, index_of, is_about, is_slot, names}
+use Rattle.device_record.specs.Unfinished.{as_list}
 use Rattle.trace_record.specs.Premises.{FitsMemory}
 use Rattle.binding_checks.specs.Slots.{is_below, names_below}
 use Rattle.binding_checks.proofs.Lists.{any_same, any_or, not_false, or_none}
@@ -118,19 +120,26 @@ module _ (p : Command → Bool) where
 
   -- what `of_slot` ensures
   abbrev pub Answers : ℕ → List Command → Option Command → Type 0
-  Answers s all o = (q : Command → Bool) → IsOfSlot s q → list_any q (as_list o) ≡ list_any q all
+  Answers s all o = (q : Command → Bool) → IsOnlyAbout s 0 q → list_any q (as_list o) ≡ list_any q all
 
-  pub only_named : (s : ℕ) → IsOfSlot s (λ c. names s c && p c)
-  only_named s = λ c e. (and_parts (names s c) (p c) e).0
+  -- a command that passes names no endpoint
+  module _ (whole : (c : Command) → p c ≡ true → index_of c ≡ 0) where
+    only_named : (s : ℕ) → IsOnlyAbout s 0 (λ c. names s c && p c)
+    only_named s c e =
+        let parts = and_parts (names s c) (p c) e in
+        let none : (index_of c == 0) ≡ true = eq-eqb (index_of c) 0 (whole c parts.1) in
+        ap (λ b. b && index_of c == 0) parts.0 ∙ none
 
-  pub of_none : (s : ℕ) (all : List Command) (o : Option Command) → o ≡ None → Answers s all o → list_any (λ c. names s c && p c) all ≡ false
-  of_none s all o is answers = sym (answers (λ c. names s c && p c) (only_named s)) ∙ ap (λ x. list_any (λ c. names s c && p c) (as_list x)) is
+    pub of_none : (s : ℕ) (all : List Command) (o : Option Command) → o ≡ None → Answers s all o → list_any (λ c. names s c && p c) all ≡ false
+    of_none s all o is answers = sym (answers (λ c. names s c && p c) (only_named s)) ∙ ap (λ x. list_any (λ c. names s c && p c) (as_list x)) is
 
-  pub of_some : (s : ℕ) (all : List Command) (o : Option Command) (c : Command) → o ≡ Some c → names s c ≡ true → Answers s all o → list_any (λ c. names s c && p c) all ≡ p c
-  of_some s all o c is at answers =
-      sym (answers (λ c. names s c && p c) (only_named s)) ∙ ap (λ x. list_any (λ c. names s c && p c) (as_list x)) is ∙ ap (λ b. (b && p c) || false) at ∙ or_none (p c)
+    pub of_some : (s : ℕ) (all : List Command) (o : Option Command) (c : Command) → o ≡ Some c → is_about s 0 c ≡ true → Answers s all o →
+        list_any (λ c. names s c && p c) all ≡ p c
+    of_some s all o c is at answers =
+        sym (answers (λ c. names s c && p c) (only_named s)) ∙ ap (λ x. list_any (λ c. names s c && p c) (as_list x)) is
+        ∙ ap (λ b. (b && p c) || false) (and_parts (names s c) (index_of c == 0) at).0 ∙ or_none (p c)
 
--- ---- the context of the slot's command lies in memory
+-- ---- the context of a slot's command lies in memory
 
 abbrev fits : ContextSize → Option ℕ → Bool
 fits size None = true
@@ -152,11 +161,18 @@ lies_if size (Some b) e a is =
     let same : b ≡ a = cc in
     subst (λ (n : ℕ). (n % 4 ≡ 0) × (n + input_context_bytes size ≤ 2 ^ 64)) same (first, last)
 
-pub slot_fits_memory : (size : ContextSize) (s : ℕ) (all : List Command) (o : Option Command) (c : Command) → o ≡ Some c → names s c ≡ true →
-    ((q : Command → Bool) → IsOfSlot s q → list_any q (as_list o) ≡ list_any q all) → All (FitsMemory size) all → FitsMemory size c
+-- a command with a context names no endpoint
+with_context : (size : ContextSize) (c : Command) → not (fits size (named_context c)) ≡ true → index_of c ≡ 0
+with_context size (AddressDevice s bsr n) e = refl
+with_context size (ConfigureEndpoint s dc n) e = refl
+with_context size (EvaluateContext s n) e = refl
+with_context size _ e = absurd (false≢true e)
+
+pub slot_fits_memory : (size : ContextSize) (s : ℕ) (all : List Command) (o : Option Command) (c : Command) → o ≡ Some c → is_about s 0 c ≡ true →
+    ((q : Command → Bool) → IsOnlyAbout s 0 q → list_any q (as_list o) ≡ list_any q all) → All (FitsMemory size) all → FitsMemory size c
 slot_fits_memory size s all o c is at answers each =
     lies_if size (named_context c) (not_false (fits size (named_context c))
-    (sym (of_some (λ d. not (fits size (named_context d))) s all o c is at answers)
+    (sym (of_some (λ d. not (fits size (named_context d))) (with_context size) s all o c is at answers)
     ∙ list_any_none (λ d. names s d && not (fits size (named_context d))) all (λ n d below. passes (names s _) _ (fits_if size _ (each n d below)))))
   where
     passes : (a b : Bool) → b ≡ true → (a && not b) ≡ false

@@ -6,7 +6,7 @@ ghost use Rattle.commands.specs.States.{is_off};
 ghost use Rattle.ring_knowledge.specs.Known.{Known};
 ghost use Rattle.ring_knowledge.specs.Rings.{unfinished};
 ghost use Rattle.device_record.specs.Devices.{FollowsDevices};
-ghost use Rattle.device_record.specs.Unfinished.{names};
+ghost use Rattle.device_record.specs.Indices.{names};
 ghost use Rattle.ownership_rules.specs.Moves.{is_being_moved, moves_ring};
 ghost use Rattle.trace_record.specs.FollowsTrace.{FollowsTrace};
 
@@ -30,7 +30,7 @@ pub fn is_being_moved(t: &TraceRecord, ring: u8) -> bool
     false
 }
 
-/// Whether the unfinished command of a slot moves the ring.
+/// Whether the unfinished command that names a slot alone moves the ring.
 fn is_moved_of(t: &TraceRecord, slot: u8, ring: u8) -> bool
     ensures { (h : Header) (k : Known) (memory : ℕ → ℕ) → FollowsTrace h k t.now memory →
         result ≡ list_any (λ c. names slot c && moves_ring h k ring c) (unfinished h k) }

@@ -5,7 +5,7 @@ ghost use Rattle.traces.specs.declared.header.Header.{Header};
 ghost use Rattle.ring_finder.specs.Finding.{IsFinder};
 ghost use Rattle.ring_knowledge.specs.Known.{Known};
 ghost use Rattle.ring_knowledge.specs.Rings.{unfinished};
-ghost use Rattle.device_record.specs.Unfinished.{names};
+ghost use Rattle.device_record.specs.Indices.{names};
 ghost use Rattle.ownership_rules.specs.Moves.{binds, binds_ring, is_bad_binding};
 ghost use Rattle.trace_record.specs.FollowsTrace.{FollowsTrace};
 ghost use Rattle.trace_record.specs.Premises.{ContextsFit, FitsMemory};
@@ -19,7 +19,7 @@ use ring_finder::Finder;
 use trace_record::TraceRecord;
 use traces::Header;
 
-/// Notes the rings that the unfinished command of a slot binds, if there is one.
+/// Notes the rings that the unfinished command which names a slot alone binds, if there is one.
 fn note_bound_of<M: WordMemory>(
     header: &Header,
     finder: &Finder,

@@ -3,7 +3,8 @@ use commands::{Command, EndpointState};
 use guest_memory::Addr;
 use row_history::{
     Case, Finding, NOT_JUDGED, Unfinished, all_unfinished, command_at, command_name,
-    endpoint_state_name, last_halt, note_dropped, position_given, ring_at, start, unfinished_of,
+    endpoint_state_name, last_halt, name_two_endpoints, note_dropped, position_given, ring_at,
+    start, unfinished_beside, unfinished_on,
 };
 use std::alloc::AllocError;
 
@@ -58,7 +59,7 @@ fn mark_cause(
             Ok(())
         }
         NoBell::Disabled => {
-            if let Some(command) = unfinished_of(case, slot)? {
+            if let Some(command) = unfinished_on(case, slot, target)? {
                 finding.earlier = command.mark(case)?;
             }
             Ok(())
@@ -95,7 +96,7 @@ fn bell_cause(case: &Case, slot: u8, target: u8) -> Result<NoBell, AllocError> {
             if case.known.devices.must_move(slot, target) {
                 return Ok(NoBell::Unmoved);
             }
-            match unfinished_of(case, slot)? {
+            match unfinished_on(case, slot, target)? {
                 Some(command) => Ok(NoBell::Unfinished(command)),
                 None => Ok(NoBell::Unmoved),
             }
@@ -146,7 +147,7 @@ pub fn busy(case: &Case, at: Addr, word: u32) -> Result<Option<Finding>, AllocEr
 
 /// A second command for a slot.
 fn busy_slot(case: &Case, command: Command, slot: u8) -> Result<Option<Finding>, AllocError> {
-    let Some(first) = unfinished_of(case, slot)? else {
+    let Some(first) = unfinished_beside(case, command)? else {
         return Ok(None);
     };
     let name = command_name(command);
@@ -158,6 +159,12 @@ fn busy_slot(case: &Case, command: Command, slot: u8) -> Result<Option<Finding>,
     )?;
     finding.earlier = first.mark(case)?;
     finding.say(case.alloc, "its Command Completion Event wasn't read yet")?;
+    if name_two_endpoints(first.command, command) {
+        finding.say(
+            case.alloc,
+            "the two name different endpoints: `xtrace 3` allows them side by side",
+        )?;
+    }
     finding.say(case.alloc, NOT_JUDGED)?;
     finding.help(
         case.alloc,

@@ -1,4 +1,4 @@
--- What a write that breaks no rule gives: a command whose slot isn't busy, and a device context that lies where it may
+-- What a write that breaks no rule gives: a command that nothing excludes, and a device context that lies where it may
 use Rattle.std.proofs.Common.{◌≡◌, ℕ, ◌+◌, ◌^◌, ◌≤◌, false, List, [], ◌∷◌, Option, Some, None, refl, ap, sym, ◌∙◌, arith, inl, inr, subst}
 use Rattle.std.specs.Prelude.{Contains, nat_lt, option_and_then}
 use Rattle.std.specs.List.{filter_map}
@@ -30,7 +30,8 @@ use Rattle.safety.proofs.DevicesWritten.{written_devices}
 use Rattle.device_record.proofs.Inserted.{Inserted}
 use Rattle.device_record.proofs.UnfinishedWritten.{GivesOne, allowed_gives, written_with, written_without}
 use Rattle.trace_record.specs.FollowsTrace.{device_contexts}
-use Rattle.command_starts.specs.Starting.{IsInserted, IsWith, IsIdle, EntryFits, LiesOnWords, address_taken}
+use Rattle.command_starts.specs.Starting.{IsInserted, IsWith, MayBeGiven, EntryFits, LiesOnWords, address_taken}
+use Rattle.command_starts.proofs.GivenEndpoint.{given_endpoint}
 use Rattle.command_starts.proofs.SlotLists.{listed_with}
 
 inserted : {X : Type 0} (x : X) (old new : List X) → Inserted x old new → IsInserted x old new
@@ -62,11 +63,13 @@ module _ (h : Header) (is : IsHeader h) (k : Known) (d : DriverKeeps h k) (a w :
   new_command None at = written_without h k a w gives_one (sym at)
   new_command (Some c) at = inserted c (unfinished h k) (unfinished h l) (written_with h k a w gives_one c (sym at))
 
-  -- its slot isn't busy
-  pub idle : (o : Option Command) → o ≡ command_given h k a w → IsIdle o (unfinished h k)
+  -- nothing excludes it
+  pub may_be_given : (o : Option Command) → o ≡ command_given h k a w → MayBeGiven o (unfinished h k)
   unfolding commands.is_busy
-  idle None at = tt
-  idle (Some c) at = (given_facts h k is d a w c clean (sym at)).busy
+  may_be_given None at = tt
+  may_be_given (Some c) at =
+      let facts = given_facts h k is d a w c clean (sym at) in
+      (given_endpoint h k a w c (sym at) facts.own.good, facts.busy)
 
   -- ---- the device context
 

@@ -5,7 +5,8 @@ use Rattle.contexts.specs.declared.size.ContextSize.{ContextSize}
 use Rattle.contexts.specs.Contexts.{device_context_bytes}
 use Rattle.commands.specs.declared.command.Command.{Command}
 use Rattle.commands.specs.declared.command.Command.TheVariants.{AddressDevice}
-use Rattle.commands.specs.Command.{name_one_slot}
+use Rattle.commands.specs.Command.{exclude}
+use Rattle.device_record.specs.Indices.{NamesEndpoint}
 use Rattle.ring_knowledge.specs.Known.{Known}
 use Rattle.ring_knowledge.specs.Writes.{entry_of}
 
@@ -21,10 +22,10 @@ abbrev pub IsWith : {X : Type 0} → Option X → List X → List X → Type 0
 IsWith None old new = new ≡ old
 IsWith (Some x) old new = IsInserted x old new
 
--- none of these commands names its slot
-abbrev pub IsIdle : Option Command → List Command → Type 0
-IsIdle None commands = Unit {0}
-IsIdle (Some c) commands = list_any (name_one_slot c) commands ≡ false
+-- none of these commands excludes it, and the endpoint that it names, if it names one, is one that a slot has
+abbrev pub MayBeGiven : Option Command → List Command → Type 0
+MayBeGiven None commands = Unit {0}
+MayBeGiven (Some c) commands = NamesEndpoint c × (list_any (exclude c) commands ≡ false)
 
 -- where a command takes a device context, the slot's entry in the DCBAA ends within the address space
 abbrev pub EntryFits : Known → Option Command → Type 0

@@ -11,7 +11,7 @@ ghost use Rattle.device_record.specs.Unfinished.{FollowsUnfinished};
 ghost use Rattle.range_words.specs.Holding.{HoldsAreas};
 ghost use Rattle.trace_record.specs.FollowsTrace.{FollowsTrace, inputs_of};
 ghost use Rattle.trace_record.specs.WordPlaces.{IsPlacedSo};
-ghost use Rattle.command_starts.specs.Starting.{IsIdle, IsWith};
+ghost use Rattle.command_starts.specs.Starting.{IsWith, MayBeGiven};
 
 use crate::devices::{add_area, device_taken, take_device};
 use crate::rings::note_on_ring;
@@ -61,7 +61,7 @@ fn note_given(
     inputs: &mut Areas,
     command: Option<Command>,
 ) -> Result<(), AllocError>
-    ensures commands { OnOk result ((old new : List CommandValue) → IsWith command old new → IsIdle command old →
+    ensures commands { OnOk result ((old new : List CommandValue) → IsWith command old new → MayBeGiven command old →
         FollowsUnfinished old commands.old → FollowsUnfinished new commands.new) }
     ensures inputs { OnOk result ((n : ℕ) (old new : List CommandValue) → IsWith command old new →
         HoldsAreas n (inputs_of old) inputs.old → HoldsAreas n (inputs_of new) inputs.new) }

@@ -1,6 +1,6 @@
 -- The Address Device commands among the unfinished ones, counted by slot
-use Rattle.device_record.proofs.Words.{◌≡◌, ◌<◌, ◌≤◌, ◌&&◌, ◌||◌, ◌∙◌, ◌∷◌, if◌then◌else◌, ℕ, zero, suc, Bool, true, false, List, [], Option, Some, None, ap, sym, refl, arith, inl, inr, length, get_or, All, nat_lt, filter, le-ltb, lt-ltb, eq-eqb, list_any, sum_by, cases_Bool, cases_lt, and_parts, false≢true, sum_by-le, sum_by-cons, Command, AddressDevice, SlotCommand, UnfinishedCommands, addressing_count, is_address_device, is_addressing, FollowsUnfinished, as_list, kept_of, names, no_command}
-use Rattle.device_record.proofs.NamedCommands.{found_of_slot}
+use Rattle.device_record.proofs.Words.{◌≡◌, ◌<◌, ◌≤◌, ◌&&◌, ◌||◌, ◌∙◌, ◌∷◌, if◌then◌else◌, ℕ, zero, suc, Bool, true, false, List, [], Option, Some, None, ap, sym, refl, arith, inl, inr, length, get_or, All, nat_lt, filter, le-ltb, lt-ltb, eq-eqb, list_any, sum_by, cases_Bool, cases_lt, and_parts, false≢true, sum_by-le, sum_by-cons, Command, AddressDevice, KeptCommand, UnfinishedCommands, addressing_count, is_address_device, is_addressing, FollowsUnfinished, as_list, is_about, kept_of, no_command}
+use Rattle.device_record.proofs.NamedCommands.{found_about}
 
 -- ---- how many there are
 
@@ -8,11 +8,11 @@ pub at_most_one : (b : Bool) → (if b then 1 else 0) ≤ 1
 at_most_one true = omega arith
 at_most_one false = omega arith
 
-each_at_most : (xs : List SlotCommand) → All (λ x. addressing_count x ≤ 1) xs
+each_at_most : (xs : List KeptCommand) → All (λ x. addressing_count x ≤ 1) xs
 each_at_most xs = λ k d below. at_most_one (is_addressing (get_or xs k d).command)
 
 -- no more than slots
-pub few_addressing : (xs : List SlotCommand) → length xs ≡ 256 → sum_by addressing_count xs ≤ 256
+pub few_addressing : (xs : List KeptCommand) → length xs ≡ 256 → sum_by addressing_count xs ≤ 256
 few_addressing xs many = omega (arith, sum_by-le addressing_count 1 xs (each_at_most xs), many)
 
 one_counted : (b : Bool) → b ≡ true → ◌≡◌ {A = ℕ} (if b then 1 else 0) 1
@@ -22,12 +22,12 @@ none_counted : (b : Bool) → b ≡ false → ◌≡◌ {A = ℕ} (if b then 1 e
 none_counted b is = ap (λ c. let n : ℕ = if c then 1 else 0 in n) is
 
 -- one is counted, and where one is counted there is one
-counted_at : (xs : List SlotCommand) (s : ℕ) → is_addressing (get_or xs s no_command).command ≡ true → 0 < sum_by addressing_count xs
+counted_at : (xs : List KeptCommand) (s : ℕ) → is_addressing (get_or xs s no_command).command ≡ true → 0 < sum_by addressing_count xs
 counted_at [] s is = absurd (false≢true is)
 counted_at (x ∷ xs) zero is = omega (arith, sum_by-cons addressing_count x xs, one_counted (is_addressing x.command) is)
 counted_at (x ∷ xs) (suc s) is = omega (arith, sum_by-cons addressing_count x xs, counted_at xs s is)
 
-counted_where : (xs : List SlotCommand) → 0 < sum_by addressing_count xs → (s : ℕ) × (is_addressing (get_or xs s no_command).command ≡ true)
+counted_where : (xs : List KeptCommand) → 0 < sum_by addressing_count xs → (s : ℕ) × (is_addressing (get_or xs s no_command).command ≡ true)
 counted_where [] some = absurd (omega (arith, some))
 counted_where (x ∷ xs) some = elim (cases_Bool (is_addressing x.command)) [
   | inl here ↦ (0, here)
@@ -84,25 +84,26 @@ first_passes q (x ∷ xs) y zs e = first_step q x y (filter q xs) zs (first_pass
 -- ---- the unfinished commands
 
 module _ (u : UnfinishedCommands) (all : List Command) (f : FollowsUnfinished all u) where
-  -- the command of a slot names it
-  pub kept_names : (s : ℕ) (c : Command) → kept_of u s ≡ Some c → names s c ≡ true
-  kept_names s c kept = first_passes (names s) all c [] (f.each s ∙ ap as_list kept)
+  -- the command that is kept of an index is about it
+  pub kept_names : (s i : ℕ) (c : Command) → kept_of u s i ≡ Some c → is_about s i c ≡ true
+  kept_names s i c kept = first_passes (is_about s i) all c [] (f.each s i ∙ ap as_list kept)
 
-  of_kept : (s : ℕ) (o : Option Command) → kept_of u s ≡ o → is_addressing o ≡ true → list_any is_address_device all ≡ true
-  of_kept s None kept is = absurd (false≢true is)
-  of_kept s (Some c) kept is =
-      any_left is_address_device (names s) all (ap (list_any is_address_device) (f.each s ∙ ap as_list kept) ∙ ap (λ b. b || false) is)
+  of_kept : (s i : ℕ) (o : Option Command) → kept_of u s i ≡ o → is_addressing o ≡ true → list_any is_address_device all ≡ true
+  of_kept s i None kept is = absurd (false≢true is)
+  of_kept s i (Some c) kept is =
+      any_left is_address_device (is_about s i) all (ap (list_any is_address_device) (f.each s i ∙ ap as_list kept) ∙ ap (λ b. b || false) is)
 
-  in_kept : (s : ℕ) (o : Option Command) → list_any (λ d. names s d && is_address_device d) (as_list o) ≡ true → is_addressing o ≡ true
+  in_kept : (s : ℕ) (o : Option Command) → list_any (λ d. is_about s 0 d && is_address_device d) (as_list o) ≡ true → is_addressing o ≡ true
   in_kept s None e = absurd (false≢true e)
-  in_kept s (Some d) e = (and_parts (names s d) (is_address_device d) (or_false_true (names s d && is_address_device d) e)).1
+  in_kept s (Some d) e = (and_parts (is_about s 0 d) (is_address_device d) (or_false_true (is_about s 0 d && is_address_device d) e)).1
 
-  kept_of_command : (c : Command) → is_address_device c ≡ true → ((q : Command → Bool) → q c ≡ true → list_any q all ≡ true) → (s : ℕ) × (is_addressing (kept_of u s) ≡ true)
+  -- an Address Device is kept of its slot as a whole
+  kept_of_command : (c : Command) → is_address_device c ≡ true → ((q : Command → Bool) → q c ≡ true → list_any q all ≡ true) → (s : ℕ) × (is_addressing (kept_of u s 0) ≡ true)
   kept_of_command (AddressDevice s bsr n) is holds = (
     s,
-    in_kept s (kept_of u s)
-        (found_of_slot u all s (λ d. names s d && is_address_device d) f (λ d e. (and_parts (names s d) (is_address_device d) e).0)
-        ∙ holds (λ d. names s d && is_address_device d) (ap (λ b. b && true) (eq-eqb s s refl))),
+    in_kept s (kept_of u s 0)
+        (found_about u all f s 0 (λ d. is_about s 0 d && is_address_device d) (λ d e. (and_parts (is_about s 0 d) (is_address_device d) e).0)
+        ∙ holds (λ d. is_about s 0 d && is_address_device d) (ap (λ b. (b && true) && true) (eq-eqb s s refl))),
   )
   kept_of_command _ is holds = absurd (false≢true is)
 
@@ -111,7 +112,7 @@ module _ (u : UnfinishedCommands) (all : List Command) (f : FollowsUnfinished al
   addressing_is = elim (cases_lt 0 (sum_by addressing_count u.by_slot.items)) [
     | inl some ↦
         let there = counted_where u.by_slot.items some in
-        lt-ltb 0 (sum_by addressing_count u.by_slot.items) some ∙ sym (of_kept there.0 (kept_of u there.0) refl there.1)
+        lt-ltb 0 (sum_by addressing_count u.by_slot.items) some ∙ sym (of_kept there.0 0 (kept_of u there.0 0) refl there.1)
     | inr none ↦ le-ltb 0 (sum_by addressing_count u.by_slot.items) none ∙ sym (nothing (list_any is_address_device all) refl none)
   ]
     where

@@ -7,6 +7,8 @@ pub mod Moves
 pub mod Placing
 pub mod TurnedOff
 pub mod OtherRows
+pub mod EndpointCounts
+pub mod AtMostOne
 pub mod NamedCommands
 pub mod Addressing
 pub mod Inserted
@@ -16,6 +18,5 @@ pub mod UnfinishedFinished
 pub mod RingApart
 pub mod TransfersApart
 pub mod UnfinishedEvents
-pub mod UnfinishedRows
 pub mod TouchedEndpoints
 pub mod Words

@@ -3,7 +3,7 @@ use Rattle.device_record.proofs.Words.{◌≡◌, ◌<◌, ◌==◌, if◌then�
 use Rattle.device_record.proofs.Moves.{follows_moved}
 use Rattle.device_record.proofs.Steps.{endpoints_same, states_same, devices_same, follows_beside, follows_halt, follows_placed}
 
-set_at : {X : Type 0} (xs : List X) (n m : ℕ) (x d : X) → n < length xs → slice_index_or (slice_set xs n x) m d ≡ (if m == n then x else slice_index_or xs m d)
+pub set_at : {X : Type 0} (xs : List X) (n m : ℕ) (x d : X) → n < length xs → slice_index_or (slice_set xs n x) m d ≡ (if m == n then x else slice_index_or xs m d)
 set_at xs n m x d below = elim (cases_eq m n) [
   | inl same ↦
       (λ i. slice_index_or (slice_set xs n x) (same i) d) ∙ get_or-set_same xs n x d below ∙ sym (cond-true (m == n) x (slice_index_or xs m d) (eq-eqb m n same))

@@ -1,7 +1,7 @@
 -- The words of std, of the crates below and of this crate's own definitions that its proofs cite, passed on by one file
 pub use Rattle.commands.specs.Changes.{is_above_control, placed_by_context, touches}
 unfoldable pub use Rattle.commands.specs.Changes.{changes}
-pub use Rattle.commands.specs.Command.{command_of, name_one_slot, named_slot, same_slot}
+pub use Rattle.commands.specs.Command.{command_of, exclude, name_one_slot, named_endpoint, named_slot, other_endpoint, same_slot}
 pub use Rattle.commands.specs.States.{is_off, is_stopped, slot_success}
 pub use Rattle.commands.specs.declared.command.Command.{Command}
 pub use Rattle.commands.specs.declared.command.Command.TheVariants.{AddressDevice, ConfigureEndpoint, DisableSlot, EnableSlot, EvaluateContext, NoOp, ResetDevice, ResetEndpoint, SetTrDequeue, StopEndpoint}
@@ -14,11 +14,14 @@ pub use Rattle.contexts.specs.declared.size.ContextSize.{ContextSize}
 pub use Rattle.device_record.specs.Addressing.{addressing_count, is_address_device, is_addressing}
 pub use Rattle.device_record.specs.Devices.{FollowsDevices, IsDisabled, IsWithBound, IsWithEndpoint, IsWithSlot, endpoint_at, fresh_endpoint, fresh_slot, slot_at}
 pub use Rattle.device_record.specs.Endpoints.{named_by, placed_endpoint, ring_got, rung_endpoint, transferred_endpoint, turned_off}
-pub use Rattle.device_record.specs.Unfinished.{FollowsUnfinished, IsOfSlot, as_list, is_slot, kept_of, names, no_command}
+pub use Rattle.device_record.specs.Counts.{kept_at, kept_count, no_command}
+unfoldable pub use Rattle.device_record.specs.Counts.{endpoint_count}
+pub use Rattle.device_record.specs.Indices.{IsEndpoint, IsOnlyAbout, NamesEndpoint, endpoint_index, index_of, is_about, is_slot, names}
+pub use Rattle.device_record.specs.Unfinished.{FollowsUnfinished, as_list, kept_of}
 pub use Rattle.device_record.specs.declared.kept.DeviceRecord.{DeviceRecord}
 pub use Rattle.device_record.specs.declared.kept.Endpoint.{Endpoint}
 pub use Rattle.device_record.specs.declared.kept.Slot.{Slot}
-pub use Rattle.device_record.specs.declared.unfinished.SlotCommand.{SlotCommand}
+pub use Rattle.device_record.specs.declared.unfinished.KeptCommand.{KeptCommand}
 pub use Rattle.device_record.specs.declared.unfinished.UnfinishedCommands.{UnfinishedCommands}
 pub use Rattle.guest_memory.specs.Memory.{put_pair}
 pub use Rattle.ring_knowledge.proofs.Words.{Block, Data, Declares, Header, Holds, IsShape, Known, Opens, Reaches, Register, RingView, Shape, Spot, Usbcmd, Writes, after, and_parts, cases_Bool, cases_eq, cases_lt, changed, cond-false, cond-true, declared, false≢true, floor_number, gives, list_any, none-some, number, place_count, range_with_len, reset_bit, run_bit, sum_by-cons}
@@ -35,9 +38,9 @@ pub use Rattle.segments.proofs.OneGiving.{positions_given-one}
 pub use Rattle.segments.proofs.ReachedSpots.{number-after}
 pub use Rattle.segments.proofs.Words.{cons_option, filter_map, kind, option_map, pointer, put, same_Some, sum_by}
 pub use Rattle.segments.specs.RingView.{RingChange}
-pub use Rattle.std.proofs.Common.{All, Bool, IfSome, List, None, Option, Some, [], ap, arith, eq-eqb, eqb-true, false, filter, get_or, get_or-set_other, get_or-set_same, if◌then◌else◌, inl, inr, is_some, le-ltb, length, lt-ltb, map, nat_lt, ne_eqb, not, option_and_then, refl, replicate, slice_get, slice_index_or, slice_set, subst, suc, sym, true, unwrap_or, zero, ℕ, ◌&&◌, ◌*◌, ◌++◌, ◌+◌, ◌<◌, ◌==◌, ◌||◌, ◌∙◌, ◌∷◌, ◌≡◌, ◌≢◌, ◌≤◌, ◌⊎◌}
-pub use Rattle.std.proofs.lemmas.Bool.{cond_both}
-pub use Rattle.std.proofs.lemmas.List.Elements.{filter-append, filter_map-append}
+pub use Rattle.std.proofs.Common.{All, Bool, IfSome, List, None, Option, Some, [], ap, arith, eq-eqb, eqb-true, false, filter, get_or, get_or-set_other, get_or-set_same, if◌then◌else◌, inl, inr, is_some, le-ltb, length, lt-ltb, map, nat_lt, ne_eqb, not, option_and_then, refl, replicate, slice_get, slice_index_or, slice_set, subst, suc, sym, true, unwrap_or, zero, ℕ, ◌&&◌, ◌%◌, ◌*◌, ◌++◌, ◌+◌, ◌-◌, ◌/◌, ◌<◌, ◌==◌, ◌||◌, ◌∙◌, ◌∷◌, ◌≡◌, ◌≢◌, ◌≤◌, ◌⊎◌}
+pub use Rattle.std.proofs.lemmas.Bool.{and_from, and_left, and_right, cond_both, or_left, or_parts, or_right}
+pub use Rattle.std.proofs.lemmas.List.Elements.{All-append, All-cons, All-from_recursion, All-head, All-nil, All-tail, filter-append, filter_map-append}
 pub use Rattle.std.proofs.lemmas.List.Sums.{sum_by-le}
 pub use Rattle.traces.specs.Header.{IsHeader, shape_or}
 unfoldable pub use Rattle.traces.specs.Header.{command_id, ring_beginning_at, shape_of}

@@ -2,7 +2,7 @@
 use Rattle.std.specs.Prelude.{ℕ, Bool, true, false, if◌then◌else◌, Option, Some, None}
 use Rattle.commands.specs.declared.command.Command.{Command}
 use Rattle.commands.specs.declared.command.Command.TheVariants.{AddressDevice}
-use Rattle.device_record.specs.declared.unfinished.SlotCommand.{SlotCommand}
+use Rattle.device_record.specs.declared.unfinished.KeptCommand.{KeptCommand}
 
 abbrev pub is_address_device : Command → Bool
 is_address_device (AddressDevice s bsr c) = true
@@ -13,5 +13,5 @@ is_addressing None = false
 is_addressing (Some c) = is_address_device c
 
 -- one for an Address Device, else none
-abbrev pub addressing_count : SlotCommand → ℕ
+abbrev pub addressing_count : KeptCommand → ℕ
 addressing_count kept = if is_addressing kept.command then 1 else 0

@@ -1,33 +1,21 @@
--- What a record of the unfinished commands holds: of each slot the one that names it
-use Rattle.std.specs.Prelude.{◌≡◌, ℕ, ◌==◌, Bool, true, false, List, [], ◌∷◌, Option, Some, None, filter, slice_index_or}
+-- What a record of the unfinished commands holds: of each slot the one that is about the slot as a whole, and the one of each endpoint
+use Rattle.std.specs.Prelude.{◌≡◌, ℕ, ◌==◌, if◌then◌else◌, List, [], ◌∷◌, Option, Some, None, filter, slice_index_or}
+use Rattle.std.specs.List.{All}
 use Rattle.commands.specs.declared.command.Command.{Command}
-use Rattle.commands.specs.Command.{named_slot}
-use Rattle.device_record.specs.declared.unfinished.SlotCommand.{SlotCommand}
 use Rattle.device_record.specs.declared.unfinished.UnfinishedCommands.{UnfinishedCommands}
-
-abbrev pub is_slot : ℕ → Option ℕ → Bool
-is_slot s None = false
-is_slot s (Some t) = s == t
-
--- the command names slot s
-abbrev pub names : ℕ → Command → Bool
-names s c = is_slot s (named_slot c)
+use Rattle.device_record.specs.Counts.{kept_at, no_command}
+use Rattle.device_record.specs.Indices.{NamesEndpoint, is_about}
 
 abbrev pub as_list : Option Command → List Command
 as_list None = []
 as_list (Some c) = c ∷ []
 
-abbrev pub no_command : SlotCommand
-no_command = record { command = None }
+-- the command that is kept of an index of a slot; index 0 is that of the slot as a whole
+abbrev pub kept_of : UnfinishedCommands → ℕ → ℕ → Option Command
+kept_of u s i = if i == 0 then (slice_index_or u.by_slot.items s no_command).command else (kept_at u.by_endpoint.items s i).command
 
--- the command that is kept of a slot
-abbrev pub kept_of : UnfinishedCommands → ℕ → Option Command
-kept_of u s = (slice_index_or u.by_slot.items s no_command).command
-
--- of these commands each slot is named by the one that is kept of it, and by no other; slots above 255 are named by none
+-- of these commands at most one is about each slot as a whole, and about each endpoint at most one, and that one is kept; slots above 255
+-- are named by none
 pub record FollowsUnfinished (commands : List Command) (u : UnfinishedCommands) : Type 0 where
-  pub each : (s : ℕ) → filter (names s) commands ≡ as_list (kept_of u s)
-
--- the test holds of commands alone that name slot s
-abbrev pub IsOfSlot : ℕ → (Command → Bool) → Type 0
-IsOfSlot s p = (c : Command) → p c ≡ true → names s c ≡ true
+  pub each : (s i : ℕ) → filter (is_about s i) commands ≡ as_list (kept_of u s i)
+  pub endpoints : All NamesEndpoint commands

@@ -1,6 +1,6 @@
 -- Which endpoints an unfinished command may change
-use Rattle.std.proofs.Common.{◌≡◌, ℕ, zero, suc, ◌+◌, ◌<◌, ◌≤◌, ◌%◌, ◌^◌, List, [], ◌∷◌, Bool, true, false, Option, Some, None, refl, ap, sym, ◌∙◌, arith, inl, inr, get_or, subst}
-use Rattle.std.specs.Prelude.{◌==◌, ◌&&◌, ◌||◌, not, nat_le, nat_lt, map, All}
+use Rattle.std.proofs.Common.{◌≡◌, ℕ, zero, suc, ◌+◌, ◌<◌, ◌≤◌, ◌%◌, ◌^◌, List, Bool, true, false, Option, Some, None, refl, ap, sym, ◌∙◌, arith, inl, inr, get_or, subst}
+use Rattle.std.specs.Prelude.{◌==◌, ◌&&◌, ◌||◌, not, nat_le, nat_lt, map, All, IfSome}
 use Rattle.std.specs.List.{list_any, range_with_len}
 use Rattle.std.proofs.lemmas.Bool.{cases_eq, eqb-true, eq-eqb, ne_eqb, le-leb, lt-leb, lt-ltb, leb-true, and_parts}
 use Rattle.std.proofs.lemmas.Bool.Decides.{nat_tests}
@@ -15,8 +15,11 @@ use Rattle.traces.specs.declared.header.Header.{Header}
 use Rattle.ring_knowledge.specs.Known.{Known}
 use Rattle.ring_knowledge.specs.Rings.{unfinished}
 use Rattle.ring_finder.proofs.ListTests.{and_false, any_map, any_filter, any_nowhere}
-use Rattle.device_record.specs.Unfinished.{IsOfSlot, as_list, names}
-use Rattle.device_record.proofs.TouchedEndpoints.{touched_of_slot}
+use Rattle.device_record.specs.Indices.{IsOnlyAbout, is_about}
+use Rattle.device_record.specs.Unfinished.{FollowsUnfinished, as_list}
+use Rattle.device_record.specs.declared.unfinished.UnfinishedCommands.{UnfinishedCommands}
+use Rattle.device_record.proofs.AtMostOne.{any_either, any_same}
+use Rattle.device_record.proofs.TouchedEndpoints.{touched_about}
 use Rattle.ownership_rules.specs.Doorbells.{is_touched, touches_endpoint}
 use Rattle.trace_record.specs.Premises.{FitsMemory}
 
@@ -88,7 +91,7 @@ configured_any size m s t c i false below =
 pub configured_fits : (size : ContextSize) (c : Command) (t a : ℕ) (d : Bool) → c ≡ ConfigureEndpoint t d a → FitsMemory size c → d ≡ false → (a % 4 ≡ 0) × (a + input_context_bytes size ≤ 2 ^ 64)
 configured_fits size c t a d is fits off = fits a (ap named_context (is ∙ ap (λ b. ConfigureEndpoint t b a) off))
 
--- ---- the unfinished command of a slot
+-- ---- the unfinished commands of a slot and an endpoint
 
 abbrev fits_at : ContextSize → Option ℕ → Bool
 fits_at size None = true
@@ -108,31 +111,76 @@ true_fits size (Some b) holds a e =
     some_is : Some b ≡ Some a → b ≡ a
     some_is e = cc
 
-abbrev misfits : ContextSize → ℕ → Command → Bool
-misfits size s d = names s d && not (fits_at size (named_context d))
+abbrev misfits : ContextSize → ℕ → ℕ → Command → Bool
+misfits size s i d = is_about s i d && not (fits_at size (named_context d))
 
--- what each unfinished command names ends within the address space, also what that of a slot names
-pub named_fits : (size : ContextSize) (s : ℕ) (all : List Command) (c : Command) → All (FitsMemory size) all → names s c ≡ true →
-    ((p : Command → Bool) → IsOfSlot s p → list_any p (c ∷ []) ≡ list_any p all) → FitsMemory size c
-named_fits size s all c each named same =
-    true_fits size (named_context c) (by (names s c) (fits_at size (named_context c)) named (same (misfits size s) (λ d e. (and_parts (names s d) (not (fits_at size (named_context d))) e).0) ∙ none))
+-- what is kept of this among the unfinished commands, if anything is
+pub record IsThat (s i : ℕ) (all : List Command) (o : Option Command) : Type 0 where
+  pub named : IfSome o (λ c. is_about s i c ≡ true)
+  pub one : (p : Command → Bool) → IsOnlyAbout s i p → list_any p (as_list o) ≡ list_any p all
+
+pub that_is : (s i : ℕ) (all : List Command) (u : UnfinishedCommands) (o : Option Command) → FollowsUnfinished all u →
+    ((all : List Command) (p : Command → Bool) → FollowsUnfinished all u → IsOnlyAbout s i p → list_any p (as_list o) ≡ list_any p all) →
+    IfSome o (λ c. (all : List Command) → FollowsUnfinished all u → is_about s i c ≡ true) → IsThat s i all o
+that_is s i all u o f one named = record { named = by o named; one = λ p only. one all p f only }
+  where
+    by : (o : Option Command) → IfSome o (λ c. (all : List Command) → FollowsUnfinished all u → is_about s i c ≡ true) → IfSome o (λ c. is_about s i c ≡ true)
+    by None named = tt
+    by (Some c) named = named all f
+
+-- what each unfinished command names ends within the address space, also what that of a slot or an endpoint names
+pub named_fits : (size : ContextSize) (s i : ℕ) (all : List Command) (o : Option Command) → All (FitsMemory size) all → IsThat s i all o → IfSome o (FitsMemory size)
+named_fits size s i all None each that = tt
+named_fits size s i all (Some c) each that =
+    true_fits size (named_context c) (by (is_about s i c) (fits_at size (named_context c)) that.named
+    (that.one (misfits size s i) (λ d e. (and_parts (is_about s i d) (not (fits_at size (named_context d))) e).0) ∙ none))
   where
     fails : (x y : Bool) → y ≡ true → (x && not y) ≡ false
     fails true true e = refl
     fails true false e = absurd (cc)
     fails false y e = refl
 
-    none : list_any (misfits size s) all ≡ false
-    none = list_any_none (misfits size s) all (λ k d below. fails (names s (get_or all k d)) (fits_at size (named_context (get_or all k d))) (fits_true size (named_context (get_or all k d)) (each k d below)))
+    none : list_any (misfits size s i) all ≡ false
+    none = list_any_none (misfits size s i) all (λ k d below. fails (is_about s i (get_or all k d)) (fits_at size (named_context (get_or all k d))) (fits_true size (named_context (get_or all k d)) (each k d below)))
 
     by : (x y : Bool) → x ≡ true → ((x && not y) || false) ≡ false → y ≡ true
     by true true e f = refl
     by true false e f = absurd (cc)
     by false y e f = absurd (cc)
 
--- only the unfinished command of a slot can touch its endpoints
-pub touched_is : (h : Header) (k : Known) (s i : ℕ) (o : Option Command) →
-    ((p : Command → Bool) → IsOfSlot s p → list_any p (as_list o) ≡ list_any p (unfinished h k)) →
-    list_any (λ c. list_any (touches s i) (changes h.context_size k.memory 0 c)) (as_list o) ≡ is_touched h k s i
+module _ (s : ℕ) (all : List Command) (p : Command → Bool) where
+  abbrev with_test : ℕ → Command → Bool
+  with_test j c = is_about s j c && p c
+
+  only_with : (j : ℕ) → IsOnlyAbout s j (with_test j)
+  only_with j c e = (and_parts (is_about s j c) (p c) e).0
+
+  -- what holds of the one that is kept of this
+  of_one : (j : ℕ) (o : Option Command) → IsThat s j all o → list_any p (as_list o) ≡ list_any (with_test j) all
+  of_one j o that = by o that.named ∙ that.one (with_test j) (only_with j)
+    where
+      by : (o : Option Command) → IfSome o (λ c. is_about s j c ≡ true) → list_any p (as_list o) ≡ list_any (with_test j) (as_list o)
+      by None named = refl
+      by (Some c) named = sym (ap (λ b. (b && p c) || false) named)
+
+  -- what holds of commands alone that are about the slot as a whole or an endpoint holds of one of the two
+  of_two : (i : ℕ) (slots endpoints : Option Command) → ((c : Command) → p c ≡ true → (is_about s 0 c || is_about s i c) ≡ true) →
+      IsThat s 0 all slots → IsThat s i all endpoints → (list_any p (as_list slots) || list_any p (as_list endpoints)) ≡ list_any p all
+  of_two i slots endpoints only of_slot of_endpoint =
+      (λ j. of_one 0 slots of_slot j || of_one i endpoints of_endpoint j)
+      ∙ sym (any_either (with_test 0) (with_test i) all)
+      ∙ any_same (λ c. with_test 0 c || with_test i c) p all (λ c. by (is_about s 0 c) (is_about s i c) (p c) (only c))
+    where
+      by : (x y b : Bool) → (b ≡ true → (x || y) ≡ true) → ((x && b) || (y && b)) ≡ b
+      by true y true only = refl
+      by true true false only = refl
+      by true false false only = refl
+      by false true b only = refl
+      by false false true only = only refl
+      by false false false only = refl
+
+-- of the unfinished commands those of the slot as a whole and of the endpoint alone can touch it
+pub touched_is : (h : Header) (k : Known) (s i : ℕ) (slots endpoints : Option Command) → IsThat s 0 (unfinished h k) slots → IsThat s i (unfinished h k) endpoints →
+    (list_any (touches_endpoint h k s i) (as_list slots) || list_any (touches_endpoint h k s i) (as_list endpoints)) ≡ is_touched h k s i
 unfolding is_touched touches_endpoint
-touched_is h k s i o same = same (λ c. list_any (touches s i) (changes h.context_size k.memory 0 c)) (touched_of_slot h.context_size k.memory s i 0)
+touched_is h k s i slots endpoints = of_two s (unfinished h k) (touches_endpoint h k s i) i slots endpoints (touched_about h.context_size k.memory s i 0)

@@ -1,10 +1,11 @@
 //! Which endpoints an unfinished command may change (xHCI 4.6).
-ghost use Rattle.std.specs.Prelude.{◌≡◌, ◌<◌, ◌%◌, ◌+◌, ◌^◌, ◌≤◌, ◌&&◌, ◌||◌, nat_le, false};
+ghost use Rattle.std.specs.Prelude.{◌≡◌, ◌<◌, ◌%◌, ◌+◌, ◌^◌, ◌≤◌, ◌&&◌, ◌||◌, nat_le, false, ℕ, IfSome};
 ghost use Rattle.std.specs.List.{list_any};
 ghost use Rattle.contexts.specs.Contexts.{input_add_flag, input_context_bytes, input_drop_flag};
 ghost use Rattle.commands.specs.Changes.{changes, touches};
 ghost use Rattle.ring_knowledge.specs.Known.{Known};
-ghost use Rattle.ownership_rules.specs.Doorbells.{is_touched};
+ghost use Rattle.device_record.specs.Unfinished.{as_list};
+ghost use Rattle.ownership_rules.specs.Doorbells.{is_touched, touches_endpoint};
 ghost use Rattle.trace_record.specs.FollowsTrace.{FollowsTrace};
 ghost use Rattle.trace_record.specs.Premises.{ContextsFit, FitsMemory};
 
@@ -14,7 +15,7 @@ use guest_memory::WordMemory;
 use trace_record::TraceRecord;
 use traces::Header;
 
-/// Whether an unfinished command may change an endpoint: the one that names its slot, since a slot has at most one.
+/// Whether an unfinished command may change an endpoint: the one that names its slot alone, or the one that names it.
 pub fn is_touched<M: WordMemory>(
     header: &Header,
     t: &TraceRecord,
@@ -26,7 +27,25 @@ pub fn is_touched<M: WordMemory>(
     ensures { (k : Known) → FollowsTrace header.now k t.now (M.words memory.now) → ContextsFit header.now k →
         result ≡ is_touched header.now k slot index }
 {
-    match t.commands.of_slot(slot) {
+    let of_slot = t.commands.of_slot(slot);
+    let of_endpoint = t.commands.of_endpoint(slot, index);
+    is_touched_by(header, memory, of_slot, slot, index)
+        || is_touched_by(header, memory, of_endpoint, slot, index)
+}
+
+/// Whether the success of a command, if there is one, may change an endpoint.
+fn is_touched_by<M: WordMemory>(
+    header: &Header,
+    memory: &M,
+    command: Option<Command>,
+    slot: u8,
+    index: u8,
+) -> bool
+    requires { index < 32 }
+    ensures { (k : Known) → ((a : ℕ) → k.memory a ≡ M.words memory.now a) → IfSome command (FitsMemory header.now.context_size) →
+        result ≡ list_any (touches_endpoint header.now k slot index) (as_list command) }
+{
+    match command {
         Some(command) => touches(header.context_size, memory, &command, slot, index),
         None => false,
     }

@@ -22,7 +22,10 @@ pub use rows::{
     stop, word_at,
 };
 pub use soiled::{SoiledWord, soiled_word};
-pub use unfinished::{Unfinished, all_unfinished, command_at, trb_at, unfinished_of};
+pub use unfinished::{
+    Unfinished, all_unfinished, command_at, name_two_endpoints, trb_at, unfinished_beside,
+    unfinished_on,
+};
 pub use words::{
     NOT_JUDGED, code_name, command_name, endpoint_state_name, general_head, register_name,
     ring_of_kind, ring_with, slot_state_name, type_name, why_refused,

@@ -34,14 +34,48 @@ pub fn all_unfinished(case: &Case) -> Result<Vec<Unfinished>, AllocError> {
     Ok(found)
 }
 
-/// The first unfinished command that names a slot.
-pub fn unfinished_of(case: &Case, slot: u8) -> Result<Option<Unfinished>, AllocError> {
+/// The first unfinished command that names an endpoint, or its slot alone.
+pub fn unfinished_on(
+    case: &Case,
+    slot: u8,
+    endpoint: u8,
+) -> Result<Option<Unfinished>, AllocError> {
     let all = all_unfinished(case)?;
     Ok(
         all.iter()
-            .find(|given| given.command.slot() == Some(slot))
+            .find(|given| is_on(given.command, slot, endpoint))
             .copied(),
     )
+}
+
+/// The first unfinished command by which a command of its slot may not be given now.
+pub fn unfinished_beside(case: &Case, command: Command) -> Result<Option<Unfinished>, AllocError> {
+    let is_three = case.header.version.is_three();
+    let all = all_unfinished(case)?;
+    Ok(
+        all.iter()
+            .find(|given| {
+                given.command.slot() == command.slot()
+                    && !(is_three && name_two_endpoints(given.command, command))
+            })
+            .copied(),
+    )
+}
+
+/// Whether a command names an endpoint, or its slot alone.
+fn is_on(command: Command, slot: u8, endpoint: u8) -> bool {
+    match command.endpoint() {
+        None => command.slot() == Some(slot),
+        Some(named) => named == (slot, endpoint),
+    }
+}
+
+/// Whether each names an endpoint, and not the same one.
+pub fn name_two_endpoints(first: Command, second: Command) -> bool {
+    match (first.endpoint(), second.endpoint()) {
+        (Some(first), Some(second)) => first != second,
+        _ => false,
+    }
 }
 
 impl Unfinished {

@@ -6,7 +6,7 @@ use Rattle.traces.specs.declared.header.Header.{Header}
 use Rattle.ring_knowledge.specs.Known.{Known}
 use Rattle.ownership_rules.specs.Commands as commands
 use Rattle.ownership_rules.specs.Moves as moves
-use Rattle.ownership_rules.specs.Older.{has_left_out_endpoint}
+use Rattle.ownership_rules.specs.Older.{has_busy_slot, has_left_out_endpoint}
 use Rattle.ownership_rules.specs.declared.refusal.Refusal.{Refusal}
 use Rattle.ownership_rules.specs.declared.refusal.Refusal.TheVariants.{Busy, NotInProfile, BadMove}
 use Rattle.ownership_rules.specs.Refusal.{Test, first_broken}
@@ -27,10 +27,10 @@ none_fails ((rule, true) ∷ xs) ys e = some_none rule (sym e)
 none_fails ((rule, false) ∷ xs) ys e = none_fails xs ys e
 
 module _ (h : Header) (k : Known) (c : Command) (good : commands.is_bad_command h k c ≡ false) where
-  pub is_busy_now : commands.is_busy h k c ≡ true → Some Busy ≡ first_broken (command_tests h k c)
+  pub is_busy_now : has_busy_slot h k c ≡ true → Some Busy ≡ first_broken (command_tests h k c)
   is_busy_now busy = sym (rw (good, busy) refl)
 
-  module _ (free : commands.is_busy h k c ≡ false) where
+  module _ (free : has_busy_slot h k c ≡ false) where
     pub is_left_out_now : has_left_out_endpoint h k c ≡ true → Some NotInProfile ≡ first_broken (command_tests h k c)
     is_left_out_now out = sym (rw (good, free, out) refl)
 

@@ -22,7 +22,7 @@ use Rattle.ownership_rules.specs.Refusal.{Test, broken_of, first_of, first_broke
 use Rattle.ownership_rules.specs.OpenLeases.{is_leased, is_the_controllers}
 use Rattle.ownership_rules.specs.Commands as commands
 use Rattle.ownership_rules.specs.Moves as moves
-use Rattle.ownership_rules.specs.Older.{has_left_out_endpoint, older, stricter, writes_to_owned}
+use Rattle.ownership_rules.specs.Older.{has_busy_slot, has_left_out_endpoint, older, stricter, writes_to_owned}
 use Rattle.ownership_rules.specs.Writes.{write_tests, changes_owned, some_given, some_crossed, some_command, holds_of, on_position, on_crossing}
 use Rattle.ownership_rules.specs.Rules.{broken, lenient_tests, tests}
 use Rattle.trace_record.specs.Steps.{IsLeast}
@@ -44,7 +44,7 @@ module _ (h : Header) (k : Known) (a w : ℕ) (r : Ring) where
       ∷ (NotWhole, list_any (is_not_whole r.shape (k.ring r.id)) (positions_of giving))
       ∷ (LinkFault, list_any (leads_wrong r.shape k.memory a w) (crossings_of giving))
       ∷ (BadCommand, holds_of (commands.is_bad_command h k) command)
-      ∷ (Busy, holds_of (commands.is_busy h k) command || list_any (λ p. moves.is_being_moved h k r.id) (positions_of giving))
+      ∷ (Busy, holds_of (has_busy_slot h k) command || list_any (λ p. moves.is_being_moved h k r.id) (positions_of giving))
       ∷ (NotInProfile, holds_of (has_left_out_endpoint h k) command || list_any (interrupts r.shape k.memory a w) (crossings_of giving))
       ∷ (BadMove, holds_of (λ c. moves.is_bad_binding h k c || moves.is_bad_move h k c) command) ∷ []
 
@@ -58,7 +58,7 @@ module _ (h : Header) (k : Known) (a w : ℕ) (r : Ring) where
       first_broken (of_ring (Some (Position p)) command) ≡ first_broken (given_tests h k r k.memory a w (Some (Position p)) command)
   unfolding holds_of
   placed_is p None still = rw (or_false (moves.is_being_moved h k r.id)) refl
-  placed_is p (Some c) still = rw (still c refl, or_false (commands.is_busy h k c), or_false (has_left_out_endpoint h k c)) refl
+  placed_is p (Some c) still = rw (still c refl, or_false (has_busy_slot h k c), or_false (has_left_out_endpoint h k c)) refl
 
   pub tests_are : (giving : Option RingGiving) (command : Option Command) → GivesOnPosition giving command →
       ((c : Command) → command ≡ Some c → moves.is_being_moved h k r.id ≡ false) → first_broken (of_ring giving command) ≡ first_broken (given_tests h k r k.memory a w giving command)
@@ -71,37 +71,47 @@ module _ (h : Header) (k : Known) (a w : ℕ) (r : Ring) where
 
 module _ (h : Header) (headed : IsHeader h) (k : Known) (on : k.stopped ≡ false) (a w : ℕ) where
   -- the rules of the trace's version
-  abbrev version_tests_with : Bool → List Test
-  version_tests_with left_out =
+  abbrev version_tests_with : Bool → Bool → List Test
+  version_tests_with busy left_out =
       (WriteToOwned, writes_to_owned h k a w)
       ∷ (NotAsSubmitted, some_given h k a w (λ r p. is_other_than_declared (shape_of h r) (k.ring r) k.memory a w p))
       ∷ (NotDeclared, some_given h k a w (λ r p. is_not_declared (k.ring r) p))
       ∷ (NotWhole, some_given h k a w (λ r p. is_not_whole (shape_of h r) (k.ring r) p))
       ∷ (LinkFault, some_crossed h k a w (λ r q. leads_wrong (shape_of h r) k.memory a w q))
       ∷ (BadCommand, some_command h k a w (commands.is_bad_command h k))
-      ∷ (Busy, some_command h k a w (commands.is_busy h k) || some_given h k a w (λ r p. moves.is_being_moved h k r))
+      ∷ (Busy, busy)
       ∷ (NotInProfile, left_out)
       ∷ (BadMove, some_command h k a w (λ c. moves.is_bad_binding h k c || moves.is_bad_move h k c)) ∷ []
 
   abbrev version_tests : List Test
-  version_tests = version_tests_with (holds_of (has_left_out_endpoint h k) (command_given h k a w) || some_crossed h k a w (λ r q. interrupts (shape_of h r) k.memory a w q))
+  version_tests =
+      version_tests_with (holds_of (has_busy_slot h k) (command_given h k a w) || some_given h k a w (λ r p. moves.is_being_moved h k r))
+      (holds_of (has_left_out_endpoint h k) (command_given h k a w) || some_crossed h k a w (λ r q. interrupts (shape_of h r) k.memory a w q))
 
-  -- the rule on left-out endpoints, as the trace's version has it
+  or_assoc : (x y z : Bool) → (x || (y || z)) ≡ ((x || y) || z)
+  or_assoc true y z = refl
+  or_assoc false y z = refl
+
+  -- the rule on commands of one slot, as the trace's version has it
+  busy_is : (c : Option Command) (later : Bool) →
+      ((holds_of (commands.shares_slot h k) c && not (is_three h.version)) || (holds_of (commands.is_busy h k) c || later)) ≡ (holds_of (has_busy_slot h k) c || later)
+  unfolding holds_of has_busy_slot
+  busy_is None later = refl
+  busy_is (Some c) later = or_assoc (commands.shares_slot h k c && not (is_three h.version)) (commands.is_busy h k c) later
+
+  -- and that on left-out endpoints
   left_out_is : (c : Option Command) (later : Bool) →
       ((holds_of (commands.adds_isochronous h k) c && not (is_three h.version)) || (holds_of (commands.adds_streams h k) c || later)) ≡ (holds_of (has_left_out_endpoint h k) c || later)
   unfolding holds_of has_left_out_endpoint
   left_out_is None later = refl
   left_out_is (Some c) later = or_assoc (commands.adds_isochronous h k c && not (is_three h.version)) (commands.adds_streams h k c) later
-    where
-      or_assoc : (x y z : Bool) → (x || (y || z)) ≡ ((x || y) || z)
-      or_assoc true y z = refl
-      or_assoc false y z = refl
 
   pub least_is : first_of (broken h k (Write a w)) ≡ first_broken version_tests
   unfolding broken tests lenient_tests write_tests older stricter writes_to_owned some_command
   least_is =
       ap (λ b. first_of (if b then AfterStop ∷ [] else broken_of (tests h k (Write a w)))) on
-      ∙ ap (λ t. first_of (broken_of (version_tests_with t))) (left_out_is (command_given h k a w) (some_crossed h k a w (λ r q. interrupts (shape_of h r) k.memory a w q)))
+      ∙ (λ i. first_of (broken_of (version_tests_with (busy_is (command_given h k a w) (some_given h k a w (λ r p. moves.is_being_moved h k r)) i)
+      (left_out_is (command_given h k a w) (some_crossed h k a w (λ r q. interrupts (shape_of h r) k.memory a w q)) i))))
       ∙ first_broken-is version_tests
 
   -- the write is to what the controller owns

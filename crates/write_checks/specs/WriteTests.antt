@@ -16,7 +16,7 @@ use Rattle.ring_knowledge.specs.declared.ring_record.RingGiving.{RingGiving}
 use Rattle.ring_knowledge.specs.declared.ring_record.RingGiving.TheVariants.{Position, Crossing}
 use Rattle.ownership_rules.specs.Commands as commands
 use Rattle.ownership_rules.specs.Moves as moves
-use Rattle.ownership_rules.specs.Older.{has_left_out_endpoint}
+use Rattle.ownership_rules.specs.Older.{has_busy_slot, has_left_out_endpoint}
 use Rattle.ownership_rules.specs.Refusal.{Test}
 use Rattle.ownership_rules.specs.declared.refusal.Refusal.TheVariants.{NotAsSubmitted, NotDeclared, NotWhole, LinkFault, BadCommand, Busy, NotInProfile, BadMove}
 
@@ -56,7 +56,7 @@ crossing_tests shape memory a w crossed =
 abbrev pub command_tests : Header → Known → Command → List Test
 command_tests h k c =
     (BadCommand, commands.is_bad_command h k c)
-    ∷ (Busy, commands.is_busy h k c)
+    ∷ (Busy, has_busy_slot h k c)
     ∷ (NotInProfile, has_left_out_endpoint h k c)
     ∷ (BadMove, moves.is_bad_binding h k c || moves.is_bad_move h k c) ∷ []
 

@@ -1,5 +1,5 @@
 //! The command that a write gives, and its rules: xHCI 4.6.
-ghost use Rattle.std.specs.Prelude.{◌≡◌, ◌||◌, if◌then◌else◌, None, IfNone, IfSome};
+ghost use Rattle.std.specs.Prelude.{◌≡◌, ◌||◌, ℕ, if◌then◌else◌, None, IfNone, IfSome};
 ghost use Rattle.segments.specs.ShapeValue.{Shape};
 ghost use Rattle.segments.specs.RingView.{RingView};
 ghost use Rattle.traces.specs.Header.{IsHeader, is_command_kind};
@@ -8,6 +8,7 @@ ghost use Rattle.ring_knowledge.specs.Known.{Known};
 ghost use Rattle.ring_knowledge.specs.RingRecords.{FollowsRing, positions_of};
 ghost use Rattle.ring_finder.specs.Finding.{IsFinder};
 ghost use Rattle.ownership_rules.specs.Moves.{is_bad_binding, is_bad_move};
+ghost use Rattle.ownership_rules.specs.Older.{has_busy_slot};
 ghost use Rattle.ownership_rules.specs.Refusal.{first_broken};
 ghost use Rattle.safety.specs.Keeps.{DriverKeeps};
 ghost use Rattle.trace_record.specs.FollowsTrace.{FollowsTrace};
@@ -83,7 +84,7 @@ pub fn command_refusal<M: WordMemory>(
     if is_bad_command(header, t, memory, command) {
         return Some(Refusal::BadCommand);
     }
-    if t.commands.is_busy(command) {
+    if has_busy_slot(header, t, command) {
         return Some(Refusal::Busy);
     }
     if has_left_out_endpoint(header, memory, command) {
@@ -93,6 +94,16 @@ pub fn command_refusal<M: WordMemory>(
         return Some(Refusal::BadMove);
     }
     None
+}
+
+/// Whether an unfinished command excludes the command, or merely has its slot where the trace's version refuses that.
+fn has_busy_slot(header: &Header, t: &TraceRecord, command: &Command) -> bool
+    ensures { (k : Known) (memory : ℕ → ℕ) → FollowsTrace header.now k t.now memory → result ≡ has_busy_slot header.now k command.now }
+{
+    if t.commands.is_busy(command) {
+        return true;
+    }
+    !header.version.is_three() && t.commands.shares_slot(command)
 }
 
 /// Whether the command binds or moves a ring to where it may not be.

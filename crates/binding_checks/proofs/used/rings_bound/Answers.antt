@@ -2,7 +2,7 @@ use Rattle.std.proofs.Common.{◌≡◌, ◌||◌, ◌∙◌, ap, sym, arith}
 use Rattle.std.specs.Prelude.{◌&&◌}
 use Rattle.std.specs.List.{list_any}
 use Rattle.ring_knowledge.specs.Rings.{unfinished}
-use Rattle.device_record.specs.Unfinished.{names}
+use Rattle.device_record.specs.Indices.{names}
 use Rattle.ownership_rules.specs.Moves.{binds_ring}
 use Rattle.binding_checks.specs.Slots.{names_below}
 use Rattle.binding_checks.proofs.BindingLists.{binding_names}

@@ -8,7 +8,7 @@ use Rattle.traces.specs.declared.row.Row.TheVariants.{Write}
 use Rattle.safety.proofs.WrittenKnown.{taken}
 use Rattle.trace_record.specs.FollowsTrace.{device_contexts}
 use Rattle.command_starts.specs.Starting.{IsWith, LiesOnWords, address_taken}
-use Rattle.command_starts.proofs.GivenNow.{new_command, idle, entry_fits, lies_well, new_device}
+use Rattle.command_starts.proofs.GivenNow.{new_command, may_be_given, entry_fits, lies_well, new_device}
 use Rattle.command_starts.proofs.Followed.{from_three, devices_then, soiled_then, followed}
 use Rattle.command_starts.proofs.starts.note_write.Goals as goal
 
@@ -29,7 +29,7 @@ returns-clause-ok g c =
     (c.note_on_ring.ensures k a w f.rings placed)
     refl refl
     (devices_then h k a w got is_taken c.args.t.now.devices _ devices f.devices)
-    (c.in_ok-note_given.ensures.commands old new more (idle h c.requires k keeps a w clean c.args.command given) f.commands)
+    (c.in_ok-note_given.ensures.commands old new more (may_be_given h c.requires k keeps a w clean c.args.command given) f.commands)
     (c.in_ok-note_given.ensures.inputs (input_context_bytes h.context_size) old new more f.inputs)
     (contexts (device_context_bytes h.context_size) (device_contexts k) (device_contexts (learned h k (Write a w)))
     (subst (λ o. IsWith (address_taken o) (device_contexts k) (device_contexts (learned h k (Write a w)))) (sym is_taken) (new_device h c.requires k keeps a w clean)) f.contexts)

@@ -1,26 +1,35 @@
-use Rattle.std.proofs.Common.{◌≡◌, Bool, Some, None, sym, ◌∙◌, ap}
-use Rattle.std.proofs.Math.Path.{fun_ext}
+use Rattle.std.proofs.Common.{◌≡◌, ◌||◌, ◌∙◌, ap, sym}
 use Rattle.std.specs.List.{list_any}
-use Rattle.commands.specs.declared.command.Command.{Command}
-use Rattle.commands.specs.Changes.{changes, touches}
-use Rattle.device_record.specs.Unfinished.{IsOfSlot, as_list}
+use Rattle.device_record.specs.Unfinished.{as_list}
+use Rattle.ownership_rules.specs.Doorbells.{touches_endpoint}
 use Rattle.ring_knowledge.specs.Rings.{unfinished}
-use Rattle.ring_finder.proofs.ListTests.{or_false}
-use Rattle.endpoint_checks.proofs.Touching.{named_fits, touched_is}
+use Rattle.endpoint_checks.proofs.Touching.{named_fits, that_is, touched_is}
 use Rattle.endpoint_checks.proofs.touches.is_touched.Goals as goal
 
-pub returns-in-Some : goal.returns-in-Some
-returns-in-Some g c = λ k f fit.
-    let same : (p : Command → Bool) → IsOfSlot c.args.slot p → list_any p (as_list (Some c.in-Some.command)) ≡ list_any p (unfinished c.args.header.now k) =
-    λ p only. ap (λ o. list_any p (as_list o)) (sym c.in-Some.is) ∙ c.of_slot.ensures.one (unfinished c.args.header.now k) p f.commands only in
-    let fits = named_fits c.args.header.now.context_size c.args.slot (unfinished c.args.header.now k) c.in-Some.command fit
-    (c.in-Some.ensures.named (unfinished c.args.header.now k) f.commands) same in
-    c.touches.ensures fits
-    ∙ ap (λ words. list_any (touches c.args.slot c.args.index) (changes c.args.header.now.context_size words 0 c.in-Some.command)) (sym (fun_ext f.words))
-    ∙ sym (or_false _)
-    ∙ touched_is c.args.header.now k c.args.slot c.args.index (Some c.in-Some.command) same
+pub returns-then-is_touched_by : goal.returns-then-is_touched_by
+returns-then-is_touched_by g c = λ k f fit.
+    let h = c.args.header.now in
+    let s = c.args.slot in
+    let all = unfinished h k in
+    let of_slot = that_is s 0 all c.args.t.now.commands _ f.commands c.of_slot-of_slot.ensures.one c.of_slot-of_slot.ensures.named in
+    let of_endpoint = that_is s c.args.index all c.args.t.now.commands _ f.commands c.of_endpoint-of_endpoint.ensures.one c.of_endpoint-of_endpoint.ensures.named in
+    let here : c.is_touched_by.result ≡ list_any (touches_endpoint h k s c.args.index) (as_list c.of_slot-of_slot.result) =
+    c.is_touched_by.ensures k f.words (named_fits h.context_size s 0 all _ fit of_slot) in
+    c.if-is_touched_by.true
+    ∙ sym (ap (λ b. b || list_any (touches_endpoint h k s c.args.index) (as_list c.of_endpoint-of_endpoint.result)) (sym here ∙ c.if-is_touched_by.true))
+    ∙ touched_is h k s c.args.index c.of_slot-of_slot.result c.of_endpoint-of_endpoint.result of_slot of_endpoint
 
-pub returns-in-None : goal.returns-in-None
-returns-in-None g c = λ k f fit.
-    touched_is c.args.header.now k c.args.slot c.args.index None
-    (λ p only. ap (λ o. list_any p (as_list o)) (sym c.in-None.is) ∙ c.of_slot.ensures.one (unfinished c.args.header.now k) p f.commands only)
+pub returns-else-is_touched_by : goal.returns-else-is_touched_by
+returns-else-is_touched_by g c = λ k f fit.
+    let h = c.args.header.now in
+    let s = c.args.slot in
+    let all = unfinished h k in
+    let of_slot = that_is s 0 all c.args.t.now.commands _ f.commands c.of_slot-of_slot.ensures.one c.of_slot-of_slot.ensures.named in
+    let of_endpoint = that_is s c.args.index all c.args.t.now.commands _ f.commands c.of_endpoint-of_endpoint.ensures.one c.of_endpoint-of_endpoint.ensures.named in
+    let here : c.is_touched_by.result ≡ list_any (touches_endpoint h k s c.args.index) (as_list c.of_slot-of_slot.result) =
+    c.is_touched_by.ensures k f.words (named_fits h.context_size s 0 all _ fit of_slot) in
+    let there : c.is_touched_by-else-is_touched_by.result ≡ list_any (touches_endpoint h k s c.args.index) (as_list c.of_endpoint-of_endpoint.result) =
+    c.is_touched_by-else-is_touched_by.ensures k f.words (named_fits h.context_size s c.args.index all _ fit of_endpoint) in
+    there
+    ∙ sym (ap (λ b. b || list_any (touches_endpoint h k s c.args.index) (as_list c.of_endpoint-of_endpoint.result)) (sym here ∙ c.if-is_touched_by.false))
+    ∙ touched_is h k s c.args.index c.of_slot-of_slot.result c.of_endpoint-of_endpoint.result of_slot of_endpoint

@@ -1,38 +1,32 @@
 use Rattle.std.proofs.Common.{sym, ◌∙◌}
-use Rattle.ownership_rules.specs.Commands as commands
-use Rattle.ring_knowledge.specs.Rings.{unfinished}
 use Rattle.write_checks.proofs.GivenTests.{is_busy_now, is_left_out_now, moves_badly, is_good}
 use Rattle.write_checks.proofs.given_commands.command_refusal.Goals as goal
 
 pub has_left_out_endpoint-requires : goal.has_left_out_endpoint-requires
 has_left_out_endpoint-requires g c = c.is_bad_command.ensures.inside c.if-is_bad_command.false
 
-pub returns-then-is_busy-clause-first : goal.returns-then-is_busy-clause-first
-unfolding commands.is_busy
-returns-then-is_busy-clause-first g c = λ k f d fit.
+pub returns-then-has_busy_slot-clause-first : goal.returns-then-has_busy_slot-clause-first
+returns-then-has_busy_slot-clause-first g c = λ k f d fit.
     is_busy_now c.args.header.now k c.args.command.now (sym (c.is_bad_command.ensures.rule k f) ∙ c.if-is_bad_command.false)
-    (sym (c.is_busy.ensures (unfinished c.args.header.now k) f.commands) ∙ c.if-is_busy.true)
+    (sym (c.has_busy_slot.ensures k _ f) ∙ c.if-has_busy_slot.true)
 
 pub returns-then-has_left_out_endpoint-clause-first : goal.returns-then-has_left_out_endpoint-clause-first
-unfolding commands.is_busy
 returns-then-has_left_out_endpoint-clause-first g c = λ k f d fit.
     is_left_out_now c.args.header.now k c.args.command.now (sym (c.is_bad_command.ensures.rule k f) ∙ c.if-is_bad_command.false)
-    (sym (c.is_busy.ensures (unfinished c.args.header.now k) f.commands) ∙ c.if-is_busy.false)
+    (sym (c.has_busy_slot.ensures k _ f) ∙ c.if-has_busy_slot.false)
     (sym (c.has_left_out_endpoint.ensures k f.words) ∙ c.if-has_left_out_endpoint.true)
 
 pub returns-then-moves_badly-clause-first : goal.returns-then-moves_badly-clause-first
-unfolding commands.is_busy
 returns-then-moves_badly-clause-first g c = λ k f d fit.
     moves_badly c.args.header.now k c.args.command.now (sym (c.is_bad_command.ensures.rule k f) ∙ c.if-is_bad_command.false)
-    (sym (c.is_busy.ensures (unfinished c.args.header.now k) f.commands) ∙ c.if-is_busy.false)
+    (sym (c.has_busy_slot.ensures k _ f) ∙ c.if-has_busy_slot.false)
     (sym (c.has_left_out_endpoint.ensures k f.words) ∙ c.if-has_left_out_endpoint.false)
     (sym (c.moves_badly.ensures k f d fit (c.is_bad_command.ensures.inside c.if-is_bad_command.false)) ∙ c.if-moves_badly.true)
 
 pub returns-clause-first : goal.returns-clause-first
-unfolding commands.is_busy
 returns-clause-first g c = λ k f d fit.
     is_good c.args.header.now k c.args.command.now (sym (c.is_bad_command.ensures.rule k f) ∙ c.if-is_bad_command.false)
-    (sym (c.is_busy.ensures (unfinished c.args.header.now k) f.commands) ∙ c.if-is_busy.false)
+    (sym (c.has_busy_slot.ensures k _ f) ∙ c.if-has_busy_slot.false)
     (sym (c.has_left_out_endpoint.ensures k f.words) ∙ c.if-has_left_out_endpoint.false)
     (sym (c.moves_badly.ensures k f d fit (c.is_bad_command.ensures.inside c.if-is_bad_command.false)) ∙ c.if-moves_badly.false)
 
