@@ -44,7 +44,7 @@ class Driver:
         self.trace.first = 3 + len(self.trace.rings)
         self.array = ARRAY if self.pick.random() < 0.8 else self.odd_address(64)
         self.before = []
-        self.known = Known(self.trace, [])
+        self.known = Known(self.trace)
         # (rows, rule): traces whose last row breaks a rule, and no earlier one does
         self.refused = []
 
@@ -64,7 +64,7 @@ class Driver:
             raise Dropped
         self.before.append(self.known)
         self.trace.rows.append(row)
-        self.known = Known(self.trace, list(self.before))
+        self.known = Known(self.trace, self.known, row)
 
     def go_back(self, count):
         """To the trace's first rows."""
@@ -114,7 +114,7 @@ class Driver:
         near = [q for q in crossings if q <= max(waiting, default=0) + 1]
         for crossing in near[:self.pick.choice([0, 1, 1, 1, 2])]:
             self.give_link(ring, crossing)
-        begins = [p for p in waiting if p in self.known.borders(ring)]
+        begins = [p for p in waiting if self.known.descriptor_length(ring, p)]
         order = [p for p in waiting if p not in begins] + begins
         for position in order[:self.pick.choice([1, 3, 8])]:
             block = with_cycle(self.known.queue(ring)[position], ring.cycle(position))

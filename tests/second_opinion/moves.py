@@ -38,7 +38,7 @@ def is_reached(known, ring, spot):
 def is_move(known, ring, binding, least, most):
     """Pointer and cycle state name a spot, with a number from least to most, to which the ring may be moved."""
     named = [spot for spot in ring.spots(least, most) if (ring.spot_address(spot), ring.spot_cycle(spot)) == binding]
-    return any(spot.number in known.borders(ring) and is_reached(known, ring, spot) for spot in named)
+    return any(known.is_border(ring, spot.number) and is_reached(known, ring, spot) for spot in named)
 
 
 def is_bad_dequeue(known, command):
