@@ -304,6 +304,10 @@ class Known:
         """The ring of an endpoint, or None."""
         return self.trace.ring(self.last(('ring of', slot_number, index), None))
 
+    def endpoints_with(self, ring):
+        """The slots and indexes of the endpoints that have a ring."""
+        return [fact[1:] for fact, number in self.facts().items() if fact[0] == 'ring of' and number == ring.number]
+
     def was_bound(self, ring):
         return self.last(('bound', ring.number), False)
 
