@@ -9,7 +9,7 @@
 #include <sys/ioctl.h>
 #include <unistd.h>
 
-enum { OUT = 0x02, IN = 0x81, ROUNDS = 6, READS = 11, LAST = 26, BYTES = 1 << 20 };
+enum { OUT = 0x02, IN = 0x81, ROUNDS = 6, READS = 12, LAST = 16, BYTES = 1 << 20 };
 
 static unsigned char blocks[BYTES];
 
