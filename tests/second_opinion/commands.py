@@ -61,6 +61,11 @@ def name_one_slot(command, other):
     return names_slot(command) and names_slot(other) and command.slot == other.slot
 
 
+def may_stand_side_by_side(command, other):
+    """Both are Stop Endpoint, Reset Endpoint or Set TR Dequeue Pointer, of different endpoints."""
+    return names_endpoint(command) and names_endpoint(other) and command.endpoint != other.endpoint
+
+
 def is_stop_of(command, slot_number, index):
     return command is not None and command.type == STOP_ENDPOINT and (command.slot, command.endpoint) == (slot_number, index)
 

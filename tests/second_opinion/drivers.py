@@ -30,7 +30,7 @@ TAKEN_BACK = 0.9
 
 
 class Dropped(Exception):
-    """A row that breaks a rule was dropped: the step ends."""
+    """A row that breaks a rule was dropped, or one that no trace can have: the step ends."""
 
 
 def halves(number):
@@ -42,9 +42,9 @@ class Driver:
         self.pick = random.Random(seed)
         self.trace = Trace(self.pick.choice([1, 2, 3]), self.pick.choice([32, 64]), self.some_rings(), 0, [])
         self.trace.first = 3 + len(self.trace.rings)
-        self.array = ARRAY if self.pick.random() < 0.8 else self.odd_address(64)
+        self.array = ARRAY if self.pick.random() < 0.9 else self.odd_address(64)
         self.before = []
-        self.known = Known(self.trace, [])
+        self.known = Known(self.trace)
         # (rows, rule): traces whose last row breaks a rule, and no earlier one does
         self.refused = []
 
@@ -64,7 +64,7 @@ class Driver:
             raise Dropped
         self.before.append(self.known)
         self.trace.rows.append(row)
-        self.known = Known(self.trace, list(self.before))
+        self.known = Known(self.trace, self.known, row)
 
     def go_back(self, count):
         """To the trace's first rows."""
@@ -83,6 +83,8 @@ class Driver:
         return address - address % boundary
 
     def write(self, address, *words):
+        if address + 4 * len(words) > 1 << 64:
+            raise Dropped
         for i, word in enumerate(words):
             if self.known.word(address + 4 * i) != word:
                 self.make(Write(address + 4 * i, word))
@@ -114,9 +116,20 @@ class Driver:
         near = [q for q in crossings if q <= max(waiting, default=0) + 1]
         for crossing in near[:self.pick.choice([0, 1, 1, 1, 2])]:
             self.give_link(ring, crossing)
-        begins = [p for p in waiting if p in self.known.borders(ring)]
+        begins = [p for p in waiting if self.known.descriptor_length(ring, p)]
         order = [p for p in waiting if p not in begins] + begins
-        for position in order[:self.pick.choice([1, 3, 8])]:
+        self.give_blocks(ring, order[:self.pick.choice([1, 3, 8])])
+
+    def give_all(self, ring):
+        """Gives what is declared and isn't given, the Links before it."""
+        waiting = [p for p in range(self.known.floor(ring).number, self.known.declared(ring)) if not self.known.is_given(ring, p)]
+        for crossing in self.known.due_crossings(ring):
+            if crossing <= max(waiting, default=-1) + 1 and not self.known.is_crossing_given(ring, crossing):
+                self.give_link(ring, crossing)
+        self.give_blocks(ring, waiting)
+
+    def give_blocks(self, ring, positions):
+        for position in positions:
             block = with_cycle(self.known.queue(ring)[position], ring.cycle(position))
             self.write(ring.address(position), *block[:3])
             self.make(Write(ring.address(position) + 12, block[3]))
@@ -140,7 +153,15 @@ class Driver:
 
     def command(self):
         slot, endpoint = self.some_enabled_endpoint() if self.pick.random() < 0.5 else (self.pick.choice(SLOTS), self.some_endpoint())
-        kind = self.some_kind(slot, endpoint)
+        self.declare_command(self.some_kind(slot, endpoint), slot, endpoint)
+        if self.pick.random() < 0.9:
+            self.give(self.trace.command_ring)
+        if self.pick.random() < 0.9:
+            self.make(Doorbell(0, 0))
+        if self.pick.random() < 0.5:
+            self.completion()
+
+    def declare_command(self, kind, slot, endpoint):
         option = 1 if kind in (ADDRESS_DEVICE, CONFIGURE_ENDPOINT) and self.pick.random() < 0.2 else 0
         number = 0
         if kind in (ADDRESS_DEVICE, CONFIGURE_ENDPOINT, EVALUATE_CONTEXT):
@@ -152,13 +173,51 @@ class Driver:
             self.write(self.array + 8 * slot, *halves(self.some_address(DEVICE_CONTEXTS, 64)))
         low = kind << 10 | option << 9 | slot << 24 | (endpoint << 16 if kind in (STOP_ENDPOINT, SET_TR_DEQUEUE, RESET_ENDPOINT) else 0)
         self.make(Declare(0, ((*halves(number), 0, low),)))
-        if self.pick.random() < 0.9:
-            self.give(self.trace.command_ring)
-        if self.pick.random() < 0.9:
-            self.make(Doorbell(0, 0))
 
-        if self.pick.random() < 0.5:
+    def suspend(self):
+        """Endpoint commands of a slot side by side, with one doorbell, as a driver gives them that suspends a device; then their ends."""
+        self.finish_all()
+        slot, _ = self.some_enabled_endpoint()
+        endpoints = [index for index in (1, 2, 3) if self.known.endpoint_state(slot, index) != 'Disabled']
+        for index in endpoints:
+            self.declare_command(self.pick.choice(FITTING[self.known.endpoint_state(slot, index)]), slot, index)
+        if self.pick.random() < 0.1:
+            self.declare_command(self.pick.choice(COMMANDS), slot, self.some_endpoint())
+        self.give_all(self.trace.command_ring)
+        self.make(Doorbell(0, 0))
+        for index in endpoints[:self.pick.choice([0, 1, 3, 3])]:
+            if self.pick.random() < 0.5:
+                self.try_step(Driver.stopped)
+            self.try_step(Driver.completion)
+
+    def stopped(self):
+        """A Stopped event of the Stop Endpoint that is finished next."""
+        command = self.known.command_at(self.known.next_command)
+        if command and command.type == STOP_ENDPOINT:
+            self.transfer_of(command.slot, command.endpoint, [26, 27, 28])
+
+    def bind_anew(self):
+        """An endpoint is dropped and added, mostly where its own ring stands, or where one stands that no endpoint has; before that it is mostly stopped."""
+        self.finish_all()
+        slot, index = self.some_enabled_endpoint()
+        if self.known.endpoint_state(slot, index) == 'Running' and self.pick.random() < 0.5:
+            self.try_step(lambda driver: driver.whole_command(STOP_ENDPOINT, slot, index))
+        self.whole_command(CONFIGURE_ENDPOINT, slot, index)
+
+    def finish_all(self):
+        """Mostly the completions of all unfinished commands are read."""
+        for _ in self.known.unfinished_positions if self.pick.random() < 0.8 else []:
+            self.try_step(Driver.completion)
+        self.try_step(Driver.read_all)
+
+    def whole_command(self, kind, slot, index):
+        self.declare_command(kind, slot, index)
+        self.give_all(self.trace.command_ring)
+        self.make(Doorbell(0, 0))
+        if self.pick.random() < 0.9:
+            self.try_step(Driver.stopped)
             self.completion()
+            self.read_all()
 
     def some_kind(self, slot, endpoint):
         if self.pick.random() < 0.1:
@@ -177,6 +236,11 @@ class Driver:
         enabled = [at for at in endpoints if self.known.endpoint_state(*at) != 'Disabled']
         return self.pick.choice(enabled if enabled and self.pick.random() < 0.95 else endpoints)
 
+    def standing(self, ring, spot):
+        """The pointer and cycle state of a spot, in version 3 rarely with another cycle state."""
+        other = 1 if self.trace.version == 3 and self.pick.random() < 0.05 else 0
+        return ring.spot_address(spot) | ring.spot_cycle(spot) ^ other
+
     def some_target(self, slot, endpoint):
         """A pointer and a cycle state on the endpoint's ring."""
         ring = self.known.ring_of(slot, endpoint) or self.pick.choice(self.trace.driver_rings)
@@ -186,7 +250,7 @@ class Driver:
 
     def write_context(self, kind, slot, context):
         added = [1] if kind == ADDRESS_DEVICE else [i for i in (2, 3) if self.pick.random() < 0.6]
-        dropped = [i for i in (2, 3) if kind != ADDRESS_DEVICE and self.pick.random() < 0.4]
+        dropped = [i for i in (2, 3) if kind != ADDRESS_DEVICE and self.pick.random() < self.drops(slot, i, i in added)]
         self.write(context, sum(1 << i for i in dropped), sum(1 << i for i in [0, *added]))
         for index in added:
             address = contexts.endpoint_context(self.known, context, index)
@@ -195,25 +259,41 @@ class Driver:
             self.write(address + 4, kind_of_endpoint << 3)
             self.write(address + 8, *halves(pointer))
 
+    def drops(self, slot, index, is_added):
+        """How often an endpoint is dropped: in version 3 mostly where it is there and added again."""
+        if self.trace.version < 3:
+            return 0.4
+        is_there = self.known.endpoint_state(slot, index) != 'Disabled'
+        return 0.9 if is_added and is_there else 0.2
+
     def some_ring_for(self, slot, index):
         ring = self.known.ring_of(slot, index)
         if index == 1 and ring and self.pick.random() < 0.7:
-            return ring.spot_address(self.known.floor(ring)) | ring.spot_cycle(self.known.floor(ring))
+            return self.standing(ring, self.known.floor(ring))
+        if self.trace.version == 3 and self.pick.random() < 0.8:
+            left = [other for other in self.trace.rings if self.known.was_bound(other) and not self.known.endpoints_with(other)]
+            ring = self.pick.choice(left) if left and (ring is None or self.pick.random() < 0.2) else ring
+            if ring:
+                spots = ring.spots(self.known.floor(ring).number, self.known.ceiling(ring))
+                return self.standing(ring, self.known.floor(ring) if self.pick.random() < 0.7 else self.pick.choice(spots))
         unused = [ring for ring in self.trace.rings if ring.kind == 'xfer' and not self.known.was_bound(ring)]
         return self.pick.choice(unused or self.trace.driver_rings).address(0) | 1
 
     # ---- descriptors, doorbells, writes
 
     def descriptor(self):
+        used = [ring for ring in self.trace.rings if ring.kind == 'xfer' and self.known.was_bound(ring)]
+        ring = self.pick.choice(used or self.trace.rings[2:]) if self.pick.random() < 0.9 else self.pick.choice(self.trace.rings)
+        self.declare_some(ring)
+        if self.pick.random() < 0.8:
+            self.give(ring)
+
+    def declare_some(self, ring):
         forms = [[NO_OP], [NORMAL], [NORMAL] * 2, [NORMAL] * 3, [SETUP_STAGE], [DATA_STAGE, NORMAL], [STATUS_STAGE]]
         kinds = self.pick.choice(forms)
         blocks = [(self.pick.randrange(4) << 12, 0, 8, kind << 10 | (16 if i + 1 < len(kinds) else 0) | (64 if kind == SETUP_STAGE else 0))
                   for i, kind in enumerate(kinds)]
-        used = [ring for ring in self.trace.rings if ring.kind == 'xfer' and self.known.was_bound(ring)]
-        ring = self.pick.choice(used or self.trace.rings[2:]) if self.pick.random() < 0.9 else self.pick.choice(self.trace.rings)
         self.make(Declare(ring.number, tuple(blocks)))
-        if self.pick.random() < 0.8:
-            self.give(ring)
 
     def doorbell(self):
         self.make(self.pick.choice([Doorbell(0, 0), *[Doorbell(*self.some_enabled_endpoint())] * 4]))
@@ -244,14 +324,15 @@ class Driver:
         self.event(ring.address(self.known.next_command), self.pick.choice([1] * 9 + [11]), COMMAND_COMPLETION << 10 | slot << 24)
 
     def transfer(self):
-        slot, endpoint = self.some_enabled_endpoint()
+        self.transfer_of(*self.some_enabled_endpoint(), [1, 1, 1, 1, 13, 6, 5, 26, 27])
+
+    def transfer_of(self, slot, endpoint, codes):
         ring = self.known.ring_of(slot, endpoint)
         if ring is None:
             return
         spots = ring.spots_from(self.known.floor(ring), self.known.declared(ring))
         spot = self.pick.choice(spots[:self.pick.choice([1, 2, 3, 20])])
-        code = self.pick.choice([1, 1, 1, 1, 13, 6, 5, 26, 27])
-        self.event(ring.spot_address(spot), code, TRANSFER_EVENT << 10 | slot << 24 | endpoint << 16)
+        self.event(ring.spot_address(spot), self.pick.choice(codes), TRANSFER_EVENT << 10 | slot << 24 | endpoint << 16)
 
     def other_event(self):
         self.event(0, 1, self.pick.randrange(34, 40) << 10)
@@ -261,10 +342,37 @@ class Driver:
         position = self.pick.choice([self.known.reads, self.pick.randint(self.known.dequeue, self.known.reads + 1)])
         self.make(Register('erdp', self.trace.event_ring.address(position) | self.pick.choice([0, 8])))
 
+    # ---- what stands at the beginning of most traces of version 3
+
+    def prepare(self):
+        """A slot with endpoints, whose rings have gone round up to twice."""
+        for _ in range(20):
+            slot = max(SLOTS, key=lambda number: self.known.slot_state(number) != 'Disabled')
+            kind = {'Disabled': ENABLE_SLOT, 'Enabled': ADDRESS_DEVICE, 'Default': ADDRESS_DEVICE}.get(self.known.slot_state(slot), CONFIGURE_ENDPOINT)
+            if any(self.known.endpoint_state(slot, index) == 'Disabled' for index in (1, 2, 3)):
+                self.try_step(lambda driver: driver.whole_command(kind, slot, 1))
+        for slot, index in [(slot, index) for slot in SLOTS for index in (1, 2, 3)]:
+            ring = self.known.ring_of(slot, index)
+            for _ in range(self.pick.randrange(2 * ring.place_count) if ring else 0):
+                self.try_step(lambda driver: driver.whole_transfer(slot, index))
+
+    def whole_transfer(self, slot, index):
+        ring = self.known.ring_of(slot, index)
+        self.declare_some(ring)
+        self.give_all(ring)
+        self.make(Doorbell(slot, index))
+        self.event(ring.address(self.known.declared(ring) - 1), 1, TRANSFER_EVENT << 10 | slot << 24 | index << 16)
+        self.read_all()
+
+    def read_all(self):
+        self.make(Register('erdp', self.trace.event_ring.address(self.known.reads) | 8))
+
     # ---- all of it
 
     STEPS = [(command, 30), (descriptor, 20), (give_some, 8), (doorbell, 12), (stray_write, 4), (clear_device_context, 1),
              (completion, 25), (transfer, 30), (other_event, 1), (read_on, 8)]
+    # of version 3 besides
+    LATER_STEPS = [(suspend, 12), (bind_anew, 14)]
 
     def try_step(self, step):
         """A step one of whose rows is dropped is mostly dropped whole."""
@@ -277,7 +385,10 @@ class Driver:
 
     def drive(self, steps):
         self.try_step(Driver.start)
-        for step in self.pick.choices(*zip(*self.STEPS), k=steps):
+        if self.trace.version == 3 and self.pick.random() < 0.8:
+            self.prepare()
+        possible = self.STEPS + (self.LATER_STEPS if self.trace.version == 3 else [])
+        for step in self.pick.choices(*zip(*possible), k=steps):
             self.try_step(step)
 
 

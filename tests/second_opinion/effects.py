@@ -136,25 +136,28 @@ def of_placed_endpoints(known, command):
 
 def placed(known, command, index, pointer, cycle, state):
     is_disabled = known.endpoint_state(command.slot, index) == 'Disabled' or index in disabled_by(known, command)
-    place = bound(known, command.slot, index, pointer) if is_disabled else moved(known, command.slot, index, pointer, cycle)
+    place = bound(known, command.slot, index, pointer, cycle) if is_disabled else moved(known, command.slot, index, pointer, cycle)
     yield from place
     yield ('endpoint', command.slot, index), state
     yield ('must move', command.slot, index), False
 
 
-def bound(known, number, index, pointer):
-    """A Disabled endpoint gets the ring whose first block the pointer names."""
-    ring = known.trace.ring_beginning_at(pointer)
+def bound(known, number, index, pointer, cycle):
+    """A Disabled endpoint gets the ring that has the block at the pointer, from the spot on that pointer and cycle state name."""
+    ring = known.trace.ring_having(pointer)
     if ring is not None:
-        yield ('floor', ring), Data(0)
-        yield ('held', ring), 0
-        yield ('ring of', number, index), ring
-        yield ('bound', ring), True
+        yield ('ring of', number, index), ring.number
+        yield ('bound', ring.number), True
+    yield from at_spot(known, ring, pointer, cycle)
 
 
 def moved(known, number, index, pointer, cycle):
-    """Any other has its ring moved to the spot, up to what is declared, that pointer and cycle state name."""
-    ring = known.ring_of(number, index)
+    """Any other has its ring moved there."""
+    yield from at_spot(known, known.ring_of(number, index), pointer, cycle)
+
+
+def at_spot(known, ring, pointer, cycle):
+    """The ring stands, and is held, at the spot up to what is declared that pointer and cycle state name."""
     spots = ring.spots(known.floor(ring).number, known.declared(ring)) if ring else []
     named = [spot for spot in spots if (ring.spot_address(spot), ring.spot_cycle(spot)) == (pointer, cycle)]
     if named:

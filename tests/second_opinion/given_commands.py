@@ -2,7 +2,7 @@
 import contexts
 from areas import is_bad_area, is_in_range_lease, is_soiled
 from blocks import ADDRESS_DEVICE
-from commands import adds_endpoints, named_context, names_endpoint, names_slot
+from commands import adds_endpoints, may_stand_side_by_side, name_one_slot, named_context, names_endpoint, names_slot
 from effects import disabled_by, takes_device
 from rings import overlap
 
@@ -46,6 +46,11 @@ def is_refused(known, command):
     if command.type == ADDRESS_DEVICE:
         return is_bad_address_device(known, command)
     return adds_endpoints(command) and any(is_bad_added(known, command, i) for i in contexts.endpoints_added_by(known, command))
+
+
+def is_in_the_way(known, command, other):
+    """An unfinished command of the same slot; version 3 lets commands of different endpoints stand side by side."""
+    return name_one_slot(command, other) and not (known.trace.version >= 3 and may_stand_side_by_side(command, other))
 
 
 def moves_ring(known, command, ring):

@@ -1,7 +1,7 @@
 """What is known after the first rows of a trace.
 
-Each question is answered by looking back over all earlier rows, for the last one that says something of it, or for some one. What
-was answered once is kept, so that no question is answered twice; nothing else is kept.
+Each question is answered from the last of these rows and from what was known before it, or from what the same question was answered
+then. What was answered once is kept; nothing else is.
 """
 from functools import cached_property, lru_cache, wraps
 
@@ -23,51 +23,97 @@ def kept(question):
     return answer
 
 
+def carried(beginning):
+    """A question with this answer before all rows, and else the one that the last row makes of the answer before it."""
+    def of(change):
+        @wraps(change)
+        def answer(known, *arguments):
+            asked, later = (change.__name__, *arguments), []
+            while asked not in known.answers and known.previous is not None:
+                later.append(known)
+                known = known.previous
+            value = known.answers.setdefault(asked, beginning)
+            for known in reversed(later):
+                value = known.answers[asked] = change(known, value, *arguments)
+            return value
+        return answer
+    return of
+
+
 @lru_cache(maxsize=2)
 def histories(trace):
     """What is known after none, one, two .. of a trace's rows."""
-    known = []
-    for count in range(len(trace.rows) + 1):
-        known.append(Known(trace, known[:count]))
+    known = [Known(trace)]
+    for row in trace.rows:
+        known.append(Known(trace, known[-1], row))
     return known
 
 
+class Memory:
+    """The words that were written, in pages: a later memory shares those in which nothing was written."""
+    PAGE = 256
+
+    def __init__(self, pages):
+        self.pages = pages
+
+    def word(self, address):
+        return self.pages.get(address // Memory.PAGE, {}).get(address, 0)
+
+    def written(self, address, word):
+        page = {**self.pages.get(address // Memory.PAGE, {}), address: word}
+        return Memory({**self.pages, address // Memory.PAGE: page})
+
+
+class Declared:
+    """The declared descriptors of a ring, each a list of blocks, in order."""
+
+    def __init__(self, descriptors):
+        self.descriptors = descriptors
+        self.queue = [block for blocks in descriptors for block in blocks]
+
+    @cached_property
+    def lengths(self):
+        """The number of blocks of the descriptor that begins at a position."""
+        begins = [0]
+        for blocks in self.descriptors:
+            begins.append(begins[-1] + len(blocks))
+        return {begin: len(blocks) for begin, blocks in zip(begins, self.descriptors)}
+
+
 class Known:
-    """`before` lists what was known before each of the earlier rows."""
+    """`row` is the last row, `previous` what was known before it; both None before all rows."""
 
-    def __init__(self, trace, before):
+    def __init__(self, trace, previous=None, row=None):
         self.trace = trace
-        self.before = before
+        self.previous = previous
+        self.row = row
         self.answers = {}
-
-    @property
-    def earlier(self):
-        """The earlier rows, the newest first, each with what was known before it."""
-        return zip(reversed(self.before), reversed(self.trace.rows[:len(self.before)]))
 
     @kept
     def told_by(self, row):
         """What a row that comes now tells: facts and their values, in order."""
         return list(effects.of_row(self, row))
 
-    @kept
+    @carried({})
+    def facts(self, facts):
+        """What the rows told last, by the facts."""
+        told = self.previous.told_by(self.row)
+        return {**facts, **dict(told)} if told else facts
+
     def last(self, fact, otherwise):
         """The value that the last row that tells a fact gives it."""
-        for known, row in self.earlier:
-            for told, value in reversed(known.told_by(row)):
-                if told == fact:
-                    return value
-        return otherwise
-
-    def earlier_of(self, kind):
-        return [(known, row) for known, row in self.earlier if isinstance(row, kind)]
+        return self.facts().get(fact, otherwise)
 
     # ---- registers and memory
 
-    @kept
+    @carried({})
+    def registers(self, values):
+        row = self.row
+        return {**values, row.name: row.value} if isinstance(row, Register) else values
+
     def register(self, name):
         """The last value written; None where none was."""
-        return next((row.value for _, row in self.earlier_of(Register) if row.name == name), None)
+        return self.registers().get(name)
 
     def is_written(self, name):
         return self.register(name) is not None
@@ -78,17 +124,29 @@ class Known:
     def is_stop(self, row):
         return isinstance(row, Register) and row.name == 'usbcmd' and row.value & 3 != 1 and self.is_started
 
-    @cached_property
+    @carried(False)
+    def was_started(self, was):
+        return was or self.previous.is_start(self.row)
+
+    @carried(False)
+    def was_stopped(self, was):
+        return was or self.previous.is_stop(self.row)
+
+    @property
     def is_started(self):
-        return any(known.is_start(row) for known, row in self.earlier)
+        return self.was_started()
 
-    @cached_property
+    @property
     def is_stopped(self):
-        return any(known.is_stop(row) for known, row in self.earlier)
+        return self.was_stopped()
 
-    @kept
+    @carried(Memory({}))
+    def memory(self, memory):
+        row = self.row
+        return memory.written(row.address, row.word) if isinstance(row, Write) else memory
+
     def word(self, address):
-        return next((row.word for _, row in self.earlier_of(Write) if row.address == address), 0)
+        return self.memory().word(address)
 
     def long(self, address):
         return self.word(address) + (self.word(address + 4) << 32)
@@ -100,29 +158,25 @@ class Known:
 
     # ---- one ring
 
-    @kept
-    def descriptors(self, ring):
-        """The declared descriptors, each a list of blocks, in order."""
-        return [row.blocks for _, row in reversed(self.earlier_of(Declare)) if row.ring == ring.number]
+    @carried(Declared([]))
+    def declarations(self, declared, ring):
+        row = self.row
+        is_one = isinstance(row, Declare) and row.ring == ring.number
+        return Declared([*declared.descriptors, row.blocks]) if is_one else declared
 
-    @kept
     def queue(self, ring):
-        return [block for blocks in self.descriptors(ring) for block in blocks]
+        return self.declarations(ring).queue
 
     def declared(self, ring):
         return len(self.queue(ring))
 
-    @kept
-    def borders(self, ring):
-        """The sums of whole descriptors."""
-        descriptors = self.descriptors(ring)
-        return [sum(len(blocks) for blocks in descriptors[:i]) for i in range(len(descriptors) + 1)]
+    def is_border(self, ring, position):
+        """The sum of whole descriptors."""
+        return position in self.declarations(ring).lengths or position == self.declared(ring)
 
     def descriptor_length(self, ring, position):
         """How many blocks the descriptor has that begins at a position; 0 where none begins there."""
-        if position not in self.borders(ring)[:-1]:
-            return 0
-        return len(self.descriptors(ring)[self.borders(ring).index(position)])
+        return self.declarations(ring).lengths.get(position, 0)
 
     def floor(self, ring):
         """The spot that the controller's dequeue pointer has surely reached."""
@@ -133,37 +187,45 @@ class Known:
         least = self.floor(ring).number
         return range(least, least + ring.place_count)
 
-    @kept
     def due_crossings(self, ring):
         """Of each Link the crossing that is next there; at floor 0 that of the first lap's end is due at once."""
         least = self.floor(ring).number
-        numbers = range(least, least + ring.place_count + (1 if least == 0 else 0))
-        return [number for number in numbers if ring.is_crossing(number)]
+        return ring.crossings(least, least + ring.place_count - (0 if least == 0 else 1))
 
     @kept
     def positions_written(self, write, ring):
         """The positions that are due and whose control word a write writes now with their Cycle bit."""
+        if not ring.touches(write.address, 4):
+            return []
         return [p for p in self.due_positions(ring) if write.address == ring.address(p) + 12 and write.word % 2 == ring.cycle(p)]
 
     @kept
     def crossings_written(self, write, ring):
         """The same of Links: the cycle is that of the position before."""
+        if not ring.touches(write.address, 4):
+            return []
         due = [q for q in self.due_crossings(ring) if write.address == ring.link_address(q) + 12]
         return [q for q in due if write.word % 2 == ring.cycle(q - 1)]
 
-    @kept
-    def given_positions(self, ring):
-        return {p for known, row in self.earlier_of(Write) for p in known.positions_written(row, ring)}
+    @carried(frozenset())
+    def given_positions(self, given, ring):
+        written = self.previous.positions_written(self.row, ring) if isinstance(self.row, Write) else []
+        return given.union(written) if written else given
 
-    @kept
-    def given_crossings(self, ring):
-        return {q for known, row in self.earlier_of(Write) for q in known.crossings_written(row, ring)}
+    @carried(frozenset())
+    def given_crossings(self, given, ring):
+        written = self.previous.crossings_written(self.row, ring) if isinstance(self.row, Write) else []
+        return given.union(written) if written else given
 
     def is_given(self, ring, position):
         return position in self.given_positions(ring)
 
     def is_crossing_given(self, ring, number):
         return number in self.given_crossings(ring)
+
+    def given_and_due(self, ring):
+        """The positions that were given and that the controller may not have passed, in order."""
+        return sorted(self.given_positions(ring).intersection(self.due_positions(ring)))
 
     @kept
     def positions_given_by(self, write, ring):
@@ -178,10 +240,9 @@ class Known:
         """The crossing to a position, if there is one, was given."""
         return not ring.is_crossing(number) or self.is_crossing_given(ring, number)
 
-    @kept
-    def given_count(self, ring):
+    @carried(0)
+    def given_count(self, number, ring):
         """The greatest number below which all positions, and the crossings to them, were given."""
-        number = 0
         while self.is_given(ring, number) and self.is_way_given(ring, number):
             number += 1
         return number
@@ -217,7 +278,7 @@ class Known:
     def unfinished_positions(self):
         """The commands that were given and whose completion wasn't read."""
         ring = self.trace.command_ring
-        return [p for p in self.due_positions(ring) if self.is_given(ring, p)] if ring else []
+        return self.given_and_due(ring) if ring else []
 
     @property
     def unfinished(self):
@@ -242,6 +303,10 @@ class Known:
     def ring_of(self, slot_number, index):
         """The ring of an endpoint, or None."""
         return self.trace.ring(self.last(('ring of', slot_number, index), None))
+
+    def endpoints_with(self, ring):
+        """The slots and indexes of the endpoints that have a ring."""
+        return [fact[1:] for fact, number in self.facts().items() if fact[0] == 'ring of' and number == ring.number]
 
     def was_bound(self, ring):
         return self.last(('bound', ring.number), False)
@@ -277,8 +342,7 @@ class Known:
     @property
     def slots_with_device(self):
         """The slots with a device context under lease."""
-        told = [fact for known, row in self.earlier for fact, _ in known.told_by(row) if fact[0] == 'device']
-        return sorted({slot_number for _, slot_number in told if self.device(slot_number) is not None})
+        return sorted(fact[1] for fact, device in self.facts().items() if fact[0] == 'device' and device is not None)
 
     @kept
     def taken_device(self, write):
@@ -288,22 +352,28 @@ class Known:
             return None
         return command.slot, self.device_named(command.slot)
 
-    @kept
+    @carried(frozenset())
+    def soiled(self, soiled):
+        """The words that the controller may have changed, and that the driver hasn't written since."""
+        if not isinstance(self.row, Write):
+            return soiled
+        taken = self.previous.taken_device(self.row)
+        words = range(taken[1] + -taken[1] % 4, taken[1] + self.trace.device_context_bytes, 4) if taken else []
+        is_changed = taken or self.row.address in soiled
+        return soiled.difference([self.row.address]).union(words) if is_changed else soiled
+
     def is_soiled(self, address):
-        """The controller may have changed the word, and the driver hasn't written it since."""
-        for known, row in self.earlier_of(Write):
-            taken = known.taken_device(row)
-            if taken and taken[1] <= address < taken[1] + self.trace.device_context_bytes:
-                return True
-            if row.address == address:
-                return False
-        return False
+        return address in self.soiled()
 
     # ---- events
 
+    @carried(0)
+    def events_read(self, count):
+        return count + isinstance(self.row, Event)
+
     @property
     def reads(self):
-        return len(self.earlier_of(Event))
+        return self.events_read()
 
     @property
     def dequeue(self):

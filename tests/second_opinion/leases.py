@@ -28,7 +28,7 @@ def is_touched(leased, address, length):
 
 def blocks_of(known, ring):
     """The blocks that were given and that the controller may not have passed."""
-    return [Leased(0, ring.number, p, ring.address(p), 16, None) for p in known.due_positions(ring) if known.is_given(ring, p)]
+    return [Leased(0, ring.number, p, ring.address(p), 16, None) for p in known.given_and_due(ring)]
 
 
 def links_of(known, ring):
@@ -76,24 +76,16 @@ def open_leases(known):
 
 # ---- the leases of a trace
 
-def end_of(leased, opened, row):
-    """The first row from a given one on after which it isn't open any more; opened[i] is what is open after i rows."""
-    return next((end for end in range(row, len(opened)) if leased not in opened[end]), None)
-
-
-def leases_begun(trace, opened, row):
-    """The leases that begin at a row: those that are open after it and weren't before; row 0 stands before the first."""
-    before = opened[row - 1] if row > 0 else []
-    line = lambda count: trace.first + count - 1
-    for leased in opened[row]:
-        if leased not in before:
-            end = end_of(leased, opened, row + 1)
-            yield Lease(leased.kind, leased.ring, leased.position, line(row) if row > 0 else 0, WITHOUT_END if end is None else line(end))
-
-
 @lru_cache(maxsize=2)
 def leases_of(trace):
-    """All leases of a trace, by their first row, then kind, ring and position."""
-    opened = [open_leases(known) for known in histories(trace)]
-    begun = [lease for row in range(len(opened)) for lease in leases_begun(trace, opened, row)]
-    return sorted(begun, key=lambda lease: (lease.start, lease.kind, lease.ring, lease.position))
+    """All leases of a trace, by their first row, then kind, ring and position: what is open after a row and wasn't before, up to where it isn't."""
+    begun, leases, before = {}, [], set()
+    line = lambda count: trace.first + count - 1 if count > 0 else 0
+    ended = lambda leased, end: Lease(leased.kind, leased.ring, leased.position, line(begun[leased]), end)
+    for count, known in enumerate(histories(trace)):
+        now = set(open_leases(known))
+        leases += [ended(leased, line(count)) for leased in before - now]
+        begun.update((leased, count) for leased in now - before)
+        before = now
+    leases += [ended(leased, WITHOUT_END) for leased in before]
+    return sorted(leases, key=lambda lease: (lease.start, lease.kind, lease.ring, lease.position))

@@ -1,6 +1,7 @@
 """Where a command may let an endpoint's ring begin, and where it may set its dequeue pointer (xHCI 4.6.5, 4.6.6, 4.6.10)."""
 import contexts
 from blocks import ADDRESS_DEVICE
+from effects import disabled_by
 from rings import is_data
 
 
@@ -13,20 +14,32 @@ def bindings_of(known, command):
 
 
 def rings_bound(known, command):
-    return [known.trace.ring_beginning_at(binding.pointer) for binding in bindings_of(known, command)]
+    """For each the transfer ring that has the block at its pointer, or None."""
+    return [known.trace.ring_having(binding.pointer) for binding in bindings_of(known, command)]
 
 
-def is_unused(known, number):
-    """A transfer ring to which no endpoint was bound, and which no unfinished command binds."""
-    if number is None or known.was_bound(known.trace.ring(number)):
-        return False
-    return not any(number in rings_bound(known, other) for other in known.unfinished)
+def is_being_bound(known, ring):
+    """An unfinished command binds the ring."""
+    return any(ring in rings_bound(known, other) for other in known.unfinished)
+
+
+def is_kept(known, command, ring):
+    """An endpoint has the ring, and the command doesn't drop it."""
+    dropped = [(command.slot, index) for index in disabled_by(known, command)]
+    return any(at not in dropped for at in known.endpoints_with(ring))
+
+
+def is_bad_place(known, command, ring, binding):
+    """The ring is another's, or it doesn't stand still where it is bound."""
+    if ring is None or is_kept(known, command, ring) or is_being_bound(known, ring):
+        return True
+    was_used = known.trace.version < 3 and known.was_bound(ring)
+    return was_used or not is_move(known, ring, binding, known.ceiling(ring), known.floor(ring).number)
 
 
 def is_bad_binding(known, command):
     rings = rings_bound(known, command)
-    begins = all(binding.cycle == 1 for binding in bindings_of(known, command))
-    return not begins or not all(is_unused(known, ring) for ring in rings) or len(set(rings)) != len(rings)
+    return len(set(rings)) != len(rings) or any(is_bad_place(known, command, *at) for at in zip(rings, bindings_of(known, command)))
 
 
 def is_reached(known, ring, spot):
@@ -38,7 +51,7 @@ def is_reached(known, ring, spot):
 def is_move(known, ring, binding, least, most):
     """Pointer and cycle state name a spot, with a number from least to most, to which the ring may be moved."""
     named = [spot for spot in ring.spots(least, most) if (ring.spot_address(spot), ring.spot_cycle(spot)) == binding]
-    return any(spot.number in known.borders(ring) and is_reached(known, ring, spot) for spot in named)
+    return any(known.is_border(ring, spot.number) and is_reached(known, ring, spot) for spot in named)
 
 
 def is_bad_dequeue(known, command):

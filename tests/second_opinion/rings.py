@@ -52,18 +52,25 @@ class Ring:
         """The Cycle bit of a position: 1 in the first lap, and flipped from lap to lap."""
         return 1 - position // self.place_count % 2
 
+    @cached_property
+    def ends(self):
+        """By the last block before each Link, counted from the lap's first one: the segment's number."""
+        if self.kind == 'evt':
+            return {}
+        last = {segment.base + 16 * (segment.count - 2): i for i, segment in enumerate(self.segments)}
+        return {place: last[address] for place, address in enumerate(self.places) if address in last}
+
     def segment_crossed(self, number):
         """The segment whose Link is crossed on the way from position number - 1 to number; None where none is."""
-        if number == 0 or self.kind == 'evt':
-            return None
-        last = self.address(number - 1)
-        for i, segment in enumerate(self.segments):
-            if last == segment.base + 16 * (segment.count - 2):
-                return i
-        return None
+        return None if number == 0 else self.ends.get((number - 1) % self.place_count)
 
     def is_crossing(self, number):
         return self.segment_crossed(number) is not None
+
+    def crossings(self, least, most):
+        """The numbers from least to most to which a Link is crossed."""
+        behind = [range(least + (end + 1 - least) % self.place_count, most + 1, self.place_count) for end in self.ends]
+        return sorted(number for numbers in behind for number in numbers if number > 0)
 
     def link_address(self, number):
         segment = self.segments[self.segment_crossed(number)]

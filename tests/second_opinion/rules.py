@@ -1,11 +1,10 @@
 """The rules, each a function named by its rule: whether a row breaks it, `known` being what is known after the earlier rows."""
 from blocks import (ADDRESS_DEVICE, COMMAND_COMPLETION, EVENT_TYPES, LINK, SET_TR_DEQUEUE, TRANSFER_EVENT, aligned, cycle,
                     is_bad_command, is_bad_transfer, is_left_out_command, is_left_out_transfer, is_set, pointer, type_of, with_cycle)
-from commands import name_one_slot
 from events import is_impossible_completion, is_impossible_transfer, is_in_profile
-from given_commands import adds_left_out_endpoint, changes_endpoint, is_refused, moves_ring
+from given_commands import adds_left_out_endpoint, changes_endpoint, is_in_the_way, is_refused, moves_ring
 from leases import device_contexts, event_segments, is_touched, open_leases
-from moves import is_bad_binding, is_bad_dequeue, is_bad_stay
+from moves import is_bad_binding, is_bad_dequeue, is_bad_stay, is_being_bound
 from registers import is_bad_crcr, is_bad_erstba, is_bad_erstsz, is_bad_usbcmd
 from trace import Declare, Doorbell, Event, Register, Write
 
@@ -127,11 +126,13 @@ def bad_command(known, row):
 
 
 def busy(known, row):
-    """The slot has an unfinished command; an unfinished Address Device moves the ring of which a block is given."""
+    """An unfinished command of the slot is in the way; or something is given on a ring that an unfinished command moves, or, where it is open, binds."""
     command = known.command_given_by(row)
-    if command is not None and any(name_one_slot(command, other) for other in known.unfinished):
+    if command is not None and any(is_in_the_way(known, command, other) for other in known.unfinished):
         return True
-    return any(moves_ring(known, other, ring) for ring, _ in positions_given(known, row) for other in known.unfinished)
+    blocks, links = [ring for ring, _ in positions_given(known, row)], [ring for ring, _, _ in links_given(known, row)]
+    is_moved = any(moves_ring(known, other, ring) for ring in blocks for other in known.unfinished)
+    return is_moved or any(known.is_open(ring) and is_being_bound(known, ring) for ring in [*blocks, *links])
 
 
 def not_in_profile(known, row):

@@ -125,7 +125,7 @@ COMMANDS = Chapter(
         Lesson(f'{HARMS}/used-rings-may-be-bound', 'A ring that is bound a second time',
                'The slot was disabled and enabled again, and the new Endpoint Context names a ring that was in use before. What was taken from it '
                'still stands there with its Cycle bit, and is taken again.',
-               'Use a new ring for a new endpoint; to go on with an old one is more than this checker follows.',
+               'Use a new ring for a new endpoint, or go on where the old one stands, which version 3 of the format follows.',
                '24, 29-32, 36-37, 39-43, 45, 47-48, 73-76, 86-90'),
     ))
 

@@ -17,9 +17,9 @@ class Area:
 class RingUse(Area):
     """A ring named from here on: the first segment's start; its length is not known yet."""
 
-    def __init__(self, kind, start, named, slot=0, index=0, bound=True):
+    def __init__(self, kind, start, named, slot=0, index=0, bound=True, cycle=1):
         super().__init__(kind, start, 16, named)
-        self.slot, self.index, self.bound = slot, index, bound
+        self.slot, self.index, self.bound, self.cycle = slot, index, bound, cycle
 
 
 class Areas:
@@ -93,7 +93,7 @@ class Areas:
                     self.streams.append((slot, index))
                     continue
                 words = self.memory.block(context + 8, command.key)
-                self.endpoint(RingUse('xfer', blocks.target(words), command.given, slot, index, command_list.succeeded(command)))
+                self.endpoint(RingUse('xfer', blocks.target(words), command.given, slot, index, command_list.succeeded(command), words[0] & 1))
 
     def endpoint(self, use):
         """A second Address Device names a block of the ring that the endpoint has: no other ring."""

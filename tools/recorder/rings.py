@@ -103,13 +103,23 @@ class Finder:
             ring.holds(use.start) and any(other.lives_with(use) for other in ring.uses))
 
     def see_again(self, ring, use):
-        """A ring that has been used and is bound once more: its positions go on counting, so no row can say what it holds now."""
+        """A ring that is bound once more: its positions go on counting, so where it was used no row can say what a ring holds that begins anew."""
         earlier = any(other.bound and other.named < use.named for other in ring.uses)
-        if earlier and any(key < use.named for at, key in self.fetched.items() if ring.holds(at)):
+        was_used = earlier and any(key < use.named for at, key in self.fetched.items() if ring.holds(at))
+        if was_used and not self.goes_on(ring, use):
             self.end_with(use, f'the ring at {use.start:#x} was used before and is bound anew')
         else:
             ring.uses.append(use)
             self.laid(ring, use)
+
+    def goes_on(self, ring, use):
+        """Whether the ring is bound where it stands: the block before that place was given with the cycle that then led there."""
+        if use.start not in ring.place and use.start not in ring.crossing:
+            return False
+        place = ring.place[use.start] if use.start in ring.place else ring.crossing[use.start]
+        words = self.memory.block(ring.data[place - 1], use.named)
+        is_of_lap = blocks.cycle(words) == (use.cycle if place > 0 else 1 - use.cycle)
+        return blocks.kind(words) != 0 and is_of_lap
 
     def laid(self, ring, use):
         """Whether the ring's segments, by all its uses so far, are of no other ring."""
