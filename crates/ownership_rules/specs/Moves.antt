@@ -1,15 +1,15 @@
 -- The rules of bindings and moves: where an endpoint's ring may begin, and where its dequeue pointer may be set: xHCI 4.6.5, 4.6.6, 4.6.10
 use Rattle.std.specs.Prelude.{ℕ, ◌==◌, ◌&&◌, ◌||◌, Bool, true, false, not, List, [], ◌∷◌, map, Option, Some, None, if◌then◌else◌}
-use Rattle.std.specs.List.{list_any}
+use Rattle.std.specs.List.{list_any, range_with_len}
 use Rattle.segments.specs.RingView.{declared, floor_number}
-use Rattle.segments.specs.Ceiling.{ceiling}
-use Rattle.segments.specs.Moves.{is_move}
+use Rattle.segments.specs.Ceiling.{ceiling, is_open}
+use Rattle.segments.specs.Moves.{is_move, is_placement}
 use Rattle.commands.specs.declared.command.Command.{Command}
 use Rattle.commands.specs.declared.command.Command.TheVariants.{AddressDevice, ConfigureEndpoint, SetTrDequeue}
 use Rattle.commands.specs.States.{is_off, is_at_rest}
-use Rattle.contexts.specs.Contexts.{added_endpoints, context_pointer, context_cycle}
+use Rattle.contexts.specs.Contexts.{added_endpoints, is_dropped, context_pointer, context_cycle}
 use Rattle.traces.specs.declared.header.Header.{Header}
-use Rattle.traces.specs.Header.{is_ring, ring_beginning_at, shape_of}
+use Rattle.traces.specs.Header.{is_ring, ring_having, shape_of}
 use Rattle.ring_knowledge.specs.Known.{Known}
 use Rattle.ring_knowledge.specs.Rings.{unfinished}
 
@@ -26,6 +26,16 @@ pub record Binding : Type 0 where
   pub pointer : ℕ
   pub cycle : Bool
 
+-- the command drops the endpoint of slot s with index i
+unfoldable pub drops : Known → Command → ℕ → ℕ → Bool
+drops k (ConfigureEndpoint t false c) s i = t == s && is_dropped k.memory c i
+drops k _ s i = false
+
+-- an endpoint was bound to the ring
+unfoldable pub was_ring_bound : Known → Option ℕ → Bool
+was_ring_bound k None = false
+was_ring_bound k (Some r) = k.was_bound r
+
 module _ (h : Header) where
   unfoldable pub binding_in : Known → ℕ → ℕ → Binding
   binding_in k c i = record { pointer = context_pointer h.context_size k.memory c i; cycle = context_cycle h.context_size k.memory c i }
@@ -37,22 +47,43 @@ module _ (h : Header) where
   binds k _ = []
 
   unfoldable pub ring_bound : Binding → Option ℕ
-  ring_bound b = ring_beginning_at h b.pointer
+  ring_bound b = ring_having h b.pointer
 
   unfoldable pub binds_ring : Known → ℕ → Command → Bool
   binds_ring k r c = list_any (λ b. is_ring r (ring_bound b)) (binds k c)
 
-  -- an endpoint was bound to the ring, or an unfinished command names it
-  unfoldable pub is_used : Known → ℕ → Bool
-  is_used k r = k.was_bound r || list_any (binds_ring k r) (unfinished h k)
+  -- an unfinished command binds the ring
+  unfoldable pub is_being_bound : Known → ℕ → Bool
+  is_being_bound k r = list_any (binds_ring k r) (unfinished h k)
 
-  unfoldable pub is_unused_ring : Known → Option ℕ → Bool
-  is_unused_ring k None = false
-  is_unused_ring k (Some r) = not (is_used k r)
+  -- it is open too, so that blocks given now would be the old binding's and the new one's
+  unfoldable pub awaits_binding : Known → ℕ → Bool
+  awaits_binding k r = is_open (k.ring r) && is_being_bound k r
 
-  -- a binding names no first block of an unused transfer ring, or not cycle state 1, or one ring twice
+  -- an endpoint has the ring, and the command doesn't drop that endpoint
+  unfoldable pub is_kept : Known → Command → ℕ → Bool
+  is_kept k c r = list_any (λ s. list_any (λ i. is_ring r (k.ring_of s i) && not (drops k c s i)) (range_with_len 1 31)) (range_with_len 1 255)
+
+  -- the pointer and the cycle state name the spot at which the ring stands still
+  unfoldable pub is_placed : Known → Option ℕ → Binding → Bool
+  is_placed k None b = false
+  is_placed k (Some r) b = is_placement (shape_of h r) (k.ring r) b.pointer b.cycle
+
+  -- an endpoint keeps the ring, or another command gives it away
+  unfoldable pub is_taken : Known → Command → Option ℕ → Bool
+  is_taken k c None = false
+  is_taken k c (Some r) = is_kept k c r || is_being_bound k r
+
+  unfoldable pub is_bad_place : Known → Command → Binding → Bool
+  is_bad_place k c b = is_taken k c (ring_bound b) || not (is_placed k (ring_bound b) b)
+
+  -- a binding names no transfer ring that is free and stands still there, or one ring is bound twice
   unfoldable pub is_bad_binding : Known → Command → Bool
-  is_bad_binding k c = list_any (λ b. not (is_unused_ring k (ring_bound b)) || not b.cycle) (binds k c) || has_repeats (map ring_bound (binds k c))
+  is_bad_binding k c = list_any (is_bad_place k c) (binds k c) || has_repeats (map ring_bound (binds k c))
+
+  -- the command binds a ring that was bound before
+  unfoldable pub binds_again : Known → Command → Bool
+  binds_again k c = list_any (λ b. was_ring_bound k (ring_bound b)) (binds k c)
 
   -- Set TR Dequeue: a border from the ceiling up to what is declared
   unfoldable pub is_bad_dequeue : Known → Option ℕ → ℕ → Bool → Bool

@@ -8,18 +8,20 @@ use Rattle.traces.specs.declared.row.Row.TheVariants.{Write, Reg}
 use Rattle.traces.specs.Versions.{is_three}
 use Rattle.ring_knowledge.specs.Known.{Known}
 use Rattle.ownership_rules.specs.declared.refusal.Refusal.{Refusal}
-use Rattle.ownership_rules.specs.declared.refusal.Refusal.TheVariants.{WriteToOwned, BadRegister, BadErdp, NotInProfile}
+use Rattle.ownership_rules.specs.declared.refusal.Refusal.TheVariants.{WriteToOwned, BadRegister, BadErdp, NotInProfile, BadMove}
 use Rattle.ownership_rules.specs.OpenLeases.{is_leased}
 use Rattle.ownership_rules.specs.Commands as commands
+use Rattle.ownership_rules.specs.Moves as moves
 use Rattle.ownership_rules.specs.Registers as registers
 use Rattle.ownership_rules.specs.Writes as writes
 
 module _ (h : Header) where
   -- WriteToOwned: a word under lease, also one that the write leaves as it is; NotInProfile: an isochronous endpoint (xHCI 4.14.2), also one that stays unused; BadRegister: ERSTSZ a second time, or with a
-  -- value that is never used; BadErdp: before the start no event place
+  -- value that is never used; BadErdp: before the start no event place; BadMove: a command that binds a ring that was bound before
   unfoldable pub older : Known → Row → Refusal → Bool
   older k (Write a w) WriteToOwned = is_leased h k a
   older k (Write a w) NotInProfile = writes.some_command h k a w (commands.adds_isochronous h k)
+  older k (Write a w) BadMove = writes.some_command h k a w (moves.binds_again h k)
   older k (Reg Erstsz v) BadRegister = registers.is_written k Erstsz || registers.is_bad_size h v
   older k (Reg Erdp v) BadErdp = registers.names_no_place h k v
   older k _ _ = false
@@ -35,3 +37,7 @@ module _ (h : Header) where
   -- of a command that is given: an endpoint that is added has streams, or is isochronous where the version refuses that
   unfoldable pub has_left_out_endpoint : Known → Command → Bool
   has_left_out_endpoint k c = (commands.adds_isochronous h k c && not (is_three h.version)) || commands.adds_streams h k c
+
+  -- of a command that is given: it binds or moves a ring where the version refuses that
+  unfoldable pub places_badly : Known → Command → Bool
+  places_badly k c = (moves.binds_again h k c && not (is_three h.version)) || moves.is_bad_binding h k c || moves.is_bad_move h k c

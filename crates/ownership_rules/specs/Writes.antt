@@ -52,6 +52,6 @@ module _ (h : Header) where
       ∷ (NotWhole, some_given k a w (λ r p. is_not_whole (shape_of h r) (k.ring r) p))
       ∷ (LinkFault, some_crossed k a w (λ r q. leads_wrong (shape_of h r) k.memory a w q))
       ∷ (BadCommand, some_command k a w (commands.is_bad_command h k))
-      ∷ (Busy, some_command k a w (commands.is_busy h k) || some_given k a w (λ r p. moves.is_being_moved h k r))
+      ∷ (Busy, some_command k a w (commands.is_busy h k) || some_given k a w (λ r p. moves.is_being_moved h k r || moves.awaits_binding h k r) || some_crossed k a w (λ r q. moves.awaits_binding h k r))
       ∷ (NotInProfile, some_command k a w (commands.adds_streams h k) || some_crossed k a w (λ r q. interrupts (shape_of h r) k.memory a w q))
       ∷ (BadMove, some_command k a w (λ c. moves.is_bad_binding h k c || moves.is_bad_move h k c)) ∷ []

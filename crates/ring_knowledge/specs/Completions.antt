@@ -4,7 +4,6 @@ use Rattle.guest_memory.specs.Memory.{put, put_pair}
 use Rattle.trb.specs.declared.block.Block.{Block}
 use Rattle.trb.specs.Block.{code, slot}
 use Rattle.segments.specs.declared.spot.Spot.{Spot}
-use Rattle.segments.specs.declared.spot.Spot.TheVariants.{Data}
 use Rattle.segments.specs.Spots.{number, after}
 use Rattle.segments.specs.RingView.{Reaches, Holds}
 use Rattle.segments.specs.Ceiling.{ceiling}
@@ -16,7 +15,7 @@ use Rattle.commands.specs.declared.state.EndpointState.TheVariants.{Disabled as 
 use Rattle.commands.specs.States.{is_off}
 use Rattle.commands.specs.Changes.{Change, SlotGoesOn, DeviceLeft, Disables, Places, Stops, Resets, changes, slot_gone_on}
 use Rattle.traces.specs.declared.header.Header.{Header}
-use Rattle.traces.specs.Header.{shape_of, command_id, ring_beginning_at}
+use Rattle.traces.specs.Header.{shape_of, command_id, ring_having}
 use Rattle.ring_knowledge.specs.Known.{Known}
 use Rattle.ring_knowledge.specs.Rings.{command_at, next_command, on_ring}
 
@@ -24,11 +23,6 @@ module _ (h : Header) where
   -- the pointer of ring r was set to a spot
   unfoldable pub set_to : Known → ℕ → Spot → Known
   set_to k r t = on_ring h (on_ring h k r (Reaches t)) r (Holds (number t))
-
-  -- an endpoint gets a ring that begins anew
-  unfoldable pub bound_to : Known → ℕ → ℕ → Option ℕ → Known
-  bound_to k s i None = k
-  bound_to k s i (Some r) = record (set_to k r (Data 0)) { ring_of = put_pair k.ring_of s i (Some r); was_bound = put k.was_bound r true }
 
   unfoldable pub moved_to : Known → ℕ → Option Spot → Known
   moved_to k r None = k
@@ -39,9 +33,14 @@ module _ (h : Header) where
   moved k None p cycle = k
   moved k (Some r) p cycle = moved_to k r (target (shape_of h r) (k.ring r) p cycle)
 
-  -- a Disabled endpoint gets the ring whose first block the pointer names, any other has its ring moved there
+  -- an endpoint gets a ring, which is moved to the spot that a pointer and a cycle state name
+  unfoldable pub bound_to : Known → ℕ → ℕ → Option ℕ → ℕ → Bool → Known
+  bound_to k s i None p cycle = k
+  bound_to k s i (Some r) p cycle = record (moved k (Some r) p cycle) { ring_of = put_pair k.ring_of s i (Some r); was_bound = put k.was_bound r true }
+
+  -- a Disabled endpoint gets the ring that has the block at the pointer, any other keeps its ring; the ring is moved there
   unfoldable pub pointed : Known → ℕ → ℕ → ℕ → Bool → Known
-  pointed k s i p cycle = if is_off (k.endpoint_state s i) then bound_to k s i (ring_beginning_at h p) else moved k (k.ring_of s i) p cycle
+  pointed k s i p cycle = if is_off (k.endpoint_state s i) then bound_to k s i (ring_having h p) p cycle else moved k (k.ring_of s i) p cycle
 
   -- the endpoints of a slot that a test names are disabled, and have no ring
   unfoldable pub disabled : Known → ℕ → (ℕ → Bool) → Known

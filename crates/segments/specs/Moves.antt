@@ -6,7 +6,7 @@ use Rattle.segments.specs.declared.spot.Spot.TheVariants.{Data, Link}
 use Rattle.segments.specs.ShapeValue.{Shape}
 use Rattle.segments.specs.Spots.{is_spot, number, spot_address, spot_cycle}
 use Rattle.segments.specs.RingView.{RingView, declared, floor_number}
-use Rattle.segments.specs.Ceiling.{is_way_given}
+use Rattle.segments.specs.Ceiling.{ceiling, is_way_given}
 use Rattle.segments.specs.Descriptors.{is_border}
 
 -- a pointer and a cycle state stand at the spot
@@ -39,3 +39,7 @@ may_move_to shape v t = is_border v.lengths 0 (number t) && is_reached shape v t
 -- a pointer and a cycle state name a spot with a number from least to most to which the ring may be moved
 unfoldable pub is_move : Shape → RingView → ℕ → Bool → ℕ → ℕ → Bool
 is_move shape v p cycle least most = list_any (λ t. is_target shape p cycle t && may_move_to shape v t) (spots_between least most)
+
+-- they name a spot at which the controller stands still: it can't have gone on from the floor
+unfoldable pub is_placement : Shape → RingView → ℕ → Bool → Bool
+is_placement shape v p cycle = is_move shape v p cycle (ceiling shape v) (floor_number v)
