@@ -52,10 +52,9 @@ module _ (h : Header) where
     pub off : (s i : ℕ) → k.ring_of s i ≡ None → k.endpoint_state s i ≡ Off
     pub on : (s i r : ℕ) → k.ring_of s i ≡ Some r → k.endpoint_state s i ≢ Off
     pub transfer : (s i r : ℕ) → k.ring_of s i ≡ Some r → IsTransferRing r
-    pub was_bound : (s i r : ℕ) → k.ring_of s i ≡ Some r → k.was_bound r ≡ true
+    pub within : (s i r : ℕ) → k.ring_of s i ≡ Some r → (s < 256) × (i < 32)
     pub one_endpoint : (s i t j r : ℕ) → k.ring_of s i ≡ Some r → k.ring_of t j ≡ Some r → (s ≡ t) × (i ≡ j)
     pub open_runs : (s i r : ℕ) → k.ring_of s i ≡ Some r → (k.ring r).held ≡ None → k.endpoint_state s i ≡ Running
-    pub never_bound : (r : ℕ) → IsTransferRing r → k.was_bound r ≡ false → ((k.ring r).floor ≡ Data 0) × ((k.ring r).held ≡ Some 0)
     -- a Stopped event was read: its Stop Endpoint is the next command to be finished
     pub seen_command : (s i : ℕ) → k.stop_seen s i ≡ true → is_stopping_now h k s i ≡ true
     pub seen_runs : (s i : ℕ) → k.stop_seen s i ≡ true → k.endpoint_state s i ≡ Running
@@ -73,7 +72,6 @@ module _ (h : Header) where
     pub rings : (s i : ℕ) → k.ring_of s i ≡ None
     pub floors : (r : ℕ) → (k.ring r).floor ≡ Data 0
     pub held : (r : ℕ) → (k.ring r).held ≡ Some 0
-    pub bound : (r : ℕ) → k.was_bound r ≡ false
     pub seen : (s i : ℕ) → k.stop_seen s i ≡ false
 
   -- the device context at d, which slot s has under lease
@@ -120,10 +118,11 @@ module _ (h : Header) where
     pub good : commands.is_bad_command h k c ≡ false
     pub in_profile : commands.adds_streams h k c ≡ false
     pub device : (s n : ℕ) (bsr : Bool) → c ≡ AddressDevice s bsr n → k.device s ≢ None
-    -- each ring that it binds is unused but for this command, named once, and begins with cycle state 1
-    pub binds : All (λ b. (is_some (moves.ring_bound h b) ≡ true) × (b.cycle ≡ true)) (moves.binds h k c)
+    -- each ring that it binds stands still where it is placed, and is named once; no endpoint has it but one that the command drops, and no
+    -- other command binds it
+    pub binds : All (λ b. moves.is_placed h k (moves.ring_bound h b) b ≡ true) (moves.binds h k c)
     pub repeats : moves.has_repeats (map (moves.ring_bound h) (moves.binds h k c)) ≡ false
-    pub unbound : (r : ℕ) → moves.binds_ring h k r c ≡ true → k.was_bound r ≡ false
+    pub unkept : (r s i : ℕ) → moves.binds_ring h k r c ≡ true → k.ring_of s i ≡ Some r → moves.drops k c s i ≡ true
     pub unshared : (r q : ℕ) (d : Command) → moves.binds_ring h k r c ≡ true → IsUnfinished k q d → q ≢ p → moves.binds_ring h k r d ≡ false
     pub moves_on : MovesIf k c
     pub stays : StaysIf k c

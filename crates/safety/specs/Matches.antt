@@ -79,15 +79,17 @@ pub record BoundRing (shape : Shape) (ring_of : ℕ → ℕ → Option ℕ) (v :
   pub matches : RingMatches shape v s spot
   pub takes : Unreported shape v s spot
 
--- no endpoint has it
-pub record FreeRing (shape : Shape) (ring_of : ℕ → ℕ → Option ℕ) (s : RingState) (r : ℕ) : Type 0 where
+-- no endpoint has it: the next take is between the floor and the ceiling
+pub record FreeRing (shape : Shape) (ring_of : ℕ → ℕ → Option ℕ) (v : RingView) (s : RingState) (r : ℕ) : Type 0 where
   pub none : (t i : ℕ) → ring_of t i ≢ Some r
   pub rests : Rests shape s
+  pub from : floor_number v ≤ next_take shape s.events
+  pub to : next_take shape s.events ≤ ceiling shape v
 
 module _ (h : Header) where
   -- which of the two it is, is part of the invariant
   abbrev pub EndpointRing : Known → World → ℕ → Type 0
-  EndpointRing k w r = BoundRing (shape_of h r) k.ring_of (k.ring r) (state_of w r) r ⊎ FreeRing (shape_of h r) k.ring_of (state_of w r) r
+  EndpointRing k w r = BoundRing (shape_of h r) k.ring_of (k.ring r) (state_of w r) r ⊎ FreeRing (shape_of h r) k.ring_of (k.ring r) (state_of w r) r
 
   -- the command that was taken is the one at the floor
   pub record TakenCommand (k : Known) (u : UnderWay) : Type 0 where
@@ -123,7 +125,6 @@ module _ (h : Header) where
     pub ring_of : (s i : ℕ) → w.ring_of s i ≡ k.ring_of s i
     -- any number but the command ring's, also one that no ring has
     pub rings : (r : ℕ) → r ≢ command_id h → EndpointRing k w r
-    pub fresh : (r : ℕ) → r ≢ command_id h → k.was_bound r ≡ false → w.events r ≡ []
     pub before : k.started ≡ false → NotStarted w
     pub command : k.started ≡ true → CommandMatches k w
     pub scribbles : (s : ℕ) → w.scribbles s ≡ true → k.device s ≢ None

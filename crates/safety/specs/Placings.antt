@@ -1,5 +1,5 @@
 -- Where the success of a command may place the ring of an endpoint: xHCI 4.6.5, 4.6.6, 4.6.10
-use Rattle.std.specs.Prelude.{◌≡◌, ℕ, ◌||◌, Bool, true, false, List, [], ◌∷◌, map, All, Some, is_some}
+use Rattle.std.specs.Prelude.{◌≡◌, ℕ, ◌||◌, Bool, true, false, List, [], ◌∷◌, map, All, Some}
 use Rattle.trb.specs.declared.block.Block.{Block}
 use Rattle.trb.specs.Block.{code, slot}
 use Rattle.segments.specs.declared.spot.Spot.{Spot}
@@ -11,16 +11,17 @@ use Rattle.commands.specs.States.{is_off}
 use Rattle.commands.specs.Changes.{Change, SlotGoesOn, DeviceLeft, Disables, Places, Stops, Resets, changes}
 use Rattle.contexts.specs.Contexts.{added_endpoints, is_dropped, context_pointer, context_cycle}
 use Rattle.traces.specs.declared.header.Header.{Header}
-use Rattle.traces.specs.Header.{shape_of, ring_beginning_at}
+use Rattle.traces.specs.Header.{shape_of, ring_having}
 use Rattle.ring_knowledge.specs.Known.{Known}
 use Rattle.ring_knowledge.specs.Rings.{command_at, next_command}
 use Rattle.ring_knowledge.specs.Completions.{changed_by}
-use Rattle.ownership_rules.specs.Moves.{has_repeats, binds, ring_bound, binds_ring, is_bad_move}
+use Rattle.ownership_rules.specs.Moves.{drops, has_repeats, binds, ring_bound, binds_ring, is_placed, is_bad_move}
 
 module _ (h : Header) where
-  -- an endpoint that is off gets a ring whose pointer hasn't moved yet; any other one has its ring moved to a spot up to which all is given
+  -- an endpoint that is off gets a ring, and any other one has its ring; the ring is moved to a spot up to which all is given
   pub record MayPoint (k : Known) (s i p : ℕ) (cycle : Bool) : Type 0 where
-    pub binds : is_off (k.endpoint_state s i) ≡ true → (r : ℕ) → ring_beginning_at h p ≡ Some r → floor_number (k.ring r) ≡ 0
+    pub binds : is_off (k.endpoint_state s i) ≡ true → (r : ℕ) (t : Spot) → ring_having h p ≡ Some r → target (shape_of h r) (k.ring r) p cycle ≡ Some t →
+        is_reached (shape_of h r) (k.ring r) t ≡ true
     pub moves : is_off (k.endpoint_state s i) ≡ false → (r : ℕ) (t : Spot) → k.ring_of s i ≡ Some r → target (shape_of h r) (k.ring r) p cycle ≡ Some t →
         is_reached (shape_of h r) (k.ring r) t ≡ true
 
@@ -56,9 +57,9 @@ module _ (h : Header) where
   MovesOn k _ = Unit {0}
 
   pub record StillHolds (k : Known) (c : Command) : Type 0 where
-    -- the rings that it binds: some ring each, no ring twice, none that was bound
-    pub named : All (λ b. is_some (ring_bound h b) ≡ true) (binds h k c)
+    -- the rings that it binds: each stands still where it is placed, none is bound twice, none has an endpoint that isn't dropped
+    pub placed : All (λ b. is_placed h k (ring_bound h b) b ≡ true) (binds h k c)
     pub repeats : has_repeats (map (ring_bound h) (binds h k c)) ≡ false
-    pub unbound : (r : ℕ) → binds_ring h k r c ≡ true → k.was_bound r ≡ false
+    pub unkept : (r s i : ℕ) → binds_ring h k r c ≡ true → k.ring_of s i ≡ Some r → drops k c s i ≡ true
     pub free : AreFree k c
     pub moves_on : MovesOn k c
