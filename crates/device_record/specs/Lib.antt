@@ -2,3 +2,4 @@ pub mod Endpoints
 pub mod Devices
 pub mod Unfinished
 pub mod Addressing
+pub mod Holders
