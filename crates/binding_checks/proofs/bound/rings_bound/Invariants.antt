@@ -7,7 +7,7 @@ use Rattle.trace_record.specs.FollowsTrace.{FollowsTrace}
 use Rattle.trace_record.specs.Premises.{ContextsFit}
 use Rattle.binding_checks.specs.RingSets.{has}
 use Rattle.binding_checks.specs.Slots.{names_below}
-use Rattle.binding_checks.proofs.used.rings_bound.Given as goal
+use Rattle.binding_checks.proofs.bound.rings_bound.Given as goal
 
 -- those that the commands of the slots below bind
 abbrev pub invariant-loop-slot : goal.invariant-loop-slot

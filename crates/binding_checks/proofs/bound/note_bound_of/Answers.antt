@@ -4,7 +4,7 @@ use Rattle.device_record.specs.Unfinished.{names}
 use Rattle.ownership_rules.specs.Moves.{binds_ring}
 use Rattle.binding_checks.specs.RingSets.{has}
 use Rattle.binding_checks.proofs.SlotWalk.{named_here, of_some, slot_fits_memory}
-use Rattle.binding_checks.proofs.used.note_bound_of.Goals as goal
+use Rattle.binding_checks.proofs.bound.note_bound_of.Goals as goal
 
 pub returns-in-Some : goal.returns-in-Some
 returns-in-Some g c = λ k f fit r.
