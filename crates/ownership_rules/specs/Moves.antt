@@ -28,7 +28,7 @@ pub record Binding : Type 0 where
 
 -- the command drops the endpoint of slot s with index i
 unfoldable pub drops : Known → Command → ℕ → ℕ → Bool
-drops k (ConfigureEndpoint t false c) s i = t == s && is_dropped k.memory c i
+drops k (ConfigureEndpoint t false c) s i = s == t && is_dropped k.memory c i
 drops k _ s i = false
 
 -- an endpoint was bound to the ring

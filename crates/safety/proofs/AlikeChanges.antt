@@ -1,6 +1,6 @@
 -- What the success of a command changes, at two knowledges that are alike: it leaves both alike
 use Rattle.std.proofs.Common.{◌≡◌, ◌==◌, ◌&&◌, if◌then◌else◌, ◌∷◌, ℕ, Bool, true, false, List, [], Option, None, Some, arith, refl, sym, ap, subst}
-use Rattle.safety.proofs.Words.{put, put_pair, Spot, Data, number, Reaches, ceiling, target, Command, EndpointState, Off, Stopped, is_off, Change, SlotGoesOn, DeviceLeft, Disables, Places, Stops, Resets, slot_gone_on, Header, shape_of, ring_beginning_at, Known, on_ring, set_to, bound_to, moved_to, moved, pointed, disabled, in_state, held_at_ceiling, changed_by, changed_by_all}
+use Rattle.safety.proofs.Words.{put, put_pair, Spot, number, Reaches, ceiling, target, Command, EndpointState, Off, Stopped, is_off, Change, SlotGoesOn, DeviceLeft, Disables, Places, Stops, Resets, slot_gone_on, Header, shape_of, ring_having, Known, on_ring, set_to, bound_to, moved_to, moved, pointed, disabled, in_state, held_at_ceiling, changed_by, changed_by_all}
 use Rattle.safety.proofs.Alike.{Alike, ceiling_more, reached_alike, held_alike}
 use Rattle.safety.proofs.AlikeTransfers.{state_put, move_put}
 
@@ -9,10 +9,13 @@ both_sides_if R true x y u v here there = here refl
 both_sides_if R false x y u v here there = there refl
 
 module _ (h : Header) where
-  -- where a ring is moved, its target is the same
+  -- where a ring is bound or moved, its target is the same
+  pub record SameTarget (k l : Known) (s i p : ℕ) (cycle : Bool) : Type 0 where
+    pub binds : is_off (k.endpoint_state s i) ≡ true → (r : ℕ) → ring_having h p ≡ Some r → target (shape_of h r) (l.ring r) p cycle ≡ target (shape_of h r) (k.ring r) p cycle
+    pub moves : is_off (k.endpoint_state s i) ≡ false → (r : ℕ) → k.ring_of s i ≡ Some r → target (shape_of h r) (l.ring r) p cycle ≡ target (shape_of h r) (k.ring r) p cycle
+
   abbrev pub TargetIs : Known → Known → Change → Type 0
-  TargetIs k l (Places s i p cycle state) =
-      is_off (k.endpoint_state s i) ≡ false → (r : ℕ) → k.ring_of s i ≡ Some r → target (shape_of h r) (l.ring r) p cycle ≡ target (shape_of h r) (k.ring r) p cycle
+  TargetIs k l (Places s i p cycle state) = SameTarget k l s i p cycle
   TargetIs k l (SlotGoesOn s) = Unit {0}
   TargetIs k l (DeviceLeft s) = Unit {0}
   TargetIs k l (Disables s which) = Unit {0}
@@ -44,12 +47,6 @@ module _ (h : Header) where
           device = a.device;
         }
 
-    bound_alike : (k l : Known) → Alike P k l → (s i : ℕ) (o : Option ℕ) → Alike P (bound_to h k s i o) (bound_to h l s i o)
-    unfolding bound_to
-    bound_alike k l a s i None = a
-    bound_alike k l a s i (Some r) =
-        bound_with (set_to h k r (Data 0)) (set_to h l r (Data 0)) (set_alike k l a r (Data 0)) s i r k.ring_of l.ring_of k.was_bound l.was_bound a.ring_of a.was_bound
-
     target_alike : (k l : Known) → Alike P k l → (r : ℕ) (o : Option Spot) → Alike P (moved_to h k r o) (moved_to h l r o)
     unfolding moved_to
     target_alike k l a r None = a
@@ -63,15 +60,22 @@ module _ (h : Header) where
         subst (λ o. Alike P (moved_to h k r (target (shape_of h r) (k.ring r) p cycle)) (moved_to h l r o)) (sym (same r refl))
         (target_alike k l a r (target (shape_of h r) (k.ring r) p cycle))
 
+    bound_alike : (k l : Known) → Alike P k l → (s i : ℕ) (o : Option ℕ) (p : ℕ) (cycle : Bool) →
+        ((r : ℕ) → o ≡ Some r → target (shape_of h r) (l.ring r) p cycle ≡ target (shape_of h r) (k.ring r) p cycle) → Alike P (bound_to h k s i o p cycle) (bound_to h l s i o p cycle)
+    unfolding bound_to
+    bound_alike k l a s i None p cycle same = a
+    bound_alike k l a s i (Some r) p cycle same =
+        bound_with (moved h k (Some r) p cycle) (moved h l (Some r) p cycle) (moved_alike k l a (Some r) p cycle same) s i r k.ring_of l.ring_of k.was_bound l.was_bound a.ring_of a.was_bound
+
     pointed_alike : (k l : Known) → Alike P k l → (s i p : ℕ) (cycle : Bool) (state : EndpointState) → TargetIs k l (Places s i p cycle state) →
         Alike P (pointed h k s i p cycle) (pointed h l s i p cycle)
     unfolding pointed
     pointed_alike k l a s i p cycle state same =
-        subst (λ (f : ℕ → ℕ → EndpointState). Alike P (pointed h k s i p cycle) (if is_off (f s i) then bound_to h l s i (ring_beginning_at h p) else moved h l (l.ring_of s i) p cycle)) (sym a.endpoint_state)
-        (subst (λ (f : ℕ → ℕ → Option ℕ). Alike P (pointed h k s i p cycle) (if is_off (k.endpoint_state s i) then bound_to h l s i (ring_beginning_at h p) else moved h l (f s i) p cycle)) (sym a.ring_of)
-        (both_sides_if (Alike P) (is_off (k.endpoint_state s i)) (bound_to h k s i (ring_beginning_at h p)) (moved h k (k.ring_of s i) p cycle)
-        (bound_to h l s i (ring_beginning_at h p)) (moved h l (k.ring_of s i) p cycle)
-        (λ off. bound_alike k l a s i (ring_beginning_at h p)) (λ on. moved_alike k l a (k.ring_of s i) p cycle (same on))))
+        subst (λ (f : ℕ → ℕ → EndpointState). Alike P (pointed h k s i p cycle) (if is_off (f s i) then bound_to h l s i (ring_having h p) p cycle else moved h l (l.ring_of s i) p cycle)) (sym a.endpoint_state)
+        (subst (λ (f : ℕ → ℕ → Option ℕ). Alike P (pointed h k s i p cycle) (if is_off (k.endpoint_state s i) then bound_to h l s i (ring_having h p) p cycle else moved h l (f s i) p cycle)) (sym a.ring_of)
+        (both_sides_if (Alike P) (is_off (k.endpoint_state s i)) (bound_to h k s i (ring_having h p) p cycle) (moved h k (k.ring_of s i) p cycle)
+        (bound_to h l s i (ring_having h p) p cycle) (moved h l (k.ring_of s i) p cycle)
+        (λ off. bound_alike k l a s i (ring_having h p) p cycle (same.binds off)) (λ on. moved_alike k l a (k.ring_of s i) p cycle (same.moves on))))
 
     ceiling_alike : (k l : Known) → Alike P k l → (o : Option ℕ) → Alike P (held_at_ceiling h k o) (held_at_ceiling h l o)
     unfolding held_at_ceiling

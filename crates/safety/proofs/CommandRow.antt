@@ -1,9 +1,10 @@
 -- Behind an event that is read before it, a write that gives a command breaks no rule: what is tested of its bindings and its slot
-use Rattle.std.proofs.Common.{◌≡◌, ◌||◌, ◌∷◌, ◌∙◌, ℕ, not, true, false, List, [], map, All, Some, is_some, refl, sym, ap, subst, inl, inr, eq-eqb}
-use Rattle.safety.proofs.Words.{list_any, or_from, not_from_true, not_from_false, false≢true, false_from_ne_true, All-head, All-tail, cases_option, Block, is_due, Command, NoOp, EnableSlot, DisableSlot, AddressDevice, ConfigureEndpoint, EvaluateContext, ResetEndpoint, StopEndpoint, SetTrDequeue, ResetDevice, name_one_slot, Header, Write, Read, IsHeader, shape_of, command_id, is_ring, Known, unfinished, command_given, learned, Binding, binding_in, binds, ring_bound, binds_ring, has_repeats, is_used, is_unused_ring, is_bad_binding, lenient, IsIn, some_of, any_of, IsUnfinished, CommandKeeps, DriverKeeps}
+use Rattle.std.proofs.Common.{◌≡◌, ◌||◌, ◌∷◌, ◌∙◌, ℕ, not, true, false, List, [], map, All, Some, is_some, refl, sym, ap, subst, inl, inr, eq-eqb, Option, None}
+use Rattle.safety.proofs.Words.{list_any, or_from, not_from_true, not_from_false, false≢true, false_from_ne_true, All-head, All-tail, cases_option, Block, is_due, Command, NoOp, EnableSlot, DisableSlot, AddressDevice, ConfigureEndpoint, EvaluateContext, ResetEndpoint, StopEndpoint, SetTrDequeue, ResetDevice, name_one_slot, Header, Write, Read, IsHeader, shape_of, command_id, is_ring, Known, unfinished, command_given, learned, Binding, binding_in, binds, ring_bound, binds_ring, has_repeats, drops, is_kept, is_taken, is_placed, is_bad_place, is_being_bound, is_bad_binding, lenient, IsIn, some_of, any_of, IsUnfinished, CommandKeeps, DriverKeeps}
 use Rattle.ownership_rules.specs.Commands as commands
 use Rattle.safety.proofs.LeasesBehind.{none_fewer}
 use Rattle.safety.proofs.WriteBeside.{beside_old}
+use Rattle.safety.proofs.RingsKept.{none_kept}
 use Rattle.safety.proofs.CommandsBeside.{binds_ring_beside}
 use Rattle.safety.proofs.HeldFurther.{command_same}
 use Rattle.safety.proofs.UnfinishedBehind.{listed_unfinished, listed_before}
@@ -92,28 +93,52 @@ module _ (h : Header) (is : IsHeader h) (k : Known) (d : DriverKeeps h k) (a w :
       (λ same. false≢true (sym (there h is k d a w e clean may c given).fresh ∙ ap (λ p. (l.ring (command_id h)).given p) (sym same) ∙ now.1.given)) in
       false≢true (sym apart ∙ sym (binds_ring_beside h beneath x found.0 beside_f r) ∙ sym (binds_ring_same r found.0) ∙ found.2))
 
-  unused_behind : (r : ℕ) → binds_ring h x r c ≡ true → is_used h l r ≡ false
-  unfolding is_used
-  unused_behind r bound = or_from (l.was_bound r) (list_any (binds_ring h l r) (unfinished h l)) ((own_between h is k d a w e clean may c given).unbound r bound) (unnamed r bound)
+  drops_same : (f : Command) (s i : ℕ) → drops l f s i ≡ drops x f s i
+  unfolding drops
+  drops_same (ConfigureEndpoint s false n) t i = refl
+  drops_same (ConfigureEndpoint s true n) t i = refl
+  drops_same (AddressDevice s bsr n) t i = refl
+  drops_same NoOp t i = refl
+  drops_same EnableSlot t i = refl
+  drops_same (DisableSlot s) t i = refl
+  drops_same (EvaluateContext s n) t i = refl
+  drops_same (ResetEndpoint s j) t i = refl
+  drops_same (StopEndpoint s j) t i = refl
+  drops_same (SetTrDequeue s j p cycle) t i = refl
+  drops_same (ResetDevice s) t i = refl
 
-  unused : (b : Binding) → IsIn b (binds h x c) → is_some (ring_bound h b) ≡ true → not (is_unused_ring h l (ring_bound h b)) ≡ false
-  unfolding binds_ring is_unused_ring
-  unused b at some =
+  -- nor has an endpoint one of them that isn't dropped
+  unkept_behind : (r : ℕ) → binds_ring h x r c ≡ true → is_kept h l c r ≡ false
+  unkept_behind r bound = none_kept h l c r (λ s i has. drops_same c s i ∙ (own_between h is k d a w e clean may c given).unkept r s i bound has)
+
+  free_behind : (b : Binding) → IsIn b (binds h x c) → is_taken h l c (ring_bound h b) ≡ false
+  unfolding binds_ring is_taken is_being_bound
+  free_behind b at =
       elim (cases_option (ring_bound h b)) [
-        | inl none ↦ absurd (false≢true (sym (ap (λ o. is_some o) none) ∙ some))
+        | inl none ↦ ap (λ o. is_taken h l c o) none
         | inr r ↦
-            ap (λ o. not (is_unused_ring h l o)) r.1
-            ∙ not_from_true (not (is_used h l r.0)) (not_from_false (is_used h l r.0) (unused_behind r.0
-            (any_of (λ b. is_ring r.0 (ring_bound h b)) (binds h x c) b at (ap (λ o. is_ring r.0 o) r.1 ∙ eq-eqb r.0 r.0 refl))))
+            let bound : binds_ring h x r.0 c ≡ true = any_of (λ b. is_ring r.0 (ring_bound h b)) (binds h x c) b at (ap (λ o. is_ring r.0 o) r.1 ∙ eq-eqb r.0 r.0 refl) in
+            ap (λ o. is_taken h l c o) r.1 ∙ or_from (is_kept h l c r.0) (list_any (binds_ring h l r.0) (unfinished h l)) (unkept_behind r.0 bound) (unnamed r.0 bound)
       ]
+
+  placed_same : (o : Option ℕ) (b : Binding) → is_placed h l o b ≡ is_placed h x o b
+  unfolding is_placed
+  placed_same None b = refl
+  placed_same (Some r) b = refl
+
+  place_behind : (b : Binding) → IsIn b (binds h x c) → is_bad_place h l c b ≡ false
+  unfolding is_bad_place
+  place_behind b at =
+      let placed = each_in (λ b. is_placed h x (ring_bound h b) b ≡ true) (binds h x c) b (own_between h is k d a w e clean may c given).placed at in
+      or_from (is_taken h l c (ring_bound h b)) (not (is_placed h l (ring_bound h b) b)) (free_behind b at)
+      (not_from_true (is_placed h l (ring_bound h b) b) (placed_same (ring_bound h b) b ∙ placed))
 
   pub bindings_behind : is_bad_binding h l c ≡ false
   unfolding is_bad_binding
   bindings_behind =
-      ap (λ bs. list_any (λ b. not (is_unused_ring h l (ring_bound h b)) || not b.cycle) bs || has_repeats (map (ring_bound h) bs)) (binds_same c)
-      ∙ or_from (list_any (λ b. not (is_unused_ring h l (ring_bound h b)) || not b.cycle) (binds h x c)) (has_repeats (map (ring_bound h) (binds h x c)))
-      (false_from_ne_true (list_any (λ b. not (is_unused_ring h l (ring_bound h b)) || not b.cycle) (binds h x c)) (λ some.
-      let found = some_of (λ b. not (is_unused_ring h l (ring_bound h b)) || not b.cycle) (binds h x c) some in
-      let good = each_in (λ b. (is_some (ring_bound h b) ≡ true) × (b.cycle ≡ true)) (binds h x c) found.0 (own_between h is k d a w e clean may c given).binds_rings found.1 in
-      false≢true (sym (or_from (not (is_unused_ring h l (ring_bound h found.0))) (not found.0.cycle) (unused found.0 found.1 good.0) (not_from_true found.0.cycle good.1)) ∙ found.2)))
+      ap (λ bs. list_any (is_bad_place h l c) bs || has_repeats (map (ring_bound h) bs)) (binds_same c)
+      ∙ or_from (list_any (is_bad_place h l c) (binds h x c)) (has_repeats (map (ring_bound h) (binds h x c)))
+      (false_from_ne_true (list_any (is_bad_place h l c) (binds h x c)) (λ some.
+      let found = some_of (is_bad_place h l c) (binds h x c) some in
+      false≢true (sym (place_behind found.0 found.1) ∙ found.2)))
       (own_between h is k d a w e clean may c given).repeats

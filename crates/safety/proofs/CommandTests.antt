@@ -24,5 +24,5 @@ module _ (h : Header) (is : IsHeader h) (k : Known) (d : DriverKeeps h k) (a w :
       cond-false l.stopped (AfterStop ∷ []) (broken_of (write_tests h l a w)) (read_on h k e ∙ (clean_tests h k (Read e) may).0)
       ∙ broken_none (write_tests h l a w) (
         rules.unowned,
-        (rules.declared_as, (rules.declared, (rules.whole, (rules.leads, (of_given _ good, (or_from _ _ (of_given _ (idle_behind h is k d a w e clean may c given)) rules.unmoved, (or_from _ _ (of_given _ (profile_behind h is k d a w e clean may c given)) rules.inside, (of_given _ (or_from _ _ (bindings_behind h is k d a w e clean may c given) (moves_behind h is k d a w e clean may c given)), tt)))))))),
+        (rules.declared_as, (rules.declared, (rules.whole, (rules.leads, (of_given _ good, (or_from _ _ (or_from _ _ (of_given _ (idle_behind h is k d a w e clean may c given)) rules.unmoved) rules.unlinked, (or_from _ _ (of_given _ (profile_behind h is k d a w e clean may c given)) rules.inside, (of_given _ (or_from _ _ (bindings_behind h is k d a w e clean may c given) (moves_behind h is k d a w e clean may c given)), tt)))))))),
       )

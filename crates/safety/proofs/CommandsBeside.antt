@@ -1,6 +1,6 @@
 -- What the rules say of a command holds still where nothing that the command reads has changed
-use Rattle.std.proofs.Common.{◌≡◌, ◌≢◌, ◌<◌, ◌==◌, ◌&&◌, ◌||◌, if◌then◌else◌, ◌∷◌, ◌∙◌, ℕ, not, Bool, false, [], map, Option, None, Some, is_none, nat_lt, arith, refl, ap}
-use Rattle.safety.proofs.Words.{list_any, or_parts, or_from, and_left, Command, AddressDevice, ConfigureEndpoint, ResetEndpoint, StopEndpoint, SetTrDequeue, named_slot, named_endpoint, named_context, is_disabled, is_off, added_endpoints, input_add_flag, Header, is_ring, Known, binding_in, binds, ring_bound, binds_ring}
+use Rattle.std.proofs.Common.{◌≡◌, ◌≢◌, ◌<◌, ◌==◌, ◌&&◌, ◌||◌, if◌then◌else◌, ◌∷◌, ◌∙◌, ℕ, not, Bool, false, [], map, Option, None, Some, is_none, nat_lt, arith, refl, ap, nat_le}
+use Rattle.safety.proofs.Words.{list_any, or_parts, or_from, and_left, Command, AddressDevice, ConfigureEndpoint, ResetEndpoint, StopEndpoint, SetTrDequeue, named_slot, named_endpoint, named_context, is_disabled, is_off, added_endpoints, input_add_flag, Header, is_ring, Known, binding_in, binds, ring_bound, binds_ring, drops}
 use Rattle.ownership_rules.specs.Commands as commands
 use Rattle.safety.proofs.ContextReads.{AgreeIn, any_same, map_same, added_indices, added_same, add_flag_same, drop_flag_same, type_same, streams_same, pointer_same, cycle_same}
 
@@ -75,6 +75,11 @@ module _ (h : Header) where
     pub binds_ring_beside : (c : Command) → Beside k l c → (r : ℕ) → binds_ring h l r c ≡ binds_ring h k r c
     unfolding binds_ring
     binds_ring_beside c b r = ap (λ bs. list_any (λ x. is_ring r (ring_bound h x)) bs) (binds_beside c b)
+
+    pub drops_beside : (c : Command) → Beside k l c → (s i : ℕ) → drops l c s i ≡ drops k c s i
+    unfolding drops
+    drops_beside (ConfigureEndpoint t false n) b s i = ap (λ x. s == t && (nat_le 2 i && x)) (drop_flag_same h.context_size k.memory l.memory n (b.memory n refl) i)
+    drops_beside _ b s i = refl
 
     slot_beside : (c : Command) → Beside k l c → commands.names_disabled_slot k (named_slot c) ≡ false → commands.names_disabled_slot l (named_slot c) ≡ false
     unfolding commands.names_disabled_slot

@@ -60,7 +60,7 @@ module _ (h : Header) (is : IsHeader h) (k : Known) (d : DriverKeeps h k) (r : �
 
   rings_stay : (c : Command) → RingsStay h k l c
   unfolding on_ring l
-  rings_stay c = record { rest = λ s i p cycle at rests. rests; ahead = λ s i p q cycle at has rests. (stays q).ahead; standing = λ s n q bsr at has. standing q }
+  rings_stay c = record { rest = λ s i p cycle at rests. rests; ahead = λ s i p q cycle at has rests. (stays q).ahead; standing = λ s n q bsr at has. standing q; still = λ q bound. (stays q).placed }
 
   pub declared_commands : (p : ℕ) (c : Command) → IsUnfinished h (on_ring h k r (Declares blocks)) p c → CommandKeeps h (on_ring h k r (Declares blocks)) p c
   unfolding l

@@ -1,10 +1,10 @@
 -- A completion keeps what is kept of the commands that stay unfinished
-use Rattle.std.proofs.Common.{◌≡◌, ◌≢◌, ◌∙◌, ℕ, true, false, Some, option_and_then, slice_get, arith, sym, ap, subst}
-use Rattle.safety.proofs.Words.{Any-from_list_any, false≢true, Block, Spot, after, RingView, Reaches, changed, is_due, due_is, due_from, number-after, Command, command_of, named_slot, is_disabled, is_off, is_at_rest, Header, IsHeader, shape_of, command_id, is_ring, Known, command_at, next_command, finished, completed, input_context_bytes, Binding, binds, ring_bound, binds_ring, IsDriverRing, IsUnfinished, CommandKeeps, DriverKeeps}
+use Rattle.std.proofs.Common.{◌≡◌, ◌≢◌, ◌∙◌, ℕ, true, false, Some, option_and_then, slice_get, arith, refl, sym, ap, subst, eq-eqb, inl, inr}
+use Rattle.safety.proofs.Words.{Any-from_list_any, false≢true, Block, Spot, after, RingView, Reaches, changed, is_due, due_is, due_from, number-after, Command, command_of, named_slot, is_disabled, is_off, is_at_rest, Header, IsHeader, shape_of, command_id, is_ring, Known, command_at, next_command, finished, completed, input_context_bytes, Binding, binds, ring_bound, binds_ring, IsDriverRing, IsUnfinished, CommandKeeps, DriverKeeps, cases_eq, same_slot}
 use Rattle.ownership_rules.specs.Commands as commands
 use Rattle.safety.specs.EndpointsKeep as endpoints
-use Rattle.safety.proofs.RingIds.{beginning_transfer, command_not_transfer}
-use Rattle.safety.proofs.GivenCommands.{ring_is}
+use Rattle.safety.proofs.RingIds.{command_not_transfer}
+use Rattle.safety.proofs.BoundRings.{bound_transfer, drops_named}
 use Rattle.safety.proofs.Headers.{transfer_not_command}
 use Rattle.safety.proofs.DriverRows.{ring_here}
 use Rattle.safety.proofs.DriverRings.{endpoints_of}
@@ -16,15 +16,8 @@ use Rattle.safety.proofs.WriteBeside.{ContextParts, context_parts, context_from}
 use Rattle.safety.proofs.OtherSlots.{OtherSlots}
 use Rattle.safety.proofs.SlotCommands.{OfCommand, Has, Binds, Commands}
 use Rattle.safety.proofs.CommandsBeside.{Beside}
-use Rattle.safety.proofs.CommandsStay.{Standing, MovesAhead, RingsBeside}
+use Rattle.safety.proofs.CommandsStay.{Standing, PlacesStay, MovesAhead, RingsBeside}
 use Rattle.safety.proofs.CommandsSame.{context_good}
-
-bound_transfer : (h : Header) → IsHeader h → (k : Known) (r : ℕ) (c : Command) → binds_ring h k r c ≡ true → endpoints.IsTransferRing h r
-unfolding binds_ring ring_bound
-bound_transfer h is k r c bound =
-    let any = Any-from_list_any (λ b. is_ring r (ring_bound h b)) (binds h k c) bound in
-    let b : Binding = any.1 in
-    beginning_transfer h is b.pointer r (ring_is r (ring_bound h b) any.4)
 
 -- ---- a command of another slot than the one that changed
 
@@ -36,17 +29,19 @@ module _ (h : Header) (is : IsHeader h) (k : Known) (d : DriverKeeps h k) (q : �
   -- the ring of an endpoint of the other slot isn't one that the command ended with
   not_its_ring : (t i r : ℕ) → named_slot c ≡ Some t → k.ring_of t i ≡ Some r → OfCommand h k s e r → ⊥
   not_its_ring t i r named has (Has j at) = apart t named (d.states.one_endpoint t i s j r has at).0
-  not_its_ring t i r named has (Binds bound) = false≢true (sym ((d.unfinished q e ends).unbound r bound) ∙ d.states.was_bound t i r has)
+  not_its_ring t i r named has (Binds bound) =
+      let drops_it = (d.unfinished q e ends).unkept r t i bound has in
+      false≢true (sym (keeps.alone q e ends (λ same. other (sym same))) ∙ ap (λ x. same_slot x (named_slot c)) (drops_named k e t i drops_it) ∙ ap (λ x. same_slot (Some t) x) named ∙ eq-eqb t t refl)
   not_its_ring t i r named has (Commands same) = transfer_not_command h is r (d.states.transfer t i r has) same
 
   ring_same : (t i r : ℕ) → named_slot c ≡ Some t → k.ring_of t i ≡ Some r → l.ring r ≡ k.ring r
   ring_same t i r named has = o.rings r (not_its_ring t i r named has)
 
   -- nor is one that the command binds
-  not_bound_by_it : (r : ℕ) → binds_ring h k r c ≡ true → k.was_bound r ≡ false → OfCommand h k s e r → ⊥
-  not_bound_by_it r bound never (Has j at) = false≢true (sym never ∙ d.states.was_bound s j r at)
-  not_bound_by_it r bound never (Binds also) = false≢true (sym (keeps.unshared r q e bound ends (λ same. other (sym same))) ∙ also)
-  not_bound_by_it r bound never (Commands same) = command_not_transfer h is (subst (λ x. endpoints.IsTransferRing h x) same (bound_transfer h is k r c bound))
+  not_bound_by_it : (r : ℕ) → binds_ring h k r c ≡ true → OfCommand h k s e r → ⊥
+  not_bound_by_it r bound (Has j at) = apart s (drops_named k c s j (keeps.unkept r s j bound at)) refl
+  not_bound_by_it r bound (Binds also) = false≢true (sym (keeps.unshared r q e bound ends (λ same. other (sym same))) ∙ also)
+  not_bound_by_it r bound (Commands same) = command_not_transfer h is (subst (λ x. endpoints.IsTransferRing h x) same (bound_transfer h is k r c bound))
 
   pub rings_finished : RingsBeside h k l c
   rings_finished = record {
@@ -56,7 +51,11 @@ module _ (h : Header) (is : IsHeader h) (k : Known) (d : DriverKeeps h k) (q : �
         subst (λ v. MovesAhead (shape_of h r) (k.ring r) v) (sym (ring_same t i r (ap named_slot at) has)) (λ a b moves. moves);
     standing = λ t n r bsr at has.
         subst (λ v. Standing (shape_of h r) (k.ring r) v) (sym (ring_same t 1 r (ap named_slot at) has)) (record { here = λ a b moves. moves; nothing = λ none. none });
-    unbound = λ r bound never. o.was_bound r (not_bound_by_it r bound never) ∙ never;
+    still = λ r bound. subst (λ v. PlacesStay (shape_of h r) (k.ring r) v) (sym (o.rings r (not_bound_by_it r bound))) (λ a b placed. placed);
+    kept = λ r t i bound has. elim (cases_eq t s) [
+      | inl same ↦ absurd (not_bound_by_it r bound (o.within i r (ap (λ n. l.ring_of n i) (sym same) ∙ has)))
+      | inr differs ↦ sym (o.ring_of t i differs) ∙ has
+    ];
   }
 
   context_finished : (n : ℕ) → commands.has_bad_context h k (Some n) ≡ false → commands.has_bad_context h l (Some n) ≡ false

@@ -1,14 +1,17 @@
 -- A doorbell keeps what is kept of unfinished commands: none of them touches the endpoint
 use Rattle.std.proofs.Common.{◌≡◌, ◌≢◌, ◌==◌, ◌&&◌, if◌then◌else◌, ◌∙◌, ℕ, not, Bool, true, false, [], Option, None, Some, refl, sym, ap, subst, inl, inr, eq-eqb}
-use Rattle.safety.proofs.Words.{cases_eq, cond_both, cond-false, or_parts, or_left, and_from, false≢true, put_pair, Opens, number, Command, SetTrDequeue, EndpointState, Off, Running, Halted, Stopped, Error, is_off, is_stopped, is_at_rest, changes, Header, Bell, IsHeader, shape_of, command_id, Known, on_ring, endpoint_rung, rung, touches_endpoint, is_touched, is_bad_bell, is_bad_doorbell, doorbell_tests, lenient_tests, lenient, IsUnfinished, CommandKeeps, DriverKeeps}
+use Rattle.safety.proofs.Words.{cases_eq, cond_both, cond-false, or_parts, or_left, and_from, false≢true, put_pair, Opens, number, Command, NoOp, EnableSlot, DisableSlot, AddressDevice, ConfigureEndpoint, EvaluateContext, ResetEndpoint, StopEndpoint, SetTrDequeue, ResetDevice, EndpointState, Off, Running, Halted, Stopped, Error, is_off, is_stopped, is_at_rest, changes, Header, Bell, IsHeader, shape_of, command_id, Known, on_ring, endpoint_rung, rung, touches_endpoint, is_touched, is_bad_bell, is_bad_doorbell, doorbell_tests, lenient_tests, lenient, IsUnfinished, CommandKeeps, DriverKeeps, drops, ConfigureEndpoint, is_dropped}
 use Rattle.safety.proofs.TestsPassed.{AllFail, tests_fail}
 use Rattle.safety.proofs.DriverRows.{ring_here, ring_elsewhere}
 use Rattle.safety.proofs.Headers.{transfer_not_command}
+use Rattle.safety.specs.EndpointsKeep.{IsTransferRing as IsTransferTest}
+use Rattle.safety.proofs.RingIds.{command_not_transfer}
+use Rattle.safety.proofs.BoundRings.{bound_transfer}
 use Rattle.safety.proofs.SameDriver.{SameGiven, SameDriver, on_ring_same}
 use Rattle.safety.proofs.EndpointPut.{at_pair}
 use Rattle.safety.proofs.UnfinishedLists.{unfinished_fails}
 use Rattle.safety.proofs.MovesSame.{standing_same, unfinished_view}
-use Rattle.safety.proofs.CommandsStay.{MovesAhead}
+use Rattle.safety.proofs.CommandsStay.{PlacesStay, MovesAhead}
 use Rattle.safety.proofs.CommandsSame.{SameStates, RingsStay, ring_stays, same_stay}
 
 stopped_on : (e : EndpointState) → is_stopped e ≡ true → false ≡ is_off e
@@ -44,7 +47,8 @@ module _ (h : Header) (is : IsHeader h) (k : Known) (d : DriverKeeps h k) where
       same_stay h k l (opened_states h k (command_id h)) d.unfinished
       (unfinished_view h k l (driver.rings (command_id h)) (opened_floor (command_id h) (command_id h)))
       (λ p c u. ring_stays h k l c (opened_endpoints h k (command_id h)) (λ s i r at.
-      ring_elsewhere h k (command_id h) r Opens (λ same. transfer_not_command h is r (d.states.transfer s i r at) same)))
+      ring_elsewhere h k (command_id h) r Opens (λ same. transfer_not_command h is r (d.states.transfer s i r at) same))
+      (λ r bound. ring_elsewhere h k (command_id h) r Opens (λ same. command_not_transfer h is (subst (λ x. IsTransferTest h x) same (bound_transfer h is k r c bound)))))
 
   -- ---- an endpoint's
 
@@ -54,6 +58,25 @@ module _ (h : Header) (is : IsHeader h) (k : Known) (d : DriverKeeps h k) where
   set_touches s t i p q cycle u untouched unfinished_at same_slot same_index =
       let none = unfinished_fails h k (touches_endpoint h k s t) u (SetTrDequeue q i p cycle) untouched unfinished_at in
       false≢true (sym none ∙ or_left (s == q && t == i) false (and_from (s == q) (t == i) (eq-eqb s q (sym same_slot)) (eq-eqb t i (sym same_index))))
+
+  -- nor one that an unfinished command drops
+  drops_touches : (s t : ℕ) (c : Command) → drops k c s t ≡ true → touches_endpoint h k s t c ≡ true
+  unfolding drops touches_endpoint changes
+  drops_touches s t (ConfigureEndpoint q false n) drops_it = or_left (s == q && is_dropped k.memory n t) _ drops_it
+  drops_touches s t (ConfigureEndpoint q true n) drops_it = absurd (false≢true drops_it)
+  drops_touches s t NoOp drops_it = absurd (false≢true drops_it)
+  drops_touches s t EnableSlot drops_it = absurd (false≢true drops_it)
+  drops_touches s t (DisableSlot q) drops_it = absurd (false≢true drops_it)
+  drops_touches s t (AddressDevice q bsr n) drops_it = absurd (false≢true drops_it)
+  drops_touches s t (EvaluateContext q n) drops_it = absurd (false≢true drops_it)
+  drops_touches s t (ResetEndpoint q i) drops_it = absurd (false≢true drops_it)
+  drops_touches s t (StopEndpoint q i) drops_it = absurd (false≢true drops_it)
+  drops_touches s t (SetTrDequeue q i p cycle) drops_it = absurd (false≢true drops_it)
+  drops_touches s t (ResetDevice q) drops_it = absurd (false≢true drops_it)
+
+  none_drops : (s t u : ℕ) (c : Command) → is_touched h k s t ≡ false → IsUnfinished h k u c → drops k c s t ≡ true → ⊥
+  unfolding is_touched
+  none_drops s t u c untouched unfinished_at drops_it = false≢true (sym (unfinished_fails h k (touches_endpoint h k s t) u c untouched unfinished_at) ∙ drops_touches s t c drops_it)
 
   module _ (s t r : ℕ) (has : k.ring_of s t ≡ Some r) (untouched : is_touched h k s t ≡ false) where
     opened : Known
@@ -109,6 +132,10 @@ module _ (h : Header) (is : IsHeader h) (k : Known) (d : DriverKeeps h k) where
               set_touches s t i p q cycle u untouched (subst (λ x. IsUnfinished h k u x) at unfinished_at) one.0 one.1 in
               subst (λ v. MovesAhead (shape_of h x) (k.ring x) v) (sym (ap (λ f. f x) ring_is ∙ ring_elsewhere h k r x Opens other)) (λ a b moves. moves);
           standing = λ q n x bsr at there. standing_same (shape_of h x) (k.ring x) (l.ring x) (given_same x) (ap (λ f. number f) (floor_same x));
+          still = λ x bound.
+              let other : x ≢ r = λ same.
+              none_drops s t u c untouched unfinished_at ((d.unfinished u c unfinished_at).unkept x s t bound (has ∙ ap (λ n. Some n) (sym same))) in
+              subst (λ v. PlacesStay (shape_of h x) (k.ring x) v) (sym (ap (λ f. f x) ring_is ∙ ring_elsewhere h k r x Opens other)) (λ a b placed. placed);
         }
 
     endpoint_commands : (p : ℕ) (c : Command) → IsUnfinished h l p c → CommandKeeps h l p c

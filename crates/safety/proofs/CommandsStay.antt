@@ -1,14 +1,19 @@
 -- What is kept of unfinished commands is kept where nothing that they read has changed
-use Rattle.std.proofs.Common.{◌≡◌, ◌≢◌, ◌≤◌, ◌∙◌, ℕ, not, Bool, true, false, map, All, Option, None, Some, is_some, arith, refl, sym, ap, subst}
-use Rattle.safety.proofs.Words.{or_parts, or_from, not-false, not_from_true, Shape, RingView, declared, floor_number, ceiling, is_move, Command, NoOp, EnableSlot, DisableSlot, AddressDevice, ConfigureEndpoint, EvaluateContext, ResetEndpoint, StopEndpoint, SetTrDequeue, ResetDevice, named_slot, same_slot, is_at_rest, context_pointer, context_cycle, Header, shape_of, Known, binds, ring_bound, binds_ring, has_repeats, is_bad_dequeue, is_bad_move, IsUnfinished, Stays, StaysIf, MovesIf, CommandKeeps}
+use Rattle.std.proofs.Common.{◌≡◌, ◌≢◌, ◌≤◌, ◌∙◌, ℕ, not, Bool, true, false, map, All, Option, None, Some, is_some, arith, refl, sym, ap, subst, List, get_or, eq-eqb, inl, inr}
+use Rattle.safety.proofs.Words.{or_parts, or_from, not-false, not_from_true, Shape, RingView, declared, floor_number, ceiling, is_move, Command, NoOp, EnableSlot, DisableSlot, AddressDevice, ConfigureEndpoint, EvaluateContext, ResetEndpoint, StopEndpoint, SetTrDequeue, ResetDevice, named_slot, same_slot, is_at_rest, context_pointer, context_cycle, Header, shape_of, Known, binds, ring_bound, binds_ring, has_repeats, is_bad_dequeue, is_bad_move, IsUnfinished, Stays, StaysIf, MovesIf, CommandKeeps, is_placed, is_placement, drops, Binding, list_any, is_ring, Any-from_list_any, All-get_or, cases_option, list_any_at, false≢true, placement_still}
 use Rattle.ownership_rules.specs.Commands as commands
 use Rattle.safety.proofs.ContextReads.{pointer_same, cycle_same}
-use Rattle.safety.proofs.CommandsBeside.{Beside, good_beside, in_profile_beside, binds_beside, binds_ring_beside}
+use Rattle.safety.proofs.BoundRings.{ring_is}
+use Rattle.safety.proofs.CommandsBeside.{Beside, good_beside, in_profile_beside, binds_beside, binds_ring_beside, drops_beside}
 
 -- the pointer of a ring on which nothing is given stands there still, and nothing is given still
 pub record Standing (shape : Shape) (v w : RingView) : Type 0 where
   pub here : (p : ℕ) (cycle : Bool) → is_move shape v p cycle (floor_number v) (floor_number v) ≡ true → is_move shape w p cycle (floor_number w) (floor_number w) ≡ true
   pub nothing : ((p : ℕ) → floor_number v ≤ p → v.given p ≡ false) → (p : ℕ) → floor_number w ≤ p → w.given p ≡ false
+
+-- a ring stands still where it did
+abbrev pub PlacesStay : Shape → RingView → RingView → Type 0
+PlacesStay shape v w = (p : ℕ) (cycle : Bool) → is_placement shape v p cycle ≡ true → is_placement shape w p cycle ≡ true
 
 -- a spot to which the ring may be moved is one still
 abbrev pub MovesAhead : Shape → RingView → RingView → Type 0
@@ -19,9 +24,9 @@ module _ (h : Header) where
   pub record OwnKeeps (k : Known) (c : Command) : Type 0 where
     pub good : commands.is_bad_command h k c ≡ false
     pub in_profile : commands.adds_streams h k c ≡ false
-    pub binds_rings : All (λ b. (is_some (ring_bound h b) ≡ true) × (b.cycle ≡ true)) (binds h k c)
+    pub placed : All (λ b. is_placed h k (ring_bound h b) b ≡ true) (binds h k c)
     pub repeats : has_repeats (map (ring_bound h) (binds h k c)) ≡ false
-    pub unbound : (r : ℕ) → binds_ring h k r c ≡ true → k.was_bound r ≡ false
+    pub unkept : (r s i : ℕ) → binds_ring h k r c ≡ true → k.ring_of s i ≡ Some r → drops k c s i ≡ true
     pub moves_on : MovesIf h k c
     pub stays : StaysIf h k c
 
@@ -32,10 +37,23 @@ module _ (h : Header) where
 
   pub own_keeps : (k : Known) (p : ℕ) (c : Command) → CommandKeeps h k p c → OwnKeeps k c
   own_keeps k p c keeps =
-      record { good = keeps.good; in_profile = keeps.in_profile; binds_rings = keeps.binds; repeats = keeps.repeats; unbound = keeps.unbound; moves_on = keeps.moves_on; stays = keeps.stays }
+      record { good = keeps.good; in_profile = keeps.in_profile; placed = keeps.binds; repeats = keeps.repeats; unkept = keeps.unkept; moves_on = keeps.moves_on; stays = keeps.stays }
 
   pub pair_keeps : (k : Known) (p q : ℕ) (c d : Command) → CommandKeeps h k p c → IsUnfinished h k q d → q ≢ p → PairKeeps k c d
   pair_keeps k p q c d keeps u other = record { alone = keeps.alone q d u other; unshared = λ r bound. keeps.unshared r q d bound u other }
+
+  -- a ring that an unfinished command binds stands still
+  placed_bound : (k : Known) (bs : List Binding) (r : ℕ) → All (λ b. is_placed h k (ring_bound h b) b ≡ true) bs → list_any (λ b. is_ring r (ring_bound h b)) bs ≡ true → ceiling (shape_of h r) (k.ring r) ≤ floor_number (k.ring r)
+  unfolding is_placed
+  placed_bound k bs r all bound =
+      let any = Any-from_list_any (λ b. is_ring r (ring_bound h b)) bs bound in
+      let b : Binding = any.1 in
+      let at : is_placed h k (ring_bound h b) b ≡ true = subst (λ (x : Binding). is_placed h k (ring_bound h x) x ≡ true) any.3 (All-get_or (λ x. is_placed h k (ring_bound h x) x ≡ true) bs any.0 b any.2 all) in
+      placement_still (shape_of h r) (k.ring r) b.pointer b.cycle (sym (ap (λ o. is_placed h k o b) (ring_is r (ring_bound h b) any.4)) ∙ at)
+
+  pub bound_still : (k : Known) (p : ℕ) (c : Command) → CommandKeeps h k p c → (r : ℕ) → binds_ring h k r c ≡ true → ceiling (shape_of h r) (k.ring r) ≤ floor_number (k.ring r)
+  unfolding binds_ring
+  bound_still k p c keeps r bound = placed_bound k (binds h k c) r keeps.binds bound
 
   -- the rings that a command names, and the endpoints that have them
   pub record RingsBeside (k l : Known) (c : Command) : Type 0 where
@@ -43,7 +61,9 @@ module _ (h : Header) where
     pub rest : (s i p : ℕ) (cycle : Bool) → c ≡ SetTrDequeue s i p cycle → is_at_rest (k.endpoint_state s i) ≡ true → is_at_rest (l.endpoint_state s i) ≡ true
     pub ahead : (s i p r : ℕ) (cycle : Bool) → c ≡ SetTrDequeue s i p cycle → k.ring_of s i ≡ Some r → is_at_rest (k.endpoint_state s i) ≡ true → MovesAhead (shape_of h r) (k.ring r) (l.ring r)
     pub standing : (s n r : ℕ) (bsr : Bool) → c ≡ AddressDevice s bsr n → k.ring_of s 1 ≡ Some r → Standing (shape_of h r) (k.ring r) (l.ring r)
-    pub unbound : (r : ℕ) → binds_ring h k r c ≡ true → k.was_bound r ≡ false → l.was_bound r ≡ false
+    -- a ring that it binds stands still, and no endpoint gets it
+    pub still : (r : ℕ) → binds_ring h k r c ≡ true → PlacesStay (shape_of h r) (k.ring r) (l.ring r)
+    pub kept : (r s i : ℕ) → binds_ring h k r c ≡ true → l.ring_of s i ≡ Some r → k.ring_of s i ≡ Some r
 
   module _ (k l : Known) where
     dequeue_beside : (o : Option ℕ) (p : ℕ) (cycle : Bool) → ((r : ℕ) → o ≡ Some r → MovesAhead (shape_of h r) (k.ring r) (l.ring r)) →
@@ -103,15 +123,34 @@ module _ (h : Header) where
     stays_beside (SetTrDequeue s i p cycle) m b stays = tt
     stays_beside (ResetDevice s) m b stays = tt
 
+    placed_beside : (bs : List Binding) → ((r : ℕ) → list_any (λ b. is_ring r (ring_bound h b)) bs ≡ true → PlacesStay (shape_of h r) (k.ring r) (l.ring r)) →
+        All (λ b. is_placed h k (ring_bound h b) b ≡ true) bs → All (λ b. is_placed h l (ring_bound h b) b ≡ true) bs
+    unfolding is_placed
+    placed_beside bs still all x d inside =
+        let b : Binding = get_or bs x d in
+        elim (cases_option (ring_bound h b)) [
+          | inl none ↦ absurd (false≢true (sym (ap (λ o. is_placed h k o b) none) ∙ all x d inside))
+          | inr some ↦
+              ap (λ o. is_placed h l o b) some.1
+              ∙ still some.0 (list_any_at (λ y. is_ring some.0 (ring_bound h y)) bs x d inside (ap (is_ring some.0) some.1 ∙ eq-eqb some.0 some.0 refl)) b.pointer b.cycle
+              (sym (ap (λ o. is_placed h k o b) some.1) ∙ all x d inside)
+        ]
+
+    still_placed : (c : Command) → RingsBeside k l c → All (λ b. is_placed h k (ring_bound h b) b ≡ true) (binds h k c) → All (λ b. is_placed h l (ring_bound h b) b ≡ true) (binds h k c)
+    unfolding binds_ring
+    still_placed c b all = placed_beside (binds h k c) b.still all
+
     pub own_beside : (c : Command) → Beside h k l c → RingsBeside k l c → OwnKeeps k c → OwnKeeps l c
     own_beside c m b own =
         let one : binds h l c ≡ binds h k c = binds_beside h k l c m in
         record {
           good = good_beside h k l c m own.good;
           in_profile = in_profile_beside h k l c m own.in_profile;
-          binds_rings = subst (λ bs. All (λ b. (is_some (ring_bound h b) ≡ true) × (b.cycle ≡ true)) bs) (sym one) own.binds_rings;
+          placed = subst (λ bs. All (λ b. is_placed h l (ring_bound h b) b ≡ true) bs) (sym one) (still_placed c b own.placed);
           repeats = ap (λ bs. has_repeats (map (ring_bound h) bs)) one ∙ own.repeats;
-          unbound = λ r bound. let before = sym (binds_ring_beside h k l c m r) ∙ bound in b.unbound r before (own.unbound r before);
+          unkept = λ r s i bound has.
+              let before = sym (binds_ring_beside h k l c m r) ∙ bound in
+              drops_beside h k l c m s i ∙ own.unkept r s i before (b.kept r s i before has);
           moves_on = moves_beside c b own.moves_on;
           stays = stays_beside c m b own.stays;
         }
@@ -129,9 +168,9 @@ module _ (h : Header) where
           good = kept.good;
           in_profile = kept.in_profile;
           device = m.device;
-          binds = kept.binds_rings;
+          binds = kept.placed;
           repeats = kept.repeats;
-          unbound = kept.unbound;
+          unkept = kept.unkept;
           unshared = λ r q d bound v other.
               binds_ring_beside h k l d (beside q d v) r ∙ (pair p q c d u v other).unshared r (sym (binds_ring_beside h k l c m r) ∙ bound);
           moves_on = kept.moves_on;

@@ -1,6 +1,6 @@
 -- A Transfer Event keeps what is kept of unfinished commands
 use Rattle.std.proofs.Common.{◌≡◌, ◌≢◌, ◌==◌, ◌&&◌, ◌||◌, ◌∙◌, ℕ, not, Bool, true, false, nat_lt, Option, None, Some, arith, refl, sym, ap, subst, inl, inr, eqb-true, eq-eqb, ltb-true}
-use Rattle.safety.proofs.Words.{cases_Bool, cases_eq, and_parts, and_cases, or_parts, not-false, false≢true, Block, code, slot, endpoint, pointer, is_success, is_halting, is_trb_error, Spot, number, ceiling, is_data_below, is_stop_spot, cases_option, given_below, step_is, ceiling_within, below_is, IsAhead, named_ahead, Command, NoOp, EnableSlot, DisableSlot, AddressDevice, ConfigureEndpoint, EvaluateContext, ResetEndpoint, StopEndpoint, SetTrDequeue, ResetDevice, is_stop_of, EndpointState, Off, Running, Halted, Stopped, Error, is_off, is_running, is_at_rest, Header, IsHeader, shape_of, command_id, Known, RingSpot, event_at, command_at, next_command, transferred, transferred_at, transfer_read, is_in_profile, is_working, may_be_taken, is_stopping_now, can_report, can_report_at, is_impossible_transfer, IsDriverRing, IsUnfinished, Stays, DriverKeeps, CommandsKeep}
+use Rattle.safety.proofs.Words.{cases_Bool, cases_eq, and_parts, and_cases, or_parts, not-false, false≢true, Block, code, slot, endpoint, pointer, is_success, is_halting, is_trb_error, Spot, number, ceiling, is_data_below, is_stop_spot, cases_option, given_below, step_is, ceiling_within, below_is, IsAhead, named_ahead, Command, NoOp, EnableSlot, DisableSlot, AddressDevice, ConfigureEndpoint, EvaluateContext, ResetEndpoint, StopEndpoint, SetTrDequeue, ResetDevice, is_stop_of, EndpointState, Off, Running, Halted, Stopped, Error, is_off, is_running, is_at_rest, Header, IsHeader, shape_of, command_id, Known, RingSpot, event_at, command_at, next_command, transferred, transferred_at, transfer_read, is_in_profile, is_working, may_be_taken, is_stopping_now, can_report, can_report_at, is_impossible_transfer, IsDriverRing, IsUnfinished, Stays, DriverKeeps, CommandsKeep, binds_ring, drops, same_Some, same_slot}
 use Rattle.safety.proofs.Headers.{ring_shape, transfer_driver, transfer_not_command}
 use Rattle.safety.proofs.NoWait.{ceiling_given}
 use Rattle.safety.proofs.SafeContext.{AtFloor, at_floor}
@@ -10,7 +10,8 @@ use Rattle.safety.proofs.CommandRing.{due_has_ring}
 use Rattle.safety.proofs.SameDriver.{SameDriver, transfer_same}
 use Rattle.safety.proofs.TransferLeaves.{TransferLeaves, transferred_leaves}
 use Rattle.safety.proofs.MovesSame.{ahead_held, unfinished_view}
-use Rattle.safety.proofs.CommandsStay.{Standing, MovesAhead}
+use Rattle.safety.proofs.CommandsStay.{Standing, PlacesStay, MovesAhead, bound_still}
+use Rattle.safety.proofs.BoundRings.{drops_named, stops_drop_none}
 use Rattle.safety.proofs.CommandsSame.{SameStates, RingsStay, same_stay}
 
 stop_is : (s i : ℕ) (o : Option Command) → is_stop_of s i o ≡ true → o ≡ Some (StopEndpoint s i)
@@ -56,6 +57,23 @@ module _ (h : Header) (is : IsHeader h) (k : Known) (d : DriverKeeps h k) where
       let floor : AtFloor h k = at_floor h is k d ring (omega arith) in
       record { due = floor.due; given = floor.given; command = stop_is s i (command_at h k (next_command h k)) parts.1 }
 
+  -- nothing is reported where no block is below the ceiling, and the endpoint isn't stopping
+  none_reported : (s i r : ℕ) (t : Spot) → (is_data_below (ceiling (shape_of h r) (k.ring r)) t ≡ true → ⊥) → (is_stopping_now h k s i ≡ true → ⊥) → (c : ℕ) → can_report h k c s i r t ≡ true → ⊥
+  unfolding can_report
+  none_reported s i r t none_below none_stops c can =
+      let below : Bool = is_data_below (ceiling (shape_of h r) (k.ring r)) t in
+      let stops : Bool = is_working k s i r && is_stopping_now h k s i && is_stop_spot (shape_of h r) (k.ring r) t in
+      let cases = chain (is_success c) (is_halting c || is_trb_error c) below (below && is_working k s i r) stops can in
+      elim (cases_Bool (is_success c)) [
+        | inl success ↦ none_below (cases.0 success)
+        | inr other ↦ elim (cases_Bool (is_halting c || is_trb_error c)) [
+          | inl broken ↦ none_below (and_parts below (is_working k s i r) (cases.1 other broken)).0
+          | inr stopped ↦
+              none_stops (and_parts (is_working k s i r) (is_stopping_now h k s i)
+              (and_parts (is_working k s i r && is_stopping_now h k s i) (is_stop_spot (shape_of h r) (k.ring r) t) (cases.2 other stopped)).0).1
+        ]
+      ]
+
   -- while a second Address Device is unfinished nothing is reported of its endpoint
   module _ (u s n r : ℕ) (bsr : Bool) (unfinished_at : IsUnfinished h k u (AddressDevice s bsr n)) (has : k.ring_of s 1 ≡ Some r) (t : Spot) (ahead : IsAhead (shape_of h r) (k.ring r) t) where
     none_below : is_data_below (ceiling (shape_of h r) (k.ring r)) t ≡ true → ⊥
@@ -76,21 +94,31 @@ module _ (h : Header) (is : IsHeader h) (k : Known) (d : DriverKeeps h k) where
               false≢true (sym ((d.unfinished u (AddressDevice s bsr n) unfinished_at).alone (next_command h k) (StopEndpoint s 1) other apart) ∙ eq-eqb s s refl)
         ]
 
-    pub no_report : (c : ℕ) → can_report h k c s 1 r t ≡ true → ⊥
-    unfolding can_report
-    no_report c can =
-        let below : Bool = is_data_below (ceiling (shape_of h r) (k.ring r)) t in
-        let stops : Bool = is_working k s 1 r && is_stopping_now h k s 1 && is_stop_spot (shape_of h r) (k.ring r) t in
-        let cases = chain (is_success c) (is_halting c || is_trb_error c) below (below && is_working k s 1 r) stops can in
-        elim (cases_Bool (is_success c)) [
-          | inl success ↦ none_below (cases.0 success)
-          | inr other ↦ elim (cases_Bool (is_halting c || is_trb_error c)) [
-            | inl broken ↦ none_below (and_parts below (is_working k s 1 r) (cases.1 other broken)).0
-            | inr stopped ↦
-                none_stops (and_parts (is_working k s 1 r) (is_stopping_now h k s 1)
-                (and_parts (is_working k s 1 r && is_stopping_now h k s 1) (is_stop_spot (shape_of h r) (k.ring r) t) (cases.2 other stopped)).0).1
-          ]
+    no_report : (c : ℕ) → can_report h k c s 1 r t ≡ true → ⊥
+    no_report = none_reported s 1 r t none_below none_stops
+
+  -- while a command that drops the endpoint is unfinished, which binds its ring
+  module _ (u s i r : ℕ) (e : Command) (unfinished_at : IsUnfinished h k u e) (has : k.ring_of s i ≡ Some r) (bound : binds_ring h k r e ≡ true) (t : Spot) (ahead : IsAhead (shape_of h r) (k.ring r) t) where
+    drops_it : drops k e s i ≡ true
+    drops_it = (d.unfinished u e unfinished_at).unkept r s i bound has
+
+    bound_none_below : is_data_below (ceiling (shape_of h r) (k.ring r)) t ≡ true → ⊥
+    bound_none_below below =
+        let low = below_is (ceiling (shape_of h r) (k.ring r)) t below in
+        let still = bound_still h k u e (d.unfinished u e unfinished_at) r bound in
+        absurd (omega (arith, low, still, ahead.from))
+
+    bound_none_stops : is_stopping_now h k s i ≡ true → ⊥
+    bound_none_stops stopping =
+        let other = stopping_unfinished u e s i unfinished_at stopping in
+        elim (cases_eq (next_command h k) u) [
+          | inl same ↦ stops_drop_none k e s i s i drops_it (same_Some e (StopEndpoint s i) (sym unfinished_at.command ∙ ap (λ p. command_at h k p) (sym same) ∙ other.command))
+          | inr apart ↦
+              false≢true (sym ((d.unfinished u e unfinished_at).alone (next_command h k) (StopEndpoint s i) other apart) ∙ ap (λ o. same_slot (Some s) o) (drops_named k e s i drops_it) ∙ eq-eqb s s refl)
         ]
+
+    bound_none_reported : (c : ℕ) → can_report h k c s i r t ≡ true → ⊥
+    bound_none_reported = none_reported s i r t bound_none_below bound_none_stops
 
   -- ---- an event for the endpoint of slot s at index i, on its ring
 
@@ -161,6 +189,11 @@ module _ (h : Header) (is : IsHeader h) (k : Known) (d : DriverKeeps h k) where
                 let here = subst (λ a. IsUnfinished h k u (AddressDevice a bsr n)) one.0 (subst (λ y. IsUnfinished h k u y) at unfinished_at) in
                 absurd (no_report u s n r bsr here mine t ahead c (ap (λ b. can_report h k c s b r t) one.1 ∙ can))
             | inr other ↦ subst (λ v. Standing (shape_of h x) (k.ring x) v) (sym (leaves.others x other)) (record { here = λ a b moves. moves; nothing = λ none. none })
+          ];
+      still = λ x bound.
+          elim (cases_eq x r) [
+            | inl same ↦ absurd (bound_none_reported u s i r e unfinished_at has (subst (λ n. binds_ring h k n e ≡ true) same bound) t ahead c can)
+            | inr other ↦ subst (λ v. PlacesStay (shape_of h x) (k.ring x) v) (sym (leaves.others x other)) (λ a b placed. placed)
           ];
     }
 

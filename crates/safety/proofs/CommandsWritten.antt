@@ -1,12 +1,16 @@
 -- A write keeps what is kept of unfinished commands, and of the command that it gives holds what was tested
-use Rattle.std.proofs.Common.{◌≡◌, ◌≢◌, ◌<◌, ◌==◌, ◌∙◌, ℕ, not, Bool, true, false, [], Option, None, Some, arith, refl, sym, ap, subst, inl, inr, le-leb, eq-eqb, eqb-true}
-use Rattle.safety.proofs.Words.{list_any, or_parts, or_from, and_from, cases_lt, not_from_false, false≢true, false_from_ne_true, All-contains, Shape, RingView, Writes, changed, declared, floor_number, gives, positions_given, ceiling, is_not_declared, cases_option, gives_is, position_given, gives_one, move-writes, ceiling_held, Command, AddressDevice, EndpointState, Off, named_slot, same_slot, name_one_slot, is_off, is_at_rest, is_running, Header, Write, IsHeader, shape_of, command_id, is_ring, Known, unfinished, binds_ring, is_used, moves_ring, is_being_moved, write_tests, lenient_tests, lenient, IsDriverRing, IsUnfinished, DriverKeeps, CommandsKeep}
+use Rattle.std.proofs.Common.{◌≡◌, ◌≢◌, ◌<◌, ◌==◌, ◌∙◌, ℕ, not, Bool, true, false, [], Option, None, Some, arith, refl, sym, ap, subst, inl, inr, le-leb, eq-eqb, eqb-true, ◌||◌, ◌≤◌, ◌⊎◌}
+use Rattle.safety.proofs.Words.{list_any, or_parts, or_from, and_from, cases_lt, not_from_false, false≢true, false_from_ne_true, All-contains, Shape, RingView, Writes, changed, declared, floor_number, gives, positions_given, ceiling, is_not_declared, cases_option, gives_is, position_given, gives_one, move-writes, ceiling_held, Command, AddressDevice, EndpointState, Off, named_slot, same_slot, name_one_slot, is_off, is_at_rest, is_running, Header, Write, IsHeader, shape_of, command_id, is_ring, Known, unfinished, binds_ring, awaits_binding, is_being_bound, moves_ring, is_being_moved, crossings_given, crossing_given, gives_crossing, given_count, given_count_grows, step_more, GivesMore, is_placement, is_open, is_inside, address_inside, IsTransferRing, cases_Bool, or_cases, write_tests, lenient_tests, lenient, IsDriverRing, IsUnfinished, DriverKeeps, CommandsKeep}
 use Rattle.ownership_rules.specs.Commands as commands
 use Rattle.safety.proofs.TestsPassed.{AllFail, tests_fail}
 use Rattle.safety.proofs.RingsOfHeader.{has_ring}
-use Rattle.safety.proofs.Headers.{ring_shape, transfer_driver}
-use Rattle.safety.proofs.DriverRings.{driver_test}
-use Rattle.safety.proofs.Writing.{none_given}
+use Rattle.safety.proofs.Headers.{ring_shape, transfer_driver, transfer_not_command}
+use Rattle.safety.proofs.DriverRings.{driver_test, transfer_ring}
+use Rattle.safety.proofs.Writing.{none_given, none_crossed}
+use Rattle.safety.proofs.NoWait.{ceiling_open}
+use Rattle.safety.proofs.StillOpen.{held_open}
+use Rattle.safety.proofs.BoundRings.{bound_transfer}
+use Rattle.safety.proofs.OtherRingsWritten.{written_elsewhere}
 use Rattle.safety.proofs.RowFrames.{write_leaves}
 use Rattle.safety.proofs.UnfinishedLists.{unfinished_fails}
 use Rattle.safety.proofs.GivenRules.{GivenFacts, given_facts}
@@ -14,7 +18,7 @@ use Rattle.safety.proofs.WrittenKnown.{after_write, written_ring, GivesCommand, 
 use Rattle.safety.proofs.WriteBeside.{beside_old, beside_new}
 use Rattle.safety.proofs.CommandsTransfer.{rest_not_running}
 use Rattle.safety.proofs.CommandsBeside.{Beside}
-use Rattle.safety.proofs.CommandsStay.{Standing, MovesAhead, OwnKeeps, PairKeeps, RingsBeside, own_keeps, pair_keeps, commands_stay}
+use Rattle.safety.proofs.CommandsStay.{Standing, PlacesStay, MovesAhead, OwnKeeps, PairKeeps, RingsBeside, own_keeps, pair_keeps, commands_stay}
 
 -- ---- one ring
 
@@ -30,6 +34,39 @@ ahead_written : (shape : Shape) (v : RingView) (a w m : ℕ) → v.held ≡ Some
 ahead_written shape v a w m at p cycle moves =
     move-writes shape v p cycle (ceiling shape v) (declared v) (ceiling shape (changed shape v (Writes a w))) (declared v)
     (omega (arith, ceiling_held shape v m at, ceiling_held shape (changed shape v (Writes a w)) m at)) (omega arith) moves a w
+
+-- where nothing more is given a ring stands still where it did
+placing_written : (shape : Shape) (v : RingView) (a w : ℕ) → ceiling shape (changed shape v (Writes a w)) ≤ ceiling shape v → PlacesStay shape v (changed shape v (Writes a w))
+unfolding is_placement
+placing_written shape v a w less p cycle placed =
+    move-writes shape v p cycle (ceiling shape v) (floor_number v) (ceiling shape (changed shape v (Writes a w))) (floor_number v) less (omega arith) placed a w
+
+ceiling_written : (shape : Shape) (v : RingView) (a w : ℕ) → GivesMore (changed shape v (Writes a w)) v → ceiling shape (changed shape v (Writes a w)) ≤ ceiling shape v
+ceiling_written shape v a w back = by (cases_option v.held)
+  where
+    count : given_count shape (changed shape v (Writes a w)) ≤ given_count shape v
+    count = given_count_grows shape (changed shape v (Writes a w)) v (omega arith) (step_more shape (changed shape v (Writes a w)) v back)
+
+    by : (v.held ≡ None) ⊎ ((m : ℕ) × (v.held ≡ Some m)) → ceiling shape (changed shape v (Writes a w)) ≤ ceiling shape v
+    by (inl none) = omega (arith, count, ceiling_open shape v none, ceiling_open shape (changed shape v (Writes a w)) none)
+    by (inr held) = omega (arith, ceiling_held shape v held.0 held.1, ceiling_held shape (changed shape v (Writes a w)) held.0 held.1)
+
+held_written : (shape : Shape) (v : RingView) (a w m : ℕ) → v.held ≡ Some m → ceiling shape (changed shape v (Writes a w)) ≤ ceiling shape v
+held_written shape v a w m at = omega (arith, ceiling_held shape v m at, ceiling_held shape (changed shape v (Writes a w)) m at)
+
+-- a write that gives nothing of the ring
+gives_none : (shape : Shape) (v : RingView) (a w : ℕ) → ((p : ℕ) → v.given p ≡ false → gives shape v.floor p a w ≡ true → ⊥) → ((q : ℕ) → v.crossed q ≡ false → gives_crossing shape v.floor q a w ≡ true → ⊥) →
+    GivesMore (changed shape v (Writes a w)) v
+gives_none shape v a w no_block no_link = record {
+  given = λ p now. elim (cases_Bool (v.given p)) [
+    | inl was ↦ was
+    | inr fresh ↦ elim (or_cases (v.given p) (gives shape v.floor p a w) now) [ inl was ↦ was | inr new ↦ absurd (no_block p fresh new) ]
+  ];
+  crossed = λ q now. elim (cases_Bool (v.crossed q)) [
+    | inl was ↦ was
+    | inr fresh ↦ elim (or_cases (v.crossed q) (gives_crossing shape v.floor q a w) now) [ inl was ↦ was | inr new ↦ absurd (no_link q fresh new) ]
+  ];
+}
 
 declared_is : (v : RingView) (p : ℕ) → is_not_declared v p ≡ false → p < declared v
 unfolding is_not_declared
@@ -65,12 +102,68 @@ module _ (h : Header) (is : IsHeader h) (k : Known) (d : DriverKeeps h k) (a w :
   none_moved u s n r bsr at has p fresh now =
       let fails : AllFail (write_tests h k a w) = tests_fail h k (Write a w) clean in
       let driver : IsDriverRing h r = transfer_driver h r (d.states.transfer s 1 r has) in
-      let each = none_given h k a w r (has_ring h r (driver_test h r driver)) (λ r p. is_being_moved h k r) (or_parts _ _ fails.1.1.1.1.1.1.0).1 in
+      let each = none_given h k a w r (has_ring h r (driver_test h r driver)) (λ r p. is_being_moved h k r || awaits_binding h k r) (or_parts _ _ (or_parts _ _ fails.1.1.1.1.1.1.0).0).1 in
       let idle : is_being_moved h k r ≡ false =
-      All-contains (λ p. is_being_moved h k r ≡ false) (positions_given (shape_of h r) (k.ring r) a w) p each (position_given (shape_of h r) (k.ring r) a w p fresh now) in
+      (or_parts (is_being_moved h k r) (awaits_binding h k r)
+      (All-contains (λ p. (is_being_moved h k r || awaits_binding h k r) ≡ false) (positions_given (shape_of h r) (k.ring r) a w) p each (position_given (shape_of h r) (k.ring r) a w p fresh now))).0 in
       let none = unfinished_fails h k (moves_ring h k r) u (AddressDevice s bsr n) idle at in
       false≢true (sym none ∙ and_from (not (is_off (k.endpoint_state s 1))) (is_ring r (k.ring_of s 1)) (not_from_false (is_off (k.endpoint_state s 1)) (on_is (k.endpoint_state s 1) (d.states.on s 1 r has)))
       (ap (λ o. is_ring r o) has ∙ eq-eqb r r refl))
+
+  -- nor a block or a Link on an open ring that an unfinished command binds
+  module _ (u r : ℕ) (c : Command) (at : IsUnfinished h k u c) (bound : binds_ring h k r c ≡ true) (opened : is_open (k.ring r) ≡ true) where
+    waits : awaits_binding h k r ≡ true
+    unfolding awaits_binding is_being_bound
+    waits =
+        and_from (is_open (k.ring r)) (list_any (binds_ring h k r) (unfinished h k)) opened
+        (elim (cases_Bool (list_any (binds_ring h k r) (unfinished h k))) [
+          | inl some ↦ some
+          | inr none ↦ absurd (false≢true (sym (unfinished_fails h k (binds_ring h k r) u c none at) ∙ bound))
+        ])
+
+    driver : IsDriverRing h r
+    driver = transfer_driver h r (transfer_ring h r (bound_transfer h is k r c bound))
+
+    no_block : (p : ℕ) → (k.ring r).given p ≡ false → gives (shape_of h r) (k.ring r).floor p a w ≡ true → ⊥
+    unfolding lenient_tests write_tests
+    no_block p fresh now =
+        let fails : AllFail (write_tests h k a w) = tests_fail h k (Write a w) clean in
+        let each = none_given h k a w r (has_ring h r (driver_test h r driver)) (λ r p. is_being_moved h k r || awaits_binding h k r) (or_parts _ _ (or_parts _ _ fails.1.1.1.1.1.1.0).0).1 in
+        let idle : awaits_binding h k r ≡ false =
+        (or_parts (is_being_moved h k r) (awaits_binding h k r)
+        (All-contains (λ p. (is_being_moved h k r || awaits_binding h k r) ≡ false) (positions_given (shape_of h r) (k.ring r) a w) p each (position_given (shape_of h r) (k.ring r) a w p fresh now))).1 in
+        false≢true (sym idle ∙ waits)
+
+    no_link : (q : ℕ) → (k.ring r).crossed q ≡ false → gives_crossing (shape_of h r) (k.ring r).floor q a w ≡ true → ⊥
+    unfolding lenient_tests write_tests
+    no_link q fresh now =
+        let fails : AllFail (write_tests h k a w) = tests_fail h k (Write a w) clean in
+        let each = none_crossed h k a w r (has_ring h r (driver_test h r driver)) (λ r q. awaits_binding h k r) (or_parts _ _ fails.1.1.1.1.1.1.0).1 in
+        let idle : awaits_binding h k r ≡ false =
+        All-contains (λ q. awaits_binding h k r ≡ false) (crossings_given (shape_of h r) (k.ring r) a w) q each (crossing_given (shape_of h r) (k.ring r) a w q fresh now) in
+        false≢true (sym idle ∙ waits)
+
+  -- so it stands still where it did
+  still_old : (u : ℕ) (c : Command) → IsUnfinished h k u c → (r : ℕ) → binds_ring h k r c ≡ true → PlacesStay (shape_of h r) (k.ring r) (l.ring r)
+  still_old u c at r bound =
+      subst (λ v. PlacesStay (shape_of h r) (k.ring r) v) (sym (written_ring h k a w r))
+      (elim (cases_option (k.ring r).held) [
+        | inl none ↦
+            let opened : is_open (k.ring r) ≡ true = held_open (k.ring r) none in
+            placing_written (shape_of h r) (k.ring r) a w
+            (ceiling_written (shape_of h r) (k.ring r) a w (gives_none (shape_of h r) (k.ring r) a w (no_block u r c at bound opened) (no_link u r c at bound opened)))
+        | inr held ↦ placing_written (shape_of h r) (k.ring r) a w (held_written (shape_of h r) (k.ring r) a w held.0 held.1)
+      ])
+
+  -- a write of the command ring gives nothing of a transfer ring
+  still_new : (p : ℕ) (c : Command) → GivesCommand h k a w p c → (r : ℕ) → binds_ring h k r c ≡ true → PlacesStay (shape_of h r) (k.ring r) (l.ring r)
+  still_new p c g r bound =
+      let transfer : IsTransferRing h r = transfer_ring h r (bound_transfer h is k r c bound) in
+      let writes = gives_is (shape_of h (command_id h)) (k.ring (command_id h)).floor p a w g.gives in
+      let inside : is_inside (shape_of h (command_id h)) a ≡ true =
+      ap (λ y. is_inside (shape_of h (command_id h)) y) writes.at ∙ address_inside (shape_of h (command_id h)) (ring_shape h is (command_id h) g.ring).is p 12 (omega arith) in
+      let back = written_elsewhere h is r (command_id h) (transfer_driver h r transfer) g.ring (transfer_not_command h is r transfer) (k.ring r) a w inside in
+      subst (λ v. PlacesStay (shape_of h r) (k.ring r) v) (sym (written_ring h k a w r)) (placing_written (shape_of h r) (k.ring r) a w (ceiling_written (shape_of h r) (k.ring r) a w back))
 
   -- nor on one of which all that is declared was passed
   none_declared : (s r : ℕ) → k.ring_of s 1 ≡ Some r → declared (k.ring r) ≡ floor_number (k.ring r) → (p : ℕ) → (k.ring r).given p ≡ false →
@@ -86,8 +179,8 @@ module _ (h : Header) (is : IsHeader h) (k : Known) (d : DriverKeeps h k) (a w :
       omega arith
 
   rings_with : (c : Command) → ((s n r : ℕ) (bsr : Bool) → c ≡ AddressDevice s bsr n → k.ring_of s 1 ≡ Some r → (p : ℕ) → (k.ring r).given p ≡ false →
-      gives (shape_of h r) (k.ring r).floor p a w ≡ true → ⊥) → RingsBeside h k l c
-  rings_with c none =
+      gives (shape_of h r) (k.ring r).floor p a w ≡ true → ⊥) → ((r : ℕ) → binds_ring h k r c ≡ true → PlacesStay (shape_of h r) (k.ring r) (l.ring r)) → RingsBeside h k l c
+  rings_with c none still =
       let leaves = write_leaves h k a w in
       record {
         ring_of = λ s i at. ap (λ f. f s i) leaves.slots.ring_of;
@@ -99,14 +192,15 @@ module _ (h : Header) (is : IsHeader h) (k : Known) (d : DriverKeeps h k) (a w :
             ];
         standing = λ s n r bsr at has.
             subst (λ v. Standing (shape_of h r) (k.ring r) v) (sym (written_ring h k a w r)) (standing_written (shape_of h r) (k.ring r) a w (none s n r bsr at has));
-        unbound = λ r bound never. ap (λ f. f r) leaves.slots.was_bound ∙ never;
+        still = still;
+        kept = λ r s i bound has. ap (λ f. f s i) (sym leaves.slots.ring_of) ∙ has;
       }
 
   rings_old : (u : ℕ) (c : Command) → IsUnfinished h k u c → RingsBeside h k l c
-  rings_old u c at = rings_with c (λ s n r bsr same has. none_moved u s n r bsr (subst (λ x. IsUnfinished h k u x) same at) has)
+  rings_old u c at = rings_with c (λ s n r bsr same has. none_moved u s n r bsr (subst (λ x. IsUnfinished h k u x) same at) has) (still_old u c at)
 
-  rings_new : (c : Command) → GivenFacts h k c → RingsBeside h k l c
-  rings_new c facts = rings_with c (λ s n r bsr same has. none_declared s r has (facts.nothing_left s n r bsr same has))
+  rings_new : (p : ℕ) (c : Command) → GivesCommand h k a w p c → GivenFacts h k c → RingsBeside h k l c
+  rings_new p c g facts = rings_with c (λ s n r bsr same has. none_declared s r has (facts.nothing_left s n r bsr same has)) (still_new p c g)
 
   -- ---- one command, and two
 
@@ -126,8 +220,8 @@ module _ (h : Header) (is : IsHeader h) (k : Known) (d : DriverKeeps h k) (a w :
   not_busy p q c e g u = unfinished_fails h k (name_one_slot c) q e (facts_of p c g).busy u
 
   not_bound : (p q r : ℕ) (c e : Command) → GivesCommand h k a w p c → IsUnfinished h k q e → binds_ring h k r c ≡ true → binds_ring h k r e ≡ false
-  unfolding is_used
-  not_bound p q r c e g u bound = unfinished_fails h k (binds_ring h k r) q e (or_parts (k.was_bound r) (list_any (binds_ring h k r) (unfinished h k)) ((facts_of p c g).unused r bound)).1 u
+  unfolding is_being_bound
+  not_bound p q r c e g u bound = unfinished_fails h k (binds_ring h k r) q e ((facts_of p c g).unshared r bound) u
 
   pair : (p q : ℕ) (c e : Command) → IsUnfinished h l p c → IsUnfinished h l q e → q ≢ p → PairKeeps h k c e
   pair p q c e u v other =
@@ -160,7 +254,7 @@ module _ (h : Header) (is : IsHeader h) (k : Known) (d : DriverKeeps h k) (a w :
   rings p c u =
       elim (unfinished_written h k a w is p c u) [
         | inl old ↦ rings_old p c old
-        | inr new ↦ rings_new c (facts_of p c new)
+        | inr new ↦ rings_new p c new (facts_of p c new)
       ]
 
   pub written_commands : CommandsKeep h (after_write h k a w)

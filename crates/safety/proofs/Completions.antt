@@ -1,6 +1,6 @@
 -- A Command Completion Event that may be read keeps what the rules keep of each ring, so long as it places endpoints where it may
-use Rattle.std.proofs.Common.{◌≡◌, ◌<◌, ◌≤◌, ◌==◌, ◌||◌, if◌then◌else◌, ◌∷◌, ℕ, not, nat_lt, Bool, false, List, [], Option, None, Some, arith, refl, sym, subst, ltb-true, eqb-true}
-use Rattle.safety.proofs.Words.{cond_both, or_parts, not-false, Block, code, slot, pointer, Spot, Data, address_of, number, after, RingView, Reaches, Holds, floor_number, ceiling, target, MayReach, holds_keeps, reaches_keeps, reaches_and_holds_keeps, reached_given, after_reached, number-after, move_reached, ceiling_held, ceiling_within, IsAhead, target_ahead, start_reached, Command, StopEndpoint, EndpointState, Stopped, is_off, Change, SlotGoesOn, DeviceLeft, Disables, Places, Stops, Resets, changes, Header, IsHeader, shape_of, command_id, ring_beginning_at, Known, command_at, next_command, set_to, bound_to, moved_to, moved, pointed, disabled, in_state, held_at_ceiling, changed_by, changed_by_all, succeeded, stop_ended, finished, completed, may_be_taken, can_finish, is_impossible_completion, RingsKeep, EndpointsKeep, MayPoint, MayChange, MayChangeAll, MayFinish}
+use Rattle.std.proofs.Common.{◌≡◌, ◌<◌, ◌≤◌, ◌==◌, ◌||◌, if◌then◌else◌, ◌∷◌, ℕ, not, nat_lt, Bool, false, List, [], Option, None, Some, arith, refl, sym, subst, ltb-true, eqb-true, true}
+use Rattle.safety.proofs.Words.{cond_both, or_parts, not-false, Block, code, slot, pointer, Spot, address_of, number, after, RingView, Reaches, Holds, floor_number, ceiling, target, is_reached, MayReach, holds_keeps, reaches_keeps, reaches_and_holds_keeps, reached_given, after_reached, number-after, move_reached, ceiling_held, ceiling_within, IsAhead, target_ahead, Command, StopEndpoint, EndpointState, Stopped, is_off, Change, SlotGoesOn, DeviceLeft, Disables, Places, Stops, Resets, changes, Header, IsHeader, shape_of, command_id, ring_having, Known, command_at, next_command, set_to, bound_to, moved_to, moved, pointed, disabled, in_state, held_at_ceiling, changed_by, changed_by_all, succeeded, stop_ended, finished, completed, may_be_taken, can_finish, is_impossible_completion, RingsKeep, EndpointsKeep, MayPoint, MayChange, MayChangeAll, MayFinish}
 use Rattle.safety.specs.RingsKeep.{IsDriverRing}
 use Rattle.safety.proofs.RingsOfHeader.{shape_allowed}
 use Rattle.safety.proofs.EndpointHistories.{finish_elsewhere}
@@ -16,33 +16,33 @@ module _ (h : Header) (is : IsHeader h) where
       reaches_and_holds_keeps (shape_of h r) allowed k.memory (k.ring r) (keeps r driver) t (may driver) (number t) (omega arith)
       (reached_given (shape_of h r) allowed k.memory (k.ring r) (keeps r driver) t (may driver)))
 
-  bound_keeps : (k : Known) → RingsKeep h k → (s i : ℕ) (o : Option ℕ) → ((r : ℕ) → o ≡ Some r → floor_number (k.ring r) ≡ 0) → RingsKeep h (bound_to h k s i o)
-  unfolding bound_to
-  bound_keeps k keeps s i None new = keeps
-  bound_keeps k keeps s i (Some r) new =
-      same_keeps h (set_to h k r (Data 0)) (bound_to h k s i (Some r)) refl refl
-      (set_keeps k keeps r (Data 0) (λ driver. start_reached (shape_of h r) (k.ring r) (new r refl)))
-
   target_keeps : (k : Known) → RingsKeep h k → (r : ℕ) (o : Option Spot) → ((t : Spot) → o ≡ Some t → IsDriverRing h r → MayReach (shape_of h r) (k.ring r) t) →
       RingsKeep h (moved_to h k r o)
   unfolding moved_to
   target_keeps k keeps r None may = keeps
   target_keeps k keeps r (Some t) may = set_keeps k keeps r t (may t refl)
 
-  moved_keeps : (k : Known) → RingsKeep h k → (s i p : ℕ) (cycle : Bool) → MayPoint h k s i p cycle → is_off (k.endpoint_state s i) ≡ false →
-      (o : Option ℕ) → k.ring_of s i ≡ o → RingsKeep h (moved h k o p cycle)
+  moved_keeps : (k : Known) → RingsKeep h k → (o : Option ℕ) (p : ℕ) (cycle : Bool) →
+      ((r : ℕ) (t : Spot) → o ≡ Some r → target (shape_of h r) (k.ring r) p cycle ≡ Some t → is_reached (shape_of h r) (k.ring r) t ≡ true) → RingsKeep h (moved h k o p cycle)
   unfolding moved
-  moved_keeps k keeps s i p cycle may on None at = keeps
-  moved_keeps k keeps s i p cycle may on (Some r) at =
+  moved_keeps k keeps None p cycle may = keeps
+  moved_keeps k keeps (Some r) p cycle may =
       target_keeps k keeps r (target (shape_of h r) (k.ring r) p cycle) (λ t named driver.
       let ahead : IsAhead (shape_of h r) (k.ring r) t = target_ahead (shape_of h r) (k.ring r) p cycle t named in
-      move_reached (shape_of h r) (k.ring r) t ahead.is_spot ahead.from (may.moves on r t at named))
+      move_reached (shape_of h r) (k.ring r) t ahead.is_spot ahead.from (may r t refl named))
+
+  bound_keeps : (k : Known) → RingsKeep h k → (s i : ℕ) (o : Option ℕ) (p : ℕ) (cycle : Bool) →
+      ((r : ℕ) (t : Spot) → o ≡ Some r → target (shape_of h r) (k.ring r) p cycle ≡ Some t → is_reached (shape_of h r) (k.ring r) t ≡ true) → RingsKeep h (bound_to h k s i o p cycle)
+  unfolding bound_to
+  bound_keeps k keeps s i None p cycle may = keeps
+  bound_keeps k keeps s i (Some r) p cycle may =
+      same_keeps h (moved h k (Some r) p cycle) (bound_to h k s i (Some r) p cycle) refl refl (moved_keeps k keeps (Some r) p cycle may)
 
   pointed_keeps : (k : Known) → RingsKeep h k → (s i p : ℕ) (cycle : Bool) → MayPoint h k s i p cycle → RingsKeep h (pointed h k s i p cycle)
   unfolding pointed
   pointed_keeps k keeps s i p cycle may =
-      cond_both (is_off (k.endpoint_state s i)) (bound_to h k s i (ring_beginning_at h p)) (moved h k (k.ring_of s i) p cycle) (RingsKeep h)
-      (λ off. bound_keeps k keeps s i (ring_beginning_at h p) (may.binds off)) (λ on. moved_keeps k keeps s i p cycle may on (k.ring_of s i) refl)
+      cond_both (is_off (k.endpoint_state s i)) (bound_to h k s i (ring_having h p) p cycle) (moved h k (k.ring_of s i) p cycle) (RingsKeep h)
+      (λ off. bound_keeps k keeps s i (ring_having h p) p cycle (may.binds off)) (λ on. moved_keeps k keeps (k.ring_of s i) p cycle (may.moves on))
 
   -- a stopped endpoint's ring is held as far as its controller may be
   held_keeps : (k : Known) → RingsKeep h k → (o : Option ℕ) → RingsKeep h (held_at_ceiling h k o)

@@ -17,7 +17,6 @@ module _ (h : Header) where
       endpoints = m.endpoints;
       ring_of = m.ring_of;
       rings = m.rings;
-      fresh = m.fresh;
       before = λ off. let b = m.before off in record { inactive = b.inactive; no_events = b.no_events; none = b.none };
       command = λ on. let c = m.command on in record { spot = c.spot; ring = c.ring; under_way = c.under_way };
       scribbles = m.scribbles;

@@ -92,7 +92,7 @@ module _ (h : Header) (r : ℕ) (blocks : List Block) where
           does = λ n c may at. refl;
           targets = λ n c may at.
               let unfinished : IsUnfinished h k (next_command h k) c = next_unfinished h is k d on (below_ceiling k may) c at in
-              placed_targets h is k l d (λ q. (rings_more k q).alike.floor) (λ q. (rings_more k q).more) n c
+              placed_targets h is k l d (λ q. (rings_more k q).alike.floor) (λ q. (rings_more k q).more) refl n c
               (command_holds h k (next_command h k) c (d.unfinished (next_command h k) c unfinished));
         };
       }

@@ -1,24 +1,32 @@
 -- Spots to which a ring may be moved stay such, behind a declaration too
 use Rattle.std.proofs.Common.{◌≡◌, ℕ, Bool, true, List, unwrap_or, arith, sym, ap, length-append}
-use Rattle.safety.proofs.Words.{Block, Shape, RingView, Declares, changed, declared, floor_number, ceiling, is_move, given_count-declares, move-declares}
+use Rattle.safety.proofs.Words.{Block, Shape, RingView, Declares, changed, declared, floor_number, ceiling, is_move, given_count-declares, move-declares, is_placement}
 
--- spots to which a ring may be moved stay such: at the floor, and from the ceiling up to what is declared
+-- spots to which a ring may be moved stay such: at the floor, where it stands still, and from the ceiling up to what is declared
 pub record MovesStay (shape : Shape) (v w : RingView) : Type 0 where
   pub standing : (p : ℕ) (cycle : Bool) → is_move shape v p cycle (floor_number v) (floor_number v) ≡ true → is_move shape w p cycle (floor_number w) (floor_number w) ≡ true
+  pub placed : (p : ℕ) (cycle : Bool) → is_placement shape v p cycle ≡ true → is_placement shape w p cycle ≡ true
   pub ahead : (p : ℕ) (cycle : Bool) → is_move shape v p cycle (ceiling shape v) (declared v) ≡ true → is_move shape w p cycle (ceiling shape w) (declared w) ≡ true
 
 pub ceiling_declares : (shape : Shape) (v : RingView) (blocks : List Block) → ceiling shape (changed shape v (Declares blocks)) ≡ ceiling shape v
 unfolding ceiling
 ceiling_declares shape v blocks = ap (λ n. unwrap_or v.held n) (sym (given_count-declares shape v blocks))
 
+placed_declares : (shape : Shape) (v : RingView) (blocks : List Block) (p : ℕ) (cycle : Bool) → is_placement shape v p cycle ≡ true → is_placement shape (changed shape v (Declares blocks)) p cycle ≡ true
+unfolding is_placement
+placed_declares shape v blocks p cycle placed =
+    move-declares shape v p cycle (ceiling shape v) (floor_number v) (ceiling shape (changed shape v (Declares blocks))) (floor_number v)
+    (omega (arith, ceiling_declares shape v blocks)) (omega arith) placed blocks
+
 pub moves_declares : (shape : Shape) (v : RingView) (blocks : List Block) → MovesStay shape v (changed shape v (Declares blocks))
 moves_declares shape v blocks =
     record {
       standing = λ p cycle moves. move-declares shape v p cycle (floor_number v) (floor_number v) (floor_number v) (floor_number v) (omega arith) (omega arith) moves blocks;
+      placed = placed_declares shape v blocks;
       ahead = λ p cycle moves.
           move-declares shape v p cycle (ceiling shape v) (declared v) (ceiling shape (changed shape v (Declares blocks))) (declared (changed shape v (Declares blocks)))
           (omega (arith, ceiling_declares shape v blocks)) (omega (arith, length-append v.queue blocks)) moves blocks;
     }
 
 pub moves_stand : (shape : Shape) (v : RingView) → MovesStay shape v v
-moves_stand shape v = record { standing = λ p cycle moves. moves; ahead = λ p cycle moves. moves }
+moves_stand shape v = record { standing = λ p cycle moves. moves; placed = λ p cycle placed. placed; ahead = λ p cycle moves. moves }

@@ -1,6 +1,6 @@
 -- An event takes no device context: where one is leased behind it, it was
 use Rattle.std.proofs.Common.{◌≡◌, ◌==◌, if◌then◌else◌, ◌∷◌, ℕ, Bool, true, false, List, [], Option, None, Some}
-use Rattle.safety.proofs.Words.{cond_both, none-some, put_pair, Block, BlockKind, TransferEvent, CommandCompletion, kind, code, slot, endpoint, is_success, is_halting, is_trb_error, is_stopping, Spot, target, Command, StopEndpoint, Halted, Error, Stopped, is_off, Change, SlotGoesOn, DeviceLeft, Disables, Places, Stops, Resets, changes, Header, Read, shape_of, ring_beginning_at, Known, RingSpot, on_ring, event_at, command_at, next_command, passed, broken_off, stopped_at, transferred, transferred_at, transfer_read, set_to, bound_to, moved_to, moved, pointed, disabled, in_state, held_at_ceiling, changed_by, changed_by_all, succeeded, stop_ended, finished, completed, event_read, learned}
+use Rattle.safety.proofs.Words.{cond_both, none-some, put_pair, Block, BlockKind, TransferEvent, CommandCompletion, kind, code, slot, endpoint, is_success, is_halting, is_trb_error, is_stopping, Spot, target, Command, StopEndpoint, Halted, Error, Stopped, is_off, Change, SlotGoesOn, DeviceLeft, Disables, Places, Stops, Resets, changes, Header, Read, shape_of, ring_having, Known, RingSpot, on_ring, event_at, command_at, next_command, passed, broken_off, stopped_at, transferred, transferred_at, transfer_read, set_to, bound_to, moved_to, moved, pointed, disabled, in_state, held_at_ceiling, changed_by, changed_by_all, succeeded, stop_ended, finished, completed, event_read, learned}
 
 abbrev pub DevicesLeft : Known → Known → Type 0
 DevicesLeft k l = (s x : ℕ) → l.device s ≡ Some x → k.device s ≡ Some x
@@ -29,11 +29,6 @@ module _ (h : Header) where
 
   -- ---- a completion
 
-  bound_left : (k : Known) (s i : ℕ) (o : Option ℕ) → DevicesLeft k (bound_to h k s i o)
-  unfolding bound_to set_to on_ring
-  bound_left k s i None = none_left k
-  bound_left k s i (Some r) = λ t x at. at
-
   target_left : (k : Known) (r : ℕ) (o : Option Spot) → DevicesLeft k (moved_to h k r o)
   unfolding moved_to set_to on_ring
   target_left k r None = none_left k
@@ -44,11 +39,16 @@ module _ (h : Header) where
   moved_left k None p cycle = none_left k
   moved_left k (Some r) p cycle = target_left k r (target (shape_of h r) (k.ring r) p cycle)
 
+  bound_left : (k : Known) (s i : ℕ) (o : Option ℕ) (p : ℕ) (cycle : Bool) → DevicesLeft k (bound_to h k s i o p cycle)
+  unfolding bound_to
+  bound_left k s i None p cycle = none_left k
+  bound_left k s i (Some r) p cycle = moved_left k (Some r) p cycle
+
   pointed_left : (k : Known) (s i p : ℕ) (cycle : Bool) → DevicesLeft k (pointed h k s i p cycle)
   unfolding pointed
   pointed_left k s i p cycle =
-      cond_both (is_off (k.endpoint_state s i)) (bound_to h k s i (ring_beginning_at h p)) (moved h k (k.ring_of s i) p cycle) (DevicesLeft k)
-      (λ _. bound_left k s i (ring_beginning_at h p)) (λ _. moved_left k (k.ring_of s i) p cycle)
+      cond_both (is_off (k.endpoint_state s i)) (bound_to h k s i (ring_having h p) p cycle) (moved h k (k.ring_of s i) p cycle) (DevicesLeft k)
+      (λ _. bound_left k s i (ring_having h p) p cycle) (λ _. moved_left k (k.ring_of s i) p cycle)
 
   held_left : (k : Known) (o : Option ℕ) → DevicesLeft k (held_at_ceiling h k o)
   unfolding held_at_ceiling on_ring

@@ -1,6 +1,6 @@
 -- The change of endpoints that are disabled: they have no ring, and what ring they had is inactive
 use Rattle.std.proofs.Common.{◌≡◌, ◌⊎◌, ◌+◌, ◌<◌, ◌≤◌, ◌==◌, ◌&&◌, if◌then◌else◌, ◌∙◌, ℕ, suc, zero, Bool, true, false, not, Option, Some, None, arith, refl, sym, ap, subst, inl, inr, eq-eqb, eqb-true, ne_eqb}
-use Rattle.safety.proofs.Words.{list_any, range_with_len, cases_Bool, cases_eq, false≢true, and_from, and_left, and_right, and_parts, or_left, or_right, cond-false, none-some, same_Some, Command, Off, Disables, Header, is_ring, shape_of, command_id, World, Known, RingState, state_of, BoundRing, FreeRing, EndpointRing}
+use Rattle.safety.proofs.Words.{list_any, range_with_len, cases_Bool, cases_eq, false≢true, and_from, and_left, and_right, and_parts, or_left, or_right, cond-false, none-some, same_Some, Command, Off, Disables, Header, is_ring, shape_of, command_id, World, Known, RingState, state_of, BoundRing, FreeRing, EndpointRing, rank_least, rank_most}
 use Rattle.controller_model.specs.Bindings as bindings
 use Rattle.ring_knowledge.specs.Completions as completions
 use Rattle.safety.proofs.SafeContext.{none_in_range}
@@ -57,13 +57,15 @@ module _ (h : Header) (c : Command) (k : Known) (w : World) (m : StatesMatch h k
   abbrev behind : ℕ → RingState
   behind r = record (state_of w r) { active = goes_inactive r }
 
-  free_behind : (r : ℕ) → FreeRing (shape_of h r) k.ring_of (state_of w r) r → FreeRing (shape_of h r) left (behind r) r
+  free_behind : (r : ℕ) → FreeRing (shape_of h r) k.ring_of (k.ring r) (state_of w r) r → FreeRing (shape_of h r) left (k.ring r) (behind r) r
   free_behind r f = record {
     none = λ t i at. f.none t i (left_had t i r at).1;
     rests = record { inactive = and_left (w.is_active r) _ f.rests.inactive; in_order = f.rests.in_order; as_declared = f.rests.as_declared };
+    from = f.from;
+    to = f.to;
   }
 
-  let_go_behind : (r : ℕ) (b : BoundRing (shape_of h r) k.ring_of (k.ring r) (state_of w r) r) → names b.slot b.index ≡ true → FreeRing (shape_of h r) left (behind r) r
+  let_go_behind : (r : ℕ) (b : BoundRing (shape_of h r) k.ring_of (k.ring r) (state_of w r) r) → names b.slot b.index ≡ true → FreeRing (shape_of h r) left (k.ring r) (behind r) r
   let_go_behind r b named =
       let p = and_parts (b.slot == s) (which b.index) named in
       let had : k.ring_of s b.index ≡ Some r = ap (λ t. k.ring_of t b.index) (sym (eqb-true b.slot s p.0)) ∙ b.bound in
@@ -77,6 +79,8 @@ module _ (h : Header) (c : Command) (k : Known) (w : World) (m : StatesMatch h k
           in_order = b.matches.in_order;
           as_declared = b.matches.as_declared;
         };
+        from = omega (arith, b.matches.next, b.matches.reached, rank_least (k.ring r).floor, rank_most b.spot);
+        to = omega (arith, b.matches.next, b.matches.below);
       }
 
   still_bound : (r : ℕ) (b : BoundRing (shape_of h r) k.ring_of (k.ring r) (state_of w r) r) → names b.slot b.index ≡ false → BoundRing (shape_of h r) left (k.ring r) (behind r) r
@@ -103,7 +107,7 @@ module _ (h : Header) (c : Command) (k : Known) (w : World) (m : StatesMatch h k
         takes = record { takes = b.takes.takes; most = b.takes.most };
       }
 
-  ring_behind : (r : ℕ) → EndpointRing h k w r → BoundRing (shape_of h r) left (k.ring r) (behind r) r ⊎ FreeRing (shape_of h r) left (behind r) r
+  ring_behind : (r : ℕ) → EndpointRing h k w r → BoundRing (shape_of h r) left (k.ring r) (behind r) r ⊎ FreeRing (shape_of h r) left (k.ring r) (behind r) r
   ring_behind r (inr free) = inr (free_behind r free)
   ring_behind r (inl bound) =
       elim (cases_Bool (names bound.slot bound.index)) [
@@ -119,7 +123,6 @@ module _ (h : Header) (c : Command) (k : Known) (w : World) (m : StatesMatch h k
       endpoints = λ t i. ap (λ x. if names t i then Off else x) (m.endpoints t i);
       ring_of = λ t i. ap (λ x. if names t i then None else x) (m.ring_of t i);
       rings = λ r other. ring_behind r (m.rings r other);
-      fresh = m.fresh;
       scribbles = m.scribbles;
       apart = λ t i r at. m.apart t i r (left_had t i r at).1;
       one_endpoint = λ t i u j r at on. m.one_endpoint t i u j r (left_had t i r at).1 (left_had u j r on).1;

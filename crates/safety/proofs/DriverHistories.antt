@@ -8,6 +8,7 @@ use Rattle.safety.proofs.KeptCounts.{kept_dequeued, kept_read_room, kept_unstart
 use Rattle.safety.proofs.KeptClean.{kept_clean}
 use Rattle.safety.proofs.KeptRings.{kept_rings}
 use Rattle.safety.proofs.KeptCommands.{kept_command_ring}
+use Rattle.safety.proofs.NumberedHistories.{row_numbered}
 use Rattle.safety.proofs.KeptStates.{kept_states}
 use Rattle.safety.proofs.KeptDevices.{kept_devices}
 use Rattle.safety.proofs.KeptUnfinished.{kept_unfinished}
@@ -20,6 +21,7 @@ module _ (h : Header) where
     clean = kept_clean h is k row d clean on;
     command_ring = kept_command_ring h is k row d clean on;
     states = kept_states h is k row d clean on;
+    numbered = row_numbered h k row d.numbered;
     unstarted = kept_unstarted h is k row d clean on;
     crcr = kept_crcr h is k row d clean on;
     crcr_written = kept_crcr_written h is k row d clean on;

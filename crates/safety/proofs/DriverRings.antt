@@ -34,6 +34,4 @@ module _ (h : Header) where
   pub endpoints_of : (k : Known) → keeps.StatesKeep h k → endpoints.EndpointsKeep h k
   endpoints_of k s = record {
     transfer = λ t i r at. transfer_test r (s.transfer t i r at);
-    was_bound = s.was_bound;
-    never_bound = λ r is. s.never_bound r (transfer_ring r is);
   }

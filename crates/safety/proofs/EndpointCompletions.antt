@@ -4,7 +4,7 @@ use Rattle.std.proofs.Common.{◌≡◌, ◌≢◌, ◌==◌, ◌&&◌, ◌||◌
 use Rattle.safety.proofs.Words.{false≢true, or_parts, or_from, not-false, Block, BlockKind, TransferEvent, CommandCompletion, kind, pointer, code, slot, is_transfer_event, address_of, RingView, floor_number, ceiling, is_open, Command, command_of, changes, is_running, is_stopped, Header, Config, Read, IsHeader, shape_of, command_id, register_or_zero, Known, command_at, next_command, endpoint_rung, completed, event_read, touches_endpoint, is_touched, is_in_profile, may_be_taken, can_finish, is_impossible_completion, is_impossible_by_kind, lenient, CommandKeeps, DriverKeeps}
 use Rattle.safety.proofs.BellBeneath.{ReadWoken, read_woken}
 use Rattle.safety.proofs.CleanRows.{EventFacts, event_facts}
-use Rattle.safety.proofs.DriverRings.{endpoints_of}
+use Rattle.safety.proofs.DriverRings.{endpoints_of, rings_of}
 use Rattle.safety.proofs.EndpointBeneath.{rung_woken, rung_driver, not_command, transfer_rung}
 use Rattle.safety.proofs.KeptRings.{CompletionFacts, by_completion, next_unfinished, command_holds}
 use Rattle.safety.proofs.SameDriver.{SameDriver}
@@ -64,7 +64,7 @@ module _ (h : Header) (k : Known) (s t r : ℕ) (has : k.ring_of s t ≡ Some r)
     next_fits : (c : Command) → command_at h k (next_command h k) ≡ Some c → can_finish k b (Some c) ≡ true → (code b == 1) ≡ true → FitAll h c k (changes h.context_size k.memory (slot b) c)
     next_fits c at can success =
         let keeps : CommandKeeps h k (next_command h k) c = d.unfinished (next_command h k) c (next_unfinished h is k d started facts.below c at) in
-        success_fits h is k (register_or_zero k.register Config) (slot b) c d.states.no_slot (endpoints_part h k d.states) keeps.good (command_holds h k (next_command h k) c keeps)
+        success_fits h is k (register_or_zero k.register Config) (slot b) c d.states.no_slot (rings_of h k d) (endpoints_part h k d.states) keeps.good (command_holds h k (next_command h k) c keeps)
         (can_be h is k d b started facts c can success)
 
     next_rung : (o : Option Command) → command_at h k (next_command h k) ≡ o → can_finish k b o ≡ true →

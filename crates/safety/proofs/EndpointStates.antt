@@ -25,7 +25,6 @@ module _ (h : Header) (k : Known) (w : World) (e f : ℕ → ℕ → EndpointSta
     endpoints = same;
     ring_of = m.ring_of;
     rings = m.rings;
-    fresh = m.fresh;
     before = λ off. let b = m.before off in record { inactive = b.inactive; no_events = b.no_events; none = b.none };
     command = λ on. let c = m.command on in record { spot = c.spot; ring = c.ring; under_way = under_way_same h k (known_states k e must) refl refl c.spot w.under_way c.under_way };
     scribbles = m.scribbles;

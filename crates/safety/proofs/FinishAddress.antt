@@ -8,6 +8,9 @@ use Rattle.safety.proofs.Headers.{ring_shape, transfer_driver}
 use Rattle.safety.proofs.Areas.{bad_context_parts, bad_command_context}
 use Rattle.safety.proofs.ContextWords.{same_context, address_same}
 use Rattle.safety.proofs.EndpointsOff.{slot_above, off_none}
+use Rattle.safety.proofs.DriverRings.{rings_of}
+use Rattle.safety.proofs.KeptRings.{command_holds}
+use Rattle.safety.proofs.Placings.{address_ready}
 use Rattle.safety.proofs.PlaceKeeps.{MayBind, MayMove, bind_keeps, move_keeps}
 use Rattle.safety.proofs.SlotChanges.{slot_keeps}
 use Rattle.safety.proofs.NumberedChanges.{command_numbered}
@@ -33,28 +36,8 @@ module _ (h : Header) (is : IsHeader h) (k : Known) (d : DriverKeeps h k) (s n :
   cycle = context_cycle h.context_size k.memory n 1
 
   -- where endpoint 1 is off
-  binds_it : is_off (k.endpoint_state s 1) ≡ true → binds h k (AddressDevice s bsr n) ≡ binding_in h k n 1 ∷ []
-  unfolding binds
-  binds_it off = cond-true (is_off (k.endpoint_state s 1)) (binding_in h k n 1 ∷ []) [] off
-
-  named_it : is_off (k.endpoint_state s 1) ≡ true → (is_some (ring_beginning_at h p) ≡ true) × (cycle ≡ true)
-  unfolding ring_bound binding_in
-  named_it off =
-      All-head (λ b. (is_some (ring_bound h b) ≡ true) × (b.cycle ≡ true)) (binding_in h k n 1) []
-      (subst (λ bs. All (λ b. (is_some (ring_bound h b) ≡ true) × (b.cycle ≡ true)) bs) (binds_it off) given.binds)
-
-  unbound_it : is_off (k.endpoint_state s 1) ≡ true → (r : ℕ) → ring_beginning_at h p ≡ Some r → k.was_bound r ≡ false
-  unfolding binds_ring ring_bound binding_in
-  unbound_it off r at =
-      given.unbound r (ap (λ bs. list_any (λ b. is_ring r (ring_bound h b)) bs) (binds_it off) ∙ or_left (is_ring r (ring_beginning_at h p)) false (ap (is_ring r) at ∙ eq-eqb r r refl))
-
-  pub first_binds : is_off (k.endpoint_state s 1) ≡ true → MayBind h k s 1 p cycle
-  first_binds off =
-      let named = named_it off in
-      elim (cases_option (ring_beginning_at h p)) [
-        | inl none ↦ absurd (false≢true (ap (λ o. is_some o) (sym none) ∙ named.0))
-        | inr some ↦ record { off = off; none = off_none h k d s 1 off; ring = some.0; named = some.1; unbound = unbound_it off some.0 some.1; first_lap = named.1 }
-      ]
+  first_binds : is_off (k.endpoint_state s 1) ≡ true → MayBind h k s 1 p cycle
+  first_binds off = record { memory = k.memory; ready = address_ready h is k (rings_of h k d) s n bsr (command_holds h k (next_command h k) (AddressDevice s bsr n) given) off; none = off_none h k d s 1 off }
 
   -- where it isn't
   moves_at : is_off (k.endpoint_state s 1) ≡ false → (r : ℕ) → k.ring_of s 1 ≡ Some r → MayMove h k s 1 p cycle
@@ -71,7 +54,6 @@ module _ (h : Header) (is : IsHeader h) (k : Known) (d : DriverKeeps h k) (s n :
         ring = r;
         had = had;
         transfer = transfer;
-        was_bound = d.states.was_bound s 1 r had;
         keeps = keeps;
         least = floor_number (k.ring r);
         most = floor_number (k.ring r);
@@ -95,7 +77,9 @@ module _ (h : Header) (is : IsHeader h) (k : Known) (d : DriverKeeps h k) (s n :
 
   pub slot_binds : MayBind h k s 1 p cycle → MayBind h (completions.changed_by h c k (SlotGoesOn s)) s 1 p cycle
   unfolding completions.changed_by
-  slot_binds b = record { off = b.off; none = b.none; ring = b.ring; named = b.named; unbound = b.unbound; first_lap = b.first_lap }
+  slot_binds b =
+      let e = b.ready in
+      record { memory = b.memory; ready = record { off = e.off; ring = e.ring; named = e.named; free = e.free; keeps = e.keeps; placed = e.placed }; none = b.none }
 
   pub slot_moves : MayMove h k s 1 p cycle → MayMove h (completions.changed_by h c k (SlotGoesOn s)) s 1 p cycle
   unfolding completions.changed_by
@@ -104,7 +88,6 @@ module _ (h : Header) (is : IsHeader h) (k : Known) (d : DriverKeeps h k) (s n :
     ring = m.ring;
     had = m.had;
     transfer = m.transfer;
-    was_bound = m.was_bound;
     keeps = m.keeps;
     least = m.least;
     most = m.most;
@@ -114,17 +97,13 @@ module _ (h : Header) (is : IsHeader h) (k : Known) (d : DriverKeeps h k) (s n :
     moves = m.moves;
   }
 
-  pub slot_was : (z j q : ℕ) → (completions.changed_by h c k (SlotGoesOn s)).ring_of z j ≡ Some q → (completions.changed_by h c k (SlotGoesOn s)).was_bound q ≡ true
-  unfolding completions.changed_by
-  slot_was z j q at = d.states.was_bound z j q at
-
   place_keeps : (u v : World) → StatesMatch h (completions.changed_by h c k (SlotGoesOn s)) u → s < 256 → bindings.changed_by h c u (Places s 1 p cycle Running) ≡ Some v →
       ChangeKeeps h (completions.changed_by h c k (SlotGoesOn s)) (completions.changed_by h c (completions.changed_by h c k (SlotGoesOn s)) (Places s 1 p cycle Running)) u v
   place_keeps u v m low at =
       let l : Known = completions.changed_by h c k (SlotGoesOn s) in
       let numbered : (0 < s) × (s < 256) × (0 < 1) × (1 < 32) = (slot_above h k d c s given.good refl, low, omega arith, omega arith) in
       elim (cases_Bool (is_off (k.endpoint_state s 1))) [
-        | inl off ↦ bind_keeps h is c l u v s 1 p cycle Running m numbered at slot_was (slot_binds (first_binds off))
+        | inl off ↦ bind_keeps h is c l u v s 1 p cycle Running m numbered at (slot_binds (first_binds off))
         | inr on ↦ move_keeps h is c l u v s 1 p cycle Running m numbered at (slot_moves (second_moves on))
       ]
 

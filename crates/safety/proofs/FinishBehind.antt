@@ -1,6 +1,6 @@
 -- Behind the success of a command: its changes are made, the event is posted, and the command ring's floor moves on
 use Rattle.std.proofs.Common.{◌≡◌, ◌≢◌, ◌∙◌, ℕ, Bool, true, List, option_and_then, slice_get, sym, ap, subst, inl, inr}
-use Rattle.safety.proofs.Words.{cases_eq, false≢true, Block, floor_number, is_due, Command, command_of, Header, shape_of, command_id, World, Known, command_at, next_command, IsUnfinished, Stands, EventsStand, state_of, RingMatches, BoundRing, EndpointRing, Matches}
+use Rattle.safety.proofs.Words.{cases_eq, false≢true, Block, floor_number, is_due, Command, command_of, Header, shape_of, command_id, World, Known, command_at, next_command, IsUnfinished, Stands, EventsStand, state_of, RingMatches, BoundRing, FreeRing, EndpointRing, Matches}
 use Rattle.world_state.specs.World as of_world
 use Rattle.safety.proofs.SafeContext.{next_is}
 use Rattle.safety.proofs.LookKinds.{put_at, put_off}
@@ -71,7 +71,7 @@ module _ (h : Header) (k m : Known) (w v : World) (c : ChangeKeeps h k m w v) (s
 
   endpoint_ring : (u : World) (q : ℕ) → q ≢ command_id h → EndpointRing h m v q → EndpointRing h later (let_go (world_changed u v)) q
   endpoint_ring u q other (inl bound) = inl (subst (λ x. BoundRing (shape_of h q) m.ring_of x (state_of v q) q) (sym (ring_same q other)) bound)
-  endpoint_ring u q other (inr free) = inr free
+  endpoint_ring u q other (inr free) = inr (subst (λ x. FreeRing (shape_of h q) m.ring_of x (state_of v q) q) (sym (ring_same q other)) free)
 
   pub matches_changed : (u : World) → k.started ≡ true → state_of u (command_id h) ≡ state_of w (command_id h) → Matches h before (let_go u) → Matches h later (let_go (world_changed u v))
   matches_changed u on same y = record {
@@ -79,7 +79,6 @@ module _ (h : Header) (k m : Known) (w v : World) (c : ChangeKeeps h k m w v) (s
     endpoints = c.states.endpoints;
     ring_of = c.states.ring_of;
     rings = λ q other. endpoint_ring u q other (c.states.rings q other);
-    fresh = c.states.fresh;
     before = λ off. absurd (false≢true (sym off ∙ on));
     command = λ started. let x = y.command on in record {
       spot = x.spot;

@@ -39,7 +39,6 @@ module _ (h : Header) where
     pub endpoints : (s i : ℕ) → w.endpoint_state s i ≡ k.endpoint_state s i
     pub ring_of : (s i : ℕ) → w.ring_of s i ≡ k.ring_of s i
     pub rings : (r : ℕ) → r ≢ command_id h → EndpointRing h k w r
-    pub fresh : (r : ℕ) → r ≢ command_id h → k.was_bound r ≡ false → w.events r ≡ []
     pub scribbles : (s : ℕ) → w.scribbles s ≡ true → k.device s ≢ None
     pub apart : (s i r : ℕ) → k.ring_of s i ≡ Some r → r ≢ command_id h
     pub one_endpoint : (s i t j r : ℕ) → k.ring_of s i ≡ Some r → k.ring_of t j ≡ Some r → (s ≡ t) × (i ≡ j)
@@ -87,7 +86,6 @@ module _ (h : Header) where
     endpoints = m.endpoints;
     ring_of = m.ring_of;
     rings = m.rings;
-    fresh = m.fresh;
     scribbles = m.scribbles;
     apart = λ s i r at. transfer_not_command h is r (d.states.transfer s i r at);
     one_endpoint = d.states.one_endpoint;

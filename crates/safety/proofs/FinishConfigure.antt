@@ -7,12 +7,14 @@ use Rattle.ring_knowledge.specs.Completions as completions
 use Rattle.safety.proofs.LookKinds.{cond_is}
 use Rattle.safety.proofs.Areas.{bad_context_parts, bad_command_context}
 use Rattle.safety.proofs.GivenCommands.{added_above, content_good, are_free}
-use Rattle.safety.proofs.Placings.{Ready, the_some, map_map, dropped, all_ready}
+use Rattle.safety.proofs.Placings.{ReadyAt, map_map, dropped, all_ready}
 use Rattle.safety.proofs.ContextWords.{same_context, added_below, configure_same}
 use Rattle.safety.proofs.EndpointsOff.{slot_above, off_none}
 use Rattle.safety.proofs.SlotChanges.{slot_keeps}
 use Rattle.safety.proofs.DisableChange.{disable_keeps}
-use Rattle.safety.proofs.PlaceEach.{WereBound, MayAdd, each_keeps}
+use Rattle.safety.proofs.DriverRings.{rings_of}
+use Rattle.safety.proofs.KeptRings.{command_holds}
+use Rattle.safety.proofs.PlaceEach.{each_keeps}
 use Rattle.safety.proofs.NumberedChanges.{command_numbered}
 use Rattle.safety.proofs.NumberedHistories.{are_numbered}
 use Rattle.safety.proofs.FinishChanges.{StatesMatch, ChangeKeeps, states_match}
@@ -24,13 +26,7 @@ module _ (h : Header) (is : IsHeader h) (k : Known) (d : DriverKeeps h k) (s a :
   c = ConfigureEndpoint s false a
 
   still : StillHolds h k c
-  still = record {
-    named = All-weaker (λ b. (is_some (ring_bound h b) ≡ true) × (b.cycle ≡ true)) (λ b. is_some (ring_bound h b) ≡ true) (λ b both. both.0) (binds h k c) given.binds;
-    repeats = given.repeats;
-    unbound = given.unbound;
-    free = are_free h k c (content_good h k c given.good);
-    moves_on = tt;
-  }
+  still = command_holds h k (next_command h k) c given
 
   -- behind the drops
   abbrev pub l : Known
@@ -39,17 +35,6 @@ module _ (h : Header) (is : IsHeader h) (k : Known) (d : DriverKeeps h k) (s a :
   dropped_ring : (z j : ℕ) → l.ring_of z j ≡ (if z == s && is_dropped k.memory a j then None else k.ring_of z j)
   unfolding completions.changed_by completions.disabled
   dropped_ring z j = refl
-
-  dropped_was : l.was_bound ≡ k.was_bound
-  unfolding completions.changed_by completions.disabled
-  dropped_was = refl
-
-  pub were_bound : WereBound l
-  were_bound z j q at =
-      elim (cond_is (z == s && is_dropped k.memory a j) None (k.ring_of z j) (Some q) (sym (dropped_ring z j) ∙ at)) [
-        | inl gone ↦ absurd (none-some q gone.1)
-        | inr had ↦ ap (λ (f : ℕ → Bool). f q) dropped_was ∙ d.states.was_bound z j q had.1
-      ]
 
   -- what is added was dropped or off, so it has no ring
   none_left : (i : ℕ) → (is_off (k.endpoint_state s i) || is_dropped k.memory a i) ≡ true → l.ring_of s i ≡ None
@@ -65,24 +50,11 @@ module _ (h : Header) (is : IsHeader h) (k : Known) (d : DriverKeeps h k) (s a :
       first true y none some = refl
       first false y none some = absurd (false≢true (sym none ∙ some))
 
-  -- each is bound with cycle state 1
-  first_lap : (x e : ℕ) → x < length (added_endpoints k.memory a) → context_cycle h.context_size k.memory a (get_or (added_endpoints k.memory a) x e) ≡ true
-  unfolding binds binding_in
-  first_lap x e inside =
-      let added : List ℕ = added_endpoints k.memory a in
-      let mapped : x < length (map (binding_in h k a) added) = omega (arith, length-map added (binding_in h k a)) in
-      let at = get_or-map (binding_in h k a) added x e (binding_in h k a e) inside in
-      ap (λ b. b.cycle) (sym at) ∙ (given.binds x (binding_in h k a e) mapped).1
+  pub may_add : All (ReadyAt h is l k.memory s a) (added_endpoints k.memory a)
+  may_add = all_ready h is k (rings_of h k d) s a still
 
-  ready_adds : (i : ℕ) → Ready h is l k.memory s a i → l.ring_of s i ≡ None → context_cycle h.context_size k.memory a i ≡ true → MayAdd h l k.memory s a i
-  ready_adds i ready none lap =
-      let some = the_some h is _ ready.named in
-      record { off = ready.off; none = none; ring = some.0; named = some.1; unbound = ready.unbound some.0 some.1; first_lap = lap }
-
-  pub may_add : All (MayAdd h l k.memory s a) (added_endpoints k.memory a)
-  may_add x e inside =
-      let i : ℕ = get_or (added_endpoints k.memory a) x e in
-      ready_adds i (all_ready h is k s a still x e inside) (none_left i (still.free x e inside)) (first_lap x e inside)
+  pub have_none : All (λ i. l.ring_of s i ≡ None) (added_endpoints k.memory a)
+  have_none x e inside = none_left (get_or (added_endpoints k.memory a) x e) (still.free x e inside)
 
   pub numbered : All (λ i. (0 < i) × (i < 32)) (added_endpoints k.memory a)
   numbered x e inside =
@@ -96,7 +68,7 @@ module _ (h : Header) (is : IsHeader h) (k : Known) (d : DriverKeeps h k) (s a :
 
   each : (w : World) → StatesMatch h l w → s < 256 → ListKeeps h c l w (map (placed_by_context h.context_size k.memory s a) (added_endpoints k.memory a))
   unfolding ring_bound binding_in
-  each w m low = each_keeps h k.memory s a is c (slot_above h k d c s given.good refl) low (added_endpoints k.memory a) l w m were_bound may_add numbered apart
+  each w m low = each_keeps h is k.memory s a c (slot_above h k d c s given.good refl) low (added_endpoints k.memory a) l w m may_add have_none numbered apart
 
   abbrev pub all : List Change
   all = SlotGoesOn s ∷ Disables s (is_dropped k.memory a) ∷ map (placed_by_context h.context_size k.memory s a) (added_endpoints k.memory a)

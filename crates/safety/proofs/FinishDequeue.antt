@@ -29,7 +29,6 @@ module _ (h : Header) (is : IsHeader h) (k : Known) (d : DriverKeeps h k) (s i p
         ring = r;
         had = had;
         transfer = transfer;
-        was_bound = d.states.was_bound s i r had;
         keeps = d.rings r driver;
         least = ceiling (shape_of h r) (k.ring r);
         most = declared (k.ring r);

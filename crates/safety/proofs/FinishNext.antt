@@ -1,6 +1,6 @@
 -- Behind the completion of a command that had no effect: the command ring's floor moves on, and no command is under way
 use Rattle.std.proofs.Common.{◌≡◌, ◌≢◌, ◌+◌, ◌∙◌, ℕ, Bool, true, false, List, option_and_then, slice_get, arith, refl, sym, ap, subst, inl, inr}
-use Rattle.safety.proofs.Words.{cases_eq, Block, Spot, after, number, floor_number, is_due, due_is, due_from, Command, command_of, Header, IsHeader, shape_of, command_id, World, Known, command_at, next_command, IsDriverRing, DriverKeeps, IsUnfinished, Stands, EventsStand, state_of, RingMatches, BoundRing, EndpointRing, Matches}
+use Rattle.safety.proofs.Words.{cases_eq, Block, Spot, after, number, floor_number, is_due, due_is, due_from, Command, command_of, Header, IsHeader, shape_of, command_id, World, Known, command_at, next_command, IsDriverRing, DriverKeeps, IsUnfinished, Stands, EventsStand, state_of, RingMatches, BoundRing, FreeRing, EndpointRing, Matches}
 use Rattle.world_state.specs.World as of_world
 use Rattle.safety.proofs.SafeContext.{command_is_ring, next_is}
 use Rattle.safety.proofs.LookKinds.{put_at, put_off}
@@ -69,7 +69,7 @@ module _ (h : Header) (is : IsHeader h) (k : Known) (d : DriverKeeps h k) (on : 
 
     other_ring : (u : World) (q : ℕ) → q ≢ command_id h → EndpointRing h k u q → EndpointRing h (next_known h k seen n) (let_go u) q
     other_ring u q other (inl bound) = inl (subst (λ v. BoundRing (shape_of h q) k.ring_of v (state_of u q) q) (sym (ring_same q other)) bound)
-    other_ring u q other (inr free) = inr free
+    other_ring u q other (inr free) = inr (subst (λ v. FreeRing (shape_of h q) k.ring_of v (state_of u q) q) (sym (ring_same q other)) free)
 
     pub matches_next : (u : World) → Matches h k u → (t : Spot) → RingMatches (shape_of h (command_id h)) (k.ring (command_id h)) (state_of u (command_id h)) t →
         number t ≡ next_command h k + 1 → ((s i : ℕ) → seen s i ≡ false) → Matches h (next_known h k seen n) (let_go u)
@@ -78,7 +78,6 @@ module _ (h : Header) (is : IsHeader h) (k : Known) (d : DriverKeeps h k) (on : 
       endpoints = y.endpoints;
       ring_of = y.ring_of;
       rings = λ q other. other_ring u q other (y.rings q other);
-      fresh = y.fresh;
       before = λ off. let b = y.before off in record { inactive = b.inactive; no_events = b.no_events; none = refl };
       command = λ started. record {
         spot = t;

@@ -1,10 +1,10 @@
 -- An event moves no floor back, and concerns no ring but those of the driver
 use Rattle.std.proofs.Common.{◌≡◌, ◌+◌, ◌≤◌, ◌⊎◌, ◌==◌, if◌then◌else◌, ◌∷◌, ◌∙◌, ℕ, Bool, true, List, [], Option, None, Some, arith, refl, sym, ap, subst, inl, inr, eqb-true}
-use Rattle.safety.proofs.Words.{cases_eq, cond_both, put_pair, Block, pointer, code, slot, endpoint, is_success, is_halting, is_trb_error, is_stopping, Spot, Data, number, after, RingView, RingChange, Reaches, Holds, changed, floor_number, ceiling, stopped_number, target, IsAhead, named_ahead, target_ahead, number-after, Command, StopEndpoint, EndpointState, Halted, Error, Stopped, is_off, Change, SlotGoesOn, DeviceLeft, Disables, Places, Stops, Resets, changes, Header, IsHeader, shape_of, command_id, ring_beginning_at, Known, RingSpot, on_ring, event_at, command_at, next_command, passed, broken_off, stopped_at, transferred, transferred_at, transfer_read, set_to, bound_to, moved_to, moved, pointed, disabled, in_state, held_at_ceiling, changed_by, changed_by_all, succeeded, stop_ended, finished, completed, EndpointsKeep, RingsKeep, MayPoint, MayChange, MayChangeAll, MayFinish}
+use Rattle.safety.proofs.Words.{cases_eq, cond_both, put_pair, Block, pointer, code, slot, endpoint, is_success, is_halting, is_trb_error, is_stopping, Spot, Data, number, after, RingView, RingChange, Reaches, Holds, changed, floor_number, ceiling, stopped_number, target, IsAhead, named_ahead, target_ahead, number-after, Command, StopEndpoint, EndpointState, Halted, Error, Stopped, is_off, Change, SlotGoesOn, DeviceLeft, Disables, Places, Stops, Resets, changes, Header, IsHeader, shape_of, command_id, ring_having, Known, RingSpot, on_ring, event_at, command_at, next_command, passed, broken_off, stopped_at, transferred, transferred_at, transfer_read, set_to, bound_to, moved_to, moved, pointed, disabled, in_state, held_at_ceiling, changed_by, changed_by_all, succeeded, stop_ended, finished, completed, EndpointsKeep, RingsKeep, MayPoint, MayChange, MayChangeAll, MayFinish}
 use Rattle.safety.specs.EndpointsKeep.{IsTransferRing}
 use Rattle.safety.specs.RingsKeep.{IsDriverRing}
 use Rattle.safety.proofs.DriverRows.{ring_here, ring_elsewhere}
-use Rattle.safety.proofs.RingIds.{beginning_transfer}
+use Rattle.safety.proofs.RingIds.{having_transfer}
 use Rattle.safety.proofs.Headers.{transfer_driver}
 use Rattle.safety.proofs.DriverRings.{driver_test, transfer_ring}
 use Rattle.safety.proofs.Endpoints.{change_keeps}
@@ -111,15 +111,19 @@ module _ (h : Header) where
         let m : Known = on_ring h k r (Reaches t) in
         floors_both k m (on_ring h m r (Holds (number t))) (floors_reached k r t driver on) (floors_held m r (number t) driver)
 
-    bound_on : (k : Known) (s i p : ℕ) (o : Option ℕ) → ring_beginning_at h p ≡ o → ((r : ℕ) → o ≡ Some r → floor_number (k.ring r) ≡ 0) → FloorsOn k (bound_to h k s i o)
-    unfolding bound_to
-    bound_on k s i p None at new = floors_same k k refl
-    bound_on k s i p (Some r) at new = set_on k r (Data 0) (transfer_is_driver r (beginning_transfer h is p r at)) (omega (arith, new r refl))
-
     target_on : (k : Known) (r : ℕ) (o : Option Spot) → IsDriverRing h r → ((t : Spot) → o ≡ Some t → floor_number (k.ring r) ≤ number t) → FloorsOn k (moved_to h k r o)
     unfolding moved_to
     target_on k r None driver on = floors_same k k refl
     target_on k r (Some t) driver on = set_on k r t driver (on t refl)
+
+    bound_on : (k : Known) (s i p : ℕ) (cycle : Bool) (o : Option ℕ) → ring_having h p ≡ o → FloorsOn k (bound_to h k s i o p cycle)
+    unfolding bound_to moved
+    bound_on k s i p cycle None at = floors_same k k refl
+    bound_on k s i p cycle (Some r) at =
+        let m : Known = moved_to h k r (target (shape_of h r) (k.ring r) p cycle) in
+        floors_both k m (bound_to h k s i (Some r) p cycle)
+        (target_on k r (target (shape_of h r) (k.ring r) p cycle) (transfer_is_driver r (having_transfer h is p r at)) (λ t named. (target_ahead (shape_of h r) (k.ring r) p cycle t named).from))
+        (floors_same m (bound_to h k s i (Some r) p cycle) refl)
 
     moved_on : (k : Known) → EndpointsKeep h k → (s i p : ℕ) (cycle : Bool) (o : Option ℕ) → k.ring_of s i ≡ o → FloorsOn k (moved h k o p cycle)
     unfolding moved
@@ -127,11 +131,11 @@ module _ (h : Header) where
     moved_on k endpoints s i p cycle (Some r) at =
         target_on k r (target (shape_of h r) (k.ring r) p cycle) (transfer_is_driver r (endpoints.transfer s i r at)) (λ t named. (target_ahead (shape_of h r) (k.ring r) p cycle t named).from)
 
-    pointed_on : (k : Known) → EndpointsKeep h k → (s i p : ℕ) (cycle : Bool) → MayPoint h k s i p cycle → FloorsOn k (pointed h k s i p cycle)
+    pointed_on : (k : Known) → EndpointsKeep h k → (s i p : ℕ) (cycle : Bool) → FloorsOn k (pointed h k s i p cycle)
     unfolding pointed
-    pointed_on k endpoints s i p cycle may =
-        cond_both (is_off (k.endpoint_state s i)) (bound_to h k s i (ring_beginning_at h p)) (moved h k (k.ring_of s i) p cycle) (FloorsOn k)
-        (λ off. bound_on k s i p (ring_beginning_at h p) refl (may.binds off)) (λ on. moved_on k endpoints s i p cycle (k.ring_of s i) refl)
+    pointed_on k endpoints s i p cycle =
+        cond_both (is_off (k.endpoint_state s i)) (bound_to h k s i (ring_having h p) p cycle) (moved h k (k.ring_of s i) p cycle) (FloorsOn k)
+        (λ off. bound_on k s i p cycle (ring_having h p) refl) (λ on. moved_on k endpoints s i p cycle (k.ring_of s i) refl)
 
     ceiling_on : (k : Known) → EndpointsKeep h k → (s i : ℕ) (o : Option ℕ) → k.ring_of s i ≡ o → FloorsOn k (held_at_ceiling h k o)
     unfolding held_at_ceiling
@@ -143,9 +147,9 @@ module _ (h : Header) where
     change_on c k (SlotGoesOn s) endpoints may = floors_same k (changed_by h c k (SlotGoesOn s)) refl
     change_on c k (DeviceLeft s) endpoints may = floors_same k (changed_by h c k (DeviceLeft s)) refl
     change_on c k (Disables s which) endpoints may = floors_same k (changed_by h c k (Disables s which)) refl
-    change_on c k (Places s i p cycle state) endpoints may = pointed_on k endpoints s i p cycle may
+    change_on c k (Places s i p cycle state) endpoints may = pointed_on k endpoints s i p cycle
     change_on c k (Stops s i) endpoints may =
-        ceiling_on (in_state h k s i Stopped) (record { transfer = endpoints.transfer; was_bound = endpoints.was_bound; never_bound = endpoints.never_bound }) s i (k.ring_of s i) refl
+        ceiling_on (in_state h k s i Stopped) (record { transfer = endpoints.transfer }) s i (k.ring_of s i) refl
     change_on c k (Resets s i) endpoints may = floors_same k (changed_by h c k (Resets s i)) refl
 
     changes_on : (c : Command) (k : Known) (all : List Change) → EndpointsKeep h k → MayChangeAll h c k all → FloorsOn k (changed_by_all h c k all)

@@ -1,6 +1,6 @@
 -- An event that may be read moves no floor back
 use Rattle.std.proofs.Common.{◌≡◌, ◌+◌, ◌≤◌, ◌==◌, if◌then◌else◌, ◌∷◌, ◌∙◌, ℕ, Bool, true, List, [], Option, None, Some, arith, refl, sym, ap, subst, inl, inr, eqb-true}
-use Rattle.safety.proofs.Words.{option_map, cond_both, none-some, same_Some, cases_option, put_pair, Block, BlockKind, TransferEvent, CommandCompletion, kind, code, slot, endpoint, pointer, is_command_completion, is_success, is_halting, is_trb_error, is_stopping, Spot, Data, number, after, Reaches, Holds, floor_number, ceiling, named, stopped_number, target, number-after, IsAhead, named_ahead, target_ahead, Command, StopEndpoint, EndpointState, Halted, Error, Stopped, is_off, Change, SlotGoesOn, DeviceLeft, Disables, Places, Stops, Resets, changes, Header, Read, IsHeader, shape_of, command_id, ring_beginning_at, Known, RingSpot, on_ring, spot_on, event_at, command_at, next_command, passed, broken_off, stopped_at, transferred, transferred_at, transfer_read, set_to, bound_to, moved_to, moved, pointed, disabled, in_state, held_at_ceiling, changed_by, changed_by_all, succeeded, stop_ended, finished, completed, event_read, learned, lenient, DriverKeeps, EndpointsKeep, MayPoint, MayChange, MayChangeAll}
+use Rattle.safety.proofs.Words.{option_map, cond_both, none-some, same_Some, cases_option, put_pair, Block, BlockKind, TransferEvent, CommandCompletion, kind, code, slot, endpoint, pointer, is_command_completion, is_success, is_halting, is_trb_error, is_stopping, Spot, Data, number, after, Reaches, Holds, floor_number, ceiling, named, stopped_number, target, number-after, IsAhead, named_ahead, target_ahead, Command, StopEndpoint, EndpointState, Halted, Error, Stopped, is_off, Change, SlotGoesOn, DeviceLeft, Disables, Places, Stops, Resets, changes, Header, Read, IsHeader, shape_of, command_id, ring_having, Known, RingSpot, on_ring, spot_on, event_at, command_at, next_command, passed, broken_off, stopped_at, transferred, transferred_at, transfer_read, set_to, bound_to, moved_to, moved, pointed, disabled, in_state, held_at_ceiling, changed_by, changed_by_all, succeeded, stop_ended, finished, completed, event_read, learned, lenient, DriverKeeps, EndpointsKeep, MayPoint, MayChange, MayChangeAll}
 use Rattle.safety.proofs.Headers.{transfer_driver}
 use Rattle.safety.proofs.DriverRings.{rings_of, endpoints_of}
 use Rattle.safety.proofs.EndpointHistories.{finish_elsewhere}
@@ -90,11 +90,6 @@ module _ (h : Header) where
   set_grows k r t ahead =
       let l : Known = on_ring h k r (Reaches t) in grow_twice k l (on_ring h l r (Holds (number t))) (reach_grows k r t ahead) (hold_grows l r (number t))
 
-  bound_grows : (k : Known) (s i : ℕ) (o : Option ℕ) → ((r : ℕ) → o ≡ Some r → floor_number (k.ring r) ≡ 0) → FloorsGrow k (bound_to h k s i o)
-  unfolding bound_to
-  bound_grows k s i None new = grow_none k
-  bound_grows k s i (Some r) new = set_grows k r (Data 0) (omega (arith, new r refl))
-
   target_grows : (k : Known) (r : ℕ) (o : Option Spot) → ((t : Spot) → o ≡ Some t → floor_number (k.ring r) ≤ number t) → FloorsGrow k (moved_to h k r o)
   unfolding moved_to
   target_grows k r None ahead = grow_none k
@@ -105,11 +100,16 @@ module _ (h : Header) where
   moved_grows k None p cycle = grow_none k
   moved_grows k (Some r) p cycle = target_grows k r (target (shape_of h r) (k.ring r) p cycle) (λ t at. (target_ahead (shape_of h r) (k.ring r) p cycle t at).from)
 
-  pointed_grows : (k : Known) (s i p : ℕ) (cycle : Bool) → MayPoint h k s i p cycle → FloorsGrow k (pointed h k s i p cycle)
+  bound_grows : (k : Known) (s i : ℕ) (o : Option ℕ) (p : ℕ) (cycle : Bool) → FloorsGrow k (bound_to h k s i o p cycle)
+  unfolding bound_to
+  bound_grows k s i None p cycle = grow_none k
+  bound_grows k s i (Some r) p cycle = moved_grows k (Some r) p cycle
+
+  pointed_grows : (k : Known) (s i p : ℕ) (cycle : Bool) → FloorsGrow k (pointed h k s i p cycle)
   unfolding pointed
-  pointed_grows k s i p cycle may =
-      cond_both (is_off (k.endpoint_state s i)) (bound_to h k s i (ring_beginning_at h p)) (moved h k (k.ring_of s i) p cycle) (FloorsGrow k)
-      (λ off. bound_grows k s i (ring_beginning_at h p) (may.binds off)) (λ on. moved_grows k (k.ring_of s i) p cycle)
+  pointed_grows k s i p cycle =
+      cond_both (is_off (k.endpoint_state s i)) (bound_to h k s i (ring_having h p) p cycle) (moved h k (k.ring_of s i) p cycle) (FloorsGrow k)
+      (λ off. bound_grows k s i (ring_having h p) p cycle) (λ on. moved_grows k (k.ring_of s i) p cycle)
 
   held_grows : (k : Known) (o : Option ℕ) → FloorsGrow k (held_at_ceiling h k o)
   unfolding held_at_ceiling
@@ -121,7 +121,7 @@ module _ (h : Header) where
   change_grows c k (SlotGoesOn s) may = λ r. omega arith
   change_grows c k (DeviceLeft s) may = λ r. omega arith
   change_grows c k (Disables s which) may = λ r. omega arith
-  change_grows c k (Places s i p cycle state) may = pointed_grows k s i p cycle may
+  change_grows c k (Places s i p cycle state) may = pointed_grows k s i p cycle
   change_grows c k (Stops s i) may = held_grows (in_state h k s i Stopped) (k.ring_of s i)
   change_grows c k (Resets s i) may = λ r. omega arith
 

@@ -1,6 +1,6 @@
 -- What is kept of a command that a write gives holds behind an event that is read before the write, but for its device context
 use Rattle.std.proofs.Common.{◌≡◌, ◌∙◌, ℕ, true, [], length, Some, slice_get, arith, refl, sym, ap}
-use Rattle.safety.proofs.Words.{false≢true, false_from_ne_true, Block, number, declared, floor_number, positions_given, ceiling, is_border, GivesMore, move_more, gives_is, position_given_is, Command, named_context, is_disabled, is_off, is_at_rest, Header, Write, Read, IsHeader, shape_of, command_id, Known, command_at, command_given, learned, lenient, IsTransferRing, CommandKeeps, DriverKeeps}
+use Rattle.safety.proofs.Words.{false≢true, false_from_ne_true, Block, number, declared, floor_number, positions_given, ceiling, is_border, is_placement, GivesMore, move_more, gives_is, position_given_is, Command, named_context, is_disabled, is_off, is_at_rest, Header, Write, Read, IsHeader, shape_of, command_id, Known, command_at, command_given, learned, lenient, IsTransferRing, CommandKeeps, DriverKeeps}
 use Rattle.ownership_rules.specs.Commands as commands
 use Rattle.safety.proofs.Headers.{transfer_driver, transfer_not_command}
 use Rattle.safety.proofs.CommandRing.{due_has_ring}
@@ -9,9 +9,11 @@ use Rattle.safety.proofs.DevicesWritten.{contains_first, and_then_parts}
 use Rattle.safety.proofs.WrittenKnown.{GivesCommand, taken}
 use Rattle.safety.proofs.WriteBeside.{beside_new}
 use Rattle.safety.proofs.GivenRules.{GivenFacts, given_facts}
+use Rattle.safety.proofs.DriverRings.{transfer_ring}
+use Rattle.safety.proofs.BoundRings.{bound_transfer}
 use Rattle.safety.proofs.CommandsBeside.{Beside}
 use Rattle.safety.proofs.CommandsSame.{context_good, context_same}
-use Rattle.safety.proofs.CommandsStay.{OwnKeeps, RingsBeside, own_keeps, own_beside}
+use Rattle.safety.proofs.CommandsStay.{OwnKeeps, PlacesStay, RingsBeside, own_keeps, own_beside}
 use Rattle.safety.proofs.Alike.{Alike, ceiling_more}
 use Rattle.safety.proofs.HeldFurther.{read_same}
 use Rattle.safety.proofs.EventBehind.{event_behind}
@@ -95,6 +97,12 @@ module _ (h : Header) (is : IsHeader h) (k : Known) (d : DriverKeeps h k) (a w :
   same_floor : (r : ℕ) → floor_number (beneath.ring r) ≡ floor_number (l.ring r)
   same_floor r = ap number (alike.rings r).floor
 
+  placed_before : (r : ℕ) → IsTransferRing h r → PlacesStay (shape_of h r) (beneath.ring r) (l.ring r)
+  unfolding is_placement
+  placed_before r t p cycle placed =
+      move_more (shape_of h r) (beneath.ring r) (l.ring r) (less r t) (borders r) p cycle (ceiling (shape_of h r) (beneath.ring r)) (floor_number (beneath.ring r))
+      (ceiling (shape_of h r) (l.ring r)) (floor_number (l.ring r)) (ceiling_more (shape_of h r) (l.ring r) (beneath.ring r) (alike.rings r)) (omega (arith, same_floor r)) placed
+
   rings_beside : RingsBeside h beneath between c
   rings_beside = record {
     ring_of = λ s i at. ap (λ f. f s i) (sym alike.ring_of);
@@ -111,7 +119,8 @@ module _ (h : Header) (is : IsHeader h) (k : Known) (d : DriverKeeps h k) (a w :
           nothing = λ nothing q low.
               false_from_ne_true ((l.ring r).given q) (λ on. false≢true (sym (nothing q (omega (arith, same_floor r, low))) ∙ (alike.rings r).more.given q on));
         };
-    unbound = λ r bound never. ap (λ f. f r) (sym alike.was_bound) ∙ never;
+    still = λ r bound p cycle placed. placed_before r (transfer_ring h r (bound_transfer h is beneath r c bound)) p cycle placed;
+    kept = λ r s i bound has. ap (λ f. f s i) alike.ring_of ∙ has;
   }
 
   pub own_between : OwnKeeps h between c

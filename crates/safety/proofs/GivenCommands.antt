@@ -1,12 +1,9 @@
 -- What the rules test of a command that a write gives: its bindings and its moves may be made
 use Rattle.std.proofs.Common.{◌≡◌, ◌≤◌, ◌==◌, ◌||◌, ◌+◌, ◌∙◌, ℕ, not, Bool, true, false, map, nat_le, All, Option, None, Some, suc, zero, arith, refl, sym, ap, subst, inl, inr, get_or, eqb-true, le-leb}
-use Rattle.safety.proofs.Words.{list_any, range_with_len, or_parts, and_from, or_cases, or_left, or_right, not-false, not-true, false≢true, same_Some, All-nil, All-cons, All-filter, All-get_or, All-weaker, Any-from_list_any, declared, floor_number, is_move, input_drop_flag, input_add_flag, added_endpoints, is_dropped, Command, NoOp, EnableSlot, DisableSlot, AddressDevice, ConfigureEndpoint, EvaluateContext, ResetEndpoint, StopEndpoint, SetTrDequeue, ResetDevice, named_slot, named_endpoint, named_context, is_off, Header, shape_of, is_ring, Known, unfinished, Binding, binds, ring_bound, binds_ring, is_used, is_unused_ring, has_repeats, is_bad_binding, is_bad_stay, holds_of, AreFree}
+use Rattle.safety.proofs.Words.{list_any, range_with_len, or_parts, and_from, or_cases, or_left, or_right, not-false, not-true, false≢true, same_Some, All-nil, All-cons, All-filter, All-get_or, All-weaker, Any-from_list_any, declared, floor_number, is_move, input_drop_flag, input_add_flag, added_endpoints, is_dropped, Command, NoOp, EnableSlot, DisableSlot, AddressDevice, ConfigureEndpoint, EvaluateContext, ResetEndpoint, StopEndpoint, SetTrDequeue, ResetDevice, named_slot, named_endpoint, named_context, is_off, Header, shape_of, is_ring, Known, unfinished, Binding, binds, ring_bound, binds_ring, is_placed, is_taken, is_kept, is_being_bound, is_bad_place, has_repeats, is_bad_binding, is_bad_stay, holds_of, AreFree}
 use Rattle.ownership_rules.specs.Commands as commands
 use Rattle.safety.proofs.TestsPassed.{each_fails}
-
-pub ring_is : (r : ℕ) (o : Option ℕ) → is_ring r o ≡ true → o ≡ Some r
-ring_is r None h = absurd (false≢true h)
-ring_is r (Some q) h = ap (λ n. Some n) (eqb-true q r h)
+use Rattle.safety.proofs.BoundRings.{ring_is}
 
 range_above : (least a n : ℕ) → least ≤ a → All (λ i. nat_le least i ≡ true) (range_with_len a n)
 range_above least a zero low = All-nil (λ i. nat_le least i ≡ true)
@@ -19,37 +16,37 @@ unfolding added_endpoints
 added_above memory n = All-filter (input_add_flag memory n) (λ i. nat_le 2 i ≡ true) (range_with_len 2 30) (range_above 2 2 30 (omega arith))
 
 module _ (h : Header) (k : Known) where
-  -- a ring that is unused was never bound
-  pub unused_is : (o : Option ℕ) → is_unused_ring h k o ≡ true → (r : ℕ) × (o ≡ Some r) × (k.was_bound r ≡ false)
-  unfolding is_unused_ring is_used
-  unused_is None e = absurd (false≢true e)
-  unused_is (Some r) e = (r, refl, (or_parts (k.was_bound r) (list_any (binds_ring h k r) (unfinished h k)) (not-true (k.was_bound r || list_any (binds_ring h k r) (unfinished h k)) e)).0)
-
   pub record GoodBindings (c : Command) : Type 0 where
-    pub unused : All (λ b. is_unused_ring h k (ring_bound h b) ≡ true) (binds h k c)
+    pub free : All (λ b. is_taken h k c (ring_bound h b) ≡ false) (binds h k c)
+    pub placed : All (λ b. is_placed h k (ring_bound h b) b ≡ true) (binds h k c)
     pub repeats : has_repeats (map (ring_bound h) (binds h k c)) ≡ false
 
   pub good_bindings : (c : Command) → is_bad_binding h k c ≡ false → GoodBindings c
-  unfolding is_bad_binding
+  unfolding is_bad_binding is_bad_place
   good_bindings c good =
-      let parts = or_parts (list_any (λ b. not (is_unused_ring h k (ring_bound h b)) || not b.cycle) (binds h k c)) (has_repeats (map (ring_bound h) (binds h k c))) good in
+      let parts = or_parts (list_any (is_bad_place h k c) (binds h k c)) (has_repeats (map (ring_bound h) (binds h k c))) good in
+      let each : All (λ b. (is_taken h k c (ring_bound h b) || not (is_placed h k (ring_bound h b) b)) ≡ false) (binds h k c) =
+      each_fails (λ b. is_taken h k c (ring_bound h b) || not (is_placed h k (ring_bound h b) b)) (binds h k c) parts.0 in
       record {
-        unused =
-            All-weaker (λ b. (not (is_unused_ring h k (ring_bound h b)) || not b.cycle) ≡ false) (λ b. is_unused_ring h k (ring_bound h b) ≡ true)
-            (λ b fails. not-false (is_unused_ring h k (ring_bound h b)) (or_parts (not (is_unused_ring h k (ring_bound h b))) (not b.cycle) fails).0)
-            (binds h k c) (each_fails (λ b. not (is_unused_ring h k (ring_bound h b)) || not b.cycle) (binds h k c) parts.0);
+        free =
+            All-weaker (λ b. (is_taken h k c (ring_bound h b) || not (is_placed h k (ring_bound h b) b)) ≡ false) (λ b. is_taken h k c (ring_bound h b) ≡ false)
+            (λ b fails. (or_parts (is_taken h k c (ring_bound h b)) (not (is_placed h k (ring_bound h b) b)) fails).0) (binds h k c) each;
+        placed =
+            All-weaker (λ b. (is_taken h k c (ring_bound h b) || not (is_placed h k (ring_bound h b) b)) ≡ false) (λ b. is_placed h k (ring_bound h b) b ≡ true)
+            (λ b fails. not-false (is_placed h k (ring_bound h b) b) (or_parts (is_taken h k c (ring_bound h b)) (not (is_placed h k (ring_bound h b) b)) fails).1) (binds h k c) each;
         repeats = parts.1;
       }
 
-  pub never_bound : (c : Command) → GoodBindings c → (r : ℕ) → binds_ring h k r c ≡ true → k.was_bound r ≡ false
-  unfolding binds_ring
-  never_bound c good r bound =
+  -- a ring that it binds is kept by no endpoint, and bound by no other command
+  pub bound_free : (c : Command) → GoodBindings c → (r : ℕ) → binds_ring h k r c ≡ true → (is_kept h k c r ≡ false) × (is_being_bound h k r ≡ false)
+  unfolding binds_ring is_taken
+  bound_free c good r bound =
       let any = Any-from_list_any (λ b. is_ring r (ring_bound h b)) (binds h k c) bound in
       let b : Binding = any.1 in
-      let unused : is_unused_ring h k (ring_bound h b) ≡ true =
-      subst (λ (x : Binding). is_unused_ring h k (ring_bound h x) ≡ true) any.3 (All-get_or (λ x. is_unused_ring h k (ring_bound h x) ≡ true) (binds h k c) any.0 b any.2 good.unused) in
-      let found = unused_is (Some r) (ap (λ o. is_unused_ring h k o) (sym (ring_is r (ring_bound h b) any.4)) ∙ unused) in
-      ap k.was_bound (same_Some r found.0 found.1) ∙ found.2
+      let free : is_taken h k c (ring_bound h b) ≡ false =
+      subst (λ (x : Binding). is_taken h k c (ring_bound h x) ≡ false) any.3 (All-get_or (λ x. is_taken h k c (ring_bound h x) ≡ false) (binds h k c) any.0 b any.2 good.free) in
+      let parts = or_parts (is_kept h k c r) (is_being_bound h k r) (ap (λ o. is_taken h k c o) (sym (ring_is r (ring_bound h b) any.4)) ∙ free) in
+      (parts.0, parts.1)
 
   -- what Configure Endpoint adds
   free_by : (s n i : ℕ) → commands.is_bad_added h k s n i ≡ false → nat_le 2 i ≡ true → (is_off (k.endpoint_state s i) || is_dropped k.memory n i) ≡ true

@@ -1,10 +1,11 @@
 -- What the rules say of a command that a write gives
-use Rattle.std.proofs.Common.{◌≡◌, ◌==◌, ◌||◌, ◌∙◌, ℕ, not, Bool, true, false, [], map, All, Option, None, Some, is_some, arith, refl, sym, ap, subst, inl, inr, eqb-true}
-use Rattle.safety.proofs.Words.{list_any, and_cases, or_parts, not-false, not-true, false≢true, false_from_ne_true, All-get_or, All-weaker, Any-from_list_any, declared, floor_number, is_move, Command, NoOp, EnableSlot, DisableSlot, AddressDevice, ConfigureEndpoint, EvaluateContext, ResetEndpoint, StopEndpoint, SetTrDequeue, ResetDevice, EndpointState, Off, is_off, Header, Write, IsHeader, shape_of, is_ring, Known, command_given, Binding, binding_in, binds, ring_bound, binds_ring, is_used, is_unused_ring, has_repeats, is_bad_binding, is_bad_stay, is_bad_move, some_command, write_tests, lenient_tests, lenient, StaysIf, MovesIf, DriverKeeps}
+use Rattle.std.proofs.Common.{◌≡◌, ◌==◌, ◌||◌, ◌∙◌, ℕ, not, Bool, true, false, [], map, All, Option, None, Some, is_some, arith, refl, sym, ap, subst, inl, inr, eqb-true, ◌≢◌, ◌<◌}
+use Rattle.safety.proofs.Words.{list_any, and_cases, or_parts, not-false, not-true, false≢true, false_from_ne_true, All-get_or, All-weaker, Any-from_list_any, declared, floor_number, is_move, Command, NoOp, EnableSlot, DisableSlot, AddressDevice, ConfigureEndpoint, EvaluateContext, ResetEndpoint, StopEndpoint, SetTrDequeue, ResetDevice, EndpointState, Off, is_off, Header, Write, IsHeader, shape_of, is_ring, Known, command_given, Binding, binding_in, binds, ring_bound, binds_ring, drops, is_kept, is_being_bound, has_repeats, is_bad_binding, is_bad_stay, is_bad_move, some_command, write_tests, lenient_tests, lenient, StaysIf, MovesIf, DriverKeeps, none-some}
 use Rattle.ownership_rules.specs.Commands as commands
 use Rattle.safety.proofs.TestsPassed.{AllFail, tests_fail, each_fails}
 use Rattle.safety.proofs.Headers.{transfer_driver}
-use Rattle.safety.proofs.GivenCommands.{ring_is, GoodBindings, good_bindings, never_bound, content_good, stays, fails_of}
+use Rattle.safety.proofs.GivenCommands.{GoodBindings, good_bindings, bound_free, content_good, stays, fails_of}
+use Rattle.safety.proofs.RingsKept.{kept_drops}
 use Rattle.safety.proofs.CommandsStay.{OwnKeeps}
 
 is_off_only : (e : EndpointState) → is_off e ≡ true → e ≡ Off
@@ -16,31 +17,9 @@ module _ (h : Header) (k : Known) where
     pub own : OwnKeeps h k c
     pub content : commands.has_bad_content h k c ≡ false
     pub busy : commands.is_busy h k c ≡ false
-    pub unused : (r : ℕ) → binds_ring h k r c ≡ true → is_used h k r ≡ false
+    pub unshared : (r : ℕ) → binds_ring h k r c ≡ true → is_being_bound h k r ≡ false
     -- nothing waits on the ring of a second Address Device
     pub nothing_left : (s n r : ℕ) (bsr : Bool) → c ≡ AddressDevice s bsr n → k.ring_of s 1 ≡ Some r → declared (k.ring r) ≡ floor_number (k.ring r)
-
-  binds_well : (c : Command) → is_bad_binding h k c ≡ false → All (λ b. (is_some (ring_bound h b) ≡ true) × (b.cycle ≡ true)) (binds h k c)
-  unfolding is_bad_binding is_unused_ring
-  binds_well c good =
-      let parts = or_parts (list_any (λ b. not (is_unused_ring h k (ring_bound h b)) || not b.cycle) (binds h k c)) (has_repeats (map (ring_bound h) (binds h k c))) good in
-      All-weaker (λ b. (not (is_unused_ring h k (ring_bound h b)) || not b.cycle) ≡ false) (λ b. (is_some (ring_bound h b) ≡ true) × (b.cycle ≡ true))
-      (λ b fails. let two = or_parts (not (is_unused_ring h k (ring_bound h b))) (not b.cycle) fails in
-      (some_unused (ring_bound h b) (not-false (is_unused_ring h k (ring_bound h b)) two.0), not-false b.cycle two.1))
-      (binds h k c) (each_fails (λ b. not (is_unused_ring h k (ring_bound h b)) || not b.cycle) (binds h k c) parts.0)
-    where
-      some_unused : (o : Option ℕ) → is_unused_ring h k o ≡ true → is_some o ≡ true
-      some_unused None unused = absurd (false≢true unused)
-      some_unused (Some r) unused = refl
-
-  rings_unused : (c : Command) → GoodBindings h k c → (r : ℕ) → binds_ring h k r c ≡ true → is_used h k r ≡ false
-  unfolding binds_ring is_unused_ring
-  rings_unused c good r bound =
-      let any = Any-from_list_any (λ b. is_ring r (ring_bound h b)) (binds h k c) bound in
-      let b : Binding = any.1 in
-      let unused : is_unused_ring h k (ring_bound h b) ≡ true =
-      subst (λ (x : Binding). is_unused_ring h k (ring_bound h x) ≡ true) any.3 (All-get_or (λ x. is_unused_ring h k (ring_bound h x) ≡ true) (binds h k c) any.0 b any.2 good.unused) in
-      not-true (is_used h k r) (ap (λ o. is_unused_ring h k o) (sym (ring_is r (ring_bound h b) any.4)) ∙ unused)
 
   moves_if : (c : Command) → is_bad_move h k c ≡ false → MovesIf h k c
   moves_if (AddressDevice s bsr n) good = tt
@@ -55,6 +34,16 @@ module _ (h : Header) (k : Known) where
   moves_if (ResetDevice s) good = good
 
   module _ (is : IsHeader h) (d : DriverKeeps h k) where
+    -- an endpoint that has a ring which the command binds is dropped
+    unkept_if : (c : Command) → GoodBindings h k c → (r s i : ℕ) → binds_ring h k r c ≡ true → k.ring_of s i ≡ Some r → drops k c s i ≡ true
+    unkept_if c good r s i bound has =
+        let number = d.numbered s i r has in
+        kept_drops h k c r (bound_free h k c good r bound).0 s i (some_number s (λ none. none-some r (sym (d.states.no_endpoint s i (inl none)) ∙ has))) number.0
+        (some_number i (λ none. none-some r (sym (d.states.no_endpoint s i (inr none)) ∙ has))) number.1 has
+      where
+        some_number : (n : ℕ) → n ≢ 0 → 0 < n
+        some_number n other = omega (arith, other)
+
     stand_rule : (s n r : ℕ) (bsr : Bool) → is_bad_move h k (AddressDevice s bsr n) ≡ false → k.ring_of s 1 ≡ Some r → is_bad_stay h k (Some r) (binding_in h k n 1) ≡ false
     unfolding is_bad_move
     stand_rule s n r bsr good at =
@@ -99,7 +88,7 @@ module _ (h : Header) (k : Known) where
     given_facts a w c clean given =
         let fails : AllFail (write_tests h k a w) = tests_fail h k (Write a w) clean in
         let good = fails_of h k (commands.is_bad_command h k) (command_given h k a w) c fails.1.1.1.1.1.0 given in
-        let busy = fails_of h k (commands.is_busy h k) (command_given h k a w) c (or_parts _ _ fails.1.1.1.1.1.1.0).0 given in
+        let busy = fails_of h k (commands.is_busy h k) (command_given h k a w) c (or_parts _ _ (or_parts _ _ fails.1.1.1.1.1.1.0).0).0 given in
         let inside = fails_of h k (commands.adds_streams h k) (command_given h k a w) c (or_parts _ _ fails.1.1.1.1.1.1.1.0).0 given in
         let places = fails_of h k (λ c. is_bad_binding h k c || is_bad_move h k c) (command_given h k a w) c fails.1.1.1.1.1.1.1.1.0 given in
         let parts = or_parts (is_bad_binding h k c) (is_bad_move h k c) places in
@@ -108,14 +97,14 @@ module _ (h : Header) (k : Known) where
           own = record {
             good = good;
             in_profile = inside;
-            binds_rings = binds_well c parts.0;
+            placed = bindings.placed;
             repeats = bindings.repeats;
-            unbound = never_bound h k c bindings;
+            unkept = unkept_if c bindings;
             moves_on = moves_if c parts.1;
             stays = stays_if c parts.1;
           };
           content = content_good h k c good;
           busy = busy;
-          unused = rings_unused c bindings;
+          unshared = λ r bound. (bound_free h k c bindings r bound).1;
           nothing_left = left_if c parts.1;
         }

@@ -153,7 +153,10 @@ module _ (h : Header) where
 
   module _ (P : ℕ → Type 0) where
     target_is : (k l : Known) → Alike P k l → ((r : ℕ) → (l.ring r).queue ≡ (k.ring r).queue) → (change : Change) → TargetIs h k l change
-    target_is k l a queues (Places s i p cycle state) = λ on r has. target_same r p cycle (k.ring r) (l.ring r) (a.rings r).floor (queues r)
+    target_is k l a queues (Places s i p cycle state) = record {
+      binds = λ off r at. target_same r p cycle (k.ring r) (l.ring r) (a.rings r).floor (queues r);
+      moves = λ on r has. target_same r p cycle (k.ring r) (l.ring r) (a.rings r).floor (queues r);
+    }
     target_is k l a queues (SlotGoesOn s) = tt
     target_is k l a queues (DeviceLeft s) = tt
     target_is k l a queues (Disables s which) = tt

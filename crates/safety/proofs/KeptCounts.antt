@@ -96,7 +96,6 @@ module _ (h : Header) where
     rings = λ s i. ap (λ f. f s i) slots.ring_of ∙ u.rings s i;
     floors = λ r. (pointers r).floor ∙ u.floors r;
     held = λ r. (pointers r).held ∙ u.held r;
-    bound = λ r. ap (λ f. f r) slots.was_bound ∙ u.bound r;
     seen = λ s i. ap (λ f. f s i) slots.stop_seen ∙ u.seen s i;
   }
 

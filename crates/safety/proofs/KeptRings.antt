@@ -60,9 +60,9 @@ module _ (h : Header) where
   -- so what was tested of an unfinished command holds still
   pub command_holds : (k : Known) (p : ℕ) (c : Command) → CommandKeeps h k p c → StillHolds h k c
   command_holds k p c keeps = record {
-    named = All-weaker (λ b. (is_some (moves.ring_bound h b) ≡ true) × (b.cycle ≡ true)) (λ b. is_some (moves.ring_bound h b) ≡ true) (λ b both. both.0) (moves.binds h k c) keeps.binds;
+    placed = keeps.binds;
     repeats = keeps.repeats;
-    unbound = keeps.unbound;
+    unkept = keeps.unkept;
     free = are_free h k c (content_good h k c keeps.good);
     moves_on = moves_still k c keeps.moves_on keeps.stays;
   }

@@ -83,8 +83,9 @@ module _ (h : Header) (k m : Known) (r : ℕ) (x : RingView) (l : LearnsRing k m
         (subst (λ y. BoundRing (shape_of h q) k.ring_of y (state_of v q) q) (sym (l.others q other))
         (subst (λ y. BoundRing (shape_of h q) k.ring_of (k.ring q) y q) (sym (o.others q other)) bound)))
     other_ring q other (inr free) =
-        inr (subst (λ f. FreeRing (shape_of h q) f (state_of v q) q) (sym l.ring_of)
-        (subst (λ y. FreeRing (shape_of h q) k.ring_of y q) (sym (o.others q other)) free))
+        inr (subst (λ f. FreeRing (shape_of h q) f (m.ring q) (state_of v q) q) (sym l.ring_of)
+        (subst (λ y. FreeRing (shape_of h q) k.ring_of y (state_of v q) q) (sym (l.others q other))
+        (subst (λ y. FreeRing (shape_of h q) k.ring_of (k.ring q) y q) (sym (o.others q other)) free)))
 
     -- an endpoint's ring, of which more is known
     pub matches_learns : DriverKeeps h k → Matches h k u → r ≢ command_id h → BoundRing (shape_of h r) k.ring_of x s r →
@@ -102,10 +103,6 @@ module _ (h : Header) (k m : Known) (r : ℕ) (x : RingView) (l : LearnsRing k m
                 (subst (λ z. BoundRing (shape_of h r) k.ring_of z (state_of v r) r) (sym l.here)
                 (subst (λ z. BoundRing (shape_of h r) k.ring_of x z r) (sym o.here) bound))))
             | inr apart ↦ other_ring q apart (y.rings q not_command)
-          ];
-          fresh = λ q not_command unused. let before : k.was_bound q ≡ false = ap (λ f. f q) (sym l.was_bound) ∙ unused in elim (cases_eq q r) [
-            | inl same ↦ absurd (false≢true (sym before ∙ ap k.was_bound same ∙ d.states.was_bound bound.slot bound.index r bound.bound))
-            | inr apart ↦ ap (λ z. z.events) (o.others q apart) ∙ y.fresh q not_command before
           ];
           before = λ off. absurd (none-some r (sym ((d.unstarted (sym l.started ∙ off)).rings bound.slot bound.index) ∙ bound.bound));
           command = λ on. let c = y.command (sym l.started ∙ on) in record {

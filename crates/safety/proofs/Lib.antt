@@ -56,6 +56,7 @@ pub mod SlotChanges
 pub mod StopChange
 pub mod DisableChange
 pub mod NumberedChanges
+pub mod SameRings
 pub mod NumberedHistories
 pub mod FinishSlots
 pub mod StoppedRing
@@ -65,6 +66,7 @@ pub mod ReportStop
 pub mod ReportRuns
 pub mod RowsLeft
 pub mod ContextReads
+pub mod BoundRings
 pub mod CommandsBeside
 pub mod CommandsStay
 pub mod CommandsSame
@@ -207,3 +209,6 @@ pub mod CommandGood
 pub mod GivenSquare
 pub mod WriteSquare
 pub mod Words
+pub mod RingsKept
+pub mod OpenedBefore
+pub mod BoundBehind

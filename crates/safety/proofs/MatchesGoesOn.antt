@@ -1,5 +1,5 @@
 -- Where more is known of rings whose pointers stay, and the controller did nothing, what it did is still what is known of it
-use Rattle.std.proofs.Common.{◌≡◌, ◌≢◌, ◌∙◌, ℕ, None, Some, refl, sym, ap, subst, inl, inr}
+use Rattle.std.proofs.Common.{◌≡◌, ◌≢◌, ◌∙◌, ℕ, None, Some, refl, sym, ap, subst, inl, inr, arith}
 use Rattle.safety.proofs.Words.{address_of, number, Command, named_context, Header, shape_of, command_id, World, UnderWay, Known, IsUnfinished, Newest, state_of, RingMatches, BoundRing, FreeRing, EndpointRing, UnderWayMatches, CommandMatches, IsUnchanged, Matches}
 use Rattle.safety.proofs.RingGoesOn.{RingGoesOn, bound_on, matches_on}
 use Rattle.safety.proofs.UnderWayGoesOn.{NextStays, under_way_on}
@@ -39,7 +39,9 @@ module _ (h : Header) (k m : Known) (w v : World) (g : KnownGoesOn h k m) (c : S
       (subst (λ s. BoundRing (shape_of h r) k.ring_of (m.ring r) s r) (sym (c.states r))
       (bound_on (shape_of h r) (k.ring r) (m.ring r) (g.rings r) (state_of w r) k.ring_of r (newest r) bound)))
   endpoint_ring newest r (inr free) =
-      inr (subst (λ f. FreeRing (shape_of h r) f (state_of v r) r) (sym g.ring_of) (subst (λ s. FreeRing (shape_of h r) k.ring_of s r) (sym (c.states r)) free))
+      let on = g.rings r in
+      inr (subst (λ f. FreeRing (shape_of h r) f (m.ring r) (state_of v r) r) (sym g.ring_of) (subst (λ s. FreeRing (shape_of h r) k.ring_of (m.ring r) s r) (sym (c.states r))
+      (record { none = free.none; rests = free.rests; from = let floor = ap number on.floor in omega (arith, free.from); to = omega (arith, free.to, on.ceiling) })))
 
   command_matches : NewestStay → ((u : UnderWay) → w.under_way ≡ Some u → NextStays h k m (g.rings (command_id h)).floor g.stop_seen) → CommandMatches h k w → CommandMatches h m v
   command_matches newest next y = record {
@@ -57,7 +59,6 @@ module _ (h : Header) (k m : Known) (w v : World) (g : KnownGoesOn h k m) (c : S
     endpoints = λ s i. ap (λ f. f s i) c.endpoint_state ∙ y.endpoints s i ∙ ap (λ f. f s i) (sym g.endpoint_state);
     ring_of = λ s i. ap (λ f. f s i) c.ring_of ∙ y.ring_of s i ∙ ap (λ f. f s i) (sym g.ring_of);
     rings = λ r other. endpoint_ring newest r (y.rings r other);
-    fresh = λ r other unused. ap (λ s. s.events) (c.states r) ∙ y.fresh r other (ap (λ f. f r) (sym g.was_bound) ∙ unused);
     before = λ off. let b = y.before (sym g.started ∙ off) in record {
       inactive = ap (λ s. s.active) (c.states (command_id h)) ∙ b.inactive;
       no_events = ap (λ s. s.events) (c.states (command_id h)) ∙ b.no_events;

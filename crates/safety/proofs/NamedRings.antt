@@ -1,8 +1,7 @@
--- The ring that a pointer names: one that begins there, or has it inside, is the only one
+-- The ring that a pointer names: one that has it inside is the only one
 use Rattle.std.proofs.Common.{◌≡◌, ◌+◌, ◌==◌, ◌&&◌, ◌∙◌, ℕ, true, Option, None, Some, find, arith, refl, sym, ap, inl, inr, eqb-true}
-use Rattle.safety.proofs.Words.{and_parts, none-some, same_Some, Spot, Data, Link, Shape, address_of, is_inside, link_address, IsSpot, spot_address, IsShape, address_inside, link_address_inside, Header, Ring, IsHeader, ring_with, shape_of, id_of, is_transfer_kind, ring_beginning_at, ring_having, IsTransferRing}
+use Rattle.safety.proofs.Words.{and_parts, none-some, same_Some, Spot, Data, Link, Shape, address_of, is_inside, link_address, IsSpot, spot_address, IsShape, address_inside, link_address_inside, Header, Ring, IsHeader, ring_with, shape_of, id_of, is_transfer_kind, ring_having, IsTransferRing}
 use Rattle.safety.proofs.Headers.{found_in, together, clash_apart, header_parts, shape_is, ring_shape, transfer_driver}
-use Rattle.safety.proofs.RingIds.{found_again}
 
 -- the address of a spot is inside its ring
 pub spot_inside : (shape : Shape) → IsShape shape → (t : Spot) → IsSpot shape t → is_inside shape (spot_address shape t) ≡ true
@@ -24,10 +23,6 @@ module _ (h : Header) (is : IsHeader h) where
   unfolding ring_having
   having_found p r at = id_is (find (λ r. is_transfer_kind r.shape.kind && is_inside r.shape p) h.rings) r at
 
-  beginning_found : (p r : ℕ) → ring_beginning_at h p ≡ Some r → (q : Ring) × (find (λ r. is_transfer_kind r.shape.kind && address_of r.shape 0 == p) h.rings ≡ Some q) × (q.id ≡ r)
-  unfolding ring_beginning_at
-  beginning_found p r at = id_is (find (λ r. is_transfer_kind r.shape.kind && address_of r.shape 0 == p) h.rings) r at
-
   -- a transfer ring that has an address inside is the one that is found by it
   pub having_is : (p r q : ℕ) → IsTransferRing h r → is_inside (shape_of h r) p ≡ true → ring_having h p ≡ Some q → q ≡ r
   having_is p r q transfer inside at =
@@ -44,30 +39,6 @@ module _ (h : Header) (is : IsHeader h) where
           | inr other ↦ clash_apart transfer.ring found.0 p other own has
         ])
       ]
-
-  -- the ring that begins at an address
-  pub record Beginning (p r : ℕ) : Type 0 where
-    pub transfer : IsTransferRing h r
-    pub at : address_of (shape_of h r) 0 ≡ p
-
-  pub beginning_is : (p r : ℕ) → ring_beginning_at h p ≡ Some r → Beginning p r
-  beginning_is p r at =
-      let found = beginning_found p r at in
-      let there = found_in (λ x. is_transfer_kind x.shape.kind && address_of x.shape 0 == p) h.rings found.0 found.1 in
-      let parts = and_parts (is_transfer_kind found.0.shape.kind) (address_of found.0.shape 0 == p) there.1 in
-      let by_id : ring_with h r ≡ Some found.0 =
-      ap (λ n. ring_with h n) (sym found.2) ∙ found_again (λ x. is_transfer_kind x.shape.kind && address_of x.shape 0 == p) h.rings found.0 (header_parts h is).1 found.1 in
-      record {
-        transfer = record { ring = found.0; found = by_id; kind = parts.0 };
-        at = ap (λ s. address_of s 0) (shape_is h r found.0 by_id) ∙ eqb-true (address_of found.0.shape 0) p parts.1;
-      }
-
-  -- it is the one that has the address inside
-  pub beginning_having : (p r q : ℕ) → ring_beginning_at h p ≡ Some r → ring_having h p ≡ Some q → q ≡ r
-  beginning_having p r q begins at =
-      let b : Beginning p r = beginning_is p r begins in
-      let inside = spot_inside (shape_of h r) (ring_shape h is r (transfer_driver h r b.transfer)).is (Data 0) refl in
-      having_is p r q b.transfer (ap (λ a. is_inside (shape_of h r) a) (sym b.at) ∙ inside) at
 
   pub moved_having : (p r q : ℕ) (t : Spot) → IsTransferRing h r → IsSpot (shape_of h r) t → spot_address (shape_of h r) t ≡ p → ring_having h p ≡ Some q → q ≡ r
   moved_having p r q t transfer spot at found =

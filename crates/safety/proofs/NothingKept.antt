@@ -45,7 +45,6 @@ module _ (h : Header) where
     rings = λ s i. refl;
     floors = λ r. refl;
     held = λ r. refl;
-    bound = λ r. refl;
     seen = λ s i. refl;
   }
 
@@ -57,6 +56,7 @@ module _ (h : Header) where
     clean = λ r a ring inside. refl;
     command_ring = command_ring_at_start;
     states = states_at_start is;
+    numbered = λ s i r at. absurd (none-some r at);
     unstarted = λ before. unstarted_at_start;
     crcr = λ v at. absurd (none-some v at);
     crcr_written = λ started. absurd (false≢true started);

@@ -1,6 +1,6 @@
 -- The endpoints that a command names have numbers of slots and endpoints, and so has each endpoint that a success gives a ring
 use Rattle.std.proofs.Common.{◌≡◌, ◌+◌, ◌<◌, ◌≤◌, ◌==◌, ◌&&◌, if◌then◌else◌, ◌∷◌, ◌∙◌, ℕ, suc, zero, Bool, true, false, List, [], map, filter, Option, None, Some, arith, refl, sym, ap, subst, inl, inr, eqb-true}
-use Rattle.safety.proofs.Words.{range_with_len, cond_both, and_parts, none-some, same_Some, Block, BlockKind, kind, slot, endpoint, is_command_left_out, Spot, target, Command, NoOp, EnableSlot, DisableSlot, AddressDevice, ConfigureEndpoint, EvaluateContext, ResetEndpoint, StopEndpoint, SetTrDequeue, ResetDevice, Stopped, is_off, command_by_kind, command_of, Change, SlotGoesOn, DeviceLeft, Disables, Places, Stops, Resets, changes, placed_by_context, ContextSize, input_add_flag, added_endpoints, Header, shape_of, ring_beginning_at, Known, on_ring, set_to, bound_to, moved_to, moved, pointed, disabled, in_state, held_at_ceiling, changed_by, changed_by_all}
+use Rattle.safety.proofs.Words.{range_with_len, cond_both, and_parts, none-some, same_Some, Block, BlockKind, kind, slot, endpoint, is_command_left_out, Spot, target, Command, NoOp, EnableSlot, DisableSlot, AddressDevice, ConfigureEndpoint, EvaluateContext, ResetEndpoint, StopEndpoint, SetTrDequeue, ResetDevice, Stopped, is_off, command_by_kind, command_of, Change, SlotGoesOn, DeviceLeft, Disables, Places, Stops, Resets, changes, placed_by_context, ContextSize, input_add_flag, added_endpoints, Header, shape_of, ring_having, Known, on_ring, set_to, bound_to, moved_to, moved, pointed, disabled, in_state, held_at_ceiling, changed_by, changed_by_all}
 use Rattle.trb.specs.declared.kind.BlockKind.TheVariants as kinds
 use Rattle.safety.proofs.LookKinds.{cond_is}
 use Rattle.safety.proofs.FinishChanges.{AreNumbered}
@@ -91,23 +91,23 @@ module _ (h : Header) where
   pub same_numbered : (k l : Known) → l.ring_of ≡ k.ring_of → AreNumbered k → AreNumbered l
   same_numbered k l same all s i r at = all s i r (ap (λ (f : ℕ → ℕ → Option ℕ). f s i) (sym same) ∙ at)
 
-  bound_numbered : (k : Known) → AreNumbered k → (s i : ℕ) (o : Option ℕ) → (s < 256) × (i < 32) → AreNumbered (bound_to h k s i o)
+  bound_numbered : (k : Known) → AreNumbered k → (s i : ℕ) (o : Option ℕ) (p : ℕ) (cycle : Bool) → (s < 256) × (i < 32) → AreNumbered (bound_to h k s i o p cycle)
   unfolding bound_to
-  bound_numbered k all s i None fits = all
-  bound_numbered k all s i (Some r) fits =
+  bound_numbered k all s i None p cycle fits = all
+  bound_numbered k all s i (Some r) p cycle fits =
       λ t j q at.
       elim (cond_is (t == s && j == i) (Some r) (k.ring_of t j) (Some q) at) [
         | inl here ↦
-            let p = and_parts (t == s) (j == i) here.0 in
-            (subst (λ n. n < 256) (sym (eqb-true t s p.0)) fits.0, subst (λ n. n < 32) (sym (eqb-true j i p.1)) fits.1)
+            let both = and_parts (t == s) (j == i) here.0 in
+            (subst (λ n. n < 256) (sym (eqb-true t s both.0)) fits.0, subst (λ n. n < 32) (sym (eqb-true j i both.1)) fits.1)
         | inr other ↦ all t j q other.1
       ]
 
   pointed_numbered : (k : Known) → AreNumbered k → (s i p : ℕ) (cycle : Bool) → (s < 256) × (i < 32) → AreNumbered (pointed h k s i p cycle)
   unfolding pointed
   pointed_numbered k all s i p cycle fits =
-      cond_both (is_off (k.endpoint_state s i)) (bound_to h k s i (ring_beginning_at h p)) (moved h k (k.ring_of s i) p cycle) AreNumbered
-      (λ off. bound_numbered k all s i (ring_beginning_at h p) fits)
+      cond_both (is_off (k.endpoint_state s i)) (bound_to h k s i (ring_having h p) p cycle) (moved h k (k.ring_of s i) p cycle) AreNumbered
+      (λ off. bound_numbered k all s i (ring_having h p) p cycle fits)
       (λ on. same_numbered k (moved h k (k.ring_of s i) p cycle) (moved_ring_of k (k.ring_of s i) p cycle) all)
 
   held_ring_of : (k : Known) (o : Option ℕ) → (held_at_ceiling h k o).ring_of ≡ k.ring_of

@@ -2,75 +2,10 @@
 use Rattle.std.proofs.Common.{◌≡◌, ◌==◌, ◌&&◌, ◌||◌, if◌then◌else◌, ◌∷◌, ℕ, not, Bool, true, List, [], Option, None, Some, option_and_then, slice_get, refl}
 use Rattle.safety.proofs.Words.{cond_both, none-some, put_pair, Block, BlockKind, TransferEvent, CommandCompletion, kind, code, slot, endpoint, is_success, is_halting, is_trb_error, is_stopping, Spot, Declares, Opens, Command, StopEndpoint, Halted, Error, command_of, changes, Header, Register, Erdp, Usbcmd, Row, Sub, Write, Reg, Bell, Read, command_id, run_bit, reset_bit, Known, nothing, RingSpot, on_ring, event_at, command_at, next_command, with_device, with_word, written, command_given, taken_device, run_or_stop, valued, register_written, endpoint_rung, rung, passed, broken_off, stopped_at, transferred, transferred_at, transfer_read, succeeded, stop_ended, finished, completed, event_read, learned, known}
 use Rattle.safety.proofs.FinishChanges.{AreNumbered}
+use Rattle.safety.proofs.SameRings.{written_same, register_same, rung_same, transfer_same, stop_same}
 use Rattle.safety.proofs.NumberedChanges.{IsNumbered, command_numbered, changes_numbered, same_numbered, all_numbered}
 
--- ---- rows that give no endpoint a ring
-
--- the same endpoints have rings, and the same ones
-abbrev SameRings : Known → Known → Type 0
-SameRings k l = l.ring_of ≡ k.ring_of
-
-either_same : (k : Known) (b : Bool) (l m : Known) → SameRings k l → SameRings k m → SameRings k (if b then l else m)
-either_same k b l m one other = cond_both b l m (SameRings k) (λ x. one) (λ x. other)
-
 module _ (h : Header) where
-  device_same : (k : Known) (taken : Option (ℕ × ℕ)) → SameRings k (with_device h k taken)
-  unfolding with_device
-  device_same k None = refl
-  device_same k (Some e) = refl
-
-  written_same : (k : Known) (a w : ℕ) → SameRings k (written h k a w)
-  unfolding written with_word
-  written_same k a w = device_same (with_word h k a w) (option_and_then (taken_device k) (command_given h k a w))
-
-  run_same : (k : Known) (x : ℕ) → SameRings k (run_or_stop k x)
-  unfolding run_or_stop
-  run_same k x =
-      let on : Known = record k { started = true } in
-      let off : Known = record k { stopped = true } in
-      either_same k (not k.started) (if run_bit x && not (reset_bit x) then on else k) (if not (run_bit x) || reset_bit x then off else k)
-      (either_same k (run_bit x && not (reset_bit x)) on k refl refl) (either_same k (not (run_bit x) || reset_bit x) off k refl refl)
-
-  register_same : (k : Known) (r : Register) (x : ℕ) → SameRings k (register_written h k r x)
-  unfolding register_written valued
-  register_same k Usbcmd x = run_same (valued k Usbcmd x) x
-  register_same k Erdp x = refl
-  register_same k r x = refl
-
-  endpoint_same : (k : Known) (s t : ℕ) (o : Option ℕ) → SameRings k (endpoint_rung h k s t o)
-  unfolding endpoint_rung on_ring
-  endpoint_same k s t None = refl
-  endpoint_same k s t (Some r) = refl
-
-  rung_same : (k : Known) (s t : ℕ) → SameRings k (rung h k s t)
-  unfolding rung on_ring
-  rung_same k s t = either_same k (s == 0) (on_ring h k (command_id h) Opens) (endpoint_rung h k s t (k.ring_of s t)) refl (endpoint_same k s t (k.ring_of s t))
-
-  transferred_same : (k : Known) (c s i r : ℕ) (t : Spot) → SameRings k (transferred h k c s i r t)
-  unfolding transferred passed broken_off stopped_at on_ring
-  transferred_same k c s i r t =
-      let halts : Known = record (broken_off h k s i r t Halted) { must_move = put_pair k.must_move s i true } in
-      let fails : Known = broken_off h k s i r t Error in
-      let stopped : Known = if is_stopping c then stopped_at h k s i r t else k in
-      either_same k (is_success c) (passed h k r t) (if is_halting c then halts else if is_trb_error c then fails else stopped) refl
-      (either_same k (is_halting c) halts (if is_trb_error c then fails else stopped) refl
-      (either_same k (is_trb_error c) fails stopped refl (either_same k (is_stopping c) (stopped_at h k s i r t) k refl refl)))
-
-  transfer_same : (k : Known) (b : Block) → SameRings k (transfer_read h k b)
-  unfolding transfer_read transferred_at
-  transfer_same k b = by (event_at h k b)
-    where
-      by : (o : Option RingSpot) → SameRings k (transferred_at h k b o)
-      by None = refl
-      by (Some at) = transferred_same k (code b) (slot b) (endpoint b) at.ring at.spot
-
-  -- ---- a completion
-
-  stop_same : (k : Known) (c : Command) → SameRings k (stop_ended h k c)
-  unfolding stop_ended
-  stop_same k (StopEndpoint s i) = refl
-  stop_same k _ = refl
-
   declared_command : (o : Option Block) (c : Command) → option_and_then command_of o ≡ Some c → IsNumbered c
   declared_command None c at = absurd (none-some c at)
   declared_command (Some d) c at = command_numbered d c at
@@ -80,7 +15,7 @@ module _ (h : Header) where
   finished_numbered k b None fits all = all
   finished_numbered k b (Some c) fits all =
       same_numbered h (if code b == 1 then succeeded h k (slot b) c else k) (stop_ended h (if code b == 1 then succeeded h k (slot b) c else k) c)
-      (stop_same (if code b == 1 then succeeded h k (slot b) c else k) c)
+      (stop_same h (if code b == 1 then succeeded h k (slot b) c else k) c)
       (cond_both (code b == 1) (succeeded h k (slot b) c) k AreNumbered
       (λ one. all_numbered h c k (changes h.context_size k.memory (slot b) c) all (changes_numbered h.context_size k.memory (slot b) c (fits c refl))) (λ other. all))
 
@@ -94,16 +29,16 @@ module _ (h : Header) where
 
   event_numbered : (k : Known) (b : Block) (n : BlockKind) → AreNumbered k → AreNumbered (event_read h k n b)
   unfolding event_read
-  event_numbered k b TransferEvent all = same_numbered h k (transfer_read h k b) (transfer_same k b) all
+  event_numbered k b TransferEvent all = same_numbered h k (transfer_read h k b) (transfer_same h k b) all
   event_numbered k b CommandCompletion all = completed_numbered k b all
   event_numbered k b _ all = all
 
-  row_numbered : (k : Known) (row : Row) → AreNumbered k → AreNumbered (learned h k row)
+  pub row_numbered : (k : Known) (row : Row) → AreNumbered k → AreNumbered (learned h k row)
   unfolding learned on_ring
   row_numbered k (Sub r blocks) all = same_numbered h k (on_ring h k r (Declares blocks)) refl all
-  row_numbered k (Write a w) all = same_numbered h k (written h k a w) (written_same k a w) all
-  row_numbered k (Reg r x) all = same_numbered h k (register_written h k r x) (register_same k r x) all
-  row_numbered k (Bell s t) all = same_numbered h k (rung h k s t) (rung_same k s t) all
+  row_numbered k (Write a w) all = same_numbered h k (written h k a w) (written_same h k a w) all
+  row_numbered k (Reg r x) all = same_numbered h k (register_written h k r x) (register_same h k r x) all
+  row_numbered k (Bell s t) all = same_numbered h k (rung h k s t) (rung_same h k s t) all
   row_numbered k (Read b) all = same_numbered h (event_read h k (kind b) b) (learned h k (Read b)) refl (event_numbered k b (kind b) all)
 
   pub are_numbered : (past : List Row) → AreNumbered (known h past)

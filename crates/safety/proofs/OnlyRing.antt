@@ -60,7 +60,7 @@ module _ (h : Header) (k : Known) (w v : World) (r : ℕ) (s : RingState) (o : O
 
   other_ring : (q : ℕ) → q ≢ r → EndpointRing h k w q → EndpointRing h k v q
   other_ring q other (inl bound) = inl (subst (λ x. BoundRing (shape_of h q) k.ring_of (k.ring q) x q) (sym (o.others q other)) bound)
-  other_ring q other (inr free) = inr (subst (λ x. FreeRing (shape_of h q) k.ring_of x q) (sym (o.others q other)) free)
+  other_ring q other (inr free) = inr (subst (λ x. FreeRing (shape_of h q) k.ring_of (k.ring q) x q) (sym (o.others q other)) free)
 
   -- where an endpoint's ring has changed
   pub matches_transfer : DriverKeeps h k → Matches h k w → r ≢ command_id h → BoundRing (shape_of h r) k.ring_of (k.ring r) s r →
@@ -74,10 +74,6 @@ module _ (h : Header) (k : Known) (w v : World) (r : ℕ) (s : RingState) (o : O
         rings = λ q not_command. elim (cases_eq q r) [
           | inl same ↦ subst (λ x. EndpointRing h k v x) (sym same) (inl (subst (λ x. BoundRing (shape_of h r) k.ring_of (k.ring r) x r) (sym o.here) bound))
           | inr apart ↦ other_ring q apart (m.rings q not_command)
-        ];
-        fresh = λ q not_command unused. elim (cases_eq q r) [
-          | inl same ↦ absurd (false≢true (sym unused ∙ ap k.was_bound same ∙ d.states.was_bound bound.slot bound.index r bound.bound))
-          | inr apart ↦ ap (λ x. x.events) (o.others q apart) ∙ m.fresh q not_command unused
         ];
         before = λ off. absurd (none-some r (sym ((d.unstarted off).rings bound.slot bound.index) ∙ bound.bound));
         command = λ on. let c = m.command on in record {
@@ -99,7 +95,6 @@ module _ (h : Header) (k : Known) (w v : World) (r : ℕ) (s : RingState) (o : O
         endpoints = λ q i. ap (λ f. f q i) o.endpoint_state ∙ m.endpoints q i;
         ring_of = λ q i. ap (λ f. f q i) o.ring_of ∙ m.ring_of q i;
         rings = λ q not_command. other_ring q (λ e. not_command (e ∙ command)) (m.rings q not_command);
-        fresh = λ q not_command unused. ap (λ x. x.events) (o.others q (λ e. not_command (e ∙ command))) ∙ m.fresh q not_command unused;
         before = λ off. absurd (false≢true (sym off ∙ on));
         command = λ yes. new;
         scribbles = scribbles;

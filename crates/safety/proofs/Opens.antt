@@ -1,6 +1,6 @@
 -- Before the first row: nothing is known, nothing is posted, and the opening world agrees with that
 use Rattle.std.proofs.Common.{◌≡◌, ◌≤◌, ℕ, false, List, [], arith, refl, inr}
-use Rattle.safety.proofs.Words.{false≢true, All-nil, none-some, IsBlock, Header, Row, opening, nothing, known, Stands, EventsStand, Matches, Runs}
+use Rattle.safety.proofs.Words.{false≢true, All-nil, none-some, IsBlock, Header, Row, opening, nothing, known, Stands, EventsStand, Matches, Runs, next_take, ceiling}
 use Rattle.world_state.specs.Harms as of_harms
 
 module _ (h : Header) (rows : List Row) where
@@ -27,13 +27,12 @@ module _ (h : Header) (rows : List Row) where
   }
 
   matches : Matches h nothing (opening rows)
-  unfolding nothing opening of_harms.is_out_of_order of_harms.has_other_words
+  unfolding nothing opening of_harms.is_out_of_order of_harms.has_other_words next_take ceiling
   matches = record {
     slots = λ s. refl;
     endpoints = λ s i. refl;
     ring_of = λ s i. refl;
-    rings = λ r other. inr (record { none = λ s i at. none-some r at; rests = record { inactive = refl; in_order = refl; as_declared = refl } });
-    fresh = λ r other unbound. refl;
+    rings = λ r other. inr (record { none = λ s i at. none-some r at; rests = record { inactive = refl; in_order = refl; as_declared = refl }; from = omega arith; to = omega arith });
     before = λ off. record { inactive = refl; no_events = refl; none = refl };
     command = λ on. absurd (false≢true on);
     scribbles = λ s on. absurd (false≢true on);

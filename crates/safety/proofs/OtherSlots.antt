@@ -1,6 +1,6 @@
 -- The success of a command leaves other slots, and the rings that it doesn't name
 use Rattle.std.proofs.Common.{◌≡◌, ◌≢◌, ◌==◌, ◌&&◌, ◌∷◌, ◌∙◌, ℕ, Bool, true, false, List, [], Option, None, Some, refl, sym, ap, subst, ne_eqb}
-use Rattle.safety.proofs.Words.{cond_both, cond-false, and_left, none-some, put_pair, Spot, Data, number, RingChange, Reaches, Holds, ceiling, target, Command, EndpointState, Off, Stopped, is_off, Change, SlotGoesOn, DeviceLeft, Disables, Places, Stops, Resets, Header, shape_of, ring_beginning_at, Known, on_ring, set_to, bound_to, moved_to, moved, pointed, disabled, in_state, held_at_ceiling, changed_by, changed_by_all}
+use Rattle.safety.proofs.Words.{cond_both, cond-false, and_left, none-some, put_pair, Spot, number, RingChange, Reaches, Holds, ceiling, target, Command, EndpointState, Off, Stopped, is_off, Change, SlotGoesOn, DeviceLeft, Disables, Places, Stops, Resets, Header, shape_of, ring_having, Known, on_ring, set_to, bound_to, moved_to, moved, pointed, disabled, in_state, held_at_ceiling, changed_by, changed_by_all}
 use Rattle.safety.proofs.DriverRows.{ring_elsewhere}
 use Rattle.safety.proofs.EndpointPut.{at_pair, at_number}
 
@@ -68,11 +68,16 @@ module _ (s : ℕ) (B : ℕ → Type 0) where
         both_others k (on_ring h k r (Reaches t)) (on_ring h (on_ring h k r (Reaches t)) r (Holds (number t))) (on_others k within r (Reaches t) named)
         (on_others (on_ring h k r (Reaches t)) (on_within k within r (Reaches t)) r (Holds (number t)) named)
 
-    bound_others : (k : Known) → Within k → (i : ℕ) (o : Option ℕ) → ((r : ℕ) → o ≡ Some r → B r) → OtherSlots k (bound_to h k s i o) s B
-    unfolding bound_to
-    bound_others k within i None named = same_others k within
-    bound_others k within i (Some r) named =
-        let set : OtherSlots k (set_to h k r (Data 0)) s B = set_others k within r (Data 0) (named r refl) in
+    target_others : (k : Known) → Within k → (r : ℕ) (o : Option Spot) → B r → OtherSlots k (moved_to h k r o) s B
+    unfolding moved_to
+    target_others k within r None named = same_others k within
+    target_others k within r (Some t) named = set_others k within r t named
+
+    bound_others : (k : Known) → Within k → (i : ℕ) (o : Option ℕ) (p : ℕ) (cycle : Bool) → ((r : ℕ) → o ≡ Some r → B r) → OtherSlots k (bound_to h k s i o p cycle) s B
+    unfolding bound_to moved
+    bound_others k within i None p cycle named = same_others k within
+    bound_others k within i (Some r) p cycle named =
+        let set : OtherSlots k (moved_to h k r (target (shape_of h r) (k.ring r) p cycle)) s B = target_others k within r (target (shape_of h r) (k.ring r) p cycle) (named r refl) in
         record {
           device = set.device;
           fewer = set.fewer;
@@ -85,20 +90,16 @@ module _ (s : ℕ) (B : ℕ → Type 0) where
         }
 
     moved_others : (k : Known) → Within k → (i p : ℕ) (cycle : Bool) (o : Option ℕ) → k.ring_of s i ≡ o → OtherSlots k (moved h k o p cycle) s B
-    unfolding moved moved_to
+    unfolding moved
     moved_others k within i p cycle None at = same_others k within
-    moved_others k within i p cycle (Some r) at = by (target (shape_of h r) (k.ring r) p cycle)
-      where
-        by : (o : Option Spot) → OtherSlots k (moved_to h k r o) s B
-        by None = same_others k within
-        by (Some t) = set_others k within r t (within i r at)
+    moved_others k within i p cycle (Some r) at = target_others k within r (target (shape_of h r) (k.ring r) p cycle) (within i r at)
 
-    pointed_others : (k : Known) → Within k → (i p : ℕ) (cycle : Bool) → (is_off (k.endpoint_state s i) ≡ true → (r : ℕ) → ring_beginning_at h p ≡ Some r → B r) →
+    pointed_others : (k : Known) → Within k → (i p : ℕ) (cycle : Bool) → (is_off (k.endpoint_state s i) ≡ true → (r : ℕ) → ring_having h p ≡ Some r → B r) →
         OtherSlots k (pointed h k s i p cycle) s B
     unfolding pointed
     pointed_others k within i p cycle named =
-        cond_both (is_off (k.endpoint_state s i)) (bound_to h k s i (ring_beginning_at h p)) (moved h k (k.ring_of s i) p cycle) (λ l. OtherSlots k l s B)
-        (λ off. bound_others k within i (ring_beginning_at h p) (named off)) (λ on. moved_others k within i p cycle (k.ring_of s i) refl)
+        cond_both (is_off (k.endpoint_state s i)) (bound_to h k s i (ring_having h p) p cycle) (moved h k (k.ring_of s i) p cycle) (λ l. OtherSlots k l s B)
+        (λ off. bound_others k within i (ring_having h p) p cycle (named off)) (λ on. moved_others k within i p cycle (k.ring_of s i) refl)
 
     state_others : (k : Known) → Within k → (i : ℕ) (state : EndpointState) → OtherSlots k (in_state h k s i state) s B
     unfolding in_state
@@ -127,7 +128,7 @@ module _ (s : ℕ) (B : ℕ → Type 0) where
     ChangesOnly k (SlotGoesOn t) = t ≡ s
     ChangesOnly k (DeviceLeft t) = t ≡ s
     ChangesOnly k (Disables t which) = t ≡ s
-    ChangesOnly k (Places t i p cycle state) = (t ≡ s) × (is_off (k.endpoint_state s i) ≡ true → (r : ℕ) → ring_beginning_at h p ≡ Some r → B r)
+    ChangesOnly k (Places t i p cycle state) = (t ≡ s) × (is_off (k.endpoint_state s i) ≡ true → (r : ℕ) → ring_having h p ≡ Some r → B r)
     ChangesOnly k (Stops t i) = t ≡ s
     ChangesOnly k (Resets t i) = t ≡ s
 
@@ -171,7 +172,7 @@ module _ (s : ℕ) (B : ℕ → Type 0) where
     }
 
     places : (c : Command) (k : Known) (i p : ℕ) (cycle : Bool) (state : EndpointState) → Within k →
-        (is_off (k.endpoint_state s i) ≡ true → (r : ℕ) → ring_beginning_at h p ≡ Some r → B r) → OtherSlots k (changed_by h c k (Places s i p cycle state)) s B
+        (is_off (k.endpoint_state s i) ≡ true → (r : ℕ) → ring_having h p ≡ Some r → B r) → OtherSlots k (changed_by h c k (Places s i p cycle state)) s B
     unfolding changed_by
     places c k i p cycle state within named =
         let l : Known = pointed h k s i p cycle in

@@ -1,6 +1,6 @@
 -- What is known of an endpoint whose ring a command placed: it is bound anew, or moved
-use Rattle.std.proofs.Common.{◌≡◌, ◌≢◌, ◌==◌, ◌&&◌, ◌∙◌, ℕ, Bool, true, false, Some, refl, sym, ap, subst, inl, inr, eqb-true}
-use Rattle.safety.proofs.Words.{cases_Bool, and_parts, cond-true, cond-false, put, put_pair, Spot, Data, RingView, number, target, Command, EndpointState, Places, is_off, Header, IsHeader, shape_of, ring_beginning_at, Known, on_ring, set_to, bound_to, moved_to, moved, pointed, in_state, changed_by}
+use Rattle.std.proofs.Common.{◌≡◌, ◌≢◌, ◌==◌, ◌&&◌, ◌∙◌, ℕ, Bool, true, false, Option, Some, refl, sym, ap, subst, inl, inr, eqb-true}
+use Rattle.safety.proofs.Words.{cases_Bool, and_parts, cond-true, cond-false, put, put_pair, Spot, RingView, number, target, Command, EndpointState, Places, is_off, Header, IsHeader, shape_of, ring_having, Known, on_ring, set_to, bound_to, moved_to, moved, pointed, in_state, changed_by}
 use Rattle.safety.proofs.LookKinds.{put_at, put_off}
 use Rattle.safety.proofs.Placings.{pointed_is}
 use Rattle.safety.proofs.PlacedRing.{set_view}
@@ -34,36 +34,39 @@ module _ (h : Header) (k : Known) (s i r : ℕ) (t : Spot) where
         | inr there ↦ sym (cond-false (x == s && j == i) (Some r) (k.ring_of x j) there)
       ]
 
-  -- a ring that was bound is moved
-  moved_placed : (state : EndpointState) (must : ℕ → ℕ → Bool) → k.ring_of s i ≡ Some r → k.was_bound r ≡ true → PlacedTo k (in_place h (set_to h k r t) s i state must) s i r t state
+  -- its ring is moved
+  moved_placed : (state : EndpointState) (must : ℕ → ℕ → Bool) → k.ring_of s i ≡ Some r → PlacedTo k (in_place h (set_to h k r t) s i state must) s i r t state
   unfolding set_to on_ring in_state
-  moved_placed state must had was = record {
+  moved_placed state must had = record {
     here = set_here;
     others = set_elsewhere;
     ring_of = had_still had;
-    bound = was;
-    was = λ q other. refl;
     endpoint_state = refl;
     slot_state = refl;
     device = refl;
     rest = refl;
   }
 
-module _ (h : Header) (k : Known) (s i r : ℕ) where
   -- a ring is bound
-  bound_placed : (state : EndpointState) (must : ℕ → ℕ → Bool) → PlacedTo k (in_place h (bound_to h k s i (Some r)) s i state must) s i r (Data 0) state
-  unfolding bound_to set_to on_ring in_state
+  abbrev bound : Known
+  bound = record (set_to h k r t) { ring_of = put_pair k.ring_of s i (Some r); was_bound = put k.was_bound r true }
+
+  bound_placed : (state : EndpointState) (must : ℕ → ℕ → Bool) → PlacedTo k (in_place h bound s i state must) s i r t state
+  unfolding set_to on_ring in_state
   bound_placed state must = record {
-    here = set_here h k s i r (Data 0);
-    others = set_elsewhere h k s i r (Data 0);
+    here = set_here;
+    others = set_elsewhere;
     ring_of = λ x j. refl;
-    bound = put_at k.was_bound r true;
-    was = λ q other. put_off k.was_bound r true q other;
     endpoint_state = refl;
     slot_state = refl;
     device = refl;
     rest = refl;
   }
+
+  bound_is : (p : ℕ) (cycle : Bool) → target (shape_of h r) (k.ring r) p cycle ≡ Some t → bound_to h k s i (Some r) p cycle ≡ bound
+  unfolding bound_to moved moved_to
+  bound_is p cycle named =
+      ap (λ (o : Option Spot). let m : Known = record (moved_to h k r o) { ring_of = put_pair k.ring_of s i (Some r); was_bound = put k.was_bound r true } in m) named
 
 module _ (h : Header) (c : Command) (k : Known) (s i p : ℕ) (cycle : Bool) (state : EndpointState) where
   places_is : changed_by h c k (Places s i p cycle state) ≡ in_place h (pointed h k s i p cycle) s i state (put_pair k.must_move s i false)
@@ -73,14 +76,17 @@ module _ (h : Header) (c : Command) (k : Known) (s i p : ℕ) (cycle : Bool) (st
   moved_is : (r : ℕ) (t : Spot) → is_off (k.endpoint_state s i) ≡ false → k.ring_of s i ≡ Some r → target (shape_of h r) (k.ring r) p cycle ≡ Some t → pointed h k s i p cycle ≡ set_to h k r t
   unfolding pointed moved moved_to
   moved_is r t on had named =
-      cond-false (is_off (k.endpoint_state s i)) (bound_to h k s i (ring_beginning_at h p)) (moved h k (k.ring_of s i) p cycle) on
+      cond-false (is_off (k.endpoint_state s i)) (bound_to h k s i (ring_having h p) p cycle) (moved h k (k.ring_of s i) p cycle) on
       ∙ ap (λ o. moved h k o p cycle) had ∙ ap (λ o. moved_to h k r o) named
 
-  pub binds_placed : IsHeader h → (r : ℕ) → is_off (k.endpoint_state s i) ≡ true → ring_beginning_at h p ≡ Some r → PlacedTo k (changed_by h c k (Places s i p cycle state)) s i r (Data 0) state
-  binds_placed is r off at =
-      subst (λ l. PlacedTo k l s i r (Data 0) state) (sym (places_is ∙ ap (λ l. in_place h l s i state (put_pair k.must_move s i false)) (pointed_is h is k s i p r cycle off at))) (bound_placed h k s i r state (put_pair k.must_move s i false))
-
-  pub moves_placed : (r : ℕ) (t : Spot) → is_off (k.endpoint_state s i) ≡ false → k.ring_of s i ≡ Some r → k.was_bound r ≡ true → target (shape_of h r) (k.ring r) p cycle ≡ Some t →
+  pub binds_placed : IsHeader h → (r : ℕ) (t : Spot) → is_off (k.endpoint_state s i) ≡ true → ring_having h p ≡ Some r → target (shape_of h r) (k.ring r) p cycle ≡ Some t →
       PlacedTo k (changed_by h c k (Places s i p cycle state)) s i r t state
-  moves_placed r t on had was named =
-      subst (λ l. PlacedTo k l s i r t state) (sym (places_is ∙ ap (λ l. in_place h l s i state (put_pair k.must_move s i false)) (moved_is r t on had named))) (moved_placed h k s i r t state (put_pair k.must_move s i false) had was)
+  binds_placed is r t off at named =
+      subst (λ l. PlacedTo k l s i r t state)
+      (sym (places_is ∙ ap (λ l. in_place h l s i state (put_pair k.must_move s i false)) (pointed_is h is k s i p r cycle off at ∙ bound_is h k s i r t p cycle named)))
+      (bound_placed h k s i r t state (put_pair k.must_move s i false))
+
+  pub moves_placed : (r : ℕ) (t : Spot) → is_off (k.endpoint_state s i) ≡ false → k.ring_of s i ≡ Some r → target (shape_of h r) (k.ring r) p cycle ≡ Some t →
+      PlacedTo k (changed_by h c k (Places s i p cycle state)) s i r t state
+  moves_placed r t on had named =
+      subst (λ l. PlacedTo k l s i r t state) (sym (places_is ∙ ap (λ l. in_place h l s i state (put_pair k.must_move s i false)) (moved_is r t on had named))) (moved_placed h k s i r t state (put_pair k.must_move s i false) had)

@@ -1,54 +1,20 @@
 -- Where more is declared of rings, an unfinished command places endpoints at the same targets
-use Rattle.std.proofs.Common.{◌≡◌, ◌+◌, ◌≤◌, ◌==◌, ◌&&◌, ◌||◌, if◌then◌else◌, ◌∷◌, ◌∙◌, ℕ, zero, suc, not, Bool, true, false, List, [], map, filter, All, Option, Some, None, arith, refl, sym, ap, eq-eqb}
-use Rattle.safety.proofs.Words.{range_with_len, cond-true, cond_both, false≢true, or_parts, not-false, All-head, All-tail, All-weaker, Spot, declared, floor_number, ceiling, target, is_move, given_count_declared, floor_given, ceiling_within, Command, NoOp, EnableSlot, DisableSlot, AddressDevice, ConfigureEndpoint, EvaluateContext, ResetEndpoint, StopEndpoint, SetTrDequeue, ResetDevice, EndpointState, Off, Running, is_off, is_at_rest, Change, SlotGoesOn, Disables, Places, changes, placed_by_context, added_endpoints, input_add_flag, is_dropped, context_pointer, context_cycle, Header, IsHeader, shape_of, ring_beginning_at, Known, on_ring, set_to, bound_to, moved_to, moved, pointed, disabled, in_state, changed_by, is_bad_dequeue, is_bad_move, IsDriverRing, DriverKeeps, StillHolds}
+use Rattle.std.proofs.Common.{◌≡◌, ◌+◌, ◌≤◌, ◌==◌, ◌&&◌, ◌||◌, if◌then◌else◌, ◌∷◌, ◌∙◌, ℕ, zero, suc, not, Bool, true, false, List, [], map, filter, All, Option, Some, None, arith, refl, sym, ap, eq-eqb, subst, get_or, inl, inr, ◌≢◌}
+use Rattle.safety.proofs.Words.{range_with_len, cond-true, cond_both, false≢true, or_parts, not-false, All-head, All-tail, All-weaker, Spot, declared, floor_number, ceiling, target, is_move, given_count_declared, floor_given, ceiling_within, Command, NoOp, EnableSlot, DisableSlot, AddressDevice, ConfigureEndpoint, EvaluateContext, ResetEndpoint, StopEndpoint, SetTrDequeue, ResetDevice, EndpointState, Off, Running, is_off, is_at_rest, Change, SlotGoesOn, Disables, Places, changes, placed_by_context, added_endpoints, input_add_flag, is_dropped, context_pointer, context_cycle, Header, IsHeader, shape_of, ring_having, Known, on_ring, set_to, bound_to, moved_to, moved, pointed, disabled, in_state, changed_by, is_bad_dequeue, is_bad_move, IsDriverRing, DriverKeeps, StillHolds, RingView, binds, has_repeats, is_placement, binding_in, is_among, same_Some, list_any, ring_bound, is_ring, put_pair}
 use Rattle.safety.proofs.Headers.{ring_shape, transfer_driver}
 use Rattle.safety.proofs.EndpointPut.{at_pair}
 use Rattle.safety.proofs.AlikeChanges.{TargetsAre}
+use Rattle.safety.proofs.TestsPassed.{each_fails, any_of_map}
+use Rattle.safety.proofs.DriverRings.{transfer_ring, rings_of}
+use Rattle.safety.proofs.RingIds.{having_transfer}
+use Rattle.safety.proofs.Placings.{Ready, ReadyAt, BoundThere, ring_at, at_rest_on, address_ready, all_ready, ready_next, placed_there, map_map}
 use Rattle.safety.proofs.DeclaredTargets.{target_still}
-
--- indices that grow, from a on
-abbrev Climb : ℕ → List ℕ → Type 0
-Climb a [] = Unit {0}
-Climb a (i ∷ rest) = (a ≤ i) × Climb (i + 1) rest
-
-climb_later : (a b : ℕ) (xs : List ℕ) → a ≤ b → Climb b xs → Climb a xs
-climb_later a b [] less climbs = tt
-climb_later a b (i ∷ rest) less climbs = (omega (arith, climbs.0), climbs.1)
-
-filter_climbs : (test : ℕ → Bool) (a n : ℕ) → Climb a (filter test (range_with_len a n))
-filter_climbs test a zero = tt
-filter_climbs test a (suc n) =
-    let rest : List ℕ = filter test (range_with_len (a + 1) n) in
-    cond_both (test a) (a ∷ rest) rest (Climb a) (λ _. (omega arith, filter_climbs test (a + 1) n)) (λ _. climb_later a (a + 1) rest (omega arith) (filter_climbs test (a + 1) n))
-
-added_climb : (memory : ℕ → ℕ) (n : ℕ) → Climb 2 (added_endpoints memory n)
-unfolding added_endpoints
-added_climb memory n = filter_climbs (input_add_flag memory n) 2 30
-
--- the endpoints of slot s at these indices are off
-abbrev AreOff : (ℕ → ℕ → EndpointState) → ℕ → List ℕ → Type 0
-AreOff states s [] = Unit {0}
-AreOff states s (i ∷ rest) = (is_off (states s i) ≡ true) × AreOff states s rest
-
-off_still : (f g : ℕ → ℕ → EndpointState) (s a : ℕ) (xs : List ℕ) → Climb a xs → ((j : ℕ) → a ≤ j → g s j ≡ f s j) → AreOff f s xs → AreOff g s xs
-off_still f g s a [] climbs same off = tt
-off_still f g s a (i ∷ rest) climbs same off =
-    (ap is_off (same i climbs.0) ∙ off.0, off_still f g s (i + 1) rest climbs.1 (λ j low. same j (omega (arith, climbs.0))) off.1)
-
-off_from : (f : ℕ → ℕ → EndpointState) (s : ℕ) (xs : List ℕ) → All (λ i. is_off (f s i) ≡ true) xs → AreOff f s xs
-off_from f s [] all = tt
-off_from f s (i ∷ rest) all = (All-head (λ i. is_off (f s i) ≡ true) i rest all, off_from f s rest (All-tail (λ i. is_off (f s i) ≡ true) i rest all))
 
 module _ (h : Header) where
   -- a ring that is placed leaves the states of endpoints
   set_states : (k : Known) (r : ℕ) (t : Spot) → (set_to h k r t).endpoint_state ≡ k.endpoint_state
   unfolding set_to on_ring
   set_states k r t = refl
-
-  bound_states : (k : Known) (s i : ℕ) (o : Option ℕ) → (bound_to h k s i o).endpoint_state ≡ k.endpoint_state
-  unfolding bound_to
-  bound_states k s i None = refl
-  bound_states k s i (Some r) = set_states k r _
 
   target_states : (k : Known) (r : ℕ) (o : Option Spot) → (moved_to h k r o).endpoint_state ≡ k.endpoint_state
   unfolding moved_to
@@ -60,59 +26,87 @@ module _ (h : Header) where
   moved_states k None p cycle = refl
   moved_states k (Some r) p cycle = target_states k r (target (shape_of h r) (k.ring r) p cycle)
 
+  bound_states : (k : Known) (s i : ℕ) (o : Option ℕ) (p : ℕ) (cycle : Bool) → (bound_to h k s i o p cycle).endpoint_state ≡ k.endpoint_state
+  unfolding bound_to
+  bound_states k s i None p cycle = refl
+  bound_states k s i (Some r) p cycle = moved_states k (Some r) p cycle
+
   pointed_states : (k : Known) (s i p : ℕ) (cycle : Bool) → (pointed h k s i p cycle).endpoint_state ≡ k.endpoint_state
   unfolding pointed
   pointed_states k s i p cycle =
-      cond_both (is_off (k.endpoint_state s i)) (bound_to h k s i (ring_beginning_at h p)) (moved h k (k.ring_of s i) p cycle) (λ x. x.endpoint_state ≡ k.endpoint_state)
-      (λ _. bound_states k s i (ring_beginning_at h p)) (λ _. moved_states k (k.ring_of s i) p cycle)
-
-  placed_states : (c : Command) (k : Known) (s i p : ℕ) (cycle : Bool) (state : EndpointState) (j : ℕ) → i + 1 ≤ j → (changed_by h c k (Places s i p cycle state)).endpoint_state s j ≡ k.endpoint_state s j
-  unfolding changed_by in_state
-  placed_states c k s i p cycle state j above =
-      at_pair (λ e. e ≡ k.endpoint_state s j) (pointed h k s i p cycle).endpoint_state s i state s j (λ _ same. absurd (omega arith))
-      (λ _. ap (λ f. f s j) (pointed_states k s i p cycle))
-
-  -- endpoints that are off are bound, and so moved nowhere
-  each_bound : (c : Command) (memory : ℕ → ℕ) (s n a : ℕ) (indices : List ℕ) (k l : Known) → Climb a indices → AreOff k.endpoint_state s indices →
-      TargetsAre h c k l (map (placed_by_context h.context_size memory s n) indices)
-  each_bound c memory s n a [] k l climbs off = tt
-  each_bound c memory s n a (i ∷ rest) k l climbs off =
-      let change : Change = placed_by_context h.context_size memory s n i in
-      let m : Known = changed_by h c k change in (
-        λ on r has. absurd (false≢true (sym on ∙ off.0)),
-        each_bound c memory s n (i + 1) rest m (changed_by h c l change) climbs.1
-            (off_still k.endpoint_state m.endpoint_state s (i + 1) rest climbs.1 (placed_states c k s i _ _ Running) off.1),
-      )
+      cond_both (is_off (k.endpoint_state s i)) (bound_to h k s i (ring_having h p) p cycle) (moved h k (k.ring_of s i) p cycle) (λ x. x.endpoint_state ≡ k.endpoint_state)
+      (λ _. bound_states k s i (ring_having h p) p cycle) (λ _. moved_states k (k.ring_of s i) p cycle)
 
   slot_on : (c : Command) (k : Known) (s : ℕ) → ((changed_by h c k (SlotGoesOn s)).endpoint_state ≡ k.endpoint_state) × ((changed_by h c k (SlotGoesOn s)).ring_of ≡ k.ring_of)
       × ((changed_by h c k (SlotGoesOn s)).ring ≡ k.ring)
   unfolding changed_by
   slot_on c k s = (refl, refl, refl)
 
-  dropped_state : (c : Command) (k : Known) (s i : ℕ) (which : ℕ → Bool) → (changed_by h c k (Disables s which)).endpoint_state s i ≡ (if s == s && which i then Off else k.endpoint_state s i)
+  -- of a ring more is declared
+  record DeclaresMore (v w : RingView) : Type 0 where
+    pub floor : w.floor ≡ v.floor
+    pub more : declared v ≤ declared w
+
+  module _ (is : IsHeader h) (memory : ℕ → ℕ) where
+    ready_target : (k l : Known) (s i p : ℕ) (cycle : Bool) (b : Ready h k memory s i p cycle) → DeclaresMore (k.ring b.ring) (l.ring b.ring) → (r : ℕ) → ring_having h p ≡ Some r →
+        target (shape_of h r) (l.ring r) p cycle ≡ target (shape_of h r) (k.ring r) p cycle
+    unfolding is_placement
+    ready_target k l s i p cycle b m r at =
+        let driver : IsDriverRing h b.ring = transfer_driver h b.ring (transfer_ring h b.ring (having_transfer h is p b.ring b.named)) in
+        let allowed = (ring_shape h is b.ring driver).is in
+        let within = ceiling_within (shape_of h b.ring) allowed memory (k.ring b.ring) b.keeps in
+        let low = floor_given (shape_of h b.ring) allowed memory (k.ring b.ring) b.keeps in
+        let high = given_count_declared (shape_of h b.ring) allowed memory (k.ring b.ring) b.keeps in
+        subst (λ n. target (shape_of h n) (l.ring n) p cycle ≡ target (shape_of h n) (k.ring n) p cycle) (same_Some b.ring r (sym b.named ∙ at))
+        (target_still (shape_of h b.ring) (k.ring b.ring) (l.ring b.ring) m.floor m.more p cycle (ceiling (shape_of h b.ring) (k.ring b.ring)) (floor_number (k.ring b.ring)) within.0 (omega arith) b.placed)
+
+    abbrev MoreAt : Known → Known → ℕ → ℕ → Type 0
+    MoreAt k l n i = (r : ℕ) → ring_at h is memory n i ≡ Some r → DeclaresMore (k.ring r) (l.ring r)
+
+    -- each in turn
+    each_targets : (c : Command) (s n : ℕ) (indices : List ℕ) (k l : Known) → l.endpoint_state ≡ k.endpoint_state → All (ReadyAt h is k memory s n) indices → All (MoreAt k l n) indices →
+        has_repeats (map (ring_at h is memory n) indices) ≡ false → TargetsAre h c k l (map (placed_by_context h.context_size memory s n) indices)
+    unfolding has_repeats is_among
+    each_targets c s n [] k l same ready more apart = tt
+    each_targets c s n (i ∷ rest) k l same ready more apart =
+        let first : ReadyAt h is k memory s n i = All-head (ReadyAt h is k memory s n) i rest ready in
+        let later : All (ReadyAt h is k memory s n) rest = All-tail (ReadyAt h is k memory s n) i rest ready in
+        let p : ℕ = context_pointer h.context_size memory n i in
+        let cycle : Bool = context_cycle h.context_size memory n i in
+        let r : ℕ = first.ring in
+        let change : Change = placed_by_context h.context_size memory s n i in
+        let off : is_off (l.endpoint_state s i) ≡ true = ap (λ (f : ℕ → ℕ → EndpointState). is_off (f s i)) same ∙ first.off in
+        let mine : BoundThere h is k (changed_by h c k change) s i r = placed_there h is c k s i p r cycle first.off first.named in
+        let theirs : BoundThere h is l (changed_by h c l change) s i r = placed_there h is c l s i p r cycle off first.named in
+        let parts = or_parts (is_among (map (ring_at h is memory n) rest) (ring_at h is memory n i)) (has_repeats (map (ring_at h is memory n) rest)) apart in
+        let none : list_any (is_ring r) (map (ring_at h is memory n) rest) ≡ false = sym (ap (is_among (map (ring_at h is memory n) rest)) first.named) ∙ parts.0 in
+        let others : All (λ j. is_ring r (ring_at h is memory n j) ≡ false) rest =
+        each_fails (λ j. is_ring r (ring_at h is memory n j)) rest (sym (any_of_map (is_ring r) (ring_at h is memory n) rest) ∙ none) in (
+          record {
+            binds = λ is_here q at. ready_target k l s i p cycle first (All-head (MoreAt k l n) i rest more r first.named) q at;
+            moves = λ on q has. absurd (false≢true (sym on ∙ first.off));
+          },
+          each_targets c s n rest (changed_by h c k change) (changed_by h c l change) (theirs.states ∙ ap (λ (f : ℕ → ℕ → EndpointState). put_pair f s i Running) same ∙ sym mine.states)
+              (λ y e inside. ready_next h is c k memory s n i r (get_or rest y e) first.off first.named (later y e inside) (others y e inside))
+              (λ y e inside q at.
+              let not_r : q ≢ r = λ is_r. false≢true (sym (others y e inside) ∙ ap (is_ring r) at ∙ eq-eqb q r is_r) in
+              let m : DeclaresMore (k.ring q) (l.ring q) = All-tail (MoreAt k l n) i rest more y e inside q at in
+              subst (λ v. DeclaresMore v ((changed_by h c l change).ring q)) (sym (mine.rings q not_r)) (subst (λ v. DeclaresMore (k.ring q) v) (sym (theirs.rings q not_r)) m))
+              parts.1,
+        )
+
+  -- behind the drops
+  dropped_states : (c : Command) (k : Known) (s : ℕ) (which : ℕ → Bool) →
+      (changed_by h c (changed_by h c k (SlotGoesOn s)) (Disables s which)).endpoint_state ≡ (λ t i. if t == s && which i then Off else k.endpoint_state t i)
   unfolding changed_by disabled
-  dropped_state c k s i which = refl
+  dropped_states c k s which = refl
 
-  off_then : (off drops : Bool) (state : EndpointState) (s : ℕ) → is_off state ≡ off → (off || drops) ≡ true → is_off (if s == s && drops then Off else state) ≡ true
-  off_then true drops state s at free = cond_both (s == s && drops) Off state (λ e. is_off e ≡ true) (λ _. refl) (λ _. at)
-  off_then false true state s at free = ap is_off (cond-true (s == s && true) Off state (simp_same s))
-    where
-      simp_same : (s : ℕ) → (s == s && true) ≡ true
-      simp_same s = rw (eq-eqb s s refl) refl
-  off_then false false state s at free = absurd (false≢true free)
+  dropped_rings : (c : Command) (k : Known) (s : ℕ) (which : ℕ → Bool) → (changed_by h c (changed_by h c k (SlotGoesOn s)) (Disables s which)).ring ≡ k.ring
+  unfolding changed_by disabled
+  dropped_rings c k s which = refl
 
-  -- behind the drops of a Configure Endpoint
-  added_off : (c : Command) (k : Known) (s n : ℕ) → All (λ i. (is_off (k.endpoint_state s i) || is_dropped k.memory n i) ≡ true) (added_endpoints k.memory n) →
-      AreOff (changed_by h c (changed_by h c k (SlotGoesOn s)) (Disables s (is_dropped k.memory n))).endpoint_state s (added_endpoints k.memory n)
-  added_off c k s n free =
-      let m : Known = changed_by h c k (SlotGoesOn s) in
-      let l : Known = changed_by h c m (Disables s (is_dropped k.memory n)) in
-      off_from l.endpoint_state s (added_endpoints k.memory n)
-      (All-weaker (λ i. (is_off (k.endpoint_state s i) || is_dropped k.memory n i) ≡ true) (λ i. is_off (l.endpoint_state s i) ≡ true)
-      (λ i one. ap is_off (dropped_state c m s i (is_dropped k.memory n))
-      ∙ off_then (is_off (k.endpoint_state s i)) (is_dropped k.memory n i) (m.endpoint_state s i) s (ap (λ f. is_off (f s i)) (slot_on c k s).0) one) (added_endpoints k.memory n) free)
-
-  module _ (is : IsHeader h) (k l : Known) (d : DriverKeeps h k) (floors : (r : ℕ) → (l.ring r).floor ≡ (k.ring r).floor) (more : (r : ℕ) → declared (k.ring r) ≤ declared (l.ring r)) where
+  module _ (is : IsHeader h) (k l : Known) (d : DriverKeeps h k) (floors : (r : ℕ) → (l.ring r).floor ≡ (k.ring r).floor) (more : (r : ℕ) → declared (k.ring r) ≤ declared (l.ring r))
+      (states : l.endpoint_state ≡ k.endpoint_state) where
     dequeue_target : (s i p : ℕ) (cycle : Bool) → is_bad_move h k (SetTrDequeue s i p cycle) ≡ false → (r : ℕ) → k.ring_of s i ≡ Some r →
         target (shape_of h r) (l.ring r) p cycle ≡ target (shape_of h r) (k.ring r) p cycle
     unfolding is_bad_move is_bad_dequeue
@@ -135,6 +129,22 @@ module _ (h : Header) where
         target_still (shape_of h r) (k.ring r) (l.ring r) (floors r) (more r) (context_pointer h.context_size k.memory n 1) (context_cycle h.context_size k.memory n 1)
         (floor_number (k.ring r)) (floor_number (k.ring r)) (omega arith) (omega arith) (still.moves_on on r has)
 
+    first_target : (s n : ℕ) (bsr : Bool) → StillHolds h k (AddressDevice s bsr n) → is_off (k.endpoint_state s 1) ≡ true → (r : ℕ) → ring_having h (context_pointer h.context_size k.memory n 1) ≡ Some r →
+        target (shape_of h r) (l.ring r) (context_pointer h.context_size k.memory n 1) (context_cycle h.context_size k.memory n 1)
+        ≡ target (shape_of h r) (k.ring r) (context_pointer h.context_size k.memory n 1) (context_cycle h.context_size k.memory n 1)
+    first_target s n bsr still off r at =
+        let b = address_ready h is k (rings_of h k d) s n bsr still off in
+        ready_target is k.memory k l s 1 (context_pointer h.context_size k.memory n 1) (context_cycle h.context_size k.memory n 1) b (record { floor = floors b.ring; more = more b.ring }) r at
+
+    no_repeats : (s a : ℕ) → StillHolds h k (ConfigureEndpoint s false a) → has_repeats (map (ring_at h is k.memory a) (added_endpoints k.memory a)) ≡ false
+    unfolding binds binding_in ring_bound
+    no_repeats s a still = ap has_repeats (sym (map_map h is (ring_bound h) (binding_in h k a) (added_endpoints k.memory a))) ∙ still.repeats
+
+    rest_on : (s i p : ℕ) (cycle : Bool) → is_bad_move h k (SetTrDequeue s i p cycle) ≡ false → is_off (k.endpoint_state s i) ≡ true → ⊥
+    unfolding is_bad_move
+    rest_on s i p cycle good off =
+        at_rest_on (k.endpoint_state s i) (not-false (is_at_rest (k.endpoint_state s i)) (or_parts (not (is_at_rest (k.endpoint_state s i))) (is_bad_dequeue h k (k.ring_of s i) p cycle) good).0) off
+
     -- of any command of which holds still what was tested
     pub placed_targets : (n : ℕ) (c : Command) → StillHolds h k c → TargetsAre h c k l (changes h.context_size k.memory n c)
     unfolding changes
@@ -149,10 +159,16 @@ module _ (h : Header) where
         let cycle : Bool = context_cycle h.context_size k.memory a 1 in (
           tt,
           (
-            λ on r has.
-                ap (λ f. target (shape_of h r) (f r) p cycle) theirs.2
-                ∙ address_target s a bsr still (ap (λ f. is_off (f s 1)) (sym mine.0) ∙ on) r (ap (λ f. f s 1) (sym mine.1) ∙ has)
-                ∙ ap (λ f. target (shape_of h r) (f r) p cycle) (sym mine.2),
+            record {
+              binds = λ off r at.
+                  ap (λ f. target (shape_of h r) (f r) p cycle) theirs.2
+                  ∙ first_target s a bsr still (ap (λ f. is_off (f s 1)) (sym mine.0) ∙ off) r at
+                  ∙ ap (λ f. target (shape_of h r) (f r) p cycle) (sym mine.2);
+              moves = λ on r has.
+                  ap (λ f. target (shape_of h r) (f r) p cycle) theirs.2
+                  ∙ address_target s a bsr still (ap (λ f. is_off (f s 1)) (sym mine.0) ∙ on) r (ap (λ f. f s 1) (sym mine.1) ∙ has)
+                  ∙ ap (λ f. target (shape_of h r) (f r) p cycle) (sym mine.2);
+            },
             tt,
           ),
         )
@@ -160,10 +176,18 @@ module _ (h : Header) where
         let c : Command = ConfigureEndpoint s false a in
         let m : Known = changed_by h c (changed_by h c k (SlotGoesOn s)) (Disables s (is_dropped k.memory a)) in
         let x : Known = changed_by h c (changed_by h c l (SlotGoesOn s)) (Disables s (is_dropped k.memory a)) in
-        (tt, (tt, each_bound c k.memory s a 2 (added_endpoints k.memory a) m x (added_climb k.memory a) (added_off c k s a still.free)))
+        let rings : k.ring ≡ m.ring = sym (dropped_rings c k s (is_dropped k.memory a)) in
+        let others : l.ring ≡ x.ring = sym (dropped_rings c l s (is_dropped k.memory a)) in
+        (tt, (tt, each_targets is k.memory c s a (added_endpoints k.memory a) m x
+        (dropped_states c l s (is_dropped k.memory a)
+        ∙ ap {B = ℕ → ℕ → EndpointState} (λ (f : ℕ → ℕ → EndpointState) (t i : ℕ). if t == s && is_dropped k.memory a i then Off else f t i) states
+        ∙ sym (dropped_states c k s (is_dropped k.memory a)))
+        (all_ready h is k (rings_of h k d) s a still)
+        (λ y e inside r at. subst (λ (f : ℕ → RingView). DeclaresMore (f r) (x.ring r)) rings (subst (λ (f : ℕ → RingView). DeclaresMore (k.ring r) (f r)) others (record { floor = floors r; more = more r })))
+        (no_repeats s a still)))
     placed_targets n (ConfigureEndpoint s true a) still = (tt, (tt, tt))
     placed_targets n (EvaluateContext s a) still = tt
     placed_targets n (ResetEndpoint s i) still = (tt, tt)
     placed_targets n (StopEndpoint s i) still = (tt, tt)
-    placed_targets n (SetTrDequeue s i p cycle) still = (λ on r has. dequeue_target s i p cycle still.moves_on r has, tt)
+    placed_targets n (SetTrDequeue s i p cycle) still = (record { binds = λ off. absurd (rest_on s i p cycle still.moves_on off); moves = λ on r has. dequeue_target s i p cycle still.moves_on r has }, tt)
     placed_targets n (ResetDevice s) still = (tt, (tt, tt))

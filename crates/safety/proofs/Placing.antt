@@ -11,8 +11,6 @@ pub record PlacedTo (k l : Known) (s i r : ℕ) (t : Spot) (state : EndpointStat
   pub here : l.ring r ≡ set_view (k.ring r) t
   pub others : (q : ℕ) → q ≢ r → l.ring q ≡ k.ring q
   pub ring_of : (x j : ℕ) → l.ring_of x j ≡ put_pair k.ring_of s i (Some r) x j
-  pub bound : l.was_bound r ≡ true
-  pub was : (q : ℕ) → q ≢ r → l.was_bound q ≡ k.was_bound q
   pub endpoint_state : l.endpoint_state ≡ put_pair k.endpoint_state s i state
   pub slot_state : l.slot_state ≡ k.slot_state
   pub device : l.device ≡ k.device
@@ -59,7 +57,8 @@ module _ (h : Header) (k l : Known) (w : World) (s i r a : ℕ) (c : Bool) (stat
       })
   other_ring q other (inr f) =
       let here : state_of v q ≡ state_of w q = placed_elsewhere w s i r a c state active q other (still q other) in
-      inr (subst (λ z. FreeRing (shape_of h q) l.ring_of z q) (sym here) (record { none = none_still q other f.none; rests = f.rests }))
+      inr (subst (λ z. FreeRing (shape_of h q) l.ring_of z (state_of v q) q) (sym (x.others q other))
+      (subst (λ z. FreeRing (shape_of h q) l.ring_of (k.ring q) z q) (sym here) (record { none = none_still q other f.none; rests = f.rests; from = f.from; to = f.to })))
 
   -- the ring that is placed
   this_ring : RingMatches (shape_of h r) (set_view (k.ring r) t) (placed_state (state_of w r) a (if c then 1 else 0)) t →
@@ -136,10 +135,6 @@ module _ (h : Header) (k l : Known) (w : World) (s i r a : ℕ) (c : Bool) (stat
       rings = λ q other. elim (cases_eq q r) [
         | inl same ↦ subst (λ n. EndpointRing h l v n) (sym same) (inl (this_ring m u))
         | inr apart ↦ other_ring q apart (y.rings q other)
-      ];
-      fresh = λ q other unused. elim (cases_eq q r) [
-        | inl same ↦ absurd (false≢true (sym unused ∙ ap l.was_bound same ∙ x.bound))
-        | inr apart ↦ ap (λ (z : RingState). z.events) (placed_elsewhere w s i r a c state active q apart (still q apart)) ∙ y.fresh q other (sym (x.was q apart) ∙ unused)
       ];
       scribbles = λ q may none. y.scribbles q may (ap (λ (f : ℕ → Option ℕ). f q) (sym x.device) ∙ none);
       apart = λ z j q at. elim (whose z j q at) [ inl here ↦ (λ same. not_command (sym here.2 ∙ same)) | inr there ↦ y.apart z j q there ];

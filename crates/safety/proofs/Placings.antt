@@ -1,21 +1,26 @@
 -- A command of which what was tested still holds places endpoints where it may
-use Rattle.std.proofs.Common.{◌≡◌, ◌≢◌, ◌<◌, ◌≤◌, ◌==◌, ◌&&◌, ◌||◌, if◌then◌else◌, ◌∷◌, ◌∙◌, ℕ, not, Bool, true, false, List, [], map, length, All, Option, None, Some, is_some, arith, refl, sym, ap, get_or, eq-eqb, ne_eqb}
-use Rattle.safety.proofs.Words.{list_any, cond-true, cond-false, and_from, and_right, or_parts, or_left, not-false, false≢true, All-head, All-tail, list_any_at, length-map, get_or-map, put, put_pair, Spot, number, RingView, declared, floor_number, ceiling, target, is_move, is_reached, floor_given, given_count_declared, ceiling_within, move_target, added_endpoints, is_dropped, context_pointer, context_cycle, Command, NoOp, EnableSlot, DisableSlot, AddressDevice, ConfigureEndpoint, EvaluateContext, ResetEndpoint, StopEndpoint, SetTrDequeue, ResetDevice, EndpointState, Off, Running, is_off, is_at_rest, Change, SlotGoesOn, Disables, Places, changes, placed_by_context, Header, IsHeader, shape_of, is_ring, ring_beginning_at, Known, on_ring, set_to, bound_to, moved, pointed, disabled, in_state, changed_by, is_among, has_repeats, binding_in, binds, ring_bound, binds_ring, is_bad_dequeue, is_bad_move, RingsKeep, EndpointsKeep, MayPoint, MayChangeAll, StillHolds}
+use Rattle.std.proofs.Common.{◌≡◌, ◌≢◌, ◌<◌, ◌≤◌, ◌==◌, ◌&&◌, ◌||◌, if◌then◌else◌, ◌∷◌, ◌∙◌, ℕ, not, Bool, true, false, List, [], map, length, All, Option, None, Some, is_some, arith, refl, sym, ap, get_or, eq-eqb, ne_eqb, inl, subst, inr}
+use Rattle.safety.proofs.Words.{list_any, cases_Bool, cases_option, none-some, same_Some, cond-true, cond-false, and_from, and_right, or_parts, or_left, not-false, false≢true, All-head, All-tail, list_any_at, length-map, get_or-map, put, put_pair, Spot, number, RingView, RingKeeps, Reaches, Holds, is_placement, declared, floor_number, ceiling, target, is_move, is_reached, floor_given, given_count_declared, ceiling_within, move_target, added_endpoints, is_dropped, context_pointer, context_cycle, Command, NoOp, EnableSlot, DisableSlot, AddressDevice, ConfigureEndpoint, EvaluateContext, ResetEndpoint, StopEndpoint, SetTrDequeue, ResetDevice, EndpointState, Off, Running, is_off, is_at_rest, Change, SlotGoesOn, Disables, Places, changes, placed_by_context, Header, IsHeader, shape_of, is_ring, ring_having, Known, on_ring, set_to, bound_to, moved_to, moved, pointed, disabled, in_state, changed_by, Binding, drops, is_placed, is_among, has_repeats, binding_in, binds, ring_bound, binds_ring, is_bad_dequeue, is_bad_move, RingsKeep, EndpointsKeep, MayPoint, MayChangeAll, StillHolds}
 use Rattle.safety.specs.RingsKeep.{IsDriverRing}
 use Rattle.safety.proofs.TestsPassed.{each_fails, any_of_map}
 use Rattle.safety.proofs.RingsOfHeader.{shape_allowed}
-use Rattle.safety.proofs.RingIds.{beginning_transfer, transfer_driver}
-use Rattle.safety.proofs.Endpoints.{change_keeps}
+use Rattle.safety.proofs.RingIds.{having_transfer, transfer_driver}
+use Rattle.safety.proofs.DriverRows.{ring_elsewhere}
 
-at_rest_on : (state : EndpointState) → is_at_rest state ≡ true → is_off state ≡ true → ⊥
+pub at_rest_on : (state : EndpointState) → is_at_rest state ≡ true → is_off state ≡ true → ⊥
 at_rest_on Off rest off = false≢true rest
 at_rest_on _ rest off = false≢true off
 
-module _ (h : Header) (is : IsHeader h) where
-  -- a ring to which no endpoint was bound begins at its first block
-  starts : (l : Known) → EndpointsKeep h l → (p r : ℕ) → ring_beginning_at h p ≡ Some r → l.was_bound r ≡ false → floor_number (l.ring r) ≡ 0
-  starts l keeps p r at never = ap number (keeps.never_bound r (beginning_transfer h is p r at) never).0
+-- an endpoint is off, and the ring that it gets is free and stands still where it is placed
+pub record Ready (h : Header) (l : Known) (memory : ℕ → ℕ) (s i p : ℕ) (cycle : Bool) : Type 0 where
+  pub off : is_off (l.endpoint_state s i) ≡ true
+  pub ring : ℕ
+  pub named : ring_having h p ≡ Some ring
+  pub free : (t j : ℕ) → l.ring_of t j ≢ Some ring
+  pub keeps : RingKeeps (shape_of h ring) memory (l.ring ring)
+  pub placed : is_placement (shape_of h ring) (l.ring ring) p cycle ≡ true
 
+module _ (h : Header) (is : IsHeader h) where
   -- ---- Set TR Dequeue
 
   moves_by : (k : Known) → RingsKeep h k → EndpointsKeep h k → (s i r : ℕ) → k.ring_of s i ≡ Some r → (p : ℕ) (cycle : Bool) (least most : ℕ) (t : Spot) →
@@ -44,20 +49,78 @@ module _ (h : Header) (is : IsHeader h) where
         moves = λ on r t at named. moves_to k rings endpoints s i p cycle r t (sym (ap (λ o. is_bad_dequeue h k o p cycle) at) ∙ parts.1) at named;
       }
 
+  -- ---- where a binding is placed
+
+  -- the ring that a binding names, and that it stands still where it is placed
+  pub record Placed (k : Known) (b : Binding) : Type 0 where
+    pub ring : ℕ
+    pub named : ring_bound h b ≡ Some ring
+    pub placed : is_placement (shape_of h ring) (k.ring ring) b.pointer b.cycle ≡ true
+
+  pub placed_at : (k : Known) (b : Binding) → is_placed h k (ring_bound h b) b ≡ true → Placed k b
+  unfolding is_placed
+  placed_at k b placed =
+      elim (cases_option (ring_bound h b)) [
+        | inl none ↦ absurd (false≢true (sym (ap (λ o. is_placed h k o b) none) ∙ placed))
+        | inr some ↦ record { ring = some.0; named = some.1; placed = sym (ap (λ o. is_placed h k o b) some.1) ∙ placed }
+      ]
+
+  having_driver : (p r : ℕ) → ring_having h p ≡ Some r → IsDriverRing h r
+  having_driver p r at = transfer_driver h r (having_transfer h is p r at)
+
+  -- its target is the spot at which it stands
+  ready_reached : (l : Known) (memory : ℕ → ℕ) (s i p : ℕ) (cycle : Bool) → Ready h l memory s i p cycle → (r : ℕ) (t : Spot) → ring_having h p ≡ Some r → target (shape_of h r) (l.ring r) p cycle ≡ Some t →
+      is_reached (shape_of h r) (l.ring r) t ≡ true
+  unfolding is_placement
+  ready_reached l memory s i p cycle b r t at named =
+      let allowed = shape_allowed h is b.ring (having_driver p b.ring b.named) in
+      let low = floor_given (shape_of h b.ring) allowed memory (l.ring b.ring) b.keeps in
+      let high = given_count_declared (shape_of h b.ring) allowed memory (l.ring b.ring) b.keeps in
+      let within = ceiling_within (shape_of h b.ring) allowed memory (l.ring b.ring) b.keeps in
+      subst (λ n. target (shape_of h n) (l.ring n) p cycle ≡ Some t → is_reached (shape_of h n) (l.ring n) t ≡ true) (same_Some b.ring r (sym b.named ∙ at))
+      (move_target (shape_of h b.ring) allowed memory (l.ring b.ring) b.keeps p cycle (ceiling (shape_of h b.ring) (l.ring b.ring)) (floor_number (l.ring b.ring)) t within.0 (omega arith) b.placed)
+      named
+
+  ready_points : (l : Known) (memory : ℕ → ℕ) (s i p : ℕ) (cycle : Bool) → Ready h l memory s i p cycle → MayPoint h l s i p cycle
+  ready_points l memory s i p cycle b = record {
+    binds = λ off r t at named. ready_reached l memory s i p cycle b r t at named;
+    moves = λ on r t at named. absurd (false≢true (sym on ∙ b.off));
+  }
+
   -- ---- Address Device
+
+  -- where endpoint 1 is off
+  first_binds : (k : Known) (s n : ℕ) (bsr : Bool) → is_off (k.endpoint_state s 1) ≡ true → binds h k (AddressDevice s bsr n) ≡ binding_in h k n 1 ∷ []
+  unfolding binds
+  first_binds k s n bsr off = cond-true (is_off (k.endpoint_state s 1)) (binding_in h k n 1 ∷ []) [] off
+
+  pub address_ready : (k : Known) → RingsKeep h k → (s n : ℕ) (bsr : Bool) → StillHolds h k (AddressDevice s bsr n) → is_off (k.endpoint_state s 1) ≡ true →
+      Ready h k k.memory s 1 (context_pointer h.context_size k.memory n 1) (context_cycle h.context_size k.memory n 1)
+  unfolding binds_ring binding_in ring_bound drops
+  address_ready k rings s n bsr still off =
+      let one = first_binds k s n bsr off in
+      let at : Placed k (binding_in h k n 1) =
+      placed_at k (binding_in h k n 1)
+      (All-head (λ b. is_placed h k (ring_bound h b) b ≡ true) (binding_in h k n 1) [] (subst (λ bs. All (λ b. is_placed h k (ring_bound h b) b ≡ true) bs) one still.placed)) in
+      let bound : binds_ring h k at.ring (AddressDevice s bsr n) ≡ true =
+      ap (λ bs. list_any (λ b. is_ring at.ring (ring_bound h b)) bs) one
+      ∙ or_left (is_ring at.ring (ring_bound h (binding_in h k n 1))) false (ap (is_ring at.ring) at.named ∙ eq-eqb at.ring at.ring refl) in
+      record {
+        off = off;
+        ring = at.ring;
+        named = at.named;
+        free = λ t j has. false≢true (still.unkept at.ring t j bound has);
+        keeps = rings at.ring (having_driver (context_pointer h.context_size k.memory n 1) at.ring at.named);
+        placed = at.placed;
+      }
 
   address_points : (k : Known) → RingsKeep h k → EndpointsKeep h k → (s n : ℕ) (bsr : Bool) → StillHolds h k (AddressDevice s bsr n) →
       MayPoint h k s 1 (context_pointer h.context_size k.memory n 1) (context_cycle h.context_size k.memory n 1)
-  unfolding binds_ring binds binding_in ring_bound
   address_points k rings endpoints s n bsr still =
       let p : ℕ = context_pointer h.context_size k.memory n 1 in
       let cycle : Bool = context_cycle h.context_size k.memory n 1 in
       record {
-        binds = λ off r at.
-            let bound : binds_ring h k r (AddressDevice s bsr n) ≡ true =
-            ap (list_any (λ b. is_ring r (ring_bound h b))) (cond-true (is_off (k.endpoint_state s 1)) (binding_in h k n 1 ∷ []) [] off)
-            ∙ or_left (is_ring r (ring_beginning_at h p)) false (ap (is_ring r) at ∙ eq-eqb r r refl) in
-            starts k endpoints p r at (still.unbound r bound);
+        binds = λ off r t at named. ready_reached k k.memory s 1 p cycle (address_ready k rings s n bsr still off) r t at named;
         moves = λ on r t at named.
             let driver : IsDriverRing h r = transfer_driver h r (endpoints.transfer s 1 r at) in
             let allowed = shape_allowed h is r driver in
@@ -69,8 +132,9 @@ module _ (h : Header) (is : IsHeader h) where
   same_points : (k l : Known) (s i p : ℕ) (cycle : Bool) → k.endpoint_state ≡ l.endpoint_state → k.ring_of ≡ l.ring_of → k.ring ≡ l.ring → MayPoint h k s i p cycle → MayPoint h l s i p cycle
   same_points k l s i p cycle states ring_of rings may =
       record {
-        binds = λ off r at.
-            ap (λ (f : ℕ → RingView). floor_number (f r)) (sym rings) ∙ may.binds (ap (λ (f : ℕ → ℕ → EndpointState). is_off (f s i)) states ∙ off) r at;
+        binds = λ off r t at named.
+            ap (λ (f : ℕ → RingView). is_reached (shape_of h r) (f r) t) (sym rings)
+            ∙ may.binds (ap (λ (f : ℕ → ℕ → EndpointState). is_off (f s i)) states ∙ off) r t at (ap (λ (f : ℕ → RingView). target (shape_of h r) (f r) p cycle) rings ∙ named);
         moves = λ on r t at named.
             ap (λ (f : ℕ → RingView). is_reached (shape_of h r) (f r) t) (sym rings)
             ∙ may.moves (ap (λ (f : ℕ → ℕ → EndpointState). is_off (f s i)) states ∙ on) r t (ap (λ (f : ℕ → ℕ → Option ℕ). f s i) ring_of ∙ at)
@@ -81,85 +145,85 @@ module _ (h : Header) (is : IsHeader h) where
 
   -- the ring that the context of index i names, in the input context at address a
   abbrev pub ring_at : (ℕ → ℕ) → ℕ → ℕ → Option ℕ
-  ring_at memory a i = ring_beginning_at h (context_pointer h.context_size memory a i)
+  ring_at memory a i = ring_having h (context_pointer h.context_size memory a i)
 
-  -- the endpoint of slot s at index i is off, and the ring that it gets was never bound
-  pub record Ready (l : Known) (memory : ℕ → ℕ) (s a i : ℕ) : Type 0 where
-    pub off : is_off (l.endpoint_state s i) ≡ true
-    pub unbound : (r : ℕ) → ring_at memory a i ≡ Some r → l.was_bound r ≡ false
-    pub named : is_some (ring_at memory a i) ≡ true
+  -- the endpoint of slot s at index i may be added
+  abbrev pub ReadyAt : Known → (ℕ → ℕ) → ℕ → ℕ → ℕ → Type 0
+  ReadyAt l memory s a i = Ready h l memory s i (context_pointer h.context_size memory a i) (context_cycle h.context_size memory a i)
 
-  pub the_some : (o : Option ℕ) → is_some o ≡ true → (r : ℕ) × (o ≡ Some r)
-  the_some None none = absurd (false≢true none)
-  the_some (Some r) some = (r, refl)
+  -- what a binding leaves as it is
+  pub record BoundThere (l m : Known) (s i r : ℕ) : Type 0 where
+    pub states : m.endpoint_state ≡ put_pair l.endpoint_state s i Running
+    pub ring_of : m.ring_of ≡ put_pair l.ring_of s i (Some r)
+    pub rings : (q : ℕ) → q ≢ r → m.ring q ≡ l.ring q
 
-  bound_state : (l : Known) (s i r : ℕ) → (bound_to h l s i (Some r)).endpoint_state ≡ l.endpoint_state
-  unfolding bound_to set_to on_ring
-  bound_state l s i r = refl
-
-  bound_was : (l : Known) (s i r : ℕ) → (bound_to h l s i (Some r)).was_bound ≡ put l.was_bound r true
-  unfolding bound_to
-  bound_was l s i r = refl
-
-  pub pointed_is : (l : Known) (s i p r : ℕ) (cycle : Bool) → is_off (l.endpoint_state s i) ≡ true → ring_beginning_at h p ≡ Some r → pointed h l s i p cycle ≡ bound_to h l s i (Some r)
+  pub pointed_is : (l : Known) (s i p r : ℕ) (cycle : Bool) → is_off (l.endpoint_state s i) ≡ true → ring_having h p ≡ Some r → pointed h l s i p cycle ≡ bound_to h l s i (Some r) p cycle
   unfolding pointed
   pointed_is l s i p r cycle off at =
-      cond-true (is_off (l.endpoint_state s i)) (bound_to h l s i (ring_beginning_at h p)) (moved h l (l.ring_of s i) p cycle) off ∙ ap (λ o. bound_to h l s i o) at
+      cond-true (is_off (l.endpoint_state s i)) (bound_to h l s i (ring_having h p) p cycle) (moved h l (l.ring_of s i) p cycle) off ∙ ap (λ o. bound_to h l s i o p cycle) at
 
-  placed_state : (c : Command) (l : Known) (s i p : ℕ) (cycle : Bool) → (changed_by h c l (Places s i p cycle Running)).endpoint_state ≡ put_pair (pointed h l s i p cycle).endpoint_state s i Running
-  unfolding changed_by in_state
-  placed_state c l s i p cycle = refl
+  set_elsewhere : (l : Known) (r q : ℕ) (t : Spot) → q ≢ r → (set_to h l r t).ring q ≡ l.ring q
+  unfolding set_to
+  set_elsewhere l r q t other = ring_elsewhere h (on_ring h l r (Reaches t)) r q (Holds (number t)) other ∙ ring_elsewhere h l r q (Reaches t) other
 
-  placed_was : (c : Command) (l : Known) (s i p : ℕ) (cycle : Bool) → (changed_by h c l (Places s i p cycle Running)).was_bound ≡ (pointed h l s i p cycle).was_bound
-  unfolding changed_by in_state
-  placed_was c l s i p cycle = refl
+  bound_there : (c : Command) (l : Known) (s i p r : ℕ) (cycle : Bool) → BoundThere l (let m : Known = bound_to h l s i (Some r) p cycle in in_state h m s i Running) s i r
+  unfolding bound_to moved moved_to in_state set_to on_ring
+  bound_there c l s i p r cycle = by (target (shape_of h r) (l.ring r) p cycle)
+    where
+      by : (o : Option Spot) → BoundThere l (let m : Known = record (moved_to h l r o) { ring_of = put_pair l.ring_of s i (Some r); was_bound = put l.was_bound r true } in in_state h m s i Running) s i r
+      by None = record { states = refl; ring_of = refl; rings = λ q other. refl }
+      by (Some t) = record { states = refl; ring_of = refl; rings = λ q other. set_elsewhere l r q t other }
+
+  pub placed_there : (c : Command) (l : Known) (s i p r : ℕ) (cycle : Bool) → is_off (l.endpoint_state s i) ≡ true → ring_having h p ≡ Some r → BoundThere l (changed_by h c l (Places s i p cycle Running)) s i r
+  unfolding changed_by
+  placed_there c l s i p r cycle off at =
+      let there : BoundThere l (in_state h (pointed h l s i p cycle) s i Running) s i r =
+      subst (λ m. BoundThere l (in_state h m s i Running) s i r) (sym (pointed_is l s i p r cycle off at)) (bound_there c l s i p r cycle) in
+      record { states = there.states; ring_of = there.ring_of; rings = there.rings }
 
   -- another index stays ready
-  pub ready_next : (c : Command) (l : Known) (memory : ℕ → ℕ) (s a i r j : ℕ) → is_off (l.endpoint_state s i) ≡ true → ring_at memory a i ≡ Some r → Ready l memory s a j →
-      is_ring r (ring_at memory a j) ≡ false → Ready (changed_by h c l (placed_by_context h.context_size memory s a i)) memory s a j
+  pub ready_next : (c : Command) (l : Known) (memory : ℕ → ℕ) (s a i r j : ℕ) → is_off (l.endpoint_state s i) ≡ true → ring_at memory a i ≡ Some r → ReadyAt l memory s a j →
+      is_ring r (ring_at memory a j) ≡ false → ReadyAt (changed_by h c l (placed_by_context h.context_size memory s a i)) memory s a j
   ready_next c l memory s a i r j off at ready apart =
       let p : ℕ = context_pointer h.context_size memory a i in
       let cycle : Bool = context_cycle h.context_size memory a i in
+      let m : Known = changed_by h c l (placed_by_context h.context_size memory s a i) in
       let other : j ≢ i = λ same. false≢true (sym apart ∙ ap (is_ring r) (ap (ring_at memory a) same ∙ at) ∙ eq-eqb r r refl) in
-      let pointed_bound = pointed_is l s i p r cycle off at in
+      let not_r : ready.ring ≢ r = λ same. false≢true (sym apart ∙ ap (is_ring r) ready.named ∙ eq-eqb ready.ring r same) in
+      let there : BoundThere l m s i r = placed_there c l s i p r cycle off at in
       record {
         off =
-            ap (λ (f : ℕ → ℕ → EndpointState). is_off (f s j)) (placed_state c l s i p cycle)
-            ∙ ap is_off (cond-false (s == s && j == i) Running ((pointed h l s i p cycle).endpoint_state s j) (and_right (s == s) (j == i) (ne_eqb j i other)))
-            ∙ ap (λ (m : Known). is_off (m.endpoint_state s j)) pointed_bound
-            ∙ ap (λ (f : ℕ → ℕ → EndpointState). is_off (f s j)) (bound_state l s i r)
+            ap (λ (f : ℕ → ℕ → EndpointState). is_off (f s j)) there.states
+            ∙ ap is_off (cond-false (s == s && j == i) Running (l.endpoint_state s j) (and_right (s == s) (j == i) (ne_eqb j i other)))
             ∙ ready.off;
-        unbound = λ q named.
-            let not_r : q ≢ r = λ same. false≢true (sym apart ∙ ap (is_ring r) named ∙ eq-eqb q r same) in
-            ap (λ (f : ℕ → Bool). f q) (placed_was c l s i p cycle)
-            ∙ ap (λ (m : Known). m.was_bound q) pointed_bound
-            ∙ ap (λ (f : ℕ → Bool). f q) (bound_was l s i r)
-            ∙ cond-false (q == r) true (l.was_bound q) (ne_eqb q r not_r)
-            ∙ ready.unbound q named;
+        ring = ready.ring;
         named = ready.named;
+        free = λ t n has.
+            elim (cases_Bool (t == s && n == i)) [
+              | inl here ↦ not_r (sym (same_Some r ready.ring (sym (ap (λ (f : ℕ → ℕ → Option ℕ). f t n) there.ring_of ∙ cond-true (t == s && n == i) (Some r) (l.ring_of t n) here) ∙ has)))
+              | inr apart ↦ ready.free t n (sym (ap (λ (f : ℕ → ℕ → Option ℕ). f t n) there.ring_of ∙ cond-false (t == s && n == i) (Some r) (l.ring_of t n) apart) ∙ has)
+            ];
+        keeps = subst (λ v. RingKeeps (shape_of h ready.ring) memory v) (sym (there.rings ready.ring not_r)) ready.keeps;
+        placed = ap (λ v. is_placement (shape_of h ready.ring) v (context_pointer h.context_size memory a j) (context_cycle h.context_size memory a j)) (there.rings ready.ring not_r) ∙ ready.placed;
       }
 
   -- each in turn
-  each_points : (c : Command) (memory : ℕ → ℕ) (s a : ℕ) (indices : List ℕ) (l : Known) → EndpointsKeep h l → All (Ready l memory s a) indices →
+  each_points : (c : Command) (memory : ℕ → ℕ) (s a : ℕ) (indices : List ℕ) (l : Known) → All (ReadyAt l memory s a) indices →
       has_repeats (map (ring_at memory a) indices) ≡ false → MayChangeAll h c l (map (placed_by_context h.context_size memory s a) indices)
   unfolding has_repeats is_among
-  each_points c memory s a [] l keeps ready apart = tt
-  each_points c memory s a (i ∷ rest) l keeps ready apart =
-      let here : Ready l memory s a i = All-head (Ready l memory s a) i rest ready in
-      let later : All (Ready l memory s a) rest = All-tail (Ready l memory s a) i rest ready in
-      let some = the_some (ring_at memory a i) here.named in
-      let r : ℕ = some.0 in
+  each_points c memory s a [] l ready apart = tt
+  each_points c memory s a (i ∷ rest) l ready apart =
+      let here : ReadyAt l memory s a i = All-head (ReadyAt l memory s a) i rest ready in
+      let later : All (ReadyAt l memory s a) rest = All-tail (ReadyAt l memory s a) i rest ready in
+      let r : ℕ = here.ring in
       let parts = or_parts (is_among (map (ring_at memory a) rest) (ring_at memory a i)) (has_repeats (map (ring_at memory a) rest)) apart in
-      let none : list_any (is_ring r) (map (ring_at memory a) rest) ≡ false = sym (ap (is_among (map (ring_at memory a) rest)) some.1) ∙ parts.0 in
+      let none : list_any (is_ring r) (map (ring_at memory a) rest) ≡ false = sym (ap (is_among (map (ring_at memory a) rest)) here.named) ∙ parts.0 in
       let others : All (λ j. is_ring r (ring_at memory a j) ≡ false) rest =
       each_fails (λ j. is_ring r (ring_at memory a j)) rest (sym (any_of_map (is_ring r) (ring_at memory a) rest) ∙ none) in
       let change : Change = placed_by_context h.context_size memory s a i in (
-        record {
-          binds = λ off q at. starts l keeps (context_pointer h.context_size memory a i) q at (here.unbound q at);
-          moves = λ on q t at named. absurd (false≢true (sym on ∙ here.off));
-        },
-        each_points c memory s a rest (changed_by h c l change) (change_keeps h is c l change keeps)
-            (λ x d inside. ready_next c l memory s a i r (get_or rest x d) here.off some.1 (later x d inside) (others x d inside)) parts.1,
+        ready_points l memory s i (context_pointer h.context_size memory a i) (context_cycle h.context_size memory a i) here,
+        each_points c memory s a rest (changed_by h c l change)
+            (λ x d inside. ready_next c l memory s a i r (get_or rest x d) here.off here.named (later x d inside) (others x d inside)) parts.1,
       )
 
   pub map_map : {X Y Z : Type 0} (g : Y → Z) (f : X → Y) (xs : List X) → map g (map f xs) ≡ map (λ x. g (f x)) xs
@@ -174,43 +238,63 @@ module _ (h : Header) (is : IsHeader h) where
   unfolding changed_by disabled
   dropped_state c k s a i = refl
 
-  dropped_was : (c : Command) (k : Known) (s a : ℕ) → (dropped c k s a).was_bound ≡ k.was_bound
+  dropped_ring : (c : Command) (k : Known) (s a t j : ℕ) → (dropped c k s a).ring_of t j ≡ (if t == s && is_dropped k.memory a j then None else k.ring_of t j)
   unfolding changed_by disabled
-  dropped_was c k s a = refl
+  dropped_ring c k s a t j = refl
+
+  dropped_rings : (c : Command) (k : Known) (s a : ℕ) → (dropped c k s a).ring ≡ k.ring
+  unfolding changed_by disabled
+  dropped_rings c k s a = refl
 
   off_then : (off drops : Bool) (state : EndpointState) (s : ℕ) → is_off state ≡ off → (off || drops) ≡ true → is_off (if s == s && drops then Off else state) ≡ true
   off_then off true state s at free = ap is_off (cond-true (s == s && true) Off state (and_from (s == s) true (eq-eqb s s refl) refl))
   off_then true false state s at free = ap is_off (cond-false (s == s && false) Off state (and_right (s == s) false refl)) ∙ at
   off_then false false state s at free = absurd (false≢true free)
 
-  pub all_ready : (k : Known) (s a : ℕ) → StillHolds h k (ConfigureEndpoint s false a) →
-      All (Ready (dropped (ConfigureEndpoint s false a) k s a) k.memory s a) (added_endpoints k.memory a)
+  -- no endpoint has a ring that the command binds, once those that it drops have none
+  none_left : (k : Known) (s a r : ℕ) → StillHolds h k (ConfigureEndpoint s false a) → binds_ring h k r (ConfigureEndpoint s false a) ≡ true → (t j : ℕ) →
+      (dropped (ConfigureEndpoint s false a) k s a).ring_of t j ≢ Some r
+  unfolding drops
+  none_left k s a r still bound t j has =
+      elim (cases_Bool (t == s && is_dropped k.memory a j)) [
+        | inl gone ↦ none-some r (sym (cond-true (t == s && is_dropped k.memory a j) None (k.ring_of t j) gone) ∙ sym (dropped_ring (ConfigureEndpoint s false a) k s a t j) ∙ has)
+        | inr stays ↦
+            let had : k.ring_of t j ≡ Some r =
+            sym (cond-false (t == s && is_dropped k.memory a j) None (k.ring_of t j) stays) ∙ sym (dropped_ring (ConfigureEndpoint s false a) k s a t j) ∙ has in
+            false≢true (sym stays ∙ still.unkept r t j bound had)
+      ]
+
+  pub all_ready : (k : Known) → RingsKeep h k → (s a : ℕ) → StillHolds h k (ConfigureEndpoint s false a) →
+      All (ReadyAt (dropped (ConfigureEndpoint s false a) k s a) k.memory s a) (added_endpoints k.memory a)
   unfolding binds_ring binds binding_in ring_bound
-  all_ready k s a still x d inside =
+  all_ready k rings s a still x d inside =
       let c : Command = ConfigureEndpoint s false a in
       let added : List ℕ = added_endpoints k.memory a in
       let i : ℕ = get_or added x d in
+      let mapped : x < length (map (binding_in h k a) added) = omega (arith, length-map added (binding_in h k a)) in
+      let at = get_or-map (binding_in h k a) added x d (binding_in h k a d) inside in
+      let there : Placed k (binding_in h k a i) =
+      placed_at k (binding_in h k a i) (ap (λ b. is_placed h k (ring_bound h b) b) (sym at) ∙ still.placed x (binding_in h k a d) mapped) in
+      let bound : binds_ring h k there.ring c ≡ true =
+      any_of_map (λ b. is_ring there.ring (ring_bound h b)) (binding_in h k a) added
+      ∙ list_any_at (λ j. is_ring there.ring (ring_at k.memory a j)) added x d inside (ap (is_ring there.ring) there.named ∙ eq-eqb there.ring there.ring refl) in
       record {
         off = ap is_off (dropped_state c k s a i) ∙ off_then (is_off (k.endpoint_state s i)) (is_dropped k.memory a i) (k.endpoint_state s i) s refl (still.free x d inside);
-        unbound = λ r at.
-            let bound : binds_ring h k r c ≡ true =
-            any_of_map (λ b. is_ring r (ring_bound h b)) (binding_in h k a) added
-            ∙ list_any_at (λ j. is_ring r (ring_at k.memory a j)) added x d inside (ap (is_ring r) at ∙ eq-eqb r r refl) in
-            ap (λ (f : ℕ → Bool). f r) (dropped_was c k s a) ∙ still.unbound r bound;
-        named =
-            let mapped : x < length (map (binding_in h k a) added) = omega (arith, length-map added (binding_in h k a)) in
-            let at = get_or-map (binding_in h k a) added x d (binding_in h k a d) inside in
-            ap (λ b. is_some (ring_bound h b)) (sym at) ∙ still.named x (binding_in h k a d) mapped;
+        ring = there.ring;
+        named = there.named;
+        free = none_left k s a there.ring still bound;
+        keeps = subst (λ (f : ℕ → RingView). RingKeeps (shape_of h there.ring) k.memory (f there.ring)) (sym (dropped_rings c k s a))
+            (rings there.ring (having_driver (context_pointer h.context_size k.memory a i) there.ring there.named));
+        placed = ap (λ (f : ℕ → RingView). is_placement (shape_of h there.ring) (f there.ring) (context_pointer h.context_size k.memory a i) (context_cycle h.context_size k.memory a i)) (dropped_rings c k s a)
+            ∙ there.placed;
       }
 
-  configures : (k : Known) → EndpointsKeep h k → (s a : ℕ) → StillHolds h k (ConfigureEndpoint s false a) →
+  configures : (k : Known) → RingsKeep h k → (s a : ℕ) → StillHolds h k (ConfigureEndpoint s false a) →
       MayChangeAll h (ConfigureEndpoint s false a) (dropped (ConfigureEndpoint s false a) k s a) (map (placed_by_context h.context_size k.memory s a) (added_endpoints k.memory a))
   unfolding binds binding_in ring_bound
-  configures k keeps s a still =
+  configures k rings s a still =
       let c : Command = ConfigureEndpoint s false a in
-      let slot_on : EndpointsKeep h (changed_by h c k (SlotGoesOn s)) = change_keeps h is c k (SlotGoesOn s) keeps in
-      each_points c k.memory s a (added_endpoints k.memory a) (dropped c k s a)
-      (change_keeps h is c (changed_by h c k (SlotGoesOn s)) (Disables s (is_dropped k.memory a)) slot_on) (all_ready k s a still)
+      each_points c k.memory s a (added_endpoints k.memory a) (dropped c k s a) (all_ready k rings s a still)
       (ap has_repeats (sym (map_map (ring_bound h) (binding_in h k a) (added_endpoints k.memory a))) ∙ still.repeats)
 
   -- ---- any command
@@ -235,7 +319,7 @@ module _ (h : Header) (is : IsHeader h) where
           tt,
         ),
       )
-  still_places k rings endpoints n (ConfigureEndpoint s false a) still = (tt, (tt, configures k endpoints s a still))
+  still_places k rings endpoints n (ConfigureEndpoint s false a) still = (tt, (tt, configures k rings s a still))
   still_places k rings endpoints n (ConfigureEndpoint s true a) still = (tt, (tt, tt))
   still_places k rings endpoints n (EvaluateContext s a) still = tt
   still_places k rings endpoints n (ResetEndpoint s i) still = (tt, tt)

@@ -1,6 +1,6 @@
 -- No two rings of a header have one ID, so each is found by its own
 use Rattle.std.proofs.Common.{◌≡◌, ◌<◌, ◌==◌, ◌&&◌, ◌||◌, ◌∷◌, ◌∙◌, ℕ, not, Bool, true, false, List, [], nat_lt, Option, Some, None, find, arith, refl, sym, ap, subst, inl, inr, eq-eqb, eqb-true, ltb-true}
-use Rattle.safety.proofs.Words.{list_any, list_all, cases_Bool, cond-true, cond-false, false≢true, and_parts, or_parts, not-true, none-some, same_Some, RingKind, Cmd, Evt, Xfer, address_of, is_shape, Header, Ring, IsHeader, clash, may_stand_together, is_command_kind, is_event_kind, is_transfer_kind, is_driver_kind, ring_with, id_of, id_or_none, command_ring, command_id, ring_beginning_at, is_driver_ring, is_transfer_ring}
+use Rattle.safety.proofs.Words.{list_any, list_all, cases_Bool, cond-true, cond-false, false≢true, and_parts, or_parts, not-true, none-some, same_Some, RingKind, Cmd, Evt, Xfer, is_inside, is_shape, Header, Ring, IsHeader, clash, may_stand_together, is_command_kind, is_event_kind, is_transfer_kind, is_driver_kind, ring_with, id_of, id_or_none, command_ring, command_id, ring_having, is_driver_ring, is_transfer_ring}
 use Rattle.segments.specs.Shape.{rings_overlap}
 use Rattle.safety.specs.RingsKeep.{IsDriverRing}
 use Rattle.safety.specs.EndpointsKeep.{IsTransferRing}
@@ -45,19 +45,19 @@ module _ (h : Header) (is : IsHeader h) where
   allowed : list_all (λ q. nat_lt q.id 256 && is_shape q.shape) h.rings ≡ true
   allowed = (and_parts (list_all (λ q. nat_lt q.id 256 && is_shape q.shape) h.rings) (may_stand_together h.rings) is).0
 
-  beginning_is : (test : Ring → Bool) (o : Option Ring) (r : ℕ) → find test h.rings ≡ o → ((q : Ring) → test q ≡ true → is_transfer_kind q.shape.kind ≡ true) → id_of o ≡ Some r →
+  found_transfer : (test : Ring → Bool) (o : Option Ring) (r : ℕ) → find test h.rings ≡ o → ((q : Ring) → test q ≡ true → is_transfer_kind q.shape.kind ≡ true) → id_of o ≡ Some r →
       IsTransferRing h r
-  beginning_is test None r found kinds e = absurd (none-some r e)
-  beginning_is test (Some q) r found kinds e =
+  found_transfer test None r found kinds e = absurd (none-some r e)
+  found_transfer test (Some q) r found kinds e =
       let same : q.id ≡ r = same_Some q.id r e in
       subst (λ n. IsTransferRing h n) same (ap is_transfer_ring (found_again test h.rings q together found) ∙ kinds q (found_passes test h.rings q found))
 
-  -- a ring that begins at an address is a transfer ring
-  pub beginning_transfer : (p r : ℕ) → ring_beginning_at h p ≡ Some r → IsTransferRing h r
-  unfolding ring_beginning_at
-  beginning_transfer p r e =
-      beginning_is (λ q. is_transfer_kind q.shape.kind && address_of q.shape 0 == p) (find (λ q. is_transfer_kind q.shape.kind && address_of q.shape 0 == p) h.rings) r refl
-      (λ q passes. (and_parts (is_transfer_kind q.shape.kind) (address_of q.shape 0 == p) passes).0) e
+  -- a ring that has a block at an address is a transfer ring
+  pub having_transfer : (p r : ℕ) → ring_having h p ≡ Some r → IsTransferRing h r
+  unfolding ring_having
+  having_transfer p r e =
+      found_transfer (λ q. is_transfer_kind q.shape.kind && is_inside q.shape p) (find (λ q. is_transfer_kind q.shape.kind && is_inside q.shape p) h.rings) r refl
+      (λ q passes. (and_parts (is_transfer_kind q.shape.kind) (is_inside q.shape p) passes).0) e
 
   two_kinds : (kind : RingKind) → is_command_kind kind ≡ true → is_transfer_kind kind ≡ true → ⊥
   two_kinds Cmd c t = false≢true t

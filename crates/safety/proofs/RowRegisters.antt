@@ -72,7 +72,7 @@ MayMove h w _ x = Unit {0}
 
 unstarted_valued : (h : Header) (k : Known) (r : Register) (x : ℕ) → Unstarted h k → Unstarted h (registers.valued k r x)
 unfolding registers.valued
-unstarted_valued h k r x u = record { reads = u.reads; dequeue = u.dequeue; slots = u.slots; rings = u.rings; floors = u.floors; held = u.held; bound = u.bound; seen = u.seen }
+unstarted_valued h k r x u = record { reads = u.reads; dequeue = u.dequeue; slots = u.slots; rings = u.rings; floors = u.floors; held = u.held; seen = u.seen }
 
 reached_valued : (h : Header) (w : World) (r : Register) (x a : ℕ) → ErdpReached h w a → ErdpReached h (driver.valued w r x) a
 unfolding driver.valued

@@ -111,7 +111,7 @@ module _ (h : Header) (is : IsHeader h) (k : Known) (unread : List Block) (w : W
 
   endpoint_ring : (r : ℕ) → r ≢ command_id h → EndpointRing h k w r → EndpointRing h k v r
   endpoint_ring r other (inl bound) = inl (subst (λ s. BoundRing (shape_of h r) k.ring_of (k.ring r) s r) (sym (others r other)) bound)
-  endpoint_ring r other (inr free) = inr (subst (λ s. FreeRing (shape_of h r) k.ring_of s r) (sym (others r other)) free)
+  endpoint_ring r other (inr free) = inr (subst (λ s. FreeRing (shape_of h r) k.ring_of (k.ring r) s r) (sym (others r other)) free)
 
   given_before : (p : ℕ) (c : Command) → IsUnfinished h m p c → IsUnfinished h k p c
   unfolding m of_rings.command_at
@@ -126,7 +126,6 @@ module _ (h : Header) (is : IsHeader h) (k : Known) (unread : List Block) (w : W
         endpoints = y.endpoints;
         ring_of = y.ring_of;
         rings = λ r other. endpoint_ring r other (y.rings r other);
-        fresh = y.fresh;
         before = λ waits. absurd (false≢true (sym waits));
         command = λ on. command;
         scribbles = y.scribbles;

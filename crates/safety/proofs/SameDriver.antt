@@ -1,6 +1,6 @@
 -- What events leave as it is: registers, memory, and what is declared and given of each ring
 use Rattle.std.proofs.Common.{◌≡◌, ◌≢◌, ◌+◌, ◌==◌, if◌then◌else◌, ◌∷◌, ◌∙◌, ℕ, Bool, true, List, [], Option, None, Some, refl, sym, ap, subst, inl, inr}
-use Rattle.safety.proofs.Words.{cases_eq, cond_both, put_pair, Block, BlockKind, TransferEvent, CommandCompletion, code, slot, endpoint, is_success, is_halting, is_trb_error, is_stopping, Spot, Data, number, after, RingView, RingChange, Reaches, Opens, Holds, changed, ceiling, stopped_number, target, Command, StopEndpoint, EndpointState, Halted, Error, Stopped, is_off, Change, SlotGoesOn, DeviceLeft, Disables, Places, Stops, Resets, changes, Header, shape_of, command_id, ring_beginning_at, Known, RingSpot, on_ring, event_at, command_at, next_command, passed, broken_off, stopped_at, transferred, transferred_at, transfer_read, set_to, bound_to, moved_to, moved, pointed, disabled, in_state, held_at_ceiling, changed_by, changed_by_all, succeeded, stop_ended, finished, completed, event_read}
+use Rattle.safety.proofs.Words.{cases_eq, cond_both, put_pair, Block, BlockKind, TransferEvent, CommandCompletion, code, slot, endpoint, is_success, is_halting, is_trb_error, is_stopping, Spot, Data, number, after, RingView, RingChange, Reaches, Opens, Holds, changed, ceiling, stopped_number, target, Command, StopEndpoint, EndpointState, Halted, Error, Stopped, is_off, Change, SlotGoesOn, DeviceLeft, Disables, Places, Stops, Resets, changes, Header, shape_of, command_id, ring_having, Known, RingSpot, on_ring, event_at, command_at, next_command, passed, broken_off, stopped_at, transferred, transferred_at, transfer_read, set_to, bound_to, moved_to, moved, pointed, disabled, in_state, held_at_ceiling, changed_by, changed_by_all, succeeded, stop_ended, finished, completed, event_read}
 use Rattle.safety.proofs.DriverRows.{ring_here, ring_elsewhere}
 
 -- what is declared and given of a ring
@@ -132,14 +132,6 @@ module _ (h : Header) where
       let l : Known = on_ring h k r (Reaches t) in
       both_drivers k l (on_ring h l r (Holds (number t))) (on_ring_same k r (Reaches t) tt) (on_ring_same l r (Holds (number t)) tt)
 
-  bound_same : (k : Known) (s i : ℕ) (o : Option ℕ) → SameDriver k (bound_to h k s i o)
-  unfolding bound_to
-  bound_same k s i None = same_driver k
-  bound_same k s i (Some r) =
-      let l : Known = set_to h k r (Data 0) in
-      both_drivers k l (bound_to h k s i (Some r)) (set_same k r (Data 0))
-      (record { started = refl; stopped = refl; register = refl; memory = refl; soiled = refl; reads = refl; dequeue = refl; rings = λ q. same_given (l.ring q) })
-
   target_same : (k : Known) (r : ℕ) (o : Option Spot) → SameDriver k (moved_to h k r o)
   unfolding moved_to
   target_same k r None = same_driver k
@@ -150,11 +142,19 @@ module _ (h : Header) where
   moved_same k None p cycle = same_driver k
   moved_same k (Some r) p cycle = target_same k r (target (shape_of h r) (k.ring r) p cycle)
 
+  bound_same : (k : Known) (s i : ℕ) (o : Option ℕ) (p : ℕ) (cycle : Bool) → SameDriver k (bound_to h k s i o p cycle)
+  unfolding bound_to
+  bound_same k s i None p cycle = same_driver k
+  bound_same k s i (Some r) p cycle =
+      let l : Known = moved h k (Some r) p cycle in
+      both_drivers k l (bound_to h k s i (Some r) p cycle) (moved_same k (Some r) p cycle)
+      (record { started = refl; stopped = refl; register = refl; memory = refl; soiled = refl; reads = refl; dequeue = refl; rings = λ q. same_given (l.ring q) })
+
   pointed_same : (k : Known) (s i p : ℕ) (cycle : Bool) → SameDriver k (pointed h k s i p cycle)
   unfolding pointed
   pointed_same k s i p cycle =
-      cond_both (is_off (k.endpoint_state s i)) (bound_to h k s i (ring_beginning_at h p)) (moved h k (k.ring_of s i) p cycle) (SameDriver k)
-      (λ _. bound_same k s i (ring_beginning_at h p)) (λ _. moved_same k (k.ring_of s i) p cycle)
+      cond_both (is_off (k.endpoint_state s i)) (bound_to h k s i (ring_having h p) p cycle) (moved h k (k.ring_of s i) p cycle) (SameDriver k)
+      (λ _. bound_same k s i (ring_having h p) p cycle) (λ _. moved_same k (k.ring_of s i) p cycle)
 
   state_same : (k : Known) (s i : ℕ) (state : EndpointState) → SameDriver k (in_state h k s i state)
   unfolding in_state

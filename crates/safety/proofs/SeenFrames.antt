@@ -1,14 +1,9 @@
 -- Behind a completion no Stopped event is known: that of the finished Stop Endpoint was the only one
 use Rattle.std.proofs.Common.{◌≡◌, ◌∷◌, ◌∙◌, ℕ, Bool, true, false, List, [], Option, None, Some, refl, sym, ap}
-use Rattle.safety.proofs.Words.{cond_both, false≢true, Spot, target, Command, StopEndpoint, Stopped, is_off, Change, SlotGoesOn, DeviceLeft, Disables, Places, Stops, Resets, Header, shape_of, ring_beginning_at, Known, on_ring, set_to, bound_to, moved_to, moved, pointed, disabled, in_state, held_at_ceiling, changed_by, changed_by_all, stop_ended}
+use Rattle.safety.proofs.Words.{cond_both, false≢true, Spot, target, Command, StopEndpoint, Stopped, is_off, Change, SlotGoesOn, DeviceLeft, Disables, Places, Stops, Resets, Header, shape_of, ring_having, Known, on_ring, set_to, bound_to, moved_to, moved, pointed, disabled, in_state, held_at_ceiling, changed_by, changed_by_all, stop_ended}
 use Rattle.safety.proofs.EndpointPut.{at_pair}
 
 module _ (h : Header) where
-  bound_seen : (k : Known) (s i : ℕ) (o : Option ℕ) → (bound_to h k s i o).stop_seen ≡ k.stop_seen
-  unfolding bound_to set_to on_ring
-  bound_seen k s i None = refl
-  bound_seen k s i (Some r) = refl
-
   target_seen : (k : Known) (r : ℕ) (o : Option Spot) → (moved_to h k r o).stop_seen ≡ k.stop_seen
   unfolding moved_to set_to on_ring
   target_seen k r None = refl
@@ -19,11 +14,16 @@ module _ (h : Header) where
   moved_seen k None p cycle = refl
   moved_seen k (Some r) p cycle = target_seen k r (target (shape_of h r) (k.ring r) p cycle)
 
+  bound_seen : (k : Known) (s i : ℕ) (o : Option ℕ) (p : ℕ) (cycle : Bool) → (bound_to h k s i o p cycle).stop_seen ≡ k.stop_seen
+  unfolding bound_to
+  bound_seen k s i None p cycle = refl
+  bound_seen k s i (Some r) p cycle = moved_seen k (Some r) p cycle
+
   pointed_seen : (k : Known) (s i p : ℕ) (cycle : Bool) → (pointed h k s i p cycle).stop_seen ≡ k.stop_seen
   unfolding pointed
   pointed_seen k s i p cycle =
-      cond_both (is_off (k.endpoint_state s i)) (bound_to h k s i (ring_beginning_at h p)) (moved h k (k.ring_of s i) p cycle) (λ l. l.stop_seen ≡ k.stop_seen)
-      (λ off. bound_seen k s i (ring_beginning_at h p)) (λ on. moved_seen k (k.ring_of s i) p cycle)
+      cond_both (is_off (k.endpoint_state s i)) (bound_to h k s i (ring_having h p) p cycle) (moved h k (k.ring_of s i) p cycle) (λ l. l.stop_seen ≡ k.stop_seen)
+      (λ off. bound_seen k s i (ring_having h p) p cycle) (λ on. moved_seen k (k.ring_of s i) p cycle)
 
   held_seen : (k : Known) (o : Option ℕ) → (held_at_ceiling h k o).stop_seen ≡ k.stop_seen
   unfolding held_at_ceiling on_ring

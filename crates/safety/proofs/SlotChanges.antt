@@ -21,7 +21,6 @@ module _ (h : Header) (c : Command) (k : Known) (w : World) (m : StatesMatch h k
       endpoints = m.endpoints;
       ring_of = m.ring_of;
       rings = m.rings;
-      fresh = m.fresh;
       scribbles = m.scribbles;
       apart = m.apart;
       one_endpoint = m.one_endpoint;
@@ -38,7 +37,6 @@ module _ (h : Header) (c : Command) (k : Known) (w : World) (m : StatesMatch h k
       endpoints = m.endpoints;
       ring_of = m.ring_of;
       rings = m.rings;
-      fresh = m.fresh;
       scribbles = λ t may none. elim (cases_eq t s) [
         | inl same ↦ absurd (false≢true (sym (put_at w.scribbles s false) ∙ ap (λ x. put w.scribbles s false x) (sym same) ∙ may))
         | inr other ↦ m.scribbles t (sym (put_off w.scribbles s false t other) ∙ may) (sym (put_off k.device s None t other) ∙ none)
@@ -59,7 +57,6 @@ module _ (h : Header) (c : Command) (k : Known) (w : World) (m : StatesMatch h k
       endpoints = same_put_pair w.endpoint_state k.endpoint_state s i state m.endpoints;
       ring_of = m.ring_of;
       rings = m.rings;
-      fresh = m.fresh;
       scribbles = m.scribbles;
       apart = m.apart;
       one_endpoint = m.one_endpoint;

@@ -1,6 +1,6 @@
 -- The success of an unfinished command changes its own slot alone, and binds only rings that it names
 use Rattle.std.proofs.Common.{◌≡◌, if◌then◌else◌, ◌∷◌, ◌∙◌, ℕ, not, Bool, true, false, List, [], map, Some, refl, ap, inl, inr, eq-eqb}
-use Rattle.safety.proofs.Words.{list_any, or_parts, or_left, not-false, false≢true, Command, NoOp, EnableSlot, DisableSlot, AddressDevice, ConfigureEndpoint, EvaluateContext, ResetEndpoint, StopEndpoint, SetTrDequeue, ResetDevice, EndpointState, Off, Running, Halted, Stopped, Error, is_off, is_at_rest, changes, placed_by_context, added_endpoints, context_pointer, Header, command_id, is_ring, ring_beginning_at, Known, changed_by, succeeded, binding_in, binds, ring_bound, binds_ring, is_bad_dequeue, is_bad_move, IsIn, any_of, MovesIf}
+use Rattle.safety.proofs.Words.{list_any, or_parts, or_left, not-false, false≢true, Command, NoOp, EnableSlot, DisableSlot, AddressDevice, ConfigureEndpoint, EvaluateContext, ResetEndpoint, StopEndpoint, SetTrDequeue, ResetDevice, EndpointState, Off, Running, Halted, Stopped, Error, is_off, is_at_rest, changes, placed_by_context, added_endpoints, context_pointer, Header, command_id, is_ring, ring_having, Known, changed_by, succeeded, binding_in, binds, ring_bound, binds_ring, is_bad_dequeue, is_bad_move, IsIn, any_of, MovesIf}
 use Rattle.safety.proofs.TestsPassed.{any_of_map}
 use Rattle.safety.proofs.OtherSlots.{OtherSlots, Within, AllOnly, changes_others}
 
@@ -34,21 +34,21 @@ module _ (h : Header) (k : Known) where
   pub of_slot : (s : ℕ) (e : Command) → Within s (OfCommand s e) k
   of_slot s e i r at = Has i at
 
-  address_binds : (s n r : ℕ) (bsr : Bool) → is_off (k.endpoint_state s 1) ≡ true → ring_beginning_at h (context_pointer h.context_size k.memory n 1) ≡ Some r →
+  address_binds : (s n r : ℕ) (bsr : Bool) → is_off (k.endpoint_state s 1) ≡ true → ring_having h (context_pointer h.context_size k.memory n 1) ≡ Some r →
       binds_ring h k r (AddressDevice s bsr n) ≡ true
   unfolding binds_ring binds binding_in ring_bound
   address_binds s n r bsr off at =
       ap (λ t. list_any (λ b. is_ring r (ring_bound h b)) (if t then binding_in h k n 1 ∷ [] else [])) off
       ∙ or_left (is_ring r (ring_bound h (binding_in h k n 1))) false (ap (λ o. is_ring r o) at ∙ eq-eqb r r refl)
 
-  configure_binds : (s n i r : ℕ) → IsIn i (added_endpoints k.memory n) → ring_beginning_at h (context_pointer h.context_size k.memory n i) ≡ Some r →
+  configure_binds : (s n i r : ℕ) → IsIn i (added_endpoints k.memory n) → ring_having h (context_pointer h.context_size k.memory n i) ≡ Some r →
       binds_ring h k r (ConfigureEndpoint s false n) ≡ true
   unfolding binds_ring binds binding_in ring_bound
   configure_binds s n i r added at =
       any_of_map (λ b. is_ring r (ring_bound h b)) (binding_in h k n) (added_endpoints k.memory n)
       ∙ any_of (λ x. is_ring r (ring_bound h (binding_in h k n x))) (added_endpoints k.memory n) i added (ap (λ o. is_ring r o) at ∙ eq-eqb r r refl)
 
-  places_only : (s n : ℕ) (e : Command) (B : ℕ → Type 0) (l : Known) (xs : List ℕ) → ((i : ℕ) → IsIn i xs → (r : ℕ) → ring_beginning_at h (context_pointer h.context_size k.memory n i) ≡ Some r → B r) →
+  places_only : (s n : ℕ) (e : Command) (B : ℕ → Type 0) (l : Known) (xs : List ℕ) → ((i : ℕ) → IsIn i xs → (r : ℕ) → ring_having h (context_pointer h.context_size k.memory n i) ≡ Some r → B r) →
       AllOnly s B h e l (map (placed_by_context h.context_size k.memory s n) xs)
   places_only s n e B l [] named = tt
   places_only s n e B l (i ∷ rest) named = (

@@ -1,6 +1,6 @@
 -- What a change leaves of slots
 use Rattle.std.proofs.Common.{◌≡◌, ◌≢◌, ◌⊎◌, ◌==◌, ◌&&◌, ◌∷◌, ◌∙◌, ℕ, Bool, List, [], map, Option, None, Some, refl, sym, ap, inl, inr, ne_eqb}
-use Rattle.safety.proofs.Words.{cond_both, cond-false, and_left, none-some, Spot, target, Command, EndpointState, Stopped, is_off, Change, SlotGoesOn, DeviceLeft, Disables, Places, Stops, Resets, placed_by_context, ContextSize, Header, shape_of, ring_beginning_at, Known, on_ring, set_to, bound_to, moved_to, moved, pointed, disabled, in_state, held_at_ceiling, changed_by, changed_by_all}
+use Rattle.safety.proofs.Words.{cond_both, cond-false, and_left, none-some, Spot, target, Command, EndpointState, Stopped, is_off, Change, SlotGoesOn, DeviceLeft, Disables, Places, Stops, Resets, placed_by_context, ContextSize, Header, shape_of, ring_having, Known, on_ring, set_to, bound_to, moved_to, moved, pointed, disabled, in_state, held_at_ceiling, changed_by, changed_by_all}
 use Rattle.safety.proofs.EndpointPut.{at_pair}
 use Rattle.safety.proofs.StatesOneEndpoint.{same_pair}
 
@@ -41,12 +41,20 @@ module _ (h : Header) where
   unfolding set_to on_ring
   set_leaves k s i r t = record { slot_state = refl; device = refl; rings = λ u j. inr refl; some = λ u j has. has }
 
-  bound_leaves : (k : Known) (s i : ℕ) (o : Option ℕ) → GetsRing k (bound_to h k s i o) s i
-  unfolding bound_to set_to on_ring
-  bound_leaves k s i None = record { slot_state = refl; device = refl; rings = λ u j. inr refl; some = λ u j has. has }
-  bound_leaves k s i (Some r) = record {
-    slot_state = refl;
-    device = refl;
+  moved_tables : (k : Known) (r p : ℕ) (cycle : Bool) → ((moved h k (Some r) p cycle).slot_state ≡ k.slot_state) × ((moved h k (Some r) p cycle).device ≡ k.device)
+  unfolding moved moved_to set_to on_ring
+  moved_tables k r p cycle = by (target (shape_of h r) (k.ring r) p cycle)
+    where
+      by : (o : Option Spot) → ((moved_to h k r o).slot_state ≡ k.slot_state) × ((moved_to h k r o).device ≡ k.device)
+      by None = (refl, refl)
+      by (Some t) = (refl, refl)
+
+  bound_leaves : (k : Known) (s i : ℕ) (o : Option ℕ) (p : ℕ) (cycle : Bool) → GetsRing k (bound_to h k s i o p cycle) s i
+  unfolding bound_to
+  bound_leaves k s i None p cycle = record { slot_state = refl; device = refl; rings = λ u j. inr refl; some = λ u j has. has }
+  bound_leaves k s i (Some r) p cycle = record {
+    slot_state = (moved_tables k r p cycle).0;
+    device = (moved_tables k r p cycle).1;
     rings = λ t j.
         elim (same_pair t j s i) [
           | inl here ↦ inl here
@@ -68,8 +76,8 @@ module _ (h : Header) where
   pointed_leaves : (k : Known) (s i p : ℕ) (cycle : Bool) → GetsRing k (pointed h k s i p cycle) s i
   unfolding pointed
   pointed_leaves k s i p cycle =
-      cond_both (is_off (k.endpoint_state s i)) (bound_to h k s i (ring_beginning_at h p)) (moved h k (k.ring_of s i) p cycle) (λ m. GetsRing k m s i)
-      (λ off. bound_leaves k s i (ring_beginning_at h p)) (λ on. moved_leaves k s i (k.ring_of s i) p cycle)
+      cond_both (is_off (k.endpoint_state s i)) (bound_to h k s i (ring_having h p) p cycle) (moved h k (k.ring_of s i) p cycle) (λ m. GetsRing k m s i)
+      (λ off. bound_leaves k s i (ring_having h p) p cycle) (λ on. moved_leaves k s i (k.ring_of s i) p cycle)
 
   pub placed_leaves : (c : Command) (k : Known) (s i p : ℕ) (cycle : Bool) (state : EndpointState) → GetsRing k (changed_by h c k (Places s i p cycle state)) s i
   unfolding changed_by in_state

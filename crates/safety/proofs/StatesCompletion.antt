@@ -1,7 +1,7 @@
 -- A Command Completion Event keeps what is known of states
 use Rattle.std.proofs.Common.{◌≡◌, ◌==◌, if◌then◌else◌, ◌∙◌, ℕ, true, Option, None, Some, refl, sym, ap}
 use Rattle.safety.proofs.Words.{cond_both, cond-true, and_parts, false≢true, same_Some, Block, code, slot, Spot, after, Reaches, Command, StopEndpoint, may_answer_slot, changes, Header, Config, IsHeader, shape_of, command_id, register_or_zero, Known, on_ring, command_at, next_command, succeeded, stop_ended, finished, completed, can_finish, CommandKeeps, DriverKeeps}
-use Rattle.safety.proofs.DriverRings.{endpoints_of}
+use Rattle.safety.proofs.DriverRings.{endpoints_of, rings_of}
 use Rattle.safety.proofs.SameDriver.{view_after}
 use Rattle.safety.proofs.KeptRings.{CompletionFacts, next_unfinished, command_holds}
 use Rattle.safety.proofs.SeenFrames.{changes_seen, none_seen}
@@ -55,7 +55,7 @@ module _ (h : Header) where
         let keeps : CommandKeeps h k (next_command h k) c = d.unfinished (next_command h k) c (next_unfinished h is k d started facts.below c at) in
         cond_both (code b == 1) (succeeded h k (slot b) c) k Stand
         (λ success.
-        success_stands h is k (register_or_zero k.register Config) (slot b) c (endpoints_of h k d.states) before.endpoints before.slots keeps.good (command_holds h k (next_command h k) c keeps)
+        success_stands h is k (register_or_zero k.register Config) (slot b) c (endpoints_of h k d.states) (rings_of h k d) before.endpoints before.slots keeps.good (command_holds h k (next_command h k) c keeps)
         (can_be c can success))
         (λ fails. before)
 

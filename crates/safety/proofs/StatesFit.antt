@@ -1,10 +1,10 @@
 -- What the success of an unfinished command changes fits the endpoints
 use Rattle.std.proofs.Common.{◌≡◌, ◌≢◌, ◌≤◌, ◌∷◌, ◌∙◌, ℕ, nat_le, Bool, true, false, List, [], map, All, Some, is_some, arith, refl, sym, ap, subst, inl, inr, get_or, eq-eqb, leb-true}
-use Rattle.safety.proofs.Words.{list_any, cond-true, and_parts, or_parts, or_left, false≢true, All-head, All-tail, Command, NoOp, EnableSlot, DisableSlot, AddressDevice, ConfigureEndpoint, EvaluateContext, ResetEndpoint, StopEndpoint, SetTrDequeue, ResetDevice, SlotState, Disabled, EndpointState, Running, Halted, Stopped, Error, Change, SlotGoesOn, changes, placed_by_context, named_slot, named_endpoint, is_disabled, is_off, slot_success, endpoint_success, slot_meant, endpoint_meant, is_slot_enabled, can_succeed, added_endpoints, context_pointer, Header, IsHeader, is_ring, ring_beginning_at, Known, changed_by, Binding, is_among, has_repeats, binding_in, binds, ring_bound, binds_ring, StillHolds}
+use Rattle.safety.proofs.Words.{list_any, cond-true, and_parts, or_parts, or_left, false≢true, All-head, All-tail, Command, NoOp, EnableSlot, DisableSlot, AddressDevice, ConfigureEndpoint, EvaluateContext, ResetEndpoint, StopEndpoint, SetTrDequeue, ResetDevice, SlotState, Disabled, EndpointState, Running, Halted, Stopped, Error, Change, SlotGoesOn, changes, placed_by_context, named_slot, named_endpoint, is_disabled, is_off, slot_success, endpoint_success, slot_meant, endpoint_meant, is_slot_enabled, can_succeed, added_endpoints, context_pointer, Header, IsHeader, is_ring, Known, changed_by, Binding, is_among, has_repeats, binding_in, binds, ring_bound, binds_ring, RingsKeep, StillHolds}
 use Rattle.ownership_rules.specs.Commands as commands
 use Rattle.safety.proofs.TestsPassed.{each_fails, any_of_map}
 use Rattle.safety.proofs.GivenCommands.{added_above}
-use Rattle.safety.proofs.Placings.{ring_at, Ready, the_some, ready_next, map_map, dropped, all_ready}
+use Rattle.safety.proofs.Placings.{ring_at, ReadyAt, ready_next, map_map, dropped, address_ready, all_ready}
 use Rattle.safety.proofs.StatesParts.{EndpointsStand}
 use Rattle.safety.proofs.StatesPlaced.{MayPlace, off_is}
 use Rattle.safety.proofs.StatesChanges.{RestsThere, FitAll}
@@ -50,59 +50,45 @@ module _ (h : Header) (is : IsHeader h) where
 
   -- ---- Address Device
 
-  address_binds : (k : Known) (s n : ℕ) (bsr : Bool) → StillHolds h k (AddressDevice s bsr n) → is_off (k.endpoint_state s 1) ≡ true →
-      (r : ℕ) × (ring_beginning_at h (context_pointer h.context_size k.memory n 1) ≡ Some r) × (k.was_bound r ≡ false)
-  unfolding binds_ring binds binding_in ring_bound
-  address_binds k s n bsr still off =
-      let p : ℕ = context_pointer h.context_size k.memory n 1 in
-      let all : List Binding = binding_in h k n 1 ∷ [] in
-      let bound : binds h k (AddressDevice s bsr n) ≡ all = cond-true (is_off (k.endpoint_state s 1)) all [] off in
-      let named : All (λ b. is_some (ring_bound h b) ≡ true) all = subst (λ bs. All (λ b. is_some (ring_bound h b) ≡ true) bs) bound still.named in
-      let some = the_some h is (ring_beginning_at h p) (All-head (λ b. is_some (ring_bound h b) ≡ true) (binding_in h k n 1) [] named) in
-      let r : ℕ = some.0 in
-      let binds_it : binds_ring h k r (AddressDevice s bsr n) ≡ true =
-      ap (list_any (λ b. is_ring r (ring_bound h b))) bound ∙ or_left (is_ring r (ring_beginning_at h p)) false (ap (is_ring r) some.1 ∙ eq-eqb r r refl) in
-      (r, some.1, still.unbound r binds_it)
-
-  address_fits : (k : Known) (s n : ℕ) (bsr : Bool) → StillHolds h k (AddressDevice s bsr n) → s ≢ 0 →
+  address_fits : (k : Known) → RingsKeep h k → (s n : ℕ) (bsr : Bool) → StillHolds h k (AddressDevice s bsr n) → s ≢ 0 →
       MayPlace h (changed_by h (AddressDevice s bsr n) k (SlotGoesOn s)) s 1 (context_pointer h.context_size k.memory n 1) Running
   unfolding changed_by
-  address_fits k s n bsr still slot = record {
+  address_fits k rings s n bsr still slot = record {
     slot = slot;
     index = λ same. omega arith;
     on = λ off. cc;
-    binds = address_binds k s n bsr still;
+    binds = λ off. let ready = address_ready h is k rings s n bsr still off in record { ring = ready.ring; named = ready.named; free = ready.free };
+    starts = λ off. refl;
     runs = λ r at none. refl;
   }
 
   -- ---- Configure Endpoint
 
-  each_fits : (c : Command) (memory : ℕ → ℕ) (s a : ℕ) (indices : List ℕ) (l : Known) → s ≢ 0 → All (λ i. nat_le 2 i ≡ true) indices → All (Ready h is l memory s a) indices →
+  each_fits : (c : Command) (memory : ℕ → ℕ) (s a : ℕ) (indices : List ℕ) (l : Known) → s ≢ 0 → All (λ i. nat_le 2 i ≡ true) indices → All (ReadyAt h is l memory s a) indices →
       has_repeats (map (ring_at h is memory a) indices) ≡ false → FitAll h c l (map (placed_by_context h.context_size memory s a) indices)
   unfolding has_repeats is_among
   each_fits c memory s a [] l slot above ready apart = tt
   each_fits c memory s a (i ∷ rest) l slot above ready apart =
-      let here : Ready h is l memory s a i = All-head (Ready h is l memory s a) i rest ready in
-      let later : All (Ready h is l memory s a) rest = All-tail (Ready h is l memory s a) i rest ready in
-      let some = the_some h is (ring_at h is memory a i) here.named in
-      let r : ℕ = some.0 in
+      let here : ReadyAt h is l memory s a i = All-head (ReadyAt h is l memory s a) i rest ready in
+      let later : All (ReadyAt h is l memory s a) rest = All-tail (ReadyAt h is l memory s a) i rest ready in
+      let r : ℕ = here.ring in
       let parts = or_parts (is_among (map (ring_at h is memory a) rest) (ring_at h is memory a i)) (has_repeats (map (ring_at h is memory a) rest)) apart in
-      let none : list_any (is_ring r) (map (ring_at h is memory a) rest) ≡ false = sym (ap (is_among (map (ring_at h is memory a) rest)) some.1) ∙ parts.0 in
+      let none : list_any (is_ring r) (map (ring_at h is memory a) rest) ≡ false = sym (ap (is_among (map (ring_at h is memory a) rest)) here.named) ∙ parts.0 in
       let others : All (λ j. is_ring r (ring_at h is memory a j) ≡ false) rest =
       each_fails (λ j. is_ring r (ring_at h is memory a j)) rest (sym (any_of_map (is_ring r) (ring_at h is memory a) rest) ∙ none) in
       let low : 2 ≤ i = leb-true 2 i (All-head (λ j. nat_le 2 j ≡ true) i rest above) in
       let change : Change = placed_by_context h.context_size memory s a i in (
-        record { slot = slot; index = λ same. omega arith; on = λ off. cc; binds = λ off. (r, some.1, here.unbound r some.1); runs = λ q at opened. refl },
+        record { slot = slot; index = λ same. omega arith; on = λ off. cc; binds = λ off. record { ring = r; named = here.named; free = here.free }; starts = λ off. refl; runs = λ q at opened. refl },
         each_fits c memory s a rest (changed_by h c l change) slot (All-tail (λ j. nat_le 2 j ≡ true) i rest above)
-            (λ x d inside. ready_next h is c l memory s a i r (get_or rest x d) here.off some.1 (later x d inside) (others x d inside)) parts.1,
+            (λ x d inside. ready_next h is c l memory s a i r (get_or rest x d) here.off here.named (later x d inside) (others x d inside)) parts.1,
       )
 
-  configure_fits : (k : Known) (s a : ℕ) → StillHolds h k (ConfigureEndpoint s false a) → s ≢ 0 →
+  configure_fits : (k : Known) → RingsKeep h k → (s a : ℕ) → StillHolds h k (ConfigureEndpoint s false a) → s ≢ 0 →
       FitAll h (ConfigureEndpoint s false a) (dropped h is (ConfigureEndpoint s false a) k s a) (map (placed_by_context h.context_size k.memory s a) (added_endpoints k.memory a))
   unfolding binds binding_in ring_bound
-  configure_fits k s a still slot =
+  configure_fits k rings s a still slot =
       let c : Command = ConfigureEndpoint s false a in
-      each_fits c k.memory s a (added_endpoints k.memory a) (dropped h is c k s a) slot (added_above k.memory a) (all_ready h is k s a still)
+      each_fits c k.memory s a (added_endpoints k.memory a) (dropped h is c k s a) slot (added_above k.memory a) (all_ready h is k rings s a still)
       (ap has_repeats (sym (map_map h is (ring_bound h) (binding_in h k a) (added_endpoints k.memory a))) ∙ still.repeats)
 
   -- ---- Set TR Dequeue
@@ -113,25 +99,26 @@ module _ (h : Header) (is : IsHeader h) where
     index = λ zero. rests.on (e.off s i (e.no_endpoint s i (inr zero)));
     on = λ off. cc;
     binds = λ off. absurd (rests.on (off_is (k.endpoint_state s i) off));
+    starts = λ off. absurd (rests.on (off_is (k.endpoint_state s i) off));
     runs = λ r at none. absurd (rests.rests (e.open_runs s i r at none));
   }
 
   -- ---- any command
 
-  pub success_fits : (k : Known) (config n : ℕ) (c : Command) → k.slot_state 0 ≡ Disabled → EndpointsStand k → commands.is_bad_command h k c ≡ false → StillHolds h k c →
+  pub success_fits : (k : Known) (config n : ℕ) (c : Command) → k.slot_state 0 ≡ Disabled → RingsKeep h k → EndpointsStand k → commands.is_bad_command h k c ≡ false → StillHolds h k c →
       Succeeds k.slot_state k.endpoint_state config n c → FitAll h c k (changes h.context_size k.memory n c)
   unfolding changes
-  success_fits k config n NoOp zero e good still may = tt
-  success_fits k config n EnableSlot zero e good still may = (tt, tt)
-  success_fits k config n (DisableSlot s) zero e good still may = (tt, (tt, (tt, tt)))
-  success_fits k config n (AddressDevice s bsr a) zero e good still may =
-      (tt, (address_fits k s a bsr still (no_slot_zero k s zero (slot_there k (AddressDevice s bsr a) s good refl)), tt))
-  success_fits k config n (ConfigureEndpoint s false a) zero e good still may =
-      (tt, (tt, configure_fits k s a still (no_slot_zero k s zero (slot_there k (ConfigureEndpoint s false a) s good refl))))
-  success_fits k config n (ConfigureEndpoint s true a) zero e good still may = (tt, (tt, tt))
-  success_fits k config n (EvaluateContext s a) zero e good still may = tt
-  success_fits k config n (ResetEndpoint s i) zero e good still may =
+  success_fits k config n NoOp zero rings e good still may = tt
+  success_fits k config n EnableSlot zero rings e good still may = (tt, tt)
+  success_fits k config n (DisableSlot s) zero rings e good still may = (tt, (tt, (tt, tt)))
+  success_fits k config n (AddressDevice s bsr a) zero rings e good still may =
+      (tt, (address_fits k rings s a bsr still (no_slot_zero k s zero (slot_there k (AddressDevice s bsr a) s good refl)), tt))
+  success_fits k config n (ConfigureEndpoint s false a) zero rings e good still may =
+      (tt, (tt, configure_fits k rings s a still (no_slot_zero k s zero (slot_there k (ConfigureEndpoint s false a) s good refl))))
+  success_fits k config n (ConfigureEndpoint s true a) zero rings e good still may = (tt, (tt, tt))
+  success_fits k config n (EvaluateContext s a) zero rings e good still may = tt
+  success_fits k config n (ResetEndpoint s i) zero rings e good still may =
       let halted = resetting_halted s i (k.endpoint_state s i) may.endpoint in (record { on = λ off. cc; rests = λ runs. cc }, tt)
-  success_fits k config n (StopEndpoint s i) zero e good still may = let runs = stopping_runs s i (k.endpoint_state s i) may.endpoint in (λ off. cc, tt)
-  success_fits k config n (SetTrDequeue s i p cycle) zero e good still may = (dequeue_fits k s i p e (moving_rests s i p cycle (k.endpoint_state s i) may.endpoint), tt)
-  success_fits k config n (ResetDevice s) zero e good still may = (tt, (tt, tt))
+  success_fits k config n (StopEndpoint s i) zero rings e good still may = let runs = stopping_runs s i (k.endpoint_state s i) may.endpoint in (λ off. cc, tt)
+  success_fits k config n (SetTrDequeue s i p cycle) zero rings e good still may = (dequeue_fits k s i p e (moving_rests s i p cycle (k.endpoint_state s i) may.endpoint), tt)
+  success_fits k config n (ResetDevice s) zero rings e good still may = (tt, (tt, tt))

@@ -65,10 +65,8 @@ module _ (h : Header) where
     off = endpoints.off;
     on = endpoints.on;
     transfer = λ s i r at. transfer_ring h r (bound.transfer s i r at);
-    was_bound = bound.was_bound;
     one_endpoint = endpoints.one_endpoint;
     open_runs = endpoints.open_runs;
-    never_bound = λ r is. bound.never_bound r (transfer_test h r is);
     seen_command = λ s i is. stops_from k s i (seen.command s i is);
     seen_runs = seen.runs;
     seen_held = seen.held;

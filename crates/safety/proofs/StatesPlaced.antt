@@ -1,24 +1,31 @@
 -- An endpoint that is placed on a ring: what is kept of endpoints is kept
 use Rattle.std.proofs.Common.{◌≡◌, ◌≢◌, ◌⊎◌, ◌∙◌, ℕ, Bool, true, false, Option, None, Some, refl, sym, ap, subst, inl, inr}
-use Rattle.safety.proofs.Words.{cond-true, cond-false, false≢true, none-some, same_Some, put_pair, Spot, Data, number, Reaches, Holds, target, Command, EndpointState, Off, Running, is_off, Places, Header, shape_of, ring_beginning_at, Known, on_ring, set_to, bound_to, moved_to, moved, pointed, in_state, changed_by, EndpointsKeep}
+use Rattle.safety.proofs.Words.{cond-true, cond-false, false≢true, none-some, same_Some, put_pair, Spot, number, Reaches, Holds, target, Command, EndpointState, Off, Running, is_off, Places, Header, shape_of, ring_having, Known, on_ring, set_to, bound_to, moved_to, moved, pointed, in_state, changed_by, EndpointsKeep}
 use Rattle.safety.proofs.DriverRows.{ring_here, ring_elsewhere}
 use Rattle.safety.proofs.EndpointPut.{at_pair}
 use Rattle.safety.proofs.StatesParts.{EndpointsStand}
 use Rattle.safety.proofs.StatesOneEndpoint.{same_pair, one_stands}
 
--- an endpoint that is off gets a ring that never was bound; any other one may stay what it is only where its ring is held
+-- the ring at a pointer, which no endpoint has
+pub record IsFree (h : Header) (k : Known) (p : ℕ) : Type 0 where
+  pub ring : ℕ
+  pub named : ring_having h p ≡ Some ring
+  pub free : (t j : ℕ) → k.ring_of t j ≢ Some ring
+
+-- an endpoint that is off gets a free ring; any other one may stay what it is only where its ring is held
 pub record MayPlace (h : Header) (k : Known) (s i p : ℕ) (state : EndpointState) : Type 0 where
   pub slot : s ≢ 0
   pub index : i ≢ 0
   pub on : state ≢ Off
-  pub binds : is_off (k.endpoint_state s i) ≡ true → (r : ℕ) × (ring_beginning_at h p ≡ Some r) × (k.was_bound r ≡ false)
+  pub binds : is_off (k.endpoint_state s i) ≡ true → IsFree h k p
+  pub starts : is_off (k.endpoint_state s i) ≡ true → state ≡ Running
   pub runs : (r : ℕ) → k.ring_of s i ≡ Some r → (k.ring r).held ≡ None → state ≡ Running
 
 -- where the endpoint's ring points to, its state apart
 pub record IsBound (k m : Known) (s i r : ℕ) : Type 0 where
   pub states : m.endpoint_state ≡ k.endpoint_state
   pub ring_of : m.ring_of ≡ put_pair k.ring_of s i (Some r)
-  pub held : (m.ring r).held ≡ Some 0
+  pub held : (m.ring r).held ≡ None → (k.ring r).held ≡ None
   pub others : (q : ℕ) → q ≢ r → (m.ring q).held ≡ (k.ring q).held
 
 pub record IsMoved (k m : Known) (r : ℕ) : Type 0 where
@@ -52,10 +59,6 @@ module _ (h : Header) where
   unfolding set_to on_ring
   set_rest k r t = (refl, refl)
 
-  bound_is : (k : Known) (s i r : ℕ) → IsBound k (bound_to h k s i (Some r)) s i r
-  unfolding bound_to
-  bound_is k s i r = record { states = (set_rest k r (Data 0)).0; ring_of = refl; held = set_here k r (Data 0); others = set_other k r (Data 0) }
-
   target_is : (k : Known) (r : ℕ) (o : Option Spot) → IsMoved k (moved_to h k r o) r
   unfolding moved_to
   target_is k r None = record { states = refl; ring_of = refl; held = λ none. none; others = λ q other. refl }
@@ -70,17 +73,23 @@ module _ (h : Header) where
   unfolding moved
   moved_is k r p cycle = target_is k r (target (shape_of h r) (k.ring r) p cycle)
 
-  pub pointed_off : (k : Known) (s i p r : ℕ) (cycle : Bool) → is_off (k.endpoint_state s i) ≡ true → ring_beginning_at h p ≡ Some r → IsBound k (pointed h k s i p cycle) s i r
+  bound_is : (k : Known) (s i r p : ℕ) (cycle : Bool) → IsBound k (bound_to h k s i (Some r) p cycle) s i r
+  unfolding bound_to
+  bound_is k s i r p cycle =
+      let moves : IsMoved k (moved h k (Some r) p cycle) r = moved_is k r p cycle in
+      record { states = moves.states; ring_of = refl; held = moves.held; others = moves.others }
+
+  pub pointed_off : (k : Known) (s i p r : ℕ) (cycle : Bool) → is_off (k.endpoint_state s i) ≡ true → ring_having h p ≡ Some r → IsBound k (pointed h k s i p cycle) s i r
   unfolding pointed
   pointed_off k s i p r cycle off at =
       subst (λ m. IsBound k m s i r)
-      (sym (cond-true (is_off (k.endpoint_state s i)) (bound_to h k s i (ring_beginning_at h p)) (moved h k (k.ring_of s i) p cycle) off ∙ ap (λ o. bound_to h k s i o) at)) (bound_is k s i r)
+      (sym (cond-true (is_off (k.endpoint_state s i)) (bound_to h k s i (ring_having h p) p cycle) (moved h k (k.ring_of s i) p cycle) off ∙ ap (λ o. bound_to h k s i o p cycle) at)) (bound_is k s i r p cycle)
 
   pub pointed_on : (k : Known) (s i p r : ℕ) (cycle : Bool) → is_off (k.endpoint_state s i) ≡ false → k.ring_of s i ≡ Some r → IsMoved k (pointed h k s i p cycle) r
   unfolding pointed
   pointed_on k s i p r cycle on at =
       subst (λ m. IsMoved k m r)
-      (sym (cond-false (is_off (k.endpoint_state s i)) (bound_to h k s i (ring_beginning_at h p)) (moved h k (k.ring_of s i) p cycle) on ∙ ap (λ o. moved h k o p cycle) at)) (moved_is k r p cycle)
+      (sym (cond-false (is_off (k.endpoint_state s i)) (bound_to h k s i (ring_having h p) p cycle) (moved h k (k.ring_of s i) p cycle) on ∙ ap (λ o. moved h k o p cycle) at)) (moved_is k r p cycle)
 
 -- the endpoint's state is set then
 pub record IsPlaced (m l : Known) (s i : ℕ) (state : EndpointState) : Type 0 where
@@ -117,9 +126,9 @@ module _ (k m l : Known) (s i r : ℕ) (state : EndpointState) (e : EndpointsSta
         runs = λ none. state_here s i refl refl ∙ runs (moved.held (sym (held_at r) ∙ none));
       })
 
-  -- ---- on a ring that never was bound
+  -- ---- on a free ring
 
-  module _ (bound : IsBound k m s i r) (never : (t j : ℕ) → k.ring_of t j ≢ Some r) (slot : s ≢ 0) (index : i ≢ 0) (on : state ≢ Off) where
+  module _ (bound : IsBound k m s i r) (never : (t j : ℕ) → k.ring_of t j ≢ Some r) (slot : s ≢ 0) (index : i ≢ 0) (on : state ≢ Off) (starts : state ≡ Running) where
     ring_other : (t j : ℕ) → (t ≡ s → j ≡ i → ⊥) → l.ring_of t j ≡ k.ring_of t j
     ring_other t j other =
         ap (λ f. f t j) (placed.ring_of ∙ bound.ring_of) ∙ at_pair (λ x. x ≡ k.ring_of t j) k.ring_of s i (Some r) t j (λ a b. absurd (other a b)) (λ apart. refl)
@@ -160,9 +169,7 @@ module _ (k m l : Known) (s i r : ℕ) (state : EndpointState) (e : EndpointsSta
           ];
       open_runs = λ t j q at none.
           elim (same_pair t j s i) [
-            | inl here ↦
-                let ring : r ≡ q = same_Some r q (sym (ring_here_is t j here.0 here.1) ∙ at) in
-                absurd (none-some 0 (sym none ∙ ap (λ n. (l.ring n).held) (sym ring) ∙ held_at r ∙ bound.held))
+            | inl here ↦ state_here t j here.0 here.1 ∙ starts
             | inr other ↦
                 state_at t j bound.states other
                 ∙ e.open_runs t j q (sym (ring_other t j other) ∙ at) (sym (held_at q ∙ bound.others q (apart t j q other at)) ∙ none)
@@ -184,7 +191,6 @@ place_stands h c k s i p cycle state keeps e may =
       | inl none ↦
           let off : is_off (k.endpoint_state s i) ≡ true = is_off_of (k.endpoint_state s i) (e.off s i none) in
           let new = may.binds off in
-          bound_stands k m l s i new.0 state e placed (pointed_off h k s i p new.0 cycle off new.1)
-          (λ t j at. false≢true (sym new.2 ∙ keeps.was_bound t j new.0 at)) may.slot may.index may.on
+          bound_stands k m l s i new.ring state e placed (pointed_off h k s i p new.ring cycle off new.named) new.free may.slot may.index may.on (may.starts off)
       | inr has ↦ moved_stands k m l s i has.0 state e placed (pointed_on h k s i p has.0 cycle (on_is (k.endpoint_state s i) (e.on s i has.0 has.1)) has.1) has.1 may.on (may.runs has.0 has.1)
     ]

@@ -1,6 +1,6 @@
 -- The success of an unfinished command keeps what is kept of endpoints and slots
 use Rattle.std.proofs.Common.{◌≡◌, ◌≢◌, ◌∷◌, ◌∙◌, ℕ, Bool, true, false, List, [], Some, refl, inl, inr}
-use Rattle.safety.proofs.Words.{Command, NoOp, EnableSlot, DisableSlot, AddressDevice, ConfigureEndpoint, EvaluateContext, ResetEndpoint, StopEndpoint, SetTrDequeue, ResetDevice, Stopped, named_slot, Change, Places, Stops, Resets, changes, Header, IsHeader, Known, pointed, changed_by, changed_by_all, succeeded, StillHolds, EndpointsKeep}
+use Rattle.safety.proofs.Words.{Command, NoOp, EnableSlot, DisableSlot, AddressDevice, ConfigureEndpoint, EvaluateContext, ResetEndpoint, StopEndpoint, SetTrDequeue, ResetDevice, Stopped, named_slot, Change, Places, Stops, Resets, changes, Header, IsHeader, Known, pointed, changed_by, changed_by_all, succeeded, RingsKeep, StillHolds, EndpointsKeep}
 use Rattle.ownership_rules.specs.Commands as commands
 use Rattle.safety.proofs.StatesParts.{EndpointsStand, SlotsStand, slots_same}
 use Rattle.safety.proofs.StatesPlaced.{IsPlaced, placed_is, IsMoved, pointed_on, on_is, some_ring}
@@ -62,12 +62,12 @@ module _ (h : Header) (k : Known) (was : SlotsStand k) (e : EndpointsStand k) wh
       above_slots h k was e (ResetDevice s) s (slot s refl) (λ fewer left one first. slot_reset (k.ring_of s) fewer (k.device s) left s (k.slot_state s) may.slot (was.each s) one first)
 
 module _ (h : Header) (is : IsHeader h) where
-  pub success_stands : (k : Known) (config n : ℕ) (c : Command) → EndpointsKeep h k → EndpointsStand k → SlotsStand k → commands.is_bad_command h k c ≡ false → StillHolds h k c →
+  pub success_stands : (k : Known) (config n : ℕ) (c : Command) → EndpointsKeep h k → RingsKeep h k → EndpointsStand k → SlotsStand k → commands.is_bad_command h k c ≡ false → StillHolds h k c →
       Succeeds k.slot_state k.endpoint_state config n c → Stand (succeeded h k n c)
   unfolding succeeded
-  success_stands k config n c bound e was good still may =
+  success_stands k config n c bound rings e was good still may =
       let all : List Change = changes h.context_size k.memory n c in
-      let fits : FitAll h c k all = success_fits h is k config n c was.no_slot e good still may in
+      let fits : FitAll h c k all = success_fits h is k config n c was.no_slot rings e good still may in
       let after : EndpointsStand (changed_by_all h c k all) = changes_stand h is c k all bound e fits in
       record {
         endpoints = after;

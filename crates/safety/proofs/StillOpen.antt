@@ -6,7 +6,7 @@ use Rattle.safety.proofs.TransferFrames.{transfer_command}
 use Rattle.safety.proofs.KeptCommands.{completed_view}
 use Rattle.safety.proofs.RowIdle.{open_held}
 
-held_open : (v : RingView) → v.held ≡ None → is_open v ≡ true
+pub held_open : (v : RingView) → v.held ≡ None → is_open v ≡ true
 unfolding is_open
 held_open v none = rw none refl
 

@@ -141,7 +141,6 @@ module _ (h : Header) (k : Known) (seen : ℕ → ℕ → Bool) (s i : ℕ) (may
     endpoints = m.endpoints;
     ring_of = m.ring_of;
     rings = m.rings;
-    fresh = m.fresh;
     before = λ off. absurd (false≢true (sym off ∙ on));
     command = λ started. let c = m.command on in record { spot = c.spot; ring = c.ring; under_way = under c.spot c.under_way };
     scribbles = m.scribbles;

@@ -1,7 +1,7 @@
 -- A Command Completion Event leaves an endpoint that no unfinished command touches
 use Rattle.std.proofs.Common.{◌≡◌, ◌==◌, if◌then◌else◌, ◌∙◌, ℕ, true, false, Option, None, Some, refl, ap}
 use Rattle.safety.proofs.Words.{list_any, cond_both, Block, code, slot, Spot, after, Reaches, ContextSize, Command, NoOp, EnableSlot, DisableSlot, AddressDevice, ConfigureEndpoint, EvaluateContext, ResetEndpoint, StopEndpoint, SetTrDequeue, ResetDevice, changes, touches, Header, Config, IsHeader, shape_of, command_id, register_or_zero, Known, on_ring, command_at, next_command, succeeded, stop_ended, finished, completed, touches_endpoint, is_touched, can_finish, IsUnfinished, CommandKeeps, DriverKeeps}
-use Rattle.safety.proofs.DriverRings.{endpoints_of}
+use Rattle.safety.proofs.DriverRings.{endpoints_of, rings_of}
 use Rattle.safety.proofs.KeptRings.{CompletionFacts, next_unfinished, command_holds}
 use Rattle.safety.proofs.StatesFit.{success_fits}
 use Rattle.safety.proofs.StatesParts.{endpoints_part}
@@ -47,7 +47,7 @@ module _ (h : Header) (s i : ℕ) where
     success_holds c u can success =
         let keeps : CommandKeeps h k (next_command h k) c = d.unfinished (next_command h k) c u in
         changes_hold h s i is c k (changes h.context_size k.memory (slot b) c) (endpoints_of h k d.states) (endpoints_part h k d.states)
-        (success_fits h is k (register_or_zero k.register Config) (slot b) c d.states.no_slot (endpoints_part h k d.states) keeps.good (command_holds h k (next_command h k) c keeps)
+        (success_fits h is k (register_or_zero k.register Config) (slot b) c d.states.no_slot (rings_of h k d) (endpoints_part h k d.states) keeps.good (command_holds h k (next_command h k) c keeps)
         (can_be h is k d b started facts c can success))
         (touches_any h.context_size k.memory (slot b) s i c ∙ unfinished_fails h k (touches_endpoint h k s i) (next_command h k) c untouched u)
 

@@ -34,8 +34,8 @@ module _ (h : Header) (s i : ℕ) where
         elim (cases_Bool (is_off (k.endpoint_state t j))) [
           | inl off ↦
               let new = may.binds off in
-              let bound : IsBound k (pointed h k t j p cycle) t j new.0 = pointed_off h k t j p new.0 cycle off new.1 in
-              bound.others r (λ same. false≢true (sym new.2 ∙ ap k.was_bound (sym same) ∙ keeps.was_bound s i r at))
+              let bound : IsBound k (pointed h k t j p cycle) t j new.ring = pointed_off h k t j p new.ring cycle off new.named in
+              bound.others r (λ same. new.free s i (at ∙ ap (λ n. Some n) same))
           | inr on ↦
               elim (some_ring (k.ring_of t j)) [
                 | inl none ↦ absurd (false≢true (sym on ∙ is_off_of (k.endpoint_state t j) (e.off t j none)))

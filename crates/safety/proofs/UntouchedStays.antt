@@ -1,6 +1,6 @@
 -- A change that doesn't touch an endpoint leaves its state, which ring it has, and whether that must be moved
 use Rattle.std.proofs.Common.{◌≡◌, ◌==◌, ◌&&◌, ◌∙◌, ℕ, Bool, false, Option, None, Some, refl}
-use Rattle.safety.proofs.Words.{cond_both, cond-false, put_pair, Spot, target, Command, EndpointState, Off, Stopped, Change, SlotGoesOn, DeviceLeft, Disables, Places, Stops, Resets, touches, is_off, Header, shape_of, ring_beginning_at, Known, on_ring, set_to, bound_to, moved_to, moved, pointed, disabled, in_state, held_at_ceiling, changed_by}
+use Rattle.safety.proofs.Words.{cond_both, cond-false, put_pair, Spot, target, Command, EndpointState, Off, Stopped, Change, SlotGoesOn, DeviceLeft, Disables, Places, Stops, Resets, touches, is_off, Header, shape_of, ring_having, Known, on_ring, set_to, bound_to, moved_to, moved, pointed, disabled, in_state, held_at_ceiling, changed_by}
 
 pub record EndpointStays (k l : Known) (s i : ℕ) : Type 0 where
   pub state : l.endpoint_state s i ≡ k.endpoint_state s i
@@ -10,11 +10,6 @@ pub record EndpointStays (k l : Known) (s i : ℕ) : Type 0 where
 module _ (h : Header) (s i : ℕ) where
   stays : (k : Known) → EndpointStays k k s i
   stays k = record { state = refl; ring_of = refl; must_move = refl }
-
-  placed_stays : (k : Known) (t j p : ℕ) (o : Option ℕ) → (s == t && i == j) ≡ false → EndpointStays k (bound_to h k t j o) s i
-  unfolding bound_to set_to on_ring
-  placed_stays k t j p None apart = record { state = refl; ring_of = refl; must_move = refl }
-  placed_stays k t j p (Some r) apart = record { state = refl; ring_of = cond-false (s == t && i == j) (Some r) (k.ring_of s i) apart; must_move = refl }
 
   spot_stays : (k : Known) (r : ℕ) (o : Option Spot) → EndpointStays k (moved_to h k r o) s i
   unfolding moved_to set_to on_ring
@@ -26,11 +21,18 @@ module _ (h : Header) (s i : ℕ) where
   moved_stays k None p cycle = stays k
   moved_stays k (Some r) p cycle = spot_stays k r (target (shape_of h r) (k.ring r) p cycle)
 
+  placed_stays : (k : Known) (t j : ℕ) (o : Option ℕ) (p : ℕ) (cycle : Bool) → (s == t && i == j) ≡ false → EndpointStays k (bound_to h k t j o p cycle) s i
+  unfolding bound_to
+  placed_stays k t j None p cycle apart = stays k
+  placed_stays k t j (Some r) p cycle apart =
+      let moves : EndpointStays k (moved h k (Some r) p cycle) s i = moved_stays k (Some r) p cycle in
+      record { state = moves.state; ring_of = cond-false (s == t && i == j) (Some r) (k.ring_of s i) apart; must_move = moves.must_move }
+
   pointed_stays : (k : Known) (t j p : ℕ) (cycle : Bool) → (s == t && i == j) ≡ false → EndpointStays k (pointed h k t j p cycle) s i
   unfolding pointed
   pointed_stays k t j p cycle apart =
-      cond_both (is_off (k.endpoint_state t j)) (bound_to h k t j (ring_beginning_at h p)) (moved h k (k.ring_of t j) p cycle) (λ l. EndpointStays k l s i)
-      (λ off. placed_stays k t j p (ring_beginning_at h p) apart) (λ on. moved_stays k (k.ring_of t j) p cycle)
+      cond_both (is_off (k.endpoint_state t j)) (bound_to h k t j (ring_having h p) p cycle) (moved h k (k.ring_of t j) p cycle) (λ l. EndpointStays k l s i)
+      (λ off. placed_stays k t j (ring_having h p) p cycle apart) (λ on. moved_stays k (k.ring_of t j) p cycle)
 
   in_state_stays : (k : Known) (t j : ℕ) (e : EndpointState) → (s == t && i == j) ≡ false → EndpointStays k (in_state h k t j e) s i
   unfolding in_state

@@ -40,7 +40,6 @@ module _ (h : Header) where
     endpoints = m.endpoints;
     ring_of = m.ring_of;
     rings = m.rings;
-    fresh = m.fresh;
     before = m.before;
     command = λ on. let c = m.command on in record { spot = c.spot; ring = c.ring; under_way = under_way_with_reads n k c.spot w.under_way c.under_way };
     scribbles = m.scribbles;

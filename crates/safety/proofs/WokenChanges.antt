@@ -1,6 +1,6 @@
 -- What the success of a command changes, where it doesn't touch the endpoint that was woken: its ring stays woken
 use Rattle.std.proofs.Common.{◌≡◌, ◌≢◌, ◌==◌, ◌&&◌, if◌then◌else◌, ◌∷◌, ◌∙◌, ℕ, Bool, true, false, List, [], Option, None, Some, refl, sym, ap, subst, inl, inr, eq-eqb, eqb-true}
-use Rattle.safety.proofs.Words.{list_any, false≢true, cases_Bool, or_parts, and_parts, and_from, cond-false, same_Some, put, put_pair, Spot, Data, number, Reaches, Holds, ceiling, target, Command, EndpointState, Off, Stopped, is_off, Change, SlotGoesOn, DeviceLeft, Disables, Places, Stops, Resets, slot_gone_on, touches, Header, IsHeader, shape_of, ring_beginning_at, Known, on_ring, set_to, bound_to, moved_to, moved, pointed, disabled, in_state, held_at_ceiling, changed_by, changed_by_all, EndpointsKeep}
+use Rattle.safety.proofs.Words.{list_any, false≢true, cases_Bool, or_parts, and_parts, and_from, cond-false, same_Some, put, put_pair, Spot, number, Reaches, Holds, ceiling, target, Command, EndpointState, Off, Stopped, is_off, Change, SlotGoesOn, DeviceLeft, Disables, Places, Stops, Resets, slot_gone_on, touches, Header, IsHeader, shape_of, ring_having, Known, on_ring, set_to, bound_to, moved_to, moved, pointed, disabled, in_state, held_at_ceiling, changed_by, changed_by_all, EndpointsKeep}
 use Rattle.safety.proofs.AlikeChanges.{both_sides_if}
 use Rattle.safety.proofs.Endpoints.{change_keeps}
 use Rattle.safety.proofs.StatesParts.{EndpointsStand}
@@ -38,12 +38,6 @@ module _ (h : Header) (r s i : ℕ) where
     device = w.device;
   }
 
-  bound_woken : (k l : Known) → Awake k l → (t j : ℕ) (o : Option ℕ) → ((q : ℕ) → o ≡ Some q → q ≢ r) → Awake (bound_to h k t j o) (bound_to h l t j o)
-  unfolding bound_to
-  bound_woken k l w t j None others = w
-  bound_woken k l w t j (Some q) others =
-      bound_with (set_to h k q (Data 0)) (set_to h l q (Data 0)) (set_woken k l w q (Data 0) (others q refl)) t j q k.ring_of l.ring_of k.was_bound l.was_bound w.ring_of w.was_bound
-
   target_woken : (k l : Known) → Awake k l → (q : ℕ) (o : Option Spot) → q ≢ r → Awake (moved_to h k q o) (moved_to h l q o)
   unfolding moved_to
   target_woken k l w q None other = w
@@ -55,6 +49,12 @@ module _ (h : Header) (r s i : ℕ) where
   moved_woken k l w (Some q) p cycle others =
       subst (λ v. Awake (moved_to h k q (target (shape_of h q) (k.ring q) p cycle)) (moved_to h l q (target (shape_of h q) v p cycle))) (sym (w.rings q (others q refl)))
       (target_woken k l w q (target (shape_of h q) (k.ring q) p cycle) (others q refl))
+
+  bound_woken : (k l : Known) → Awake k l → (t j : ℕ) (o : Option ℕ) (p : ℕ) (cycle : Bool) → ((q : ℕ) → o ≡ Some q → q ≢ r) → Awake (bound_to h k t j o p cycle) (bound_to h l t j o p cycle)
+  unfolding bound_to
+  bound_woken k l w t j None p cycle others = w
+  bound_woken k l w t j (Some q) p cycle others =
+      bound_with (moved h k (Some q) p cycle) (moved h l (Some q) p cycle) (moved_woken k l w (Some q) p cycle others) t j q k.ring_of l.ring_of k.was_bound l.was_bound w.ring_of w.was_bound
 
   ceiling_woken : (k l : Known) → Awake k l → (o : Option ℕ) → ((q : ℕ) → o ≡ Some q → q ≢ r) → Awake (held_at_ceiling h k o) (held_at_ceiling h l o)
   unfolding held_at_ceiling
@@ -95,13 +95,13 @@ module _ (h : Header) (r s i : ℕ) where
       Awake (pointed h k t j p cycle) (pointed h l t j p cycle)
   unfolding pointed
   pointed_woken k l w o t j p cycle e apart may =
-      subst (λ x. Awake (pointed h k t j p cycle) (if is_off x then bound_to h l t j (ring_beginning_at h p) else moved h l (l.ring_of t j) p cycle)) (sym (w.state t j apart))
-      (subst (λ (f : ℕ → ℕ → Option ℕ). Awake (pointed h k t j p cycle) (if is_off (k.endpoint_state t j) then bound_to h l t j (ring_beginning_at h p) else moved h l (f t j) p cycle)) (sym w.ring_of)
-      (both_sides_if Awake (is_off (k.endpoint_state t j)) (bound_to h k t j (ring_beginning_at h p)) (moved h k (k.ring_of t j) p cycle)
-      (bound_to h l t j (ring_beginning_at h p)) (moved h l (k.ring_of t j) p cycle)
-      (λ off. bound_woken k l w t j (ring_beginning_at h p) (λ q at same.
+      subst (λ x. Awake (pointed h k t j p cycle) (if is_off x then bound_to h l t j (ring_having h p) p cycle else moved h l (l.ring_of t j) p cycle)) (sym (w.state t j apart))
+      (subst (λ (f : ℕ → ℕ → Option ℕ). Awake (pointed h k t j p cycle) (if is_off (k.endpoint_state t j) then bound_to h l t j (ring_having h p) p cycle else moved h l (f t j) p cycle)) (sym w.ring_of)
+      (both_sides_if Awake (is_off (k.endpoint_state t j)) (bound_to h k t j (ring_having h p) p cycle) (moved h k (k.ring_of t j) p cycle)
+      (bound_to h l t j (ring_having h p) p cycle) (moved h l (k.ring_of t j) p cycle)
+      (λ off. bound_woken k l w t j (ring_having h p) p cycle (λ q at same.
       let new = may.binds off in
-      false≢true (sym new.2 ∙ ap k.was_bound (same_Some new.0 q (sym new.1 ∙ at) ∙ same) ∙ o.keeps.was_bound s i r o.has)))
+      new.free s i (o.has ∙ ap (λ n. Some n) (sym (same_Some new.ring q (sym new.named ∙ at) ∙ same)))))
       (λ on. moved_woken k l w (k.ring_of t j) p cycle (other_ring k o t j apart))))
 
   pub change_woken : (c : Command) (k l : Known) → Awake k l → Owns k → (change : Change) → touches s i change ≡ false → Fits h k change → Awake (changed_by h c k change) (changed_by h c l change)

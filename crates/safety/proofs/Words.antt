@@ -30,7 +30,7 @@ unfoldable pub use Rattle.ownership_rules.specs.Declarations.{declaration_tests,
 unfoldable pub use Rattle.ownership_rules.specs.Doorbells.{doorbell_tests, is_bad_bell, is_bad_doorbell, is_touched, touches_endpoint}
 unfoldable pub use Rattle.ownership_rules.specs.Events.{can_finish, can_report, can_report_at, event_tests, is_impossible, is_impossible_by_kind, is_impossible_completion, is_impossible_transfer, is_in_profile, is_past_room, is_stopping_now, is_working, may_be_taken, was_stop_seen}
 pub use Rattle.ownership_rules.specs.Moves.{Binding}
-unfoldable pub use Rattle.ownership_rules.specs.Moves.{binding_in, binds, binds_ring, has_repeats, is_among, is_bad_binding, is_bad_dequeue, is_bad_move, is_bad_stay, is_being_moved, is_unused_ring, is_used, moves_ring, ring_bound}
+unfoldable pub use Rattle.ownership_rules.specs.Moves.{binding_in, binds, binds_ring, has_repeats, is_among, is_bad_binding, is_bad_dequeue, awaits_binding, drops, is_bad_move, is_bad_place, is_bad_stay, is_being_bound, is_being_moved, is_kept, is_placed, is_taken, moves_ring, ring_bound}
 pub use Rattle.ownership_rules.specs.OpenLeases.{DeviceContext, InputContext, Leased, Range, SegmentTable, SlotEntry, Use}
 unfoldable pub use Rattle.ownership_rules.specs.OpenLeases.{context_ranges, covers, device_ranges, entry_ranges, is_leased, is_the_controllers, lease_bytes, lease_start, open_leases, open_on, open_ranges, range_of_command, range_of_context, range_of_device, range_of_entry, segment_ranges, slots, table_range}
 pub use Rattle.ownership_rules.specs.Refusal.{Test, broken_of}
@@ -62,14 +62,14 @@ pub use Rattle.safety.specs.Stands.{EventsStand, Stands, touches_events}
 pub use Rattle.segments.proofs.Crossings.{crossed_link, crosses, cycle_of-crossed, is_crossing-lap, link_address-lap, link_address_is, link_target-crossed}
 pub use Rattle.segments.proofs.DataPlaces.{link_aligned, link_ends}
 pub use Rattle.segments.proofs.Declaring.{declares_keeps, given_count-declares, slice_get-append}
-pub use Rattle.segments.proofs.DueLists.{leased_crossing, leased_position, position_given, position_given_is}
+pub use Rattle.segments.proofs.DueLists.{crossing_given, leased_crossing, leased_position, position_given, position_given_is}
 pub use Rattle.segments.proofs.Elsewhere.{address_inside, link_address_inside}
 pub use Rattle.segments.proofs.GivenCount.{given_below, given_count_grows, given_count_same, given_count_stops}
 pub use Rattle.segments.proofs.Giving.{IsCrossingDue, crossing_due_from, due_from, due_is, gives_crossing_from, gives_crossing_is, gives_from, gives_is}
 pub use Rattle.segments.proofs.InsideLemmas.{rings_apart, touches-word}
 pub use Rattle.segments.proofs.MemoryWords.{put_elsewhere, put_here}
 pub use Rattle.segments.proofs.MoveTargets.{between, move_target}
-pub use Rattle.segments.proofs.MovesStay.{is_border-push, move-declares, move-writes, move_more}
+pub use Rattle.segments.proofs.MovesStay.{is_border-push, move-declares, move-writes, move_more, placement_still}
 pub use Rattle.segments.proofs.Named.{IsAhead, below_is, ceiling_held, ceiling_open, ceiling_within, found_is, named_ahead, start_reached, target_ahead}
 pub use Rattle.segments.proofs.NamedSpots.{IsNamed, named_spot-Some, named_spot-is, named_spot-near}
 pub use Rattle.segments.proofs.NewRing.{new_ring_keeps}
@@ -87,7 +87,7 @@ pub use Rattle.segments.specs.Descriptors.{DeclaredBlock}
 unfoldable pub use Rattle.segments.specs.Descriptors.{declared_at, is_border, length_from}
 pub use Rattle.segments.specs.Givings.{same}
 unfoldable pub use Rattle.segments.specs.Givings.{descriptor_length, has_no_room, interrupts, is_declared_as, is_not_declared, is_not_whole, is_other_than_declared, is_wrong_link, leads_wrong}
-unfoldable pub use Rattle.segments.specs.Moves.{is_move, is_reached, is_target, may_move_to, spots_between, target}
+unfoldable pub use Rattle.segments.specs.Moves.{is_move, is_placement, is_reached, is_target, may_move_to, spots_between, target}
 pub use Rattle.segments.specs.Places.{address_of, cycle_of, data_places, is_crossing, is_in, is_inside, link_address, link_crossed, link_target, overlap, place_count, segment_has, toggles}
 pub use Rattle.segments.specs.RingKeeps.{MayDeclare, MayReach, MayWrite, RingKeeps}
 pub use Rattle.segments.specs.RingView.{Declares, Holds, Opens, Reaches, RingChange, RingView, Writes, changed, declared, floor_number, gives, gives_crossing, is_crossing_due, is_due}

@@ -1,6 +1,6 @@
 -- Behind an event that may be read a write gives the same command as before it, and breaks no rule that speaks of no command
 use Rattle.std.proofs.Common.{◌≡◌, ◌+◌, ◌<◌, ◌&&◌, ◌∷◌, ◌++◌, ◌∙◌, ℕ, not, Bool, true, false, List, [], length, map, slice_get, nat_le, None, option_and_then, arith, refl, sym, ap, subst, inl, inr, ◌||◌, ◌==◌, eq-eqb}
-use Rattle.safety.proofs.Words.{list_any, range_with_len, fun_ext, not-true, cases_Bool, cond-false, false≢true, false_from_ne_true, and_parts, and_from, or_parts, or_from, put, Block, block_at, Shape, place_count, address_of, cycle_of, RingView, floor_number, gives, gives_crossing, due_positions, due_crossings, positions_given, crossings_given, length_from, is_declared_as, is_other_than_declared, is_not_declared, descriptor_length, is_not_whole, leads_wrong, interrupts, gives_is, gives_crossing_is, positions_given-one, whole_more, Command, Header, Write, Read, IsHeader, shape_of, command_id, driver_rings, Known, Given, Position, Crossing, given_of, given_by, command_at, command_given, learned, Test, broken_of, AfterStop, lenient_tests, lenient, on_position, on_crossing, holds_of, some_given, some_crossed, some_command, write_tests, is_leased, is_being_moved, IsIn, some_of, any_of, in_filter, from_filter, DriverKeeps, and_left, and_right, is_the_controllers, changes_owned}
+use Rattle.safety.proofs.Words.{list_any, range_with_len, fun_ext, not-true, cases_Bool, cond-false, false≢true, false_from_ne_true, and_parts, and_from, or_parts, or_from, put, Block, block_at, Shape, place_count, address_of, cycle_of, RingView, floor_number, gives, gives_crossing, due_positions, due_crossings, positions_given, crossings_given, length_from, is_declared_as, is_other_than_declared, is_not_declared, descriptor_length, is_not_whole, leads_wrong, interrupts, gives_is, gives_crossing_is, positions_given-one, whole_more, Command, Header, Write, Read, IsHeader, shape_of, command_id, driver_rings, Known, Given, Position, Crossing, given_of, given_by, command_at, command_given, learned, Test, broken_of, AfterStop, lenient_tests, lenient, on_position, on_crossing, holds_of, some_given, some_crossed, some_command, write_tests, is_leased, awaits_binding, is_being_moved, or_cases, or_left, or_right, IsIn, some_of, any_of, in_filter, from_filter, DriverKeeps, and_left, and_right, is_the_controllers, changes_owned}
 use Rattle.safety.proofs.TestsPassed.{AllFail, clean_tests, tests_fail}
 use Rattle.safety.proofs.KeptWords.{KeepsCycles}
 use Rattle.safety.proofs.Writing.{free_or_same, keeps_cycles, not_the_controllers}
@@ -10,6 +10,7 @@ use Rattle.safety.proofs.GivingBeneath.{RingBehind, gives_behind, gives_before, 
 use Rattle.safety.proofs.LeasesBehind.{Behind, both_fewer, flat_fewer, map_fewer, not_the_controllers_behind, still_free}
 use Rattle.safety.proofs.EventBehind.{event_behind}
 use Rattle.safety.proofs.UnfinishedBehind.{moved_before}
+use Rattle.safety.proofs.BoundBehind.{awaits_before}
 
 -- ---- one ring
 
@@ -157,6 +158,13 @@ module _ (h : Header) (is : IsHeader h) (k : Known) (d : DriverKeeps h k) (a w :
   interrupts_was : (r q : ℕ) → interrupts (shape_of h r) l.memory a w q ≡ true → interrupts (shape_of h r) k.memory a w q ≡ true
   interrupts_was r q on = ap (λ m. interrupts (shape_of h r) m a w q) (sym memory_same) ∙ on
 
+  waits_before : (r : ℕ) → (is_being_moved h l r || awaits_binding h l r) ≡ true → (is_being_moved h k r || awaits_binding h k r) ≡ true
+  waits_before r waits =
+      elim (or_cases (is_being_moved h l r) (awaits_binding h l r) waits) [
+        | inl moves ↦ or_left (is_being_moved h k r) (awaits_binding h k r) (moved_before h is k d e may r moves)
+        | inr binds ↦ or_right (is_being_moved h k r) (awaits_binding h k r) (awaits_before h is k d e may r binds)
+      ]
+
   -- the rules that speak of no command
   pub record RingRules (m : Known) : Type 0 where
     pub unowned : changes_owned h m a w ≡ false
@@ -164,7 +172,8 @@ module _ (h : Header) (is : IsHeader h) (k : Known) (d : DriverKeeps h k) (a w :
     pub declared : some_given h m a w (λ r p. is_not_declared (m.ring r) p) ≡ false
     pub whole : some_given h m a w (λ r p. is_not_whole (shape_of h r) (m.ring r) p) ≡ false
     pub leads : some_crossed h m a w (λ r q. leads_wrong (shape_of h r) m.memory a w q) ≡ false
-    pub unmoved : some_given h m a w (λ r p. is_being_moved h m r) ≡ false
+    pub unmoved : some_given h m a w (λ r p. is_being_moved h m r || awaits_binding h m r) ≡ false
+    pub unlinked : some_crossed h m a w (λ r q. awaits_binding h m r) ≡ false
     pub inside : some_crossed h m a w (λ r q. interrupts (shape_of h r) m.memory a w q) ≡ false
 
   fails : AllFail (write_tests h k a w)
@@ -195,7 +204,8 @@ module _ (h : Header) (is : IsHeader h) (k : Known) (d : DriverKeeps h k) (a w :
         declared = given_none _ _ undeclared_was all.1.1.0;
         whole = given_none _ _ partial_was all.1.1.1.0;
         leads = crossed_none _ _ wrong_was all.1.1.1.1.0;
-        unmoved = given_none _ _ (λ r p. moved_before h is k d e may r) busy.1;
+        unmoved = given_none _ _ (λ r p. waits_before r) (or_parts _ _ busy.0).1;
+        unlinked = crossed_none _ _ (λ r q. awaits_before h is k d e may r) busy.1;
         inside = crossed_none _ _ interrupts_was profile.1;
       }
 
@@ -241,7 +251,7 @@ module _ (h : Header) (is : IsHeader h) (k : Known) (d : DriverKeeps h k) (a w :
                 rules.whole,
                 (
                   rules.leads,
-                  (no_command _, (or_from _ _ (no_command _) rules.unmoved, (or_from _ _ (no_command _) rules.inside, (no_command _, tt)))),
+                  (no_command _, (or_from _ _ (or_from _ _ (no_command _) rules.unmoved) rules.unlinked, (or_from _ _ (no_command _) rules.inside, (no_command _, tt)))),
                 ),
               ),
             ),

@@ -52,7 +52,6 @@ module _ (h : Header) where
     pub off : (s i : ℕ) → k.ring_of s i ≡ None → k.endpoint_state s i ≡ Off
     pub on : (s i r : ℕ) → k.ring_of s i ≡ Some r → k.endpoint_state s i ≢ Off
     pub transfer : (s i r : ℕ) → k.ring_of s i ≡ Some r → IsTransferRing r
-    pub within : (s i r : ℕ) → k.ring_of s i ≡ Some r → (s < 256) × (i < 32)
     pub one_endpoint : (s i t j r : ℕ) → k.ring_of s i ≡ Some r → k.ring_of t j ≡ Some r → (s ≡ t) × (i ≡ j)
     pub open_runs : (s i r : ℕ) → k.ring_of s i ≡ Some r → (k.ring r).held ≡ None → k.endpoint_state s i ≡ Running
     -- a Stopped event was read: its Stop Endpoint is the next command to be finished
@@ -139,6 +138,8 @@ module _ (h : Header) where
     pub clean : (r a : ℕ) → IsDriverRing r → is_inside (shape_of h r) a ≡ true → k.soiled a ≡ false
     pub command_ring : CommandRingKeeps k
     pub states : StatesKeep k
+    -- an endpoint that has a ring has the numbers of a slot and of an endpoint
+    pub numbered : (s i r : ℕ) → k.ring_of s i ≡ Some r → (s < 256) × (i < 32)
     pub unstarted : k.started ≡ false → Unstarted k
     pub crcr : (v : ℕ) → k.register Crcr ≡ Some v → CommandRingNamed v
     pub crcr_written : k.started ≡ true → is_some (k.register Crcr) ≡ true

@@ -1,5 +1,5 @@
 -- A spot to which a ring may be moved stays one, whatever is declared, written or reached since
-use Rattle.segments.proofs.Words.{◌≡◌, ◌+◌, ◌-◌, ◌<◌, ◌≤◌, ◌==◌, ◌&&◌, ◌||◌, ◌∷◌, ◌++◌, ◌∙◌, ℕ, suc, zero, not, Bool, true, List, [], length, arith, sym, ap, subst, inl, inr, list_any, range_with_len, flat_map, cases_eq, and_parts, and_from, or_cases, or_left, or_right, All-get_or, Any-from_list_any, Block, Spot, Data, Link, Shape, is_crossing, number, RingView, Declares, Writes, changed, is_way_given, is_border, is_target, spots_between, are_given, are_ways_given, is_reached, may_move_to, is_move}
+use Rattle.segments.proofs.Words.{◌≡◌, ◌+◌, ◌-◌, ◌<◌, ◌≤◌, ◌==◌, ◌&&◌, ◌||◌, ◌∷◌, ◌++◌, ◌∙◌, ℕ, suc, zero, not, Bool, true, List, [], length, arith, sym, ap, subst, inl, inr, list_any, range_with_len, flat_map, cases_eq, and_parts, and_from, or_cases, or_left, or_right, All-get_or, Any-from_list_any, Block, Spot, Data, Link, Shape, is_crossing, number, RingView, floor_number, ceiling, Declares, Writes, changed, is_way_given, is_border, is_target, spots_between, are_given, are_ways_given, is_reached, may_move_to, is_move, is_placement}
 use Rattle.segments.proofs.StepFacts.{GivesMore, in_range_all, all_in_range}
 use Rattle.segments.proofs.Writing.{writes_more}
 use Rattle.segments.proofs.MoveTargets.{between}
@@ -75,6 +75,14 @@ module _ (shape : Shape) (v w : RingView) (more : GivesMore v w) where
       any_between (λ u. is_target shape address cycle u && may_move_to shape w u) low (high + 1 - low) u (omega (arith, bounds.0)) (omega (arith, bounds.0, bounds.1))
       (and_from (is_target shape address cycle u) (may_move_to shape w u) passes.0
       (and_from (is_border w.lengths 0 (number u)) (is_reached shape w u) (borders (number u) at.0) (reached_more u at.1)))
+
+-- a ring stands still where it is placed: its controller can't have gone on from the floor
+pub placement_still : (shape : Shape) (v : RingView) (address : ℕ) (cycle : Bool) → is_placement shape v address cycle ≡ true → ceiling shape v ≤ floor_number v
+unfolding is_placement is_move
+placement_still shape v address cycle placed =
+    let any = Any-from_list_any (λ u. is_target shape address cycle u && may_move_to shape v u) (spots_between (ceiling shape v) (floor_number v)) placed in
+    let bounds = All-get_or (λ x. (ceiling shape v ≤ number x) × (number x ≤ floor_number v)) (spots_between (ceiling shape v) (floor_number v)) any.0 any.1 any.2 (between (ceiling shape v) (floor_number v)) in
+    omega (arith, bounds.0, bounds.1)
 
 module _ (shape : Shape) (v : RingView) (address : ℕ) (cycle : Bool) (least most low high : ℕ) (below : low ≤ least) (above : most ≤ high)
     (moves : is_move shape v address cycle least most ≡ true) where

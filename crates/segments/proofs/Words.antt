@@ -4,7 +4,7 @@ unfoldable pub use Rattle.segments.specs.Ceiling.{ceiling, first_not_given, give
 unfoldable pub use Rattle.segments.specs.Descriptors.{is_border, length_from}
 pub use Rattle.segments.specs.Givings.{same}
 unfoldable pub use Rattle.segments.specs.Givings.{descriptor_length, has_no_room, is_declared_as, is_not_declared, is_not_whole, is_other_than_declared, is_wrong_link, leads_wrong, link_of}
-unfoldable pub use Rattle.segments.specs.Moves.{are_given, are_ways_given, is_move, is_reached, is_target, may_move_to, spots_between, target}
+unfoldable pub use Rattle.segments.specs.Moves.{are_given, are_ways_given, is_move, is_placement, is_reached, is_target, may_move_to, spots_between, target}
 unfoldable pub use Rattle.segments.specs.OnLiterals.{views_on_literals}
 pub use Rattle.segments.specs.PlaceAt.{data_place_at, link_at, place_at}
 pub use Rattle.segments.specs.Places.{address_of, blocks_from, cycle_of, data_count, data_places, ends, ends_from, ends_of, is_crossing, is_in, is_inside, link_address, link_crossed, link_target, links, links_of, overlap, place_count, segment_has, toggles, touches}

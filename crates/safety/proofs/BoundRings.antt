@@ -1,0 +1,34 @@
+-- A ring that a command binds is a transfer ring; what is dropped is of the command's slot
+use Rattle.std.proofs.Common.{◌≡◌, ◌==◌, ◌∙◌, ℕ, Bool, true, false, Option, None, Some, refl, sym, ap, eqb-true}
+use Rattle.safety.proofs.Words.{Any-from_list_any, and_parts, false≢true, Command, NoOp, EnableSlot, DisableSlot, AddressDevice, ConfigureEndpoint, EvaluateContext, ResetEndpoint, StopEndpoint, SetTrDequeue, ResetDevice, named_slot, is_dropped, Header, IsHeader, is_ring, Known, Binding, drops, binds, ring_bound, binds_ring}
+use Rattle.safety.specs.EndpointsKeep as endpoints
+use Rattle.safety.proofs.RingIds.{having_transfer}
+
+pub ring_is : (r : ℕ) (o : Option ℕ) → is_ring r o ≡ true → o ≡ Some r
+ring_is r None h = absurd (false≢true h)
+ring_is r (Some q) h = ap (λ n. Some n) (eqb-true q r h)
+
+pub bound_transfer : (h : Header) → IsHeader h → (k : Known) (r : ℕ) (c : Command) → binds_ring h k r c ≡ true → endpoints.IsTransferRing h r
+unfolding binds_ring ring_bound
+bound_transfer h is k r c bound =
+    let any = Any-from_list_any (λ b. is_ring r (ring_bound h b)) (binds h k c) bound in
+    let b : Binding = any.1 in
+    having_transfer h is b.pointer r (ring_is r (ring_bound h b) any.4)
+
+pub drops_named : (k : Known) (c : Command) (s i : ℕ) → drops k c s i ≡ true → named_slot c ≡ Some s
+unfolding drops
+drops_named k (ConfigureEndpoint t false n) s i is = ap (λ x. Some x) (sym (eqb-true s t (and_parts (s == t) (is_dropped k.memory n i) is).0))
+drops_named k (ConfigureEndpoint t true n) s i is = absurd (false≢true is)
+drops_named k NoOp s i is = absurd (false≢true is)
+drops_named k EnableSlot s i is = absurd (false≢true is)
+drops_named k (DisableSlot t) s i is = absurd (false≢true is)
+drops_named k (AddressDevice t bsr n) s i is = absurd (false≢true is)
+drops_named k (EvaluateContext t n) s i is = absurd (false≢true is)
+drops_named k (ResetEndpoint t j) s i is = absurd (false≢true is)
+drops_named k (StopEndpoint t j) s i is = absurd (false≢true is)
+drops_named k (SetTrDequeue t j p cycle) s i is = absurd (false≢true is)
+drops_named k (ResetDevice t) s i is = absurd (false≢true is)
+
+pub stops_drop_none : (k : Known) (c : Command) (s i t j : ℕ) → drops k c s i ≡ true → c ≡ StopEndpoint t j → ⊥
+unfolding drops
+stops_drop_none k c s i t j is same = false≢true (ap (λ x. drops k x s i) (sym same) ∙ is)
