@@ -67,10 +67,10 @@ module _ (h : Header) (k : Known) (keeps : DriverKeeps h k) (c : Command) (r : �
     here zeros = none_some r (sym (keeps.states.no_endpoint at.slot at.index zeros) ∙ at.has)
 
     slot_is : (0 < at.slot) × (at.slot < 256)
-    slot_is = (positive at.slot (λ none. here (inl none)), (keeps.states.within at.slot at.index r at.has).0)
+    slot_is = (positive at.slot (λ none. here (inl none)), (keeps.numbered at.slot at.index r at.has).0)
 
     index_is : (0 < at.index) × (at.index < 32)
-    index_is = (positive at.index (λ none. here (inr none)), (keeps.states.within at.slot at.index r at.has).1)
+    index_is = (positive at.index (λ none. here (inr none)), (keeps.numbered at.slot at.index r at.has).1)
 
     kept_by : (b : Bool) → drops k c at.slot at.index ≡ b → is_kept h k c r ≡ not b
     unfolding is_kept
@@ -94,11 +94,11 @@ module _ (h : Header) (k : Known) (keeps : DriverKeeps h k) (c : Command) (r : �
     left_at : (d : Command) → drops k d at.slot at.index ≡ true → list_any (λ i. leaves k d i r) (range_with_len 2 30) ≡ true
     unfolding drops
     left_at (ConfigureEndpoint s false n) is =
-        let parts = and_parts (s == at.slot) (is_dropped k.memory n at.index) is in
-        let of : s ≡ at.slot = eqb-true s at.slot parts.0 in
+        let parts = and_parts (at.slot == s) (is_dropped k.memory n at.index) is in
+        let of : at.slot ≡ s = eqb-true at.slot s parts.0 in
         let low : 2 ≤ at.index = at_least_two at.index (input_drop_flag k.memory n at.index) parts.1 in
         any_at (λ i. leaves k (ConfigureEndpoint s false n) i r) 30 2 at.index low (omega (arith, index_is.1))
-        (λ j. parts.1 j && same r (k.ring_of s at.index) (ap (λ t. k.ring_of t at.index) of ∙ at.has) j)
+        (λ j. parts.1 j && same r (k.ring_of s at.index) (sym (ap (λ t. k.ring_of t at.index) of) ∙ at.has) j)
     left_at _ is = absurd (false≢true is)
 
     left_of : (d : Command) (i : ℕ) → leaves k d i r ≡ true → drops k d at.slot at.index ≡ true
@@ -106,7 +106,7 @@ module _ (h : Header) (k : Known) (keeps : DriverKeeps h k) (c : Command) (r : �
     left_of (ConfigureEndpoint s false n) i is =
         let parts = and_parts (is_dropped k.memory n i) (is_ring r (k.ring_of s i)) is in
         let one = keeps.states.one_endpoint s i at.slot at.index r (named r (k.ring_of s i) parts.1) at.has in
-        (λ j. equal s at.slot one.0 j && (ap (is_dropped k.memory n) (sym one.1) ∙ parts.0) j)
+        (λ j. equal at.slot s (sym one.0) j && (ap (is_dropped k.memory n) (sym one.1) ∙ parts.0) j)
     left_of _ i is = absurd (false≢true is)
 
     left_by : (b : Bool) → drops k c at.slot at.index ≡ b → list_any (λ i. leaves k c i r) (range_with_len 2 30) ≡ b

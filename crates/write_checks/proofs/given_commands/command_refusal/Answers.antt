@@ -1,7 +1,7 @@
 use Rattle.std.proofs.Common.{sym, ◌∙◌}
 use Rattle.ownership_rules.specs.Commands as commands
 use Rattle.ring_knowledge.specs.Rings.{unfinished}
-use Rattle.write_checks.proofs.GivenTests.{is_busy_now, is_left_out_now, moves_badly, is_good}
+use Rattle.write_checks.proofs.GivenTests.{is_busy_now, is_left_out_now, is_placed_badly, is_good}
 use Rattle.write_checks.proofs.given_commands.command_refusal.Goals as goal
 
 pub has_left_out_endpoint-requires : goal.has_left_out_endpoint-requires
@@ -20,13 +20,13 @@ returns-then-has_left_out_endpoint-clause-first g c = λ k f d fit.
     (sym (c.is_busy.ensures (unfinished c.args.header.now k) f.commands) ∙ c.if-is_busy.false)
     (sym (c.has_left_out_endpoint.ensures k f.words) ∙ c.if-has_left_out_endpoint.true)
 
-pub returns-then-moves_badly-clause-first : goal.returns-then-moves_badly-clause-first
+pub returns-then-places_badly-clause-first : goal.returns-then-places_badly-clause-first
 unfolding commands.is_busy
-returns-then-moves_badly-clause-first g c = λ k f d fit.
-    moves_badly c.args.header.now k c.args.command.now (sym (c.is_bad_command.ensures.rule k f) ∙ c.if-is_bad_command.false)
+returns-then-places_badly-clause-first g c = λ k f d fit.
+    is_placed_badly c.args.header.now k c.args.command.now (sym (c.is_bad_command.ensures.rule k f) ∙ c.if-is_bad_command.false)
     (sym (c.is_busy.ensures (unfinished c.args.header.now k) f.commands) ∙ c.if-is_busy.false)
     (sym (c.has_left_out_endpoint.ensures k f.words) ∙ c.if-has_left_out_endpoint.false)
-    (sym (c.moves_badly.ensures k f d fit (c.is_bad_command.ensures.inside c.if-is_bad_command.false)) ∙ c.if-moves_badly.true)
+    (sym (c.places_badly.ensures k f d fit (c.is_bad_command.ensures.inside c.if-is_bad_command.false)) ∙ c.if-places_badly.true)
 
 pub returns-clause-first : goal.returns-clause-first
 unfolding commands.is_busy
@@ -34,7 +34,7 @@ returns-clause-first g c = λ k f d fit.
     is_good c.args.header.now k c.args.command.now (sym (c.is_bad_command.ensures.rule k f) ∙ c.if-is_bad_command.false)
     (sym (c.is_busy.ensures (unfinished c.args.header.now k) f.commands) ∙ c.if-is_busy.false)
     (sym (c.has_left_out_endpoint.ensures k f.words) ∙ c.if-has_left_out_endpoint.false)
-    (sym (c.moves_badly.ensures k f d fit (c.is_bad_command.ensures.inside c.if-is_bad_command.false)) ∙ c.if-moves_badly.false)
+    (sym (c.places_badly.ensures k f d fit (c.is_bad_command.ensures.inside c.if-is_bad_command.false)) ∙ c.if-places_badly.false)
 
 pub returns-clause-fits : goal.returns-clause-fits
 returns-clause-fits g c = c.is_bad_command.ensures.inside c.if-is_bad_command.false
