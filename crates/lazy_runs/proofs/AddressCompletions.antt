@@ -1,6 +1,6 @@
 -- The success of an Address Device: the default control endpoint's ring is bound, or stays where it is
 use Rattle.std.proofs.Common.{◌<◌, ◌∷◌, ℕ, Bool, [], arith, refl, inl, inr}
-use Rattle.lazy_runs.proofs.Words.{cases_Bool, Command, AddressDevice, Running, SlotGoesOn, Places, changes, is_off, context_pointer, context_cycle, Header, IsHeader, World, Known, next_command, DriverKeeps, CommandKeeps, Stands, bad_context_parts, bad_command_context, same_context, address_same, slot_above, first_binds, second_moves, slot_binds, slot_moves, slot_was, StatesMatch}
+use Rattle.lazy_runs.proofs.Words.{cases_Bool, Command, AddressDevice, Running, SlotGoesOn, Places, changes, is_off, context_pointer, context_cycle, Header, IsHeader, World, Known, next_command, DriverKeeps, CommandKeeps, Stands, bad_context_parts, bad_command_context, same_context, address_same, slot_above, first_binds, second_moves, slot_binds, slot_moves, StatesMatch}
 use Rattle.ring_knowledge.specs.Completions as completions
 use Rattle.lazy_runs.proofs.ChangesGo.{ChangeGoes, ListGoes, no_change_goes, change_then_goes, change_goes}
 use Rattle.lazy_runs.proofs.PlacesGo.{bind_goes, move_goes}
@@ -30,7 +30,7 @@ module _ (h : Header) (is : IsHeader h) (k : Known) (w : World) (d : DriverKeeps
       let numbered : (0 < s) × (s < 256) × (0 < 1) × (1 < 32) = (slot_above h k d c s given.good refl, low, omega arith, omega arith) in
       elim (cases_Bool (is_off (k.endpoint_state s 1))) [
         | inl off ↦
-            bind_goes h is c l first.world s 1 p cycle Running first.keeps.states first.goes.at_floors numbered (slot_was h is k d s n bsr given)
+            bind_goes h is c l first.world s 1 p cycle Running first.keeps.states first.goes.at_floors numbered
             (slot_binds h is k d s n bsr given (first_binds h is k d s n bsr given off))
         | inr on ↦
             move_goes h is c l first.world s 1 p cycle Running first.keeps.states first.goes.at_floors numbered

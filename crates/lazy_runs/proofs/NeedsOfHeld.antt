@@ -1,6 +1,6 @@
 -- The need of a ring that is held is 0, where no event is late: until its doorbell no success of its blocks is read
 use Rattle.std.proofs.Common.{◌≡◌, ◌≢◌, ◌+◌, ◌==◌, ◌&&◌, if◌then◌else◌, ◌∷◌, ◌++◌, ◌∙◌, ℕ, not, max, Bool, false, List, [], reverse, Option, Some, None, option_map, refl, sym, ap, subst, ne_eqb, eq-eqb}
-use Rattle.lazy_runs.proofs.Words.{cond_both, cond-false, false≢true, not_from_false, Block, BlockKind, TransferEvent, CommandCompletion, kind, code, pointer, slot, endpoint, is_success, is_halting, is_trb_error, is_stopping, Spot, Data, number, after, RingView, Opens, Holds, Reaches, is_open, ceiling, named, stopped_number, target, Command, StopEndpoint, is_off, Change, SlotGoesOn, DeviceLeft, Disables, Places, Stops, Resets, changes, Header, Row, Sub, Write, Reg, Bell, Read, shape_of, command_id, is_ring, ring_beginning_at, Known, RingSpot, on_ring, spot_on, command_at, next_command, endpoint_rung, rung, event_read, learned, known, one_more, declaration_leaves, write_leaves, register_leaves, view_after, is_report_of_success, is_held_ring, is_late, IsTimely, number_behind, begins_anew, number_reported, need}
+use Rattle.lazy_runs.proofs.Words.{cond_both, cond-false, false≢true, not_from_false, Block, BlockKind, TransferEvent, CommandCompletion, kind, code, pointer, slot, endpoint, is_success, is_halting, is_trb_error, is_stopping, Spot, number, after, RingView, Opens, Holds, Reaches, is_open, ceiling, named, stopped_number, target, Command, StopEndpoint, is_off, Change, SlotGoesOn, DeviceLeft, Disables, Places, Stops, Resets, changes, Header, Row, Sub, Write, Reg, Bell, Read, shape_of, command_id, is_ring, ring_having, Known, RingSpot, on_ring, spot_on, command_at, next_command, endpoint_rung, rung, event_read, learned, known, one_more, declaration_leaves, write_leaves, register_leaves, view_after, is_report_of_success, is_held_ring, is_late, IsTimely, number_behind, begins_anew, number_reported, need}
 use Rattle.ring_knowledge.specs.Rings.{event_at}
 use Rattle.ring_knowledge.specs.Transfers as transfers
 use Rattle.ring_knowledge.specs.Completions as completions
@@ -48,11 +48,6 @@ module _ (h : Header) where
   unfolding completions.set_to
   set_held k q t r held = holds_held (on_ring h k q (Reaches t)) q (number t) r (reaches_held k q t r held)
 
-  bound_held : (k : Known) (s i : ℕ) (o : Option ℕ) (r : ℕ) → StaysHeld k (completions.bound_to h k s i o) r
-  unfolding completions.bound_to
-  bound_held k s i None r held = held
-  bound_held k s i (Some q) r held = set_held k q (Data 0) r held
-
   moved_to_held : (k : Known) (q : ℕ) (o : Option Spot) (r : ℕ) → StaysHeld k (completions.moved_to h k q o) r
   unfolding completions.moved_to
   moved_to_held k q None r held = held
@@ -63,6 +58,11 @@ module _ (h : Header) where
   moved_held k None p cycle r held = held
   moved_held k (Some q) p cycle r held = moved_to_held k q (target (shape_of h q) (k.ring q) p cycle) r held
 
+  bound_held : (k : Known) (s i : ℕ) (o : Option ℕ) (p : ℕ) (cycle : Bool) (r : ℕ) → StaysHeld k (completions.bound_to h k s i o p cycle) r
+  unfolding completions.bound_to
+  bound_held k s i None p cycle r held = held
+  bound_held k s i (Some q) p cycle r held = moved_held k (Some q) p cycle r held
+
   ceiling_held : (k : Known) (o : Option ℕ) (r : ℕ) → StaysHeld k (completions.held_at_ceiling h k o) r
   unfolding completions.held_at_ceiling
   ceiling_held k None r held = held
@@ -71,7 +71,7 @@ module _ (h : Header) where
   pointed_held : (k : Known) (s i p : ℕ) (cycle : Bool) (r : ℕ) → StaysHeld k (completions.pointed h k s i p cycle) r
   unfolding completions.pointed
   pointed_held k s i p cycle r held =
-      cond_both (is_off (k.endpoint_state s i)) _ _ (λ (l : Known). IsHeld l r) (λ _. bound_held k s i (ring_beginning_at h p) r held) (λ _. moved_held k (k.ring_of s i) p cycle r held)
+      cond_both (is_off (k.endpoint_state s i)) _ _ (λ (l : Known). IsHeld l r) (λ _. bound_held k s i (ring_having h p) p cycle r held) (λ _. moved_held k (k.ring_of s i) p cycle r held)
 
   change_held : (c : Command) (k : Known) (change : Change) (r : ℕ) → StaysHeld k (completions.changed_by h c k change) r
   unfolding completions.changed_by completions.disabled completions.in_state

@@ -1,6 +1,6 @@
 -- A change that binds or moves a ring is possible, and the ring stands at its floor then
 use Rattle.std.proofs.Common.{◌≡◌, ◌≢◌, ◌<◌, ◌≤◌, ◌==◌, ◌&&◌, if◌then◌else◌, ◌∷◌, ◌∙◌, ℕ, not, Bool, true, false, List, [], find, Option, Some, None, arith, refl, sym, ap, subst, inl, inr, eq-eqb, ne_eqb}
-use Rattle.lazy_runs.proofs.Words.{list_any, range_with_len, cases_eq, and_from, and_parts, cond-true, cond-false, false≢true, false_from_ne_true, not-true, none-some, same_Some, Spot, Data, is_inside, RingView, IsSpot, number, rank, spot_address, is_open, ceiling, cases_option, rank_least, rank_most, Command, EndpointState, Places, is_off, Header, Ring, IsHeader, shape_of, command_id, id_of, is_ring, is_transfer_kind, ring_beginning_at, ring_having, World, Known, IsIn, IsTransferRing, RingState, state_of, BoundRing, StatesMatch, ChangeKeeps, found_in, shape_is, ring_shape, transfer_driver, transfer_not_command, cond_is, MoveSpot, move_spot, Beginning, beginning_is, moved_having, spot_inside, ceiling_held, MayBind, MayMove, bind_keeps, move_keeps, binds_placed, moves_placed, placed_state, placed_world, placed_world_is, placed_here, placed_elsewhere, rest_active, rest_still, PlacedTo, none_in_range}
+use Rattle.lazy_runs.proofs.Words.{list_any, range_with_len, cases_eq, and_from, and_parts, cond-true, cond-false, false≢true, false_from_ne_true, not-true, none-some, same_Some, Spot, is_inside, RingView, IsSpot, number, rank, spot_address, is_open, ceiling, cases_option, rank_least, rank_most, Command, EndpointState, Places, is_off, Header, Ring, IsHeader, shape_of, command_id, id_of, is_ring, is_transfer_kind, ring_having, World, Known, IsIn, IsTransferRing, RingState, state_of, BoundRing, StatesMatch, ChangeKeeps, found_in, shape_is, ring_shape, transfer_driver, transfer_not_command, cond_is, MoveSpot, move_spot, transfer_ring, having_transfer, Ready, bound_spot, floor_number, moved_having, spot_inside, ceiling_held, MayBind, MayMove, bind_keeps, move_keeps, binds_placed, moves_placed, placed_state, placed_world, placed_world_is, placed_here, placed_elsewhere, rest_active, rest_still, PlacedTo, none_in_range}
 use Rattle.controller_model.specs.Bindings as bindings
 use Rattle.ring_knowledge.specs.Completions as completions
 use Rattle.lazy_runs.specs.Needs as needs
@@ -181,21 +181,22 @@ module _ (h : Header) (is : IsHeader h) where
   -- ---- a ring is bound, or moved
 
   module _ (c : Command) (k : Known) (w : World) (s i p : ℕ) (cycle : Bool) (state : EndpointState) (m : StatesMatch h k w) (at : AtFloors h k w) (numbered : (0 < s) × (s < 256) × (0 < i) × (i < 32)) where
-    binds_ring : (r : ℕ) → is_off (k.endpoint_state s i) ≡ true → ring_beginning_at h p ≡ Some r → needs.ring_placed h k (Places s i p cycle state) ≡ Some r
+    binds_ring : (r : ℕ) → is_off (k.endpoint_state s i) ≡ true → ring_having h p ≡ Some r → needs.ring_placed h k (Places s i p cycle state) ≡ Some r
     unfolding needs.ring_placed
-    binds_ring r off named = cond-true (is_off (k.endpoint_state s i)) (ring_beginning_at h p) (k.ring_of s i) off ∙ named
+    binds_ring r off named = cond-true (is_off (k.endpoint_state s i)) (ring_having h p) (k.ring_of s i) off ∙ named
 
     moves_ring : (r : ℕ) → is_off (k.endpoint_state s i) ≡ false → k.ring_of s i ≡ Some r → needs.ring_placed h k (Places s i p cycle state) ≡ Some r
     unfolding needs.ring_placed
-    moves_ring r on has = cond-false (is_off (k.endpoint_state s i)) (ring_beginning_at h p) (k.ring_of s i) on ∙ has
+    moves_ring r on has = cond-false (is_off (k.endpoint_state s i)) (ring_having h p) (k.ring_of s i) on ∙ has
 
-    pub bind_goes : ((z j q : ℕ) → k.ring_of z j ≡ Some q → k.was_bound q ≡ true) → MayBind h k s i p cycle → ChangeGoes h c k w (Places s i p cycle state)
-    bind_goes was b =
-        let r : ℕ = b.ring in
-        let begins : Beginning h is p r = beginning_is h is p r b.named in
-        placed_goes c k w s i p cycle state m at r (Data 0) begins.transfer refl begins.at (λ q e. absurd (none-some q (sym b.none ∙ e)))
-        (λ z j e. absurd (false≢true (sym b.unbound ∙ was z j r e))) (binds_placed h c k s i p cycle state is r b.off b.named) (binds_ring r b.off b.named)
-        (λ v made. bind_keeps h is c k w v s i p cycle state m numbered made was b)
+    pub bind_goes : MayBind h k s i p cycle → ChangeGoes h c k w (Places s i p cycle state)
+    bind_goes b =
+        let e : Ready h k b.memory s i p cycle = b.ready in
+        let r : ℕ = e.ring in
+        let to : MoveSpot (shape_of h r) (k.ring r) p cycle (ceiling (shape_of h r) (k.ring r)) (floor_number (k.ring r)) = bound_spot h is k s i p cycle b in
+        placed_goes c k w s i p cycle state m at r to.spot (transfer_ring h r (having_transfer h is p r e.named)) to.is_spot to.at (λ q had. absurd (none-some q (sym b.none ∙ had)))
+        (λ z j had. absurd (e.free z j had)) (binds_placed h c k s i p cycle state is r to.spot e.off e.named to.named) (binds_ring r e.off e.named)
+        (λ v made. bind_keeps h is c k w v s i p cycle state m numbered made b)
 
     pub move_goes : MayMove h k s i p cycle → ChangeGoes h c k w (Places s i p cycle state)
     move_goes x =
@@ -203,5 +204,5 @@ module _ (h : Header) (is : IsHeader h) where
         let allowed = (ring_shape h is r (transfer_driver h r x.transfer)).is in
         let to : MoveSpot (shape_of h r) (k.ring r) p cycle x.least x.most = move_spot (shape_of h r) allowed k.memory (k.ring r) x.keeps p cycle x.least x.most x.floor x.high x.moves in
         placed_goes c k w s i p cycle state m at r to.spot x.transfer to.is_spot to.at (λ q e. same_Some q r (sym e ∙ x.had)) (λ z j e. m.one_endpoint z j s i r e x.had)
-        (moves_placed h c k s i p cycle state r to.spot x.on x.had x.was_bound to.named) (moves_ring r x.on x.had)
+        (moves_placed h c k s i p cycle state r to.spot x.on x.had to.named) (moves_ring r x.on x.had)
         (λ v made. move_keeps h is c k w v s i p cycle state m numbered made x)

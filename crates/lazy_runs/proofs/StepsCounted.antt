@@ -1,6 +1,6 @@
 -- A clean trace has at most three steps for each row, and three more: rows, events posted, and looks, each of which moves a pointer on
 use Rattle.std.proofs.Common.{◌≡◌, ◌≢◌, ◌+◌, ◌*◌, ◌≤◌, ◌==◌, ◌&&◌, ◌∷◌, ◌++◌, ◌∙◌, ℕ, true, false, List, [], length, reverse, Option, Some, None, arith, refl, sym, ap, subst, inl, inr, ne_eqb, length-append}
-use Rattle.lazy_runs.proofs.Words.{length-reverse, flat_map, cases_Bool, cond_both, false≢true, and_parts, or_from, put_off, Block, kind, code, slot, is_command_completion, completion_kind, Spot, number, rank_most, floor_number, Command, StopEndpoint, Change, Places, changes, is_off, Header, Row, Sub, Write, Reg, Bell, Read, Step, NextRow, IsHeader, command_id, is_ring, ring_beginning_at, Known, RingSpot, command_at, next_command, learned, known, IsLenient, IsDriverRow, DriverKeeps, driver_keeps, clean_tests, transfer_not_command, need, pointers_at, further, brought, goals, lazy_run, looks_to, EndpointsKeep, endpoints_of, transfer_ring, floors_grow, beginning_transfer, ring_with, is_driver_ring}
+use Rattle.lazy_runs.proofs.Words.{length-reverse, flat_map, cases_Bool, cond_both, false≢true, and_parts, or_from, put_off, Block, kind, code, slot, is_command_completion, completion_kind, Spot, number, rank_most, floor_number, Command, StopEndpoint, Change, Places, changes, is_off, Header, Row, Sub, Write, Reg, Bell, Read, Step, NextRow, IsHeader, command_id, is_ring, ring_having, Known, RingSpot, command_at, next_command, learned, known, IsLenient, IsDriverRow, DriverKeeps, driver_keeps, clean_tests, transfer_not_command, need, pointers_at, further, brought, goals, lazy_run, looks_to, EndpointsKeep, endpoints_of, transfer_ring, floors_grow, having_transfer, ring_with, is_driver_ring}
 use Rattle.ring_knowledge.specs.Completions as completions
 use Rattle.safety.proofs.Endpoints.{change_keeps}
 use Rattle.lazy_runs.specs.Law.{FewSteps}
@@ -24,8 +24,8 @@ module _ (h : Header) where
   ring_other : IsHeader h → (k : Known) → EndpointsKeep h k → (change : Change) → is_ring (command_id h) (needs.ring_placed h k change) ≡ false
   unfolding needs.ring_placed
   ring_other is k endpoints (Places s i p cycle state) =
-      cond_both (is_off (k.endpoint_state s i)) (ring_beginning_at h p) (k.ring_of s i) (λ o. is_ring (command_id h) o ≡ false)
-      (λ _. none_named is (ring_beginning_at h p) (λ r at. transfer_not_command h is r (transfer_ring h r (beginning_transfer h is p r at))))
+      cond_both (is_off (k.endpoint_state s i)) (ring_having h p) (k.ring_of s i) (λ o. is_ring (command_id h) o ≡ false)
+      (λ _. none_named is (ring_having h p) (λ r at. transfer_not_command h is r (transfer_ring h r (having_transfer h is p r at))))
       (λ _. none_named is (k.ring_of s i) (λ r at. transfer_not_command h is r (transfer_ring h r (endpoints.transfer s i r at))))
   ring_other is k endpoints _ = refl
 

@@ -46,9 +46,9 @@ pub use Rattle.safety.proofs.DriverRings.{driver_ring, driver_test, endpoints_of
 pub use Rattle.safety.proofs.DriverRows.{nothing_keeps, ring_elsewhere, ring_here}
 pub use Rattle.safety.proofs.EndpointsOff.{slot_above}
 pub use Rattle.safety.proofs.EventRead.{learned_read}
-pub use Rattle.safety.proofs.FinishAddress.{first_binds, second_moves, slot_binds, slot_moves, slot_was}
+pub use Rattle.safety.proofs.FinishAddress.{first_binds, second_moves, slot_binds, slot_moves}
 pub use Rattle.safety.proofs.FinishChanges.{ChangeKeeps, LeavesRest, StatesMatch, both_keep, none_keeps, states_match}
-pub use Rattle.safety.proofs.FinishConfigure.{apart, may_add, numbered, were_bound}
+pub use Rattle.safety.proofs.FinishConfigure.{apart, have_none, may_add, numbered}
 pub use Rattle.safety.proofs.FinishDequeue.{may_move}
 pub use Rattle.safety.proofs.FinishKinds.{completion_kind, failed_read, finish_is, let_go, next_known, seen_after, stop_ended_is}
 pub use Rattle.safety.proofs.FinishRuns.{finish_runs}
@@ -64,7 +64,7 @@ pub use Rattle.safety.proofs.LookRuns.{look_runs}
 pub use Rattle.safety.proofs.LookSpots.{CrossDone, TakeDone, block_no_link, cross_done, link_is, take_done}
 pub use Rattle.safety.proofs.LookedRing.{number_after, words_itself}
 pub use Rattle.safety.proofs.MoveSpots.{MoveSpot, move_spot}
-pub use Rattle.safety.proofs.NamedRings.{Beginning, beginning_is, moved_having, spot_inside}
+pub use Rattle.safety.proofs.NamedRings.{moved_having, spot_inside}
 pub use Rattle.safety.proofs.NoWait.{ceiling_held, ceiling_open}
 pub use Rattle.safety.proofs.NumberedChanges.{command_numbered}
 pub use Rattle.safety.proofs.NumberedHistories.{are_numbered}
@@ -72,19 +72,20 @@ pub use Rattle.safety.proofs.OnlyRing.{OnlyRing}
 pub use Rattle.safety.proofs.Opens.{opens}
 pub use Rattle.safety.proofs.Other.{other_runs, says_nothing}
 pub use Rattle.safety.proofs.OtherRingsWritten.{not_in_both}
-pub use Rattle.safety.proofs.PlaceEach.{MayAdd, WereBound, bound_next, may_behind, ring_at}
-pub use Rattle.safety.proofs.PlaceKeeps.{MayBind, MayMove, bind_keeps, move_keeps}
+pub use Rattle.safety.proofs.PlaceEach.{HasNone, none_there}
+pub use Rattle.safety.proofs.PlaceKeeps.{MayBind, MayMove, bind_keeps, bound_spot, move_keeps}
 pub use Rattle.safety.proofs.PlacedKnown.{binds_placed, moves_placed}
 pub use Rattle.safety.proofs.PlacedRing.{placed_state}
 pub use Rattle.safety.proofs.PlacedWorld.{placed_elsewhere, placed_here, placed_world, placed_world_is, rest_active, rest_still}
 pub use Rattle.safety.proofs.Placing.{PlacedTo}
+pub use Rattle.safety.proofs.Placings.{Ready, ReadyAt, placed_there, ready_next, ring_at}
 pub use Rattle.safety.proofs.Posted.{PostKeeps, post_keeps}
 pub use Rattle.safety.proofs.Posting.{size_is}
 pub use Rattle.safety.proofs.ReadRow.{read_runs}
 pub use Rattle.safety.proofs.ReportRuns.{report_runs}
 pub use Rattle.safety.proofs.ReportSuccess.{report_is, transfer_kind}
 pub use Rattle.safety.proofs.ReportedRing.{open_takes}
-pub use Rattle.safety.proofs.RingIds.{beginning_transfer}
+pub use Rattle.safety.proofs.RingIds.{having_transfer}
 pub use Rattle.safety.proofs.RowFrames.{bell_leaves, declaration_leaves, register_leaves, write_leaves, written_view}
 pub use Rattle.safety.proofs.RowRuns.{row_runs}
 pub use Rattle.safety.proofs.RowsLeft.{looked_left, row_left}
@@ -134,7 +135,7 @@ pub use Rattle.std.proofs.lemmas.List.FromFn.{get_or-map-range_with_len, length-
 pub use Rattle.std.proofs.lemmas.Option.{none-some, same_Some}
 pub use Rattle.std.specs.List.{flat_map, list_any, range_with_len}
 pub use Rattle.traces.specs.Header.{IsHeader, id_of, is_ring, is_transfer_kind, ring_with}
-unfoldable pub use Rattle.traces.specs.Header.{command_id, event_shape, event_size, ring_beginning_at, ring_having, shape_of}
+unfoldable pub use Rattle.traces.specs.Header.{command_id, event_shape, event_size, ring_having, shape_of}
 pub use Rattle.traces.specs.Register.{base_address, register_or_zero, reset_bit, ring_cycle_state, run_bit}
 pub use Rattle.traces.specs.Rows.{IsRow}
 pub use Rattle.traces.specs.declared.header.Header.{Header}

@@ -10,7 +10,7 @@ use Rattle.commands.specs.Changes.{Change, Places, changes}
 use Rattle.traces.specs.declared.header.Header.{Header}
 use Rattle.traces.specs.declared.row.Row.{Row}
 use Rattle.traces.specs.declared.row.Row.TheVariants.{Bell, Read}
-use Rattle.traces.specs.Header.{ring_beginning_at, is_ring}
+use Rattle.traces.specs.Header.{ring_having, is_ring}
 use Rattle.ring_knowledge.specs.Known.{Known}
 use Rattle.ring_knowledge.specs.Learned.{learned}
 use Rattle.ring_knowledge.specs.Rings.{RingSpot, event_at, command_at, next_command}
@@ -25,7 +25,7 @@ number_behind r (Some at) = if at.ring == r then number at.spot + 1 else 0
 module _ (h : Header) where
   -- the ring whose dequeue pointer a change sets: it binds the ring, or moves it
   unfoldable pub ring_placed : Known → Change → Option ℕ
-  ring_placed k (Places s i p cycle state) = if is_off (k.endpoint_state s i) then ring_beginning_at h p else k.ring_of s i
+  ring_placed k (Places s i p cycle state) = if is_off (k.endpoint_state s i) then ring_having h p else k.ring_of s i
   ring_placed k _ = None
 
   unfoldable pub is_placed_by_all : Command → Known → ℕ → List Change → Bool

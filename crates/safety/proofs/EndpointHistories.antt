@@ -1,6 +1,6 @@
 -- Any history keeps endpoints on transfer rings, and the command ring is none of them
-use Rattle.std.proofs.Common.{◌≡◌, ◌+◌, ◌==◌, ◌&&◌, ◌||◌, if◌then◌else◌, ◌∷◌, ◌∙◌, ℕ, not, Bool, true, List, [], Option, None, Some, option_and_then, refl, sym, ap}
-use Rattle.safety.proofs.Words.{cond_both, none-some, put_pair, Block, BlockKind, TransferEvent, CommandCompletion, kind, code, slot, endpoint, pointer, is_success, is_halting, is_trb_error, is_stopping, Spot, number, after, Declares, Reaches, Holds, Opens, stopped_number, Command, StopEndpoint, EndpointState, Halted, Error, changes, Header, Register, Erdp, Usbcmd, Row, Sub, Write, Reg, Bell, Read, IsHeader, shape_of, command_id, run_bit, reset_bit, Known, nothing, RingSpot, on_ring, spot_on, event_at, command_at, next_command, with_device, with_word, written, command_given, taken_device, run_or_stop, valued, register_written, endpoint_rung, rung, passed, broken_off, stopped_at, transferred, transferred_at, transfer_read, succeeded, stop_ended, finished, completed, event_read, learned, known, EndpointsKeep}
+use Rattle.std.proofs.Common.{◌≡◌, ◌==◌, if◌then◌else◌, ◌∷◌, ◌∙◌, ℕ, List, [], Option, None, Some, refl}
+use Rattle.safety.proofs.Words.{cond_both, none-some, Block, BlockKind, TransferEvent, CommandCompletion, kind, code, slot, Declares, Command, StopEndpoint, changes, Header, Row, Sub, Write, Reg, Bell, Read, IsHeader, command_id, Known, nothing, on_ring, command_at, next_command, written, register_written, rung, transfer_read, succeeded, stop_ended, finished, completed, event_read, learned, known, EndpointsKeep}
 use Rattle.safety.proofs.RingIds.{command_not_transfer}
 use Rattle.safety.proofs.SameRings.{written_same, register_same, rung_same, transfer_same, stop_same}
 use Rattle.safety.proofs.Endpoints.{same_keeps, changes_keep, changes_elsewhere}

@@ -1,6 +1,6 @@
 -- The controller finishes an Address Device with success: the run goes on
-use Rattle.std.proofs.Common.{◌≡◌, ◌<◌, ◌≤◌, ◌==◌, ◌∷◌, ◌∙◌, ℕ, Bool, true, false, List, [], All, Some, is_some, arith, refl, sym, ap, subst, inl, inr, eq-eqb}
-use Rattle.safety.proofs.Words.{list_any, cases_Bool, cases_lt, or_left, cond-true, false≢true, All-head, Block, IsBlock, code, slot, Shape, IsShape, RingView, floor_number, given_count, RingKeeps, cases_option, given_below, step_is, floor_given, given_count_declared, ceiling_within, Command, AddressDevice, Running, command_of, SlotGoesOn, Places, changes, is_off, context_pointer, context_cycle, Header, Row, IsHeader, shape_of, is_ring, ring_beginning_at, World, UnderWay, counted, Known, known, next_command, binding_in, binds, ring_bound, binds_ring, DriverKeeps, CommandKeeps, Stays, Stands, Runs, reading}
+use Rattle.std.proofs.Common.{◌≡◌, ◌<◌, ◌≤◌, ◌==◌, ◌∷◌, ◌∙◌, ℕ, Bool, true, false, List, [], Some, arith, refl, sym, ap, subst, inl, inr}
+use Rattle.safety.proofs.Words.{cases_Bool, cases_lt, false≢true, Block, IsBlock, code, slot, Shape, IsShape, RingView, floor_number, given_count, RingKeeps, cases_option, given_below, step_is, floor_given, given_count_declared, ceiling_within, Command, AddressDevice, Running, command_of, SlotGoesOn, Places, changes, is_off, context_pointer, context_cycle, Header, Row, IsHeader, shape_of, World, UnderWay, counted, Known, known, next_command, DriverKeeps, CommandKeeps, Stays, Stands, Runs, reading}
 use Rattle.controller_model.specs.Bindings as bindings
 use Rattle.controller_model.specs.Finishes as finishes
 use Rattle.ring_knowledge.specs.Completions as completions
@@ -36,7 +36,7 @@ module _ (h : Header) (is : IsHeader h) (k : Known) (d : DriverKeeps h k) (s n :
   cycle = context_cycle h.context_size k.memory n 1
 
   -- where endpoint 1 is off
-  first_binds : is_off (k.endpoint_state s 1) ≡ true → MayBind h k s 1 p cycle
+  pub first_binds : is_off (k.endpoint_state s 1) ≡ true → MayBind h k s 1 p cycle
   first_binds off = record { memory = k.memory; ready = address_ready h is k (rings_of h k d) s n bsr (command_holds h k (next_command h k) (AddressDevice s bsr n) given) off; none = off_none h k d s 1 off }
 
   -- where it isn't

@@ -1,12 +1,11 @@
 -- The controller finishes a Configure Endpoint with success: the run goes on
-use Rattle.std.proofs.Common.{◌≡◌, ◌<◌, ◌≤◌, ◌==◌, ◌&&◌, ◌||◌, if◌then◌else◌, ◌∷◌, ◌∙◌, ℕ, Bool, true, false, List, map, length, All, Some, None, is_some, arith, refl, sym, ap, subst, inl, inr, get_or, eq-eqb, leb-true}
-use Rattle.safety.proofs.Words.{cases_Bool, and_from, and_right, cond-true, cond-false, false≢true, none-some, length-map, get_or-map, All-weaker, Block, IsBlock, code, slot, Command, ConfigureEndpoint, command_of, Change, SlotGoesOn, Disables, changes, placed_by_context, is_off, added_endpoints, is_dropped, context_cycle, Header, Row, IsHeader, World, UnderWay, counted, Known, known, next_command, binding_in, binds, ring_bound, has_repeats, DriverKeeps, CommandKeeps, StillHolds, Stands, Runs, reading}
+use Rattle.std.proofs.Common.{◌≡◌, ◌<◌, ◌≤◌, ◌==◌, ◌&&◌, ◌||◌, if◌then◌else◌, ◌∷◌, ◌∙◌, ℕ, Bool, true, false, List, map, All, Some, None, arith, refl, sym, ap, subst, inl, inr, get_or, eq-eqb, leb-true}
+use Rattle.safety.proofs.Words.{cases_Bool, and_from, and_right, cond-true, cond-false, false≢true, Block, IsBlock, code, slot, Command, ConfigureEndpoint, command_of, Change, SlotGoesOn, Disables, changes, placed_by_context, is_off, added_endpoints, is_dropped, Header, Row, IsHeader, World, UnderWay, counted, Known, known, next_command, binding_in, binds, ring_bound, has_repeats, DriverKeeps, CommandKeeps, StillHolds, Stands, Runs, reading}
 use Rattle.controller_model.specs.Bindings as bindings
 use Rattle.controller_model.specs.Finishes as finishes
 use Rattle.ring_knowledge.specs.Completions as completions
-use Rattle.safety.proofs.LookKinds.{cond_is}
 use Rattle.safety.proofs.Areas.{bad_context_parts, bad_command_context}
-use Rattle.safety.proofs.GivenCommands.{added_above, content_good, are_free}
+use Rattle.safety.proofs.GivenCommands.{added_above}
 use Rattle.safety.proofs.Placings.{ReadyAt, map_map, dropped, all_ready}
 use Rattle.safety.proofs.ContextWords.{same_context, added_below, configure_same}
 use Rattle.safety.proofs.EndpointsOff.{slot_above, off_none}

@@ -1,6 +1,6 @@
 -- An event moves no floor back, and concerns no ring but those of the driver
 use Rattle.std.proofs.Common.{◌≡◌, ◌+◌, ◌≤◌, ◌⊎◌, ◌==◌, if◌then◌else◌, ◌∷◌, ◌∙◌, ℕ, Bool, true, List, [], Option, None, Some, arith, refl, sym, ap, subst, inl, inr, eqb-true}
-use Rattle.safety.proofs.Words.{cases_eq, cond_both, put_pair, Block, pointer, code, slot, endpoint, is_success, is_halting, is_trb_error, is_stopping, Spot, Data, number, after, RingView, RingChange, Reaches, Holds, changed, floor_number, ceiling, stopped_number, target, IsAhead, named_ahead, target_ahead, number-after, Command, StopEndpoint, EndpointState, Halted, Error, Stopped, is_off, Change, SlotGoesOn, DeviceLeft, Disables, Places, Stops, Resets, changes, Header, IsHeader, shape_of, command_id, ring_having, Known, RingSpot, on_ring, event_at, command_at, next_command, passed, broken_off, stopped_at, transferred, transferred_at, transfer_read, set_to, bound_to, moved_to, moved, pointed, disabled, in_state, held_at_ceiling, changed_by, changed_by_all, succeeded, stop_ended, finished, completed, EndpointsKeep, RingsKeep, MayPoint, MayChange, MayChangeAll, MayFinish}
+use Rattle.safety.proofs.Words.{cases_eq, cond_both, put_pair, Block, pointer, code, slot, endpoint, is_success, is_halting, is_trb_error, is_stopping, Spot, number, after, RingView, RingChange, Reaches, Holds, changed, floor_number, ceiling, stopped_number, target, IsAhead, named_ahead, target_ahead, number-after, Command, StopEndpoint, EndpointState, Halted, Error, Stopped, is_off, Change, SlotGoesOn, DeviceLeft, Disables, Places, Stops, Resets, changes, Header, IsHeader, shape_of, command_id, ring_having, Known, RingSpot, on_ring, event_at, command_at, next_command, passed, broken_off, stopped_at, transferred, transferred_at, transfer_read, set_to, bound_to, moved_to, moved, pointed, disabled, in_state, held_at_ceiling, changed_by, changed_by_all, succeeded, stop_ended, finished, completed, EndpointsKeep, RingsKeep, MayChange, MayChangeAll, MayFinish}
 use Rattle.safety.specs.EndpointsKeep.{IsTransferRing}
 use Rattle.safety.specs.RingsKeep.{IsDriverRing}
 use Rattle.safety.proofs.DriverRows.{ring_here, ring_elsewhere}

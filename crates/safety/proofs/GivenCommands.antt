@@ -1,6 +1,6 @@
 -- What the rules test of a command that a write gives: its bindings and its moves may be made
-use Rattle.std.proofs.Common.{◌≡◌, ◌≤◌, ◌==◌, ◌||◌, ◌+◌, ◌∙◌, ℕ, not, Bool, true, false, map, nat_le, All, Option, None, Some, suc, zero, arith, refl, sym, ap, subst, inl, inr, get_or, eqb-true, le-leb}
-use Rattle.safety.proofs.Words.{list_any, range_with_len, or_parts, and_from, or_cases, or_left, or_right, not-false, not-true, false≢true, same_Some, All-nil, All-cons, All-filter, All-get_or, All-weaker, Any-from_list_any, declared, floor_number, is_move, input_drop_flag, input_add_flag, added_endpoints, is_dropped, Command, NoOp, EnableSlot, DisableSlot, AddressDevice, ConfigureEndpoint, EvaluateContext, ResetEndpoint, StopEndpoint, SetTrDequeue, ResetDevice, named_slot, named_endpoint, named_context, is_off, Header, shape_of, is_ring, Known, unfinished, Binding, binds, ring_bound, binds_ring, is_placed, is_taken, is_kept, is_being_bound, is_bad_place, has_repeats, is_bad_binding, is_bad_stay, holds_of, AreFree}
+use Rattle.std.proofs.Common.{◌≡◌, ◌≤◌, ◌==◌, ◌||◌, ◌+◌, ◌∙◌, ℕ, not, Bool, true, false, map, nat_le, All, Option, Some, suc, zero, arith, sym, ap, subst, inl, inr, get_or, eqb-true, le-leb}
+use Rattle.safety.proofs.Words.{list_any, range_with_len, or_parts, and_from, or_cases, or_left, or_right, not-false, All-nil, All-cons, All-filter, All-get_or, All-weaker, Any-from_list_any, declared, floor_number, is_move, input_drop_flag, input_add_flag, added_endpoints, is_dropped, Command, NoOp, EnableSlot, DisableSlot, AddressDevice, ConfigureEndpoint, EvaluateContext, ResetEndpoint, StopEndpoint, SetTrDequeue, ResetDevice, named_slot, named_endpoint, named_context, is_off, Header, shape_of, is_ring, Known, Binding, binds, ring_bound, binds_ring, is_placed, is_taken, is_kept, is_being_bound, is_bad_place, has_repeats, is_bad_binding, is_bad_stay, holds_of, AreFree}
 use Rattle.ownership_rules.specs.Commands as commands
 use Rattle.safety.proofs.TestsPassed.{each_fails}
 use Rattle.safety.proofs.BoundRings.{ring_is}

@@ -1,8 +1,8 @@
 -- What the rules say of a command that a write gives
-use Rattle.std.proofs.Common.{◌≡◌, ◌==◌, ◌||◌, ◌∙◌, ℕ, not, Bool, true, false, [], map, All, Option, None, Some, is_some, arith, refl, sym, ap, subst, inl, inr, eqb-true, ◌≢◌, ◌<◌}
-use Rattle.safety.proofs.Words.{list_any, and_cases, or_parts, not-false, not-true, false≢true, false_from_ne_true, All-get_or, All-weaker, Any-from_list_any, declared, floor_number, is_move, Command, NoOp, EnableSlot, DisableSlot, AddressDevice, ConfigureEndpoint, EvaluateContext, ResetEndpoint, StopEndpoint, SetTrDequeue, ResetDevice, EndpointState, Off, is_off, Header, Write, IsHeader, shape_of, is_ring, Known, command_given, Binding, binding_in, binds, ring_bound, binds_ring, drops, is_kept, is_being_bound, has_repeats, is_bad_binding, is_bad_stay, is_bad_move, some_command, write_tests, lenient_tests, lenient, StaysIf, MovesIf, DriverKeeps, none-some}
+use Rattle.std.proofs.Common.{◌≡◌, ◌==◌, ◌||◌, ◌∙◌, ℕ, not, Bool, true, false, [], Some, arith, refl, sym, ap, inl, inr, eqb-true, ◌≢◌, ◌<◌}
+use Rattle.safety.proofs.Words.{and_cases, or_parts, not-false, false≢true, false_from_ne_true, declared, floor_number, is_move, Command, NoOp, EnableSlot, DisableSlot, AddressDevice, ConfigureEndpoint, EvaluateContext, ResetEndpoint, StopEndpoint, SetTrDequeue, ResetDevice, EndpointState, Off, is_off, Header, Write, IsHeader, shape_of, Known, command_given, binding_in, binds_ring, drops, is_being_bound, is_bad_binding, is_bad_stay, is_bad_move, some_command, write_tests, lenient_tests, lenient, StaysIf, MovesIf, DriverKeeps, none-some}
 use Rattle.ownership_rules.specs.Commands as commands
-use Rattle.safety.proofs.TestsPassed.{AllFail, tests_fail, each_fails}
+use Rattle.safety.proofs.TestsPassed.{AllFail, tests_fail}
 use Rattle.safety.proofs.Headers.{transfer_driver}
 use Rattle.safety.proofs.GivenCommands.{GoodBindings, good_bindings, bound_free, content_good, stays, fails_of}
 use Rattle.safety.proofs.RingsKept.{kept_drops}

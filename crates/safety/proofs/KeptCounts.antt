@@ -1,6 +1,6 @@
 -- How many events were read and where ERDP stands, behind each row
 use Rattle.std.proofs.Common.{◌≡◌, ◌+◌, ◌-◌, ◌<◌, ◌≤◌, ◌&&◌, ◌||◌, if◌then◌else◌, ◌∙◌, ℕ, not, true, false, arith, refl, sym, ap, ltb-false}
-use Rattle.safety.proofs.Words.{cond_both, cond-false, not-false, false≢true, Block, kind, shape_facts, place_count, erdp_address, Header, Register, Erdp, Usbcmd, Sub, Write, Reg, Bell, Read, event_shape, event_size, run_bit, reset_bit, Known, run_or_stop, valued, register_written, learned, may_pass, is_bad_erdp, is_past_room, Unstarted, KeptByRows}
+use Rattle.safety.proofs.Words.{cond_both, cond-false, false≢true, Block, kind, shape_facts, place_count, Header, Register, Erdp, Usbcmd, Sub, Write, Reg, Bell, Read, event_shape, event_size, run_bit, reset_bit, Known, run_or_stop, valued, register_written, learned, may_pass, is_bad_erdp, is_past_room, Unstarted, KeptByRows}
 use Rattle.safety.proofs.Headers.{EventRing, event_ring_is}
 use Rattle.safety.proofs.ErdpMoves.{erdp_within}
 use Rattle.safety.proofs.SameDriver.{event_same}

@@ -1,7 +1,6 @@
 -- What the rules keep of each ring is kept by each row: of a command that succeeds holds still what was tested when it was given
-use Rattle.std.proofs.Common.{◌≡◌, ◌<◌, ◌==◌, ◌∙◌, ℕ, not, true, false, [], Some, is_some, arith, sym, ap, ltb-true}
-use Rattle.safety.proofs.Words.{or_parts, not-false, All-weaker, Block, kind, pointer, code, is_command_completion, address_of, ceiling, RingKeeps, Command, NoOp, EnableSlot, DisableSlot, AddressDevice, ConfigureEndpoint, EvaluateContext, ResetEndpoint, StopEndpoint, SetTrDequeue, ResetDevice, Header, Row, Sub, Write, Reg, Bell, Read, IsHeader, shape_of, command_id, Known, command_at, next_command, may_be_taken, can_finish, is_impossible_completion, is_impossible_by_kind, lenient, IsDriverRing, IsUnfinished, CommandKeeps, MovesIf, StaysIf, DriverKeeps, KeptByRows, StillReads, MovesOn, StillHolds, RingsKeep}
-use Rattle.ownership_rules.specs.Moves as moves
+use Rattle.std.proofs.Common.{◌≡◌, ◌<◌, ◌==◌, ◌∙◌, ℕ, not, true, false, [], Some, arith, sym, ap, ltb-true}
+use Rattle.safety.proofs.Words.{or_parts, not-false, Block, kind, pointer, code, is_command_completion, address_of, ceiling, RingKeeps, Command, NoOp, EnableSlot, DisableSlot, AddressDevice, ConfigureEndpoint, EvaluateContext, ResetEndpoint, StopEndpoint, SetTrDequeue, ResetDevice, Header, Row, Sub, Write, Reg, Bell, Read, IsHeader, shape_of, command_id, Known, command_at, next_command, may_be_taken, can_finish, is_impossible_completion, is_impossible_by_kind, lenient, IsDriverRing, IsUnfinished, CommandKeeps, MovesIf, StaysIf, DriverKeeps, KeptByRows, StillReads, MovesOn, StillHolds, RingsKeep}
 use Rattle.safety.proofs.Headers.{ring_shape}
 use Rattle.safety.proofs.GivenCommands.{content_good, are_free}
 use Rattle.safety.proofs.NoWait.{ceiling_given}

@@ -1,6 +1,6 @@
 -- One ring about which more is known, and which has changed in the world: all else that is said of both stays
-use Rattle.std.proofs.Common.{◌≡◌, ◌≢◌, ◌+◌, ◌∙◌, ℕ, false, Option, Some, None, option_and_then, slice_get, refl, sym, ap, subst, inl, inr}
-use Rattle.safety.proofs.Words.{cases_eq, false≢true, none-some, with_cycle, Spot, address_of, cycle_of, RingView, floor_number, is_due, Command, StopEndpoint, command_of, named_context, Header, shape_of, command_id, World, UnderWay, Known, command_at, next_command, was_stop_seen, DriverKeeps, IsUnfinished, Stands, RingState, state_of, RingMatches, BoundRing, FreeRing, EndpointRing, UnderWayMatches, TakenCommand, Matches}
+use Rattle.std.proofs.Common.{◌≡◌, ◌≢◌, ◌+◌, ◌∙◌, ℕ, Option, Some, None, option_and_then, slice_get, refl, sym, ap, subst, inl, inr}
+use Rattle.safety.proofs.Words.{cases_eq, none-some, with_cycle, Spot, address_of, cycle_of, RingView, floor_number, is_due, Command, StopEndpoint, command_of, named_context, Header, shape_of, command_id, World, UnderWay, Known, command_at, next_command, was_stop_seen, DriverKeeps, IsUnfinished, Stands, RingState, state_of, RingMatches, BoundRing, FreeRing, EndpointRing, UnderWayMatches, TakenCommand, Matches}
 use Rattle.safety.proofs.OnlyRing.{OnlyRing, unchanged_only}
 
 pub record LearnsRing (k m : Known) (r : ℕ) (x : RingView) : Type 0 where

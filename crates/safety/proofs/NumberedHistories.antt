@@ -1,6 +1,6 @@
 -- In any history the endpoints that have rings have numbers of slots and endpoints
-use Rattle.std.proofs.Common.{◌≡◌, ◌==◌, ◌&&◌, ◌||◌, if◌then◌else◌, ◌∷◌, ℕ, not, Bool, true, List, [], Option, None, Some, option_and_then, slice_get, refl}
-use Rattle.safety.proofs.Words.{cond_both, none-some, put_pair, Block, BlockKind, TransferEvent, CommandCompletion, kind, code, slot, endpoint, is_success, is_halting, is_trb_error, is_stopping, Spot, Declares, Opens, Command, StopEndpoint, Halted, Error, command_of, changes, Header, Register, Erdp, Usbcmd, Row, Sub, Write, Reg, Bell, Read, command_id, run_bit, reset_bit, Known, nothing, RingSpot, on_ring, event_at, command_at, next_command, with_device, with_word, written, command_given, taken_device, run_or_stop, valued, register_written, endpoint_rung, rung, passed, broken_off, stopped_at, transferred, transferred_at, transfer_read, succeeded, stop_ended, finished, completed, event_read, learned, known}
+use Rattle.std.proofs.Common.{◌≡◌, ◌==◌, if◌then◌else◌, ◌∷◌, List, [], Option, None, Some, option_and_then, slice_get, refl}
+use Rattle.safety.proofs.Words.{cond_both, none-some, Block, BlockKind, TransferEvent, CommandCompletion, kind, code, slot, Declares, Command, command_of, changes, Header, Row, Sub, Write, Reg, Bell, Read, command_id, Known, nothing, on_ring, command_at, next_command, written, register_written, rung, transfer_read, succeeded, stop_ended, finished, completed, event_read, learned, known}
 use Rattle.safety.proofs.FinishChanges.{AreNumbered}
 use Rattle.safety.proofs.SameRings.{written_same, register_same, rung_same, transfer_same, stop_same}
 use Rattle.safety.proofs.NumberedChanges.{IsNumbered, command_numbered, changes_numbered, same_numbered, all_numbered}

@@ -1,6 +1,6 @@
 -- A command's success places the rings of several endpoints, one after the other
-use Rattle.std.proofs.Common.{◌≡◌, ◌≢◌, ◌<◌, ◌==◌, ◌&&◌, ◌∷◌, ◌∙◌, ℕ, Bool, true, false, List, [], map, All, Option, Some, refl, sym, ap, inl, inr, get_or, eq-eqb, ne_eqb, None}
-use Rattle.safety.proofs.Words.{list_any, cases_Bool, cases_eq, and_right, or_parts, cond-true, cond-false, false≢true, All-head, All-tail, same_Some, Data, Command, EndpointState, Running, Change, Places, placed_by_context, is_off, context_pointer, context_cycle, Header, IsHeader, is_ring, World, Known, is_among, has_repeats}
+use Rattle.std.proofs.Common.{◌≡◌, ◌≢◌, ◌<◌, ◌==◌, ◌&&◌, ◌∷◌, ◌∙◌, ℕ, Bool, false, List, [], map, All, Option, Some, refl, sym, ap, get_or, eq-eqb, ne_eqb, None}
+use Rattle.safety.proofs.Words.{list_any, and_right, or_parts, cond-false, false≢true, All-head, All-tail, Command, Running, Change, Places, placed_by_context, context_pointer, context_cycle, Header, IsHeader, is_ring, World, Known, is_among, has_repeats}
 use Rattle.ring_knowledge.specs.Completions as completions
 use Rattle.safety.proofs.TestsPassed.{each_fails, any_of_map}
 use Rattle.safety.proofs.Placings.{ReadyAt, BoundThere, ring_at, ready_next, placed_there}
@@ -14,7 +14,7 @@ module _ (h : Header) (is : IsHeader h) (memory : ℕ → ℕ) (s a : ℕ) where
   HasNone l i = l.ring_of s i ≡ None
 
   -- behind the binding of another one
-  none_there : (l m : Known) (i j r : ℕ) → BoundThere h is l m s i r → j ≢ i → HasNone l j → HasNone m j
+  pub none_there : (l m : Known) (i j r : ℕ) → BoundThere h is l m s i r → j ≢ i → HasNone l j → HasNone m j
   none_there l m i j r x other none = ap (λ (f : ℕ → ℕ → Option ℕ). f s j) x.ring_of ∙ cond-false (s == s && j == i) (Some r) (l.ring_of s j) (and_right (s == s) (j == i) (ne_eqb j i other)) ∙ none
 
   module _ (c : Command) (above : 0 < s) (low : s < 256) where

@@ -1,6 +1,6 @@
 -- A command's success places the ring of an endpoint, in the world as in what is known
-use Rattle.std.proofs.Common.{◌≡◌, ◌≢◌, ◌<◌, ◌≤◌, if◌then◌else◌, ◌∷◌, ◌∙◌, ℕ, Bool, true, false, List, [], Some, None, arith, refl, sym, ap, subst, inl, inr}
-use Rattle.safety.proofs.Words.{cond-true, false≢true, none-some, same_Some, Spot, IsSpot, spot_address, spot_cycle, IsShape, declared, floor_number, ceiling, is_move, is_placement, ceiling_within, floor_given, given_count_declared, RingKeeps, place_count_pos, rank_least, rank_most, Command, EndpointState, Places, is_off, Header, IsHeader, shape_of, command_id, ring_having, World, Known, IsTransferRing, state_of, RingMatches, BoundRing, FreeRing}
+use Rattle.std.proofs.Common.{◌≡◌, ◌≢◌, ◌<◌, ◌≤◌, if◌then◌else◌, ◌∙◌, ℕ, Bool, true, false, Some, None, arith, refl, sym, ap, subst, inl, inr}
+use Rattle.safety.proofs.Words.{none-some, same_Some, Spot, IsSpot, spot_address, spot_cycle, IsShape, declared, floor_number, ceiling, is_move, is_placement, ceiling_within, floor_given, given_count_declared, RingKeeps, place_count_pos, rank_least, rank_most, Command, EndpointState, Places, is_off, Header, IsHeader, shape_of, command_id, ring_having, World, Known, IsTransferRing, state_of, RingMatches, BoundRing, FreeRing}
 use Rattle.controller_model.specs.Bindings as bindings
 use Rattle.ring_knowledge.specs.Completions as completions
 use Rattle.safety.proofs.Headers.{ring_shape, transfer_driver, transfer_not_command}
@@ -35,6 +35,19 @@ pub record MayMove (h : Header) (k : Known) (s i p : ℕ) (cycle : Bool) : Type 
   pub high : most ≤ declared (k.ring ring)
   pub moves : is_move (shape_of h ring) (k.ring ring) p cycle least most ≡ true
 
+-- the spot at which the ring stands
+pub bound_spot : (h : Header) → IsHeader h → (k : Known) (s i p : ℕ) (cycle : Bool) (b : MayBind h k s i p cycle) →
+    MoveSpot (shape_of h b.ready.ring) (k.ring b.ready.ring) p cycle (ceiling (shape_of h b.ready.ring) (k.ring b.ready.ring)) (floor_number (k.ring b.ready.ring))
+unfolding is_placement
+bound_spot h is k s i p cycle b =
+    let e : Ready h k b.memory s i p cycle = b.ready in
+    let r : ℕ = e.ring in
+    let allowed = (ring_shape h is r (transfer_driver h r (transfer_ring h r (having_transfer h is p r e.named)))).is in
+    let within = ceiling_within (shape_of h r) allowed b.memory (k.ring r) e.keeps in
+    let low = floor_given (shape_of h r) allowed b.memory (k.ring r) e.keeps in
+    let high = given_count_declared (shape_of h r) allowed b.memory (k.ring r) e.keeps in
+    move_spot (shape_of h r) allowed b.memory (k.ring r) e.keeps p cycle (ceiling (shape_of h r) (k.ring r)) (floor_number (k.ring r)) within.0 (omega arith) e.placed
+
 module _ (h : Header) (is : IsHeader h) (c : Command) (k : Known) (w v : World) (s i p : ℕ) (cycle : Bool) (state : EndpointState) (y : StatesMatch h k w)
     (numbered : (0 < s) × (s < 256) × (0 < i) × (i < 32)) (at : bindings.changed_by h c w (Places s i p cycle state) ≡ Some v) where
   possible : bindings.placed_on w s i p cycle state (ring_having h p) ≡ Some v
@@ -65,18 +78,13 @@ module _ (h : Header) (is : IsHeader h) (c : Command) (k : Known) (w v : World) 
 
   -- a ring is bound
   bound_at : (b : MayBind h k s i p cycle) → FreeRing (shape_of h b.ready.ring) k.ring_of (k.ring b.ready.ring) (state_of w b.ready.ring) b.ready.ring → ChangeKeeps h k (completions.changed_by h c k (Places s i p cycle state)) w v
-  unfolding is_placement
   bound_at b free =
       let e : Ready h k b.memory s i p cycle = b.ready in
       let r : ℕ = e.ring in
       let transfer : IsTransferRing h r = transfer_ring h r (having_transfer h is p r e.named) in
       let allowed = (ring_shape h is r (transfer_driver h r transfer)).is in
-      let within = ceiling_within (shape_of h r) allowed b.memory (k.ring r) e.keeps in
-      let low = floor_given (shape_of h r) allowed b.memory (k.ring r) e.keeps in
-      let high = given_count_declared (shape_of h r) allowed b.memory (k.ring r) e.keeps in
       let some = place_count_pos (shape_of h r) allowed in
-      let to : MoveSpot (shape_of h r) (k.ring r) p cycle (ceiling (shape_of h r) (k.ring r)) (floor_number (k.ring r)) =
-      move_spot (shape_of h r) allowed b.memory (k.ring r) e.keeps p cycle (ceiling (shape_of h r) (k.ring r)) (floor_number (k.ring r)) within.0 (omega arith) e.placed in
+      let to : MoveSpot (shape_of h r) (k.ring r) p cycle (ceiling (shape_of h r) (k.ring r)) (floor_number (k.ring r)) = bound_spot h is k s i p cycle b in
       at_spot r (same_Some x.ring r (sym x.found ∙ e.named)) allowed to.spot to.is_spot (transfer_not_command h is r transfer) (λ q had. absurd (none-some q (sym b.none ∙ had))) (λ z j had. absurd (e.free z j had))
       (completions.changed_by h c k (Places s i p cycle state)) (binds_placed h c k s i p cycle state is r to.spot e.off e.named to.named) to.at to.cycle_is
       (placed_matches (shape_of h r) allowed to.spot to.is_spot (k.ring r) (state_of w r) (omega (arith, free.to, to.from)) (omega (arith, free.from, to.to, some))

@@ -1,8 +1,7 @@
 -- Where more is declared of rings, an unfinished command places endpoints at the same targets
-use Rattle.std.proofs.Common.{◌≡◌, ◌+◌, ◌≤◌, ◌==◌, ◌&&◌, ◌||◌, if◌then◌else◌, ◌∷◌, ◌∙◌, ℕ, zero, suc, not, Bool, true, false, List, [], map, filter, All, Option, Some, None, arith, refl, sym, ap, eq-eqb, subst, get_or, inl, inr, ◌≢◌}
-use Rattle.safety.proofs.Words.{range_with_len, cond-true, cond_both, false≢true, or_parts, not-false, All-head, All-tail, All-weaker, Spot, declared, floor_number, ceiling, target, is_move, given_count_declared, floor_given, ceiling_within, Command, NoOp, EnableSlot, DisableSlot, AddressDevice, ConfigureEndpoint, EvaluateContext, ResetEndpoint, StopEndpoint, SetTrDequeue, ResetDevice, EndpointState, Off, Running, is_off, is_at_rest, Change, SlotGoesOn, Disables, Places, changes, placed_by_context, added_endpoints, input_add_flag, is_dropped, context_pointer, context_cycle, Header, IsHeader, shape_of, ring_having, Known, on_ring, set_to, bound_to, moved_to, moved, pointed, disabled, in_state, changed_by, is_bad_dequeue, is_bad_move, IsDriverRing, DriverKeeps, StillHolds, RingView, binds, has_repeats, is_placement, binding_in, is_among, same_Some, list_any, ring_bound, is_ring, put_pair}
+use Rattle.std.proofs.Common.{◌≡◌, ◌≤◌, ◌==◌, ◌&&◌, if◌then◌else◌, ◌∷◌, ◌∙◌, ℕ, not, Bool, true, false, List, [], map, All, Option, Some, None, arith, refl, sym, ap, eq-eqb, subst, get_or, ◌≢◌}
+use Rattle.safety.proofs.Words.{cond_both, false≢true, or_parts, not-false, All-head, All-tail, Spot, declared, floor_number, ceiling, target, is_move, given_count_declared, floor_given, ceiling_within, Command, NoOp, EnableSlot, DisableSlot, AddressDevice, ConfigureEndpoint, EvaluateContext, ResetEndpoint, StopEndpoint, SetTrDequeue, ResetDevice, EndpointState, Off, Running, is_off, is_at_rest, Change, SlotGoesOn, Disables, changes, placed_by_context, added_endpoints, is_dropped, context_pointer, context_cycle, Header, IsHeader, shape_of, ring_having, Known, on_ring, set_to, bound_to, moved_to, moved, pointed, disabled, changed_by, is_bad_dequeue, is_bad_move, IsDriverRing, DriverKeeps, StillHolds, RingView, binds, has_repeats, is_placement, binding_in, is_among, same_Some, list_any, ring_bound, is_ring, put_pair}
 use Rattle.safety.proofs.Headers.{ring_shape, transfer_driver}
-use Rattle.safety.proofs.EndpointPut.{at_pair}
 use Rattle.safety.proofs.AlikeChanges.{TargetsAre}
 use Rattle.safety.proofs.TestsPassed.{each_fails, any_of_map}
 use Rattle.safety.proofs.DriverRings.{transfer_ring, rings_of}
@@ -177,14 +176,19 @@ module _ (h : Header) where
         let m : Known = changed_by h c (changed_by h c k (SlotGoesOn s)) (Disables s (is_dropped k.memory a)) in
         let x : Known = changed_by h c (changed_by h c l (SlotGoesOn s)) (Disables s (is_dropped k.memory a)) in
         let rings : k.ring ≡ m.ring = sym (dropped_rings c k s (is_dropped k.memory a)) in
-        let others : l.ring ≡ x.ring = sym (dropped_rings c l s (is_dropped k.memory a)) in
-        (tt, (tt, each_targets is k.memory c s a (added_endpoints k.memory a) m x
-        (dropped_states c l s (is_dropped k.memory a)
-        ∙ ap {B = ℕ → ℕ → EndpointState} (λ (f : ℕ → ℕ → EndpointState) (t i : ℕ). if t == s && is_dropped k.memory a i then Off else f t i) states
-        ∙ sym (dropped_states c k s (is_dropped k.memory a)))
-        (all_ready h is k (rings_of h k d) s a still)
-        (λ y e inside r at. subst (λ (f : ℕ → RingView). DeclaresMore (f r) (x.ring r)) rings (subst (λ (f : ℕ → RingView). DeclaresMore (k.ring r) (f r)) others (record { floor = floors r; more = more r })))
-        (no_repeats s a still)))
+        let others : l.ring ≡ x.ring = sym (dropped_rings c l s (is_dropped k.memory a)) in (
+          tt,
+          (
+            tt,
+            each_targets is k.memory c s a (added_endpoints k.memory a) m x
+                (dropped_states c l s (is_dropped k.memory a)
+                ∙ ap {B = ℕ → ℕ → EndpointState} (λ (f : ℕ → ℕ → EndpointState) (t i : ℕ). if t == s && is_dropped k.memory a i then Off else f t i) states
+                ∙ sym (dropped_states c k s (is_dropped k.memory a)))
+                (all_ready h is k (rings_of h k d) s a still)
+                (λ y e inside r at. subst (λ (f : ℕ → RingView). DeclaresMore (f r) (x.ring r)) rings (subst (λ (f : ℕ → RingView). DeclaresMore (k.ring r) (f r)) others (record { floor = floors r; more = more r })))
+                (no_repeats s a still),
+          ),
+        )
     placed_targets n (ConfigureEndpoint s true a) still = (tt, (tt, tt))
     placed_targets n (EvaluateContext s a) still = tt
     placed_targets n (ResetEndpoint s i) still = (tt, tt)

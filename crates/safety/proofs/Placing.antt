@@ -1,6 +1,6 @@
 -- One endpoint's ring is placed in the world as it is in what is known: both match still
-use Rattle.std.proofs.Common.{◌≡◌, ◌≢◌, ◌<◌, ◌⊎◌, ◌==◌, ◌&&◌, if◌then◌else◌, ◌∙◌, ℕ, Bool, true, Option, Some, arith, refl, sym, ap, subst, inl, inr, eqb-true, eq-eqb}
-use Rattle.safety.proofs.Words.{cases_Bool, cases_eq, and_parts, and_from, cond-true, cond-false, false≢true, same_Some, put_pair, Spot, EndpointState, SlotState, RingView, Header, shape_of, command_id, World, Known, RingState, state_of, RingMatches, Unreported, BoundRing, FreeRing, EndpointRing}
+use Rattle.std.proofs.Common.{◌≡◌, ◌≢◌, ◌<◌, ◌⊎◌, ◌==◌, ◌&&◌, if◌then◌else◌, ◌∙◌, ℕ, Bool, Option, Some, arith, refl, sym, ap, subst, inl, inr, eqb-true, eq-eqb}
+use Rattle.safety.proofs.Words.{cases_Bool, cases_eq, and_parts, and_from, cond-true, cond-false, same_Some, put_pair, Spot, EndpointState, SlotState, RingView, Header, shape_of, command_id, World, Known, state_of, RingMatches, Unreported, BoundRing, FreeRing, EndpointRing}
 use Rattle.safety.proofs.SlotChanges.{same_put_pair}
 use Rattle.safety.proofs.FinishChanges.{known_changed, StatesMatch, LeavesRest, ChangeKeeps}
 use Rattle.safety.proofs.PlacedRing.{set_view, placed_state}

@@ -1,7 +1,7 @@
 -- A driver's row beneath the events that aren't read yet: they stay possible, and what is known when they are read differs from what
 -- the row adds to it at the end in the numbers at which rings are held, if at all
 use Rattle.std.proofs.Common.{◌≡◌, ◌+◌, ◌-◌, ◌≤◌, ◌∷◌, ◌∙◌, ℕ, false, List, [], length, All, Some, arith, refl, sym, ap, subst, inl, inr}
-use Rattle.safety.proofs.Words.{cond_both, not-false, All-cons, All-head, All-tail, same_Some, Block, IsBlock, kind, erdp_address, is_reached_within, Header, Row, Sub, Write, Reg, Bell, Read, Register, Erdp, IsHeader, event_shape, IsRow, World, stored, counted, Known, learned, known, may_pass, is_bad_erdp, lenient, IsLenient, DriverKeeps, IsDriverRow, Agrees, Runs, reading, HeldMore, is_idle, Square, SquareLaw, MoreLaw}
+use Rattle.safety.proofs.Words.{cond_both, All-cons, All-head, All-tail, same_Some, Block, IsBlock, kind, erdp_address, is_reached_within, Header, Row, Sub, Write, Reg, Bell, Read, Register, Erdp, IsHeader, event_shape, IsRow, World, stored, counted, Known, learned, known, may_pass, is_bad_erdp, lenient, IsLenient, DriverKeeps, IsDriverRow, Agrees, Runs, reading, HeldMore, is_idle, Square, SquareLaw, MoreLaw}
 use Rattle.controller_model.specs.DriverRows as driver
 use Rattle.safety.proofs.TestsPassed.{clean_tests}
 use Rattle.safety.proofs.CleanRows.{register_facts}

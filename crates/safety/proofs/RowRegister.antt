@@ -1,6 +1,6 @@
 -- A write of a register where all events are read: what is known agrees with the world
-use Rattle.std.proofs.Common.{◌≡◌, ◌%◌, ◌+◌, ◌*◌, ◌<◌, ◌≤◌, ◌==◌, if◌then◌else◌, ◌∷◌, ◌∙◌, ℕ, suc, zero, length, slice_index, nat_lt, Bool, true, false, List, [], Option, None, Some, option_and_then, slice_get, arith, refl, sym, ap, subst, ltb-true}
-use Rattle.safety.proofs.Words.{list_any, range_with_len, mod-lt, some_of, and_parts, cond-true, cond-false, Block, Command, command_of, named_context, Shape, is_due, Header, Register, shape_of, command_id, event_shape, event_size, with_register, same_register, address_of, place_count, data_places, AreInOrder, position_from, is_reached_within, is_event_place, World, UnderWay, counted, Known, IsUnfinished, IsUnchanged, Matches, Agrees}
+use Rattle.std.proofs.Common.{◌≡◌, ◌+◌, ◌*◌, ◌≤◌, ◌==◌, if◌then◌else◌, ◌∙◌, ℕ, nat_lt, true, false, List, Option, None, Some, option_and_then, slice_get, arith, refl, sym, ap, subst, ltb-true}
+use Rattle.safety.proofs.Words.{list_any, range_with_len, some_of, and_parts, cond-true, cond-false, Block, Command, command_of, named_context, Shape, is_due, Header, Register, shape_of, command_id, event_shape, event_size, with_register, same_register, address_of, place_count, AreInOrder, position_from, is_reached_within, is_event_place, World, counted, Known, IsUnfinished, IsUnchanged, Matches, Agrees}
 use Rattle.world_state.specs.World as of_world
 use Rattle.controller_model.specs.DriverRows as driver
 use Rattle.ring_knowledge.specs.Rings as of_rings

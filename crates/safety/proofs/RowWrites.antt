@@ -1,6 +1,6 @@
 -- A write of memory where all events are read: what is known agrees with the world
-use Rattle.std.proofs.Common.{◌≡◌, ◌≢◌, ◌+◌, ◌*◌, ◌/◌, ◌<◌, ◌⊎◌, ◌==◌, ◌&&◌, ◌||◌, ◌++◌, ◌∙◌, ℕ, not, nat_lt, Bool, true, false, List, [], Option, None, Some, option_and_then, slice_get, arith, refl, sym, ap, subst, inl, inr, add-zero, lt-ltb, ne_eqb}
-use Rattle.safety.proofs.Words.{list_any, cases_eq, or_parts, or_cases, and_from, false≢true, not_from_false, list_any-append, slice_get_within, put, Block, address_of, is_in, is_inside, Writes, changed, is_due, gives, put_here, put_elsewhere, gives_is, address_inside, Command, command_of, named_context, device_context_bytes, input_context_bytes, Header, Write, IsHeader, shape_of, command_id, event_shape, World, UnderWay, stored, counted, Known, learned, command_at, next_command, with_device, with_word, written, command_given, taken_device, covers, lease_start, lease_bytes, segment_ranges, device_ranges, is_leased, lenient, IsUnfinished, DriverKeeps, Stands, EventsStand, touches_events, IsUnchanged, Matches, Agrees, is_the_controllers}
+use Rattle.std.proofs.Common.{◌≡◌, ◌≢◌, ◌+◌, ◌*◌, ◌/◌, ◌<◌, ◌⊎◌, ◌==◌, ◌&&◌, ◌||◌, ◌++◌, ◌∙◌, ℕ, not, Bool, true, false, List, [], Option, None, Some, option_and_then, slice_get, arith, refl, sym, ap, subst, inl, inr, add-zero, ne_eqb}
+use Rattle.safety.proofs.Words.{list_any, cases_eq, or_parts, or_cases, false≢true, not_from_false, list_any-append, slice_get_within, put, Block, address_of, is_in, is_inside, Writes, changed, is_due, gives, put_here, put_elsewhere, gives_is, address_inside, Command, command_of, named_context, device_context_bytes, input_context_bytes, Header, Write, IsHeader, shape_of, command_id, event_shape, World, stored, counted, Known, learned, command_at, next_command, with_device, with_word, written, command_given, taken_device, covers, lease_start, lease_bytes, segment_ranges, device_ranges, lenient, IsUnfinished, DriverKeeps, Stands, EventsStand, touches_events, IsUnchanged, Matches, Agrees, is_the_controllers}
 use Rattle.world_state.specs.World.{event_at}
 use Rattle.world_state.specs.World as of_world
 use Rattle.safety.proofs.TestsPassed.{any_of_map}

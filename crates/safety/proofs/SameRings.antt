@@ -1,6 +1,6 @@
 -- Rows that give no endpoint another ring than it had
-use Rattle.std.proofs.Common.{◌≡◌, ◌==◌, ◌&&◌, ◌||◌, if◌then◌else◌, ◌∷◌, ℕ, not, Bool, true, List, [], Option, None, Some, option_and_then, slice_get, refl}
-use Rattle.safety.proofs.Words.{cond_both, none-some, put_pair, Block, BlockKind, TransferEvent, CommandCompletion, kind, code, slot, endpoint, is_success, is_halting, is_trb_error, is_stopping, Spot, Declares, Opens, Command, StopEndpoint, Halted, Error, command_of, changes, Header, Register, Erdp, Usbcmd, Row, Sub, Write, Reg, Bell, Read, command_id, run_bit, reset_bit, Known, nothing, RingSpot, on_ring, event_at, command_at, next_command, with_device, with_word, written, command_given, taken_device, run_or_stop, valued, register_written, endpoint_rung, rung, passed, broken_off, stopped_at, transferred, transferred_at, transfer_read, succeeded, stop_ended, finished, completed, event_read, learned, known}
+use Rattle.std.proofs.Common.{◌≡◌, ◌==◌, ◌&&◌, ◌||◌, if◌then◌else◌, ℕ, not, Bool, true, Option, None, Some, option_and_then, refl}
+use Rattle.safety.proofs.Words.{cond_both, put_pair, Block, code, slot, endpoint, is_success, is_halting, is_trb_error, is_stopping, Spot, Opens, Command, StopEndpoint, Halted, Error, Header, Register, Erdp, Usbcmd, command_id, run_bit, reset_bit, Known, RingSpot, on_ring, event_at, with_device, with_word, written, command_given, taken_device, run_or_stop, valued, register_written, endpoint_rung, rung, passed, broken_off, stopped_at, transferred, transferred_at, transfer_read, stop_ended}
 
 -- the same endpoints have rings, and the same ones
 abbrev pub SameRings : Known → Known → Type 0

@@ -1,6 +1,6 @@
 -- What the success of an unfinished command changes fits the endpoints
-use Rattle.std.proofs.Common.{◌≡◌, ◌≢◌, ◌≤◌, ◌∷◌, ◌∙◌, ℕ, nat_le, Bool, true, false, List, [], map, All, Some, is_some, arith, refl, sym, ap, subst, inl, inr, get_or, eq-eqb, leb-true}
-use Rattle.safety.proofs.Words.{list_any, cond-true, and_parts, or_parts, or_left, false≢true, All-head, All-tail, Command, NoOp, EnableSlot, DisableSlot, AddressDevice, ConfigureEndpoint, EvaluateContext, ResetEndpoint, StopEndpoint, SetTrDequeue, ResetDevice, SlotState, Disabled, EndpointState, Running, Halted, Stopped, Error, Change, SlotGoesOn, changes, placed_by_context, named_slot, named_endpoint, is_disabled, is_off, slot_success, endpoint_success, slot_meant, endpoint_meant, is_slot_enabled, can_succeed, added_endpoints, context_pointer, Header, IsHeader, is_ring, Known, changed_by, Binding, is_among, has_repeats, binding_in, binds, ring_bound, binds_ring, RingsKeep, StillHolds}
+use Rattle.std.proofs.Common.{◌≡◌, ◌≢◌, ◌≤◌, ◌∷◌, ◌∙◌, ℕ, nat_le, Bool, true, false, List, [], map, All, Some, is_some, arith, refl, sym, ap, inl, inr, get_or, leb-true}
+use Rattle.safety.proofs.Words.{list_any, and_parts, or_parts, false≢true, All-head, All-tail, Command, NoOp, EnableSlot, DisableSlot, AddressDevice, ConfigureEndpoint, EvaluateContext, ResetEndpoint, StopEndpoint, SetTrDequeue, ResetDevice, SlotState, Disabled, EndpointState, Running, Halted, Stopped, Error, Change, SlotGoesOn, changes, placed_by_context, named_slot, named_endpoint, is_disabled, slot_success, endpoint_success, slot_meant, endpoint_meant, is_slot_enabled, can_succeed, added_endpoints, context_pointer, Header, IsHeader, is_ring, Known, changed_by, is_among, has_repeats, binding_in, binds, ring_bound, RingsKeep, StillHolds}
 use Rattle.ownership_rules.specs.Commands as commands
 use Rattle.safety.proofs.TestsPassed.{each_fails, any_of_map}
 use Rattle.safety.proofs.GivenCommands.{added_above}

@@ -87,7 +87,7 @@ module _ (h : Header) (k : Known) (w : World) (m : StatesMatch h k w) (s i r : �
   stopped_elsewhere q other (inl bound) =
       inl (subst (λ x. BoundRing (shape_of h q) k.ring_of x (state_of rested q) q) (sym (ring_elsewhere q other))
       (subst (λ x. BoundRing (shape_of h q) k.ring_of (k.ring q) x q) (sym (state_elsewhere q other)) bound))
-  stopped_elsewhere q other (inr free) = 
+  stopped_elsewhere q other (inr free) =
       inr (subst (λ x. FreeRing (shape_of h q) k.ring_of x (state_of rested q) q) (sym (ring_elsewhere q other))
       (subst (λ x. FreeRing (shape_of h q) k.ring_of (k.ring q) x q) (sym (state_elsewhere q other)) free))
 
