@@ -3,6 +3,7 @@ use Rattle.std.proofs.Common.{◌≡◌, ◌≢◌, ◌≤◌, ◌==◌, if◌th
 use Rattle.lease_rows.proofs.Words.{cond-false, CommandCompletion, kind, code, slot, is_command_completion, Spot, number, after, RingView, Reaches, Holds, floor_number, target, target_ahead, added_endpoints, is_dropped, context_pointer, context_cycle, Command, NoOp, EnableSlot, DisableSlot, AddressDevice, ConfigureEndpoint, EvaluateContext, ResetEndpoint, StopEndpoint, SetTrDequeue, ResetDevice, Stopped, is_off, Change, SlotGoesOn, DeviceLeft, Disables, Places, Stops, Resets, changes, is_above_control, placed_by_context, Header, Read, IsHeader, shape_of, command_id, ring_having, Known, on_ring, command_at, next_command, set_to, bound_to, moved_to, moved, pointed, in_state, changed_by, changed_by_all, succeeded, stop_ended, finished, completed, event_read, learned, has_repeats, binds, binding_in, ring_bound, lenient, DriverKeeps, MayChangeAll, StillHolds, transfer_not_command, may_move, ring_elsewhere, may_change, still_of, address_ready, all_ready, dropped, map_map, view_after, FloorsMove, MovesOn, IsMovedTo, IsOtherRing, moved_on, moved_ring, moved_by, moved_when}
 use Rattle.trb.specs.declared.block.Block.{Block}
 use Rattle.safety.proofs.DriverRows.{ring_here}
+use Rattle.safety.proofs.DriverRings.{rings_of}
 use Rattle.lease_rows.proofs.FloorsStay.{ChangesStay, FloorsStay, StaysHere, stay_none, changes_stay, each_stays, address_stays, hold_stays, ready_stays}
 
 -- the ring is moved to the number
@@ -110,7 +111,7 @@ module _ (h : Header) where
             stays_behind (changed_by h c k (SlotGoesOn s)) s 1 (context_pointer h.context_size k.memory a 1) (context_cycle h.context_size k.memory a 1) same.0 same.1 same.2
                 (address_stays h is k d s a bsr still)
                 (λ r t off at named.
-                ready_stays h is k k.memory s 1 (context_pointer h.context_size k.memory a 1) (context_cycle h.context_size k.memory a 1) (address_ready h is k d.rings s a bsr still off) r t at named),
+                ready_stays h is k k.memory s 1 (context_pointer h.context_size k.memory a 1) (context_cycle h.context_size k.memory a 1) (address_ready h is k (rings_of h k d) s a bsr still off) r t at named),
             tt,
           ),
         )
@@ -127,7 +128,7 @@ module _ (h : Header) where
         let c : Command = ConfigureEndpoint s false a in
         let added : List Change = map (placed_by_context h.context_size k.memory s a) (added_endpoints k.memory a) in
         stays c (SlotGoesOn s ∷ Disables s (is_dropped k.memory a) ∷ added)
-        (tt, (tt, each_stays h is c k.memory s a (added_endpoints k.memory a) (dropped h is c k s a) (all_ready h is k d.rings s a still) (no_repeats s a still)))
+        (tt, (tt, each_stays h is c k.memory s a (added_endpoints k.memory a) (dropped h is c k s a) (all_ready h is k (rings_of h k d) s a still) (no_repeats s a still)))
     succeeds n (ConfigureEndpoint s true a) still may = stays (ConfigureEndpoint s true a) (SlotGoesOn s ∷ Disables s is_above_control ∷ []) (tt, (tt, tt))
     succeeds n (EvaluateContext s a) still may = stays (EvaluateContext s a) [] tt
     succeeds n (ResetEndpoint s i) still may = stays (ResetEndpoint s i) (Resets s i ∷ []) (tt, tt)

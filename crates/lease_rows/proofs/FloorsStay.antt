@@ -1,7 +1,11 @@
 -- The changes that leave the number of each ring's floor as it is
 use Rattle.std.proofs.Common.{◌≡◌, ◌+◌, ◌-◌, ◌≤◌, ◌&&◌, ◌||◌, ◌∷◌, ◌∙◌, ℕ, suc, Bool, true, false, List, [], map, find, All, Option, None, Some, arith, refl, sym, ap, subst, get_or, inl, inr}
-use Rattle.lease_rows.proofs.Words.{list_any, range_with_len, flat_map, cases_Bool, cond_both, cond-true, cond-false, or_parts, false≢true, same_Some, All-head, All-tail, Spot, Shape, number, RingView, Reaches, Holds, declared, floor_number, ceiling, is_target, may_move_to, spots_between, target, is_move, is_placement, floor_given, given_count_declared, context_pointer, context_cycle, Command, AddressDevice, Stopped, is_off, Change, SlotGoesOn, DeviceLeft, Disables, Places, Stops, Resets, placed_by_context, Header, IsHeader, shape_of, is_ring, ring_having, having_transfer, ceiling_within, Known, on_ring, set_to, bound_to, moved_to, moved, pointed, disabled, in_state, held_at_ceiling, changed_by, changed_by_all, has_repeats, DriverKeeps, StillHolds, ring_shape, transfer_driver, Ready, ReadyAt, ring_at, ready_next, view_after, each_fails, any_of_map}
+use Rattle.lease_rows.proofs.Words.{list_any, range_with_len, flat_map, cases_Bool, cond_both, cond-true, cond-false, or_parts, false≢true, same_Some, All-head, All-tail, Spot, Shape, number, RingView, Reaches, Holds, declared, floor_number, ceiling, is_target, may_move_to, spots_between, target, is_move, floor_given, given_count_declared, context_pointer, context_cycle, Command, AddressDevice, Stopped, is_off, Change, SlotGoesOn, DeviceLeft, Disables, Places, Stops, Resets, placed_by_context, Header, IsHeader, shape_of, is_ring, ring_having, Known, on_ring, set_to, bound_to, moved_to, moved, pointed, disabled, in_state, held_at_ceiling, changed_by, changed_by_all, has_repeats, DriverKeeps, StillHolds, ring_shape, transfer_driver, Ready, ReadyAt, ring_at, ready_next, view_after, each_fails, any_of_map}
 use Rattle.segments.proofs.MovesStay.{placement_still}
+use Rattle.segments.proofs.Named.{ceiling_within}
+use Rattle.segments.specs.Moves.{is_placement}
+use Rattle.safety.proofs.RingIds.{having_transfer, transfer_driver as transfer_is_driver}
+use Rattle.safety.proofs.RingsOfHeader.{shape_allowed}
 use Rattle.segments.specs.declared.spot.Spot.TheVariants.{Data, Link}
 use Rattle.ownership_rules.specs.Moves.{is_among}
 
@@ -141,7 +145,7 @@ module _ (h : Header) where
   pub ready_stays : (is : IsHeader h) (l : Known) (memory : ℕ → ℕ) (s i p : ℕ) (cycle : Bool) → Ready h l memory s i p cycle → (r : ℕ) (t : Spot) → ring_having h p ≡ Some r →
       target (shape_of h r) (l.ring r) p cycle ≡ Some t → number t ≡ floor_number (l.ring r)
   ready_stays is l memory s i p cycle b r t at named =
-      let allowed = (ring_shape h is b.ring (transfer_driver h b.ring (having_transfer h is p b.ring b.named))).is in
+      let allowed = shape_allowed h is b.ring (transfer_is_driver h b.ring (having_transfer h is p b.ring b.named)) in
       let low = floor_given (shape_of h b.ring) allowed memory (l.ring b.ring) b.keeps in
       let high = given_count_declared (shape_of h b.ring) allowed memory (l.ring b.ring) b.keeps in
       let within = ceiling_within (shape_of h b.ring) allowed memory (l.ring b.ring) b.keeps in

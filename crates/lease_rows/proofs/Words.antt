@@ -82,7 +82,6 @@ pub use Rattle.safety.proofs.KeptClean.{taking}
 pub use Rattle.safety.proofs.KeptRegisters.{registered}
 pub use Rattle.safety.proofs.KeptRings.{CompletionFacts, completion_facts, next_at_floor, still_of}
 pub use Rattle.safety.proofs.Placings.{Ready, ReadyAt, address_ready, all_ready, dropped, map_map, ready_next, ring_at}
-pub use Rattle.safety.proofs.RingIds.{having_transfer}
 pub use Rattle.safety.proofs.RowFrames.{bell_leaves, declaration_leaves, register_leaves, write_leaves}
 pub use Rattle.safety.proofs.SafeContext.{command_is_ring}
 pub use Rattle.safety.proofs.SameDriver.{SameDriver, event_same, view_after}
