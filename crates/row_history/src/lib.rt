@@ -22,7 +22,9 @@ pub use rows::{
     stop, word_at,
 };
 pub use soiled::{SoiledWord, soiled_word};
-pub use unfinished::{Unfinished, all_unfinished, command_at, trb_at, unfinished_of};
+pub use unfinished::{
+    Unfinished, all_unfinished, binds_ring, command_at, has_block, trb_at, unfinished_of,
+};
 pub use words::{
     NOT_JUDGED, code_name, command_name, endpoint_state_name, general_head, register_name,
     ring_of_kind, ring_with, slot_state_name, type_name, why_refused,
