@@ -95,17 +95,23 @@ module _ (h : Header) (is : IsHeader h) (k : Known) (d : DriverKeeps h k) (a w :
 
   -- ---- the rings that commands name
 
+  -- the rule of a busy ring, of a block that is given
+  none_waits : (r : ℕ) → IsDriverRing h r → (p : ℕ) → (k.ring r).given p ≡ false → gives (shape_of h r) (k.ring r).floor p a w ≡ true → (is_being_moved h k r ≡ false) × (awaits_binding h k r ≡ false)
+  unfolding lenient_tests write_tests
+  none_waits r ring p fresh now =
+      let fails : AllFail (write_tests h k a w) = tests_fail h k (Write a w) clean in
+      let each = none_given h k a w r (has_ring h r (driver_test h r ring)) (λ r p. is_being_moved h k r || awaits_binding h k r) (or_parts _ _ (or_parts _ _ fails.1.1.1.1.1.1.0).0).1 in
+      let parts =
+      or_parts (is_being_moved h k r) (awaits_binding h k r)
+      (All-contains (λ p. (is_being_moved h k r || awaits_binding h k r) ≡ false) (positions_given (shape_of h r) (k.ring r) a w) p each (position_given (shape_of h r) (k.ring r) a w p fresh now)) in
+      (parts.0, parts.1)
+
   -- no block is given on a ring that an unfinished Address Device moves
   none_moved : (u s n r : ℕ) (bsr : Bool) → IsUnfinished h k u (AddressDevice s bsr n) → k.ring_of s 1 ≡ Some r → (p : ℕ) → (k.ring r).given p ≡ false →
       gives (shape_of h r) (k.ring r).floor p a w ≡ true → ⊥
-  unfolding lenient_tests write_tests is_being_moved moves_ring
+  unfolding is_being_moved moves_ring
   none_moved u s n r bsr at has p fresh now =
-      let fails : AllFail (write_tests h k a w) = tests_fail h k (Write a w) clean in
-      let driver : IsDriverRing h r = transfer_driver h r (d.states.transfer s 1 r has) in
-      let each = none_given h k a w r (has_ring h r (driver_test h r driver)) (λ r p. is_being_moved h k r || awaits_binding h k r) (or_parts _ _ (or_parts _ _ fails.1.1.1.1.1.1.0).0).1 in
-      let idle : is_being_moved h k r ≡ false =
-      (or_parts (is_being_moved h k r) (awaits_binding h k r)
-      (All-contains (λ p. (is_being_moved h k r || awaits_binding h k r) ≡ false) (positions_given (shape_of h r) (k.ring r) a w) p each (position_given (shape_of h r) (k.ring r) a w p fresh now))).0 in
+      let idle : is_being_moved h k r ≡ false = (none_waits r (transfer_driver h r (d.states.transfer s 1 r has)) p fresh now).0 in
       let none = unfinished_fails h k (moves_ring h k r) u (AddressDevice s bsr n) idle at in
       false≢true (sym none ∙ and_from (not (is_off (k.endpoint_state s 1))) (is_ring r (k.ring_of s 1)) (not_from_false (is_off (k.endpoint_state s 1)) (on_is (k.endpoint_state s 1) (d.states.on s 1 r has)))
       (ap (λ o. is_ring r o) has ∙ eq-eqb r r refl))
@@ -125,14 +131,7 @@ module _ (h : Header) (is : IsHeader h) (k : Known) (d : DriverKeeps h k) (a w :
     driver = transfer_driver h r (transfer_ring h r (bound_transfer h is k r c bound))
 
     no_block : (p : ℕ) → (k.ring r).given p ≡ false → gives (shape_of h r) (k.ring r).floor p a w ≡ true → ⊥
-    unfolding lenient_tests write_tests
-    no_block p fresh now =
-        let fails : AllFail (write_tests h k a w) = tests_fail h k (Write a w) clean in
-        let each = none_given h k a w r (has_ring h r (driver_test h r driver)) (λ r p. is_being_moved h k r || awaits_binding h k r) (or_parts _ _ (or_parts _ _ fails.1.1.1.1.1.1.0).0).1 in
-        let idle : awaits_binding h k r ≡ false =
-        (or_parts (is_being_moved h k r) (awaits_binding h k r)
-        (All-contains (λ p. (is_being_moved h k r || awaits_binding h k r) ≡ false) (positions_given (shape_of h r) (k.ring r) a w) p each (position_given (shape_of h r) (k.ring r) a w p fresh now))).1 in
-        false≢true (sym idle ∙ waits)
+    no_block p fresh now = false≢true (sym (none_waits r driver p fresh now).1 ∙ waits)
 
     no_link : (q : ℕ) → (k.ring r).crossed q ≡ false → gives_crossing (shape_of h r) (k.ring r).floor q a w ≡ true → ⊥
     unfolding lenient_tests write_tests

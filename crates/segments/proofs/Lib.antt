@@ -17,6 +17,7 @@ pub mod DueLists
 pub mod StepFacts
 pub mod MemoryWords
 pub mod NewRing
+pub mod NewPlacement
 pub mod Declaring
 pub mod Writing
 pub mod Reaching
