@@ -292,8 +292,9 @@ a second command for a slot whose first is unfinished
 
 What it is for
   One unfinished command for each slot, and no TRB for a ring that an
-  unfinished Address Device moves: what holds of the slot behind the command
-  is known once its completion is read.
+  unfinished Address Device moves, or that an unfinished command gives to an
+  endpoint while it runs still for another: what holds behind the command is
+  known once its completion is read.
 
 What a controller does to a driver that breaks it
   What the second rests on may not be so yet: the TRB may be taken before the
@@ -469,8 +470,9 @@ What to write instead
   A new endpoint: the first TRB of a ring that no endpoint had, with DCS 1.
   Set TR Dequeue Pointer: of an endpoint that rests, to the first TRB of a TD
   that can't have been begun, or behind the last TD, with DCS the Cycle bit of
-  that place in this lap. Not judged is an endpoint that is dropped and added
-  again on its ring: xHCI allows it.
+  that place in this lap. An endpoint that is dropped and added again on its
+  ring: where the ring stands, once the events are read of all that may have
+  been begun; `xtrace 1` and `2` bind a ring once.
 
 A trace that breaks it
   Row 25 hands over an Address Device whose ring has DCS 0, and is refused.
