@@ -7,18 +7,19 @@ use Rattle.std.proofs.lemmas.Bool.Decides.{nat_tests}
 use Rattle.contexts.specs.Contexts.{input_add_flag, added_endpoints}
 use Rattle.commands.specs.declared.command.Command.{Command}
 use Rattle.commands.specs.declared.command.Command.TheVariants.{AddressDevice, ConfigureEndpoint}
-use Rattle.commands.specs.Command.{named_slot}
+use Rattle.commands.specs.Command.{named_context, named_slot}
 use Rattle.commands.specs.States.{is_off}
 use Rattle.traces.specs.declared.header.Header.{Header}
 use Rattle.traces.specs.Header.{is_ring}
 use Rattle.ring_knowledge.specs.Known.{Known}
 use Rattle.ring_knowledge.specs.Rings.{unfinished}
 use Rattle.device_record.specs.Indices.{index_of}
-use Rattle.ownership_rules.specs.Moves.{Binding, binding_in, binds, binds_ring, has_repeats, is_among, is_bad_binding, is_unused_ring, is_used, ring_bound}
+use Rattle.ownership_rules.specs.Moves.{Binding, binding_in, binds, binds_again, binds_ring, has_repeats, is_among, is_bad_binding, is_bad_place, is_being_bound, is_kept, is_placed, is_taken, ring_bound}
 use Rattle.binding_checks.specs.declared.binding.RingBinding.{RingBinding}
+use Rattle.binding_checks.specs.declared.context.Dequeue.{Dequeue}
 use Rattle.binding_checks.specs.declared.ring_set.RingSet.{RingSet}
-use Rattle.binding_checks.specs.Contexts.{dequeue_in}
-use Rattle.binding_checks.specs.Bindings.{are_bad, binding_at, binding_of, bindings_from, is_bad, is_taken, is_to}
+use Rattle.binding_checks.specs.Contexts.{dequeue_at, dequeue_in}
+use Rattle.binding_checks.specs.Bindings.{are_bad, binding_at, binding_of, bindings_from, is_bad, is_in_set, is_kept_ring, is_misplaced, is_to, was_bound}
 use Rattle.binding_checks.specs.RingSets.{has}
 use Rattle.binding_checks.proofs.Lists.{any_same, any_or, any_map, map_twice, or_none, or_true, crossed, or_assoc}
 
@@ -36,7 +37,7 @@ module _ (h : Header) (k : Known) where
     bindings_end i e = ap (λ n. filter_map (binding_at h k c) (range_with_len i n)) (let none : 32 - i ≡ 0 = omega arith in none)
 
   abbrev pub with_ring : Binding → RingBinding
-  with_ring b = record { ring = ring_bound h b; cycle = b.cycle }
+  with_ring b = record { ring = ring_bound h b; dequeue = record { pointer = b.pointer; cycle = b.cycle } }
 
   same_binding : (c i : ℕ) → binding_of h (dequeue_in h.context_size k.memory c i) ≡ with_ring (binding_in h k c i)
   unfolding ring_bound binding_in
@@ -98,25 +99,67 @@ module _ (h : Header) (k : Known) where
 
   pub nothing_bad : (c : Command) → binds h k c ≡ [] → is_bad_binding h k c ≡ false
   unfolding is_bad_binding has_repeats
-  nothing_bad c none = ap (λ bs. list_any (λ b. not (is_unused_ring h k (ring_bound h b)) || not b.cycle) bs || has_repeats (map (ring_bound h) bs)) none
+  nothing_bad c none = ap (λ bs. list_any (is_bad_place h k c) bs || has_repeats (map (ring_bound h) bs)) none
 
   -- with a set of the rings that unfinished commands bind
   module _ (taken : RingSet) (all : (r : ℕ) → has taken r ≡ list_any (binds_ring h k r) (unfinished h k)) where
-    used_is : (o : Option ℕ) → is_taken k.was_bound taken o ≡ not (is_unused_ring h k o)
-    unfolding is_unused_ring is_used
-    used_is None = refl
-    used_is (Some r) = ap (λ b. k.was_bound r || b) (all r) ∙ twice (k.was_bound r || list_any (binds_ring h k r) (unfinished h k))
-      where
-        twice : (b : Bool) → b ≡ not (not b)
-        twice true = refl
-        twice false = refl
+    place_is : (c : Command) (o : Option ℕ) (n : Bool) → (is_in_set taken o || (is_kept_ring h k c o || n)) ≡ (is_taken h k c o || n)
+    unfolding is_taken is_being_bound
+    place_is c None n = refl
+    place_is c (Some r) n =
+        ap (λ b. b || (is_kept h k c r || n)) (all r) ∙ crossed (list_any (binds_ring h k r) (unfinished h k)) (is_kept h k c r) n
+        ∙ sym (or_assoc (is_kept h k c r) (list_any (binds_ring h k r) (unfinished h k)) n)
 
-    pub bad_is : (c : Command) → are_bad k.was_bound taken (bindings_from h k c 1) ≡ is_bad_binding h k c
+    bad_place_is : (c : Command) (b : Binding) → is_bad (is_misplaced h k c) taken (with_ring b) ≡ is_bad_place h k c b
+    unfolding is_bad_place
+    bad_place_is c b = place_is c (ring_bound h b) (not (is_placed h k (ring_bound h b) b))
+
+    pub bad_is : (c : Command) → are_bad (is_misplaced h k c) taken (bindings_from h k c 1) ≡ is_bad_binding h k c
     unfolding is_bad_binding
     bad_is c =
-        ap (are_bad k.was_bound taken) (bindings_all c)
-        ∙ (λ i. (any_map (is_bad k.was_bound taken) with_ring (binds h k c) ∙ any_same _ _ (binds h k c) (λ b. ap (λ u. u || not b.cycle) (used_is (ring_bound h b)))) i
+        ap (are_bad (is_misplaced h k c) taken) (bindings_all c)
+        ∙ (λ i. (any_map (is_bad (is_misplaced h k c) taken) with_ring (binds h k c) ∙ any_same _ _ (binds h k c) (bad_place_is c)) i
         || has_repeats (map_twice (λ (b : RingBinding). b.ring) with_ring (binds h k c) i))
+
+  -- a ring that a command binds again
+  pub again_is : (c : Command) → list_any (was_bound k) (bindings_from h k c 1) ≡ binds_again h k c
+  unfolding binds_again
+  again_is c = ap (list_any (was_bound k)) (bindings_all c) ∙ any_map (was_bound k) with_ring (binds h k c)
+
+  some_none : {X : Type 0} (n : ℕ) → Some n ≡ None → X
+  some_none n e = cc
+
+  -- where no input context is under lease no command binds anything
+  binds_nothing : (c : Command) → named_context c ≡ None → binds h k c ≡ []
+  unfolding binds
+  binds_nothing (AddressDevice s bsr n) none = some_none n none
+  binds_nothing (ConfigureEndpoint s true n) none = refl
+  binds_nothing (ConfigureEndpoint s false n) none = some_none n none
+  binds_nothing _ none = refl
+
+  first_none : (o : Option ℕ) (xs : List ℕ) → cons_option o xs ≡ [] → (o ≡ None) × (xs ≡ [])
+  first_none None xs e = (refl, e)
+  first_none (Some a) xs e = absurd (cc)
+
+  pub none_bound : (r : ℕ) (cs : List Command) → filter_map named_context cs ≡ [] → list_any (binds_ring h k r) cs ≡ false
+  unfolding binds_ring
+  none_bound r [] e = refl
+  none_bound r (c ∷ cs) e =
+      let parts = first_none (named_context c) (filter_map named_context cs) e in
+      ap (λ bs. list_any (λ b. is_ring r (ring_bound h b)) bs || list_any (binds_ring h k r) cs) (binds_nothing c parts.0) ∙ none_bound r cs parts.1
+
+of_some : (h : Header) (o : Option Dequeue) (b : RingBinding) → option_map (binding_of h) o ≡ Some b → b ≡ binding_of h b.dequeue
+of_some h None b e = none_some e
+  where
+    none_some : None ≡ Some b → b ≡ binding_of h b.dequeue
+    none_some e = cc
+of_some h (Some d) b e =
+    let same : binding_of h d ≡ b = cc in
+    sym same ∙ ap (λ (x : RingBinding). binding_of h x.dequeue) same
+
+-- the ring of a binding is the one that has the block at its pointer
+pub of_dequeue : (h : Header) (k : Known) (c : Command) (i : ℕ) (b : RingBinding) → binding_at h k c i ≡ Some b → b ≡ binding_of h b.dequeue
+of_dequeue h k c i b e = of_some h (dequeue_at h k c i) b e
 
 -- ---- one binding more
 
@@ -128,25 +171,33 @@ noted old new r b rest is = ap (λ x. x || list_any (is_to r) rest) is ∙ or_as
 either_way : (m n : ℕ) → (m == n) ≡ (n == m)
 either_way m n = grind (arith, nat_tests)
 
-last : (a e t n : Bool) → ((a || (e || t)) || n) ≡ (((a || t) || n) || e)
-last true e t n = refl
-last false true t n = sym (or_true (t || n))
-last false false t n = sym (or_none (t || n))
+last : (e t n : Bool) → ((e || t) || n) ≡ ((t || n) || e)
+last true t n = sym (or_true (t || n))
+last false t n = sym (or_none (t || n))
 
-module _ (bound : ℕ → Bool) (old new : RingSet) (r : ℕ) (inserted : (q : ℕ) → has new q ≡ (r == q || has old q)) where
-  bad_then : (o : Option ℕ) (n : Bool) → (is_taken bound new o || n) ≡ ((is_taken bound old o || n) || is_ring r o)
-  bad_then None n = refl
-  bad_then (Some q) n = ap (λ x. (bound q || x) || n) (inserted q ∙ ap (λ x. x || has old q) (either_way r q)) ∙ last (bound q) (q == r) (has old q) n
+module _ (bad : RingBinding → Bool) (old new : RingSet) (r : ℕ) (inserted : (q : ℕ) → has new q ≡ (r == q || has old q)) where
+  bad_then : (o : Option ℕ) (n : Bool) → (is_in_set new o || n) ≡ ((is_in_set old o || n) || is_ring r o)
+  bad_then None n = sym (or_none n)
+  bad_then (Some q) n = ap (λ x. x || n) (inserted q ∙ ap (λ x. x || has old q) (either_way r q)) ∙ last (q == r) (has old q) n
 
   -- its ring is taken
-  pub taken_next : (b : RingBinding) (rest : List RingBinding) → b.cycle ≡ true → b.ring ≡ Some r → bound r ≡ false → has old r ≡ false →
-      are_bad bound old (b ∷ rest) ≡ are_bad bound new rest
+  pub taken_next : (b : RingBinding) (rest : List RingBinding) → bad b ≡ false → b.ring ≡ Some r → has old r ≡ false →
+      are_bad bad old (b ∷ rest) ≡ are_bad bad new rest
   unfolding has_repeats is_among
-  taken_next b rest cycle ring unbound free =
-      ap (λ x. (x || list_any (is_bad bound old) rest) || (is_among (map (λ a. a.ring) rest) b.ring || has_repeats (map (λ a. a.ring) rest)))
-      ((λ i. is_taken bound old (ring i) || not (cycle i)) ∙ or_none (bound r || has old r) ∙ (λ i. unbound i || free i))
-      ∙ ap (λ o. list_any (is_bad bound old) rest || (is_among (map (λ a. a.ring) rest) o || has_repeats (map (λ a. a.ring) rest))) ring
-      ∙ ap (λ x. list_any (is_bad bound old) rest || (x || has_repeats (map (λ a. a.ring) rest))) (any_map (is_ring r) (λ a. a.ring) rest)
-      ∙ sym (or_assoc (list_any (is_bad bound old) rest) (list_any (λ a. is_ring r a.ring) rest) (has_repeats (map (λ a. a.ring) rest)))
+  taken_next b rest good ring free =
+      ap (λ x. (x || list_any (is_bad bad old) rest) || (is_among (map (λ a. a.ring) rest) b.ring || has_repeats (map (λ a. a.ring) rest)))
+      ((λ i. is_in_set old (ring i) || good i) ∙ or_none (has old r) ∙ free)
+      ∙ ap (λ o. list_any (is_bad bad old) rest || (is_among (map (λ a. a.ring) rest) o || has_repeats (map (λ a. a.ring) rest))) ring
+      ∙ ap (λ x. list_any (is_bad bad old) rest || (x || has_repeats (map (λ a. a.ring) rest))) (any_map (is_ring r) (λ a. a.ring) rest)
+      ∙ sym (or_assoc (list_any (is_bad bad old) rest) (list_any (λ a. is_ring r a.ring) rest) (has_repeats (map (λ a. a.ring) rest)))
       ∙ ap (λ x. x || has_repeats (map (λ a. a.ring) rest))
-      (sym (any_same (is_bad bound new) _ rest (λ a. bad_then a.ring (not a.cycle)) ∙ any_or (is_bad bound old) (λ a. is_ring r a.ring) rest))
+      (sym (any_same (is_bad bad new) _ rest (λ a. bad_then a.ring (bad a)) ∙ any_or (is_bad bad old) (λ a. is_ring r a.ring) rest))
+
+-- a bad one
+pub bad_first : (bad : RingBinding → Bool) (taken : RingSet) (b : RingBinding) (rest : List RingBinding) → is_bad bad taken b ≡ true → are_bad bad taken (b ∷ rest) ≡ true
+unfolding has_repeats
+bad_first bad taken b rest is = ap (λ x. (x || list_any (is_bad bad taken) rest) || has_repeats (map (λ a. a.ring) (b ∷ rest))) is
+
+-- where the ring doesn't stand still
+pub or_last : (a b n : Bool) → n ≡ false → (a || (b || not n)) ≡ true
+or_last a b n e = ap (λ x. a || (b || not x)) e ∙ ap (λ x. a || x) (or_true b) ∙ or_true a

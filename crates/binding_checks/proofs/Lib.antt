@@ -2,3 +2,4 @@ pub mod Lists
 pub mod BindingLists
 pub mod SlotWalk
 pub mod RingRecords
+pub mod KeptRings

@@ -1,39 +1,46 @@
 ghost use Rattle.std.specs.Prelude.{◌≡◌, ◌<◌, ◌||◌, ℕ, ◌∷◌, List, not};
 ghost use Rattle.traces.specs.Header.{IsHeader};
 ghost use Rattle.ring_finder.specs.Finding.{IsFinder};
+ghost use Rattle.commands.specs.declared.command.Command.{Command as CommandValue};
 ghost use Rattle.ring_knowledge.specs.Known.{Known};
 ghost use Rattle.device_record.specs.Devices.{FollowsDevices};
-ghost use Rattle.ownership_rules.specs.Moves.{binds_ring};
+ghost use Rattle.ownership_rules.specs.Moves.{binds_again, binds_ring};
+ghost use Rattle.safety.specs.Keeps.{DriverKeeps};
+ghost use Rattle.trace_record.specs.FollowsTrace.{FollowsTrace};
 ghost use Rattle.trace_record.specs.Premises.{FitsMemory};
 ghost use Rattle.binding_checks.specs.Contexts.{HoldsContexts};
-ghost use Rattle.binding_checks.specs.Bindings.{are_bad, binding_at, binding_of, bindings_from, is_to};
+ghost use Rattle.binding_checks.specs.Bindings.{are_bad, binding_at, binding_of, bindings_from, is_misplaced, is_to, was_bound};
+ghost use Rattle.binding_checks.specs.Dropped.{HoldsDropped};
 ghost use Rattle.binding_checks.specs.RingSets.{has};
 ghost use Rattle.binding_checks.specs.declared.binding.RingBinding.{RingBinding as BindingValue};
 
 use crate::context::{Dequeue, dequeue_at};
+use crate::dropped::is_kept;
+use crate::placements::may_be_bound;
 use crate::ring_set::RingSet;
 use commands::Command;
 use device_record::DeviceRecord;
 use guest_memory::WordMemory;
 use ring_finder::Finder;
+use trace_record::TraceRecord;
 use traces::Header;
 
-/// The transfer ring that an endpoint is bound to, where the pointer names one's first block, and its cycle state.
+/// The transfer ring that an endpoint is bound to, where the pointer names a block of one, and where on it.
 #[derive(Clone, Copy)]
 pub(crate) struct RingBinding {
     pub(crate) ring: Option<u8>,
-    pub(crate) cycle: bool,
+    pub(crate) dequeue: Dequeue,
 }
 
-/// The binding to the ring that a pointer names.
+/// The binding to the ring that has the block which a pointer names.
 fn binding_of(header: &Header, finder: &Finder, dequeue: Dequeue) -> RingBinding
     requires headed { IsHeader header.now }
     requires found { IsFinder header.now.rings finder.now }
     ensures { result ≡ binding_of header.now dequeue }
 {
     RingBinding {
-        ring: finder.ring_beginning_at(header, dequeue.pointer),
-        cycle: dequeue.cycle,
+        ring: finder.ring_having(header, dequeue.pointer),
+        dequeue,
     }
 }
 
@@ -89,47 +96,94 @@ fn note(rings: &mut RingSet, binding: RingBinding)
     }
 }
 
-/// Takes the ring of a binding, unless it's taken or was bound, or the cycle state isn't 1: whether it does.
-fn take(devices: &DeviceRecord, binding: RingBinding, taken: &mut RingSet) -> bool
-    ensures { (k : Known) → FollowsDevices k devices.now → (rest : List BindingValue) →
-        are_bad k.was_bound taken.old (binding ∷ rest) ≡ (not result || are_bad k.was_bound taken.new rest) }
+/// Takes the ring of a binding, unless an endpoint keeps it, or it's taken, or it doesn't stand still there: whether it does.
+/// `dropped` has the rings of the endpoints that the command drops.
+fn take(
+    header: &Header,
+    finder: &Finder,
+    t: &TraceRecord,
+    dropped: &RingSet,
+    binding: RingBinding,
+    taken: &mut RingSet,
+) -> bool
+    requires headed { IsHeader header.now }
+    requires found { IsFinder header.now.rings finder.now }
+    ensures { (k : Known) (memory : ℕ → ℕ) (c : CommandValue) → FollowsTrace header.now k t.now memory → DriverKeeps header.now k → HoldsDropped k c dropped.now →
+        binding ≡ binding_of header.now binding.dequeue → (rest : List BindingValue) →
+        are_bad (is_misplaced header.now k c) taken.old (binding ∷ rest) ≡ (not result || are_bad (is_misplaced header.now k c) taken.new rest) }
 {
-    if !binding.cycle {
-        return false;
-    }
     let Some(ring) = binding.ring else {
         return false;
     };
-    if devices.was_bound(ring) {
+    if is_kept(&t.devices, dropped, ring) {
         return false;
     }
     if taken.contains(ring) {
+        return false;
+    }
+    if !may_be_bound(header, finder, t, ring, binding.dequeue) {
         return false;
     }
     taken.insert(ring);
     true
 }
 
-/// Whether a command binds a ring that is taken or was bound, or with another cycle state than 1, or one ring twice.
+/// Whether a command binds a ring that an endpoint keeps, or that is taken, or elsewhere than where the ring stands still, or
+/// one ring twice. `dropped` has the rings of the endpoints that the command drops.
 pub(crate) fn binds_badly<M: WordMemory>(
     header: &Header,
     finder: &Finder,
-    devices: &DeviceRecord,
+    t: &TraceRecord,
     memory: &M,
     command: &Command,
+    dropped: &RingSet,
     taken: &mut RingSet,
 ) -> bool
     requires headed { IsHeader header.now }
     requires found { IsFinder header.now.rings finder.now }
-    ensures { (k : Known) → HoldsContexts k devices.now (M.words memory.now) → FitsMemory header.now.context_size command.now →
-        result ≡ are_bad k.was_bound taken.old (bindings_from header.now k command.now 1) }
+    ensures { (k : Known) → FollowsTrace header.now k t.now (M.words memory.now) → DriverKeeps header.now k → FitsMemory header.now.context_size command.now →
+        HoldsDropped k command.now dropped.now →
+        result ≡ are_bad (is_misplaced header.now k command.now) taken.old (bindings_from header.now k command.now 1) }
 {
     for index in 1..32 {
-        if let Some(binding) = binding_at(header, finder, devices, memory, command, index) {
-            if !take(devices, binding, taken) {
+        if let Some(binding) = binding_at(header, finder, &t.devices, memory, command, index) {
+            if !take(header, finder, t, dropped, binding, taken) {
                 return true;
             }
         }
     }
     false
+}
+
+/// Whether a command binds a ring that was bound before.
+pub fn binds_again<M: WordMemory>(
+    header: &Header,
+    finder: &Finder,
+    devices: &DeviceRecord,
+    memory: &M,
+    command: &Command,
+) -> bool
+    requires headed { IsHeader header.now }
+    requires found { IsFinder header.now.rings finder.now }
+    ensures { (k : Known) → HoldsContexts k devices.now (M.words memory.now) → FitsMemory header.now.context_size command.now →
+        result ≡ binds_again header.now k command.now }
+{
+    for index in 1..32 {
+        if let Some(binding) = binding_at(header, finder, devices, memory, command, index) {
+            if was_bound(devices, binding) {
+                return true;
+            }
+        }
+    }
+    false
+}
+
+/// Whether the ring of a binding was bound before.
+fn was_bound(devices: &DeviceRecord, binding: RingBinding) -> bool
+    ensures { (k : Known) → FollowsDevices k devices.now → result ≡ was_bound k binding }
+{
+    match binding.ring {
+        None => false,
+        Some(ring) => devices.was_bound(ring),
+    }
 }

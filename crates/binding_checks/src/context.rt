@@ -1,7 +1,7 @@
 ghost use Rattle.std.specs.Prelude.{◌≡◌, ◌+◌, ◌%◌, ◌^◌, ◌<◌, ◌≤◌, ℕ, Bool, Some};
 ghost use Rattle.commands.specs.declared.command.Command.TheVariants.{AddressDevice, ConfigureEndpoint};
 ghost use Rattle.commands.specs.States.{is_off};
-ghost use Rattle.contexts.specs.Contexts.{input_add_flag, input_context_bytes};
+ghost use Rattle.contexts.specs.Contexts.{input_add_flag, input_context_bytes, is_dropped};
 ghost use Rattle.ring_knowledge.specs.Known.{Known};
 ghost use Rattle.trace_record.specs.Premises.{FitsMemory};
 ghost use Rattle.binding_checks.specs.Contexts.{HoldsContexts, dequeue_at, dequeue_in};
@@ -37,6 +37,23 @@ fn adds<M: WordMemory>(memory: &M, size: ContextSize, address: u64, index: u8) -
     match InputContext::at(memory, address, size) {
         None => false,
         Some(input) => input.adds(index),
+    }
+}
+
+/// Whether the input context at an address drops an endpoint above the default control endpoint (xHCI 6.2.5.1).
+pub(crate) fn drops<M: WordMemory>(memory: &M, size: ContextSize, address: u64, index: u8) -> bool
+    requires last { index < 32 }
+    ensures { address % 4 ≡ 0 → address + input_context_bytes size ≤ 2 ^ 64 → result ≡ is_dropped (M.words memory.now) address index }
+{
+    if index < 2 {
+        return false;
+    }
+    if address % 4 != 0 {
+        return false;
+    }
+    match InputContext::at(memory, address, size) {
+        None => false,
+        Some(input) => input.drops(index),
     }
 }
 

@@ -2,12 +2,15 @@
 #![tactic(auto)]
 
 mod binding;
+mod bound;
 mod context;
+mod dropped;
 mod moved;
 mod moves;
+mod placements;
 mod ring_set;
-mod used;
 
+pub use binding::binds_again;
+pub use bound::{awaits_binding, is_bad_binding};
 pub use moved::is_being_moved;
 pub use moves::is_bad_move;
-pub use used::is_bad_binding;

@@ -1,7 +1,7 @@
 -- The records of rings where the ring with an ID has changed, by its number
-use Rattle.command_ends.proofs.Words.{◌≡◌, ◌≤◌, ◌∙◌, ◌<◌, ◌==◌, ℕ, List, Bool, true, Option, None, Some, refl, ap, sym, subst, arith, get_or, slice_get, slice_set, position, eqb-true, slice_get_within, Spot, after, number, Shape, Data, RingView, Holds, Reaches, changed, declared, floor_number, ceiling, given_count, is_reached, target, Ring, Header, IsHeader, command_id, command_ring, is_driver_kind, shape_of, RingRecord, FollowsRing, Known, next_command, on_ring, bound_to, moved, held_at_ceiling, ring_here, ring_elsewhere, FollowsRings, IsAtStart, MayMoveTo, ReachesTarget, number_in, set_on, IsNextGiven}
+use Rattle.command_ends.proofs.Words.{◌≡◌, ◌≤◌, ◌∙◌, ◌<◌, ◌==◌, ℕ, List, Bool, true, Option, None, Some, refl, ap, sym, subst, arith, get_or, slice_get, slice_set, position, eqb-true, slice_get_within, Spot, after, number, Shape, RingView, Holds, Reaches, changed, declared, floor_number, ceiling, given_count, target, Ring, Header, IsHeader, command_id, command_ring, is_driver_kind, shape_of, RingRecord, FollowsRing, Known, next_command, on_ring, moved, held_at_ceiling, ring_here, ring_elsewhere, FollowsRings, MayMoveTo, ReachesTarget, number_in, set_on, IsNextGiven}
 use Rattle.command_ends.proofs.CommandRings.{command_id_is, found_at, read_at}
-use Rattle.command_ends.proofs.OneRing.{IsOnRing, on_bound, on_moved, on_held, one_at, ring_shape, rings_elsewhere, rings_with, start_is_reached}
+use Rattle.command_ends.proofs.OneRing.{IsOnRing, on_moved, on_held, one_at, ring_shape, rings_elsewhere, rings_with}
 
 module _ (h : Header) (headed : IsHeader h) (k : Known) (rs : List RingRecord) (f : FollowsRings h k rs) where
   -- the ring with ID r stands at this number, and its record is a new one
@@ -18,13 +18,6 @@ module _ (h : Header) (headed : IsHeader h) (k : Known) (rs : List RingRecord) (
         subst (λ shape. FollowsRing ring.shape (view shape) new) (sym (ring_shape h headed k l r (view (shape_of h r)) on rs f n ring at named))
         (step (subst (λ i. FollowsRing ring.shape (k.ring i) old) named (f.each n ring old at there driver))))
 
-    at_start : (s i : ℕ) → floor_number (k.ring r) ≡ 0 →
-        ((v : RingView) → FollowsRing ring.shape v old → floor_number v ≤ 0 → is_reached ring.shape v (Data 0) ≡ true → FollowsRing ring.shape (set_on ring.shape v (Some (Data 0))) new) →
-        FollowsRings h (bound_to h k s i (Some r)) (slice_set rs n new)
-    at_start s i start step =
-        with_number (bound_to h k s i (Some r)) (λ shape. set_on shape (k.ring r) (Some (Data 0))) (on_bound h k s i r)
-        (λ follows. step (k.ring r) follows (omega (arith, start)) (start_is_reached ring.shape (k.ring r)))
-
     at_target : (p : ℕ) (cycle : Bool) → ReachesTarget (shape_of h r) (k.ring r) p cycle →
         ((v : RingView) → FollowsRing ring.shape v old → ReachesTarget ring.shape v p cycle → FollowsRing ring.shape (set_on ring.shape v (target ring.shape v p cycle)) new) →
         FollowsRings h (moved h k (Some r) p cycle) (slice_set rs n new)
@@ -40,11 +33,6 @@ module _ (h : Header) (headed : IsHeader h) (k : Known) (rs : List RingRecord) (
 
   -- ---- by the number that is found, if one is
 
-  pub bound_without : (s i : ℕ) (o : Option ℕ) → number_in h.rings o ≡ None → FollowsRings h (bound_to h k s i o) rs
-  unfolding bound_to
-  bound_without s i None none = f
-  bound_without s i (Some r) none = rings_elsewhere h headed k (bound_to h k s i (Some r)) r _ (on_bound h k s i r) rs f none
-
   pub moved_without : (o : Option ℕ) (p : ℕ) (cycle : Bool) → number_in h.rings o ≡ None → FollowsRings h (moved h k o p cycle) rs
   unfolding moved
   moved_without None p cycle none = f
@@ -56,12 +44,6 @@ module _ (h : Header) (headed : IsHeader h) (k : Known) (rs : List RingRecord) (
   held_without (Some r) none = rings_elsewhere h headed k (held_at_ceiling h k (Some r)) r _ (on_held h k r) rs f none
 
   module _ (n : ℕ) (old : RingRecord) (there : slice_get rs n ≡ Some old) (new : RingRecord) where
-    pub bound_with : (s i : ℕ) (o : Option ℕ) → number_in h.rings o ≡ Some n → (ring : Ring) → slice_get h.rings n ≡ Some ring → IsAtStart k o →
-        ((v : RingView) → FollowsRing ring.shape v old → floor_number v ≤ 0 → is_reached ring.shape v (Data 0) ≡ true → FollowsRing ring.shape (set_on ring.shape v (Some (Data 0))) new) →
-        FollowsRings h (bound_to h k s i o) (slice_set rs n new)
-    bound_with s i None e ring at start step = absurd (cc)
-    bound_with s i (Some r) e ring at start step = at_start n r e ring at old there new s i (start r refl) step
-
     pub moved_with : (o : Option ℕ) (p : ℕ) (cycle : Bool) → number_in h.rings o ≡ Some n → (ring : Ring) → slice_get h.rings n ≡ Some ring → MayMoveTo h k o p cycle →
         ((v : RingView) → FollowsRing ring.shape v old → ReachesTarget ring.shape v p cycle → FollowsRing ring.shape (set_on ring.shape v (target ring.shape v p cycle)) new) →
         FollowsRings h (moved h k o p cycle) (slice_set rs n new)

@@ -1,5 +1,5 @@
 -- The records of rings where one ring has changed
-use Rattle.command_ends.proofs.Words.{◌≡◌, ◌≢◌, ◌∙◌, ◌∷◌, ◌==◌, ◌⊎◌, ℕ, zero, suc, List, [], Bool, true, Option, None, Some, refl, ap, sym, subst, inl, inr, arith, slice_get, slice_set, position, eq-eqb, false≢true, length-set, Shape, Spot, Data, number, RingView, Reaches, Holds, changed, ceiling, are_given, are_ways_given, is_reached, target, Ring, Header, IsHeader, is_driver_kind, shape_of, RingRecord, FollowsRing, Known, on_ring, set_to, bound_to, moved, moved_to, held_at_ceiling, FollowsRings, Apart, among_at, numbers_apart, none_here, shape_there, together, ring_here, ring_elsewhere, set_on}
+use Rattle.command_ends.proofs.Words.{◌≡◌, ◌≢◌, ◌∙◌, ◌∷◌, ◌==◌, ◌⊎◌, ℕ, zero, suc, List, [], Bool, true, Option, None, Some, refl, ap, sym, subst, inl, inr, arith, slice_get, slice_set, position, eq-eqb, false≢true, length-set, Shape, Spot, number, RingView, Reaches, Holds, changed, ceiling, target, Ring, Header, IsHeader, is_driver_kind, shape_of, RingRecord, FollowsRing, Known, on_ring, set_to, bound_to, moved, moved_to, held_at_ceiling, FollowsRings, Apart, among_at, numbers_apart, none_here, shape_there, together, ring_here, ring_elsewhere, set_on}
 
 -- ---- what is known of rings
 
@@ -24,10 +24,6 @@ pub record IsOnRing (k l : Known) (r : ℕ) (v : RingView) : Type 0 where
   pub here : l.ring r ≡ v
   pub apart : (q : ℕ) → q ≢ r → l.ring q ≡ k.ring q
 
-pub on_bound : (h : Header) (k : Known) (s i r : ℕ) → IsOnRing k (bound_to h k s i (Some r)) r (set_on (shape_of h r) (k.ring r) (Some (Data 0)))
-unfolding bound_to
-on_bound h k s i r = record { here = set_here h k r (Data 0); apart = λ q other. set_apart h k r q (Data 0) other }
-
 to_target : (h : Header) (k : Known) (r : ℕ) (o : Option Spot) → IsOnRing k (moved_to h k r o) r (set_on (shape_of h r) (k.ring r) o)
 unfolding moved_to
 to_target h k r None = record { here = refl; apart = λ q other. refl }
@@ -45,9 +41,11 @@ on_held h k r = record {
   apart = λ q other. ring_elsewhere h k r q (Holds (ceiling (shape_of h r) (k.ring r))) other;
 }
 
-pub start_is_reached : (shape : Shape) (v : RingView) → is_reached shape v (Data 0) ≡ true
-unfolding is_reached are_given are_ways_given
-start_is_reached shape v = refl
+-- the ring that an endpoint gets is moved as any other
+pub bound_moves : (h : Header) (k : Known) (s i : ℕ) (o : Option ℕ) (p : ℕ) (cycle : Bool) → (bound_to h k s i o p cycle).ring ≡ (moved h k o p cycle).ring
+unfolding bound_to moved
+bound_moves h k s i None p cycle = refl
+bound_moves h k s i (Some r) p cycle = refl
 
 -- ---- the records
 

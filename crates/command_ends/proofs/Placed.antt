@@ -1,22 +1,24 @@
 -- An endpoint that is placed, and those that an input context adds
-use Rattle.command_ends.proofs.Words.{◌≡◌, ◌∷◌, ℕ, List, [], Bool, true, false, refl, ap, sym, subst, cond-true, cond-false, Command, EndpointState, is_off, Change, Places, Header, ring_beginning_at, RingRecord, Known, bound_to, changed_by, changed_by_all, in_state, moved, pointed, FollowsRings, DeviceRecord, MayChangeAll, MayPoint, IsAtStart, MayMoveTo, FollowsPlaces, HasDone}
-use Rattle.command_ends.proofs.OneRing.{rings_same}
+use Rattle.command_ends.proofs.Words.{◌≡◌, ◌∷◌, ℕ, List, [], Bool, true, false, refl, ap, sym, subst, if◌then◌else◌, Option, Command, EndpointState, is_off, Change, Places, Header, ring_having, RingRecord, Known, bound_to, changed_by, changed_by_all, in_state, moved, pointed, FollowsRings, DeviceRecord, MayChangeAll, MayPoint, MayMoveTo, ring_placed, FollowsPlaces, HasDone}
+use Rattle.command_ends.proofs.OneRing.{bound_moves, rings_same}
 
 module _ (h : Header) (k : Known) (s i p : ℕ) (cycle : Bool) where
-  pub pointed_off : is_off (k.endpoint_state s i) ≡ true → bound_to h k s i (ring_beginning_at h p) ≡ pointed h k s i p cycle
+  -- by whether the endpoint is off
+  pointed_by : (b : Bool) → (if b then bound_to h k s i (ring_having h p) p cycle else moved h k (k.ring_of s i) p cycle).ring
+      ≡ (moved h k (if b then ring_having h p else k.ring_of s i) p cycle).ring
+  pointed_by true = bound_moves h k s i (ring_having h p) p cycle
+  pointed_by false = refl
+
+  pub pointed_ring : (pointed h k s i p cycle).ring ≡ (moved h k (ring_placed k s i (ring_having h p)) p cycle).ring
   unfolding pointed
-  pointed_off off = sym (cond-true (is_off (k.endpoint_state s i)) (bound_to h k s i (ring_beginning_at h p)) (moved h k (k.ring_of s i) p cycle) off)
+  pointed_ring = pointed_by (is_off (k.endpoint_state s i))
 
-  pub pointed_on : is_off (k.endpoint_state s i) ≡ false → moved h k (k.ring_of s i) p cycle ≡ pointed h k s i p cycle
-  unfolding pointed
-  pointed_on on = sym (cond-false (is_off (k.endpoint_state s i)) (bound_to h k s i (ring_beginning_at h p)) (moved h k (k.ring_of s i) p cycle) on)
-
-  module _ (may : MayPoint h k s i p cycle) where
-    pub starts : is_off (k.endpoint_state s i) ≡ true → IsAtStart k (ring_beginning_at h p)
-    starts off = λ r at. may.binds off r at
-
-    pub may_move : is_off (k.endpoint_state s i) ≡ false → MayMoveTo h k (k.ring_of s i) p cycle
-    may_move on = λ r at t named. may.moves on r t at named
+  pub may_move : MayPoint h k s i p cycle → MayMoveTo h k (ring_placed k s i (ring_having h p)) p cycle
+  may_move may = by (is_off (k.endpoint_state s i)) refl
+    where
+      by : (b : Bool) → is_off (k.endpoint_state s i) ≡ b → MayMoveTo h k (if b then ring_having h p else k.ring_of s i) p cycle
+      by true off = λ r at t named. may.binds off r t at named
+      by false on = λ r at t named. may.moves on r t at named
 
   pub placed_rings : (c : Command) (state : EndpointState) (rs : List RingRecord) → FollowsRings h (pointed h k s i p cycle) rs → FollowsRings h (changed_by h c k (Places s i p cycle state)) rs
   unfolding changed_by in_state

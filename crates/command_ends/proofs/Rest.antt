@@ -1,5 +1,5 @@
 -- What the end of a command leaves as it is, and which device contexts are let go
-use Rattle.command_ends.proofs.Words.{◌≡◌, ◌==◌, ◌∙◌, if◌then◌else◌, ◌∷◌, ℕ, Bool, true, false, List, [], Option, Some, None, ap, refl, map, cond_both, put, Block, code, slot, Spot, target, ContextSize, added_endpoints, Command, NoOp, EnableSlot, DisableSlot, AddressDevice, ConfigureEndpoint, EvaluateContext, ResetEndpoint, StopEndpoint, SetTrDequeue, ResetDevice, Stopped, is_off, Change, SlotGoesOn, DeviceLeft, Disables, Places, Stops, Resets, changes, placed_by_context, Header, shape_of, ring_beginning_at, Known, on_ring, set_to, bound_to, moved_to, moved, pointed, disabled, in_state, held_at_ceiling, changed_by, changed_by_all, succeeded, stop_ended, finished}
+use Rattle.command_ends.proofs.Words.{◌≡◌, ◌==◌, ◌∙◌, if◌then◌else◌, ◌∷◌, ℕ, Bool, true, false, List, [], Option, Some, None, ap, refl, map, cond_both, put, Block, code, slot, Spot, target, ContextSize, added_endpoints, Command, NoOp, EnableSlot, DisableSlot, AddressDevice, ConfigureEndpoint, EvaluateContext, ResetEndpoint, StopEndpoint, SetTrDequeue, ResetDevice, Stopped, is_off, Change, SlotGoesOn, DeviceLeft, Disables, Places, Stops, Resets, changes, placed_by_context, Header, shape_of, ring_having, Known, on_ring, set_to, bound_to, moved_to, moved, pointed, disabled, in_state, held_at_ceiling, changed_by, changed_by_all, succeeded, stop_ended, finished}
 
 -- the device contexts behind a change, and behind a list of changes
 abbrev pub device_by : Change → (ℕ → Option ℕ) → ℕ → Option ℕ
@@ -41,11 +41,6 @@ module _ (h : Header) where
   unfolding set_to on_ring
   set_rest k r t = record { started = refl; stopped = refl; register = refl; memory = refl; soiled = refl; reads = refl; dequeue = refl; device = refl }
 
-  bound_rest : (k : Known) (s i : ℕ) (o : Option ℕ) → IsRest k (bound_to h k s i o) k.device
-  unfolding bound_to set_to on_ring
-  bound_rest k s i None = rest_same k
-  bound_rest k s i (Some r) = record { started = refl; stopped = refl; register = refl; memory = refl; soiled = refl; reads = refl; dequeue = refl; device = refl }
-
   target_rest : (k : Known) (r : ℕ) (o : Option Spot) → IsRest k (moved_to h k r o) k.device
   unfolding moved_to
   target_rest k r None = rest_same k
@@ -56,11 +51,18 @@ module _ (h : Header) where
   moved_rest k None p cycle = rest_same k
   moved_rest k (Some r) p cycle = target_rest k r (target (shape_of h r) (k.ring r) p cycle)
 
+  bound_rest : (k : Known) (s i : ℕ) (o : Option ℕ) (p : ℕ) (cycle : Bool) → IsRest k (bound_to h k s i o p cycle) k.device
+  unfolding bound_to
+  bound_rest k s i None p cycle = rest_same k
+  bound_rest k s i (Some r) p cycle =
+      let at : IsRest k (moved h k (Some r) p cycle) k.device = moved_rest k (Some r) p cycle in
+      record { started = at.started; stopped = at.stopped; register = at.register; memory = at.memory; soiled = at.soiled; reads = at.reads; dequeue = at.dequeue; device = at.device }
+
   pointed_rest : (k : Known) (s i p : ℕ) (cycle : Bool) → IsRest k (pointed h k s i p cycle) k.device
   unfolding pointed
   pointed_rest k s i p cycle =
-      cond_both (is_off (k.endpoint_state s i)) (bound_to h k s i (ring_beginning_at h p)) (moved h k (k.ring_of s i) p cycle) (λ l. IsRest k l k.device)
-      (λ _. bound_rest k s i (ring_beginning_at h p)) (λ _. moved_rest k (k.ring_of s i) p cycle)
+      cond_both (is_off (k.endpoint_state s i)) (bound_to h k s i (ring_having h p) p cycle) (moved h k (k.ring_of s i) p cycle) (λ l. IsRest k l k.device)
+      (λ _. bound_rest k s i (ring_having h p) p cycle) (λ _. moved_rest k (k.ring_of s i) p cycle)
 
   held_rest : (k : Known) (o : Option ℕ) → IsRest k (held_at_ceiling h k o) k.device
   unfolding held_at_ceiling on_ring

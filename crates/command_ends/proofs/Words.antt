@@ -1,6 +1,6 @@
 -- The words of std, of the crates below and of this crate's own definitions that its proofs cite, passed on by one file
 pub use Rattle.command_ends.specs.Commands.{command_in, is_no_completion}
-pub use Rattle.command_ends.specs.OneRing.{IsAtStart, MayMoveTo, ReachesTarget, number_in, set_on}
+pub use Rattle.command_ends.specs.OneRing.{MayMoveTo, ReachesTarget, number_in, ring_placed, set_on}
 pub use Rattle.command_ends.specs.Places.{AreSlots, FollowsPlaces, HasDone, HasWords, IsNextGiven, succeeded_if}
 unfoldable pub use Rattle.command_ends.specs.Places.{addressed, configured}
 pub use Rattle.command_ends.specs.declared.placing.Placing.{Placing}
@@ -29,7 +29,7 @@ pub use Rattle.safety.proofs.Placings.{still_places}
 pub use Rattle.safety.proofs.SafeContext.{AtFloor, command_is_ring}
 pub use Rattle.safety.proofs.StatesPlaced.{is_off_of, on_is}
 pub use Rattle.safety.proofs.Words.{AddressDevice, Block, Change, Cmd, Command, CommandKeeps, Config, ConfigureEndpoint, ContextSize, Data, DeviceLeft, DisableSlot, Disables, DriverKeeps, EnableSlot, EndpointState, EvaluateContext, Evt, Header, Holds, IsAhead, IsDriverRing, IsHeader, Known, MayChange, MayChangeAll, MayPoint, NoOp, Places, Reaches, ResetDevice, ResetEndpoint, Resets, Ring, RingChange, RingKind, RingView, SetTrDequeue, Shape, SlotGoesOn, SlotState, Spot, StopEndpoint, Stopped, Stops, Unstarted, Xfer, after, cases_Bool, cases_eq, changed, code, command_of, cond-false, cond-true, cond_both, cons_option, declared, device_context_bytes, endpoint_meant, endpoint_success, false≢true, filter_map, floor_number, fun_ext, id_or_none, input_context_bytes, is_above_control, is_command_kind, is_driver_kind, is_dropped, is_off, is_slot_enabled, may_answer_slot, named_context, named_endpoint, named_slot, number, or_parts, placed_by_context, position-Some, put, range_with_len, register_or_zero, slice_get-get_or, slice_get_within, slot, slot_meant, slot_success, target_ahead}
-unfoldable pub use Rattle.safety.proofs.Words.{added_endpoints, bound_to, can_finish, can_succeed, ceiling, changed_by, changed_by_all, changes, command_at, command_id, command_ring, completed, disabled, finished, given_count, has_bad_context, held_at_ceiling, in_state, is_bad_area, is_impossible_completion, is_reached, is_soiled, moved, moved_to, next_command, on_ring, pointed, ring_beginning_at, set_to, shape_of, slots, stop_ended, succeeded, target, unfinished, was_stop_seen}
+unfoldable pub use Rattle.safety.proofs.Words.{added_endpoints, bound_to, can_finish, can_succeed, ceiling, changed_by, changed_by_all, changes, command_at, command_id, command_ring, completed, disabled, finished, given_count, has_bad_context, held_at_ceiling, in_state, is_bad_area, is_impossible_completion, is_reached, is_soiled, moved, moved_to, next_command, on_ring, pointed, ring_having, set_to, shape_of, slots, stop_ended, succeeded, target, unfinished, was_stop_seen}
 unfoldable pub use Rattle.segments.specs.Moves.{are_given, are_ways_given}
 pub use Rattle.std.proofs.Common.{Bool, Err, IfSome, List, None, Ok, Option, Result, Some, [], ap, arith, eq-eqb, eqb-true, false, get_or, if◌then◌else◌, inl, inr, is_some, length, map, nat_lt, ne_eqb, not, position, refl, slice_get, slice_set, subst, suc, sym, true, unwrap_or, zero, ℕ, ◌&&◌, ◌++◌, ◌+◌, ◌<◌, ◌==◌, ◌^◌, ◌↔◌, ◌∙◌, ◌∷◌, ◌≡◌, ◌≢◌, ◌≤◌, ◌⊎◌}
 pub use Rattle.trace_record.proofs.Words.{Apart, EventState, FollowsDevices, FollowsEvents, FollowsRegisters, FollowsRing, FollowsTrace, FollowsUnfinished, HoldsAreas, HoldsSoiled, IsAmong, RingRecord, among_at, device_contexts, find_some, inputs_of, nat_tests, none_here, shape_there, slice_get_read, together}

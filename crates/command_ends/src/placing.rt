@@ -3,17 +3,17 @@ ghost use Rattle.std.specs.Prelude.{◌≡◌, ◌+◌, ◌<◌, ◌≤◌};
 ghost use Rattle.commands.specs.declared.command.Command.{Command};
 ghost use Rattle.commands.specs.declared.state.EndpointState.TheVariants.{Stopped};
 ghost use Rattle.commands.specs.Changes.{Places, placed_by_context};
-ghost use Rattle.traces.specs.Header.{IsHeader, ring_beginning_at};
+ghost use Rattle.traces.specs.Header.{IsHeader};
 ghost use Rattle.controller_model.specs.Following.{places_from};
-ghost use Rattle.ring_knowledge.specs.Completions.{changed_by, changed_by_all, pointed};
+ghost use Rattle.ring_knowledge.specs.Completions.{changed_by, changed_by_all};
 ghost use Rattle.ring_knowledge.specs.Known.{Known};
 ghost use Rattle.ring_finder.specs.Finding.{IsFinder};
-ghost use Rattle.ring_finder.specs.RecordsOfRings.{FollowsRings};
 ghost use Rattle.device_record.specs.Devices.{FollowsDevices};
 ghost use Rattle.safety.specs.Placings.{MayChange, MayChangeAll, MayPoint};
+ghost use Rattle.command_ends.specs.OneRing.{ring_placed};
 ghost use Rattle.command_ends.specs.Places.{FollowsPlaces, HasDone};
 
-use crate::rings::{begin_ring, move_ring};
+use crate::rings::move_ring;
 use commands::EndpointState;
 use contexts::InputContext;
 use device_record::DeviceRecord;
@@ -47,7 +47,8 @@ impl Placing {
     }
 }
 
-/// An endpoint is placed: a Disabled one gets the ring that begins at the pointer, any other has its own moved there.
+/// An endpoint is placed: a Disabled one gets the ring that has the block at the pointer, any other keeps its own. The ring is
+/// moved to the spot that the pointer and the cycle state name.
 pub(crate) fn place(
     header: &Header,
     finder: &Finder,
@@ -62,33 +63,19 @@ pub(crate) fn place(
         MayPoint header.now k placing.slot placing.index placing.pointer placing.cycle →
         FollowsPlaces header.now (changed_by header.now c k (Places placing.slot placing.index placing.pointer placing.cycle placing.state)) rings.new.items devices.new }
 {
-    let beginning = finder.ring_beginning_at(header, placing.pointer);
-    point_ring(header, finder, rings, devices, placing, beginning);
-    devices.place(placing.slot, placing.index, beginning, placing.state);
+    let having = finder.ring_having(header, placing.pointer);
+    let ring = ring_placed(devices, placing, having);
+    move_ring(header, finder, rings, ring, placing.pointer, placing.cycle);
+    devices.place(placing.slot, placing.index, having, placing.state);
 }
 
-/// The part of the rings.
-fn point_ring(
-    header: &Header,
-    finder: &Finder,
-    rings: &mut Vec<RingRecord>,
-    devices: &DeviceRecord,
-    placing: Placing,
-    beginning: Option<u8>,
-)
-    requires headed { IsHeader header.now }
-    requires found { IsFinder header.now.rings finder.now }
-    requires begins { beginning ≡ ring_beginning_at header.now placing.pointer }
-    ensures { (k : Known) → FollowsRings header.now k rings.old.items → FollowsDevices k devices.now →
-        MayPoint header.now k placing.slot placing.index placing.pointer placing.cycle →
-        FollowsRings header.now (pointed header.now k placing.slot placing.index placing.pointer placing.cycle) rings.new.items }
+/// The ring that is moved: of a Disabled endpoint the one that has the block at the pointer, of any other its own.
+fn ring_placed(devices: &DeviceRecord, placing: Placing, having: Option<u8>) -> Option<u8>
+    ensures { (k : Known) → FollowsDevices k devices.now → result ≡ ring_placed k placing.slot placing.index having }
 {
     match devices.endpoint_state(placing.slot, placing.index) {
-        EndpointState::Disabled => begin_ring(header, finder, rings, beginning),
-        _ => {
-            let own = devices.ring_of(placing.slot, placing.index);
-            move_ring(header, finder, rings, own, placing.pointer, placing.cycle);
-        }
+        EndpointState::Disabled => having,
+        _ => devices.ring_of(placing.slot, placing.index),
     }
 }
 

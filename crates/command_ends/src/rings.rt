@@ -3,16 +3,16 @@ ghost use Rattle.std.specs.Prelude.{◌≡◌, ◌<◌, ℕ, Bool, Option, IfSom
 ghost use Rattle.segments.specs.RingView.{RingView};
 ghost use Rattle.segments.specs.Moves.{target};
 ghost use Rattle.traces.specs.Header.{IsHeader};
-ghost use Rattle.ring_knowledge.specs.Completions.{bound_to, held_at_ceiling, moved};
+ghost use Rattle.ring_knowledge.specs.Completions.{held_at_ceiling, moved};
 ghost use Rattle.ring_knowledge.specs.Known.{Known};
 ghost use Rattle.ring_knowledge.specs.RingRecords.{FollowsRing};
 ghost use Rattle.ring_finder.specs.Finding.{IsFinder};
 ghost use Rattle.ring_finder.specs.RecordsOfRings.{FollowsRings};
-ghost use Rattle.command_ends.specs.OneRing.{IsAtStart, MayMoveTo, ReachesTarget, number_in, set_on};
+ghost use Rattle.command_ends.specs.OneRing.{MayMoveTo, ReachesTarget, number_in, set_on};
 
 use ring_finder::Finder;
 use ring_knowledge::RingRecord;
-use segments::{RingShape, Spot};
+use segments::RingShape;
 use traces::Header;
 
 /// The number of the ring with this ID.
@@ -24,27 +24,6 @@ fn number_of(header: &Header, finder: &Finder, id: Option<u8>) -> Option<usize>
     match id {
         None => None,
         Some(id) => finder.ring_named(id),
-    }
-}
-
-/// A ring begins anew for an endpoint: its pointer is at its first block, and it is held there.
-pub(crate) fn begin_ring(
-    header: &Header,
-    finder: &Finder,
-    rings: &mut Vec<RingRecord>,
-    id: Option<u8>,
-)
-    requires headed { IsHeader header.now }
-    requires found { IsFinder header.now.rings finder.now }
-    ensures { (k : Known) (s i : ℕ) → FollowsRings header.now k rings.old.items → IsAtStart k id → FollowsRings header.now (bound_to header.now k s i id) rings.new.items }
-{
-    let Some(number) = number_of(header, finder, id) else {
-        return;
-    };
-    let all = header.rings.as_slice();
-    let ring = &all[number];
-    if let Some(known) = rings.get_mut(number) {
-        known.set_to(&ring.shape, Spot::Data(0));
     }
 }
 

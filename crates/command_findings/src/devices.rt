@@ -1,12 +1,14 @@
 //! Doorbells and commands that the states of slots and endpoints don't allow.
 use commands::{Command, EndpointState};
 use guest_memory::Addr;
+use ring_knowledge::RingGiving;
 use row_history::{
-    Case, Finding, NOT_JUDGED, Unfinished, all_unfinished, command_at, command_name,
+    Case, Finding, NOT_JUDGED, Unfinished, all_unfinished, binds_ring, command_at, command_name,
     endpoint_state_name, last_halt, name_two_endpoints, note_dropped, position_given, ring_at,
     start, unfinished_beside, unfinished_on,
 };
 use std::alloc::AllocError;
+use traces::Ring;
 
 /// Why a doorbell may not ring.
 #[derive(Clone, Copy)]
@@ -134,7 +136,7 @@ fn bell_help(cause: NoBell) -> &'static str {
     }
 }
 
-/// A second command for a slot, or a TRB on a ring that an unfinished Address Device moves.
+/// A second command for a slot, or a TRB on a ring that an unfinished command moves or binds.
 pub fn busy(case: &Case, at: Addr, word: u32) -> Result<Option<Finding>, AllocError> {
     match command_at(case, at.get(), word) {
         Some(command) => match command.slot() {
@@ -173,30 +175,56 @@ fn busy_slot(case: &Case, command: Command, slot: u8) -> Result<Option<Finding>,
     Ok(Some(finding))
 }
 
-/// A TRB on a ring that an unfinished Address Device moves.
+/// A TRB on a ring that an unfinished command moves or binds.
 fn busy_ring(case: &Case, at: Addr, word: u32) -> Result<Option<Finding>, AllocError> {
     let Some((ring, known)) = ring_at(case, at.get()) else {
         return Ok(None);
     };
-    let Some(position) = position_given(ring, known, at, word) else {
+    let id = ring.id;
+    let Some(giving) = known.look(&ring.shape, at, word).giving else {
         return Ok(None);
     };
-    let (id, place) = (ring.id, position % u64::from(ring.shape.places()));
-    let here = format!(in case.alloc; "TRB {place} of ring {id:02x}")?;
-    let mut finding = Finding::new(
-        case.alloc,
-        "a TRB is handed over on a ring that an unfinished Address Device moves",
-        here.as_str(),
-    )?;
-    for given in &all_unfinished(case)? {
-        if moves_ring(case, given.command, id) {
-            finding.earlier = given.mark(case)?;
+    let here = match giving {
+        RingGiving::Position(position) => {
+            let place = position % u64::from(ring.shape.places());
+            format!(in case.alloc; "TRB {place} of ring {id:02x}")?
         }
+        RingGiving::Crossing(_) => format!(in case.alloc; "a Link TRB of ring {id:02x}")?,
+    };
+    let given = busy_with(case, ring)?;
+    let is_moved = given.is_some_and(|given| moves_ring(case, given.command, id));
+    let head = if is_moved {
+        "a TRB is handed over on a ring that an unfinished Address Device moves"
+    } else {
+        "a TRB is handed over on a ring that an unfinished command gives to an endpoint"
+    };
+    let mut finding = Finding::new(case.alloc, head, here.as_str())?;
+    if let Some(given) = given {
+        finding.earlier = given.mark(case)?;
     }
     finding.say(case.alloc, "its Command Completion Event wasn't read yet")?;
-    finding.say(case.alloc, NOT_JUDGED)?;
+    if is_moved {
+        finding.say(case.alloc, NOT_JUDGED)?;
+    } else {
+        finding.say(
+            case.alloc,
+            "the ring runs still, for the endpoint that had it: the controller may take the TRB for that endpoint, and again for the other",
+        )?;
+    }
     finding.help(case.alloc, "wait for it, and hand the TRB over then")?;
     Ok(Some(finding))
+}
+
+/// The unfinished command that moves or binds a ring.
+fn busy_with(case: &Case, ring: &Ring) -> Result<Option<Unfinished>, AllocError> {
+    let all = all_unfinished(case)?;
+    Ok(
+        all.iter()
+            .find(|given| {
+                moves_ring(case, given.command, ring.id) || binds_ring(case, given.command, ring)
+            })
+            .copied(),
+    )
 }
 
 /// Whether a command is an Address Device for a slot whose default control endpoint has this ring.

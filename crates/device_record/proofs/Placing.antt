@@ -1,5 +1,5 @@
 -- An endpoint gets a ring, or keeps its own
-use Rattle.device_record.proofs.Words.{◌≡◌, ◌<◌, ◌==◌, if◌then◌else◌, ◌∙◌, ℕ, Bool, true, false, List, Option, Some, None, ap, sym, subst, refl, length, inl, inr, get_or-set_same, get_or-set_other, arith, slice_index_or, slice_set, eq-eqb, ne_eqb, cases_eq, cond-true, cond-false, put, put_pair, EndpointState, is_off, Data, Header, ring_beginning_at, Known, on_ring, bound_to, in_state, moved, pointed, set_to, Endpoint, DeviceRecord, placed_endpoint, ring_got, FollowsDevices, IsWithBound, IsWithEndpoint, endpoint_at}
+use Rattle.device_record.proofs.Words.{◌≡◌, ◌<◌, ◌==◌, if◌then◌else◌, ◌∙◌, ℕ, Bool, true, false, List, Option, Some, None, ap, sym, subst, refl, length, inl, inr, get_or-set_same, get_or-set_other, arith, slice_index_or, slice_set, eq-eqb, ne_eqb, cases_eq, cond-true, cond-false, put, put_pair, EndpointState, is_off, Spot, target, Header, ring_having, shape_of, Known, on_ring, bound_to, in_state, moved, moved_to, pointed, set_to, Endpoint, DeviceRecord, placed_endpoint, ring_got, FollowsDevices, IsWithBound, IsWithEndpoint, endpoint_at}
 use Rattle.device_record.proofs.Moves.{follows_moved}
 use Rattle.device_record.proofs.Steps.{endpoints_same, states_same, devices_same, follows_beside, follows_halt, follows_placed}
 
@@ -40,16 +40,39 @@ module _ (h : Header) (k : Known) (s i p : ℕ) (cycle : Bool) (state : Endpoint
       FollowsDevices (record k' { endpoint_state = put_pair k'.endpoint_state s i state; must_move = put_pair k'.must_move s i false }) new
   stays k' f' is = follows_halt k' mid new f' s i x state false w (is ∙ ap (λ (y : Endpoint). placed_endpoint y None state) was)
 
-  gets_ring : (o : Option ℕ) → IsWithBound old mid o → x ≡ placed_endpoint e o state →
-      FollowsDevices (record (in_state h (bound_to h k s i o) s i state) { must_move = put_pair k.must_move s i false }) new
-  unfolding in_state bound_to set_to on_ring
-  gets_ring None b is = stays k (follows_unbound k old mid f b) is
-  gets_ring (Some r) b is =
-      let kb : Known = record k { was_bound = put k.was_bound r true } in
+  gets_still : (r : ℕ) → IsWithBound old mid (Some r) → x ≡ placed_endpoint e (Some r) state →
+      FollowsDevices (record k {
+        was_bound = put k.was_bound r true;
+        endpoint_state = put_pair k.endpoint_state s i state;
+        ring_of = put_pair k.ring_of s i (Some r);
+        must_move = put_pair k.must_move s i false;
+      }) new
+  gets_still r b is =
+      follows_placed (record k { was_bound = put k.was_bound r true }) mid new (follows_bound k old mid f r b) s i x state (Some r) false w
+      (is ∙ ap (λ (y : Endpoint). placed_endpoint y (Some r) state) was)
+
+  -- the ring that it gets is moved to a spot, if one is named
+  gets_at : (r : ℕ) (o : Option Spot) → IsWithBound old mid (Some r) → x ≡ placed_endpoint e (Some r) state →
+      FollowsDevices (record (in_state h (record (moved_to h k r o) { ring_of = put_pair k.ring_of s i (Some r); was_bound = put k.was_bound r true }) s i state) {
+        must_move = put_pair k.must_move s i false;
+      }) new
+  unfolding in_state moved_to set_to on_ring
+  gets_at r None b is = gets_still r b is
+  gets_at r (Some t) b is =
       follows_beside
-      (record kb { endpoint_state = put_pair k.endpoint_state s i state; ring_of = put_pair k.ring_of s i (Some r); must_move = put_pair k.must_move s i false })
-      (set_to h k r (Data 0)) new
-      (follows_placed kb mid new (follows_bound k old mid f r b) s i x state (Some r) false w (is ∙ ap (λ (y : Endpoint). placed_endpoint y (Some r) state) was))
+      (record k {
+        was_bound = put k.was_bound r true;
+        endpoint_state = put_pair k.endpoint_state s i state;
+        ring_of = put_pair k.ring_of s i (Some r);
+        must_move = put_pair k.must_move s i false;
+      })
+      (set_to h k r t) new (gets_still r b is)
+
+  gets_ring : (o : Option ℕ) → IsWithBound old mid o → x ≡ placed_endpoint e o state →
+      FollowsDevices (record (in_state h (bound_to h k s i o p cycle) s i state) { must_move = put_pair k.must_move s i false }) new
+  unfolding in_state bound_to moved
+  gets_ring None b is = stays k (follows_unbound k old mid f b) is
+  gets_ring (Some r) b is = gets_at r (target (shape_of h r) (k.ring r) p cycle) b is
 
   keeps_ring : (o : Option ℕ) → IsWithBound old mid None → x ≡ placed_endpoint e None state →
       FollowsDevices (record (in_state h (moved h k o p cycle) s i state) { must_move = put_pair k.must_move s i false }) new
@@ -63,17 +86,17 @@ module _ (h : Header) (k : Known) (s i p : ℕ) (cycle : Bool) (state : Endpoint
       subst P same now
 
   -- b says whether the endpoint is Disabled
-  by_state : (b : Bool) (ring : Option ℕ) → (b ≡ true → ring_beginning_at h p ≡ ring) →
+  by_state : (b : Bool) (ring : Option ℕ) → (b ≡ true → ring_having h p ≡ ring) →
       IsWithBound old mid (if b then ring else None) → x ≡ placed_endpoint e (if b then ring else None) state →
-      FollowsDevices (record (in_state h (if b then bound_to h k s i (ring_beginning_at h p) else moved h k (k.ring_of s i) p cycle) s i state) {
+      FollowsDevices (record (in_state h (if b then bound_to h k s i (ring_having h p) p cycle else moved h k (k.ring_of s i) p cycle) s i state) {
         must_move = put_pair k.must_move s i false;
       }) new
   by_state true ring named b is =
-      subst (λ o. FollowsDevices (record (in_state h (bound_to h k s i o) s i state) { must_move = put_pair k.must_move s i false }) new) (sym (named refl))
+      subst (λ o. FollowsDevices (record (in_state h (bound_to h k s i o p cycle) s i state) { must_move = put_pair k.must_move s i false }) new) (sym (named refl))
       (gets_ring ring b is)
   by_state false ring named b is = keeps_ring (k.ring_of s i) b is
 
-  pub follows_place : (ring : Option ℕ) → (is_off (k.endpoint_state s i) ≡ true → ring_beginning_at h p ≡ ring) →
+  pub follows_place : (ring : Option ℕ) → (is_off (k.endpoint_state s i) ≡ true → ring_having h p ≡ ring) →
       IsWithBound old mid (ring_got (k.endpoint_state s i) ring) → x ≡ placed_endpoint e (ring_got (k.endpoint_state s i) ring) state →
       FollowsDevices (record (in_state h (pointed h k s i p cycle) s i state) { must_move = put_pair k.must_move s i false }) new
   unfolding pointed

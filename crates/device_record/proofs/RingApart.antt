@@ -1,5 +1,5 @@
 -- What an event does to endpoints and their rings leaves a ring as it is that no endpoint has and that none gets
-use Rattle.device_record.proofs.Words.{◌≡◌, ◌∙◌, if◌then◌else◌, ◌≢◌, ℕ, Bool, true, false, [], Option, Some, None, ap, sym, refl, none-some, Spot, number, Reaches, Holds, Header, ring_beginning_at, Known, on_ring, set_to, moved_to}
+use Rattle.device_record.proofs.Words.{◌≡◌, ◌∙◌, if◌then◌else◌, ◌≢◌, ℕ, Bool, true, false, [], Option, Some, None, ap, sym, refl, none-some, Spot, number, Reaches, Holds, Header, ring_having, Known, on_ring, set_to, moved_to}
 use Rattle.device_record.proofs.UnfinishedSame.{ring_elsewhere}
 
 module _ (h : Header) (q : ℕ) where
@@ -8,8 +8,8 @@ module _ (h : Header) (q : ℕ) where
   NoEndpointHas k = (s i : ℕ) → k.ring_of s i ≡ Some q → ⊥
 
   -- it is no ring that an endpoint gets
-  abbrev pub NeverBegins : Type 0
-  NeverBegins = (p : ℕ) → ring_beginning_at h p ≡ Some q → ⊥
+  abbrev pub NeverGot : Type 0
+  NeverGot = (p : ℕ) → ring_having h p ≡ Some q → ⊥
 
   -- the ring is as it was, and still no endpoint has it
   record Apart (k l : Known) : Type 0 where
@@ -32,7 +32,7 @@ module _ (h : Header) (q : ℕ) where
 
   -- ---- the success of a command
 
-  module _ (never : NeverBegins) where
+  module _ (never : NeverGot) where
     fewer : (b : Bool) (o : Option ℕ) → (o ≡ Some q → ⊥) → (if b then None else o) ≡ Some q → ⊥
     fewer true o none at = none-some q at
     fewer false o none at = none at

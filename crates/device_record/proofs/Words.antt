@@ -43,7 +43,7 @@ pub use Rattle.std.proofs.lemmas.Bool.{and_from, and_left, and_right, cond_both,
 pub use Rattle.std.proofs.lemmas.List.Elements.{All-append, All-cons, All-from_recursion, All-head, All-nil, All-tail, filter-append, filter_map-append}
 pub use Rattle.std.proofs.lemmas.List.Sums.{sum_by-le}
 pub use Rattle.traces.specs.Header.{IsHeader, shape_or}
-unfoldable pub use Rattle.traces.specs.Header.{command_id, ring_beginning_at, shape_of}
+unfoldable pub use Rattle.traces.specs.Header.{command_id, ring_having, shape_of}
 pub use Rattle.traces.specs.declared.ring.Ring.{Ring}
 pub use Rattle.traces.specs.declared.row.Row.TheVariants.{Bell, Reg, Sub, Write}
 pub use Rattle.trb.specs.Block.{code, endpoint, slot}

@@ -22,7 +22,7 @@ transferred_endpoint code e =
     if is_trb_error code then record e { state = Error } else
     if is_stopping code then record e { stop_seen = true } else e
 
--- of the ring that begins at a pointer: a Disabled endpoint gets it, and any other keeps its own
+-- of the ring that has the block at a pointer: a Disabled endpoint gets it, and any other keeps its own
 abbrev pub ring_got : EndpointState → Option ℕ → Option ℕ
 ring_got state ring = if is_off state then ring else None
 

@@ -4,3 +4,4 @@ pub mod Counts
 pub mod Indices
 pub mod Unfinished
 pub mod Addressing
+pub mod Holders

@@ -4,7 +4,7 @@ ghost use Rattle.commands.specs.declared.command.Command.TheVariants.{StopEndpoi
 ghost use Rattle.commands.specs.States.{is_off, slot_success};
 ghost use Rattle.commands.specs.Changes.{SlotGoesOn, DeviceLeft, Places, Stops, Resets};
 ghost use Rattle.traces.specs.declared.header.Header.{Header};
-ghost use Rattle.traces.specs.Header.{ring_beginning_at};
+ghost use Rattle.traces.specs.Header.{ring_having};
 ghost use Rattle.ring_knowledge.specs.Known.{Known};
 ghost use Rattle.ring_knowledge.specs.Completions.{changed_by, in_state, stop_ended};
 ghost use Rattle.ring_knowledge.specs.Writes.{with_device};
@@ -59,11 +59,11 @@ impl DeviceRecord {
     }
 
     /// An endpoint is in this state from now on, and its ring is the one at the pointer (xHCI 4.6.5, 4.6.6, 4.6.10): a Disabled
-    /// endpoint gets the transfer ring that begins there, `ring`, and any other one keeps its own, whatever `ring` is.
+    /// endpoint gets the transfer ring that has the block there, `ring`, and any other one keeps its own, whatever `ring` is.
     pub fn place(&mut self, slot: u8, index: u8, ring: Option<u8>, state: EndpointState)
         requires { index < 32 }
         ensures { (h : Header) (c : CommandValue) (k : Known) (p : ℕ) (cycle : Bool) →
-            (is_off (k.endpoint_state slot index) ≡ true → ring_beginning_at h p ≡ ring) →
+            (is_off (k.endpoint_state slot index) ≡ true → ring_having h p ≡ ring) →
             FollowsDevices k self.old → FollowsDevices (changed_by h c k (Places slot index p cycle state)) self.new }
     {
         let kept = self.endpoint(slot, index);
@@ -121,7 +121,7 @@ fn gone_on(command: &Command, state: SlotState) -> SlotState
     state.after(command, 1).unwrap_or(state)
 }
 
-/// The ring that an endpoint in this state gets, of the one that begins at a pointer.
+/// The ring that an endpoint in this state gets, of the one that has the block at a pointer.
 fn ring_got(state: EndpointState, ring: Option<u8>) -> Option<u8>
     ensures { result ≡ ring_got state ring }
 {

@@ -2,7 +2,9 @@ ghost use Rattle.std.specs.Prelude.{◌≡◌, ℕ, ◌*◌, ◌<◌, IfOk, None
 ghost use Rattle.commands.specs.declared.state.SlotState.TheVariants.{Disabled};
 ghost use Rattle.commands.specs.declared.state.EndpointState.TheVariants.{Disabled as Off};
 ghost use Rattle.ring_knowledge.specs.Known.{nothing};
+ghost use Rattle.device_record.specs.Holders.{AreCounted};
 
+use crate::holders::Holders;
 use commands::{EndpointState, SlotState};
 use std::alloc::{AllocError, Global};
 
@@ -25,7 +27,7 @@ pub struct Endpoint {
 }
 
 /// What one pass over a trace keeps of slots and endpoints: their states (xHCI 4.5.3, 4.8.3), the ring of each endpoint, the
-/// device context of each slot, and which rings were bound. Contracts compare it with what is `Known`.
+/// device context of each slot, and which rings were bound and have endpoints. Contracts compare it with what is `Known`.
 #[derive(Drop)]
 pub struct DeviceRecord {
     /// By slot.
@@ -34,9 +36,12 @@ pub struct DeviceRecord {
     pub(crate) endpoints: Vec<Endpoint>,
     /// By ring ID: an endpoint was bound to it.
     pub(crate) bound: Vec<bool>,
+    /// By ring ID: how many endpoints have it.
+    pub(crate) holders: Holders,
     ghost slots_many: { length slots.items ≡ 256 },
     ghost endpoints_many: { length endpoints.items ≡ 256 * 32 },
     ghost bound_many: { length bound.items ≡ 256 },
+    ghost counted: { AreCounted endpoints.items holders },
 }
 
 impl DeviceRecord {
@@ -50,6 +55,7 @@ impl DeviceRecord {
             slots: slots(alloc)?,
             endpoints: endpoints(alloc, untouched())?,
             bound: vec![in alloc; false; 256]?,
+            holders: Holders::new(alloc)?,
         })
     }
 
@@ -82,7 +88,10 @@ impl DeviceRecord {
         requires { index < 32 }
         ensures { IsWithEndpoint self.old self.new slot index kept }
     {
-        self.endpoints[usize::from(slot) * 32 + usize::from(index)] = kept;
+        let number = usize::from(slot) * 32 + usize::from(index);
+        self.holders.leave(self.endpoints[number].ring);
+        self.holders.take(kept.ring);
+        self.endpoints[number] = kept;
     }
 
     /// Notes that an endpoint was bound to a ring, if it was.

@@ -3,6 +3,7 @@
 
 mod changes;
 mod disabling;
+mod holders;
 mod kept;
 mod questions;
 mod transfers;

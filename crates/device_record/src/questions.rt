@@ -1,5 +1,6 @@
-ghost use Rattle.std.specs.Prelude.{◌≡◌};
+ghost use Rattle.std.specs.Prelude.{◌≡◌, ◌≢◌, ℕ, Some, true, false};
 ghost use Rattle.ring_knowledge.specs.Known.{Known};
+ghost use Rattle.device_record.specs.Holders.{HasEndpoint};
 
 use crate::kept::DeviceRecord;
 use commands::{EndpointState, SlotState};
@@ -54,5 +55,13 @@ impl DeviceRecord {
         ensures { (k : Known) → FollowsDevices k self.now → result ≡ k.was_bound ring }
     {
         self.bound[usize::from(ring)]
+    }
+
+    /// Whether an endpoint has the ring.
+    pub fn has_endpoint(&self, ring: u8) -> bool
+        ensures some { result ≡ true → (k : Known) → FollowsDevices k self.now → HasEndpoint k ring }
+        ensures none { result ≡ false → (k : Known) → FollowsDevices k self.now → (s i : ℕ) → k.ring_of s i ≢ Some ring }
+    {
+        self.holders.has(ring)
     }
 }

@@ -1,5 +1,5 @@
 -- The completion of a command leaves the device context of a slot that it disables, and no other
-use Rattle.lease_book.proofs.Words.{◌≡◌, ◌==◌, if◌then◌else◌, ◌∷◌, ◌∙◌, ℕ, Bool, true, false, List, [], map, Option, Some, None, ap, refl, cond_both, added_endpoints, is_dropped, Trb, code, slot, Spot, target, Command, NoOp, EnableSlot, DisableSlot, AddressDevice, ConfigureEndpoint, EvaluateContext, ResetEndpoint, StopEndpoint, SetTrDequeue, ResetDevice, is_off, Change, SlotGoesOn, DeviceLeft, Disables, Places, Stops, Resets, changes, placed_by_context, Header, ring_beginning_at, shape_of, Known, command_at, next_command, on_ring, bound_to, changed_by, changed_by_all, completed, disabled, finished, held_at_ceiling, in_state, moved, moved_to, pointed, set_to, stop_ended, succeeded, devices_without, slot_disabled, slot_left}
+use Rattle.lease_book.proofs.Words.{◌≡◌, ◌==◌, if◌then◌else◌, ◌∷◌, ◌∙◌, ℕ, Bool, true, false, List, [], map, Option, Some, None, ap, refl, cond_both, added_endpoints, is_dropped, Trb, code, slot, Spot, target, Command, NoOp, EnableSlot, DisableSlot, AddressDevice, ConfigureEndpoint, EvaluateContext, ResetEndpoint, StopEndpoint, SetTrDequeue, ResetDevice, is_off, Change, SlotGoesOn, DeviceLeft, Disables, Places, Stops, Resets, changes, placed_by_context, Header, ring_having, shape_of, Known, command_at, next_command, on_ring, bound_to, changed_by, changed_by_all, completed, disabled, finished, held_at_ceiling, in_state, moved, moved_to, pointed, set_to, stop_ended, succeeded, devices_without, slot_disabled, slot_left}
 
 -- the change lets no device context go
 abbrev Holds : Change → Type 0
@@ -11,11 +11,6 @@ AllHold [] = Unit {0}
 AllHold (change ∷ rest) = Holds change × AllHold rest
 
 module _ (h : Header) where
-  bound_device : (k : Known) (s i : ℕ) (o : Option ℕ) → (bound_to h k s i o).device ≡ k.device
-  unfolding bound_to set_to on_ring
-  bound_device k s i None = refl
-  bound_device k s i (Some r) = refl
-
   moved_device : (k : Known) (o : Option ℕ) (p : ℕ) (cycle : Bool) → (moved h k o p cycle).device ≡ k.device
   unfolding moved moved_to set_to on_ring
   moved_device k None p cycle = refl
@@ -25,11 +20,16 @@ module _ (h : Header) where
       to None = refl
       to (Some t) = refl
 
+  bound_device : (k : Known) (s i : ℕ) (o : Option ℕ) (p : ℕ) (cycle : Bool) → (bound_to h k s i o p cycle).device ≡ k.device
+  unfolding bound_to
+  bound_device k s i None p cycle = refl
+  bound_device k s i (Some r) p cycle = moved_device k (Some r) p cycle
+
   pointed_device : (k : Known) (s i p : ℕ) (cycle : Bool) → (pointed h k s i p cycle).device ≡ k.device
   unfolding pointed
   pointed_device k s i p cycle =
-      cond_both (is_off (k.endpoint_state s i)) (bound_to h k s i (ring_beginning_at h p)) (moved h k (k.ring_of s i) p cycle) (λ (l : Known). l.device ≡ k.device)
-      (λ off. bound_device k s i (ring_beginning_at h p)) (λ on. moved_device k (k.ring_of s i) p cycle)
+      cond_both (is_off (k.endpoint_state s i)) (bound_to h k s i (ring_having h p) p cycle) (moved h k (k.ring_of s i) p cycle) (λ (l : Known). l.device ≡ k.device)
+      (λ off. bound_device k s i (ring_having h p) p cycle) (λ on. moved_device k (k.ring_of s i) p cycle)
 
   held_device : (k : Known) (o : Option ℕ) → (held_at_ceiling h k o).device ≡ k.device
   unfolding held_at_ceiling on_ring

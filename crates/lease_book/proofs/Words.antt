@@ -48,7 +48,7 @@ pub use Rattle.std.specs.List.{position_or_len}
 pub use Rattle.std.specs.Option.{option_copied}
 pub use Rattle.std.specs.Result.{IfOk}
 pub use Rattle.traces.specs.Header.{shape_or}
-unfoldable pub use Rattle.traces.specs.Header.{command_id, driver_rings, event_shape, ring_beginning_at, shape_of}
+unfoldable pub use Rattle.traces.specs.Header.{command_id, driver_rings, event_shape, ring_having, shape_of}
 pub use Rattle.traces.specs.Register.{base_address}
 pub use Rattle.traces.specs.declared.register.Register.TheVariants.{Config, Crcr, Dcbaap, Dnctrl, Erdp, Erstba, Erstsz, Iman, Imod, Usbsts}
 pub use Rattle.traces.specs.declared.ring.Ring.{Ring}

@@ -1,9 +1,10 @@
 -- The completion of a command moves the ring of a Set TR Dequeue on, and no other but the command ring
 use Rattle.std.proofs.Common.{◌≡◌, ◌≢◌, ◌≤◌, ◌==◌, if◌then◌else◌, ◌∷◌, ◌∙◌, ℕ, Bool, true, false, List, [], map, Option, None, Some, refl, sym, ap, subst, eqb-true}
-use Rattle.lease_rows.proofs.Words.{cond-false, CommandCompletion, kind, code, slot, is_command_completion, Spot, number, after, RingView, Reaches, Holds, floor_number, target, target_ahead, added_endpoints, is_dropped, context_pointer, context_cycle, Command, NoOp, EnableSlot, DisableSlot, AddressDevice, ConfigureEndpoint, EvaluateContext, ResetEndpoint, StopEndpoint, SetTrDequeue, ResetDevice, Stopped, is_off, Change, SlotGoesOn, DeviceLeft, Disables, Places, Stops, Resets, changes, is_above_control, placed_by_context, Header, Read, IsHeader, shape_of, command_id, ring_beginning_at, Known, on_ring, command_at, next_command, set_to, bound_to, moved_to, moved, pointed, in_state, changed_by, changed_by_all, succeeded, stop_ended, finished, completed, event_read, learned, has_repeats, binds, binding_in, ring_bound, lenient, DriverKeeps, MayChangeAll, StillHolds, transfer_not_command, may_move, ring_elsewhere, may_change, still_of, all_ready, dropped, map_map, view_after, FloorsMove, MovesOn, IsMovedTo, IsOtherRing, moved_on, moved_ring, moved_by, moved_when}
+use Rattle.lease_rows.proofs.Words.{cond-false, CommandCompletion, kind, code, slot, is_command_completion, Spot, number, after, RingView, Reaches, Holds, floor_number, target, target_ahead, added_endpoints, is_dropped, context_pointer, context_cycle, Command, NoOp, EnableSlot, DisableSlot, AddressDevice, ConfigureEndpoint, EvaluateContext, ResetEndpoint, StopEndpoint, SetTrDequeue, ResetDevice, Stopped, is_off, Change, SlotGoesOn, DeviceLeft, Disables, Places, Stops, Resets, changes, is_above_control, placed_by_context, Header, Read, IsHeader, shape_of, command_id, ring_having, Known, on_ring, command_at, next_command, set_to, bound_to, moved_to, moved, pointed, in_state, changed_by, changed_by_all, succeeded, stop_ended, finished, completed, event_read, learned, has_repeats, binds, binding_in, ring_bound, lenient, DriverKeeps, MayChangeAll, StillHolds, transfer_not_command, may_move, ring_elsewhere, may_change, still_of, address_ready, all_ready, dropped, map_map, view_after, FloorsMove, MovesOn, IsMovedTo, IsOtherRing, moved_on, moved_ring, moved_by, moved_when}
 use Rattle.trb.specs.declared.block.Block.{Block}
 use Rattle.safety.proofs.DriverRows.{ring_here}
-use Rattle.lease_rows.proofs.FloorsStay.{ChangesStay, FloorsStay, StaysHere, stay_none, changes_stay, each_stays, address_stays, hold_stays}
+use Rattle.safety.proofs.DriverRings.{rings_of}
+use Rattle.lease_rows.proofs.FloorsStay.{ChangesStay, FloorsStay, StaysHere, stay_none, changes_stay, each_stays, address_stays, hold_stays, ready_stays}
 
 -- the ring is moved to the number
 abbrev Arrives : Known → Option (ℕ × ℕ) → Type 0
@@ -58,7 +59,7 @@ module _ (h : Header) where
 
   pointed_is : (k : Known) (s i p : ℕ) (cycle : Bool) → is_off (k.endpoint_state s i) ≡ false → moved h k (k.ring_of s i) p cycle ≡ pointed h k s i p cycle
   unfolding pointed
-  pointed_is k s i p cycle on = sym (cond-false (is_off (k.endpoint_state s i)) (bound_to h k s i (ring_beginning_at h p)) (moved h k (k.ring_of s i) p cycle) on)
+  pointed_is k s i p cycle on = sym (cond-false (is_off (k.endpoint_state s i)) (bound_to h k s i (ring_having h p) p cycle) (moved h k (k.ring_of s i) p cycle) on)
 
   placed_rings : (c : Command) (k : Known) (s i p : ℕ) (cycle : Bool) → FloorsStay (pointed h k s i p cycle) (changed_by_all h c k (Places s i p cycle Stopped ∷ []))
   unfolding changed_by_all changed_by in_state
@@ -83,15 +84,17 @@ module _ (h : Header) where
 
     stays_behind : (l : Known) (s i p : ℕ) (cycle : Bool) → l.endpoint_state ≡ k.endpoint_state → l.ring_of ≡ k.ring_of → l.ring ≡ k.ring →
         ((r : ℕ) (t : Spot) → is_off (k.endpoint_state s i) ≡ false → k.ring_of s i ≡ Some r → target (shape_of h r) (k.ring r) p cycle ≡ Some t → number t ≡ floor_number (k.ring r)) →
-        (is_off (l.endpoint_state s i) ≡ true → (r : ℕ) → ring_beginning_at h p ≡ Some r → floor_number (l.ring r) ≡ 0) → StaysHere h l s i p cycle
+        ((r : ℕ) (t : Spot) → is_off (k.endpoint_state s i) ≡ true → ring_having h p ≡ Some r → target (shape_of h r) (k.ring r) p cycle ≡ Some t → number t ≡ floor_number (k.ring r)) →
+        StaysHere h l s i p cycle
     stays_behind l s i p cycle states ring_of rings here new = record {
-      binds = new;
+      binds = λ off r t at named.
+          new r t (sym (ap (λ f. is_off (f s i)) states) ∙ off) at (sym (ap (λ f. target (shape_of h r) (f r) p cycle) rings) ∙ named) ∙ sym (ap (λ f. floor_number (f r)) rings);
       moves = λ on r t has named.
           here r t (sym (ap (λ f. is_off (f s i)) states) ∙ on) (sym (ap (λ f. f s i) ring_of) ∙ has) (sym (ap (λ f. target (shape_of h r) (f r) p cycle) rings) ∙ named)
           ∙ sym (ap (λ f. floor_number (f r)) rings);
     }
 
-    no_repeats : (s a : ℕ) → StillHolds h k (ConfigureEndpoint s false a) → has_repeats (map (λ i. ring_beginning_at h (context_pointer h.context_size k.memory a i)) (added_endpoints k.memory a)) ≡ false
+    no_repeats : (s a : ℕ) → StillHolds h k (ConfigureEndpoint s false a) → has_repeats (map (λ i. ring_having h (context_pointer h.context_size k.memory a i)) (added_endpoints k.memory a)) ≡ false
     unfolding binds binding_in ring_bound
     no_repeats s a still = ap has_repeats (sym (map_map h is (ring_bound h) (binding_in h k a) (added_endpoints k.memory a))) ∙ still.repeats
 
@@ -99,15 +102,16 @@ module _ (h : Header) where
     stays c all stay = none_goes k (changed_by_all h c k all) (changes_stay h c k all stay)
 
     address_list : (s a : ℕ) (bsr : Bool) → StillHolds h k (AddressDevice s bsr a) →
-        MayChangeAll h (AddressDevice s bsr a) k (SlotGoesOn s ∷ placed_by_context h.context_size k.memory s a 1 ∷ []) →
         ChangesStay h (AddressDevice s bsr a) k (SlotGoesOn s ∷ placed_by_context h.context_size k.memory s a 1 ∷ [])
-    address_list s a bsr still may =
+    address_list s a bsr still =
         let c : Command = AddressDevice s bsr a in
         let same = slot_same c s in (
           tt,
           (
             stays_behind (changed_by h c k (SlotGoesOn s)) s 1 (context_pointer h.context_size k.memory a 1) (context_cycle h.context_size k.memory a 1) same.0 same.1 same.2
-                (address_stays h is k d s a bsr still) may.1.0.binds,
+                (address_stays h is k d s a bsr still)
+                (λ r t off at named.
+                ready_stays h is k k.memory s 1 (context_pointer h.context_size k.memory a 1) (context_cycle h.context_size k.memory a 1) (address_ready h is k (rings_of h k d) s a bsr still off) r t at named),
             tt,
           ),
         )
@@ -119,12 +123,12 @@ module _ (h : Header) where
     succeeds n EnableSlot still may = stays EnableSlot (SlotGoesOn n ∷ []) (tt, tt)
     succeeds n (DisableSlot s) still may = stays (DisableSlot s) (SlotGoesOn s ∷ DeviceLeft s ∷ Disables s (λ i. true) ∷ []) (tt, (tt, (tt, tt)))
     succeeds n (AddressDevice s bsr a) still may =
-        stays (AddressDevice s bsr a) (SlotGoesOn s ∷ placed_by_context h.context_size k.memory s a 1 ∷ []) (address_list s a bsr still may)
+        stays (AddressDevice s bsr a) (SlotGoesOn s ∷ placed_by_context h.context_size k.memory s a 1 ∷ []) (address_list s a bsr still)
     succeeds n (ConfigureEndpoint s false a) still may =
         let c : Command = ConfigureEndpoint s false a in
         let added : List Change = map (placed_by_context h.context_size k.memory s a) (added_endpoints k.memory a) in
         stays c (SlotGoesOn s ∷ Disables s (is_dropped k.memory a) ∷ added)
-        (tt, (tt, each_stays h is c k.memory s a (added_endpoints k.memory a) (dropped h is c k s a) (all_ready h is k s a still) (no_repeats s a still) may.1.1))
+        (tt, (tt, each_stays h is c k.memory s a (added_endpoints k.memory a) (dropped h is c k s a) (all_ready h is k (rings_of h k d) s a still) (no_repeats s a still)))
     succeeds n (ConfigureEndpoint s true a) still may = stays (ConfigureEndpoint s true a) (SlotGoesOn s ∷ Disables s is_above_control ∷ []) (tt, (tt, tt))
     succeeds n (EvaluateContext s a) still may = stays (EvaluateContext s a) [] tt
     succeeds n (ResetEndpoint s i) still may = stays (ResetEndpoint s i) (Resets s i ∷ []) (tt, tt)

@@ -1,6 +1,11 @@
 -- The changes that leave the number of each ring's floor as it is
 use Rattle.std.proofs.Common.{◌≡◌, ◌+◌, ◌-◌, ◌≤◌, ◌&&◌, ◌||◌, ◌∷◌, ◌∙◌, ℕ, suc, Bool, true, false, List, [], map, find, All, Option, None, Some, arith, refl, sym, ap, subst, get_or, inl, inr}
-use Rattle.lease_rows.proofs.Words.{list_any, range_with_len, flat_map, cases_Bool, cond_both, cond-true, cond-false, or_parts, false≢true, same_Some, All-head, All-tail, Spot, Shape, number, RingView, Reaches, Holds, declared, floor_number, ceiling, is_target, may_move_to, spots_between, target, is_move, floor_given, given_count_declared, context_pointer, context_cycle, Command, AddressDevice, Stopped, is_off, Change, SlotGoesOn, DeviceLeft, Disables, Places, Stops, Resets, placed_by_context, Header, IsHeader, shape_of, is_ring, ring_beginning_at, Known, on_ring, set_to, bound_to, moved_to, moved, pointed, disabled, in_state, held_at_ceiling, changed_by, changed_by_all, has_repeats, DriverKeeps, MayChangeAll, StillHolds, ring_shape, transfer_driver, Ready, ring_at, the_some, ready_next, view_after, each_fails, any_of_map}
+use Rattle.lease_rows.proofs.Words.{list_any, range_with_len, flat_map, cases_Bool, cond_both, cond-true, cond-false, or_parts, false≢true, same_Some, All-head, All-tail, Spot, Shape, number, RingView, Reaches, Holds, declared, floor_number, ceiling, is_target, may_move_to, spots_between, target, is_move, floor_given, given_count_declared, context_pointer, context_cycle, Command, AddressDevice, Stopped, is_off, Change, SlotGoesOn, DeviceLeft, Disables, Places, Stops, Resets, placed_by_context, Header, IsHeader, shape_of, is_ring, ring_having, Known, on_ring, set_to, bound_to, moved_to, moved, pointed, disabled, in_state, held_at_ceiling, changed_by, changed_by_all, has_repeats, DriverKeeps, StillHolds, ring_shape, transfer_driver, Ready, ReadyAt, ring_at, ready_next, view_after, each_fails, any_of_map}
+use Rattle.segments.proofs.MovesStay.{placement_still}
+use Rattle.segments.proofs.Named.{ceiling_within}
+use Rattle.segments.specs.Moves.{is_placement}
+use Rattle.safety.proofs.RingIds.{having_transfer, transfer_driver as transfer_is_driver}
+use Rattle.safety.proofs.RingsOfHeader.{shape_allowed}
 use Rattle.segments.specs.declared.spot.Spot.TheVariants.{Data, Link}
 use Rattle.ownership_rules.specs.Moves.{is_among}
 
@@ -43,6 +48,14 @@ target_here shape v p cycle t low moves named =
     (subst (λ n. list_any (λ u. is_target shape p cycle u && may_move_to shape v u) (flat_map (λ q. Link q ∷ Data q ∷ []) (range_with_len f n)) ≡ true) one moves)
     (subst (λ n. find (is_target shape p cycle) (flat_map (λ q. Link q ∷ Data q ∷ []) (range_with_len f n)) ≡ Some t) many named)
 
+-- and where they stand still
+target_placed : (shape : Shape) (v : RingView) (p : ℕ) (cycle : Bool) (t : Spot) → floor_number v ≤ ceiling shape v → floor_number v ≤ declared v → is_placement shape v p cycle ≡ true →
+    target shape v p cycle ≡ Some t → number t ≡ floor_number v
+unfolding is_placement
+target_placed shape v p cycle t within low placed named =
+    let still : ceiling shape v ≡ floor_number v = omega (arith, placement_still shape v p cycle placed, within) in
+    target_here shape v p cycle t low (subst (λ n. is_move shape v p cycle n (floor_number v) ≡ true) still placed) named
+
 -- ---- what leaves the floors' numbers
 
 abbrev pub FloorsStay : Known → Known → Type 0
@@ -55,9 +68,9 @@ pub stay_twice : (k l m : Known) → FloorsStay k l → FloorsStay l m → Floor
 stay_twice k l m a b r = b r ∙ a r
 
 module _ (h : Header) where
-  -- an endpoint that is off gets a ring whose pointer hasn't moved yet; any other one keeps its ring where it is
+  -- an endpoint that is off gets a ring, any other one has its ring; the ring stays where it is
   pub record StaysHere (k : Known) (s i p : ℕ) (cycle : Bool) : Type 0 where
-    pub binds : is_off (k.endpoint_state s i) ≡ true → (r : ℕ) → ring_beginning_at h p ≡ Some r → floor_number (k.ring r) ≡ 0
+    pub binds : is_off (k.endpoint_state s i) ≡ true → (r : ℕ) (t : Spot) → ring_having h p ≡ Some r → target (shape_of h r) (k.ring r) p cycle ≡ Some t → number t ≡ floor_number (k.ring r)
     pub moves : is_off (k.endpoint_state s i) ≡ false → (r : ℕ) (t : Spot) → k.ring_of s i ≡ Some r → target (shape_of h r) (k.ring r) p cycle ≡ Some t → number t ≡ floor_number (k.ring r)
 
   abbrev pub ChangeStays : Known → Change → Type 0
@@ -84,11 +97,6 @@ module _ (h : Header) where
   set_stays k r t here =
       let l : Known = on_ring h k r (Reaches t) in stay_twice k l (on_ring h l r (Holds (number t))) (reach_stays k r t here) (hold_stays l r (number t))
 
-  bound_stays : (k : Known) (s i : ℕ) (o : Option ℕ) → ((r : ℕ) → o ≡ Some r → floor_number (k.ring r) ≡ 0) → FloorsStay k (bound_to h k s i o)
-  unfolding bound_to
-  bound_stays k s i None new = stay_none k
-  bound_stays k s i (Some r) new = set_stays k r (Data 0) (sym (new r refl))
-
   target_stays : (k : Known) (r : ℕ) (o : Option Spot) → ((t : Spot) → o ≡ Some t → number t ≡ floor_number (k.ring r)) → FloorsStay k (moved_to h k r o)
   unfolding moved_to
   target_stays k r None here = stay_none k
@@ -100,11 +108,17 @@ module _ (h : Header) where
   moved_stays k None p cycle here = stay_none k
   moved_stays k (Some r) p cycle here = target_stays k r (target (shape_of h r) (k.ring r) p cycle) (λ t at. here r t refl at)
 
+  bound_stays : (k : Known) (s i : ℕ) (o : Option ℕ) (p : ℕ) (cycle : Bool) →
+      ((r : ℕ) (t : Spot) → o ≡ Some r → target (shape_of h r) (k.ring r) p cycle ≡ Some t → number t ≡ floor_number (k.ring r)) → FloorsStay k (bound_to h k s i o p cycle)
+  unfolding bound_to
+  bound_stays k s i None p cycle here = stay_none k
+  bound_stays k s i (Some r) p cycle here = moved_stays k (Some r) p cycle here
+
   pointed_stays : (k : Known) (s i p : ℕ) (cycle : Bool) → StaysHere k s i p cycle → FloorsStay k (pointed h k s i p cycle)
   unfolding pointed
   pointed_stays k s i p cycle stays =
-      cond_both (is_off (k.endpoint_state s i)) (bound_to h k s i (ring_beginning_at h p)) (moved h k (k.ring_of s i) p cycle) (FloorsStay k)
-      (λ off. bound_stays k s i (ring_beginning_at h p) (stays.binds off)) (λ on. moved_stays k (k.ring_of s i) p cycle (stays.moves on))
+      cond_both (is_off (k.endpoint_state s i)) (bound_to h k s i (ring_having h p) p cycle) (moved h k (k.ring_of s i) p cycle) (FloorsStay k)
+      (λ off. bound_stays k s i (ring_having h p) p cycle (stays.binds off)) (λ on. moved_stays k (k.ring_of s i) p cycle (stays.moves on))
 
   held_stays : (k : Known) (o : Option ℕ) → FloorsStay k (held_at_ceiling h k o)
   unfolding held_at_ceiling
@@ -126,28 +140,38 @@ module _ (h : Header) where
   changes_stay c k (change ∷ rest) stay =
       let l : Known = changed_by h c k change in stay_twice k l (changed_by_all h c l rest) (change_stays c k change stay.0) (changes_stay c l rest stay.1)
 
+  -- ---- an endpoint that may be added: its ring stands still
+
+  pub ready_stays : (is : IsHeader h) (l : Known) (memory : ℕ → ℕ) (s i p : ℕ) (cycle : Bool) → Ready h l memory s i p cycle → (r : ℕ) (t : Spot) → ring_having h p ≡ Some r →
+      target (shape_of h r) (l.ring r) p cycle ≡ Some t → number t ≡ floor_number (l.ring r)
+  ready_stays is l memory s i p cycle b r t at named =
+      let allowed = shape_allowed h is b.ring (transfer_is_driver h b.ring (having_transfer h is p b.ring b.named)) in
+      let low = floor_given (shape_of h b.ring) allowed memory (l.ring b.ring) b.keeps in
+      let high = given_count_declared (shape_of h b.ring) allowed memory (l.ring b.ring) b.keeps in
+      let within = ceiling_within (shape_of h b.ring) allowed memory (l.ring b.ring) b.keeps in
+      subst (λ n. target (shape_of h n) (l.ring n) p cycle ≡ Some t → number t ≡ floor_number (l.ring n)) (same_Some b.ring r (sym b.named ∙ at))
+      (target_placed (shape_of h b.ring) (l.ring b.ring) p cycle t within.0 (omega (arith, low, high)) b.placed) named
+
   -- ---- Configure Endpoint: each endpoint that is added is off
 
-  pub each_stays : (is : IsHeader h) (c : Command) (memory : ℕ → ℕ) (s a : ℕ) (indices : List ℕ) (l : Known) → All (Ready h is l memory s a) indices →
-      has_repeats (map (ring_at h is memory a) indices) ≡ false → MayChangeAll h c l (map (placed_by_context h.context_size memory s a) indices) →
-      ChangesStay c l (map (placed_by_context h.context_size memory s a) indices)
+  pub each_stays : (is : IsHeader h) (c : Command) (memory : ℕ → ℕ) (s a : ℕ) (indices : List ℕ) (l : Known) → All (ReadyAt h is l memory s a) indices →
+      has_repeats (map (ring_at h is memory a) indices) ≡ false → ChangesStay c l (map (placed_by_context h.context_size memory s a) indices)
   unfolding has_repeats is_among
-  each_stays is c memory s a [] l ready apart may = tt
-  each_stays is c memory s a (i ∷ rest) l ready apart may =
-      let here : Ready h is l memory s a i = All-head (Ready h is l memory s a) i rest ready in
-      let later : All (Ready h is l memory s a) rest = All-tail (Ready h is l memory s a) i rest ready in
-      let some = the_some h is (ring_at h is memory a i) here.named in
-      let r : ℕ = some.0 in
+  each_stays is c memory s a [] l ready apart = tt
+  each_stays is c memory s a (i ∷ rest) l ready apart =
+      let here : ReadyAt h is l memory s a i = All-head (ReadyAt h is l memory s a) i rest ready in
+      let later : All (ReadyAt h is l memory s a) rest = All-tail (ReadyAt h is l memory s a) i rest ready in
+      let r : ℕ = here.ring in
       let parts = or_parts (is_among (map (ring_at h is memory a) rest) (ring_at h is memory a i)) (has_repeats (map (ring_at h is memory a) rest)) apart in
-      let none : list_any (is_ring r) (map (ring_at h is memory a) rest) ≡ false = sym (ap (is_among (map (ring_at h is memory a) rest)) some.1) ∙ parts.0 in
+      let none : list_any (is_ring r) (map (ring_at h is memory a) rest) ≡ false = sym (ap (is_among (map (ring_at h is memory a) rest)) here.named) ∙ parts.0 in
       let others : All (λ j. is_ring r (ring_at h is memory a j) ≡ false) rest =
       each_fails (λ j. is_ring r (ring_at h is memory a j)) rest (sym (any_of_map (is_ring r) (ring_at h is memory a) rest) ∙ none) in
       let change : Change = placed_by_context h.context_size memory s a i in (
         record {
-          binds = may.0.binds;
+          binds = λ off q t at named. ready_stays is l memory s i (context_pointer h.context_size memory a i) (context_cycle h.context_size memory a i) here q t at named;
           moves = λ on q t at named. absurd (false≢true (sym on ∙ here.off));
         },
-        each_stays is c memory s a rest (changed_by h c l change) (λ x d inside. ready_next h is c l memory s a i r (get_or rest x d) here.off some.1 (later x d inside) (others x d inside)) parts.1 may.1,
+        each_stays is c memory s a rest (changed_by h c l change) (λ x d inside. ready_next h is c l memory s a i r (get_or rest x d) here.off here.named (later x d inside) (others x d inside)) parts.1,
       )
 
   -- ---- Address Device: a second one moves its ring nowhere

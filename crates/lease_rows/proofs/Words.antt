@@ -81,7 +81,7 @@ pub use Rattle.safety.proofs.Headers.{ring_shape, transfer_driver, transfer_not_
 pub use Rattle.safety.proofs.KeptClean.{taking}
 pub use Rattle.safety.proofs.KeptRegisters.{registered}
 pub use Rattle.safety.proofs.KeptRings.{CompletionFacts, completion_facts, next_at_floor, still_of}
-pub use Rattle.safety.proofs.Placings.{Ready, all_ready, dropped, map_map, ready_next, ring_at, the_some}
+pub use Rattle.safety.proofs.Placings.{Ready, ReadyAt, address_ready, all_ready, dropped, map_map, ready_next, ring_at}
 pub use Rattle.safety.proofs.RowFrames.{bell_leaves, declaration_leaves, register_leaves, write_leaves}
 pub use Rattle.safety.proofs.SafeContext.{command_is_ring}
 pub use Rattle.safety.proofs.SameDriver.{SameDriver, event_same, view_after}
@@ -124,7 +124,7 @@ pub use Rattle.trace_record.specs.WordPlaces.{IsGivenBy, IsPlaced, IsPlacedSo}
 pub use Rattle.trace_record.specs.declared.trace_record.TraceRecord.{TraceRecord}
 pub use Rattle.trace_record.specs.declared.word_place.WordPlace.{WordPlace}
 pub use Rattle.traces.specs.Header.{IsHeader, id_or_none, is_command_kind, is_driver_kind, is_event_kind, is_ring, is_transfer_kind, ring_with, shape_or}
-unfoldable pub use Rattle.traces.specs.Header.{command_id, command_ring, driver_rings, event_ring, event_shape, ring_beginning_at, shape_of}
+unfoldable pub use Rattle.traces.specs.Header.{command_id, command_ring, driver_rings, event_ring, event_shape, ring_having, shape_of}
 pub use Rattle.traces.specs.Register.{base_address, register_or_zero, with_register}
 pub use Rattle.traces.specs.declared.header.Header.{Header}
 pub use Rattle.traces.specs.declared.register.Register.{Register}

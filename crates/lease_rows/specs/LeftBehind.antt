@@ -76,7 +76,7 @@ IsOtherRing q None = Unit {0}
 IsOtherRing q (Some e) = q ≢ e.0
 
 -- of the rings but the command ring the success of a Set TR Dequeue moves that of its endpoint on, and no completion moves another: the
--- ring that an endpoint is bound to stays at its beginning, and that of a second Address Device where it is
+-- ring that an endpoint is bound to stands still where it is bound, and that of a second Address Device where it is
 pub record FloorsMove (h : Header) (k : Known) (event : Block) : Type 0 where
   pub on : MovesOn k (moved_when h k (code event == 1) (command_at h k (next_command h k)))
   pub there : IsMovedTo h (learned h k (Read event)) (moved_when h k (code event == 1) (command_at h k (next_command h k)))

@@ -2,9 +2,9 @@
 use commands::{Command, EndpointState};
 use ring_knowledge::RingRecord;
 use row_history::{
-    Binding, Case, Finding, NOT_JUDGED, Unfinished, all_unfinished, command_at,
-    endpoint_state_name, is_handed_over, last_halt, last_write, line_of, ring_at, ring_known,
-    submission,
+    Binding, Case, Finding, NOT_JUDGED, Unfinished, all_unfinished, binds_ring, command_at,
+    endpoint_state_name, has_block, is_handed_over, last_halt, last_write, line_of, ring_at,
+    ring_known, submission,
 };
 use segments::{Place, Spot};
 use std::alloc::AllocError;
@@ -318,10 +318,210 @@ fn note_added(
         )?;
         return note_second(case, finding, slot);
     }
+    if case.header.version.is_three() {
+        let binding = Bound {
+            slot,
+            endpoint,
+            context,
+            pointer,
+            cycle,
+        };
+        return note_bound(case, finding, binding);
+    }
     match ring_beginning(case, pointer) {
         None => note_nowhere(case, finding, context, endpoint, pointer, cycle),
         Some(ring) => note_ring(case, finding, ring, endpoint, cycle),
     }
+}
+
+/// An endpoint that a command adds, the address of the Input Context, and what the Endpoint Context says of the ring.
+#[derive(Clone, Copy)]
+struct Bound {
+    slot: u8,
+    endpoint: u8,
+    context: u64,
+    pointer: u64,
+    cycle: bool,
+}
+
+/// What is wrong with the ring of an endpoint that a command adds: by version 3 it goes on where it stands still.
+fn note_bound(case: &Case, finding: &mut Finding, bound: Bound) -> Result<(), AllocError> {
+    let (endpoint, pointer) = (bound.endpoint, bound.pointer);
+    let dcs = u8::from(bound.cycle);
+    let Some((ring, known)) = ring_having(case, pointer) else {
+        finding.mark(
+            case.alloc,
+            context_row(case, bound.context, endpoint),
+            "the TR Dequeue Pointer of the Endpoint Context is written here",
+        )?;
+        let note = format!(in case.alloc;
+            "DCI {endpoint}: the Endpoint Context says {pointer:016x}, DCS {dcs}; no `xfer` ring of the header has a TRB there"
+        )?;
+        finding.note(note)?;
+        return finding.help(
+            case.alloc,
+            "name the TRB where a ring stands, or declare that ring in the header",
+        );
+    };
+    if note_owner(case, finding, ring, bound)? {
+        return Ok(());
+    }
+    if known.may_be_bound(&ring.shape, pointer, bound.cycle) {
+        return Ok(());
+    }
+    finding.mark(
+        case.alloc,
+        context_row(case, bound.context, endpoint),
+        "the TR Dequeue Pointer of the Endpoint Context is written here",
+    )?;
+    let name = spot_name(case, ring, pointer)?;
+    let note = format!(in case.alloc;
+        "DCI {endpoint}: the Endpoint Context says {pointer:016x}, DCS {dcs}: {name}"
+    )?;
+    finding.note(note)?;
+    note_standing(case, finding, ring, known, bound)
+}
+
+/// The transfer ring that has the TRB at an address, and what is known of it.
+fn ring_having<'a>(case: &Case<'a>, address: u64) -> Option<(&'a Ring, &'a RingRecord)> {
+    match ring_at(case, address) {
+        Some((ring, known)) if has_block(ring, address) => Some((ring, known)),
+        _ => None,
+    }
+}
+
+/// What lies at an address of a ring.
+fn spot_name(case: &Case, ring: &Ring, pointer: u64) -> Result<String, AllocError> {
+    let id = ring.id;
+    match ring.shape.place_at(pointer) {
+        Some(Place::Link { segment, .. }) => {
+            format!(in case.alloc; "the Link TRB of segment {segment} of ring {id:02x}")
+        }
+        Some(Place::Data { place, .. }) => format!(in case.alloc; "TRB {place} of ring {id:02x}"),
+        None => format!(in case.alloc; "no TRB of ring {id:02x}"),
+    }
+}
+
+/// Whether another endpoint keeps the ring, or an unfinished command gives it away, which is told.
+fn note_owner(
+    case: &Case,
+    finding: &mut Finding,
+    ring: &Ring,
+    bound: Bound,
+) -> Result<bool, AllocError> {
+    let (id, endpoint) = (ring.id, bound.endpoint);
+    if let Some(given) = unfinished_binding(case, ring)? {
+        finding.earlier = given.mark(case)?;
+        let note = format!(in case.alloc;
+            "DCI {endpoint} would get ring {id:02x}, which that unfinished command gives to an endpoint already (xHCI 4.9.2)"
+        )?;
+        finding.note(note)?;
+        finding.help(
+            case.alloc,
+            "give the endpoint another ring, or read the completion of that command first",
+        )?;
+        return Ok(true);
+    }
+    let Some((slot, owner)) = owner(case, id) else {
+        return Ok(false);
+    };
+    if slot == bound.slot && case.known.drops(case.header, bound.context, owner) {
+        return Ok(false);
+    }
+    note_bound_by(case, finding, id)?;
+    let note = format!(in case.alloc;
+        "DCI {endpoint} would get ring {id:02x}, which slot {slot}, DCI {owner} has: a ring serves one endpoint (xHCI 4.9.2)"
+    )?;
+    finding.note(note)?;
+    finding.help(
+        case.alloc,
+        "give the endpoint another ring, or drop the endpoint that has it: by its Drop Context flag in the same Configure Endpoint, or by a command before",
+    )?;
+    Ok(true)
+}
+
+/// The endpoint that has a ring.
+fn owner(case: &Case, id: u8) -> Option<(u8, u8)> {
+    let bound = last_binding(case, id)?;
+    if case.known.devices.ring_of(bound.slot, bound.endpoint) == Some(id) {
+        Some((bound.slot, bound.endpoint))
+    } else {
+        None
+    }
+}
+
+/// Where a ring stands, and what is wrong with another place.
+fn note_standing(
+    case: &Case,
+    finding: &mut Finding,
+    ring: &Ring,
+    known: &RingRecord,
+    bound: Bound,
+) -> Result<(), AllocError> {
+    let id = ring.id;
+    let (floor, ceiling) = (known.floor_number(), known.ceiling());
+    let places = u64::from(ring.shape.places());
+    if floor < ceiling {
+        let (first, behind) = (floor % places, ceiling % places);
+        let note = format!(in case.alloc;
+            "ring {id:02x} doesn't stand still: the controller has finished what is before TRB {first}, and may have come as far as TRB {behind}"
+        )?;
+        finding.note(note)?;
+        return finding.help(
+            case.alloc,
+            "read the events of all TDs that were handed over on the ring, or bind another ring",
+        );
+    }
+    if known.may_be_bound(&ring.shape, bound.pointer, !bound.cycle) {
+        let dcs = u8::from(!bound.cycle);
+        let note = format!(in case.alloc;
+            "the ring stands there, with DCS {dcs}: it is the Cycle bit with which the TRB there is handed over"
+        )?;
+        finding.note(note)?;
+        return finding.help(case.alloc, "set DCS, bit 0 of the TR Dequeue Pointer, to that");
+    }
+    let (address, dcs) = (
+        ring.shape.address(floor),
+        u8::from(ring.shape.cycle(floor)),
+    );
+    if known.may_be_bound(&ring.shape, address, dcs == 1) {
+        let note = format!(in case.alloc; "ring {id:02x} stands at {address:016x}, DCS {dcs}")?;
+        finding.note(note)?;
+        return finding.help(
+            case.alloc,
+            "write that into the Endpoint Context: a ring goes on where it stands",
+        );
+    }
+    note_between(case, finding, ring, floor)
+}
+
+/// Why a ring can't go on where it stands still.
+fn note_between(
+    case: &Case,
+    finding: &mut Finding,
+    ring: &Ring,
+    floor: u64,
+) -> Result<(), AllocError> {
+    let id = ring.id;
+    match submission(case, id, floor) {
+        Some(td) if td.first != floor => {
+            let line = line_of(case.first, td.row);
+            let note = format!(in case.alloc;
+                "ring {id:02x} stands inside the TD that row {line} submitted, and a ring goes on where a TD begins"
+            )?;
+            finding.note(note)?;
+        }
+        _ => {
+            let note = format!(in case.alloc;
+                "ring {id:02x} stands at a Link TRB that isn't handed over yet, or behind a TRB that isn't"
+            )?;
+            finding.note(note)?;
+        }
+    }
+    finding.help(
+        case.alloc,
+        "move the ring on by Set TR Dequeue Pointer before its endpoint is dropped, or bind another ring",
+    )
 }
 
 /// What is wrong with the pointer of an endpoint that no ring begins at.
@@ -371,7 +571,7 @@ fn note_twice(
     };
     for earlier in 2..endpoint {
         if let Some(other) = case.known.added(case.header, context, earlier) {
-            if other.pointer == added.pointer && is_beginning(case, added.pointer) {
+            if is_one_ring(case, other.pointer, added.pointer) {
                 let pointer = added.pointer;
                 let note = format!(in case.alloc;
                     "DCI {earlier} and DCI {endpoint} both get the ring at {pointer:016x}: a ring serves one endpoint (xHCI 4.9.2)"
@@ -473,40 +673,9 @@ fn unfinished_binding(case: &Case, ring: &Ring) -> Result<Option<Unfinished>, Al
     let all = all_unfinished(case)?;
     Ok(
         all.iter()
-            .find(|given| gives_ring(case, given.command, ring.shape.address(0)))
+            .find(|given| binds_ring(case, given.command, ring))
             .copied(),
     )
-}
-
-/// Whether a command gives an endpoint the ring that begins at an address.
-fn gives_ring(case: &Case, command: Command, first: u64) -> bool {
-    let (context, from, to) = match command {
-        Command::AddressDevice {
-            slot,
-            input_context,
-            ..
-        } => {
-            if case.known.devices.endpoint_state(slot, 1) != EndpointState::Disabled {
-                return false;
-            }
-            (input_context, 1, 2)
-        }
-        Command::ConfigureEndpoint {
-            deconfigure: false,
-            input_context,
-            ..
-        } => (input_context, 2, 32),
-        _ => return false,
-    };
-    (from..to).any(|endpoint| begins_ring(case, context, endpoint, first))
-}
-
-/// Whether an endpoint that an Input Context adds gets the ring that begins at an address.
-fn begins_ring(case: &Case, context: u64, endpoint: u8, first: u64) -> bool {
-    match case.known.added(case.header, context, endpoint) {
-        Some(added) => added.pointer == first,
-        None => false,
-    }
 }
 
 /// The transfer ring that begins at an address.
@@ -515,8 +684,15 @@ fn ring_beginning<'a>(case: &Case<'a>, address: u64) -> Option<&'a Ring> {
     rings.iter().find(|ring| begins_at(ring, address))
 }
 
-fn is_beginning(case: &Case, address: u64) -> bool {
-    ring_beginning(case, address).is_some()
+/// Whether two pointers name one ring: by versions 1 and 2 a ring is named by its first TRB.
+fn is_one_ring(case: &Case, first: u64, second: u64) -> bool {
+    if !case.header.version.is_three() {
+        return first == second && ring_beginning(case, first).is_some();
+    }
+    match ring_having(case, first) {
+        Some((ring, _)) => has_block(ring, second),
+        None => false,
+    }
 }
 
 /// Whether a transfer ring begins at an address.

@@ -1,4 +1,4 @@
-ghost use Rattle.std.specs.Prelude.{◌≡◌, ◌+◌, ℕ, List, [], ◌∷◌, ◌++◌, nat_lt, OnOk, OnErr};
+ghost use Rattle.std.specs.Prelude.{◌≡◌, ◌+◌, ℕ, List, [], ◌∷◌, ◌++◌, nat_lt, true, OnOk, OnErr};
 ghost use Rattle.std.specs.List.{list_any};
 ghost use Rattle.segments.specs.Places.{overlap};
 
@@ -25,6 +25,13 @@ impl Areas {
             starts: Vec::new(alloc),
             bytes,
         }
+    }
+
+    /// There are none.
+    pub fn is_empty(&self) -> bool
+        ensures { result ≡ true → (n : ℕ) (starts : List ℕ) → HoldsAreas n starts self.now → starts ≡ [] }
+    {
+        self.starts.is_empty()
     }
 
     /// One of the areas has one of these bytes, some of which may lie beyond the address space.

@@ -4,5 +4,5 @@ pub mod HeaderRings
 pub mod Numbers
 pub mod Starts
 pub mod FoundRings
-pub mod Beginnings
+pub mod HavingRings
 pub mod Words

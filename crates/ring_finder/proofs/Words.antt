@@ -2,9 +2,9 @@
 pub use Rattle.ring_finder.specs.Finding.{AreNumbers, IsFinder, IsRingBefore, start_of, starts_from}
 pub use Rattle.ring_finder.specs.declared.finder.Finder.{Finder}
 pub use Rattle.ring_finder.specs.declared.finder.Start.{Start}
-pub use Rattle.ring_knowledge.proofs.Words.{Header, address_aligned, length-set, segment_at}
+pub use Rattle.ring_knowledge.proofs.Words.{Header, length-set, segment_at}
 pub use Rattle.segments.proofs.Elsewhere.{address_inside}
-pub use Rattle.segments.proofs.InsideLemmas.{rings_apart, touches-word}
+pub use Rattle.segments.proofs.InsideLemmas.{rings_apart, touches-word, touches-word_of}
 pub use Rattle.segments.proofs.PlaceAtLemmas.{is_in-parts, is_in-true}
 pub use Rattle.segments.proofs.Search.{position-None, position_nowhere, position_only}
 pub use Rattle.segments.proofs.ShapeFacts.{shape_facts}
@@ -18,5 +18,5 @@ pub use Rattle.std.specs.List.{Contains}
 pub use Rattle.std.specs.List.Sorted.{IsNonDecreasingBy, IsPartitionPoint, IsPermutation}
 pub use Rattle.std.specs.Option.{option_copied, option_flatten}
 pub use Rattle.traces.specs.Header.{IsHeader, clash, id_of, id_or_none, is_command_kind, is_driver_kind, is_event_kind, is_transfer_kind, may_stand_together, ring_with, shape_or}
-unfoldable pub use Rattle.traces.specs.Header.{command_id, command_ring, event_ring, event_shape, ring_beginning_at, shape_of}
+unfoldable pub use Rattle.traces.specs.Header.{command_id, command_ring, event_ring, event_shape, ring_having, shape_of}
 pub use Rattle.traces.specs.declared.ring.Ring.{Ring}

@@ -1,10 +1,10 @@
 ghost use Rattle.std.specs.Prelude.{◌≡◌, ◌==◌, ◌<◌, ◌%◌, ◌++◌, ℕ, List, length, map, position, true, IfOk, IfSome, OnOk};
 ghost use Rattle.segments.specs.Places.{touches};
-ghost use Rattle.traces.specs.Header.{IsHeader, is_command_kind, may_stand_together, ring_beginning_at};
+ghost use Rattle.traces.specs.Header.{IsHeader, is_command_kind, may_stand_together, ring_having};
 ghost use Rattle.traces.specs.declared.ring.Ring.{Ring};
 ghost use Rattle.ring_finder.specs.Finding.{AreNumbers, IsFinder, IsRingBefore, start_of, starts_from};
 
-use crate::kinds::{begins_at, is_command_ring};
+use crate::kinds::{is_command_ring, is_transfer_ring};
 use std::alloc::{AllocError, Global};
 use traces::{Header, Ring};
 
@@ -69,21 +69,19 @@ impl Finder {
         }
     }
 
-    /// The ID of the transfer ring whose first block lies at this address.
-    pub fn ring_beginning_at(&self, header: &Header, address: u64) -> Option<u8>
+    /// The ID of the transfer ring that has a block at this address.
+    pub fn ring_having(&self, header: &Header, address: u64) -> Option<u8>
         requires headed { IsHeader header.now }
         requires found { IsFinder header.now.rings self.now }
-        ensures { result ≡ ring_beginning_at header.now address }
+        ensures { result ≡ ring_having header.now address }
     {
-        if address % 4 != 0 {
-            return None;
-        }
-        let Some(number) = self.ring_at(header, address) else {
+        let word = address - address % 4;
+        let Some(number) = self.ring_at(header, word) else {
             return None;
         };
         let rings = header.rings.as_slice();
         let ring = &rings[number];
-        if begins_at(ring, address) {
+        if is_transfer_ring(ring) {
             Some(ring.id)
         } else {
             None

@@ -9,7 +9,6 @@ use device_record::{DeviceRecord, Named};
 use guest_memory::{Addr, PageMemory, WordMemory};
 use ring_finder::Finder;
 use ring_knowledge::{RingGiving, RingRecord};
-use segments::Spot;
 use std::alloc::{AllocError, Global};
 use traces::{Header, Register, Row};
 use trb::{Block, BlockKind};
@@ -493,7 +492,18 @@ impl Known {
         }
     }
 
-    /// An endpoint is placed: a Disabled one gets the ring that begins at a pointer, any other has its own moved there.
+    /// Whether an Input Context drops an endpoint above the default control endpoint.
+    pub fn drops(&self, header: &Header, context: u64, endpoint: u8) -> bool {
+        if context % 4 != 0 || endpoint < 2 || endpoint >= 32 {
+            return false;
+        }
+        match InputContext::at(&self.memory, context, header.context_size) {
+            Some(input) => input.drops(endpoint),
+            None => false,
+        }
+    }
+
+    /// An endpoint is placed: a Disabled one gets the ring that has the block at a pointer, any other keeps its own; the ring is moved there.
     fn learn_place(
         &mut self,
         header: &Header,
@@ -509,14 +519,14 @@ impl Known {
         requires found { IsFinder header.now.rings finder.now }
     {
         let is_new = self.devices.endpoint_state(slot, endpoint) == EndpointState::Disabled;
-        let beginning = finder.ring_beginning_at(header, pointer);
+        let having = finder.ring_having(header, pointer);
         let id = if is_new {
-            beginning
+            having
         } else {
             self.devices.ring_of(slot, endpoint)
         };
         if let Some(id) = id {
-            self.set_ring(header, finder, id, is_new, pointer, cycle);
+            self.set_ring(header, finder, id, pointer, cycle);
             if is_new {
                 self.bindings.push(Binding {
                     ring: id,
@@ -527,21 +537,13 @@ impl Known {
             }
         }
         if endpoint < 32 {
-            self.devices.place(slot, endpoint, beginning, state);
+            self.devices.place(slot, endpoint, having, state);
         }
         Ok(())
     }
 
-    /// The ring of an endpoint begins anew, or its pointer is moved.
-    fn set_ring(
-        &mut self,
-        header: &Header,
-        finder: &Finder,
-        id: u8,
-        is_new: bool,
-        pointer: u64,
-        cycle: bool,
-    ) {
+    /// The pointer of a ring is moved.
+    fn set_ring(&mut self, header: &Header, finder: &Finder, id: u8, pointer: u64, cycle: bool) {
         let Some(number) = finder.ring_named(id) else {
             return;
         };
@@ -549,9 +551,7 @@ impl Known {
             header.rings.as_slice().get(number),
             self.rings.get_mut(number),
         ) {
-            if is_new {
-                known.set_to(&ring.shape, Spot::Data(0));
-            } else if let Some(spot) = known.target(&ring.shape, pointer, cycle) {
+            if let Some(spot) = known.target(&ring.shape, pointer, cycle) {
                 known.set_to(&ring.shape, spot);
             }
         }

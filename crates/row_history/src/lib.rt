@@ -23,8 +23,8 @@ pub use rows::{
 };
 pub use soiled::{SoiledWord, soiled_word};
 pub use unfinished::{
-    Unfinished, all_unfinished, command_at, name_two_endpoints, trb_at, unfinished_beside,
-    unfinished_on,
+    Unfinished, all_unfinished, binds_ring, command_at, has_block, name_two_endpoints, trb_at,
+    unfinished_beside, unfinished_on,
 };
 pub use words::{
     NOT_JUDGED, code_name, command_name, endpoint_state_name, general_head, register_name,

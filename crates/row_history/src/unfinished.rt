@@ -3,8 +3,9 @@ use crate::finding::{Case, Mark, ring_known};
 use crate::positions::is_handed_over;
 use crate::rows::last_write;
 use crate::words::{command_name, ring_of_kind};
-use commands::Command;
+use commands::{Command, EndpointState};
 use std::alloc::AllocError;
+use traces::Ring;
 use trb::{Block, RingKind};
 
 /// A command that was given and whose completion wasn't read, and the row that gave it.
@@ -76,6 +77,42 @@ pub fn name_two_endpoints(first: Command, second: Command) -> bool {
         (Some(first), Some(second)) => first != second,
         _ => false,
     }
+}
+
+/// Whether a command gives an endpoint this ring.
+pub fn binds_ring(case: &Case, command: Command, ring: &Ring) -> bool {
+    let (context, from, to) = match command {
+        Command::AddressDevice {
+            slot,
+            input_context,
+            ..
+        } => {
+            if case.known.devices.endpoint_state(slot, 1) != EndpointState::Disabled {
+                return false;
+            }
+            (input_context, 1, 2)
+        }
+        Command::ConfigureEndpoint {
+            deconfigure: false,
+            input_context,
+            ..
+        } => (input_context, 2, 32),
+        _ => return false,
+    };
+    (from..to).any(|endpoint| names_ring(case, context, endpoint, ring))
+}
+
+/// Whether an endpoint that an Input Context adds gets this ring.
+fn names_ring(case: &Case, context: u64, endpoint: u8, ring: &Ring) -> bool {
+    match case.known.added(case.header, context, endpoint) {
+        Some(added) => has_block(ring, added.pointer),
+        None => false,
+    }
+}
+
+/// Whether a ring is a transfer ring that has the block at an address.
+pub fn has_block(ring: &Ring, address: u64) -> bool {
+    ring.shape.kind() == RingKind::Xfer && ring.shape.place_at(address).is_some()
 }
 
 impl Unfinished {

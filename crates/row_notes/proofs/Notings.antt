@@ -28,6 +28,7 @@ use Rattle.ownership_rules.specs.Rules.{lenient}
 use Rattle.safety.proofs.CleanRows.{event_facts}
 use Rattle.safety.proofs.KeptRings.{CompletionFacts, by_completion, command_holds, next_unfinished}
 use Rattle.command_ends.proofs.Finished.{has_room, was_started}
+use Rattle.safety.proofs.DriverRings.{rings_of}
 use Rattle.row_notes.specs.Added.{MayPlace}
 use Rattle.row_notes.specs.Noted.{AreNoted}
 use Rattle.row_notes.proofs.Lists.{nothing_more}
@@ -136,4 +137,4 @@ module _ (h : Header) (k : Known) (b : Block) where
   may_place headed d possible (Some c) here =
       let facts : CompletionFacts h k b = by_completion h k b possible in
       let unfinished = next_unfinished h headed k d (was_started h headed k d b possible) facts.below c (sym here) in
-      (command_holds h k (next_command h k) c (d.unfinished (next_command h k) c unfinished), has_room h headed k d b possible c (sym here))
+      (command_holds h k (next_command h k) c (d.unfinished (next_command h k) c unfinished), has_room h headed k d b possible c (sym here), rings_of h k d)

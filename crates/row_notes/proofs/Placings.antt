@@ -16,7 +16,7 @@ use Rattle.commands.specs.declared.state.EndpointState.TheVariants.{Stopped}
 use Rattle.commands.specs.States.{is_off}
 use Rattle.commands.specs.Changes.{Change, Places, changes, placed_by_context}
 use Rattle.traces.specs.declared.header.Header.{Header}
-use Rattle.traces.specs.Header.{IsHeader, is_ring, ring_beginning_at}
+use Rattle.traces.specs.Header.{IsHeader, is_ring, ring_having}
 use Rattle.ring_knowledge.specs.Known.{Known}
 use Rattle.ring_knowledge.specs.Rings.{command_at, next_command}
 use Rattle.ring_knowledge.specs.Completions.{changed_by}
@@ -25,10 +25,11 @@ use Rattle.safety.specs.EndpointsKeep.{EndpointsKeep}
 use Rattle.safety.specs.EndpointsKeep as endpoints
 use Rattle.safety.specs.Keeps.{DriverKeeps, IsTransferRing}
 use Rattle.safety.specs.Placings.{StillHolds}
+use Rattle.safety.specs.RingsKeep.{RingsKeep}
 use Rattle.safety.proofs.DriverRings.{endpoints_of, transfer_ring}
 use Rattle.safety.proofs.Endpoints.{change_keeps}
-use Rattle.safety.proofs.Placings.{Ready, all_ready, dropped, map_map, ready_next, ring_at, the_some}
-use Rattle.safety.proofs.RingIds.{beginning_transfer}
+use Rattle.safety.proofs.Placings.{ReadyAt, all_ready, dropped, map_map, ready_next, ring_at}
+use Rattle.safety.proofs.RingIds.{having_transfer}
 use Rattle.safety.proofs.TestsPassed.{each_fails, any_of_map}
 use Rattle.lazy_runs.specs.Needs.{ring_placed}
 use Rattle.lazy_steps.specs.Notes.{listed, placed, placed_by, placed_by_all}
@@ -45,26 +46,26 @@ listed_before (Some r) xs = refl
 module _ (h : Header) where
   -- ---- one endpoint
 
-  pub placed_off : (k : Known) (s i p : ℕ) (cycle : Bool) (state : EndpointState) → is_off (k.endpoint_state s i) ≡ true → ring_placed h k (Places s i p cycle state) ≡ ring_beginning_at h p
+  pub placed_off : (k : Known) (s i p : ℕ) (cycle : Bool) (state : EndpointState) → is_off (k.endpoint_state s i) ≡ true → ring_placed h k (Places s i p cycle state) ≡ ring_having h p
   unfolding ring_placed
-  placed_off k s i p cycle state off = cond-true (is_off (k.endpoint_state s i)) (ring_beginning_at h p) (k.ring_of s i) off
+  placed_off k s i p cycle state off = cond-true (is_off (k.endpoint_state s i)) (ring_having h p) (k.ring_of s i) off
 
   pub placed_on : (k : Known) (s i p : ℕ) (cycle : Bool) (state : EndpointState) → is_off (k.endpoint_state s i) ≡ false → ring_placed h k (Places s i p cycle state) ≡ k.ring_of s i
   unfolding ring_placed
-  placed_on k s i p cycle state on = cond-false (is_off (k.endpoint_state s i)) (ring_beginning_at h p) (k.ring_of s i) on
+  placed_on k s i p cycle state on = cond-false (is_off (k.endpoint_state s i)) (ring_having h p) (k.ring_of s i) on
 
   -- ---- the endpoints that are added
 
   pub pointed_from : (memory : ℕ → ℕ) (a i : ℕ) (size : ContextSize) (p : ℕ) → size ≡ h.context_size → p ≡ context_pointer size memory a i →
-      ring_beginning_at h p ≡ ring_beginning_at h (context_pointer h.context_size memory a i)
-  pointed_from memory a i size p same is = ap (λ q. ring_beginning_at h q) (is ∙ ap (λ (z : ContextSize). context_pointer z memory a i) same)
+      ring_having h p ≡ ring_having h (context_pointer h.context_size memory a i)
+  pointed_from memory a i size p same is = ap (λ q. ring_having h q) (is ∙ ap (λ (z : ContextSize). context_pointer z memory a i) same)
 
   module _ (memory : ℕ → ℕ) (a i : ℕ) where
     range_is : i < 32 → range_with_len i (32 - i) ≡ i ∷ range_with_len (i + 1) (32 - (i + 1))
     range_is below = ap (λ n. range_with_len i n) (let e : 32 - i ≡ suc (32 - (i + 1)) = omega arith in e)
 
     abbrev begins : ℕ → Option ℕ
-    begins j = ring_beginning_at h (context_pointer h.context_size memory a j)
+    begins j = ring_having h (context_pointer h.context_size memory a j)
 
     abbrev later : List ℕ
     later = filter (input_add_flag memory a) (range_with_len (i + 1) (32 - (i + 1)))
@@ -85,47 +86,46 @@ module _ (h : Header) where
   pub added_end : (memory : ℕ → ℕ) (a i : ℕ) → i ≡ 32 → rings_added h memory a i ≡ []
   unfolding rings_added
   added_end memory a i e =
-      ap (λ n. filter_map (λ j. ring_beginning_at h (context_pointer h.context_size memory a j)) (filter (input_add_flag memory a) (range_with_len i n))) (let none : 32 - i ≡ 0 = omega arith in none)
+      ap (λ n. filter_map (λ j. ring_having h (context_pointer h.context_size memory a j)) (filter (input_add_flag memory a) (range_with_len i n))) (let none : 32 - i ≡ 0 = omega arith in none)
 
-  all_added : (memory : ℕ → ℕ) (a : ℕ) → filter_map (λ j. ring_beginning_at h (context_pointer h.context_size memory a j)) (added_endpoints memory a) ≡ rings_added h memory a 2
+  all_added : (memory : ℕ → ℕ) (a : ℕ) → filter_map (λ j. ring_having h (context_pointer h.context_size memory a j)) (added_endpoints memory a) ≡ rings_added h memory a 2
   unfolding rings_added added_endpoints
   all_added memory a = refl
 
   module _ (is : IsHeader h) where
     -- each that is added is off when its turn comes
-    placed_each : (c : Command) (memory : ℕ → ℕ) (s a : ℕ) (indices : List ℕ) (l : Known) → All (Ready h is l memory s a) indices → has_repeats (map (ring_at h is memory a) indices) ≡ false →
+    placed_each : (c : Command) (memory : ℕ → ℕ) (s a : ℕ) (indices : List ℕ) (l : Known) → All (ReadyAt h is l memory s a) indices → has_repeats (map (ring_at h is memory a) indices) ≡ false →
         placed_by_all h c l (map (placed_by_context h.context_size memory s a) indices) ≡ filter_map (ring_at h is memory a) indices
     unfolding placed_by_all has_repeats is_among
     placed_each c memory s a [] l ready apart = refl
     placed_each c memory s a (i ∷ rest) l ready apart =
-        let here : Ready h is l memory s a i = All-head (Ready h is l memory s a) i rest ready in
-        let later : All (Ready h is l memory s a) rest = All-tail (Ready h is l memory s a) i rest ready in
-        let some = the_some h is (ring_at h is memory a i) here.named in
-        let r : ℕ = some.0 in
+        let here : ReadyAt h is l memory s a i = All-head (ReadyAt h is l memory s a) i rest ready in
+        let later : All (ReadyAt h is l memory s a) rest = All-tail (ReadyAt h is l memory s a) i rest ready in
+        let r : ℕ = here.ring in
         let parts = or_parts (is_among (map (ring_at h is memory a) rest) (ring_at h is memory a i)) (has_repeats (map (ring_at h is memory a) rest)) apart in
-        let none : list_any (is_ring r) (map (ring_at h is memory a) rest) ≡ false = sym (ap (is_among (map (ring_at h is memory a) rest)) some.1) ∙ parts.0 in
+        let none : list_any (is_ring r) (map (ring_at h is memory a) rest) ≡ false = sym (ap (is_among (map (ring_at h is memory a) rest)) here.named) ∙ parts.0 in
         let others : All (λ j. is_ring r (ring_at h is memory a j) ≡ false) rest =
         each_fails (λ j. is_ring r (ring_at h is memory a j)) rest (sym (any_of_map (is_ring r) (ring_at h is memory a) rest) ∙ none) in
         let change : Change = placed_by_context h.context_size memory s a i in
         let next : Known = changed_by h c l change in
-        let more = placed_each c memory s a rest next (λ x d inside. ready_next h is c l memory s a i r (get_or rest x d) here.off some.1 (later x d inside) (others x d inside)) parts.1 in
+        let more = placed_each c memory s a rest next (λ x d inside. ready_next h is c l memory s a i r (get_or rest x d) here.off here.named (later x d inside) (others x d inside)) parts.1 in
         ap (λ o. listed o ++ placed_by_all h c next (map (placed_by_context h.context_size memory s a) rest)) (placed_off l s i _ _ _ here.off)
         ∙ ap (λ xs. listed (ring_at h is memory a i) ++ xs) more
         ∙ listed_before (ring_at h is memory a i) (filter_map (ring_at h is memory a) rest)
 
-    configured_places : (k : Known) (n s a : ℕ) → StillHolds h k (ConfigureEndpoint s false a) →
+    configured_places : (k : Known) → RingsKeep h k → (n s a : ℕ) → StillHolds h k (ConfigureEndpoint s false a) →
         placed_by_all h (ConfigureEndpoint s false a) k (changes h.context_size k.memory n (ConfigureEndpoint s false a)) ≡ rings_added h k.memory a 2
     unfolding changes placed_by_all ring_placed binds binding_in ring_bound
-    configured_places k n s a still =
+    configured_places k rings n s a still =
         let c : Command = ConfigureEndpoint s false a in
-        placed_each c k.memory s a (added_endpoints k.memory a) (dropped h is c k s a) (all_ready h is k s a still)
+        placed_each c k.memory s a (added_endpoints k.memory a) (dropped h is c k s a) (all_ready h is k rings s a still)
         (ap has_repeats (sym (map_map h is (ring_bound h) (binding_in h k a) (added_endpoints k.memory a))) ∙ still.repeats)
         ∙ all_added k.memory a
 
-    pub of_configure : (c : Command) (k : Known) (n s a : ℕ) → c ≡ ConfigureEndpoint s false a → StillHolds h k c →
+    pub of_configure : (c : Command) (k : Known) → RingsKeep h k → (n s a : ℕ) → c ≡ ConfigureEndpoint s false a → StillHolds h k c →
         placed_by_all h c k (changes h.context_size k.memory n c) ≡ rings_added h k.memory a 2
-    of_configure c k n s a e still =
-        ap (λ d. placed_by_all h d k (changes h.context_size k.memory n d)) e ∙ configured_places k n s a (subst (λ d. StillHolds h k d) e still)
+    of_configure c k rings n s a e still =
+        ap (λ d. placed_by_all h d k (changes h.context_size k.memory n d)) e ∙ configured_places k rings n s a (subst (λ d. StillHolds h k d) e still)
 
     -- ---- each is a transfer ring
 
@@ -133,7 +133,7 @@ module _ (h : Header) where
     unfolding ring_placed
     transfers l keeps (Places s i p cycle state) r e =
         elim (cases_Bool (is_off (l.endpoint_state s i))) [
-          | inl off ↦ beginning_transfer h is p r (sym (placed_off l s i p cycle state off) ∙ e)
+          | inl off ↦ having_transfer h is p r (sym (placed_off l s i p cycle state off) ∙ e)
           | inr on ↦ keeps.transfer s i r (sym (placed_on l s i p cycle state on) ∙ e)
         ]
     transfers l keeps _ r e = absurd (none-some r e)

@@ -9,6 +9,7 @@ ghost use Rattle.ring_knowledge.specs.Known.{Known};
 ghost use Rattle.ring_finder.specs.Finding.{IsFinder};
 ghost use Rattle.device_record.specs.Devices.{FollowsDevices};
 ghost use Rattle.safety.specs.Placings.{StillHolds};
+ghost use Rattle.safety.specs.RingsKeep.{RingsKeep};
 ghost use Rattle.lazy_runs.specs.Needs.{ring_placed};
 ghost use Rattle.lazy_steps.specs.Notes.{listed, placed_by_all};
 ghost use Rattle.command_ends.specs.Places.{HasWords};
@@ -35,7 +36,7 @@ pub(crate) fn add_placed<M: WordMemory>(
     requires found { IsFinder header.now.rings finder.now }
     requires well { IsWell command }
     ensures { OnOk result ((k : Known) (n : ℕ) → FollowsDevices k devices.now → HasWords k (M.words memory.now) → StillHolds header.now k command →
-        HasRoom header.now.context_size command →
+        HasRoom header.now.context_size command → RingsKeep header.now k →
         rings.new.items ≡ rings.old.items ++ placed_by_all header.now command k (changes header.now.context_size k.memory n command)) }
 {
     match command {
@@ -135,7 +136,7 @@ fn add_endpoint<M: WordMemory>(
         return Ok(());
     }
     let endpoint = input.endpoint(index);
-    let ring = finder.ring_beginning_at(header, endpoint.pointer);
+    let ring = finder.ring_having(header, endpoint.pointer);
     add_ring(ring, rings)
 }
 
@@ -152,7 +153,7 @@ fn add_ring(ring: Option<u8>, rings: &mut Vec<u8>) -> Result<(), AllocError>
     }
 }
 
-/// The ring of an endpoint that is placed at a pointer: a Disabled one gets the ring that begins there, any other has its own moved.
+/// The ring of an endpoint that is placed at a pointer: a Disabled one gets the ring that has the block there, any other has its own moved.
 fn ring_placed(
     header: &Header,
     finder: &Finder,
@@ -167,7 +168,7 @@ fn ring_placed(
         result ≡ ring_placed header.now k (Places slot index pointer cycle state) }
 {
     match devices.endpoint_state(slot, index) {
-        EndpointState::Disabled => finder.ring_beginning_at(header, pointer),
+        EndpointState::Disabled => finder.ring_having(header, pointer),
         _ => devices.ring_of(slot, index),
     }
 }

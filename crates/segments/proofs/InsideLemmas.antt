@@ -1,5 +1,5 @@
 -- Bytes and words inside a ring's segments, and rings that are apart
-use Rattle.segments.proofs.Words.{◌≡◌, ◌+◌, ◌*◌, ◌%◌, ◌<◌, ◌||◌, ◌∷◌, ◌∙◌, ℕ, suc, Bool, true, false, List, [], length, nat_lt, is_some, arith, sym, ap, refl, inl, inr, get_or, lt-ltb, list_any, cases_Bool, false≢true, or_parts, and_from, nat_tests, Segment, Shape, overlap, segment_has, is_in, is_inside, touches, place_at, IsShape, segments_overlap, rings_overlap}
+use Rattle.segments.proofs.Words.{◌≡◌, ◌+◌, ◌-◌, ◌*◌, ◌%◌, ◌<◌, ◌||◌, ◌∷◌, ◌∙◌, ℕ, suc, Bool, true, false, List, [], length, nat_lt, is_some, arith, sym, ap, refl, inl, inr, get_or, lt-ltb, list_any, cases_Bool, false≢true, or_parts, and_from, nat_tests, Segment, Shape, overlap, segment_has, is_in, is_inside, touches, place_at, IsShape, segments_overlap, rings_overlap}
 use Rattle.segments.proofs.Blocks.{segment_at}
 use Rattle.segments.proofs.ShapeFacts.{shape_facts}
 use Rattle.segments.proofs.PlaceAtLemmas.{is_in-parts, place_at-inside, is_inside-place_at}
@@ -10,14 +10,17 @@ same_any p q [] d same = refl
 same_any p q (x ∷ xs) d same =
     ap (λ b. b || list_any p xs) (same 0 (omega arith)) ∙ ap (λ b. q x || b) (same_any p q xs d (λ k h. same (suc k) (omega arith)))
 
-word_in : (x a n : ℕ) → x % 4 ≡ 0 → a % 16 ≡ 0 → overlap x 4 a (16 * n) ≡ is_in x a (16 * n)
-word_in x a n word low = grind (arith, nat_tests, word, low)
+word_in : (x a n : ℕ) → a % 16 ≡ 0 → overlap (x - x % 4) 4 a (16 * n) ≡ is_in x a (16 * n)
+word_in x a n low = grind (arith, nat_tests, low)
 
--- a segment has one of a word's bytes where it has the first one
+-- a segment has one of a word's bytes where it has any of them
+pub touches-word_of : (shape : Shape) → IsShape shape → (x : ℕ) → touches shape (x - x % 4) 4 ≡ is_inside shape x
+touches-word_of shape is x =
+    same_any (λ s. overlap (x - x % 4) 4 s.base (16 * s.count)) (segment_has x) shape.segments (record { base = 0; count = 0 })
+    (λ k h. word_in x (segment_at shape.segments k).base (segment_at shape.segments k).count ((shape_facts shape is).each k h).aligned)
+
 pub touches-word : (shape : Shape) → IsShape shape → (x : ℕ) → x % 4 ≡ 0 → touches shape x 4 ≡ is_inside shape x
-touches-word shape is x word =
-    same_any (λ s. overlap x 4 s.base (16 * s.count)) (segment_has x) shape.segments (record { base = 0; count = 0 })
-    (λ k h. word_in x (segment_at shape.segments k).base (segment_at shape.segments k).count word ((shape_facts shape is).each k h).aligned)
+touches-word shape is x word = ap (λ from. touches shape from 4) (omega (arith, word)) ∙ touches-word_of shape is x
 
 -- a word is inside where it is one of a data place or a Link
 pub is_inside-word : (shape : Shape) → IsShape shape → (x : ℕ) → x % 4 ≡ 0 → is_inside shape x ≡ is_some (place_at shape x)

@@ -1,5 +1,5 @@
 -- The first rule that a write breaks which gives one position, or one crossing
-use Rattle.std.proofs.Common.{◌≡◌, ℕ, ◌<◌, List, [], ◌∷◌, true, false, Some, None, refl, ap, sym, ◌∙◌, arith, inl, inr, length, get_or}
+use Rattle.std.proofs.Common.{◌≡◌, ℕ, ◌<◌, List, [], ◌∷◌, Bool, true, false, Some, None, refl, ap, sym, ◌∙◌, arith, inl, inr, length, get_or}
 use Rattle.std.specs.Prelude.{◌==◌, not, nat_le, slice_get, slice_index, if◌then◌else◌}
 use Rattle.std.proofs.lemmas.Bool.{cases_lt, le-leb}
 use Rattle.std.proofs.lemmas.Bool.Decides.{nat_tests}
@@ -13,7 +13,7 @@ use Rattle.segments.specs.Places.{address_of, cycle_of, links, link_address}
 use Rattle.segments.specs.RingView.{RingView}
 use Rattle.segments.specs.Givings.{is_other_than_declared, is_declared_as, is_not_declared, is_not_whole, leads_wrong, interrupts, is_wrong_link, link_of}
 use Rattle.segments.proofs.Positions.{cycle_of_bit}
-use Rattle.ownership_rules.specs.declared.refusal.Refusal.TheVariants.{NotAsSubmitted, NotDeclared, NotWhole, LinkFault, NotInProfile}
+use Rattle.ownership_rules.specs.declared.refusal.Refusal.TheVariants.{NotAsSubmitted, NotDeclared, NotWhole, LinkFault, Busy, NotInProfile}
 use Rattle.ownership_rules.specs.Refusal.{first_broken}
 use Rattle.write_checks.specs.WriteTests.{position_tests, crossing_tests}
 
@@ -79,11 +79,16 @@ module _ (shape : Shape) (memory : ℕ → ℕ) (a w q segment : ℕ) (link : Bl
   unfolding interrupts
   interrupts_is = ap (λ b. is_set (word b 3) 5) (sym is)
 
-  pub wrong_link : is_wrong_link shape segment link ≡ true → first_broken (crossing_tests shape memory a w (q ∷ [])) ≡ Some LinkFault
-  wrong_link wrong = rw (wrong_is ∙ wrong) refl
+  module _ (awaits : Bool) where
+    pub wrong_link : is_wrong_link shape segment link ≡ true → first_broken (crossing_tests shape memory a w awaits (q ∷ [])) ≡ Some LinkFault
+    wrong_link wrong = rw (wrong_is ∙ wrong) refl
 
-  pub interrupting : is_wrong_link shape segment link ≡ false → is_set (word link 3) 5 ≡ true → first_broken (crossing_tests shape memory a w (q ∷ [])) ≡ Some NotInProfile
-  interrupting right flagged = rw (wrong_is ∙ right, interrupts_is ∙ flagged) refl
+    -- the ring awaits its binding
+    pub being_bound : is_wrong_link shape segment link ≡ false → awaits ≡ true → first_broken (crossing_tests shape memory a w awaits (q ∷ [])) ≡ Some Busy
+    being_bound right bound = rw (wrong_is ∙ right, bound) refl
 
-  pub crossed_well : is_wrong_link shape segment link ≡ false → is_set (word link 3) 5 ≡ false → first_broken (crossing_tests shape memory a w (q ∷ [])) ≡ None
-  crossed_well right plain = rw (wrong_is ∙ right, interrupts_is ∙ plain) refl
+    pub interrupting : is_wrong_link shape segment link ≡ false → awaits ≡ false → is_set (word link 3) 5 ≡ true → first_broken (crossing_tests shape memory a w awaits (q ∷ [])) ≡ Some NotInProfile
+    interrupting right free flagged = rw (wrong_is ∙ right, free, interrupts_is ∙ flagged) refl
+
+    pub crossed_well : is_wrong_link shape segment link ≡ false → awaits ≡ false → is_set (word link 3) 5 ≡ false → first_broken (crossing_tests shape memory a w awaits (q ∷ [])) ≡ None
+    crossed_well right free plain = rw (wrong_is ∙ right, free, interrupts_is ∙ plain) refl

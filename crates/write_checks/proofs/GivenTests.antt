@@ -6,7 +6,7 @@ use Rattle.traces.specs.declared.header.Header.{Header}
 use Rattle.ring_knowledge.specs.Known.{Known}
 use Rattle.ownership_rules.specs.Commands as commands
 use Rattle.ownership_rules.specs.Moves as moves
-use Rattle.ownership_rules.specs.Older.{has_busy_slot, has_left_out_endpoint}
+use Rattle.ownership_rules.specs.Older.{has_busy_slot, has_left_out_endpoint, places_badly}
 use Rattle.ownership_rules.specs.declared.refusal.Refusal.{Refusal}
 use Rattle.ownership_rules.specs.declared.refusal.Refusal.TheVariants.{Busy, NotInProfile, BadMove}
 use Rattle.ownership_rules.specs.Refusal.{Test, first_broken}
@@ -35,17 +35,20 @@ module _ (h : Header) (k : Known) (c : Command) (good : commands.is_bad_command 
     is_left_out_now out = sym (rw (good, free, out) refl)
 
     module _ (profile : has_left_out_endpoint h k c ≡ false) where
-      pub moves_badly : (moves.is_bad_binding h k c || moves.is_bad_move h k c) ≡ true → Some BadMove ≡ first_broken (command_tests h k c)
-      moves_badly bad = sym (rw (good, free, profile, bad) refl)
+      pub is_placed_badly : places_badly h k c ≡ true → Some BadMove ≡ first_broken (command_tests h k c)
+      is_placed_badly bad = sym (rw (good, free, profile, bad) refl)
 
-      pub is_good : (moves.is_bad_binding h k c || moves.is_bad_move h k c) ≡ false → None ≡ first_broken (command_tests h k c)
+      pub is_good : places_badly h k c ≡ false → None ≡ first_broken (command_tests h k c)
       is_good well = sym (rw (good, free, profile, well) refl)
 
 pub is_moved : (h : Header) (k : Known) (r : ℕ) → moves.is_being_moved h k r ≡ true → Some Busy ≡ first_broken (place_tests h k r None)
 is_moved h k r moved = sym (rw moved refl)
 
-pub stays : (h : Header) (k : Known) (r : ℕ) → moves.is_being_moved h k r ≡ false → None ≡ first_broken (place_tests h k r None)
-stays h k r still = sym (rw still refl)
+pub is_bound : (h : Header) (k : Known) (r : ℕ) → moves.is_being_moved h k r ≡ false → moves.awaits_binding h k r ≡ true → Some Busy ≡ first_broken (place_tests h k r None)
+is_bound h k r still bound = sym (rw (still, bound) refl)
+
+pub stays : (h : Header) (k : Known) (r : ℕ) → moves.is_being_moved h k r ≡ false → moves.awaits_binding h k r ≡ false → None ≡ first_broken (place_tests h k r None)
+stays h k r still free = sym (rw (still, free) refl)
 
 -- a test that comes to an early end, and one that goes on
 pub or_ends : (a b : Bool) → a ≡ true → true ≡ (a || b)
@@ -55,3 +58,12 @@ or_ends false b e = absurd (cc)
 pub or_goes : (a b c : Bool) → a ≡ false → c ≡ b → c ≡ (a || b)
 or_goes true b c e f = absurd (cc)
 or_goes false b c e f = f
+
+-- of three tests
+pub first_passes : (a b c : Bool) → a ≡ true → true ≡ ((a || b) || c)
+first_passes true b c e = refl
+first_passes false b c e = absurd (cc)
+
+pub others_pass : (a b c d : Bool) → a ≡ false → d ≡ (b || c) → d ≡ ((a || b) || c)
+others_pass true b c d e f = absurd (cc)
+others_pass false b c d e f = f

@@ -22,7 +22,7 @@ use Rattle.ownership_rules.specs.Refusal.{Test, broken_of, first_of, first_broke
 use Rattle.ownership_rules.specs.OpenLeases.{is_leased, is_the_controllers}
 use Rattle.ownership_rules.specs.Commands as commands
 use Rattle.ownership_rules.specs.Moves as moves
-use Rattle.ownership_rules.specs.Older.{has_busy_slot, has_left_out_endpoint, older, stricter, writes_to_owned}
+use Rattle.ownership_rules.specs.Older.{has_busy_slot, has_left_out_endpoint, older, places_badly, stricter, writes_to_owned}
 use Rattle.ownership_rules.specs.Writes.{write_tests, changes_owned, some_given, some_crossed, some_command, holds_of, on_position, on_crossing}
 use Rattle.ownership_rules.specs.Rules.{broken, lenient_tests, tests}
 use Rattle.trace_record.specs.Steps.{IsLeast}
@@ -36,6 +36,10 @@ use Rattle.write_checks.proofs.OnRing.{given_by_one, given_nowhere, owned_in_eve
 
 -- the tests of a write that isn't to what the controller owns, of what is given of one ring
 module _ (h : Header) (k : Known) (a w : ℕ) (r : Ring) where
+  -- no command moves or binds it
+  abbrev pub IsStill : Type 0
+  IsStill = (moves.is_being_moved h k r.id ≡ false) × (moves.awaits_binding h k r.id ≡ false)
+
   abbrev pub of_ring : Option RingGiving → Option Command → List Test
   of_ring giving command =
       (WriteToOwned, false)
@@ -44,9 +48,9 @@ module _ (h : Header) (k : Known) (a w : ℕ) (r : Ring) where
       ∷ (NotWhole, list_any (is_not_whole r.shape (k.ring r.id)) (positions_of giving))
       ∷ (LinkFault, list_any (leads_wrong r.shape k.memory a w) (crossings_of giving))
       ∷ (BadCommand, holds_of (commands.is_bad_command h k) command)
-      ∷ (Busy, holds_of (has_busy_slot h k) command || list_any (λ p. moves.is_being_moved h k r.id) (positions_of giving))
+      ∷ (Busy, holds_of (has_busy_slot h k) command || list_any (λ p. moves.is_being_moved h k r.id || moves.awaits_binding h k r.id) (positions_of giving) || list_any (λ q. moves.awaits_binding h k r.id) (crossings_of giving))
       ∷ (NotInProfile, holds_of (has_left_out_endpoint h k) command || list_any (interrupts r.shape k.memory a w) (crossings_of giving))
-      ∷ (BadMove, holds_of (λ c. moves.is_bad_binding h k c || moves.is_bad_move h k c) command) ∷ []
+      ∷ (BadMove, holds_of (places_badly h k) command) ∷ []
 
   quiet_is : (giving : Option RingGiving) → positions_of giving ≡ [] → first_broken (of_ring giving None) ≡ first_broken (given_tests h k r k.memory a w giving None)
   unfolding holds_of
@@ -54,14 +58,17 @@ module _ (h : Header) (k : Known) (a w : ℕ) (r : Ring) where
   quiet_is (Some (Crossing q)) none = refl
   quiet_is (Some (Position p)) none = absurd (cc)
 
-  placed_is : (p : ℕ) (command : Option Command) → ((c : Command) → command ≡ Some c → moves.is_being_moved h k r.id ≡ false) →
+  placed_is : (p : ℕ) (command : Option Command) → ((c : Command) → command ≡ Some c → IsStill) →
       first_broken (of_ring (Some (Position p)) command) ≡ first_broken (given_tests h k r k.memory a w (Some (Position p)) command)
   unfolding holds_of
-  placed_is p None still = rw (or_false (moves.is_being_moved h k r.id)) refl
-  placed_is p (Some c) still = rw (still c refl, or_false (has_busy_slot h k c), or_false (has_left_out_endpoint h k c)) refl
+  placed_is p None still =
+      let busy = moves.is_being_moved h k r.id || moves.awaits_binding h k r.id in
+      rw (or_false (busy || false), or_false busy) refl
+  placed_is p (Some c) still =
+      rw ((still c refl).0, (still c refl).1, or_false (has_busy_slot h k c || false), or_false (has_busy_slot h k c), or_false (has_left_out_endpoint h k c)) refl
 
   pub tests_are : (giving : Option RingGiving) (command : Option Command) → GivesOnPosition giving command →
-      ((c : Command) → command ≡ Some c → moves.is_being_moved h k r.id ≡ false) → first_broken (of_ring giving command) ≡ first_broken (given_tests h k r k.memory a w giving command)
+      ((c : Command) → command ≡ Some c → IsStill) → first_broken (of_ring giving command) ≡ first_broken (given_tests h k r k.memory a w giving command)
   tests_are None command quiet still =
       ap (λ o. first_broken (of_ring None o)) quiet ∙ quiet_is None refl ∙ ap (λ o. first_broken (given_tests h k r k.memory a w None o)) (sym quiet)
   tests_are (Some (Crossing q)) command quiet still =
@@ -72,7 +79,7 @@ module _ (h : Header) (k : Known) (a w : ℕ) (r : Ring) where
 module _ (h : Header) (headed : IsHeader h) (k : Known) (on : k.stopped ≡ false) (a w : ℕ) where
   -- the rules of the trace's version
   abbrev version_tests_with : Bool → Bool → List Test
-  version_tests_with busy left_out =
+  version_tests_with busy left_out badly_placed =
       (WriteToOwned, writes_to_owned h k a w)
       ∷ (NotAsSubmitted, some_given h k a w (λ r p. is_other_than_declared (shape_of h r) (k.ring r) k.memory a w p))
       ∷ (NotDeclared, some_given h k a w (λ r p. is_not_declared (k.ring r) p))
@@ -81,12 +88,14 @@ module _ (h : Header) (headed : IsHeader h) (k : Known) (on : k.stopped ≡ fals
       ∷ (BadCommand, some_command h k a w (commands.is_bad_command h k))
       ∷ (Busy, busy)
       ∷ (NotInProfile, left_out)
-      ∷ (BadMove, some_command h k a w (λ c. moves.is_bad_binding h k c || moves.is_bad_move h k c)) ∷ []
+      ∷ (BadMove, badly_placed) ∷ []
 
   abbrev version_tests : List Test
   version_tests =
-      version_tests_with (holds_of (has_busy_slot h k) (command_given h k a w) || some_given h k a w (λ r p. moves.is_being_moved h k r))
+      version_tests_with
+      (holds_of (has_busy_slot h k) (command_given h k a w) || some_given h k a w (λ r p. moves.is_being_moved h k r || moves.awaits_binding h k r) || some_crossed h k a w (λ r q. moves.awaits_binding h k r))
       (holds_of (has_left_out_endpoint h k) (command_given h k a w) || some_crossed h k a w (λ r q. interrupts (shape_of h r) k.memory a w q))
+      (holds_of (places_badly h k) (command_given h k a w))
 
   or_assoc : (x y z : Bool) → (x || (y || z)) ≡ ((x || y) || z)
   or_assoc true y z = refl
@@ -106,12 +115,21 @@ module _ (h : Header) (headed : IsHeader h) (k : Known) (on : k.stopped ≡ fals
   left_out_is None later = refl
   left_out_is (Some c) later = or_assoc (commands.adds_isochronous h k c && not (is_three h.version)) (commands.adds_streams h k c) later
 
+  -- and that on bindings
+  badly_placed_is : (c : Option Command) →
+      ((holds_of (moves.binds_again h k) c && not (is_three h.version)) || holds_of (λ d. moves.is_bad_binding h k d || moves.is_bad_move h k d) c) ≡ holds_of (places_badly h k) c
+  unfolding holds_of places_badly
+  badly_placed_is None = refl
+  badly_placed_is (Some c) = or_assoc (moves.binds_again h k c && not (is_three h.version)) (moves.is_bad_binding h k c) (moves.is_bad_move h k c)
+
   pub least_is : first_of (broken h k (Write a w)) ≡ first_broken version_tests
   unfolding broken tests lenient_tests write_tests older stricter writes_to_owned some_command
   least_is =
       ap (λ b. first_of (if b then AfterStop ∷ [] else broken_of (tests h k (Write a w)))) on
-      ∙ (λ i. first_of (broken_of (version_tests_with (busy_is (command_given h k a w) (some_given h k a w (λ r p. moves.is_being_moved h k r)) i)
-      (left_out_is (command_given h k a w) (some_crossed h k a w (λ r q. interrupts (shape_of h r) k.memory a w q)) i))))
+      ∙ (λ i. first_of (broken_of (version_tests_with
+      (busy_is (command_given h k a w) (some_given h k a w (λ r p. moves.is_being_moved h k r || moves.awaits_binding h k r) || some_crossed h k a w (λ r q. moves.awaits_binding h k r)) i)
+      (left_out_is (command_given h k a w) (some_crossed h k a w (λ r q. interrupts (shape_of h r) k.memory a w q)) i)
+      (badly_placed_is (command_given h k a w) i))))
       ∙ first_broken-is version_tests
 
   -- the write is to what the controller owns
@@ -168,7 +186,8 @@ module _ (h : Header) (headed : IsHeader h) (k : Known) (on : k.stopped ≡ fals
           given_is (λ s p. is_other_than_declared (shape_of h s) (k.ring s) k.memory a w p),
           given_is (λ s p. is_not_declared (k.ring s) p),
           given_is (λ s p. is_not_whole (shape_of h s) (k.ring s) p),
-          given_is (λ s p. moves.is_being_moved h k s),
+          given_is (λ s p. moves.is_being_moved h k s || moves.awaits_binding h k s),
+          crossed_is (λ s q. moves.awaits_binding h k s),
           crossed_is (λ s q. leads_wrong (shape_of h s) k.memory a w q),
           crossed_is (λ s q. interrupts (shape_of h s) k.memory a w q),
           shape_there h headed r among,
@@ -178,6 +197,6 @@ module _ (h : Header) (headed : IsHeader h) (k : Known) (on : k.stopped ≡ fals
         ) refl
 
         -- the least rule that it breaks
-        pub least_of_ring : GivesOnPosition giving command → ((c : Command) → command ≡ Some c → moves.is_being_moved h k r.id ≡ false) →
+        pub least_of_ring : GivesOnPosition giving command → ((c : Command) → command ≡ Some c → IsStill h k a w r) →
             first_of (broken h k (Write a w)) ≡ first_broken (given_tests h k r k.memory a w giving command)
         least_of_ring quiet still = least_is ∙ ap first_broken all_are ∙ tests_are h k a w r giving command quiet still

@@ -27,8 +27,8 @@ use Rattle.write_checks.specs.WriteTests.{GivesOnPosition, command_on, given_tes
 use Rattle.write_checks.specs.Allowed.{IsAllowed}
 use Rattle.trace_record.proofs.FirstBroken.{nothing_broken}
 use Rattle.write_checks.proofs.OnRing.{inside, inside_is}
-use Rattle.write_checks.proofs.CommandsOn.{command_is, none_nowhere, stays_put}
-use Rattle.write_checks.proofs.RingWrites.{nothing_breaks, least_of_ring}
+use Rattle.write_checks.proofs.CommandsOn.{awaits_none, command_is, none_nowhere, stays_put}
+use Rattle.write_checks.proofs.RingWrites.{IsStill, nothing_breaks, least_of_ring}
 
 none_some : {X Y : Type 0} (x : X) → None ≡ Some x → Y
 none_some x e = cc
@@ -62,9 +62,9 @@ module _ (h : Header) (headed : IsHeader h) (a w : ℕ) (aligned : a % 4 ≡ 0) 
         command_is h headed k a w aligned r among (inside h headed k a aligned r among driver has)
         ∙ ap (λ ps. if is_command_kind r.shape.kind then command_on (k.ring r.id) ps else None) told.positions ∙ sym told.said
 
-    still : (c : Command) → command ≡ Some c → moves.is_being_moved h k r.id ≡ false
+    still : (c : Command) → command ≡ Some c → IsStill h k a w r
     still c is = elim (cases_Bool (is_command_kind r.shape.kind)) [
-      | inl commands ↦ stays_put h headed k keeps r among commands
+      | inl commands ↦ (stays_put h headed k keeps r among commands, awaits_none h headed k keeps r among commands)
       | inr other ↦ none_some c (sym (told.said ∙ ap (λ (b : Bool). if b then command_on (k.ring r.id) (positions_of giving) else None) other) ∙ is)
     ]
 

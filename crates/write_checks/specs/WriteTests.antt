@@ -1,5 +1,5 @@
 -- The rules of a write to a word of one ring that isn't under lease
-use Rattle.std.specs.Prelude.{◌≡◌, ℕ, ◌||◌, true, List, [], ◌∷◌, ◌++◌, Option, Some, None, option_and_then, slice_get}
+use Rattle.std.specs.Prelude.{◌≡◌, ℕ, ◌||◌, Bool, true, List, [], ◌∷◌, ◌++◌, Option, Some, None, option_and_then, slice_get}
 use Rattle.std.specs.List.{list_any}
 use Rattle.trb.specs.declared.block.Block.{Block}
 use Rattle.segments.specs.ShapeValue.{Shape}
@@ -16,7 +16,7 @@ use Rattle.ring_knowledge.specs.declared.ring_record.RingGiving.{RingGiving}
 use Rattle.ring_knowledge.specs.declared.ring_record.RingGiving.TheVariants.{Position, Crossing}
 use Rattle.ownership_rules.specs.Commands as commands
 use Rattle.ownership_rules.specs.Moves as moves
-use Rattle.ownership_rules.specs.Older.{has_busy_slot, has_left_out_endpoint}
+use Rattle.ownership_rules.specs.Older.{has_busy_slot, has_left_out_endpoint, places_badly}
 use Rattle.ownership_rules.specs.Refusal.{Test}
 use Rattle.ownership_rules.specs.declared.refusal.Refusal.TheVariants.{NotAsSubmitted, NotDeclared, NotWhole, LinkFault, BadCommand, Busy, NotInProfile, BadMove}
 
@@ -46,10 +46,11 @@ position_tests shape v memory a w given =
     ∷ (NotDeclared, list_any (is_not_declared v) given)
     ∷ (NotWhole, list_any (is_not_whole shape v) given) ∷ []
 
--- of a write that gives these crossings
-abbrev pub crossing_tests : Shape → (ℕ → ℕ) → ℕ → ℕ → List ℕ → List Test
-crossing_tests shape memory a w crossed =
+-- of a write that gives these crossings, of a ring that awaits its binding or doesn't
+abbrev pub crossing_tests : Shape → (ℕ → ℕ) → ℕ → ℕ → Bool → List ℕ → List Test
+crossing_tests shape memory a w awaits crossed =
     (LinkFault, list_any (leads_wrong shape memory a w) crossed)
+    ∷ (Busy, list_any (λ q. awaits) crossed)
     ∷ (NotInProfile, list_any (interrupts shape memory a w) crossed) ∷ []
 
 -- of a write that gives a command
@@ -58,16 +59,16 @@ command_tests h k c =
     (BadCommand, commands.is_bad_command h k c)
     ∷ (Busy, has_busy_slot h k c)
     ∷ (NotInProfile, has_left_out_endpoint h k c)
-    ∷ (BadMove, moves.is_bad_binding h k c || moves.is_bad_move h k c) ∷ []
+    ∷ (BadMove, places_badly h k c) ∷ []
 
 -- of a write that gives a position of the ring with this ID, and by it this command
 abbrev pub place_tests : Header → Known → ℕ → Option Command → List Test
 place_tests h k r (Some c) = command_tests h k c
-place_tests h k r None = (Busy, moves.is_being_moved h k r) ∷ []
+place_tests h k r None = (Busy, moves.is_being_moved h k r || moves.awaits_binding h k r) ∷ []
 
 -- of a write that gives this of a ring, and this command
 abbrev pub given_tests : Header → Known → Ring → (ℕ → ℕ) → ℕ → ℕ → Option RingGiving → Option Command → List Test
 given_tests h k ring memory a w None command = []
-given_tests h k ring memory a w (Some (Crossing q)) command = crossing_tests ring.shape memory a w (q ∷ [])
+given_tests h k ring memory a w (Some (Crossing q)) command = crossing_tests ring.shape memory a w (moves.awaits_binding h k ring.id) (q ∷ [])
 given_tests h k ring memory a w (Some (Position p)) command =
     position_tests ring.shape (k.ring ring.id) memory a w (p ∷ []) ++ place_tests h k ring.id command

@@ -1,4 +1,5 @@
-ghost use Rattle.std.specs.Prelude.{◌≡◌, false, IfOk, IfErr, IfSome, IfNone};
+ghost use Rattle.std.specs.Prelude.{◌≡◌, false, None, IfOk, IfErr, IfSome, IfNone};
+ghost use Rattle.segments.specs.ShapeValue.{Shape};
 ghost use Rattle.traces.specs.Header.{IsHeader};
 ghost use Rattle.traces.specs.declared.row.Row.TheVariants.{Write};
 ghost use Rattle.ring_knowledge.specs.Known.{Known};
@@ -18,7 +19,7 @@ ghost use Rattle.write_checks.specs.Allowed.{IsAllowed};
 use crate::crossings::crossing_refusal;
 use crate::given_commands::{command_refusal, given_command};
 use crate::positions::position_refusal;
-use binding_checks::is_being_moved;
+use binding_checks::{awaits_binding, is_being_moved};
 use commands::Command;
 use guest_memory::{Addr, WordMemory};
 use ownership_rules::Refusal;
@@ -107,12 +108,15 @@ fn giving_refusal<M: WordMemory>(
 {
     match giving {
         None => None,
-        Some(RingGiving::Crossing(q)) => crossing_refusal(&ring.shape, memory, at, word, q),
+        Some(RingGiving::Crossing(q)) => {
+            let awaits = awaits_binding(header, finder, t, memory, ring.id, known);
+            crossing_refusal(&ring.shape, memory, at, word, awaits, q)
+        }
         Some(RingGiving::Position(p)) => {
             if let Some(refusal) = position_refusal(&ring.shape, known, memory, at, word, p) {
                 return Some(refusal);
             }
-            place_refusal(header, finder, t, memory, ring.id, command)
+            place_refusal(header, finder, t, memory, ring.id, known, command)
         }
     }
 }
@@ -124,23 +128,41 @@ fn place_refusal<M: WordMemory>(
     t: &TraceRecord,
     memory: &M,
     ring: u8,
+    known: &RingRecord,
     command: Option<Command>,
 ) -> Option<Refusal>
     requires headed { IsHeader header.now }
     requires found { IsFinder header.now.rings finder.now }
     requires aligned { IfSome command IsAligned }
-    ensures first { (k : Known) → FollowsTrace header.now k t.now (M.words memory.now) → DriverKeeps header.now k → ContextsFit header.now k →
-        result ≡ first_broken (place_tests header.now k ring command) }
+    ensures first { (k : Known) (shape : Shape) → FollowsTrace header.now k t.now (M.words memory.now) → DriverKeeps header.now k → ContextsFit header.now k →
+        FollowsRing shape (k.ring ring) known.now → result ≡ first_broken (place_tests header.now k ring command) }
     ensures fits { IfNone result (IfSome command (FitsMemory header.now.context_size)) }
 {
     match command {
         Some(command) => command_refusal(header, finder, t, memory, &command),
-        None => {
-            if is_being_moved(t, ring) {
-                Some(Refusal::Busy)
-            } else {
-                None
-            }
-        }
+        None => block_refusal(header, finder, t, memory, ring, known),
     }
+}
+
+/// Which rule of moves and bindings the giving of a block breaks that is no command.
+fn block_refusal<M: WordMemory>(
+    header: &Header,
+    finder: &Finder,
+    t: &TraceRecord,
+    memory: &M,
+    ring: u8,
+    known: &RingRecord,
+) -> Option<Refusal>
+    requires headed { IsHeader header.now }
+    requires found { IsFinder header.now.rings finder.now }
+    ensures { (k : Known) (shape : Shape) → FollowsTrace header.now k t.now (M.words memory.now) → ContextsFit header.now k → FollowsRing shape (k.ring ring) known.now →
+        result ≡ first_broken (place_tests header.now k ring None) }
+{
+    if is_being_moved(t, ring) {
+        return Some(Refusal::Busy);
+    }
+    if awaits_binding(header, finder, t, memory, ring, known) {
+        return Some(Refusal::Busy);
+    }
+    None
 }

@@ -14,21 +14,25 @@ use ownership_rules::Refusal;
 use segments::RingShape;
 use trb::{Block, BlockFlags, BlockKind, Flags};
 
-/// Which rule of its ring a write breaks first that gives a crossing.
+/// Which rule of its ring a write breaks first that gives a crossing; `awaits` tells whether the ring awaits its binding.
 pub fn crossing_refusal<M: WordMemory>(
     shape: &RingShape,
     memory: &M,
     at: Addr,
     word: u32,
+    awaits: bool,
     crossing: u64,
 ) -> Option<Refusal>
     requires { IsDriver shape.now }
-    ensures { result ≡ first_broken (crossing_tests shape.now (M.words memory.now) at word (crossing ∷ [])) }
+    ensures { result ≡ first_broken (crossing_tests shape.now (M.words memory.now) at word awaits (crossing ∷ [])) }
 {
     let segment = link_crossed(shape, crossing);
     let link = block_after(memory, at, word, shape.link(segment));
     if is_wrong_link(shape, segment, link) {
         return Some(Refusal::LinkFault);
+    }
+    if awaits {
+        return Some(Refusal::Busy);
     }
     if has_interrupt(link) {
         return Some(Refusal::NotInProfile);

@@ -1,5 +1,5 @@
 //! The command that a write gives, and its rules: xHCI 4.6.
-ghost use Rattle.std.specs.Prelude.{◌≡◌, ◌||◌, ℕ, if◌then◌else◌, None, IfNone, IfSome};
+ghost use Rattle.std.specs.Prelude.{◌≡◌, ◌&&◌, ℕ, not, if◌then◌else◌, None, IfNone, IfSome};
 ghost use Rattle.segments.specs.ShapeValue.{Shape};
 ghost use Rattle.segments.specs.RingView.{RingView};
 ghost use Rattle.traces.specs.Header.{IsHeader, is_command_kind};
@@ -7,8 +7,9 @@ ghost use Rattle.commands.specs.Command.{command_of};
 ghost use Rattle.ring_knowledge.specs.Known.{Known};
 ghost use Rattle.ring_knowledge.specs.RingRecords.{FollowsRing, positions_of};
 ghost use Rattle.ring_finder.specs.Finding.{IsFinder};
-ghost use Rattle.ownership_rules.specs.Moves.{is_bad_binding, is_bad_move};
-ghost use Rattle.ownership_rules.specs.Older.{has_busy_slot};
+ghost use Rattle.traces.specs.Versions.{is_three};
+ghost use Rattle.ownership_rules.specs.Moves.{binds_again};
+ghost use Rattle.ownership_rules.specs.Older.{has_busy_slot, places_badly};
 ghost use Rattle.ownership_rules.specs.Refusal.{first_broken};
 ghost use Rattle.safety.specs.Keeps.{DriverKeeps};
 ghost use Rattle.trace_record.specs.FollowsTrace.{FollowsTrace};
@@ -16,7 +17,7 @@ ghost use Rattle.trace_record.specs.Premises.{ContextsFit, FitsMemory};
 ghost use Rattle.context_checks.specs.Contents.{IsAligned};
 ghost use Rattle.write_checks.specs.WriteTests.{GivesOnPosition, command_in, command_on, command_tests};
 
-use binding_checks::{is_bad_binding, is_bad_move};
+use binding_checks::{binds_again, is_bad_binding, is_bad_move};
 use commands::Command;
 use context_checks::{has_left_out_endpoint, is_bad_command};
 use guest_memory::WordMemory;
@@ -90,7 +91,7 @@ pub fn command_refusal<M: WordMemory>(
     if has_left_out_endpoint(header, memory, command) {
         return Some(Refusal::NotInProfile);
     }
-    if moves_badly(header, finder, t, memory, command) {
+    if places_badly(header, finder, t, memory, command) {
         return Some(Refusal::BadMove);
     }
     None
@@ -106,8 +107,8 @@ fn has_busy_slot(header: &Header, t: &TraceRecord, command: &Command) -> bool
     !header.version.is_three() && t.commands.shares_slot(command)
 }
 
-/// Whether the command binds or moves a ring to where it may not be.
-fn moves_badly<M: WordMemory>(
+/// Whether the command binds or moves a ring to where it may not be, or binds one again where the trace's version refuses that.
+fn places_badly<M: WordMemory>(
     header: &Header,
     finder: &Finder,
     t: &TraceRecord,
@@ -117,7 +118,26 @@ fn moves_badly<M: WordMemory>(
     requires headed { IsHeader header.now }
     requires found { IsFinder header.now.rings finder.now }
     ensures { (k : Known) → FollowsTrace header.now k t.now (M.words memory.now) → DriverKeeps header.now k → ContextsFit header.now k →
-        FitsMemory header.now.context_size command.now → result ≡ (is_bad_binding header.now k command.now || is_bad_move header.now k command.now) }
+        FitsMemory header.now.context_size command.now → result ≡ places_badly header.now k command.now }
 {
+    if is_bound_again(header, finder, t, memory, command) {
+        return true;
+    }
     is_bad_binding(header, finder, t, memory, command) || is_bad_move(header, t, memory, command)
+}
+
+/// Whether the command binds a ring that was bound before, where the trace's version refuses that.
+fn is_bound_again<M: WordMemory>(
+    header: &Header,
+    finder: &Finder,
+    t: &TraceRecord,
+    memory: &M,
+    command: &Command,
+) -> bool
+    requires headed { IsHeader header.now }
+    requires found { IsFinder header.now.rings finder.now }
+    ensures { (k : Known) → FollowsTrace header.now k t.now (M.words memory.now) → FitsMemory header.now.context_size command.now →
+        result ≡ (binds_again header.now k command.now && not (is_three header.now.version)) }
+{
+    !header.version.is_three() && binds_again(header, finder, &t.devices, memory, command)
 }

@@ -4,7 +4,7 @@ ghost use Rattle.segments.specs.Places.{place_count};
 ghost use Rattle.segments.specs.RingView.{RingView, declared, floor_number};
 ghost use Rattle.segments.specs.Ceiling.{ceiling, is_data_below, is_stop_spot, is_way_given, stopped_number};
 ghost use Rattle.segments.specs.Descriptors.{is_border};
-ghost use Rattle.segments.specs.Moves.{is_move, is_reached, may_move_to};
+ghost use Rattle.segments.specs.Moves.{is_move, is_placement, is_reached, may_move_to};
 
 use super::spots::spot_between;
 use super::{RingRecord, is_noted, number};
@@ -34,6 +34,19 @@ impl RingRecord {
     {
         let end = self.blocks.len() as u64;
         self.is_move(shape, pointer, cycle, end, end)
+    }
+
+    /// Whether a pointer and a cycle state stand where the ring stands still, since its controller can't have gone on from the
+    /// floor: at a border between descriptors before which all is given. There an endpoint may be bound to it (xHCI 4.6.5, 4.6.6).
+    pub fn may_be_bound(&self, shape: &RingShape, pointer: u64, cycle: bool) -> bool
+        ensures { (v : RingView) → FollowsRing shape.now v self.now → floor_number v ≤ ceiling shape.now v →
+            result ≡ is_placement shape.now v pointer cycle }
+    {
+        let floor = number(self.floor);
+        if self.ceiling() != floor {
+            return false;
+        }
+        self.is_move(shape, pointer, cycle, floor, floor)
     }
 
     /// Whether a pointer and a cycle state stand at a spot, with a number from least to most, to which the ring may be moved.

@@ -1,12 +1,15 @@
 use Rattle.std.proofs.Common.{◌≡◌}
 use Rattle.ring_knowledge.specs.Known.{Known}
+use Rattle.safety.specs.Keeps.{DriverKeeps}
+use Rattle.trace_record.specs.FollowsTrace.{FollowsTrace}
 use Rattle.trace_record.specs.Premises.{FitsMemory}
-use Rattle.binding_checks.specs.Contexts.{HoldsContexts}
-use Rattle.binding_checks.specs.Bindings.{are_bad, bindings_from}
+use Rattle.binding_checks.specs.Bindings.{are_bad, bindings_from, is_misplaced}
+use Rattle.binding_checks.specs.Dropped.{HoldsDropped}
 use Rattle.binding_checks.proofs.binding.binds_badly.Given as goal
 
 -- those that are left decide
 abbrev pub invariant-loop-index : goal.invariant-loop-index
 invariant-loop-index g l =
-    (k : Known) → HoldsContexts k l.devices (g.M.WordMemory.words l.memory) → FitsMemory l.header.context_size l.command →
-    are_bad k.was_bound l.initial.taken (bindings_from l.header k l.command 1) ≡ are_bad k.was_bound l.taken (bindings_from l.header k l.command l.index)
+    (k : Known) → FollowsTrace l.header k l.t (g.M.WordMemory.words l.memory) → DriverKeeps l.header k → FitsMemory l.header.context_size l.command → HoldsDropped k l.command l.dropped →
+    are_bad (is_misplaced l.header k l.command) l.initial.taken (bindings_from l.header k l.command 1)
+    ≡ are_bad (is_misplaced l.header k l.command) l.taken (bindings_from l.header k l.command l.index)

@@ -16,7 +16,7 @@ returns g c =
     let h = x.header.now in
     let memory = g.M.WordMemory.words x.input.now.memory in
     let a = x.input.now.address in
-    let begins = c.ring_beginning_at-ring.ensures ∙ pointed_from h memory a x.index x.input.now.size c.endpoint-endpoint.result.pointer c.requires.sized c.endpoint-endpoint.ensures.pointer in
+    let begins = c.ring_having-ring.ensures ∙ pointed_from h memory a x.index x.input.now.size c.endpoint-endpoint.result.pointer c.requires.sized c.endpoint-endpoint.ensures.pointer in
     on_more c.add_ring.result (λ added.
     ap (λ xs. xs ++ rings_added h memory a (x.index + 1)) (added ∙ ap (λ o. x.rings.now.items ++ listed o) begins)
     ∙ append_assoc x.rings.now.items _ _

@@ -1,8 +1,8 @@
 use Rattle.std.proofs.Common.{rules, ◌≡◌, [], ◌∷◌, Option, Some, ap, sym, ◌∙◌}
 use Rattle.ring_knowledge.specs.declared.ring_record.RingGiving.{RingGiving}
-use Rattle.ring_knowledge.specs.declared.ring_record.RingGiving.TheVariants.{Position}
+use Rattle.ring_knowledge.specs.declared.ring_record.RingGiving.TheVariants.{Crossing, Position}
 use Rattle.ownership_rules.specs.Refusal.{first_broken}
-use Rattle.write_checks.specs.WriteTests.{given_tests, place_tests, position_tests}
+use Rattle.write_checks.specs.WriteTests.{crossing_tests, given_tests, place_tests, position_tests}
 use Rattle.write_checks.proofs.GivenTests.{first_fails, none_fails}
 use Rattle.write_checks.proofs.checks.giving_refusal.Goals as goal
 
@@ -22,7 +22,17 @@ returns-in_default-clause-first g c =
     λ k f d fit r.
     let ring = c.args.ring.now in
     let memory = g.M.WordMemory.words c.args.memory.now in
-    c.place_refusal.ensures.first k f d fit
+    c.place_refusal.ensures.first k ring.shape f d fit r
     ∙ none_fails (position_tests ring.shape (k.ring ring.id) memory c.args.at c.args.word (c.in-Some-Position.p ∷ [])) (place_tests c.args.header.now k ring.id c.args.command)
     (sym c.in_default.is ∙ c.position_refusal.ensures (k.ring ring.id) r)
+    ∙ ap (λ (o : Option RingGiving). first_broken (given_tests c.args.header.now k ring memory c.args.at c.args.word o c.args.command)) (sym is)
+
+pub returns-in-Some-Crossing-clause-first : goal.returns-in-Some-Crossing-clause-first
+returns-in-Some-Crossing-clause-first g c =
+    let is : c.args.giving ≡ Some (Crossing c.in-Some-Crossing.q) = search rules in
+    λ k f d fit r.
+    let ring = c.args.ring.now in
+    let memory = g.M.WordMemory.words c.args.memory.now in
+    c.crossing_refusal.ensures
+    ∙ ap (λ b. first_broken (crossing_tests ring.shape memory c.args.at c.args.word b (c.in-Some-Crossing.q ∷ []))) (c.awaits_binding-awaits.ensures k ring.shape f fit r)
     ∙ ap (λ (o : Option RingGiving). first_broken (given_tests c.args.header.now k ring memory c.args.at c.args.word o c.args.command)) (sym is)

@@ -1,0 +1,19 @@
+-- The rings of the endpoints that a command drops: xHCI 4.6.6
+use Rattle.std.specs.Prelude.{◌≡◌, ℕ, ◌&&◌, Bool, false}
+use Rattle.std.specs.List.{list_any, range_with_len}
+use Rattle.contexts.specs.Contexts.{is_dropped}
+use Rattle.commands.specs.declared.command.Command.{Command}
+use Rattle.commands.specs.declared.command.Command.TheVariants.{ConfigureEndpoint}
+use Rattle.traces.specs.Header.{is_ring}
+use Rattle.ring_knowledge.specs.Known.{Known}
+use Rattle.binding_checks.specs.declared.ring_set.RingSet.{RingSet}
+use Rattle.binding_checks.specs.RingSets.{has}
+
+-- the command drops the endpoint of its slot with index i, which has ring r
+abbrev pub leaves : Known → Command → ℕ → ℕ → Bool
+leaves k (ConfigureEndpoint s false c) i r = is_dropped k.memory c i && is_ring r (k.ring_of s i)
+leaves k _ i r = false
+
+-- they are in the set, and no others
+abbrev pub HoldsDropped : Known → Command → RingSet → Type 0
+HoldsDropped k c rings = (r : ℕ) → has rings r ≡ list_any (λ i. leaves k c i r) (range_with_len 2 30)
