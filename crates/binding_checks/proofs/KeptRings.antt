@@ -79,9 +79,9 @@ module _ (h : Header) (k : Known) (keeps : DriverKeeps h k) (c : Command) (r : �
         (any_at (stays at.slot) 31 1 at.index (omega (arith, index_is.0)) (omega (arith, index_is.1)) (λ j. same r (k.ring_of at.slot at.index) at.has j && not (is j)))
     kept_by true is =
         any_none (λ s. list_any (stays s) (range_with_len 1 31)) (range_with_len 1 255) (λ s. any_none (stays s) (range_with_len 1 31) (λ i. false_unless (stays s i) (λ e.
-            let parts = and_parts (is_ring r (k.ring_of s i)) (not (drops k c s i)) e in
-            let one = keeps.states.one_endpoint s i at.slot at.index r (named r (k.ring_of s i) parts.0) at.has in
-            false≢true (sym (ap not ((λ j. drops k c (one.0 j) (one.1 j)) ∙ is)) ∙ parts.1))))
+        let parts = and_parts (is_ring r (k.ring_of s i)) (not (drops k c s i)) e in
+        let one = keeps.states.one_endpoint s i at.slot at.index r (named r (k.ring_of s i) parts.0) at.has in
+        false≢true (sym (ap not ((λ j. drops k c (one.0 j) (one.1 j)) ∙ is)) ∙ parts.1))))
 
     -- kept it is where its endpoint isn't dropped
     pub kept_is : is_kept h k c r ≡ not (drops k c at.slot at.index)

@@ -41,12 +41,7 @@ fn adds<M: WordMemory>(memory: &M, size: ContextSize, address: u64, index: u8) -
 }
 
 /// Whether the input context at an address drops an endpoint above the default control endpoint (xHCI 6.2.5.1).
-pub(crate) fn drops<M: WordMemory>(
-    memory: &M,
-    size: ContextSize,
-    address: u64,
-    index: u8,
-) -> bool
+pub(crate) fn drops<M: WordMemory>(memory: &M, size: ContextSize, address: u64, index: u8) -> bool
     requires last { index < 32 }
     ensures { address % 4 ≡ 0 → address + input_context_bytes size ≤ 2 ^ 64 → result ≡ is_dropped (M.words memory.now) address index }
 {

@@ -543,14 +543,7 @@ impl Known {
     }
 
     /// The pointer of a ring is moved.
-    fn set_ring(
-        &mut self,
-        header: &Header,
-        finder: &Finder,
-        id: u8,
-        pointer: u64,
-        cycle: bool,
-    ) {
+    fn set_ring(&mut self, header: &Header, finder: &Finder, id: u8, pointer: u64, cycle: bool) {
         let Some(number) = finder.ring_named(id) else {
             return;
         };
