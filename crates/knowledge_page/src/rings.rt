@@ -60,7 +60,7 @@ pub fn ring_facts(known: &RingRecord) -> RingFacts
 fn served_by(devices: &DeviceRecord, ring: u8) -> Option<Served>
     ensures { IfSome result (λ e. (k : Known) → FollowsDevices k devices.now → k.ring_of e.slot e.endpoint ≡ Some ring) }
 {
-    if !devices.was_bound(ring) {
+    if !devices.has_endpoint(ring) {
         return None;
     }
     for slot in 1..=255 {

@@ -478,12 +478,12 @@ fn note_standing(
             "the ring stands there, with DCS {dcs}: it is the Cycle bit with which the TRB there is handed over"
         )?;
         finding.note(note)?;
-        return finding.help(case.alloc, "set DCS, bit 0 of the TR Dequeue Pointer, to that");
+        return finding.help(
+            case.alloc,
+            "set DCS, bit 0 of the TR Dequeue Pointer, to that",
+        );
     }
-    let (address, dcs) = (
-        ring.shape.address(floor),
-        u8::from(ring.shape.cycle(floor)),
-    );
+    let (address, dcs) = (ring.shape.address(floor), u8::from(ring.shape.cycle(floor)));
     if known.may_be_bound(&ring.shape, address, dcs == 1) {
         let note = format!(in case.alloc; "ring {id:02x} stands at {address:016x}, DCS {dcs}")?;
         finding.note(note)?;

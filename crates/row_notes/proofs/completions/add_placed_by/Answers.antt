@@ -21,5 +21,5 @@ returns-in-Some g c =
     let h = x.header.now in
     on_more c.add_placed.result (λ adds. λ k f may.
     let still = subst (λ o. MayPlace h k o) c.in-Some.is may in
-    adds k (slot x.event) f.devices f.words still.0 still.1.0 still.1.1
+    adds k (slot x.event) f.devices f.words still.0 still.1 still.2
     ∙ ap (λ xs. x.rings.now.items ++ xs) (some_by h k x.event x.command c.in-Some.command c.in-Some.is (sym c.code.ensures ∙ c.if-code-ne1.false))) c.add_placed.ensures
