@@ -1,5 +1,5 @@
 -- Rings that lie apart: a word inside one gives nothing of another, and touches none of its leases
-use Rattle.segments.proofs.Words.{◌≡◌, ℕ, true, false, List, [], AllPairs, Shape, is_inside}
+use Rattle.segments.proofs.Words.{◌≡◌, ℕ, true, false, List, AllPairs, Shape, is_inside}
 use Rattle.segments.specs.Shape.{rings_overlap}
 
 -- no byte lies inside both
