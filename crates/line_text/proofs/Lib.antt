@@ -1,4 +1,5 @@
 pub mod Cuts
 pub mod Counts
 pub mod Digits
+pub mod DigitLanes
 pub mod Joins

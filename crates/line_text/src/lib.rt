@@ -2,6 +2,7 @@
 #![tactic(auto)]
 
 mod fields;
+mod lanes;
 mod lines;
 mod numbers;
 

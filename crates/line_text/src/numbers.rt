@@ -2,7 +2,9 @@ ghost use Rattle.std.specs.Prelude.{◌≡◌, ◌++◌, OnOk, OnErr};
 ghost use Rattle.std.specs.Int.{w8, w16, w32, w64};
 ghost use Rattle.line_text.specs.Numbers.{digits_of, number_of};
 
+use crate::lanes::{are_digits, bytes_of_8, bytes_of_16};
 use std::alloc::AllocError;
+use std::simd::prelude::*;
 
 /// A small number from 2 hex digits of either case.
 #[tactic(auto, unfolding(crate::specs::Numbers::number_of))]
@@ -29,9 +31,14 @@ pub fn u16_of(field: &[u8]) -> Option<u16>
 pub fn u32_of(field: &[u8]) -> Option<u32>
     ensures { result ≡ number_of w32 field.now }
 {
-    let mut bytes = [0u8; 4];
-    hex::decode_to_slice(field, &mut bytes).ok()?;
-    Some(u32::from_be_bytes(bytes))
+    if field.len() != 8 {
+        return None;
+    }
+    let digits = u8x8::from_slice(field);
+    if !are_digits(digits) {
+        return None;
+    }
+    Some(u32::from_be_bytes(bytes_of_8(digits).to_array()))
 }
 
 /// An address, a register's value or a position from 16 hex digits of either case.
@@ -39,9 +46,14 @@ pub fn u32_of(field: &[u8]) -> Option<u32>
 pub fn u64_of(field: &[u8]) -> Option<u64>
     ensures { result ≡ number_of w64 field.now }
 {
-    let mut bytes = [0u8; 8];
-    hex::decode_to_slice(field, &mut bytes).ok()?;
-    Some(u64::from_be_bytes(bytes))
+    if field.len() != 16 {
+        return None;
+    }
+    let digits = u8x16::from_slice(field);
+    if !are_digits(digits) {
+        return None;
+    }
+    Some(u64::from_be_bytes(bytes_of_16(digits).to_array()))
 }
 
 /// Appends a small number, 2 digits.
