@@ -2,4 +2,5 @@ pub mod Cuts
 pub mod Counts
 pub mod Digits
 pub mod DigitLanes
+pub mod SideBySide
 pub mod Joins

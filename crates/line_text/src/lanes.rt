@@ -1,6 +1,6 @@
 //! Hex digits, one in each lane of a vector.
 
-ghost use Rattle.std.specs.Prelude.{◌≡◌, ◌↔◌, ◌≤◌, IsTrue, Ok, Some, map};
+ghost use Rattle.std.specs.Prelude.{◌≡◌, ◌↔◌, ◌≤◌, ◌++◌, IsTrue, Ok, Some, map};
 ghost use Rattle.std.specs.List.{AllPass};
 ghost use Rattle.hex.specs.Hex.{decode_of, hex_digit_value, is_hex_digit};
 
@@ -50,4 +50,15 @@ pub(crate) fn bytes_of_16(digits: u8x16) -> u8x8
     let high = values.swizzle::<8>([0, 2, 4, 6, 8, 10, 12, 14]);
     let low = values.swizzle::<8>([1, 3, 5, 7, 9, 11, 13, 15]);
     high * u8x8::splat(16) + low
+}
+
+/// The characters of both, in order.
+#[inline(always)]
+pub(crate) fn side_by_side(first: u8x8, second: u8x8) -> u8x16
+    ensures { result ≡ first ++ second }
+{
+    first.shuffle::<16>(
+        second,
+        [0, 1, 2, 3, 4, 5, 6, 7, 8, 9, 10, 11, 12, 13, 14, 15],
+    )
 }

@@ -1,8 +1,8 @@
-ghost use Rattle.std.specs.Prelude.{◌≡◌, ◌++◌, OnOk, OnErr};
+ghost use Rattle.std.specs.Prelude.{◌≡◌, ◌++◌, ◌⊎◌, IfNone, IfSome, OnOk, OnErr};
 ghost use Rattle.std.specs.Int.{w8, w16, w32, w64};
 ghost use Rattle.line_text.specs.Numbers.{digits_of, number_of};
 
-use crate::lanes::{are_digits, bytes_of_8, bytes_of_16};
+use crate::lanes::{are_digits, bytes_of_8, bytes_of_16, side_by_side};
 use std::alloc::AllocError;
 use std::simd::prelude::*;
 
@@ -39,6 +39,25 @@ pub fn u32_of(field: &[u8]) -> Option<u32>
         return None;
     }
     Some(u32::from_be_bytes(bytes_of_8(digits).to_array()))
+}
+
+/// Two words, each from 8 hex digits of either case.
+#[tactic(auto, unfolding(crate::specs::Numbers::number_of))]
+pub fn two_words_of(first: &[u8], second: &[u8]) -> Option<(u32, u32)>
+    ensures some { IfSome result (λ words. (number_of w32 first.now ≡ Some words.0) × (number_of w32 second.now ≡ Some words.1)) }
+    ensures none { IfNone result ((number_of w32 first.now ≡ None) ⊎ (number_of w32 second.now ≡ None)) }
+{
+    if first.len() != 8 || second.len() != 8 {
+        return None;
+    }
+    let digits = side_by_side(u8x8::from_slice(first), u8x8::from_slice(second));
+    if !are_digits(digits) {
+        return None;
+    }
+    let bytes = bytes_of_16(digits);
+    let high = bytes.extract::<0, 4>().to_array();
+    let low = bytes.extract::<4, 4>().to_array();
+    Some((u32::from_be_bytes(high), u32::from_be_bytes(low)))
 }
 
 /// An address, a register's value or a position from 16 hex digits of either case.
