@@ -55,9 +55,10 @@ pub fn two_words_of(first: &[u8], second: &[u8]) -> Option<(u32, u32)>
         return None;
     }
     let bytes = bytes_of_16(digits);
-    let high = bytes.extract::<0, 4>().to_array();
-    let low = bytes.extract::<4, 4>().to_array();
-    Some((u32::from_be_bytes(high), u32::from_be_bytes(low)))
+    Some((
+        u32::from_be_bytes(bytes.extract::<0, 4>().to_array()),
+        u32::from_be_bytes(bytes.extract::<4, 4>().to_array()),
+    ))
 }
 
 /// An address, a register's value or a position from 16 hex digits of either case.
