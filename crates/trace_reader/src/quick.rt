@@ -93,12 +93,8 @@ fn quick_sub(alloc: Global, content: &[u8]) -> Result<Option<Row>, AllocError>
     let Some((ring, block)) = quick_declaration(content) else {
         return Ok(None);
     };
-    let mut blocks = Vec::new(alloc);
-    blocks.push(block)?;
-    Ok(Some(Row::Sub {
-        ring,
-        blocks: Blocks::new(blocks),
-    }))
+    let blocks = Blocks::new(vec![in alloc; block]?);
+    Ok(Some(Row::Sub { ring, blocks }))
 }
 
 /// The ring and the block of a `sub` line.
