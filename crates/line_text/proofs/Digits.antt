@@ -36,14 +36,14 @@ digit_spelled c v small spelled = grind (arith, nat_tests)
 -- ---- pairs of digits
 
 -- what two digits and the rest say, where they say something
-record PairSaid (a b : ℕ) (rest bytes : List ℕ) (i : ℕ) : Type 0 where
-  high : ℕ
-  low : ℕ
-  others : List ℕ
-  high_is : hex_digit_value a ≡ Some high
-  low_is : hex_digit_value b ≡ Some low
-  others_are : decode_pairs (i + 2) rest ≡ Ok others
-  are : (high * 16 + low) ∷ others ≡ bytes
+pub record PairSaid (a b : ℕ) (rest bytes : List ℕ) (i : ℕ) : Type 0 where
+  pub high : ℕ
+  pub low : ℕ
+  pub others : List ℕ
+  pub high_is : hex_digit_value a ≡ Some high
+  pub low_is : hex_digit_value b ≡ Some low
+  pub others_are : decode_pairs (i + 2) rest ≡ Ok others
+  pub are : (high * 16 + low) ∷ others ≡ bytes
 
 read_pair : (a b i : ℕ) (oa ob : Option ℕ) (r : Result (List ℕ) FromHexError) (bytes : List ℕ) →
     ((digit_or_error a i oa >>= (λ h. digit_or_error b (i + 1) ob >>= (λ l. Ok (h * 16 + l)))) >>= (λ byte. r >>= (λ rest. Ok (byte ∷ rest)))) ≡ Ok bytes →
@@ -53,13 +53,13 @@ read_pair a b i (Some h) (Some l) (Err e) bytes said = cc said
 read_pair a b i (Some h) None r bytes said = cc said
 read_pair a b i None ob r bytes said = cc said
 
-pair_said : (a b i : ℕ) (rest bytes : List ℕ) → decode_pairs i (a ∷ b ∷ rest) ≡ Ok bytes → PairSaid a b rest bytes i
+pub pair_said : (a b i : ℕ) (rest bytes : List ℕ) → decode_pairs i (a ∷ b ∷ rest) ≡ Ok bytes → PairSaid a b rest bytes i
 unfolding decode_pairs
 pair_said a b i rest bytes said =
     let p = read_pair a b i (hex_digit_value a) (hex_digit_value b) (decode_pairs (i + 2) rest) bytes said in
     record { high = p.0; low = p.1; others = p.2; high_is = p.3; low_is = p.4; others_are = p.5; are = p.6 }
 
-pairs_said : (i : ℕ) (s bytes : List ℕ) → decode_pairs i s ≡ Ok bytes → str_to_ascii_lowercase s ≡ encode_lower bytes
+pub pairs_said : (i : ℕ) (s bytes : List ℕ) → decode_pairs i s ≡ Ok bytes → str_to_ascii_lowercase s ≡ encode_lower bytes
 unfolding decode_pairs encode_with
 pairs_said i [] bytes said = ap (λ xs. encode_lower xs) (ap (λ (r : Result (List ℕ) FromHexError). result_unwrap_or r []) said)
 pairs_said i (a ∷ []) bytes said = cc said
@@ -78,7 +78,7 @@ pairs_said i (a ∷ b ∷ rest) bytes said =
 bytes_tail : (x : ℕ) (xs : List ℕ) → IsBytes (x ∷ xs) → IsBytes xs
 bytes_tail x xs are i = are (suc i)
 
-pairs_spelled : (i : ℕ) (s bytes : List ℕ) → IsBytes bytes → str_to_ascii_lowercase s ≡ encode_lower bytes → decode_pairs i s ≡ Ok bytes
+pub pairs_spelled : (i : ℕ) (s bytes : List ℕ) → IsBytes bytes → str_to_ascii_lowercase s ≡ encode_lower bytes → decode_pairs i s ≡ Ok bytes
 unfolding decode_pairs encode_with
 pairs_spelled i [] [] are spelled = refl
 pairs_spelled i [] (x ∷ xs) are spelled = cc spelled

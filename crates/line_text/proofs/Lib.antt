@@ -1,4 +1,6 @@
 pub mod Cuts
 pub mod Counts
 pub mod Digits
+pub mod DigitLanes
+pub mod SideBySide
 pub mod Joins

@@ -1,8 +1,10 @@
-ghost use Rattle.std.specs.Prelude.{◌≡◌, ◌++◌, OnOk, OnErr};
+ghost use Rattle.std.specs.Prelude.{◌≡◌, ◌++◌, ◌⊎◌, IfNone, IfSome, OnOk, OnErr};
 ghost use Rattle.std.specs.Int.{w8, w16, w32, w64};
 ghost use Rattle.line_text.specs.Numbers.{digits_of, number_of};
 
+use crate::lanes::{are_digits, bytes_of_8, bytes_of_16, side_by_side};
 use std::alloc::AllocError;
+use std::simd::prelude::*;
 
 /// A small number from 2 hex digits of either case.
 #[tactic(auto, unfolding(crate::specs::Numbers::number_of))]
@@ -29,9 +31,34 @@ pub fn u16_of(field: &[u8]) -> Option<u16>
 pub fn u32_of(field: &[u8]) -> Option<u32>
     ensures { result ≡ number_of w32 field.now }
 {
-    let mut bytes = [0u8; 4];
-    hex::decode_to_slice(field, &mut bytes).ok()?;
-    Some(u32::from_be_bytes(bytes))
+    if field.len() != 8 {
+        return None;
+    }
+    let digits = u8x8::from_slice(field);
+    if !are_digits(digits) {
+        return None;
+    }
+    Some(u32::from_be_bytes(bytes_of_8(digits).to_array()))
+}
+
+/// Two words, each from 8 hex digits of either case.
+#[tactic(auto, unfolding(crate::specs::Numbers::number_of))]
+pub fn two_words_of(first: &[u8], second: &[u8]) -> Option<(u32, u32)>
+    ensures some { IfSome result (λ words. (number_of w32 first.now ≡ Some words.0) × (number_of w32 second.now ≡ Some words.1)) }
+    ensures none { IfNone result ((number_of w32 first.now ≡ None) ⊎ (number_of w32 second.now ≡ None)) }
+{
+    if first.len() != 8 || second.len() != 8 {
+        return None;
+    }
+    let digits = side_by_side(u8x8::from_slice(first), u8x8::from_slice(second));
+    if !are_digits(digits) {
+        return None;
+    }
+    let bytes = bytes_of_16(digits);
+    Some((
+        u32::from_be_bytes(bytes.extract::<0, 4>().to_array()),
+        u32::from_be_bytes(bytes.extract::<4, 4>().to_array()),
+    ))
 }
 
 /// An address, a register's value or a position from 16 hex digits of either case.
@@ -39,9 +66,14 @@ pub fn u32_of(field: &[u8]) -> Option<u32>
 pub fn u64_of(field: &[u8]) -> Option<u64>
     ensures { result ≡ number_of w64 field.now }
 {
-    let mut bytes = [0u8; 8];
-    hex::decode_to_slice(field, &mut bytes).ok()?;
-    Some(u64::from_be_bytes(bytes))
+    if field.len() != 16 {
+        return None;
+    }
+    let digits = u8x16::from_slice(field);
+    if !are_digits(digits) {
+        return None;
+    }
+    Some(u64::from_be_bytes(bytes_of_16(digits).to_array()))
 }
 
 /// Appends a small number, 2 digits.

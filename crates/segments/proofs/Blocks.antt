@@ -1,19 +1,10 @@
 -- Segments by their number, and the data places of a list of segments: where each lies, and that no two overlap
 use Rattle.segments.proofs.Words.{◌≡◌, ◌+◌, ◌-◌, ◌*◌, ◌<◌, ◌≤◌, ◌∷◌, ◌∙◌, ℕ, suc, zero, Bool, true, false, not, List, [], length, ap, inl, inr, arith, refl, get_or, length-append, zero-add, add-one, flat_map, list_any, cases_lt, and_parts, or_parts, not-true, nat_tests, get_or_append_left, get_or-append_right, RingKind, Segment, blocks_from, data_count, overlap, segments_overlap, are_apart}
-
--- segment j of a list
-abbrev pub segment_at : List Segment → ℕ → Segment
-segment_at ss j = get_or ss j (record { base = 0; count = 0 })
+pub use Rattle.segments.specs.Index.{before, segment_at}
 
 -- the data places of a list of segments
 abbrev pub places_of : RingKind → List Segment → List ℕ
 places_of kind ss = flat_map (λ s. blocks_from s.base (data_count kind s)) ss
-
--- how many data places there are before segment j
-abbrev pub before : RingKind → List Segment → ℕ → ℕ
-before kind [] j = 0
-before kind (s ∷ rest) zero = 0
-before kind (s ∷ rest) (suc j) = data_count kind s + before kind rest j
 
 pub length-blocks_from : (a n : ℕ) → length (blocks_from a n) ≡ n
 length-blocks_from a zero = refl

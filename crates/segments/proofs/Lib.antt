@@ -7,6 +7,7 @@ pub mod Crossings
 pub mod PlaceAtLemmas
 pub mod Pairs
 pub mod Lookups
+pub mod IndexSearch
 pub mod SpotOrder
 pub mod NamedSpots
 mod Examples

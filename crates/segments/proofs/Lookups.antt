@@ -1,10 +1,13 @@
--- Steps of the walks over a ring's segments, from the first one on. The walks see the segments as a slice of their own
-use Rattle.segments.proofs.Words.{◌≡◌, ◌≢◌, ◌+◌, ◌-◌, ◌*◌, ◌/◌, ◌%◌, ◌<◌, ◌≤◌, if◌then◌else◌, ◌∙◌, ℕ, nat_lt, true, false, List, length, slice_index, Some, None, arith, sym, ap, inl, inr, below_more, false≢true, mod-lt, RingKind, Evt, Segment, Shape, data_count, place_count, address_of, links, ends, link_crossed, is_in, place_at, IsShape}
+-- What is looked up on a ring once the segment is found. The look-ups see the segments as a list of their own
+use Rattle.segments.proofs.Words.{◌≡◌, ◌≢◌, ◌+◌, ◌-◌, ◌*◌, ◌/◌, ◌%◌, ◌<◌, ◌≤◌, if◌then◌else◌, ◌∙◌, ℕ, nat_lt, true, false, List, length, slice_index, Some, None, arith, refl, sym, ap, inl, inr, false≢true, false_from_ne_true, cases_lt, RingKind, Evt, Segment, Shape, data_count, place_count, address_of, links, ends, link_crossed, is_in, place_at, IsShape}
 use Rattle.segments.specs.declared.place.Place.TheVariants.{Data, Link}
-use Rattle.segments.proofs.Blocks.{segment_at, places_of, before, before-zero, before-next, before-all, before_within, block_lies}
+use Rattle.segments.proofs.Blocks.{segment_at, places_of, before, before-next, before-all, before_within, block_lies, same_segment}
 use Rattle.segments.proofs.DataPlaces.{link_is, length-links}
 use Rattle.segments.proofs.Crossings.{end_is, crosses, crosses-from}
 use Rattle.segments.proofs.Search.{cases_option}
+use Rattle.segments.specs.Index.{IsLastOf, IsSegmentOf}
+use Rattle.segments.proofs.IndexSearch.{before_rises}
+use Rattle.segments.proofs.ShapeFacts.{shape_facts}
 use Rattle.segments.proofs.PlaceAtLemmas.{is_in-true, is_in-parts, place_at-block, place_at-outside}
 
 -- the shape that a slice of segments stands for
@@ -27,21 +30,6 @@ sees_from shape kind inside segments places view_is same count =
 abbrev pub IsAhead : RingKind → List Segment → ℕ → ℕ → ℕ → Type 0
 IsAhead kind segments j k i = before kind segments j + k ≡ i
 
-pub ahead_first : (kind : RingKind) (segments : List Segment) (i : ℕ) → IsAhead kind segments 0 i i
-ahead_first kind segments i = omega (arith, before-zero kind segments)
-
-pub ahead_next : (kind : RingKind) (segments : List Segment) (j k n i : ℕ) → j < length segments → IsAhead kind segments j k i →
-    n ≡ data_count kind (segment_at segments j) → n ≤ k → IsAhead kind segments (j + 1) (k - n) i
-ahead_next kind segments j k n i h ahead e l = omega (arith, before-next kind segments j h)
-
-pub ahead_never : (shape : Shape) (kind : RingKind) (segments : List Segment) (places j k p : ℕ) → Sees shape kind segments places → 0 < places →
-    length segments ≤ j → j ≤ length segments → IsAhead kind segments j k (p % places) → ⊥
-ahead_never shape kind segments places j k p sees pos past within ahead =
-    let end : j ≡ length segments = omega arith in
-    let all : before kind segments j ≡ length (places_of kind segments) = ap (λ n. before kind segments n) end ∙ before-all kind segments in
-    let count : places ≡ length (places_of kind segments) = rw (← sees.kind_is, ← sees.segments_are) sees.places_are in
-    omega (arith, mod-lt p pos)
-
 pub ahead_here : (shape : Shape) (kind : RingKind) (segments : List Segment) (places j k n p : ℕ) → Sees shape kind segments places →
     j < length segments → IsAhead kind segments j k (p % places) → n ≡ data_count kind (segment_at segments j) → k < n →
     (segment_at segments j).base + 16 * k ≡ address_of shape p
@@ -51,22 +39,10 @@ ahead_here shape kind segments places j k n p sees h ahead e l =
 
 -- ---- the Link on the way to a position
 
--- the walk has passed the segments before j: their data places are counted, and none of their Links is the wanted one
+-- the data places before segment j are counted, and no Link of a segment before it is the wanted one
 pub record IsPast (kind : RingKind) (segments : List Segment) (j end passed : ℕ) : Type 0 where
   pub counted : end ≡ before kind segments j
   pub missed : (k : ℕ) → k < j → before kind segments (k + 1) ≢ passed
-
-pub past_first : (kind : RingKind) (segments : List Segment) (passed : ℕ) → IsPast kind segments 0 0 passed
-past_first kind segments passed = record { counted = sym (before-zero kind segments); missed = λ k h. absurd (omega arith) }
-
-pub past_next : (kind : RingKind) (segments : List Segment) (j end n passed : ℕ) → j < length segments → IsPast kind segments j end passed →
-    n ≡ data_count kind (segment_at segments j) → end + n ≢ passed → IsPast kind segments (j + 1) (end + n) passed
-past_next kind segments j end n passed h past e other =
-    let next = before-next kind segments j h in
-    record {
-      counted = omega (arith, past.counted);
-      missed = below_more _ _ past.missed (λ same. other (omega (arith, past.counted)));
-    }
 
 -- the count stays below that of all data places
 pub count_within : (shape : Shape) (kind : RingKind) (segments : List Segment) (places j count n : ℕ) → Sees shape kind segments places →
@@ -108,22 +84,10 @@ crossed_nowhere shape is kind segments places j end q sees some all past =
 
 -- ---- the word with an address
 
--- the walk has passed the segments before j: their data places are counted, and none of them has the byte
+-- the data places before segment j are counted, and no segment before it has the byte
 pub record IsOutside (segments : List Segment) (kind : RingKind) (j count address : ℕ) : Type 0 where
   pub counted : count ≡ before kind segments j
   pub missed : (k : ℕ) → k < j → is_in address (segment_at segments k).base (16 * (segment_at segments k).count) ≡ false
-
-pub outside_first : (segments : List Segment) (kind : RingKind) (address : ℕ) → IsOutside segments kind 0 0 address
-outside_first segments kind address = record { counted = sym (before-zero kind segments); missed = λ k h. absurd (omega arith) }
-
-pub outside_next : (segments : List Segment) (kind : RingKind) (j count n address : ℕ) → j < length segments → IsOutside segments kind j count address →
-    n ≡ data_count kind (segment_at segments j) → is_in address (segment_at segments j).base (16 * (segment_at segments j).count) ≡ false →
-    IsOutside segments kind (j + 1) (count + n) address
-outside_next segments kind j count n address h outside e misses =
-    record {
-      counted = omega (arith, before-next kind segments j h, outside.counted);
-      missed = below_more _ _ outside.missed misses;
-    }
 
 -- a word of block `block` of segment j, where the first n blocks of it hold data
 pub place_here : (shape : Shape) → IsShape shape → (kind : RingKind) (segments : List Segment) (places j count block n address : ℕ) → Sees shape kind segments places →
@@ -153,3 +117,56 @@ place_nowhere shape is kind segments places j count address sees all outside =
     let same : segment_at shape.segments k ≡ segment_at segments k = ap (λ ss. segment_at ss k) sees.segments_are in
     let has = is_in-true address (segment_at shape.segments k).base (16 * (segment_at shape.segments k).count) low high in
     false≢true (sym (outside.missed k (omega arith)) ∙ sym (ap (λ s. is_in address s.base (16 * s.count)) same) ∙ has))
+
+-- ---- what a search finds
+
+-- a data place of the lap comes before the end of the segments
+pub lap_within : (kind : RingKind) (segments : List Segment) (places r : ℕ) → places ≡ place_count (record { kind = kind; segments = segments }) → r < places →
+    r < before kind segments (length segments)
+lap_within kind segments places r count low =
+    let all : before kind segments (length segments) ≡ place_count (record { kind = kind; segments = segments }) = before-all kind segments in
+    omega arith
+
+-- no Link before the segment of a data place comes right behind that place
+pub past_before : (kind : RingKind) (segments : List Segment) (last j : ℕ) → IsSegmentOf kind segments last j → IsPast kind segments j (before kind segments j) (last + 1)
+past_before kind segments last j of = record {
+  counted = refl;
+  missed = λ k l same. absurd (omega (arith, same, of.first, before_rises kind segments (k + 1) j (omega arith)));
+}
+
+-- and if its own doesn't, none does
+pub past_all : (kind : RingKind) (segments : List Segment) (last j : ℕ) → IsSegmentOf kind segments last j → before kind segments (j + 1) ≢ last + 1 →
+    IsPast kind segments (length segments) (before kind segments (length segments)) (last + 1)
+past_all kind segments last j of other = record {
+  counted = refl;
+  missed = λ k l same. elim (cases_lt k j) [
+    | inl early ↦ absurd (omega (arith, same, of.first, before_rises kind segments (k + 1) j (omega arith)))
+    | inr late ↦ other (omega (arith, same, of.end, before_rises kind segments (j + 1) (k + 1) (omega arith)))
+  ];
+}
+
+-- no segment starts at or before the address
+pub outside_above : (kind : RingKind) (segments : List Segment) (address : ℕ) → ((i : ℕ) → i < length segments → address < (segment_at segments i).base) →
+    IsOutside segments kind (length segments) (before kind segments (length segments)) address
+outside_above kind segments address above = record {
+  counted = refl;
+  missed = λ k l. false_from_ne_true _ (λ has.
+      let parts = is_in-parts address (segment_at segments k).base (16 * (segment_at segments k).count) has in
+      absurd (omega (arith, parts.0, above k l)));
+}
+
+-- the last segment to start at or before the address doesn't have it
+pub outside_last : (kind : RingKind) (segments : List Segment) → IsShape (record { kind = kind; segments = segments }) → (address j : ℕ) → IsLastOf segments address j →
+    (is_in address (segment_at segments j).base (16 * (segment_at segments j).count) ≡ true → ⊥) →
+    IsOutside segments kind (length segments) (before kind segments (length segments)) address
+outside_last kind segments is address j of misses = record {
+  counted = refl;
+  missed = λ k l. false_from_ne_true _ (λ has.
+      let facts = shape_facts (record { kind = kind; segments = segments }) is in
+      let parts = is_in-parts address (segment_at segments k).base (16 * (segment_at segments k).count) has in
+      let late = of.last k l parts.0 in
+      let some = (facts.each j of.number).blocks in
+      let low : (segment_at segments j).base ≤ address = of.start in
+      let same : k ≡ j = same_segment segments facts.apart k j (segment_at segments j).base l of.number late (omega (arith, parts.1)) (omega arith) (omega (arith, some)) in
+      misses (ap (λ n. is_in address (segment_at segments n).base (16 * (segment_at segments n).count)) (sym same) ∙ has));
+}

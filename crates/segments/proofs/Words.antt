@@ -20,11 +20,11 @@ pub use Rattle.segments.specs.declared.place.Place.{Place}
 pub use Rattle.segments.specs.declared.segment.Segment.{Segment}
 pub use Rattle.segments.specs.declared.spot.Spot.{Spot}
 pub use Rattle.segments.specs.declared.spot.Spot.TheVariants.{Data, Link}
-pub use Rattle.std.proofs.Common.{All, AllPairs, Bool, Contains, List, None, Option, Some, [], add-one, add-zero, ap, append-nil, arith, below_more, drop, eq-eqb, eqb-true, false, filter, find, get_or, if◌then◌else◌, inl, inr, is_some, le-leb, le-ltb, leb-false, leb-true, length, length-append, lt-ltb, ltb-false, ltb-true, map, nat_le, nat_lt, ne_eqb, not, position, refl, rules, slice_get, slice_index, subst, suc, sum, sym, take, take_all, true, unwrap_or, zero, zero-add, ℕ, ◌%◌, ◌&&◌, ◌*◌, ◌++◌, ◌+◌, ◌-◌, ◌/◌, ◌<◌, ◌==◌, ◌^◌, ◌||◌, ◌∙◌, ◌∷◌, ◌≡◌, ◌≢◌, ◌≤◌, ◌⊎◌}
+pub use Rattle.std.proofs.Common.{All, AllPairs, Bool, Contains, List, None, Option, Some, [], add-one, add-zero, ap, append-nil, arith, below_more, drop, eq-eqb, eqb-true, false, filter, find, get_or, if◌then◌else◌, inl, inr, is_some, le-leb, le-ltb, leb, leb-false, leb-true, length, length-append, lt-ltb, ltb-false, ltb-true, map, nat_le, nat_lt, ne_eqb, not, position, refl, rules, slice_get, slice_index, subst, suc, sum, sym, take, take_all, true, unwrap_or, zero, zero-add, ℕ, ◌%◌, ◌&&◌, ◌*◌, ◌++◌, ◌+◌, ◌-◌, ◌/◌, ◌<◌, ◌==◌, ◌^◌, ◌||◌, ◌∙◌, ◌∷◌, ◌≡◌, ◌≢◌, ◌≤◌, ◌⊎◌}
 pub use Rattle.std.proofs.Math.Nat.{add-div_right, add-mod_right, div-add-mod, div-add-mod', div-eq_of_lt, mod-eq_of_lt, mod-lt, mod_self}
 pub use Rattle.std.proofs.lemmas.Bool.{and_from, and_parts, cases_Bool, cases_eq, cases_lt, cases_order, cond-false, cond-true, false_from_ne_true, false≢true, not-false, not-true, not_from_false, not_from_true, or_cases, or_left, or_parts, or_right}
 pub use Rattle.std.proofs.lemmas.Bool.Decides.{nat_tests}
-pub use Rattle.std.proofs.lemmas.List.{drop_more, get_or-append_right, get_or-map, get_or_append_left, get_or_default, length-map, map_push, take-map, take_more, take_rest}
+pub use Rattle.std.proofs.lemmas.List.{drop_more, get_or_read, get_or-append_right, get_or-map, get_or_append_left, get_or_default, length-map, map_push, take-map, take_more, take_rest}
 pub use Rattle.std.proofs.lemmas.List.Concat.{flat_map-append}
 pub use Rattle.std.proofs.lemmas.List.Elements.{All-cons, All-contains, All-contains_itself, All-filter, All-get_or, All-head, All-map, All-nil, All-push, All-same, All-tail, All-take, All-weaker, Contains-append_right, Contains-get_or, filter_passes}
 pub use Rattle.std.proofs.lemmas.List.Folds.{Any-from_list_any, list_all-map, list_all_at, list_any_at}
@@ -33,6 +33,8 @@ pub use Rattle.std.proofs.lemmas.List.Quantifiers.{position-Some}
 pub use Rattle.std.proofs.lemmas.List.Sums.{fails_before_first, position_or_len_is, sum_by-cons, sum_by_push}
 pub use Rattle.std.proofs.lemmas.Nat.{div-mul-add, mod-mul-add, mul-le}
 pub use Rattle.std.proofs.lemmas.Option.{get_or_from_slice_get, none-some, same_Some, slice_get-get_or, slice_get_within}
+pub use Rattle.std.proofs.lemmas.List.Sorted.{All-permutation, IsNonDecreasingBy-from_default, IsNonDecreasingBy-from_sort_by_key, IsPartitionPoint-from_clause, IsPartitionedBy-leb, list_any-IsPermutation}
+pub use Rattle.std.specs.List.Sorted.{IsNonDecreasingBy, IsPartitionPoint, IsPermutation}
 pub use Rattle.std.specs.List.{cons_option, filter_map, flat_map, list_all, list_any, position_or_len, range_with_len, sum_by}
 pub use Rattle.std.specs.Option.{option_map, option_or}
 pub use Rattle.trb.proofs.BlockLemmas.{kind-with_cycle}

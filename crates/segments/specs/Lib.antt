@@ -1,4 +1,5 @@
 pub mod ShapeValue
+pub mod Index
 pub mod Shape
 pub mod Places
 pub mod PlaceAt

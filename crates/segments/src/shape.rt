@@ -6,6 +6,7 @@ ghost use Rattle.segments.specs.Shape.{IsShape, is_shape};
 ghost use Rattle.segments.specs.ShapeValue.{segment_of, shape_of};
 
 use crate::fault::ShapeFault;
+use crate::index::SegmentIndex;
 use crate::place::Place;
 use crate::rules::{count_places, data_blocks, is_shape};
 use crate::segment::{Segment, overlap};
@@ -20,6 +21,8 @@ pub struct RingShape {
     segments: Vec<Segment>,
     /// How many data places there are.
     places: u32,
+    /// Finds one of the segments.
+    index: SegmentIndex,
 }
 
 impl Model for RingShape {
@@ -27,6 +30,7 @@ impl Model for RingShape {
     ghost use Rattle.segments.specs.Places.{place_count};
     ghost use Rattle.segments.specs.ShapeValue.{Shape};
     ghost use Rattle.segments.specs.Shape.{IsShape};
+    ghost use Rattle.segments.specs.Index.{IsIndex};
 
     ghost Value = { Shape };
 
@@ -34,7 +38,11 @@ impl Model for RingShape {
 
     ghost invariant = { λ s.
         let shape : Shape = record { kind = s.kind; segments = s.segments.items } in
-        IsShape shape × (s.places ≡ place_count shape) };
+        record {
+          allowed : IsShape shape;
+          count : s.places ≡ place_count shape;
+          found : IsIndex s.kind s.segments.items s.index;
+        } };
 }
 
 fn segments_of(alloc: Global, pairs: &[(u64, u16)]) -> Result<Vec<Segment>, AllocError>
@@ -44,6 +52,13 @@ fn segments_of(alloc: Global, pairs: &[(u64, u16)]) -> Result<Vec<Segment>, Allo
         .iter()
         .map(|&(base, count)| Segment { base, count })
         .collect(alloc)
+}
+
+/// The same segments in memory of their own.
+fn copied(segments: &Vec<Segment>) -> Result<Vec<Segment>, AllocError>
+    ensures { IfOk result (λ copy. copy.items ≡ segments.now.items) }
+{
+    segments.clone()
 }
 
 impl RingShape {
@@ -62,10 +77,12 @@ impl RingShape {
         }
         let places = count_places(kind, segments);
         let segments = segments_of(alloc, segments)?;
+        let index = SegmentIndex::new(alloc, kind, segments.as_slice())?;
         Ok(RingShape {
             kind,
             segments,
             places,
+            index,
         })
     }
 
@@ -97,15 +114,10 @@ impl RingShape {
     pub fn address(&self, position: u64) -> u64
         ensures { result ≡ address_of self.now position }
     {
-        let mut block = position % u64::from(self.places);
-        for segment in &self.segments {
-            let data = u64::from(data_blocks(self.kind, *segment));
-            if block < data {
-                return segment.base + 16 * block;
-            }
-            block -= data;
-        }
-        unreachable!()
+        let place = (position % u64::from(self.places)) as u32;
+        let number = self.index.segment_of(place);
+        let block = place - self.index.firsts[number];
+        self.segments[number].base + 16 * u64::from(block)
     }
 
     /// The Cycle bit of a position (xHCI 4.9.2).
@@ -123,26 +135,21 @@ impl RingShape {
         if address % 4 != 0 {
             return None;
         }
+        let number = self.index.last_start(address)?;
+        let segment = self.segments[number];
+        let block = segment.block_at(address)?;
         let word = (address % 16 / 4) as u8;
-        let mut before = 0;
-        for (number, segment) in self.segments.iter().enumerate() {
-            let data = data_blocks(self.kind, *segment);
-            if let Some(block) = segment.block_at(address) {
-                return Some(if block < data {
-                    Place::Data {
-                        place: before + u32::from(block),
-                        word,
-                    }
-                } else {
-                    Place::Link {
-                        segment: number as u32,
-                        word,
-                    }
-                });
+        Some(if block < data_blocks(self.kind, segment) {
+            Place::Data {
+                place: self.index.firsts[number] + u32::from(block),
+                word,
             }
-            before += u32::from(data);
-        }
-        None
+        } else {
+            Place::Link {
+                segment: number as u32,
+                word,
+            }
+        })
     }
 
     /// Whether a segment has one of `len` bytes from `at` on; of no bytes none has one. Nothing wraps.
@@ -160,15 +167,15 @@ impl RingShape {
         if q == 0 || self.kind == RingKind::Evt {
             return None;
         }
-        let passed = (q - 1) % u64::from(self.places) + 1;
-        let mut end = 0;
-        for (number, segment) in self.segments.iter().enumerate() {
-            end += u64::from(data_blocks(self.kind, *segment));
-            if end == passed {
-                return Some(number as u32);
-            }
+        let last = ((q - 1) % u64::from(self.places)) as u32;
+        let number = self.index.segment_of(last);
+        let data = data_blocks(self.kind, self.segments[number]);
+        let end = self.index.firsts[number] + u32::from(data);
+        if end == last + 1 {
+            Some(number as u32)
+        } else {
+            None
         }
-        None
     }
 
     /// How many Links the ring has: one a segment, and an event ring none.
@@ -213,8 +220,9 @@ impl RingShape {
     {
         Ok(RingShape {
             kind: self.kind,
-            segments: self.segments.clone()?,
+            segments: copied(&self.segments)?,
             places: self.places,
+            index: self.index.copy()?,
         })
     }
 }

@@ -1,9 +1,10 @@
 -- Lines whose fields stand at fixed places
 use Rattle.std.proofs.Common.{◌≡◌, ◌+◌, ◌<◌, ◌%◌, ◌==◌, ◌∷◌, ◌++◌, ◌∙◌, ℕ, zero, suc, Bool, true, false, List, [], length, slice_index, take, drop, nat_lt, Some, None, Ok, All, refl, ap, sym, subst, arith, codes, cond, w8, w32, w64}
 use Rattle.line_text.proofs.Digits.{digits_without_space}
+use Rattle.std.proofs.lemmas.List.{take-append-drop}
 use Rattle.std.proofs.lemmas.List.Splits.{slice_split_at, slice_split_none}
 use Rattle.trace_reader.specs.Entries.{SaysAlone, said_alone}
-use Rattle.trace_reader.proofs.Words.{HasBytes, Width, byte_len, bytes_of_8, bytes_of_32, bytes_of_64, length-digits_of, number_of, said, fields_of, has_empty_field, is_empty, is_space, All-cons, All-nil, All-head, All-tail, nat_tests, common_steps, slice_split, str_to_ascii_lowercase, to_ascii_lowercase, TextLine, content_fault, said_by_fields, most_bytes, form_of, said_of, block_of, word_address_of, Block, blocks_of, Row, Sub, Write, Bell, Read, SaysRow}
+use Rattle.trace_reader.proofs.Words.{HasBytes, Width, byte_len, bytes_of_8, bytes_of_32, bytes_of_64, length-digits_of, number_of, said, fields_of, has_empty_field, is_empty, is_space, All-cons, All-nil, All-head, All-tail, nat_tests, common_steps, slice_split, str_to_ascii_lowercase, to_ascii_lowercase, TextLine, content_fault, said_by_fields, most_bytes, form_of, said_of, block_of, word_address_of, Block, blocks_of, register_named, register_value_of, Row, Sub, Write, Bell, Read, Reg, Erdp, SaysRow}
 use Rattle.trace_reader.proofs.SpelledFields.{then_there}
 use Rattle.trace_reader.proofs.SpelledValues.{words_there}
 
@@ -112,6 +113,22 @@ sub_said : (begun : Bool) (id a b c d : List ℕ) (ring : ℕ) (block : Block) �
 unfolding said_by_fields form_of said_of blocks_of
 sub_said true id a b c d ring block hi is = rw (hi, is) refl
 sub_said false id a b c d ring block hi is = rw (hi, is) refl
+
+erdp_said : (begun : Bool) (a : List ℕ) (value : ℕ) → number_of w64 a ≡ Some value → said_by_fields begun (codes "reg" ∷ codes "erdp" ∷ a ∷ []) ≡ Ok (SaysRow (Reg Erdp value))
+unfolding said_by_fields form_of said_of register_named register_value_of
+erdp_said true a value ha = rw ha refl
+erdp_said false a value ha = rw ha refl
+
+erdp_fields : (a : List ℕ) → All (λ c. is_space c ≡ false) a → fields_of (codes "reg erdp " ++ a) ≡ codes "reg" ∷ codes "erdp" ∷ a ∷ []
+unfolding fields_of
+erdp_fields a spaceless = ap (λ fields. codes "reg" ∷ codes "erdp" ∷ fields) (slice_split_none is_space a spaceless)
+
+pub erdp_says : (content : List ℕ) (value : ℕ) → length content ≡ 25 → take 9 content ≡ codes "reg erdp " → number_of w64 (drop 9 content) ≡ Some value → SaysAlone (Reg Erdp value) content
+erdp_says content value long named ha =
+    let a = drop 9 content in
+    let pa = number_field w64 bytes_of_64 (omega arith) a value ha in
+    let are = ap fields_of (sym (take-append-drop 9 content) ∙ ap (λ word. word ++ a) named) ∙ erdp_fields a pa.spaceless in
+    by_its_fields content (codes "reg" ∷ codes "erdp" ∷ a ∷ []) (Reg Erdp value) (rw long refl) are (rw pa.some refl) (λ begun. erdp_said begun a value ha)
 
 pub write_says : (content : List ℕ) (at word : ℕ) → length content ≡ 27 → slice_index content 0 ≡ 119 → slice_index content 1 ≡ 32 → slice_index content 18 ≡ 32 →
     word_address_of (take 16 (drop 2 content)) ≡ Some at → number_of w32 (take 8 (drop 19 content)) ≡ Some word → SaysAlone (Write at word) content

@@ -13,7 +13,7 @@ ghost use Rattle.trace_reader.specs.Values as values;
 
 use crate::fault::{LineError, LineFault};
 use guest_memory::Addr;
-use line_text::{Fields, u8_of, u16_of, u32_of, u64_of};
+use line_text::{Fields, two_words_of, u8_of, u16_of, u32_of, u64_of};
 use std::alloc::Global;
 use traces::{Register, Row};
 use trb::{Block, Blocks, RingKind};
@@ -253,8 +253,10 @@ fn register_value_of(register: Register, field: &[u8]) -> Option<u64>
 pub fn block_of(a: &[u8], b: &[u8], c: &[u8], d: &[u8]) -> Option<Block>
     ensures { result ≡ block_of a.now b.now c.now d.now }
 {
+    let (first, second) = two_words_of(a, b)?;
+    let (third, fourth) = two_words_of(c, d)?;
     Some(Block {
-        w: [u32_of(a)?, u32_of(b)?, u32_of(c)?, u32_of(d)?],
+        w: [first, second, third, fourth],
     })
 }
 

@@ -4,9 +4,9 @@ ghost use Rattle.trace_reader.specs.Values.{SaysRow};
 ghost use Rattle.traces.specs.declared.row.Row.{Row};
 
 use crate::entry::{block_of, word_address_of};
-use line_text::{Line, u8_of, u32_of};
+use line_text::{Line, u8_of, u32_of, u64_of};
 use std::alloc::{AllocError, Global};
-use traces::Row;
+use traces::{Register, Row};
 use trb::{Block, Blocks};
 
 /// The row of a line of a frequent form, by the places of its fields. Where it answers none, the line may still say one.
@@ -21,6 +21,7 @@ pub fn quick_row(alloc: Global, line: &Line) -> Result<Option<Row>, AllocError>
         27 => Ok(quick_write(content)),
         38 => Ok(quick_event(content)),
         8 => Ok(quick_bell(content)),
+        25 => Ok(quick_erdp(content)),
         42 => quick_sub(alloc, content),
         _ => Ok(None),
     }
@@ -72,6 +73,18 @@ fn quick_bell(content: &[u8]) -> Option<Row>
     Some(Row::Bell { slot, target })
 }
 
+/// `reg erdp` and a value.
+fn quick_erdp(content: &[u8]) -> Option<Row>
+    requires { length content.now ≡ 25 }
+    ensures { IfSome result (λ row. SaysAlone row content.now) }
+{
+    let value = u64_of(content.strip_prefix(b"reg erdp ")?)?;
+    Some(Row::Reg {
+        register: Register::Erdp,
+        value,
+    })
+}
+
 /// `sub`, a ring and the four words of one block.
 fn quick_sub(alloc: Global, content: &[u8]) -> Result<Option<Row>, AllocError>
     requires { length content.now ≡ 42 }
@@ -80,12 +93,8 @@ fn quick_sub(alloc: Global, content: &[u8]) -> Result<Option<Row>, AllocError>
     let Some((ring, block)) = quick_declaration(content) else {
         return Ok(None);
     };
-    let mut blocks = Vec::new(alloc);
-    blocks.push(block)?;
-    Ok(Some(Row::Sub {
-        ring,
-        blocks: Blocks::new(blocks),
-    }))
+    let blocks = Blocks::new(vec![in alloc; block]?);
+    Ok(Some(Row::Sub { ring, blocks }))
 }
 
 /// The ring and the block of a `sub` line.

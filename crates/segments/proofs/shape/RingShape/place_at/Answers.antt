@@ -1,63 +1,148 @@
-use Rattle.segments.proofs.Words.{◌≡◌, ◌%◌, ◌/◌, ◌+◌, ◌∙◌, if◌then◌else◌, arith, sym, ap, Some, None, nat_lt, lt-ltb, le-ltb, cond-true, cond-false, false_from_ne_true, place_at}
+use Rattle.segments.proofs.Words.{◌≡◌, ◌%◌, ◌+◌, ◌/◌, ◌∙◌, if◌then◌else◌, arith, refl, sym, ap, subst, length, Some, None, nat_lt, lt-ltb, le-ltb, cond-true, cond-false, get_or_read, data_count, place_at}
+use Rattle.segments.specs.Index.{IsLastOf, IsLastStart}
 use Rattle.segments.specs.declared.place.Place.TheVariants.{Data, Link}
+use Rattle.segments.proofs.Blocks.{segment_at, before}
 use Rattle.segments.proofs.DataPlaces.{place_count_most}
-use Rattle.segments.proofs.Lookups.{sees_from, outside_first, outside_next, count_within, place_here, place_nowhere}
+use Rattle.segments.proofs.ShapeFacts.{shape_facts}
+use Rattle.segments.proofs.PlaceAtLemmas.{place_at-Link}
+use Rattle.segments.proofs.Lookups.{sees_from, outside_above, outside_last, place_here, place_nowhere, count_within}
 use Rattle.segments.proofs.shape.RingShape.place_at.Goals as goal
 
-pub loop-number-init : goal.loop-number-init
-loop-number-init c = outside_first c.deref-segment-items.result.now c.self.inside.kind c.args.address
+pub returns-in_err-number-clause-value : goal.returns-in_err-number-clause-value
+returns-in_err-number-clause-value c =
+    let kind = c.self.inside.kind in
+    let segments = c.self.inside.segments.items in
+    let index = c.self.invariant.found in
+    let sees = sees_from c.args.self.now kind segments segments c.self.inside.places c.self.view_is refl c.self.invariant.count in
+    let facts = shape_facts (record { kind = kind; segments = segments }) c.self.invariant.allowed in
+    let most = place_count_most (record { kind = kind; segments = segments }) c.self.invariant.allowed in
+    let above = subst (λ o. IsLastStart segments c.args.address o) c.in_err-number.was (c.last_start.ensures kind segments index) in
+    let nowhere : place_at c.args.self.now c.args.address ≡ None =
+    place_nowhere c.args.self.now (rw (← c.self.view_is) c.self.invariant.allowed) kind segments c.self.inside.places (length segments) (before kind segments (length segments))
+    c.args.address sees (omega arith) (outside_above kind segments c.args.address above) in
+    c.from_residual.ensures ∙ sym nowhere
+
+pub index-segment-requires : goal.index-segment-requires
+index-segment-requires c =
+    let kind = c.self.inside.kind in
+    let segments = c.self.inside.segments.items in
+    let index = c.self.invariant.found in
+    let sees = sees_from c.args.self.now kind segments segments c.self.inside.places c.self.view_is refl c.self.invariant.count in
+    let facts = shape_facts (record { kind = kind; segments = segments }) c.self.invariant.allowed in
+    let most = place_count_most (record { kind = kind; segments = segments }) c.self.invariant.allowed in
+    let of : IsLastOf segments c.args.address c.in_ok-number.number = subst (λ o. IsLastStart segments c.args.address o) c.in_ok-number.was (c.last_start.ensures kind segments index) in
+    omega (arith, of.number, c.self.inside.segments.ok.0)
+
+pub returns-in_err-block-clause-value : goal.returns-in_err-block-clause-value
+returns-in_err-block-clause-value c =
+    let kind = c.self.inside.kind in
+    let segments = c.self.inside.segments.items in
+    let index = c.self.invariant.found in
+    let sees = sees_from c.args.self.now kind segments segments c.self.inside.places c.self.view_is refl c.self.invariant.count in
+    let facts = shape_facts (record { kind = kind; segments = segments }) c.self.invariant.allowed in
+    let most = place_count_most (record { kind = kind; segments = segments }) c.self.invariant.allowed in
+    let of : IsLastOf segments c.args.address c.in_ok-number.number = subst (λ o. IsLastStart segments c.args.address o) c.in_ok-number.was (c.last_start.ensures kind segments index) in
+    let here : c.index-segment.result.now ≡ segment_at segments c.in_ok-number.number = get_or_read segments _ _ of.number c.index-segment.ensures (record { base = 0; count = 0 }) in
+    let nowhere : place_at c.args.self.now c.args.address ≡ None =
+    place_nowhere c.args.self.now (rw (← c.self.view_is) c.self.invariant.allowed) kind segments c.self.inside.places (length segments) (before kind segments (length segments))
+    c.args.address sees (omega arith) (outside_last kind segments c.self.invariant.allowed c.args.address c.in_ok-number.number of (rw here at c.in_err-block.ensures)) in
+    c.from_residual-in_err-block.ensures ∙ sym nowhere
+
+pub index-requires : goal.index-requires
+index-requires c =
+    let kind = c.self.inside.kind in
+    let segments = c.self.inside.segments.items in
+    let index = c.self.invariant.found in
+    let sees = sees_from c.args.self.now kind segments segments c.self.inside.places c.self.view_is refl c.self.invariant.count in
+    let facts = shape_facts (record { kind = kind; segments = segments }) c.self.invariant.allowed in
+    let most = place_count_most (record { kind = kind; segments = segments }) c.self.invariant.allowed in
+    let of : IsLastOf segments c.args.address c.in_ok-number.number = subst (λ o. IsLastStart segments c.args.address o) c.in_ok-number.was (c.last_start.ensures kind segments index) in
+    omega (arith, of.number, index.firsts.many, c.self.inside.index.firsts.ok.0)
 
 pub overflow_add-result : goal.overflow_add-result
 overflow_add-result c =
-    let sees = sees_from c.args.self.now c.self.inside.kind c.self.inside.segments.items c.deref-segment-items.result.now c.self.inside.places
-    c.self.view_is c.deref-segment-items.ensures.value c.self.invariant.1 in
-    let most = place_count_most (record { kind = c.self.inside.kind; segments = c.self.inside.segments.items }) c.self.invariant.0 in
-    let within = count_within c.args.self.now c.self.inside.kind c.deref-segment-items.result.now c.self.inside.places c.loop-number.number c.loop-number.before
-    c.data_blocks-data.result sees c.loop-number-test.true c.loop-number.invariant.counted c.data_blocks-data.ensures in
-    omega (arith, c.self.invariant.1)
+    let kind = c.self.inside.kind in
+    let segments = c.self.inside.segments.items in
+    let index = c.self.invariant.found in
+    let sees = sees_from c.args.self.now kind segments segments c.self.inside.places c.self.view_is refl c.self.invariant.count in
+    let facts = shape_facts (record { kind = kind; segments = segments }) c.self.invariant.allowed in
+    let most = place_count_most (record { kind = kind; segments = segments }) c.self.invariant.allowed in
+    let of : IsLastOf segments c.args.address c.in_ok-number.number = subst (λ o. IsLastStart segments c.args.address o) c.in_ok-number.was (c.last_start.ensures kind segments index) in
+    let here : c.index-segment.result.now ≡ segment_at segments c.in_ok-number.number = get_or_read segments _ _ of.number c.index-segment.ensures (record { base = 0; count = 0 }) in
+    let first : c.index.result.now ≡ before kind segments c.in_ok-number.number =
+    get_or_read c.self.inside.index.firsts.items _ _ (omega (arith, of.number, index.firsts.many)) c.index.ensures 0 ∙ index.firsts.each c.in_ok-number.number of.number in
+    let held : c.data_blocks.result ≡ data_count kind (segment_at segments c.in_ok-number.number) = c.data_blocks.ensures ∙ ap (data_count kind) here in
+    let within = count_within c.args.self.now kind segments c.self.inside.places c.in_ok-number.number c.index.result.now c.data_blocks.result sees of.number first held in
+    omega (arith, within, most, c.self.invariant.count, c.from.ensures)
 
-pub returns-then-block-data-clause-value : goal.returns-then-block-data-clause-value
-returns-then-block-data-clause-value c =
-    let sees = sees_from c.args.self.now c.self.inside.kind c.self.inside.segments.items c.deref-segment-items.result.now c.self.inside.places
-    c.self.view_is c.deref-segment-items.ensures.value c.self.invariant.1 in
-    let here : place_at c.args.self.now c.args.address ≡ Some (if nat_lt c.in-Some.block c.data_blocks-data.result
-    then Data (c.loop-number.before + c.in-Some.block) (c.args.address % 16 / 4) else Link c.loop-number.number (c.args.address % 16 / 4)) =
-    place_here c.args.self.now (rw (← c.self.view_is) c.self.invariant.0) c.self.inside.kind c.deref-segment-items.result.now c.self.inside.places
-    c.loop-number.number c.loop-number.before c.in-Some.block c.data_blocks-data.result c.args.address sees c.loop-number-test.true
-    c.loop-number.invariant.counted c.data_blocks-data.ensures c.if-address-ne0.false c.in-Some.ensures.0 c.in-Some.ensures.1 in
-    rw c.from.ensures (sym (here ∙ ap (λ p. Some p) (cond-true _ _ _ (lt-ltb c.in-Some.block c.data_blocks-data.result c.if-block-data.true))))
+pub overflow_cast-result : goal.overflow_cast-result
+overflow_cast-result c =
+    let kind = c.self.inside.kind in
+    let segments = c.self.inside.segments.items in
+    let index = c.self.invariant.found in
+    let sees = sees_from c.args.self.now kind segments segments c.self.inside.places c.self.view_is refl c.self.invariant.count in
+    let facts = shape_facts (record { kind = kind; segments = segments }) c.self.invariant.allowed in
+    let most = place_count_most (record { kind = kind; segments = segments }) c.self.invariant.allowed in
+    let of : IsLastOf segments c.args.address c.in_ok-number.number = subst (λ o. IsLastStart segments c.args.address o) c.in_ok-number.was (c.last_start.ensures kind segments index) in
+    omega (arith, of.number, facts.few)
 
-pub returns-else-block-data-clause-value : goal.returns-else-block-data-clause-value
-returns-else-block-data-clause-value c =
-    let sees = sees_from c.args.self.now c.self.inside.kind c.self.inside.segments.items c.deref-segment-items.result.now c.self.inside.places
-    c.self.view_is c.deref-segment-items.ensures.value c.self.invariant.1 in
-    let here : place_at c.args.self.now c.args.address ≡ Some (if nat_lt c.in-Some.block c.data_blocks-data.result
-    then Data (c.loop-number.before + c.in-Some.block) (c.args.address % 16 / 4) else Link c.loop-number.number (c.args.address % 16 / 4)) =
-    place_here c.args.self.now (rw (← c.self.view_is) c.self.invariant.0) c.self.inside.kind c.deref-segment-items.result.now c.self.inside.places
-    c.loop-number.number c.loop-number.before c.in-Some.block c.data_blocks-data.result c.args.address sees c.loop-number-test.true
-    c.loop-number.invariant.counted c.data_blocks-data.ensures c.if-address-ne0.false c.in-Some.ensures.0 c.in-Some.ensures.1 in
-    sym (here ∙ ap (λ p. Some p) (cond-false _ _ _ (le-ltb c.in-Some.block c.data_blocks-data.result c.if-block-data.false)))
+pub returns-then-block-data_blocks-clause-value : goal.returns-then-block-data_blocks-clause-value
+returns-then-block-data_blocks-clause-value c =
+    let kind = c.self.inside.kind in
+    let segments = c.self.inside.segments.items in
+    let index = c.self.invariant.found in
+    let sees = sees_from c.args.self.now kind segments segments c.self.inside.places c.self.view_is refl c.self.invariant.count in
+    let facts = shape_facts (record { kind = kind; segments = segments }) c.self.invariant.allowed in
+    let most = place_count_most (record { kind = kind; segments = segments }) c.self.invariant.allowed in
+    let of : IsLastOf segments c.args.address c.in_ok-number.number = subst (λ o. IsLastStart segments c.args.address o) c.in_ok-number.was (c.last_start.ensures kind segments index) in
+    let here : c.index-segment.result.now ≡ segment_at segments c.in_ok-number.number = get_or_read segments _ _ of.number c.index-segment.ensures (record { base = 0; count = 0 }) in
+    let held : c.data_blocks.result ≡ data_count kind (segment_at segments c.in_ok-number.number) = c.data_blocks.ensures ∙ ap (data_count kind) here in
+    let has = rw here at c.in_ok-block.ensures in
+    let answer : place_at c.args.self.now c.args.address ≡ Some (if nat_lt c.in_ok-block.block c.data_blocks.result
+    then Data (before kind segments c.in_ok-number.number + c.in_ok-block.block) (c.args.address % 16 / 4) else Link c.in_ok-number.number (c.args.address % 16 / 4)) =
+    place_here c.args.self.now (rw (← c.self.view_is) c.self.invariant.allowed) kind segments c.self.inside.places
+    c.in_ok-number.number (before kind segments c.in_ok-number.number) c.in_ok-block.block c.data_blocks.result c.args.address sees of.number
+    refl held c.if-address-ne0.false has.0 has.1 in
+    let first : c.index.result.now ≡ before kind segments c.in_ok-number.number =
+    get_or_read c.self.inside.index.firsts.items _ _ (omega (arith, of.number, index.firsts.many)) c.index.ensures 0 ∙ index.firsts.each c.in_ok-number.number of.number in
+    rw (c.from.ensures, first) (sym (answer ∙ ap (λ p. Some p) (cond-true _ _ _ (lt-ltb c.in_ok-block.block c.data_blocks.result c.if-block-data_blocks.true))))
 
-pub overflow_add-before : goal.overflow_add-before
-overflow_add-before c =
-    let sees = sees_from c.args.self.now c.self.inside.kind c.self.inside.segments.items c.deref-segment-items.result.now c.self.inside.places
-    c.self.view_is c.deref-segment-items.ensures.value c.self.invariant.1 in
-    let most = place_count_most (record { kind = c.self.inside.kind; segments = c.self.inside.segments.items }) c.self.invariant.0 in
-    let within = count_within c.args.self.now c.self.inside.kind c.deref-segment-items.result.now c.self.inside.places c.loop-number.number c.loop-number.before
-    c.data_blocks-data.result sees c.loop-number-test.true c.loop-number.invariant.counted c.data_blocks-data.ensures in
-    omega (arith, c.self.invariant.1)
+pub returns-else-block-data_blocks-clause-value : goal.returns-else-block-data_blocks-clause-value
+returns-else-block-data_blocks-clause-value c =
+    let kind = c.self.inside.kind in
+    let segments = c.self.inside.segments.items in
+    let index = c.self.invariant.found in
+    let sees = sees_from c.args.self.now kind segments segments c.self.inside.places c.self.view_is refl c.self.invariant.count in
+    let facts = shape_facts (record { kind = kind; segments = segments }) c.self.invariant.allowed in
+    let most = place_count_most (record { kind = kind; segments = segments }) c.self.invariant.allowed in
+    let of : IsLastOf segments c.args.address c.in_ok-number.number = subst (λ o. IsLastStart segments c.args.address o) c.in_ok-number.was (c.last_start.ensures kind segments index) in
+    let here : c.index-segment.result.now ≡ segment_at segments c.in_ok-number.number = get_or_read segments _ _ of.number c.index-segment.ensures (record { base = 0; count = 0 }) in
+    let held : c.data_blocks.result ≡ data_count kind (segment_at segments c.in_ok-number.number) = c.data_blocks.ensures ∙ ap (data_count kind) here in
+    let has = rw here at c.in_ok-block.ensures in
+    let answer : place_at c.args.self.now c.args.address ≡ Some (if nat_lt c.in_ok-block.block c.data_blocks.result
+    then Data (before kind segments c.in_ok-number.number + c.in_ok-block.block) (c.args.address % 16 / 4) else Link c.in_ok-number.number (c.args.address % 16 / 4)) =
+    place_here c.args.self.now (rw (← c.self.view_is) c.self.invariant.allowed) kind segments c.self.inside.places
+    c.in_ok-number.number (before kind segments c.in_ok-number.number) c.in_ok-block.block c.data_blocks.result c.args.address sees of.number
+    refl held c.if-address-ne0.false has.0 has.1 in
+    sym (answer ∙ ap (λ p. Some p) (cond-false _ _ _ (le-ltb c.in_ok-block.block c.data_blocks.result c.if-block-data_blocks.false)))
 
-pub loop-number-preserved : goal.loop-number-preserved
-loop-number-preserved c =
-    outside_next c.deref-segment-items.result.now c.self.inside.kind c.loop-number.number c.loop-number.before c.from-in-loop-number.result c.args.address
-    c.loop-number-test.true c.loop-number.invariant (c.from-in-loop-number.ensures ∙ c.data_blocks-data.ensures)
-    (false_from_ne_true _ c.in_default.ensures)
-
-pub returns-clause-value : goal.returns-clause-value
-returns-clause-value c =
-    let sees = sees_from c.args.self.now c.self.inside.kind c.self.inside.segments.items c.deref-segment-items.result.now c.self.inside.places
-    c.self.view_is c.deref-segment-items.ensures.value c.self.invariant.1 in
-    let nowhere : place_at c.args.self.now c.args.address ≡ None =
-    place_nowhere c.args.self.now (rw (← c.self.view_is) c.self.invariant.0) c.self.inside.kind c.deref-segment-items.result.now c.self.inside.places c.loop-number.number c.loop-number.before
-    c.args.address sees c.loop-number-test.false c.loop-number.invariant in
-    sym nowhere
+pub returns-else-block-data_blocks-clause-link : goal.returns-else-block-data_blocks-clause-link
+returns-else-block-data_blocks-clause-link c =
+    let kind = c.self.inside.kind in
+    let segments = c.self.inside.segments.items in
+    let index = c.self.invariant.found in
+    let sees = sees_from c.args.self.now kind segments segments c.self.inside.places c.self.view_is refl c.self.invariant.count in
+    let facts = shape_facts (record { kind = kind; segments = segments }) c.self.invariant.allowed in
+    let most = place_count_most (record { kind = kind; segments = segments }) c.self.invariant.allowed in
+    let of : IsLastOf segments c.args.address c.in_ok-number.number = subst (λ o. IsLastStart segments c.args.address o) c.in_ok-number.was (c.last_start.ensures kind segments index) in
+    let here : c.index-segment.result.now ≡ segment_at segments c.in_ok-number.number = get_or_read segments _ _ of.number c.index-segment.ensures (record { base = 0; count = 0 }) in
+    let held : c.data_blocks.result ≡ data_count kind (segment_at segments c.in_ok-number.number) = c.data_blocks.ensures ∙ ap (data_count kind) here in
+    let has = rw here at c.in_ok-block.ensures in
+    let answer : place_at c.args.self.now c.args.address ≡ Some (if nat_lt c.in_ok-block.block c.data_blocks.result
+    then Data (before kind segments c.in_ok-number.number + c.in_ok-block.block) (c.args.address % 16 / 4) else Link c.in_ok-number.number (c.args.address % 16 / 4)) =
+    place_here c.args.self.now (rw (← c.self.view_is) c.self.invariant.allowed) kind segments c.self.inside.places
+    c.in_ok-number.number (before kind segments c.in_ok-number.number) c.in_ok-block.block c.data_blocks.result c.args.address sees of.number
+    refl held c.if-address-ne0.false has.0 has.1 in
+    let link : place_at c.args.self.now c.args.address ≡ Some (Link c.in_ok-number.number (c.args.address % 16 / 4)) =
+    answer ∙ ap (λ p. Some p) (cond-false _ _ _ (le-ltb c.in_ok-block.block c.data_blocks.result c.if-block-data_blocks.false)) in
+    (place_at-Link c.args.self.now (rw (← c.self.view_is) c.self.invariant.allowed) c.args.address c.in_ok-number.number (c.args.address % 16 / 4) link).0

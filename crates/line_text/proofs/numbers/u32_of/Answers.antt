@@ -1,0 +1,10 @@
+use Rattle.std.proofs.Common.{Some, sym, ap, ◌∙◌, arith}
+use Rattle.std.specs.Int.{w32}
+use Rattle.line_text.proofs.DigitLanes.{no_number, number_read}
+use Rattle.line_text.proofs.numbers.u32_of.Goals as goal
+
+pub returns-then-not-are_digits : goal.returns-then-not-are_digits
+returns-then-not-are_digits c = sym (no_number w32 c.args.field.now 8 c.if-field-ne8.false (λ digits. cc (sym c.if-not-are_digits.true ∙ c.are_digits.ensures.1 digits)))
+
+pub returns : goal.returns
+returns c = ap Some c.from_be_bytes.ensures ∙ sym (number_read w32 c.args.field.now 8 c.if-field-ne8.false c.bytes_of_8.result (omega arith) c.bytes_of_8.ensures)

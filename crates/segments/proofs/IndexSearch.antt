@@ -1,0 +1,152 @@
+-- A segment is found by a search through how many data places lie before each, or through where each starts
+use Rattle.segments.proofs.Words.{◌≡◌, ◌+◌, ◌-◌, ◌<◌, ◌≤◌, ◌==◌, ◌∷◌, ◌∙◌, ℕ, suc, zero, true, false, List, [], Some, None, length, get_or, ap, sym, arith, inl, inr, leb-true, leb-false, eqb-true, leb, cases_lt, list_any, list_any_at, Any-from_list_any, get_or_from_slice_get, slice_get-get_or, get_or_append_left, get_or-append_right, length-append, ◌++◌, refl, subst, nat_tests, All, All-permutation, list_any-IsPermutation, IsPermutation, IsNonDecreasingBy, IsNonDecreasingBy-from_default, IsPartitionPoint, RingKind, Segment}
+use Rattle.segments.specs.Index.{AreFirsts, AreStarts, IsIndex, IsLastStart, IsSegmentOf, IsStart}
+use Rattle.segments.specs.declared.index.SegmentIndex.{SegmentIndex}
+use Rattle.segments.specs.declared.index.Start.{Start}
+use Rattle.segments.proofs.Blocks.{segment_at, before, before-zero}
+
+-- more segments have no fewer data places before them
+pub before_rises : (kind : RingKind) (ss : List Segment) (i j : ℕ) → i ≤ j → before kind ss i ≤ before kind ss j
+before_rises kind [] i j l = omega arith
+before_rises kind (s ∷ rest) zero j l = omega arith
+before_rises kind (s ∷ rest) (suc i) zero l = absurd (omega arith)
+before_rises kind (s ∷ rest) (suc i) (suc j) l = omega (arith, before_rises kind rest i j (omega arith))
+
+module _ (kind : RingKind) (segments : List Segment) (firsts : List ℕ) (are : AreFirsts kind segments (length segments) firsts) where
+  first_at : (j : ℕ) → j < length segments → get_or firsts j 0 ≡ before kind segments j
+  first_at j below = are.each j below
+
+  pub firsts_rise : IsNonDecreasingBy (λ first. first) firsts
+  firsts_rise = IsNonDecreasingBy-from_default (λ (first : ℕ). first) firsts 0 (λ i j l below.
+      let inside : j < length segments = omega (arith, are.many) in
+      omega (arith, first_at i (omega arith), first_at j inside, before_rises kind segments i j l))
+
+  module _ (place after : ℕ) (point : IsPartitionPoint (λ first. leb first place ≡ true) (λ first. leb first place ≡ false) firsts after)
+      (bound : after ≤ length firsts) (within : place < before kind segments (length segments)) where
+    some_before : 0 < after
+    some_before = elim (cases_lt 0 after) [
+      | inl some ↦ some
+      | inr none ↦
+          let one : 0 < length segments = elim (cases_lt 0 (length segments)) [
+            | inl more ↦ more
+            | inr empty ↦
+                let end : length segments ≡ 0 = omega arith in
+                absurd (omega (arith, ap (λ n. before kind segments n) end, before-zero kind segments))
+          ] in
+          let high : leb (get_or firsts 0 0) place ≡ false = point.1 0 0 (omega arith) (omega (arith, are.many)) in
+          absurd (omega (arith, leb-false (get_or firsts 0 0) place high, first_at 0 one, before-zero kind segments))
+    ]
+
+    -- the last segment with no more data places before it has the place
+    pub segment_found : IsSegmentOf kind segments place (after - 1)
+    segment_found =
+        let some = some_before in
+        let inside : after - 1 < length segments = omega (arith, are.many) in
+        let low : get_or firsts (after - 1) 0 ≤ place = leb-true (get_or firsts (after - 1) 0) place (point.0 (after - 1) 0 (omega arith) (omega arith)) in
+        record {
+          number = inside;
+          first = omega (arith, first_at (after - 1) inside);
+          end = elim (cases_lt after (length segments)) [
+            | inl next ↦
+                let same : after - 1 + 1 ≡ after = omega arith in
+                let high : place < get_or firsts after 0 = leb-false (get_or firsts after 0) place (point.1 after 0 (omega arith) (omega (arith, are.many))) in
+                rw same (omega (arith, first_at after next))
+            | inr last ↦
+                let same : after - 1 + 1 ≡ length segments = omega (arith, are.many) in
+                rw same within
+          ];
+        }
+
+-- a ring of one segment has all its places there
+pub only_segment : (kind : RingKind) (segments : List Segment) (firsts : List ℕ) (place : ℕ) → AreFirsts kind segments (length segments) firsts → length firsts ≡ 1 →
+    place < before kind segments (length segments) → IsSegmentOf kind segments place 0
+only_segment kind [] firsts place are one within = absurd (omega (arith, are.many))
+only_segment kind (s ∷ []) firsts place are one within = record { number = omega arith; first = omega arith; end = within }
+only_segment kind (s ∷ t ∷ rest) firsts place are one within = absurd (omega (arith, are.many))
+
+-- one segment more
+pub firsts_push : (kind : RingKind) (segments : List Segment) (n : ℕ) (firsts : List ℕ) (place : ℕ) → AreFirsts kind segments n firsts →
+    place ≡ before kind segments n → AreFirsts kind segments (n + 1) (firsts ++ place ∷ [])
+firsts_push kind segments n firsts place are next =
+    record {
+      many = omega (arith, length-append firsts (place ∷ []), are.many);
+      each = λ j below. elim (cases_lt j n) [
+        | inl early ↦ get_or_append_left firsts (place ∷ []) 0 j (omega (arith, are.many)) ∙ are.each j early
+        | inr late ↦
+            let same : n ≡ j = omega arith in
+            let zeroth : j - n ≡ 0 = omega arith in
+            get_or-append_right firsts (place ∷ []) n j 0 are.many late ∙ ap (λ k. get_or (place ∷ []) k 0) zeroth ∙ next ∙ ap (λ k. before kind segments k) same
+      ];
+    }
+
+-- ---- where segments start
+
+same_number : (n : ℕ) → (n == n) ≡ true
+same_number n = grind (arith, nat_tests)
+
+pub all_starts : (segments : List Segment) (starts sorted : List Start) → AreStarts segments (length segments) starts → IsPermutation starts sorted → All (IsStart segments) sorted
+all_starts segments starts sorted are moved =
+    All-permutation (IsStart segments) starts sorted moved (λ k d below.
+    let inside : k < length segments = omega (arith, are.many) in
+    subst (λ (s : Start). IsStart segments s) (sym (are.each k d inside)) (record { number = inside; base = refl }))
+
+pub each_starts : (segments : List Segment) (starts sorted : List Start) → AreStarts segments (length segments) starts → IsPermutation starts sorted →
+    (j : ℕ) → j < length segments → list_any (λ start. start.segment == j) sorted ≡ true
+each_starts segments starts sorted are moved j below =
+    let d : Start = record { base = 0; segment = 0 } in
+    sym (list_any-IsPermutation (λ (start : Start). start.segment == j) starts sorted moved)
+    ∙ list_any_at (λ (start : Start). start.segment == j) starts j d (omega (arith, are.many)) (ap (λ (start : Start). start.segment == j) (are.each j d below) ∙ same_number j)
+
+-- the start of a segment stands among them
+record Stands (segments : List Segment) (starts : List Start) (number : ℕ) : Type 0 where
+  at : ℕ
+  below : at < length starts
+  base : (d : Start) → (get_or starts at d).base ≡ (segment_at segments number).base
+
+module _ (kind : RingKind) (segments : List Segment) (index : SegmentIndex) (is : IsIndex kind segments index) where
+  stands : (j : ℕ) → j < length segments → Stands segments index.starts.items j
+  stands j below =
+      let some = Any-from_list_any (λ (start : Start). start.segment == j) index.starts.items (is.each j below) in
+      record {
+        at = some.0;
+        below = some.2;
+        base = λ d.
+            let here : get_or index.starts.items some.0 d ≡ some.1 =
+            get_or_from_slice_get index.starts.items some.0 some.1 d (slice_get-get_or index.starts.items some.0 some.1 some.2 ∙ ap (λ x. Some x) some.3) in
+            let number : (get_or index.starts.items some.0 d).segment ≡ j = ap (λ (x : Start). x.segment) here ∙ eqb-true some.1.segment j some.4 in
+            (is.starts some.0 d some.2).base ∙ ap (λ n. (segment_at segments n).base) number;
+      }
+
+  module _ (address after : ℕ)
+      (point : IsPartitionPoint (λ start. leb start.base address ≡ true) (λ start. leb start.base address ≡ false) index.starts.items after) where
+    -- a segment that starts at or before the address stands before the border
+    early : (j : ℕ) (below : j < length segments) → (segment_at segments j).base ≤ address → (stands j below).at < after
+    early j below low = elim (cases_lt (stands j below).at after) [
+      | inl before_it ↦ before_it
+      | inr late ↦
+          let s : Stands segments index.starts.items j = stands j below in
+          let d : Start = record { base = 0; segment = 0 } in
+          let high : leb (get_or index.starts.items s.at d).base address ≡ false = point.1 s.at d late s.below in
+          absurd (omega (arith, leb-false (get_or index.starts.items s.at d).base address high, s.base d))
+    ]
+
+    pub nothing_starts : after ≡ 0 → IsLastStart segments address None
+    nothing_starts zero_of j below = elim (cases_lt address (segment_at segments j).base) [
+      | inl above ↦ above
+      | inr low ↦ absurd (omega (arith, early j below low))
+    ]
+
+    pub last_found : 0 < after → after ≤ length index.starts.items → (d : Start) → IsLastStart segments address (Some (get_or index.starts.items (after - 1) d).segment)
+    last_found some bound d =
+        let here : IsStart segments (get_or index.starts.items (after - 1) d) = is.starts (after - 1) d (omega arith) in
+        let low : (get_or index.starts.items (after - 1) d).base ≤ address =
+        leb-true (get_or index.starts.items (after - 1) d).base address (point.0 (after - 1) d (omega arith) (omega arith)) in
+        record {
+          number = here.number;
+          start = omega (arith, here.base);
+          last = λ j below before_it.
+              let s : Stands segments index.starts.items j = stands j below in
+              let first : s.at < after = early j below before_it in
+              let rising : (get_or index.starts.items s.at d).base ≤ (get_or index.starts.items (after - 1) d).base = is.sorted s.at (after - 1) d (omega arith) (omega arith) in
+              omega (arith, rising, s.base d, here.base);
+        }

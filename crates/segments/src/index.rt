@@ -1,0 +1,107 @@
+//! What finds a segment of a ring by a search.
+
+ghost use Rattle.std.specs.Prelude.{◌≡◌, ◌<◌, ◌≤◌, ℕ, List, length, slice_index, slice_index_or, IfOk};
+ghost use Rattle.trb.specs.declared.ring_kind.RingKind.{RingKind};
+ghost use Rattle.segments.specs.declared.segment.Segment.{Segment};
+ghost use Rattle.segments.specs.Index.{AreFirsts, AreStarts, IsIndex, IsLastStart, IsSegmentOf, before};
+
+use crate::rules::data_blocks;
+use crate::segment::Segment;
+use std::alloc::{AllocError, Global};
+use trb::RingKind;
+
+/// Where a segment starts, and its number in the ring.
+#[derive(Clone, Copy, Debug)]
+pub(crate) struct Start {
+    pub(crate) base: u64,
+    pub(crate) segment: u32,
+}
+
+/// Finds a segment by its data places and by its addresses, in a time that hardly grows with their number.
+#[derive(Debug, Drop)]
+pub(crate) struct SegmentIndex {
+    /// Of each segment, in order: how many data places lie before it.
+    pub(crate) firsts: Vec<u32>,
+    /// The segments by rising first address.
+    pub(crate) starts: Vec<Start>,
+}
+
+impl SegmentIndex {
+    /// The index of these segments.
+    pub(crate) fn new(
+        alloc: Global,
+        kind: RingKind,
+        segments: &[Segment],
+    ) -> Result<SegmentIndex, AllocError>
+        requires { length segments.now ≤ 64 }
+        ensures { IfOk result (IsIndex kind segments.now) }
+    {
+        let firsts = first_places(alloc, kind, segments)?;
+        let mut starts = starts_of(alloc, segments)?;
+        starts.sort_unstable_by_key(|start| start.base);
+        Ok(SegmentIndex { firsts, starts })
+    }
+
+    /// The number of the segment with a data place.
+    pub(crate) fn segment_of(&self, place: u32) -> usize
+        ensures { (kind : RingKind) (segments : List Segment) → IsIndex kind segments self.now → place < before kind segments (length segments) → IsSegmentOf kind segments place result }
+    {
+        // most rings have one segment alone
+        if self.firsts.len() == 1 {
+            return 0;
+        }
+        let after = self.firsts.partition_point(|first| *first <= place);
+        after.saturating_sub(1)
+    }
+
+    /// The number of the segment that is the last one to start at or before this address.
+    pub(crate) fn last_start(&self, address: u64) -> Option<usize>
+        ensures { (kind : RingKind) (segments : List Segment) → IsIndex kind segments self.now → IsLastStart segments address result }
+    {
+        let starts = self.starts.as_slice();
+        let after = starts.partition_point(|start| start.base <= address);
+        if after == 0 {
+            return None;
+        }
+        Some(starts[after - 1].segment as usize)
+    }
+
+    /// An equal index in memory of its own.
+    pub(crate) fn copy(&self) -> Result<SegmentIndex, AllocError>
+        ensures { IfOk result (λ copy. (kind : RingKind) (segments : List Segment) → IsIndex kind segments self.now → IsIndex kind segments copy) }
+    {
+        Ok(SegmentIndex {
+            firsts: self.firsts.clone()?,
+            starts: self.starts.clone()?,
+        })
+    }
+}
+
+/// Of each segment: how many data places lie before it.
+fn first_places(alloc: Global, kind: RingKind, segments: &[Segment]) -> Result<Vec<u32>, AllocError>
+    requires { length segments.now ≤ 64 }
+    ensures { IfOk result (λ firsts. AreFirsts kind segments.now (length segments.now) firsts.items) }
+{
+    let mut firsts = Vec::new(alloc);
+    let mut places = 0;
+    for segment in segments {
+        firsts.push(places)?;
+        places += u32::from(data_blocks(kind, *segment));
+    }
+    Ok(firsts)
+}
+
+/// Where each segment starts, in order.
+fn starts_of(alloc: Global, segments: &[Segment]) -> Result<Vec<Start>, AllocError>
+    requires { length segments.now ≤ 64 }
+    ensures { IfOk result (λ starts. AreStarts segments.now (length segments.now) starts.items) }
+{
+    let mut starts = Vec::new(alloc);
+    for (number, segment) in segments.iter().enumerate() {
+        starts.push(Start {
+            base: segment.base,
+            segment: number as u32,
+        })?;
+    }
+    Ok(starts)
+}
