@@ -126,7 +126,7 @@ at_linked pages all page old y n i at are number is last same =
 
 -- the words that stand in such pages
 pub words_linked : (pages all : List Page) (page old y : Page) (n i : ℕ) → i ≤ length pages → all ≡ pages ++ page ∷ []
-    → page.words ≡ replicate 32 0 → old ≡ get_or all i old → y.number ≡ old.number → y.words ≡ old.words
+    → page.words ≡ replicate 16 0 → old ≡ get_or all i old → y.number ≡ old.number → y.words ≡ old.words
     → page_in (set all i y) n ≡ page_in pages n
 words_linked pages all page old y n i there are zeros is number words =
     let inside : i < length all = rw are (omega (arith, length-append pages (page ∷ []))) in

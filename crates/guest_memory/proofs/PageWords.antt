@@ -8,14 +8,14 @@ use Rattle.guest_memory.specs.Tree.{numbers}
 use Rattle.guest_memory.specs.Page.{page_in, word_of}
 
 -- a page without words changes none
-pub page_in_push : (pages : List Page) (page : Page) (n : ℕ) → page.words ≡ replicate 32 0
+pub page_in_push : (pages : List Page) (page : Page) (n : ℕ) → page.words ≡ replicate 16 0
     → page_in (pages ++ page ∷ []) n ≡ page_in pages n
 page_in_push [] page n zeros = grind (arith, nat_tests)
 page_in_push (x ∷ pages) page n zeros = let rest = page_in_push pages page n zeros in rw rest
 
 -- no page has the number
 pub page_in_none : (pages : List Page) (n : ℕ) → ((i : ℕ) → i < length pages → slice_index (numbers pages) i ≡ n → ⊥)
-    → page_in pages n ≡ replicate 32 0
+    → page_in pages n ≡ replicate 16 0
 page_in_none [] n none = refl
 page_in_none (x ∷ pages) n none =
     let other : x.number ≢ n = none 0 (omega arith) in
@@ -47,5 +47,5 @@ page_in_set (x ∷ pages) (suc i) page d n below same first =
 -- with no pages each word is 0
 pub word_none : (pages : List Page) (a : ℕ) → pages ≡ [] → word_of pages a ≡ 0
 word_none pages a none =
-    let zero_there : slice_index (replicate 32 0) (a / 4 % 32) ≡ 0 = get_or-replicate 32 (a / 4 % 32) 0 0 (omega arith) in
+    let zero_there : slice_index (replicate 16 0) (a / 4 % 16) ≡ 0 = get_or-replicate 16 (a / 4 % 16) 0 0 (omega arith) in
     rw none (grind (arith, nat_tests, zero_there))

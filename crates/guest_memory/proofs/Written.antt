@@ -29,16 +29,16 @@ page_read pages n i page tree at is =
     rw number at read ∙ ap (λ (p : Page). p.words) (sym is)
 
 pub word_read : (pages : List Page) (n index i at : ℕ) (page : Page) → IsTree (numbers pages) (nexts pages) → IsAt (numbers pages) n i
-    → page ≡ get_or pages i page → n ≡ at / 128 → index ≡ at / 4 % 32 → at % 4 ≡ 0 → slice_index page.words index ≡ word_of pages at
+    → page ≡ get_or pages i page → n ≡ at / 64 → index ≡ at / 4 % 16 → at % 4 ≡ 0 → slice_index page.words index ≡ word_of pages at
 word_read pages n index i at page tree lies is page_is index_is aligned =
-    let words : page_in pages (at / 128) ≡ page.words = rw (← page_is) (page_read pages n i page tree lies is) in
+    let words : page_in pages (at / 64) ≡ page.words = rw (← page_is) (page_read pages n i page tree lies is) in
     rw words (rw index_is (grind (arith, nat_tests)))
 
-pub word_absent : (pages : List Page) (n at : ℕ) → HasNone (numbers pages) n → n ≡ at / 128 → 0 ≡ word_of pages at
+pub word_absent : (pages : List Page) (n at : ℕ) → HasNone (numbers pages) n → n ≡ at / 64 → 0 ≡ word_of pages at
 word_absent pages n at none page_is =
-    let zeros : page_in pages (at / 128) ≡ replicate 32 0 =
-    page_in_none pages (at / 128) (λ i below same. none i (omega (arith, count pages)) (same ∙ sym page_is)) in
-    let zero_there : slice_index (replicate 32 0) (at / 4 % 32) ≡ 0 = get_or-replicate 32 (at / 4 % 32) 0 0 (omega arith) in
+    let zeros : page_in pages (at / 64) ≡ replicate 16 0 =
+    page_in_none pages (at / 64) (λ i below same. none i (omega (arith, count pages)) (same ∙ sym page_is)) in
+    let zero_there : slice_index (replicate 16 0) (at / 4 % 16) ≡ 0 = get_or-replicate 16 (at / 4 % 16) 0 0 (omega arith) in
     rw zeros (grind (arith, nat_tests, zero_there))
 
 pub tree_written : (pages : List Page) (i : ℕ) (old y : Page) → IsTree (numbers pages) (nexts pages) → old ≡ get_or pages i old
@@ -51,27 +51,27 @@ tree_written pages i old y tree is number next =
     rw (ns, ts) tree
 
 -- two words are one where their pages and their places there are
-pub same_place : (a b : ℕ) → a % 4 ≡ 0 → b % 4 ≡ 0 → a / 128 ≡ b / 128 → a / 4 % 32 ≡ b / 4 % 32 → a ≡ b
+pub same_place : (a b : ℕ) → a % 4 ≡ 0 → b % 4 ≡ 0 → a / 64 ≡ b / 64 → a / 4 % 16 ≡ b / 4 % 16 → a ≡ b
 same_place a b first second pages places = omega arith
 
 pub word_written : (pages : List Page) (n index i at value : ℕ) (old y : Page) → IsTree (numbers pages) (nexts pages)
     → IsAt (numbers pages) n i → old ≡ get_or pages i old → y.number ≡ old.number → y.words ≡ set old.words index value
-    → length old.words ≡ 32 → n ≡ at / 128 → index ≡ at / 4 % 32 → at % 4 ≡ 0
+    → length old.words ≡ 16 → n ≡ at / 64 → index ≡ at / 4 % 16 → at % 4 ≡ 0
     → (a : ℕ) → word_of (set pages i y) a ≡ put (word_of pages) at value a
 word_written pages n index i at value old y tree lies is number words whole page_is index_is aligned a =
     let inside : i < length pages = omega (arith, lies.inside, count pages) in
     let named : old.number ≡ n = sym (number_read pages i old inside is) ∙ lies.same in
     let y_named : y.number ≡ n = number ∙ named in
-    let all : page_in (set pages i y) (a / 128) ≡ (if y.number == a / 128 then y.words else page_in pages (a / 128)) =
-    page_in_set pages i y old (a / 128) inside (number ∙ ap (λ (p : Page). p.number) is) (rw y_named (is_first pages n i tree lies)) in
+    let all : page_in (set pages i y) (a / 64) ≡ (if y.number == a / 64 then y.words else page_in pages (a / 64)) =
+    page_in_set pages i y old (a / 64) inside (number ∙ ap (λ (p : Page). p.number) is) (rw y_named (is_first pages n i tree lies)) in
     let before : page_in pages n ≡ old.words = page_read pages n i old tree lies is in
     rw all
     (⊎_elim
-    (λ (here : a / 128 ≡ n).
-    let there : page_in pages (a / 128) ≡ old.words = rw here before in
+    (λ (here : a / 64 ≡ n).
+    let there : page_in pages (a / 64) ≡ old.words = rw here before in
     ⊎_elim
-    (λ (same : a / 4 % 32 ≡ index).
-    let new : slice_index y.words (a / 4 % 32) ≡ value =
+    (λ (same : a / 4 % 16 ≡ index).
+    let new : slice_index y.words (a / 4 % 16) ≡ value =
     rw (words, same) (get_or-set_same old.words index value 0 (omega arith)) in
     ⊎_elim
     (λ (word : a % 4 ≡ 0).
@@ -79,13 +79,13 @@ word_written pages n index i at value old y tree lies is number words whole page
     grind (arith, nat_tests, new))
     (λ (other : a % 4 ≢ 0). grind (arith, nat_tests))
     (cases_eq (a % 4) 0))
-    (λ (other : a / 4 % 32 ≢ index).
-    let kept : slice_index y.words (a / 4 % 32) ≡ slice_index old.words (a / 4 % 32) =
-    rw words (get_or-set_other old.words index (a / 4 % 32) value 0 other) in
+    (λ (other : a / 4 % 16 ≢ index).
+    let kept : slice_index y.words (a / 4 % 16) ≡ slice_index old.words (a / 4 % 16) =
+    rw words (get_or-set_other old.words index (a / 4 % 16) value 0 other) in
     rw there (grind (arith, nat_tests, kept)))
-    (cases_eq (a / 4 % 32) index))
-    (λ (elsewhere : a / 128 ≢ n). grind (arith, nat_tests))
-    (cases_eq (a / 128) n))
+    (cases_eq (a / 4 % 16) index))
+    (λ (elsewhere : a / 64 ≢ n). grind (arith, nat_tests))
+    (cases_eq (a / 64) n))
 
 pub put_same : (f g : ℕ → ℕ) (at value a : ℕ) → f a ≡ g a → put f at value a ≡ put g at value a
 put_same f g at value a same = rw same refl

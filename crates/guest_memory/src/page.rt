@@ -1,10 +1,10 @@
 ghost use Rattle.std.specs.Prelude.{◌≡◌, length};
 
 /// The bytes of a page.
-pub(crate) const PAGE: u64 = 128;
+pub(crate) const PAGE: u64 = 64;
 
 /// The words of a page: few, so that words that lie far apart cost little more than themselves, whoever picks their addresses.
-pub(crate) const WORDS: usize = 32;
+pub(crate) const WORDS: usize = 16;
 
 /// The pages that stand behind one in the tree, one for each digit in base four.
 pub(crate) const DIGITS: u64 = 4;
@@ -18,5 +18,5 @@ pub(crate) struct Page {
     pub(crate) next: [usize; DIGITS as usize],
     pub(crate) words: [u32; WORDS],
     ghost four: { length next ≡ 4 },
-    ghost whole: { length words ≡ 32 },
+    ghost whole: { length words ≡ 16 },
 }

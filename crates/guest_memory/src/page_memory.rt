@@ -8,7 +8,7 @@ use crate::page::{DIGITS, PAGE, Page, WORDS};
 use std::alloc::{AllocError, Global};
 
 /// How many pages are remembered as written lately.
-const RECENT: u64 = 256;
+const RECENT: u64 = 1024;
 
 /// Where a page lies, or where the next page has to stand if it is to have its number: behind a page by a digit.
 enum Way {
@@ -29,8 +29,8 @@ pub struct PageMemory {
 
 /// The number of a word's page, and the word's index there.
 fn place(at: Addr) -> (u64, usize)
-    ensures page { result.0 ≡ at / 128 }
-    ensures index { result.1 ≡ at / 4 % 32 }
+    ensures page { result.0 ≡ at / 64 }
+    ensures index { result.1 ≡ at / 4 % 16 }
     ensures aligned { at % 4 ≡ 0 }
 {
     let address = at.get();
@@ -39,7 +39,7 @@ fn place(at: Addr) -> (u64, usize)
 
 /// Where a page is remembered. Pages that lie side by side, or as far apart as the rings of many traces, have places of their own.
 fn slot(number: u64) -> usize
-    ensures { result < 256 }
+    ensures { result < 1024 }
 {
     ((number ^ number >> 8 ^ number >> 16) % RECENT) as usize
 }

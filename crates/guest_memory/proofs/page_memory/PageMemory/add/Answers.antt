@@ -13,8 +13,8 @@ invariant_of-self-2 c = record {
 
 pub returns-clause-same : goal.returns-clause-same
 returns-clause-same c = λ a.
-    ap (λ (words : List ℕ). if a % 4 == 0 then slice_index words (a / 4 % 32) else 0)
-    (words_linked c.args.self.now.pages.items c.push.new.self.items _ c.index_mut.result.now _ (a / 128) c.args.behind
+    ap (λ (words : List ℕ). if a % 4 == 0 then slice_index words (a / 4 % 16) else 0)
+    (words_linked c.args.self.now.pages.items c.push.new.self.items _ c.index_mut.result.now _ (a / 64) c.args.behind
     (omega (arith, count c.args.self.now.pages.items, c.requires.there)) c.in_ok-push.ensures.items refl c.index_mut.ensures.value
     refl refl)
 
