@@ -54,6 +54,7 @@ pub record IsFree (ns : List ℕ) (ts : List (List ℕ)) (n i digit : ℕ) : Typ
   pub unused : next ts i digit ≡ 0
   pub joins : (ms : List ℕ) (us : List (List ℕ)) → Extends ns ts ms us → slice_index ms (length ns) ≡ n → next us i digit ≡ length ns → led ms us n (length ns + 1) 0 n ≡ Some (length ns)
 
+-- where the page with a number lies, or where it has to stand if there is none
 abbrev pub IsWay : List ℕ → List (List ℕ) → ℕ → Way → Type 0
 IsWay ns ts n (Found i) = IsAt ns n i
 IsWay ns ts n (Free i digit) = IsFree ns ts n i digit
