@@ -1,2 +1,3 @@
 pub mod Memory
+pub mod Tree
 pub mod Page

@@ -4,7 +4,8 @@
 mod addr;
 mod memory;
 mod page;
+mod page_memory;
 
 pub use addr::Addr;
 pub use memory::WordMemory;
-pub use page::PageMemory;
+pub use page_memory::PageMemory;

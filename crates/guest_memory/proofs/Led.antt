@@ -1,0 +1,65 @@
+-- The way to a page of a tree, step by step, and in a tree that grows
+use Rattle.std.proofs.Common.{ℕ, zero, suc, List, length, Some, None, ◌≡◌, ◌≢◌, ◌<◌, ◌≤◌, ◌/◌, ◌%◌, ◌∙◌, sym, refl, ⊎_elim, arith}
+use Rattle.std.specs.Prelude.{slice_index}
+use Rattle.std.proofs.lemmas.Bool.{cases_eq}
+use Rattle.std.proofs.lemmas.Bool.Decides.{nat_tests}
+use Rattle.guest_memory.specs.Tree.{next, led, IsTree, Extends}
+
+pub led_here : (ns : List ℕ) (ts : List (List ℕ)) (n steps i rest : ℕ) → slice_index ns i ≡ n → led ns ts n (suc steps) i rest ≡ Some i
+unfolding led
+led_here ns ts n steps i rest here = grind (arith, nat_tests)
+
+pub led_down : (ns : List ℕ) (ts : List (List ℕ)) (n steps i rest : ℕ) → slice_index ns i ≢ n → 0 < next ts i (rest % 4)
+    → led ns ts n (suc steps) i rest ≡ led ns ts n steps (next ts i (rest % 4)) (rest / 4)
+unfolding led
+led_down ns ts n steps i rest other more = grind (arith, nat_tests)
+
+pub led_end : (ns : List ℕ) (ts : List (List ℕ)) (n steps i rest : ℕ) → slice_index ns i ≢ n → next ts i (rest % 4) ≡ 0
+    → led ns ts n steps i rest ≡ None
+unfolding led
+led_end ns ts n zero i rest other none = refl
+led_end ns ts n (suc steps) i rest other none = grind (arith, nat_tests)
+
+-- what is found in some steps is found in more
+pub led_more : (ns : List ℕ) (ts : List (List ℕ)) (n steps more i rest j : ℕ) → steps ≤ more
+    → led ns ts n steps i rest ≡ Some j → led ns ts n more i rest ≡ Some j
+unfolding led
+led_more ns ts n zero more i rest j few found = cc
+led_more ns ts n (suc steps) zero i rest j few found = absurd (omega arith)
+led_more ns ts n (suc steps) (suc more) i rest j few found =
+    ⊎_elim
+    (λ (here : slice_index ns i ≡ n). led_here ns ts n more i rest here ∙ sym (led_here ns ts n steps i rest here) ∙ found)
+    (λ (other : slice_index ns i ≢ n).
+    ⊎_elim
+    (λ (none : next ts i (rest % 4) ≡ 0). let e = led_end ns ts n (suc steps) i rest other none in cc)
+    (λ (some : next ts i (rest % 4) ≢ 0).
+    let before = led_down ns ts n steps i rest other (omega arith) in
+    let after = led_down ns ts n more i rest other (omega arith) in
+    let deeper = led_more ns ts n steps more (next ts i (rest % 4)) (rest / 4) j (omega arith) (sym before ∙ found) in
+    after ∙ deeper)
+    (cases_eq (next ts i (rest % 4)) 0))
+    (cases_eq (slice_index ns i) n)
+
+-- what is found in a tree is found in one that has all of it
+pub led_kept : (ns : List ℕ) (ts : List (List ℕ)) (ms : List ℕ) (us : List (List ℕ)) → IsTree ns ts → Extends ns ts ms us
+    → (n steps i rest j : ℕ) → i < length ns → led ns ts n steps i rest ≡ Some j → led ms us n steps i rest ≡ Some j
+unfolding led
+led_kept ns ts ms us tree extends n zero i rest j inside found = found
+led_kept ns ts ms us tree extends n (suc steps) i rest j inside found =
+    let number = extends.number i inside in
+    ⊎_elim
+    (λ (here : slice_index ns i ≡ n).
+    led_here ms us n steps i rest (number ∙ here) ∙ sym (led_here ns ts n steps i rest here) ∙ found)
+    (λ (other : slice_index ns i ≢ n).
+    ⊎_elim
+    (λ (none : next ts i (rest % 4) ≡ 0). let e = led_end ns ts n (suc steps) i rest other none in cc)
+    (λ (some : next ts i (rest % 4) ≢ 0).
+    let above : 0 < next ts i (rest % 4) = omega arith in
+    let way = extends.way i (rest % 4) inside above in
+    let before = led_down ns ts n steps i rest other above in
+    let after = led_down ms us n steps i rest (λ e. other (sym number ∙ e)) (omega arith) in
+    let deeper = led_kept ns ts ms us tree extends n steps (next ts i (rest % 4)) (rest / 4) j
+    (tree.inside i (rest % 4) inside) (sym before ∙ found) in
+    after ∙ rw way deeper)
+    (cases_eq (next ts i (rest % 4)) 0))
+    (cases_eq (slice_index ns i) n)

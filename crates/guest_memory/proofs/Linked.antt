@@ -1,0 +1,133 @@
+-- A page at the end of the others, and where it lies noted in one of them
+use Rattle.std.proofs.Common.{ℕ, zero, suc, List, [], ◌∷◌, ◌++◌, length, set, get_or, replicate, ◌≡◌, ◌≢◌, ◌<◌, ◌≤◌, ◌+◌, ◌∙◌, sym, refl, ap, ⊎_elim, arith, length-append}
+use Rattle.std.specs.Prelude.{slice_index}
+use Rattle.std.proofs.lemmas.Bool.{cases_eq, cases_lt}
+use Rattle.std.proofs.lemmas.List.{length-map, get_or-map, map-set, map-append, get_or-set_same, get_or-set_other, get_or_append_left, get_or_push, get_or-replicate, get_or_past}
+use Rattle.std.proofs.Math.Seq.{map-set_same}
+use Rattle.guest_memory.specs.declared.page.Page.{Page}
+use Rattle.guest_memory.specs.Tree.{numbers, nexts, next, IsTree, IsFree, IsAt}
+use Rattle.guest_memory.specs.Page.{page_in}
+use Rattle.guest_memory.proofs.Grown.{IsGrown, tree_grown}
+use Rattle.guest_memory.proofs.PageWords.{page_in_push}
+
+pub count : (pages : List Page) → length (numbers pages) ≡ length pages
+count pages = length-map pages (λ (page : Page). page.number)
+
+pub number_read : (pages : List Page) (i : ℕ) (page : Page) → i < length pages → page ≡ get_or pages i page
+    → slice_index (numbers pages) i ≡ page.number
+number_read pages i page below is = get_or-map (λ (p : Page). p.number) pages i page 0 below ∙ sym (ap (λ (p : Page). p.number) is)
+
+pub next_read : (pages : List Page) (i digit : ℕ) (page : Page) → i < length pages → page ≡ get_or pages i page
+    → next (nexts pages) i digit ≡ slice_index page.next digit
+next_read pages i digit page below is =
+    ap (λ (row : List ℕ). slice_index row digit)
+    (get_or-map (λ (p : Page). p.next) pages i page [] below ∙ sym (ap (λ (p : Page). p.next) is))
+
+-- one way of one page is changed
+pub next_set_other : (ts : List (List ℕ)) (i digit v j d : ℕ) → i < length ts → (j ≡ i → d ≡ digit → ⊥)
+    → next (set ts i (set (get_or ts i []) digit v)) j d ≡ next ts j d
+next_set_other ts i digit v j d below apart =
+    ⊎_elim
+    (λ (at : j ≡ i).
+    let other : d ≢ digit = apart at in
+    rw (at, get_or-set_same ts i (set (get_or ts i []) digit v) [] below) (get_or-set_other (get_or ts i []) digit d v 0 other))
+    (λ (other : j ≢ i). rw (get_or-set_other ts i j (set (get_or ts i []) digit v) [] other) refl)
+    (cases_eq j i)
+
+pub next_set_same : (ts : List (List ℕ)) (i digit v : ℕ) → i < length ts → digit < length (get_or ts i [])
+    → next (set ts i (set (get_or ts i []) digit v)) i digit ≡ v
+next_set_same ts i digit v below wide =
+    rw (get_or-set_same ts i (set (get_or ts i []) digit v) [] below) (get_or-set_same (get_or ts i []) digit v 0 wide)
+
+-- no way is behind a page that is new
+pub next_new : (ts : List (List ℕ)) (d : ℕ) → next (ts ++ replicate 4 0 ∷ []) (length ts) d ≡ 0
+next_new ts d =
+    rw (get_or_push ts (replicate 4 0) [] (length ts) refl)
+    (⊎_elim
+    (λ (low : d < 4). get_or-replicate 4 d 0 0 low)
+    (λ (high : 4 ≤ d). get_or_past (replicate 4 0) d 0 high)
+    (cases_lt d 4))
+
+-- the same of the lists of numbers and ways
+pub grown_lists : (ns : List ℕ) (ts : List (List ℕ)) (n i digit : ℕ) → length ts ≡ length ns → i ≤ length ns
+    → digit < length (get_or (ts ++ replicate 4 0 ∷ []) i [])
+    → IsGrown ns ts n i digit (ns ++ n ∷ [])
+    (set (ts ++ replicate 4 0 ∷ []) i (set (get_or (ts ++ replicate 4 0 ∷ []) i []) digit (length ns)))
+grown_lists ns ts n i digit same there wide =
+    let longer : length (ts ++ replicate 4 0 ∷ []) ≡ length ns + 1 = length-append ts (replicate 4 0 ∷ []) ∙ ap (λ (m : ℕ). m + 1) same in
+    let inside : i < length (ts ++ replicate 4 0 ∷ []) = omega arith in
+    record {
+      longer = length-append ns (n ∷ []);
+      number = λ j below. get_or_append_left ns (n ∷ []) 0 j below;
+      last = get_or_push ns n 0 (length ns) refl;
+      way = λ j d below apart.
+          next_set_other (ts ++ replicate 4 0 ∷ []) i digit (length ns) j d inside apart
+          ∙ ap (λ (row : List ℕ). slice_index row d) (get_or_append_left ts (replicate 4 0 ∷ []) [] j (omega arith));
+      leaf = λ d apart.
+          next_set_other (ts ++ replicate 4 0 ∷ []) i digit (length ns) (length ns) d inside apart ∙ rw (← same) (next_new ts d);
+      joined = next_set_same (ts ++ replicate 4 0 ∷ []) i digit (length ns) inside wide;
+    }
+
+-- the numbers and ways of pages of which the last is new, and has been noted in page i, which was old and is y
+pub is_grown : (pages : List Page) (page old y : Page) (n i digit : ℕ) → i ≤ length pages → digit < 4 → page.number ≡ n
+    → page.next ≡ replicate 4 0 → old ≡ get_or (pages ++ page ∷ []) i old → length old.next ≡ 4 → y.number ≡ old.number
+    → y.next ≡ set old.next digit (length pages)
+    → IsGrown (numbers pages) (nexts pages) n i digit (numbers (set (pages ++ page ∷ []) i y)) (nexts (set (pages ++ page ∷ []) i y))
+is_grown pages page old y n i digit there low number leaf is four same changed =
+    let ways : length (nexts pages) ≡ length (numbers pages) = length-map pages (λ (p : Page). p.next) ∙ sym (count pages) in
+    let ns : numbers (set (pages ++ page ∷ []) i y) ≡ numbers pages ++ n ∷ [] =
+    map-set_same (λ (p : Page). p.number) (pages ++ page ∷ []) i y old (same ∙ ap (λ (p : Page). p.number) is)
+    ∙ map-append (λ (p : Page). p.number) pages (page ∷ []) ∙ ap (λ (m : ℕ). numbers pages ++ m ∷ []) number in
+    let all : nexts (pages ++ page ∷ []) ≡ nexts pages ++ replicate 4 0 ∷ [] =
+    map-append (λ (p : Page). p.next) pages (page ∷ []) ∙ ap (λ (row : List ℕ). nexts pages ++ row ∷ []) leaf in
+    let inside : i < length (pages ++ page ∷ []) = omega (arith, length-append pages (page ∷ [])) in
+    let row : get_or (nexts pages ++ replicate 4 0 ∷ []) i [] ≡ old.next =
+    rw (← all) (get_or-map (λ (p : Page). p.next) (pages ++ page ∷ []) i old [] inside ∙ sym (ap (λ (p : Page). p.next) is)) in
+    let ts : nexts (set (pages ++ page ∷ []) i y)
+    ≡ set (nexts pages ++ replicate 4 0 ∷ []) i (set (get_or (nexts pages ++ replicate 4 0 ∷ []) i []) digit (length (numbers pages))) =
+    map-set (λ (p : Page). p.next) (pages ++ page ∷ []) i y ∙ rw (row, count pages, ← all) (ap (λ (r : List ℕ). set (nexts (pages ++ page ∷ [])) i r) changed) in
+    rw (ns, ts) (grown_lists (numbers pages) (nexts pages) n i digit ways (omega (arith, count pages)) (rw row (omega arith)))
+
+-- which words stand in the pages
+pub page_in_linked : (pages : List Page) (i : ℕ) (old y : Page) (n : ℕ) → i < length pages → old ≡ get_or pages i old
+    → y.number ≡ old.number → y.words ≡ old.words → page_in (set pages i y) n ≡ page_in pages n
+page_in_linked [] i old y n below is number words = absurd (omega arith)
+page_in_linked (x ∷ pages) zero old y n below is number words =
+    let a : y.number ≡ x.number = number ∙ ap (λ (p : Page). p.number) is in
+    let b : y.words ≡ x.words = words ∙ ap (λ (p : Page). p.words) is in
+    rw (a, b) refl
+page_in_linked (x ∷ pages) (suc i) old y n below is number words =
+    let rest = page_in_linked pages i old y n (omega arith) is number words in
+    rw rest refl
+
+-- the tree of such pages
+pub tree_linked : (pages all : List Page) (page old y : Page) (n i digit at : ℕ) → IsTree (numbers pages) (nexts pages)
+    → IsFree (numbers pages) (nexts pages) n i digit → all ≡ pages ++ page ∷ [] → page.number ≡ n → page.next ≡ replicate 4 0
+    → old ≡ get_or all i old → length old.next ≡ 4 → at ≡ length pages → y.number ≡ old.number → y.next ≡ set old.next digit at
+    → IsTree (numbers (set all i y)) (nexts (set all i y))
+tree_linked pages all page old y n i digit at tree free are number leaf is four last same changed =
+    rw are
+    (tree_grown (numbers pages) (nexts pages) n i digit (numbers (set (pages ++ page ∷ []) i y)) (nexts (set (pages ++ page ∷ []) i y))
+    tree free
+    (is_grown pages page old y n i digit (omega (arith, free.there, count pages)) free.low number leaf (rw are at is) four same
+    (rw last at changed)))
+
+-- where the new page lies
+pub at_linked : (pages all : List Page) (page old y : Page) (n i at : ℕ) → all ≡ pages ++ page ∷ [] → page.number ≡ n
+    → old ≡ get_or all i old → at ≡ length pages → y.number ≡ old.number → IsAt (numbers (set all i y)) n at
+at_linked pages all page old y n i at are number is last same =
+    let ns : numbers (set all i y) ≡ numbers pages ++ n ∷ [] =
+    map-set_same (λ (p : Page). p.number) all i y old (same ∙ ap (λ (p : Page). p.number) is)
+    ∙ ap numbers are ∙ map-append (λ (p : Page). p.number) pages (page ∷ []) ∙ ap (λ (m : ℕ). numbers pages ++ m ∷ []) number in
+    rw ns (record {
+      inside = omega (arith, length-append (numbers pages) (n ∷ []), count pages);
+      same = get_or_push (numbers pages) n 0 at (count pages ∙ sym last);
+    })
+
+-- the words that stand in such pages
+pub words_linked : (pages all : List Page) (page old y : Page) (n i : ℕ) → i ≤ length pages → all ≡ pages ++ page ∷ []
+    → page.words ≡ replicate 16 0 → old ≡ get_or all i old → y.number ≡ old.number → y.words ≡ old.words
+    → page_in (set all i y) n ≡ page_in pages n
+words_linked pages all page old y n i there are zeros is number words =
+    let inside : i < length all = rw are (omega (arith, length-append pages (page ∷ []))) in
+    page_in_linked all i old y n inside is number words ∙ rw are (page_in_push pages page n zeros)

@@ -1,0 +1,10 @@
+use Rattle.std.proofs.Common.{◌-◌, length}
+use Rattle.guest_memory.specs.Tree.{numbers, nexts}
+use Rattle.guest_memory.proofs.OnWay.{IsOnWay}
+use Rattle.guest_memory.proofs.page_memory.PageMemory.seek.Given as goal
+
+abbrev pub invariant-loop-at : goal.invariant-loop-at
+invariant-loop-at l = IsOnWay (numbers l.self.pages.items) (nexts l.self.pages.items) l.number l.at l.rest
+
+abbrev pub decreases-loop-at : goal.decreases-loop-at
+decreases-loop-at l = length l.self.pages.items - l.at

@@ -1,0 +1,157 @@
+ghost use Rattle.std.specs.Prelude.{◌≡◌, ◌<◌, ◌/◌, ◌%◌, ℕ, IfOk, IfSome, IfNone};
+ghost use Rattle.std.specs.Bool.{OnTrue};
+ghost use Rattle.guest_memory.specs.Tree.{numbers, nexts, IsTree, IsFree, IsAt, HasNone, IsWay};
+
+use crate::addr::Addr;
+use crate::memory::WordMemory;
+use crate::page::{DIGITS, PAGE, Page, WORDS};
+use std::alloc::{AllocError, Global};
+
+/// How many pages are remembered as written lately.
+const RECENT: u64 = 1024;
+
+/// Where a page lies, or where the next page has to stand if it is to have its number: behind a page by a digit.
+enum Way {
+    Found(usize),
+    Free(usize, usize),
+}
+
+/// Memory that keeps the pages in which a word was written, in the order in which they came, as a tree: from the first page the digits
+/// of a number, the lowest first, lead to its page. So no choice of addresses makes it slow: there are at most 29 steps. Most pages
+/// are found without them, since they were written lately.
+#[derive(Drop)]
+pub struct PageMemory {
+    pages: Vec<Page>,
+    /// Where a page may lie, by what its number leaves.
+    recent: [usize; RECENT as usize],
+    ghost is_tree: { IsTree (numbers pages.items) (nexts pages.items) },
+}
+
+/// The number of a word's page, and the word's index there.
+fn place(at: Addr) -> (u64, usize)
+    ensures page { result.0 ≡ at / 64 }
+    ensures index { result.1 ≡ at / 4 % 16 }
+    ensures aligned { at % 4 ≡ 0 }
+{
+    let address = at.get();
+    (address / PAGE, (address / 4) as usize % WORDS)
+}
+
+/// Where a page is remembered. Pages that lie side by side, or as far apart as the rings of many traces, have places of their own.
+fn slot(number: u64) -> usize
+    ensures { result < 1024 }
+{
+    ((number ^ number >> 8 ^ number >> 16) % RECENT) as usize
+}
+
+impl PageMemory {
+    ghost use Rattle.guest_memory.specs.Page.{word_in};
+
+    /// Memory in which no word was written. It takes none itself.
+    pub fn new(alloc: Global) -> PageMemory
+        ensures { (a : ℕ) → word_in result a ≡ 0 }
+    {
+        PageMemory {
+            pages: Vec::new(alloc),
+            recent: [0; RECENT as usize],
+        }
+    }
+
+    /// Whether a page lies here, and has the number.
+    fn lies_at(&self, at: usize, number: u64) -> bool
+        ensures { OnTrue result (IsAt (numbers self.now.pages.items) number at) }
+    {
+        at < self.pages.len() && self.pages[at].number == number
+    }
+
+    /// Where the page with a number lies, by the tree.
+    fn seek(&self, number: u64) -> Way
+        ensures { IsWay (numbers self.now.pages.items) (nexts self.now.pages.items) number result }
+    {
+        let mut at = 0;
+        let mut rest = number;
+        while at < self.pages.len() {
+            let page = &self.pages[at];
+            if page.number == number {
+                return Way::Found(at);
+            }
+            let digit = (rest % DIGITS) as usize;
+            let next = page.next[digit];
+            if next == 0 {
+                return Way::Free(at, digit);
+            }
+            at = next;
+            rest = rest / DIGITS;
+        }
+        Way::Free(0, 0)
+    }
+
+    /// Where the page with a number lies.
+    fn find(&self, number: u64) -> Option<usize>
+        ensures some { IfSome result (IsAt (numbers self.now.pages.items) number) }
+        ensures none { IfNone result (HasNone (numbers self.now.pages.items) number) }
+    {
+        let recent = self.recent[slot(number)];
+        if self.lies_at(recent, number) {
+            return Some(recent);
+        }
+        match self.seek(number) {
+            Way::Found(at) => Some(at),
+            Way::Free(_, _) => None,
+        }
+    }
+
+    /// Where the page with a number lies, which is made if there is none. No word changes.
+    fn open(&mut self, number: u64) -> Result<usize, AllocError>
+        ensures same { (a : ℕ) → word_in self.new a ≡ word_in self.old a }
+        ensures ok { IfOk result (IsAt (numbers self.new.pages.items) number) }
+    {
+        let recent = self.recent[slot(number)];
+        if self.lies_at(recent, number) {
+            return Ok(recent);
+        }
+        let at = match self.seek(number) {
+            Way::Found(at) => at,
+            Way::Free(behind, digit) => self.add(number, behind, digit)?,
+        };
+        self.recent[slot(number)] = at;
+        Ok(at)
+    }
+
+    /// Makes a page behind another one in the tree, or the first one. No word changes.
+    fn add(&mut self, number: u64, behind: usize, digit: usize) -> Result<usize, AllocError>
+        requires { IsFree (numbers self.old.pages.items) (nexts self.old.pages.items) number behind digit }
+        ensures same { (a : ℕ) → word_in self.new a ≡ word_in self.old a }
+        ensures ok { IfOk result (IsAt (numbers self.new.pages.items) number) }
+    {
+        let at = self.pages.len();
+        self.pages.push(Page {
+            number,
+            next: [0; DIGITS as usize],
+            words: [0; WORDS],
+        })?;
+        self.pages[behind].next[digit] = at;
+        Ok(at)
+    }
+}
+
+impl WordMemory for PageMemory {
+    ghost use Rattle.guest_memory.specs.Page.{word_in};
+
+    ghost words = { word_in };
+
+    fn word(&self, at: Addr) -> u32 {
+        let (number, index) = place(at);
+        match self.find(number) {
+            Some(page) => self.pages[page].words[index],
+            None => 0,
+        }
+    }
+
+    fn set(&mut self, at: Addr, value: u32) -> Result<(), AllocError> {
+        let (number, index) = place(at);
+        let page = self.open(number)?;
+        self.pages[page].words[index] = value;
+        Ok(())
+    }
+}
