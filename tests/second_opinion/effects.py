@@ -4,7 +4,7 @@ from blocks import (ADDRESS_DEVICE, CONFIGURE_ENDPOINT, COMMAND_COMPLETION, DISA
                     RESET_ENDPOINT, SET_TR_DEQUEUE, STOPPED_CODES, STOP_ENDPOINT, SUCCESS, SUCCESS_CODES, TRANSFER_EVENT, TRB_ERROR,
                     aligned, code, endpoint, slot, type_of)
 from commands import adds_endpoints, slot_after_success
-from rings import Data, is_data
+from rings import is_data
 from trace import Doorbell, Event, Register, Write
 
 ALL_ENDPOINTS = range(32)
@@ -136,25 +136,23 @@ def of_placed_endpoints(known, command):
 
 def placed(known, command, index, pointer, cycle, state):
     is_disabled = known.endpoint_state(command.slot, index) == 'Disabled' or index in disabled_by(known, command)
-    place = bound(known, command.slot, index, pointer) if is_disabled else moved(known, command.slot, index, pointer, cycle)
+    place = bound(known, command.slot, index, pointer, cycle) if is_disabled else moved(known, known.ring_of(command.slot, index), pointer, cycle)
     yield from place
     yield ('endpoint', command.slot, index), state
     yield ('must move', command.slot, index), False
 
 
-def bound(known, number, index, pointer):
-    """A Disabled endpoint gets the ring whose first block the pointer names."""
-    ring = known.trace.ring_beginning_at(pointer)
+def bound(known, number, index, pointer, cycle):
+    """A Disabled endpoint gets the ring that has the block at the pointer, and that is moved there."""
+    ring = known.trace.ring_having(pointer)
     if ring is not None:
-        yield ('floor', ring), Data(0)
-        yield ('held', ring), 0
+        yield from moved(known, known.trace.ring(ring), pointer, cycle)
         yield ('ring of', number, index), ring
         yield ('bound', ring), True
 
 
-def moved(known, number, index, pointer, cycle):
-    """Any other has its ring moved to the spot, up to what is declared, that pointer and cycle state name."""
-    ring = known.ring_of(number, index)
+def moved(known, ring, pointer, cycle):
+    """A ring is moved to the spot, up to what is declared, that pointer and cycle state name."""
     spots = ring.spots(known.floor(ring).number, known.declared(ring)) if ring else []
     named = [spot for spot in spots if (ring.spot_address(spot), ring.spot_cycle(spot)) == (pointer, cycle)]
     if named:

@@ -1,6 +1,6 @@
 """Where a command may let an endpoint's ring begin, and where it may set its dequeue pointer (xHCI 4.6.5, 4.6.6, 4.6.10)."""
 import contexts
-from blocks import ADDRESS_DEVICE
+from blocks import ADDRESS_DEVICE, CONFIGURE_ENDPOINT
 from rings import is_data
 
 
@@ -13,20 +13,48 @@ def bindings_of(known, command):
 
 
 def rings_bound(known, command):
-    return [known.trace.ring_beginning_at(binding.pointer) for binding in bindings_of(known, command)]
+    return [known.trace.ring_having(binding.pointer) for binding in bindings_of(known, command)]
 
 
-def is_unused(known, number):
-    """A transfer ring to which no endpoint was bound, and which no unfinished command binds."""
-    if number is None or known.was_bound(known.trace.ring(number)):
+def is_being_bound(known, number):
+    """An unfinished command binds the ring."""
+    return any(number in rings_bound(known, other) for other in known.unfinished)
+
+
+def awaits_binding(known, ring):
+    """An unfinished command binds the ring, which is open: for the endpoint that had it the controller may go on."""
+    return known.is_open(ring) and is_being_bound(known, ring.number)
+
+
+def is_kept(known, command, number):
+    """An endpoint has the ring, and the command doesn't drop it."""
+    ring = known.trace.ring(number)
+    if not known.was_bound(ring):
         return False
-    return not any(number in rings_bound(known, other) for other in known.unfinished)
+    dropped = contexts.dropped_endpoints(known, command.pointer) if command.type == CONFIGURE_ENDPOINT else []
+    holders = [(slot, index) for slot in range(1, 256) for index in range(1, 32) if known.ring_of(slot, index) == ring]
+    return any(slot != command.slot or index not in dropped for slot, index in holders)
+
+
+def is_bad_place(known, command, binding):
+    """No ring, one that is taken, or one that doesn't stand still there: its floor is its ceiling."""
+    number = known.trace.ring_having(binding.pointer)
+    if number is None or is_kept(known, command, number) or is_being_bound(known, number):
+        return True
+    ring = known.trace.ring(number)
+    return not is_move(known, ring, binding, known.ceiling(ring), known.floor(ring).number)
+
+
+def binds_again(known, command):
+    rings = [number for number in rings_bound(known, command) if number is not None]
+    return any(known.was_bound(known.trace.ring(number)) for number in rings)
 
 
 def is_bad_binding(known, command):
+    """A ring is bound where it may not be, or twice, or again where the trace's version refuses that."""
     rings = rings_bound(known, command)
-    begins = all(binding.cycle == 1 for binding in bindings_of(known, command))
-    return not begins or not all(is_unused(known, ring) for ring in rings) or len(set(rings)) != len(rings)
+    is_refused = known.trace.version < 3 and binds_again(known, command)
+    return is_refused or any(is_bad_place(known, command, binding) for binding in bindings_of(known, command)) or len(set(rings)) != len(rings)
 
 
 def is_reached(known, ring, spot):

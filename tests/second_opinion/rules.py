@@ -5,7 +5,7 @@ from commands import name_one_slot
 from events import is_impossible_completion, is_impossible_transfer, is_in_profile
 from given_commands import adds_left_out_endpoint, changes_endpoint, is_refused, moves_ring
 from leases import device_contexts, event_segments, is_touched, open_leases
-from moves import is_bad_binding, is_bad_dequeue, is_bad_stay
+from moves import awaits_binding, is_bad_binding, is_bad_dequeue, is_bad_stay
 from registers import is_bad_crcr, is_bad_erstba, is_bad_erstsz, is_bad_usbcmd
 from trace import Declare, Doorbell, Event, Register, Write
 
@@ -127,11 +127,14 @@ def bad_command(known, row):
 
 
 def busy(known, row):
-    """The slot has an unfinished command; an unfinished Address Device moves the ring of which a block is given."""
+    """The slot has an unfinished command; an unfinished Address Device moves the ring of which a block is given, or a command binds it."""
     command = known.command_given_by(row)
     if command is not None and any(name_one_slot(command, other) for other in known.unfinished):
         return True
-    return any(moves_ring(known, other, ring) for ring, _ in positions_given(known, row) for other in known.unfinished)
+    given = [ring for ring, _ in positions_given(known, row)]
+    crossed = [ring for ring, *_ in links_given(known, row)]
+    is_moved = any(moves_ring(known, other, ring) for ring in given for other in known.unfinished)
+    return is_moved or any(awaits_binding(known, ring) for ring in given + crossed)
 
 
 def not_in_profile(known, row):

@@ -86,9 +86,9 @@ class Trace:
     def event_segments(self):
         return self.event_ring.segments if self.event_ring else []
 
-    def ring_beginning_at(self, address):
-        """The number of the transfer ring whose first block lies at an address, or None."""
-        return next((ring.number for ring in self.rings if ring.kind == 'xfer' and ring.address(0) == address), None)
+    def ring_having(self, address):
+        """The number of the transfer ring that has a block at an address, or None."""
+        return next((ring.number for ring in self.rings if ring.kind == 'xfer' and ring.touches(address, 1)), None)
 
     def touches_ring(self, start, length):
         return any(ring.touches(start, length) for ring in self.rings)
