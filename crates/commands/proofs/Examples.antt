@@ -7,7 +7,7 @@ use Rattle.commands.specs.declared.state.SlotState.{SlotState}
 use Rattle.commands.specs.declared.state.SlotState.TheVariants.{Disabled, Enabled, Default, Addressed, Configured}
 use Rattle.commands.specs.declared.state.EndpointState.{EndpointState}
 use Rattle.commands.specs.declared.state.EndpointState.TheVariants.{Disabled as Off, Running, Halted, Stopped, Error}
-use Rattle.commands.specs.Command.{command_of, may_answer_slot, named_slot, named_endpoint, named_context}
+use Rattle.commands.specs.Command.{command_of, exclude, may_answer_slot, named_slot, named_endpoint, named_context}
 use Rattle.commands.specs.States.{slot_after, endpoint_after}
 
 -- ---- a success, from each state of a slot
@@ -172,3 +172,29 @@ reset_that_keeps_its_state = refl
 
 pub answered_for_its_slot : (may_answer_slot (command_of (block 0x30011 0 0x1024000)) 1 ≡ true) × (may_answer_slot (command_of (block 0x30011 0 0x1024000)) 7 ≡ false)
 answered_for_its_slot = (refl, refl)
+
+-- ---- which commands may not be unfinished side by side
+
+pub endpoints_of_one_slot : exclude (StopEndpoint 1 1) (StopEndpoint 1 2) ≡ false
+endpoints_of_one_slot = refl
+
+pub a_move_beside_a_stop : exclude (SetTrDequeue 1 3 0x30000 true) (StopEndpoint 1 2) ≡ false
+a_move_beside_a_stop = refl
+
+pub one_endpoint : exclude (StopEndpoint 1 2) (SetTrDequeue 1 2 0x30000 true) ≡ true
+one_endpoint = refl
+
+pub an_endpoint_beside_its_slot : exclude (ResetEndpoint 1 2) (ConfigureEndpoint 1 false 0x1000) ≡ true
+an_endpoint_beside_its_slot = refl
+
+pub a_slot_beside_its_endpoint : exclude (DisableSlot 1) (StopEndpoint 1 2) ≡ true
+a_slot_beside_its_endpoint = refl
+
+pub one_slot : exclude (DisableSlot 1) (ResetDevice 1) ≡ true
+one_slot = refl
+
+pub two_slots : exclude (StopEndpoint 1 2) (StopEndpoint 2 2) ≡ false
+two_slots = refl
+
+pub none_named : exclude EnableSlot EnableSlot ≡ false
+none_named = refl

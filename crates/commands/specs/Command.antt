@@ -1,5 +1,5 @@
 -- What a command block says: xHCI 4.6, 6.4.3
-use Rattle.std.specs.Prelude.{ℕ, ◌==◌, ◌&&◌, Bool, true, false, if◌then◌else◌, Option, Some, None}
+use Rattle.std.specs.Prelude.{ℕ, ◌==◌, ◌&&◌, Bool, true, false, not, if◌then◌else◌, Option, Some, None}
 use Rattle.trb.specs.declared.block.Block.{Block}
 use Rattle.trb.specs.declared.kind.BlockKind.{BlockKind}
 use Rattle.trb.specs.declared.kind.BlockKind.TheVariants as kinds
@@ -65,6 +65,19 @@ same_slot None _ = false
 -- both name a slot, and the same one
 abbrev pub name_one_slot : Command → Command → Bool
 name_one_slot c d = same_slot (named_slot c) (named_slot d)
+
+abbrev pub other_endpoint : Option (ℕ × ℕ) → Option (ℕ × ℕ) → Bool
+other_endpoint (Some e) (Some f) = not (e.0 == f.0 && e.1 == f.1)
+other_endpoint (Some e) None = false
+other_endpoint None _ = false
+
+-- each is a Reset Endpoint, a Stop Endpoint or a Set TR Dequeue Pointer, and they name different endpoints: xHCI 4.6.8 to 4.6.10
+abbrev pub name_two_endpoints : Command → Command → Bool
+name_two_endpoints c d = other_endpoint (named_endpoint c) (named_endpoint d)
+
+-- of one slot, and not of two endpoints: the one may not be given while the other is unfinished
+abbrev pub exclude : Command → Command → Bool
+exclude c d = name_one_slot c d && not (name_two_endpoints c d)
 
 abbrev pub is_slot_or_any : Option ℕ → ℕ → Bool
 is_slot_or_any None n = true

@@ -2,13 +2,14 @@
 use Rattle.std.specs.Prelude.{◌≡◌, List, [], ◌∷◌, Some, None, refl}
 use Rattle.trb.specs.declared.ring_kind.RingKind.TheVariants.{Cmd, Evt, Xfer}
 use Rattle.contexts.specs.declared.size.ContextSize.TheVariants.{Bytes32}
-use Rattle.traces.specs.declared.version.Version.TheVariants.{One}
+use Rattle.traces.specs.declared.version.Version.{Version}
+use Rattle.traces.specs.declared.version.Version.TheVariants.{One, Three}
 use Rattle.traces.specs.declared.header.Header.{Header}
 use Rattle.traces.specs.declared.row.Row.{Row}
 use Rattle.traces.specs.declared.row.Row.TheVariants.{Sub, Write, Reg, Bell, Read}
 use Rattle.traces.specs.declared.register.Register.TheVariants.{Usbcmd, Crcr, Dcbaap, Config, Erstsz, Erstba, Erdp}
 use Rattle.ring_knowledge.specs.Known.{nothing}
-use Rattle.ownership_rules.specs.declared.refusal.Refusal.TheVariants.{WriteToOwned, NotDeclared, NotWhole, RingFull, BadErdp}
+use Rattle.ownership_rules.specs.declared.refusal.Refusal.TheVariants.{WriteToOwned, NotDeclared, NotWhole, RingFull, Busy, BadErdp}
 use Rattle.ownership_rules.specs.Rules.{verdict_from}
 use Rattle.ownership_rules.specs.OnLiterals.{rules_on_literals}
 
@@ -248,3 +249,56 @@ write_to_a_given_block_rows =
 pub write_to_a_given_block : verdict_from write_to_a_given_block_header nothing 4 write_to_a_given_block_rows ≡ Some (6, WriteToOwned)
 unfolding rules_on_literals
 write_to_a_given_block = refl
+
+-- two endpoints of one slot are stopped, and the second Stop Endpoint is given before the first is done
+abbrev pub endpoints_stopped_together_header : Version → Header
+endpoints_stopped_together_header version = record { version = version; context_size = Bytes32; rings = record { id = 0; shape = record { kind = Cmd; segments = record { base = 65536; count = 16 } ∷ [] } } ∷ record { id = 1; shape = record { kind = Evt; segments = record { base = 131072; count = 16 } ∷ [] } } ∷ record { id = 2; shape = record { kind = Xfer; segments = record { base = 196608; count = 4 } ∷ [] } } ∷ record { id = 3; shape = record { kind = Xfer; segments = record { base = 200704; count = 4 } ∷ [] } } ∷ [] }
+
+abbrev pub endpoints_stopped_together_rows : List Row
+endpoints_stopped_together_rows =
+    Write 262144 131072
+    ∷ Write 262152 16
+    ∷ Reg Erstsz 1
+    ∷ Reg Erstba 262144
+    ∷ Reg Erdp 131072
+    ∷ Reg Crcr 65537
+    ∷ Reg Dcbaap 327680
+    ∷ Reg Config 8
+    ∷ Reg Usbcmd 1
+    ∷ Sub 0 (record { w = 0 ∷ 0 ∷ 0 ∷ 9216 ∷ [] } ∷ [])
+    ∷ Write 65548 9217
+    ∷ Bell 0 0
+    ∷ Read (record { w = 65536 ∷ 0 ∷ 16777216 ∷ 16811009 ∷ [] })
+    ∷ Write 327688 458752
+    ∷ Write 393220 3
+    ∷ Write 393284 32
+    ∷ Write 393288 196609
+    ∷ Sub 0 (record { w = 393216 ∷ 0 ∷ 0 ∷ 16788480 ∷ [] } ∷ [])
+    ∷ Write 65552 393216
+    ∷ Write 65564 16788481
+    ∷ Bell 0 0
+    ∷ Read (record { w = 65552 ∷ 0 ∷ 16777216 ∷ 16811009 ∷ [] })
+    ∷ Write 393220 5
+    ∷ Write 393316 16
+    ∷ Write 393320 200705
+    ∷ Sub 0 (record { w = 393216 ∷ 0 ∷ 0 ∷ 16789504 ∷ [] } ∷ [])
+    ∷ Write 65568 393216
+    ∷ Write 65580 16789505
+    ∷ Bell 0 0
+    ∷ Read (record { w = 65568 ∷ 0 ∷ 16777216 ∷ 16811009 ∷ [] })
+    ∷ Sub 0 (record { w = 0 ∷ 0 ∷ 0 ∷ 16858112 ∷ [] } ∷ [])
+    ∷ Write 65596 16858113
+    ∷ Sub 0 (record { w = 0 ∷ 0 ∷ 0 ∷ 16923648 ∷ [] } ∷ [])
+    ∷ Write 65612 16923649
+    ∷ Bell 0 0
+    ∷ Read (record { w = 65584 ∷ 0 ∷ 16777216 ∷ 16811009 ∷ [] })
+    ∷ Read (record { w = 65600 ∷ 0 ∷ 16777216 ∷ 16811009 ∷ [] })
+    ∷ []
+
+pub endpoints_stopped_together : verdict_from (endpoints_stopped_together_header Three) nothing 7 endpoints_stopped_together_rows ≡ None
+unfolding rules_on_literals
+endpoints_stopped_together = refl
+
+pub endpoints_stopped_together_before_three : verdict_from (endpoints_stopped_together_header One) nothing 7 endpoints_stopped_together_rows ≡ Some (40, Busy)
+unfolding rules_on_literals
+endpoints_stopped_together_before_three = refl

@@ -4,7 +4,7 @@ use Rattle.std.specs.List.{list_any}
 use Rattle.segments.specs.Places.{overlap}
 use Rattle.commands.specs.declared.command.Command.{Command}
 use Rattle.commands.specs.declared.command.Command.TheVariants.{AddressDevice, ConfigureEndpoint}
-use Rattle.commands.specs.Command.{named_slot, named_endpoint, named_context, name_one_slot}
+use Rattle.commands.specs.Command.{named_slot, named_endpoint, named_context, name_one_slot, exclude}
 use Rattle.commands.specs.States.{is_disabled, is_off}
 use Rattle.contexts.specs.Contexts.{added_endpoints, input_add_flag, input_drop_flag, input_endpoint, endpoint_type, endpoint_streams, is_isochronous, device_context_bytes, input_context_bytes}
 use Rattle.traces.specs.declared.header.Header.{Header}
@@ -64,9 +64,13 @@ module _ (h : Header) where
   is_bad_command k c =
       names_disabled_slot k (named_slot c) || names_disabled_endpoint k (named_endpoint c) || has_bad_context k (named_context c) || has_bad_content k c
 
-  -- the slot has an unfinished command
+  -- an unfinished command of its slot excludes it
   unfoldable pub is_busy : Known → Command → Bool
-  is_busy k c = list_any (name_one_slot c) (unfinished h k)
+  is_busy k c = list_any (exclude c) (unfinished h k)
+
+  -- its slot has an unfinished command
+  unfoldable pub shares_slot : Known → Command → Bool
+  shares_slot k c = list_any (name_one_slot c) (unfinished h k)
 
   -- of an endpoint that is added, by its index in the input context, this holds
   abbrev pub some_added : Known → Command → (ℕ → ℕ → Bool) → Bool

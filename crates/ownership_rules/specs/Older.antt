@@ -8,7 +8,7 @@ use Rattle.traces.specs.declared.row.Row.TheVariants.{Write, Reg}
 use Rattle.traces.specs.Versions.{is_three}
 use Rattle.ring_knowledge.specs.Known.{Known}
 use Rattle.ownership_rules.specs.declared.refusal.Refusal.{Refusal}
-use Rattle.ownership_rules.specs.declared.refusal.Refusal.TheVariants.{WriteToOwned, BadRegister, BadErdp, NotInProfile, BadMove}
+use Rattle.ownership_rules.specs.declared.refusal.Refusal.TheVariants.{WriteToOwned, BadRegister, BadErdp, Busy, NotInProfile, BadMove}
 use Rattle.ownership_rules.specs.OpenLeases.{is_leased}
 use Rattle.ownership_rules.specs.Commands as commands
 use Rattle.ownership_rules.specs.Moves as moves
@@ -16,10 +16,11 @@ use Rattle.ownership_rules.specs.Registers as registers
 use Rattle.ownership_rules.specs.Writes as writes
 
 module _ (h : Header) where
-  -- WriteToOwned: a word under lease, also one that the write leaves as it is; NotInProfile: an isochronous endpoint (xHCI 4.14.2), also one that stays unused; BadRegister: ERSTSZ a second time, or with a
-  -- value that is never used; BadErdp: before the start no event place; BadMove: a command that binds a ring that was bound before
+  -- WriteToOwned: a word under lease, also one that the write leaves as it is; Busy: a command beside any other of its slot; NotInProfile: an isochronous endpoint (xHCI 4.14.2), also one that stays
+  -- unused; BadRegister: ERSTSZ a second time, or with a value that is never used; BadErdp: before the start no event place; BadMove: a command that binds a ring that was bound before
   unfoldable pub older : Known → Row → Refusal → Bool
   older k (Write a w) WriteToOwned = is_leased h k a
+  older k (Write a w) Busy = writes.some_command h k a w (commands.shares_slot h k)
   older k (Write a w) NotInProfile = writes.some_command h k a w (commands.adds_isochronous h k)
   older k (Write a w) BadMove = writes.some_command h k a w (moves.binds_again h k)
   older k (Reg Erstsz v) BadRegister = registers.is_written k Erstsz || registers.is_bad_size h v
@@ -33,6 +34,10 @@ module _ (h : Header) where
   -- the write breaks WriteToOwned, by the trace's version
   unfoldable pub writes_to_owned : Known → ℕ → ℕ → Bool
   writes_to_owned k a w = stricter k (Write a w) WriteToOwned || writes.changes_owned h k a w
+
+  -- of a command that is given: an unfinished command of its slot excludes it, or merely shares the slot where the version refuses that
+  unfoldable pub has_busy_slot : Known → Command → Bool
+  has_busy_slot k c = (commands.shares_slot h k c && not (is_three h.version)) || commands.is_busy h k c
 
   -- of a command that is given: an endpoint that is added has streams, or is isochronous where the version refuses that
   unfoldable pub has_left_out_endpoint : Known → Command → Bool

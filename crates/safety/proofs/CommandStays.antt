@@ -1,6 +1,7 @@
 -- Behind an event that is read before it, a second Address Device that a write gives finds nothing left on its ring
-use Rattle.std.proofs.Common.{◌≡◌, ◌∙◌, ℕ, Bool, length, Some, [], arith, sym, ap, inl, inr}
-use Rattle.safety.proofs.Words.{cases_lt, Block, RingView, declared, floor_number, Command, AddressDevice, named_slot, Header, Write, Read, IsHeader, Known, command_given, learned, lenient, DriverKeeps}
+use Rattle.std.proofs.Common.{◌≡◌, ◌∙◌, ℕ, Bool, length, Some, [], arith, refl, sym, ap, subst, inl, inr}
+use Rattle.safety.proofs.Words.{cases_lt, Block, RingView, declared, floor_number, Command, AddressDevice, Header, Write, Read, IsHeader, Known, command_given, learned, lenient, DriverKeeps}
+use Rattle.safety.proofs.Concerned.{Concerns}
 use Rattle.safety.proofs.RowFrames.{write_leaves}
 use Rattle.safety.proofs.EventBehind.{event_behind}
 use Rattle.safety.proofs.UnfinishedBehind.{rings_behind}
@@ -15,17 +16,17 @@ module _ (h : Header) (is : IsHeader h) (k : Known) (d : DriverKeeps h k) (a w :
   abbrev m : Known
   m = learned h k (Write a w)
 
-  -- the rings of the command's slot are those that it had
-  pub slot_rings : (t i : ℕ) → named_slot c ≡ Some t → l.ring_of t i ≡ k.ring_of t i
-  slot_rings t i named =
+  -- the rings of the endpoints that the command concerns are those that they had
+  pub rings_concerned : (t i : ℕ) → Concerns c t i → l.ring_of t i ≡ k.ring_of t i
+  rings_concerned t i its =
       let at = there h is k d a w e clean may c given in
       sym (ap (λ f. f t i) (alike_there h is k d a w e clean may).ring_of)
-      ∙ rings_behind h is m (written_keeps h is k d a w e clean may) e (command_event h is k d a w e clean may) at.position c t i at.unfinished named
+      ∙ rings_behind h is m (written_keeps h is k d a w e clean may) e (command_event h is k d a w e clean may) at.position c t i at.unfinished its
       ∙ ap (λ f. f t i) (write_leaves h k a w).slots.ring_of
 
   -- nothing was left on the ring of a second Address Device
   pub left_before : (s n r : ℕ) (bsr : Bool) → c ≡ AddressDevice s bsr n → l.ring_of s 1 ≡ Some r → declared (k.ring r) ≡ floor_number (k.ring r)
-  left_before s n r bsr same at = (facts h is k d a w e clean may c given).nothing_left s n r bsr same (sym (slot_rings s 1 (ap named_slot same)) ∙ at)
+  left_before s n r bsr same at = (facts h is k d a w e clean may c given).nothing_left s n r bsr same (sym (rings_concerned s 1 (subst (λ x. Concerns x s 1) (sym same) (refl, tt))) ∙ at)
 
   -- nor is anything behind the event
   pub left_behind : (s n r : ℕ) (bsr : Bool) → c ≡ AddressDevice s bsr n → l.ring_of s 1 ≡ Some r → declared (l.ring r) ≡ floor_number (l.ring r)

@@ -2,6 +2,7 @@
 use Rattle.std.proofs.Common.{◌≡◌, ◌≢◌, ◌<◌, ◌==◌, ◌&&◌, ◌||◌, if◌then◌else◌, ◌∷◌, ◌∙◌, ℕ, not, Bool, false, [], map, Option, None, Some, is_none, nat_lt, arith, refl, ap, nat_le}
 use Rattle.safety.proofs.Words.{list_any, or_parts, or_from, and_left, Command, AddressDevice, ConfigureEndpoint, ResetEndpoint, StopEndpoint, SetTrDequeue, named_slot, named_endpoint, named_context, is_disabled, is_off, added_endpoints, input_add_flag, Header, is_ring, Known, binding_in, binds, ring_bound, binds_ring, drops}
 use Rattle.ownership_rules.specs.Commands as commands
+use Rattle.safety.proofs.Concerned.{Concerns}
 use Rattle.safety.proofs.ContextReads.{AgreeIn, any_same, map_same, added_indices, added_same, add_flag_same, drop_flag_same, type_same, streams_same, pointer_same, cycle_same}
 
 none_is : (o : Option ℕ) → o ≢ None → is_none o ≡ false
@@ -18,7 +19,7 @@ module _ (h : Header) where
     pub memory : (n : ℕ) → named_context c ≡ Some n → AgreeIn h.context_size k.memory l.memory n
     pub context : (n : ℕ) → named_context c ≡ Some n → commands.has_bad_context h l (Some n) ≡ false
     pub slot : (s : ℕ) → named_slot c ≡ Some s → is_disabled (k.slot_state s) ≡ false → is_disabled (l.slot_state s) ≡ false
-    pub off : (s i : ℕ) → named_slot c ≡ Some s → is_off (l.endpoint_state s i) ≡ is_off (k.endpoint_state s i)
+    pub off : (s i : ℕ) → Concerns c s i → is_off (l.endpoint_state s i) ≡ is_off (k.endpoint_state s i)
     pub device : (s n : ℕ) (bsr : Bool) → c ≡ AddressDevice s bsr n → l.device s ≢ None
 
   -- ---- single parts
@@ -64,7 +65,7 @@ module _ (h : Header) where
     pub binds_beside : (c : Command) → Beside k l c → binds h l c ≡ binds h k c
     unfolding binds
     binds_beside (AddressDevice s bsr n) b =
-        ap (λ t. if t then binding_in h l n 1 ∷ [] else []) (b.off s 1 refl)
+        ap (λ t. if t then binding_in h l n 1 ∷ [] else []) (b.off s 1 (refl, tt))
         ∙ ap (λ x. if is_off (k.endpoint_state s 1) then x ∷ [] else []) (binding k l n (b.memory n refl) 1 (omega arith))
     binds_beside (ConfigureEndpoint s false n) b =
         let same = b.memory n refl in
@@ -91,9 +92,9 @@ module _ (h : Header) where
 
     endpoint_beside : (c : Command) → Beside k l c → commands.names_disabled_endpoint l (named_endpoint c) ≡ commands.names_disabled_endpoint k (named_endpoint c)
     unfolding commands.names_disabled_endpoint
-    endpoint_beside (ResetEndpoint s i) b = ap (λ t. i == 0 || t) (b.off s i refl)
-    endpoint_beside (StopEndpoint s i) b = ap (λ t. i == 0 || t) (b.off s i refl)
-    endpoint_beside (SetTrDequeue s i p cycle) b = ap (λ t. i == 0 || t) (b.off s i refl)
+    endpoint_beside (ResetEndpoint s i) b = ap (λ t. i == 0 || t) (b.off s i (refl, (refl, refl)))
+    endpoint_beside (StopEndpoint s i) b = ap (λ t. i == 0 || t) (b.off s i (refl, (refl, refl)))
+    endpoint_beside (SetTrDequeue s i p cycle) b = ap (λ t. i == 0 || t) (b.off s i (refl, (refl, refl)))
     endpoint_beside _ b = refl
 
     context_beside : (c : Command) → Beside k l c → commands.has_bad_context h l (named_context c) ≡ false
@@ -125,7 +126,7 @@ module _ (h : Header) where
         let same = b.memory n refl in
         ap (λ xs. list_any (commands.is_bad_added h l s n) xs) (added_same h.context_size k.memory l.memory n same)
         ∙ any_same (commands.is_bad_added h l s n) (commands.is_bad_added h k s n) (added_endpoints k.memory n) (added_indices k.memory n)
-        (λ i low. bad_added k l n same s i low (b.off s i refl))
+        (λ i low. bad_added k l n same s i low (b.off s i (refl, tt)))
         ∙ good
     content_beside _ b good = refl
 

@@ -1,10 +1,10 @@
 -- A completion keeps what is kept of the commands that stay unfinished
-use Rattle.std.proofs.Common.{◌≡◌, ◌≢◌, ◌∙◌, ℕ, true, false, Some, option_and_then, slice_get, arith, refl, sym, ap, subst, eq-eqb, inl, inr}
-use Rattle.safety.proofs.Words.{false≢true, Block, Spot, after, RingView, Reaches, changed, is_due, due_is, due_from, number-after, Command, command_of, named_slot, is_disabled, is_off, is_at_rest, Header, IsHeader, shape_of, command_id, Known, command_at, next_command, finished, completed, input_context_bytes, binds_ring, IsDriverRing, IsUnfinished, CommandKeeps, DriverKeeps, cases_eq, same_slot}
+use Rattle.std.proofs.Common.{◌≡◌, ◌≢◌, ◌∙◌, ℕ, true, false, Some, option_and_then, slice_get, arith, refl, sym, ap, subst, Bool, Option, None}
+use Rattle.safety.proofs.Words.{false≢true, Block, Spot, after, RingView, Reaches, changed, is_due, due_is, due_from, number-after, Command, command_of, named_slot, is_disabled, is_off, is_at_rest, Header, IsHeader, shape_of, command_id, Known, command_at, next_command, finished, completed, input_context_bytes, binds_ring, IsDriverRing, IsUnfinished, CommandKeeps, DriverKeeps, AddressDevice, SetTrDequeue}
 use Rattle.ownership_rules.specs.Commands as commands
 use Rattle.safety.specs.EndpointsKeep as endpoints
 use Rattle.safety.proofs.RingIds.{command_not_transfer}
-use Rattle.safety.proofs.BoundRings.{bound_transfer, drops_named}
+use Rattle.safety.proofs.BoundRings.{bound_transfer, drops_concerns}
 use Rattle.safety.proofs.Headers.{transfer_not_command}
 use Rattle.safety.proofs.DriverRows.{ring_here}
 use Rattle.safety.proofs.DriverRings.{endpoints_of}
@@ -13,49 +13,62 @@ use Rattle.safety.proofs.SafeContext.{next_is}
 use Rattle.safety.proofs.SameDriver.{SameDriver}
 use Rattle.safety.proofs.AreaFacts.{clean_same, area_parts, area_from, device_apart, devices_apart}
 use Rattle.safety.proofs.WriteBeside.{ContextParts, context_parts, context_from}
-use Rattle.safety.proofs.OtherSlots.{OtherSlots}
+use Rattle.safety.proofs.OtherSlots.{IsPart, OtherSlots}
 use Rattle.safety.proofs.SlotCommands.{OfCommand, Has, Binds, Commands}
 use Rattle.safety.proofs.CommandsBeside.{Beside}
+use Rattle.safety.proofs.Concerned.{Concerns, some_concerned, not_both}
 use Rattle.safety.proofs.CommandsStay.{Standing, PlacesStay, MovesAhead, RingsBeside}
 use Rattle.safety.proofs.CommandsSame.{context_good}
 
--- ---- a command of another slot than the one that changed
+-- ---- a command that concerns nothing that changed: it is of another slot, or of another endpoint of the slot
 
-module _ (h : Header) (is : IsHeader h) (k : Known) (d : DriverKeeps h k) (q : ℕ) (e : Command) (ends : IsUnfinished h k q e) (s : ℕ) (l : Known) (driver : SameDriver k l)
-    (o : OtherSlots k l s (OfCommand h k s e)) (p : ℕ) (c : Command) (u : IsUnfinished h k p c) (other : p ≢ q) (apart : (t : ℕ) → named_slot c ≡ Some t → t ≢ s) where
+module _ (h : Header) (is : IsHeader h) (k : Known) (d : DriverKeeps h k) (q : ℕ) (e : Command) (ends : IsUnfinished h k q e) (s : ℕ) (part : Option ℕ) (l : Known)
+    (driver : SameDriver k l) (o : OtherSlots k l s part (OfCommand h k s part e)) (p : ℕ) (c : Command) (u : IsUnfinished h k p c) (other : p ≢ q)
+    (apart : (t i : ℕ) → Concerns c t i → t ≡ s → IsPart part i → ⊥) where
   keeps : CommandKeeps h k p c
   keeps = d.unfinished p c u
 
-  -- the ring of an endpoint of the other slot isn't one that the command ended with
-  not_its_ring : (t i r : ℕ) → named_slot c ≡ Some t → k.ring_of t i ≡ Some r → OfCommand h k s e r → ⊥
-  not_its_ring t i r named has (Has j at) = apart t named (d.states.one_endpoint t i s j r has at).0
-  not_its_ring t i r named has (Binds bound) =
-      let drops_it = (d.unfinished q e ends).unkept r t i bound has in
-      false≢true (sym (keeps.alone q e ends (λ same. other (sym same))) ∙ ap (λ x. same_slot x (named_slot c)) (drops_named k e t i drops_it) ∙ ap (λ x. same_slot (Some t) x) named ∙ eq-eqb t t refl)
-  not_its_ring t i r named has (Commands same) = transfer_not_command h is r (d.states.transfer t i r has) same
+  -- where the slot changed the command is of another
+  other_slot : (t : ℕ) → named_slot c ≡ Some t → t ≡ s → part ≡ None → ⊥
+  other_slot t named same whole =
+      let one = some_concerned c t named in
+      apart t one.0 one.1 same (subst (λ x. IsPart x one.0) (sym whole) tt)
 
-  ring_same : (t i r : ℕ) → named_slot c ≡ Some t → k.ring_of t i ≡ Some r → l.ring r ≡ k.ring r
-  ring_same t i r named has = o.rings r (not_its_ring t i r named has)
+  moves_endpoint : (t i x : ℕ) (cycle : Bool) → c ≡ SetTrDequeue t i x cycle → Concerns c t i
+  moves_endpoint t i x cycle at = subst (λ z. Concerns z t i) (sym at) (refl, (refl, refl))
+
+  addresses_first : (t n : ℕ) (bsr : Bool) → c ≡ AddressDevice t bsr n → Concerns c t 1
+  addresses_first t n bsr at = subst (λ z. Concerns z t 1) (sym at) (refl, tt)
+
+  -- the ring of an endpoint that it concerns isn't one that the other command ended with
+  not_its_ring : (t i r : ℕ) → Concerns c t i → k.ring_of t i ≡ Some r → OfCommand h k s part e r → ⊥
+  not_its_ring t i r its has (Has j mine at) =
+      let same = d.states.one_endpoint t i s j r has at in
+      apart t i its same.0 (subst (λ x. IsPart part x) (sym same.1) mine)
+  not_its_ring t i r its has (Binds bound) =
+      not_both e c t i (keeps.alone q e ends (λ same. other (sym same))) (drops_concerns k e t i ((d.unfinished q e ends).unkept r t i bound has)) its
+  not_its_ring t i r its has (Commands same) = transfer_not_command h is r (d.states.transfer t i r has) same
+
+  ring_same : (t i r : ℕ) → Concerns c t i → k.ring_of t i ≡ Some r → l.ring r ≡ k.ring r
+  ring_same t i r its has = o.rings r (not_its_ring t i r its has)
 
   -- nor is one that the command binds
-  not_bound_by_it : (r : ℕ) → binds_ring h k r c ≡ true → OfCommand h k s e r → ⊥
-  not_bound_by_it r bound (Has j at) = apart s (drops_named k c s j (keeps.unkept r s j bound at)) refl
+  not_bound_by_it : (r : ℕ) → binds_ring h k r c ≡ true → OfCommand h k s part e r → ⊥
+  not_bound_by_it r bound (Has j mine at) = apart s j (drops_concerns k c s j (keeps.unkept r s j bound at)) refl mine
   not_bound_by_it r bound (Binds also) = false≢true (sym (keeps.unshared r q e bound ends (λ same. other (sym same))) ∙ also)
   not_bound_by_it r bound (Commands same) = command_not_transfer h is (subst (λ x. endpoints.IsTransferRing h x) same (bound_transfer h is k r c bound))
 
   pub rings_finished : RingsBeside h k l c
   rings_finished = record {
-    ring_of = λ t i named. o.ring_of t i (apart t named);
-    rest = λ t i x cycle at rests. ap is_at_rest (o.states t i (apart t (ap named_slot at))) ∙ rests;
+    ring_of = λ t i its. o.ring_of t i (apart t i its);
+    rest = λ t i x cycle at rests. ap is_at_rest (o.states t i (apart t i (moves_endpoint t i x cycle at))) ∙ rests;
     ahead = λ t i x r cycle at has rests.
-        subst (λ v. MovesAhead (shape_of h r) (k.ring r) v) (sym (ring_same t i r (ap named_slot at) has)) (λ a b moves. moves);
+        subst (λ v. MovesAhead (shape_of h r) (k.ring r) v) (sym (ring_same t i r (moves_endpoint t i x cycle at) has)) (λ a b moves. moves);
     standing = λ t n r bsr at has.
-        subst (λ v. Standing (shape_of h r) (k.ring r) v) (sym (ring_same t 1 r (ap named_slot at) has)) (record { here = λ a b moves. moves; nothing = λ none. none });
+        subst (λ v. Standing (shape_of h r) (k.ring r) v) (sym (ring_same t 1 r (addresses_first t n bsr at) has)) (record { here = λ a b moves. moves; nothing = λ none. none });
     still = λ r bound. subst (λ v. PlacesStay (shape_of h r) (k.ring r) v) (sym (o.rings r (not_bound_by_it r bound))) (λ a b placed. placed);
-    kept = λ r t i bound has. elim (cases_eq t s) [
-      | inl same ↦ absurd (not_bound_by_it r bound (o.within i r (ap (λ n. l.ring_of n i) (sym same) ∙ has)))
-      | inr differs ↦ sym (o.ring_of t i differs) ∙ has
-    ];
+    kept = λ r t i bound has.
+        sym (o.ring_of t i (λ same mine. not_bound_by_it r bound (o.within i r mine (ap (λ n. l.ring_of n i) (sym same) ∙ has)))) ∙ has;
   }
 
   context_finished : (n : ℕ) → commands.has_bad_context h k (Some n) ≡ false → commands.has_bad_context h l (Some n) ≡ false
@@ -76,9 +89,9 @@ module _ (h : Header) (is : IsHeader h) (k : Known) (d : DriverKeeps h k) (q : �
   beside_finished = record {
     memory = λ n at x low high. ap (λ f. f x) driver.memory;
     context = λ n at. context_finished n (ap (λ x. commands.has_bad_context h k x) (sym at) ∙ context_good h k c keeps.good);
-    slot = λ t named on. ap is_disabled (o.slot_state t (apart t named)) ∙ on;
-    off = λ t i named. ap is_off (o.states t i (apart t named));
-    device = λ t n bsr at none. keeps.device t n bsr at (sym (o.device t (apart t (ap named_slot at))) ∙ none);
+    slot = λ t named on. ap is_disabled (o.slot_state t (other_slot t named)) ∙ on;
+    off = λ t i its. ap is_off (o.states t i (apart t i its));
+    device = λ t n bsr at none. keeps.device t n bsr at (sym (o.device t (other_slot t (ap named_slot at))) ∙ none);
   }
 
 -- ---- which commands stay unfinished

@@ -1,7 +1,8 @@
 -- What is kept of unfinished commands is kept where nothing that they read has changed
 use Rattle.std.proofs.Common.{◌≡◌, ◌≢◌, ◌≤◌, ◌∙◌, ℕ, not, Bool, true, false, map, All, Option, None, Some, arith, refl, sym, ap, subst, List, get_or, eq-eqb, inl, inr}
-use Rattle.safety.proofs.Words.{or_parts, or_from, not-false, not_from_true, Shape, RingView, declared, floor_number, ceiling, is_move, Command, NoOp, EnableSlot, DisableSlot, AddressDevice, ConfigureEndpoint, EvaluateContext, ResetEndpoint, StopEndpoint, SetTrDequeue, ResetDevice, named_slot, same_slot, is_at_rest, context_pointer, context_cycle, Header, shape_of, Known, binds, ring_bound, binds_ring, has_repeats, is_bad_dequeue, is_bad_move, IsUnfinished, Stays, StaysIf, MovesIf, CommandKeeps, is_placed, is_placement, drops, Binding, list_any, is_ring, Any-from_list_any, All-get_or, cases_option, list_any_at, false≢true, placement_still}
+use Rattle.safety.proofs.Words.{or_parts, or_from, not-false, not_from_true, Shape, RingView, declared, floor_number, ceiling, is_move, Command, NoOp, EnableSlot, DisableSlot, AddressDevice, ConfigureEndpoint, EvaluateContext, ResetEndpoint, StopEndpoint, SetTrDequeue, ResetDevice, is_at_rest, context_pointer, context_cycle, Header, shape_of, Known, binds, ring_bound, binds_ring, has_repeats, is_bad_dequeue, is_bad_move, IsUnfinished, Stays, StaysIf, MovesIf, CommandKeeps, is_placed, is_placement, drops, Binding, list_any, is_ring, Any-from_list_any, All-get_or, cases_option, list_any_at, false≢true, placement_still, exclude}
 use Rattle.ownership_rules.specs.Commands as commands
+use Rattle.safety.proofs.Concerned.{Concerns}
 use Rattle.safety.proofs.ContextReads.{pointer_same, cycle_same}
 use Rattle.safety.proofs.BoundRings.{ring_is}
 use Rattle.safety.proofs.CommandsBeside.{Beside, good_beside, in_profile_beside, binds_beside, binds_ring_beside, drops_beside}
@@ -32,7 +33,7 @@ module _ (h : Header) where
 
   -- what is kept of two commands
   pub record PairKeeps (k : Known) (c d : Command) : Type 0 where
-    pub alone : same_slot (named_slot d) (named_slot c) ≡ false
+    pub alone : exclude d c ≡ false
     pub unshared : (r : ℕ) → binds_ring h k r c ≡ true → binds_ring h k r d ≡ false
 
   pub own_keeps : (k : Known) (p : ℕ) (c : Command) → CommandKeeps h k p c → OwnKeeps k c
@@ -57,7 +58,7 @@ module _ (h : Header) where
 
   -- the rings that a command names, and the endpoints that have them
   pub record RingsBeside (k l : Known) (c : Command) : Type 0 where
-    pub ring_of : (s i : ℕ) → named_slot c ≡ Some s → l.ring_of s i ≡ k.ring_of s i
+    pub ring_of : (s i : ℕ) → Concerns c s i → l.ring_of s i ≡ k.ring_of s i
     pub rest : (s i p : ℕ) (cycle : Bool) → c ≡ SetTrDequeue s i p cycle → is_at_rest (k.endpoint_state s i) ≡ true → is_at_rest (l.endpoint_state s i) ≡ true
     pub ahead : (s i p r : ℕ) (cycle : Bool) → c ≡ SetTrDequeue s i p cycle → k.ring_of s i ≡ Some r → is_at_rest (k.endpoint_state s i) ≡ true → MovesAhead (shape_of h r) (k.ring r) (l.ring r)
     pub standing : (s n r : ℕ) (bsr : Bool) → c ≡ AddressDevice s bsr n → k.ring_of s 1 ≡ Some r → Standing (shape_of h r) (k.ring r) (l.ring r)
@@ -81,7 +82,7 @@ module _ (h : Header) where
         let rests : is_at_rest (k.endpoint_state s i) ≡ true = not-false (is_at_rest (k.endpoint_state s i)) parts.0 in
         or_from (not (is_at_rest (l.endpoint_state s i))) (is_bad_dequeue h l (l.ring_of s i) p cycle)
         (not_from_true (is_at_rest (l.endpoint_state s i)) (b.rest s i p cycle refl rests))
-        (ap (λ o. is_bad_dequeue h l o p cycle) (b.ring_of s i refl)
+        (ap (λ o. is_bad_dequeue h l o p cycle) (b.ring_of s i (refl, (refl, refl)))
         ∙ dequeue_beside (k.ring_of s i) p cycle (λ r at. b.ahead s i p r cycle refl at rests) parts.1)
 
     moves_beside : (c : Command) → RingsBeside k l c → MovesIf h k c → MovesIf h l c
@@ -100,7 +101,7 @@ module _ (h : Header) where
     stays_beside : (c : Command) → Beside h k l c → RingsBeside k l c → StaysIf h k c → StaysIf h l c
     stays_beside (AddressDevice s bsr n) m b stays =
         λ r at.
-        let before : k.ring_of s 1 ≡ Some r = sym (b.ring_of s 1 refl) ∙ at in
+        let before : k.ring_of s 1 ≡ Some r = sym (b.ring_of s 1 (refl, tt)) ∙ at in
         let old : Stays h k r n = stays r before in
         let stands : Standing (shape_of h r) (k.ring r) (l.ring r) = b.standing s n r bsr refl before in
         let same = m.memory n refl in

@@ -1,6 +1,6 @@
 -- A write keeps what is kept of unfinished commands, and of the command that it gives holds what was tested
-use Rattle.std.proofs.Common.{◌≡◌, ◌≢◌, ◌<◌, ◌==◌, ◌∙◌, ℕ, not, Bool, true, false, [], Option, None, Some, arith, refl, sym, ap, subst, inl, inr, le-leb, eq-eqb, eqb-true, ◌||◌, ◌≤◌, ◌⊎◌}
-use Rattle.safety.proofs.Words.{list_any, or_parts, or_from, and_from, cases_lt, not_from_false, false≢true, false_from_ne_true, All-contains, Shape, RingView, Writes, changed, declared, floor_number, gives, positions_given, ceiling, is_not_declared, cases_option, gives_is, position_given, gives_one, move-writes, ceiling_held, Command, AddressDevice, EndpointState, Off, named_slot, same_slot, name_one_slot, is_off, is_at_rest, is_running, Header, Write, IsHeader, shape_of, command_id, is_ring, Known, unfinished, binds_ring, awaits_binding, is_being_bound, moves_ring, is_being_moved, crossings_given, crossing_given, gives_crossing, given_count, given_count_grows, step_more, GivesMore, is_placement, is_open, is_inside, address_inside, IsTransferRing, cases_Bool, or_cases, write_tests, lenient_tests, lenient, IsDriverRing, IsUnfinished, DriverKeeps, CommandsKeep}
+use Rattle.std.proofs.Common.{◌≡◌, ◌≢◌, ◌<◌, ◌∙◌, ℕ, not, Bool, true, false, [], None, Some, arith, refl, sym, ap, subst, inl, inr, le-leb, eq-eqb, ◌||◌, ◌≤◌, ◌⊎◌}
+use Rattle.safety.proofs.Words.{list_any, or_parts, or_from, and_from, cases_lt, not_from_false, false≢true, false_from_ne_true, All-contains, Shape, RingView, Writes, changed, declared, floor_number, gives, positions_given, ceiling, is_not_declared, cases_option, gives_is, position_given, gives_one, move-writes, ceiling_held, Command, AddressDevice, EndpointState, Off, is_off, is_at_rest, is_running, Header, Write, IsHeader, shape_of, command_id, is_ring, Known, unfinished, binds_ring, awaits_binding, is_being_bound, moves_ring, is_being_moved, crossings_given, crossing_given, gives_crossing, given_count, given_count_grows, step_more, GivesMore, is_placement, is_open, is_inside, address_inside, IsTransferRing, cases_Bool, or_cases, write_tests, lenient_tests, lenient, IsDriverRing, IsUnfinished, DriverKeeps, CommandsKeep, exclude}
 use Rattle.ownership_rules.specs.Commands as commands
 use Rattle.safety.proofs.TestsPassed.{AllFail, tests_fail}
 use Rattle.safety.proofs.RingsOfHeader.{has_ring}
@@ -19,6 +19,7 @@ use Rattle.safety.proofs.WriteBeside.{beside_old, beside_new}
 use Rattle.safety.proofs.CommandsTransfer.{rest_not_running}
 use Rattle.safety.proofs.CommandsBeside.{Beside}
 use Rattle.safety.proofs.CommandsStay.{Standing, PlacesStay, MovesAhead, OwnKeeps, PairKeeps, RingsBeside, own_keeps, pair_keeps, commands_stay}
+use Rattle.safety.proofs.Concerned.{excludes_turned}
 
 -- ---- one ring
 
@@ -75,12 +76,6 @@ declared_is v p fails =
       | inl low ↦ low
       | inr high ↦ absurd (false≢true (sym fails ∙ le-leb (declared v) p high))
     ]
-
-slots_turned : (x y : Option ℕ) → same_slot x y ≡ false → same_slot y x ≡ false
-slots_turned None None none = refl
-slots_turned None (Some t) none = refl
-slots_turned (Some s) None none = refl
-slots_turned (Some s) (Some t) none = false_from_ne_true (t == s) (λ same. false≢true (sym none ∙ eq-eqb s t (sym (eqb-true t s same))))
 
 on_is : (e : EndpointState) → e ≢ Off → is_off e ≡ false
 on_is e on = false_from_ne_true (is_off e) (λ off. on (off_is e off))
@@ -213,10 +208,10 @@ module _ (h : Header) (is : IsHeader h) (k : Known) (d : DriverKeeps h k) (a w :
         | inr new ↦ (facts_of p c new).own
       ]
 
-  -- the slot of a command that is given is no unfinished command's
-  not_busy : (p q : ℕ) (c e : Command) → GivesCommand h k a w p c → IsUnfinished h k q e → same_slot (named_slot c) (named_slot e) ≡ false
+  -- a command that is given isn't excluded by an unfinished one
+  not_busy : (p q : ℕ) (c e : Command) → GivesCommand h k a w p c → IsUnfinished h k q e → exclude c e ≡ false
   unfolding commands.is_busy
-  not_busy p q c e g u = unfinished_fails h k (name_one_slot c) q e (facts_of p c g).busy u
+  not_busy p q c e g u = unfinished_fails h k (exclude c) q e (facts_of p c g).busy u
 
   not_bound : (p q r : ℕ) (c e : Command) → GivesCommand h k a w p c → IsUnfinished h k q e → binds_ring h k r c ≡ true → binds_ring h k r e ≡ false
   unfolding is_being_bound
@@ -234,7 +229,7 @@ module _ (h : Header) (is : IsHeader h) (k : Known) (d : DriverKeeps h k) (a w :
         ]
         | inr new ↦ elim (unfinished_written h k a w is q e v) [
           | inl old ↦ record {
-            alone = slots_turned (named_slot c) (named_slot e) (not_busy p q c e new old);
+            alone = excludes_turned e c ∙ not_busy p q c e new old;
             unshared = λ r bound. not_bound p q r c e new old bound;
           }
           | inr newer ↦

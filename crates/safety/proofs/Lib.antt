@@ -136,6 +136,7 @@ pub mod WrittenKnown
 pub mod WriteBeside
 pub mod CommandsWritten
 pub mod SlotCommands
+pub mod Concerned
 pub mod OtherSlots
 pub mod ReadRow
 pub mod StopRow

@@ -1,25 +1,30 @@
--- The success of a command leaves other slots, and the rings that it doesn't name
-use Rattle.std.proofs.Common.{◌≡◌, ◌≢◌, ◌==◌, ◌&&◌, ◌∷◌, ◌∙◌, ℕ, Bool, true, false, List, [], Option, None, Some, refl, sym, ap, subst, ne_eqb}
+-- The success of a command leaves other slots, and the rings that it doesn't name; one of an endpoint leaves the slot's other endpoints too
+use Rattle.std.proofs.Common.{◌≡◌, ◌==◌, ◌&&◌, ◌∷◌, ◌∙◌, ℕ, Bool, true, false, List, [], Option, None, Some, refl, sym, ap, subst, ne_eqb}
 use Rattle.safety.proofs.Words.{cond_both, cond-false, and_left, none-some, put_pair, Spot, number, RingChange, Reaches, Holds, ceiling, target, Command, EndpointState, Off, Stopped, is_off, Change, SlotGoesOn, DeviceLeft, Disables, Places, Stops, Resets, Header, shape_of, ring_having, Known, on_ring, set_to, bound_to, moved_to, moved, pointed, disabled, in_state, held_at_ceiling, changed_by, changed_by_all}
 use Rattle.safety.proofs.DriverRows.{ring_elsewhere}
 use Rattle.safety.proofs.EndpointPut.{at_pair, at_number}
 
--- what the success of a command may have left as it was: all but slot s, and but the rings of which B holds
-pub record OtherSlots (k l : Known) (s : ℕ) (B : ℕ → Type 0) : Type 0 where
-  pub device : (t : ℕ) → t ≢ s → l.device t ≡ k.device t
+-- endpoint i is in the part of a slot that changed: one endpoint, or with None the whole slot
+abbrev pub IsPart : Option ℕ → ℕ → Type 0
+IsPart None i = Unit {0}
+IsPart (Some j) i = i ≡ j
+
+-- what the success of a command may have left as it was: all but slot s, or but this part of it, and but the rings of which B holds
+pub record OtherSlots (k l : Known) (s : ℕ) (part : Option ℕ) (B : ℕ → Type 0) : Type 0 where
+  pub device : (t : ℕ) → (t ≡ s → part ≡ None → ⊥) → l.device t ≡ k.device t
   pub fewer : (t e : ℕ) → l.device t ≡ Some e → k.device t ≡ Some e
-  pub slot_state : (t : ℕ) → t ≢ s → l.slot_state t ≡ k.slot_state t
-  pub states : (t i : ℕ) → t ≢ s → l.endpoint_state t i ≡ k.endpoint_state t i
-  pub ring_of : (t i : ℕ) → t ≢ s → l.ring_of t i ≡ k.ring_of t i
-  pub within : (i r : ℕ) → l.ring_of s i ≡ Some r → B r
+  pub slot_state : (t : ℕ) → (t ≡ s → part ≡ None → ⊥) → l.slot_state t ≡ k.slot_state t
+  pub states : (t i : ℕ) → (t ≡ s → IsPart part i → ⊥) → l.endpoint_state t i ≡ k.endpoint_state t i
+  pub ring_of : (t i : ℕ) → (t ≡ s → IsPart part i → ⊥) → l.ring_of t i ≡ k.ring_of t i
+  pub within : (i r : ℕ) → IsPart part i → l.ring_of s i ≡ Some r → B r
   pub was_bound : (r : ℕ) → (B r → ⊥) → l.was_bound r ≡ k.was_bound r
   pub rings : (r : ℕ) → (B r → ⊥) → l.ring r ≡ k.ring r
 
-module _ (s : ℕ) (B : ℕ → Type 0) where
+module _ (s : ℕ) (part : Option ℕ) (B : ℕ → Type 0) where
   abbrev pub Within : Known → Type 0
-  Within k = (i r : ℕ) → k.ring_of s i ≡ Some r → B r
+  Within k = (i r : ℕ) → IsPart part i → k.ring_of s i ≡ Some r → B r
 
-  pub same_others : (k : Known) → Within k → OtherSlots k k s B
+  pub same_others : (k : Known) → Within k → OtherSlots k k s part B
   same_others k within = record {
     device = λ t other. refl;
     fewer = λ t e at. at;
@@ -31,7 +36,7 @@ module _ (s : ℕ) (B : ℕ → Type 0) where
     rings = λ r out. refl;
   }
 
-  pub both_others : (k l m : Known) → OtherSlots k l s B → OtherSlots l m s B → OtherSlots k m s B
+  pub both_others : (k l m : Known) → OtherSlots k l s part B → OtherSlots l m s part B → OtherSlots k m s part B
   both_others k l m a b = record {
     device = λ t other. b.device t other ∙ a.device t other;
     fewer = λ t e at. a.fewer t e (b.fewer t e at);
@@ -43,9 +48,15 @@ module _ (s : ℕ) (B : ℕ → Type 0) where
     rings = λ r out. b.rings r out ∙ a.rings r out;
   }
 
+  part_is : (i j : ℕ) → IsPart part i → j ≡ i → IsPart part j
+  part_is i j mine same = subst (λ x. IsPart part x) (sym same) mine
+
+  all_part : (i : ℕ) → part ≡ None → IsPart part i
+  all_part i whole = subst (λ o. IsPart o i) (sym whole) tt
+
   module _ (h : Header) where
     -- a ring of which B holds
-    pub on_others : (k : Known) → Within k → (r : ℕ) (change : RingChange) → B r → OtherSlots k (on_ring h k r change) s B
+    pub on_others : (k : Known) → Within k → (r : ℕ) (change : RingChange) → B r → OtherSlots k (on_ring h k r change) s part B
     unfolding on_ring
     on_others k within r change named = record {
       device = λ t other. refl;
@@ -62,82 +73,82 @@ module _ (s : ℕ) (B : ℕ → Type 0) where
     unfolding on_ring
     on_within k within r change = within
 
-    set_others : (k : Known) → Within k → (r : ℕ) (t : Spot) → B r → OtherSlots k (set_to h k r t) s B
+    set_others : (k : Known) → Within k → (r : ℕ) (t : Spot) → B r → OtherSlots k (set_to h k r t) s part B
     unfolding set_to
     set_others k within r t named =
         both_others k (on_ring h k r (Reaches t)) (on_ring h (on_ring h k r (Reaches t)) r (Holds (number t))) (on_others k within r (Reaches t) named)
         (on_others (on_ring h k r (Reaches t)) (on_within k within r (Reaches t)) r (Holds (number t)) named)
 
-    target_others : (k : Known) → Within k → (r : ℕ) (o : Option Spot) → B r → OtherSlots k (moved_to h k r o) s B
+    target_others : (k : Known) → Within k → (r : ℕ) (o : Option Spot) → B r → OtherSlots k (moved_to h k r o) s part B
     unfolding moved_to
     target_others k within r None named = same_others k within
     target_others k within r (Some t) named = set_others k within r t named
 
-    bound_others : (k : Known) → Within k → (i : ℕ) (o : Option ℕ) (p : ℕ) (cycle : Bool) → ((r : ℕ) → o ≡ Some r → B r) → OtherSlots k (bound_to h k s i o p cycle) s B
+    bound_others : (k : Known) → Within k → (i : ℕ) → IsPart part i → (o : Option ℕ) (p : ℕ) (cycle : Bool) → ((r : ℕ) → o ≡ Some r → B r) → OtherSlots k (bound_to h k s i o p cycle) s part B
     unfolding bound_to moved
-    bound_others k within i None p cycle named = same_others k within
-    bound_others k within i (Some r) p cycle named =
-        let set : OtherSlots k (moved_to h k r (target (shape_of h r) (k.ring r) p cycle)) s B = target_others k within r (target (shape_of h r) (k.ring r) p cycle) (named r refl) in
+    bound_others k within i mine None p cycle named = same_others k within
+    bound_others k within i mine (Some r) p cycle named =
+        let set : OtherSlots k (moved_to h k r (target (shape_of h r) (k.ring r) p cycle)) s part B = target_others k within r (target (shape_of h r) (k.ring r) p cycle) (named r refl) in
         record {
           device = set.device;
           fewer = set.fewer;
           slot_state = set.slot_state;
           states = set.states;
-          ring_of = λ t j other. at_pair (λ o. o ≡ k.ring_of t j) k.ring_of s i (Some r) t j (λ a b. absurd (other a)) (λ apart. refl);
-          within = λ j q. at_pair (λ o. o ≡ Some q → B q) k.ring_of s i (Some r) s j (λ a b at. named q at) (λ apart at. within j q at);
+          ring_of = λ t j other. at_pair (λ o. o ≡ k.ring_of t j) k.ring_of s i (Some r) t j (λ a b. absurd (other a (part_is i j mine b))) (λ apart. refl);
+          within = λ j q its. at_pair (λ o. o ≡ Some q → B q) k.ring_of s i (Some r) s j (λ a b at. named q at) (λ apart at. within j q its at);
           was_bound = λ q out. at_number (λ x. x ≡ k.was_bound q) k.was_bound r true q (λ same. absurd (out (named q (ap (λ n. Some n) (sym same))))) (λ apart. refl);
           rings = set.rings;
         }
 
-    moved_others : (k : Known) → Within k → (i p : ℕ) (cycle : Bool) (o : Option ℕ) → k.ring_of s i ≡ o → OtherSlots k (moved h k o p cycle) s B
+    moved_others : (k : Known) → Within k → (i p : ℕ) → IsPart part i → (cycle : Bool) (o : Option ℕ) → k.ring_of s i ≡ o → OtherSlots k (moved h k o p cycle) s part B
     unfolding moved
-    moved_others k within i p cycle None at = same_others k within
-    moved_others k within i p cycle (Some r) at = target_others k within r (target (shape_of h r) (k.ring r) p cycle) (within i r at)
+    moved_others k within i p mine cycle None at = same_others k within
+    moved_others k within i p mine cycle (Some r) at = target_others k within r (target (shape_of h r) (k.ring r) p cycle) (within i r mine at)
 
-    pointed_others : (k : Known) → Within k → (i p : ℕ) (cycle : Bool) → (is_off (k.endpoint_state s i) ≡ true → (r : ℕ) → ring_having h p ≡ Some r → B r) →
-        OtherSlots k (pointed h k s i p cycle) s B
+    pointed_others : (k : Known) → Within k → (i p : ℕ) → IsPart part i → (cycle : Bool) → (is_off (k.endpoint_state s i) ≡ true → (r : ℕ) → ring_having h p ≡ Some r → B r) →
+        OtherSlots k (pointed h k s i p cycle) s part B
     unfolding pointed
-    pointed_others k within i p cycle named =
-        cond_both (is_off (k.endpoint_state s i)) (bound_to h k s i (ring_having h p) p cycle) (moved h k (k.ring_of s i) p cycle) (λ l. OtherSlots k l s B)
-        (λ off. bound_others k within i (ring_having h p) p cycle (named off)) (λ on. moved_others k within i p cycle (k.ring_of s i) refl)
+    pointed_others k within i p mine cycle named =
+        cond_both (is_off (k.endpoint_state s i)) (bound_to h k s i (ring_having h p) p cycle) (moved h k (k.ring_of s i) p cycle) (λ l. OtherSlots k l s part B)
+        (λ off. bound_others k within i mine (ring_having h p) p cycle (named off)) (λ on. moved_others k within i p mine cycle (k.ring_of s i) refl)
 
-    state_others : (k : Known) → Within k → (i : ℕ) (state : EndpointState) → OtherSlots k (in_state h k s i state) s B
+    state_others : (k : Known) → Within k → (i : ℕ) → IsPart part i → (state : EndpointState) → OtherSlots k (in_state h k s i state) s part B
     unfolding in_state
-    state_others k within i state = record {
+    state_others k within i mine state = record {
       device = λ t other. refl;
       fewer = λ t e at. at;
       slot_state = λ t other. refl;
-      states = λ t j other. at_pair (λ e. e ≡ k.endpoint_state t j) k.endpoint_state s i state t j (λ a b. absurd (other a)) (λ apart. refl);
+      states = λ t j other. at_pair (λ e. e ≡ k.endpoint_state t j) k.endpoint_state s i state t j (λ a b. absurd (other a (part_is i j mine b))) (λ apart. refl);
       ring_of = λ t j other. refl;
       within = within;
       was_bound = λ r out. refl;
       rings = λ r out. refl;
     }
 
-    held_others : (k : Known) → Within k → (i : ℕ) (o : Option ℕ) → k.ring_of s i ≡ o → OtherSlots k (held_at_ceiling h k o) s B
+    held_others : (k : Known) → Within k → (i : ℕ) → IsPart part i → (o : Option ℕ) → k.ring_of s i ≡ o → OtherSlots k (held_at_ceiling h k o) s part B
     unfolding held_at_ceiling
-    held_others k within i None at = same_others k within
-    held_others k within i (Some r) at = on_others k within r (Holds (ceiling (shape_of h r) (k.ring r))) (within i r at)
+    held_others k within i mine None at = same_others k within
+    held_others k within i mine (Some r) at = on_others k within r (Holds (ceiling (shape_of h r) (k.ring r))) (within i r mine at)
 
-    must_others : (k l : Known) (f : ℕ → ℕ → Bool) → OtherSlots k l s B → OtherSlots k (let m : Known = record l { must_move = f } in m) s B
+    must_others : (k l : Known) (f : ℕ → ℕ → Bool) → OtherSlots k l s part B → OtherSlots k (let m : Known = record l { must_move = f } in m) s part B
     must_others k l f o =
         record { device = o.device; fewer = o.fewer; slot_state = o.slot_state; states = o.states; ring_of = o.ring_of; within = o.within; was_bound = o.was_bound; rings = o.rings }
 
     -- a change of slot s, which binds rings of which B holds
     abbrev pub ChangesOnly : Known → Change → Type 0
-    ChangesOnly k (SlotGoesOn t) = t ≡ s
-    ChangesOnly k (DeviceLeft t) = t ≡ s
-    ChangesOnly k (Disables t which) = t ≡ s
-    ChangesOnly k (Places t i p cycle state) = (t ≡ s) × (is_off (k.endpoint_state s i) ≡ true → (r : ℕ) → ring_having h p ≡ Some r → B r)
-    ChangesOnly k (Stops t i) = t ≡ s
-    ChangesOnly k (Resets t i) = t ≡ s
+    ChangesOnly k (SlotGoesOn t) = (t ≡ s) × (part ≡ None)
+    ChangesOnly k (DeviceLeft t) = (t ≡ s) × (part ≡ None)
+    ChangesOnly k (Disables t which) = (t ≡ s) × (part ≡ None)
+    ChangesOnly k (Places t i p cycle state) = (t ≡ s) × IsPart part i × (is_off (k.endpoint_state s i) ≡ true → (r : ℕ) → ring_having h p ≡ Some r → B r)
+    ChangesOnly k (Stops t i) = (t ≡ s) × IsPart part i
+    ChangesOnly k (Resets t i) = (t ≡ s) × IsPart part i
 
-    goes_on : (c : Command) (k : Known) → Within k → OtherSlots k (changed_by h c k (SlotGoesOn s)) s B
+    goes_on : (c : Command) (k : Known) → Within k → part ≡ None → OtherSlots k (changed_by h c k (SlotGoesOn s)) s part B
     unfolding changed_by
-    goes_on c k within = record {
+    goes_on c k within whole = record {
       device = λ t other. refl;
       fewer = λ t e at. at;
-      slot_state = λ t other. at_number (λ x. x ≡ k.slot_state t) k.slot_state s _ t (λ same. absurd (other same)) (λ apart. refl);
+      slot_state = λ t other. at_number (λ x. x ≡ k.slot_state t) k.slot_state s _ t (λ same. absurd (other same whole)) (λ apart. refl);
       states = λ t j other. refl;
       ring_of = λ t j other. refl;
       within = within;
@@ -145,10 +156,10 @@ module _ (s : ℕ) (B : ℕ → Type 0) where
       rings = λ r out. refl;
     }
 
-    leaves_device : (c : Command) (k : Known) → Within k → OtherSlots k (changed_by h c k (DeviceLeft s)) s B
+    leaves_device : (c : Command) (k : Known) → Within k → part ≡ None → OtherSlots k (changed_by h c k (DeviceLeft s)) s part B
     unfolding changed_by
-    leaves_device c k within = record {
-      device = λ t other. at_number (λ x. x ≡ k.device t) k.device s None t (λ same. absurd (other same)) (λ apart. refl);
+    leaves_device c k within whole = record {
+      device = λ t other. at_number (λ x. x ≡ k.device t) k.device s None t (λ same. absurd (other same whole)) (λ apart. refl);
       fewer = λ t e. at_number (λ x. x ≡ Some e → k.device t ≡ Some e) k.device s None t (λ same at. absurd (none-some e at)) (λ apart at. at);
       slot_state = λ t other. refl;
       states = λ t j other. refl;
@@ -158,58 +169,58 @@ module _ (s : ℕ) (B : ℕ → Type 0) where
       rings = λ r out. refl;
     }
 
-    disables : (c : Command) (k : Known) (which : ℕ → Bool) → Within k → OtherSlots k (changed_by h c k (Disables s which)) s B
+    disables : (c : Command) (k : Known) (which : ℕ → Bool) → Within k → part ≡ None → OtherSlots k (changed_by h c k (Disables s which)) s part B
     unfolding changed_by disabled
-    disables c k which within = record {
+    disables c k which within whole = record {
       device = λ t other. refl;
       fewer = λ t e at. at;
       slot_state = λ t other. refl;
-      states = λ t j other. cond-false (t == s && which j) Off (k.endpoint_state t j) (and_left (t == s) (which j) (ne_eqb t s other));
-      ring_of = λ t j other. cond-false (t == s && which j) None (k.ring_of t j) (and_left (t == s) (which j) (ne_eqb t s other));
-      within = λ j r. cond_both (s == s && which j) None (k.ring_of s j) (λ o. o ≡ Some r → B r) (λ off at. absurd (none-some r at)) (λ on at. within j r at);
+      states = λ t j other. cond-false (t == s && which j) Off (k.endpoint_state t j) (and_left (t == s) (which j) (ne_eqb t s (λ same. other same (all_part j whole))));
+      ring_of = λ t j other. cond-false (t == s && which j) None (k.ring_of t j) (and_left (t == s) (which j) (ne_eqb t s (λ same. other same (all_part j whole))));
+      within = λ j r mine. cond_both (s == s && which j) None (k.ring_of s j) (λ o. o ≡ Some r → B r) (λ off at. absurd (none-some r at)) (λ on at. within j r mine at);
       was_bound = λ r out. refl;
       rings = λ r out. refl;
     }
 
-    places : (c : Command) (k : Known) (i p : ℕ) (cycle : Bool) (state : EndpointState) → Within k →
-        (is_off (k.endpoint_state s i) ≡ true → (r : ℕ) → ring_having h p ≡ Some r → B r) → OtherSlots k (changed_by h c k (Places s i p cycle state)) s B
+    places : (c : Command) (k : Known) (i p : ℕ) (cycle : Bool) (state : EndpointState) → Within k → IsPart part i →
+        (is_off (k.endpoint_state s i) ≡ true → (r : ℕ) → ring_having h p ≡ Some r → B r) → OtherSlots k (changed_by h c k (Places s i p cycle state)) s part B
     unfolding changed_by
-    places c k i p cycle state within named =
+    places c k i p cycle state within mine named =
         let l : Known = pointed h k s i p cycle in
-        let pointing : OtherSlots k (pointed h k s i p cycle) s B = pointed_others k within i p cycle named in
-        must_others k (in_state h l s i state) (put_pair k.must_move s i false) (both_others k l (in_state h l s i state) pointing (state_others l pointing.within i state))
+        let pointing : OtherSlots k (pointed h k s i p cycle) s part B = pointed_others k within i p mine cycle named in
+        must_others k (in_state h l s i state) (put_pair k.must_move s i false) (both_others k l (in_state h l s i state) pointing (state_others l pointing.within i mine state))
 
     ring_same : (k : Known) (i : ℕ) → (in_state h k s i Stopped).ring_of s i ≡ k.ring_of s i
     unfolding in_state
     ring_same k i = refl
 
-    stops : (c : Command) (k : Known) (i : ℕ) → Within k → OtherSlots k (changed_by h c k (Stops s i)) s B
+    stops : (c : Command) (k : Known) (i : ℕ) → Within k → IsPart part i → OtherSlots k (changed_by h c k (Stops s i)) s part B
     unfolding changed_by
-    stops c k i within =
+    stops c k i within mine =
         let l : Known = in_state h k s i Stopped in
-        let stopped : OtherSlots k (in_state h k s i Stopped) s B = state_others k within i Stopped in
-        both_others k l (held_at_ceiling h l (k.ring_of s i)) stopped (held_others l stopped.within i (k.ring_of s i) (ring_same k i))
+        let stopped : OtherSlots k (in_state h k s i Stopped) s part B = state_others k within i mine Stopped in
+        both_others k l (held_at_ceiling h l (k.ring_of s i)) stopped (held_others l stopped.within i mine (k.ring_of s i) (ring_same k i))
 
-    resets : (c : Command) (k : Known) (i : ℕ) → Within k → OtherSlots k (changed_by h c k (Resets s i)) s B
+    resets : (c : Command) (k : Known) (i : ℕ) → Within k → IsPart part i → OtherSlots k (changed_by h c k (Resets s i)) s part B
     unfolding changed_by
-    resets c k i within = state_others k within i Stopped
+    resets c k i within mine = state_others k within i mine Stopped
 
-    pub change_others : (c : Command) (k : Known) (change : Change) → Within k → ChangesOnly k change → OtherSlots k (changed_by h c k change) s B
-    change_others c k (SlotGoesOn t) within only = subst (λ x. OtherSlots k (changed_by h c k (SlotGoesOn x)) s B) (sym only) (goes_on c k within)
-    change_others c k (DeviceLeft t) within only = subst (λ x. OtherSlots k (changed_by h c k (DeviceLeft x)) s B) (sym only) (leaves_device c k within)
-    change_others c k (Disables t which) within only = subst (λ x. OtherSlots k (changed_by h c k (Disables x which)) s B) (sym only) (disables c k which within)
-    change_others c k (Places t i p cycle state) within only = subst (λ x. OtherSlots k (changed_by h c k (Places x i p cycle state)) s B) (sym only.0) (places c k i p cycle state within only.1)
-    change_others c k (Stops t i) within only = subst (λ x. OtherSlots k (changed_by h c k (Stops x i)) s B) (sym only) (stops c k i within)
-    change_others c k (Resets t i) within only = subst (λ x. OtherSlots k (changed_by h c k (Resets x i)) s B) (sym only) (resets c k i within)
+    pub change_others : (c : Command) (k : Known) (change : Change) → Within k → ChangesOnly k change → OtherSlots k (changed_by h c k change) s part B
+    change_others c k (SlotGoesOn t) within only = subst (λ x. OtherSlots k (changed_by h c k (SlotGoesOn x)) s part B) (sym only.0) (goes_on c k within only.1)
+    change_others c k (DeviceLeft t) within only = subst (λ x. OtherSlots k (changed_by h c k (DeviceLeft x)) s part B) (sym only.0) (leaves_device c k within only.1)
+    change_others c k (Disables t which) within only = subst (λ x. OtherSlots k (changed_by h c k (Disables x which)) s part B) (sym only.0) (disables c k which within only.1)
+    change_others c k (Places t i p cycle state) within only = subst (λ x. OtherSlots k (changed_by h c k (Places x i p cycle state)) s part B) (sym only.0) (places c k i p cycle state within only.1 only.2)
+    change_others c k (Stops t i) within only = subst (λ x. OtherSlots k (changed_by h c k (Stops x i)) s part B) (sym only.0) (stops c k i within only.1)
+    change_others c k (Resets t i) within only = subst (λ x. OtherSlots k (changed_by h c k (Resets x i)) s part B) (sym only.0) (resets c k i within only.1)
 
     abbrev pub AllOnly : Command → Known → List Change → Type 0
     AllOnly c k [] = Unit {0}
     AllOnly c k (change ∷ rest) = ChangesOnly k change × AllOnly c (changed_by h c k change) rest
 
-    pub changes_others : (c : Command) (k : Known) (all : List Change) → Within k → AllOnly c k all → OtherSlots k (changed_by_all h c k all) s B
+    pub changes_others : (c : Command) (k : Known) (all : List Change) → Within k → AllOnly c k all → OtherSlots k (changed_by_all h c k all) s part B
     unfolding changed_by_all
     changes_others c k [] within only = same_others k within
     changes_others c k (change ∷ rest) within only =
         let l : Known = changed_by h c k change in
-        let first : OtherSlots k (changed_by h c k change) s B = change_others c k change within only.0 in
+        let first : OtherSlots k (changed_by h c k change) s part B = change_others c k change within only.0 in
         both_others k l (changed_by_all h c l rest) first (changes_others c l rest first.within only.1)

@@ -1,8 +1,8 @@
--- The success of an unfinished command changes its own slot alone, and binds only rings that it names
-use Rattle.std.proofs.Common.{◌≡◌, if◌then◌else◌, ◌∷◌, ◌∙◌, ℕ, not, Bool, true, false, List, [], map, Some, refl, ap, inl, inr, eq-eqb}
+-- The success of an unfinished command changes its own slot alone, or its own endpoint, and binds only rings that it names
+use Rattle.std.proofs.Common.{◌≡◌, if◌then◌else◌, ◌∷◌, ◌∙◌, ℕ, not, Bool, true, false, List, [], map, Some, refl, ap, inl, inr, eq-eqb, Option, None}
 use Rattle.safety.proofs.Words.{list_any, or_parts, or_left, not-false, false≢true, Command, NoOp, EnableSlot, DisableSlot, AddressDevice, ConfigureEndpoint, EvaluateContext, ResetEndpoint, StopEndpoint, SetTrDequeue, ResetDevice, EndpointState, Off, Running, Halted, Stopped, Error, is_off, is_at_rest, changes, placed_by_context, added_endpoints, context_pointer, Header, command_id, is_ring, ring_having, Known, changed_by, succeeded, binding_in, binds, ring_bound, binds_ring, is_bad_dequeue, is_bad_move, IsIn, any_of, MovesIf}
 use Rattle.safety.proofs.TestsPassed.{any_of_map}
-use Rattle.safety.proofs.OtherSlots.{OtherSlots, Within, AllOnly, changes_others}
+use Rattle.safety.proofs.OtherSlots.{IsPart, OtherSlots, Within, AllOnly, changes_others}
 
 -- the slot that the success of a command changes; n is that of its completion
 abbrev pub changed_slot : Command → ℕ → ℕ
@@ -17,6 +17,13 @@ changed_slot (StopEndpoint s i) n = s
 changed_slot (SetTrDequeue s i p cycle) n = s
 changed_slot (ResetDevice s) n = s
 
+-- the index of the endpoint that it changes; None where it changes the slot
+abbrev pub changed_part : Command → Option ℕ
+changed_part (ResetEndpoint s i) = Some i
+changed_part (StopEndpoint s i) = Some i
+changed_part (SetTrDequeue s i p cycle) = Some i
+changed_part _ = None
+
 rest_not_off : (e : EndpointState) → is_at_rest e ≡ true → is_off e ≡ true → ⊥
 rest_not_off Off rests off = false≢true rests
 rest_not_off Running rests off = false≢true rests
@@ -25,14 +32,14 @@ rest_not_off Stopped rests off = false≢true off
 rest_not_off Error rests off = false≢true off
 
 module _ (h : Header) (k : Known) where
-  -- the rings of slot s, those that a command binds, and the command ring
-  pub data OfCommand (s : ℕ) (e : Command) (r : ℕ) : Type 0 where
-    Has : (i : ℕ) → k.ring_of s i ≡ Some r → OfCommand s e r
-    Binds : binds_ring h k r e ≡ true → OfCommand s e r
-    Commands : r ≡ command_id h → OfCommand s e r
+  -- the rings of slot s or of a part of it, those that a command binds, and the command ring
+  pub data OfCommand (s : ℕ) (part : Option ℕ) (e : Command) (r : ℕ) : Type 0 where
+    Has : (i : ℕ) → IsPart part i → k.ring_of s i ≡ Some r → OfCommand s part e r
+    Binds : binds_ring h k r e ≡ true → OfCommand s part e r
+    Commands : r ≡ command_id h → OfCommand s part e r
 
-  pub of_slot : (s : ℕ) (e : Command) → Within s (OfCommand s e) k
-  of_slot s e i r at = Has i at
+  pub of_slot : (s : ℕ) (part : Option ℕ) (e : Command) → Within s part (OfCommand s part e) k
+  of_slot s part e i r mine at = Has i mine at
 
   address_binds : (s n r : ℕ) (bsr : Bool) → is_off (k.endpoint_state s 1) ≡ true → ring_having h (context_pointer h.context_size k.memory n 1) ≡ Some r →
       binds_ring h k r (AddressDevice s bsr n) ≡ true
@@ -49,10 +56,10 @@ module _ (h : Header) (k : Known) where
       ∙ any_of (λ x. is_ring r (ring_bound h (binding_in h k n x))) (added_endpoints k.memory n) i added (ap (λ o. is_ring r o) at ∙ eq-eqb r r refl)
 
   places_only : (s n : ℕ) (e : Command) (B : ℕ → Type 0) (l : Known) (xs : List ℕ) → ((i : ℕ) → IsIn i xs → (r : ℕ) → ring_having h (context_pointer h.context_size k.memory n i) ≡ Some r → B r) →
-      AllOnly s B h e l (map (placed_by_context h.context_size k.memory s n) xs)
+      AllOnly s None B h e l (map (placed_by_context h.context_size k.memory s n) xs)
   places_only s n e B l [] named = tt
   places_only s n e B l (i ∷ rest) named = (
-    (refl, λ off r at. named i (inl refl) r at),
+    (refl, tt, λ off r at. named i (inl refl) r at),
     places_only s n e B (changed_by h e l (placed_by_context h.context_size k.memory s n i)) rest (λ j there. named j (inr there)),
   )
 
@@ -60,29 +67,32 @@ module _ (h : Header) (k : Known) where
   unfolding is_bad_move
   set_rests s i p cycle good = not-false (is_at_rest (k.endpoint_state s i)) (or_parts (not (is_at_rest (k.endpoint_state s i))) (is_bad_dequeue h k (k.ring_of s i) p cycle) good).0
 
-  -- each change is one of the slot
-  only_own : (n : ℕ) (e : Command) → MovesIf h k e → AllOnly (changed_slot e n) (OfCommand (changed_slot e n) e) h e k (changes h.context_size k.memory n e)
+  -- each change is one of the slot, or of the endpoint
+  only_own : (n : ℕ) (e : Command) → MovesIf h k e →
+      AllOnly (changed_slot e n) (changed_part e) (OfCommand (changed_slot e n) (changed_part e) e) h e k (changes h.context_size k.memory n e)
   unfolding changes changed_by
   only_own n NoOp moves = tt
-  only_own n EnableSlot moves = (refl, tt)
-  only_own n (DisableSlot s) moves = (refl, (refl, (refl, tt)))
-  only_own n (AddressDevice s bsr c) moves = (refl, ((refl, λ off r at. Binds (address_binds s c r bsr off at)), tt))
+  only_own n EnableSlot moves = ((refl, refl), tt)
+  only_own n (DisableSlot s) moves = ((refl, refl), ((refl, refl), ((refl, refl), tt)))
+  only_own n (AddressDevice s bsr c) moves = ((refl, refl), ((refl, tt, λ off r at. Binds (address_binds s c r bsr off at)), tt))
   only_own n (ConfigureEndpoint s false c) moves = (
-    refl,
+    (refl, refl),
     (
-      refl,
-      places_only s c (ConfigureEndpoint s false c) (OfCommand s (ConfigureEndpoint s false c)) _ (added_endpoints k.memory c)
+      (refl, refl),
+      places_only s c (ConfigureEndpoint s false c) (OfCommand s None (ConfigureEndpoint s false c)) _ (added_endpoints k.memory c)
           (λ i there r at. Binds (configure_binds s c i r there at)),
     ),
   )
-  only_own n (ConfigureEndpoint s true c) moves = (refl, (refl, tt))
+  only_own n (ConfigureEndpoint s true c) moves = ((refl, refl), ((refl, refl), tt))
   only_own n (EvaluateContext s c) moves = tt
-  only_own n (ResetEndpoint s i) moves = (refl, tt)
-  only_own n (StopEndpoint s i) moves = (refl, tt)
-  only_own n (SetTrDequeue s i p cycle) moves = ((refl, λ off r at. absurd (rest_not_off (k.endpoint_state s i) (set_rests s i p cycle moves) off)), tt)
-  only_own n (ResetDevice s) moves = (refl, (refl, tt))
+  only_own n (ResetEndpoint s i) moves = ((refl, refl), tt)
+  only_own n (StopEndpoint s i) moves = ((refl, refl), tt)
+  only_own n (SetTrDequeue s i p cycle) moves = ((refl, refl, λ off r at. absurd (rest_not_off (k.endpoint_state s i) (set_rests s i p cycle moves) off)), tt)
+  only_own n (ResetDevice s) moves = ((refl, refl), ((refl, refl), tt))
 
-  pub success_others : (n : ℕ) (e : Command) → MovesIf h k e → OtherSlots k (succeeded h k n e) (changed_slot e n) (OfCommand (changed_slot e n) e)
+  pub success_others : (n : ℕ) (e : Command) → MovesIf h k e →
+      OtherSlots k (succeeded h k n e) (changed_slot e n) (changed_part e) (OfCommand (changed_slot e n) (changed_part e) e)
   unfolding succeeded
   success_others n e moves =
-      changes_others (changed_slot e n) (OfCommand (changed_slot e n) e) h e k (changes h.context_size k.memory n e) (of_slot (changed_slot e n) e) (only_own n e moves)
+      changes_others (changed_slot e n) (changed_part e) (OfCommand (changed_slot e n) (changed_part e) e) h e k (changes h.context_size k.memory n e)
+      (of_slot (changed_slot e n) (changed_part e) e) (only_own n e moves)

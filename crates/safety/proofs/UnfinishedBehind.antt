@@ -1,14 +1,13 @@
--- Behind an event the commands that stay unfinished were unfinished before, and their slots have the same rings
-use Rattle.std.proofs.Common.{◌≡◌, ◌≢◌, ◌==◌, if◌then◌else◌, ◌∷◌, ◌∙◌, ℕ, not, true, List, [], Option, None, Some, refl, sym, ap, subst, inl, inr}
-use Rattle.safety.proofs.Words.{filter_map, range_with_len, cons_option, cases_Bool, false≢true, and_parts, and_from, cond-true, cond-false, Block, BlockKind, TransferEvent, CommandCompletion, kind, code, slot, place_count, floor_number, due_positions, due_from, Command, AddressDevice, EndpointState, Off, named_slot, can_succeed, is_off, Header, Read, Config, IsHeader, shape_of, command_id, is_ring, register_or_zero, Known, command_at, next_command, unfinished_positions, unfinished, succeeded, completed, event_read, learned, was_stop_seen, moves_ring, is_being_moved, lenient, IsIn, some_of, any_of, from_filter, IsDriverRing, IsUnfinished, DriverKeeps, is_command_completion}
+-- Behind an event the commands that stay unfinished were unfinished before, and the endpoints that they concern have the same rings
+use Rattle.std.proofs.Common.{◌≡◌, ◌≢◌, ◌==◌, if◌then◌else◌, ◌∷◌, ◌∙◌, ℕ, not, true, List, [], Option, None, Some, refl, sym, ap, inl, inr}
+use Rattle.safety.proofs.Words.{filter_map, range_with_len, cons_option, false≢true, and_parts, and_from, Block, BlockKind, TransferEvent, CommandCompletion, kind, code, slot, place_count, floor_number, due_positions, due_from, Command, AddressDevice, EndpointState, Off, can_succeed, is_off, Header, Read, Config, IsHeader, shape_of, command_id, is_ring, register_or_zero, Known, command_at, next_command, unfinished_positions, unfinished, completed, event_read, learned, was_stop_seen, moves_ring, is_being_moved, lenient, IsIn, some_of, any_of, from_filter, IsDriverRing, IsUnfinished, DriverKeeps, is_command_completion}
 use Rattle.safety.proofs.CleanRows.{EventFacts, event_facts}
 use Rattle.safety.proofs.KeptRings.{CompletionFacts, completion_facts, next_unfinished}
 use Rattle.safety.proofs.SafeContext.{command_is_ring}
 use Rattle.safety.proofs.TransferFrames.{transfer_slots}
-use Rattle.safety.proofs.OtherSlots.{OtherSlots, same_others}
-use Rattle.safety.proofs.SlotCommands.{changed_slot, OfCommand, of_slot, success_others}
+use Rattle.safety.proofs.Concerned.{Concerns}
 use Rattle.safety.proofs.CommandsFinished.{unfinished_before}
-use Rattle.safety.proofs.CommandsCompleted.{finished_others, not_zero, other_slot, may_answer}
+use Rattle.safety.proofs.CommandsCompleted.{Changed, changed_by_code, may_answer}
 use Rattle.safety.proofs.UnfinishedLists.{in_filter_map}
 use Rattle.safety.proofs.LeasesBehind.{Behind, from_range, unfinished_fewer}
 use Rattle.safety.proofs.EventBehind.{event_behind}
@@ -43,30 +42,12 @@ module _ (h : Header) (is : IsHeader h) (k : Known) (d : DriverKeeps h k) where
   -- ---- a completion
 
   module _ (b : Block) (e : Command) (here : command_at h k (next_command h k) ≡ Some e) (ends : IsUnfinished h k (next_command h k) e) (ring : IsDriverRing h (command_id h)) where
-    staying : (s : ℕ) → OtherSlots k (completed h k b) s (OfCommand h k s e) →
-        ((p : ℕ) (c : Command) (t : ℕ) → IsUnfinished h k p c → p ≢ next_command h k → named_slot c ≡ Some t → t ≢ s) →
-        (p : ℕ) (c : Command) (t i : ℕ) → IsUnfinished h (completed h k b) p c → named_slot c ≡ Some t → (completed h k b).ring_of t i ≡ k.ring_of t i
-    staying s o apart p c t i u named =
+    staying : (if code b == 1 then can_succeed k.slot_state k.endpoint_state (register_or_zero k.register Config) (slot b) e else not (was_stop_seen k e)) ≡ true →
+        (p : ℕ) (c : Command) (t i : ℕ) → IsUnfinished h (completed h k b) p c → Concerns c t i → (completed h k b).ring_of t i ≡ k.ring_of t i
+    staying may p c t i u its =
         let was = unfinished_before h is k d b ring p c u in
-        o.ring_of t i (apart p c t was.0 was.1 named)
-
-    by_code : (if code b == 1 then can_succeed k.slot_state k.endpoint_state (register_or_zero k.register Config) (slot b) e else not (was_stop_seen k e)) ≡ true →
-        (p : ℕ) (c : Command) (t i : ℕ) → IsUnfinished h (completed h k b) p c → named_slot c ≡ Some t → (completed h k b).ring_of t i ≡ k.ring_of t i
-    by_code may =
-        elim (cases_Bool (code b == 1)) [
-          | inl success ↦
-              let can = sym (cond-true (code b == 1) (can_succeed k.slot_state k.endpoint_state (register_or_zero k.register Config) (slot b) e) (not (was_stop_seen k e)) success) ∙ may in
-              let s : ℕ = changed_slot e (slot b) in
-              staying s
-              (finished_others h is k d b e here ends ring s (subst (λ x. OtherSlots k x s (OfCommand h k s e)) (sym (cond-true (code b == 1) (succeeded h k (slot b) e) k success))
-              (success_others h k (slot b) e (d.unfinished (next_command h k) e ends).moves_on)))
-              (λ p c t u other named. other_slot h is k d b e here ends ring e (slot b) p c t can u named ((d.unfinished p c u).alone (next_command h k) e ends (λ same. other (sym same))))
-          | inr fails ↦
-              staying 0
-              (finished_others h is k d b e here ends ring 0 (subst (λ x. OtherSlots k x 0 (OfCommand h k 0 e)) (sym (cond-false (code b == 1) (succeeded h k (slot b) e) k fails))
-              (same_others 0 (OfCommand h k 0 e) k (of_slot h k 0 e))))
-              (λ p c t u other named. not_zero h is k d b e here ends ring p c t u named)
-        ]
+        let changed : Changed h is k d b e here ends ring = changed_by_code h is k d b e here ends ring may in
+        changed.others.ring_of t i (changed.apart p c t i was.0 was.1 its)
 
   -- ---- any event
 
@@ -74,23 +55,23 @@ module _ (h : Header) (is : IsHeader h) (k : Known) (d : DriverKeeps h k) where
     facts : EventFacts h k e
     facts = event_facts h k e may
 
-    rings_kind : (n : BlockKind) → kind e ≡ n → (p : ℕ) (c : Command) (t i : ℕ) → IsUnfinished h (event_read h k n e) p c → named_slot c ≡ Some t →
+    rings_kind : (n : BlockKind) → kind e ≡ n → (p : ℕ) (c : Command) (t i : ℕ) → IsUnfinished h (event_read h k n e) p c → Concerns c t i →
         (event_read h k n e).ring_of t i ≡ k.ring_of t i
     unfolding event_read
-    rings_kind TransferEvent at p c t i u named = ap (λ f. f t i) (transfer_slots h k e).ring_of
-    rings_kind CommandCompletion at p c t i u named =
+    rings_kind TransferEvent at p c t i u its = ap (λ f. f t i) (transfer_slots h k e).ring_of
+    rings_kind CommandCompletion at p c t i u its =
         let finish : CompletionFacts h k e = completion_facts h k e (ap is_command_completion at) facts.possible in
         let answer = may_answer h is k d e (command_at h k (next_command h k)) finish.finishes in
-        by_code e answer.0 answer.1 (next_unfinished h is k d facts.started finish.below answer.0 answer.1) (command_is_ring h k d facts.started) answer.2 p c t i u named
-    rings_kind _ at p c t i u named = refl
+        staying e answer.0 answer.1 (next_unfinished h is k d facts.started finish.below answer.0 answer.1) (command_is_ring h k d facts.started) answer.2 p c t i u its
+    rings_kind _ at p c t i u its = refl
 
     unread : (p : ℕ) (c : Command) → IsUnfinished h (learned h k (Read e)) p c → IsUnfinished h (event_read h k (kind e) e) p c
     unfolding learned command_at
     unread p c u = record { due = u.due; given = u.given; command = u.command }
 
-    pub rings_behind : (p : ℕ) (c : Command) (t i : ℕ) → IsUnfinished h (learned h k (Read e)) p c → named_slot c ≡ Some t → (learned h k (Read e)).ring_of t i ≡ k.ring_of t i
+    pub rings_behind : (p : ℕ) (c : Command) (t i : ℕ) → IsUnfinished h (learned h k (Read e)) p c → Concerns c t i → (learned h k (Read e)).ring_of t i ≡ k.ring_of t i
     unfolding learned
-    rings_behind p c t i u named = rings_kind (kind e) refl p c t i (unread p c u) named
+    rings_behind p c t i u its = rings_kind (kind e) refl p c t i (unread p c u) its
 
     abbrev l : Known
     l = learned h k (Read e)
@@ -109,7 +90,7 @@ module _ (h : Header) (is : IsHeader h) (k : Known) (d : DriverKeeps h k) where
     unfolding moves_ring
     moves_before r (AddressDevice s bsr n) p u moves =
         let parts = and_parts (not (is_off (l.endpoint_state s 1))) (is_ring r (l.ring_of s 1)) moves in
-        let there : is_ring r (k.ring_of s 1) ≡ true = ap (λ o. is_ring r o) (sym (rings_behind p (AddressDevice s bsr n) s 1 u refl)) ∙ parts.1 in
+        let there : is_ring r (k.ring_of s 1) ≡ true = ap (λ o. is_ring r o) (sym (rings_behind p (AddressDevice s bsr n) s 1 u (refl, tt))) ∙ parts.1 in
         and_from (not (is_off (k.endpoint_state s 1))) (is_ring r (k.ring_of s 1)) (on_there s r (k.ring_of s 1) refl there) there
       where
         not_off : (state : EndpointState) → state ≢ Off → not (is_off state) ≡ true

@@ -1,0 +1,66 @@
+-- The endpoints that a command concerns: two commands that don't exclude each other concern none both
+use Rattle.std.proofs.Common.{◌≡◌, ◌==◌, ◌&&◌, ◌∙◌, ℕ, not, Bool, true, false, Option, None, Some, refl, sym, ap, eq-eqb, eqb-true}
+use Rattle.safety.proofs.Words.{and_from, not_from_true, false_from_ne_true, false≢true, same_Some, Command, NoOp, EnableSlot, DisableSlot, AddressDevice, ConfigureEndpoint, EvaluateContext, ResetEndpoint, StopEndpoint, SetTrDequeue, ResetDevice, named_slot, named_endpoint, same_slot, other_endpoint, exclude}
+
+abbrev pub IsEndpoint : Option (ℕ × ℕ) → ℕ → ℕ → Type 0
+IsEndpoint None s i = Unit {0}
+IsEndpoint (Some e) s i = (e.0 ≡ s) × (e.1 ≡ i)
+
+-- the endpoint that it names; of a slot of which it names no endpoint, each
+abbrev pub Concerns : Command → ℕ → ℕ → Type 0
+Concerns c s i = (named_slot c ≡ Some s) × IsEndpoint (named_endpoint c) s i
+
+-- of its slot it concerns one
+pub some_concerned : (c : Command) (s : ℕ) → named_slot c ≡ Some s → (i : ℕ) × Concerns c s i
+some_concerned NoOp s named = (0, (named, tt))
+some_concerned EnableSlot s named = (0, (named, tt))
+some_concerned (DisableSlot t) s named = (0, (named, tt))
+some_concerned (AddressDevice t bsr n) s named = (0, (named, tt))
+some_concerned (ConfigureEndpoint t dc n) s named = (0, (named, tt))
+some_concerned (EvaluateContext t n) s named = (0, (named, tt))
+some_concerned (ResetEndpoint t i) s named = (i, (named, (same_Some t s named, refl)))
+some_concerned (StopEndpoint t i) s named = (i, (named, (same_Some t s named, refl)))
+some_concerned (SetTrDequeue t i p cycle) s named = (i, (named, (same_Some t s named, refl)))
+some_concerned (ResetDevice t) s named = (0, (named, tt))
+
+same_named : (x y : Option ℕ) (s : ℕ) → x ≡ Some s → y ≡ Some s → same_slot x y ≡ true
+same_named x y s a b = ap (λ o. same_slot o y) a ∙ ap (λ o. same_slot (Some s) o) b ∙ eq-eqb s s refl
+
+one_endpoint : (a b : Option (ℕ × ℕ)) (s i : ℕ) → IsEndpoint a s i → IsEndpoint b s i → other_endpoint a b ≡ false
+one_endpoint None b s i here there = refl
+one_endpoint (Some e) None s i here there = refl
+one_endpoint (Some e) (Some f) s i here there =
+    not_from_true (e.0 == f.0 && e.1 == f.1) (and_from (e.0 == f.0) (e.1 == f.1) (eq-eqb e.0 f.0 (here.0 ∙ sym there.0)) (eq-eqb e.1 f.1 (here.1 ∙ sym there.1)))
+
+pub not_both : (c d : Command) (s i : ℕ) → exclude c d ≡ false → Concerns c s i → Concerns d s i → ⊥
+not_both c d s i apart here there =
+    false≢true (sym apart
+    ∙ and_from (same_slot (named_slot c) (named_slot d)) (not (other_endpoint (named_endpoint c) (named_endpoint d)))
+    (same_named (named_slot c) (named_slot d) s here.0 there.0)
+    (ap (λ b. not b) (one_endpoint (named_endpoint c) (named_endpoint d) s i here.1 there.1)))
+
+-- ---- neither excludes the other
+
+eqb_turned : (s t : ℕ) → (s == t) ≡ (t == s)
+eqb_turned s t = by (s == t) refl
+  where
+    by : (b : Bool) → (s == t) ≡ b → b ≡ (t == s)
+    by true is = sym (eq-eqb t s (sym (eqb-true s t is)))
+    by false is = sym (false_from_ne_true (t == s) (λ same. false≢true (sym is ∙ eq-eqb s t (sym (eqb-true t s same)))))
+
+slots_turned : (x y : Option ℕ) → same_slot x y ≡ same_slot y x
+slots_turned None None = refl
+slots_turned None (Some t) = refl
+slots_turned (Some s) None = refl
+slots_turned (Some s) (Some t) = eqb_turned s t
+
+endpoints_turned : (a b : Option (ℕ × ℕ)) → other_endpoint a b ≡ other_endpoint b a
+endpoints_turned None None = refl
+endpoints_turned None (Some f) = refl
+endpoints_turned (Some e) None = refl
+endpoints_turned (Some e) (Some f) = ap (λ b. not (b && e.1 == f.1)) (eqb_turned e.0 f.0) ∙ ap (λ b. not (f.0 == e.0 && b)) (eqb_turned e.1 f.1)
+
+pub excludes_turned : (c d : Command) → exclude c d ≡ exclude d c
+excludes_turned c d =
+    ap (λ b. b && not (other_endpoint (named_endpoint c) (named_endpoint d))) (slots_turned (named_slot c) (named_slot d))
+    ∙ ap (λ b. same_slot (named_slot d) (named_slot c) && not b) (endpoints_turned (named_endpoint c) (named_endpoint d))
