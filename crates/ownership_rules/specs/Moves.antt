@@ -69,7 +69,7 @@ module _ (h : Header) where
   is_placed k None b = false
   is_placed k (Some r) b = is_placement (shape_of h r) (k.ring r) b.pointer b.cycle
 
-  -- an endpoint keeps the ring, or another command gives it away
+  -- an endpoint keeps the ring, or an unfinished command binds it
   unfoldable pub is_taken : Known → Command → Option ℕ → Bool
   is_taken k c None = false
   is_taken k c (Some r) = is_kept k c r || is_being_bound k r

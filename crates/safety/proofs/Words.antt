@@ -111,7 +111,7 @@ pub use Rattle.std.proofs.lemmas.Option.{cond_some, get_or_from_slice_get, none-
 pub use Rattle.std.specs.List.{cons_option, filter_map, flat_map, list_all, list_any, range_with_len}
 pub use Rattle.std.specs.Option.{option_map}
 pub use Rattle.traces.specs.Header.{IsHeader, clash, id_of, id_or_none, is_command_kind, is_driver_kind, is_event_kind, is_ring, is_transfer_kind, may_stand_together, ring_with, shape_or}
-unfoldable pub use Rattle.traces.specs.Header.{command_id, command_ring, driver_rings, event_ring, event_shape, event_size, ring_beginning_at, ring_having, shape_of, some_ring, touches_ring}
+unfoldable pub use Rattle.traces.specs.Header.{command_id, command_ring, driver_rings, event_ring, event_shape, event_size, ring_having, shape_of, some_ring, touches_ring}
 pub use Rattle.traces.specs.Register.{base_address, command_abort, command_stop, register_or_zero, reset_bit, ring_cycle_state, run_bit, same_register, with_register}
 pub use Rattle.traces.specs.Rows.{IsRow, IsStep}
 pub use Rattle.traces.specs.declared.header.Header.{Header}
