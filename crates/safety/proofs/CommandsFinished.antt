@@ -13,7 +13,7 @@ use Rattle.safety.proofs.SafeContext.{next_is}
 use Rattle.safety.proofs.SameDriver.{SameDriver}
 use Rattle.safety.proofs.AreaFacts.{clean_same, area_parts, area_from, device_apart, devices_apart}
 use Rattle.safety.proofs.WriteBeside.{ContextParts, context_parts, context_from}
-use Rattle.safety.proofs.OtherSlots.{IsPart, OtherSlots, cases_part}
+use Rattle.safety.proofs.OtherSlots.{IsPart, OtherSlots}
 use Rattle.safety.proofs.SlotCommands.{OfCommand, Has, Binds, Commands}
 use Rattle.safety.proofs.CommandsBeside.{Beside}
 use Rattle.safety.proofs.Concerned.{Concerns, some_concerned, not_both}

@@ -9,10 +9,6 @@ abbrev pub IsPart : Option ℕ → ℕ → Type 0
 IsPart None i = Unit {0}
 IsPart (Some j) i = i ≡ j
 
-pub cases_part : (part : Option ℕ) (i : ℕ) → IsPart part i ⊎ (IsPart part i → ⊥)
-cases_part None i = inl tt
-cases_part (Some j) i = cases_eq i j
-
 -- what the success of a command may have left as it was: all but slot s, or but this part of it, and but the rings of which B holds
 pub record OtherSlots (k l : Known) (s : ℕ) (part : Option ℕ) (B : ℕ → Type 0) : Type 0 where
   pub device : (t : ℕ) → (t ≡ s → part ≡ None → ⊥) → l.device t ≡ k.device t
