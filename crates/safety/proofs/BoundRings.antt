@@ -16,7 +16,7 @@ bound_transfer h is k r c bound =
     let b : Binding = any.1 in
     having_transfer h is b.pointer r (ring_is r (ring_bound h b) any.4)
 
-pub drops_named : (k : Known) (c : Command) (s i : ℕ) → drops k c s i ≡ true → named_slot c ≡ Some s
+drops_named : (k : Known) (c : Command) (s i : ℕ) → drops k c s i ≡ true → named_slot c ≡ Some s
 unfolding drops
 drops_named k (ConfigureEndpoint t false n) s i is = ap (λ x. Some x) (sym (eqb-true s t (and_parts (s == t) (is_dropped k.memory n i) is).0))
 drops_named k (ConfigureEndpoint t true n) s i is = absurd (false≢true is)
@@ -30,20 +30,20 @@ drops_named k (StopEndpoint t j) s i is = absurd (false≢true is)
 drops_named k (SetTrDequeue t j p cycle) s i is = absurd (false≢true is)
 drops_named k (ResetDevice t) s i is = absurd (false≢true is)
 
--- it is one that the command concerns
-pub drops_concerned : (k : Known) (c : Command) (s i : ℕ) → drops k c s i ≡ true → Concerns c s i
+-- so it concerns that endpoint
+pub drops_concerns : (k : Known) (c : Command) (s i : ℕ) → drops k c s i ≡ true → Concerns c s i
 unfolding drops
-drops_concerned k (ConfigureEndpoint t false n) s i is = (drops_named k (ConfigureEndpoint t false n) s i is, tt)
-drops_concerned k (ConfigureEndpoint t true n) s i is = absurd (false≢true is)
-drops_concerned k NoOp s i is = absurd (false≢true is)
-drops_concerned k EnableSlot s i is = absurd (false≢true is)
-drops_concerned k (DisableSlot t) s i is = absurd (false≢true is)
-drops_concerned k (AddressDevice t bsr n) s i is = absurd (false≢true is)
-drops_concerned k (EvaluateContext t n) s i is = absurd (false≢true is)
-drops_concerned k (ResetEndpoint t j) s i is = absurd (false≢true is)
-drops_concerned k (StopEndpoint t j) s i is = absurd (false≢true is)
-drops_concerned k (SetTrDequeue t j p cycle) s i is = absurd (false≢true is)
-drops_concerned k (ResetDevice t) s i is = absurd (false≢true is)
+drops_concerns k (ConfigureEndpoint t false n) s i is = (drops_named k (ConfigureEndpoint t false n) s i is, tt)
+drops_concerns k (ConfigureEndpoint t true n) s i is = absurd (false≢true is)
+drops_concerns k NoOp s i is = absurd (false≢true is)
+drops_concerns k EnableSlot s i is = absurd (false≢true is)
+drops_concerns k (DisableSlot t) s i is = absurd (false≢true is)
+drops_concerns k (AddressDevice t bsr n) s i is = absurd (false≢true is)
+drops_concerns k (EvaluateContext t n) s i is = absurd (false≢true is)
+drops_concerns k (ResetEndpoint t j) s i is = absurd (false≢true is)
+drops_concerns k (StopEndpoint t j) s i is = absurd (false≢true is)
+drops_concerns k (SetTrDequeue t j p cycle) s i is = absurd (false≢true is)
+drops_concerns k (ResetDevice t) s i is = absurd (false≢true is)
 
 pub stops_drop_none : (k : Known) (c : Command) (s i t j : ℕ) → drops k c s i ≡ true → c ≡ StopEndpoint t j → ⊥
 unfolding drops

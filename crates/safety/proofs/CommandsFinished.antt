@@ -1,10 +1,10 @@
 -- A completion keeps what is kept of the commands that stay unfinished
-use Rattle.std.proofs.Common.{◌≡◌, ◌≢◌, ◌⊎◌, ◌∙◌, ℕ, Bool, true, false, Option, None, Some, option_and_then, slice_get, arith, refl, sym, ap, subst, inl, inr}
-use Rattle.safety.proofs.Words.{false≢true, Block, Spot, after, RingView, Reaches, changed, is_due, due_is, due_from, number-after, Command, AddressDevice, SetTrDequeue, command_of, named_slot, is_disabled, is_off, is_at_rest, Header, IsHeader, shape_of, command_id, Known, command_at, next_command, finished, completed, input_context_bytes, binds_ring, IsDriverRing, IsUnfinished, CommandKeeps, DriverKeeps, cases_eq}
+use Rattle.std.proofs.Common.{◌≡◌, ◌≢◌, ◌∙◌, ℕ, true, false, Some, option_and_then, slice_get, arith, refl, sym, ap, subst, Bool, Option, None}
+use Rattle.safety.proofs.Words.{false≢true, Block, Spot, after, RingView, Reaches, changed, is_due, due_is, due_from, number-after, Command, command_of, named_slot, is_disabled, is_off, is_at_rest, Header, IsHeader, shape_of, command_id, Known, command_at, next_command, finished, completed, input_context_bytes, binds_ring, IsDriverRing, IsUnfinished, CommandKeeps, DriverKeeps, AddressDevice, SetTrDequeue}
 use Rattle.ownership_rules.specs.Commands as commands
 use Rattle.safety.specs.EndpointsKeep as endpoints
 use Rattle.safety.proofs.RingIds.{command_not_transfer}
-use Rattle.safety.proofs.BoundRings.{bound_transfer, drops_concerned}
+use Rattle.safety.proofs.BoundRings.{bound_transfer, drops_concerns}
 use Rattle.safety.proofs.Headers.{transfer_not_command}
 use Rattle.safety.proofs.DriverRows.{ring_here}
 use Rattle.safety.proofs.DriverRings.{endpoints_of}
@@ -13,7 +13,7 @@ use Rattle.safety.proofs.SafeContext.{next_is}
 use Rattle.safety.proofs.SameDriver.{SameDriver}
 use Rattle.safety.proofs.AreaFacts.{clean_same, area_parts, area_from, device_apart, devices_apart}
 use Rattle.safety.proofs.WriteBeside.{ContextParts, context_parts, context_from}
-use Rattle.safety.proofs.OtherSlots.{IsPart, OtherSlots, cases_part}
+use Rattle.safety.proofs.OtherSlots.{IsPart, OtherSlots}
 use Rattle.safety.proofs.SlotCommands.{OfCommand, Has, Binds, Commands}
 use Rattle.safety.proofs.CommandsBeside.{Beside}
 use Rattle.safety.proofs.Concerned.{Concerns, some_concerned, not_both}
@@ -46,7 +46,7 @@ module _ (h : Header) (is : IsHeader h) (k : Known) (d : DriverKeeps h k) (q : �
       let same = d.states.one_endpoint t i s j r has at in
       apart t i its same.0 (subst (λ x. IsPart part x) (sym same.1) mine)
   not_its_ring t i r its has (Binds bound) =
-      not_both e c t i (keeps.alone q e ends (λ same. other (sym same))) (drops_concerned k e t i ((d.unfinished q e ends).unkept r t i bound has)) its
+      not_both e c t i (keeps.alone q e ends (λ same. other (sym same))) (drops_concerns k e t i ((d.unfinished q e ends).unkept r t i bound has)) its
   not_its_ring t i r its has (Commands same) = transfer_not_command h is r (d.states.transfer t i r has) same
 
   ring_same : (t i r : ℕ) → Concerns c t i → k.ring_of t i ≡ Some r → l.ring r ≡ k.ring r
@@ -54,14 +54,9 @@ module _ (h : Header) (is : IsHeader h) (k : Known) (d : DriverKeeps h k) (q : �
 
   -- nor is one that the command binds
   not_bound_by_it : (r : ℕ) → binds_ring h k r c ≡ true → OfCommand h k s part e r → ⊥
-  not_bound_by_it r bound (Has j mine at) = apart s j (drops_concerned k c s j (keeps.unkept r s j bound at)) refl mine
+  not_bound_by_it r bound (Has j mine at) = apart s j (drops_concerns k c s j (keeps.unkept r s j bound at)) refl mine
   not_bound_by_it r bound (Binds also) = false≢true (sym (keeps.unshared r q e bound ends (λ same. other (sym same))) ∙ also)
   not_bound_by_it r bound (Commands same) = command_not_transfer h is (subst (λ x. endpoints.IsTransferRing h x) same (bound_transfer h is k r c bound))
-
-  kept_finished : (r t i : ℕ) → binds_ring h k r c ≡ true → l.ring_of t i ≡ Some r → (t ≡ s) ⊎ (t ≢ s) → IsPart part i ⊎ (IsPart part i → ⊥) → k.ring_of t i ≡ Some r
-  kept_finished r t i bound has (inl same) (inl mine) = absurd (not_bound_by_it r bound (o.within i r mine (ap (λ n. l.ring_of n i) (sym same) ∙ has)))
-  kept_finished r t i bound has (inl same) (inr differs) = sym (o.ring_of t i (λ at mine. differs mine)) ∙ has
-  kept_finished r t i bound has (inr differs) mine = sym (o.ring_of t i (λ at its. differs at)) ∙ has
 
   pub rings_finished : RingsBeside h k l c
   rings_finished = record {
@@ -72,7 +67,8 @@ module _ (h : Header) (is : IsHeader h) (k : Known) (d : DriverKeeps h k) (q : �
     standing = λ t n r bsr at has.
         subst (λ v. Standing (shape_of h r) (k.ring r) v) (sym (ring_same t 1 r (addresses_first t n bsr at) has)) (record { here = λ a b moves. moves; nothing = λ none. none });
     still = λ r bound. subst (λ v. PlacesStay (shape_of h r) (k.ring r) v) (sym (o.rings r (not_bound_by_it r bound))) (λ a b placed. placed);
-    kept = λ r t i bound has. kept_finished r t i bound has (cases_eq t s) (cases_part part i);
+    kept = λ r t i bound has.
+        sym (o.ring_of t i (λ same mine. not_bound_by_it r bound (o.within i r mine (ap (λ n. l.ring_of n i) (sym same) ∙ has)))) ∙ has;
   }
 
   context_finished : (n : ℕ) → commands.has_bad_context h k (Some n) ≡ false → commands.has_bad_context h l (Some n) ≡ false

@@ -1,6 +1,6 @@
 -- A Transfer Event keeps what is kept of unfinished commands
 use Rattle.std.proofs.Common.{◌≡◌, ◌≢◌, ◌==◌, ◌&&◌, ◌||◌, ◌∙◌, ℕ, not, Bool, true, false, nat_lt, Option, None, Some, arith, refl, sym, ap, subst, inl, inr, eqb-true, eq-eqb, ltb-true}
-use Rattle.safety.proofs.Words.{cases_Bool, cases_eq, and_from, and_parts, and_cases, or_parts, not-false, false≢true, Block, code, slot, endpoint, pointer, is_success, is_halting, is_trb_error, Spot, number, ceiling, is_data_below, is_stop_spot, cases_option, given_below, step_is, ceiling_within, below_is, IsAhead, named_ahead, Command, NoOp, EnableSlot, DisableSlot, AddressDevice, ConfigureEndpoint, EvaluateContext, ResetEndpoint, StopEndpoint, SetTrDequeue, ResetDevice, is_stop_of, EndpointState, Off, Running, Halted, Stopped, Error, is_off, is_running, is_at_rest, Header, IsHeader, shape_of, command_id, Known, RingSpot, event_at, command_at, next_command, transferred, transferred_at, transfer_read, is_in_profile, is_working, may_be_taken, is_stopping_now, can_report, can_report_at, is_impossible_transfer, IsDriverRing, IsUnfinished, Stays, DriverKeeps, CommandsKeep, binds_ring, drops, same_Some}
+use Rattle.safety.proofs.Words.{cases_Bool, cases_eq, and_parts, and_cases, or_parts, not-false, false≢true, Block, code, slot, endpoint, pointer, is_success, is_halting, is_trb_error, Spot, number, ceiling, is_data_below, is_stop_spot, cases_option, given_below, step_is, ceiling_within, below_is, IsAhead, named_ahead, Command, NoOp, EnableSlot, DisableSlot, AddressDevice, ConfigureEndpoint, EvaluateContext, ResetEndpoint, StopEndpoint, SetTrDequeue, ResetDevice, is_stop_of, EndpointState, Off, Running, Halted, Stopped, Error, is_off, is_running, is_at_rest, Header, IsHeader, shape_of, command_id, Known, RingSpot, event_at, command_at, next_command, transferred, transferred_at, transfer_read, is_in_profile, is_working, may_be_taken, is_stopping_now, can_report, can_report_at, is_impossible_transfer, IsDriverRing, IsUnfinished, Stays, DriverKeeps, CommandsKeep, binds_ring, drops, same_Some, and_from}
 use Rattle.safety.proofs.Headers.{ring_shape, transfer_driver, transfer_not_command}
 use Rattle.safety.proofs.NoWait.{ceiling_given}
 use Rattle.safety.proofs.SafeContext.{AtFloor, at_floor}
@@ -11,7 +11,7 @@ use Rattle.safety.proofs.SameDriver.{SameDriver, transfer_same}
 use Rattle.safety.proofs.TransferLeaves.{TransferLeaves, transferred_leaves}
 use Rattle.safety.proofs.MovesSame.{ahead_held, unfinished_view}
 use Rattle.safety.proofs.CommandsStay.{Standing, PlacesStay, MovesAhead, bound_still}
-use Rattle.safety.proofs.BoundRings.{drops_concerned, stops_drop_none}
+use Rattle.safety.proofs.BoundRings.{drops_concerns, stops_drop_none}
 use Rattle.safety.proofs.Concerned.{not_both}
 use Rattle.safety.proofs.CommandsSame.{SameStates, RingsStay, same_stay}
 
@@ -114,8 +114,7 @@ module _ (h : Header) (is : IsHeader h) (k : Known) (d : DriverKeeps h k) where
         let other = stopping_unfinished u e s i unfinished_at stopping in
         elim (cases_eq (next_command h k) u) [
           | inl same ↦ stops_drop_none k e s i s i drops_it (same_Some e (StopEndpoint s i) (sym unfinished_at.command ∙ ap (λ p. command_at h k p) (sym same) ∙ other.command))
-          | inr apart ↦
-              not_both (StopEndpoint s i) e s i ((d.unfinished u e unfinished_at).alone (next_command h k) (StopEndpoint s i) other apart) (refl, (refl, refl)) (drops_concerned k e s i drops_it)
+          | inr apart ↦ not_both (StopEndpoint s i) e s i ((d.unfinished u e unfinished_at).alone (next_command h k) (StopEndpoint s i) other apart) (refl, (refl, refl)) (drops_concerns k e s i drops_it)
         ]
 
     bound_none_reported : (c : ℕ) → can_report h k c s i r t ≡ true → ⊥

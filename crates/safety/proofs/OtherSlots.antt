@@ -1,6 +1,6 @@
 -- The success of a command leaves other slots, and the rings that it doesn't name; one of an endpoint leaves the slot's other endpoints too
-use Rattle.std.proofs.Common.{◌≡◌, ◌⊎◌, ◌==◌, ◌&&◌, ◌∷◌, ◌∙◌, ℕ, Bool, true, false, List, [], Option, None, Some, refl, sym, ap, subst, inl, ne_eqb}
-use Rattle.safety.proofs.Words.{cases_eq, cond_both, cond-false, and_left, none-some, put_pair, Spot, number, RingChange, Reaches, Holds, ceiling, target, Command, EndpointState, Off, Stopped, is_off, Change, SlotGoesOn, DeviceLeft, Disables, Places, Stops, Resets, Header, shape_of, ring_having, Known, on_ring, set_to, bound_to, moved_to, moved, pointed, disabled, in_state, held_at_ceiling, changed_by, changed_by_all}
+use Rattle.std.proofs.Common.{◌≡◌, ◌==◌, ◌&&◌, ◌∷◌, ◌∙◌, ℕ, Bool, true, false, List, [], Option, None, Some, refl, sym, ap, subst, ne_eqb}
+use Rattle.safety.proofs.Words.{cond_both, cond-false, and_left, none-some, put_pair, Spot, number, RingChange, Reaches, Holds, ceiling, target, Command, EndpointState, Off, Stopped, is_off, Change, SlotGoesOn, DeviceLeft, Disables, Places, Stops, Resets, Header, shape_of, ring_having, Known, on_ring, set_to, bound_to, moved_to, moved, pointed, disabled, in_state, held_at_ceiling, changed_by, changed_by_all}
 use Rattle.safety.proofs.DriverRows.{ring_elsewhere}
 use Rattle.safety.proofs.EndpointPut.{at_pair, at_number}
 
@@ -8,10 +8,6 @@ use Rattle.safety.proofs.EndpointPut.{at_pair, at_number}
 abbrev pub IsPart : Option ℕ → ℕ → Type 0
 IsPart None i = Unit {0}
 IsPart (Some j) i = i ≡ j
-
-pub cases_part : (part : Option ℕ) (i : ℕ) → IsPart part i ⊎ (IsPart part i → ⊥)
-cases_part None i = inl tt
-cases_part (Some j) i = cases_eq i j
 
 -- what the success of a command may have left as it was: all but slot s, or but this part of it, and but the rings of which B holds
 pub record OtherSlots (k l : Known) (s : ℕ) (part : Option ℕ) (B : ℕ → Type 0) : Type 0 where
