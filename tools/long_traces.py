@@ -8,6 +8,7 @@ FILE gets about LINES lines, 1,046,000 where that is left out. KIND says what mo
     rings      the same, in turn on 250 rings of 16 blocks
     laps       the same on one ring of 64 segments of 4 blocks, one lap after another
     contexts   Evaluate Context commands, each with an input context of its own among 64
+    areas      the same, beside 250 rings of 64 segments
     devices    slots that are enabled, addressed and disabled: 31 by turns
     moves      Set TR Dequeue commands, each past a block that was given on a ring of 64 segments
     soiled     writes to words that a controller has soiled
@@ -54,10 +55,10 @@ def on_rings(rings, segments, blocks, lines, rung, erdp_after):
     return run
 
 
-def contexts(lines):
-    run = Run(1, 1, 4096)
+def contexts(rings, segments, blocks, lines):
+    run = Run(rings, segments, blocks)
     run.start()
-    (slot, index, ring), = run.bind_all()
+    slot = run.bind_all()[0][0]
     at = [CONTEXTS + 0x100_0000 + number * 0x1000 for number in range(64)]
     for address in at:
         run.write(address + 4, 2)
@@ -127,7 +128,8 @@ def soiled(lines):
 
 KINDS = {'ring': lambda lines: on_rings(1, 64, 4096, lines, False, 65536), 'four': lambda lines: on_rings(4, 1, 16, lines, True, 1),
          'rings': lambda lines: on_rings(250, 1, 16, lines, True, 1), 'laps': lambda lines: on_rings(1, 64, 4, lines, True, 1),
-         'contexts': contexts, 'devices': devices, 'moves': moves, 'soiled': soiled}
+         'contexts': lambda lines: contexts(1, 1, 4096, lines), 'areas': lambda lines: contexts(250, 64, 16, lines),
+         'devices': devices, 'moves': moves, 'soiled': soiled}
 
 
 def main(words):

@@ -1,23 +1,25 @@
 ghost use Rattle.std.specs.Prelude.{◌≡◌, ℕ, ◌+◌, ◌*◌, ◌%◌, ◌^◌, ◌≤◌, false, nat_lt};
 ghost use Rattle.std.specs.List.{list_any};
-ghost use Rattle.segments.specs.Places.{overlap, touches};
-ghost use Rattle.traces.specs.Header.{touches_ring};
+ghost use Rattle.segments.specs.Places.{overlap};
+ghost use Rattle.traces.specs.Header.{IsHeader};
 ghost use Rattle.traces.specs.declared.header.Header.{Header};
 ghost use Rattle.ring_knowledge.specs.Known.{Known};
+ghost use Rattle.ring_finder.specs.Finding.{IsFinder};
 ghost use Rattle.ownership_rules.specs.Areas.{is_bad_area, is_soiled};
 ghost use Rattle.ownership_rules.specs.OpenLeases.{covers, device_ranges};
 ghost use Rattle.trace_record.specs.FollowsTrace.{FollowsTrace};
 
+use ring_finder::Finder;
 use trace_record::TraceRecord;
-use traces::{Header, Ring};
 
 /// Whether so many bytes from an address on end above 2^64, or touch a ring or a device context under lease, where no context,
 /// entry or table may lie (xHCI 6.1, 6.2.1, 6.2.5, 6.5).
-pub fn is_bad_area(header: &Header, t: &TraceRecord, from: u64, len: u64) -> bool
-    ensures rule { (k : Known) (memory : ℕ → ℕ) → FollowsTrace header.now k t.now memory → result ≡ is_bad_area header.now k from len }
+pub fn is_bad_area(finder: &Finder, t: &TraceRecord, from: u64, len: u64) -> bool
+    ensures rule { (h : Header) (k : Known) (memory : ℕ → ℕ) → IsHeader h → IsFinder h.rings finder.now → FollowsTrace h k t.now memory →
+        result ≡ is_bad_area h k from len }
     ensures inside { result ≡ false → from + len ≤ 2 ^ 64 }
 {
-    ends_above(from, len) || touches_ring(header, from, len) || touches_devices(t, from, len)
+    ends_above(from, len) || finder.touches(from, len) || touches_devices(t, from, len)
 }
 
 /// Whether one of the words that so many bytes from an address on have is soiled.
@@ -41,20 +43,6 @@ fn ends_above(from: u64, len: u64) -> bool
     ensures { result ≡ nat_lt (2 ^ 64) (from + len) }
 {
     u128::from(from) + u128::from(len) > 1 << 64
-}
-
-/// Whether so many bytes from an address on touch a declared segment.
-fn touches_ring(header: &Header, from: u64, len: u64) -> bool
-    ensures { result ≡ touches_ring header.now from len }
-{
-    any_touches(header.rings.as_slice(), from, len)
-}
-
-/// Whether so many bytes from an address on touch one of these rings.
-fn any_touches(rings: &[Ring], from: u64, len: u64) -> bool
-    ensures { result ≡ list_any (λ ring. touches ring.shape from len) rings.now }
-{
-    rings.iter().any(|ring| ring.shape.overlaps(from, len))
 }
 
 /// Whether `m` bytes from `a` on and `n` bytes from `b` on have a byte in common. Nothing wraps.

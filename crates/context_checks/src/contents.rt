@@ -1,7 +1,9 @@
 ghost use Rattle.std.specs.Prelude.{◌≡◌, ◌<◌, ◌≤◌};
 ghost use Rattle.commands.specs.States.{is_off};
+ghost use Rattle.traces.specs.Header.{IsHeader};
 ghost use Rattle.ring_knowledge.specs.Known.{Known};
 ghost use Rattle.device_record.specs.Devices.{FollowsDevices};
+ghost use Rattle.ring_finder.specs.Finding.{IsFinder};
 ghost use Rattle.trace_record.specs.FollowsTrace.{FollowsTrace};
 ghost use Rattle.trace_record.specs.Premises.{FitsMemory};
 ghost use Rattle.context_checks.specs.Contents.{adds_bad, has_bad_content_by, is_bad_added_in, lacks_control};
@@ -12,17 +14,21 @@ use commands::{Command, EndpointState};
 use contexts::InputContext;
 use device_record::DeviceRecord;
 use guest_memory::WordMemory;
+use ring_finder::Finder;
 use trace_record::TraceRecord;
 use traces::Header;
 
 /// Whether what the command's input context says breaks a rule (xHCI 4.6.5, 4.6.6).
 pub(crate) fn has_bad_content<M: WordMemory>(
     header: &Header,
+    finder: &Finder,
     t: &TraceRecord,
     memory: &M,
     command: &Command,
 ) -> bool
-    requires { FitsMemory header.now.context_size command.now }
+    requires headed { IsHeader header.now }
+    requires found { IsFinder header.now.rings finder.now }
+    requires fits { FitsMemory header.now.context_size command.now }
     ensures { (k : Known) → FollowsTrace header.now k t.now (M.words memory.now) → result ≡ has_bad_content_by header.now k (M.words memory.now) command.now }
 {
     match *command {
@@ -32,7 +38,7 @@ pub(crate) fn has_bad_content<M: WordMemory>(
             ..
         } => {
             lacks_control(&input_at(header, memory, input_context))
-                || takes_bad_device(header, t, memory, slot, input_context)
+                || takes_bad_device(header, finder, t, memory, slot, input_context)
         }
         Command::ConfigureEndpoint {
             slot,

@@ -1,8 +1,10 @@
 ghost use Rattle.std.specs.Prelude.{◌≡◌, ◌+◌, ◌%◌, ◌^◌, ◌≤◌, ◌==◌, ◌||◌, not, ℕ, None, IfSome};
 ghost use Rattle.guest_memory.specs.Memory.{long_at};
 ghost use Rattle.contexts.specs.Contexts.{slot_entry};
+ghost use Rattle.traces.specs.Header.{IsHeader};
 ghost use Rattle.ring_knowledge.specs.Known.{Known};
 ghost use Rattle.ring_knowledge.specs.Writes.{entry_of};
+ghost use Rattle.ring_finder.specs.Finding.{IsFinder};
 ghost use Rattle.ownership_rules.specs.Commands.{is_bad_device, takes_bad_device};
 ghost use Rattle.trace_record.specs.FollowsTrace.{FollowsTrace};
 
@@ -10,6 +12,7 @@ use crate::areas::{is_bad_area, is_soiled, overlap};
 use crate::input::{device_context_bytes, input_context_bytes};
 use crate::leases::is_in_range_lease;
 use guest_memory::{Addr, WordMemory};
+use ring_finder::Finder;
 use trace_record::TraceRecord;
 use traces::{Header, Register};
 
@@ -17,11 +20,14 @@ use traces::{Header, Register};
 /// the address of the command's input context (xHCI 4.6.5, 6.1, 6.2.1).
 pub(crate) fn takes_bad_device<M: WordMemory>(
     header: &Header,
+    finder: &Finder,
     t: &TraceRecord,
     memory: &M,
     slot: u8,
     context: u64,
 ) -> bool
+    requires headed { IsHeader header.now }
+    requires found { IsFinder header.now.rings finder.now }
     ensures { (k : Known) → FollowsTrace header.now k t.now (M.words memory.now) → result ≡ takes_bad_device header.now k slot context }
 {
     if t.devices.device(slot).is_some() {
@@ -33,19 +39,28 @@ pub(crate) fn takes_bad_device<M: WordMemory>(
     let Some(entry) = entry_at(dcbaap, slot) else {
         return true;
     };
-    is_bad_area(header, t, entry, 8)
+    is_bad_area(finder, t, entry, 8)
         || is_soiled(t, entry, 8)
-        || is_bad_device(header, t, entry, context, long_at(memory, entry))
+        || is_bad_device(header, finder, t, entry, context, long_at(memory, entry))
 }
 
 /// Whether a new device context, which the entry at this address names, lies where none may lie.
-fn is_bad_device(header: &Header, t: &TraceRecord, entry: u64, context: u64, device: u64) -> bool
+fn is_bad_device(
+    header: &Header,
+    finder: &Finder,
+    t: &TraceRecord,
+    entry: u64,
+    context: u64,
+    device: u64,
+) -> bool
+    requires headed { IsHeader header.now }
+    requires found { IsFinder header.now.rings finder.now }
     ensures { (k : Known) (memory : ℕ → ℕ) (slot : ℕ) → FollowsTrace header.now k t.now memory → entry ≡ entry_of k slot →
         result ≡ is_bad_device header.now k slot context device }
 {
     let len = device_context_bytes(header.context_size);
     is_no_context(device)
-        || is_bad_area(header, t, device, len)
+        || is_bad_area(finder, t, device, len)
         || is_in_range_lease(header, t, device, len)
         || overlap(device, len, entry, 8)
         || overlap(

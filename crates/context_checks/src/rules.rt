@@ -1,7 +1,9 @@
 ghost use Rattle.std.specs.Prelude.{◌≡◌, false, ℕ};
+ghost use Rattle.traces.specs.Header.{IsHeader};
 ghost use Rattle.commands.specs.Command.{named_context, named_endpoint, named_slot};
 ghost use Rattle.ring_knowledge.specs.Known.{Known};
 ghost use Rattle.device_record.specs.Devices.{FollowsDevices};
+ghost use Rattle.ring_finder.specs.Finding.{IsFinder};
 ghost use Rattle.ownership_rules.specs.Commands.{has_bad_context, is_bad_command, names_disabled_endpoint, names_disabled_slot};
 ghost use Rattle.trace_record.specs.FollowsTrace.{FollowsTrace};
 ghost use Rattle.trace_record.specs.Premises.{FitsMemory};
@@ -13,6 +15,7 @@ use crate::input::input_context_bytes;
 use commands::{Command, SlotState};
 use device_record::DeviceRecord;
 use guest_memory::WordMemory;
+use ring_finder::Finder;
 use trace_record::TraceRecord;
 use traces::Header;
 
@@ -20,18 +23,21 @@ use traces::Header;
 /// device context lies where none may lie, has a soiled word or says what it may not (xHCI 4.6, 6.1, 6.2).
 pub fn is_bad_command<M: WordMemory>(
     header: &Header,
+    finder: &Finder,
     t: &TraceRecord,
     memory: &M,
     command: &Command,
 ) -> bool
-    requires { IsAligned command.now }
+    requires headed { IsHeader header.now }
+    requires found { IsFinder header.now.rings finder.now }
+    requires aligned { IsAligned command.now }
     ensures rule { (k : Known) → FollowsTrace header.now k t.now (M.words memory.now) → result ≡ is_bad_command header.now k command.now }
     ensures inside { result ≡ false → FitsMemory header.now.context_size command.now }
 {
     names_disabled_slot(&t.devices, command)
         || names_disabled_endpoint(&t.devices, command)
-        || has_bad_context(header, t, command)
-        || has_bad_content(header, t, memory, command)
+        || has_bad_context(header, finder, t, command)
+        || has_bad_content(header, finder, t, memory, command)
 }
 
 #[tactic(auto, unfolding(ownership_rules::specs::Commands::names_disabled_slot))]
@@ -55,8 +61,10 @@ fn names_disabled_endpoint(devices: &DeviceRecord, command: &Command) -> bool
 }
 
 /// Whether the command's input context lies where none may lie, or has a soiled word.
-fn has_bad_context(header: &Header, t: &TraceRecord, command: &Command) -> bool
-    requires { IsAligned command.now }
+fn has_bad_context(header: &Header, finder: &Finder, t: &TraceRecord, command: &Command) -> bool
+    requires headed { IsHeader header.now }
+    requires found { IsFinder header.now.rings finder.now }
+    requires aligned { IsAligned command.now }
     ensures rule { (k : Known) (memory : ℕ → ℕ) → FollowsTrace header.now k t.now memory → result ≡ has_bad_context header.now k (named_context command.now) }
     ensures inside { result ≡ false → FitsMemory header.now.context_size command.now }
 {
@@ -64,5 +72,5 @@ fn has_bad_context(header: &Header, t: &TraceRecord, command: &Command) -> bool
         return false;
     };
     let len = input_context_bytes(header.context_size);
-    is_bad_area(header, t, address, len) || is_soiled(t, address, len)
+    is_bad_area(finder, t, address, len) || is_soiled(t, address, len)
 }

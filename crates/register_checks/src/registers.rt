@@ -89,7 +89,7 @@ fn is_bad_register<M: WordMemory>(
         Register::Erstba => is_again(
             registers,
             Register::Erstba,
-            is_bad_table(header, t, memory, value / 64 * 64),
+            is_bad_table(header, finder, t, memory, value / 64 * 64),
         ),
         _ => false,
     }
@@ -241,8 +241,15 @@ fn is_bad_size(t: &TraceRecord, value: u64) -> bool
 }
 
 /// Whether the segment table is named before ERSTSZ is written, or where that is wrong, or isn't that of the event ring, or lies where none may lie.
-fn is_bad_table<M: WordMemory>(header: &Header, t: &TraceRecord, memory: &M, base: u64) -> bool
+fn is_bad_table<M: WordMemory>(
+    header: &Header,
+    finder: &Finder,
+    t: &TraceRecord,
+    memory: &M,
+    base: u64,
+) -> bool
     requires headed { IsHeader header.now }
+    requires found { IsFinder header.now.rings finder.now }
     requires aligned { base % 4 ≡ 0 }
     ensures { (k : Known) → FollowsTrace header.now k t.now (M.words memory.now) → IsSetUp header.now k →
         result ≡ (is_unwritten k Register.Erstsz || (is_wrong_size header.now k || is_bad_table header.now k base)) }
@@ -254,7 +261,7 @@ fn is_bad_table<M: WordMemory>(header: &Header, t: &TraceRecord, memory: &M, bas
         return true;
     }
     match &t.events {
-        Some(events) => is_bad_place(header, t, memory, base, events.shape()),
+        Some(events) => is_bad_place(header, finder, t, memory, base, events.shape()),
         None => true,
     }
 }
@@ -262,18 +269,20 @@ fn is_bad_table<M: WordMemory>(header: &Header, t: &TraceRecord, memory: &M, bas
 /// Whether the table at an address isn't that of the event ring, which has this shape, or lies where none may lie (xHCI 6.5).
 fn is_bad_place<M: WordMemory>(
     header: &Header,
+    finder: &Finder,
     t: &TraceRecord,
     memory: &M,
     base: u64,
     shape: &RingShape,
 ) -> bool
     requires headed { IsHeader header.now }
+    requires found { IsFinder header.now.rings finder.now }
     requires aligned { base % 4 ≡ 0 }
     ensures { (k : Known) → FollowsTrace header.now k t.now (M.words memory.now) → IsEventRing header.now shape.now → result ≡ is_bad_table header.now k base }
 {
     match u16::try_from(shape.segments().len()) {
         Ok(size) => {
-            is_bad_area(header, t, base, 16 * u64::from(size))
+            is_bad_area(finder, t, base, 16 * u64::from(size))
                 || EventPlace::table_fault(memory, base, size, shape)
         }
         Err(_) => true,

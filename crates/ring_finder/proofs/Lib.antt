@@ -3,6 +3,7 @@ pub mod RingsApart
 pub mod HeaderRings
 pub mod Numbers
 pub mod Starts
+pub mod TouchedSegments
 pub mod FoundRings
 pub mod HavingRings
 pub mod Words

@@ -31,7 +31,7 @@ single y x (suc k, h, e) = absurd (omega arith)
 
 -- the starts of one ring lie inside it
 starts_inside : (m : ℕ) (segments : List Segment) → ((j : ℕ) → j < length segments → 1 ≤ (segment_at segments j).count) → (x : Start) → Contains (map (start_of m) segments) x →
-    (x.ring ≡ m) × (list_any (segment_has x.address) segments ≡ true)
+    (x.ring ≡ m) × (list_any (segment_has x.address) segments ≡ true) × (0 < x.bytes)
 starts_inside m [] some x (k, h, e) = absurd (omega arith)
 starts_inside m (s ∷ rest) some x within = elim (Contains-append_cases (start_of m s ∷ []) (map (start_of m) rest) x within) [
   | inl first ↦
@@ -39,10 +39,11 @@ starts_inside m (s ∷ rest) some x within = elim (Contains-append_cases (start_
       let blocks = some 0 (omega arith) in
       let begins : segment_has s.base s ≡ true = is_in-true s.base s.base (16 * s.count) (omega arith) (omega (arith, blocks)) in
       let here : list_any (segment_has s.base) (s ∷ rest) ≡ true = rw begins refl in
-      (ap (λ (y : Start). y.ring) (sym same), ap (λ (y : Start). list_any (segment_has y.address) (s ∷ rest)) (sym same) ∙ here)
+      let long : 16 * s.count ≡ x.bytes = ap (λ (y : Start). y.bytes) same in
+      (ap (λ (y : Start). y.ring) (sym same), ap (λ (y : Start). list_any (segment_has y.address) (s ∷ rest)) (sym same) ∙ here, omega (arith, blocks, long))
   | inr later ↦
       let there = starts_inside m rest (λ j l. some (suc j) (omega arith)) x later in
-      (there.0, ap (λ b. segment_has x.address s || b) there.1 ∙ or_true (segment_has x.address s))
+      (there.0, ap (λ b. segment_has x.address s || b) there.1 ∙ or_true (segment_has x.address s), there.2)
 ]
 
 -- and each byte of a ring lies behind a start, in one segment
@@ -83,16 +84,17 @@ record StartOf (m : ℕ) (rs : List Ring) (x : Start) : Type 0 where
   at : slice_get rs number ≡ Some ring
   numbered : x.ring ≡ m + number
   inside : is_inside ring.shape x.address ≡ true
+  some : 0 < x.bytes
 
 all_inside : (m : ℕ) (rs : List Ring) → ((i : ℕ) (r : Ring) → slice_get rs i ≡ Some r → IsShape r.shape) → (x : Start) → Contains (starts_from m rs) x → StartOf m rs x
 all_inside m [] allowed x (k, h, e) = absurd (omega arith)
 all_inside m (r ∷ rest) allowed x within = elim (Contains-append_cases (map (start_of m) r.shape.segments) (starts_from (m + 1) rest) x within) [
   | inl first ↦
       let here = starts_inside m r.shape.segments (λ j l. let blocks = ((shape_facts r.shape (allowed 0 r refl)).each j l).blocks in omega (arith, blocks)) x first in
-      record { number = 0; ring = r; at = refl; numbered = here.0 ∙ sym (add-zero m); inside = here.1 }
+      record { number = 0; ring = r; at = refl; numbered = here.0 ∙ sym (add-zero m); inside = here.1; some = here.2 }
   | inr later ↦
       let there = all_inside (m + 1) rest (λ i q e. allowed (suc i) q e) x later in
-      record { number = suc there.number; ring = there.ring; at = there.at; numbered = omega (arith, there.numbered); inside = there.inside }
+      record { number = suc there.number; ring = there.ring; at = there.at; numbered = omega (arith, there.numbered); inside = there.inside; some = there.some }
 ]
 
 all_before : (m : ℕ) (rs : List Ring) (i : ℕ) (r : Ring) (a : ℕ) → slice_get rs i ≡ Some r → is_inside r.shape a ≡ true → Behind (m + i) (λ b. is_inside r.shape b) (starts_from m rs) a
@@ -148,7 +150,7 @@ module _ (starts : List Start) (sorted : IsNonDecreasingBy (λ s. s.address) sta
       ]
 
 module _ (h : Header) (headed : IsHeader h) (f : Finder) (is : IsFinder h.rings f) where
-  allowed_at : (i : ℕ) (r : Ring) → slice_get h.rings i ≡ Some r → IsShape r.shape
+  pub allowed_at : (i : ℕ) (r : Ring) → slice_get h.rings i ≡ Some r → IsShape r.shape
   allowed_at i r at = shape_allowed h headed r (among_at h.rings i r at)
 
   -- a start has the number of a ring, and lies in it
@@ -160,6 +162,9 @@ module _ (h : Header) (headed : IsHeader h) (f : Finder) (is : IsFinder h.rings 
   number_below y within =
       let there = start_is y within in
       omega (arith, there.numbered, slice_get_within h.rings there.number there.ring there.at)
+
+  pub bytes_some : (y : Start) → Contains f.starts.items y → 0 < y.bytes
+  bytes_some y within = (start_is y within).some
 
   module _ (a : ℕ) (aligned : a % 4 ≡ 0) where
     inside_is : (i : ℕ) (r : Ring) → slice_get h.rings i ≡ Some r → touches r.shape a 4 ≡ is_inside r.shape a

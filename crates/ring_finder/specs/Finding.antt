@@ -1,5 +1,5 @@
 -- What finds a header's rings by ID and by address
-use Rattle.std.specs.Prelude.{◌≡◌, ℕ, ◌+◌, ◌<◌, ◌≤◌, List, [], ◌∷◌, ◌++◌, length, map, Option, Some, None, slice_get, slice_index_or, position}
+use Rattle.std.specs.Prelude.{◌≡◌, ℕ, ◌+◌, ◌*◌, ◌<◌, ◌≤◌, List, [], ◌∷◌, ◌++◌, length, map, Option, Some, None, slice_get, slice_index_or, position}
 use Rattle.std.specs.List.{Contains}
 use Rattle.std.specs.List.Sorted.{IsNonDecreasingBy, IsPermutation}
 use Rattle.segments.specs.declared.segment.Segment.{Segment}
@@ -8,9 +8,9 @@ use Rattle.traces.specs.Header.{is_command_kind}
 use Rattle.ring_finder.specs.declared.finder.Start.{Start}
 use Rattle.ring_finder.specs.declared.finder.Finder.{Finder}
 
--- where a segment of ring n starts
+-- where a segment of ring n starts, and how many bytes it has
 abbrev pub start_of : ℕ → Segment → Start
-start_of n s = record { address = s.base; ring = n }
+start_of n s = record { address = s.base; bytes = 16 * s.count; ring = n }
 
 -- where the segments of rings start; the first ring has number n
 abbrev pub starts_from : ℕ → List Ring → List Start

@@ -8,10 +8,11 @@ use crate::kinds::{is_command_ring, is_transfer_ring};
 use std::alloc::{AllocError, Global};
 use traces::{Header, Ring};
 
-/// The first address of a segment, and the number of its ring in the header.
+/// The first address of a segment, how many bytes it has, and the number of its ring in the header.
 #[derive(Clone, Copy)]
 pub struct Start {
     pub address: u64,
+    pub bytes: u64,
     pub ring: usize,
 }
 
@@ -141,6 +142,7 @@ fn push_starts(starts: &mut Vec<Start>, ring: &Ring, number: usize) -> Result<()
     for segment in ring.shape.segments() {
         starts.push(Start {
             address: segment.base,
+            bytes: 16 * u64::from(segment.count),
             ring: number,
         })?;
     }

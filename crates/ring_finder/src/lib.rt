@@ -3,6 +3,7 @@
 
 mod finder;
 mod kinds;
+mod touching;
 
 pub use finder::Finder;
 pub use kinds::{is_command_ring, is_event_ring};

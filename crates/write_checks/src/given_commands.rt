@@ -82,7 +82,7 @@ pub fn command_refusal<M: WordMemory>(
         result ≡ first_broken (command_tests header.now k command.now) }
     ensures fits { IfNone result (FitsMemory header.now.context_size command.now) }
 {
-    if is_bad_command(header, t, memory, command) {
+    if is_bad_command(header, finder, t, memory, command) {
         return Some(Refusal::BadCommand);
     }
     if has_busy_slot(header, t, command) {

@@ -8,11 +8,11 @@ use Rattle.context_checks.proofs.NamedContexts.{configure_names}
 use Rattle.context_checks.proofs.contents.has_bad_content.Goals as goal
 
 pub input_at-requires-clause-inside : goal.input_at-requires-clause-inside
-input_at-requires-clause-inside g c = (c.requires _ (ap named_context c.in-AddressDevice.is)).1
+input_at-requires-clause-inside g c = (c.requires.fits _ (ap named_context c.in-AddressDevice.is)).1
 
 pub input_at-requires-then-not-deconfigure-clause-inside : goal.input_at-requires-then-not-deconfigure-clause-inside
 input_at-requires-then-not-deconfigure-clause-inside g c =
-    (c.requires _ (configure_names _ _ _ _ c.in-ConfigureEndpoint.is c.if-not-deconfigure.true)).1
+    (c.requires.fits _ (configure_names _ _ _ _ c.in-ConfigureEndpoint.is c.if-not-deconfigure.true)).1
 
 pub returns-then-lacks_control : goal.returns-then-lacks_control
 returns-then-lacks_control g c = λ k f.

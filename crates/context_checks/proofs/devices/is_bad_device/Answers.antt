@@ -15,7 +15,7 @@ returns-then-overlap c = λ k memory slot f at.
     let one : c.if-is_no_context.value ≡ (c.args.device == 0 || not (c.args.device % 64 == 0) || is_bad_area c.args.header.now k c.args.device (device_context_bytes c.args.header.now.context_size)) =
     elim c.if-is_no_context.branch [
       | then-is_no_context w ↦ w.value-is ∙ stops _ _ _ c.is_no_context.ensures w.if-is_no_context.true
-      | else-is_no_context w ↦ w.value-is ∙ goes_on _ _ _ _ c.is_no_context.ensures w.if-is_no_context.false (w.is_bad_area.ensures.rule k memory f ∙ ap (is_bad_area c.args.header.now k c.args.device) c.device_context_bytes-len.ensures)
+      | else-is_no_context w ↦ w.value-is ∙ goes_on _ _ _ _ c.is_no_context.ensures w.if-is_no_context.false (w.is_bad_area.ensures.rule _ k memory c.requires.headed c.requires.found f ∙ ap (is_bad_area c.args.header.now k c.args.device) c.device_context_bytes-len.ensures)
     ]
     in
     let two : c.if-is_bad_area.value ≡ (c.args.device == 0 || not (c.args.device % 64 == 0) || is_bad_area c.args.header.now k c.args.device (device_context_bytes c.args.header.now.context_size) || is_in_range_lease c.args.header.now k c.args.device (device_context_bytes c.args.header.now.context_size)) =
@@ -38,7 +38,7 @@ returns-else-overlap c = λ k memory slot f at.
     let one : c.if-is_no_context.value ≡ (c.args.device == 0 || not (c.args.device % 64 == 0) || is_bad_area c.args.header.now k c.args.device (device_context_bytes c.args.header.now.context_size)) =
     elim c.if-is_no_context.branch [
       | then-is_no_context w ↦ w.value-is ∙ stops _ _ _ c.is_no_context.ensures w.if-is_no_context.true
-      | else-is_no_context w ↦ w.value-is ∙ goes_on _ _ _ _ c.is_no_context.ensures w.if-is_no_context.false (w.is_bad_area.ensures.rule k memory f ∙ ap (is_bad_area c.args.header.now k c.args.device) c.device_context_bytes-len.ensures)
+      | else-is_no_context w ↦ w.value-is ∙ goes_on _ _ _ _ c.is_no_context.ensures w.if-is_no_context.false (w.is_bad_area.ensures.rule _ k memory c.requires.headed c.requires.found f ∙ ap (is_bad_area c.args.header.now k c.args.device) c.device_context_bytes-len.ensures)
     ]
     in
     let two : c.if-is_bad_area.value ≡ (c.args.device == 0 || not (c.args.device % 64 == 0) || is_bad_area c.args.header.now k c.args.device (device_context_bytes c.args.header.now.context_size) || is_in_range_lease c.args.header.now k c.args.device (device_context_bytes c.args.header.now.context_size)) =

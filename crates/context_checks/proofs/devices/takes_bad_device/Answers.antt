@@ -45,7 +45,7 @@ returns-then-is_soiled g c = λ k f.
     let dcbaap : k.register Dcbaap ≡ Some c.in-Some.dcbaap = sym (c.value.ensures k f.registers) ∙ c.in-Some.is in
     let written : false ≡ is_none (k.register Dcbaap) = sym (ap is_none dcbaap) in
     let at : c.in-Some-entry_at.entry ≡ entry_of k c.args.slot = c.in-Some-entry_at.ensures.found ∙ sym (ap (λ o. slot_entry (unwrap_or o 0) c.args.slot) dcbaap) in
-    let bad : c.is_bad_area.result ≡ is_bad_area h k (entry_of k c.args.slot) 8 = c.is_bad_area.ensures.rule k _ f ∙ ap (λ e. is_bad_area h k e 8) at in
+    let bad : c.is_bad_area.result ≡ is_bad_area h k (entry_of k c.args.slot) 8 = c.is_bad_area.ensures.rule h k _ c.requires.headed c.requires.found f ∙ ap (λ e. is_bad_area h k e 8) at in
     let entry : c.if-is_bad_area.value ≡ has_bad_entry h k c.args.slot =
     elim c.if-is_bad_area.branch [
       | then-is_bad_area w ↦ w.value-is ∙ stops _ _ _ bad w.if-is_bad_area.true
@@ -62,7 +62,7 @@ returns-else-is_soiled g c = λ k f.
     let dcbaap : k.register Dcbaap ≡ Some c.in-Some.dcbaap = sym (c.value.ensures k f.registers) ∙ c.in-Some.is in
     let written : false ≡ is_none (k.register Dcbaap) = sym (ap is_none dcbaap) in
     let at : c.in-Some-entry_at.entry ≡ entry_of k c.args.slot = c.in-Some-entry_at.ensures.found ∙ sym (ap (λ o. slot_entry (unwrap_or o 0) c.args.slot) dcbaap) in
-    let bad : c.is_bad_area.result ≡ is_bad_area h k (entry_of k c.args.slot) 8 = c.is_bad_area.ensures.rule k _ f ∙ ap (λ e. is_bad_area h k e 8) at in
+    let bad : c.is_bad_area.result ≡ is_bad_area h k (entry_of k c.args.slot) 8 = c.is_bad_area.ensures.rule h k _ c.requires.headed c.requires.found f ∙ ap (λ e. is_bad_area h k e 8) at in
     let entry : c.if-is_bad_area.value ≡ has_bad_entry h k c.args.slot =
     elim c.if-is_bad_area.branch [
       | then-is_bad_area w ↦ w.value-is ∙ stops _ _ _ bad w.if-is_bad_area.true

@@ -11,12 +11,12 @@ returns-in_default-clause-rule c = λ k memory f. sym (ap (has_bad_context c.arg
 pub returns-then-is_bad_area-clause-rule : goal.returns-then-is_bad_area-clause-rule
 unfolding has_bad_context
 returns-then-is_bad_area-clause-rule c = λ k memory f.
-    stops _ _ _ (c.is_bad_area.ensures.rule k memory f ∙ ap (is_bad_area c.args.header.now k c.in-Some.address) c.input_context_bytes-len.ensures) c.if-is_bad_area.true
+    stops _ _ _ (c.is_bad_area.ensures.rule _ k memory c.requires.headed c.requires.found f ∙ ap (is_bad_area c.args.header.now k c.in-Some.address) c.input_context_bytes-len.ensures) c.if-is_bad_area.true
     ∙ sym (ap (has_bad_context c.args.header.now k) (sym c.input_context.ensures ∙ c.in-Some.is))
 
 pub returns-else-is_bad_area-clause-rule : goal.returns-else-is_bad_area-clause-rule
 unfolding has_bad_context
 returns-else-is_bad_area-clause-rule c = λ k memory f.
-    goes_on _ _ _ _ (c.is_bad_area.ensures.rule k memory f ∙ ap (is_bad_area c.args.header.now k c.in-Some.address) c.input_context_bytes-len.ensures) c.if-is_bad_area.false
+    goes_on _ _ _ _ (c.is_bad_area.ensures.rule _ k memory c.requires.headed c.requires.found f ∙ ap (is_bad_area c.args.header.now k c.in-Some.address) c.input_context_bytes-len.ensures) c.if-is_bad_area.false
     (c.is_soiled.ensures _ k memory f ∙ ap (is_soiled k c.in-Some.address) c.input_context_bytes-len.ensures)
     ∙ sym (ap (has_bad_context c.args.header.now k) (sym c.input_context.ensures ∙ c.in-Some.is))

@@ -8,8 +8,8 @@ use Rattle.context_checks.proofs.Chains.{goes_on, stops}
 use Rattle.context_checks.proofs.rules.is_bad_command.Goals as goal
 use Rattle.context_checks.proofs.rules.is_bad_command.Goals.{then-names_disabled_slot, else-names_disabled_slot, then-names_disabled_endpoint, else-names_disabled_endpoint}
 
-pub has_bad_content-requires : goal.has_bad_content-requires
-has_bad_content-requires g c =
+pub has_bad_content-requires-clause-fits : goal.has_bad_content-requires-clause-fits
+has_bad_content-requires-clause-fits g c =
     elim c.if-names_disabled_endpoint.branch [
       | then-names_disabled_endpoint w ↦ absurd (false≢true (sym c.if-has_bad_context.false ∙ w.value-is ∙ w.if-names_disabled_endpoint.true))
       | else-names_disabled_endpoint w ↦ w.has_bad_context.ensures.inside (sym w.value-is ∙ c.if-has_bad_context.false)

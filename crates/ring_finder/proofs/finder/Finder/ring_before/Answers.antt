@@ -15,7 +15,7 @@ returns-clause-below c =
     let same = c.as_slice-starts.ensures.value in
     let bound : c.partition_point-after.result ≤ length c.args.self.now.starts.items = omega (arith, c.partition_point-after.ensures.bound, ap length same) in
     let some : 0 < c.partition_point-after.result = omega (arith, c.if-after-eq0.false) in
-    let d : Start = record { address = 0; ring = 0 } in
+    let d : Start = record { address = 0; bytes = 0; ring = 0 } in
     rw same
     (number_below c.args.header.now c.requires.headed c.args.self.now c.requires.found (get_or c.args.self.now.starts.items (c.partition_point-after.result - 1) d)
     (Contains-get_or c.args.self.now.starts.items (c.partition_point-after.result - 1) d (omega arith)))
@@ -29,5 +29,5 @@ returns-clause-last c =
     let same = c.as_slice-starts.ensures.value in
     let bound : c.partition_point-after.result ≤ length c.args.self.now.starts.items = omega (arith, c.partition_point-after.ensures.bound, ap length same) in
     let some : 0 < c.partition_point-after.result = omega (arith, c.if-after-eq0.false) in
-    let d : Start = record { address = 0; ring = 0 } in
+    let d : Start = record { address = 0; bytes = 0; ring = 0 } in
     rw same (last_before c.args.self.now.starts.items c.requires.found.sorted c.args.address c.partition_point-after.result point some bound d)
