@@ -4,7 +4,7 @@ use Rattle.std.specs.List.{list_any, list_all}
 use Rattle.trb.specs.declared.ring_kind.RingKind.{RingKind}
 use Rattle.trb.specs.declared.ring_kind.RingKind.TheVariants.{Cmd, Evt, Xfer}
 use Rattle.segments.specs.ShapeValue.{Shape}
-use Rattle.segments.specs.Places.{place_count, address_of, is_inside, touches}
+use Rattle.segments.specs.Places.{place_count, is_inside, touches}
 use Rattle.segments.specs.Shape.{is_shape, rings_overlap}
 use Rattle.traces.specs.declared.ring.Ring.{Ring}
 use Rattle.traces.specs.declared.header.Header.{Header}
@@ -92,10 +92,6 @@ driver_rings h = filter (λ r. is_driver_kind r.shape.kind) h.rings
 abbrev pub id_of : Option Ring → Option ℕ
 id_of None = None
 id_of (Some r) = Some r.id
-
--- the transfer ring whose first block lies at this address
-unfoldable pub ring_beginning_at : Header → ℕ → Option ℕ
-ring_beginning_at h address = id_of (find (λ r. is_transfer_kind r.shape.kind && address_of r.shape 0 == address) h.rings)
 
 -- the transfer ring that has a block at this address
 unfoldable pub ring_having : Header → ℕ → Option ℕ

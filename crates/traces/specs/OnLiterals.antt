@@ -3,5 +3,5 @@ use Rattle.std.specs.Prelude.{⊤}
 use Rattle.traces.specs.Header as of_header
 
 unfoldable pub header_on_literals : ⊤
-unfolding of_header.shape_of of_header.command_ring of_header.event_ring of_header.command_id of_header.event_shape of_header.event_size of_header.driver_rings of_header.ring_beginning_at of_header.ring_having of_header.touches_ring of_header.some_ring
+unfolding of_header.shape_of of_header.command_ring of_header.event_ring of_header.command_id of_header.event_shape of_header.event_size of_header.driver_rings of_header.ring_having of_header.touches_ring of_header.some_ring
 header_on_literals = tt
