@@ -40,7 +40,7 @@ def halves(number):
 class Driver:
     def __init__(self, seed):
         self.pick = random.Random(seed)
-        self.trace = Trace(self.pick.choice([1, 2, 3]), self.pick.choice([32, 64]), self.some_rings(), 0, [])
+        self.trace = Trace(self.pick.choice([1, 2, 3, 3]), self.pick.choice([32, 64]), self.some_rings(), 0, [])
         self.trace.first = 3 + len(self.trace.rings)
         self.array = ARRAY if self.pick.random() < 0.9 else self.odd_address(64)
         self.before = []
@@ -121,12 +121,12 @@ class Driver:
         self.give_blocks(ring, order[:self.pick.choice([1, 3, 8])])
 
     def give_all(self, ring):
-        """Gives what is declared and isn't given, the Links before it."""
+        """Gives what is declared and isn't given, the last block first, the Links before that."""
         waiting = [p for p in range(self.known.floor(ring).number, self.known.declared(ring)) if not self.known.is_given(ring, p)]
         for crossing in self.known.due_crossings(ring):
             if crossing <= max(waiting, default=-1) + 1 and not self.known.is_crossing_given(ring, crossing):
                 self.give_link(ring, crossing)
-        self.give_blocks(ring, waiting)
+        self.give_blocks(ring, waiting[::-1])
 
     def give_blocks(self, ring, positions):
         for position in positions:
@@ -166,7 +166,7 @@ class Driver:
         number = 0
         if kind in (ADDRESS_DEVICE, CONFIGURE_ENDPOINT, EVALUATE_CONTEXT):
             number = self.some_address(INPUT_CONTEXTS, 16)
-            self.write_context(kind, slot, number)
+            self.write_context(kind, slot, endpoint, number)
         if kind == SET_TR_DEQUEUE:
             number = self.some_target(slot, endpoint)
         if kind == ADDRESS_DEVICE and self.known.device(slot) is None:
@@ -200,14 +200,19 @@ class Driver:
         """An endpoint is dropped and added, mostly where its own ring stands, or where one stands that no endpoint has; before that it is mostly stopped."""
         self.finish_all()
         slot, index = self.some_enabled_endpoint()
+        if self.pick.random() < 0.6:
+            self.try_step(lambda driver: driver.end_all(slot, index))
         if self.known.endpoint_state(slot, index) == 'Running' and self.pick.random() < 0.5:
             self.try_step(lambda driver: driver.whole_command(STOP_ENDPOINT, slot, index))
         self.whole_command(CONFIGURE_ENDPOINT, slot, index)
 
     def finish_all(self):
-        """Mostly the completions of all unfinished commands are read."""
-        for _ in self.known.unfinished_positions if self.pick.random() < 0.8 else []:
-            self.try_step(Driver.completion)
+        """Mostly what is declared on the command ring is given, and the completions of all commands are read."""
+        if self.pick.random() < 0.8:
+            self.try_step(lambda driver: driver.give_all(driver.trace.command_ring))
+            self.try_step(lambda driver: driver.make(Doorbell(0, 0)))
+            for _ in 2 * self.known.unfinished_positions:
+                self.try_step(lambda driver: driver.completion([1, 1, 1, 1, 1, 11]))
         self.try_step(Driver.read_all)
 
     def whole_command(self, kind, slot, index):
@@ -248,8 +253,10 @@ class Driver:
         spot = self.pick.choice(spots)
         return ring.spot_address(spot) | ring.spot_cycle(spot)
 
-    def write_context(self, kind, slot, context):
+    def write_context(self, kind, slot, endpoint, context):
         added = [1] if kind == ADDRESS_DEVICE else [i for i in (2, 3) if self.pick.random() < 0.6]
+        if self.trace.version == 3 and kind == CONFIGURE_ENDPOINT and endpoint > 1 and self.pick.random() < 0.6:
+            added = [endpoint]
         dropped = [i for i in (2, 3) if kind != ADDRESS_DEVICE and self.pick.random() < self.drops(slot, i, i in added)]
         self.write(context, sum(1 << i for i in dropped), sum(1 << i for i in [0, *added]))
         for index in added:
@@ -317,11 +324,11 @@ class Driver:
     def event(self, number, code, low):
         self.make(Event((*halves(number), code << 24, low | self.trace.event_ring.cycle(self.known.reads))))
 
-    def completion(self):
+    def completion(self, codes=(*[1] * 9, 11)):
         ring = self.trace.command_ring
         command = self.known.command_at(self.known.next_command)
         slot = command.slot if command and command.type != ENABLE_SLOT else self.pick.choice(SLOTS)
-        self.event(ring.address(self.known.next_command), self.pick.choice([1] * 9 + [11]), COMMAND_COMPLETION << 10 | slot << 24)
+        self.event(ring.address(self.known.next_command), self.pick.choice(codes), COMMAND_COMPLETION << 10 | slot << 24)
 
     def transfer(self):
         self.transfer_of(*self.some_enabled_endpoint(), [1, 1, 1, 1, 13, 6, 5, 26, 27])
@@ -347,6 +354,7 @@ class Driver:
     def prepare(self):
         """A slot with endpoints, whose rings have gone round up to twice."""
         for _ in range(20):
+            self.finish_all()
             slot = max(SLOTS, key=lambda number: self.known.slot_state(number) != 'Disabled')
             kind = {'Disabled': ENABLE_SLOT, 'Enabled': ADDRESS_DEVICE, 'Default': ADDRESS_DEVICE}.get(self.known.slot_state(slot), CONFIGURE_ENDPOINT)
             if any(self.known.endpoint_state(slot, index) == 'Disabled' for index in (1, 2, 3)):
@@ -364,6 +372,12 @@ class Driver:
         self.event(ring.address(self.known.declared(ring) - 1), 1, TRANSFER_EVENT << 10 | slot << 24 | index << 16)
         self.read_all()
 
+    def end_all(self, slot, index):
+        """The last block that was given is done."""
+        ring = self.known.ring_of(slot, index)
+        if ring and self.known.floor(ring).number < self.known.given_count(ring):
+            self.event(ring.address(self.known.given_count(ring) - 1), 1, TRANSFER_EVENT << 10 | slot << 24 | index << 16)
+
     def read_all(self):
         self.make(Register('erdp', self.trace.event_ring.address(self.known.reads) | 8))
 
@@ -372,7 +386,7 @@ class Driver:
     STEPS = [(command, 30), (descriptor, 20), (give_some, 8), (doorbell, 12), (stray_write, 4), (clear_device_context, 1),
              (completion, 25), (transfer, 30), (other_event, 1), (read_on, 8)]
     # of version 3 besides
-    LATER_STEPS = [(suspend, 12), (bind_anew, 14)]
+    LATER_STEPS = [(suspend, 14), (bind_anew, 30)]
 
     def try_step(self, step):
         """A step one of whose rows is dropped is mostly dropped whole."""
