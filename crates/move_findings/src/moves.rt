@@ -483,8 +483,8 @@ fn note_standing(
             "set DCS, bit 0 of the TR Dequeue Pointer, to that",
         );
     }
-    let (address, dcs) = (ring.shape.address(floor), u8::from(ring.shape.cycle(floor)));
-    if known.may_be_bound(&ring.shape, address, dcs == 1) {
+    if let Some((address, cycle)) = standing_at(ring, known) {
+        let dcs = u8::from(cycle);
         let note = format!(in case.alloc; "ring {id:02x} stands at {address:016x}, DCS {dcs}")?;
         finding.note(note)?;
         return finding.help(
@@ -493,6 +493,24 @@ fn note_standing(
         );
     }
     note_between(case, finding, ring, floor)
+}
+
+/// The pointer and the cycle state with which an endpoint may be bound to a ring: at the TRB where it stands, or at the Link TRB before
+/// that one.
+fn standing_at(ring: &Ring, known: &RingRecord) -> Option<(u64, bool)> {
+    let floor = known.floor_number();
+    let shape = &ring.shape;
+    let (address, cycle) = (shape.address(floor), shape.cycle(floor));
+    if known.may_be_bound(shape, address, cycle) {
+        return Some((address, cycle));
+    }
+    let segment = shape.crossing(floor)?;
+    let (address, cycle) = (shape.link(segment), shape.cycle(floor.saturating_sub(1)));
+    if known.may_be_bound(shape, address, cycle) {
+        Some((address, cycle))
+    } else {
+        None
+    }
 }
 
 /// Why a ring can't go on where it stands still.

@@ -78,7 +78,7 @@ module _ (h : Header) (k : Known) (a w : ℕ) (r : Ring) where
 
 module _ (h : Header) (headed : IsHeader h) (k : Known) (on : k.stopped ≡ false) (a w : ℕ) where
   -- the rules of the trace's version
-  abbrev version_tests_with : Bool → Bool → List Test
+  abbrev version_tests_with : Bool → Bool → Bool → List Test
   version_tests_with busy left_out badly_placed =
       (WriteToOwned, writes_to_owned h k a w)
       ∷ (NotAsSubmitted, some_given h k a w (λ r p. is_other_than_declared (shape_of h r) (k.ring r) k.memory a w p))
