@@ -102,11 +102,13 @@ module _ (h : Header) (headed : IsHeader h) (k : Known) (on : k.stopped ≡ fals
   or_assoc false y z = refl
 
   -- the rule on commands of one slot, as the trace's version has it
-  busy_is : (c : Option Command) (later : Bool) →
-      ((holds_of (commands.shares_slot h k) c && not (is_three h.version)) || (holds_of (commands.is_busy h k) c || later)) ≡ (holds_of (has_busy_slot h k) c || later)
+  busy_is : (c : Option Command) (given crossed : Bool) →
+      ((holds_of (commands.shares_slot h k) c && not (is_three h.version)) || (holds_of (commands.is_busy h k) c || given || crossed)) ≡ (holds_of (has_busy_slot h k) c || given || crossed)
   unfolding holds_of has_busy_slot
-  busy_is None later = refl
-  busy_is (Some c) later = or_assoc (commands.shares_slot h k c && not (is_three h.version)) (commands.is_busy h k c) later
+  busy_is None given crossed = refl
+  busy_is (Some c) given crossed =
+      let shares = commands.shares_slot h k c && not (is_three h.version) in
+      or_assoc shares (commands.is_busy h k c || given) crossed ∙ ap (λ b. b || crossed) (or_assoc shares (commands.is_busy h k c) given)
 
   -- and that on left-out endpoints
   left_out_is : (c : Option Command) (later : Bool) →
@@ -127,7 +129,7 @@ module _ (h : Header) (headed : IsHeader h) (k : Known) (on : k.stopped ≡ fals
   least_is =
       ap (λ b. first_of (if b then AfterStop ∷ [] else broken_of (tests h k (Write a w)))) on
       ∙ (λ i. first_of (broken_of (version_tests_with
-      (busy_is (command_given h k a w) (some_given h k a w (λ r p. moves.is_being_moved h k r || moves.awaits_binding h k r) || some_crossed h k a w (λ r q. moves.awaits_binding h k r)) i)
+      (busy_is (command_given h k a w) (some_given h k a w (λ r p. moves.is_being_moved h k r || moves.awaits_binding h k r)) (some_crossed h k a w (λ r q. moves.awaits_binding h k r)) i)
       (left_out_is (command_given h k a w) (some_crossed h k a w (λ r q. interrupts (shape_of h r) k.memory a w q)) i)
       (badly_placed_is (command_given h k a w) i))))
       ∙ first_broken-is version_tests
