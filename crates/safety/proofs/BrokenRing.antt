@@ -1,7 +1,8 @@
 -- A take with which an endpoint halts or goes to Error: what the event names, and the ring behind it
 use Rattle.std.proofs.Common.{◌≡◌, ◌+◌, ◌-◌, ◌<◌, ◌≤◌, ◌∷◌, ◌∙◌, ℕ, true, false, List, [], length, drop, map, Some, arith, refl, sym, ap, get_or, length-drop, eqb-true, drop-drop}
-use Rattle.safety.proofs.Words.{range_with_len, false≢true, get_or-map-range_with_len, Spot, Data, Shape, address_of, number, after, IsShape, RingView, floor_number, is_way_given, named, RingKeeps, Header, RingEvent, Took, Placed, takes_of, is_last, Newest, RingState, RingMatches, Unreported}
+use Rattle.safety.proofs.Words.{range_with_len, false≢true, get_or-map-range_with_len, Spot, Data, Shape, address_of, number, after, IsShape, RingView, floor_number, is_way_given, named, RingKeeps, Header, takes_of, is_last, RingState, RingMatches, Unreported}
 use Rattle.safety.proofs.NoWait.{ceiling_held}
+use Rattle.safety.proofs.RingGoesOn.{newest_still}
 use Rattle.safety.proofs.LookedRing.{number_after}
 use Rattle.safety.proofs.ReportedRing.{open_takes, drop_range, low, count, named_near, floor_before}
 
@@ -26,11 +27,6 @@ broken_at shape v p = record v { floor = after shape p; held = Some (p + 1) }
 ways_still : (shape : Shape) (v : RingView) (p q : ℕ) → is_way_given shape (broken_at shape v p) q ≡ is_way_given shape v q
 unfolding is_way_given
 ways_still shape v p q = refl
-
-newest_still : (shape : Shape) (v : RingView) (p n : ℕ) (events : List RingEvent) → Newest v n events → Newest (broken_at shape v p) n events
-newest_still shape v p n [] newest = newest
-newest_still shape v p n (Placed a ∷ older) newest = newest
-newest_still shape v p n (Took a b d ∷ older) newest = newest
 
 module _ (shape : Shape) (is : IsShape shape) (memory : ℕ → ℕ) (v : RingView) (k : RingKeeps shape memory v) (s : RingState) (t : Spot) (m : RingMatches shape v s t) (u : Unreported shape v s t) where
   -- the last take, unreported yet
@@ -64,7 +60,7 @@ module _ (shape : Shape) (is : IsShape shape) (memory : ℕ → ℕ) (v : RingVi
     way = λ q e. ways_still shape v l.position q ∙ m.way q e;
     opened = λ on. absurd (false≢true on);
     next = m.next;
-    newest = newest_still shape v l.position (number t) s.events m.newest;
+    newest = newest_still shape v (after shape l.position) (Some (l.position + 1)) (number t) s.events m.newest;
     in_order = m.in_order;
     as_declared = m.as_declared;
   }

@@ -1,7 +1,8 @@
 -- A floor that moves on behind a block that the controller has passed: the ring's pointer stands as it did
-use Rattle.std.proofs.Common.{◌≡◌, ◌<◌, ◌≤◌, ◌∷◌, ◌∙◌, ℕ, true, List, [], arith, refl, inl, inr}
-use Rattle.safety.proofs.Words.{Spot, Data, Shape, number, after, RingView, floor_number, ceiling, is_way_given, is_step_given, cases_option, rank_least, next_least, given_count_grows, RingEvent, Took, Placed, Newest, RingState, RingMatches}
+use Rattle.std.proofs.Common.{◌≡◌, ◌<◌, ◌≤◌, ◌∙◌, ℕ, true, arith, refl, inl, inr}
+use Rattle.safety.proofs.Words.{Spot, Data, Shape, number, after, RingView, floor_number, ceiling, is_way_given, is_step_given, cases_option, rank_least, next_least, given_count_grows, RingState, RingMatches}
 use Rattle.safety.proofs.NoWait.{ceiling_open, ceiling_held}
+use Rattle.safety.proofs.RingGoesOn.{newest_still}
 use Rattle.safety.proofs.LookedRing.{number_after}
 
 abbrev pub floor_behind : Shape → RingView → ℕ → RingView
@@ -27,11 +28,6 @@ ceiling_grows shape v p from =
       | inr held ↦ omega (arith, ceiling_held shape v held.0 held.1, ceiling_held shape (floor_behind shape v p) held.0 held.1)
     ]
 
-newest_still : (shape : Shape) (v : RingView) (p n : ℕ) (events : List RingEvent) → Newest v n events → Newest (floor_behind shape v p) n events
-newest_still shape v p n [] newest = newest
-newest_still shape v p n (Placed a ∷ older) newest = newest
-newest_still shape v p n (Took a b d ∷ older) newest = newest
-
 pub floor_moves : (shape : Shape) (v : RingView) (s : RingState) (t : Spot) (p : ℕ) → floor_number v ≤ p → p < number t → RingMatches shape v s t → RingMatches shape (floor_behind shape v p) s t
 floor_moves shape v s t p from below m =
     record {
@@ -43,7 +39,7 @@ floor_moves shape v s t p from below m =
       way = λ q e. ways_still shape v p q ∙ m.way q e;
       opened = m.opened;
       next = m.next;
-      newest = newest_still shape v p (number t) s.events m.newest;
+      newest = newest_still shape v (after shape p) v.held (number t) s.events m.newest;
       in_order = m.in_order;
       as_declared = m.as_declared;
     }

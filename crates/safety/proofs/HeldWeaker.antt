@@ -1,18 +1,17 @@
 -- Where rings may be held at greater numbers, what is known agrees with the world all the more
 use Rattle.std.proofs.Common.{◌≡◌, ◌∙◌, ℕ, List, option_and_then, slice_get, refl, sym, ap, subst}
 use Rattle.safety.proofs.Words.{Block, RingView, is_due, Command, command_of, Header, shape_of, command_id, World, Known, command_at, next_command, IsUnfinished, Stands, Matches, Agrees, RingHeldMore, HeldMore}
-use Rattle.safety.proofs.RingGoesOn.{RingGoesOn, held_goes_on, newest_same}
+use Rattle.safety.proofs.RingGoesOn.{RingGoesOn, held_goes_on}
 use Rattle.safety.proofs.MatchesGoesOn.{KnownGoesOn, same_controller, matches_go_on}
 
 -- of one ring
 record SameButHeld (v x : RingView) : Type 0 where
   queue : x.queue ≡ v.queue
-  lengths : x.lengths ≡ v.lengths
   given : x.given ≡ v.given
   floor : x.floor ≡ v.floor
 
 same_but_held : (v x : RingView) → RingHeldMore v x → SameButHeld v x
-same_but_held v x more = subst (λ y. SameButHeld v y) more.rest (record { queue = refl; lengths = refl; given = refl; floor = refl })
+same_but_held v x more = subst (λ y. SameButHeld v y) more.rest (record { queue = refl; given = refl; floor = refl })
 
 module _ (h : Header) (k m : Known) (more : HeldMore k m) where
   ring_more : (r : ℕ) → SameButHeld (k.ring r) (m.ring r)
@@ -43,7 +42,6 @@ module _ (h : Header) (k m : Known) (more : HeldMore k m) where
   pub weaker_matches : (w : World) → Matches h k w → Matches h m w
   weaker_matches w y =
       matches_go_on h k m w w goes_on (same_controller w)
-      (λ r n. newest_same (k.ring r) (m.ring r) (ring_more r).queue (ring_more r).lengths n (w.events r))
       (λ u at. ap (λ q. slice_get q (next_command h k)) (ring_more (command_id h)).queue)
       (λ p c u. y.contexts p c (before p c u)) y
 
@@ -53,7 +51,7 @@ module _ (h : Header) (k m : Known) (more : HeldMore k m) where
     stopped = s.stopped ∙ ap (λ x. x.stopped) more.rest;
     registers = λ r. s.registers r ∙ ap (λ x. x.register r) more.rest;
     queues = λ r. s.queues r ∙ sym (ring_more r).queue;
-    lengths = λ r. s.lengths r ∙ sym (ring_more r).lengths;
+    lengths = λ r. s.lengths r ∙ ap (λ x. x.lengths) (more.rings r).rest;
     dequeue = s.dequeue ∙ ap (λ x. x.dequeue) more.rest;
     quiet = λ a clean apart. s.quiet a (ap (λ x. x.soiled a) more.rest ∙ clean) apart ∙ ap (λ x. x.memory a) more.rest;
   }

@@ -3,7 +3,7 @@ use Rattle.std.proofs.Common.{◌≡◌, ◌+◌, ◌-◌, ◌%◌, ◌^◌, ◌
 use Rattle.safety.proofs.Words.{cases_Bool, false≢true, mod-eq_of_lt, is_set, aligned, block_at, cycle, kind, pointer, word, is_link, kind-with_cycle, Spot, Data, Link, address_of, cycle_of, link_address, after, spot_address, declared_at, ceiling, cycle_of_bit, next_is_spot, spot_address-after, Header, IsHeader, shape_of, World, Took, next_take, Known, IsDriverRing, DriverKeeps, Stands, RingMatches, state_of}
 use Rattle.safety.proofs.Headers.{ring_shape}
 use Rattle.safety.proofs.AtSpots.{Takeable, Crossable, takeable, crossable, waits_at_block, waits_at_link}
-use Rattle.safety.proofs.NoWait.{ceiling_open}
+use Rattle.safety.proofs.NoWait.{ceiling_open, step_inside}
 use Rattle.safety.proofs.RingMemory.{spot_lies}
 use Rattle.safety.proofs.Safe.{stands_at, block_found}
 use Rattle.safety.proofs.LookedRing.{leads_on, crossed_matches, taken_matches}
@@ -97,5 +97,6 @@ module _ (h : Header) (is : IsHeader h) (k : Known) (w : World) (d : DriverKeeps
         found = block_found h is k w d s r (Data q) ring m;
         matches = subst (λ o. RingMatches (shape_of h r) (k.ring r) (record (state_of w r) { pointer = (w.pointer_of r + 16) % 2 ^ 64; events = Took (w.pointer_of r) (seen w r) o ∷ w.events r }) (after (shape_of h r) q))
             (sym (declared_same q m.next))
-            (taken_matches (shape_of h r) allowed.is allowed.other k.memory (k.ring r) (state_of w r) q m t _ (seen w r) (behind_ends q m.pointer) (block_found h is k w d s r (Data q) ring m) high);
+            (taken_matches (shape_of h r) allowed.is allowed.other k.memory (k.ring r) (state_of w r) q m t _ (seen w r) (behind_ends q m.pointer) (block_found h is k w d s r (Data q) ring m) high
+            (step_inside (shape_of h r) allowed.is k.memory (k.ring r) (d.rings r ring) (q + 1) t.below));
       }

@@ -1,8 +1,8 @@
 -- One ring behind a look: a Link that is followed, a block that is taken
 use Rattle.std.proofs.Common.{◌≡◌, ◌+◌, ◌-◌, ◌≤◌, ◌==◌, if◌then◌else◌, ◌∷◌, ◌++◌, ◌∙◌, ℕ, suc, zero, Bool, true, false, not, List, [], length, drop, map, Option, Some, arith, refl, sym, ap, inl, inr, length-append, eqb-true, eq-eqb}
-use Rattle.safety.proofs.Words.{range_with_len, cases_Bool, false≢true, cond-true, cond-false, or_parts, or_from, or_left, or_right, not_from_true, not_from_false, not-false, and_from, map-range_with_len_more, Evt, Block, is_set, aligned, block_at, kind, pointer, same_words, with_cycle, word, is_link, Data, Link, Shape, address_of, cycle_of, is_crossing, link_target, toggles, number, after, IsShape, DeclaredBlock, declared_at, is_border, RingView, floor_number, ceiling, is_way_given, is_wrong_link, same, cycle_of-crossed, link_target-crossed, next_is_spot, next_later, spot_address-after, spot_cycle-after, rank_least, RingEvent, Took, Placed, takes_of, next_take, was_placed, is_as_declared, is_right_place, is_out_of_order, has_other_words, Newest, RingState, RingMatches, Unreported}
+use Rattle.safety.proofs.Words.{range_with_len, cases_Bool, false≢true, cond-true, cond-false, or_parts, or_from, or_left, or_right, not_from_true, not_from_false, not-false, and_from, map-range_with_len_more, Evt, Block, is_set, aligned, block_at, kind, pointer, same_words, with_cycle, word, is_link, Data, Link, Shape, address_of, cycle_of, is_crossing, link_target, toggles, number, after, IsShape, DeclaredBlock, declared_at, is_border, RingView, floor_number, ceiling, is_way_given, is_wrong_link, same, cycle_of-crossed, link_target-crossed, next_is_spot, next_later, spot_address-after, spot_cycle-after, rank_least, RingEvent, Took, Placed, takes_of, next_take, was_placed, is_as_declared, is_right_place, is_out_of_order, has_other_words, Newest, RingState, RingMatches, Unreported, is_step_given, is_end}
 use Rattle.safety.proofs.AtSpots.{Takeable, Crossable}
-use Rattle.safety.proofs.NoWait.{declared_some}
+use Rattle.safety.proofs.NoWait.{declared_some, end_is}
 
 -- ---- a Link that leads on
 
@@ -83,11 +83,11 @@ way_after shape v p q e =
           ap (λ x. is_way_given shape v x) (sym at) ∙ way_plain shape v (p + 1) none
     ]
 
-placed_begins : (v : RingView) (n : ℕ) (events : List RingEvent) → Newest v n events → was_placed events ≡ true → is_border v.lengths 0 n ≡ true
+placed_begins : (shape : Shape) (v : RingView) (n : ℕ) (events : List RingEvent) → Newest shape v n events → was_placed events ≡ true → is_border v.lengths 0 n ≡ true
 unfolding was_placed
-placed_begins v n [] newest placed = newest
-placed_begins v n (Placed a ∷ older) newest placed = newest
-placed_begins v n (Took a b d ∷ older) newest placed = absurd (false≢true placed)
+placed_begins shape v n [] newest placed = newest
+placed_begins shape v n (Placed a ∷ older) newest placed = newest
+placed_begins shape v n (Took a b d ∷ older) newest placed = absurd (false≢true placed)
 
 next_behind : (shape : Shape) (a : ℕ) (b : Block) (d : Option DeclaredBlock) (older : List RingEvent) → next_take shape (Took a b d ∷ older) ≡ next_take shape older + 1
 unfolding next_take
@@ -127,13 +127,12 @@ takes_more a b d older = refl
 module _ (shape : Shape) (is : IsShape shape) (other : shape.kind ≡ Evt → ⊥) (memory : ℕ → ℕ) (v : RingView) (s : RingState) (q : ℕ) where
   -- the block of position q was taken
   pub taken_matches : (m : RingMatches shape v s (Data q)) (t : Takeable shape memory v q) (p : ℕ) (b : Block) → p ≡ address_of shape q + 16 →
-      b ≡ block_at memory (address_of shape q) → q + 1 ≤ ceiling shape v →
+      b ≡ block_at memory (address_of shape q) → q + 1 ≤ ceiling shape v → (is_border v.lengths 0 (q + 1) ≡ false → is_step_given shape v (q + 1) ≡ true) →
       RingMatches shape v (record s { pointer = p; events = Took s.pointer b (declared_at v.queue v.lengths q) ∷ s.events }) (after shape q)
-  taken_matches m t p b behind found high =
+  taken_matches m t p b behind found high inside =
       let d : DeclaredBlock = record { block = t.block; begins = is_border v.lengths 0 q; ends = is_border v.lengths 0 (q + 1) } in
       let here : declared_at v.queue v.lengths q ≡ Some d = declared_some v.queue v.lengths q t.block t.queued in
       let at : number (after shape q) ≡ q + 1 = number_after shape q in
-      let last : number (after shape q) - 1 ≡ q = omega arith in
       record {
         is_spot = next_is_spot shape (Data q);
         pointer = behind ∙ sym (spot_address-after shape is other q);
@@ -143,9 +142,9 @@ module _ (shape : Shape) (is : IsShape shape) (other : shape.kind ≡ Evt → �
         way = λ n e. way_after shape v q n e;
         opened = m.opened;
         next = next_behind shape s.pointer b (declared_at v.queue v.lengths q) s.events ∙ ap (λ n. n + 1) m.next ∙ sym at;
-        newest = (omega arith, ap (λ n. declared_at v.queue v.lengths n) (sym last));
+        newest = λ more. ap (λ n. is_step_given shape v n) at ∙ inside (sym (ap is_end here ∙ end_is d) ∙ more);
         in_order = ap (λ o. is_out_of_order shape (Took s.pointer b o ∷ s.events)) here
-            ∙ order_kept shape s.pointer b (Some d) s.events (right_place (was_placed s.events) d (placed_begins v q s.events m.newest))
+            ∙ order_kept shape s.pointer b (Some d) s.events (right_place (was_placed s.events) d (placed_begins shape v q s.events m.newest))
             (ap (λ n. address_of shape n) m.next ∙ sym m.pointer) m.in_order;
         as_declared = ap (λ o. has_other_words shape (Took s.pointer b o ∷ s.events)) here
             ∙ words_kept shape s.pointer b d s.events (found ∙ t.stands ∙ ap (λ n. with_cycle t.block (cycle_of shape n)) (sym m.next)) m.as_declared;

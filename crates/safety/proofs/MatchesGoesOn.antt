@@ -1,6 +1,6 @@
 -- Where more is known of rings whose pointers stay, and the controller did nothing, what it did is still what is known of it
 use Rattle.std.proofs.Common.{◌≡◌, ◌≢◌, ◌∙◌, ℕ, None, Some, refl, sym, ap, subst, inl, inr, arith}
-use Rattle.safety.proofs.Words.{address_of, number, Command, named_context, Header, shape_of, command_id, World, UnderWay, Known, IsUnfinished, Newest, state_of, RingMatches, BoundRing, FreeRing, EndpointRing, UnderWayMatches, CommandMatches, IsUnchanged, Matches}
+use Rattle.safety.proofs.Words.{address_of, number, Command, named_context, Header, shape_of, command_id, World, UnderWay, Known, IsUnfinished, state_of, RingMatches, BoundRing, FreeRing, EndpointRing, UnderWayMatches, CommandMatches, IsUnchanged, Matches}
 use Rattle.safety.proofs.RingGoesOn.{RingGoesOn, bound_on, matches_on}
 use Rattle.safety.proofs.UnderWayGoesOn.{NextStays, under_way_on}
 
@@ -29,42 +29,38 @@ pub same_controller : (w : World) → SameController w w
 same_controller w = record { slot_state = refl; endpoint_state = refl; ring_of = refl; scribbles = refl; under_way = refl; inside = refl; states = λ r. refl }
 
 module _ (h : Header) (k m : Known) (w v : World) (g : KnownGoesOn h k m) (c : SameController w v) where
-  -- the newest take of each ring is still the one declared there
-  abbrev pub NewestStay : Type 0
-  NewestStay = (r n : ℕ) → Newest (k.ring r) n (w.events r) → Newest (m.ring r) n (w.events r)
-
-  endpoint_ring : NewestStay → (r : ℕ) → EndpointRing h k w r → EndpointRing h m v r
-  endpoint_ring newest r (inl bound) =
+  endpoint_ring : (r : ℕ) → EndpointRing h k w r → EndpointRing h m v r
+  endpoint_ring r (inl bound) =
       inl (subst (λ f. BoundRing (shape_of h r) f (m.ring r) (state_of v r) r) (sym g.ring_of)
       (subst (λ s. BoundRing (shape_of h r) k.ring_of (m.ring r) s r) (sym (c.states r))
-      (bound_on (shape_of h r) (k.ring r) (m.ring r) (g.rings r) (state_of w r) k.ring_of r (newest r) bound)))
-  endpoint_ring newest r (inr free) =
+      (bound_on (shape_of h r) (k.ring r) (m.ring r) (g.rings r) (state_of w r) k.ring_of r bound)))
+  endpoint_ring r (inr free) =
       let on = g.rings r in
       inr (subst (λ f. FreeRing (shape_of h r) f (m.ring r) (state_of v r) r) (sym g.ring_of) (subst (λ s. FreeRing (shape_of h r) k.ring_of (m.ring r) s r) (sym (c.states r))
       (record { none = free.none; rests = free.rests; from = let floor = ap number on.floor in omega (arith, free.from); to = omega (arith, free.to, on.ceiling) })))
 
-  command_matches : NewestStay → ((u : UnderWay) → w.under_way ≡ Some u → NextStays h k m (g.rings (command_id h)).floor g.stop_seen) → CommandMatches h k w → CommandMatches h m v
-  command_matches newest next y = record {
+  command_matches : ((u : UnderWay) → w.under_way ≡ Some u → NextStays h k m (g.rings (command_id h)).floor g.stop_seen) → CommandMatches h k w → CommandMatches h m v
+  command_matches next y = record {
     spot = y.spot;
     ring = subst (λ s. RingMatches (shape_of h (command_id h)) (m.ring (command_id h)) s y.spot) (sym (c.states (command_id h)))
-        (matches_on (shape_of h (command_id h)) (k.ring (command_id h)) (m.ring (command_id h)) (g.rings (command_id h)) (state_of w (command_id h)) y.spot (newest (command_id h) (number y.spot)) y.ring);
+        (matches_on (shape_of h (command_id h)) (k.ring (command_id h)) (m.ring (command_id h)) (g.rings (command_id h)) (state_of w (command_id h)) y.spot y.ring);
     under_way = subst (λ o. UnderWayMatches h m y.spot o) (sym c.under_way)
         (under_way_on h k m (g.rings (command_id h)).floor g.stop_seen y.spot w.under_way next y.under_way);
   }
 
-  pub matches_go_on : NewestStay → ((u : UnderWay) → w.under_way ≡ Some u → NextStays h k m (g.rings (command_id h)).floor g.stop_seen) →
+  pub matches_go_on : ((u : UnderWay) → w.under_way ≡ Some u → NextStays h k m (g.rings (command_id h)).floor g.stop_seen) →
       ((p : ℕ) (d : Command) → IsUnfinished h m p d → IsUnchanged h v (address_of (shape_of h (command_id h)) p) (named_context d)) → Matches h k w → Matches h m v
-  matches_go_on newest next contexts y = record {
+  matches_go_on next contexts y = record {
     slots = λ s. ap (λ f. f s) c.slot_state ∙ y.slots s ∙ ap (λ f. f s) (sym g.slot_state);
     endpoints = λ s i. ap (λ f. f s i) c.endpoint_state ∙ y.endpoints s i ∙ ap (λ f. f s i) (sym g.endpoint_state);
     ring_of = λ s i. ap (λ f. f s i) c.ring_of ∙ y.ring_of s i ∙ ap (λ f. f s i) (sym g.ring_of);
-    rings = λ r other. endpoint_ring newest r (y.rings r other);
+    rings = λ r other. endpoint_ring r (y.rings r other);
     before = λ off. let b = y.before (sym g.started ∙ off) in record {
       inactive = ap (λ s. s.active) (c.states (command_id h)) ∙ b.inactive;
       no_events = ap (λ s. s.events) (c.states (command_id h)) ∙ b.no_events;
       none = c.under_way ∙ b.none;
     };
-    command = λ on. command_matches newest next (y.command (sym g.started ∙ on));
+    command = λ on. command_matches next (y.command (sym g.started ∙ on));
     scribbles = λ s may. g.device s (y.scribbles s (ap (λ f. f s) (sym c.scribbles) ∙ may));
     contexts = contexts;
     inside = c.inside ∙ y.inside;

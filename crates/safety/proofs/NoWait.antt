@@ -1,6 +1,6 @@
 -- Inside a descriptor the controller never waits: all of a descriptor whose first block is given is given
-use Rattle.std.proofs.Common.{◌≡◌, ◌+◌, ◌-◌, ◌≤◌, ◌∷◌, ◌∙◌, ℕ, true, false, List, [], Some, None, slice_get, arith, refl, sym, ap, inl, inr, get_or}
-use Rattle.safety.proofs.Words.{false≢true, not-true, slice_get-get_or, Block, block_at, cycle, Spot, Data, Link, Shape, number, spot_address, spot_cycle, IsShape, DeclaredBlock, is_border, declared_at, length_from, RingView, declared, ceiling, given_count, is_step_given, descriptor_length, RingKeeps, cases_option, given_below, step_is, whole_is, given_count_declared, RingEvent, Took, Placed, is_end, is_inside_descriptor, Newest}
+use Rattle.std.proofs.Common.{◌≡◌, ◌+◌, ◌-◌, ◌≤◌, ◌∷◌, ℕ, true, false, List, [], Some, None, slice_get, arith, refl, inl, inr}
+use Rattle.safety.proofs.Words.{false≢true, not-true, Block, block_at, cycle, Spot, Data, Link, Shape, number, spot_address, spot_cycle, IsShape, DeclaredBlock, is_border, declared_at, length_from, RingView, ceiling, given_count, is_step_given, descriptor_length, RingKeeps, cases_option, given_below, step_is, whole_is, given_count_declared, RingEvent, Took, Placed, is_end, is_inside_descriptor, Newest}
 use Rattle.safety.proofs.Descriptors.{Surrounds, surrounded}
 use Rattle.safety.proofs.AtSpots.{MayStand, takeable, crossable}
 
@@ -22,23 +22,16 @@ pub declared_some : (queue : List Block) (lengths : List ℕ) (p : ℕ) (d : Blo
 unfolding declared_at
 declared_some queue lengths p d at = rw at refl
 
-end_is : (d : DeclaredBlock) → is_end (Some d) ≡ d.ends
+pub end_is : (d : DeclaredBlock) → is_end (Some d) ≡ d.ends
 unfolding is_end
 end_is d = refl
 
--- where the last take doesn't end its descriptor, the next position is no border
-pub inside_no_border : (v : RingView) (n : ℕ) (events : List RingEvent) → Newest v n events → n ≤ declared v → is_inside_descriptor events ≡ true →
-    is_border v.lengths 0 n ≡ false
+-- where the last take doesn't end its descriptor, the next step is given
+pub inside_given : (shape : Shape) (v : RingView) (n : ℕ) (events : List RingEvent) → Newest shape v n events → is_inside_descriptor events ≡ true → is_step_given shape v n ≡ true
 unfolding is_inside_descriptor
-inside_no_border v n [] newest within inside = absurd (false≢true inside)
-inside_no_border v n (Placed a ∷ older) newest within inside = absurd (false≢true inside)
-inside_no_border v n (Took a b d ∷ older) newest within inside =
-    let none : Block = record { w = [] } in
-    let x : Block = get_or v.queue (n - 1) none in
-    let queued : slice_get v.queue (n - 1) ≡ Some x = slice_get-get_or v.queue (n - 1) none (omega (arith, newest.0)) in
-    let here : n - 1 + 1 ≡ n = omega (arith, newest.0) in
-    let ends : is_end d ≡ is_border v.lengths 0 (n - 1 + 1) = ap is_end (newest.1 ∙ declared_some v.queue v.lengths (n - 1) x queued) ∙ end_is _ in
-    ap (λ m. is_border v.lengths 0 m) (sym here) ∙ sym ends ∙ not-true (is_end d) inside
+inside_given shape v n [] newest inside = absurd (false≢true inside)
+inside_given shape v n (Placed a ∷ older) newest inside = absurd (false≢true inside)
+inside_given shape v n (Took a b d ∷ older) newest inside = newest (not-true (is_end d) inside)
 
 module _ (shape : Shape) (is : IsShape shape) (memory : ℕ → ℕ) (v : RingView) (k : RingKeeps shape memory v) where
   pub ceiling_given : ceiling shape v ≤ given_count shape v
@@ -49,14 +42,14 @@ module _ (shape : Shape) (is : IsShape shape) (memory : ℕ → ℕ) (v : RingVi
       ]
 
   -- behind the first block of a descriptor that isn't at its end, the next step is given
-  step_inside : (n : ℕ) → n ≤ given_count shape v → is_border v.lengths 0 n ≡ false → is_step_given shape v n ≡ true
+  pub step_inside : (n : ℕ) → n ≤ given_count shape v → is_border v.lengths 0 n ≡ false → is_step_given shape v n ≡ true
   step_inside n below none =
       let within = given_count_declared shape is memory v k in
       let s : Surrounds v.lengths 0 n = surrounded v.lengths 0 n k.lengths (omega arith) (omega (arith, k.descriptors)) none in
       let first = (step_is shape v s.begin (given_below shape v s.begin (omega (arith, s.before)))).0 in
       whole_is shape v s.begin (k.whole s.begin first) n s.before (omega (arith, s.behind, length_is v s.begin))
 
-  -- so the controller finds its own cycle there
-  pub cycle_inside : (t : Spot) → MayStand shape v t → is_border v.lengths 0 (number t) ≡ false → cycle (block_at memory (spot_address shape t)) ≡ spot_cycle shape t
-  cycle_inside (Data q) at none = (takeable shape is memory v k q at (step_is shape v q (step_inside q at.below none)).0).cycle_is
-  cycle_inside (Link q) at none = (crossable shape is memory v k q at ((step_is shape v q (step_inside q at.below none)).1 at.is_spot)).cycle_is
+  -- where the next step is given, the controller finds its own cycle
+  pub cycle_inside : (t : Spot) → MayStand shape v t → is_step_given shape v (number t) ≡ true → cycle (block_at memory (spot_address shape t)) ≡ spot_cycle shape t
+  cycle_inside (Data q) at given = (takeable shape is memory v k q at (step_is shape v q given).0).cycle_is
+  cycle_inside (Link q) at given = (crossable shape is memory v k q at ((step_is shape v q given).1 at.is_spot)).cycle_is

@@ -1,8 +1,9 @@
 -- A take that is reported: what the event names, and the ring behind it
-use Rattle.std.proofs.Common.{◌≡◌, ◌+◌, ◌-◌, ◌<◌, ◌≤◌, ◌==◌, ◌∷◌, ◌∙◌, ℕ, suc, zero, true, List, [], length, drop, map, Some, position, arith, refl, sym, ap, inl, inr, get_or, length-drop, eqb-true, drop-drop}
-use Rattle.safety.proofs.Words.{range_with_len, position-Some, length-map-range_with_len, get_or-map-range_with_len, Spot, Data, Shape, address_of, rank, number, after, IsShape, RingView, declared, floor_number, ceiling, is_way_given, is_step_given, named, RingKeeps, cases_option, rank_least, rank_most, next_least, named_spot-near, given_count_grows, given_count_declared, given_count_near, RingEvent, Took, Placed, takes_of, Newest, RingState, RingMatches, Unreported}
+use Rattle.std.proofs.Common.{◌≡◌, ◌+◌, ◌-◌, ◌<◌, ◌≤◌, ◌==◌, ◌∙◌, ℕ, suc, zero, true, List, length, drop, map, Some, position, arith, refl, sym, ap, inl, inr, get_or, length-drop, eqb-true, drop-drop}
+use Rattle.safety.proofs.Words.{range_with_len, position-Some, length-map-range_with_len, get_or-map-range_with_len, Spot, Data, Shape, address_of, rank, number, after, IsShape, RingView, declared, floor_number, ceiling, is_way_given, is_step_given, named, RingKeeps, cases_option, rank_least, rank_most, next_least, named_spot-near, given_count_grows, given_count_declared, given_count_near, takes_of, RingState, RingMatches, Unreported}
 use Rattle.safety.proofs.NoWait.{ceiling_given, ceiling_open, ceiling_held}
 use Rattle.safety.proofs.LookedRing.{number_after}
+use Rattle.safety.proofs.RingGoesOn.{newest_still}
 
 -- ---- places in a list of addresses
 
@@ -92,11 +93,6 @@ module _ (shape : Shape) (is : IsShape shape) (memory : ℕ → ℕ) (v : RingVi
         | inr held ↦ omega (arith, ceiling_held shape v held.0 held.1, ceiling_held shape (moved_to p) held.0 held.1)
       ]
 
-  newest_still : (p n : ℕ) (events : List RingEvent) → Newest v n events → Newest (moved_to p) n events
-  newest_still p n [] newest = newest
-  newest_still p n (Placed a ∷ older) newest = newest
-  newest_still p n (Took a b d ∷ older) newest = newest
-
   pub floor_before : (p : ℕ) → p < number t → rank (after shape p) ≤ rank t
   floor_before p below = let high = rank_least t in next_least shape (Data p) t m.is_spot (omega arith)
 
@@ -112,7 +108,7 @@ module _ (shape : Shape) (is : IsShape shape) (memory : ℕ → ℕ) (v : RingVi
         way = λ q e. ways_still p q ∙ m.way q e;
         opened = m.opened;
         next = m.next;
-        newest = newest_still p (number t) s.events m.newest;
+        newest = newest_still shape v (after shape p) v.held (number t) s.events m.newest;
         in_order = m.in_order;
         as_declared = m.as_declared;
       }

@@ -1,22 +1,28 @@
 -- A ring of which more is known while its pointer stays: what is said of it in the world stays
 use Rattle.std.proofs.Common.{◌≡◌, ◌≤◌, ◌-◌, ◌||◌, ◌∷◌, ◌∙◌, ℕ, not, Bool, true, false, List, [], map, Option, None, Some, arith, refl, sym, ap, subst}
-use Rattle.safety.proofs.Words.{range_with_len, Shape, Spot, address_of, is_crossing, number, rank, is_border, declared_at, RingView, floor_number, ceiling, is_way_given, is_step_given, given_count_same, RingEvent, Took, Placed, Newest, RingState, RingMatches, Unreported, BoundRing, IsHeldMore}
+use Rattle.safety.proofs.Words.{range_with_len, Shape, Spot, address_of, is_crossing, number, rank, is_border, RingView, floor_number, ceiling, is_way_given, is_step_given, given_count_same, RingEvent, Took, Placed, Newest, RingState, RingMatches, Unreported, BoundRing, IsHeldMore, GivesMore, step_more}
 use Rattle.safety.proofs.NoWait.{ceiling_open, ceiling_held}
 
--- the floor is the same, and no less is given
+-- the floor is the same, no less is given, and where descriptors begin, they still do
 pub record RingGoesOn (shape : Shape) (v x : RingView) : Type 0 where
   pub floor : x.floor ≡ v.floor
   pub ceiling : ceiling shape v ≤ ceiling shape x
-  pub crossed : (q : ℕ) → v.crossed q ≡ true → x.crossed q ≡ true
+  pub more : GivesMore v x
+  pub borders : (q : ℕ) → is_border v.lengths 0 q ≡ true → is_border x.lengths 0 q ≡ true
   pub held : v.held ≡ None → x.held ≡ None
 
-pub newest_same : (v x : RingView) → x.queue ≡ v.queue → x.lengths ≡ v.lengths → (n : ℕ) (events : List RingEvent) → Newest v n events → Newest x n events
-newest_same v x queue lengths n [] y = ap (λ l. is_border l 0 n) lengths ∙ y
-newest_same v x queue lengths n (Placed a ∷ older) y = ap (λ l. is_border l 0 n) lengths ∙ y
-newest_same v x queue lengths n (Took a b d ∷ older) y = (y.0, y.1 ∙ same (sym queue) (sym lengths))
-  where
-    same : v.queue ≡ x.queue → v.lengths ≡ x.lengths → declared_at v.queue v.lengths (n - 1) ≡ declared_at x.queue x.lengths (n - 1)
-    same p q = rw (p, q) refl
+newest_on : (shape : Shape) (v x : RingView) → RingGoesOn shape v x → (n : ℕ) (events : List RingEvent) → Newest shape v n events → Newest shape x n events
+newest_on shape v x g n [] y = g.borders n y
+newest_on shape v x g n (Placed a ∷ older) y = g.borders n y
+newest_on shape v x g n (Took a b d ∷ older) y = λ on. step_more shape v x g.more n (y on)
+
+-- wherever the floor is, and wherever the ring is held
+pub newest_still : (shape : Shape) (v : RingView) (f : Spot) (o : Option ℕ) (n : ℕ) (events : List RingEvent) →
+    Newest shape v n events → Newest shape (record v { floor = f; held = o }) n events
+unfolding is_step_given is_way_given
+newest_still shape v f o n [] y = y
+newest_still shape v f o n (Placed a ∷ older) y = y
+newest_still shape v f o n (Took a b d ∷ older) y = y
 
 way_stays : (shape : Shape) (v x : RingView) → ((q : ℕ) → v.crossed q ≡ true → x.crossed q ≡ true) → (q : ℕ) → is_way_given shape v q ≡ true → is_way_given shape x q ≡ true
 unfolding is_way_given
@@ -27,17 +33,17 @@ way_stays shape v x crossed q way = by (is_crossing shape q) (v.crossed q) (x.cr
     by false a b more h = refl
 
 module _ (shape : Shape) (v x : RingView) (g : RingGoesOn shape v x) (s : RingState) where
-  pub matches_on : (t : Spot) → (Newest v (number t) s.events → Newest x (number t) s.events) → RingMatches shape v s t → RingMatches shape x s t
-  matches_on t newest m = record {
+  pub matches_on : (t : Spot) → RingMatches shape v s t → RingMatches shape x s t
+  matches_on t m = record {
     is_spot = m.is_spot;
     pointer = m.pointer;
     cycle = m.cycle;
     reached = omega (arith, m.reached, ap rank g.floor);
     below = omega (arith, m.below, g.ceiling);
-    way = λ q at. way_stays shape v x g.crossed q (m.way q at);
+    way = λ q at. way_stays shape v x g.more.crossed q (m.way q at);
     opened = λ on. g.held (m.opened on);
     next = m.next;
-    newest = newest m.newest;
+    newest = newest_on shape v x g (number t) s.events m.newest;
     in_order = m.in_order;
     as_declared = m.as_declared;
   }
@@ -48,13 +54,13 @@ module _ (shape : Shape) (v x : RingView) (g : RingGoesOn shape v x) (s : RingSt
       same : v.floor ≡ x.floor → map (address_of shape) (range_with_len (floor_number v) (number t - floor_number v)) ≡ map (address_of shape) (range_with_len (floor_number x) (number t - floor_number x))
       same e = ap (λ f. map (address_of shape) (range_with_len (number f) (number t - number f))) e
 
-  pub bound_on : (ring_of : ℕ → ℕ → Option ℕ) (r : ℕ) → ((n : ℕ) → Newest v n s.events → Newest x n s.events) → BoundRing shape ring_of v s r → BoundRing shape ring_of x s r
-  bound_on ring_of r newest b = record {
+  pub bound_on : (ring_of : ℕ → ℕ → Option ℕ) (r : ℕ) → BoundRing shape ring_of v s r → BoundRing shape ring_of x s r
+  bound_on ring_of r b = record {
     slot = b.slot;
     index = b.index;
     bound = b.bound;
     spot = b.spot;
-    matches = matches_on b.spot (newest (number b.spot)) b.matches;
+    matches = matches_on b.spot b.matches;
     takes = unreported_on b.spot b.takes;
   }
 
@@ -78,6 +84,7 @@ pub held_goes_on : (shape : Shape) (v : RingView) (o : Option ℕ) → IsHeldMor
 held_goes_on shape v o more = record {
   floor = refl;
   ceiling = held_ceiling shape v v.held o refl more;
-  crossed = λ q c. c;
+  more = record { given = λ p g. g; crossed = λ q c. c };
+  borders = λ q b. b;
   held = λ none. still_open o (subst (λ a. IsHeldMore a o) none more);
 }

@@ -1,37 +1,19 @@
 -- A declaration where all events are read: what is known agrees with the world
-use Rattle.std.proofs.Common.{◌≡◌, ◌≢◌, ◌<◌, ◌++◌, ◌∷◌, ◌∙◌, ℕ, true, false, List, [], length, sum, Option, None, Some, option_and_then, slice_get, arith, refl, sym, ap, subst, inl, inr}
-use Rattle.safety.proofs.Words.{cases_Bool, cases_eq, none-some, put, Block, address_of, RingView, Declares, changed, declared, is_due, MayDeclare, slice_get-append, ceiling_within, given_count_declared, Command, command_of, named_context, Header, Sub, IsHeader, shape_of, command_id, World, UnderWay, has_other_words, counted, Known, learned, on_ring, command_at, next_command, lenient, IsDriverRing, IsUnfinished, DriverKeeps, Stands, EventsStand, Newest, UnderWayMatches, IsUnchanged, Matches, Agrees}
+use Rattle.std.proofs.Common.{◌≡◌, ◌≢◌, ◌<◌, ◌++◌, ◌∷◌, ◌∙◌, ℕ, true, List, [], length, Option, None, Some, option_and_then, slice_get, arith, refl, sym, ap, subst, inl, inr}
+use Rattle.safety.proofs.Words.{cases_Bool, none-some, put, Block, address_of, RingView, Declares, changed, declared, is_due, slice_get-append, ceiling_within, given_count_declared, Command, command_of, named_context, Header, Sub, IsHeader, shape_of, command_id, World, UnderWay, counted, Known, learned, on_ring, command_at, next_command, lenient, IsDriverRing, IsUnfinished, DriverKeeps, Stands, EventsStand, UnderWayMatches, IsUnchanged, Matches, Agrees}
 use Rattle.world_state.specs.World as of_world
 use Rattle.world_state.specs.Harms as of_harms
 use Rattle.controller_model.specs.DriverRows as driver
 use Rattle.safety.proofs.Headers.{ring_shape}
 use Rattle.safety.proofs.CommandRing.{due_has_ring}
-use Rattle.safety.proofs.Declaring.{may_declare}
-use Rattle.safety.proofs.DriverRings.{driver_ring}
 use Rattle.safety.proofs.SameDriver.{view_after}
 use Rattle.safety.proofs.LookKinds.{put_at, put_off}
 use Rattle.safety.proofs.SafeContext.{command_is_ring}
 use Rattle.safety.proofs.Stored.{Late}
 use Rattle.safety.proofs.Counted.{agrees_counted}
 use Rattle.safety.proofs.RingGoesOn.{RingGoesOn}
-use Rattle.safety.proofs.DriverGoesOn.{goes_same, declares_goes_on, newest_declares}
-use Rattle.safety.proofs.MatchesGoesOn.{KnownGoesOn, SameController, NewestStay, matches_go_on}
-
--- the words that each ring's controller took are as declared
-pub words_as_declared : (h : Header) (k : Known) (w : World) → Matches h k w → (r : ℕ) → has_other_words (shape_of h r) (w.events r) ≡ false
-unfolding of_harms.has_other_words
-words_as_declared h k w m r =
-    elim (cases_eq r (command_id h)) [
-      | inl command ↦ subst (λ q. has_other_words (shape_of h q) (w.events q) ≡ false) (sym command) (of_command)
-      | inr other ↦ elim (m.rings r other) [ inl bound ↦ bound.matches.as_declared | inr free ↦ free.rests.as_declared ]
-    ]
-  where
-    of_command : has_other_words (shape_of h (command_id h)) (w.events (command_id h)) ≡ false
-    of_command =
-        elim (cases_Bool k.started) [
-          | inl on ↦ (m.command on).ring.as_declared
-          | inr off ↦ ap (λ e. has_other_words (shape_of h (command_id h)) e) (m.before off).no_events
-        ]
+use Rattle.safety.proofs.DriverGoesOn.{goes_same, declares_goes_on}
+use Rattle.safety.proofs.MatchesGoesOn.{KnownGoesOn, SameController, matches_go_on}
 
 -- a command under way is declared
 pub under_way_declared : (h : Header) → IsHeader h → (k : Known) (w : World) → DriverKeeps h k → Matches h k w → (u : UnderWay) → w.under_way ≡ Some u → next_command h k < declared (k.ring (command_id h))
@@ -60,12 +42,6 @@ module _ (h : Header) (is : IsHeader h) (k : Known) (unread : List Block) (w : W
   v : World
   v = driver.declared h w r blocks
 
-  may : MayDeclare (shape_of h r) (k.ring r) blocks
-  may = (may_declare h k r blocks clean).1
-
-  total : sum (k.ring r).lengths ≡ declared (k.ring r)
-  total = (d.rings r (driver_ring h r (may_declare h k r blocks clean).0)).descriptors
-
   after : (P : ℕ → RingView → Type 0) (q : ℕ) → P r (changed (shape_of h r) (k.ring r) (Declares blocks)) → (q ≢ r → P q (k.ring q)) → P q (m.ring q)
   unfolding m
   after P q here there = view_after h (λ x. P q x) k r (Declares blocks) q (λ same. subst (λ n. P n (changed (shape_of h r) (k.ring r) (Declares blocks))) (sym same) here) there
@@ -87,11 +63,6 @@ module _ (h : Header) (is : IsHeader h) (k : Known) (unread : List Block) (w : W
   unfolding v driver.declared
   controller = record { slot_state = refl; endpoint_state = refl; ring_of = refl; scribbles = refl; under_way = refl; inside = refl; states = λ q. refl }
 
-  newest : NewestStay h k m w v goes_on controller
-  newest q n =
-      after (λ p x. Newest (k.ring p) n (w.events p) → Newest x n (w.events p)) q
-      (newest_declares (shape_of h r) (k.ring r) blocks total may.some n (w.events r) (words_as_declared h k w g.matches r)) (λ other y. y)
-
   queue_stays : (q p : ℕ) → p < declared (k.ring q) → slice_get (m.ring q).queue p ≡ slice_get (k.ring q).queue p
   queue_stays q p = after (λ n x. p < declared (k.ring n) → slice_get x.queue p ≡ slice_get (k.ring n).queue p) q (λ low. slice_get-append (k.ring r).queue blocks p low) (λ other low. refl)
 
@@ -112,7 +83,7 @@ module _ (h : Header) (is : IsHeader h) (k : Known) (unread : List Block) (w : W
 
   matches : Matches h m v
   matches =
-      matches_go_on h k m w v goes_on controller newest (λ u at. queue_stays (command_id h) (next_command h k) (under_way_declared h is k w d g.matches u at))
+      matches_go_on h k m w v goes_on controller (λ u at. queue_stays (command_id h) (next_command h k) (under_way_declared h is k w d g.matches u at))
       (λ p c u. unchanged (address_of (shape_of h (command_id h)) p) (named_context c) (g.matches.contexts p c (before p c u))) g.matches
 
   queues : (q : ℕ) → put w.queue r (w.queue r ++ blocks) q ≡ (m.ring q).queue

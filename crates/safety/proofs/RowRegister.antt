@@ -5,7 +5,7 @@ use Rattle.world_state.specs.World as of_world
 use Rattle.controller_model.specs.DriverRows as driver
 use Rattle.ring_knowledge.specs.Rings as of_rings
 use Rattle.ring_knowledge.specs.Registers as registers
-use Rattle.safety.proofs.RingGoesOn.{RingGoesOn, newest_same}
+use Rattle.safety.proofs.RingGoesOn.{RingGoesOn}
 use Rattle.safety.proofs.DriverGoesOn.{goes_same}
 use Rattle.safety.proofs.ErdpMoves.{no_place_stays, place_of, position_within}
 use Rattle.safety.proofs.Counted.{agrees_counted}
@@ -53,7 +53,6 @@ module _ (h : Header) (k m : Known) (w v : World) (s : SameRings k m) (c : SameC
   pub same_matches : v.changed ≡ w.changed → v.written ≡ w.written → Matches h k w → Matches h m v
   same_matches changed written y =
       matches_go_on h k m w v same_goes_on c
-      (λ r n. newest_same (k.ring r) (m.ring r) (ap (λ f. (f r).queue) s.rings) (ap (λ f. (f r).lengths) s.rings) n (w.events r))
       (λ u at. ap (λ f. slice_get (f (command_id h)).queue (of_rings.next_command h k)) s.rings)
       (λ p d u. still_unchanged changed written (address_of (shape_of h (command_id h)) p) (named_context d) (y.contexts p d (same_before p d u))) y
 

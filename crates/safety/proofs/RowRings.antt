@@ -13,7 +13,7 @@ use Rattle.safety.proofs.RingActivated.{activated_ring, only_activated, activate
 use Rattle.safety.proofs.OnlyRing.{stands_only, events_only, late_only, read_only, matches_command}
 use Rattle.safety.proofs.Learns.{stands_learns, matches_learns}
 use Rattle.safety.proofs.EndpointStates.{known_states, world_states, stands_states, events_states, matches_states}
-use Rattle.safety.proofs.RingGoesOn.{RingGoesOn, bound_on, newest_same}
+use Rattle.safety.proofs.RingGoesOn.{RingGoesOn, bound_on}
 use Rattle.safety.proofs.DriverGoesOn.{goes_same, opens_goes_on}
 use Rattle.safety.proofs.MatchesGoesOn.{KnownGoesOn, same_controller, matches_go_on}
 use Rattle.safety.proofs.SameDriver.{view_after}
@@ -30,8 +30,7 @@ module _ (h : Header) (is : IsHeader h) (k : Known) (unread : List Block) (w : W
       elim (g.matches.rings r (λ same. transfer_not_command h is r transfer same)) [
         | inl bound ↦
             active_bound h r k.ring_of (changed (shape_of h r) (k.ring r) Opens) (state_of w r) refl
-            (bound_on (shape_of h r) (k.ring r) (changed (shape_of h r) (k.ring r) Opens) (goes r (transfer_driver h r transfer)) (state_of w r) k.ring_of r
-            (λ n. newest_same (k.ring r) (changed (shape_of h r) (k.ring r) Opens) refl refl n (w.events r)) bound)
+            (bound_on (shape_of h r) (k.ring r) (changed (shape_of h r) (k.ring r) Opens) (goes r (transfer_driver h r transfer)) (state_of w r) k.ring_of r bound)
         | inr free ↦ absurd (free.none s t at)
       ]
 
@@ -139,15 +138,14 @@ module _ (h : Header) (is : IsHeader h) (k : Known) (unread : List Block) (w : W
   -- what is declared and given, and where the floor is, stays
   record StaysBut (v x : RingView) : Type 0 where
     queue : x.queue ≡ v.queue
-    lengths : x.lengths ≡ v.lengths
     given : x.given ≡ v.given
     floor : x.floor ≡ v.floor
 
   command_stays : (q : ℕ) → StaysBut (k.ring q) ((on_ring h k (command_id h) Opens).ring q)
   command_stays q =
       view_after h (λ x. StaysBut (k.ring q) x) k (command_id h) Opens q
-      (λ same. subst (λ n. StaysBut (k.ring n) (changed (shape_of h (command_id h)) (k.ring (command_id h)) Opens)) (sym same) (record { queue = refl; lengths = refl; given = refl; floor = refl }))
-      (λ other. record { queue = refl; lengths = refl; given = refl; floor = refl })
+      (λ same. subst (λ n. StaysBut (k.ring n) (changed (shape_of h (command_id h)) (k.ring (command_id h)) Opens)) (sym same) (record { queue = refl; given = refl; floor = refl }))
+      (λ other. record { queue = refl; given = refl; floor = refl })
 
   command_before : (p : ℕ) (c : Command) → IsUnfinished h (on_ring h k (command_id h) Opens) p c → IsUnfinished h k p c
   unfolding command_at
@@ -162,7 +160,6 @@ module _ (h : Header) (is : IsHeader h) (k : Known) (unread : List Block) (w : W
   command_known : k.started ≡ true → Matches h (on_ring h k (command_id h) Opens) w
   command_known on =
       matches_go_on h k (on_ring h k (command_id h) Opens) w w (command_goes on) (same_controller w)
-      (λ q n. newest_same (k.ring q) ((on_ring h k (command_id h) Opens).ring q) (command_stays q).queue (command_stays q).lengths n (w.events q))
       (λ u at. ap (λ q. slice_get q (next_command h k)) (command_stays (command_id h)).queue)
       (λ p c u. g.matches.contexts p c (command_before p c u)) g.matches
 

@@ -23,8 +23,8 @@ way_first : (shape : Shape) (v : RingView) (q : ℕ) → Data 0 ≡ Data q → i
 unfolding is_way_given
 way_first shape v q at = subst (λ n. is_way_given shape v n ≡ true) (ap (λ t. number t) at) refl
 
-newest_none : (v : RingView) (events : List RingEvent) → events ≡ [] → Newest v 0 events
-newest_none v events none = subst (λ e. Newest v 0 e) (sym none) (border_first v.lengths)
+newest_none : (shape : Shape) (v : RingView) (events : List RingEvent) → events ≡ [] → Newest shape v 0 events
+newest_none shape v events none = subst (λ e. Newest shape v 0 e) (sym none) (border_first v.lengths)
 
 next_none : (shape : Shape) (events : List RingEvent) → events ≡ [] → takes.next_take shape events ≡ 0
 unfolding takes.next_take
@@ -92,7 +92,7 @@ module _ (h : Header) (is : IsHeader h) (k : Known) (unread : List Block) (w : W
         way = λ q same. way_first shape (k.ring (command_id h)) q same;
         opened = λ on. absurd (false≢true (sym inactive ∙ on));
         next = next_none shape (v.events (command_id h)) events_none;
-        newest = newest_none (k.ring (command_id h)) (v.events (command_id h)) events_none;
+        newest = newest_none shape (k.ring (command_id h)) (v.events (command_id h)) events_none;
         in_order = order_none shape (v.events (command_id h)) events_none;
         as_declared = words_none shape (v.events (command_id h)) events_none;
       }

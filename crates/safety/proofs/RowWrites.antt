@@ -13,7 +13,7 @@ use Rattle.safety.proofs.EndpointPut.{at_number}
 use Rattle.safety.proofs.RowFrames.{WriteLeaves, write_leaves}
 use Rattle.safety.proofs.Stored.{Late, late_stored, memory_stored, unchanged_stored}
 use Rattle.safety.proofs.Counted.{agrees_counted}
-use Rattle.safety.proofs.RingGoesOn.{RingGoesOn, newest_same}
+use Rattle.safety.proofs.RingGoesOn.{RingGoesOn}
 use Rattle.safety.proofs.DriverGoesOn.{writes_goes_on}
 use Rattle.safety.proofs.MatchesGoesOn.{KnownGoesOn, SameController, matches_go_on}
 
@@ -187,8 +187,7 @@ module _ (h : Header) (is : IsHeader h) (k : Known) (unread : List Block) (w : W
 
   matches : Matches h m v
   matches =
-      matches_go_on h k m w v goes_on controller (λ r n. newest_same (k.ring r) (m.ring r) (queue_same r) (lengths_same r) n (w.events r))
-      (λ u at. ap (λ q. slice_get q (next_command h k)) (queue_same (command_id h))) contexts g.matches
+      matches_go_on h k m w v goes_on controller (λ u at. ap (λ q. slice_get q (next_command h k)) (queue_same (command_id h))) contexts g.matches
 
   quiet : (b : ℕ) → m.soiled b ≡ false → touches_events h b ≡ false → v.memory b ≡ m.memory b
   unfolding m v of_world.stored

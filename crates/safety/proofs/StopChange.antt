@@ -1,11 +1,12 @@
 -- The change of a Stop Endpoint's success: the endpoint is Stopped, and its ring held at its ceiling and inactive
-use Rattle.std.proofs.Common.{◌≡◌, ◌≢◌, ◌∷◌, ◌∙◌, ℕ, false, List, [], Option, Some, None, arith, refl, sym, ap, subst, inl, inr}
-use Rattle.safety.proofs.Words.{cases_eq, false≢true, same_Some, put, Spot, Shape, ceiling, is_way_given, Command, Stopped, Stops, Header, shape_of, command_id, World, RingEvent, Took, Placed, Known, Newest, RingState, state_of, RingMatches, BoundRing, FreeRing, EndpointRing}
+use Rattle.std.proofs.Common.{◌≡◌, ◌≢◌, ◌∙◌, ℕ, false, Option, Some, None, arith, refl, sym, ap, subst, inl, inr}
+use Rattle.safety.proofs.Words.{cases_eq, false≢true, same_Some, put, Spot, Shape, ceiling, is_way_given, Command, Stopped, Stops, Header, shape_of, command_id, World, Known, RingState, state_of, RingMatches, BoundRing, FreeRing, EndpointRing}
 use Rattle.segments.specs.RingView.{RingView}
 use Rattle.controller_model.specs.Bindings as bindings
 use Rattle.ring_knowledge.specs.Rings as of_rings
 use Rattle.ring_knowledge.specs.Completions as completions
 use Rattle.safety.proofs.NoWait.{ceiling_held}
+use Rattle.safety.proofs.RingGoesOn.{newest_still}
 use Rattle.safety.proofs.LookKinds.{put_at, put_off}
 use Rattle.safety.proofs.FinishChanges.{StatesMatch, ChangeKeeps, none_keeps, both_keep}
 use Rattle.safety.proofs.SlotChanges.{state_made}
@@ -23,11 +24,6 @@ ways_still : (shape : Shape) (v : RingView) (q : ℕ) → is_way_given shape (he
 unfolding is_way_given
 ways_still shape v q = refl
 
-newest_still : (shape : Shape) (v : RingView) (n : ℕ) (events : List RingEvent) → Newest v n events → Newest (held_view shape v) n events
-newest_still shape v n [] newest = newest
-newest_still shape v n (Placed a ∷ older) newest = newest
-newest_still shape v n (Took a b d ∷ older) newest = newest
-
 held_matches : (shape : Shape) (v : RingView) (s : RingState) (t : Spot) → RingMatches shape v s t → RingMatches shape (held_view shape v) (resting s) t
 held_matches shape v s t m = record {
   is_spot = m.is_spot;
@@ -38,7 +34,7 @@ held_matches shape v s t m = record {
   way = λ q e. ways_still shape v q ∙ m.way q e;
   opened = λ on. absurd (false≢true on);
   next = m.next;
-  newest = newest_still shape v _ s.events m.newest;
+  newest = newest_still shape v v.floor (Some (ceiling shape v)) _ s.events m.newest;
   in_order = m.in_order;
   as_declared = m.as_declared;
 }

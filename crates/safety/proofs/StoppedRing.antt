@@ -1,7 +1,8 @@
 -- A ring whose endpoint was stopped at a spot: what the event names, and the ring behind it
-use Rattle.std.proofs.Common.{◌≡◌, ◌+◌, ◌-◌, ◌≤◌, ◌⊎◌, ◌∷◌, ◌∙◌, ℕ, false, List, [], drop, map, min, Some, arith, refl, sym, ap, inl, inr, length-drop, drop-drop}
-use Rattle.safety.proofs.Words.{range_with_len, false≢true, Spot, Data, Link, Shape, address_of, rank, number, IsShape, RingView, declared, floor_number, given_count, is_way_given, named, stopped_number, RingKeeps, rank_least, rank_most, named_spot-near, given_count_declared, given_count_near, RingEvent, Took, Placed, takes_of, Newest, RingState, RingMatches, Unreported}
+use Rattle.std.proofs.Common.{◌≡◌, ◌+◌, ◌-◌, ◌≤◌, ◌⊎◌, ◌∙◌, ℕ, false, drop, map, min, Some, arith, refl, sym, ap, inl, inr, length-drop, drop-drop}
+use Rattle.safety.proofs.Words.{range_with_len, false≢true, Spot, Data, Link, Shape, address_of, rank, number, IsShape, RingView, declared, floor_number, given_count, is_way_given, named, stopped_number, RingKeeps, rank_least, rank_most, named_spot-near, given_count_declared, given_count_near, takes_of, RingState, RingMatches, Unreported}
 use Rattle.safety.proofs.NoWait.{ceiling_given, ceiling_held}
+use Rattle.safety.proofs.RingGoesOn.{newest_still}
 use Rattle.safety.proofs.ReportedRing.{drop_range, low, count}
 
 -- stopped with the floor at a spot, and held at a number
@@ -11,11 +12,6 @@ stopped_view v f n = record v { floor = f; held = Some n }
 ways_still : (shape : Shape) (v : RingView) (f : Spot) (n q : ℕ) → is_way_given shape (stopped_view v f n) q ≡ is_way_given shape v q
 unfolding is_way_given
 ways_still shape v f n q = refl
-
-newest_still : (v : RingView) (f : Spot) (c n : ℕ) (events : List RingEvent) → Newest v n events → Newest (stopped_view v f c) n events
-newest_still v f c n [] newest = newest
-newest_still v f c n (Placed a ∷ older) newest = newest
-newest_still v f c n (Took a b d ∷ older) newest = newest
 
 stopped_data : (shape : Shape) (v : RingView) (p : ℕ) → stopped_number shape v (Data p) ≡ min (p + 1) (given_count shape v)
 unfolding stopped_number
@@ -54,7 +50,7 @@ module _ (shape : Shape) (is : IsShape shape) (memory : ℕ → ℕ) (v : RingVi
     way = λ q e. ways_still shape v f n q ∙ m.way q e;
     opened = λ on. absurd (false≢true on);
     next = m.next;
-    newest = newest_still v f n (number t) s.events m.newest;
+    newest = newest_still shape v f (Some n) (number t) s.events m.newest;
     in_order = m.in_order;
     as_declared = m.as_declared;
   }

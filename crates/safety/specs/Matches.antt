@@ -8,9 +8,9 @@ use Rattle.segments.specs.declared.spot.Spot.{Spot}
 use Rattle.segments.specs.declared.spot.Spot.TheVariants.{Data}
 use Rattle.segments.specs.Places.{address_of, cycle_of}
 use Rattle.segments.specs.Spots.{IsSpot, rank, number, spot_address, spot_cycle}
-use Rattle.segments.specs.Descriptors.{is_border, declared_at}
+use Rattle.segments.specs.Descriptors.{is_border}
 use Rattle.segments.specs.RingView.{RingView, floor_number}
-use Rattle.segments.specs.Ceiling.{ceiling, is_way_given}
+use Rattle.segments.specs.Ceiling.{ceiling, is_way_given, is_step_given}
 use Rattle.commands.specs.declared.command.Command.{Command}
 use Rattle.commands.specs.Command.{named_context}
 use Rattle.contexts.specs.Contexts.{input_context_bytes}
@@ -18,19 +18,20 @@ use Rattle.traces.specs.declared.header.Header.{Header}
 use Rattle.traces.specs.Header.{shape_of, command_id}
 use Rattle.world_state.specs.World.{World, RingEvent, Took, Placed, UnderWay}
 use Rattle.world_state.specs.Takes.{takes_of, next_take}
-use Rattle.world_state.specs.Harms.{is_out_of_order, has_other_words}
+use Rattle.world_state.specs.Harms.{is_end, is_out_of_order, has_other_words}
 use Rattle.ring_knowledge.specs.Known.{Known}
 use Rattle.ring_knowledge.specs.Rings.{command_at, next_command}
 use Rattle.ownership_rules.specs.Events.{was_stop_seen}
 use Rattle.safety.specs.Keeps.{IsUnfinished}
 use Rattle.safety.specs.Stands.{Stands, EventsStand}
 
--- the newest event of a ring whose pointer has number n: the take of the position before, with what is declared there; where
--- it is no take, n is a border. A take keeps what was declared at its time, so that the two are said to agree
-abbrev pub Newest : RingView → ℕ → List RingEvent → Type 0
-Newest v n [] = is_border v.lengths 0 n ≡ true
-Newest v n (Placed a ∷ older) = is_border v.lengths 0 n ≡ true
-Newest v n (Took a b d ∷ older) = (0 < n) × (d ≡ declared_at v.queue v.lengths (n - 1))
+-- the newest event of a ring whose pointer has number n: where it is no take, n is a border; behind a take that doesn't end its
+-- descriptor the next block is given, and the crossing to it. Nothing is said of what is declared at the position that was
+-- taken: a take keeps what was declared at its time
+abbrev pub Newest : Shape → RingView → ℕ → List RingEvent → Type 0
+Newest shape v n [] = is_border v.lengths 0 n ≡ true
+Newest shape v n (Placed a ∷ older) = is_border v.lengths 0 n ≡ true
+Newest shape v n (Took a b d ∷ older) = is_end d ≡ false → is_step_given shape v n ≡ true
 
 -- one ring as the controller has it
 pub record RingState : Type 0 where
@@ -54,7 +55,7 @@ pub record RingMatches (shape : Shape) (v : RingView) (s : RingState) (t : Spot)
   pub way : (q : ℕ) → t ≡ Data q → is_way_given shape v q ≡ true
   pub opened : s.active ≡ true → v.held ≡ None
   pub next : next_take shape s.events ≡ number t
-  pub newest : Newest v (number t) s.events
+  pub newest : Newest shape v (number t) s.events
   pub in_order : is_out_of_order shape s.events ≡ false
   pub as_declared : has_other_words shape s.events ≡ false
 
