@@ -62,6 +62,7 @@ begun p blocks memory v is k so may =
       given_later = λ n above below. absurd (omega arith);
       crossed_only = λ q g. let parts = and_parts (is_crossing p.shape q) (nat_lt q p.enqueued) (sym (so.crossed q) ∙ g) in (parts.0, ltb-true q p.enqueued parts.1);
       crossed = λ q crossing below. so.crossed q ∙ and_from (is_crossing p.shape q) (nat_lt q p.enqueued) crossing (lt-ltb q p.enqueued below);
+      restored = so.restored;
     }
   where
     floor_below : (f d : ℕ) → ((n : ℕ) → n < f → n < d) → f ≤ d
@@ -117,6 +118,7 @@ keeps_with p b rest memory v is fewer k so allowed =
             (λ h.
             let parts = and_parts (is_crossing shape q) (nat_lt q (first + count)) h in
             or_left (v2.crossed q) (gives_crossing shape v2.floor q (a + 12) (word head 3)) (s.crossed q parts.0 (ltb-true q (first + count) parts.1)));
+        restored = s.restored;
         passed = subst (λ n. p.retired ≤ n) (sym floor_kept) so.passed;
       });
     }

@@ -1,5 +1,5 @@
 -- When a word may be written on a ring, by what it touches and what it gives
-use Rattle.cycle_ring.proofs.Words.{◌≡◌, ◌+◌, ◌*◌, ◌%◌, ◌<◌, ◌≤◌, ◌∙◌, ℕ, true, false, List, nat_lt, All, Contains, slice_index, arith, sym, ap, ltb-true, and_parts, false_from_ne_true, All-weaker, All-contains_itself, Shape, IsShape, data_places, links, place_count, address_of, is_crossing, link_address, overlap, RingView, floor_number, is_due, positions_given, crossings_given, leased_positions, leased_crossings, is_other_than_declared, is_not_declared, is_not_whole, leads_wrong, interrupts, MayWrite, place_not_link, link_aligned, links_apart, place_below, same_place_of, same_position_near, crosses, crossed_link, link_address_is, same_crossing_at, Gives, GivesCrossing, gives_is, gives_crossing_is, leased_position_is, leased_crossing_is, position_given_is, crossing_given_is}
+use Rattle.cycle_ring.proofs.Words.{IsRestored, no_flips, ◌≡◌, ◌+◌, ◌*◌, ◌%◌, ◌<◌, ◌≤◌, ◌∙◌, ℕ, true, false, List, nat_lt, All, Contains, slice_index, arith, sym, ap, ltb-true, and_parts, false_from_ne_true, All-weaker, All-contains_itself, Shape, IsShape, data_places, links, place_count, address_of, is_crossing, link_address, overlap, RingView, floor_number, is_due, positions_given, crossings_given, leased_positions, leased_crossings, is_other_than_declared, is_not_declared, is_not_whole, leads_wrong, interrupts, MayWrite, place_not_link, link_aligned, links_apart, place_below, same_place_of, same_position_near, crosses, crossed_link, link_address_is, same_crossing_at, Gives, GivesCrossing, gives_is, gives_crossing_is, leased_position_is, leased_crossing_is, position_given_is, crossing_given_is}
 
 all_in : (P : ℕ → Type 0) (xs : List ℕ) → ((x : ℕ) → Contains xs x → P x) → All P xs
 all_in P xs each = All-weaker (Contains xs) P each xs (All-contains_itself xs)
@@ -16,13 +16,13 @@ pub record MayPut (shape : Shape) (m : ℕ → ℕ) (v : RingView) (a w : ℕ) :
   pub without_interrupt : All (λ q. interrupts shape m a w q ≡ false) (crossings_given shape v a w)
 
 pub may_write_from :
-    (shape : Shape) (m : ℕ → ℕ) (v : RingView) (a w : ℕ)
+    (shape : Shape) (m : ℕ → ℕ) (v : RingView) (a w : ℕ) → IsRestored v
     → ((p : ℕ) → is_due shape v.floor p ≡ true → v.given p ≡ true → overlap a 4 (address_of shape p) 16 ≡ false)
     → ((q : ℕ) → is_crossing shape q ≡ true → v.crossed q ≡ true → floor_number v ≤ q → overlap a 4 (link_address shape q) 16 ≡ false)
     → ((p : ℕ) → Gives shape v.floor p a w → MayGive shape m v a w p)
     → ((q : ℕ) → GivesCrossing shape v.floor q a w → (leads_wrong shape m a w q ≡ false) × (interrupts shape m a w q ≡ false))
     → MayPut shape m v a w
-may_write_from shape m v a w blocks links positions crossings =
+may_write_from shape m v a w restored blocks links positions crossings =
     let may : (p : ℕ) → Contains (positions_given shape v a w) p → MayGive shape m v a w p =
     λ p c. positions p (gives_is shape v.floor p a w (position_given_is shape v a w p c).1) in
     let leads : (q : ℕ) → Contains (crossings_given shape v a w) q → (leads_wrong shape m a w q ≡ false) × (interrupts shape m a w q ≡ false) =
@@ -37,6 +37,7 @@ may_write_from shape m v a w blocks links positions crossings =
       whole = all_in (λ p. is_not_whole shape v p ≡ false) (positions_given shape v a w) (λ p c. (may p c).whole);
       leads = all_in (λ q. leads_wrong shape m a w q ≡ false) (crossings_given shape v a w)
           (λ q c. (leads q c).0);
+      flips = no_flips shape v a w restored;
     } in
     record {
       may = may_write;

@@ -1,5 +1,5 @@
 -- How far the writes of a descriptor are, and what each further one gives
-use Rattle.cycle_ring.proofs.Words.{◌≡◌, ◌+◌, ◌-◌, ◌*◌, ◌%◌, ◌<◌, ◌≤◌, ◌⊎◌, ◌==◌, ◌||◌, ◌∙◌, ℕ, true, false, List, nat_le, Some, slice_get, arith, refl, sym, ap, inl, inr, subst, eq-eqb, leb-true, cases_lt, cases_order, false≢true, or_cases, or_left, or_right, false_from_ne_true, not_from_true, Block, block_at, with_cycle, same_words, word, put, Shape, IsShape, place_count, address_of, cycle_of, is_crossing, link_address, overlap, RingView, Writes, changed, declared, floor_number, is_due, is_crossing_due, gives, gives_crossing, descriptor_length, is_other_than_declared, is_declared_as, is_not_declared, is_not_whole, leads_wrong, interrupts, address_aligned, same_position_near, crossing_positive, same_crossing_at, data_not_link, Gives, GivesCrossing, due_is, due_from, crossing_due_from, gives_is, gives_crossing_is, gives_from, gives_crossing_from, whole_from, step_from}
+use Rattle.cycle_ring.proofs.Words.{IsRestored, ◌≡◌, ◌+◌, ◌-◌, ◌*◌, ◌%◌, ◌<◌, ◌≤◌, ◌⊎◌, ◌==◌, ◌||◌, ◌∙◌, ℕ, true, false, List, nat_le, Some, slice_get, arith, refl, sym, ap, inl, inr, subst, eq-eqb, leb-true, cases_lt, cases_order, false≢true, or_cases, or_left, or_right, false_from_ne_true, not_from_true, Block, block_at, with_cycle, same_words, word, put, Shape, IsShape, place_count, address_of, cycle_of, is_crossing, link_address, overlap, RingView, Writes, changed, declared, floor_number, is_due, is_crossing_due, gives, gives_crossing, descriptor_length, is_other_than_declared, is_declared_as, is_not_declared, is_not_whole, leads_wrong, interrupts, address_aligned, same_position_near, crossing_positive, same_crossing_at, data_not_link, Gives, GivesCrossing, due_is, due_from, crossing_due_from, gives_is, gives_crossing_is, gives_from, gives_crossing_from, whole_from, step_from}
 use Rattle.cycle_ring.proofs.MayWriteLemmas.{MayGive, MayPut, may_write_from, link_address_aligned, block_word_no_block, block_word_no_link, link_word_no_block, link_word_no_link}
 
 -- a descriptor of count blocks is declared last, from position first on; given are all before it, its own blocks behind the first
@@ -16,6 +16,7 @@ pub record Stage (shape : Shape) (first count : ℕ) (queue : List Block) (next 
   pub given_later : (p : ℕ) → first < p → p < next → v.given p ≡ true
   pub crossed_only : (q : ℕ) → v.crossed q ≡ true → (is_crossing shape q ≡ true) × (q < way)
   pub crossed : (q : ℕ) → is_crossing shape q ≡ true → q < way → v.crossed q ≡ true
+  pub restored : IsRestored v
 
 -- a block that stands with the word written as it is declared
 declared_right :
@@ -75,6 +76,7 @@ module _ (shape : Shape) (is : IsShape shape) (first count : ℕ) (queue : List 
           | inl was ↦ or_left (v.crossed q) (gives_crossing shape v.floor q a w) (s.crossed q crossing was)
           | inr now ↦ or_right (v.crossed q) (gives_crossing shape v.floor q a w) now
         ];
+        restored = s.restored;
       }
 
   -- a word that gives nothing
@@ -113,7 +115,7 @@ module _ (shape : Shape) (is : IsShape shape) (first count : ℕ) (queue : List 
         let no_block : (p : ℕ) → Gives shape v.floor p x w → ⊥ = λ p g. let there = address_aligned shape is p in absurd (apart (address_of shape q) (address_of shape p) x k small here there at g.at) in
         let no_link : (r : ℕ) → GivesCrossing shape v.floor r x w → ⊥ =
         λ r g. let there = link_address_aligned shape is r g.due.crossing in absurd (apart (address_of shape q) (link_address shape r) x k small here there at g.at) in (
-          may_write_from shape m v x w (free_of_blocks x k (omega arith) at) (λ r crossing crossed above. block_word_no_link shape is x k (omega arith) q r at crossing)
+          may_write_from shape m v x w s.restored (free_of_blocks x k (omega arith) at) (λ r crossing crossed above. block_word_no_link shape is x k (omega arith) q r at crossing)
               (λ p g. absurd (no_block p g)) (λ r g. absurd (no_link r g)),
           quiet x w no_block no_link,
         )
@@ -132,7 +134,7 @@ module _ (shape : Shape) (is : IsShape shape) (first count : ℕ) (queue : List 
     pub control_word :
         (w : ℕ) → MayGive shape m v (address_of shape q + 12) w q → MayPut shape m v (address_of shape q + 12) w
     control_word w may =
-        may_write_from shape m v (address_of shape q + 12) w (free_of_blocks (address_of shape q + 12) 3 (omega arith) (omega arith))
+        may_write_from shape m v (address_of shape q + 12) w s.restored (free_of_blocks (address_of shape q + 12) 3 (omega arith) (omega arith))
         (λ r crossing crossed above. block_word_no_link shape is (address_of shape q + 12) 3 (omega arith) q r (omega arith) crossing)
         (λ p g. subst (λ n. MayGive shape m v (address_of shape q + 12) w n) (sym (gives_this w p g)) may)
         (λ r g. absurd (gives_no_link w r g))
@@ -235,7 +237,7 @@ module _ (shape : Shape) (is : IsShape shape) (first count : ℕ) (queue : List 
         let no_block : (p : ℕ) → Gives shape v.floor p x w → ⊥ = λ p g. let there = address_aligned shape is p in absurd (apart (link_address shape way) (address_of shape p) x k small here there at g.at) in
         let no_link : (r : ℕ) → GivesCrossing shape v.floor r x w → ⊥ =
         λ r g. let there = link_address_aligned shape is r g.due.crossing in absurd (apart (link_address shape way) (link_address shape r) x k small here there at g.at) in (
-          may_write_from shape m v x w (λ p due given. link_word_no_block shape is x k (omega arith) way p at crossing) (free_of_links x k (omega arith) at)
+          may_write_from shape m v x w s.restored (λ p due given. link_word_no_block shape is x k (omega arith) way p at crossing) (free_of_links x k (omega arith) at)
               (λ p g. absurd (no_block p g)) (λ r g. absurd (no_link r g)),
           quiet x w no_block no_link,
         )
@@ -264,7 +266,7 @@ module _ (shape : Shape) (is : IsShape shape) (first count : ℕ) (queue : List 
     link_control_word w cycle leads =
         let due : is_crossing_due shape v.floor way ≡ true =
         crossing_due_from shape v.floor way (record { crossing = crossing; from = omega (arith, s.low); within = inl (omega (arith, s.room)) }) in (
-          may_write_from shape m v (link_address shape way + 12) w
+          may_write_from shape m v (link_address shape way + 12) w s.restored
               (λ p due given. link_word_no_block shape is (link_address shape way + 12) 3 (omega arith) way p (omega arith) crossing)
               (free_of_links (link_address shape way + 12) 3 (omega arith) (omega arith))
               (λ p g. absurd (gives_no_block w p g))
@@ -299,4 +301,5 @@ module _ (shape : Shape) (is : IsShape shape) (first count : ℕ) (queue : List 
           | inl was ↦ s.crossed q crossing was
           | inr not_below ↦ let same : q ≡ way = omega arith in absurd (false≢true (sym none ∙ ap (λ n. is_crossing shape n) (sym same) ∙ crossing))
         ];
+        restored = s.restored;
       }

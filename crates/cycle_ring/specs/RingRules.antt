@@ -8,16 +8,17 @@ use Rattle.segments.specs.declared.spot.Spot.{Spot}
 use Rattle.segments.specs.Spots.{number}
 use Rattle.segments.specs.RingView.{RingView, Declares, Writes, Reaches, changed, declared, floor_number, new_ring, crossings_given}
 use Rattle.segments.specs.Givings.{interrupts}
-use Rattle.segments.specs.RingKeeps.{RingKeeps, MayDeclare, MayWrite, MayReach}
+use Rattle.segments.specs.RingKeeps.{RingKeeps, IsRestored, MayDeclare, MayWrite, MayReach}
 use Rattle.cycle_ring.specs.Progress.{Progress}
 use Rattle.cycle_ring.specs.Played.{played}
 
--- what is enqueued, and nothing else, is declared and given, with the Links on the way; and the controller has surely passed
--- all that is retired
+-- what is enqueued, and nothing else, is declared and given, with the Links on the way; nothing of it is free; and the controller has
+-- surely passed all that is retired
 pub record IsEnqueuedSo (p : Progress) (v : RingView) : Type 0 where
   pub declared : declared v ≡ p.enqueued
   pub given : (n : ℕ) → v.given n ≡ nat_lt n p.enqueued
   pub crossed : (q : ℕ) → v.crossed q ≡ (is_crossing p.shape q && nat_lt q p.enqueued)
+  pub restored : IsRestored v
   pub passed : p.retired ≤ floor_number v
 
 -- what is known of the ring after these writes, the first one first

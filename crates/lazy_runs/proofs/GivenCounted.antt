@@ -151,5 +151,5 @@ module _ (h : Header) where
       let same : floors k ≤ all_rings at k =
       total_le (λ r. of_driver h r (floor_number (k.ring r))) (λ r. of_driver h r (given_among (k.ring r) (floor_number (k.ring r)))) 256
       (λ r. driver_le h r (floor_number (k.ring r)) (given_among (k.ring r) (floor_number (k.ring r)))
-      (λ driver. omega (arith, all_given (k.ring r) (floor_number (k.ring r)) (rings_kept is past clean r driver).passed))) in
+      (λ driver. omega (arith, all_given (k.ring r) (floor_number (k.ring r)) (rings_kept is past clean r driver).rules.passed))) in
       omega (arith, same, given_most at is past)

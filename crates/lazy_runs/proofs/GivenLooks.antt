@@ -11,7 +11,7 @@ module _ (h : Header) (is : IsHeader h) (k : Known) (w : World) (d : DriverKeeps
       looks.looked h w r ≡ Some (looks.taken h (looks.seen_by_look h w r) r (seen w r))
   unfolding looks.looked looks.looked_at
   block_taken q m given free =
-      let t = takeable (shape_of h r) (ring_shape h is r ring).is k.memory (k.ring r) (d.rings r ring) q (stands_at h is k w d s r (Data q) ring m) given in
+      let t = takeable (shape_of h r) (ring_shape h is r ring).is k.memory (k.ring r) (d.rings r ring) q (stands_at h is k w d s r (Data q) ring m) given ((d.rings r ring).open_restored (m.opened on) q) in
       let same : cycle (seen w r) ≡ w.cycle_state r = ap (λ b. cycle b) (block_found h is k w d s r (Data q) ring m) ∙ t.cycle_is ∙ sym m.cycle in
       let plain : is_link (kind (seen w r)) ≡ false = block_no_link h is k w d s r ring q m t in
       let u : World = looks.seen_by_look h w r in

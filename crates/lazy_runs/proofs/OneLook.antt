@@ -89,7 +89,8 @@ module _ (h : Header) where
         let below : q < number t = omega (arith, before, rank_most t) in
         let given : (k.ring r).given q ≡ true = may.reach.passed q below in
         let can : Takeable (shape_of h r) k.memory (k.ring r) q =
-        takeable (shape_of h r) (ring_shape h is r m.ring).is k.memory (k.ring r) (d.rings r m.ring) q (stands_at h is k w d g.stands r (Data q) m.ring m.matches) given in
+        takeable (shape_of h r) (ring_shape h is r m.ring).is k.memory (k.ring r) (d.rings r m.ring) q (stands_at h is k w d g.stands r (Data q) m.ring m.matches) given
+        ((d.rings r m.ring).open_restored (m.matches.opened may.active) q) in
         let same : cycle b ≡ w.cycle_state r = ap (λ x. cycle x) (block_found h is k w d g.stands r (Data q) m.ring m.matches) ∙ can.cycle_is ∙ sym m.matches.cycle in
         let plain : is_link (kind b) ≡ false = block_no_link h is k w d g.stands r m.ring q m.matches can in
         let done : TakeDone h is k w d g.stands r m.ring (Data q) = take_done h is k w d g.stands r m.ring (Data q) m.matches may.active same plain in
@@ -113,7 +114,7 @@ module _ (h : Header) where
         crossable (shape_of h r) (ring_shape h is r m.ring).is k.memory (k.ring r) (d.rings r m.ring) q (stands_at h is k w d g.stands r (Link q) m.ring m.matches) given in
         let same : cycle b ≡ w.cycle_state r = ap (λ x. cycle x) (block_found h is k w d g.stands r (Link q) m.ring m.matches) ∙ can.cycle_is ∙ sym m.matches.cycle in
         let link : is_link (kind b) ≡ true = link_is h is k w d g.stands r m.ring q m.matches can in
-        let done : CrossDone h is k w d g.stands r m.ring (Link q) = cross_done h is k w d g.stands r m.ring (Link q) m.matches same link in
+        let done : CrossDone h is k w d g.stands r m.ring (Link q) = cross_done h is k w d g.stands r m.ring (Link q) m.matches may.active same link in
         let here : done.number ≡ q = ap number (sym done.was) in
         let v : World = looks.crossed h (looks.seen_by_look h w r) r b in
         let o : OnlyRing w v r (behind_link h w r b) = only_crossed h w r b in

@@ -1,5 +1,5 @@
 -- Before the first row the event segments are under lease, and nothing else
-use Rattle.lease_book.proofs.Words.{◌≡◌, ◌*◌, ◌&&◌, ◌∷◌, ◌++◌, ◌∙◌, ℕ, Bool, true, false, List, [], filter, map, subst, sym, ap, refl, append-nil, flat_map, is_crossing, due_crossings, due_positions, leased_crossings, leased_positions, new_ring, Segment, Header, Ring, Erstba, command_id, driver_rings, event_shape, shape_of, nothing, Leased, Block, Link, Range, EventSegment, context_ranges, device_ranges, entry_ranges, open_leases, open_on, open_ranges, range_of_command, range_of_device, range_of_entry, segment_ranges, slots, table_range, as_lease, in_order, without_end, IsIn, IndexTables, begun_at, in_turn, lease_of, lents, with_begun, AllUnended, IsFound, segment_lease}
+use Rattle.lease_book.proofs.Words.{◌≡◌, ◌*◌, ◌&&◌, ◌∷◌, ◌++◌, ◌∙◌, ℕ, Bool, true, false, List, [], filter, map, subst, sym, ap, refl, append-nil, flat_map, is_crossing, due_crossings, due_positions, leased_crossings, leased_positions, is_handed_over, new_ring, Segment, Header, Ring, Erstba, command_id, driver_rings, event_shape, shape_of, nothing, Leased, Block, Link, Range, EventSegment, context_ranges, device_ranges, entry_ranges, open_leases, open_on, open_ranges, range_of_command, range_of_device, range_of_entry, segment_ranges, slots, table_range, as_lease, in_order, without_end, IsIn, IndexTables, begun_at, in_turn, lease_of, lents, with_begun, AllUnended, IsFound, segment_lease}
 use Rattle.ring_knowledge.specs.Rings as rings
 use Rattle.lease_book.proofs.Growing.{map_map, sorted}
 use Rattle.lease_book.proofs.Rows.{all_new, from_turn}
@@ -21,7 +21,7 @@ module _ (h : Header) where
   unfolding open_on nothing leased_positions leased_crossings
   none_on r =
       rw (
-        none_passes (λ p. false) (due_positions r.shape new_ring) (λ p. refl),
+        none_passes (λ p. is_handed_over new_ring p) (due_positions r.shape new_ring) (λ p. refl),
         none_passes (λ q. is_crossing r.shape q && false) (due_crossings r.shape new_ring) (λ q. and_false (is_crossing r.shape q)),
       ) refl
 

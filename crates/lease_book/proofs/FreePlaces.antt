@@ -29,11 +29,11 @@ module _ (h : Header) (shaped : AreShaped h) (k : Known) (q : Ring) (among : IsI
       false≢true (sym absent ∙ ap (k.ring q.id).given same ∙ there)
 
   apart_on : (s : Ring) → IsIn s (driver_rings h) → (l : Leased) → InOn s (k.ring s.id) l → share_a_place h (Block q.id p) l ≡ false
-  apart_on s at _ (block m least most given) =
+  apart_on s at _ (block m least most lent) =
       elim (cases_Bool (q.id == s.id && p % place_count (shape_of h q.id) == m % place_count (shape_of h s.id))) [
         | inl shares ↦
             let both = and_parts (q.id == s.id) (p % place_count (shape_of h q.id) == m % place_count (shape_of h s.id)) shares in
-            absurd (same_place s at m (eqb-true q.id s.id both.0) least most given (eqb-true _ _ both.1))
+            absurd (same_place s at m (eqb-true q.id s.id both.0) least most (and_parts ((k.ring s.id).given m) (not ((k.ring s.id).free m)) lent).0 (eqb-true _ _ both.1))
         | inr differ ↦ differ
       ]
   apart_on s at _ (link c least most crossed) = refl

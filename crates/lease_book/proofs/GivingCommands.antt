@@ -7,7 +7,7 @@ use Rattle.lease_book.proofs.LettingGo.{HasUse, use_of_command}
 use Rattle.lease_book.proofs.Members.{from_flat_map, from_range, in_either, in_flat_map, in_left, in_right}
 use Rattle.lease_book.proofs.Rows.{none_new, only_begun}
 use Rattle.lease_book.proofs.SameLeases.{flat_alike}
-use Rattle.lease_book.proofs.Writing.{AreShaped, filter_flat_map, kept_on_rings, lease_given, new_on_rings}
+use Rattle.lease_book.proofs.Writing.{AreShaped, FreeWasGiven, filter_flat_map, kept_on_rings, lease_given, new_on_rings}
 
 -- ---- lists
 
@@ -73,7 +73,7 @@ abbrev pub MayTake : Known → Option (ℕ × ℕ) → Type 0
 MayTake k None = Unit {0}
 MayTake k (Some e) = (k.device e.0 ≡ None) × (0 < e.0) × (e.0 < 256)
 
-module _ (h : Header) (shaped : AreShaped h) (k : Known) (a w : ℕ) (taken : Option (ℕ × ℕ)) (may : MayTake k taken) where
+module _ (h : Header) (shaped : AreShaped h) (k : Known) (freed : FreeWasGiven h k) (a w : ℕ) (taken : Option (ℕ × ℕ)) (may : MayTake k taken) where
   abbrev after : Known
   after = with_device h (with_word h k a w) taken
 
@@ -165,7 +165,7 @@ module _ (h : Header) (shaped : AreShaped h) (k : Known) (a w : ℕ) (taken : Op
   rings_after = flat_alike (open_on h after) (open_on h (with_word h k a w)) (driver_rings h) (λ q at. on_after q)
 
   new_rings : filter IsNew (flat_map (open_on h after) (driver_rings h)) ≡ map lease_given (rings.given_by h k a w)
-  new_rings = ap (filter IsNew) rings_after ∙ new_on_rings h shaped k a w
+  new_rings = ap (filter IsNew) rings_after ∙ new_on_rings h shaped k freed a w
 
   -- ---- the input contexts
 
@@ -383,7 +383,7 @@ module _ (h : Header) (shaped : AreShaped h) (k : Known) (a w : ℕ) (taken : Op
       let d' : List Leased = device_ranges h after in
       in_among (open_leases h after) l
       (both_stay l (flat_map (open_on h k) (driver_rings h)) (open_ranges h k) (flat_map (open_on h after) (driver_rings h)) (open_ranges h after)
-      (λ here. subst (IsIn l) (sym rings_after) (kept_on_rings h shaped k a w l here))
+      (λ here. subst (IsIn l) (sym rings_after) (kept_on_rings h shaped k freed a w l here))
       (both_stay l (part_s ++ part_t ++ part_c ++ part_e) part_d (part_s ++ t' ++ c' ++ e') d'
       (both_stay l (part_s ++ part_t ++ part_c) part_e (part_s ++ t' ++ c') e'
       (both_stay l (part_s ++ part_t) part_c (part_s ++ t') c'
@@ -395,14 +395,14 @@ module _ (h : Header) (shaped : AreShaped h) (k : Known) (a w : ℕ) (taken : Op
 
 -- ---- the law
 
-pub lent_commands : (h : Header) → AreShaped h → (first : ℕ) (past : List Row) (a w : ℕ) → first + length (Write a w ∷ past) ≤ without_end → (taken : Option (ℕ × ℕ)) →
+pub lent_commands : (h : Header) → AreShaped h → (first : ℕ) (past : List Row) → FreeWasGiven h (known h past) → (a w : ℕ) → first + length (Write a w ∷ past) ≤ without_end → (taken : Option (ℕ × ℕ)) →
     option_and_then (taken_device (known h past)) (command_given h (known h past) a w) ≡ taken → MayTake (known h past) taken →
     lents h first (Write a w ∷ past) ≡ with_begun (first + length past) (lents h first past)
     (in_turn (map lease_given (rings.given_by h (known h past) a w) ++ (contexts_given h (known h past) a w ++ entry_taken (known h past) taken ++ device_taken h taken)))
 unfolding begun learned written
-lent_commands h shaped first past a w room taken is may =
+lent_commands h shaped first past freed a w room taken is may =
     let k : Known = known h past in
     let after_is : learned h k (Write a w) ≡ with_device h (with_word h k a w) taken = ap (with_device h (with_word h k a w)) is in
     only_begun h first past (Write a w) room (in_turn (map lease_given (rings.given_by h k a w) ++ (contexts_given h k a w ++ entry_taken k taken ++ device_taken h taken)))
-    (λ l is_open. ap (λ x. is_among (open_leases h x) l) after_is ∙ all_kept h shaped k a w taken may l is_open)
-    (ap in_turn (ap (λ x. filter (λ l. not (is_among (open_leases h k) l)) (open_leases h x)) after_is ∙ new_leases h shaped k a w taken may))
+    (λ l is_open. ap (λ x. is_among (open_leases h x) l) after_is ∙ all_kept h shaped k freed a w taken may l is_open)
+    (ap in_turn (ap (λ x. filter (λ l. not (is_among (open_leases h k) l)) (open_leases h x)) after_is ∙ new_leases h shaped k freed a w taken may))

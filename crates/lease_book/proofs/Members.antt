@@ -1,5 +1,5 @@
 -- What stands in a list that is made of others, and which leases are open on a ring
-use Rattle.lease_book.proofs.Words.{◌≡◌, ◌+◌, ◌<◌, ◌≤◌, ◌==◌, ◌&&◌, ◌∷◌, ◌++◌, ◌∙◌, ◌⊎◌, ℕ, true, List, [], map, zero, suc, arith, sym, ap, refl, inl, inr, subst, eqb-true, eq-eqb, flat_map, range_with_len, cases_Bool, false≢true, is_crossing, place_count, RingView, due_crossings, due_positions, floor_number, leased_crossings, leased_positions, Header, Ring, Known, Leased, Block, Link, open_on, IsIn, from_filter, in_filter}
+use Rattle.lease_book.proofs.Words.{◌≡◌, ◌+◌, ◌<◌, ◌≤◌, ◌==◌, ◌&&◌, ◌∷◌, ◌++◌, ◌∙◌, ◌⊎◌, ℕ, true, List, [], map, zero, suc, arith, sym, ap, refl, inl, inr, subst, eqb-true, eq-eqb, flat_map, range_with_len, cases_Bool, false≢true, is_crossing, place_count, RingView, is_handed_over, due_crossings, due_positions, floor_number, leased_crossings, leased_positions, Header, Ring, Known, Leased, Block, Link, open_on, IsIn, from_filter, in_filter}
 
 pub in_left : {X : Type 0} (x : X) (xs ys : List X) → IsIn x xs → IsIn x (xs ++ ys)
 in_left x [] ys at = absurd at
@@ -57,7 +57,7 @@ from_range from (suc n) p at = elim at [
 
 -- a lease that is open on a ring
 pub data InOn (q : Ring) (v : RingView) : Leased → Type 0 where
-  block : (p : ℕ) → floor_number v ≤ p → p < floor_number v + place_count q.shape → v.given p ≡ true → InOn q v (Block q.id p)
+  block : (p : ℕ) → floor_number v ≤ p → p < floor_number v + place_count q.shape → is_handed_over v p ≡ true → InOn q v (Block q.id p)
   link : (c : ℕ) → floor_number v ≤ c → c < floor_number v + (place_count q.shape + 1) → (is_crossing q.shape c && v.crossed c) ≡ true → InOn q v (Link q.id c)
 
 pub in_on : (h : Header) (k : Known) (q : Ring) (l : Leased) → IsIn l (open_on h k q) → InOn q (k.ring q.id) l
@@ -65,7 +65,7 @@ unfolding open_on leased_positions leased_crossings due_positions due_crossings
 in_on h k q l at = elim (in_either l (map (Block q.id) (leased_positions q.shape (k.ring q.id))) (map (Link q.id) (leased_crossings q.shape (k.ring q.id))) at) [
   | inl left ↦
       let found = from_map (Block q.id) (leased_positions q.shape (k.ring q.id)) l left in
-      let passed = from_filter (k.ring q.id).given (range_with_len (floor_number (k.ring q.id)) (place_count q.shape)) found.0 found.1 in
+      let passed = from_filter (is_handed_over (k.ring q.id)) (range_with_len (floor_number (k.ring q.id)) (place_count q.shape)) found.0 found.1 in
       let within = from_range (floor_number (k.ring q.id)) (place_count q.shape) found.0 passed.0 in
       subst (InOn q (k.ring q.id)) (sym found.2) (block found.0 within.0 within.1 passed.1)
   | inr right ↦
@@ -77,10 +77,10 @@ in_on h k q l at = elim (in_either l (map (Block q.id) (leased_positions q.shape
 
 pub on_in : (h : Header) (k : Known) (q : Ring) (l : Leased) → InOn q (k.ring q.id) l → IsIn l (open_on h k q)
 unfolding open_on leased_positions leased_crossings due_positions due_crossings
-on_in h k q _ (block p low high given) =
+on_in h k q _ (block p low high lent) =
     in_left (Block q.id p) (map (Block q.id) (leased_positions q.shape (k.ring q.id))) (map (Link q.id) (leased_crossings q.shape (k.ring q.id)))
     (in_map (Block q.id) (leased_positions q.shape (k.ring q.id)) p
-    (in_filter (k.ring q.id).given (range_with_len (floor_number (k.ring q.id)) (place_count q.shape)) p (in_range (floor_number (k.ring q.id)) (place_count q.shape) p low high) given))
+    (in_filter (is_handed_over (k.ring q.id)) (range_with_len (floor_number (k.ring q.id)) (place_count q.shape)) p (in_range (floor_number (k.ring q.id)) (place_count q.shape) p low high) lent))
 on_in h k q _ (link c low high crossed) =
     in_right (Link q.id c) (map (Block q.id) (leased_positions q.shape (k.ring q.id))) (map (Link q.id) (leased_crossings q.shape (k.ring q.id)))
     (in_map (Link q.id) (leased_crossings q.shape (k.ring q.id)) c

@@ -2,6 +2,7 @@
 use Rattle.lease_book.proofs.Words.{◌≡◌, ◌≤◌, ◌==◌, ◌&&◌, ◌||◌, ◌++◌, ◌∙◌, ℕ, Bool, true, false, not, nat_le, nat_lt, List, [], arith, sym, ap, refl, inl, inr, eqb-true, flat_map, cases_Bool, and_parts, and_from, nat_tests, is_crossing, floor_number, Header, Ring, driver_rings, Known, Leased, Block, Link, Range, is_among, open_leases, open_on, open_ranges, IsIn, among_is, both_ways, in_among, is_passed}
 use Rattle.lease_book.proofs.Members.{InOn, block, link, from_flat_map, in_either, in_flat_map, in_left, in_on, in_right, on_in}
 use Rattle.lease_book.proofs.PassedLeases.{Moves, block_was, link_was, not_false}
+use Rattle.lease_book.proofs.SameLeases.{lent_same}
 use Rattle.lease_book.proofs.RangesAlone.{IsRange, open_are_ranges}
 
 -- a block or Link that its ring passes on the way from one number to another, or a range that is let go
@@ -42,7 +43,7 @@ module _ (h : Header) (k k' : Known) (gone : List Leased) where
     stays_on q among _ (block p low high given) stays =
         let m = n.each q among in
         let rises : floor_number (k.ring q.id) ≤ floor_number (k'.ring q.id) = m.rises in
-        block p (late (floors k q.id) p (floors k' q.id) low stays) (omega (arith, high, rises)) (ap (λ f. f p) m.given ∙ given)
+        block p (late (floors k q.id) p (floors k' q.id) low stays) (omega (arith, high, rises)) (lent_same (k.ring q.id) (k'.ring q.id) m.given m.free p ∙ given)
     stays_on q among _ (link c low high crossed) stays =
         let m = n.each q among in
         let rises : floor_number (k.ring q.id) ≤ floor_number (k'.ring q.id) = m.rises in

@@ -1,6 +1,6 @@
 -- The floor of a ring moves on: the leases of the blocks and Links that are passed end, and no others
-use Rattle.lease_book.proofs.Words.{◌≡◌, ◌≢◌, ◌+◌, ◌<◌, ◌≤◌, ◌==◌, ◌&&◌, ◌++◌, ◌∙◌, ℕ, Bool, true, false, not, nat_le, nat_lt, arith, sym, ap, refl, inl, inr, subst, eqb-true, eq-eqb, flat_map, cases_Bool, false≢true, and_parts, and_from, nat_tests, number, Shape, is_crossing, place_count, RingView, floor_number, Header, Ring, driver_rings, Known, Leased, Block, Link, Range, is_among, open_leases, open_on, open_ranges, IsIn, among_is, both_ways, in_among, is_passed}
-use Rattle.lease_book.proofs.SameLeases.{LeasesSame}
+use Rattle.lease_book.proofs.Words.{◌≡◌, ◌≢◌, ◌+◌, ◌<◌, ◌≤◌, ◌==◌, ◌&&◌, ◌++◌, ◌∙◌, ℕ, Bool, true, false, not, nat_le, nat_lt, arith, sym, ap, refl, inl, inr, subst, eqb-true, eq-eqb, flat_map, cases_Bool, false≢true, and_parts, and_from, nat_tests, number, Shape, is_crossing, place_count, RingView, floor_number, is_handed_over, Header, Ring, driver_rings, Known, Leased, Block, Link, Range, is_among, open_leases, open_on, open_ranges, IsIn, among_is, both_ways, in_among, is_passed}
+use Rattle.lease_book.proofs.SameLeases.{LeasesSame, lent_same}
 use Rattle.lease_book.proofs.Members.{InOn, block, link, from_flat_map, in_either, in_flat_map, in_left, in_on, in_right, on_in}
 use Rattle.lease_book.proofs.RangesAlone.{IsRange, open_are_ranges}
 
@@ -13,6 +13,7 @@ pub record IsWithinLap (shape : Shape) (v : RingView) : Type 0 where
 pub record Reaches (h : Header) (k k' : Known) (r to : ℕ) : Type 0 where
   pub others : (q : ℕ) → q ≢ r → LeasesSame (k.ring q) (k'.ring q)
   pub given : (k'.ring r).given ≡ (k.ring r).given
+  pub free : (k'.ring r).free ≡ (k.ring r).free
   pub crossed : (k'.ring r).crossed ≡ (k.ring r).crossed
   pub floor : floor_number (k'.ring r) ≡ to
   pub rises : floor_number (k.ring r) ≤ to
@@ -26,6 +27,7 @@ not_false false e = refl
 -- it goes on, on this very ring
 pub record Moves (shape : Shape) (v w : RingView) (to : ℕ) : Type 0 where
   pub given : w.given ≡ v.given
+  pub free : w.free ≡ v.free
   pub crossed : w.crossed ≡ v.crossed
   pub floor : floor_number w ≡ to
   pub rises : floor_number v ≤ to
@@ -46,16 +48,16 @@ not_passed true from p to is low e = grind (arith, nat_tests, low, e)
 not_passed false from p to is low e = absurd (false≢true is)
 
 module _ (q : Ring) (v w : RingView) (to : ℕ) (m : Moves q.shape v w to) where
-  pub block_was : (p : ℕ) → floor_number w ≤ p → w.given p ≡ true → (floor_number v ≤ p) × (p < floor_number v + place_count q.shape) × (v.given p ≡ true) × (to ≤ p)
+  pub block_was : (p : ℕ) → floor_number w ≤ p → is_handed_over w p ≡ true → (floor_number v ≤ p) × (p < floor_number v + place_count q.shape) × (is_handed_over v p ≡ true) × (to ≤ p)
   block_was p low given =
       let from : to ≤ p = omega (arith, m.floor, low) in
       let rises : floor_number v ≤ to = m.rises in
-      let there : v.given p ≡ true = ap (λ f. f p) (sym m.given) ∙ given in
+      let there : is_handed_over v p ≡ true = sym (lent_same v w m.given m.free p) ∙ given in
       elim (cases_Bool (nat_lt p (floor_number v + place_count q.shape))) [
         | inl below ↦ let high : p < floor_number v + place_count q.shape = grind (arith, nat_tests, below) in (omega arith, high, there, from)
         | inr above ↦
             let beyond : floor_number v + place_count q.shape ≤ p = grind (arith, nat_tests, above) in
-            absurd (false≢true (sym (m.within.given p beyond) ∙ there))
+            absurd (false≢true (sym (m.within.given p beyond) ∙ (and_parts (v.given p) (not (v.free p)) there).0))
       ]
 
   pub link_was : (c : ℕ) → floor_number w ≤ c → (is_crossing q.shape c && w.crossed c) ≡ true →
@@ -85,7 +87,7 @@ module _ (h : Header) (k k' : Known) (r to : ℕ) (reaches : Reaches h k k' r to
     moved : q.id ≡ r → Moves q.shape (k.ring q.id) (k'.ring q.id) to
     moved e =
         subst (λ (s : ℕ). Moves q.shape (k.ring s) (k'.ring s) to) (sym e)
-        (record { given = reaches.given; crossed = reaches.crossed; floor = reaches.floor; rises = reaches.rises; within = reaches.within q among e })
+        (record { given = reaches.given; free = reaches.free; crossed = reaches.crossed; floor = reaches.floor; rises = reaches.rises; within = reaches.within q among e })
 
     -- what is open on a ring after it was open before, and isn't passed
     was_here : q.id ≡ r → (l : Leased) → InOn q (k'.ring q.id) l → InOn q (k.ring q.id) l × (over l ≡ false)
@@ -107,7 +109,7 @@ module _ (h : Header) (k k' : Known) (r to : ℕ) (reaches : Reaches h k k' r to
     was_there : q.id ≢ r → (l : Leased) → InOn q (k'.ring q.id) l → InOn q (k.ring q.id) l × (over l ≡ false)
     was_there other _ (block p low high given) =
         let same = reaches.others q.id other in (
-          block p (rw (← ap number same.floor) low) (rw (← ap number same.floor) high) (ap (λ f. f p) (sym same.given) ∙ given),
+          block p (rw (← ap number same.floor) low) (rw (← ap number same.floor) high) (sym (lent_same (k.ring q.id) (k'.ring q.id) same.given same.free p) ∙ given),
           first_fails (r == q.id) (nat_le (floor_number (k.ring r)) p) (nat_lt p to) (other_ring other),
         )
     was_there other _ (link c low high crossed) =
@@ -129,7 +131,7 @@ module _ (h : Header) (k k' : Known) (r to : ℕ) (reaches : Reaches h k k' r to
         let late : to ≤ p = not_passed (r == q.id) (floor_number (k.ring r)) p to (eq-eqb r q.id (sym e)) from stays in
         let floor : floor_number (k'.ring q.id) ≡ to = m.floor in
         let rises : floor_number (k.ring q.id) ≤ to = m.rises in
-        block p (omega arith) (omega arith) (ap (λ f. f p) m.given ∙ given)
+        block p (omega arith) (omega arith) (lent_same (k.ring q.id) (k'.ring q.id) m.given m.free p ∙ given)
     stays_here e _ (link c low high crossed) stays =
         let m = moved e in
         let from : floor_number (k.ring r) ≤ c = subst (λ (s : ℕ). floor_number (k.ring s) ≤ c) e low in
@@ -141,7 +143,7 @@ module _ (h : Header) (k k' : Known) (r to : ℕ) (reaches : Reaches h k k' r to
     stays_there : q.id ≢ r → (l : Leased) → InOn q (k.ring q.id) l → InOn q (k'.ring q.id) l
     stays_there other _ (block p low high given) =
         let same = reaches.others q.id other in
-        block p (rw (ap number same.floor) low) (rw (ap number same.floor) high) (ap (λ f. f p) same.given ∙ given)
+        block p (rw (ap number same.floor) low) (rw (ap number same.floor) high) (lent_same (k.ring q.id) (k'.ring q.id) same.given same.free p ∙ given)
     stays_there other _ (link c low high crossed) =
         let same = reaches.others q.id other in
         link c (rw (ap number same.floor) low) (rw (ap number same.floor) high) (ap (λ f. is_crossing q.shape c && f c) same.crossed ∙ crossed)

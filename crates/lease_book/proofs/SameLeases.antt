@@ -1,5 +1,5 @@
 -- Rows that neither begin nor end a lease: doorbells, declarations, most registers
-use Rattle.lease_book.proofs.Words.{◌≡◌, ◌≢◌, ◌<◌, ◌==◌, ◌&&◌, ◌||◌, ◌∷◌, ◌++◌, ◌∙◌, ◌⊎◌, ℕ, Bool, true, false, not, List, [], length, Option, Some, None, slice_get, option_and_then, zero, suc, arith, sym, ap, refl, inl, inr, cond, eqb-true, flat_map, cases_Bool, RingView, RingChange, Declares, Opens, Holds, changed, due_crossings, due_positions, leased_crossings, leased_positions, Trb, command_of, Header, Ring, Register, Usbcmd, Usbsts, Dnctrl, Crcr, Dcbaap, Config, Iman, Imod, Erstsz, Erstba, Erdp, Sub, Reg, Bell, command_id, driver_rings, shape_of, reset_bit, run_bit, with_register, Known, learned, entry_of, context_ranges, device_ranges, entry_ranges, open_leases, open_on, open_ranges, range_of_command, range_of_entry, slots, IsIn}
+use Rattle.lease_book.proofs.Words.{◌≡◌, ◌≢◌, ◌<◌, ◌==◌, ◌&&◌, ◌||◌, ◌∷◌, ◌++◌, ◌∙◌, ◌⊎◌, ℕ, Bool, true, false, not, List, [], length, Option, Some, None, slice_get, option_and_then, zero, suc, arith, sym, ap, refl, inl, inr, cond, eqb-true, flat_map, cases_Bool, RingView, is_handed_over, RingChange, Declares, Opens, Holds, changed, due_crossings, due_positions, leased_crossings, leased_positions, Trb, command_of, Header, Ring, Register, Usbcmd, Usbsts, Dnctrl, Crcr, Dcbaap, Config, Iman, Imod, Erstsz, Erstba, Erdp, Sub, Reg, Bell, command_id, driver_rings, shape_of, reset_bit, run_bit, with_register, Known, learned, entry_of, context_ranges, device_ranges, entry_ranges, open_leases, open_on, open_ranges, range_of_command, range_of_entry, slots, IsIn}
 use Rattle.ring_knowledge.specs.Rings as rings
 use Rattle.ring_knowledge.specs.Registers as registers
 
@@ -14,8 +14,12 @@ flat_none f (x ∷ xs) none = rw (none x) (flat_none f xs none)
 -- the ring has the same positions and crossings under lease
 pub record LeasesSame (v w : RingView) : Type 0 where
   pub given : w.given ≡ v.given
+  pub free : w.free ≡ v.free
   pub crossed : w.crossed ≡ v.crossed
   pub floor : w.floor ≡ v.floor
+
+pub lent_same : (v w : RingView) → w.given ≡ v.given → w.free ≡ v.free → (p : ℕ) → is_handed_over w p ≡ is_handed_over v p
+lent_same v w given free p = rw (given, free) refl
 
 module _ (h : Header) where
   -- of what the leases rest on nothing has changed
@@ -28,7 +32,7 @@ module _ (h : Header) where
 
   on_same : (k k' : Known) → RestsSame k k' → (r : Ring) → open_on h k' r ≡ open_on h k r
   unfolding open_on leased_positions leased_crossings due_positions due_crossings
-  on_same k k' same r = rw ((same.each r.id).given, (same.each r.id).crossed, (same.each r.id).floor) refl
+  on_same k k' same r = rw ((same.each r.id).given, (same.each r.id).free, (same.each r.id).crossed, (same.each r.id).floor) refl
 
   unfinished_same : (k k' : Known) → RestsSame k k' → rings.unfinished_positions h k' ≡ rings.unfinished_positions h k
   unfolding rings.unfinished_positions due_positions
@@ -57,13 +61,13 @@ module _ (h : Header) where
   unfolding rings.on_ring
   idle_same k r change idle q = elim (cases_Bool (q == r)) [
     | inl same ↦ rw same (rw (eqb-true q r same) (at change idle))
-    | inr other ↦ rw other (record { given = refl; crossed = refl; floor = refl })
+    | inr other ↦ rw other (record { given = refl; free = refl; crossed = refl; floor = refl })
   ]
     where
       at : (change : RingChange) → IsIdle change → LeasesSame (k.ring r) (changed (shape_of h r) (k.ring r) change)
-      at _ (declares blocks) = record { given = refl; crossed = refl; floor = refl }
-      at _ opens = record { given = refl; crossed = refl; floor = refl }
-      at _ (holds n) = record { given = refl; crossed = refl; floor = refl }
+      at _ (declares blocks) = record { given = refl; free = refl; crossed = refl; floor = refl }
+      at _ opens = record { given = refl; free = refl; crossed = refl; floor = refl }
+      at _ (holds n) = record { given = refl; free = refl; crossed = refl; floor = refl }
 
   -- the entries of the DCBAA stay where DCBAAP stays, or where no device context is under lease
   pub entries_kept : (k k' : Known) → k'.device ≡ k.device → (k'.register Dcbaap ≡ k.register Dcbaap) ⊎ ((s : ℕ) → k.device s ≡ None) → entry_ranges k' ≡ entry_ranges k
@@ -209,7 +213,7 @@ module _ (h : Header) where
       let k' : Known = learned h k (Reg r v) in
       let writes = writes_register k r v in
       open_same k k' (record {
-        each = λ q. rw writes.ring (record { given = refl; crossed = refl; floor = refl });
+        each = λ q. rw writes.ring (record { given = refl; free = refl; crossed = refl; floor = refl });
         commands = λ p at. command_same k k' (ap (λ f. (f (command_id h)).queue) writes.ring) p;
         table = ap (λ f. f Erstba) writes.register ∙ table_kept k.register r v other;
         devices = writes.device;

@@ -11,6 +11,7 @@ module _ (h : Header) (k : Known) where
   record GoesOn (k' : Known) (r to : ℕ) : Type 0 where
     others : (q : ℕ) → (q == r) ≡ false → k'.ring q ≡ k.ring q
     given : (k'.ring r).given ≡ (k.ring r).given
+    free : (k'.ring r).free ≡ (k.ring r).free
     crossed : (k'.ring r).crossed ≡ (k.ring r).crossed
     floor : floor_number (k'.ring r) ≡ to
     register : k'.register ≡ k.register
@@ -24,6 +25,7 @@ module _ (h : Header) (k : Known) where
   passed_goes r t = record {
     others = λ q differ. rw differ refl;
     given = rw (itself r) refl;
+    free = rw (itself r) refl;
     crossed = rw (itself r) refl;
     floor = rw (itself r) (number-after (shape_of h r) (number t));
     register = refl;
@@ -35,6 +37,7 @@ module _ (h : Header) (k : Known) where
   broken_goes s i r t state = record {
     others = λ q differ. rw differ refl;
     given = rw (itself r) refl;
+    free = rw (itself r) refl;
     crossed = rw (itself r) refl;
     floor = rw (itself r) (number-after (shape_of h r) (number t));
     register = refl;
@@ -46,6 +49,7 @@ module _ (h : Header) (k : Known) where
   stopped_goes s i r t = record {
     others = λ q differ. rw differ refl;
     given = rw (itself r) refl;
+    free = rw (itself r) refl;
     crossed = rw (itself r) refl;
     floor = rw (itself r) refl;
     register = refl;
@@ -53,13 +57,13 @@ module _ (h : Header) (k : Known) where
   }
 
   same_goes : (r : ℕ) → GoesOn k r (floor_number (k.ring r))
-  same_goes r = record { others = λ q differ. refl; given = refl; crossed = refl; floor = refl; register = refl; device = refl }
+  same_goes r = record { others = λ q differ. refl; given = refl; free = refl; crossed = refl; floor = refl; register = refl; device = refl }
 
   marked_goes : (k' : Known) (r to : ℕ) (f : ℕ → ℕ → Bool) → GoesOn k' r to → GoesOn (record k' { must_move = f }) r to
-  marked_goes k' r to f g = record { others = g.others; given = g.given; crossed = g.crossed; floor = g.floor; register = g.register; device = g.device }
+  marked_goes k' r to f g = record { others = g.others; given = g.given; free = g.free; crossed = g.crossed; floor = g.floor; register = g.register; device = g.device }
 
   counted_goes : (k' : Known) (r to n : ℕ) → GoesOn k' r to → GoesOn (record k' { reads = n }) r to
-  counted_goes k' r to n g = record { others = g.others; given = g.given; crossed = g.crossed; floor = g.floor; register = g.register; device = g.device }
+  counted_goes k' r to n g = record { others = g.others; given = g.given; free = g.free; crossed = g.crossed; floor = g.floor; register = g.register; device = g.device }
 
   transferred_goes : (c s i r : ℕ) (t : Spot) → GoesOn (transferred h k c s i r t) r (come_to c t (floor_number (k.ring r)))
   unfolding transferred come_to
@@ -125,6 +129,7 @@ module _ (h : Header) (first : ℕ) (past : List Row) (b : Trb) (room : first + 
         subst (λ (s : ℕ). Moves q.shape (k.ring s) (k'.ring s) (floors k' s)) (sym e)
         (record {
           given = goes.given;
+          free = goes.free;
           crossed = goes.crossed;
           floor = refl;
           rises = subst (λ (n : ℕ). floor_number (k.ring at.ring) ≤ n) (sym goes.floor) rises;
@@ -136,6 +141,7 @@ module _ (h : Header) (first : ℕ) (past : List Row) (b : Trb) (room : first + 
         let same : k'.ring q.id ≡ k.ring q.id = goes.others q.id differ in
         record {
           given = ap (λ (v : RingView). v.given) same;
+          free = ap (λ (v : RingView). v.free) same;
           crossed = ap (λ (v : RingView). v.crossed) same;
           floor = refl;
           rises = let floor : floor_number (k'.ring q.id) ≡ floor_number (k.ring q.id) = ap (λ (v : RingView). floor_number v) same in omega (arith, floor);

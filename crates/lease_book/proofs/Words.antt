@@ -39,7 +39,7 @@ unfoldable pub use Rattle.ring_knowledge.specs.Transfers.{broken_off, passed, st
 unfoldable pub use Rattle.ring_knowledge.specs.Writes.{command_given, entry_of, taken_device, with_device, with_word, written}
 pub use Rattle.ring_knowledge.specs.declared.lease.Lease.{Lease}
 pub use Rattle.segments.proofs.ReachedSpots.{number-after}
-pub use Rattle.segments.specs.RingView.{RingChange}
+pub use Rattle.segments.specs.RingView.{RingChange, is_handed_over}
 pub use Rattle.std.proofs.Common.{Bool, Err, List, None, Ok, OnOk, Option, Result, Some, [], ap, append-nil, arith, cond, drop, drop-cons, eq-eqb, eqb-true, false, filter, get_or, if◌then◌else◌, inl, inr, insert, is_some, length, ltb-true, map, max, nat_le, nat_lt, not, option_and_then, position, refl, reverse, slice_get, slice_set, subst, suc, sym, take_all, true, unwrap_or, vec_len, zero, ℕ, ◌%◌, ◌&&◌, ◌*◌, ◌++◌, ◌+◌, ◌-◌, ◌<◌, ◌==◌, ◌||◌, ◌∙◌, ◌∷◌, ◌≡◌, ◌≢◌, ◌≤◌, ◌⊎◌}
 pub use Rattle.std.proofs.lemmas.Bool.{cond_both}
 pub use Rattle.std.proofs.lemmas.List.{drop_all}

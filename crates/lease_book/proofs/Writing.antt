@@ -1,5 +1,5 @@
 -- The leases that a write begins: those of what it gives
-use Rattle.lease_book.proofs.Words.{◌≡◌, ◌+◌, ◌<◌, ◌≤◌, ◌&&◌, ◌||◌, ◌∷◌, ◌++◌, ◌∙◌, ℕ, Bool, true, false, not, List, [], filter, map, zero, suc, arith, sym, ap, refl, inl, inr, cond, subst, append-nil, flat_map, range_with_len, cases_Bool, and_parts, and_from, or_left, filter-append, Shape, is_crossing, place_count, RingView, Writes, changed, crossings_given, due_crossings, due_positions, floor_number, gives, gives_crossing, is_crossing_due, leased_crossings, leased_positions, positions_given, Header, Ring, driver_rings, shape_of, Known, Given, Position, Crossing, with_word, Leased, Block, Link, is_among, open_leases, open_on, open_ranges, IsIn, among_is, both_ways, in_among}
+use Rattle.lease_book.proofs.Words.{◌≡◌, ◌+◌, ◌<◌, ◌≤◌, ◌&&◌, ◌||◌, ◌∷◌, ◌++◌, ◌∙◌, ℕ, Bool, true, false, not, List, [], filter, map, zero, suc, arith, sym, ap, refl, inl, inr, cond, subst, append-nil, flat_map, range_with_len, cases_Bool, and_parts, and_from, or_left, false≢true, filter-append, Shape, is_crossing, place_count, RingView, Writes, changed, crossings_given, due_crossings, due_positions, floor_number, gives, gives_crossing, is_crossing_due, leased_crossings, leased_positions, is_handed_over, positions_given, Header, Ring, driver_rings, shape_of, Known, Given, Position, Crossing, with_word, Leased, Block, Link, is_among, open_leases, open_on, open_ranges, IsIn, among_is, both_ways, in_among}
 use Rattle.ring_knowledge.specs.Rings as rings
 use Rattle.lease_book.proofs.Growing.{map_append, map_map}
 use Rattle.lease_book.proofs.Rows.{none_new}
@@ -44,10 +44,12 @@ filter_range p q t from (suc n) same =
           rw (not_so, none) rest
     ]
 
-newly_given : (g s : Bool) → ((g || s) && not g) ≡ (not g && s)
-newly_given true s = refl
-newly_given false true = refl
-newly_given false false = refl
+newly_given : (g s f : Bool) → (f ≡ true → g ≡ true) → (((g || s) && not f) && not (g && not f)) ≡ (not g && s)
+newly_given true s true only = refl
+newly_given true s false only = refl
+newly_given false s true only = absurd (false≢true (only refl))
+newly_given false true false only = refl
+newly_given false false false only = refl
 
 newly_crossed : (c g s : Bool) → (s ≡ true → c ≡ true) → ((c && (g || s)) && not (c && g)) ≡ (not g && s)
 newly_crossed true true s only = refl
@@ -65,7 +67,11 @@ gives_crossings shape v q a w e = (and_parts _ _ (and_parts _ _ (and_parts _ _ (
 abbrev pub AreShaped : Header → Type 0
 AreShaped h = (q : Ring) → IsIn q (driver_rings h) → shape_of h q.id ≡ q.shape
 
-module _ (h : Header) (shaped : AreShaped h) (k : Known) (a w : ℕ) where
+-- what is free of them was given
+abbrev pub FreeWasGiven : Header → Known → Type 0
+FreeWasGiven h k = (q : Ring) → IsIn q (driver_rings h) → (p : ℕ) → (k.ring q.id).free p ≡ true → (k.ring q.id).given p ≡ true
+
+module _ (h : Header) (shaped : AreShaped h) (k : Known) (freed : FreeWasGiven h k) (a w : ℕ) where
   abbrev IsNew : Leased → Bool
   IsNew l = not (is_among (open_leases h k) l)
 
@@ -77,22 +83,22 @@ module _ (h : Header) (shaped : AreShaped h) (k : Known) (a w : ℕ) where
     unfolding with_word
     view_after = ap (λ s. changed s (k.ring q.id) (Writes a w)) (shaped q among)
 
-    -- a due position is under lease where it was given
-    block_was : (p : ℕ) → floor_number (k.ring q.id) ≤ p → p < floor_number (k.ring q.id) + place_count q.shape → is_among (open_leases h k) (Block q.id p) ≡ (k.ring q.id).given p
+    -- a due position is under lease where it was handed over
+    block_was : (p : ℕ) → floor_number (k.ring q.id) ≤ p → p < floor_number (k.ring q.id) + place_count q.shape → is_among (open_leases h k) (Block q.id p) ≡ is_handed_over (k.ring q.id) p
     unfolding open_leases
     block_was p low high = both_ways _ _ there back
       where
-        given_on : (s : Ring) (l : Leased) → InOn s (k.ring s.id) l → l ≡ Block q.id p → (k.ring q.id).given p ≡ true
-        given_on s _ (block m least most given) e = let ids : s.id ≡ q.id = cc in let same : m ≡ p = cc in subst (λ (i : ℕ). (k.ring i).given p ≡ true) ids (subst (λ (i : ℕ). (k.ring s.id).given i ≡ true) same given)
+        given_on : (s : Ring) (l : Leased) → InOn s (k.ring s.id) l → l ≡ Block q.id p → is_handed_over (k.ring q.id) p ≡ true
+        given_on s _ (block m least most given) e = let ids : s.id ≡ q.id = cc in let same : m ≡ p = cc in subst (λ (i : ℕ). is_handed_over (k.ring i) p ≡ true) ids (subst (λ (i : ℕ). is_handed_over (k.ring s.id) i ≡ true) same given)
         given_on s _ (link m least most crossed) e = cc
 
-        there : is_among (flat_map (open_on h k) (driver_rings h) ++ open_ranges h k) (Block q.id p) ≡ true → (k.ring q.id).given p ≡ true
+        there : is_among (flat_map (open_on h k) (driver_rings h) ++ open_ranges h k) (Block q.id p) ≡ true → is_handed_over (k.ring q.id) p ≡ true
         there e = elim (in_either (Block q.id p) (flat_map (open_on h k) (driver_rings h)) (open_ranges h k) (among_is _ (Block q.id p) e)) [
           | inl on ↦ let found = from_flat_map (open_on h k) (driver_rings h) (Block q.id p) on in given_on found.0 (Block q.id p) (in_on h k found.0 (Block q.id p) found.2) refl
           | inr range ↦ absurd (open_are_ranges h k (Block q.id p) range)
         ]
 
-        back : (k.ring q.id).given p ≡ true → is_among (flat_map (open_on h k) (driver_rings h) ++ open_ranges h k) (Block q.id p) ≡ true
+        back : is_handed_over (k.ring q.id) p ≡ true → is_among (flat_map (open_on h k) (driver_rings h) ++ open_ranges h k) (Block q.id p) ≡ true
         back e =
             in_among _ (Block q.id p) (in_left (Block q.id p) (flat_map (open_on h k) (driver_rings h)) (open_ranges h k)
             (in_flat_map (open_on h k) (driver_rings h) q (Block q.id p) among (on_in h k q (Block q.id p) (block p low high e))))
@@ -128,10 +134,10 @@ module _ (h : Header) (shaped : AreShaped h) (k : Known) (a w : ℕ) where
     new_blocks : filter (λ p. IsNew (Block q.id p)) (leased_positions q.shape (changed q.shape (k.ring q.id) (Writes a w))) ≡ positions_given q.shape (k.ring q.id) a w
     unfolding leased_positions due_positions positions_given
     new_blocks =
-        filter_range (λ p. IsNew (Block q.id p)) (changed q.shape (k.ring q.id) (Writes a w)).given (λ p. not ((k.ring q.id).given p) && gives q.shape (k.ring q.id).floor p a w)
+        filter_range (λ p. IsNew (Block q.id p)) (is_handed_over (changed q.shape (k.ring q.id) (Writes a w))) (λ p. not ((k.ring q.id).given p) && gives q.shape (k.ring q.id).floor p a w)
         (floor_number (k.ring q.id)) (place_count q.shape) (λ p low high.
-        ap (λ b. ((k.ring q.id).given p || gives q.shape (k.ring q.id).floor p a w) && not b) (block_was p low high)
-        ∙ newly_given ((k.ring q.id).given p) (gives q.shape (k.ring q.id).floor p a w))
+        ap (λ b. (((k.ring q.id).given p || gives q.shape (k.ring q.id).floor p a w) && not ((k.ring q.id).free p)) && not b) (block_was p low high)
+        ∙ newly_given ((k.ring q.id).given p) (gives q.shape (k.ring q.id).floor p a w) ((k.ring q.id).free p) (freed q among p))
 
     new_links : filter (λ c. IsNew (Link q.id c)) (leased_crossings q.shape (changed q.shape (k.ring q.id) (Writes a w))) ≡ crossings_given q.shape (k.ring q.id) a w
     unfolding leased_crossings due_crossings crossings_given
@@ -160,8 +166,10 @@ module _ (h : Header) (shaped : AreShaped h) (k : Known) (a w : ℕ) where
 
     -- what was open on the ring still is
     kept_on : (l : Leased) → InOn q (k.ring q.id) l → InOn q (after.ring q.id) l
-    kept_on _ (block p low high given) =
-        subst (λ (v : RingView). InOn q v (Block q.id p)) (sym view_after) (block p low high (or_left ((k.ring q.id).given p) (gives q.shape (k.ring q.id).floor p a w) given))
+    kept_on _ (block p low high lent) =
+        let parts = and_parts ((k.ring q.id).given p) (not ((k.ring q.id).free p)) lent in
+        subst (λ (v : RingView). InOn q v (Block q.id p)) (sym view_after)
+        (block p low high (and_from _ (not ((k.ring q.id).free p)) (or_left ((k.ring q.id).given p) (gives q.shape (k.ring q.id).floor p a w) parts.0) parts.1))
     kept_on _ (link c low high crossed) =
         let parts = and_parts (is_crossing q.shape c) ((k.ring q.id).crossed c) crossed in
         subst (λ (v : RingView). InOn q v (Link q.id c)) (sym view_after)

@@ -120,6 +120,7 @@ module _ (h : Header) (headed : IsHeader h) (first : ℕ) (past : List Row) (b :
     each : (r : Ring) → IsIn r (driver_rings h) → Moves r.shape (k.ring r.id) (k'.ring r.id) (floors k' r.id)
     each r at = record {
       given = ap (λ (f : ℕ → RingView). (f r.id).given) after_is.0 ∙ (same.rings r.id).given;
+      free = ap (λ (f : ℕ → RingView). (f r.id).free) after_is.0 ∙ (same.rings r.id).free;
       crossed = ap (λ (f : ℕ → RingView). (f r.id).crossed) after_is.0 ∙ (same.rings r.id).crossed;
       floor = refl;
       rises = floors_grow h headed k keeps b next.clean r.id;

@@ -3,6 +3,7 @@ use Rattle.std.proofs.Common.{◌≡◌, ◌+◌, ◌<◌, ◌≤◌, ◌%◌, �
 use Rattle.lease_rows.proofs.Words.{flat_map, and_parts, or_cases, nat_tests, slice_get_read, put, ContextSize, Bytes32, Bytes64, device_context_bytes, input_context_bytes, Command, command_of, named_context, is_crossing, is_inside, place_count, touches, crossings_given, due_crossings, due_positions, floor_number, gives, gives_crossing, is_crossing_due, positions_given, link_of, Ring, Header, Row, Write, IsHeader, command_id, is_command_kind, is_driver_kind, is_event_kind, shape_of, RingGiving, Position, Crossing, RingRecord, FollowsRing, crossings_of, least_crossing, positions_of, Known, known, command_given, entry_of, taken_device, noted_past, Leased, Block, Link, Range, InputContext, SlotEntry, DeviceContext, range_of_command, range_of_context, as_lease, comes_before, without_end, IsIn, from_filter, DriverKeeps, area_parts, written_devices, taking, rules_of, written_device, Lent, in_turn, is_place_free, lents, precedes, with_begun, with_leased, is_use_free, NoneAhead, link_free, block_free, context_free, device_free, entry_free, MayTake, device_taken, entry_taken, lent_commands, from_range, lease_given, command_found, ring_here, shape_allowed, shape_there, and_false, IsAmong, among_at, same_number, TraceRecord, WordPlace, FollowsTrace, IsGivenBy, IsPlacedSo, IsCleanRow, EntryFits, SlotIsFree, command_taken, slot_taken}
 use Rattle.ring_knowledge.specs.Rings as rings
 use Rattle.lease_rows.proofs.OtherRows.{among_drivers, are_shaped, driver_now}
+use Rattle.lease_rows.proofs.TransferRows.{driver_there}
 use Rattle.lease_rows.proofs.GivenHere.{command_id_is, commanded_elsewhere, commanded_here, commanded_nowhere, given_by_one, given_nowhere}
 use Rattle.lease_rows.proofs.TakenRanges.{begun_none, still_free}
 
@@ -90,7 +91,7 @@ module _ (h : Header) (headed : IsHeader h) (first : ℕ) (past : List Row) (a w
       lents h first (Write a w ∷ past) ≡ with_begun number lent_before (begun_of gs ps)
   unfolding command_given begun_of taken_at
   lent_of gs ps given positions =
-      lent_commands h (are_shaped h headed) first past a w next.room taken refl (may_take taken refl)
+      lent_commands h (are_shaped h headed) first past (λ q at p free. (keeps.rings q.id (driver_there h headed q at)).free_given p free) a w next.room taken refl (may_take taken refl)
       ∙ ap (λ n. with_begun n lent_before (begun_of (rings.given_by h k a w) (positions_given (shape_of h (command_id h)) (k.ring (command_id h)) a w))) (sym next.numbered)
       ∙ ap (λ xs. with_begun number lent_before (begun_of xs (positions_given (shape_of h (command_id h)) (k.ring (command_id h)) a w))) given
       ∙ ap (λ xs. with_begun number lent_before (begun_of gs xs)) positions

@@ -9,7 +9,7 @@ counted_same : (h : Header) (k : Known) → open_leases h (record k { reads = k.
 counted_same h k =
     let k' : Known = record k { reads = k.reads + 1 } in
     open_same h k k' (record {
-      each = λ r. record { given = refl; crossed = refl; floor = refl };
+      each = λ r. record { given = refl; free = refl; crossed = refl; floor = refl };
       commands = λ p at. command_same h k k' refl p;
       table = refl;
       devices = refl;

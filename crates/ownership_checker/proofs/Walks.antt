@@ -43,4 +43,4 @@ walks h is rows clean done r within driver =
     let keeps = keeps_rings h is past was_clean (all_placed h is past was_clean) r driver in
     let has : HasRing h r = has_ring h r driver in
     walk_reads (shape_of h r) (shape_allowed h is r driver) (no_event_ring (shape_of h r).kind (ap (λ s. is_driver_kind s.kind) has.shape ∙ has.driver))
-    (known h past).memory ((known h past).ring r) keeps
+    (known h past).memory ((known h past).ring r) keeps.rules keeps.restored

@@ -124,6 +124,7 @@ module _ (shape : Shape) (v : RingView) (r : RingRecord) (follows : FollowsMarks
         given = rw given follows.given;
         segments = rw crossed follows.segments;
         crossed = rw crossed follows.crossed;
+        restored = follows.restored;
       }
 
 -- the lengths as the code makes them

@@ -51,4 +51,5 @@ new_marks shape allowed two r no_blocks no_lengths none_given no_crossings floor
   given = λ p. sym (none_noted 0 (place_count shape) r.given.items (place_count shape) (p % place_count shape) p none_given (omega arith));
   segments = grind (arith, common_steps, no_crossings, few_links shape.kind shape.segments);
   crossed = λ q. none_crossed shape r.crossed.items (length shape.segments) q no_crossings;
+  restored = λ p. refl;
 }

@@ -83,6 +83,7 @@ module _ (shape : Shape) (v : RingView) (a w : ℕ) where
       given = λ p. positions p ∙ ap (λ marks. is_noted (floor_number v) (place_count shape) marks (p % place_count shape) p) (sym has.given_is);
       segments = omega (arith, follows.segments, segments, ap length has.crossed_is);
       crossed = λ q. crossings q ∙ ap (λ marks. is_crossing shape q && is_noted (least_crossing v) (place_count shape) marks (link_of shape q) q) (sym has.crossed_is);
+      restored = follows.restored;
     }
 
     -- a write that gives nothing

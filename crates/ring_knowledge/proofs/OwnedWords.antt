@@ -1,5 +1,5 @@
 -- Which words of a ring its controller may own, by the place of the address
-use Rattle.ring_knowledge.proofs.Words.{◌≡◌, ◌+◌, ◌/◌, ◌%◌, ◌<◌, ◌≤◌, ◌∷◌, ◌∙◌, ◌&&◌, ◌||◌, ℕ, List, [], Bool, true, false, Some, None, refl, ap, sym, arith, length, slice_index, get_or, cond, nat_lt, filter, lt-ltb, ltb-true, list_any, range_with_len, and_parts, and_from, Place, AtData, AtLink, Shape, place_count, address_of, links, link_crossed, is_crossing, link_address, overlap, place_at, RingView, floor_number, due_positions, due_crossings, leased_positions, leased_crossings, link_of, place_count_pos, place_below, address_aligned, address_of-first, address_of-mod, link_aligned, crosses, crossed_link, crossing_positive, is_crossing-from, link_address_is, place_at-data, place_at-link, place_at-Data, place_at-Link, RingRecord, is_noted, FollowsMarks, least_crossing}
+use Rattle.ring_knowledge.proofs.Words.{leased_where_restored, ◌≡◌, ◌+◌, ◌/◌, ◌%◌, ◌<◌, ◌≤◌, ◌∷◌, ◌∙◌, ◌&&◌, ◌||◌, ℕ, List, [], Bool, true, false, Some, None, refl, ap, sym, arith, length, slice_index, get_or, cond, nat_lt, filter, lt-ltb, ltb-true, list_any, range_with_len, and_parts, and_from, Place, AtData, AtLink, Shape, place_count, address_of, links, link_crossed, is_crossing, link_address, overlap, place_at, RingView, floor_number, due_positions, due_crossings, leased_positions, leased_crossings, link_of, place_count_pos, place_below, address_aligned, address_of-first, address_of-mod, link_aligned, crosses, crossed_link, crossing_positive, is_crossing-from, link_address_is, place_at-data, place_at-link, place_at-Data, place_at-Link, RingRecord, is_noted, FollowsMarks, least_crossing}
 use Rattle.ring_knowledge.proofs.Noted.{noted_due, noted_within, false_unless, or_false}
 use Rattle.ring_knowledge.proofs.Ranges.{any_none, any_only}
 use Rattle.ring_knowledge.proofs.DueNumbers.{IsDue, link_of-crossed, due_number, same_due, due_crossing, same_due_crossing}
@@ -55,8 +55,10 @@ module _ (shape : Shape) (v : RingView) (r : RingRecord) (follows : FollowsMarks
 
   positions_are : list_any (λ p. overlap a 4 (address_of shape p) 16) (leased_positions shape v)
       ≡ list_any (λ p. v.given p && overlap a 4 (address_of shape p) 16) (range_with_len (floor_number v) (place_count shape))
-  unfolding leased_positions due_positions
-  positions_are = any_filtered (λ p. overlap a 4 (address_of shape p) 16) v.given (range_with_len (floor_number v) (place_count shape))
+  unfolding due_positions
+  positions_are =
+      ap (λ ps. list_any (λ p. overlap a 4 (address_of shape p) 16) ps) (leased_where_restored shape v follows.restored)
+      ∙ any_filtered (λ p. overlap a 4 (address_of shape p) 16) v.given (range_with_len (floor_number v) (place_count shape))
 
   crossings_are : list_any (λ q. overlap a 4 (link_address shape q) 16) (leased_crossings shape v)
       ≡ list_any (λ q. (is_crossing shape q && v.crossed q) && overlap a 4 (link_address shape q) 16) (range_with_len (floor_number v) (place_count shape + 1))

@@ -130,4 +130,5 @@ module _ (shape : Shape) (v : RingView) (r : RingRecord) (follows : FollowsMarks
     given = given_now n.given.items given;
     segments = omega (arith, follows.segments, crossed.as_many);
     crossed = crossed_now n.crossed.items crossed;
+    restored = follows.restored;
   }

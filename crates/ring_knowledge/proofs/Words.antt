@@ -13,7 +13,7 @@ pub use Rattle.ring_knowledge.specs.declared.ring_record.RingRecord.{RingRecord}
 pub use Rattle.segments.proofs.Blocks.{before, before-next, segment_at}
 pub use Rattle.segments.proofs.Crossings.{Crosses, crossed_link, crosses, crosses-from, crossing_positive, end_in_lap, end_is, is_crossing-from, link_address_is, link_crossed-lap, same_crossing, same_crossing_at}
 pub use Rattle.segments.proofs.DataPlaces.{block_is, link_aligned, link_is}
-pub use Rattle.segments.proofs.DueLists.{crossing_given, crossing_given_is, position_given, position_given_is}
+pub use Rattle.segments.proofs.DueLists.{crossing_given, crossing_given_is, leased_where_restored, position_given, position_given_is}
 pub use Rattle.segments.proofs.GivenCount.{given_below}
 pub use Rattle.segments.proofs.Giving.{gives_is}
 pub use Rattle.segments.proofs.MoveTargets.{between}

@@ -3,6 +3,7 @@ use Rattle.std.specs.Prelude.{◌≡◌, ℕ, ◌+◌, ◌<◌, ◌≤◌, ◌%�
 use Rattle.segments.specs.Shape.{IsShape}
 use Rattle.segments.specs.ShapeValue.{Shape}
 use Rattle.segments.specs.Places.{place_count, links, is_crossing}
+use Rattle.segments.specs.RingKeeps.{IsRestored}
 use Rattle.segments.specs.RingView.{RingView, floor_number}
 use Rattle.segments.specs.Ceiling.{is_step_given}
 use Rattle.segments.specs.Descriptors.{length_from}
@@ -37,7 +38,7 @@ ArePositive (n ∷ ns) = (0 < n) × ArePositive ns
 abbrev pub least_crossing : RingView → ℕ
 least_crossing v = max (floor_number v) 1
 
--- the record holds what is declared and given, the floor, and where the ring is held
+-- the record holds what is declared and given, the floor, and where the ring is held; nothing of the ring is free
 pub record FollowsMarks (shape : Shape) (v : RingView) (r : RingRecord) : Type 0 where
   pub allowed : IsShape shape
   pub queue : v.queue ≡ r.blocks.items
@@ -55,6 +56,7 @@ pub record FollowsMarks (shape : Shape) (v : RingView) (r : RingRecord) : Type 0
   pub given : (p : ℕ) → v.given p ≡ is_noted (floor_number v) (place_count shape) r.given.items (p % place_count shape) p
   pub segments : length (links shape) ≤ length r.crossed.items
   pub crossed : (q : ℕ) → v.crossed q ≡ (is_crossing shape q && is_noted (least_crossing v) (place_count shape) r.crossed.items (link_of shape q) q)
+  pub restored : IsRestored v
 
 -- the record holds what is known of the ring: also how much is given without a gap
 pub record FollowsRing (shape : Shape) (v : RingView) (r : RingRecord) : Type 0 where

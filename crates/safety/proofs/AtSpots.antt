@@ -43,14 +43,14 @@ module _ (shape : Shape) (is : IsShape shape) (memory : ℕ → ℕ) (v : RingVi
       let top = rank_most t in
       (omega (arith, at.reached), omega (arith, at.below))
 
-  pub takeable : (q : ℕ) → MayStand shape v (Data q) → v.given q ≡ true → Takeable shape memory v q
-  takeable q at given =
+  pub takeable : (q : ℕ) → MayStand shape v (Data q) → v.given q ≡ true → v.free q ≡ false → Takeable shape memory v q
+  takeable q at given kept =
       let n = near (Data q) at in
       let none : Block = record { w = [] } in
       let in_queue : q < declared v = k.given_declared q given in
       let d : Block = get_or v.queue q none in
       let queued : slice_get v.queue q ≡ Some d = slice_get-get_or v.queue q none in_queue in
-      let stands = k.kept q d n.0 given queued in
+      let stands = k.kept q d n.0 given kept queued in
       record {
         given = given;
         declared = in_queue;

@@ -98,6 +98,8 @@ module _ (h : Header) (is : IsHeader h) (k : Known) (d : DriverKeeps h k) (a w :
         lengths = read.lengths ∙ ap (λ (v : RingView). v.lengths) view ∙ both.lengths;
         given = read.given ∙ ap {B = ℕ → Bool} (λ (v : RingView). v.given) view ∙ both.given;
         crossed = read.crossed ∙ ap {B = ℕ → Bool} (λ (v : RingView). v.crossed) view ∙ both.crossed;
+        withdrawn = read.withdrawn ∙ ap {B = ℕ → Bool} (λ (v : RingView). v.withdrawn) view ∙ both.withdrawn;
+        free = read.free ∙ ap {B = ℕ → Bool} (λ (v : RingView). v.free) view ∙ both.free;
       }
 
   -- ---- the command that is given

@@ -31,7 +31,7 @@ module _ (h : Header) (k l : Known) (same : SameForCommands k l) where
   }
 
   given : SameGiven (k.ring (command_id h)) (l.ring (command_id h))
-  given = subst (λ f. SameGiven (k.ring (command_id h)) (f (command_id h))) (sym same.ring) (record { queue = refl; lengths = refl; given = refl; crossed = refl })
+  given = subst (λ f. SameGiven (k.ring (command_id h)) (f (command_id h))) (sym same.ring) (record { queue = refl; lengths = refl; given = refl; crossed = refl; withdrawn = refl; free = refl })
 
   pub same_before : (p : ℕ) (c : Command) → IsUnfinished h l p c → IsUnfinished h k p c
   same_before = unfinished_view h k l given (ap (λ f. (f (command_id h)).floor) same.ring)

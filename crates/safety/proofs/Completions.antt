@@ -1,6 +1,6 @@
 -- A Command Completion Event that may be read keeps what the rules keep of each ring, so long as it places endpoints where it may
 use Rattle.std.proofs.Common.{◌≡◌, ◌<◌, ◌≤◌, ◌==◌, ◌||◌, if◌then◌else◌, ◌∷◌, ℕ, not, nat_lt, Bool, false, List, [], Option, None, Some, arith, refl, sym, subst, ltb-true, eqb-true, true}
-use Rattle.safety.proofs.Words.{cond_both, or_parts, not-false, Block, code, slot, pointer, Spot, address_of, number, after, RingView, Reaches, Holds, floor_number, ceiling, target, is_reached, MayReach, holds_keeps, reaches_keeps, reaches_and_holds_keeps, reached_given, after_reached, number-after, move_reached, ceiling_held, ceiling_within, IsAhead, target_ahead, Command, StopEndpoint, EndpointState, Stopped, is_off, Change, SlotGoesOn, DeviceLeft, Disables, Places, Stops, Resets, changes, Header, IsHeader, shape_of, command_id, ring_having, Known, command_at, next_command, set_to, bound_to, moved_to, moved, pointed, disabled, in_state, held_at_ceiling, changed_by, changed_by_all, succeeded, stop_ended, finished, completed, may_be_taken, can_finish, is_impossible_completion, RingsKeep, EndpointsKeep, MayPoint, MayChange, MayChangeAll, MayFinish}
+use Rattle.safety.proofs.Words.{shown_where_restored, cond_both, or_parts, not-false, Block, code, slot, pointer, Spot, address_of, number, after, RingView, Reaches, Holds, floor_number, ceiling, target, is_reached, MayReach, holds_keeps, reaches_keeps, reaches_and_holds_keeps, reached_given, after_reached, number-after, move_reached, ceiling_held, ceiling_within, IsAhead, target_ahead, Command, StopEndpoint, EndpointState, Stopped, is_off, Change, SlotGoesOn, DeviceLeft, Disables, Places, Stops, Resets, changes, Header, IsHeader, shape_of, command_id, ring_having, Known, command_at, next_command, set_to, bound_to, moved_to, moved, pointed, disabled, in_state, held_at_ceiling, changed_by, changed_by_all, succeeded, stop_ended, finished, completed, may_be_taken, can_finish, is_impossible_completion, RingsKeep, EndpointsKeep, MayPoint, MayChange, MayChangeAll, MayFinish}
 use Rattle.safety.specs.RingsKeep.{IsDriverRing}
 use Rattle.safety.proofs.RingsOfHeader.{shape_allowed}
 use Rattle.safety.proofs.EndpointHistories.{finish_elsewhere}
@@ -13,8 +13,12 @@ module _ (h : Header) (is : IsHeader h) where
   set_keeps k keeps r t may =
       on_ring_twice_keeps h k r (Reaches t) (Holds (number t)) keeps (λ driver.
       let allowed = shape_allowed h is r driver in
-      reaches_and_holds_keeps (shape_of h r) allowed k.memory (k.ring r) (keeps r driver) t (may driver) (number t) (omega arith)
-      (reached_given (shape_of h r) allowed k.memory (k.ring r) (keeps r driver) t (may driver)))
+      let kept = keeps r driver in
+      record {
+        rules = reaches_and_holds_keeps (shape_of h r) allowed k.memory (k.ring r) kept.rules t (may driver) (number t) (omega arith)
+            (reached_given (shape_of h r) allowed k.memory (k.ring r) kept.rules t (may driver)) (shown_where_restored (shape_of h r) (k.ring r) kept.restored (number t));
+        restored = kept.restored;
+      })
 
   target_keeps : (k : Known) → RingsKeep h k → (r : ℕ) (o : Option Spot) → ((t : Spot) → o ≡ Some t → IsDriverRing h r → MayReach (shape_of h r) (k.ring r) t) →
       RingsKeep h (moved_to h k r o)
@@ -51,8 +55,12 @@ module _ (h : Header) (is : IsHeader h) where
   held_keeps k keeps (Some r) =
       on_ring_keeps h k r (Holds (ceiling (shape_of h r) (k.ring r))) keeps (λ driver.
       let allowed = shape_allowed h is r driver in
-      let within = ceiling_within (shape_of h r) allowed k.memory (k.ring r) (keeps r driver) in
-      holds_keeps (shape_of h r) allowed k.memory (k.ring r) (keeps r driver) (ceiling (shape_of h r) (k.ring r)) (record { from = within.0; to = within.1 }))
+      let kept = keeps r driver in
+      let within = ceiling_within (shape_of h r) allowed k.memory (k.ring r) kept.rules in
+      record {
+        rules = holds_keeps (shape_of h r) allowed k.memory (k.ring r) kept.rules (ceiling (shape_of h r) (k.ring r)) (record { from = within.0; to = within.1 }) (λ p free below. below);
+        restored = kept.restored;
+      })
 
   state_keeps : (k : Known) → RingsKeep h k → (s i : ℕ) (state : EndpointState) → RingsKeep h (in_state h k s i state)
   unfolding in_state
@@ -105,10 +113,13 @@ module _ (h : Header) (is : IsHeader h) where
       let finishes : RingsKeep h l = finish_keeps k b (command_at h k n) keeps may in
       on_ring_keeps h l r (Reaches (after (shape_of h r) n)) finishes (λ driver.
       let allowed = shape_allowed h is r driver in
-      let within = ceiling_within (shape_of h r) allowed k.memory (k.ring r) (keeps r driver) in
+      let within = ceiling_within (shape_of h r) allowed k.memory (k.ring r) (keeps r driver).rules in
       let reached : MayReach (shape_of h r) (k.ring r) (after (shape_of h r) n) = after_reached (shape_of h r) (k.ring r) n (omega (arith, at_floor k)) (omega (arith, within.1, below)) in
       let held : (m : ℕ) → (k.ring r).held ≡ Some m → number (after (shape_of h r) n) ≤ m =
       λ m at. omega (arith, number-after (shape_of h r) n, ceiling_held (shape_of h r) (k.ring r) m at, below) in
-      reaches_keeps (shape_of h r) allowed l.memory (l.ring r) (finishes r driver) (after (shape_of h r) n)
-      (subst (λ (v : RingView). MayReach (shape_of h r) v (after (shape_of h r) n)) (sym still) reached)
-      (subst (λ (v : RingView). (m : ℕ) → v.held ≡ Some m → number (after (shape_of h r) n) ≤ m) (sym still) held))
+      record {
+        rules = reaches_keeps (shape_of h r) allowed l.memory (l.ring r) (finishes r driver).rules (after (shape_of h r) n)
+            (subst (λ (v : RingView). MayReach (shape_of h r) v (after (shape_of h r) n)) (sym still) reached)
+            (subst (λ (v : RingView). (m : ℕ) → v.held ≡ Some m → number (after (shape_of h r) n) ≤ m) (sym still) held);
+        restored = (finishes r driver).restored;
+      })

@@ -100,7 +100,7 @@ module _ (h : Header) (r : ℕ) (blocks : List Block) where
   -- ---- where the driver did the same, the declaration does
 
   changed_same : (v w : RingView) → SameGiven v w → SameGiven (changed (shape_of h r) v (Declares blocks)) (changed (shape_of h r) w (Declares blocks))
-  changed_same v w g = record { queue = ap (λ x. x ++ blocks) g.queue; lengths = ap (λ x. x ++ length blocks ∷ []) g.lengths; given = g.given; crossed = g.crossed }
+  changed_same v w g = record { queue = ap (λ x. x ++ blocks) g.queue; lengths = ap (λ x. x ++ length blocks ∷ []) g.lengths; given = g.given; crossed = g.crossed; withdrawn = g.withdrawn; free = g.free }
 
   declared_rings : (k l : Known) → SameDriver k l → (q : ℕ) → SameGiven ((declaring k).ring q) ((declaring l).ring q)
   declared_rings k l d q =

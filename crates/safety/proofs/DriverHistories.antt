@@ -17,7 +17,8 @@ use Rattle.safety.proofs.NothingKept.{nothing_kept}
 module _ (h : Header) where
   pub kept_driver : KeptByRows h (DriverKeeps h)
   kept_driver is k row d clean on = record {
-    rings = kept_rings h is k row d clean on;
+    rings = λ r ring. (kept_rings h is k row d clean on r ring).rules;
+    restored = λ r ring. (kept_rings h is k row d clean on r ring).restored;
     clean = kept_clean h is k row d clean on;
     command_ring = kept_command_ring h is k row d clean on;
     states = kept_states h is k row d clean on;

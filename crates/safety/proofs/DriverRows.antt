@@ -1,6 +1,6 @@
 -- Declarations, writes, register writes and doorbells keep what the rules keep of each ring
 use Rattle.std.proofs.Common.{◌≡◌, ◌≢◌, ◌==◌, ◌&&◌, ◌||◌, if◌then◌else◌, ◌∙◌, ℕ, not, true, List, [], Option, None, Some, option_and_then, refl, sym, ap, subst, inl, inr, eq-eqb, ne_eqb}
-use Rattle.safety.proofs.Words.{cases_eq, cond-true, cond-false, cond_both, Block, RingView, RingChange, Declares, Opens, changed, RingKeeps, new_ring_keeps, declares_keeps, writes_keeps, opens_keeps, Header, Register, Erdp, Usbcmd, Sub, Write, IsHeader, shape_of, command_id, run_bit, reset_bit, Known, nothing, on_ring, with_device, with_word, written, command_given, taken_device, run_or_stop, valued, register_written, endpoint_rung, rung, lenient, RingsKeep}
+use Rattle.safety.proofs.Words.{cases_eq, cond-true, cond-false, cond_both, Block, RingView, RingChange, Declares, Opens, changed, RingKept, new_ring_keeps, declares_keeps, writes_keeps, opens_keeps, Header, Register, Erdp, Usbcmd, Sub, Write, IsHeader, shape_of, command_id, run_bit, reset_bit, Known, nothing, on_ring, with_device, with_word, written, command_given, taken_device, run_or_stop, valued, register_written, endpoint_rung, rung, lenient, RingsKeep}
 use Rattle.safety.specs.RingsKeep.{IsDriverRing}
 use Rattle.safety.proofs.RingsOfHeader.{shape_allowed}
 use Rattle.safety.proofs.Declaring.{may_declare}
@@ -11,8 +11,8 @@ module _ (h : Header) where
   -- only memory and rings are spoken of
   pub same_keeps : (k l : Known) → k.memory ≡ l.memory → k.ring ≡ l.ring → RingsKeep h k → RingsKeep h l
   same_keeps k l memory rings keeps r driver =
-      subst (λ (view : ℕ → RingView). RingKeeps (shape_of h r) l.memory (view r)) rings
-      (subst (λ (words : ℕ → ℕ). RingKeeps (shape_of h r) words (k.ring r)) memory (keeps r driver))
+      subst (λ (view : ℕ → RingView). RingKept (shape_of h r) l.memory (view r)) rings
+      (subst (λ (words : ℕ → ℕ). RingKept (shape_of h r) words (k.ring r)) memory (keeps r driver))
 
   pub ring_here : (k : Known) (r : ℕ) (change : RingChange) → (on_ring h k r change).ring r ≡ changed (shape_of h r) (k.ring r) change
   unfolding on_ring
@@ -24,19 +24,19 @@ module _ (h : Header) where
 
   -- what happens on one ring changes no other
   pub on_ring_keeps : (k : Known) (r : ℕ) (change : RingChange) → RingsKeep h k →
-      (IsDriverRing h r → RingKeeps (shape_of h r) k.memory (changed (shape_of h r) (k.ring r) change)) → RingsKeep h (on_ring h k r change)
+      (IsDriverRing h r → RingKept (shape_of h r) k.memory (changed (shape_of h r) (k.ring r) change)) → RingsKeep h (on_ring h k r change)
   unfolding on_ring
   on_ring_keeps k r change keeps here q driver =
       elim (cases_eq q r) [
         | inl same ↦
-            subst (λ n. RingKeeps (shape_of h n) k.memory ((on_ring h k r change).ring n)) (sym same)
-            (subst (λ v. RingKeeps (shape_of h r) k.memory v) (sym (ring_here k r change)) (here (subst (λ n. IsDriverRing h n) same driver)))
-        | inr other ↦ subst (λ v. RingKeeps (shape_of h q) k.memory v) (sym (ring_elsewhere k r q change other)) (keeps q driver)
+            subst (λ n. RingKept (shape_of h n) k.memory ((on_ring h k r change).ring n)) (sym same)
+            (subst (λ v. RingKept (shape_of h r) k.memory v) (sym (ring_here k r change)) (here (subst (λ n. IsDriverRing h n) same driver)))
+        | inr other ↦ subst (λ v. RingKept (shape_of h q) k.memory v) (sym (ring_elsewhere k r q change other)) (keeps q driver)
       ]
 
   -- two things, one after the other
   pub on_ring_twice_keeps : (k : Known) (r : ℕ) (first second : RingChange) → RingsKeep h k →
-      (IsDriverRing h r → RingKeeps (shape_of h r) k.memory (changed (shape_of h r) (changed (shape_of h r) (k.ring r) first) second)) →
+      (IsDriverRing h r → RingKept (shape_of h r) k.memory (changed (shape_of h r) (changed (shape_of h r) (k.ring r) first) second)) →
       RingsKeep h (on_ring h (on_ring h k r first) r second)
   unfolding on_ring
   on_ring_twice_keeps k r first second keeps here q driver =
@@ -45,27 +45,33 @@ module _ (h : Header) where
       ring_here between r second ∙ ap (λ v. changed (shape_of h r) v second) (ring_here k r first) in
       elim (cases_eq q r) [
         | inl same ↦
-            subst (λ n. RingKeeps (shape_of h n) k.memory ((on_ring h between r second).ring n)) (sym same)
-            (subst (λ v. RingKeeps (shape_of h r) k.memory v) (sym both) (here (subst (λ n. IsDriverRing h n) same driver)))
+            subst (λ n. RingKept (shape_of h n) k.memory ((on_ring h between r second).ring n)) (sym same)
+            (subst (λ v. RingKept (shape_of h r) k.memory v) (sym both) (here (subst (λ n. IsDriverRing h n) same driver)))
         | inr other ↦
-            subst (λ v. RingKeeps (shape_of h q) k.memory v) (sym (ring_elsewhere between r q second other ∙ ring_elsewhere k r q first other)) (keeps q driver)
+            subst (λ v. RingKept (shape_of h q) k.memory v) (sym (ring_elsewhere between r q second other ∙ ring_elsewhere k r q first other)) (keeps q driver)
       ]
 
   pub nothing_keeps : IsHeader h → RingsKeep h nothing
   unfolding nothing
-  nothing_keeps is r driver = new_ring_keeps (shape_of h r) (shape_allowed h is r driver) (λ a. 0) (λ a. refl)
+  nothing_keeps is r driver = record { rules = new_ring_keeps (shape_of h r) (shape_allowed h is r driver) (λ a. 0) (λ a. refl); restored = λ p. refl }
 
   pub declared_keeps : IsHeader h → (k : Known) (r : ℕ) (blocks : List Block) → RingsKeep h k → lenient h k (Sub r blocks) ≡ [] → RingsKeep h (on_ring h k r (Declares blocks))
   declared_keeps is k r blocks keeps clean =
       on_ring_keeps k r (Declares blocks) keeps
-      (λ driver. declares_keeps (shape_of h r) (shape_allowed h is r driver) k.memory (k.ring r) blocks (keeps r driver) (may_declare h k r blocks clean).1)
+      (λ driver. record {
+        rules = declares_keeps (shape_of h r) (shape_allowed h is r driver) k.memory (k.ring r) blocks (keeps r driver).rules (may_declare h k r blocks clean).1;
+        restored = (keeps r driver).restored;
+      })
 
   word_keeps : (k : Known) (a w : ℕ) → RingsKeep h k → lenient h k (Write a w) ≡ [] → RingsKeep h (with_word h k a w)
   unfolding with_word
   word_keeps k a w keeps clean r driver =
       elim (free_or_same h k a w clean) [
-        | inl free ↦ writes_keeps (shape_of h r) k.memory (k.ring r) a w (keeps r driver) (may_write h k a w clean free r driver)
-        | inr same ↦ same_word_keeps (shape_of h r) k.memory (k.ring r) (keeps r driver) a w same
+        | inl free ↦ record {
+          rules = writes_keeps (shape_of h r) k.memory (k.ring r) a w (keeps r driver).rules (may_write h k a w clean free r driver (keeps r driver).restored);
+          restored = (keeps r driver).restored;
+        }
+        | inr same ↦ record { rules = same_word_keeps (shape_of h r) k.memory (k.ring r) (keeps r driver).rules a w same; restored = (keeps r driver).restored }
       ]
 
   device_keeps : (k : Known) (taken : Option (ℕ × ℕ)) → RingsKeep h k → RingsKeep h (with_device h k taken)
@@ -98,7 +104,10 @@ module _ (h : Header) where
 
   open_keeps : IsHeader h → (k : Known) (r : ℕ) → RingsKeep h k → RingsKeep h (on_ring h k r Opens)
   open_keeps is k r keeps =
-      on_ring_keeps k r Opens keeps (λ driver. opens_keeps (shape_of h r) (shape_allowed h is r driver) k.memory (k.ring r) (keeps r driver))
+      on_ring_keeps k r Opens keeps (λ driver. record {
+        rules = opens_keeps (shape_of h r) (shape_allowed h is r driver) k.memory (k.ring r) (keeps r driver).rules (keeps r driver).restored;
+        restored = (keeps r driver).restored;
+      })
 
   endpoint_keeps : IsHeader h → (k : Known) (s t : ℕ) (ring : Option ℕ) → RingsKeep h k → RingsKeep h (endpoint_rung h k s t ring)
   unfolding endpoint_rung

@@ -97,8 +97,9 @@ module _ (h : Header) where
             on.driver,
             record {
               is = shape_allowed h is r on.driver;
-              before = rings r on.driver;
-              behind = subst (λ m. RingKeeps (shape_of h r) m (l.ring r)) (read_same h k e).memory (behind_keeps r on.driver);
+              before = (rings r on.driver).rules;
+              restored = (rings r on.driver).restored;
+              behind = subst (λ m. RingKeeps (shape_of h r) m (l.ring r)) (read_same h k e).memory (behind_keeps r on.driver).rules;
               same = (read_same h k e).rings r;
               on = on.on;
             },

@@ -1,7 +1,7 @@
 -- What a write gives of a ring it gives also behind an event: what is due only there is a lap behind what is leased, and what was
 -- due only before is passed, hence given
 use Rattle.std.proofs.Common.{◌≡◌, ◌+◌, ◌-◌, ◌<◌, ◌≤◌, ◌⊎◌, ◌||◌, ◌∙◌, ℕ, Bool, true, false, arith, refl, sym, ap, inl, inr, ◌%◌}
-use Rattle.safety.proofs.Words.{cases_lt, cases_eq, false≢true, Shape, IsShape, place_count, address_of, is_crossing, link_address, Link, rank, RingView, floor_number, gives, gives_crossing, RingKeeps, address_of-lap, is_crossing-lap, link_address-lap, rank_least, crossed_due, IsCrossingDue, due_from, gives_is, gives_from, crossing_due_from, gives_crossing_is, gives_crossing_from, both_ways, cycle_of}
+use Rattle.safety.proofs.Words.{IsRestored, cases_lt, cases_eq, false≢true, Shape, IsShape, place_count, address_of, is_crossing, link_address, Link, rank, RingView, floor_number, gives, gives_crossing, RingKeeps, address_of-lap, is_crossing-lap, link_address-lap, rank_least, crossed_due, IsCrossingDue, due_from, gives_is, gives_from, crossing_due_from, gives_crossing_is, gives_crossing_from, both_ways, cycle_of}
 use Rattle.segments.proofs.Positions.{cycle_of_flips}
 use Rattle.safety.proofs.KeptWords.{KeepsCycles}
 use Rattle.safety.proofs.SameDriver.{SameGiven}
@@ -10,6 +10,7 @@ use Rattle.safety.proofs.SameDriver.{SameGiven}
 pub record RingBehind (shape : Shape) (memory : ℕ → ℕ) (v u : RingView) : Type 0 where
   pub is : IsShape shape
   pub before : RingKeeps shape memory v
+  pub restored : IsRestored v
   pub behind : RingKeeps shape memory u
   pub same : SameGiven v u
   pub on : floor_number v ≤ floor_number u

@@ -8,12 +8,14 @@ use Rattle.safety.proofs.AlikeEvents.{EventAlike, ReadAlike, read_alike}
 
 -- ---- all fields the same, but that rings are held at greater numbers
 
-view_is : (v w : RingView) → v.queue ≡ w.queue → v.lengths ≡ w.lengths → v.given ≡ w.given → v.crossed ≡ w.crossed → v.floor ≡ w.floor → v.held ≡ w.held → v ≡ w
-view_is v w queue lengths given crossed floor held =
+view_is : (v w : RingView) → v.queue ≡ w.queue → v.lengths ≡ w.lengths → v.given ≡ w.given → v.crossed ≡ w.crossed → v.withdrawn ≡ w.withdrawn → v.free ≡ w.free → v.floor ≡ w.floor → v.held ≡ w.held → v ≡ w
+view_is v w queue lengths given crossed withdrawn free floor held =
     ap {B = RingView} (λ x. record v { queue = x }) queue
     ∙ ap {B = RingView} (λ x. record v { queue = w.queue; lengths = x }) lengths
     ∙ ap {B = RingView} (λ x. record v { queue = w.queue; lengths = w.lengths; given = x }) given
     ∙ ap {B = RingView} (λ x. record v { queue = w.queue; lengths = w.lengths; given = w.given; crossed = x }) crossed
+    ∙ ap {B = RingView} (λ x. record w { withdrawn = x; free = v.free; floor = v.floor; held = v.held }) withdrawn
+    ∙ ap {B = RingView} (λ x. record w { free = x; floor = v.floor; held = v.held }) free
     ∙ ap {B = RingView} (λ x. record w { floor = x; held = v.held }) floor
     ∙ ap {B = RingView} (λ x. record w { held = x }) held
 
@@ -54,7 +56,7 @@ flip_driver k l d = record {
   soiled = sym d.soiled;
   reads = sym d.reads;
   dequeue = sym d.dequeue;
-  rings = λ r. let g = d.rings r in record { queue = sym g.queue; lengths = sym g.lengths; given = sym g.given; crossed = sym g.crossed };
+  rings = λ r. let g = d.rings r in record { queue = sym g.queue; lengths = sym g.lengths; given = sym g.given; crossed = sym g.crossed; withdrawn = sym g.withdrawn; free = sym g.free };
 }
 
 pub held_more : (k l : Known) → SameDriver k l → SameStates k l → ((r : ℕ) → (l.ring r).floor ≡ (k.ring r).floor) → ((r : ℕ) → IsHeldMore (k.ring r).held (l.ring r).held) → HeldMore k l
@@ -68,7 +70,7 @@ held_more k l d s floor held =
       soiled = d.soiled;
       reads = d.reads;
       dequeue = d.dequeue;
-      rings = λ r. record { queue = refl; lengths = refl; given = refl; crossed = refl };
+      rings = λ r. record { queue = refl; lengths = refl; given = refl; crossed = refl; withdrawn = refl; free = refl };
     } in
     let states : SameStates m l = record {
       was_bound = s.was_bound;
@@ -82,7 +84,7 @@ held_more k l d s floor held =
     record {
       rest = known_is m l refl same states;
       rings = λ r. let g = d.rings r in record {
-        rest = view_is (let v : RingView = record (k.ring r) { held = (l.ring r).held } in v) (l.ring r) (sym g.queue) (sym g.lengths) (sym g.given) (sym g.crossed) (sym (floor r)) refl;
+        rest = view_is (let v : RingView = record (k.ring r) { held = (l.ring r).held } in v) (l.ring r) (sym g.queue) (sym g.lengths) (sym g.given) (sym g.crossed) (sym g.withdrawn) (sym g.free) (sym (floor r)) refl;
         held = held r;
       };
     }
@@ -207,6 +209,8 @@ module _ (h : Header) where
           lengths = sym (ap (λ (x : RingView). x.lengths) v);
           given = sym (ap (λ (x : RingView). x.given) v);
           crossed = sym (ap (λ (x : RingView). x.crossed) v);
+          withdrawn = sym (ap (λ (x : RingView). x.withdrawn) v);
+          free = sym (ap (λ (x : RingView). x.free) v);
         };
       }
 

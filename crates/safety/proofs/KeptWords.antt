@@ -1,7 +1,7 @@
 -- A write changes no word under lease: each given block and Link keeps the Cycle bit that it shows, and a word that is written as it
 -- stands gives nothing
 use Rattle.std.proofs.Common.{◌≡◌, ◌%◌, ◌+◌, ◌-◌, ◌||◌, ◌∙◌, ℕ, Bool, true, false, nat_lt, arith, lt-ltb, refl, sym, ap, subst, inl, inr}
-use Rattle.safety.proofs.Words.{fun_ext, and_from, cases_eq, crossed_link, due_is, false≢true, All-contains, put, put_here, put_elsewhere, Shape, IsShape, address_of, cycle_of, link_address, overlap, RingView, Writes, changed, is_due, is_crossing_due, gives, gives_crossing, gives_is, gives_crossing_is, leased_positions, leased_crossings, leased_position, leased_crossing, RingKeeps, MayWrite}
+use Rattle.safety.proofs.Words.{IsRestored, fun_ext, and_from, cases_eq, crossed_link, due_is, false≢true, All-contains, put, put_here, put_elsewhere, Shape, IsShape, address_of, cycle_of, link_address, overlap, RingView, Writes, changed, is_due, is_crossing_due, gives, gives_crossing, gives_is, gives_crossing_is, leased_positions, leased_crossings, leased_position, leased_crossing, RingKeeps, MayWrite}
 use Rattle.segments.proofs.Giving.{crossing_due_is}
 use Rattle.segments.proofs.Reaching.{kept_cycle}
 
@@ -15,11 +15,11 @@ pub record KeepsCycles (shape : Shape) (v : RingView) (a w : ℕ) : Type 0 where
   pub links : (q : ℕ) → is_crossing_due shape v.floor q ≡ true → v.crossed q ≡ true → a ≡ link_address shape q + 12 → w % 2 ≡ cycle_of shape (q - 1)
 
 -- the word isn't under lease
-pub free_keeps_cycles : (shape : Shape) (memory : ℕ → ℕ) (v : RingView) (a w : ℕ) → MayWrite shape memory v a w → KeepsCycles shape v a w
-free_keeps_cycles shape memory v a w may =
+pub free_keeps_cycles : (shape : Shape) (memory : ℕ → ℕ) (v : RingView) (a w : ℕ) → MayWrite shape memory v a w → IsRestored v → KeepsCycles shape v a w
+free_keeps_cycles shape memory v a w may restored =
     record {
       blocks = λ p due given at.
-          let free = All-contains (λ p. overlap a 4 (address_of shape p) 16 ≡ false) (leased_positions shape v) p may.blocks (leased_position shape v p due given) in
+          let free = All-contains (λ p. overlap a 4 (address_of shape p) 16 ≡ false) (leased_positions shape v) p may.blocks (leased_position shape v p due given (restored p)) in
           absurd (false≢true (sym free ∙ control_touches a (address_of shape p) at));
       links = λ q due given at.
           let free = All-contains (λ q. overlap a 4 (link_address shape q) 16 ≡ false) (leased_crossings shape v) q may.links (leased_crossing shape v q due given) in
@@ -36,10 +36,10 @@ put_same memory a w same =
     ])
 
 module _ (shape : Shape) (memory : ℕ → ℕ) (v : RingView) (k : RingKeeps shape memory v) (a w : ℕ) (same : memory a ≡ w) where
-  pub same_keeps_cycles : IsShape shape → KeepsCycles shape v a w
-  same_keeps_cycles is =
+  pub same_keeps_cycles : IsShape shape → IsRestored v → KeepsCycles shape v a w
+  same_keeps_cycles is restored =
       record {
-        blocks = λ p due given at. ap (λ x. x % 2) (sym same ∙ ap memory at) ∙ kept_cycle shape is memory v k p (due_is shape v.floor p due).0 given;
+        blocks = λ p due given at. ap (λ x. x % 2) (sym same ∙ ap memory at) ∙ kept_cycle shape is memory v k p (due_is shape v.floor p due).0 given (restored p);
         links = λ q due given at.
             let link = crossed_link shape q (crossing_due_is shape v.floor q due).crossing in
             ap (λ x. x % 2) (sym same ∙ ap memory at) ∙ (k.kept_link q link.0 due given link.1).1;

@@ -1,6 +1,6 @@
 -- An event begins no lease: behind it no word is under lease that wasn't before
-use Rattle.std.proofs.Common.{◌≡◌, ◌+◌, ◌<◌, ◌≤◌, ◌⊎◌, ◌==◌, ◌&&◌, ◌∷◌, ◌++◌, ◌∙◌, ℕ, suc, zero, Bool, true, false, List, [], map, Option, None, Some, arith, refl, sym, ap, subst, inl, inr, eq-eqb}
-use Rattle.safety.proofs.Words.{list_any, flat_map, range_with_len, false≢true, false_from_ne_true, and_parts, and_from, or_parts, Shape, place_count, is_crossing, RingView, floor_number, due_positions, due_crossings, leased_positions, leased_crossings, Header, Ring, Erstba, IsHeader, shape_of, command_id, driver_rings, is_driver_kind, clash, Known, command_at, unfinished_positions, entry_of, Leased, Range, SlotEntry, slots, covers, segment_ranges, table_range, range_of_command, context_ranges, range_of_entry, entry_ranges, range_of_device, device_ranges, open_ranges, open_on, open_leases, is_leased, IsIn, some_of, any_of, in_filter, from_filter, is_the_controllers}
+use Rattle.std.proofs.Common.{◌≡◌, ◌+◌, ◌<◌, ◌≤◌, ◌⊎◌, ◌==◌, ◌&&◌, ◌∷◌, ◌++◌, ◌∙◌, ℕ, suc, zero, Bool, true, false, not, List, [], map, filter, Option, None, Some, arith, refl, sym, ap, subst, inl, inr, eq-eqb}
+use Rattle.safety.proofs.Words.{is_handed_over, list_any, flat_map, range_with_len, false≢true, false_from_ne_true, and_parts, and_from, or_parts, Shape, place_count, is_crossing, RingView, floor_number, due_positions, due_crossings, leased_positions, leased_crossings, Header, Ring, Erstba, IsHeader, shape_of, command_id, driver_rings, is_driver_kind, clash, Known, command_at, unfinished_positions, entry_of, Leased, Range, SlotEntry, slots, covers, segment_ranges, table_range, range_of_command, context_ranges, range_of_entry, entry_ranges, range_of_device, device_ranges, open_ranges, open_on, open_leases, is_leased, IsIn, some_of, any_of, in_filter, from_filter, is_the_controllers}
 use Rattle.ownership_rules.specs.OpenLeases.{Block, Link}
 use Rattle.safety.specs.RingsKeep.{IsDriverRing}
 use Rattle.safety.proofs.RingsOfHeader.{HasRing, has_ring}
@@ -72,14 +72,25 @@ none_fewer p xs ys each none =
 -- ---- one ring
 
 module _ (shape : Shape) (memory : ℕ → ℕ) (v u : RingView) (b : RingBehind shape memory v u) where
+  -- a given position that is due behind the event was due before
+  was_due : (p : ℕ) → IsIn p (due_positions shape u) → u.given p ≡ true → IsIn p (due_positions shape v)
+  unfolding due_positions
+  was_due p at given =
+      let range = from_range (floor_number u) (place_count shape) p at in
+      in_range (floor_number v) (place_count shape) p (omega (arith, range.0, b.on)) (b.before.given_within p (ap (λ f. f p) (sym b.same.given) ∙ given))
+
+  pub given_fewer : (p : ℕ) → IsIn p (filter u.given (due_positions shape u)) → IsIn p (filter v.given (due_positions shape v))
+  given_fewer p at =
+      let found = from_filter u.given (due_positions shape u) p at in
+      in_filter v.given (due_positions shape v) p (was_due p found.0 found.1) (ap (λ f. f p) (sym b.same.given) ∙ found.1)
+
   pub positions_fewer : (p : ℕ) → IsIn p (leased_positions shape u) → IsIn p (leased_positions shape v)
-  unfolding leased_positions due_positions
+  unfolding leased_positions
   positions_fewer p at =
-      let found = from_filter u.given (range_with_len (floor_number u) (place_count shape)) p at in
-      let range = from_range (floor_number u) (place_count shape) p found.0 in
-      let given : v.given p ≡ true = ap (λ f. f p) (sym b.same.given) ∙ found.1 in
-      in_filter v.given (range_with_len (floor_number v) (place_count shape)) p
-      (in_range (floor_number v) (place_count shape) p (omega (arith, range.0, b.on)) (b.before.given_within p given)) given
+      let found = from_filter (is_handed_over u) (due_positions shape u) p at in
+      let parts = and_parts (u.given p) (not (u.free p)) found.1 in
+      in_filter (is_handed_over v) (due_positions shape v) p (was_due p found.0 parts.0)
+      (and_from (v.given p) (not (v.free p)) (ap (λ f. f p) (sym b.same.given) ∙ parts.0) (ap (λ f. not (f p)) (sym b.same.free) ∙ parts.1))
 
   pub crossings_fewer : (q : ℕ) → IsIn q (leased_crossings shape u) → IsIn q (leased_crossings shape v)
   unfolding leased_crossings due_crossings
@@ -122,11 +133,11 @@ module _ (h : Header) where
 
   module _ (is : IsHeader h) (k l : Known) (b : Behind k l) where
     pub unfinished_fewer : (p : ℕ) → IsIn p (unfinished_positions h l) → IsIn p (unfinished_positions h k)
-    unfolding unfinished_positions leased_positions
+    unfolding unfinished_positions
     unfinished_fewer p at =
         elim (b.rings (command_id h)) [
-          | inl same ↦ subst (λ (v : RingView). IsIn p (leased_positions (shape_of h (command_id h)) v)) same at
-          | inr on ↦ positions_fewer (shape_of h (command_id h)) k.memory (k.ring (command_id h)) (l.ring (command_id h)) on.1 p at
+          | inl same ↦ subst (λ (v : RingView). IsIn p (filter v.given (due_positions (shape_of h (command_id h)) v))) same at
+          | inr on ↦ given_fewer (shape_of h (command_id h)) k.memory (k.ring (command_id h)) (l.ring (command_id h)) on.1 p at
         ]
 
     ring_fewer : (r : Ring) → IsIn r (driver_rings h) → (x : Leased) → IsIn x (open_on h l r) → IsIn x (open_on h k r)

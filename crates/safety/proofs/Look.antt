@@ -91,7 +91,7 @@ module _ (h : Header) (is : IsHeader h) (k : Known) (unread : List Block) (w : W
     pub transfer_looks : (v : World) → LookEnds h w v r → Agrees h k unread (counted h v)
     transfer_looks v (inl waits) = subst (λ u. Agrees h k unread (counted h u)) waits.is transfer_waits
     transfer_looks v (inr (inl link)) =
-        subst (λ u. Agrees h k unread (counted h u)) link.is (transfer_crosses (cross_done h is k w d g.stands r its_ring b.spot b.matches link.cycle_is link.link))
+        subst (λ u. Agrees h k unread (counted h u)) link.is (transfer_crosses (cross_done h is k w d g.stands r its_ring b.spot b.matches on link.cycle_is link.link))
     transfer_looks v (inr (inr block)) =
         subst (λ u. Agrees h k unread (counted h u)) (sym (taken_elsewhere h w r (seen w r) other) ∙ block.is)
         (transfer_takes (take_done h is k w d g.stands r its_ring b.spot b.matches on block.cycle_is block.link))

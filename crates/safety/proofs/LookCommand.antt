@@ -186,7 +186,7 @@ module _ (h : Header) (is : IsHeader h) (k : Known) (unread : List Block) (w : W
   pub command_looks : (v : World) → w.is_active (command_id h) ≡ true → LookEnds h w v (command_id h) → Agrees h k unread (counted h v)
   command_looks v active (inl waits) = subst (λ u. Agrees h k unread (counted h u)) waits.is command_waits
   command_looks v active (inr (inl link)) =
-      subst (λ u. Agrees h k unread (counted h u)) link.is (command_crosses (cross_done h is k w d g.stands (command_id h) ring c.spot c.ring link.cycle_is link.link))
+      subst (λ u. Agrees h k unread (counted h u)) link.is (command_crosses (cross_done h is k w d g.stands (command_id h) ring c.spot c.ring active link.cycle_is link.link))
   command_looks v active (inr (inr block)) =
       subst (λ u. Agrees h k unread (counted h u)) (sym (begun_is h w) ∙ block.is)
       (command_takes (take_done h is k w d g.stands (command_id h) ring c.spot c.ring active block.cycle_is block.link) (no_one w.under_way (command_id h) block.free))

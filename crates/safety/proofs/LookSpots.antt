@@ -11,14 +11,14 @@ use Rattle.safety.proofs.LookKinds.{seen, behind_link, behind_block}
 
 module _ (h : Header) (is : IsHeader h) (k : Known) (w : World) (d : DriverKeeps h k) (s : Stands h k w) (r : ℕ) (ring : IsDriverRing h r) where
   -- with its own cycle a block is given
-  found_block : (q : ℕ) → RingMatches (shape_of h r) (k.ring r) (state_of w r) (Data q) → cycle (seen w r) ≡ w.cycle_state r → Takeable (shape_of h r) k.memory (k.ring r) q
-  found_block q m same =
+  found_block : (q : ℕ) → RingMatches (shape_of h r) (k.ring r) (state_of w r) (Data q) → w.is_active r ≡ true → cycle (seen w r) ≡ w.cycle_state r → Takeable (shape_of h r) k.memory (k.ring r) q
+  found_block q m on same =
       let allowed = (ring_shape h is r ring).is in
       let keeps = d.rings r ring in
       let at = stands_at h is k w d s r (Data q) ring m in
       let found = block_found h is k w d s r (Data q) ring m in
       elim (cases_Bool ((k.ring r).given q)) [
-        | inl given ↦ takeable (shape_of h r) allowed k.memory (k.ring r) keeps q at given
+        | inl given ↦ takeable (shape_of h r) allowed k.memory (k.ring r) keeps q at given (keeps.open_restored (m.opened on) q)
         | inr missing ↦ absurd (waits_at_block (shape_of h r) allowed k.memory (k.ring r) keeps q at missing (sym (ap (λ b. cycle b) found) ∙ same ∙ m.cycle))
       ]
 
@@ -49,9 +49,9 @@ module _ (h : Header) (is : IsHeader h) (k : Known) (w : World) (d : DriverKeeps
     pub was : t ≡ Link number
     pub matches : RingMatches (shape_of h r) (k.ring r) (behind_link h w r (seen w r)) (Data number)
 
-  pub cross_done : (t : Spot) → RingMatches (shape_of h r) (k.ring r) (state_of w r) t → cycle (seen w r) ≡ w.cycle_state r → is_link (kind (seen w r)) ≡ true → CrossDone t
-  cross_done (Data q) m same link = absurd (false≢true (sym (block_no_link q m (found_block q m same)) ∙ link))
-  cross_done (Link q) m same link =
+  pub cross_done : (t : Spot) → RingMatches (shape_of h r) (k.ring r) (state_of w r) t → w.is_active r ≡ true → cycle (seen w r) ≡ w.cycle_state r → is_link (kind (seen w r)) ≡ true → CrossDone t
+  cross_done (Data q) m on same link = absurd (false≢true (sym (block_no_link q m (found_block q m on same)) ∙ link))
+  cross_done (Link q) m on same link =
       let c = found_link q m same in
       let b = block_found h is k w d s r (Link q) ring m in
       let leads = leads_on (shape_of h r) c.link (block_at k.memory (link_address (shape_of h r) q)) c.leads in
@@ -88,7 +88,7 @@ module _ (h : Header) (is : IsHeader h) (k : Known) (w : World) (d : DriverKeeps
   take_done (Link q) m on same block = absurd (false≢true (sym block ∙ link_is q m (found_link q m same)))
   take_done (Data q) m on same block =
       let allowed = ring_shape h is r ring in
-      let t = found_block q m same in
+      let t = found_block q m on same in
       let high : q + 1 ≤ ceiling (shape_of h r) (k.ring r) = omega (arith, t.below, ceiling_open (shape_of h r) (k.ring r) (m.opened on)) in
       record {
         number = q;

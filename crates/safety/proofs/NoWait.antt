@@ -50,6 +50,6 @@ module _ (shape : Shape) (is : IsShape shape) (memory : ℕ → ℕ) (v : RingVi
       whole_is shape v s.begin (k.whole s.begin first) n s.before (omega (arith, s.behind, length_is v s.begin))
 
   -- where the next step is given, the controller finds its own cycle
-  pub cycle_inside : (t : Spot) → MayStand shape v t → is_step_given shape v (number t) ≡ true → cycle (block_at memory (spot_address shape t)) ≡ spot_cycle shape t
-  cycle_inside (Data q) at given = (takeable shape is memory v k q at (step_is shape v q given).0).cycle_is
-  cycle_inside (Link q) at given = (crossable shape is memory v k q at ((step_is shape v q given).1 at.is_spot)).cycle_is
+  pub cycle_inside : (t : Spot) → MayStand shape v t → is_step_given shape v (number t) ≡ true → v.free (number t) ≡ false → cycle (block_at memory (spot_address shape t)) ≡ spot_cycle shape t
+  cycle_inside (Data q) at given kept = (takeable shape is memory v k q at (step_is shape v q given).0 kept).cycle_is
+  cycle_inside (Link q) at given kept = (crossable shape is memory v k q at ((step_is shape v q given).1 at.is_spot)).cycle_is

@@ -28,14 +28,14 @@ module _ (h : Header) (is : IsHeader h) where
       is_reached (shape_of h r) (k.ring r) t ≡ true
   moves_by k rings endpoints s i r at p cycle least most t low high moves named =
       let driver : IsDriverRing h r = transfer_driver h r (endpoints.transfer s i r at) in
-      move_target (shape_of h r) (shape_allowed h is r driver) k.memory (k.ring r) (rings r driver) p cycle least most t low high moves named
+      move_target (shape_of h r) (shape_allowed h is r driver) k.memory (k.ring r) (rings r driver).rules p cycle least most t low high moves named
 
   moves_to : (k : Known) → RingsKeep h k → EndpointsKeep h k → (s i p : ℕ) (cycle : Bool) (r : ℕ) (t : Spot) → is_bad_dequeue h k (Some r) p cycle ≡ false →
       k.ring_of s i ≡ Some r → target (shape_of h r) (k.ring r) p cycle ≡ Some t → is_reached (shape_of h r) (k.ring r) t ≡ true
   unfolding is_bad_dequeue
   moves_to k rings endpoints s i p cycle r t good at named =
       let driver : IsDriverRing h r = transfer_driver h r (endpoints.transfer s i r at) in
-      let within = ceiling_within (shape_of h r) (shape_allowed h is r driver) k.memory (k.ring r) (rings r driver) in
+      let within = ceiling_within (shape_of h r) (shape_allowed h is r driver) k.memory (k.ring r) (rings r driver).rules in
       moves_by k rings endpoints s i r at p cycle (ceiling (shape_of h r) (k.ring r)) (declared (k.ring r)) t within.0 (omega arith)
       (not-false (is_move (shape_of h r) (k.ring r) p cycle (ceiling (shape_of h r) (k.ring r)) (declared (k.ring r))) good) named
 
@@ -110,7 +110,7 @@ module _ (h : Header) (is : IsHeader h) where
         ring = at.ring;
         named = at.named;
         free = λ t j has. false≢true (still.unkept at.ring t j bound has);
-        keeps = rings at.ring (having_driver (context_pointer h.context_size k.memory n 1) at.ring at.named);
+        keeps = (rings at.ring (having_driver (context_pointer h.context_size k.memory n 1) at.ring at.named)).rules;
         placed = at.placed;
       }
 
@@ -124,8 +124,8 @@ module _ (h : Header) (is : IsHeader h) where
         moves = λ on r t at named.
             let driver : IsDriverRing h r = transfer_driver h r (endpoints.transfer s 1 r at) in
             let allowed = shape_allowed h is r driver in
-            let low = floor_given (shape_of h r) allowed k.memory (k.ring r) (rings r driver) in
-            let high = given_count_declared (shape_of h r) allowed k.memory (k.ring r) (rings r driver) in
+            let low = floor_given (shape_of h r) allowed k.memory (k.ring r) (rings r driver).rules in
+            let high = given_count_declared (shape_of h r) allowed k.memory (k.ring r) (rings r driver).rules in
             moves_by k rings endpoints s 1 r at p cycle (floor_number (k.ring r)) (floor_number (k.ring r)) t (omega arith) (omega arith) (still.moves_on on r at) named;
       }
 
@@ -284,7 +284,7 @@ module _ (h : Header) (is : IsHeader h) where
         named = there.named;
         free = none_left k s a there.ring still bound;
         keeps = subst (λ (f : ℕ → RingView). RingKeeps (shape_of h there.ring) k.memory (f there.ring)) (sym (dropped_rings c k s a))
-            (rings there.ring (having_driver (context_pointer h.context_size k.memory a i) there.ring there.named));
+            (rings there.ring (having_driver (context_pointer h.context_size k.memory a i) there.ring there.named)).rules;
         placed = ap (λ (f : ℕ → RingView). is_placement (shape_of h there.ring) (f there.ring) (context_pointer h.context_size k.memory a i) (context_cycle h.context_size k.memory a i)) (dropped_rings c k s a)
             ∙ there.placed;
       }

@@ -60,16 +60,19 @@ module _ (h : Header) (is : IsHeader h) (k : Known) (w : World) (d : DriverKeeps
   -- no wait inside a descriptor
   matched_no_wait : (r : ℕ) (t : Spot) → IsDriverRing h r → RingMatches (shape_of h r) (k.ring r) (state_of w r) t → (waits w r && is_inside_descriptor (w.events r)) ≡ false
   matched_no_wait r t ring m =
-      elim (cases_Bool (is_inside_descriptor (w.events r))) [
-        | inr outside ↦ and_right (waits w r) (is_inside_descriptor (w.events r)) outside
-        | inl inside ↦
-            let shape = shape_of h r in
-            let allowed = (ring_shape h is r ring).is in
-            let keeps = d.rings r ring in
-            let at = stands_at r t ring m in
-            let given = inside_given (shape_of h r) (k.ring r) (number t) (w.events r) m.newest inside in
-            let cycle_is = cycle_inside (shape_of h r) allowed k.memory (k.ring r) keeps t at given in
-            and_left (waits w r) (is_inside_descriptor (w.events r)) (waits_not w r (ap (λ b. cycle b) (block_found r t ring m) ∙ cycle_is ∙ sym m.cycle))
+      elim (cases_Bool (w.is_active r)) [
+        | inr off ↦ and_left (waits w r) (is_inside_descriptor (w.events r)) (waits_inactive w r off)
+        | inl on ↦ elim (cases_Bool (is_inside_descriptor (w.events r))) [
+          | inr outside ↦ and_right (waits w r) (is_inside_descriptor (w.events r)) outside
+          | inl inside ↦
+              let shape = shape_of h r in
+              let allowed = (ring_shape h is r ring).is in
+              let keeps = d.rings r ring in
+              let at = stands_at r t ring m in
+              let given = inside_given (shape_of h r) (k.ring r) (number t) (w.events r) m.newest inside in
+              let cycle_is = cycle_inside (shape_of h r) allowed k.memory (k.ring r) keeps t at given (keeps.open_restored (m.opened on) (number t)) in
+              and_left (waits w r) (is_inside_descriptor (w.events r)) (waits_not w r (ap (λ b. cycle b) (block_found r t ring m) ∙ cycle_is ∙ sym m.cycle))
+        ]
       ]
 
 nothing_found : (a b c d e f : Bool) → a ≡ false → b ≡ false → c ≡ false → d ≡ false → e ≡ false → f ≡ false →

@@ -9,6 +9,8 @@ pub record SameGiven (v w : RingView) : Type 0 where
   pub lengths : w.lengths ≡ v.lengths
   pub given : w.given ≡ v.given
   pub crossed : w.crossed ≡ v.crossed
+  pub withdrawn : w.withdrawn ≡ v.withdrawn
+  pub free : w.free ≡ v.free
 
 pub record SameDriver (k l : Known) : Type 0 where
   pub started : l.started ≡ k.started
@@ -21,10 +23,10 @@ pub record SameDriver (k l : Known) : Type 0 where
   pub rings : (r : ℕ) → SameGiven (k.ring r) (l.ring r)
 
 same_given : (v : RingView) → SameGiven v v
-same_given v = record { queue = refl; lengths = refl; given = refl; crossed = refl }
+same_given v = record { queue = refl; lengths = refl; given = refl; crossed = refl; withdrawn = refl; free = refl }
 
 both_given : (u v w : RingView) → SameGiven u v → SameGiven v w → SameGiven u w
-both_given u v w a b = record { queue = b.queue ∙ a.queue; lengths = b.lengths ∙ a.lengths; given = b.given ∙ a.given; crossed = b.crossed ∙ a.crossed }
+both_given u v w a b = record { queue = b.queue ∙ a.queue; lengths = b.lengths ∙ a.lengths; given = b.given ∙ a.given; crossed = b.crossed ∙ a.crossed; withdrawn = b.withdrawn ∙ a.withdrawn; free = b.free ∙ a.free }
 
 pub same_driver : (k : Known) → SameDriver k k
 same_driver k =
@@ -60,9 +62,9 @@ module _ (h : Header) where
       ]
 
   pointer_same : (r : ℕ) (v : RingView) (change : RingChange) → IsPointerChange change → SameGiven v (changed (shape_of h r) v change)
-  pointer_same r v (Reaches t) is = record { queue = refl; lengths = refl; given = refl; crossed = refl }
-  pointer_same r v Opens is = record { queue = refl; lengths = refl; given = refl; crossed = refl }
-  pointer_same r v (Holds n) is = record { queue = refl; lengths = refl; given = refl; crossed = refl }
+  pointer_same r v (Reaches t) is = record { queue = refl; lengths = refl; given = refl; crossed = refl; withdrawn = refl; free = refl }
+  pointer_same r v Opens is = record { queue = refl; lengths = refl; given = refl; crossed = refl; withdrawn = refl; free = refl }
+  pointer_same r v (Holds n) is = record { queue = refl; lengths = refl; given = refl; crossed = refl; withdrawn = refl; free = refl }
   pointer_same r v _ is = absurd is
 
   on_rings : (k : Known) (r : ℕ) (change : RingChange) → IsPointerChange change → (q : ℕ) → SameGiven (k.ring q) ((on_ring h k r change).ring q)

@@ -1,6 +1,6 @@
 -- A Transfer Event that may be read keeps what the rules keep of each ring
 use Rattle.std.proofs.Common.{◌≡◌, ◌+◌, ◌<◌, ◌≤◌, ◌&&◌, ◌||◌, if◌then◌else◌, ◌∙◌, ℕ, not, Bool, true, false, Option, None, Some, arith, refl, sym, subst, inl, inr}
-use Rattle.safety.proofs.Words.{option_map, cond_both, and_parts, and_cases, or_left, or_right, or_parts, or_from, not-false, false≢true, none-some, same_Some, put_pair, Block, pointer, code, slot, endpoint, is_success, is_halting, is_trb_error, is_stopping, Spot, number, after, Reaches, Holds, floor_number, ceiling, named, is_data_below, is_stop_spot, stopped_number, RingKeeps, reaches_keeps, reaches_and_holds_keeps, holds_and_reaches_keeps, after_reached, number-after, stop_spot_reached, stopped_within, ceiling_held, ceiling_within, below_is, IsAhead, named_ahead, EndpointState, Halted, Error, Header, IsHeader, shape_of, Known, RingSpot, on_ring, spot_on, event_at, passed, broken_off, stopped_at, transferred, transferred_at, transfer_read, is_in_profile, is_working, is_stopping_now, can_report, can_report_at, is_impossible_transfer, is_off, RingsKeep}
+use Rattle.safety.proofs.Words.{shown_where_restored, option_map, cond_both, and_parts, and_cases, or_left, or_right, or_parts, or_from, not-false, false≢true, none-some, same_Some, put_pair, Block, pointer, code, slot, endpoint, is_success, is_halting, is_trb_error, is_stopping, Spot, number, after, Reaches, Holds, floor_number, ceiling, named, is_data_below, is_stop_spot, stopped_number, RingKeeps, reaches_keeps, reaches_and_holds_keeps, holds_and_reaches_keeps, after_reached, number-after, stop_spot_reached, stopped_within, ceiling_held, ceiling_within, below_is, IsAhead, named_ahead, EndpointState, Halted, Error, Header, IsHeader, shape_of, Known, RingSpot, on_ring, spot_on, event_at, passed, broken_off, stopped_at, transferred, transferred_at, transfer_read, is_in_profile, is_working, is_stopping_now, can_report, can_report_at, is_impossible_transfer, is_off, RingsKeep}
 use Rattle.safety.specs.RingsKeep.{IsDriverRing}
 use Rattle.safety.proofs.RingsOfHeader.{shape_allowed}
 use Rattle.safety.proofs.DriverRows.{same_keeps, on_ring_keeps, on_ring_twice_keeps}
@@ -32,11 +32,14 @@ module _ (h : Header) (is : IsHeader h) (k : Known) (keeps : RingsKeep h k) wher
   passed_keeps r t ahead below =
       on_ring_keeps h k r (Reaches (after (shape_of h r) (number t))) keeps (λ driver.
       let allowed = shape_allowed h is r driver in
-      let ring : RingKeeps (shape_of h r) k.memory (k.ring r) = keeps r driver in
+      let ring : RingKeeps (shape_of h r) k.memory (k.ring r) = (keeps r driver).rules in
       let within = ceiling_within (shape_of h r) allowed k.memory (k.ring r) ring in
-      reaches_keeps (shape_of h r) allowed k.memory (k.ring r) ring (after (shape_of h r) (number t))
-      (after_reached (shape_of h r) (k.ring r) (number t) (omega (arith, ahead driver)) (omega (arith, within.1, below)))
-      (λ m at. omega (arith, number-after (shape_of h r) (number t), ceiling_held (shape_of h r) (k.ring r) m at, below)))
+      record {
+        rules = reaches_keeps (shape_of h r) allowed k.memory (k.ring r) ring (after (shape_of h r) (number t))
+            (after_reached (shape_of h r) (k.ring r) (number t) (omega (arith, ahead driver)) (omega (arith, within.1, below)))
+            (λ m at. omega (arith, number-after (shape_of h r) (number t), ceiling_held (shape_of h r) (k.ring r) m at, below));
+        restored = (keeps r driver).restored;
+      })
 
   -- and the controller stopped behind it
   broken_keeps : (s i r : ℕ) (t : Spot) (state : EndpointState) → (IsDriverRing h r → floor_number (k.ring r) ≤ number t) → number t < ceiling (shape_of h r) (k.ring r) →
@@ -46,11 +49,14 @@ module _ (h : Header) (is : IsHeader h) (k : Known) (keeps : RingsKeep h k) wher
       same_keeps h (on_ring h (on_ring h k r (Reaches (after (shape_of h r) (number t)))) r (Holds (number t + 1))) (broken_off h k s i r t state) refl refl
       (on_ring_twice_keeps h k r (Reaches (after (shape_of h r) (number t))) (Holds (number t + 1)) keeps (λ driver.
       let allowed = shape_allowed h is r driver in
-      let ring : RingKeeps (shape_of h r) k.memory (k.ring r) = keeps r driver in
+      let ring : RingKeeps (shape_of h r) k.memory (k.ring r) = (keeps r driver).rules in
       let within = ceiling_within (shape_of h r) allowed k.memory (k.ring r) ring in
-      reaches_and_holds_keeps (shape_of h r) allowed k.memory (k.ring r) ring (after (shape_of h r) (number t))
-      (after_reached (shape_of h r) (k.ring r) (number t) (omega (arith, ahead driver)) (omega (arith, within.1, below)))
-      (number t + 1) (omega (arith, number-after (shape_of h r) (number t))) (omega (arith, within.1, below))))
+      record {
+        rules = reaches_and_holds_keeps (shape_of h r) allowed k.memory (k.ring r) ring (after (shape_of h r) (number t))
+            (after_reached (shape_of h r) (k.ring r) (number t) (omega (arith, ahead driver)) (omega (arith, within.1, below)))
+            (number t + 1) (omega (arith, number-after (shape_of h r) (number t))) (omega (arith, within.1, below)) (λ p free low. omega arith);
+        restored = (keeps r driver).restored;
+      }))
 
   -- it was stopped at the spot
   stopped_keeps : (s i r : ℕ) (t : Spot) → (IsDriverRing h r → IsAhead (shape_of h r) (k.ring r) t) → is_stop_spot (shape_of h r) (k.ring r) t ≡ true →
@@ -61,8 +67,12 @@ module _ (h : Header) (is : IsHeader h) (k : Known) (keeps : RingsKeep h k) wher
       (on_ring_twice_keeps h k r (Holds (stopped_number (shape_of h r) (k.ring r) t)) (Reaches t) keeps (λ driver.
       let at : IsAhead (shape_of h r) (k.ring r) t = ahead driver in
       let bounds = stopped_within (shape_of h r) (k.ring r) t stop in
-      holds_and_reaches_keeps (shape_of h r) (shape_allowed h is r driver) k.memory (k.ring r) (keeps r driver) t
-      (stop_spot_reached (shape_of h r) (k.ring r) t at.is_spot at.from stop) (stopped_number (shape_of h r) (k.ring r) t) bounds.0 bounds.1))
+      record {
+        rules = holds_and_reaches_keeps (shape_of h r) (shape_allowed h is r driver) k.memory (k.ring r) (keeps r driver).rules t
+            (stop_spot_reached (shape_of h r) (k.ring r) t at.is_spot at.from stop) (stopped_number (shape_of h r) (k.ring r) t) bounds.0 bounds.1
+            (shown_where_restored (shape_of h r) (k.ring r) (keeps r driver).restored (stopped_number (shape_of h r) (k.ring r) t));
+        restored = (keeps r driver).restored;
+      }))
 
   transferred_keeps : (c s i r : ℕ) (t : Spot) → (IsDriverRing h r → IsAhead (shape_of h r) (k.ring r) t) → can_report h k c s i r t ≡ true → RingsKeep h (transferred h k c s i r t)
   unfolding transferred can_report
@@ -94,7 +104,7 @@ module _ (h : Header) (is : IsHeader h) (k : Known) (keeps : RingsKeep h k) wher
   reported_keeps b None found can = absurd (false≢true can)
   reported_keeps b (Some at) found can =
       transferred_keeps (code b) (slot b) (endpoint b) at.ring at.spot
-      (λ driver. named_ahead (shape_of h at.ring) k.memory (k.ring at.ring) (keeps at.ring driver) (pointer b) at.spot
+      (λ driver. named_ahead (shape_of h at.ring) k.memory (k.ring at.ring) (keeps at.ring driver).rules (pointer b) at.spot
       (spot_is h k (pointer b) (k.ring_of (slot b) (endpoint b)) at found)) can
 
   pub transfer_keeps : (b : Block) → is_impossible_transfer h k b ≡ false → is_in_profile b ≡ true → RingsKeep h (transfer_read h k b)

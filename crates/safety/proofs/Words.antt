@@ -57,12 +57,12 @@ pub use Rattle.safety.specs.KeptHistories.{AreDriverRows, IsDriverRow, MayRead, 
 pub use Rattle.safety.specs.KeptStep.{CommandsKeep, DevicesKeep, KeptByRows}
 pub use Rattle.safety.specs.Matches.{Agrees, BoundRing, CommandMatches, EndpointRing, FreeRing, IsUnchanged, Matches, Newest, NotStarted, RingMatches, RingState, TakenCommand, UnderWayMatches, Unreported, state_of}
 pub use Rattle.safety.specs.Placings.{AreFree, MayChange, MayChangeAll, MayFinish, MayPoint, MovesOn, StillHolds}
-pub use Rattle.safety.specs.RingsKeep.{RingsKeep}
+pub use Rattle.safety.specs.RingsKeep.{RingKept, RingsKeep}
 pub use Rattle.safety.specs.Stands.{EventsStand, Stands, touches_events}
 pub use Rattle.segments.proofs.Crossings.{crossed_link, crosses, cycle_of-crossed, is_crossing-lap, link_address-lap, link_address_is, link_target-crossed}
 pub use Rattle.segments.proofs.DataPlaces.{link_aligned, link_ends}
 pub use Rattle.segments.proofs.Declaring.{declares_keeps, given_count-declares, slice_get-append}
-pub use Rattle.segments.proofs.DueLists.{crossing_given, leased_crossing, leased_position, position_given, position_given_is}
+pub use Rattle.segments.proofs.DueLists.{crossing_given, leased_crossing, leased_position, no_flips, position_given, position_given_is, shown_where_restored}
 pub use Rattle.segments.proofs.Elsewhere.{address_inside, link_address_inside}
 pub use Rattle.segments.proofs.GivenCount.{given_below, given_count_grows, given_count_same, given_count_stops}
 pub use Rattle.segments.proofs.Giving.{IsCrossingDue, crossing_due_from, due_from, due_is, gives_crossing_from, gives_crossing_is, gives_from, gives_is}
@@ -89,8 +89,8 @@ pub use Rattle.segments.specs.Givings.{same}
 unfoldable pub use Rattle.segments.specs.Givings.{descriptor_length, has_no_room, interrupts, is_declared_as, is_not_declared, is_not_whole, is_other_than_declared, is_wrong_link, leads_wrong}
 unfoldable pub use Rattle.segments.specs.Moves.{is_move, is_placement, is_reached, is_target, may_move_to, spots_between, target}
 pub use Rattle.segments.specs.Places.{address_of, cycle_of, data_places, is_crossing, is_in, is_inside, link_address, link_crossed, link_target, overlap, place_count, segment_has, toggles}
-pub use Rattle.segments.specs.RingKeeps.{MayDeclare, MayReach, MayWrite, RingKeeps}
-pub use Rattle.segments.specs.RingView.{Declares, Holds, Opens, Reaches, RingChange, RingView, Writes, changed, declared, floor_number, gives, gives_crossing, is_crossing_due, is_due}
+pub use Rattle.segments.specs.RingKeeps.{IsRestored, MayDeclare, MayReach, MayWrite, RingKeeps}
+pub use Rattle.segments.specs.RingView.{is_handed_over, Declares, Holds, Opens, Reaches, RingChange, RingView, Writes, changed, declared, floor_number, gives, gives_crossing, is_crossing_due, is_due}
 unfoldable pub use Rattle.segments.specs.RingView.{crossings_given, due_crossings, due_positions, leased_crossings, leased_positions, positions_given}
 pub use Rattle.segments.specs.Shape.{IsShape, is_shape}
 pub use Rattle.segments.specs.ShapeValue.{Shape}

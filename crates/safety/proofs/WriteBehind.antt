@@ -110,7 +110,7 @@ module _ (h : Header) (is : IsHeader h) (k : Known) (d : DriverKeeps h k) (a w :
       (λ r there here. elim (b.rings r.id) [
         | inl same ↦ subst (λ (v : RingView). IsIn g (map (Position r.id) (positions_given (shape_of h r.id) v a w) ++ map (Crossing r.id) (crossings_given (shape_of h r.id) v a w))) same here
         | inr on ↦
-            let writes = keeps_cycles h is k a w clean r.id on.0 on.1.before in
+            let writes = keeps_cycles h is k a w clean r.id on.0 on.1.before on.1.restored in
             both_fewer g (map (Position r.id) (positions_given (shape_of h r.id) (l.ring r.id) a w)) (map (Crossing r.id) (crossings_given (shape_of h r.id) (l.ring r.id) a w))
             (map (Position r.id) (positions_given (shape_of h r.id) (k.ring r.id) a w)) (map (Crossing r.id) (crossings_given (shape_of h r.id) (k.ring r.id) a w))
             (map_fewer (Position r.id) (positions_given (shape_of h r.id) (l.ring r.id) a w) (positions_given (shape_of h r.id) (k.ring r.id) a w) g
@@ -219,7 +219,7 @@ module _ (h : Header) (is : IsHeader h) (k : Known) (d : DriverKeeps h k) (a w :
       elim (b.rings (command_id h)) [
         | inl same ↦ ap (λ (v : RingView). positions_given (shape_of h (command_id h)) v a w) same
         | inr on ↦
-            positions_same (shape_of h (command_id h)) k.memory (k.ring (command_id h)) (l.ring (command_id h)) on.1 a w (keeps_cycles h is k a w clean (command_id h) on.0 on.1.before)
+            positions_same (shape_of h (command_id h)) k.memory (k.ring (command_id h)) (l.ring (command_id h)) on.1 a w (keeps_cycles h is k a w clean (command_id h) on.0 on.1.before on.1.restored)
       ]
 
   pub command_behind : command_given h l a w ≡ command_given h k a w

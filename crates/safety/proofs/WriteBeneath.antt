@@ -37,14 +37,16 @@ module _ (h : Header) (is : IsHeader h) (k : Known) (d : DriverKeeps h k) (a w :
   ring_given r =
       elim (b.rings r) [
         | inl same ↦ subst (λ (v : RingView). SameGiven (changed (shape_of h r) v (Writes a w)) (changed (shape_of h r) (k.ring r) (Writes a w))) (sym same)
-            (record { queue = refl; lengths = refl; given = refl; crossed = refl })
+            (record { queue = refl; lengths = refl; given = refl; crossed = refl; withdrawn = refl; free = refl })
         | inr on ↦
-            let writes = keeps_cycles h is k a w clean r on.0 on.1.before in
+            let writes = keeps_cycles h is k a w clean r on.0 on.1.before on.1.restored in
             record {
               queue = sym (b.driver.rings r).queue;
               lengths = sym (b.driver.rings r).lengths;
               given = fun_ext (given_same (shape_of h r) k.memory (k.ring r) (l.ring r) on.1 a w writes);
               crossed = fun_ext (crossed_same (shape_of h r) k.memory (k.ring r) (l.ring r) on.1 a w writes);
+              withdrawn = sym (b.driver.rings r).withdrawn;
+              free = sym (b.driver.rings r).free;
             }
       ]
 

@@ -4,7 +4,7 @@ use Rattle.trb.specs.declared.block.Block.{Block}
 use Rattle.segments.specs.declared.spot.Spot.TheVariants.{Data}
 use Rattle.segments.specs.Places.{address_of, is_in, is_inside, overlap}
 use Rattle.segments.specs.RingView.{floor_number, is_due}
-use Rattle.segments.specs.RingKeeps.{RingKeeps}
+use Rattle.segments.specs.RingKeeps.{RingKeeps, IsRestored}
 use Rattle.segments.specs.Moves.{is_move}
 use Rattle.commands.specs.declared.command.Command.{Command}
 use Rattle.commands.specs.declared.command.Command.TheVariants.{AddressDevice}
@@ -134,6 +134,8 @@ module _ (h : Header) where
 
   pub record DriverKeeps (k : Known) : Type 0 where
     pub rings : (r : ℕ) → IsDriverRing r → RingKeeps (shape_of h r) k.memory (k.ring r)
+    -- no row withdraws a descriptor, so that nothing is free
+    pub restored : (r : ℕ) → IsDriverRing r → IsRestored (k.ring r)
     -- no word of a ring is soiled
     pub clean : (r a : ℕ) → IsDriverRing r → is_inside (shape_of h r) a ≡ true → k.soiled a ≡ false
     pub command_ring : CommandRingKeeps k

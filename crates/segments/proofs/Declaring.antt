@@ -1,5 +1,5 @@
 -- A declaration keeps the rules of a ring
-use Rattle.segments.proofs.Words.{◌≡◌, ◌+◌, ◌-◌, ◌<◌, ◌≤◌, ◌∷◌, ◌++◌, ◌∙◌, ℕ, false, List, [], length, sum, Some, slice_get, All, arith, refl, sym, ap, subst, inl, inr, get_or, length-append, ltb-false, cases_lt, slice_get-get_or, slice_get_within, get_or_from_slice_get, get_or_append_left, get_or-append_right, All-push, All-get_or, sum_by_push, Block, kind, is_link, Shape, place_count, IsShape, RingView, Declares, changed, declared, floor_number, is_step_given, is_way_given, given_count, has_no_room, descriptor_length, RingKeeps, MayDeclare, MayHold}
+use Rattle.segments.proofs.Words.{unwrap_or, ceiling, ◌≡◌, ◌+◌, ◌-◌, ◌<◌, ◌≤◌, ◌∷◌, ◌++◌, ◌∙◌, ℕ, false, List, [], length, sum, Some, slice_get, All, arith, refl, sym, ap, subst, inl, inr, get_or, length-append, ltb-false, cases_lt, slice_get-get_or, slice_get_within, get_or_from_slice_get, get_or_append_left, get_or-append_right, All-push, All-get_or, sum_by_push, Block, kind, is_link, Shape, place_count, IsShape, RingView, Declares, changed, declared, floor_number, is_step_given, is_way_given, given_count, has_no_room, descriptor_length, RingKeeps, MayDeclare, MayHold}
 use Rattle.segments.proofs.Positions.{place_count_pos}
 use Rattle.segments.proofs.GivenCount.{given_count_same}
 use Rattle.segments.proofs.StepFacts.{whole_more, length_from-push}
@@ -39,6 +39,10 @@ steps_kept shape v blocks q = refl
 pub given_count-declares : (shape : Shape) (v : RingView) (blocks : List Block) → given_count shape v ≡ given_count shape (changed shape v (Declares blocks))
 given_count-declares shape v blocks = given_count_same shape v (changed shape v (Declares blocks)) refl (steps_kept shape v blocks)
 
+ceiling-declares : (shape : Shape) (v : RingView) (blocks : List Block) → ceiling shape v ≡ ceiling shape (changed shape v (Declares blocks))
+unfolding ceiling
+ceiling-declares shape v blocks = ap (λ n. unwrap_or v.held n) (given_count-declares shape v blocks)
+
 pub declares_keeps : (shape : Shape) → IsShape shape → (memory : ℕ → ℕ) (v : RingView) (blocks : List Block) → RingKeeps shape memory v → MayDeclare shape v blocks →
     RingKeeps shape memory (changed shape v (Declares blocks))
 declares_keeps shape is memory v blocks k may =
@@ -55,7 +59,7 @@ declares_keeps shape is memory v blocks k may =
       given_declared = λ p g. omega (arith, more, k.given_declared p g);
       crossed_is_crossing = k.crossed_is_crossing;
       crossed_within = k.crossed_within;
-      kept = λ p d low g at. k.kept p d low g (sym (slice_get-append v.queue blocks p (k.given_declared p g)) ∙ at);
+      kept = λ p d low g kept at. k.kept p d low g kept (sym (slice_get-append v.queue blocks p (k.given_declared p g)) ∙ at);
       not_yet = k.not_yet;
       kept_link = k.kept_link;
       not_yet_link = k.not_yet_link;
@@ -65,4 +69,7 @@ declares_keeps shape is memory v blocks k may =
       descriptors = adds ∙ ap (λ n. n + length blocks) k.descriptors ∙ sym more;
       blocks = λ p d at. declared_now (λ b. is_link (kind b) ≡ false) v.queue blocks p d k.blocks may.no_link at;
       held = λ m at. let may_hold : MayHold shape v m = k.held m at in record { from = may_hold.from; to = omega (arith, may_hold.to, given_count-declares shape v blocks) };
+      free_given = k.free_given;
+      free_shows = λ p low high free. k.free_shows p low (omega (arith, ceiling-declares shape v blocks)) free;
+      open_restored = k.open_restored;
     }

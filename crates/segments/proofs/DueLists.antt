@@ -1,5 +1,5 @@
 -- Which numbers stand in the lists of due, given and leased positions and crossings
-use Rattle.segments.proofs.Words.{◌≡◌, ◌+◌, ◌-◌, ◌<◌, ◌≤◌, ◌&&◌, ◌∷◌, ◌∙◌, ℕ, not, Bool, true, false, List, [], length, Contains, filter, suc, zero, arith, refl, sym, ap, subst, inl, inr, get_or, range_with_len, cases_Bool, and_parts, and_from, not-true, not_from_false, cond-true, cond-false, All-contains, All-filter, All-contains_itself, filter_passes, Contains-append_right, length-range_with_len, get_or-range_with_len, Shape, place_count, is_crossing, RingView, floor_number, is_due, is_crossing_due, gives, gives_crossing, due_positions, due_crossings, positions_given, crossings_given, leased_positions, leased_crossings}
+use Rattle.segments.proofs.Words.{is_handed_over, IsShownTo, IsRestored, unrestored, flips_passed, ceiling, address_of, cycle_of, nat_lt, ◌==◌, ◌%◌, list_any, list_any_at, false_from_ne_true, false≢true, if◌then◌else◌, ◌≡◌, ◌+◌, ◌-◌, ◌<◌, ◌≤◌, ◌&&◌, ◌∷◌, ◌∙◌, ℕ, not, Bool, true, false, List, [], length, Contains, filter, suc, zero, arith, refl, sym, ap, subst, inl, inr, get_or, range_with_len, cases_Bool, and_parts, and_from, not-true, not_from_false, cond-true, cond-false, All-contains, All-filter, All-contains_itself, filter_passes, Contains-append_right, length-range_with_len, get_or-range_with_len, Shape, place_count, is_crossing, RingView, floor_number, is_due, is_crossing_due, gives, gives_crossing, due_positions, due_crossings, positions_given, crossings_given, leased_positions, leased_crossings}
 use Rattle.segments.proofs.Giving.{due_is, due_from, crossing_due_is, gives_is, gives_crossing_is}
 
 -- ---- a range, and a filter
@@ -52,15 +52,59 @@ due_position_is shape v p c =
     let is = range_contained (floor_number v) (place_count shape) p c in
     due_from shape v.floor p is.0 is.1
 
-pub leased_position : (shape : Shape) (v : RingView) (p : ℕ) → is_due shape v.floor p ≡ true → v.given p ≡ true → Contains (leased_positions shape v) p
+pub leased_position : (shape : Shape) (v : RingView) (p : ℕ) → is_due shape v.floor p ≡ true → v.given p ≡ true → v.free p ≡ false → Contains (leased_positions shape v) p
 unfolding leased_positions
-leased_position shape v p due given = filter_contains v.given (due_positions shape v) p (due_position shape v p due) given
+leased_position shape v p due given kept =
+    filter_contains (is_handed_over v) (due_positions shape v) p (due_position shape v p due)
+    (and_from (v.given p) (not (v.free p)) given (not_from_false (v.free p) kept))
 
 pub leased_position_is : (shape : Shape) (v : RingView) (p : ℕ) → Contains (leased_positions shape v) p → (is_due shape v.floor p ≡ true) × (v.given p ≡ true)
 unfolding leased_positions
 leased_position_is shape v p c =
-    let is = filter_contained v.given (due_positions shape v) p c in
-    (due_position_is shape v p is.0, is.1)
+    let is = filter_contained (is_handed_over v) (due_positions shape v) p c in
+    (due_position_is shape v p is.0, (and_parts (v.given p) (not (v.free p)) is.1).0)
+
+-- where nothing is free, the leased positions are the given ones
+pub leased_where_restored : (shape : Shape) (v : RingView) → IsRestored v → leased_positions shape v ≡ filter v.given (due_positions shape v)
+unfolding leased_positions
+leased_where_restored shape v none = by (due_positions shape v)
+  where
+    and_all : (b : Bool) → (b && true) ≡ b
+    and_all true = refl
+    and_all false = refl
+
+    same : (p : ℕ) → is_handed_over v p ≡ v.given p
+    same p = ap (λ f. v.given p && not f) (none p) ∙ and_all (v.given p)
+
+    by : (xs : List ℕ) → filter (is_handed_over v) xs ≡ filter v.given xs
+    by [] = refl
+    by (x ∷ xs) = ap (λ b. if b then x ∷ filter (is_handed_over v) xs else filter (is_handed_over v) xs) (same x)
+        ∙ ap (λ ys. if v.given x then x ∷ ys else ys) (by xs)
+
+-- what is free and due isn't restored
+pub unrestored_position : (shape : Shape) (v : RingView) (p : ℕ) → is_due shape v.floor p ≡ true → v.free p ≡ true → Contains (unrestored shape v) p
+unfolding unrestored
+unrestored_position shape v p due free = filter_contains v.free (due_positions shape v) p (due_position shape v p due) free
+
+-- nor is anything free below a number then
+pub shown_where_restored : (shape : Shape) (v : RingView) → IsRestored v → (n : ℕ) → IsShownTo shape v n
+shown_where_restored shape v none n p free below = absurd (false≢true (sym (none p) ∙ free))
+
+-- where nothing is free, no write flips a Cycle bit that was passed
+pub no_flips : (shape : Shape) (v : RingView) (a w : ℕ) → IsRestored v → flips_passed shape v a w ≡ false
+unfolding flips_passed unrestored
+no_flips shape v a w none = by (due_positions shape v)
+  where
+    by : (xs : List ℕ) → list_any (λ p. nat_lt p (ceiling shape v) && a == address_of shape p + 12 && not (w % 2 == cycle_of shape p)) (filter v.free xs) ≡ false
+    by [] = refl
+    by (x ∷ xs) =
+        ap (list_any (λ p. nat_lt p (ceiling shape v) && a == address_of shape p + 12 && not (w % 2 == cycle_of shape p))) (cond-false (v.free x) (x ∷ filter v.free xs) (filter v.free xs) (none x))
+        ∙ by xs
+
+-- a test that no element of a list passes fails for each
+pub none_passes_at : (test : ℕ → Bool) (xs : List ℕ) (x : ℕ) → list_any test xs ≡ false → Contains xs x → test x ≡ false
+none_passes_at test xs x none at =
+    false_from_ne_true (test x) (λ passes. false≢true (sym none ∙ list_any_at test xs at.0 x at.1 (ap test at.2 ∙ passes)))
 
 pub position_given : (shape : Shape) (v : RingView) (a w p : ℕ) → v.given p ≡ false → gives shape v.floor p a w ≡ true → Contains (positions_given shape v a w) p
 unfolding positions_given

@@ -1,5 +1,5 @@
 -- How much of a ring is given: the number below which all steps are given, and the first that isn't
-use Rattle.segments.proofs.Words.{◌≡◌, ◌+◌, ◌<◌, ◌≤◌, ◌∙◌, ℕ, suc, zero, true, false, arith, refl, sym, ap, inl, inr, cases_Bool, cases_lt, cases_eq, cases_order, cond-true, cond-false, false≢true, Shape, place_count, RingView, floor_number, is_step_given, first_not_given, given_count}
+use Rattle.segments.proofs.Words.{Some, None, unwrap_or, ceiling, ◌≡◌, ◌+◌, ◌<◌, ◌≤◌, ◌∙◌, ℕ, suc, zero, true, false, arith, refl, sym, ap, inl, inr, cases_Bool, cases_lt, cases_eq, cases_order, cond-true, cond-false, false≢true, Shape, place_count, RingView, floor_number, is_step_given, first_not_given, given_count}
 
 -- ---- the first step that isn't given, of n from q on
 
@@ -107,3 +107,13 @@ pub given_count_grows : (shape : Shape) (v w : RingView) → floor_number v ≤ 
     given_count shape v ≤ given_count shape w
 given_count_grows shape v w floor more =
     given_count_least shape w (given_count shape v) (omega (arith, given_count_most shape v)) (λ p h. more p (given_below shape v p h))
+
+-- ---- how far the controller may have gone
+
+pub ceiling_held : (shape : Shape) (v : RingView) (m : ℕ) → v.held ≡ Some m → ceiling shape v ≡ m
+unfolding ceiling
+ceiling_held shape v m at = ap (λ o. unwrap_or o (given_count shape v)) at
+
+pub ceiling_open : (shape : Shape) (v : RingView) → v.held ≡ None → ceiling shape v ≡ given_count shape v
+unfolding ceiling
+ceiling_open shape v at = ap (λ o. unwrap_or o (given_count shape v)) at

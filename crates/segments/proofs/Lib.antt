@@ -22,6 +22,7 @@ pub mod NewPlacement
 pub mod Declaring
 pub mod Writing
 pub mod Reaching
+pub mod Withdrawing
 pub mod Elsewhere
 pub mod OneGiving
 pub mod ReachedSpots
@@ -31,6 +32,7 @@ pub mod WalkReads
 pub mod Named
 pub mod RingsApart
 mod WalkExamples
+mod WithdrawnExamples
 pub mod MoveTargets
 pub mod MovesStay
 pub mod Words

@@ -1,19 +1,12 @@
 -- The spots that events and pointers name, and how far a ring's controller may have gone
-use Rattle.segments.proofs.Words.{◌≡◌, ◌+◌, ◌-◌, ◌<◌, ◌≤◌, ◌==◌, ◌&&◌, if◌then◌else◌, ◌∷◌, ◌∙◌, ℕ, suc, zero, Bool, true, List, [], All, find, Option, None, Some, unwrap_or, arith, refl, sym, ap, subst, inl, inr, ltb-true, range_with_len, flat_map, cases_Bool, cond-true, cond-false, false≢true, and_parts, none-some, same_Some, All-nil, All-cons, All-head, All-tail, Spot, Data, Link, Shape, IsSpot, is_spot, number, spot_address, spot_cycle, IsShape, RingView, declared, floor_number, given_count, ceiling, named, is_data_below, is_target, spots_between, target, RingKeeps, MayReach, MayHold}
+use Rattle.segments.proofs.Words.{◌≡◌, ◌+◌, ◌-◌, ◌<◌, ◌≤◌, ◌==◌, ◌&&◌, if◌then◌else◌, ◌∷◌, ◌∙◌, ℕ, suc, zero, Bool, true, List, [], All, find, Option, None, Some, arith, refl, sym, ap, subst, inl, inr, ltb-true, range_with_len, flat_map, cases_Bool, cond-true, cond-false, false≢true, and_parts, none-some, same_Some, All-nil, All-cons, All-head, All-tail, Spot, Data, Link, Shape, IsSpot, is_spot, number, spot_address, spot_cycle, IsShape, RingView, declared, floor_number, given_count, ceiling, named, is_data_below, is_target, spots_between, target, RingKeeps, MayReach, MayHold}
 use Rattle.segments.proofs.Crossings.{crossing_positive}
 use Rattle.segments.proofs.SpotOrder.{rank_least, rank_most}
 use Rattle.segments.proofs.NamedSpots.{IsNamed, named_spot-Some}
 use Rattle.segments.proofs.Reaching.{floor_given}
+pub use Rattle.segments.proofs.GivenCount.{ceiling_held, ceiling_open}
 
 -- ---- how far
-
-pub ceiling_held : (shape : Shape) (v : RingView) (m : ℕ) → v.held ≡ Some m → ceiling shape v ≡ m
-unfolding ceiling
-ceiling_held shape v m at = ap (λ o. unwrap_or o (given_count shape v)) at
-
-pub ceiling_open : (shape : Shape) (v : RingView) → v.held ≡ None → ceiling shape v ≡ given_count shape v
-unfolding ceiling
-ceiling_open shape v at = ap (λ o. unwrap_or o (given_count shape v)) at
 
 -- the ceiling lies between the floor and what is given
 pub ceiling_within : (shape : Shape) → IsShape shape → (memory : ℕ → ℕ) (v : RingView) → RingKeeps shape memory v →

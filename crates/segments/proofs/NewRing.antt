@@ -22,7 +22,7 @@ new_ring_keeps shape is memory zeros =
       given_declared = λ p g. absurd (false≢true g);
       crossed_is_crossing = λ q g. absurd (false≢true g);
       crossed_within = λ q g. absurd (false≢true g);
-      kept = λ p d h g at. absurd (false≢true g);
+      kept = λ p d h g kept at. absurd (false≢true g);
       not_yet = λ p due g.
           let is_due = due_is shape (Data 0) p due in
           zero_shows (memory (address_of shape p + 12)) (cycle_of shape p) (zeros (address_of shape p + 12)) (cycle_of-first shape p (omega arith));
@@ -38,4 +38,7 @@ new_ring_keeps shape is memory zeros =
       descriptors = refl;
       blocks = λ p d at. absurd (none-some d at);
       held = λ m at. let zero : 0 ≡ m = same_Some 0 m at in record { from = omega arith; to = omega arith };
+      free_given = λ p free. absurd (false≢true free);
+      free_shows = λ p low high free. absurd (false≢true free);
+      open_restored = λ none p. refl;
     }

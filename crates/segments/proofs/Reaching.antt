@@ -1,10 +1,10 @@
 -- A spot that is reached, a ring that is opened or held: what the rules keep of a ring stays
-use Rattle.segments.proofs.Words.{◌≡◌, ◌≢◌, ◌+◌, ◌-◌, ◌%◌, ◌<◌, ◌≤◌, ◌∙◌, ℕ, true, false, [], Option, None, Some, arith, refl, sym, ap, inl, inr, get_or, cases_lt, cases_eq, false≢true, none-some, same_Some, slice_get-get_or, Block, word, with_cycle, Spot, Shape, place_count, address_of, cycle_of, is_crossing, link_address, number, IsShape, RingView, Reaches, Opens, Holds, changed, declared, floor_number, is_due, is_crossing_due, is_step_given, is_way_given, given_count, descriptor_length, RingKeeps, MayReach, MayHold}
+use Rattle.segments.proofs.Words.{cases_Bool, ceiling, IsRestored, IsShownTo, ◌≡◌, ◌≢◌, ◌+◌, ◌-◌, ◌%◌, ◌<◌, ◌≤◌, ◌∙◌, ℕ, true, false, [], Option, None, Some, arith, refl, sym, ap, inl, inr, get_or, cases_lt, cases_eq, false≢true, none-some, same_Some, slice_get-get_or, Block, word, with_cycle, Spot, Shape, place_count, address_of, cycle_of, is_crossing, link_address, number, IsShape, RingView, Reaches, Opens, Holds, changed, declared, floor_number, is_due, is_crossing_due, is_step_given, is_way_given, given_count, descriptor_length, RingKeeps, MayReach, MayHold}
 use Rattle.segments.proofs.Positions.{place_count_pos, address_of-lap, cycle_of_bit, cycle_of_flips}
 use Rattle.segments.proofs.Crossings.{crossed_link, is_crossing-lap, link_address-lap}
 use Rattle.segments.proofs.SpotOrder.{rank_least}
 use Rattle.segments.proofs.Giving.{due_is, due_from, crossing_due_is, crossing_due_from}
-use Rattle.segments.proofs.GivenCount.{given_below, given_count_least, given_count_stops, given_count_still}
+use Rattle.segments.proofs.GivenCount.{given_below, given_count_least, given_count_stops, given_count_still, ceiling_held}
 use Rattle.segments.proofs.StepFacts.{step_is, step_from, whole_more}
 
 -- the view with another floor and another number at which the ring is held
@@ -45,24 +45,43 @@ module _ (shape : Shape) (is : IsShape shape) (memory : ℕ → ℕ) (v : RingVi
         | inr within ↦ within
       ]
 
+  -- ---- what is free
+
+  -- a ring of which something is free is held, at its ceiling
+  held_if_free : (p : ℕ) → v.free p ≡ true → (m : ℕ) × (v.held ≡ Some m) × (p < m → p < ceiling shape v)
+  held_if_free p free = by v.held refl
+    where
+      by : (o : Option ℕ) → v.held ≡ o → (m : ℕ) × (v.held ≡ Some m) × (p < m → p < ceiling shape v)
+      by None at = absurd (false≢true (sym (k.open_restored at p) ∙ free))
+      by (Some m) at = (m, at, λ below. omega (arith, ceiling_held shape v m at))
+
   -- ---- a lap behind
 
   cycle_bit : (d : Block) (c : ℕ) → c < 2 → word (with_cycle d c) 3 % 2 ≡ c
   cycle_bit d c l = omega arith
 
-  -- a position that is given and not passed shows its own cycle
-  pub kept_cycle : (p : ℕ) → floor_number v ≤ p → v.given p ≡ true → memory (address_of shape p + 12) % 2 ≡ cycle_of shape p
-  kept_cycle p low g =
+  -- a position that is given, not passed and not free shows its own cycle
+  pub kept_cycle : (p : ℕ) → floor_number v ≤ p → v.given p ≡ true → v.free p ≡ false → memory (address_of shape p + 12) % 2 ≡ cycle_of shape p
+  kept_cycle p low g kept =
       let none : Block = record { w = [] } in
       let d : Block = get_or v.queue p none in
-      let stands = k.kept p d low g (slice_get-get_or v.queue p none (k.given_declared p g)) in
+      let stands = k.kept p d low g kept (slice_get-get_or v.queue p none (k.given_declared p g)) in
       ap (λ b. word b 3 % 2) stands ∙ cycle_bit d (cycle_of shape p) (cycle_of_bit shape p)
 
+  -- and so does one that is free, below the ceiling
+  given_cycle : (p : ℕ) → floor_number v ≤ p → v.given p ≡ true → (v.free p ≡ true → p < ceiling shape v) → memory (address_of shape p + 12) % 2 ≡ cycle_of shape p
+  given_cycle p low g below =
+      elim (cases_Bool (v.free p)) [
+        | inl free ↦ k.free_shows p low (below free) free
+        | inr kept ↦ kept_cycle p low g kept
+      ]
+
   -- so where the position a lap before is given, the place doesn't show the cycle of this one
-  behind_given : (p : ℕ) → floor_number v + place_count shape ≤ p → v.given (p - place_count shape) ≡ true → memory (address_of shape p + 12) % 2 ≢ cycle_of shape p
-  behind_given p above g =
+  behind_given : (p : ℕ) → floor_number v + place_count shape ≤ p → v.given (p - place_count shape) ≡ true →
+      (v.free (p - place_count shape) ≡ true → p - place_count shape < ceiling shape v) → memory (address_of shape p + 12) % 2 ≢ cycle_of shape p
+  behind_given p above g below =
       let lap : p - place_count shape + place_count shape ≡ p = omega arith in
-      let cycle = kept_cycle (p - place_count shape) (omega arith) g in
+      let cycle = given_cycle (p - place_count shape) (omega arith) g below in
       let place : address_of shape p ≡ address_of shape (p - place_count shape) = ap (λ n. address_of shape n) (sym lap) ∙ address_of-lap shape (p - place_count shape) in
       λ same. cycle_of_flips shape is (p - place_count shape) (ap (λ n. cycle_of shape n) lap ∙ sym same ∙ ap (λ a. memory (a + 12) % 2) place ∙ cycle)
 
@@ -84,12 +103,15 @@ module _ (shape : Shape) (is : IsShape shape) (memory : ℕ → ℕ) (v : RingVi
   -- ---- from a later floor
 
   module _ (t : Spot) (may : MayReach shape v t) where
-    not_yet_from : (p : ℕ) → is_due shape t p ≡ true → v.given p ≡ false → memory (address_of shape p + 12) % 2 ≢ cycle_of shape p
-    not_yet_from p due g =
+    not_yet_from : IsShownTo shape v (number t) → (p : ℕ) → is_due shape t p ≡ true → v.given p ≡ false → memory (address_of shape p + 12) % 2 ≢ cycle_of shape p
+    not_yet_from shown p due g =
+        let pos = place_count_pos shape is in
         let is_due = due_is shape t p due in
         elim (cases_lt p (floor_number v + place_count shape)) [
           | inl near ↦ k.not_yet p (due_from shape v.floor p (omega (arith, may.later)) near) g
-          | inr far ↦ behind_given p far (may.passed (p - place_count shape) (omega (arith, place_count_pos shape is)))
+          | inr far ↦
+              let behind : p - place_count shape < number t = omega arith in
+              behind_given p far (may.passed (p - place_count shape) behind) (λ free. shown (p - place_count shape) free behind)
         ]
 
     not_yet_link_from : (q : ℕ) → is_crossing_due shape t q ≡ true → v.crossed q ≡ false → memory (link_address shape q + 12) % 2 ≢ cycle_of shape (q - 1)
@@ -133,9 +155,11 @@ module _ (shape : Shape) (is : IsShape shape) (memory : ℕ → ℕ) (v : RingVi
     given_count-moved held =
         given_count_still shape v (moved v t held) (step_stays held) given_count_near (omega (arith, moved_count_declared held, k.room, may.later))
 
-    -- the pointer reaches a spot, and the ring is open then, or held at a number from the spot's up to what is given
-    pub moved_keeps : (held : Option ℕ) → ((m : ℕ) → held ≡ Some m → (number t ≤ m) × (m ≤ given_count shape v)) → RingKeeps shape memory (moved v t held)
-    moved_keeps held within =
+    -- the pointer reaches a spot, and the ring is open then, or held at a number from the spot's up to what is given; where something is
+    -- free it is held, and shows its cycle up to there
+    pub moved_keeps : (held : Option ℕ) → ((m : ℕ) → held ≡ Some m → (number t ≤ m) × (m ≤ given_count shape v)) →
+        ((p : ℕ) → v.free p ≡ true → (m : ℕ) × (held ≡ Some m) × (p < m → p < ceiling shape v)) → RingKeeps shape memory (moved v t held)
+    moved_keeps held within restored =
         record {
           is_spot = may.is_spot;
           room = omega (arith, k.room, may.later);
@@ -153,8 +177,8 @@ module _ (shape : Shape) (is : IsShape shape) (memory : ℕ → ℕ) (v : RingVi
                       | inr on ↦ inl (omega arith)
                     ]
               ];
-          kept = λ p d low g at. k.kept p d (omega (arith, may.later)) g at;
-          not_yet = not_yet_from;
+          kept = λ p d low g kept at. k.kept p d (omega (arith, may.later)) g kept at;
+          not_yet = not_yet_from (λ p free below. let r = restored p free in r.2 (omega (arith, (within r.0 r.1).0)));
           kept_link = λ q i due g at. k.kept_link q i (crossed_due q (omega (arith, may.later, (crossing_due_is shape t q due).from)) g) g at;
           not_yet_link = not_yet_link_from;
           whole = λ p g. whole_more shape v (moved v t held) p (record { given = λ q h. h; crossed = λ q h. h }) (length_stays held p) (k.whole p g);
@@ -162,19 +186,28 @@ module _ (shape : Shape) (is : IsShape shape) (memory : ℕ → ℕ) (v : RingVi
           descriptors = k.descriptors;
           blocks = k.blocks;
           held = λ m at. let bounds = within m at in record { from = bounds.0; to = omega (arith, bounds.1, given_count-moved held) };
+          free_given = k.free_given;
+          free_shows = λ p low high free.
+              let r = restored p free in
+              k.free_shows p (omega (arith, may.later)) (r.2 (omega (arith, ceiling_held shape (moved v t held) r.0 r.1))) free;
+          open_restored = λ none p.
+              elim (cases_Bool (v.free p)) [
+                | inl free ↦ absurd (none-some (restored p free).0 (sym none ∙ (restored p free).1))
+                | inr kept ↦ kept
+              ];
         }
 
     -- a ring that is held goes no further than the number at which it is held
     pub reaches_keeps : ((m : ℕ) → v.held ≡ Some m → number t ≤ m) → RingKeeps shape memory (changed shape v (Reaches t))
-    reaches_keeps within = moved_keeps v.held (λ m at. (within m at, (k.held m at).to))
+    reaches_keeps within = moved_keeps v.held (λ m at. (within m at, (k.held m at).to)) held_if_free
 
     -- the pointer reaches a spot and stands there, or has begun the block there
-    pub reaches_and_holds_keeps : (n : ℕ) → number t ≤ n → n ≤ given_count shape v → RingKeeps shape memory (changed shape (changed shape v (Reaches t)) (Holds n))
-    reaches_and_holds_keeps n low high = moved_keeps (Some n) (λ m at. let same : n ≡ m = same_Some n m at in (omega arith, omega arith))
+    pub reaches_and_holds_keeps : (n : ℕ) → number t ≤ n → n ≤ given_count shape v → IsShownTo shape v n → RingKeeps shape memory (changed shape (changed shape v (Reaches t)) (Holds n))
+    reaches_and_holds_keeps n low high shown = moved_keeps (Some n) (λ m at. let same : n ≡ m = same_Some n m at in (omega arith, omega arith)) (λ p free. (n, refl, shown p free))
 
     -- the other way round it is the same view
-    pub holds_and_reaches_keeps : (n : ℕ) → number t ≤ n → n ≤ given_count shape v → RingKeeps shape memory (changed shape (changed shape v (Holds n)) (Reaches t))
-    holds_and_reaches_keeps n low high = reaches_and_holds_keeps n low high
+    pub holds_and_reaches_keeps : (n : ℕ) → number t ≤ n → n ≤ given_count shape v → IsShownTo shape v n → RingKeeps shape memory (changed shape (changed shape v (Holds n)) (Reaches t))
+    holds_and_reaches_keeps n low high shown = reaches_and_holds_keeps n low high shown
 
   -- ---- the floor stays
 
@@ -182,8 +215,9 @@ module _ (shape : Shape) (is : IsShape shape) (memory : ℕ → ℕ) (v : RingVi
   pub floor_reached : MayReach shape v v.floor
   floor_reached = record { is_spot = k.is_spot; later = omega arith; passed = k.passed; passed_links = k.passed_links }
 
-  pub opens_keeps : RingKeeps shape memory (changed shape v Opens)
-  opens_keeps = moved_keeps v.floor floor_reached None (λ m at. absurd (none-some m at))
+  pub opens_keeps : IsRestored v → RingKeeps shape memory (changed shape v Opens)
+  opens_keeps none = moved_keeps v.floor floor_reached None (λ m at. absurd (none-some m at)) (λ p free. absurd (false≢true (sym (none p) ∙ free)))
 
-  pub holds_keeps : (n : ℕ) → MayHold shape v n → RingKeeps shape memory (changed shape v (Holds n))
-  holds_keeps n may = moved_keeps v.floor floor_reached (Some n) (λ m at. let same : n ≡ m = same_Some n m at in (omega (arith, may.from), omega (arith, may.to)))
+  pub holds_keeps : (n : ℕ) → MayHold shape v n → IsShownTo shape v n → RingKeeps shape memory (changed shape v (Holds n))
+  holds_keeps n may shown =
+      moved_keeps v.floor floor_reached (Some n) (λ m at. let same : n ≡ m = same_Some n m at in (omega (arith, may.from), omega (arith, may.to))) (λ p free. (n, refl, shown p free))

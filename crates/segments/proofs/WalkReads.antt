@@ -1,5 +1,5 @@
 -- From the floor's spot the controller reads whole descriptors as declared, in order, through given Links, and then waits
-use Rattle.segments.proofs.Words.{◌≡◌, ◌+◌, ◌-◌, ◌*◌, ◌<◌, ◌≤◌, ◌∷◌, ◌∙◌, ℕ, suc, zero, not, true, false, List, [], length, All, map, take, filter, Some, arith, refl, sym, ap, subst, inl, inr, take_all, range_with_len, filter_map, cons_option, cases_eq, cond-true, cond-false, false≢true, not_from_true, not_from_false, take-map, All-nil, All-cons, All-map, All-take, All-contains, All-same, All-weaker, Block, Evt, kind, is_link, Spot, Data, Link, Shape, is_inside, link_address, IsSpot, rank, number, next, spot_address, spots_from, IsShape, RingView, floor_number, given_count, RingKeeps, Pointer, WalkReads, block_under, is_shown, behind, looks, walk, data_of, laid, laid_between, standing}
+use Rattle.segments.proofs.Words.{IsRestored, ◌≡◌, ◌+◌, ◌-◌, ◌*◌, ◌<◌, ◌≤◌, ◌∷◌, ◌∙◌, ℕ, suc, zero, not, true, false, List, [], length, All, map, take, filter, Some, arith, refl, sym, ap, subst, inl, inr, take_all, range_with_len, filter_map, cons_option, cases_eq, cond-true, cond-false, false≢true, not_from_true, not_from_false, take-map, All-nil, All-cons, All-map, All-take, All-contains, All-same, All-weaker, Block, Evt, kind, is_link, Spot, Data, Link, Shape, is_inside, link_address, IsSpot, rank, number, next, spot_address, spots_from, IsShape, RingView, floor_number, given_count, RingKeeps, Pointer, WalkReads, block_under, is_shown, behind, looks, walk, data_of, laid, laid_between, standing}
 use Rattle.segments.proofs.SpotOrder.{rank_least, rank_most, same_rank, next_is_spot, next_later, next_least}
 use Rattle.segments.proofs.ReachedSpots.{number-after}
 use Rattle.segments.proofs.Reaching.{given_count_declared, floor_given}
@@ -132,7 +132,7 @@ module _ (shape : Shape) (memory : ℕ → ℕ) (v : RingView) (t : Spot) (w : W
 
 -- ---- the law
 
-module _ (shape : Shape) (is : IsShape shape) (other : shape.kind ≡ Evt → ⊥) (memory : ℕ → ℕ) (v : RingView) (k : RingKeeps shape memory v) where
+module _ (shape : Shape) (is : IsShape shape) (other : shape.kind ≡ Evt → ⊥) (memory : ℕ → ℕ) (v : RingView) (k : RingKeeps shape memory v) (restored : IsRestored v) where
   given_link : (t : Spot) (w : Waits shape memory v t) (u : Spot) → IsLooked shape memory v t w u →
       is_shown memory (standing shape u) ≡ true → is_link (kind (block_under memory (standing shape u))) ≡ true →
       (q : ℕ) × (floor_number v ≤ q) × (v.crossed q ≡ true) × (spot_address shape u ≡ link_address shape q)
@@ -195,7 +195,7 @@ module _ (shape : Shape) (is : IsShape shape) (other : shape.kind ≡ Evt → �
 
   pub walk_reads : WalkReads shape memory v
   walk_reads =
-      let found = waits shape is other memory v k in
+      let found = waits shape is other memory v k restored in
       let w : Waits shape memory v found.0 = found.1 in
       reads_from found.0 w
       (path shape memory v found.0 w (rank found.0) v.floor (record { is_spot = k.is_spot; from = omega arith; to = w.from }) (omega arith))

@@ -1,5 +1,5 @@
 -- One step of the walk: at each spot up to the first that isn't given a block stands that leads to the next spot, and there none
-use Rattle.segments.proofs.Words.{◌≡◌, ◌≢◌, ◌+◌, ◌-◌, ◌*◌, ◌/◌, ◌^◌, ◌%◌, ◌<◌, ◌≤◌, ◌==◌, ◌||◌, if◌then◌else◌, ◌∙◌, ℕ, not, Bool, true, false, [], Some, slice_get, arith, refl, sym, ap, inl, inr, get_or, eq-eqb, ne_eqb, eqb-true, option_map, cases_Bool, cases_lt, cases_eq, cond-true, cond-false, or_parts, not-false, false≢true, false_from_ne_true, slice_get-get_or, mod-eq_of_lt, Block, Evt, is_set, aligned, block_at, word, cycle, kind, pointer, with_cycle, is_link, kind-with_cycle, Spot, Data, Link, Shape, address_of, cycle_of, is_crossing, link_address, link_target, toggles, IsSpot, rank, number, after, next, spot_address, spot_cycle, IsShape, RingView, floor_number, given_count, same, is_wrong_link, RingKeeps, Pointer, block_under, is_shown, behind, laid, standing}
+use Rattle.segments.proofs.Words.{IsRestored, ◌≡◌, ◌≢◌, ◌+◌, ◌-◌, ◌*◌, ◌/◌, ◌^◌, ◌%◌, ◌<◌, ◌≤◌, ◌==◌, ◌||◌, if◌then◌else◌, ◌∙◌, ℕ, not, Bool, true, false, [], Some, slice_get, arith, refl, sym, ap, inl, inr, get_or, eq-eqb, ne_eqb, eqb-true, option_map, cases_Bool, cases_lt, cases_eq, cond-true, cond-false, or_parts, not-false, false≢true, false_from_ne_true, slice_get-get_or, mod-eq_of_lt, Block, Evt, is_set, aligned, block_at, word, cycle, kind, pointer, with_cycle, is_link, kind-with_cycle, Spot, Data, Link, Shape, address_of, cycle_of, is_crossing, link_address, link_target, toggles, IsSpot, rank, number, after, next, spot_address, spot_cycle, IsShape, RingView, floor_number, given_count, same, is_wrong_link, RingKeeps, Pointer, block_under, is_shown, behind, laid, standing}
 use Rattle.segments.proofs.DataPlaces.{link_ends}
 use Rattle.segments.proofs.Positions.{address_ends, cycle_of_bit}
 use Rattle.segments.proofs.Crossings.{crosses, crossed_link, link_address_is, link_target-crossed, cycle_of-crossed}
@@ -40,7 +40,7 @@ same_is false true h = absurd (false≢true h)
 same_pointer : (a b c d : ℕ) → a ≡ b → c ≡ d → ◌≡◌ {A = Pointer} (record { address = a; cycle_state = c }) (record { address = b; cycle_state = d })
 same_pointer a b c d p q = cc
 
-module _ (shape : Shape) (is : IsShape shape) (other : shape.kind ≡ Evt → ⊥) (memory : ℕ → ℕ) (v : RingView) (k : RingKeeps shape memory v) where
+module _ (shape : Shape) (is : IsShape shape) (other : shape.kind ≡ Evt → ⊥) (memory : ℕ → ℕ) (v : RingView) (k : RingKeeps shape memory v) (restored : IsRestored v) where
   spot_ends : (t : Spot) → IsSpot shape t → spot_address shape t < 2 ^ 64
   spot_ends (Data p) spot = omega (arith, address_ends shape is p)
   spot_ends (Link q) spot =
@@ -54,14 +54,14 @@ module _ (shape : Shape) (is : IsShape shape) (other : shape.kind ≡ Evt → �
       let none : Block = record { w = [] } in
       let d : Block = get_or v.queue p none in
       let declared : slice_get v.queue p ≡ Some d = slice_get-get_or v.queue p none (k.given_declared p given) in
-      let stands : block_at memory (address_of shape p) ≡ with_cycle d (cycle_of shape p) = k.kept p d low given declared in
+      let stands : block_at memory (address_of shape p) ≡ with_cycle d (cycle_of shape p) = k.kept p d low given (restored p) declared in
       let no_link : is_link (kind (block_at memory (address_of shape p))) ≡ false =
       ap (λ b. is_link (kind b)) stands ∙ ap (λ n. is_link n) (kind-with_cycle d (cycle_of shape p) (cycle_of_bit shape p)) ∙ k.blocks p d declared in
       let near : address_of shape p + 16 ≡ spot_address shape (after shape p) = sym (spot_address-after shape is other p) in
       let low_end : spot_address shape (after shape p) < 2 ^ 64 = spot_ends (after shape p) (next_is_spot shape (Data p)) in
       record {
         shown = eq-eqb (cycle (block_at memory (address_of shape p))) (cycle_of shape p)
-            (cycle_at (memory (address_of shape p + 12)) ∙ kept_cycle shape is memory v k p low given);
+            (cycle_at (memory (address_of shape p + 12)) ∙ kept_cycle shape is memory v k p low given (restored p));
         on = cond-false (is_link (kind (block_at memory (address_of shape p)))) _ _ no_link
             ∙ same_pointer _ _ _ _ (mod-eq_of_lt (omega arith) ∙ near) (sym (spot_cycle-after shape is other p));
         stands = (high, no_link, ap (λ o. option_map (λ b. with_cycle b (cycle_of shape p)) o) declared ∙ ap (λ b. Some b) (sym stands));

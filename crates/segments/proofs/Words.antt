@@ -1,15 +1,16 @@
 -- The words of std, of the crates below and of this crate's own definitions that its proofs cite, passed on by one file
 pub use Rattle.guest_memory.specs.Memory.{put}
 unfoldable pub use Rattle.segments.specs.Ceiling.{ceiling, first_not_given, given_count, is_data_below, is_step_given, is_stop_spot, is_way_given, named, stopped_number}
-unfoldable pub use Rattle.segments.specs.Descriptors.{is_border, length_from}
+pub use Rattle.segments.specs.Descriptors.{no_op}
+unfoldable pub use Rattle.segments.specs.Descriptors.{is_border, length_from, no_ops, split_at}
 pub use Rattle.segments.specs.Givings.{same}
-unfoldable pub use Rattle.segments.specs.Givings.{descriptor_length, has_no_room, is_declared_as, is_not_declared, is_not_whole, is_other_than_declared, is_wrong_link, leads_wrong, link_of}
+unfoldable pub use Rattle.segments.specs.Givings.{descriptor_length, flips_passed, has_no_room, is_declared_as, is_not_declared, is_not_restored, is_not_whole, is_other_than_declared, is_wrong_link, leads_wrong, link_of, unrestored}
 unfoldable pub use Rattle.segments.specs.Moves.{are_given, are_ways_given, is_move, is_placement, is_reached, is_target, may_move_to, spots_between, target}
 unfoldable pub use Rattle.segments.specs.OnLiterals.{views_on_literals}
 pub use Rattle.segments.specs.PlaceAt.{data_place_at, link_at, place_at}
 pub use Rattle.segments.specs.Places.{address_of, blocks_from, cycle_of, data_count, data_places, ends, ends_from, ends_of, is_crossing, is_in, is_inside, link_address, link_crossed, link_target, links, links_of, overlap, place_count, segment_has, toggles, touches}
-pub use Rattle.segments.specs.RingKeeps.{MayDeclare, MayHold, MayReach, MayWrite, RingKeeps}
-pub use Rattle.segments.specs.RingView.{Declares, Holds, Opens, Reaches, RingView, Writes, changed, declared, floor_number, gives, gives_crossing, is_crossing_due, is_due, new_ring}
+pub use Rattle.segments.specs.RingKeeps.{IsRestored, IsShownTo, MayDeclare, MayHold, MayReach, MayRestore, MayWithdraw, MayWrite, RingKeeps}
+pub use Rattle.segments.specs.RingView.{Declares, Holds, Opens, Reaches, Restores, RingView, Withdraws, Writes, without, is_handed_over, changed, declared, floor_number, gives, gives_crossing, is_crossing_due, is_due, new_ring}
 unfoldable pub use Rattle.segments.specs.RingView.{crossings_given, due_crossings, due_positions, leased_crossings, leased_positions, positions_given}
 pub use Rattle.segments.specs.Shape.{IsShape, alignment, are_apart, is_in_one_page, is_segment, is_shape, least_count, most_blocks, most_segments, rings_overlap, segments_overlap}
 pub use Rattle.segments.specs.ShapeValue.{Shape, segment_of, shape_of}
@@ -20,9 +21,9 @@ pub use Rattle.segments.specs.declared.place.Place.{Place}
 pub use Rattle.segments.specs.declared.segment.Segment.{Segment}
 pub use Rattle.segments.specs.declared.spot.Spot.{Spot}
 pub use Rattle.segments.specs.declared.spot.Spot.TheVariants.{Data, Link}
-pub use Rattle.std.proofs.Common.{All, AllPairs, Bool, Contains, List, None, Option, Some, [], add-one, add-zero, ap, append-nil, arith, below_more, drop, eq-eqb, eqb-true, false, filter, find, get_or, if◌then◌else◌, inl, inr, is_some, le-leb, le-ltb, leb, leb-false, leb-true, length, length-append, lt-ltb, ltb-false, ltb-true, map, nat_le, nat_lt, ne_eqb, not, position, refl, rules, slice_get, slice_index, subst, suc, sum, sym, take, take_all, true, unwrap_or, zero, zero-add, ℕ, ◌%◌, ◌&&◌, ◌*◌, ◌++◌, ◌+◌, ◌-◌, ◌/◌, ◌<◌, ◌==◌, ◌^◌, ◌||◌, ◌∙◌, ◌∷◌, ◌≡◌, ◌≢◌, ◌≤◌, ◌⊎◌}
+pub use Rattle.std.proofs.Common.{All, AllPairs, Bool, Contains, List, None, Option, Some, [], add-one, add-zero, ap, append-nil, arith, below_more, drop, eq-eqb, eqb-true, false, filter, find, get_or, if◌then◌else◌, inl, inr, is_some, le-leb, le-ltb, leb, leb-false, leb-true, length, length-append, lt-ltb, ltb-false, ltb-true, map, nat_le, nat_lt, ne_eqb, not, position, refl, replicate, rules, slice_get, slice_index, subst, suc, sum, sym, take, take_all, true, unwrap_or, zero, zero-add, ℕ, ◌%◌, ◌&&◌, ◌*◌, ◌++◌, ◌+◌, ◌-◌, ◌/◌, ◌<◌, ◌==◌, ◌^◌, ◌||◌, ◌∙◌, ◌∷◌, ◌≡◌, ◌≢◌, ◌≤◌, ◌⊎◌}
 pub use Rattle.std.proofs.Math.Nat.{add-div_right, add-mod_right, div-add-mod, div-add-mod', div-eq_of_lt, mod-eq_of_lt, mod-lt, mod_self}
-pub use Rattle.std.proofs.lemmas.Bool.{and_from, and_parts, cases_Bool, cases_eq, cases_lt, cases_order, cond-false, cond-true, false_from_ne_true, false≢true, not-false, not-true, not_from_false, not_from_true, or_cases, or_left, or_parts, or_right}
+pub use Rattle.std.proofs.lemmas.Bool.{and_cases, and_from, and_parts, cases_Bool, cases_eq, cases_lt, cases_order, cond-false, cond-true, false_from_ne_true, false≢true, not-false, not-true, not_from_false, not_from_true, or_cases, or_left, or_parts, or_right}
 pub use Rattle.std.proofs.lemmas.Bool.Decides.{nat_tests}
 pub use Rattle.std.proofs.lemmas.List.{drop_more, get_or_read, get_or-append_right, get_or-map, get_or_append_left, get_or_default, length-map, map_push, take-map, take_more, take_rest}
 pub use Rattle.std.proofs.lemmas.List.Concat.{flat_map-append}

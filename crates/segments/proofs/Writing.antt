@@ -1,8 +1,8 @@
 -- A write keeps the rules of a ring: it changes no leased block or Link, and what it gives stands as it must
-use Rattle.segments.proofs.Words.{◌≡◌, ◌≢◌, ◌+◌, ◌-◌, ◌%◌, ◌<◌, ◌≤◌, ◌⊎◌, ◌||◌, ◌∙◌, ℕ, Bool, true, false, Some, slice_get, unwrap_or, arith, refl, sym, ap, inl, inr, leb-false, cases_eq, or_cases, or_parts, or_left, false≢true, not-false, All-contains, put, Block, block_at, with_cycle, Shape, address_of, cycle_of, link_crossed, link_address, overlap, RingView, Writes, changed, declared, floor_number, is_due, is_crossing_due, gives, gives_crossing, positions_given, crossings_given, leased_positions, leased_crossings, given_count, descriptor_length, is_declared_as, is_other_than_declared, is_not_declared, is_not_whole, is_wrong_link, link_of, leads_wrong, RingKeeps, MayWrite, MayHold}
+use Rattle.segments.proofs.Words.{◌&&◌, ◌==◌, not, nat_lt, Option, None, lt-ltb, eq-eqb, eqb-true, and_from, false_from_ne_true, ceiling, flips_passed, unrestored, ◌≡◌, ◌≢◌, ◌+◌, ◌-◌, ◌%◌, ◌<◌, ◌≤◌, ◌⊎◌, ◌||◌, ◌∙◌, ℕ, Bool, true, false, Some, slice_get, unwrap_or, arith, refl, sym, ap, inl, inr, leb-false, cases_eq, or_cases, or_parts, or_left, false≢true, not-false, All-contains, put, Block, block_at, with_cycle, Shape, address_of, cycle_of, link_crossed, link_address, overlap, RingView, Writes, changed, declared, floor_number, is_due, is_crossing_due, gives, gives_crossing, positions_given, crossings_given, leased_positions, leased_crossings, given_count, descriptor_length, is_declared_as, is_other_than_declared, is_not_declared, is_not_whole, is_wrong_link, link_of, leads_wrong, RingKeeps, MayWrite, MayHold}
 use Rattle.segments.proofs.Giving.{gives_is, gives_from, gives_crossing_is, gives_crossing_from, due_from}
-use Rattle.segments.proofs.DueLists.{leased_position, leased_crossing, position_given, crossing_given}
-use Rattle.segments.proofs.GivenCount.{given_count_grows}
+use Rattle.segments.proofs.DueLists.{leased_position, leased_crossing, position_given, crossing_given, unrestored_position, none_passes_at}
+use Rattle.segments.proofs.GivenCount.{given_count_grows, ceiling_held}
 use Rattle.segments.proofs.StepFacts.{GivesMore, step_more, whole_more}
 use Rattle.segments.proofs.MemoryWords.{put_here, put_elsewhere, SameBlock, same_apart, block_same, same_words_is}
 
@@ -44,22 +44,22 @@ module _ (shape : Shape) (memory : ℕ → ℕ) (v : RingView) (a w : ℕ) where
   length_stays p = refl
 
   module _ (k : RingKeeps shape memory v) (may : MayWrite shape memory v a w) where
-    block_kept : (p : ℕ) → floor_number v ≤ p → v.given p ≡ true → SameBlock memory (put memory a w) (address_of shape p)
-    block_kept p low g =
+    block_kept : (p : ℕ) → floor_number v ≤ p → v.given p ≡ true → v.free p ≡ false → SameBlock memory (put memory a w) (address_of shape p)
+    block_kept p low g kept =
         same_apart memory a w (address_of shape p)
         (All-contains (λ p. overlap a 4 (address_of shape p) 16 ≡ false) (leased_positions shape v) p may.blocks
-        (leased_position shape v p (due_from shape v.floor p low (k.given_within p g)) g))
+        (leased_position shape v p (due_from shape v.floor p low (k.given_within p g)) g kept))
 
     link_kept : (q : ℕ) → is_crossing_due shape v.floor q ≡ true → v.crossed q ≡ true → SameBlock memory (put memory a w) (link_address shape q)
     link_kept q due g =
         same_apart memory a w (link_address shape q)
         (All-contains (λ q. overlap a 4 (link_address shape q) 16 ≡ false) (leased_crossings shape v) q may.links (leased_crossing shape v q due g))
 
-    kept_by : (p : ℕ) (d : Block) → floor_number v ≤ p → (v.given p || gives shape v.floor p a w) ≡ true → slice_get v.queue p ≡ Some d →
+    kept_by : (p : ℕ) (d : Block) → floor_number v ≤ p → (v.given p || gives shape v.floor p a w) ≡ true → v.free p ≡ false → slice_get v.queue p ≡ Some d →
         block_at (put memory a w) (address_of shape p) ≡ with_cycle d (cycle_of shape p)
-    kept_by p d low g at =
+    kept_by p d low g kept at =
         elim (was_or_now (v.given p) (gives shape v.floor p a w) g) [
-          | inl was ↦ block_same memory (put memory a w) (address_of shape p) (block_kept p low was) ∙ k.kept p d low was at
+          | inl was ↦ block_same memory (put memory a w) (address_of shape p) (block_kept p low was kept) ∙ k.kept p d low was kept at
           | inr now ↦
               declared_as p d
               (All-contains (λ p. is_other_than_declared shape v memory a w p ≡ false) (positions_given shape v a w) p may.as_declared (position_given shape v a w p now.0 now.1)) at
@@ -104,6 +104,36 @@ module _ (shape : Shape) (memory : ℕ → ℕ) (v : RingView) (a w : ℕ) where
               k.not_yet_link q due parts.0 (ap (λ n. n % 2) (sym (put_elsewhere memory a w (link_address shape q + 12) elsewhere)) ∙ same)
         ]
 
+    -- the ceiling stays where something is free: the ring is held then
+    ceiling_stays : (p : ℕ) → v.free p ≡ true → ceiling shape after_write ≡ ceiling shape v
+    ceiling_stays p free = by v.held refl
+      where
+        by : (o : Option ℕ) → v.held ≡ o → ceiling shape after_write ≡ ceiling shape v
+        by None at = absurd (false≢true (sym (k.open_restored at p) ∙ free))
+        by (Some m) at = ceiling_held shape after_write m at ∙ sym (ceiling_held shape v m at)
+
+    -- a write that would flip the Cycle bit of a free block below the ceiling is none
+    same_bit : (p : ℕ) → is_due shape v.floor p ≡ true → p < ceiling shape v → v.free p ≡ true → address_of shape p + 12 ≡ a → w % 2 ≡ cycle_of shape p
+    unfolding flips_passed
+    same_bit p due below free here =
+        let test = λ (p : ℕ). nat_lt p (ceiling shape v) && a == address_of shape p + 12 && not (w % 2 == cycle_of shape p) in
+        let fails : test p ≡ false = none_passes_at test (unrestored shape v) p may.flips (unrestored_position shape v p due free) in
+        let aimed : (nat_lt p (ceiling shape v) && a == address_of shape p + 12) ≡ true =
+        and_from (nat_lt p (ceiling shape v)) (a == address_of shape p + 12) (lt-ltb p (ceiling shape v) below) (eq-eqb a (address_of shape p + 12) (sym here)) in
+        eqb-true (w % 2) (cycle_of shape p)
+        (not-false (w % 2 == cycle_of shape p)
+        (false_from_ne_true (not (w % 2 == cycle_of shape p)) (λ flips. false≢true (sym fails ∙ and_from (nat_lt p (ceiling shape v) && a == address_of shape p + 12) (not (w % 2 == cycle_of shape p)) aimed flips))))
+
+    free_shows_by : (p : ℕ) → floor_number v ≤ p → p < ceiling shape after_write → v.free p ≡ true → put memory a w (address_of shape p + 12) % 2 ≡ cycle_of shape p
+    free_shows_by p low high free =
+        let below : p < ceiling shape v = omega (arith, ceiling_stays p free) in
+        elim (cases_eq (address_of shape p + 12) a) [
+          | inl here ↦
+              ap (λ x. put memory a w x % 2) here ∙ ap (λ n. n % 2) (put_here memory a w)
+              ∙ same_bit p (due_from shape v.floor p low (k.given_within p (k.free_given p free))) below free here
+          | inr elsewhere ↦ ap (λ n. n % 2) (put_elsewhere memory a w (address_of shape p + 12) elsewhere) ∙ k.free_shows p low below free
+        ]
+
     pub writes_keeps : RingKeeps shape (put memory a w) (changed shape v (Writes a w))
     writes_keeps =
         record {
@@ -140,4 +170,7 @@ module _ (shape : Shape) (memory : ℕ → ℕ) (v : RingView) (a w : ℕ) where
           descriptors = k.descriptors;
           blocks = k.blocks;
           held = λ m at. let may_hold : MayHold shape v m = k.held m at in record { from = may_hold.from; to = omega (arith, may_hold.to, given_count-writes) };
+          free_given = λ p free. or_left (v.given p) (gives shape v.floor p a w) (k.free_given p free);
+          free_shows = free_shows_by;
+          open_restored = k.open_restored;
         }

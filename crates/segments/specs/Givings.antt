@@ -1,6 +1,6 @@
 -- The rules of one ring: what is declared on it, and what a write gives of it: xHCI 4.9.2, 4.11.2, 4.11.5.1
-use Rattle.std.specs.Prelude.{ℕ, ◌+◌, ◌-◌, ◌==◌, ◌||◌, Bool, true, false, not, nat_le, nat_lt, Option, Some, None, slice_get, unwrap_or}
-use Rattle.std.specs.List.{list_all, range_with_len}
+use Rattle.std.specs.Prelude.{ℕ, filter, List, ◌+◌, ◌-◌, ◌%◌, ◌==◌, ◌&&◌, ◌||◌, Bool, true, false, not, nat_le, nat_lt, Option, Some, None, slice_get, unwrap_or}
+use Rattle.std.specs.List.{list_all, list_any, range_with_len}
 use Rattle.guest_memory.specs.Memory.{put}
 use Rattle.trb.specs.declared.block.Block.{Block}
 use Rattle.trb.specs.Bits.{is_set}
@@ -8,8 +8,8 @@ use Rattle.trb.specs.Block.{aligned, block_at, word, with_cycle, kind, same_word
 use Rattle.trb.specs.Kind.{is_link}
 use Rattle.segments.specs.ShapeValue.{Shape}
 use Rattle.segments.specs.Places.{place_count, address_of, cycle_of, link_crossed, link_address, link_target, toggles}
-use Rattle.segments.specs.RingView.{RingView, declared, floor_number}
-use Rattle.segments.specs.Ceiling.{is_step_given}
+use Rattle.segments.specs.RingView.{RingView, declared, floor_number, due_positions}
+use Rattle.segments.specs.Ceiling.{is_step_given, ceiling}
 use Rattle.segments.specs.Descriptors.{length_from}
 
 -- more blocks than the ring has room for: one place stays empty
@@ -37,6 +37,20 @@ descriptor_length v p = length_from v.lengths 0 p
 -- p begins a descriptor, and another of its blocks, or a crossing between its blocks, isn't given
 unfoldable pub is_not_whole : Shape → RingView → ℕ → Bool
 is_not_whole shape v p = not (list_all (λ q. is_step_given shape v q) (range_with_len (p + 1) (descriptor_length v p - 1)))
+
+-- ---- what was withdrawn and isn't restored yet
+
+unfoldable pub unrestored : Shape → RingView → List ℕ
+unrestored shape v = filter v.free (due_positions shape v)
+
+-- a block of it doesn't stand in memory as it is declared now
+unfoldable pub is_not_restored : Shape → RingView → (ℕ → ℕ) → Bool
+is_not_restored shape v memory =
+    list_any (λ p. not (is_declared_as (block_at memory (address_of shape p)) (cycle_of shape p) (slice_get v.queue p))) (unrestored shape v)
+
+-- the write flips the Cycle bit of a block of it that the controller may have passed
+unfoldable pub flips_passed : Shape → RingView → ℕ → ℕ → Bool
+flips_passed shape v a w = list_any (λ p. nat_lt p (ceiling shape v) && a == address_of shape p + 12 && not (w % 2 == cycle_of shape p)) (unrestored shape v)
 
 -- ---- a Link
 

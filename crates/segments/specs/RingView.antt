@@ -5,8 +5,9 @@ use Rattle.trb.specs.declared.block.Block.{Block}
 use Rattle.segments.specs.declared.spot.Spot.{Spot}
 use Rattle.segments.specs.declared.spot.Spot.TheVariants.{Data}
 use Rattle.segments.specs.ShapeValue.{Shape}
-use Rattle.segments.specs.Places.{place_count, address_of, cycle_of, is_crossing, link_address}
+use Rattle.segments.specs.Places.{place_count, address_of, cycle_of, is_crossing, link_address, is_in}
 use Rattle.segments.specs.Spots.{number}
+use Rattle.segments.specs.Descriptors.{length_from, no_ops, split_at}
 
 pub record RingView : Type 0 where
   -- the declared blocks, and how many blocks each declared descriptor has
@@ -15,6 +16,10 @@ pub record RingView : Type 0 where
   -- which positions, and which crossings, were given
   pub given : ℕ → Bool
   pub crossed : ℕ → Bool
+  -- which positions hold a No Op in place of a block that was withdrawn
+  pub withdrawn : ℕ → Bool
+  -- which of them were given before, and aren't restored since: their words are the driver's
+  pub free : ℕ → Bool
   -- the spot that the controller's dequeue pointer has surely reached
   pub floor : Spot
   -- the number at which the ring is held; None where it is open
@@ -22,7 +27,7 @@ pub record RingView : Type 0 where
 
 -- before anything happens on the ring
 abbrev pub new_ring : RingView
-new_ring = record { queue = []; lengths = []; given = λ p. false; crossed = λ q. false; floor = Data 0; held = Some 0 }
+new_ring = record { queue = []; lengths = []; given = λ p. false; crossed = λ q. false; withdrawn = λ p. false; free = λ p. false; floor = Data 0; held = Some 0 }
 
 -- how many blocks were declared
 abbrev pub declared : RingView → ℕ
@@ -50,13 +55,25 @@ gives_crossing shape floor q address word =
     is_crossing_due shape floor q && address == link_address shape q + 12 && word % 2 == cycle_of shape (q - 1)
 
 -- what happens on a ring: a descriptor is declared, a word of memory is written, the controller's pointer is known to have
--- reached a spot, the ring is opened, or held at a number
+-- reached a spot, the ring is opened, or held at a number; the descriptor that begins at a position is withdrawn, or all that was
+-- withdrawn is the controller's again
 pub data RingChange : Type 0 where
   Declares : (blocks : List Block) → RingChange
   Writes : (address word : ℕ) → RingChange
   Reaches : (spot : Spot) → RingChange
   Opens : RingChange
   Holds : (number : ℕ) → RingChange
+  Withdraws : (position : ℕ) → RingChange
+  Restores : RingChange
+
+-- n blocks from position p on are No Ops, each a descriptor of its own
+abbrev pub without : RingView → ℕ → ℕ → RingView
+without v p n = record v {
+  queue = no_ops v.queue p n;
+  lengths = split_at v.lengths 0 p;
+  withdrawn = λ q. v.withdrawn q || is_in q p n;
+  free = λ q. v.free q || (is_in q p n && v.given q);
+}
 
 -- what is known after it
 abbrev pub changed : Shape → RingView → RingChange → RingView
@@ -68,6 +85,8 @@ changed shape v (Writes address word) = record v {
 changed shape v (Reaches spot) = record v { floor = spot }
 changed shape v Opens = record v { held = None }
 changed shape v (Holds n) = record v { held = Some n }
+changed shape v (Withdraws p) = without v p (length_from v.lengths 0 p)
+changed shape v Restores = record v { free = λ q. false }
 
 -- the positions that may be due at some place, and the crossings that may be due at some Link
 unfoldable pub due_positions : Shape → RingView → List ℕ
@@ -83,9 +102,13 @@ positions_given shape v address word = filter (λ p. not (v.given p) && gives sh
 unfoldable pub crossings_given : Shape → RingView → ℕ → ℕ → List ℕ
 crossings_given shape v address word = filter (λ q. not (v.crossed q) && gives_crossing shape v.floor q address word) (due_crossings shape v)
 
--- the positions and crossings that are given and that the controller may not have passed: their blocks are under lease
+-- a position that is given, and whose words aren't the driver's again
+abbrev pub is_handed_over : RingView → ℕ → Bool
+is_handed_over v p = v.given p && not (v.free p)
+
+-- the positions that are handed over, the crossings that are given, and that the controller may not have passed: their blocks are under lease
 unfoldable pub leased_positions : Shape → RingView → List ℕ
-leased_positions shape v = filter v.given (due_positions shape v)
+leased_positions shape v = filter (λ p. is_handed_over v p) (due_positions shape v)
 
 unfoldable pub leased_crossings : Shape → RingView → List ℕ
 leased_crossings shape v = filter (λ q. is_crossing shape q && v.crossed q) (due_crossings shape v)

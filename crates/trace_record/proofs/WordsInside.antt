@@ -1,5 +1,6 @@
 -- A word outside a ring is none that the ring owns, and its write gives nothing of the ring
 use Rattle.trace_record.proofs.Words.{◌≡◌, ◌+◌, ◌/◌, ◌%◌, ◌<◌, ◌≤◌, ◌∙◌, ◌==◌, ◌&&◌, ◌||◌, ◌-◌, ℕ, [], Bool, true, false, ap, sym, arith, not, nat_lt, filter, ltb-true, eqb-true, nat_le, fun_ext, false≢true, Data, Link, Shape, IsShape, place_count, address_of, cycle_of, is_inside, is_crossing, link_address, overlap, RingView, Writes, changed, gives, gives_crossing, is_due, is_crossing_due, positions_given, crossings_given, leased_positions, leased_crossings, due_positions, due_crossings, floor_number, place_below, address_aligned, link_aligned, place_at-data, place_at-link, is_inside-place_at, crosses, crossed_link, link_address_is, is_owned, false_unless, and_left, and_right, and_false, or_false, any_nowhere, any_filter, filter_nothing}
+use Rattle.segments.specs.RingView.{is_handed_over}
 
 module _ (shape : Shape) (allowed : IsShape shape) (a : ℕ) (aligned : a % 4 ≡ 0) where
   block_inside : (p : ℕ) → address_of shape p ≤ a → a < address_of shape p + 16 → is_inside shape a ≡ true
@@ -39,7 +40,7 @@ module _ (shape : Shape) (allowed : IsShape shape) (a : ℕ) (aligned : a % 4 �
     pub not_owned : (v : RingView) → is_owned shape v a ≡ false
     unfolding leased_positions leased_crossings
     not_owned v =
-        rw (any_nowhere (λ p. overlap a 4 (address_of shape p) 16) no_block (filter v.given (due_positions shape v)))
+        rw (any_nowhere (λ p. overlap a 4 (address_of shape p) 16) no_block (filter (λ p. is_handed_over v p) (due_positions shape v)))
         (any_filter (λ q. overlap a 4 (link_address shape q) 16) (λ q. is_crossing shape q && v.crossed q) (due_crossings shape v)
         ∙ any_nowhere (λ q. is_crossing shape q && v.crossed q && overlap a 4 (link_address shape q) 16) (λ q. false_unless _ (λ e.
         let both = and_left (is_crossing shape q && v.crossed q) (overlap a 4 (link_address shape q) 16) e in

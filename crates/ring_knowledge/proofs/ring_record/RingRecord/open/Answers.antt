@@ -18,6 +18,7 @@ returns c = λ shape v known. let m = known.marks in record {
     given = m.given;
     segments = m.segments;
     crossed = m.crossed;
+    restored = m.restored;
   };
   steps = λ q h. opened_step shape v q ∙ known.steps q h;
   stop = opened_step shape v c.args.self.now.count ∙ known.stop;
