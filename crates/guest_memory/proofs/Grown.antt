@@ -2,7 +2,7 @@
 use Rattle.std.proofs.Common.{ℕ, List, length, Some, ◌≡◌, ◌≢◌, ◌<◌, ◌+◌, ◌∙◌, sym, ⊎_elim, arith}
 use Rattle.std.specs.Prelude.{slice_index}
 use Rattle.std.proofs.lemmas.Bool.{cases_eq}
-use Rattle.guest_memory.specs.Tree.{next, led, IsTree, IsFree, Extends}
+use Rattle.guest_memory.specs.Tree.{next, led, IsTree, IsFree, Extends, first_of, behind_of, digits_of}
 use Rattle.guest_memory.proofs.Led.{led_kept, led_more}
 
 -- the numbers ms and the ways us are those before, and number n, behind page i by a digit
@@ -49,7 +49,7 @@ extends_grown ns ts n i digit ms us free grown = record {
 
 pub found_grown : (ns : List ℕ) (ts : List (List ℕ)) (n i digit : ℕ) (ms : List ℕ) (us : List (List ℕ)) → IsTree ns ts
     → IsFree ns ts n i digit → IsGrown ns ts n i digit ms us
-    → (j : ℕ) → j < length ms → led ms us (slice_index ms j) (length ms) 0 (slice_index ms j) ≡ Some j
+    → (j : ℕ) → j < length ms → led ms us (slice_index ms j) (length ms) 0 (digits_of (slice_index ms j)) ≡ Some j
 found_grown ns ts n i digit ms us tree free grown j below =
     let extends = extends_grown ns ts n i digit ms us free grown in
     rw grown.longer
@@ -58,9 +58,9 @@ found_grown ns ts n i digit ms us tree free grown j below =
     rw (is, grown.last) (free.joins ms us extends grown.last grown.joined))
     (λ (isnt : j ≢ length ns).
     let within : j < length ns = omega (arith, grown.longer) in
-    let before = led_kept ns ts ms us tree extends (slice_index ns j) (length ns) 0 (slice_index ns j) j (omega arith) (tree.found j within) in
+    let before = led_kept ns ts ms us tree extends (slice_index ns j) (length ns) 0 (digits_of (slice_index ns j)) j (omega arith) (tree.found j within) in
     rw (grown.number j within)
-    (led_more ms us (slice_index ns j) (length ns) (length ns + 1) 0 (slice_index ns j) j (omega arith) before))
+    (led_more ms us (slice_index ns j) (length ns) (length ns + 1) 0 (digits_of (slice_index ns j)) j (omega arith) before))
     (cases_eq j (length ns)))
 
 pub distinct_grown : (ns : List ℕ) (ts : List (List ℕ)) (n i digit : ℕ) (ms : List ℕ) (us : List (List ℕ)) → IsTree ns ts

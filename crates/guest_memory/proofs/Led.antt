@@ -3,18 +3,18 @@ use Rattle.std.proofs.Common.{ℕ, zero, suc, List, length, Some, None, ◌≡�
 use Rattle.std.specs.Prelude.{slice_index}
 use Rattle.std.proofs.lemmas.Bool.{cases_eq}
 use Rattle.std.proofs.lemmas.Bool.Decides.{nat_tests}
-use Rattle.guest_memory.specs.Tree.{next, led, IsTree, Extends}
+use Rattle.guest_memory.specs.Tree.{next, led, IsTree, Extends, first_of, behind_of, digits_of}
 
 pub led_here : (ns : List ℕ) (ts : List (List ℕ)) (n steps i rest : ℕ) → slice_index ns i ≡ n → led ns ts n (suc steps) i rest ≡ Some i
 unfolding led
 led_here ns ts n steps i rest here = grind (arith, nat_tests)
 
-pub led_down : (ns : List ℕ) (ts : List (List ℕ)) (n steps i rest : ℕ) → slice_index ns i ≢ n → 0 < next ts i (rest % 4)
-    → led ns ts n (suc steps) i rest ≡ led ns ts n steps (next ts i (rest % 4)) (rest / 4)
+pub led_down : (ns : List ℕ) (ts : List (List ℕ)) (n steps i rest : ℕ) → slice_index ns i ≢ n → 0 < next ts i (first_of rest)
+    → led ns ts n (suc steps) i rest ≡ led ns ts n steps (next ts i (first_of rest)) (behind_of rest)
 unfolding led
 led_down ns ts n steps i rest other more = grind (arith, nat_tests)
 
-pub led_end : (ns : List ℕ) (ts : List (List ℕ)) (n steps i rest : ℕ) → slice_index ns i ≢ n → next ts i (rest % 4) ≡ 0
+pub led_end : (ns : List ℕ) (ts : List (List ℕ)) (n steps i rest : ℕ) → slice_index ns i ≢ n → next ts i (first_of rest) ≡ 0
     → led ns ts n steps i rest ≡ None
 unfolding led
 led_end ns ts n zero i rest other none = refl
@@ -31,13 +31,13 @@ led_more ns ts n (suc steps) (suc more) i rest j few found =
     (λ (here : slice_index ns i ≡ n). led_here ns ts n more i rest here ∙ sym (led_here ns ts n steps i rest here) ∙ found)
     (λ (other : slice_index ns i ≢ n).
     ⊎_elim
-    (λ (none : next ts i (rest % 4) ≡ 0). let e = led_end ns ts n (suc steps) i rest other none in cc)
-    (λ (some : next ts i (rest % 4) ≢ 0).
+    (λ (none : next ts i (first_of rest) ≡ 0). let e = led_end ns ts n (suc steps) i rest other none in cc)
+    (λ (some : next ts i (first_of rest) ≢ 0).
     let before = led_down ns ts n steps i rest other (omega arith) in
     let after = led_down ns ts n more i rest other (omega arith) in
-    let deeper = led_more ns ts n steps more (next ts i (rest % 4)) (rest / 4) j (omega arith) (sym before ∙ found) in
+    let deeper = led_more ns ts n steps more (next ts i (first_of rest)) (behind_of rest) j (omega arith) (sym before ∙ found) in
     after ∙ deeper)
-    (cases_eq (next ts i (rest % 4)) 0))
+    (cases_eq (next ts i (first_of rest)) 0))
     (cases_eq (slice_index ns i) n)
 
 -- what is found in a tree is found in one that has all of it
@@ -52,14 +52,14 @@ led_kept ns ts ms us tree extends n (suc steps) i rest j inside found =
     led_here ms us n steps i rest (number ∙ here) ∙ sym (led_here ns ts n steps i rest here) ∙ found)
     (λ (other : slice_index ns i ≢ n).
     ⊎_elim
-    (λ (none : next ts i (rest % 4) ≡ 0). let e = led_end ns ts n (suc steps) i rest other none in cc)
-    (λ (some : next ts i (rest % 4) ≢ 0).
-    let above : 0 < next ts i (rest % 4) = omega arith in
-    let way = extends.way i (rest % 4) inside above in
+    (λ (none : next ts i (first_of rest) ≡ 0). let e = led_end ns ts n (suc steps) i rest other none in cc)
+    (λ (some : next ts i (first_of rest) ≢ 0).
+    let above : 0 < next ts i (first_of rest) = omega arith in
+    let way = extends.way i (first_of rest) inside above in
     let before = led_down ns ts n steps i rest other above in
     let after = led_down ms us n steps i rest (λ e. other (sym number ∙ e)) (omega arith) in
-    let deeper = led_kept ns ts ms us tree extends n steps (next ts i (rest % 4)) (rest / 4) j
-    (tree.inside i (rest % 4) inside) (sym before ∙ found) in
+    let deeper = led_kept ns ts ms us tree extends n steps (next ts i (first_of rest)) (behind_of rest) j
+    (tree.inside i (first_of rest) inside) (sym before ∙ found) in
     after ∙ rw way deeper)
-    (cases_eq (next ts i (rest % 4)) 0))
+    (cases_eq (next ts i (first_of rest)) 0))
     (cases_eq (slice_index ns i) n)

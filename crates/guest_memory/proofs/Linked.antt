@@ -40,51 +40,51 @@ next_set_same ts i digit v below wide =
     rw (get_or-set_same ts i (set (get_or ts i []) digit v) [] below) (get_or-set_same (get_or ts i []) digit v 0 wide)
 
 -- no way is behind a page that is new
-pub next_new : (ts : List (List ℕ)) (d : ℕ) → next (ts ++ replicate 4 0 ∷ []) (length ts) d ≡ 0
+pub next_new : (ts : List (List ℕ)) (d : ℕ) → next (ts ++ replicate 8 0 ∷ []) (length ts) d ≡ 0
 next_new ts d =
-    rw (get_or_push ts (replicate 4 0) [] (length ts) refl)
+    rw (get_or_push ts (replicate 8 0) [] (length ts) refl)
     (⊎_elim
-    (λ (low : d < 4). get_or-replicate 4 d 0 0 low)
-    (λ (high : 4 ≤ d). get_or_past (replicate 4 0) d 0 high)
-    (cases_lt d 4))
+    (λ (low : d < 8). get_or-replicate 8 d 0 0 low)
+    (λ (high : 8 ≤ d). get_or_past (replicate 8 0) d 0 high)
+    (cases_lt d 8))
 
 -- the same of the lists of numbers and ways
 pub grown_lists : (ns : List ℕ) (ts : List (List ℕ)) (n i digit : ℕ) → length ts ≡ length ns → i ≤ length ns
-    → digit < length (get_or (ts ++ replicate 4 0 ∷ []) i [])
+    → digit < length (get_or (ts ++ replicate 8 0 ∷ []) i [])
     → IsGrown ns ts n i digit (ns ++ n ∷ [])
-    (set (ts ++ replicate 4 0 ∷ []) i (set (get_or (ts ++ replicate 4 0 ∷ []) i []) digit (length ns)))
+    (set (ts ++ replicate 8 0 ∷ []) i (set (get_or (ts ++ replicate 8 0 ∷ []) i []) digit (length ns)))
 grown_lists ns ts n i digit same there wide =
-    let longer : length (ts ++ replicate 4 0 ∷ []) ≡ length ns + 1 = length-append ts (replicate 4 0 ∷ []) ∙ ap (λ (m : ℕ). m + 1) same in
-    let inside : i < length (ts ++ replicate 4 0 ∷ []) = omega arith in
+    let longer : length (ts ++ replicate 8 0 ∷ []) ≡ length ns + 1 = length-append ts (replicate 8 0 ∷ []) ∙ ap (λ (m : ℕ). m + 1) same in
+    let inside : i < length (ts ++ replicate 8 0 ∷ []) = omega arith in
     record {
       longer = length-append ns (n ∷ []);
       number = λ j below. get_or_append_left ns (n ∷ []) 0 j below;
       last = get_or_push ns n 0 (length ns) refl;
       way = λ j d below apart.
-          next_set_other (ts ++ replicate 4 0 ∷ []) i digit (length ns) j d inside apart
-          ∙ ap (λ (row : List ℕ). slice_index row d) (get_or_append_left ts (replicate 4 0 ∷ []) [] j (omega arith));
+          next_set_other (ts ++ replicate 8 0 ∷ []) i digit (length ns) j d inside apart
+          ∙ ap (λ (row : List ℕ). slice_index row d) (get_or_append_left ts (replicate 8 0 ∷ []) [] j (omega arith));
       leaf = λ d apart.
-          next_set_other (ts ++ replicate 4 0 ∷ []) i digit (length ns) (length ns) d inside apart ∙ rw (← same) (next_new ts d);
-      joined = next_set_same (ts ++ replicate 4 0 ∷ []) i digit (length ns) inside wide;
+          next_set_other (ts ++ replicate 8 0 ∷ []) i digit (length ns) (length ns) d inside apart ∙ rw (← same) (next_new ts d);
+      joined = next_set_same (ts ++ replicate 8 0 ∷ []) i digit (length ns) inside wide;
     }
 
 -- the numbers and ways of pages of which the last is new, and has been noted in page i, which was old and is y
-pub is_grown : (pages : List Page) (page old y : Page) (n i digit : ℕ) → i ≤ length pages → digit < 4 → page.number ≡ n
-    → page.next ≡ replicate 4 0 → old ≡ get_or (pages ++ page ∷ []) i old → length old.next ≡ 4 → y.number ≡ old.number
+pub is_grown : (pages : List Page) (page old y : Page) (n i digit : ℕ) → i ≤ length pages → digit < 8 → page.number ≡ n
+    → page.next ≡ replicate 8 0 → old ≡ get_or (pages ++ page ∷ []) i old → length old.next ≡ 8 → y.number ≡ old.number
     → y.next ≡ set old.next digit (length pages)
     → IsGrown (numbers pages) (nexts pages) n i digit (numbers (set (pages ++ page ∷ []) i y)) (nexts (set (pages ++ page ∷ []) i y))
-is_grown pages page old y n i digit there low number leaf is four same changed =
+is_grown pages page old y n i digit there low number leaf is eight same changed =
     let ways : length (nexts pages) ≡ length (numbers pages) = length-map pages (λ (p : Page). p.next) ∙ sym (count pages) in
     let ns : numbers (set (pages ++ page ∷ []) i y) ≡ numbers pages ++ n ∷ [] =
     map-set_same (λ (p : Page). p.number) (pages ++ page ∷ []) i y old (same ∙ ap (λ (p : Page). p.number) is)
     ∙ map-append (λ (p : Page). p.number) pages (page ∷ []) ∙ ap (λ (m : ℕ). numbers pages ++ m ∷ []) number in
-    let all : nexts (pages ++ page ∷ []) ≡ nexts pages ++ replicate 4 0 ∷ [] =
+    let all : nexts (pages ++ page ∷ []) ≡ nexts pages ++ replicate 8 0 ∷ [] =
     map-append (λ (p : Page). p.next) pages (page ∷ []) ∙ ap (λ (row : List ℕ). nexts pages ++ row ∷ []) leaf in
     let inside : i < length (pages ++ page ∷ []) = omega (arith, length-append pages (page ∷ [])) in
-    let row : get_or (nexts pages ++ replicate 4 0 ∷ []) i [] ≡ old.next =
+    let row : get_or (nexts pages ++ replicate 8 0 ∷ []) i [] ≡ old.next =
     rw (← all) (get_or-map (λ (p : Page). p.next) (pages ++ page ∷ []) i old [] inside ∙ sym (ap (λ (p : Page). p.next) is)) in
     let ts : nexts (set (pages ++ page ∷ []) i y)
-    ≡ set (nexts pages ++ replicate 4 0 ∷ []) i (set (get_or (nexts pages ++ replicate 4 0 ∷ []) i []) digit (length (numbers pages))) =
+    ≡ set (nexts pages ++ replicate 8 0 ∷ []) i (set (get_or (nexts pages ++ replicate 8 0 ∷ []) i []) digit (length (numbers pages))) =
     map-set (λ (p : Page). p.next) (pages ++ page ∷ []) i y ∙ rw (row, count pages, ← all) (ap (λ (r : List ℕ). set (nexts (pages ++ page ∷ [])) i r) changed) in
     rw (ns, ts) (grown_lists (numbers pages) (nexts pages) n i digit ways (omega (arith, count pages)) (rw row (omega arith)))
 
@@ -102,14 +102,14 @@ page_in_linked (x ∷ pages) (suc i) old y n below is number words =
 
 -- the tree of such pages
 pub tree_linked : (pages all : List Page) (page old y : Page) (n i digit at : ℕ) → IsTree (numbers pages) (nexts pages)
-    → IsFree (numbers pages) (nexts pages) n i digit → all ≡ pages ++ page ∷ [] → page.number ≡ n → page.next ≡ replicate 4 0
-    → old ≡ get_or all i old → length old.next ≡ 4 → at ≡ length pages → y.number ≡ old.number → y.next ≡ set old.next digit at
+    → IsFree (numbers pages) (nexts pages) n i digit → all ≡ pages ++ page ∷ [] → page.number ≡ n → page.next ≡ replicate 8 0
+    → old ≡ get_or all i old → length old.next ≡ 8 → at ≡ length pages → y.number ≡ old.number → y.next ≡ set old.next digit at
     → IsTree (numbers (set all i y)) (nexts (set all i y))
-tree_linked pages all page old y n i digit at tree free are number leaf is four last same changed =
+tree_linked pages all page old y n i digit at tree free are number leaf is eight last same changed =
     rw are
     (tree_grown (numbers pages) (nexts pages) n i digit (numbers (set (pages ++ page ∷ []) i y)) (nexts (set (pages ++ page ∷ []) i y))
     tree free
-    (is_grown pages page old y n i digit (omega (arith, free.there, count pages)) free.low number leaf (rw are at is) four same
+    (is_grown pages page old y n i digit (omega (arith, free.there, count pages)) free.low number leaf (rw are at is) eight same
     (rw last at changed)))
 
 -- where the new page lies

@@ -2,7 +2,7 @@
 use Rattle.std.proofs.Common.{ℕ, List, [], ◌∷◌, length, get_or, ◌≡◌, ◌≢◌, ◌<◌, ◌≤◌, ◌-◌, ◌/◌, ◌%◌, ◌∙◌, sym, refl, arith}
 use Rattle.std.specs.Prelude.{slice_index}
 use Rattle.guest_memory.specs.declared.page.Page.{Page}
-use Rattle.guest_memory.specs.Tree.{numbers, nexts, next, IsTree, IsAt, IsFree}
+use Rattle.guest_memory.specs.Tree.{numbers, nexts, next, IsTree, IsAt, IsFree, first_of, behind_of, digits_of}
 use Rattle.guest_memory.proofs.OnWay.{IsOnWay, on_way_down, free_at_end, free_first}
 use Rattle.guest_memory.proofs.Linked.{count, number_read, next_read}
 
@@ -13,17 +13,17 @@ at_read pages n i page inside is same =
 
 pub free_behind : (pages : List Page) (n i rest : ℕ) (page : Page) → IsTree (numbers pages) (nexts pages)
     → IsOnWay (numbers pages) (nexts pages) n i rest → i < length pages → page ≡ get_or pages i page → page.number ≢ n
-    → slice_index page.next (rest % 4) ≡ 0 → IsFree (numbers pages) (nexts pages) n i (rest % 4)
+    → slice_index page.next (first_of rest) ≡ 0 → IsFree (numbers pages) (nexts pages) n i (first_of rest)
 free_behind pages n i rest page tree on inside is other none =
     free_at_end (numbers pages) (nexts pages) n i rest tree on (omega (arith, count pages))
-    (λ e. other (sym (number_read pages i page inside is) ∙ e)) (next_read pages i (rest % 4) page inside is ∙ none)
+    (λ e. other (sym (number_read pages i page inside is) ∙ e)) (next_read pages i (first_of rest) page inside is ∙ none)
 
 pub way_behind : (pages : List Page) (n i rest : ℕ) (page : Page) → IsTree (numbers pages) (nexts pages)
     → IsOnWay (numbers pages) (nexts pages) n i rest → i < length pages → page ≡ get_or pages i page → page.number ≢ n
-    → slice_index page.next (rest % 4) ≢ 0
-    → IsOnWay (numbers pages) (nexts pages) n (slice_index page.next (rest % 4)) (rest / 4)
+    → slice_index page.next (first_of rest) ≢ 0
+    → IsOnWay (numbers pages) (nexts pages) n (slice_index page.next (first_of rest)) (behind_of rest)
 way_behind pages n i rest page tree on inside is other some =
-    let read = next_read pages i (rest % 4) page inside is in
+    let read = next_read pages i (first_of rest) page inside is in
     rw (← read) (on_way_down (numbers pages) (nexts pages) n i rest tree on (omega (arith, count pages))
     (λ e. other (sym (number_read pages i page inside is) ∙ e)) (λ e. some (sym read ∙ e)))
 

@@ -6,8 +6,8 @@ pub(crate) const PAGE: u64 = 64;
 /// The words of a page: few, so that words that lie far apart cost little more than themselves, whoever picks their addresses.
 pub(crate) const WORDS: usize = 16;
 
-/// The pages that stand behind one in the tree, one for each digit in base four.
-pub(crate) const DIGITS: u64 = 4;
+/// The pages that stand behind one in the tree, one for each digit in base eight.
+pub(crate) const DIGITS: u64 = 8;
 
 /// A page of memory.
 #[derive(Drop)]
@@ -15,8 +15,8 @@ pub(crate) struct Page {
     /// The page's address divided by its bytes.
     pub(crate) number: u64,
     /// Where the pages behind it lie, 0 where there is none.
-    pub(crate) next: [usize; DIGITS as usize],
+    pub(crate) next: [u32; DIGITS as usize],
     pub(crate) words: [u32; WORDS],
-    ghost four: { length next ≡ 4 },
+    ghost eight: { length next ≡ 8 },
     ghost whole: { length words ≡ 16 },
 }

@@ -1,11 +1,17 @@
 ghost use Rattle.std.specs.Prelude.{◌≡◌, ◌<◌, ◌/◌, ◌%◌, ℕ, IfOk, IfSome, IfNone};
 ghost use Rattle.std.specs.Bool.{OnTrue};
-ghost use Rattle.guest_memory.specs.Tree.{numbers, nexts, IsTree, IsFree, IsAt, HasNone, IsWay};
+ghost use Rattle.guest_memory.specs.Tree.{numbers, nexts, digits_of, IsTree, IsFree, IsAt, HasNone, IsWay};
 
 use crate::addr::Addr;
 use crate::memory::WordMemory;
 use crate::page::{DIGITS, PAGE, Page, WORDS};
 use std::alloc::{AllocError, Global};
+
+/// What a number is divided by for its first digit: it has 64 bits, and a digit three.
+const FIRST: u64 = 1 << 61;
+
+/// The pages of 64 GiB, of which ten digits say which.
+const NEAR: u64 = 1 << 30;
 
 /// How many pages are remembered as written lately.
 const RECENT: u64 = 1024;
@@ -17,8 +23,8 @@ enum Way {
 }
 
 /// Memory that keeps the pages in which a word was written, in the order in which they came, as a tree: from the first page the digits
-/// of a number, the lowest first, lead to its page. So no choice of addresses makes it slow: there are at most 29 steps. Most pages
-/// are found without them, since they were written lately.
+/// of a number lead to its page. So no choice of addresses makes it slow: there are at most 22 steps. Most pages are found without
+/// them, since they were written lately.
 #[derive(Drop)]
 pub struct PageMemory {
     pages: Vec<Page>,
@@ -35,6 +41,14 @@ fn place(at: Addr) -> (u64, usize)
 {
     let address = at.get();
     (address / PAGE, (address / 4) as usize % WORDS)
+}
+
+/// The digits by which a page is found: those of its lower 30 bits from the highest on, then those of the others. So pages whose
+/// addresses are close lie behind the same ones.
+fn digits(number: u64) -> u64
+    ensures { result ≡ digits_of number }
+{
+    number % NEAR * (1 << 34) + number / NEAR
 }
 
 /// Where a page is remembered. Pages that lie side by side, or as far apart as the rings of many traces, have places of their own.
@@ -69,19 +83,19 @@ impl PageMemory {
         ensures { IsWay (numbers self.now.pages.items) (nexts self.now.pages.items) number result }
     {
         let mut at = 0;
-        let mut rest = number;
+        let mut rest = digits(number);
         while at < self.pages.len() {
             let page = &self.pages[at];
             if page.number == number {
                 return Way::Found(at);
             }
-            let digit = (rest % DIGITS) as usize;
-            let next = page.next[digit];
+            let digit = (rest / FIRST % DIGITS) as usize;
+            let next = page.next[digit] as usize;
             if next == 0 {
                 return Way::Free(at, digit);
             }
             at = next;
-            rest = rest / DIGITS;
+            rest = rest % FIRST * DIGITS;
         }
         Way::Free(0, 0)
     }
@@ -118,19 +132,22 @@ impl PageMemory {
         Ok(at)
     }
 
-    /// Makes a page behind another one in the tree, or the first one. No word changes.
+    /// Makes a page behind another one in the tree, or the first one. No word changes. There is room for 2^32 pages.
     fn add(&mut self, number: u64, behind: usize, digit: usize) -> Result<usize, AllocError>
         requires { IsFree (numbers self.old.pages.items) (nexts self.old.pages.items) number behind digit }
         ensures same { (a : ℕ) → word_in self.new a ≡ word_in self.old a }
         ensures ok { IfOk result (IsAt (numbers self.new.pages.items) number) }
     {
         let at = self.pages.len();
+        let Ok(link) = u32::try_from(at) else {
+            return Err(AllocError);
+        };
         self.pages.push(Page {
             number,
             next: [0; DIGITS as usize],
             words: [0; WORDS],
         })?;
-        self.pages[behind].next[digit] = at;
+        self.pages[behind].next[digit] = link;
         Ok(at)
     }
 }

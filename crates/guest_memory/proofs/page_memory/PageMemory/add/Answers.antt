@@ -7,8 +7,8 @@ pub invariant_of-self-2 : goal.invariant_of-self-2
 invariant_of-self-2 c = record {
   is_tree =
       tree_linked c.args.self.now.pages.items c.push.new.self.items _ c.index_mut.result.now _ c.args.number c.args.behind c.args.digit
-      c.len-at.result c.args.self.now.is_tree c.requires c.in_ok-push.ensures.items refl refl c.index_mut.ensures.value
-      c.index_mut.result.now.four (omega arith) refl refl;
+      c.in-Ok.link c.args.self.now.is_tree c.requires c.in_ok-push.ensures.items refl refl c.index_mut.ensures.value
+      c.index_mut.result.now.eight (omega arith) refl refl;
 }
 
 pub returns-clause-same : goal.returns-clause-same

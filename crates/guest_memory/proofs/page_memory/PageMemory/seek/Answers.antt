@@ -1,4 +1,5 @@
-use Rattle.std.proofs.Common.{◌%◌, arith}
+use Rattle.std.proofs.Common.{arith}
+use Rattle.guest_memory.specs.Tree.{first_of}
 use Rattle.guest_memory.proofs.Seeking.{free_behind, way_behind, later_behind, free_none}
 use Rattle.guest_memory.proofs.page_memory.PageMemory.seek.Goals as goal
 
@@ -9,7 +10,7 @@ returns-then-next-eq0 c =
 
 pub loop-at-smaller : goal.loop-at-smaller
 loop-at-smaller c =
-    later_behind c.args.self.now.pages.items c.loop-at.at (c.loop-at.rest % 4) c.index-page.result.now c.args.self.now.is_tree
+    later_behind c.args.self.now.pages.items c.loop-at.at (first_of c.loop-at.rest) c.index-page.result.now c.args.self.now.is_tree
     (omega arith) c.index-page.ensures c.if-next-eq0.false
 
 pub loop-at-preserved : goal.loop-at-preserved
