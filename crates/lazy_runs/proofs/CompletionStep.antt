@@ -112,11 +112,11 @@ module _ (h : Header) where
     unfolding y
     reads_it = read_made h z b unread (subst (λ e. same_words e b ≡ true) (sym there) (words_itself b))
 
-    runs : Runs h (Read b ∷ past) v
-    unfolding z y v k
+    runs : Runs h (known h (Read b ∷ past)) v
+    unfolding z y v k known
     runs =
-        let finished : Runs h past (steps.counted h u) = finish_runs h is past w u b block running trace.runs (run_keeps h is past w trace.runs) at in
-        read_runs h past b z y block (runs_rest h past (steps.counted h u) later finished) reads_it
+        let finished : Runs h (known h past) (steps.counted h u) = finish_runs h is (known h past) w u b block running trace.runs (run_keeps h is (known h past) w keeps trace.runs) at in
+        read_runs h (known h past) b z y block (runs_rest h (known h past) (steps.counted h u) later finished) reads_it
 
     rings_are : (q : ℕ) → state_of v q ≡ state_of x q
     unfolding v y z steps.counted

@@ -15,7 +15,7 @@ module _ (h : Header) where
     pub next : next_take (shape_of h r) (w.events r) ≡ number t
 
   pub record Follows (past later : List Row) (w : World) : Type 0 where
-    pub runs : Runs h past w
+    pub runs : Runs h (known h past) w
     pub all_read : w.posted ≡ w.reads
     -- the rings that an endpoint has
     pub floors : (s i r : ℕ) → (known h past).ring_of s i ≡ Some r → StandsAt w r ((known h past).ring r).floor

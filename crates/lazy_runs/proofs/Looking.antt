@@ -34,14 +34,14 @@ module _ (h : Header) where
   pub record Looked (rows past : List Row) (made : List Step) (w : World) (r : ℕ) (t : Spot) (looks : List Step) : Type 0 where
     pub world : World
     pub run : reached h rows (reverse looks ++ made) ≡ Some world
-    pub runs : Runs h past world
+    pub runs : Runs h (known h past) world
     pub stands : StandsAt h world r t
     pub leaves : LooksLeave h w world r
 
   -- nothing is asked of a ring that stands at its goal, or behind it
   abbrev pub LooksLaw : Type 0
   LooksLaw =
-      (rows past : List Row) (made : List Step) (w : World) (pointers : ℕ → Spot) (goal : RingSpot) → IsHeader h → IsLenient h past → reached h rows made ≡ Some w → Runs h past w →
+      (rows past : List Row) (made : List Step) (w : World) (pointers : ℕ → Spot) (goal : RingSpot) → IsHeader h → IsLenient h past → reached h rows made ≡ Some w → Runs h (known h past) w →
       w.posted ≡ w.reads → StandsAt h w goal.ring (pointers goal.ring) →
       (rank (pointers goal.ring) < rank goal.spot → MayBring (known h past) w goal.ring goal.spot) →
       Looked rows past made w goal.ring (further (pointers goal.ring) goal.spot) (looks_to h pointers goal)

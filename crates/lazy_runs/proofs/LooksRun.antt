@@ -86,7 +86,7 @@ module _ (h : Header) where
 
   module _ (is : IsHeader h) (rows past : List Row) (clean : IsLenient h past) (r : ℕ) where
     -- no look is made
-    stays : (made : List Step) (w : World) (t : Spot) (steps : List Step) → steps ≡ [] → reached h rows made ≡ Some w → Runs h past w → StandsAt h w r t → Looked h rows past made w r t steps
+    stays : (made : List Step) (w : World) (t : Spot) (steps : List Step) → steps ≡ [] → reached h rows made ≡ Some w → Runs h (known h past) w → StandsAt h w r t → Looked h rows past made w r t steps
     stays made w t steps none run runs at = record {
       world = w;
       run = ap (λ l. reached h rows (reverse l ++ made)) none ∙ run;
@@ -98,7 +98,7 @@ module _ (h : Header) where
     still_may : (w v : World) (t : Spot) → LooksLeave h w v r → MayBring h (known h past) w r t → MayBring h (known h past) v r t
     still_may w v t leaves may = record { active = leaves.active ∙ may.active; reach = may.reach; one_command = may.one_command }
 
-    brings : (n : ℕ) (made : List Step) (w : World) (s t : Spot) → IsSpot (shape_of h r) t → rank s ≤ rank t → rank t < rank s + n → reached h rows made ≡ Some w → Runs h past w → w.posted ≡ w.reads →
+    brings : (n : ℕ) (made : List Step) (w : World) (s t : Spot) → IsSpot (shape_of h r) t → rank s ≤ rank t → rank t < rank s + n → reached h rows made ≡ Some w → Runs h (known h past) w → w.posted ≡ w.reads →
         StandsAt h w r s → (rank s < rank t → MayBring h (known h past) w r t) → Looked h rows past made w r t (looks_on r t s n)
     brings zero made w s t is_spot le near run runs read at may = absurd (omega (arith, le, near))
     brings (suc n) made w s t is_spot le near run runs read at may =
@@ -113,7 +113,7 @@ module _ (h : Header) where
               let one : LookDone h w r s = one_look h is k w d g r s t before at (may before) in
               let v : World = counted h one.world in
               let then_run : reached h rows (Look r ∷ made) ≡ Some v = look_reached h rows made w one.world r run (g.stands.stopped ∙ runs.on) one.made in
-              let then_runs : Runs h past v = look_runs h is past w one.world r runs (run_keeps h is past w runs) one.made in
+              let then_runs : Runs h (known h past) v = look_runs h is (known h past) w one.world r runs (run_keeps h is k w d runs) one.made in
               let later : rank s < rank (next (shape_of h r) s) = next_later (shape_of h r) s in
               let rest : Looked h rows past (Look r ∷ made) v r t (looks_on r t (next (shape_of h r) s) n) =
               brings n (Look r ∷ made) v (next (shape_of h r) s) t is_spot (next_least (shape_of h r) s t is_spot before) (omega (arith, near, later)) then_run then_runs

@@ -118,12 +118,12 @@ module _ (h : Header) where
     unfolding y
     reads_it = read_made h x b unread (subst (λ e. same_words e b ≡ true) (sym there) (words_itself b))
 
-    runs : Runs h (Read b ∷ past) v
-    unfolding x u v k
+    runs : Runs h (known h (Read b ∷ past)) v
+    unfolding x u v k known
     runs =
-        let posted : Runs h past (steps.counted h (posts.posted h w b)) =
-        other_runs h is past w (posts.posted h w b) b block running f.runs (run_keeps h is past w f.runs) (post_made w b can other) in
-        read_runs h past b x y block (runs_rest h past (steps.counted h u) later posted) reads_it
+        let posted : Runs h (known h past) (steps.counted h (posts.posted h w b)) =
+        other_runs h is (known h past) w (posts.posted h w b) b block running f.runs (run_keeps h is (known h past) w keeps f.runs) (post_made w b can other) in
+        read_runs h (known h past) b x y block (runs_rest h (known h past) (steps.counted h u) later posted) reads_it
 
     had : (s i r : ℕ) → l.ring_of s i ≡ Some r → k.ring_of s i ≡ Some r
     had s i r at = ap (λ (m : Known). m.ring_of s i) (sym same) ∙ at

@@ -56,7 +56,7 @@ module _ (h : Header) where
           | inr other ↦ ap (λ (x : RingState). x.active) (leaves.others q other)
         ]
 
-    moved_on : Runs h past v → Traced h past now w → Traced h past (put now r t) v
+    moved_on : Runs h (known h past) v → Traced h past now w → Traced h past (put now r t) v
     moved_on runs trace = record {
       runs = runs;
       all_read = leaves.posted ∙ trace.all_read ∙ sym leaves.reads;

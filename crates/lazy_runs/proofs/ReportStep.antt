@@ -106,11 +106,11 @@ module _ (h : Header) where
     unfolding y
     reads_it = read_made h x b unread (subst (λ e. same_words e b ≡ true) (sym there) (words_itself b))
 
-    runs : Runs h (Read b ∷ past) v
-    unfolding x y v k
+    runs : Runs h (known h (Read b ∷ past)) v
+    unfolding x y v k known
     runs =
-        let reported : Runs h past (steps.counted h u) = report_runs h is past w u b block running trace.runs (run_keeps h is past w trace.runs) at in
-        read_runs h past b x y block (runs_rest h past (steps.counted h u) later reported) reads_it
+        let reported : Runs h (known h past) (steps.counted h u) = report_runs h is (known h past) w u b block running trace.runs (run_keeps h is (known h past) w keeps trace.runs) at in
+        read_runs h (known h past) b x y block (runs_rest h (known h past) (steps.counted h u) later reported) reads_it
 
     stands : (q : ℕ) (s : Spot) → StandsAt h w q s → StandsAt h v q s
     unfolding v y x steps.counted

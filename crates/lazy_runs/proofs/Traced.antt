@@ -7,7 +7,7 @@ use Rattle.lazy_runs.proofs.Follows.{StandsAt, IsActiveIfOpen, Follows}
 module _ (h : Header) where
   -- all events are read, and the rings stand at these spots, by ring ID
   pub record Traced (past : List Row) (pointers : ℕ → Spot) (w : World) : Type 0 where
-    pub runs : Runs h past w
+    pub runs : Runs h (known h past) w
     pub all_read : w.posted ≡ w.reads
     pub rings : (s i r : ℕ) → (known h past).ring_of s i ≡ Some r → StandsAt h w r (pointers r)
     pub active : (s i r : ℕ) → (known h past).ring_of s i ≡ Some r → IsActiveIfOpen (known h past) w r

@@ -41,7 +41,7 @@ pub use Rattle.safety.proofs.Areas.{bad_command_context, bad_context_parts}
 pub use Rattle.safety.proofs.AtSpots.{Crossable, Takeable, crossable, takeable}
 pub use Rattle.safety.proofs.CleanRows.{BellFacts, EventFacts, bell_facts, event_facts}
 pub use Rattle.safety.proofs.ContextWords.{address_same, configure_same, same_context}
-pub use Rattle.safety.proofs.DriverHistories.{driver_keeps, run_keeps}
+pub use Rattle.safety.proofs.DriverHistories.{driver_keeps, kept_driver, run_keeps}
 pub use Rattle.safety.proofs.DriverRings.{driver_ring, driver_test, endpoints_of, rings_of, transfer_ring}
 pub use Rattle.safety.proofs.DriverRows.{nothing_keeps, ring_elsewhere, ring_here}
 pub use Rattle.safety.proofs.EndpointsOff.{slot_above}
@@ -102,7 +102,7 @@ pub use Rattle.safety.proofs.TransferLeaves.{TransferLeaves, transferred_leaves}
 pub use Rattle.safety.proofs.Transfers.{chain, spot_is}
 pub use Rattle.safety.proofs.WithReads.{with_reads}
 pub use Rattle.safety.specs.EndpointsKeep.{EndpointsKeep}
-pub use Rattle.safety.specs.Invariant.{Runs, reading}
+pub use Rattle.safety.specs.Invariant.{Runs, all_read}
 pub use Rattle.safety.specs.Keeps.{CommandKeeps, DriverKeeps, IsDriverRing, IsTransferRing}
 pub use Rattle.safety.specs.KeptHistories.{IsDriverRow}
 pub use Rattle.safety.specs.Matches.{Agrees, BoundRing, CommandMatches, RingMatches, RingState, TakenCommand, UnderWayMatches, Unreported, state_of}

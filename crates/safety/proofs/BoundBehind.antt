@@ -58,7 +58,7 @@ module _ (h : Header) (is : IsHeader h) (k : Known) (d : DriverKeeps h k) (e : B
   binds_before p r (SetTrDequeue s i q cycle) u bound = absurd (false≢true bound)
   binds_before p r (ResetDevice s) u bound = absurd (false≢true bound)
 
-  bound_before : (r : ℕ) → is_being_bound h l r ≡ true → is_being_bound h k r ≡ true
+  pub bound_before : (r : ℕ) → is_being_bound h l r ≡ true → is_being_bound h k r ≡ true
   unfolding is_being_bound
   bound_before r binding =
       let found = some_of (binds_ring h l r) (unfinished h l) binding in

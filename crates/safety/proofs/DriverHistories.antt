@@ -1,6 +1,6 @@
 -- A clean history keeps what a driver keeps
 use Rattle.std.proofs.Common.{◌≡◌, ◌∷◌, ◌∙◌, false, List, []}
-use Rattle.safety.proofs.Words.{Block, kind, Header, Row, IsHeader, Read, World, Known, learned, known, IsLenient, DriverKeeps, KeptByRows, reading, Runs}
+use Rattle.safety.proofs.Words.{Block, kind, Header, Row, IsHeader, Read, World, Known, learned, known, IsLenient, DriverKeeps, KeptByRows, ArePossible, Runs, all_read}
 use Rattle.safety.proofs.SameDriver.{event_same}
 use Rattle.safety.proofs.TestsPassed.{clean_tests}
 use Rattle.safety.proofs.KeptCommandRing.{kept_crcr, kept_crcr_written, kept_sized, kept_erstsz_written}
@@ -48,10 +48,11 @@ module _ (h : Header) where
   unfolding learned
   read_stopped k b = (event_same h k (kind b) b).stopped
 
-  still_on : (unread : List Block) (past : List Row) → (known h past).stopped ≡ false → (known h (reading unread past)).stopped ≡ false
-  unfolding known
-  still_on [] past on = on
-  still_on (e ∷ unread) past on = still_on unread (Read e ∷ past) (read_stopped (known h past) e ∙ on)
+  all_read_keeps : IsHeader h → (unread : List Block) (k : Known) → DriverKeeps h k → ArePossible h k unread → k.stopped ≡ false → DriverKeeps h (all_read h k unread)
+  all_read_keeps is [] k d possible on = d
+  all_read_keeps is (e ∷ unread) k d possible on =
+      let still_on : (learned h k (Read e)).stopped ≡ false = read_stopped k e ∙ on in
+      all_read_keeps is unread (learned h k (Read e)) (kept_driver is k (Read e) d possible.0 still_on) possible.1 still_on
 
-  pub run_keeps : IsHeader h → (past : List Row) (w : World) (r : Runs h past w) → DriverKeeps h (known h (reading r.unread past))
-  run_keeps is past w r = driver_keeps is (reading r.unread past) r.clean (still_on r.unread past r.on)
+  pub run_keeps : IsHeader h → (now : Known) (w : World) → DriverKeeps h now → (r : Runs h now w) → DriverKeeps h (all_read h now r.unread)
+  run_keeps is now w d r = all_read_keeps is r.unread now d r.possible r.on

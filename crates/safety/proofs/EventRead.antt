@@ -1,10 +1,10 @@
 -- When a posted event is possible where it will be read, and what reading it adds
 use Rattle.std.proofs.Common.{◌≡◌, ◌+◌, ◌-◌, ◌≤◌, ◌==◌, ◌&&◌, ◌∷◌, ◌++◌, ◌∙◌, Bool, true, false, not, List, [], All, arith, refl, sym, ap, subst, le-ltb, eq-eqb}
-use Rattle.safety.proofs.Words.{cond-false, or_from, not_from_true, Block, All-append, All-cons, All-nil, IsBlock, cycle, kind, is_event, is_transfer_event, cycle_of, Header, Row, Read, event_shape, event_size, World, Known, event_read, learned, known, broken_of, AfterStop, ImpossibleEvent, NotInProfile, lenient, IsLenient, is_in_profile, is_impossible_by_kind, is_past_room, is_impossible, Stands, reading}
+use Rattle.safety.proofs.Words.{cond-false, or_from, not_from_true, Block, All-append, All-cons, All-nil, IsBlock, cycle, kind, is_event, is_transfer_event, cycle_of, Header, Read, event_shape, event_size, World, Known, event_read, learned, broken_of, AfterStop, ImpossibleEvent, NotInProfile, lenient, is_in_profile, is_impossible_by_kind, is_past_room, is_impossible, Stands, ArePossible, all_read}
 use Rattle.ownership_rules.specs.Rules as of_rules
 use Rattle.ownership_rules.specs.Events as of_events
 use Rattle.safety.proofs.Posting.{CanPost}
-use Rattle.safety.proofs.WithReads.{with_reads, reading_more}
+use Rattle.safety.proofs.WithReads.{with_reads}
 
 pub learned_read : (h : Header) (k : Known) (b : Block) → learned h k (Read b) ≡ with_reads (event_read h k (kind b) b) (k.reads + 1)
 unfolding learned
@@ -38,14 +38,14 @@ event_clean h k w b s read on can room event possible in_profile =
     event_broken h k b (sym s.stopped ∙ on)
     (not_impossible h k b (sym s.started ∙ can.started) (omega (arith, s.dequeue)) (can.cycle_is ∙ ap (λ n. cycle_of (event_shape h) n) read) event possible) in_profile
 
--- with it at the end, the unread events are clean and lead on
-pub clean_more : (h : Header) (unread : List Block) (past : List Row) (b : Block) → IsLenient h (reading unread past) → lenient h (known h (reading unread past)) (Read b) ≡ [] →
-    IsLenient h (reading (unread ++ b ∷ []) past)
-clean_more h unread past b clean none = subst (λ rows. IsLenient h rows) (sym (reading_more unread past b)) (clean, none)
+-- with it at the end, the unread events are possible and lead on
+pub possible_more : (h : Header) (unread : List Block) (k : Known) (b : Block) → ArePossible h k unread → lenient h (all_read h k unread) (Read b) ≡ [] → ArePossible h k (unread ++ b ∷ [])
+possible_more h [] k b possible none = (none, tt)
+possible_more h (e ∷ unread) k b possible none = (possible.0, possible_more h unread (learned h k (Read e)) b possible.1 none)
 
-pub known_more : (h : Header) (unread : List Block) (past : List Row) (b : Block) → known h (reading (unread ++ b ∷ []) past) ≡ learned h (known h (reading unread past)) (Read b)
-unfolding known
-known_more h unread past b = ap (λ rows. known h rows) (reading_more unread past b)
+pub read_more : (h : Header) (unread : List Block) (k : Known) (b : Block) → all_read h k (unread ++ b ∷ []) ≡ learned h (all_read h k unread) (Read b)
+read_more h [] k b = refl
+read_more h (e ∷ unread) k b = read_more h unread (learned h k (Read e)) b
 
 pub blocks_more : (unread : List Block) (b : Block) → All IsBlock unread → IsBlock b → All IsBlock (unread ++ b ∷ [])
 blocks_more unread b blocks block = All-append IsBlock unread (b ∷ []) blocks (All-cons IsBlock b [] block (All-nil IsBlock))

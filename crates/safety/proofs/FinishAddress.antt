@@ -1,6 +1,6 @@
 -- The controller finishes an Address Device with success: the run goes on
 use Rattle.std.proofs.Common.{◌≡◌, ◌<◌, ◌≤◌, ◌==◌, ◌∷◌, ◌∙◌, ℕ, Bool, true, false, List, [], Some, arith, refl, sym, ap, subst, inl, inr}
-use Rattle.safety.proofs.Words.{cases_Bool, cases_lt, false≢true, Block, IsBlock, code, slot, Shape, IsShape, RingView, floor_number, given_count, RingKeeps, cases_option, given_below, step_is, floor_given, given_count_declared, ceiling_within, Command, AddressDevice, Running, command_of, SlotGoesOn, Places, changes, is_off, context_pointer, context_cycle, Header, Row, IsHeader, shape_of, World, UnderWay, counted, Known, known, next_command, DriverKeeps, CommandKeeps, Stays, Stands, Runs, reading}
+use Rattle.safety.proofs.Words.{cases_Bool, cases_lt, false≢true, Block, IsBlock, code, slot, Shape, IsShape, RingView, floor_number, given_count, RingKeeps, cases_option, given_below, step_is, floor_given, given_count_declared, ceiling_within, Command, AddressDevice, Running, command_of, SlotGoesOn, Places, changes, is_off, context_pointer, context_cycle, Header, IsHeader, shape_of, World, UnderWay, counted, Known, next_command, DriverKeeps, CommandKeeps, Stays, Stands, Runs, all_read}
 use Rattle.controller_model.specs.Bindings as bindings
 use Rattle.controller_model.specs.Finishes as finishes
 use Rattle.ring_knowledge.specs.Completions as completions
@@ -15,7 +15,6 @@ use Rattle.safety.proofs.PlaceKeeps.{MayBind, MayMove, bind_keeps, move_keeps}
 use Rattle.safety.proofs.SlotChanges.{slot_keeps}
 use Rattle.safety.proofs.NumberedChanges.{command_numbered}
 use Rattle.safety.proofs.FinishChanges.{StatesMatch, ChangeKeeps, states_match}
-use Rattle.safety.proofs.NumberedHistories.{are_numbered}
 use Rattle.safety.proofs.FinishSuccess.{EffectKeeps}
 use Rattle.safety.proofs.FinishGiven.{ListKeeps, nothing_keeps, change_then, finish_given_runs}
 
@@ -128,11 +127,11 @@ module _ (h : Header) (is : IsHeader h) (k : Known) (d : DriverKeeps h k) (s n :
       (list_keeps w states low x (ap (λ list. bindings.changed_by_all h c w list) (sym world_list) ∙ at))
 
 -- the run goes on behind the success of an Address Device
-pub finish_address_runs : (h : Header) → IsHeader h → (past : List Row) (w v : World) (b : Block) → IsBlock b → w.stopped ≡ false → (run : Runs h past w) →
-    DriverKeeps h (known h (reading run.unread past)) → (u : UnderWay) → w.under_way ≡ Some u →
+pub finish_address_runs : (h : Header) → IsHeader h → (now : Known) (w v : World) (b : Block) → IsBlock b → w.stopped ≡ false → (run : Runs h now w) →
+    DriverKeeps h (all_read h now run.unread) → (u : UnderWay) → w.under_way ≡ Some u →
     (s n : ℕ) (bsr : Bool) → command_of u.block ≡ Some (AddressDevice s bsr n) → (code b == 1) ≡ true →
-    finishes.finished h w b ≡ Some v → Runs h past (counted h v)
-finish_address_runs h is past w v b block running run d u at_u s n bsr is_u one at =
-    let k : Known = known h (reading run.unread past) in
-    finish_given_runs h is past w v b block running run d u at_u (AddressDevice s bsr n) is_u one
-    (λ given. address_keeps h is k d s n bsr given w (slot b) run.agrees.stands (states_match h is k w d (are_numbered h (reading run.unread past)) run.agrees.matches) (command_numbered u.block (AddressDevice s bsr n) is_u)) at
+    finishes.finished h w b ≡ Some v → Runs h now (counted h v)
+finish_address_runs h is now w v b block running run d u at_u s n bsr is_u one at =
+    let k : Known = all_read h now run.unread in
+    finish_given_runs h is now w v b block running run d u at_u (AddressDevice s bsr n) is_u one
+    (λ given. address_keeps h is k d s n bsr given w (slot b) run.agrees.stands (states_match h is k w d (d.numbered) run.agrees.matches) (command_numbered u.block (AddressDevice s bsr n) is_u)) at

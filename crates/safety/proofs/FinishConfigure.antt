@@ -1,6 +1,6 @@
 -- The controller finishes a Configure Endpoint with success: the run goes on
 use Rattle.std.proofs.Common.{◌≡◌, ◌<◌, ◌≤◌, ◌==◌, ◌&&◌, ◌||◌, if◌then◌else◌, ◌∷◌, ◌∙◌, ℕ, Bool, true, false, List, map, All, Some, None, arith, refl, sym, ap, subst, inl, inr, get_or, eq-eqb, leb-true}
-use Rattle.safety.proofs.Words.{cases_Bool, and_from, and_right, cond-true, cond-false, false≢true, Block, IsBlock, code, slot, Command, ConfigureEndpoint, command_of, Change, SlotGoesOn, Disables, changes, placed_by_context, is_off, added_endpoints, is_dropped, Header, Row, IsHeader, World, UnderWay, counted, Known, known, next_command, binding_in, binds, ring_bound, has_repeats, DriverKeeps, CommandKeeps, StillHolds, Stands, Runs, reading}
+use Rattle.safety.proofs.Words.{cases_Bool, and_from, and_right, cond-true, cond-false, false≢true, Block, IsBlock, code, slot, Command, ConfigureEndpoint, command_of, Change, SlotGoesOn, Disables, changes, placed_by_context, is_off, added_endpoints, is_dropped, Header, IsHeader, World, UnderWay, counted, Known, next_command, binding_in, binds, ring_bound, has_repeats, DriverKeeps, CommandKeeps, StillHolds, Stands, Runs, all_read}
 use Rattle.controller_model.specs.Bindings as bindings
 use Rattle.controller_model.specs.Finishes as finishes
 use Rattle.ring_knowledge.specs.Completions as completions
@@ -15,7 +15,6 @@ use Rattle.safety.proofs.DriverRings.{rings_of}
 use Rattle.safety.proofs.KeptRings.{command_holds}
 use Rattle.safety.proofs.PlaceEach.{each_keeps}
 use Rattle.safety.proofs.NumberedChanges.{command_numbered}
-use Rattle.safety.proofs.NumberedHistories.{are_numbered}
 use Rattle.safety.proofs.FinishChanges.{StatesMatch, ChangeKeeps, states_match}
 use Rattle.safety.proofs.FinishSuccess.{EffectKeeps}
 use Rattle.safety.proofs.FinishGiven.{ListKeeps, change_then, finish_given_runs}
@@ -93,12 +92,12 @@ module _ (h : Header) (is : IsHeader h) (k : Known) (d : DriverKeeps h k) (s a :
       (list_keeps w states low x (ap (λ list. bindings.changed_by_all h c w list) (sym world_list) ∙ at))
 
 -- the run goes on behind the success of a Configure Endpoint; of one that deconfigures the law of commands that place nothing says it
-pub finish_configure_runs : (h : Header) → IsHeader h → (past : List Row) (w v : World) (b : Block) → IsBlock b → w.stopped ≡ false → (run : Runs h past w) →
-    DriverKeeps h (known h (reading run.unread past)) → (u : UnderWay) → w.under_way ≡ Some u →
+pub finish_configure_runs : (h : Header) → IsHeader h → (now : Known) (w v : World) (b : Block) → IsBlock b → w.stopped ≡ false → (run : Runs h now w) →
+    DriverKeeps h (all_read h now run.unread) → (u : UnderWay) → w.under_way ≡ Some u →
     (s a : ℕ) → command_of u.block ≡ Some (ConfigureEndpoint s false a) → (code b == 1) ≡ true →
-    finishes.finished h w b ≡ Some v → Runs h past (counted h v)
-finish_configure_runs h is past w v b block running run d u at_u s a is_u one at =
-    let k : Known = known h (reading run.unread past) in
-    finish_given_runs h is past w v b block running run d u at_u (ConfigureEndpoint s false a) is_u one
-    (λ given. configure_keeps h is k d s a given w (slot b) run.agrees.stands (states_match h is k w d (are_numbered h (reading run.unread past)) run.agrees.matches)
+    finishes.finished h w b ≡ Some v → Runs h now (counted h v)
+finish_configure_runs h is now w v b block running run d u at_u s a is_u one at =
+    let k : Known = all_read h now run.unread in
+    finish_given_runs h is now w v b block running run d u at_u (ConfigureEndpoint s false a) is_u one
+    (λ given. configure_keeps h is k d s a given w (slot b) run.agrees.stands (states_match h is k w d (d.numbered) run.agrees.matches)
     (command_numbered u.block (ConfigureEndpoint s false a) is_u)) at

@@ -1,6 +1,6 @@
 -- The controller finishes a Set TR Dequeue with success: the run goes on
 use Rattle.std.proofs.Common.{◌≡◌, ◌==◌, ℕ, not, Bool, true, false, List, [], Option, Some, None, arith, refl, sym}
-use Rattle.safety.proofs.Words.{or_parts, not-false, false≢true, Block, IsBlock, code, slot, ceiling, is_move, ceiling_within, Command, SetTrDequeue, EndpointState, Off, Stopped, command_of, Places, changes, is_off, is_at_rest, Header, Row, IsHeader, shape_of, World, UnderWay, counted, Known, known, next_command, is_bad_dequeue, is_bad_move, DriverKeeps, CommandKeeps, Runs, reading}
+use Rattle.safety.proofs.Words.{or_parts, not-false, false≢true, Block, IsBlock, code, slot, ceiling, is_move, ceiling_within, Command, SetTrDequeue, EndpointState, Off, Stopped, command_of, Places, changes, is_off, is_at_rest, Header, IsHeader, shape_of, World, UnderWay, counted, Known, next_command, is_bad_dequeue, is_bad_move, DriverKeeps, CommandKeeps, Runs, all_read}
 use Rattle.segments.specs.RingView.{declared}
 use Rattle.controller_model.specs.Bindings as bindings
 use Rattle.controller_model.specs.Finishes as finishes
@@ -8,7 +8,6 @@ use Rattle.ring_knowledge.specs.Completions as completions
 use Rattle.safety.proofs.Headers.{ring_shape, transfer_driver}
 use Rattle.safety.proofs.PlaceKeeps.{MayMove, move_keeps}
 use Rattle.safety.proofs.FinishChanges.{StatesMatch, states_match}
-use Rattle.safety.proofs.NumberedHistories.{are_numbered}
 use Rattle.safety.proofs.FinishSuccess.{EffectKeeps}
 use Rattle.safety.proofs.FinishGiven.{nothing_keeps, change_then, finish_given_runs}
 
@@ -53,11 +52,11 @@ module _ (h : Header) (is : IsHeader h) (k : Known) (d : DriverKeeps h k) (s i p
       (λ v at states. nothing_keeps h c (completions.changed_by h c k (Places s i p cycle Stopped)) v states)
 
 -- the run goes on behind the success of a Set TR Dequeue
-pub finish_dequeue_runs : (h : Header) → IsHeader h → (past : List Row) (w v : World) (b : Block) → IsBlock b → w.stopped ≡ false → (run : Runs h past w) →
-    DriverKeeps h (known h (reading run.unread past)) → (u : UnderWay) → w.under_way ≡ Some u →
+pub finish_dequeue_runs : (h : Header) → IsHeader h → (now : Known) (w v : World) (b : Block) → IsBlock b → w.stopped ≡ false → (run : Runs h now w) →
+    DriverKeeps h (all_read h now run.unread) → (u : UnderWay) → w.under_way ≡ Some u →
     (s i p : ℕ) (cycle : Bool) → command_of u.block ≡ Some (SetTrDequeue s i p cycle) → (code b == 1) ≡ true →
-    finishes.finished h w b ≡ Some v → Runs h past (counted h v)
-finish_dequeue_runs h is past w v b block running run d u at_u s i p cycle is_u one at =
-    let k : Known = known h (reading run.unread past) in
-    finish_given_runs h is past w v b block running run d u at_u (SetTrDequeue s i p cycle) is_u one
-    (dequeue_keeps h is k d s i p cycle w (slot b) (states_match h is k w d (are_numbered h (reading run.unread past)) run.agrees.matches)) at
+    finishes.finished h w b ≡ Some v → Runs h now (counted h v)
+finish_dequeue_runs h is now w v b block running run d u at_u s i p cycle is_u one at =
+    let k : Known = all_read h now run.unread in
+    finish_given_runs h is now w v b block running run d u at_u (SetTrDequeue s i p cycle) is_u one
+    (dequeue_keeps h is k d s i p cycle w (slot b) (states_match h is k w d (d.numbered) run.agrees.matches)) at

@@ -1,6 +1,6 @@
 -- The controller finishes the command under way with another code than success: the run goes on
 use Rattle.std.proofs.Common.{◌≡◌, ◌+◌, ◌<◌, ◌==◌, ◌∷◌, ◌++◌, ◌∙◌, ℕ, Bool, true, false, not, List, [], Option, Some, None, is_some, arith, refl, sym, ap, subst, lt-ltb, eq-eqb}
-use Rattle.safety.proofs.Words.{false≢true, and_from, and_left, or_from, or_left, or_right, cond-true, cond-false, not_from_true, not_from_false, Block, BlockKind, IsBlock, code, kind, pointer, slot, is_transfer_event, is_command_completion, address_of, ceiling, cycle_of_bit, Command, command_of, may_answer_slot, can_succeed, Header, Row, Read, Config, IsHeader, shape_of, command_id, register_or_zero, World, posted, counted, Known, event_read, learned, known, command_at, next_command, is_in_profile, is_impossible_by_kind, is_impossible_completion, may_be_taken, can_finish, was_stop_seen, DriverKeeps, CommandMatches, UnderWayMatches, Agrees, Runs, reading}
+use Rattle.safety.proofs.Words.{false≢true, and_from, and_left, or_from, or_left, or_right, cond-true, cond-false, not_from_true, not_from_false, Block, BlockKind, IsBlock, code, kind, pointer, slot, is_transfer_event, is_command_completion, address_of, ceiling, cycle_of_bit, Command, command_of, may_answer_slot, can_succeed, Header, Read, Config, IsHeader, shape_of, command_id, register_or_zero, World, posted, counted, Known, event_read, learned, command_at, next_command, is_in_profile, is_impossible_by_kind, is_impossible_completion, may_be_taken, can_finish, was_stop_seen, DriverKeeps, CommandMatches, UnderWayMatches, Agrees, Runs, all_read}
 use Rattle.world_state.specs.World as of_world
 use Rattle.controller_model.specs.Finishes as finishes
 use Rattle.safety.proofs.Headers.{ring_shape}
@@ -10,7 +10,7 @@ use Rattle.safety.proofs.SafeContext.{AtFloor, at_floor, command_is_ring, comman
 use Rattle.safety.proofs.Counted.{agrees_counted}
 use Rattle.safety.proofs.WithReads.{with_reads}
 use Rattle.safety.proofs.Posted.{PostKeeps, post_keeps}
-use Rattle.safety.proofs.EventRead.{learned_read, event_clean, clean_more, known_more, blocks_more}
+use Rattle.safety.proofs.EventRead.{learned_read, event_clean, blocks_more, possible_more, read_more}
 use Rattle.safety.proofs.ReportSuccess.{ReportKeeps}
 use Rattle.safety.proofs.FinishKinds.{IsFinish, finish_is, failure_is, completion_kind, let_go, seen_after, next_known, failed_read, none_waits, none_after}
 use Rattle.safety.proofs.FinishNext.{stands_next, events_next, matches_next}
@@ -124,15 +124,15 @@ module _ (h : Header) (is : IsHeader h) (k : Known) (unread : List Block) (w v :
   failure_keeps fails = fails_at fails a_command.0 a_command.1
 
 -- the run goes on behind the completion of a command that fails
-pub finish_failure_runs : (h : Header) → IsHeader h → (past : List Row) (w v : World) (b : Block) → IsBlock b → w.stopped ≡ false → (run : Runs h past w) →
-    DriverKeeps h (known h (reading run.unread past)) → (code b == 1) ≡ false → finishes.finished h w b ≡ Some v → Runs h past (counted h v)
-finish_failure_runs h is past w v b block running run d fails at =
-    let k : Known = known h (reading run.unread past) in
+pub finish_failure_runs : (h : Header) → IsHeader h → (now : Known) (w v : World) (b : Block) → IsBlock b → w.stopped ≡ false → (run : Runs h now w) →
+    DriverKeeps h (all_read h now run.unread) → (code b == 1) ≡ false → finishes.finished h w b ≡ Some v → Runs h now (counted h v)
+finish_failure_runs h is now w v b block running run d fails at =
+    let k : Known = all_read h now run.unread in
     let keeps = failure_keeps h is k run.unread w v b block running d run.agrees (finish_is h w v b at) fails in
     record {
       unread = run.unread ++ b ∷ [];
-      clean = clean_more h run.unread past b run.clean keeps.clean;
+      possible = possible_more h run.unread now b run.possible keeps.clean;
       blocks = blocks_more run.unread b run.blocks block;
       on = run.on;
-      agrees = subst (λ m. Agrees h m (run.unread ++ b ∷ []) (counted h v)) (sym (known_more h run.unread past b)) keeps.agrees;
+      agrees = subst (λ m. Agrees h m (run.unread ++ b ∷ []) (counted h v)) (sym (read_more h run.unread now b)) keeps.agrees;
     }

@@ -1,6 +1,6 @@
 -- The command that succeeds is one that was given: what was tested of it then holds still
 use Rattle.std.proofs.Common.{◌≡◌, ◌==◌, ◌∷◌, ◌∙◌, true, false, List, [], Some, sym, ap, subst}
-use Rattle.safety.proofs.Words.{same_Some, Block, IsBlock, code, slot, Command, command_of, Change, Header, Row, IsHeader, World, UnderWay, counted, Known, known, next_command, DriverKeeps, CommandKeeps, Runs, reading}
+use Rattle.safety.proofs.Words.{same_Some, Block, IsBlock, code, slot, Command, command_of, Change, Header, IsHeader, World, UnderWay, counted, Known, next_command, DriverKeeps, CommandKeeps, Runs, all_read}
 use Rattle.controller_model.specs.Bindings as bindings
 use Rattle.controller_model.specs.Finishes as finishes
 use Rattle.ring_knowledge.specs.Completions as completions
@@ -34,16 +34,16 @@ change_then h c k w change rest first later x at =
 -- ---- the command under way
 
 -- the run goes on behind the success of a command, where what was tested of it makes its changes keep that states agree
-pub finish_given_runs : (h : Header) → IsHeader h → (past : List Row) (w v : World) (b : Block) → IsBlock b → w.stopped ≡ false → (run : Runs h past w) →
-    DriverKeeps h (known h (reading run.unread past)) → (u : UnderWay) → w.under_way ≡ Some u → (e : Command) → command_of u.block ≡ Some e → (code b == 1) ≡ true →
-    (CommandKeeps h (known h (reading run.unread past)) (next_command h (known h (reading run.unread past))) e → EffectKeeps h (known h (reading run.unread past)) w (slot b) e) →
-    finishes.finished h w b ≡ Some v → Runs h past (counted h v)
-finish_given_runs h is past w v b block running run d u at_u e is_u one effect at =
-    let k : Known = known h (reading run.unread past) in
+pub finish_given_runs : (h : Header) → IsHeader h → (now : Known) (w v : World) (b : Block) → IsBlock b → w.stopped ≡ false → (run : Runs h now w) →
+    DriverKeeps h (all_read h now run.unread) → (u : UnderWay) → w.under_way ≡ Some u → (e : Command) → command_of u.block ≡ Some e → (code b == 1) ≡ true →
+    (CommandKeeps h (all_read h now run.unread) (next_command h (all_read h now run.unread)) e → EffectKeeps h (all_read h now run.unread) w (slot b) e) →
+    finishes.finished h w b ≡ Some v → Runs h now (counted h v)
+finish_given_runs h is now w v b block running run d u at_u e is_u one effect at =
+    let k : Known = all_read h now run.unread in
     let f = finish_is h w v b at in
     let same : f.taken ≡ u = same_Some f.taken u (sym f.under_way ∙ at_u) in
     let is_e = sym (of_block h is k run.unread w v b block running d run.agrees f) ∙ ap (λ (x : UnderWay). command_of x.block) same ∙ is_u in
     let here = floor h is k run.unread w v b block running d run.agrees f in
     let keeps : CommandKeeps h k (next_command h k) e =
     d.unfinished (next_command h k) e (record { due = here.due; given = here.given; command = here_is h is k run.unread w v b block running d run.agrees f e is_e }) in
-    finish_success_runs h is past w v b block running run d u at_u e is_u one (effect keeps) at
+    finish_success_runs h is now w v b block running run d u at_u e is_u one (effect keeps) at

@@ -1,6 +1,6 @@
 -- The controller finishes with success a command that places no endpoint on a ring: the run goes on
 use Rattle.std.proofs.Common.{◌≡◌, ◌==◌, ◌∷◌, ◌∙◌, ℕ, true, false, List, [], Option, Some, None, option_and_then, refl, ap, subst}
-use Rattle.safety.proofs.Words.{none-some, same_Some, Block, IsBlock, code, slot, Command, NoOp, EnableSlot, DisableSlot, AddressDevice, ConfigureEndpoint, EvaluateContext, ResetEndpoint, StopEndpoint, SetTrDequeue, ResetDevice, command_of, Change, SlotGoesOn, DeviceLeft, Disables, Places, Stops, Resets, changes, ContextSize, Header, Row, IsHeader, World, UnderWay, counted, Known, known, DriverKeeps, Runs, reading}
+use Rattle.safety.proofs.Words.{none-some, same_Some, Block, IsBlock, code, slot, Command, NoOp, EnableSlot, DisableSlot, AddressDevice, ConfigureEndpoint, EvaluateContext, ResetEndpoint, StopEndpoint, SetTrDequeue, ResetDevice, command_of, Change, SlotGoesOn, DeviceLeft, Disables, Places, Stops, Resets, changes, ContextSize, Header, IsHeader, World, UnderWay, counted, Known, DriverKeeps, Runs, all_read}
 use Rattle.controller_model.specs.Bindings as bindings
 use Rattle.controller_model.specs.Finishes as finishes
 use Rattle.ring_knowledge.specs.Completions as completions
@@ -9,7 +9,6 @@ use Rattle.safety.proofs.FinishSuccess.{EffectKeeps, finish_success_runs}
 use Rattle.safety.proofs.SlotChanges.{slot_keeps, device_keeps, reset_keeps}
 use Rattle.safety.proofs.StopChange.{stop_keeps}
 use Rattle.safety.proofs.DisableChange.{disable_keeps}
-use Rattle.safety.proofs.NumberedHistories.{are_numbered}
 
 -- ---- changes that place nothing
 
@@ -84,10 +83,10 @@ effect_keeps h k w n e none m x at =
 
 -- the run goes on behind the success of such a command: No Op, Enable Slot, Disable Slot, Evaluate Context, Reset Endpoint, Stop
 -- Endpoint, Reset Device, and a Configure Endpoint that deconfigures
-pub finish_slots_runs : (h : Header) → IsHeader h → (past : List Row) (w v : World) (b : Block) → IsBlock b → w.stopped ≡ false → (run : Runs h past w) →
-    DriverKeeps h (known h (reading run.unread past)) → (u : UnderWay) → w.under_way ≡ Some u → (e : Command) → command_of u.block ≡ Some e → PlacesNone e → (code b == 1) ≡ true →
-    finishes.finished h w b ≡ Some v → Runs h past (counted h v)
-finish_slots_runs h is past w v b block running run d u at_u e is_u none one at =
-    let k : Known = known h (reading run.unread past) in
-    let states = states_match h is k w d (are_numbered h (reading run.unread past)) run.agrees.matches in
-    finish_success_runs h is past w v b block running run d u at_u e is_u one (effect_keeps h k w (slot b) e none states) at
+pub finish_slots_runs : (h : Header) → IsHeader h → (now : Known) (w v : World) (b : Block) → IsBlock b → w.stopped ≡ false → (run : Runs h now w) →
+    DriverKeeps h (all_read h now run.unread) → (u : UnderWay) → w.under_way ≡ Some u → (e : Command) → command_of u.block ≡ Some e → PlacesNone e → (code b == 1) ≡ true →
+    finishes.finished h w b ≡ Some v → Runs h now (counted h v)
+finish_slots_runs h is now w v b block running run d u at_u e is_u none one at =
+    let k : Known = all_read h now run.unread in
+    let states = states_match h is k w d (d.numbered) run.agrees.matches in
+    finish_success_runs h is now w v b block running run d u at_u e is_u one (effect_keeps h k w (slot b) e none states) at

@@ -1,6 +1,6 @@
 -- The controller finishes the command under way with success: where its changes keep that states agree, the run goes on
 use Rattle.std.proofs.Common.{◌≡◌, ◌+◌, ◌<◌, ◌⊎◌, ◌==◌, ◌&&◌, ◌||◌, ◌∷◌, ◌++◌, ◌∙◌, ℕ, Bool, true, false, not, List, [], Option, Some, None, is_some, option_map, unwrap_or, arith, refl, sym, ap, subst, inl, inr}
-use Rattle.safety.proofs.Words.{cases_Bool, and_left, or_left, or_right, or_parts, cond-true, not-false, none-some, same_Some, Block, IsBlock, code, kind, slot, is_transfer_event, is_command_completion, Reaches, floor_number, after, ceiling, Command, StopEndpoint, EndpointState, command_of, is_stop_of, named_slot, named_endpoint, named_context, can_succeed, slot_success, endpoint_success, slot_meant, endpoint_meant, is_slot_enabled, Header, Row, Read, Config, IsHeader, shape_of, command_id, register_or_zero, World, UnderWay, posted, counted, Known, event_read, learned, known, command_at, next_command, on_ring, is_in_profile, can_finish, was_stop_seen, DriverKeeps, state_of, UnderWayMatches, Agrees, Runs, reading}
+use Rattle.safety.proofs.Words.{cases_Bool, and_left, or_left, or_right, or_parts, cond-true, not-false, none-some, same_Some, Block, IsBlock, code, kind, slot, is_transfer_event, is_command_completion, Reaches, floor_number, after, ceiling, Command, StopEndpoint, EndpointState, command_of, is_stop_of, named_slot, named_endpoint, named_context, can_succeed, slot_success, endpoint_success, slot_meant, endpoint_meant, is_slot_enabled, Header, Read, Config, IsHeader, shape_of, command_id, register_or_zero, World, UnderWay, posted, counted, Known, event_read, learned, command_at, next_command, on_ring, is_in_profile, can_finish, was_stop_seen, DriverKeeps, state_of, UnderWayMatches, Agrees, Runs, all_read}
 use Rattle.world_state.specs.World as of_world
 use Rattle.controller_model.specs.Bindings as bindings
 use Rattle.controller_model.specs.Finishes as finishes
@@ -9,7 +9,7 @@ use Rattle.safety.proofs.SafeContext.{next_is}
 use Rattle.safety.proofs.Counted.{agrees_counted}
 use Rattle.safety.proofs.WithReads.{with_reads}
 use Rattle.safety.proofs.Posted.{post_keeps}
-use Rattle.safety.proofs.EventRead.{learned_read, event_clean, clean_more, known_more, blocks_more}
+use Rattle.safety.proofs.EventRead.{learned_read, event_clean, blocks_more, possible_more, read_more}
 use Rattle.safety.proofs.ReportSuccess.{ReportKeeps}
 use Rattle.safety.proofs.LookKinds.{cond_is}
 use Rattle.safety.proofs.FinishKinds.{IsFinish, finish_is, completion_kind, let_go, seen_after, next_known, stop_ended_is, reached_is, stopping_of, put_false, none_waits, none_after}
@@ -149,19 +149,19 @@ module _ (h : Header) (is : IsHeader h) (k : Known) (unread : List Block) (w v :
       }
 
 -- the run goes on behind the success of such a command
-pub finish_success_runs : (h : Header) → IsHeader h → (past : List Row) (w v : World) (b : Block) → IsBlock b → w.stopped ≡ false → (run : Runs h past w) →
-    DriverKeeps h (known h (reading run.unread past)) → (u : UnderWay) → w.under_way ≡ Some u → (e : Command) → command_of u.block ≡ Some e → (code b == 1) ≡ true →
-    EffectKeeps h (known h (reading run.unread past)) w (slot b) e → finishes.finished h w b ≡ Some v → Runs h past (counted h v)
-finish_success_runs h is past w v b block running run d u at_u e is_u one effect at =
-    let k : Known = known h (reading run.unread past) in
+pub finish_success_runs : (h : Header) → IsHeader h → (now : Known) (w v : World) (b : Block) → IsBlock b → w.stopped ≡ false → (run : Runs h now w) →
+    DriverKeeps h (all_read h now run.unread) → (u : UnderWay) → w.under_way ≡ Some u → (e : Command) → command_of u.block ≡ Some e → (code b == 1) ≡ true →
+    EffectKeeps h (all_read h now run.unread) w (slot b) e → finishes.finished h w b ≡ Some v → Runs h now (counted h v)
+finish_success_runs h is now w v b block running run d u at_u e is_u one effect at =
+    let k : Known = all_read h now run.unread in
     let f = finish_is h w v b at in
     let same : f.taken ≡ u = same_Some f.taken u (sym f.under_way ∙ at_u) in
     let is_e = sym (of_block h is k run.unread w v b block running d run.agrees f) ∙ ap (λ (x : UnderWay). command_of x.block) same ∙ is_u in
     let keeps = success_keeps h is k run.unread w v b block running d run.agrees f one e is_e effect in
     record {
       unread = run.unread ++ b ∷ [];
-      clean = clean_more h run.unread past b run.clean keeps.clean;
+      possible = possible_more h run.unread now b run.possible keeps.clean;
       blocks = blocks_more run.unread b run.blocks block;
       on = run.on;
-      agrees = subst (λ m. Agrees h m (run.unread ++ b ∷ []) (counted h v)) (sym (known_more h run.unread past b)) keeps.agrees;
+      agrees = subst (λ m. Agrees h m (run.unread ++ b ∷ []) (counted h v)) (sym (read_more h run.unread now b)) keeps.agrees;
     }

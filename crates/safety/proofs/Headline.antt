@@ -1,17 +1,13 @@
 -- The headline: a clean trace is harmless beside every run of the controller model
 use Rattle.safety.proofs.Words.{Header, IsHeader, Headline}
-use Rattle.safety.proofs.DriverHistories.{driver_keeps}
+use Rattle.safety.proofs.DriverHistories.{kept_driver}
 use Rattle.safety.proofs.HeadlineFrom.{headline_from}
 use Rattle.safety.proofs.HeldFurther.{more_law}
 use Rattle.safety.proofs.Lenient.{lenient_history}
-use Rattle.safety.proofs.RowBeneath.{KeptByHistories}
 use Rattle.safety.proofs.RowRuns.{row_runs}
 use Rattle.safety.proofs.Squares.{square_law}
 use Rattle.safety.proofs.StillRings.{still_rings}
 
 module _ (h : Header) where
-  keeps : IsHeader h → KeptByHistories h
-  keeps is past rows clean on = driver_keeps h is past clean on
-
   pub headline : Headline h
-  headline rows is are clean = headline_from h is (keeps is) (row_runs h is (keeps is) (still_rings h) (square_law h) (more_law h)) rows are (lenient_history h _ clean)
+  headline rows is are clean = headline_from h is (row_runs h is (kept_driver h) (still_rings h) (square_law h) (more_law h)) rows are (lenient_history h _ clean)

@@ -1,5 +1,5 @@
 -- No word of a ring is soiled, behind each row
-use Rattle.std.proofs.Common.{◌≡◌, ◌+◌, ◌==◌, ◌&&◌, ◌∙◌, ℕ, not, Bool, true, false, [], Option, None, Some, is_none, option_and_then, refl, sym, ap, inl, inr, leb-true, ltb-true}
+use Rattle.std.proofs.Common.{◌≡◌, ◌+◌, ◌%◌, ◌==◌, ◌&&◌, ◌∙◌, ℕ, not, Bool, true, false, [], Option, None, Some, is_none, option_and_then, refl, sym, ap, inl, inr, leb-true, ltb-true}
 use Rattle.safety.proofs.Words.{and_parts, and_left, or_from, or_parts, and_cases, false_from_ne_true, false≢true, none-some, same_Some, Block, kind, is_in, is_inside, Command, NoOp, EnableSlot, DisableSlot, AddressDevice, ConfigureEndpoint, EvaluateContext, ResetEndpoint, StopEndpoint, SetTrDequeue, ResetDevice, device_context_bytes, Header, Sub, Write, Reg, Bell, Read, shape_of, touches_ring, Known, device_named, no_device, taken_device, command_given, with_device, with_word, written, learned, is_bad_area, some_command, write_tests, lenient_tests, lenient, IsDriverRing, KeptByRows}
 use Rattle.ownership_rules.specs.Commands as commands
 use Rattle.safety.proofs.Headers.{found_in, shape_is}
@@ -107,11 +107,11 @@ module _ (h : Header) where
   unfolding learned
   read_soiled k b = (event_same h k (kind b) b).soiled
 
-  pub kept_clean : KeptByRows h (λ k. (r a : ℕ) → IsDriverRing h r → is_inside (shape_of h r) a ≡ true → k.soiled a ≡ false)
-  kept_clean is k (Sub q blocks) d clean on r a ring inside = ap (λ f. f a) (declaration_leaves h k q blocks).memory.soiled ∙ d.clean r a ring inside
-  kept_clean is k (Write at w) d clean on r a ring inside =
+  pub kept_clean : KeptByRows h (λ k. (r a : ℕ) → IsDriverRing h r → a % 4 ≡ 0 → is_inside (shape_of h r) a ≡ true → k.soiled a ≡ false)
+  kept_clean is k (Sub q blocks) d clean on r a ring word inside = ap (λ f. f a) (declaration_leaves h k q blocks).memory.soiled ∙ d.clean r a ring word inside
+  kept_clean is k (Write at w) d clean on r a ring word inside =
       clean_written k at w a
-      (λ e takes. not_in_area r a e.1 (device_context_bytes h.context_size) ring inside (taking_apart k at w e.0 e.1 (taking k at w e clean takes))) (d.clean r a ring inside)
-  kept_clean is k (Reg q x) d clean on r a ring inside = ap (λ f. f a) (register_leaves h k q x).memory.soiled ∙ d.clean r a ring inside
-  kept_clean is k (Bell s t) d clean on r a ring inside = ap (λ f. f a) (bell_leaves h k s t).memory.soiled ∙ d.clean r a ring inside
-  kept_clean is k (Read b) d clean on r a ring inside = ap (λ f. f a) (read_soiled k b) ∙ d.clean r a ring inside
+      (λ e takes. not_in_area r a e.1 (device_context_bytes h.context_size) ring inside (taking_apart k at w e.0 e.1 (taking k at w e clean takes))) (d.clean r a ring word inside)
+  kept_clean is k (Reg q x) d clean on r a ring word inside = ap (λ f. f a) (register_leaves h k q x).memory.soiled ∙ d.clean r a ring word inside
+  kept_clean is k (Bell s t) d clean on r a ring word inside = ap (λ f. f a) (bell_leaves h k s t).memory.soiled ∙ d.clean r a ring word inside
+  kept_clean is k (Read b) d clean on r a ring word inside = ap (λ f. f a) (read_soiled k b) ∙ d.clean r a ring word inside

@@ -1,6 +1,6 @@
 -- Behind a look the run goes on
 use Rattle.std.proofs.Common.{◌≡◌, ◌≢◌, ◌∙◌, ℕ, List, Some, sym, ap, inl, inr}
-use Rattle.safety.proofs.Words.{cases_Bool, cases_eq, false≢true, Block, Header, Row, IsHeader, command_id, World, looked, counted, Known, known, DriverKeeps, Agrees, Runs, reading}
+use Rattle.safety.proofs.Words.{cases_Bool, cases_eq, false≢true, Block, Header, IsHeader, command_id, World, looked, counted, Known, DriverKeeps, Agrees, Runs, all_read}
 use Rattle.safety.proofs.LookKinds.{looked_is}
 use Rattle.safety.proofs.Look.{transfer_looks}
 use Rattle.safety.proofs.LookCommand.{command_looks}
@@ -29,7 +29,7 @@ module _ (h : Header) (is : IsHeader h) (k : Known) (unread : List Block) (w : W
         | inr other ↦ transfer_agrees v r other at
       ]
 
-pub look_runs : (h : Header) → IsHeader h → (past : List Row) (w v : World) (r : ℕ) → (run : Runs h past w) → DriverKeeps h (known h (reading run.unread past)) →
-    looked h w r ≡ Some v → Runs h past (counted h v)
-look_runs h is past w v r run d at =
-    record { unread = run.unread; clean = run.clean; blocks = run.blocks; on = run.on; agrees = look_agrees h is (known h (reading run.unread past)) run.unread w d run.agrees v r at }
+pub look_runs : (h : Header) → IsHeader h → (now : Known) (w v : World) (r : ℕ) → (run : Runs h now w) → DriverKeeps h (all_read h now run.unread) →
+    looked h w r ≡ Some v → Runs h now (counted h v)
+look_runs h is now w v r run d at =
+    record { unread = run.unread; possible = run.possible; blocks = run.blocks; on = run.on; agrees = look_agrees h is (all_read h now run.unread) run.unread w d run.agrees v r at }

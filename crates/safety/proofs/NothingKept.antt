@@ -54,7 +54,7 @@ module _ (h : Header) where
   nothing_kept is = record {
     rings = λ r ring. (nothing_keeps h is r (driver_test h r ring)).rules;
     restored = λ r ring p. refl;
-    clean = λ r a ring inside. refl;
+    clean = λ r a ring word inside. refl;
     command_ring = command_ring_at_start;
     states = states_at_start is;
     numbered = λ s i r at. absurd (none-some r at);

@@ -1,6 +1,6 @@
 -- Before the first row: nothing is known, nothing is posted, and the opening world agrees with that
 use Rattle.std.proofs.Common.{◌≡◌, ◌≤◌, ℕ, false, List, [], arith, refl, inr}
-use Rattle.safety.proofs.Words.{false≢true, All-nil, none-some, IsBlock, Header, Row, opening, nothing, known, Stands, EventsStand, Matches, Runs, next_take, ceiling}
+use Rattle.safety.proofs.Words.{false≢true, All-nil, none-some, IsBlock, Header, Row, opening, nothing, Stands, EventsStand, Matches, Runs, next_take, ceiling}
 use Rattle.world_state.specs.Harms as of_harms
 
 module _ (h : Header) (rows : List Row) where
@@ -53,6 +53,5 @@ module _ (h : Header) (rows : List Row) where
   on = refl
 
   -- a run begins so
-  pub opens : Runs h [] (opening rows)
-  unfolding known
-  opens = record { unread = []; clean = tt; blocks = All-nil IsBlock; on = on; agrees = record { stands = stands; events = events; matches = matches; read = read; stamps = stamps } }
+  pub opens : Runs h nothing (opening rows)
+  opens = record { unread = []; possible = tt; blocks = All-nil IsBlock; on = on; agrees = record { stands = stands; events = events; matches = matches; read = read; stamps = stamps } }

@@ -1,11 +1,11 @@
 -- An event of the controller itself is posted: the run goes on
 use Rattle.std.proofs.Common.{◌≡◌, ◌+◌, ◌&&◌, ◌||◌, ◌∷◌, ◌++◌, ◌∙◌, true, false, not, List, [], Some, refl, sym, ap, subst}
-use Rattle.safety.proofs.Words.{false≢true, and_parts, and_left, or_right, cond_some, Block, BlockKind, IsBlock, kind, is_transfer_event, is_command_completion, is_other_event, Header, Row, Read, IsHeader, World, can_post, posted, other_posted, counted, Known, event_read, learned, known, is_in_profile, is_impossible_by_kind, DriverKeeps, Agrees, Runs, reading}
+use Rattle.safety.proofs.Words.{false≢true, and_parts, and_left, or_right, cond_some, Block, BlockKind, IsBlock, kind, is_transfer_event, is_command_completion, is_other_event, Header, Read, IsHeader, World, can_post, posted, other_posted, counted, Known, event_read, learned, is_in_profile, is_impossible_by_kind, DriverKeeps, Agrees, Runs, all_read}
 use Rattle.trb.specs.declared.kind.BlockKind.TheVariants as kinds
 use Rattle.safety.proofs.Counted.{agrees_counted}
 use Rattle.safety.proofs.WithReads.{with_reads, stands_with_reads, matches_with_reads}
 use Rattle.safety.proofs.Posted.{post_keeps}
-use Rattle.safety.proofs.EventRead.{learned_read, event_clean, clean_more, known_more, blocks_more}
+use Rattle.safety.proofs.EventRead.{learned_read, event_clean, blocks_more, possible_more, read_more}
 
 -- what such an event says
 pub record SaysNothing (h : Header) (k : Known) (b : Block) (t : BlockKind) : Type 0 where
@@ -40,10 +40,10 @@ module _ (h : Header) (is : IsHeader h) (k : Known) (unread : List Block) (w : W
       agrees_counted h (with_reads k (k.reads + 1)) (unread ++ b ∷ []) (posted h w b) (stands_with_reads h (k.reads + 1) k (posted h w b) p.stands) p.events (matches_with_reads h (k.reads + 1) k (posted h w b) p.matches) p.posted_is p.late
 
 -- the run goes on behind the post
-pub other_runs : (h : Header) → IsHeader h → (past : List Row) (w v : World) (b : Block) → IsBlock b → w.stopped ≡ false → (r : Runs h past w) →
-    DriverKeeps h (known h (reading r.unread past)) → other_posted h w b ≡ Some v → Runs h past (counted h v)
-other_runs h is past w v b block running r d at =
-    let k : Known = known h (reading r.unread past) in
+pub other_runs : (h : Header) → IsHeader h → (now : Known) (w v : World) (b : Block) → IsBlock b → w.stopped ≡ false → (r : Runs h now w) →
+    DriverKeeps h (all_read h now r.unread) → other_posted h w b ≡ Some v → Runs h now (counted h v)
+other_runs h is now w v b block running r d at =
+    let k : Known = all_read h now r.unread in
     let p = posted_is h w v b at in
     let s = says_nothing h k b (kind b) p.1 in
     let keeps = post_keeps h is k r.unread w b block d r.agrees p.0 in
@@ -52,9 +52,9 @@ other_runs h is past w v b block running r d at =
     (and_left (is_transfer_event (kind b)) (not (is_in_profile b)) s.no_transfer) in
     record {
       unread = r.unread ++ b ∷ [];
-      clean = clean_more h r.unread past b r.clean none;
+      possible = possible_more h r.unread now b r.possible none;
       blocks = blocks_more r.unread b r.blocks block;
       on = r.on;
-      agrees = subst (λ m. Agrees h m (r.unread ++ b ∷ []) (counted h v)) (sym (known_more h r.unread past b ∙ learned_same h is k r.unread w b block d r.agrees p.0 p.1))
+      agrees = subst (λ m. Agrees h m (r.unread ++ b ∷ []) (counted h v)) (sym (read_more h r.unread now b ∙ learned_same h is k r.unread w b block d r.agrees p.0 p.1))
           (subst (λ u. Agrees h (with_reads k (k.reads + 1)) (r.unread ++ b ∷ []) (counted h u)) p.2 (agrees_other h is k r.unread w b block d r.agrees p.0 p.1));
     }

@@ -1,6 +1,6 @@
 -- The driver reads an event: it is the oldest unread one, and the run goes on
 use Rattle.std.proofs.Common.{◌≡◌, ◌+◌, ◌<◌, ◌==◌, ◌&&◌, ◌∷◌, ◌∙◌, ℕ, true, false, List, [], nat_lt, Some, All, slice_get, arith, refl, sym, ap, subst, eqb-true, ltb-true}
-use Rattle.safety.proofs.Words.{and_parts, All-head, All-tail, cond_some, Block, IsBlock, kind, same_words, word, Header, Row, Read, World, counted, Known, learned, known, IsLenient, EventsStand, Agrees, Runs, reading}
+use Rattle.safety.proofs.Words.{and_parts, All-head, All-tail, cond_some, Block, IsBlock, kind, same_words, word, Header, Read, World, counted, Known, learned, EventsStand, Agrees, ArePossible, Runs, all_read}
 use native.Mathlib.Numerals.{unary_clauses}
 use Rattle.world_state.specs.World.{event_at}
 use Rattle.world_state.specs.World as of_world
@@ -79,27 +79,26 @@ module _ (h : Header) where
   none_unread : (w : World) → w.reads < w.posted → EventsStand h w [] → ⊥
   none_unread w some e = absurd (let c : w.posted ≡ w.reads + 0 = e.count in omega arith)
 
-  read_oldest : (past : List Row) (e : Block) (w v : World) → IsBlock e →
+  read_oldest : (now : Known) (e : Block) (w v : World) → IsBlock e →
       (w.reads < w.posted) × (same_words (event_at h w w.reads) e ≡ true) × ((let x : World = record w { reads = w.reads + 1 } in x) ≡ v) →
-      (unread : List Block) → IsLenient h (reading unread past) → All IsBlock unread → (known h past).stopped ≡ false → Agrees h (known h (reading unread past)) unread w →
-      Runs h (Read e ∷ past) (counted h v)
-  unfolding known
-  read_oldest past e w v block x [] clean blocks on g = absurd (none_unread w x.0 g.events)
-  read_oldest past e w v block x (u ∷ rest) clean blocks on g =
+      (unread : List Block) → ArePossible h now unread → All IsBlock unread → now.stopped ≡ false → Agrees h (all_read h now unread) unread w →
+      Runs h (learned h now (Read e)) (counted h v)
+  read_oldest now e w v block x [] possible blocks on g = absurd (none_unread w x.0 g.events)
+  read_oldest now e w v block x (u ∷ rest) possible blocks on g =
       let is_u : IsBlock u = All-head IsBlock u rest blocks in
       let here : event_at h w (w.reads + 0) ≡ u = g.events.places 0 u refl in
       let at : event_at h w w.reads ≡ u = subst (λ n. event_at h w n ≡ u) (let z : w.reads + 0 ≡ w.reads = omega arith in z) here in
       let same : u ≡ e = same_block u e is_u block (subst (λ b. same_words b e ≡ true) at x.1) in
-      subst (λ b. Runs h (Read b ∷ past) (counted h v)) same
-      (subst (λ z. Runs h (Read u ∷ past) (counted h z)) x.2
+      subst (λ b. Runs h (learned h now (Read b)) (counted h v)) same
+      (subst (λ z. Runs h (learned h now (Read u)) (counted h z)) x.2
       (record {
         unread = rest;
-        clean = clean;
+        possible = possible.1;
         blocks = All-tail IsBlock u rest blocks;
-        on = read_on (known h past) u on;
-        agrees = agrees_read (known h (reading rest (Read u ∷ past))) u rest w x.0 g;
+        on = read_on now u on;
+        agrees = agrees_read (all_read h (learned h now (Read u)) rest) u rest w x.0 g;
       }))
 
   -- the run goes on behind the row that reads an event
-  pub read_runs : (past : List Row) (e : Block) (w v : World) → IsBlock e → (run : Runs h past w) → driver.event_read h w e ≡ Some v → Runs h (Read e ∷ past) (counted h v)
-  read_runs past e w v block run at = read_oldest past e w v block (read_is w v e at) run.unread run.clean run.blocks run.on run.agrees
+  pub read_runs : (now : Known) (e : Block) (w v : World) → IsBlock e → (run : Runs h now w) → driver.event_read h w e ≡ Some v → Runs h (learned h now (Read e)) (counted h v)
+  read_runs now e w v block run at = read_oldest now e w v block (read_is w v e at) run.unread run.possible run.blocks run.on run.agrees

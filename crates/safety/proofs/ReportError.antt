@@ -1,11 +1,11 @@
 -- The controller reports that an endpoint has halted, or gone to Error: the run goes on
 use Rattle.std.proofs.Common.{◌≡◌, ◌≢◌, ◌+◌, ◌<◌, ◌==◌, ◌&&◌, ◌||◌, if◌then◌else◌, ◌∷◌, ◌++◌, ◌∙◌, ℕ, Bool, true, false, not, List, [], length, drop, Some, None, arith, refl, sym, ap, subst, inl, inr}
-use Rattle.safety.proofs.Words.{cases_Bool, false≢true, and_parts, and_from, and_right, or_from, or_left, or_right, cond-true, cond-false, not_from_true, none-some, same_Some, put, put_pair, Block, IsBlock, code, endpoint, kind, pointer, slot, is_transfer_event, is_command_completion, is_other_event, is_success, is_halting, is_trb_error, is_transfer_code, Data, after, RingView, Holds, ceiling, is_data_below, is_open, EndpointState, Off, Halted, Error, is_off, is_running, Header, Row, Read, IsHeader, shape_of, command_id, World, RingEvent, takes_of, unreported, posted, is_last, with_reported, report_error, report_code, reported, counted, Known, event_read, learned, known, event_at, on_ring, passed, broken_off, transferred, transferred_at, transfer_read, is_in_profile, is_working, is_impossible_by_kind, is_impossible_transfer, can_report, can_report_at, DriverKeeps, RingState, state_of, BoundRing, Agrees, Runs, reading}
+use Rattle.safety.proofs.Words.{cases_Bool, false≢true, and_parts, and_from, and_right, or_from, or_left, or_right, cond-true, cond-false, not_from_true, none-some, same_Some, put, put_pair, Block, IsBlock, code, endpoint, kind, pointer, slot, is_transfer_event, is_command_completion, is_other_event, is_success, is_halting, is_trb_error, is_transfer_code, Data, after, RingView, Holds, ceiling, is_data_below, is_open, EndpointState, Off, Halted, Error, is_off, is_running, Header, Read, IsHeader, shape_of, command_id, World, RingEvent, takes_of, unreported, posted, is_last, with_reported, report_error, report_code, reported, counted, Known, event_read, learned, event_at, on_ring, passed, broken_off, transferred, transferred_at, transfer_read, is_in_profile, is_working, is_impossible_by_kind, is_impossible_transfer, can_report, can_report_at, DriverKeeps, RingState, state_of, BoundRing, Agrees, Runs, all_read}
 use Rattle.safety.proofs.Headers.{transfer_driver, transfer_not_command, ring_shape}
 use Rattle.safety.proofs.Counted.{agrees_counted}
 use Rattle.safety.proofs.WithReads.{with_reads}
 use Rattle.safety.proofs.Posted.{PostKeeps, post_keeps}
-use Rattle.safety.proofs.EventRead.{learned_read, event_clean, clean_more, known_more, blocks_more}
+use Rattle.safety.proofs.EventRead.{learned_read, event_clean, blocks_more, possible_more, read_more}
 use Rattle.safety.proofs.OnlyRing.{OnlyRing, stands_only, events_only}
 use Rattle.safety.proofs.LookKinds.{cond_is, put_at, put_off}
 use Rattle.safety.proofs.Learns.{LearnsRing, stands_learns, matches_learns}
@@ -231,10 +231,10 @@ unfolding report_code
 code_errs h u v c s i r a fails quiet error at = sym (cond-false (is_success c) _ _ fails ∙ cond-false (is_halting c) _ _ quiet ∙ cond-true (is_trb_error c) _ _ error) ∙ at
 
 -- the run goes on behind the report of an error
-pub report_error_runs : (h : Header) → IsHeader h → (past : List Row) (w v : World) (b : Block) → IsBlock b → w.stopped ≡ false → (run : Runs h past w) →
-    DriverKeeps h (known h (reading run.unread past)) → is_success (code b) ≡ false → (is_halting (code b) || is_trb_error (code b)) ≡ true → reported h w b ≡ Some v → Runs h past (counted h v)
-report_error_runs h is past w v b block running run d fails breaks at =
-    let k : Known = known h (reading run.unread past) in
+pub report_error_runs : (h : Header) → IsHeader h → (now : Known) (w v : World) (b : Block) → IsBlock b → w.stopped ≡ false → (run : Runs h now w) →
+    DriverKeeps h (all_read h now run.unread) → is_success (code b) ≡ false → (is_halting (code b) || is_trb_error (code b)) ≡ true → reported h w b ≡ Some v → Runs h now (counted h v)
+report_error_runs h is now w v b block running run d fails breaks at =
+    let k : Known = all_read h now run.unread in
     let x = report_is h w v b at in
     let keeps : ReportKeeps h k run.unread w v b = elim (cases_Bool (is_halting (code b))) [
       | inl halting ↦ error_keeps h is k run.unread w v b block running d run.agrees x Halted _ (halts h k b x.transfer fails halting)
@@ -246,8 +246,8 @@ report_error_runs h is past w v b block running run d fails breaks at =
     ] in
     record {
       unread = run.unread ++ b ∷ [];
-      clean = clean_more h run.unread past b run.clean keeps.clean;
+      possible = possible_more h run.unread now b run.possible keeps.clean;
       blocks = blocks_more run.unread b run.blocks block;
       on = run.on;
-      agrees = subst (λ m. Agrees h m (run.unread ++ b ∷ []) (counted h v)) (sym (known_more h run.unread past b)) keeps.agrees;
+      agrees = subst (λ m. Agrees h m (run.unread ++ b ∷ []) (counted h v)) (sym (read_more h run.unread now b)) keeps.agrees;
     }

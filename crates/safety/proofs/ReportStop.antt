@@ -1,6 +1,6 @@
 -- The controller reports that an endpoint has stopped: the run goes on
 use Rattle.std.proofs.Common.{◌≡◌, ◌≢◌, ◌+◌, ◌-◌, ◌<◌, ◌==◌, ◌&&◌, ◌||◌, ◌∷◌, ◌++◌, ◌∙◌, ℕ, Bool, true, false, not, List, [], length, Option, Some, None, arith, refl, sym, ap, subst, inl, inr, eq-eqb, lt-ltb}
-use Rattle.safety.proofs.Words.{false≢true, and_right, and_from, or_left, cond-false, cond-true, not_from_true, put_pair, Block, IsBlock, code, endpoint, kind, pointer, slot, is_transfer_event, is_command_completion, is_other_event, Spot, Data, Shape, RingView, Reaches, Holds, floor_number, ceiling, given_count, is_stop_spot, named, stopped_number, cycle_of_bit, rank_least, command_of, is_stop_of, is_running, Header, Row, Read, IsHeader, shape_of, command_id, World, UnderWay, is_stop_under_way, with_stopped, posted, report_code, report_stop, reported, counted, Known, learned, known, command_at, next_command, on_ring, is_in_profile, DriverKeeps, RingState, state_of, BoundRing, RingMatches, Unreported, UnderWayMatches, CommandMatches, Agrees, Runs, reading}
+use Rattle.safety.proofs.Words.{false≢true, and_right, and_from, or_left, cond-false, cond-true, not_from_true, put_pair, Block, IsBlock, code, endpoint, kind, pointer, slot, is_transfer_event, is_command_completion, is_other_event, Spot, Data, Shape, RingView, Reaches, Holds, floor_number, ceiling, given_count, is_stop_spot, named, stopped_number, cycle_of_bit, rank_least, command_of, is_stop_of, is_running, Header, Read, IsHeader, shape_of, command_id, World, UnderWay, is_stop_under_way, with_stopped, posted, report_code, report_stop, reported, counted, Known, learned, command_at, next_command, on_ring, is_in_profile, DriverKeeps, RingState, state_of, BoundRing, RingMatches, Unreported, UnderWayMatches, CommandMatches, Agrees, Runs, all_read}
 use Rattle.world_state.specs.World as of_world
 use Rattle.safety.proofs.Headers.{transfer_driver, transfer_not_command, ring_shape}
 use Rattle.safety.proofs.SameCommand.{command_of-with_cycle}
@@ -9,7 +9,7 @@ use Rattle.safety.proofs.SafeContext.{at_floor, command_is_ring, command_at_is}
 use Rattle.safety.proofs.Counted.{agrees_counted}
 use Rattle.safety.proofs.WithReads.{with_reads}
 use Rattle.safety.proofs.Posted.{PostKeeps, post_keeps}
-use Rattle.safety.proofs.EventRead.{learned_read, event_clean, clean_more, known_more, blocks_more}
+use Rattle.safety.proofs.EventRead.{learned_read, event_clean, blocks_more, possible_more, read_more}
 use Rattle.safety.proofs.OnlyRing.{stands_only, events_only}
 use Rattle.safety.proofs.Learns.{next_same, command_same, stands_learns, matches_learns}
 use Rattle.safety.proofs.ReportedRing.{open_takes, low, count}
@@ -180,17 +180,17 @@ module _ (h : Header) (is : IsHeader h) (k : Known) (unread : List Block) (w v :
       ]
 
 -- the run goes on behind the report of a stop
-pub report_stop_runs : (h : Header) → IsHeader h → (past : List Row) (w v : World) (b : Block) → IsBlock b → w.stopped ≡ false → (run : Runs h past w) →
-    DriverKeeps h (known h (reading run.unread past)) → StopCode (code b) → reported h w b ≡ Some v → Runs h past (counted h v)
-report_stop_runs h is past w v b block running run d s at =
-    let k : Known = known h (reading run.unread past) in
+pub report_stop_runs : (h : Header) → IsHeader h → (now : Known) (w v : World) (b : Block) → IsBlock b → w.stopped ≡ false → (run : Runs h now w) →
+    DriverKeeps h (all_read h now run.unread) → StopCode (code b) → reported h w b ≡ Some v → Runs h now (counted h v)
+report_stop_runs h is now w v b block running run d s at =
+    let k : Known = all_read h now run.unread in
     let x = report_is h w v b at in
     let f = stop_is h (posted h w b) v (slot b) (endpoint b) x.ring (pointer b) (code_stops h (posted h w b) v (code b) (slot b) (endpoint b) x.ring (pointer b) s x.by_code) in
     let keeps = stop_keeps h is k run.unread w v b block running d run.agrees x s f in
     record {
       unread = run.unread ++ b ∷ [];
-      clean = clean_more h run.unread past b run.clean keeps.clean;
+      possible = possible_more h run.unread now b run.possible keeps.clean;
       blocks = blocks_more run.unread b run.blocks block;
       on = run.on;
-      agrees = subst (λ m. Agrees h m (run.unread ++ b ∷ []) (counted h v)) (sym (known_more h run.unread past b)) keeps.agrees;
+      agrees = subst (λ m. Agrees h m (run.unread ++ b ∷ []) (counted h v)) (sym (read_more h run.unread now b)) keeps.agrees;
     }

@@ -1,12 +1,12 @@
 -- The controller reports that a take has succeeded: the run goes on
 use Rattle.std.proofs.Common.{◌≡◌, ◌≢◌, ◌+◌, ◌<◌, ◌==◌, ◌&&◌, ◌||◌, ◌∷◌, ◌++◌, ◌∙◌, ℕ, Bool, true, false, not, List, [], drop, Option, Some, None, position, option_map, arith, refl, sym, ap, subst, inl, inr, lt-ltb}
-use Rattle.safety.proofs.Words.{false≢true, and_parts, and_from, and_right, or_from, or_left, cond-true, not-true, not_from_true, not_from_false, none-some, same_Some, Block, BlockKind, is_set, IsBlock, code, endpoint, kind, pointer, slot, word, is_transfer_event, is_command_completion, is_other_event, is_success, is_halting, is_trb_error, is_stopping, is_transfer_code, Spot, Data, after, number, floor_number, ceiling, named, is_data_below, EndpointState, Off, Running, Halted, Stopped, Error, is_off, Header, Row, Read, IsHeader, shape_of, command_id, World, RingEvent, takes_of, unreported, can_post, posted, with_reported, report_success, report_code, reported_on, reported, counted, Known, event_read, learned, known, RingSpot, event_at, on_ring, spot_on, passed, transferred, transferred_at, transfer_read, lenient, is_in_profile, is_impossible_by_kind, is_impossible_transfer, can_report, can_report_at, DriverKeeps, RingState, state_of, BoundRing, Agrees, Runs, reading}
+use Rattle.safety.proofs.Words.{false≢true, and_parts, and_from, and_right, or_from, or_left, cond-true, not-true, not_from_true, not_from_false, none-some, same_Some, Block, BlockKind, is_set, IsBlock, code, endpoint, kind, pointer, slot, word, is_transfer_event, is_command_completion, is_other_event, is_success, is_halting, is_trb_error, is_stopping, is_transfer_code, Spot, Data, after, number, floor_number, ceiling, named, is_data_below, EndpointState, Off, Running, Halted, Stopped, Error, is_off, Header, Read, IsHeader, shape_of, command_id, World, RingEvent, takes_of, unreported, can_post, posted, with_reported, report_success, report_code, reported_on, reported, counted, Known, event_read, learned, RingSpot, event_at, on_ring, spot_on, passed, transferred, transferred_at, transfer_read, lenient, is_in_profile, is_impossible_by_kind, is_impossible_transfer, can_report, can_report_at, DriverKeeps, RingState, state_of, BoundRing, Agrees, Runs, all_read}
 use Rattle.trb.specs.declared.kind.BlockKind.TheVariants as kinds
 use Rattle.safety.proofs.Headers.{transfer_driver, transfer_not_command, ring_shape}
 use Rattle.safety.proofs.Counted.{agrees_counted}
 use Rattle.safety.proofs.WithReads.{with_reads}
 use Rattle.safety.proofs.Posted.{PostKeeps, post_keeps}
-use Rattle.safety.proofs.EventRead.{learned_read, event_clean, clean_more, known_more, blocks_more}
+use Rattle.safety.proofs.EventRead.{learned_read, event_clean, blocks_more, possible_more, read_more}
 use Rattle.safety.proofs.OnlyRing.{OnlyRing, stands_only, events_only, late_only}
 use Rattle.safety.proofs.LookKinds.{cond_is, put_at, put_off}
 use Rattle.safety.proofs.Learns.{LearnsRing, stands_learns, matches_learns}
@@ -221,15 +221,15 @@ module _ (h : Header) (is : IsHeader h) (k : Known) (unread : List Block) (w v :
       ]
 
 -- the run goes on behind the report of a success
-pub report_success_runs : (h : Header) → IsHeader h → (past : List Row) (w v : World) (b : Block) → IsBlock b → w.stopped ≡ false → (run : Runs h past w) →
-    DriverKeeps h (known h (reading run.unread past)) → is_success (code b) ≡ true → reported h w b ≡ Some v → Runs h past (counted h v)
-report_success_runs h is past w v b block running run d success at =
-    let k : Known = known h (reading run.unread past) in
+pub report_success_runs : (h : Header) → IsHeader h → (now : Known) (w v : World) (b : Block) → IsBlock b → w.stopped ≡ false → (run : Runs h now w) →
+    DriverKeeps h (all_read h now run.unread) → is_success (code b) ≡ true → reported h w b ≡ Some v → Runs h now (counted h v)
+report_success_runs h is now w v b block running run d success at =
+    let k : Known = all_read h now run.unread in
     let keeps = success_keeps h is k run.unread w v b block running d run.agrees (report_is h w v b at) success in
     record {
       unread = run.unread ++ b ∷ [];
-      clean = clean_more h run.unread past b run.clean keeps.clean;
+      possible = possible_more h run.unread now b run.possible keeps.clean;
       blocks = blocks_more run.unread b run.blocks block;
       on = run.on;
-      agrees = subst (λ m. Agrees h m (run.unread ++ b ∷ []) (counted h v)) (sym (known_more h run.unread past b)) keeps.agrees;
+      agrees = subst (λ m. Agrees h m (run.unread ++ b ∷ []) (counted h v)) (sym (read_more h run.unread now b)) keeps.agrees;
     }

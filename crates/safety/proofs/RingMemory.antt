@@ -31,7 +31,7 @@ spot_lies shape is (Link q) spot =
 
 module _ (h : Header) (is : IsHeader h) (k : Known) (w : World) (d : DriverKeeps h k) (s : Stands h k w) where
   pub ring_word : (r a : ℕ) → IsDriverRing h r → a % 4 ≡ 0 → is_inside (shape_of h r) a ≡ true → w.memory a ≡ k.memory a
-  ring_word r a ring word inside = s.quiet a (d.clean r a ring inside) (ring_not_event h is r a ring word inside)
+  ring_word r a ring word inside = s.quiet a (d.clean r a ring word inside) (ring_not_event h is r a ring word inside)
 
   pub block_at_spot : (r : ℕ) (t : Spot) → IsDriverRing h r → IsSpot (shape_of h r) t →
       block_at w.memory (spot_address (shape_of h r) t) ≡ block_at k.memory (spot_address (shape_of h r) t)

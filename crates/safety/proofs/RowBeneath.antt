@@ -1,7 +1,7 @@
 -- A driver's row beneath the events that aren't read yet: they stay possible, and what is known when they are read differs from what
 -- the row adds to it at the end in the numbers at which rings are held, if at all
 use Rattle.std.proofs.Common.{◌≡◌, ◌+◌, ◌-◌, ◌≤◌, ◌∷◌, ◌∙◌, ℕ, false, List, [], length, All, Some, arith, refl, sym, ap, subst, inl, inr}
-use Rattle.safety.proofs.Words.{cond_both, All-cons, All-head, All-tail, same_Some, Block, IsBlock, kind, erdp_address, is_reached_within, Header, Row, Sub, Write, Reg, Bell, Read, Register, Erdp, IsHeader, event_shape, IsRow, World, stored, counted, Known, learned, known, may_pass, is_bad_erdp, lenient, IsLenient, DriverKeeps, IsDriverRow, Agrees, Runs, reading, HeldMore, is_idle, Square, SquareLaw, MoreLaw}
+use Rattle.safety.proofs.Words.{cond_both, same_Some, Block, IsBlock, kind, erdp_address, is_reached_within, Header, Row, Sub, Write, Reg, Bell, Read, Register, Erdp, IsHeader, event_shape, IsRow, World, stored, counted, Known, learned, may_pass, is_bad_erdp, lenient, DriverKeeps, KeptByRows, IsDriverRow, Agrees, ArePossible, Runs, all_read, HeldMore, is_idle, Square, SquareLaw, MoreLaw}
 use Rattle.controller_model.specs.DriverRows as driver
 use Rattle.safety.proofs.TestsPassed.{clean_tests}
 use Rattle.safety.proofs.CleanRows.{register_facts}
@@ -15,28 +15,19 @@ use Rattle.safety.proofs.ErdpMoves.{erdp_says}
 use Rattle.safety.proofs.RowRegisters.{MayMove, register_agrees}
 use Rattle.safety.proofs.RowWrites.{writes_agree}
 
--- what a clean history keeps
-abbrev pub KeptByHistories : Header → Type 0
-KeptByHistories h = (past : List Row) → All IsRow past → IsLenient h past → (known h past).stopped ≡ false → DriverKeeps h (known h past)
-
 module _ (h : Header) where
   pub read_on : (k : Known) (b : Block) → (learned h k (Read b)).stopped ≡ k.stopped
   unfolding learned
   read_on k b = (event_same h k (kind b) b).stopped
 
-  pub clean_under : (unread : List Block) (past : List Row) → IsLenient h (reading unread past) → IsLenient h past
-  clean_under [] past clean = clean
-  clean_under (e ∷ rest) past clean = (clean_under rest (Read e ∷ past) clean).0
-
   -- events read count, and leave ERDP
-  counts : (unread : List Block) (past : List Row) →
-      ((known h (reading unread past)).reads ≡ (known h past).reads + length unread) × ((known h (reading unread past)).dequeue ≡ (known h past).dequeue) × ((known h (reading unread past)).stopped ≡ (known h past).stopped)
-  unfolding known
-  counts [] past = (omega arith, refl, refl)
-  counts (e ∷ rest) past =
-      let later = counts rest (Read e ∷ past) in
-      let one = read_counts h (known h past) e in
-      (omega (arith, later.0, one.0), later.1 ∙ one.1, later.2 ∙ read_on (known h past) e)
+  counts : (unread : List Block) (k : Known) →
+      ((all_read h k unread).reads ≡ k.reads + length unread) × ((all_read h k unread).dequeue ≡ k.dequeue) × ((all_read h k unread).stopped ≡ k.stopped)
+  counts [] k = (omega arith, refl, refl)
+  counts (e ∷ rest) k =
+      let later = counts rest (learned h k (Read e)) in
+      let one = read_counts h k e in
+      (omega (arith, later.0, one.0), later.1 ∙ one.1, later.2 ∙ read_on k e)
 
   -- ---- the row where all events are read
 
@@ -73,74 +64,60 @@ module _ (h : Header) where
 
   -- ---- along the unread events
 
-  -- two histories, one with the row d somewhere beneath
-  record Beside (d : Row) (past beneath : List Row) : Type 0 where
-    pub rows : All IsRow past
-    pub rows_beneath : All IsRow beneath
-    pub clean : IsLenient h past
-    pub clean_beneath : IsLenient h beneath
-    pub possible : lenient h (known h past) d ≡ []
-    pub awake : is_idle h (known h past) d ≡ false
-    pub on : (learned h (known h past) d).stopped ≡ false
-    pub held : HeldMore (learned h (known h past) d) (known h beneath)
+  -- what is known, and what is known with the row d somewhere beneath
+  record Beside (d : Row) (k m : Known) : Type 0 where
+    pub keeps : DriverKeeps h k
+    pub keeps_beneath : DriverKeeps h m
+    pub possible : lenient h k d ≡ []
+    pub awake : is_idle h k d ≡ false
+    pub on : (learned h k d).stopped ≡ false
+    pub held : HeldMore (learned h k d) m
 
-  module _ (is : IsHeader h) (square : SquareLaw h) (more : MoreLaw h) (keeps : KeptByHistories h) (d : Row) (is_row : IsRow d) (driver_row : IsDriverRow d) where
-    one_on : (past beneath : List Row) (e : Block) → IsBlock e → lenient h (known h past) (Read e) ≡ [] → Beside d past beneath → Beside d (Read e ∷ past) (Read e ∷ beneath)
-    unfolding known
-    one_on past beneath e block event b =
-        let k : Known = known h past in
-        let m : Known = known h beneath in
-        let k_keeps : DriverKeeps h k = keeps past b.rows b.clean (clean_tests h k d b.possible).0 in
-        let row_keeps : DriverKeeps h (learned h k d) = keeps (d ∷ past) (All-cons IsRow d past is_row b.rows) (b.clean, b.possible) b.on in
-        let m_keeps : DriverKeeps h m = keeps beneath b.rows_beneath b.clean_beneath (sym (ap (λ x. x.stopped) b.held.rest) ∙ b.on) in
-        let s : Square h k d e = square k d e is is_row driver_row k_keeps b.possible event b.awake b.on in
-        let both = more (learned h k d) m e row_keeps m_keeps b.held s.event in
-        record {
-          rows = All-cons IsRow (Read e) past block b.rows;
-          rows_beneath = All-cons IsRow (Read e) beneath block b.rows_beneath;
-          clean = (b.clean, event);
-          clean_beneath = (b.clean_beneath, both.0);
-          possible = s.row;
-          awake = s.awake;
-          on = ap (λ x. x.stopped) s.after.rest ∙ read_on (learned h k d) e ∙ b.on;
-          held = held_more_twice (learned h (learned h k (Read e)) d) (learned h (learned h k d) (Read e)) (learned h m (Read e)) s.after both.1;
-        }
+  module _ (is : IsHeader h) (square : SquareLaw h) (more : MoreLaw h) (kept : KeptByRows h (DriverKeeps h)) (d : Row) (is_row : IsRow d) (driver_row : IsDriverRow d) where
+    one_on : (k m : Known) (e : Block) → lenient h k (Read e) ≡ [] → Beside d k m → (lenient h m (Read e) ≡ []) × Beside d (learned h k (Read e)) (learned h m (Read e))
+    one_on k m e event b =
+        let row_keeps : DriverKeeps h (learned h k d) = kept is k d b.keeps b.possible b.on in
+        let s : Square h k d e = square k d e is is_row driver_row b.keeps b.possible event b.awake b.on in
+        let both = more (learned h k d) m e row_keeps b.keeps_beneath b.held s.event in (
+          both.0,
+          record {
+            keeps = kept is k (Read e) b.keeps event (read_on k e ∙ (clean_tests h k d b.possible).0);
+            keeps_beneath = kept is m (Read e) b.keeps_beneath both.0 (read_on m e ∙ sym (ap (λ x. x.stopped) b.held.rest) ∙ b.on);
+            possible = s.row;
+            awake = s.awake;
+            on = ap (λ x. x.stopped) s.after.rest ∙ read_on (learned h k d) e ∙ b.on;
+            held = held_more_twice (learned h (learned h k (Read e)) d) (learned h (learned h k d) (Read e)) (learned h m (Read e)) s.after both.1;
+          },
+        )
 
-    all_on : (unread : List Block) (past beneath : List Row) → All IsBlock unread → IsLenient h (reading unread past) → Beside d past beneath → Beside d (reading unread past) (reading unread beneath)
-    all_on [] past beneath blocks clean b = b
-    all_on (e ∷ rest) past beneath blocks clean b =
-        all_on rest (Read e ∷ past) (Read e ∷ beneath) (All-tail IsBlock e rest blocks) clean
-        (one_on past beneath e (All-head IsBlock e rest blocks) (clean_under rest (Read e ∷ past) clean).1 b)
-
-    first : (past : List Row) → All IsRow past → IsLenient h (d ∷ past) → is_idle h (known h past) d ≡ false → (learned h (known h past) d).stopped ≡ false → Beside d past (d ∷ past)
-    unfolding known
-    first past rows clean awake on = record {
-      rows = rows;
-      rows_beneath = All-cons IsRow d past is_row rows;
-      clean = clean.0;
-      clean_beneath = clean;
-      possible = clean.1;
-      awake = awake;
-      on = on;
-      held = held_more_same (learned h (known h past) d);
-    }
+    all_on : (unread : List Block) (k m : Known) → ArePossible h k unread → Beside d k m → ArePossible h m unread × Beside d (all_read h k unread) (all_read h m unread)
+    all_on [] k m possible b = (tt, b)
+    all_on (e ∷ rest) k m possible b =
+        let one = one_on k m e possible.0 b in
+        let later = all_on rest (learned h k (Read e)) (learned h m (Read e)) possible.1 one.1 in
+        ((one.0, later.0), later.1)
 
     -- the run goes on behind a row that isn't idle
-    pub awake_runs : (past : List Row) (w v : World) → All IsRow past → (run : Runs h past w) → lenient h (known h past) d ≡ [] → is_idle h (known h past) d ≡ false →
-        (learned h (known h past) d).stopped ≡ false → driver.row_done h w d ≡ Some v → Runs h (d ∷ past) (counted h v)
-    unfolding known
-    awake_runs past w v rows run possible awake on at =
-        let clean : IsLenient h (d ∷ past) = (clean_under run.unread past run.clean, possible) in
-        let b = all_on run.unread past (d ∷ past) run.blocks run.clean (first past rows clean awake on) in
-        let later : Known = known h (reading run.unread past) in
-        let c = counts run.unread past in
+    pub awake_runs : (now : Known) (w v : World) → DriverKeeps h now → (run : Runs h now w) → lenient h now d ≡ [] → is_idle h now d ≡ false → (learned h now d).stopped ≡ false →
+        driver.row_done h w d ≡ Some v → Runs h (learned h now d) (counted h v)
+    awake_runs now w v keeps run possible awake on at =
+        let first : Beside d now (learned h now d) = record {
+          keeps = keeps;
+          keeps_beneath = kept is now d keeps possible on;
+          possible = possible;
+          awake = awake;
+          on = on;
+          held = held_more_same (learned h now d);
+        } in
+        let b = all_on run.unread now (learned h now d) run.possible first in
+        let later : Known = all_read h now run.unread in
+        let c = counts run.unread now in
         let g = run.agrees in
-        let later_keeps : DriverKeeps h later = keeps (reading run.unread past) b.rows run.clean (c.2 ∙ run.on) in
         record {
           unread = run.unread;
-          clean = b.clean_beneath;
+          possible = b.0;
           blocks = run.blocks;
           on = on;
-          agrees = weaker h (learned h later d) (known h (reading run.unread (d ∷ past))) b.held run.unread (counted h v)
-              (row_agrees is (known h past) later run.unread w v d driver_row later_keeps g (omega (arith, g.read, c.0, g.events.count)) (g.stands.dequeue ∙ c.1) possible b.possible b.on at);
+          agrees = weaker h (learned h later d) (all_read h (learned h now d) run.unread) b.1.held run.unread (counted h v)
+              (row_agrees is now later run.unread w v d driver_row b.1.keeps g (omega (arith, g.read, c.0, g.events.count)) (g.stands.dequeue ∙ c.1) possible b.1.possible b.1.on at);
         }

@@ -1,6 +1,6 @@
 -- A world that agrees with what a rule-keeping driver's rows lead to is safe: harm by harm
 use Rattle.std.proofs.Common.{◌≡◌, ◌+◌, ◌-◌, ◌<◌, ◌≤◌, ◌==◌, ◌&&◌, ◌∷◌, ◌∙◌, ℕ, Bool, false, not, List, [], nat_lt, nat_le, None, find, option_map, arith, refl, sym, ap, inl, inr, eq-eqb, le-ltb}
-use Rattle.safety.proofs.Words.{list_any, cases_Bool, cases_eq, and_left, and_right, or_from, lt-leb, not_from_true, Block, block_at, cycle, number, spot_address, Spot, Header, Ring, Row, IsHeader, shape_of, command_id, event_size, some_ring, Harm, TakenOutOfOrder, TakenOtherWords, WaitsInsideDescriptor, LooksOutside, PostsOverUnread, InputContextChanged, World, is_out_of_order, has_other_words, is_inside_descriptor, waits, harms, harm_of, IsSafe, has_changed_context, Known, known, IsDriverRing, DriverKeeps, Stands, RingMatches, state_of, Agrees, Runs, reading}
+use Rattle.safety.proofs.Words.{list_any, cases_Bool, cases_eq, and_left, and_right, or_from, lt-leb, not_from_true, Block, block_at, cycle, number, spot_address, Spot, Header, Ring, IsHeader, shape_of, command_id, event_size, some_ring, Harm, TakenOutOfOrder, TakenOtherWords, WaitsInsideDescriptor, LooksOutside, PostsOverUnread, InputContextChanged, World, is_out_of_order, has_other_words, is_inside_descriptor, waits, harms, harm_of, IsSafe, has_changed_context, Known, IsDriverRing, DriverKeeps, Stands, RingMatches, state_of, Agrees, Runs, all_read}
 use Rattle.safety.proofs.Headers.{transfer_driver, ring_shape}
 use Rattle.safety.proofs.AtSpots.{MayStand}
 use Rattle.safety.proofs.NoWait.{ceiling_given, inside_given, cycle_inside}
@@ -134,5 +134,5 @@ module _ (h : Header) (is : IsHeader h) (k : Known) (unread : List Block) (w : W
       g.matches.inside (room_left (event_size h) w.posted w.reads w.dequeue g.events.order.dequeued g.events.order.read g.events.order.room) context_kept
 
 -- each world of a run is safe
-pub safe : (h : Header) → IsHeader h → (past : List Row) (w : World) (r : Runs h past w) → DriverKeeps h (known h (reading r.unread past)) → IsSafe h w
-safe h is past w r d = agreed_safe h is (known h (reading r.unread past)) r.unread w d r.agrees
+pub safe : (h : Header) → IsHeader h → (now : Known) (w : World) (r : Runs h now w) → DriverKeeps h (all_read h now r.unread) → IsSafe h w
+safe h is now w r d = agreed_safe h is (all_read h now r.unread) r.unread w d r.agrees

@@ -1,6 +1,6 @@
 -- The controller writes a word of a device context that it may write: the run goes on
 use Rattle.std.proofs.Common.{◌≡◌, ◌≢◌, ◌+◌, ◌*◌, ◌<◌, ◌≤◌, ◌∙◌, ℕ, true, false, List, nat_lt, nat_le, Option, Some, None, slice_get, unwrap_or, arith, refl, sym, ap, subst, inl, inr, add-zero, leb-true, ltb-true}
-use Rattle.safety.proofs.Words.{list_any, range_with_len, cases_lt, and_parts, cond_some, slice_get_within, Block, address_of, is_in, is_inside, address_inside, device_context, device_context_bytes, slot_entry, Header, Row, Dcbaap, IsHeader, event_shape, event_size, touches_ring, register_or_zero, World, stored, is_scribbled, scribbled, counted, Known, known, device_named, entry_of, some_of, DeviceKeeps, DriverKeeps, EventsStand, touches_events, Agrees, Runs, reading}
+use Rattle.safety.proofs.Words.{list_any, range_with_len, cases_lt, and_parts, cond_some, slice_get_within, Block, address_of, is_in, is_inside, address_inside, device_context, device_context_bytes, slot_entry, Header, Dcbaap, IsHeader, event_shape, event_size, touches_ring, register_or_zero, World, stored, is_scribbled, scribbled, counted, Known, device_named, entry_of, some_of, DeviceKeeps, DriverKeeps, EventsStand, touches_events, Agrees, Runs, all_read}
 use Rattle.segments.specs.Places.{touches}
 use Rattle.world_state.specs.World.{event_at}
 use Rattle.world_state.specs.World as of_world
@@ -120,15 +120,15 @@ module _ (h : Header) (is : IsHeader h) (k : Known) (unread : List Block) (w : W
       at_most b = omega (arith, g.stamps b)
 
 -- the run goes on behind it
-pub scribble_runs : (h : Header) → IsHeader h → (past : List Row) (w v : World) (a x : ℕ) → (r : Runs h past w) → DriverKeeps h (known h (reading r.unread past)) →
-    scribbled h w a x ≡ Some v → Runs h past (counted h v)
-scribble_runs h is past w v a x r d at =
+pub scribble_runs : (h : Header) → IsHeader h → (now : Known) (w v : World) (a x : ℕ) → (r : Runs h now w) → DriverKeeps h (all_read h now r.unread) →
+    scribbled h w a x ≡ Some v → Runs h now (counted h v)
+scribble_runs h is now w v a x r d at =
     let s = scribbled_is h w v a x at in
     record {
       unread = r.unread;
-      clean = r.clean;
+      possible = r.possible;
       blocks = r.blocks;
       on = r.on;
-      agrees = subst (λ u. Agrees h (known h (reading r.unread past)) r.unread (counted h u)) s.1
-          (agrees_stored h is (known h (reading r.unread past)) r.unread w d r.agrees a x s.0);
+      agrees = subst (λ u. Agrees h (all_read h now r.unread) r.unread (counted h u)) s.1
+          (agrees_stored h is (all_read h now r.unread) r.unread w d r.agrees a x s.0);
     }

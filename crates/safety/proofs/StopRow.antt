@@ -1,6 +1,6 @@
 -- The driver stops the controller: the run has ended, and its world is safe
 use Rattle.std.proofs.Common.{◌≡◌, ◌&&◌, ◌||◌, ◌∷◌, if◌then◌else◌, ◌∙◌, ℕ, Bool, true, false, not, List, [], Some, refl, sym, ap, subst, inl, inr}
-use Rattle.safety.proofs.Words.{cases_Bool, cond-false, cond-true, false≢true, same_Some, Block, kind, Header, Row, Sub, Write, Reg, Bell, Read, Register, Usbcmd, Usbsts, Dnctrl, Crcr, Dcbaap, Config, Iman, Imod, Erstsz, Erstba, Erdp, IsHeader, run_bit, reset_bit, World, IsSafe, counted, Known, learned, known, IsLenient, DriverKeeps, Runs, Ended, reading}
+use Rattle.safety.proofs.Words.{cases_Bool, cond-false, cond-true, false≢true, same_Some, Block, kind, Header, Row, Sub, Write, Reg, Bell, Read, Register, Usbcmd, Usbsts, Dnctrl, Crcr, Dcbaap, Config, Iman, Imod, Erstsz, Erstba, Erdp, IsHeader, run_bit, reset_bit, World, IsSafe, counted, Known, learned, DriverKeeps, Runs, Ended, all_read}
 use Rattle.world_state.specs.Harms as of_harms
 use Rattle.controller_model.specs.DriverRows as driver
 use Rattle.ring_knowledge.specs.Registers as registers
@@ -86,29 +86,27 @@ module _ (h : Header) where
   stop_row k (Reg r x) on stopped = register_stop k r x on stopped
 
   -- reading events starts nothing
-  reading_started : (unread : List Block) (past : List Row) → (known h (reading unread past)).started ≡ (known h past).started
-  unfolding known
-  reading_started [] past = refl
-  reading_started (e ∷ unread) past =
-      reading_started unread (Read e ∷ past)
-      ∙ ap (λ m. m.started) (learned_read h (known h past) e)
-      ∙ (event_same h (known h past) (kind e) e).started
+  read_started : (unread : List Block) (k : Known) → (all_read h k unread).started ≡ k.started
+  read_started [] k = refl
+  read_started (e ∷ unread) k =
+      read_started unread (learned h k (Read e))
+      ∙ ap (λ m. m.started) (learned_read h k e)
+      ∙ (event_same h k (kind e) e).started
 
   stops : (w : World) (x : ℕ) → (stopped_world w x).stopped ≡ true
   unfolding stopped_world
   stops w x = refl
 
   -- the run has ended behind the row that stops the controller
-  pub stop_ends : IsHeader h → (past : List Row) (row : Row) (w v : World) → (run : Runs h past w) → DriverKeeps h (known h (reading run.unread past)) → IsLenient h (row ∷ past) →
-      (learned h (known h past) row).stopped ≡ true → driver.row_done h w row ≡ Some v → Ended h (row ∷ past) (counted h v)
-  unfolding known counted
-  stop_ends is past row w v run d clean stopped at =
-      let s = stop_row (known h past) row run.on stopped in
-      let on : w.started ≡ true = run.agrees.stands.started ∙ reading_started run.unread past ∙ s.started in
+  pub stop_ends : IsHeader h → (now : Known) (row : Row) (w v : World) → (run : Runs h now w) → DriverKeeps h (all_read h now run.unread) → (learned h now row).stopped ≡ true →
+      driver.row_done h w row ≡ Some v → Ended h (learned h now row) (counted h v)
+  unfolding counted
+  stop_ends is now row w v run d stopped at =
+      let s = stop_row now row run.on stopped in
+      let on : w.started ≡ true = run.agrees.stands.started ∙ read_started run.unread now ∙ s.started in
       let world : stopped_world w s.value ≡ v = world_stops w v s.value on s.stop (ap (λ x. driver.row_done h w x) (sym s.row_is) ∙ at) in
       record {
-        clean = clean;
         stopped = stopped;
         also = sym (ap (λ x. x.stopped) world) ∙ stops w s.value;
-        safe = subst (λ x. IsSafe h (counted h x)) world (safe_stopped w s.value (safe h is past w run d));
+        safe = subst (λ x. IsSafe h (counted h x)) world (safe_stopped w s.value (safe h is now w run d));
       }

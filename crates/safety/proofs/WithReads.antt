@@ -1,16 +1,11 @@
 -- Other events counted as read, with nothing else that they say
 use Rattle.std.proofs.Common.{◌≡◌, ◌∷◌, ◌++◌, ◌∙◌, ℕ, List, [], Option, Some, None, refl, sym}
-use Rattle.safety.proofs.Words.{Block, Spot, Command, StopEndpoint, Header, Row, Read, World, UnderWay, Known, IsUnfinished, Stands, UnderWayMatches, TakenCommand, Matches, reading}
+use Rattle.safety.proofs.Words.{Block, Spot, Command, StopEndpoint, Header, World, UnderWay, Known, IsUnfinished, Stands, UnderWayMatches, TakenCommand, Matches}
 use Rattle.ring_knowledge.specs.Rings as of_rings
 use Rattle.ownership_rules.specs.Events as of_events
 
 abbrev pub with_reads : Known → ℕ → Known
 with_reads k n = record k { reads = n }
-
--- the unread events with one more are read with that one last
-pub reading_more : (unread : List Block) (past : List Row) (b : Block) → reading (unread ++ b ∷ []) past ≡ Read b ∷ reading unread past
-reading_more [] past b = refl
-reading_more (e ∷ rest) past b = reading_more rest (Read e ∷ past) b
 
 module _ (h : Header) where
   pub stands_with_reads : (n : ℕ) (k : Known) (w : World) → Stands h k w → Stands h (with_reads k n) w

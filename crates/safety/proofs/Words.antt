@@ -51,7 +51,7 @@ unfoldable pub use Rattle.ring_knowledge.specs.Writes.{command_given, device_nam
 pub use Rattle.safety.specs.Beneath.{HeldMore, IsHeldMore, IsIdleEndpoint, MayRing, MoreLaw, RingHeldMore, Square, SquareLaw, is_idle, is_open_if}
 pub use Rattle.safety.specs.EndpointsKeep.{EndpointsKeep, is_transfer_ring}
 pub use Rattle.safety.specs.Headline.{Headline, IsHarmless}
-pub use Rattle.safety.specs.Invariant.{Ended, Runs, reading}
+pub use Rattle.safety.specs.Invariant.{ArePossible, Ended, Runs, all_read}
 pub use Rattle.safety.specs.Keeps.{CommandKeeps, CommandRingKeeps, CommandRingNamed, DeviceKeeps, DriverKeeps, IsDriverRing, IsTransferRing, IsUnfinished, MovesIf, StatesKeep, Stays, StaysIf, Unstarted}
 pub use Rattle.safety.specs.KeptHistories.{AreDriverRows, IsDriverRow, MayRead, MayReadAll, StillReads, StillReadsAll}
 pub use Rattle.safety.specs.KeptStep.{CommandsKeep, DevicesKeep, KeptByRows}

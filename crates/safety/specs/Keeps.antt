@@ -137,7 +137,7 @@ module _ (h : Header) where
     -- no row withdraws a descriptor, so that nothing is free
     pub restored : (r : ℕ) → IsDriverRing r → IsRestored (k.ring r)
     -- no word of a ring is soiled
-    pub clean : (r a : ℕ) → IsDriverRing r → is_inside (shape_of h r) a ≡ true → k.soiled a ≡ false
+    pub clean : (r a : ℕ) → IsDriverRing r → a % 4 ≡ 0 → is_inside (shape_of h r) a ≡ true → k.soiled a ≡ false
     pub command_ring : CommandRingKeeps k
     pub states : StatesKeep k
     -- an endpoint that has a ring has the numbers of a slot and of an endpoint

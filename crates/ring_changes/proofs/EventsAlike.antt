@@ -1,0 +1,216 @@
+-- An event says the same where other rings are there, so long as those that endpoints have and commands bind are as they were
+use Rattle.std.proofs.Common.{◌≡◌, ◌+◌, ◌==◌, ◌&&◌, if◌then◌else◌, ◌∷◌, ◌∙◌, ℕ, Bool, true, false, List, [], Option, Some, None, refl, sym, ap, subst}
+use Rattle.guest_memory.specs.Memory.{put, put_pair}
+use Rattle.safety.proofs.Words.{cond_both, none-some, same_Some, option_map, Block, code, slot, endpoint, pointer, is_success, is_halting, is_trb_error, is_stopping, Spot, number, after, RingView, RingChange, Reaches, Holds, changed, ceiling, named, stopped_number, target, Command, EndpointState, Halted, Error, Stopped, is_off, Change, SlotGoesOn, DeviceLeft, Disables, Places, Stops, Resets, Header, Ring, shape_of, command_id, event_shape, event_size, ring_having, Known, RingSpot, on_ring, spot_on, event_at, passed, broken_off, stopped_at, transferred, transferred_at, transfer_read, set_to, bound_to, moved_to, moved, pointed, disabled, in_state, held_at_ceiling, changed_by, changed_by_all}
+
+module _ (h : Header) (rings : List Ring) (over : (ℕ → RingView) → ℕ → RingView) (Kept : ℕ → Type 0) where
+  abbrev g : Header
+  g = record h { rings = rings }
+
+  -- what is known with the other rings
+  abbrev pub other : Known → Known
+  other k = record k { ring = over k.ring }
+
+  -- a ring that is kept has its shape, and what happens on it happens on it alone
+  pub record KeepsRings : Type 0 where
+    pub shape : (r : ℕ) → Kept r → shape_of g r ≡ shape_of h r
+    pub view : (m : ℕ → RingView) (r : ℕ) → Kept r → over m r ≡ m r
+    pub changes : (m : ℕ → RingView) (r : ℕ) (v : RingView) → Kept r → over (put m r v) ≡ put (over m) r v
+    -- the command ring is kept, and the event ring is as it was
+    pub command : command_id g ≡ command_id h
+    pub command_kept : Kept (command_id h)
+    pub events : event_shape g ≡ event_shape h
+    pub size : event_size g ≡ event_size h
+
+  -- endpoints have kept rings
+  abbrev pub HasKept : Known → Type 0
+  HasKept k = (s i r : ℕ) → k.ring_of s i ≡ Some r → Kept r
+
+  abbrev IsKept : Option ℕ → Type 0
+  IsKept q = (r : ℕ) → q ≡ Some r → Kept r
+
+  -- where the pointer lies there is the same ring, and it is kept
+  abbrev pub HavesAlike : ℕ → Type 0
+  HavesAlike p = (ring_having g p ≡ ring_having h p) × IsKept (ring_having h p)
+
+  abbrev pub ChangeAlike : Known → Change → Type 0
+  ChangeAlike k (Places s i p cycle state) = is_off (k.endpoint_state s i) ≡ true → HavesAlike p
+  ChangeAlike k _ = Unit {0}
+
+  abbrev pub ChangesAlike : Command → Known → List Change → Type 0
+  ChangesAlike c k [] = Unit {0}
+  ChangesAlike c k (change ∷ rest) = ChangeAlike k change × ChangesAlike c (changed_by h c k change) rest
+
+  either : (b : Bool) (x y u v : Known) → u ≡ other x → v ≡ other y → (if b then u else v) ≡ other (if b then x else y)
+  either true x y u v p q = p
+  either false x y u v p q = q
+
+  module _ (o : KeepsRings) where
+    pub on_alike : (k : Known) (r : ℕ) (c : RingChange) → Kept r → on_ring g (other k) r c ≡ other (on_ring h k r c)
+    unfolding on_ring
+    on_alike k r c kept =
+        let views : put (over k.ring) r (changed (shape_of g r) (over k.ring r) c) ≡ over (put k.ring r (changed (shape_of h r) (k.ring r) c)) =
+        (λ j. put (over k.ring) r (changed (o.shape r kept j) (o.view k.ring r kept j) c)) ∙ sym (o.changes k.ring r (changed (shape_of h r) (k.ring r) c) kept) in
+        λ j. record k { ring = views j }
+
+    -- ---- a Transfer Event
+
+    passed_alike : (k : Known) (r : ℕ) (t : Spot) → Kept r → passed g (other k) r t ≡ other (passed h k r t)
+    unfolding passed
+    passed_alike k r t kept =
+        ap (λ s. on_ring g (other k) r (Reaches (after s (number t)))) (o.shape r kept) ∙ on_alike k r (Reaches (after (shape_of h r) (number t))) kept
+
+    broken_alike : (k : Known) (s i r : ℕ) (t : Spot) (state : EndpointState) → Kept r → broken_off g (other k) s i r t state ≡ other (broken_off h k s i r t state)
+    unfolding broken_off
+    broken_alike k s i r t state kept =
+        let held : RingChange = Holds (number t + 1) in
+        let two : on_ring g (passed g (other k) r t) r held ≡ other (on_ring h (passed h k r t) r held) =
+        ap (λ x. on_ring g x r held) (passed_alike k r t kept) ∙ on_alike (passed h k r t) r held kept in
+        λ j. record (two j) { endpoint_state = put_pair k.endpoint_state s i state }
+
+    stopped_alike : (k : Known) (s i r : ℕ) (t : Spot) → Kept r → stopped_at g (other k) s i r t ≡ other (stopped_at h k s i r t)
+    unfolding stopped_at
+    stopped_alike k s i r t kept =
+        let held : RingChange = Holds (stopped_number (shape_of h r) (k.ring r) t) in
+        let one : on_ring g (other k) r (Holds (stopped_number (shape_of g r) (over k.ring r) t)) ≡ other (on_ring h k r held) =
+        (λ j. on_ring g (other k) r (Holds (stopped_number (o.shape r kept j) (o.view k.ring r kept j) t))) ∙ on_alike k r held kept in
+        let two : on_ring g (on_ring g (other k) r (Holds (stopped_number (shape_of g r) (over k.ring r) t))) r (Reaches t) ≡ other (on_ring h (on_ring h k r held) r (Reaches t)) =
+        ap (λ x. on_ring g x r (Reaches t)) one ∙ on_alike (on_ring h k r held) r (Reaches t) kept in
+        λ j. record (two j) { stop_seen = put_pair k.stop_seen s i true }
+
+    spot_alike : (k : Known) (a : ℕ) (q : Option ℕ) → IsKept q → spot_on g (other k) a q ≡ spot_on h k a q
+    unfolding spot_on
+    spot_alike k a None kept = refl
+    spot_alike k a (Some r) kept = λ j. option_map (λ t. record { ring = r; spot = t }) (named (o.shape r (kept r refl) j) (o.view k.ring r (kept r refl) j) a)
+
+    pub event_at_alike : (k : Known) (b : Block) → HasKept k → event_at g (other k) b ≡ event_at h k b
+    unfolding event_at
+    event_at_alike k b kept = spot_alike k (pointer b) (k.ring_of (slot b) (endpoint b)) (kept (slot b) (endpoint b))
+
+    spot_kept : (k : Known) (a : ℕ) (q : Option ℕ) (at : RingSpot) → IsKept q → spot_on h k a q ≡ Some at → Kept at.ring
+    unfolding spot_on
+    spot_kept k a None at kept is = absurd (none-some at is)
+    spot_kept k a (Some r) at kept is = by (named (shape_of h r) (k.ring r) a) is
+      where
+        by : (t : Option Spot) → option_map (λ t. let x : RingSpot = record { ring = r; spot = t } in x) t ≡ Some at → Kept at.ring
+        by None is = absurd (none-some at is)
+        by (Some t) is = subst Kept (ap (λ (x : RingSpot). x.ring) (same_Some (record { ring = r; spot = t }) at is)) (kept r refl)
+
+    pub event_kept : (k : Known) (b : Block) (at : RingSpot) → HasKept k → event_at h k b ≡ Some at → Kept at.ring
+    unfolding event_at
+    event_kept k b at kept is = spot_kept k (pointer b) (k.ring_of (slot b) (endpoint b)) at (kept (slot b) (endpoint b)) is
+
+    transferred_alike : (k : Known) (c s i r : ℕ) (t : Spot) → Kept r → transferred g (other k) c s i r t ≡ other (transferred h k c s i r t)
+    unfolding transferred
+    transferred_alike k c s i r t kept =
+        either (is_success c) _ _ _ _ (passed_alike k r t kept)
+        (either (is_halting c) _ _ _ _ (λ j. record (broken_alike k s i r t Halted kept j) { must_move = put_pair k.must_move s i true })
+        (either (is_trb_error c) _ _ _ _ (broken_alike k s i r t Error kept) (either (is_stopping c) _ _ _ _ (stopped_alike k s i r t kept) refl)))
+
+    at_alike : (k : Known) (b : Block) (q : Option RingSpot) → ((at : RingSpot) → q ≡ Some at → Kept at.ring) → transferred_at g (other k) b q ≡ other (transferred_at h k b q)
+    unfolding transferred_at
+    at_alike k b None kept = refl
+    at_alike k b (Some at) kept = transferred_alike k (code b) (slot b) (endpoint b) at.ring at.spot (kept at refl)
+
+    pub transfer_alike : (k : Known) (b : Block) → HasKept k → transfer_read g (other k) b ≡ other (transfer_read h k b)
+    unfolding transfer_read
+    transfer_alike k b kept = ap (transferred_at g (other k) b) (event_at_alike k b kept) ∙ at_alike k b (event_at h k b) (λ at is. event_kept k b at kept is)
+
+    -- ---- the success of a command
+
+    set_alike : (k : Known) (r : ℕ) (t : Spot) → Kept r → set_to g (other k) r t ≡ other (set_to h k r t)
+    unfolding set_to
+    set_alike k r t kept = ap (λ x. on_ring g x r (Holds (number t))) (on_alike k r (Reaches t) kept) ∙ on_alike (on_ring h k r (Reaches t)) r (Holds (number t)) kept
+
+    pub target_alike : (k : Known) (r : ℕ) (t : Option Spot) → Kept r → moved_to g (other k) r t ≡ other (moved_to h k r t)
+    unfolding moved_to
+    target_alike k r None kept = refl
+    target_alike k r (Some t) kept = set_alike k r t kept
+
+    moved_alike : (k : Known) (q : Option ℕ) (p : ℕ) (cycle : Bool) → IsKept q → moved g (other k) q p cycle ≡ other (moved h k q p cycle)
+    unfolding moved
+    moved_alike k None p cycle kept = refl
+    moved_alike k (Some r) p cycle kept =
+        (λ j. moved_to g (other k) r (target (o.shape r (kept r refl) j) (o.view k.ring r (kept r refl) j) p cycle)) ∙ target_alike k r (target (shape_of h r) (k.ring r) p cycle) (kept r refl)
+
+    bound_alike : (k : Known) (s i : ℕ) (q : Option ℕ) (p : ℕ) (cycle : Bool) → IsKept q → bound_to g (other k) s i q p cycle ≡ other (bound_to h k s i q p cycle)
+    unfolding bound_to
+    bound_alike k s i None p cycle kept = refl
+    bound_alike k s i (Some r) p cycle kept =
+        let m = moved_alike k (Some r) p cycle kept in
+        λ j. record (m j) { ring_of = put_pair k.ring_of s i (Some r); was_bound = put k.was_bound r true }
+
+    pointed_alike : (k : Known) (s i p : ℕ) (cycle : Bool) → HasKept k → (is_off (k.endpoint_state s i) ≡ true → HavesAlike p) → pointed g (other k) s i p cycle ≡ other (pointed h k s i p cycle)
+    unfolding pointed
+    pointed_alike k s i p cycle kept haves = by (is_off (k.endpoint_state s i)) refl
+      where
+        by : (b : Bool) → is_off (k.endpoint_state s i) ≡ b →
+            (if b then bound_to g (other k) s i (ring_having g p) p cycle else moved g (other k) (k.ring_of s i) p cycle)
+            ≡ other (if b then bound_to h k s i (ring_having h p) p cycle else moved h k (k.ring_of s i) p cycle)
+        by true off = let same = haves off in ap (λ q. bound_to g (other k) s i q p cycle) same.0 ∙ bound_alike k s i (ring_having h p) p cycle same.1
+        by false on = moved_alike k (k.ring_of s i) p cycle (kept s i)
+
+    held_alike : (k : Known) (q : Option ℕ) → IsKept q → held_at_ceiling g (other k) q ≡ other (held_at_ceiling h k q)
+    unfolding held_at_ceiling
+    held_alike k None kept = refl
+    held_alike k (Some r) kept =
+        (λ j. on_ring g (other k) r (Holds (ceiling (o.shape r (kept r refl) j) (o.view k.ring r (kept r refl) j)))) ∙ on_alike k r (Holds (ceiling (shape_of h r) (k.ring r))) (kept r refl)
+
+    change_alike : (c : Command) (k : Known) (change : Change) → HasKept k → ChangeAlike k change → changed_by g c (other k) change ≡ other (changed_by h c k change)
+    unfolding changed_by disabled in_state
+    change_alike c k (SlotGoesOn s) kept may = refl
+    change_alike c k (DeviceLeft s) kept may = refl
+    change_alike c k (Disables s which) kept may = refl
+    change_alike c k (Places s i p cycle state) kept may =
+        let m = pointed_alike k s i p cycle kept may in
+        λ j. record (m j) { endpoint_state = put_pair (m j).endpoint_state s i state; must_move = put_pair k.must_move s i false }
+    change_alike c k (Stops s i) kept may = held_alike (in_state h k s i Stopped) (k.ring_of s i) (kept s i)
+    change_alike c k (Resets s i) kept may = refl
+
+    -- ---- endpoints have kept rings still
+
+    moved_to_has : (k : Known) (r : ℕ) (t : Option Spot) → (moved_to h k r t).ring_of ≡ k.ring_of
+    unfolding moved_to set_to on_ring
+    moved_to_has k r None = refl
+    moved_to_has k r (Some t) = refl
+
+    moved_has : (k : Known) (q : Option ℕ) (p : ℕ) (cycle : Bool) → (moved h k q p cycle).ring_of ≡ k.ring_of
+    unfolding moved
+    moved_has k None p cycle = refl
+    moved_has k (Some r) p cycle = moved_to_has k r (target (shape_of h r) (k.ring r) p cycle)
+
+    bound_has : (k : Known) (s i : ℕ) (q : Option ℕ) (p : ℕ) (cycle : Bool) → HasKept k → IsKept q → HasKept (bound_to h k s i q p cycle)
+    unfolding bound_to
+    bound_has k s i None p cycle kept one = kept
+    bound_has k s i (Some r) p cycle kept one = λ t n x at.
+        cond_both (t == s && n == i) (Some r) (k.ring_of t n) (λ q. q ≡ Some x → Kept x) (λ here is. one x is) (λ apart is. kept t n x is) at
+
+    pointed_has : (k : Known) (s i p : ℕ) (cycle : Bool) → HasKept k → (is_off (k.endpoint_state s i) ≡ true → HavesAlike p) → HasKept (pointed h k s i p cycle)
+    unfolding pointed
+    pointed_has k s i p cycle kept haves =
+        cond_both (is_off (k.endpoint_state s i)) (bound_to h k s i (ring_having h p) p cycle) (moved h k (k.ring_of s i) p cycle) HasKept
+        (λ off. bound_has k s i (ring_having h p) p cycle kept (haves off).1)
+        (λ on t n x at. kept t n x (ap (λ f. f t n) (sym (moved_has k (k.ring_of s i) p cycle)) ∙ at))
+
+    held_has : (k : Known) (q : Option ℕ) → (held_at_ceiling h k q).ring_of ≡ k.ring_of
+    unfolding held_at_ceiling on_ring
+    held_has k None = refl
+    held_has k (Some r) = refl
+
+    change_has : (c : Command) (k : Known) (change : Change) → HasKept k → ChangeAlike k change → HasKept (changed_by h c k change)
+    unfolding changed_by disabled in_state
+    change_has c k (SlotGoesOn s) kept may = kept
+    change_has c k (DeviceLeft s) kept may = kept
+    change_has c k (Disables s which) kept may = λ t n x at.
+        cond_both (t == s && which n) None (k.ring_of t n) (λ q. q ≡ Some x → Kept x) (λ here is. absurd (none-some x is)) (λ apart is. kept t n x is) at
+    change_has c k (Places s i p cycle state) kept may = pointed_has k s i p cycle kept may
+    change_has c k (Stops s i) kept may = λ t n x at. kept t n x (ap (λ f. f t n) (sym (held_has (in_state h k s i Stopped) (k.ring_of s i))) ∙ at)
+    change_has c k (Resets s i) kept may = kept
+
+    pub changes_alike : (c : Command) (changes : List Change) (k : Known) → HasKept k → ChangesAlike c k changes →
+        (changed_by_all g c (other k) changes ≡ other (changed_by_all h c k changes)) × HasKept (changed_by_all h c k changes)
+    unfolding changed_by_all
+    changes_alike c [] k kept may = (refl, kept)
+    changes_alike c (change ∷ rest) k kept may =
+        let later = changes_alike c rest (changed_by h c k change) (change_has c k change kept may.0) may.1 in
+        (ap (λ x. changed_by_all g c x rest) (change_alike c k change kept may.0) ∙ later.0, later.1)

@@ -1,0 +1,13 @@
+pub mod OtherRings
+pub mod OtherWorlds
+pub mod ListedRings
+pub mod Segments
+pub mod NewRings
+pub mod GoneRings
+pub mod EventsAlike
+pub mod ReadAlike
+pub mod Squares
+pub mod Forgotten
+pub mod RingRuns
+pub mod RingsHeadline
+pub mod Examples

@@ -1,0 +1,384 @@
+-- What a driver keeps is kept where other rings are there, so long as those that endpoints and commands speak of are as they were
+use Rattle.std.proofs.Common.{◌≡◌, ◌≢◌, ◌≤◌, ◌+◌, ◌%◌, ◌^◌, ◌<◌, ◌&&◌, ◌||◌, ◌⊎◌, ◌∷◌, ◌∙◌, ℕ, not, Bool, true, false, List, [], map, All, Option, Some, None, nat_lt, option_and_then, slice_get, is_none, refl, sym, ap, subst, inl, inr}
+use Rattle.safety.proofs.Words.{Data, device_named, is_soiled, declared, is_placement, overlap, list_any-append, is_at_rest, drops, context_pointer, context_cycle, base_address, table_bytes, list_any, flat_map, false≢true, or_parts, or_from, cases_option, All-head, All-tail, All-cons, All-nil, RingView, is_inside, is_due, ceiling, floor_number, is_move, RingKeeps, address_of, Command, NoOp, EnableSlot, DisableSlot, AddressDevice, ConfigureEndpoint, EvaluateContext, ResetEndpoint, StopEndpoint, SetTrDequeue, ResetDevice, command_of, is_stop_of, named_slot, named_endpoint, named_context, device_context_bytes, input_context_bytes, Header, Ring, shape_of, command_id, event_shape, event_size, touches_ring, is_ring, Known, entry_of, command_at, next_command, may_be_taken, is_stopping_now, device_ranges, range_of_device, slots, covers, lease_start, lease_bytes, is_bad_area, Binding, binds, binding_in, ring_bound, binds_ring, has_repeats, is_placed, is_bad_dequeue, is_bad_move, IsDriverRing, IsTransferRing, IsUnfinished, was_stop_seen, CommandRingKeeps, CommandRingNamed, StatesKeep, Unstarted, DeviceKeeps, Stays, StaysIf, MovesIf, CommandKeeps, DriverKeeps}
+use Rattle.segments.specs.RingKeeps.{IsRestored}
+use Rattle.segments.specs.RingView.{new_ring}
+use Rattle.traces.specs.declared.register.Register.TheVariants.{Dcbaap}
+use Rattle.ownership_rules.specs.Commands as commands
+
+-- where a list is mapped alike, what passes of it is the same
+any_map : {X Y : Type 0} (f : X → Y) (t : Y → Bool) (xs : List X) → list_any (λ x. t (f x)) xs ≡ list_any t (map f xs)
+any_map f t [] = refl
+any_map f t (x ∷ xs) = ap (λ b. t (f x) || b) (any_map f t xs)
+
+same_any : {X Y : Type 0} (f g : X → Y) (t : Y → Bool) (xs : List X) → map f xs ≡ map g xs → list_any (λ x. t (f x)) xs ≡ list_any (λ x. t (g x)) xs
+same_any f g t xs same = any_map f t xs ∙ ap (list_any t) same ∙ sym (any_map g t xs)
+
+module _ (h : Header) (rings : List Ring) (k : Known) (views : ℕ → RingView) where
+  -- the header and the knowledge with other rings
+  abbrev pub g : Header
+  g = record h { rings = rings }
+
+  abbrev pub l : Known
+  l = record k { ring = views }
+
+  pub stop_seen_same : (c : Command) → was_stop_seen l c ≡ was_stop_seen k c
+  unfolding was_stop_seen
+  stop_seen_same (StopEndpoint s i) = refl
+  stop_seen_same NoOp = refl
+  stop_seen_same EnableSlot = refl
+  stop_seen_same (DisableSlot s) = refl
+  stop_seen_same (AddressDevice s bsr n) = refl
+  stop_seen_same (ConfigureEndpoint s dc n) = refl
+  stop_seen_same (EvaluateContext s n) = refl
+  stop_seen_same (ResetEndpoint s i) = refl
+  stop_seen_same (SetTrDequeue s i p cycle) = refl
+  stop_seen_same (ResetDevice s) = refl
+
+  -- ring r is there, with its shape and what was known of it
+  pub record IsAsBefore (r : ℕ) : Type 0 where
+    pub transfer : IsTransferRing g r
+    pub shape : shape_of g r ≡ shape_of h r
+    pub view : views r ≡ k.ring r
+
+  -- so is the ring that a binding names
+  abbrev pub BindsAsBefore : Binding → Type 0
+  BindsAsBefore b = (r : ℕ) → ring_bound h b ≡ Some r → (ring_bound g b ≡ Some r) × IsAsBefore r
+
+  pub record OtherRings : Type 0 where
+    pub command : command_id g ≡ command_id h
+    pub command_ring : IsDriverRing h (command_id h) → IsDriverRing g (command_id h)
+    pub command_shape : shape_of g (command_id g) ≡ shape_of h (command_id h)
+    pub command_view : views (command_id g) ≡ k.ring (command_id h)
+    pub events : event_shape g ≡ event_shape h
+    pub size : event_size g ≡ event_size h
+    -- of each ring that is there the rules are kept
+    pub keeps : (r : ℕ) → IsDriverRing g r → RingKeeps (shape_of g r) k.memory (views r)
+    pub restored : (r : ℕ) → IsDriverRing g r → IsRestored (views r)
+    pub clean : (r a : ℕ) → IsDriverRing g r → a % 4 ≡ 0 → is_inside (shape_of g r) a ≡ true → k.soiled a ≡ false
+    pub had : (s i r : ℕ) → k.ring_of s i ≡ Some r → IsAsBefore r
+    pub each : (r : ℕ) → (views r ≡ k.ring r) ⊎ (views r ≡ new_ring)
+    -- no ring touches what commands and slots have under lease
+    pub devices : (s d : ℕ) → k.device s ≡ Some d → (touches_ring g d (device_context_bytes h.context_size) ≡ false) × (touches_ring g (entry_of k s) 8 ≡ false)
+    pub contexts : (p n : ℕ) (c : Command) → IsUnfinished h k p c → named_context c ≡ Some n → touches_ring g n (input_context_bytes h.context_size) ≡ false
+    pub binds : (p : ℕ) (c : Command) → IsUnfinished h k p c → All BindsAsBefore (binds h k c)
+
+  module _ (d : DriverKeeps h k) (o : OtherRings) where
+    -- ---- the command ring and endpoints
+
+    command_ring_keeps : CommandRingKeeps g l
+    command_ring_keeps =
+        let old = d.command_ring in
+        record {
+          commands = λ p b at. old.commands p b (ap (λ (v : RingView). slice_get v.queue p) (sym o.command_view) ∙ at);
+          alone = subst (λ (v : RingView). All (λ n. n ≡ 1) v.lengths) (sym o.command_view) old.alone;
+          held = subst (λ (v : RingView). (v.held ≡ None) ⊎ ((v.held ≡ Some 0) × (v.floor ≡ Data 0))) (sym o.command_view) old.held;
+        }
+
+    stopping_same : (s i : ℕ) → is_stopping_now g l s i ≡ is_stopping_now h k s i
+    unfolding is_stopping_now may_be_taken next_command command_at
+    stopping_same s i =
+        λ j. nat_lt (floor_number (o.command_view j)) (ceiling (o.command_shape j) (o.command_view j))
+        && is_stop_of s i (option_and_then command_of (slice_get (o.command_view j).queue (floor_number (o.command_view j))))
+
+    states_keep : StatesKeep g l
+    states_keep =
+        let old = d.states in
+        record {
+          no_slot = old.no_slot;
+          no_endpoint = old.no_endpoint;
+          off = old.off;
+          on = old.on;
+          transfer = λ s i r at. (o.had s i r at).transfer;
+          one_endpoint = old.one_endpoint;
+          open_runs = λ s i r at none. old.open_runs s i r at (ap (λ (v : RingView). v.held) (sym (o.had s i r at).view) ∙ none);
+          seen_command = λ s i seen. stopping_same s i ∙ old.seen_command s i seen;
+          seen_runs = old.seen_runs;
+          seen_held = λ s i r seen at none. old.seen_held s i r seen at (ap (λ (v : RingView). v.held) (sym (o.had s i r at).view) ∙ none);
+          slots = old.slots;
+          first = old.first;
+          no_device = old.no_device;
+        }
+
+    unstarted_keeps : Unstarted h k → Unstarted g l
+    unstarted_keeps old =
+        record {
+          reads = old.reads;
+          dequeue = old.dequeue;
+          slots = old.slots;
+          rings = old.rings;
+          floors = λ r. elim (o.each r) [ inl same ↦ ap (λ (v : RingView). v.floor) same ∙ old.floors r | inr new ↦ ap (λ (v : RingView). v.floor) new ];
+          held = λ r. elim (o.each r) [ inl same ↦ ap (λ (v : RingView). v.held) same ∙ old.held r | inr new ↦ ap (λ (v : RingView). v.held) new ];
+          seen = old.seen;
+        }
+
+    named : (v : ℕ) → CommandRingNamed h v → CommandRingNamed g v
+    named v old =
+        record {
+          is_ring = subst (λ r. IsDriverRing g r) (sym o.command) (o.command_ring old.is_ring);
+          base = old.base ∙ ap (λ s. address_of s 0) (sym o.command_shape);
+          cycle = old.cycle;
+        }
+
+    -- ---- device contexts
+
+    device_keeps : (s e : ℕ) → DeviceKeeps h k s e → k.device s ≡ Some e → DeviceKeeps g l s e
+    unfolding device_named entry_of is_soiled
+    device_keeps s e old at =
+        let apart = o.devices s e at in
+        record {
+          slot = old.slot;
+          aligned = old.aligned;
+          ends = old.ends;
+          rings = apart.0;
+          soiled = old.soiled;
+          written = old.written;
+          entry = old.entry;
+          entry_clean = old.entry_clean;
+          entry_rings = apart.1;
+          others = old.others;
+          entries = old.entries;
+          table = λ v written. subst (λ shape. overlap e (device_context_bytes h.context_size) (base_address v) (table_bytes shape) ≡ false) (sym o.events) (old.table v written);
+        }
+
+    -- ---- unfinished commands
+
+    pub unfinished_before : (p : ℕ) (c : Command) → IsUnfinished g l p c → IsUnfinished h k p c
+    unfolding command_at
+    unfinished_before p c u =
+        record {
+          due = sym (λ j. is_due (o.command_shape j) (o.command_view j).floor p) ∙ u.due;
+          given = sym (ap (λ (v : RingView). v.given p) o.command_view) ∙ u.given;
+          command = sym (ap (λ (v : RingView). option_and_then command_of (slice_get v.queue p)) o.command_view) ∙ u.command;
+        }
+
+    device_covers : (from len s : ℕ) (a : Option ℕ) → list_any (covers g from len) (range_of_device g s a) ≡ list_any (covers h from len) (range_of_device h s a)
+    unfolding range_of_device covers lease_start lease_bytes
+    device_covers from len s None = refl
+    device_covers from len s (Some a) = refl
+
+    devices_cover : (from len : ℕ) (ss : List ℕ) →
+        list_any (covers g from len) (flat_map (λ s. range_of_device g s (k.device s)) ss) ≡ list_any (covers h from len) (flat_map (λ s. range_of_device h s (k.device s)) ss)
+    devices_cover from len [] = refl
+    devices_cover from len (s ∷ ss) =
+        list_any-append (covers g from len) (range_of_device g s (k.device s)) (flat_map (λ s. range_of_device g s (k.device s)) ss)
+        ∙ (λ j. device_covers from len s (k.device s) j || devices_cover from len ss j)
+        ∙ sym (list_any-append (covers h from len) (range_of_device h s (k.device s)) (flat_map (λ s. range_of_device h s (k.device s)) ss))
+
+    area_same : (from len : ℕ) → touches_ring g from len ≡ false → is_bad_area h k from len ≡ false → is_bad_area g l from len ≡ false
+    unfolding is_bad_area device_ranges
+    area_same from len apart good =
+        let parts = or_parts _ _ good in
+        or_from (nat_lt (2 ^ 64) (from + len) || touches_ring g from len) (list_any (covers g from len) (device_ranges g l))
+        (or_from (nat_lt (2 ^ 64) (from + len)) (touches_ring g from len) (or_parts _ _ parts.0).0 apart)
+        (devices_cover from len slots ∙ parts.1)
+
+    context_good : (n : Option ℕ) → ((a : ℕ) → n ≡ Some a → touches_ring g a (input_context_bytes h.context_size) ≡ false) → commands.has_bad_context h k n ≡ false →
+        commands.has_bad_context g l n ≡ false
+    unfolding commands.has_bad_context is_soiled
+    context_good None apart good = refl
+    context_good (Some a) apart good =
+        let parts = or_parts (is_bad_area h k a (input_context_bytes h.context_size)) _ good in
+        or_from (is_bad_area g l a (input_context_bytes h.context_size)) _ (area_same a (input_context_bytes h.context_size) (apart a refl) parts.0) parts.1
+
+    -- an Address Device that is unfinished has its device context
+    content_good : (c : Command) → ((s n : ℕ) (bsr : Bool) → c ≡ AddressDevice s bsr n → k.device s ≢ None) → commands.has_bad_content h k c ≡ false →
+        commands.has_bad_content g l c ≡ false
+    unfolding commands.has_bad_content commands.is_bad_added commands.type_in commands.takes_bad_device device_named
+    content_good (AddressDevice s bsr n) device good =
+        or_from _ (commands.takes_bad_device g l s n) (or_parts _ (commands.takes_bad_device h k s n) good).0
+        (elim (cases_option (k.device s)) [
+          | inl none ↦ absurd (device s n bsr refl none)
+          | inr some ↦ ap (λ (a : Option ℕ). is_none a && (is_none (k.register Dcbaap) || commands.has_bad_entry g l s || commands.is_bad_device g l s n (device_named k s))) some.1
+        ])
+    content_good (ConfigureEndpoint s false n) device good = good
+    content_good (ConfigureEndpoint s true n) device good = refl
+    content_good NoOp device good = refl
+    content_good EnableSlot device good = refl
+    content_good (DisableSlot s) device good = refl
+    content_good (EvaluateContext s n) device good = refl
+    content_good (ResetEndpoint s i) device good = refl
+    content_good (StopEndpoint s i) device good = refl
+    content_good (SetTrDequeue s i p cycle) device good = refl
+    content_good (ResetDevice s) device good = refl
+
+    slot_same : (n : Option ℕ) → commands.names_disabled_slot l n ≡ commands.names_disabled_slot k n
+    unfolding commands.names_disabled_slot
+    slot_same None = refl
+    slot_same (Some s) = refl
+
+    endpoint_same : (n : Option (ℕ × ℕ)) → commands.names_disabled_endpoint l n ≡ commands.names_disabled_endpoint k n
+    unfolding commands.names_disabled_endpoint
+    endpoint_same None = refl
+    endpoint_same (Some e) = refl
+
+    good_still : (p : ℕ) (c : Command) → IsUnfinished h k p c → CommandKeeps h k p c → commands.is_bad_command g l c ≡ false
+    unfolding commands.is_bad_command
+    good_still p c u keeps =
+        let content = or_parts _ (commands.has_bad_content h k c) keeps.good in
+        let context = or_parts _ (commands.has_bad_context h k (named_context c)) content.0 in
+        let names = or_parts (commands.names_disabled_slot k (named_slot c)) (commands.names_disabled_endpoint k (named_endpoint c)) context.0 in
+        or_from _ (commands.has_bad_content g l c)
+        (or_from _ (commands.has_bad_context g l (named_context c))
+        (or_from (commands.names_disabled_slot l (named_slot c)) (commands.names_disabled_endpoint l (named_endpoint c))
+        (slot_same (named_slot c) ∙ names.0) (endpoint_same (named_endpoint c) ∙ names.1))
+        (context_good (named_context c) (λ a at. o.contexts p a c u at) context.1))
+        (content_good c keeps.device content.1)
+
+    -- ---- what a command binds
+
+    binds_same : (c : Command) → binds g l c ≡ binds h k c
+    unfolding binds binding_in
+    binds_same (AddressDevice s bsr n) = refl
+    binds_same (ConfigureEndpoint s false n) = refl
+    binds_same (ConfigureEndpoint s true n) = refl
+    binds_same NoOp = refl
+    binds_same EnableSlot = refl
+    binds_same (DisableSlot s) = refl
+    binds_same (EvaluateContext s n) = refl
+    binds_same (ResetEndpoint s i) = refl
+    binds_same (StopEndpoint s i) = refl
+    binds_same (SetTrDequeue s i p cycle) = refl
+    binds_same (ResetDevice s) = refl
+
+    -- a binding that is placed names a ring, and the same one
+    one_placed : (b : Binding) → BindsAsBefore b → is_placed h k (ring_bound h b) b ≡ true → (ring_bound g b ≡ ring_bound h b) × (is_placed g l (ring_bound g b) b ≡ true)
+    unfolding is_placed
+    one_placed b as_before placed =
+        elim (cases_option (ring_bound h b)) [
+          | inl none ↦ absurd (false≢true (sym (ap (λ q. is_placed h k q b) none) ∙ placed))
+          | inr some ↦
+              let now = as_before some.0 some.1 in (
+                now.0 ∙ sym some.1,
+                ap (λ q. is_placed g l q b) now.0 ∙ (λ j. is_placement (now.1.shape j) (now.1.view j) b.pointer b.cycle) ∙ sym (ap (λ q. is_placed h k q b) some.1) ∙ placed,
+              )
+        ]
+
+    all_placed : (bs : List Binding) → All BindsAsBefore bs → All (λ b. is_placed h k (ring_bound h b) b ≡ true) bs →
+        (map (ring_bound g) bs ≡ map (ring_bound h) bs) × All (λ b. is_placed g l (ring_bound g b) b ≡ true) bs
+    all_placed [] before placed = (refl, All-nil (λ b. is_placed g l (ring_bound g b) b ≡ true))
+    all_placed (b ∷ bs) before placed =
+        let one = one_placed b (All-head BindsAsBefore b bs before) (All-head (λ b. is_placed h k (ring_bound h b) b ≡ true) b bs placed) in
+        let rest = all_placed bs (All-tail BindsAsBefore b bs before) (All-tail (λ b. is_placed h k (ring_bound h b) b ≡ true) b bs placed) in
+        ((λ j. one.0 j ∷ rest.0 j), All-cons (λ b. is_placed g l (ring_bound g b) b ≡ true) b bs one.1 rest.1)
+
+    pub record BoundStill (c : Command) : Type 0 where
+      pub same : map (ring_bound g) (binds h k c) ≡ map (ring_bound h) (binds h k c)
+      pub placed : All (λ b. is_placed g l (ring_bound g b) b ≡ true) (binds g l c)
+      pub names : (r : ℕ) → binds_ring g l r c ≡ binds_ring h k r c
+
+    bound_still : (p : ℕ) (c : Command) → IsUnfinished h k p c → BoundStill c
+    unfolding binds_ring
+    bound_still p c u =
+        let all = all_placed (binds h k c) (o.binds p c u) (d.unfinished p c u).binds in
+        record {
+          same = all.0;
+          placed = subst (λ bs. All (λ b. is_placed g l (ring_bound g b) b ≡ true) bs) (sym (binds_same c)) all.1;
+          names = λ r. ap (λ bs. list_any (λ b. is_ring r (ring_bound g b)) bs) (binds_same c) ∙ same_any (ring_bound g) (ring_bound h) (is_ring r) (binds h k c) all.0;
+        }
+
+    -- ---- what a command moves
+
+    dequeue_still : (q : Option ℕ) (p : ℕ) (cycle : Bool) → ((r : ℕ) → q ≡ Some r → IsAsBefore r) → is_bad_dequeue g l q p cycle ≡ is_bad_dequeue h k q p cycle
+    unfolding is_bad_dequeue
+    dequeue_still None p cycle before = refl
+    dequeue_still (Some r) p cycle before =
+        let b = before r refl in
+        λ j. not (is_move (b.shape j) (b.view j) p cycle (ceiling (b.shape j) (b.view j)) (declared (b.view j)))
+
+    moves_still : (c : Command) → MovesIf h k c → MovesIf g l c
+    unfolding is_bad_move
+    moves_still (SetTrDequeue s i p cycle) good =
+        ap (λ b. not (is_at_rest (k.endpoint_state s i)) || b) (dequeue_still (k.ring_of s i) p cycle (λ r at. o.had s i r at)) ∙ good
+    moves_still (AddressDevice s bsr n) good = tt
+    moves_still (ConfigureEndpoint s dc n) good = refl
+    moves_still NoOp good = refl
+    moves_still EnableSlot good = refl
+    moves_still (DisableSlot s) good = refl
+    moves_still (EvaluateContext s n) good = refl
+    moves_still (ResetEndpoint s i) good = refl
+    moves_still (StopEndpoint s i) good = refl
+    moves_still (ResetDevice s) good = refl
+
+    stays_still : (c : Command) → StaysIf h k c → StaysIf g l c
+    stays_still (AddressDevice s bsr n) stays = λ r at.
+        let b = o.had s 1 r at in
+        let old : Stays h k r n = stays r at in
+        record {
+          here = (λ j. is_move (b.shape j) (b.view j) (context_pointer h.context_size k.memory n 1) (context_cycle h.context_size k.memory n 1) (floor_number (b.view j)) (floor_number (b.view j))) ∙ old.here;
+          nothing = λ p low. ap (λ (v : RingView). v.given p) b.view ∙ old.nothing p (subst (λ (v : RingView). floor_number v ≤ p) b.view low);
+        }
+    stays_still NoOp stays = tt
+    stays_still EnableSlot stays = tt
+    stays_still (DisableSlot s) stays = tt
+    stays_still (ConfigureEndpoint s dc n) stays = tt
+    stays_still (EvaluateContext s n) stays = tt
+    stays_still (ResetEndpoint s i) stays = tt
+    stays_still (StopEndpoint s i) stays = tt
+    stays_still (SetTrDequeue s i p cycle) stays = tt
+    stays_still (ResetDevice s) stays = tt
+
+    drops_same : (c : Command) (s i : ℕ) → drops l c s i ≡ drops k c s i
+    unfolding drops
+    drops_same (ConfigureEndpoint t false n) s i = refl
+    drops_same (ConfigureEndpoint t true n) s i = refl
+    drops_same (AddressDevice t bsr n) s i = refl
+    drops_same NoOp s i = refl
+    drops_same EnableSlot s i = refl
+    drops_same (DisableSlot t) s i = refl
+    drops_same (EvaluateContext t n) s i = refl
+    drops_same (ResetEndpoint t j) s i = refl
+    drops_same (StopEndpoint t j) s i = refl
+    drops_same (SetTrDequeue t j p cycle) s i = refl
+    drops_same (ResetDevice t) s i = refl
+
+    streams_same : (c : Command) → commands.adds_streams g l c ≡ commands.adds_streams h k c
+    unfolding commands.adds_streams commands.streams_in
+    streams_same (AddressDevice s bsr n) = refl
+    streams_same (ConfigureEndpoint s false n) = refl
+    streams_same (ConfigureEndpoint s true n) = refl
+    streams_same NoOp = refl
+    streams_same EnableSlot = refl
+    streams_same (DisableSlot s) = refl
+    streams_same (EvaluateContext s n) = refl
+    streams_same (ResetEndpoint s i) = refl
+    streams_same (StopEndpoint s i) = refl
+    streams_same (SetTrDequeue s i p cycle) = refl
+    streams_same (ResetDevice s) = refl
+
+    command_keeps : (p : ℕ) (c : Command) → IsUnfinished h k p c → CommandKeeps g l p c
+    command_keeps p c u =
+        let old : CommandKeeps h k p c = d.unfinished p c u in
+        let bound : BoundStill c = bound_still p c u in
+        record {
+          alone = λ q e v other. old.alone q e (unfinished_before q e v) other;
+          good = good_still p c u old;
+          in_profile = streams_same c ∙ old.in_profile;
+          device = old.device;
+          binds = bound.placed;
+          repeats = ap (λ bs. has_repeats (map (ring_bound g) bs)) (binds_same c) ∙ ap has_repeats bound.same ∙ old.repeats;
+          unkept = λ r s i binds has. drops_same c s i ∙ old.unkept r s i (sym (bound.names r) ∙ binds) has;
+          unshared = λ r q e binds v other.
+              (bound_still q e (unfinished_before q e v)).names r ∙ old.unshared r q e (sym (bound.names r) ∙ binds) (unfinished_before q e v) other;
+          moves_on = moves_still c old.moves_on;
+          stays = stays_still c old.stays;
+        }
+
+    pub other_rings_keep : DriverKeeps g l
+    other_rings_keep = record {
+      rings = o.keeps;
+      restored = o.restored;
+      clean = o.clean;
+      command_ring = command_ring_keeps;
+      states = states_keep;
+      numbered = d.numbered;
+      unstarted = λ before. unstarted_keeps (d.unstarted before);
+      crcr = λ v at. named v (d.crcr v at);
+      crcr_written = d.crcr_written;
+      sized = λ written. subst (λ n. 0 < n) (sym o.size) (d.sized written);
+      erstsz_written = d.erstsz_written;
+      dequeued = d.dequeued;
+      read_room = λ some. subst (λ n. k.reads + 1 ≤ k.dequeue + n) (sym o.size) (d.read_room some);
+      devices = λ s e at. device_keeps s e (d.devices s e at) at;
+      unfinished = λ p c u. command_keeps p c (unfinished_before p c u);
+    }

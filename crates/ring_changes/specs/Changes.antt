@@ -1,0 +1,57 @@
+-- Rings that come and go. A header lists the rings that are there now: one that comes is listed too, one that goes is listed no more, and
+-- nothing is known of it any more: xHCI 4.9
+use Rattle.std.specs.Prelude.{◌≡◌, ℕ, ◌+◌, ◌*◌, ◌%◌, ◌<◌, ◌==◌, ◌||◌, Bool, not, [], ◌∷◌, ◌++◌, filter, is_some}
+use Rattle.std.specs.List.{list_any, range_with_len}
+use Rattle.guest_memory.specs.Memory.{put}
+use Rattle.trb.specs.declared.ring_kind.RingKind.TheVariants.{Xfer}
+use Rattle.segments.specs.declared.segment.Segment.{Segment}
+use Rattle.segments.specs.RingView.{new_ring}
+use Rattle.segments.specs.Shape.{IsShape}
+use Rattle.traces.specs.declared.header.Header.{Header}
+use Rattle.traces.specs.declared.ring.Ring.{Ring}
+use Rattle.traces.specs.Header.{is_ring, ring_with, touches_ring}
+use Rattle.world_state.specs.World.{World}
+use Rattle.ring_knowledge.specs.Known.{Known}
+use Rattle.ownership_rules.specs.Areas.{is_in_range_lease, is_soiled}
+use Rattle.ownership_rules.specs.Moves.{is_being_bound}
+use Rattle.safety.specs.EndpointsKeep.{is_transfer_ring}
+
+unfoldable pub with_ring : Header → Ring → Header
+with_ring h r = record h { rings = h.rings ++ r ∷ [] }
+
+unfoldable pub without_ring : Header → ℕ → Header
+without_ring h id = record h { rings = filter (λ r. not (r.id == id)) h.rings }
+
+unfoldable pub forgotten : Known → ℕ → Known
+forgotten k id = record k { ring = put k.ring id new_ring }
+
+-- nor of what the world did on it
+unfoldable pub emptied : World → ℕ → World
+emptied w id = record w { queue = put w.queue id []; lengths = put w.lengths id []; events = put w.events id []; reported = put w.reported id 0 }
+
+-- a ring that may come, by its line alone
+pub record IsComing (r : Ring) : Type 0 where
+  pub low : r.id < 256
+  pub kind : r.shape.kind ≡ Xfer
+  pub shape : IsShape r.shape
+
+-- the control word of a block of the segment shows the Cycle bit of the first lap
+unfoldable pub shows_first_lap : Known → Segment → Bool
+shows_first_lap k s = list_any (λ i. k.memory (s.base + 16 * i + 12) % 2 == 1) (range_with_len 0 s.count)
+
+-- an endpoint has the ring
+unfoldable pub is_had : Known → ℕ → Bool
+is_had k id = list_any (λ s. list_any (λ i. is_ring id (k.ring_of s i)) (range_with_len 1 31)) (range_with_len 1 255)
+
+module _ (h : Header) where
+  unfoldable pub is_bad_segment : Known → Segment → Bool
+  is_bad_segment k s =
+      touches_ring h s.base (16 * s.count) || is_in_range_lease h k s.base (16 * s.count) || is_soiled k s.base (16 * s.count) || shows_first_lap k s
+
+  -- a ring with its ID is there, or a segment touches a ring or a range under lease, has a soiled word, or shows the first lap's Cycle bit
+  unfoldable pub is_bad_ring : Known → Ring → Bool
+  is_bad_ring k r = is_some (ring_with h r.id) || list_any (is_bad_segment k) r.shape.segments
+
+  -- no transfer ring with this ID is there, or an endpoint has it, or an unfinished command binds it
+  unfoldable pub is_bad_free : Known → ℕ → Bool
+  is_bad_free k id = not (is_transfer_ring (ring_with h id)) || is_had k id || is_being_bound h k id
