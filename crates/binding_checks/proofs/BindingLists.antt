@@ -14,13 +14,13 @@ use Rattle.traces.specs.Header.{is_ring}
 use Rattle.ring_knowledge.specs.Known.{Known}
 use Rattle.ring_knowledge.specs.Rings.{unfinished}
 use Rattle.device_record.specs.Indices.{index_of}
-use Rattle.ownership_rules.specs.Moves.{Binding, binding_in, binds, binds_again, binds_ring, has_repeats, is_among, is_bad_binding, is_bad_place, is_being_bound, is_kept, is_placed, is_taken, ring_bound}
+use Rattle.ownership_rules.specs.Moves.{Binding, binding_in, binds, binds_again, binds_ring, has_repeats, is_among, is_bad_binding, is_bad_place, is_being_bound, is_kept, is_placed, is_taken, ring_bound, was_ring_bound}
 use Rattle.binding_checks.specs.declared.binding.RingBinding.{RingBinding}
 use Rattle.binding_checks.specs.declared.context.Dequeue.{Dequeue}
-use Rattle.binding_checks.specs.declared.ring_set.RingSet.{RingSet}
+use Rattle.trace_record.specs.declared.ring_set.RingSet.{RingSet}
 use Rattle.binding_checks.specs.Contexts.{dequeue_at, dequeue_in}
 use Rattle.binding_checks.specs.Bindings.{are_bad, binding_at, binding_of, bindings_from, is_bad, is_in_set, is_kept_ring, is_misplaced, is_to, was_bound}
-use Rattle.binding_checks.specs.RingSets.{has}
+use Rattle.trace_record.specs.RingSets.{has}
 use Rattle.binding_checks.proofs.Lists.{any_same, any_or, any_map, map_twice, or_none, or_true, crossed, or_assoc}
 
 pub range_is : (i : ℕ) → i < 32 → range_with_len i (32 - i) ≡ i ∷ range_with_len (i + 1) (32 - (i + 1))
@@ -84,31 +84,21 @@ module _ (h : Header) (k : Known) where
   binds_none (ConfigureEndpoint s dc n) first second = absurd (second s dc n refl)
   binds_none _ first second = refl
 
-  pub binding_names : (r : ℕ) (c : Command) → binds_ring h k r c ≡ true → is_some (named_slot c) ≡ true
-  unfolding binds_ring binds
-  binding_names r (AddressDevice s bsr n) e = refl
-  binding_names r (ConfigureEndpoint s dc n) e = refl
-  binding_names r _ e = absurd (cc)
-
-  -- a command that binds a ring names no endpoint
-  pub binding_whole : (r : ℕ) (c : Command) → binds_ring h k r c ≡ true → index_of c ≡ 0
-  unfolding binds_ring binds
-  binding_whole r (AddressDevice s bsr n) e = refl
-  binding_whole r (ConfigureEndpoint s dc n) e = refl
-  binding_whole r _ e = absurd (cc)
+  pub binds_no_ring : (c : Command) (r : ℕ) → binds h k c ≡ [] → binds_ring h k r c ≡ false
+  unfolding binds_ring
+  binds_no_ring c r none = ap (λ bs. list_any (λ b. is_ring r (ring_bound h b)) bs) none
 
   pub nothing_bad : (c : Command) → binds h k c ≡ [] → is_bad_binding h k c ≡ false
   unfolding is_bad_binding has_repeats
   nothing_bad c none = ap (λ bs. list_any (is_bad_place h k c) bs || has_repeats (map (ring_bound h) bs)) none
 
   -- with a set of the rings that unfinished commands bind
-  module _ (taken : RingSet) (all : (r : ℕ) → has taken r ≡ list_any (binds_ring h k r) (unfinished h k)) where
+  module _ (taken : RingSet) (all : (r : ℕ) → has taken r ≡ is_being_bound h k r) where
     place_is : (c : Command) (o : Option ℕ) (n : Bool) → (is_in_set taken o || (is_kept_ring h k c o || n)) ≡ (is_taken h k c o || n)
-    unfolding is_taken is_being_bound
+    unfolding is_taken
     place_is c None n = refl
     place_is c (Some r) n =
-        ap (λ b. b || (is_kept h k c r || n)) (all r) ∙ crossed (list_any (binds_ring h k r) (unfinished h k)) (is_kept h k c r) n
-        ∙ sym (or_assoc (is_kept h k c r) (list_any (binds_ring h k r) (unfinished h k)) n)
+        ap (λ b. b || (is_kept h k c r || n)) (all r) ∙ crossed (is_being_bound h k r) (is_kept h k c r) n ∙ sym (or_assoc (is_kept h k c r) (is_being_bound h k r) n)
 
     bad_place_is : (c : Command) (b : Binding) → is_bad (is_misplaced h k c) taken (with_ring b) ≡ is_bad_place h k c b
     unfolding is_bad_place
@@ -126,27 +116,9 @@ module _ (h : Header) (k : Known) where
   unfolding binds_again
   again_is c = ap (list_any (was_bound k)) (bindings_all c) ∙ any_map (was_bound k) with_ring (binds h k c)
 
-  some_none : {X : Type 0} (n : ℕ) → Some n ≡ None → X
-  some_none n e = cc
-
-  -- where no input context is under lease no command binds anything
-  binds_nothing : (c : Command) → named_context c ≡ None → binds h k c ≡ []
-  unfolding binds
-  binds_nothing (AddressDevice s bsr n) none = some_none n none
-  binds_nothing (ConfigureEndpoint s true n) none = refl
-  binds_nothing (ConfigureEndpoint s false n) none = some_none n none
-  binds_nothing _ none = refl
-
-  first_none : (o : Option ℕ) (xs : List ℕ) → cons_option o xs ≡ [] → (o ≡ None) × (xs ≡ [])
-  first_none None xs e = (refl, e)
-  first_none (Some a) xs e = absurd (cc)
-
-  pub none_bound : (r : ℕ) (cs : List Command) → filter_map named_context cs ≡ [] → list_any (binds_ring h k r) cs ≡ false
-  unfolding binds_ring
-  none_bound r [] e = refl
-  none_bound r (c ∷ cs) e =
-      let parts = first_none (named_context c) (filter_map named_context cs) e in
-      ap (λ bs. list_any (λ b. is_ring r (ring_bound h b)) bs || list_any (binds_ring h k r) cs) (binds_nothing c parts.0) ∙ none_bound r cs parts.1
+  pub again_none : (c : Command) → binds h k c ≡ [] → binds_again h k c ≡ false
+  unfolding binds_again
+  again_none c none = ap (λ bs. list_any (λ b. was_ring_bound k (ring_bound h b)) bs) none
 
 of_some : (h : Header) (o : Option Dequeue) (b : RingBinding) → option_map (binding_of h) o ≡ Some b → b ≡ binding_of h b.dequeue
 of_some h None b e = none_some e
@@ -167,6 +139,17 @@ of_dequeue h k c i b e = of_some h (dequeue_at h k c i) b e
 pub noted : (old new : RingSet) (r : ℕ) (b : RingBinding) (rest : List RingBinding) → has new r ≡ (is_to r b || has old r) →
     (has new r || list_any (is_to r) rest) ≡ (has old r || list_any (is_to r) (b ∷ rest))
 noted old new r b rest is = ap (λ x. x || list_any (is_to r) rest) is ∙ or_assoc (is_to r b) (has old r) (list_any (is_to r) rest) ∙ crossed (is_to r b) (has old r) (list_any (is_to r) rest)
+
+-- its ring is forgotten
+pub forgotten : (old new : RingSet) (r : ℕ) (b : RingBinding) (rest : List RingBinding) → has new r ≡ (not (is_to r b) && has old r) →
+    (has new r && not (list_any (is_to r) rest)) ≡ (has old r && not (list_any (is_to r) (b ∷ rest)))
+forgotten old new r b rest is = ap (λ x. x && not (list_any (is_to r) rest)) is ∙ by (is_to r b) (has old r)
+  where
+    by : (a b : Bool) → ((not a && b) && not (list_any (is_to r) rest)) ≡ (b && not (a || list_any (is_to r) rest))
+    by true true = refl
+    by true false = refl
+    by false true = refl
+    by false false = refl
 
 either_way : (m n : ℕ) → (m == n) ≡ (n == m)
 either_way m n = grind (arith, nat_tests)

@@ -9,9 +9,9 @@ use Rattle.ring_knowledge.specs.Known.{Known}
 use Rattle.ownership_rules.specs.Moves.{Binding, has_repeats, is_kept, is_placed, was_ring_bound}
 use Rattle.binding_checks.specs.declared.binding.RingBinding.{RingBinding}
 use Rattle.binding_checks.specs.declared.context.Dequeue.{Dequeue}
-use Rattle.binding_checks.specs.declared.ring_set.RingSet.{RingSet}
+use Rattle.trace_record.specs.declared.ring_set.RingSet.{RingSet}
 use Rattle.binding_checks.specs.Contexts.{dequeue_at}
-use Rattle.binding_checks.specs.RingSets.{has}
+use Rattle.trace_record.specs.RingSets.{has}
 
 abbrev pub binding_of : Header → Dequeue → RingBinding
 binding_of h d = record { ring = ring_having h d.pointer; dequeue = d }

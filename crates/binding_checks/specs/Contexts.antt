@@ -1,7 +1,7 @@
 -- What commands say of the rings of endpoints: xHCI 4.6.5, 4.6.6, 6.2.3
-use Rattle.std.specs.Prelude.{◌≡◌, ℕ, ◌==◌, ◌&&◌, if◌then◌else◌, false, Option, Some, None, nat_le}
+use Rattle.std.specs.Prelude.{◌≡◌, ℕ, ◌<◌, ◌==◌, ◌&&◌, if◌then◌else◌, false, Option, Some, None, nat_le}
 use Rattle.contexts.specs.declared.size.ContextSize.{ContextSize}
-use Rattle.contexts.specs.Contexts.{context_cycle, context_pointer, input_add_flag}
+use Rattle.contexts.specs.Contexts.{context_cycle, context_pointer, has_flag, input_add_flag}
 use Rattle.commands.specs.declared.command.Command.{Command}
 use Rattle.commands.specs.declared.command.Command.TheVariants.{AddressDevice, ConfigureEndpoint}
 use Rattle.commands.specs.States.{is_off}
@@ -20,6 +20,10 @@ abbrev pub dequeue_at : Header → Known → Command → ℕ → Option Dequeue
 dequeue_at h k (AddressDevice s bsr c) i = if i == 1 && is_off (k.endpoint_state s 1) then Some (dequeue_in h.context_size k.memory c 1) else None
 dequeue_at h k (ConfigureEndpoint s false c) i = if nat_le 2 i && input_add_flag k.memory c i then Some (dequeue_in h.context_size k.memory c i) else None
 dequeue_at h k _ i = None
+
+-- a word has a bit for the index of each endpoint that the command binds
+abbrev pub HasBound : Header → Known → Command → ℕ → Type 0
+HasBound h k c word = (i : ℕ) → i < 32 → has_flag word i ≡ false → dequeue_at h k c i ≡ None
 
 -- the record and the memory hold what is known of slots, endpoints and contexts
 pub record HoldsContexts (k : Known) (devices : DeviceRecord) (memory : ℕ → ℕ) : Type 0 where

@@ -6,8 +6,8 @@ use Rattle.commands.specs.declared.command.Command.{Command}
 use Rattle.commands.specs.declared.command.Command.TheVariants.{ConfigureEndpoint}
 use Rattle.traces.specs.Header.{is_ring}
 use Rattle.ring_knowledge.specs.Known.{Known}
-use Rattle.binding_checks.specs.declared.ring_set.RingSet.{RingSet}
-use Rattle.binding_checks.specs.RingSets.{has}
+use Rattle.trace_record.specs.declared.ring_set.RingSet.{RingSet}
+use Rattle.trace_record.specs.RingSets.{has}
 
 -- the command drops the endpoint of its slot with index i, which has ring r
 abbrev pub leaves : Known → Command → ℕ → ℕ → Bool

@@ -1,28 +1,28 @@
-ghost use Rattle.std.specs.Prelude.{◌≡◌, ◌<◌, ◌||◌, ℕ, ◌∷◌, List, not};
+ghost use Rattle.std.specs.Prelude.{◌≡◌, ◌<◌, ◌&&◌, ◌||◌, ℕ, [], ◌∷◌, List, false, not};
 ghost use Rattle.traces.specs.Header.{IsHeader};
+ghost use Rattle.traces.specs.declared.header.Header.{Header as HeaderValue};
 ghost use Rattle.ring_finder.specs.Finding.{IsFinder};
 ghost use Rattle.commands.specs.declared.command.Command.{Command as CommandValue};
 ghost use Rattle.ring_knowledge.specs.Known.{Known};
 ghost use Rattle.device_record.specs.Devices.{FollowsDevices};
-ghost use Rattle.ownership_rules.specs.Moves.{binds_again, binds_ring};
+ghost use Rattle.ownership_rules.specs.Moves.{binds, binds_again, binds_ring};
 ghost use Rattle.safety.specs.Keeps.{DriverKeeps};
 ghost use Rattle.trace_record.specs.FollowsTrace.{FollowsTrace};
 ghost use Rattle.trace_record.specs.Premises.{FitsMemory};
-ghost use Rattle.binding_checks.specs.Contexts.{HoldsContexts};
+ghost use Rattle.binding_checks.specs.Contexts.{HasBound, HoldsContexts};
 ghost use Rattle.binding_checks.specs.Bindings.{are_bad, binding_at, binding_of, bindings_from, is_misplaced, is_to, was_bound};
 ghost use Rattle.binding_checks.specs.Dropped.{HoldsDropped};
-ghost use Rattle.binding_checks.specs.RingSets.{has};
+ghost use Rattle.trace_record.specs.RingSets.{has};
 ghost use Rattle.binding_checks.specs.declared.binding.RingBinding.{RingBinding as BindingValue};
 
-use crate::context::{Dequeue, dequeue_at};
+use crate::context::{Dequeue, bound_flags, dequeue_at, has_flag};
 use crate::dropped::is_kept;
 use crate::placements::may_be_bound;
-use crate::ring_set::RingSet;
 use commands::Command;
 use device_record::DeviceRecord;
 use guest_memory::WordMemory;
 use ring_finder::Finder;
-use trace_record::TraceRecord;
+use trace_record::{RingSet, TraceRecord};
 use traces::Header;
 
 /// The transfer ring that an endpoint is bound to, where the pointer names a block of one, and where on it.
@@ -44,29 +44,43 @@ fn binding_of(header: &Header, finder: &Finder, dequeue: Dequeue) -> RingBinding
     }
 }
 
-/// What a command binds the endpoint of an index to, if to anything.
+/// What a command binds the endpoint of an index to, if to anything: where `flags` doesn't have the index, to nothing.
 pub(crate) fn binding_at<M: WordMemory>(
     header: &Header,
     finder: &Finder,
     devices: &DeviceRecord,
     memory: &M,
     command: &Command,
+    flags: u32,
     index: u8,
 ) -> Option<RingBinding>
     requires headed { IsHeader header.now }
     requires found { IsFinder header.now.rings finder.now }
     requires last { index < 32 }
     ensures { (k : Known) → HoldsContexts k devices.now (M.words memory.now) → FitsMemory header.now.context_size command.now →
-        result ≡ binding_at header.now k command.now index }
+        HasBound header.now k command.now flags → result ≡ binding_at header.now k command.now index }
 {
+    if !has_flag(flags, index) {
+        return None;
+    }
     match dequeue_at(header, devices, memory, command, index) {
         None => None,
         Some(dequeue) => Some(binding_of(header, finder, dequeue)),
     }
 }
 
+/// Whether the command is one that may add endpoints.
+pub(crate) fn adds_endpoints(command: &Command) -> bool
+    ensures { (h : HeaderValue) (k : Known) → result ≡ false → binds h k command.now ≡ [] }
+{
+    matches!(
+        *command,
+        Command::AddressDevice { .. } | Command::ConfigureEndpoint { .. }
+    )
+}
+
 /// Notes the rings that a command binds.
-pub(crate) fn note_bound<M: WordMemory>(
+pub fn note_bound<M: WordMemory>(
     header: &Header,
     finder: &Finder,
     devices: &DeviceRecord,
@@ -79,8 +93,12 @@ pub(crate) fn note_bound<M: WordMemory>(
     ensures { (k : Known) → HoldsContexts k devices.now (M.words memory.now) → FitsMemory header.now.context_size command.now →
         (r : ℕ) → has rings.new r ≡ (has rings.old r || binds_ring header.now k r command.now) }
 {
+    if !adds_endpoints(command) {
+        return;
+    }
+    let flags = bound_flags(memory, command);
     for index in 1..32 {
-        if let Some(binding) = binding_at(header, finder, devices, memory, command, index) {
+        if let Some(binding) = binding_at(header, finder, devices, memory, command, flags, index) {
             note(rings, binding);
         }
     }
@@ -93,6 +111,41 @@ fn note(rings: &mut RingSet, binding: RingBinding)
     match binding.ring {
         None => {}
         Some(ring) => rings.insert(ring),
+    }
+}
+
+/// Forgets the rings that a command binds.
+pub fn forget_bound<M: WordMemory>(
+    header: &Header,
+    finder: &Finder,
+    devices: &DeviceRecord,
+    memory: &M,
+    command: &Command,
+    rings: &mut RingSet,
+)
+    requires headed { IsHeader header.now }
+    requires found { IsFinder header.now.rings finder.now }
+    ensures { (k : Known) → HoldsContexts k devices.now (M.words memory.now) → FitsMemory header.now.context_size command.now →
+        (r : ℕ) → has rings.new r ≡ (has rings.old r && not (binds_ring header.now k r command.now)) }
+{
+    if !adds_endpoints(command) {
+        return;
+    }
+    let flags = bound_flags(memory, command);
+    for index in 1..32 {
+        if let Some(binding) = binding_at(header, finder, devices, memory, command, flags, index) {
+            forget(rings, binding);
+        }
+    }
+}
+
+/// Forgets the ring of a binding.
+fn forget(rings: &mut RingSet, binding: RingBinding)
+    ensures { (r : ℕ) → has rings.new r ≡ (not (is_to r binding) && has rings.old r) }
+{
+    match binding.ring {
+        None => {}
+        Some(ring) => rings.remove(ring),
     }
 }
 
@@ -145,8 +198,11 @@ pub(crate) fn binds_badly<M: WordMemory>(
         HoldsDropped k command.now dropped.now →
         result ≡ are_bad (is_misplaced header.now k command.now) taken.old (bindings_from header.now k command.now 1) }
 {
+    let flags = bound_flags(memory, command);
     for index in 1..32 {
-        if let Some(binding) = binding_at(header, finder, &t.devices, memory, command, index) {
+        if let Some(binding) = binding_at(
+            header, finder, &t.devices, memory, command, flags, index,
+        ) {
             if !take(header, finder, t, dropped, binding, taken) {
                 return true;
             }
@@ -168,8 +224,12 @@ pub fn binds_again<M: WordMemory>(
     ensures { (k : Known) → HoldsContexts k devices.now (M.words memory.now) → FitsMemory header.now.context_size command.now →
         result ≡ binds_again header.now k command.now }
 {
+    if !adds_endpoints(command) {
+        return false;
+    }
+    let flags = bound_flags(memory, command);
     for index in 1..32 {
-        if let Some(binding) = binding_at(header, finder, devices, memory, command, index) {
+        if let Some(binding) = binding_at(header, finder, devices, memory, command, flags, index) {
             if was_bound(devices, binding) {
                 return true;
             }

@@ -1,15 +1,16 @@
 ghost use Rattle.std.specs.Prelude.{◌≡◌, ◌+◌, ◌%◌, ◌^◌, ◌<◌, ◌≤◌, ℕ, Bool, Some};
 ghost use Rattle.commands.specs.declared.command.Command.TheVariants.{AddressDevice, ConfigureEndpoint};
 ghost use Rattle.commands.specs.States.{is_off};
-ghost use Rattle.contexts.specs.Contexts.{input_add_flag, input_context_bytes, is_dropped};
+ghost use Rattle.contexts.specs.Contexts.{has_flag, input_add_flag, input_context_bytes, is_dropped};
+ghost use Rattle.traces.specs.declared.header.Header.{Header as HeaderValue};
 ghost use Rattle.ring_knowledge.specs.Known.{Known};
 ghost use Rattle.trace_record.specs.Premises.{FitsMemory};
-ghost use Rattle.binding_checks.specs.Contexts.{HoldsContexts, dequeue_at, dequeue_in};
+ghost use Rattle.binding_checks.specs.Contexts.{HasBound, HoldsContexts, dequeue_at, dequeue_in};
 
 use commands::{Command, EndpointState};
 use contexts::{ContextSize, InputContext};
 use device_record::DeviceRecord;
-use guest_memory::WordMemory;
+use guest_memory::{Addr, WordMemory};
 use traces::Header;
 
 /// Where a controller reads the next block of an endpoint's ring, and with which cycle state (xHCI 6.2.3).
@@ -24,6 +25,38 @@ pub(crate) fn is_off(state: EndpointState) -> bool
     ensures { result ≡ is_off state }
 {
     matches!(state, EndpointState::Disabled)
+}
+
+/// Whether bit `index` of a word is 1.
+pub(crate) fn has_flag(word: u32, index: u8) -> bool
+    requires { index < 32 }
+    ensures { result ≡ has_flag word index }
+{
+    (word >> index) % 2 == 1
+}
+
+/// The word of the Add Context flags in the input context at an address (xHCI 6.2.5.1).
+fn add_flags<M: WordMemory>(memory: &M, address: u64) -> u32
+    ensures { address % 4 ≡ 0 → address + 8 ≤ 2 ^ 64 → result ≡ M.words memory.now (address + 4) }
+{
+    let Some(second) = address.checked_add(4) else {
+        return 0;
+    };
+    match Addr::new(second) {
+        Some(at) => memory.word(at),
+        None => 0,
+    }
+}
+
+/// A word that has a bit for the index of each endpoint that a command may bind.
+pub(crate) fn bound_flags<M: WordMemory>(memory: &M, command: &Command) -> u32
+    ensures { (h : HeaderValue) (k : Known) → ((a : ℕ) → k.memory a ≡ M.words memory.now a) → FitsMemory h.context_size command.now → HasBound h k command.now result }
+{
+    match *command {
+        Command::AddressDevice { .. } => 2,
+        Command::ConfigureEndpoint { input_context, .. } => add_flags(memory, input_context),
+        _ => 0,
+    }
 }
 
 /// Whether the input context at an address adds an endpoint (xHCI 6.2.5.1). None lies there that doesn't end within memory.

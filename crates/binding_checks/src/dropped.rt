@@ -8,13 +8,13 @@ ghost use Rattle.safety.specs.Keeps.{DriverKeeps};
 ghost use Rattle.trace_record.specs.Premises.{FitsMemory};
 ghost use Rattle.binding_checks.specs.Contexts.{HoldsContexts};
 ghost use Rattle.binding_checks.specs.Dropped.{HoldsDropped, leaves};
-ghost use Rattle.binding_checks.specs.RingSets.{has};
+ghost use Rattle.trace_record.specs.RingSets.{has};
 
 use crate::context::drops;
-use crate::ring_set::RingSet;
 use commands::Command;
 use device_record::DeviceRecord;
 use guest_memory::WordMemory;
+use trace_record::RingSet;
 use traces::Header;
 
 /// The rings of the endpoints that a command drops (xHCI 4.6.6).

@@ -8,9 +8,8 @@ mod dropped;
 mod moved;
 mod moves;
 mod placements;
-mod ring_set;
 
-pub use binding::binds_again;
+pub use binding::{binds_again, forget_bound, note_bound};
 pub use bound::{awaits_binding, is_bad_binding};
 pub use moved::is_being_moved;
 pub use moves::is_bad_move;

@@ -2,6 +2,7 @@ ghost use Rattle.std.specs.Prelude.{◌≡◌, ◌==◌, ◌<◌, ℕ, length, p
 ghost use Rattle.commands.specs.States.{is_at_rest};
 ghost use Rattle.traces.specs.Header.{IsHeader};
 ghost use Rattle.ring_knowledge.specs.Known.{Known};
+ghost use Rattle.ring_finder.specs.Finding.{IsFinder};
 ghost use Rattle.ownership_rules.specs.Moves.{is_bad_dequeue, is_bad_move, is_bad_stay};
 ghost use Rattle.safety.specs.Keeps.{DriverKeeps};
 ghost use Rattle.trace_record.specs.FollowsTrace.{FollowsTrace};
@@ -10,6 +11,7 @@ ghost use Rattle.trace_record.specs.Premises.{FitsMemory};
 use crate::context::{Dequeue, dequeue_in, is_off};
 use commands::{Command, EndpointState};
 use guest_memory::WordMemory;
+use ring_finder::Finder;
 use trace_record::TraceRecord;
 use traces::Header;
 
@@ -17,11 +19,13 @@ use traces::Header;
 /// (xHCI 4.6.5, 4.6.10).
 pub fn is_bad_move<M: WordMemory>(
     header: &Header,
+    finder: &Finder,
     t: &TraceRecord,
     memory: &M,
     command: &Command,
 ) -> bool
     requires headed { IsHeader header.now }
+    requires found { IsFinder header.now.rings finder.now }
     ensures { (k : Known) → FollowsTrace header.now k t.now (M.words memory.now) → DriverKeeps header.now k → FitsMemory header.now.context_size command.now →
         result ≡ is_bad_move header.now k command.now }
 {
@@ -39,7 +43,7 @@ pub fn is_bad_move<M: WordMemory>(
                 pointer: dequeue,
                 cycle,
             };
-            is_bad_dequeue(header, t, slot, endpoint, dequeue)
+            is_bad_dequeue(header, finder, t, slot, endpoint, dequeue)
         }
         Command::AddressDevice {
             slot,
@@ -51,7 +55,7 @@ pub fn is_bad_move<M: WordMemory>(
             }
             match dequeue_in(memory, header.context_size, input_context, 1) {
                 None => true,
-                Some(dequeue) => is_bad_stay(header, t, slot, dequeue),
+                Some(dequeue) => is_bad_stay(header, finder, t, slot, dequeue),
             }
         }
         _ => false,
@@ -68,19 +72,21 @@ fn is_at_rest(state: EndpointState) -> bool
 /// Whether an endpoint's ring may not be moved on to where a Set TR Dequeue Pointer puts it (xHCI 4.6.10).
 fn is_bad_dequeue(
     header: &Header,
+    finder: &Finder,
     t: &TraceRecord,
     slot: u8,
     endpoint: u8,
     dequeue: Dequeue,
 ) -> bool
     requires headed { IsHeader header.now }
+    requires found { IsFinder header.now.rings finder.now }
     ensures { (k : Known) (memory : ℕ → ℕ) → FollowsTrace header.now k t.now memory → DriverKeeps header.now k →
         result ≡ is_bad_dequeue header.now k (k.ring_of slot endpoint) dequeue.pointer dequeue.cycle }
 {
     let Some(id) = t.devices.ring_of(slot, endpoint) else {
         return true;
     };
-    let Some(number) = number_of(header, t, id) else {
+    let Some(number) = number_of(header, finder, t, id) else {
         return true;
     };
     let rings = header.rings.as_slice();
@@ -90,15 +96,22 @@ fn is_bad_dequeue(
 
 /// Whether something is left on the ring of a slot's default control endpoint, or a second Address Device moves its pointer
 /// (xHCI 4.6.5).
-fn is_bad_stay(header: &Header, t: &TraceRecord, slot: u8, dequeue: Dequeue) -> bool
+fn is_bad_stay(
+    header: &Header,
+    finder: &Finder,
+    t: &TraceRecord,
+    slot: u8,
+    dequeue: Dequeue,
+) -> bool
     requires headed { IsHeader header.now }
+    requires found { IsFinder header.now.rings finder.now }
     ensures { (k : Known) (memory : ℕ → ℕ) → FollowsTrace header.now k t.now memory → DriverKeeps header.now k →
         result ≡ is_bad_stay header.now k (k.ring_of slot 1) (record { pointer = dequeue.pointer; cycle = dequeue.cycle }) }
 {
     let Some(id) = t.devices.ring_of(slot, 1) else {
         return true;
     };
-    let Some(number) = number_of(header, t, id) else {
+    let Some(number) = number_of(header, finder, t, id) else {
         return true;
     };
     let rings = header.rings.as_slice();
@@ -111,11 +124,12 @@ fn is_bad_stay(header: &Header, t: &TraceRecord, slot: u8, dequeue: Dequeue) -> 
 }
 
 /// The number of the ring with this ID, where there is a record of it.
-fn number_of(header: &Header, t: &TraceRecord, id: u8) -> Option<usize>
+fn number_of(header: &Header, finder: &Finder, t: &TraceRecord, id: u8) -> Option<usize>
+    requires { IsFinder header.now.rings finder.now }
     ensures number { length t.now.rings.items ≡ length header.now.rings → result ≡ position (λ ring. ring.id == id) header.now.rings }
     ensures kept { IfSome result (λ number. (number < length header.now.rings) × (number < length t.now.rings.items)) }
 {
-    let Some(number) = number_in(header, id) else {
+    let Some(number) = number_in(header, finder, id) else {
         return None;
     };
     if number < t.rings.len() {
@@ -126,12 +140,9 @@ fn number_of(header: &Header, t: &TraceRecord, id: u8) -> Option<usize>
 }
 
 /// The number of the ring with this ID.
-fn number_in(header: &Header, id: u8) -> Option<usize>
+fn number_in(header: &Header, finder: &Finder, id: u8) -> Option<usize>
+    requires { IsFinder header.now.rings finder.now }
     ensures { result ≡ position (λ ring. ring.id == id) header.now.rings }
 {
-    header
-        .rings
-        .as_slice()
-        .iter()
-        .position(|ring| ring.id == id)
+    finder.ring_named(id)
 }

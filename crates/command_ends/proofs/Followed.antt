@@ -1,5 +1,6 @@
 -- What the record of a trace holds behind a completion
 use Rattle.command_ends.proofs.Words.{◌≡◌, ◌∙◌, ℕ, Option, Some, None, ap, sym, subst, RingChange, device_context_bytes, input_context_bytes, Header, EventState, RegisterRecord, Known, on_ring, unfinished, FollowsRegisters, FollowsRings, FollowsDevices, FollowsUnfinished, follows_beside, HoldsAreas, HoldsSoiled, TraceRecord, FollowsEvents, FollowsTrace, device_contexts, inputs_of}
+use Rattle.trace_record.specs.FollowsTrace.{HoldsBound}
 use Rattle.command_ends.proofs.Rest.{IsRest}
 
 module _ (k l : Known) (f : ℕ → Option ℕ) (rest : IsRest k l f) where
@@ -42,10 +43,10 @@ module _ (h : Header) (k l : Known) (r : ℕ) (change : RingChange) (t new : Tra
 
   -- from what the rest of the record holds
   pub followed_behind : (f : ℕ → Option ℕ) → IsRest k l f → new.registers ≡ t.registers → new.events ≡ t.events → new.soiled ≡ t.soiled →
-      FollowsRings h behind new.rings.items → FollowsDevices l new.devices → FollowsUnfinished (unfinished h behind) new.commands →
+      FollowsRings h behind new.rings.items → FollowsDevices l new.devices → FollowsUnfinished (unfinished h behind) new.commands → HoldsBound h behind new.bound →
       HoldsAreas (input_context_bytes h.context_size) (inputs_of (unfinished h behind)) new.inputs →
       HoldsAreas (device_context_bytes h.context_size) (device_contexts l) new.contexts → FollowsTrace h behind new memory
-  followed_behind f rest registers events soiled rings devices commands inputs contexts =
+  followed_behind f rest registers events soiled rings devices commands bound inputs contexts =
       let on : IsRest k behind f = on_rest f rest in
       record {
         words = λ a. ap (λ m. m a) on.memory ∙ follows.words a;
@@ -54,6 +55,7 @@ module _ (h : Header) (k l : Known) (r : ℕ) (change : RingChange) (t new : Tra
         events = subst (λ (x : Option EventState). FollowsEvents h behind x) (sym events) (events_still k behind f on h t.events follows.events);
         devices = on_devices devices;
         commands = commands;
+        bound = bound;
         inputs = inputs;
         contexts = on_contexts contexts;
         soiled = subst (λ s. HoldsSoiled behind.soiled s) (sym soiled) (subst (λ g. HoldsSoiled g t.soiled) (sym on.soiled) follows.soiled);

@@ -7,5 +7,6 @@ pub mod Succeeded
 pub mod Rest
 pub mod Slots
 pub mod Finished
-pub mod Followed
+pub mod BoundBehind
+mod Followed
 pub mod Words

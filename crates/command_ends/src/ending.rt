@@ -25,6 +25,7 @@ ghost use Rattle.command_ends.specs.Places.{AreSlots, FollowsPlaces, HasWords, I
 
 use crate::next::next_command;
 use crate::success::succeed;
+use binding_checks::forget_bound;
 use commands::Command;
 use device_record::DeviceRecord;
 use guest_memory::WordMemory;
@@ -53,6 +54,7 @@ pub fn finish<M: WordMemory>(
         return;
     };
     leave_context(&mut t.contexts, &t.devices, &command, block);
+    forget_bound(header, finder, &t.devices, memory, &command, &mut t.bound);
     end_command(
         header,
         finder,

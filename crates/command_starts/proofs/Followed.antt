@@ -26,7 +26,7 @@ use Rattle.range_words.specs.Holding.{HoldsAreas, HoldsSoiled}
 use Rattle.safety.proofs.RowFrames.{SameRegisters, write_leaves}
 use Rattle.safety.proofs.WrittenKnown.{taken, written_memory, written_ring}
 use Rattle.trace_record.specs.declared.trace_record.TraceRecord.{TraceRecord}
-use Rattle.trace_record.specs.FollowsTrace.{FollowsTrace, FollowsEvents, inputs_of, device_contexts}
+use Rattle.trace_record.specs.FollowsTrace.{FollowsTrace, FollowsEvents, HoldsBound, inputs_of, device_contexts}
 
 -- what three clauses of one call say together
 pub from_three : {T E P Q R S : Type 0} (r : Result T E) → OnOk r P → OnOk r Q → OnOk r R → (P → Q → R → S) → OnOk r S
@@ -75,17 +75,18 @@ module _ (h : Header) (k : Known) (a w : ℕ) where
       ((b : ℕ) → now b ≡ put memory a w b) →
       FollowsRings h (with_word h k a w) after.rings.items →
       after.registers ≡ t.registers → after.events ≡ t.events →
-      FollowsDevices l after.devices → FollowsUnfinished (unfinished h l) after.commands →
+      FollowsDevices l after.devices → FollowsUnfinished (unfinished h l) after.commands → HoldsBound h l after.bound →
       HoldsAreas (input_context_bytes h.context_size) (inputs_of (unfinished h l)) after.inputs →
       HoldsAreas (device_context_bytes h.context_size) (device_contexts l) after.contexts →
       HoldsSoiled l.soiled after.soiled → FollowsTrace h l after now
-  followed t memory f after now words rings registers events devices commands inputs contexts soiled = record {
+  followed t memory f after now words rings registers events devices commands bound inputs contexts soiled = record {
     words = λ b. ap (λ g. g b) (written_memory h k a w) ∙ put_same b ∙ sym (words b);
     rings = rings_still after.rings.items rings;
     registers = subst (λ r. FollowsRegisters l r) (sym registers) (registers_still h k l (write_leaves h k a w).registers t.registers f.registers);
     events = subst (λ e. FollowsEvents h l e) (sym events) (events_still h k l (write_leaves h k a w).registers t.events f.events);
     devices = devices;
     commands = commands;
+    bound = bound;
     inputs = inputs;
     contexts = contexts;
     soiled = soiled;

@@ -5,4 +5,5 @@ pub mod Taking
 pub mod SlotLists
 pub mod GivenEndpoint
 pub mod GivenNow
+pub mod BoundNow
 pub mod Followed

@@ -1,5 +1,5 @@
 -- What a command that is given adds to what is held
-use Rattle.std.specs.Prelude.{◌≡◌, ℕ, ◌+◌, ◌%◌, ◌^◌, ◌≤◌, false, List, ◌∷◌, ◌++◌, Option, None, Some, option_map}
+use Rattle.std.specs.Prelude.{◌≡◌, ℕ, ◌+◌, ◌%◌, ◌^◌, ◌≤◌, Bool, false, List, ◌∷◌, ◌++◌, Option, None, Some, option_map}
 use Rattle.std.specs.List.{list_any}
 use Rattle.contexts.specs.declared.size.ContextSize.{ContextSize}
 use Rattle.contexts.specs.Contexts.{device_context_bytes}
@@ -7,8 +7,10 @@ use Rattle.commands.specs.declared.command.Command.{Command}
 use Rattle.commands.specs.declared.command.Command.TheVariants.{AddressDevice}
 use Rattle.commands.specs.Command.{exclude}
 use Rattle.device_record.specs.Indices.{NamesEndpoint}
+use Rattle.traces.specs.declared.header.Header.{Header}
 use Rattle.ring_knowledge.specs.Known.{Known}
 use Rattle.ring_knowledge.specs.Writes.{entry_of}
+use Rattle.ownership_rules.specs.Moves.{binds_ring}
 
 -- the new list is the old one with x at some place
 pub record IsInserted {X : Type 0} (x : X) (old new : List X) : Type 0 where
@@ -21,6 +23,11 @@ pub record IsInserted {X : Type 0} (x : X) (old new : List X) : Type 0 where
 abbrev pub IsWith : {X : Type 0} → Option X → List X → List X → Type 0
 IsWith None old new = new ≡ old
 IsWith (Some x) old new = IsInserted x old new
+
+-- the command, if there is one, binds ring r
+abbrev pub binds_ring_if : Header → Known → ℕ → Option Command → Bool
+binds_ring_if h k r None = false
+binds_ring_if h k r (Some c) = binds_ring h k r c
 
 -- none of these commands excludes it, and the endpoint that it names, if it names one, is one that a slot has
 abbrev pub MayBeGiven : Option Command → List Command → Type 0

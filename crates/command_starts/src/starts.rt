@@ -1,4 +1,4 @@
-ghost use Rattle.std.specs.Prelude.{◌≡◌, ℕ, List, [], ◌∷◌, false, OnOk};
+ghost use Rattle.std.specs.Prelude.{◌≡◌, ◌||◌, ℕ, List, [], ◌∷◌, false, IfSome, OnOk};
 ghost use Rattle.commands.specs.declared.command.Command.{Command as CommandValue};
 ghost use Rattle.traces.specs.Header.{IsHeader};
 ghost use Rattle.traces.specs.declared.row.Row.TheVariants.{Write};
@@ -6,21 +6,27 @@ ghost use Rattle.ring_knowledge.specs.Known.{Known};
 ghost use Rattle.ring_knowledge.specs.Learned.{learned};
 ghost use Rattle.ring_knowledge.specs.Writes.{command_given};
 ghost use Rattle.ownership_rules.specs.Rules.{lenient};
+ghost use Rattle.ring_finder.specs.Finding.{IsFinder};
 ghost use Rattle.safety.specs.Keeps.{DriverKeeps};
 ghost use Rattle.device_record.specs.Unfinished.{FollowsUnfinished};
 ghost use Rattle.range_words.specs.Holding.{HoldsAreas};
 ghost use Rattle.trace_record.specs.FollowsTrace.{FollowsTrace, inputs_of};
+ghost use Rattle.trace_record.specs.Premises.{FitsMemory};
+ghost use Rattle.trace_record.specs.RingSets.{has};
 ghost use Rattle.trace_record.specs.WordPlaces.{IsPlacedSo};
-ghost use Rattle.command_starts.specs.Starting.{IsWith, MayBeGiven};
+ghost use Rattle.binding_checks.specs.Contexts.{HoldsContexts};
+ghost use Rattle.command_starts.specs.Starting.{IsWith, MayBeGiven, binds_ring_if};
 
 use crate::devices::{add_area, device_taken, take_device};
 use crate::rings::note_on_ring;
+use binding_checks::note_bound;
 use commands::Command;
-use device_record::UnfinishedCommands;
+use device_record::{DeviceRecord, UnfinishedCommands};
 use guest_memory::{Addr, WordMemory};
 use range_words::Areas;
+use ring_finder::Finder;
 use std::alloc::AllocError;
-use trace_record::{TraceRecord, WordPlace};
+use trace_record::{RingSet, TraceRecord, WordPlace};
 use traces::Header;
 
 /// Makes a write that breaks no rule, and notes what it gives (xHCI 4.9.2): `place` is where the word lies, `command` the command that it gives, if it gives
@@ -28,6 +34,7 @@ use traces::Header;
 /// `AllocError` where memory is wanting; the record is then of no more use.
 pub fn note_write<M: WordMemory>(
     header: &Header,
+    finder: &Finder,
     t: &mut TraceRecord,
     memory: &mut M,
     at: Addr,
@@ -35,7 +42,8 @@ pub fn note_write<M: WordMemory>(
     place: WordPlace,
     command: Option<Command>,
 ) -> Result<(), AllocError>
-    requires { IsHeader header.now }
+    requires headed { IsHeader header.now }
+    requires found { IsFinder header.now.rings finder.now }
     ensures ok { OnOk result ((k : Known) → FollowsTrace header.now k t.old (M.words memory.old) → IsPlacedSo header.now k at word place → command ≡ command_given header.now k at word →
         DriverKeeps header.now k → lenient header.now k (Write at word) ≡ [] → k.stopped ≡ false →
         FollowsTrace header.now (learned header.now k (Write at word)) t.new (M.words memory.new)) }
@@ -46,6 +54,7 @@ pub fn note_write<M: WordMemory>(
     note_on_ring(header, &mut t.rings, place);
     t.soiled.clear(at)?;
     note_given(&mut t.commands, &mut t.inputs, command)?;
+    note_rings(header, finder, &t.devices, memory, command, &mut t.bound);
     take_device(
         &mut t.devices,
         &mut t.contexts,
@@ -53,6 +62,25 @@ pub fn note_write<M: WordMemory>(
         header.context_size,
         taken,
     )
+}
+
+/// The rings that the command binds which is given, if one is, are bound from now on (xHCI 4.6.5, 4.6.6).
+fn note_rings<M: WordMemory>(
+    header: &Header,
+    finder: &Finder,
+    devices: &DeviceRecord,
+    memory: &M,
+    command: Option<Command>,
+    bound: &mut RingSet,
+)
+    requires headed { IsHeader header.now }
+    requires found { IsFinder header.now.rings finder.now }
+    ensures { (k : Known) → HoldsContexts k devices.now (M.words memory.now) → IfSome command (FitsMemory header.now.context_size) →
+        (r : ℕ) → has bound.new r ≡ (has bound.old r || binds_ring_if header.now k r command) }
+{
+    if let Some(command) = command {
+        note_bound(header, finder, devices, memory, &command, bound);
+    }
 }
 
 /// The command that is given, if one is, is unfinished, and its input context under lease.

@@ -1,6 +1,6 @@
 -- The input contexts of commands lie on words, and those of commands that may be given within the address space
 use Rattle.std.proofs.Common.{◌≡◌, ℕ, ◌+◌, ◌*◌, ◌/◌, ◌%◌, ◌^◌, ◌≤◌, if◌then◌else◌, Bool, true, false, Option, Some, None, refl, ap, sym, ◌∙◌, subst, arith}
-use Rattle.std.specs.Prelude.{◌||◌}
+use Rattle.std.specs.Prelude.{◌||◌, option_and_then, slice_get}
 use Rattle.std.proofs.lemmas.Bool.{ltb-false}
 use Rattle.trb.specs.declared.block.Block.{Block}
 use Rattle.trb.specs.declared.kind.BlockKind.{BlockKind}
@@ -11,7 +11,9 @@ use Rattle.contexts.specs.Contexts.{input_context_bytes}
 use Rattle.commands.specs.declared.command.Command.{Command}
 use Rattle.commands.specs.Command.{command_by_kind, command_of, named_context, option_bit}
 use Rattle.traces.specs.declared.header.Header.{Header}
+use Rattle.traces.specs.Header.{command_id}
 use Rattle.ring_knowledge.specs.Known.{Known}
+use Rattle.ring_knowledge.specs.Rings.{command_at}
 use Rattle.ownership_rules.specs.Areas.{is_bad_area}
 use Rattle.ownership_rules.specs.Commands.{has_bad_content, has_bad_context, is_bad_command}
 use Rattle.trace_record.specs.Premises.{FitsMemory}
@@ -75,3 +77,12 @@ by_type false b = by_kind (kind b) b
 
 pub aligned : (b : Block) (c : Command) → command_of b ≡ Some c → IsAligned c
 aligned b c is = subst OnWords is (by_type (is_command_left_out b) b)
+
+declared : (o : Option Block) → OnWords (option_and_then command_of o)
+declared None = tt
+declared (Some b) = by_type (is_command_left_out b) b
+
+-- that of a command which is declared at a position lies there too
+pub aligned_at : (h : Header) (k : Known) (p : ℕ) (c : Command) → command_at h k p ≡ Some c → IsAligned c
+unfolding command_at
+aligned_at h k p c at = subst OnWords at (declared (slice_get (k.ring (command_id h)).queue p))

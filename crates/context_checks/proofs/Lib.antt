@@ -1,4 +1,5 @@
 pub mod RestOfRange
+mod EntrySlots
 pub mod AddedEndpoints
 pub mod NamedContexts
 pub mod LeftOut

@@ -1,6 +1,7 @@
 -- A test over what is left of a range
-use Rattle.std.proofs.Common.{◌≡◌, ℕ, ◌+◌, ◌-◌, ◌<◌, ◌≤◌, Bool, true, false, suc, ap, ◌∙◌, arith}
+use Rattle.std.proofs.Common.{◌≡◌, ℕ, ◌+◌, ◌-◌, ◌<◌, ◌≤◌, Bool, true, false, zero, suc, ap, sym, ◌∙◌, arith, inl, inr}
 use Rattle.std.specs.Prelude.{◌||◌}
+use Rattle.std.proofs.lemmas.Bool.{cases_lt}
 use Rattle.std.specs.List.{list_any, range_with_len}
 
 -- it holds of a number from i to the end
@@ -25,3 +26,24 @@ module _ (test : ℕ → Bool) where
   none_left i end h =
       let count : end - i ≡ 0 = omega arith in
       ap (λ n. list_any test (range_with_len i n)) count
+
+  -- it holds of none of those that are left out
+  skip_by : (n i end : ℕ) → ((s : ℕ) → i ≤ s → s < i + n → s < end → test s ≡ false) → any_left test i end ≡ any_left test (i + n) end
+  skip_by zero i end none = ap (λ j. any_left test j end) (let same : i ≡ i + 0 = omega arith in same)
+  skip_by (suc n) i end none = elim (cases_lt i end) [
+    | inl below ↦
+        go_on i end below (none i (omega arith) (omega arith) below) ∙ skip_by n (i + 1) end (λ s low high. none s (omega (arith, low)) (omega (arith, high)))
+        ∙ ap (λ j. any_left test j end) (let same : i + 1 + n ≡ i + suc n = omega arith in same)
+    | inr past ↦ none_left i end past ∙ sym (none_left (i + suc n) end (omega (arith, past)))
+  ]
+
+  pub skip : (i j end : ℕ) → i ≤ j → ((s : ℕ) → i ≤ s → s < j → s < end → test s ≡ false) → any_left test i end ≡ any_left test j end
+  skip i j end low none =
+      let there : i + (j - i) ≡ j = omega (arith, low) in
+      skip_by (j - i) i end (λ s a b. none s a (omega (arith, b, there))) ∙ ap (λ n. any_left test n end) there
+
+  pub none_behind : (i end : ℕ) → ((s : ℕ) → i ≤ s → s < end → test s ≡ false) → any_left test i end ≡ false
+  none_behind i end none = elim (cases_lt i end) [
+    | inl below ↦ skip i end end (omega (arith, below)) (λ s a b c. none s a c) ∙ none_left end end (omega arith)
+    | inr past ↦ none_left i end past
+  ]

@@ -1,6 +1,7 @@
-ghost use Rattle.std.specs.Prelude.{◌≡◌, ℕ, ◌+◌, ◌*◌, ◌^◌, ◌≤◌};
+ghost use Rattle.std.specs.Prelude.{◌≡◌, ℕ, ◌+◌, ◌*◌, ◌^◌, ◌<◌, ◌≤◌};
 ghost use Rattle.std.specs.List.{list_any};
 ghost use Rattle.segments.specs.Places.{overlap};
+ghost use Rattle.contexts.specs.Contexts.{slot_entry};
 ghost use Rattle.traces.specs.Header.{event_shape};
 ghost use Rattle.traces.specs.declared.header.Header.{Header};
 ghost use Rattle.traces.specs.declared.register.Register.TheVariants.{Erstba};
@@ -80,12 +81,33 @@ fn touches_entries(t: &TraceRecord, from: u64, len: u64) -> bool
     requires { from + len ≤ 2 ^ 64 }
     ensures { (h : Header) (k : Known) (memory : ℕ → ℕ) → FollowsTrace h k t.now memory → result ≡ list_any (covers h from len) (entry_ranges k) }
 {
-    for slot in 1..256u16 {
+    let dcbaap = t.registers.value(Register::Dcbaap).unwrap_or(0);
+    let first = first_slot(dcbaap, from);
+    let end = end_slot(dcbaap, u128::from(from) + u128::from(len));
+    for slot in first..end {
         if touches_entry(t, slot as u8, from, len) {
             return true;
         }
     }
     false
+}
+
+/// The first slot whose entry ends behind an address, in the array that a value of DCBAAP names.
+fn first_slot(dcbaap: u64, from: u64) -> u64
+    ensures before { (s : ℕ) → 1 ≤ s → s < result → slot_entry dcbaap s + 8 ≤ from }
+    ensures least { 1 ≤ result }
+{
+    (from.saturating_sub(dcbaap / 64 * 64) / 8).max(1)
+}
+
+/// The slot behind the last one whose entry begins before an address.
+fn end_slot(dcbaap: u64, end: u128) -> u64
+    requires { end ≤ 2 ^ 64 }
+    ensures behind { (s : ℕ) → result ≤ s → s < 256 → end ≤ slot_entry dcbaap s }
+    ensures most { result ≤ 256 }
+{
+    let above = end.saturating_sub(u128::from(dcbaap / 64 * 64));
+    (above.div_ceil(8)).min(256) as u64
 }
 
 /// Whether the slot has a device context under lease and these bytes touch its entry.

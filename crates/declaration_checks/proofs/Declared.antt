@@ -35,6 +35,7 @@ use Rattle.trace_record.specs.declared.trace_record.TraceRecord.{TraceRecord}
 use Rattle.trace_record.specs.FollowsTrace.{FollowsTrace, FollowsEvents, inputs_of}
 use Rattle.trace_record.specs.Steps.{IfRefused, IsLeast, IsRowStep}
 use Rattle.declaration_checks.specs.OneRing.{IsDeclared, room_tests}
+use Rattle.trace_record.proofs.BoundRings.{binds_same, bound_same}
 use Rattle.trace_record.proofs.FirstBroken.{nothing_broken}
 use Rattle.declaration_checks.proofs.DeclarationRules.{declared_nowhere, declared_on_events, declared_on_ring}
 
@@ -139,6 +140,7 @@ module _ (h : Header) (headed : IsHeader h) (id : ℕ) (blocks : List Block) whe
           events = events_after kept.events f.events;
           devices = after_declaration h k kept.devices f.devices ring.id blocks;
           commands = subst (λ (cs : List Command). FollowsUnfinished cs kept.commands) (sym (commands_after keeps)) f.commands;
+          bound = λ r. f.bound r ∙ sym (bound_same h k after (commands_after keeps) (binds_same h k after refl (λ s. refl)) r);
           inputs = subst (λ (cs : List Command). HoldsAreas (input_context_bytes h.context_size) (inputs_of cs) kept.inputs) (sym (commands_after keeps)) f.inputs;
           contexts = f.contexts;
           soiled = f.soiled;

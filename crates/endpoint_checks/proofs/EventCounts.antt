@@ -20,6 +20,7 @@ use Rattle.range_words.specs.Holding.{HoldsAreas}
 use Rattle.ownership_rules.specs.Events.{is_past_room}
 use Rattle.trace_record.specs.declared.trace_record.TraceRecord.{TraceRecord}
 use Rattle.trace_record.specs.FollowsTrace.{FollowsTrace, FollowsEvents, FollowsPlace, inputs_of}
+use Rattle.trace_record.proofs.BoundRings.{binds_same, bound_same}
 
 module _ (h : Header) (k : Known) (b : Block) where
   abbrev Misplaced : Shape → ℕ → ℕ → Bool
@@ -60,6 +61,7 @@ module _ (h : Header) (k : Known) (t : TraceRecord) (m : ℕ → ℕ) (f : Follo
     events = follows;
     devices = follows_beside k counted t.devices f.devices;
     commands = subst (λ (cs : List Command). FollowsUnfinished cs t.commands) (sym same) f.commands;
+    bound = λ r. f.bound r ∙ sym (bound_same h k counted same (binds_same h k counted refl (λ s. refl)) r);
     inputs = subst (λ (cs : List Command). HoldsAreas (input_context_bytes h.context_size) (inputs_of cs) t.inputs) (sym same) f.inputs;
     contexts = f.contexts;
     soiled = f.soiled;

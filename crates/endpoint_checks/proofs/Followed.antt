@@ -1,11 +1,15 @@
 -- What the record of a trace holds after rings and endpoints have changed
 use Rattle.std.proofs.Common.{◌≡◌, ◌≢◌, ◌<◌, ◌≤◌, ℕ, zero, suc, List, [], ◌∷◌, Bool, true, false, Option, Some, None, refl, ap, sym, ◌∙◌, arith, inl, inr, set, subst, length, get_or}
-use Rattle.std.specs.Prelude.{◌⊎◌, slice_get, position}
+use Rattle.std.specs.Prelude.{◌==◌, ◌&&◌, ◌⊎◌, if◌then◌else◌, slice_get, position}
+use Rattle.std.proofs.lemmas.Bool.{and_parts, eqb-true}
 use Rattle.std.proofs.Math.ListN.{length-set}
 use Rattle.std.proofs.lemmas.Option.{same_Some, none-some, slice_get-get_or, slice_get_cases, slice_get_read, slice_get_within}
 use Rattle.std.proofs.lemmas.List.Quantifiers.{position-Some}
 use Rattle.contexts.specs.Contexts.{input_context_bytes, device_context_bytes}
 use Rattle.commands.specs.declared.command.Command.{Command}
+use Rattle.commands.specs.States.{is_off}
+use Rattle.commands.specs.declared.state.EndpointState.{EndpointState}
+use Rattle.guest_memory.specs.Memory.{put_pair}
 use Rattle.segments.specs.RingView.{RingView, RingChange, changed}
 use Rattle.traces.specs.declared.ring.Ring.{Ring}
 use Rattle.traces.specs.declared.header.Header.{Header}
@@ -28,6 +32,7 @@ use Rattle.segments.proofs.Search.{position-None}
 use Rattle.range_words.specs.Holding.{HoldsAreas, HoldsSoiled}
 use Rattle.trace_record.specs.declared.trace_record.TraceRecord.{TraceRecord}
 use Rattle.trace_record.specs.FollowsTrace.{FollowsTrace, FollowsEvents, inputs_of, device_contexts}
+use Rattle.trace_record.proofs.BoundRings.{binds_same, bound_same}
 
 -- ---- the records of rings
 
@@ -138,7 +143,21 @@ pub record IsBeside (k l : Known) : Type 0 where
   pub device : l.device ≡ k.device
   pub soiled : l.soiled ≡ k.soiled
 
-module _ (h : Header) (k l : Known) (t : TraceRecord) (m : ℕ → ℕ) (f : FollowsTrace h k t m) (b : IsBeside k l) (same : unfinished h l ≡ unfinished h k) where
+-- the same default control endpoints are off
+abbrev pub AreOffAs : Known → Known → Type 0
+AreOffAs k l = (s : ℕ) → is_off (l.endpoint_state s 1) ≡ is_off (k.endpoint_state s 1)
+
+-- where one endpoint that is on gets another state in which it is
+pub put_on : (f : ℕ → ℕ → EndpointState) (s i : ℕ) (state : EndpointState) → is_off (f s i) ≡ false → is_off state ≡ false → (q : ℕ) → is_off (put_pair f s i state q 1) ≡ is_off (f q 1)
+put_on f s i state before after q = by (q == s && 1 == i) refl
+  where
+    by : (b : Bool) → (q == s && 1 == i) ≡ b → is_off (if b then state else f q 1) ≡ is_off (f q 1)
+    by true e =
+        let parts = and_parts (q == s) (1 == i) e in
+        after ∙ sym (ap (λ n. is_off (f n 1)) (eqb-true q s parts.0) ∙ ap (λ n. is_off (f s n)) (eqb-true 1 i parts.1) ∙ before)
+    by false e = refl
+
+module _ (h : Header) (k l : Known) (t : TraceRecord) (m : ℕ → ℕ) (f : FollowsTrace h k t m) (b : IsBeside k l) (off : AreOffAs k l) (same : unfinished h l ≡ unfinished h k) where
   registers_still : FollowsRegisters l t.registers
   registers_still = record {
     started = b.started ∙ f.registers.started;
@@ -159,6 +178,7 @@ module _ (h : Header) (k l : Known) (t : TraceRecord) (m : ℕ → ℕ) (f : Fol
     events = events_still t.events f.events;
     devices = devices;
     commands = subst (λ (cs : List Command). FollowsUnfinished cs t.commands) (sym same) f.commands;
+    bound = λ r. f.bound r ∙ sym (bound_same h k l same (binds_same h k l b.memory off) r);
     inputs = subst (λ (cs : List Command). HoldsAreas (input_context_bytes h.context_size) (inputs_of cs) t.inputs) (sym same) f.inputs;
     contexts = subst (λ (g : ℕ → Option ℕ). HoldsAreas (device_context_bytes h.context_size) (device_contexts (record k { device = g })) t.contexts) (sym b.device) f.contexts;
     soiled = subst (λ (g : ℕ → Bool). HoldsSoiled g t.soiled) (sym b.soiled) f.soiled;

@@ -39,7 +39,7 @@ use Rattle.trace_record.specs.FollowsTrace.{FollowsTrace}
 use Rattle.endpoint_checks.specs.declared.spots.NamedSpot.{NamedSpot}
 use Rattle.endpoint_checks.specs.NamedSpots.{IsNamedAt}
 use Rattle.endpoint_checks.specs.Reported.{IsWithRecord, MayReport, reported}
-use Rattle.endpoint_checks.proofs.Followed.{IsBeside, IsOnly, followed, rings_with}
+use Rattle.endpoint_checks.proofs.Followed.{AreOffAs, IsBeside, IsOnly, followed, put_on, rings_with}
 use Rattle.endpoint_checks.proofs.Reports.{none_reported, not_command, reported_at, transfer_driver}
 
 -- ---- what changes
@@ -80,6 +80,11 @@ module _ (h : Header) (k : Known) (c s i r : ℕ) (t : Spot) where
   transferred_beside =
       by_code (λ l. IsBeside k l) passed_beside halts_beside fails_beside stopped_beside
       (record { memory = refl; started = refl; stopped = refl; register = refl; reads = refl; dequeue = refl; device = refl; soiled = refl })
+
+  -- the same endpoints are off, where that of the event isn't
+  pub transferred_off : is_off (k.endpoint_state s i) ≡ false → AreOffAs k (transferred h k c s i r t)
+  unfolding passed broken_off stopped_at on_ring
+  transferred_off on = by_code (λ l. AreOffAs k l) (λ q. refl) (put_on k.endpoint_state s i Halted on refl) (put_on k.endpoint_state s i Error on refl) (λ q. refl) (λ q. refl)
 
   -- no other ring
   passed_only : IsOnly k (passed h k r t) r
@@ -180,6 +185,15 @@ module _ (h : Header) (headed : IsHeader h) (k : Known) (keeps : DriverKeeps h k
       by true false false e f = absurd (false≢true (sym f))
       by false o r e f = absurd (false≢true e)
 
+  is_on : is_off (k.endpoint_state (slot b) (endpoint b)) ≡ false
+  unfolding is_impossible_transfer
+  is_on = by (is_in_profile b) (is_off (k.endpoint_state (slot b) (endpoint b))) in_ fine
+    where
+      by : (p o : Bool) → p ≡ true → (p && (o || not (can_report_at h k b (event_at h k b)))) ≡ false → o ≡ false
+      by true true e f = absurd (false≢true (sym f))
+      by true false e f = refl
+      by false o e f = absurd (false≢true e)
+
   -- so it names a spot
   pub names_some : event_at h k b ≡ None → ⊥
   names_some none = false≢true (sym (none_reported h headed k keeps b _ none) ∙ can_be)
@@ -240,4 +254,4 @@ module _ (h : Header) (headed : IsHeader h) (k : Known) (keeps : DriverKeeps h k
         (rings_with h headed k l before.rings.items f.rings at.number is.ring is.here (transferred_only h k (code b) (slot b) (endpoint b) is.ring.id at.spot) with_.known
         (λ driver. subst (λ (v : RingView). FollowsRing is.ring.shape v with_.known) (sym view) with_.follows)) in
         subst (λ (x : Known). FollowsTrace h x after m) (sym same)
-        (followed h k l before m f (transferred_beside h k (code b) (slot b) (endpoint b) is.ring.id at.spot) unfinished_ after rest rings devices)
+        (followed h k l before m f (transferred_beside h k (code b) (slot b) (endpoint b) is.ring.id at.spot) (transferred_off h k (code b) (slot b) (endpoint b) is.ring.id at.spot is_on) unfinished_ after rest rings devices)

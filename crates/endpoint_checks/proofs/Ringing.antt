@@ -1,7 +1,11 @@
 -- What a doorbell adds to the record of a trace
-use Rattle.std.proofs.Common.{◌≡◌, ◌≢◌, ℕ, List, true, false, Option, Some, None, refl, ap, sym, ◌∙◌, inl, inr, subst}
+use Rattle.std.proofs.Common.{◌≡◌, ◌≢◌, ℕ, Bool, List, true, false, Option, Some, None, refl, ap, sym, ◌∙◌, inl, inr, subst}
 use Rattle.std.specs.Prelude.{◌==◌, slice_get, position, if◌then◌else◌}
 use Rattle.std.proofs.lemmas.Bool.{cases_eq, eqb-true, eq-eqb, ne_eqb, cond_both, false≢true}
+use Rattle.guest_memory.specs.Memory.{put_pair}
+use Rattle.commands.specs.declared.state.EndpointState.{EndpointState}
+use Rattle.commands.specs.declared.state.EndpointState.TheVariants.{Disabled as Off, Running, Halted, Stopped, Error}
+use Rattle.commands.specs.States.{is_off, is_stopped}
 use Rattle.segments.specs.RingView.{Opens}
 use Rattle.traces.specs.declared.ring.Ring.{Ring}
 use Rattle.traces.specs.declared.header.Header.{Header}
@@ -21,7 +25,7 @@ use Rattle.ring_finder.proofs.HeaderRings.{no_command_here}
 use Rattle.trace_record.specs.declared.trace_record.TraceRecord.{TraceRecord}
 use Rattle.trace_record.specs.FollowsTrace.{FollowsTrace}
 use Rattle.endpoint_checks.specs.Numbers.{number_of, number_rung}
-use Rattle.endpoint_checks.proofs.Followed.{IsBeside, rings_same, followed, found_at, none_found, command_found, command_id_is}
+use Rattle.endpoint_checks.proofs.Followed.{AreOffAs, IsBeside, put_on, rings_same, followed, found_at, none_found, command_found, command_id_is}
 
 module _ (h : Header) (k : Known) (s t : ℕ) where
   -- nothing but rings and the state of endpoints changes
@@ -37,6 +41,27 @@ module _ (h : Header) (k : Known) (s t : ℕ) where
   rung_beside : IsBeside k (rung h k s t)
   unfolding rung
   rung_beside = cond_both (s == 0) (on_ring h k (command_id h) Opens) (endpoint_rung h k s t (k.ring_of s t)) (λ l. IsBeside k l) (λ _. opened_beside (command_id h)) (λ _. endpoint_beside (k.ring_of s t))
+
+  -- a Stopped endpoint is on, and so is a Running one
+  endpoint_off : (o : Option ℕ) → AreOffAs k (endpoint_rung h k s t o)
+  unfolding endpoint_rung on_ring
+  endpoint_off None q = refl
+  endpoint_off (Some r) q = by (is_stopped (k.endpoint_state s t)) refl
+    where
+      on : (e : EndpointState) → is_stopped e ≡ true → is_off e ≡ false
+      on Stopped e = refl
+      on Off e = absurd (false≢true e)
+      on Running e = refl
+      on Halted e = refl
+      on Error e = refl
+
+      by : (b : Bool) → is_stopped (k.endpoint_state s t) ≡ b → is_off ((if b then put_pair k.endpoint_state s t Running else k.endpoint_state) q 1) ≡ is_off (k.endpoint_state q 1)
+      by true e = put_on k.endpoint_state s t Running (on (k.endpoint_state s t) e) refl q
+      by false e = refl
+
+  rung_off : AreOffAs k (rung h k s t)
+  unfolding rung on_ring
+  rung_off = cond_both (s == 0) (on_ring h k (command_id h) Opens) (endpoint_rung h k s t (k.ring_of s t)) (λ l. AreOffAs k l) (λ _ q. refl) (λ _. endpoint_off (k.ring_of s t))
 
   rung_unfinished : unfinished h (rung h k s t) ≡ unfinished h k
   unfolding learned
@@ -91,4 +116,4 @@ module _ (h : Header) (k : Known) (s t : ℕ) where
       (number_rung h k s t ≡ None → after.rings.items ≡ before.rings.items) → FollowsDevices (rung h k s t) after.devices → FollowsTrace h (learned h k (Bell s t)) after m
   unfolding learned
   follows_rung headed before after m f is opened none devices =
-      followed h k (rung h k s t) before m f rung_beside rung_unfinished after is (rung_rings headed before.rings.items after.rings.items f.rings opened none) devices
+      followed h k (rung h k s t) before m f rung_beside rung_off rung_unfinished after is (rung_rings headed before.rings.items after.rings.items f.rings opened none) devices

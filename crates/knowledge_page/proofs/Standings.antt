@@ -28,6 +28,7 @@ own_memory h k t m f = record {
   events = f.events;
   devices = f.devices;
   commands = f.commands;
+  bound = f.bound;
   inputs = f.inputs;
   contexts = f.contexts;
   soiled = f.soiled;

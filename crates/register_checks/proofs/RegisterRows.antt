@@ -4,6 +4,7 @@ use Rattle.std.specs.Prelude.{not, is_some, ◌&&◌, ◌||◌, if◌then◌else
 use Rattle.std.specs.List.{filter_map}
 use Rattle.std.proofs.lemmas.Bool.{cond_both, true≢false}
 use Rattle.segments.specs.RingView.{RingView}
+use Rattle.commands.specs.States.{is_off}
 use Rattle.contexts.specs.Contexts.{device_context_bytes, input_context_bytes}
 use Rattle.event_ring.specs.EventPlaceValue.{EventState}
 use Rattle.event_ring.specs.EventRing.{is_event_place, is_reached_within, erdp_address}
@@ -39,6 +40,7 @@ use Rattle.trace_record.specs.FollowsTrace.{FollowsEvents, FollowsTrace, device_
 use Rattle.trace_record.specs.Premises.{IsSetUp}
 use Rattle.trace_record.specs.Steps.{IsLeast, IsRowStep}
 use Rattle.register_checks.specs.EventReads.{IsMoved}
+use Rattle.trace_record.proofs.BoundRings.{binds_same, bound_same}
 use Rattle.trace_record.proofs.FirstBroken.{first_broken-is, nothing_broken}
 
 -- all else stays as it was
@@ -47,15 +49,16 @@ pub record IsElsewhereSame (k l : Known) : Type 0 where
   pub memory : l.memory ≡ k.memory
   pub reads : l.reads ≡ k.reads
   pub device : l.device ≡ k.device
+  pub endpoint_state : l.endpoint_state ≡ k.endpoint_state
   pub soiled : l.soiled ≡ k.soiled
 
 pub elsewhere_same : (h : Header) (k : Known) (r : Register) (v : ℕ) → IsElsewhereSame k (register_written h k r v)
 unfolding register_written valued run_or_stop
 elsewhere_same h k Usbcmd v =
     cond_both (not k.started) _ _ (λ l. IsElsewhereSame k l)
-    (λ off. cond_both (run_bit v && not (reset_bit v)) _ _ (λ l. IsElsewhereSame k l) (λ e. record { ring = refl; memory = refl; reads = refl; device = refl; soiled = refl }) (λ e. record { ring = refl; memory = refl; reads = refl; device = refl; soiled = refl }))
-    (λ on. cond_both (not (run_bit v) || reset_bit v) _ _ (λ l. IsElsewhereSame k l) (λ e. record { ring = refl; memory = refl; reads = refl; device = refl; soiled = refl }) (λ e. record { ring = refl; memory = refl; reads = refl; device = refl; soiled = refl }))
-elsewhere_same h k _ v = record { ring = refl; memory = refl; reads = refl; device = refl; soiled = refl }
+    (λ off. cond_both (run_bit v && not (reset_bit v)) _ _ (λ l. IsElsewhereSame k l) (λ e. record { ring = refl; memory = refl; reads = refl; device = refl; endpoint_state = refl; soiled = refl }) (λ e. record { ring = refl; memory = refl; reads = refl; device = refl; endpoint_state = refl; soiled = refl }))
+    (λ on. cond_both (not (run_bit v) || reset_bit v) _ _ (λ l. IsElsewhereSame k l) (λ e. record { ring = refl; memory = refl; reads = refl; device = refl; endpoint_state = refl; soiled = refl }) (λ e. record { ring = refl; memory = refl; reads = refl; device = refl; endpoint_state = refl; soiled = refl }))
+elsewhere_same h k _ v = record { ring = refl; memory = refl; reads = refl; device = refl; endpoint_state = refl; soiled = refl }
 
 pub dequeue_same : (h : Header) (k : Known) (r : Register) (v : ℕ) → (r ≡ Erdp → ⊥) → (register_written h k r v).dequeue ≡ k.dequeue
 unfolding register_written valued run_or_stop
@@ -120,6 +123,8 @@ module _ (h : Header) (r : Register) (v : ℕ) where
         events = follows_events;
         devices = subst (λ (l : Known). FollowsDevices l t.devices) learned_is (after_register h k t.devices f.devices r v);
         commands = subst (λ commands. FollowsUnfinished commands t.commands) (sym unfinished_is) f.commands;
+        bound = λ n.
+            f.bound n ∙ sym (bound_same h k (register_written h k r v) unfinished_is (binds_same h k (register_written h k r v) same.memory (λ s. ap (λ g. is_off (g s 1)) same.endpoint_state)) n);
         inputs = subst (λ commands. HoldsAreas (input_context_bytes h.context_size) (inputs_of commands) t.inputs) (sym unfinished_is) f.inputs;
         contexts = subst (λ starts. HoldsAreas (device_context_bytes h.context_size) starts t.contexts) (sym contexts_are) f.contexts;
         soiled = subst (λ soiled. HoldsSoiled soiled t.soiled) (sym same.soiled) f.soiled;

@@ -91,7 +91,7 @@ fn check_word<M: WordMemory>(
 {
     match check_write(header, finder, kept, memory, at, word, place, owned) {
         Ok(command) => {
-            note_write(header, kept, memory, at, word, place, command)?;
+            note_write(header, finder, kept, memory, at, word, place, command)?;
             Ok(())
         }
         Err(refusal) => Err(StepFault::Refused(refusal)),

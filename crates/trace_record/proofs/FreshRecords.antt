@@ -1,5 +1,7 @@
 -- Before the first row, and what a search through the rings finds
-use Rattle.trace_record.proofs.Words.{◌≡◌, ◌+◌, ◌<◌, ◌∷◌, ◌++◌, ◌∙◌, ◌⊎◌, ℕ, zero, suc, List, [], true, false, Some, None, refl, ap, sym, inl, inr, length, get_or, subst, length-append, slice_get, is_some, slice_get_read, new_ring, due_positions, Ring, Header, IsHeader, is_event_kind, event_shape, event_ring, shape_or, shape_of, command_id, RingRecord, FollowsRing, nothing, FollowsTrace, FollowsEvents, FollowsPlace, inputs_of, device_contexts, AreFresh, IsFreshSo, EventState, FollowsDevices, EventCounts, Evt, FollowsRegisters, TraceRecord, among_at, each_among, not_found, event_found, filter_nothing, device_context_bytes, input_context_bytes, FollowsUnfinished, unfinished, unfinished_positions, SoiledWords, HoldsAreas, HoldsSoiled, slots, Command}
+use Rattle.trace_record.proofs.Words.{◌≡◌, ◌+◌, ◌<◌, ◌∷◌, ◌++◌, ◌∙◌, ◌⊎◌, ℕ, zero, suc, List, [], true, false, Some, None, refl, ap, sym, inl, inr, length, get_or, subst, length-append, slice_get, is_some, slice_get_read, new_ring, due_positions, Ring, Header, IsHeader, is_event_kind, event_shape, event_ring, shape_or, shape_of, command_id, RingRecord, FollowsRing, nothing, FollowsTrace, FollowsEvents, FollowsPlace, inputs_of, device_contexts, list_any, AreFresh, IsFreshSo, EventState, FollowsDevices, EventCounts, Evt, FollowsRegisters, TraceRecord, among_at, each_among, not_found, event_found, filter_nothing, device_context_bytes, input_context_bytes, FollowsUnfinished, unfinished, unfinished_positions, SoiledWords, HoldsAreas, HoldsSoiled, slots, Command}
+use Rattle.ownership_rules.specs.Moves.{binds_ring, is_being_bound}
+use Rattle.trace_record.specs.RingSets.{has}
 
 one_at : (rs : List Ring) (i : ℕ) (q r : Ring) → slice_get rs i ≡ Some q → slice_get rs i ≡ Some r → q ≡ r
 one_at rs i q r e f = some_is (sym e ∙ f)
@@ -50,21 +52,26 @@ nothing_unfinished : (h : Header) → [] ≡ unfinished h nothing
 unfolding nothing unfinished unfinished_positions
 nothing_unfinished h = rw (filter_nothing (λ p. false) (λ p. refl) (due_positions (shape_of h (command_id h)) new_ring)) refl
 
+none_bound : (h : Header) (r : ℕ) → false ≡ is_being_bound h nothing r
+unfolding is_being_bound
+none_bound h r = ap (λ cs. list_any (binds_ring h nothing r) cs) (nothing_unfinished h)
+
 no_contexts : [] ≡ device_contexts nothing
 unfolding nothing slots
 no_contexts = refl
 
 -- before the first row
 pub follows_first : (h : Header) (t : TraceRecord) → AreFresh h.rings t.rings.items → FollowsRegisters nothing t.registers → FollowsEvents h nothing t.events → FollowsDevices nothing t.devices →
-    FollowsUnfinished [] t.commands → HoldsAreas (input_context_bytes h.context_size) [] t.inputs → HoldsAreas (device_context_bytes h.context_size) [] t.contexts → HoldsSoiled (λ a. false) t.soiled →
+    FollowsUnfinished [] t.commands → ((r : ℕ) → has t.bound r ≡ false) → HoldsAreas (input_context_bytes h.context_size) [] t.inputs → HoldsAreas (device_context_bytes h.context_size) [] t.contexts → HoldsSoiled (λ a. false) t.soiled →
     (m : ℕ → ℕ) → ((a : ℕ) → m a ≡ 0) → FollowsTrace h nothing t m
-follows_first h t fresh registers_ events_ devices_ commands_ inputs_ contexts_ soiled_ m blank = record {
+follows_first h t fresh registers_ events_ devices_ commands_ bound_ inputs_ contexts_ soiled_ m blank = record {
   words = λ a. blank_memory a ∙ sym (blank a);
   rings = record { as_many = fresh.as_many; each = λ i q r at there driver. rw (first_ring q.id) (fresh.each i q r at there) };
   registers = registers_;
   events = events_;
   devices = devices_;
   commands = subst (λ (cs : List Command). FollowsUnfinished cs t.commands) (nothing_unfinished h) commands_;
+  bound = λ r. bound_ r ∙ none_bound h r;
   inputs = subst (λ (cs : List Command). HoldsAreas (input_context_bytes h.context_size) (inputs_of cs) t.inputs) (nothing_unfinished h) inputs_;
   contexts = subst (λ (places : List ℕ). HoldsAreas (device_context_bytes h.context_size) places t.contexts) no_contexts contexts_;
   soiled = first_soiled t.soiled soiled_;

@@ -1,4 +1,5 @@
 mod FreshRecords
+pub mod BoundRings
 pub mod WordsInside
 pub mod OneRingHas
 mod TableWords

@@ -13,9 +13,12 @@ use Rattle.ring_knowledge.specs.RegisterRecords.{FollowsRegisters}
 use Rattle.ring_finder.specs.RecordsOfRings.{FollowsRings}
 use Rattle.device_record.specs.Devices.{FollowsDevices}
 use Rattle.device_record.specs.Unfinished.{FollowsUnfinished}
+use Rattle.ownership_rules.specs.Moves.{is_being_bound}
 use Rattle.ownership_rules.specs.OpenLeases.{slots}
 use Rattle.range_words.specs.Holding.{HoldsAreas, HoldsSoiled}
+use Rattle.trace_record.specs.declared.ring_set.RingSet.{RingSet}
 use Rattle.trace_record.specs.declared.trace_record.TraceRecord.{TraceRecord}
+use Rattle.trace_record.specs.RingSets.{has}
 
 -- the counts of the event ring are those that are known
 pub record FollowsPlace (h : Header) (k : Known) (e : EventState) : Type 0 where
@@ -37,6 +40,10 @@ inputs_of commands = filter_map named_context commands
 abbrev pub device_contexts : Known → List ℕ
 device_contexts k = filter_map k.device slots
 
+-- the set has the rings that unfinished commands bind, and no others
+abbrev pub HoldsBound : Header → Known → RingSet → Type 0
+HoldsBound h k rings = (r : ℕ) → has rings r ≡ is_being_bound h k r
+
 -- the record and the memory hold what is known
 pub record FollowsTrace (h : Header) (k : Known) (t : TraceRecord) (memory : ℕ → ℕ) : Type 0 where
   pub words : (a : ℕ) → k.memory a ≡ memory a
@@ -45,6 +52,7 @@ pub record FollowsTrace (h : Header) (k : Known) (t : TraceRecord) (memory : ℕ
   pub events : FollowsEvents h k t.events
   pub devices : FollowsDevices k t.devices
   pub commands : FollowsUnfinished (unfinished h k) t.commands
+  pub bound : HoldsBound h k t.bound
   pub inputs : HoldsAreas (input_context_bytes h.context_size) (inputs_of (unfinished h k)) t.inputs
   pub contexts : HoldsAreas (device_context_bytes h.context_size) (device_contexts k) t.contexts
   pub soiled : HoldsSoiled k.soiled t.soiled

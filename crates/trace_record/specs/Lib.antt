@@ -1,3 +1,4 @@
+pub mod RingSets
 pub mod FollowsTrace
 pub mod Steps
 pub mod Premises

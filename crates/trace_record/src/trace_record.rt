@@ -3,6 +3,7 @@ ghost use Rattle.traces.specs.Header.{IsHeader};
 ghost use Rattle.ring_knowledge.specs.Known.{nothing};
 
 use crate::fresh::{event_place, fresh_records};
+use crate::ring_set::RingSet;
 use device_record::{DeviceRecord, UnfinishedCommands};
 use event_ring::EventPlace;
 use range_words::{Areas, SoiledWords};
@@ -22,6 +23,8 @@ pub struct TraceRecord {
     pub devices: DeviceRecord,
     /// The commands that were given and whose completion wasn't read.
     pub commands: UnfinishedCommands,
+    /// The rings that these commands bind endpoints to (xHCI 4.6.5, 4.6.6).
+    pub bound: RingSet,
     /// The input contexts of these commands.
     pub inputs: Areas,
     /// The device contexts under lease.
@@ -47,6 +50,7 @@ impl TraceRecord {
             events: event_place(header)?,
             devices: DeviceRecord::new(alloc)?,
             commands: UnfinishedCommands::new(alloc)?,
+            bound: RingSet::new(),
             inputs: Areas::new(alloc, 33 * context),
             contexts: Areas::new(alloc, 32 * context),
             soiled: SoiledWords::new(alloc),

@@ -1,6 +1,7 @@
-ghost use Rattle.std.specs.Prelude.{◌≡◌, false, None, IfOk, IfErr, IfSome, IfNone};
+ghost use Rattle.std.specs.Prelude.{◌≡◌, ℕ, false, None, IfOk, IfErr, IfSome, IfNone};
 ghost use Rattle.segments.specs.ShapeValue.{Shape};
 ghost use Rattle.traces.specs.Header.{IsHeader};
+ghost use Rattle.traces.specs.declared.header.Header.{Header as HeaderValue};
 ghost use Rattle.traces.specs.declared.row.Row.TheVariants.{Write};
 ghost use Rattle.ring_knowledge.specs.Known.{Known};
 ghost use Rattle.ring_knowledge.specs.RingRecords.{FollowsRing};
@@ -109,7 +110,7 @@ fn giving_refusal<M: WordMemory>(
     match giving {
         None => None,
         Some(RingGiving::Crossing(q)) => {
-            let awaits = awaits_binding(header, finder, t, memory, ring.id, known);
+            let awaits = awaits_binding(t, ring.id, known);
             crossing_refusal(&ring.shape, memory, at, word, awaits, q)
         }
         Some(RingGiving::Position(p)) => {
@@ -140,28 +141,19 @@ fn place_refusal<M: WordMemory>(
 {
     match command {
         Some(command) => command_refusal(header, finder, t, memory, &command),
-        None => block_refusal(header, finder, t, memory, ring, known),
+        None => block_refusal(t, ring, known),
     }
 }
 
 /// Which rule of moves and bindings the giving of a block breaks that is no command.
-fn block_refusal<M: WordMemory>(
-    header: &Header,
-    finder: &Finder,
-    t: &TraceRecord,
-    memory: &M,
-    ring: u8,
-    known: &RingRecord,
-) -> Option<Refusal>
-    requires headed { IsHeader header.now }
-    requires found { IsFinder header.now.rings finder.now }
-    ensures { (k : Known) (shape : Shape) → FollowsTrace header.now k t.now (M.words memory.now) → ContextsFit header.now k → FollowsRing shape (k.ring ring) known.now →
-        result ≡ first_broken (place_tests header.now k ring None) }
+fn block_refusal(t: &TraceRecord, ring: u8, known: &RingRecord) -> Option<Refusal>
+    ensures { (h : HeaderValue) (k : Known) (shape : Shape) (memory : ℕ → ℕ) → FollowsTrace h k t.now memory → FollowsRing shape (k.ring ring) known.now →
+        result ≡ first_broken (place_tests h k ring None) }
 {
     if is_being_moved(t, ring) {
         return Some(Refusal::Busy);
     }
-    if awaits_binding(header, finder, t, memory, ring, known) {
+    if awaits_binding(t, ring, known) {
         return Some(Refusal::Busy);
     }
     None

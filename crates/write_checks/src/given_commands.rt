@@ -123,7 +123,8 @@ fn places_badly<M: WordMemory>(
     if is_bound_again(header, finder, t, memory, command) {
         return true;
     }
-    is_bad_binding(header, finder, t, memory, command) || is_bad_move(header, t, memory, command)
+    is_bad_binding(header, finder, t, memory, command)
+        || is_bad_move(header, finder, t, memory, command)
 }
 
 /// Whether the command binds a ring that was bound before, where the trace's version refuses that.

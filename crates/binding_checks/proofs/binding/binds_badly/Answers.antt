@@ -16,13 +16,13 @@ loop-index-preserved g c = λ k f keeps fits holds.
     let contexts : HoldsContexts k c.args.t.now.devices (g.M.WordMemory.words c.args.memory.now) = record { followed = f.devices; words = f.words } in
     let rest = bindings_from h k command (c.loop-index.index + 1) in
     let list : bindings_from h k command c.loop-index.index ≡ cons_option c.binding_at.result rest =
-    bindings_next h k command c.loop-index.index c.loop-index-test.true ∙ ap (λ o. cons_option o rest) (sym (c.binding_at.ensures k contexts fits)) in
+    bindings_next h k command c.loop-index.index c.loop-index-test.true ∙ ap (λ o. cons_option o rest) (sym (c.binding_at.ensures k contexts fits (c.bound_flags-flags.ensures h k f.words fits))) in
     let step : are_bad bad c.loop-index.taken (cons_option c.binding_at.result rest) ≡ are_bad bad c.match-binding_at.taken rest =
     elim c.match-binding_at.branch [
       | in-Some+else-not-take w ↦
           ap (λ o. are_bad bad c.loop-index.taken (cons_option o rest)) w.in-Some.is
           ∙ w.take.ensures k (g.M.WordMemory.words c.args.memory.now) command f keeps holds
-          (of_dequeue h k command c.loop-index.index w.in-Some.binding (sym (c.binding_at.ensures k contexts fits) ∙ w.in-Some.is)) rest
+          (of_dequeue h k command c.loop-index.index w.in-Some.binding (sym (c.binding_at.ensures k contexts fits (c.bound_flags-flags.ensures h k f.words fits)) ∙ w.in-Some.is)) rest
           ∙ ap (λ b. not b || are_bad bad w.take.new.taken rest) w.if-not-take.false
           ∙ ap (λ x. are_bad bad x rest) (sym w.taken-is)
       | in_default w ↦
@@ -39,11 +39,11 @@ returns-then-not-take g c = λ k f keeps fits holds.
     let contexts : HoldsContexts k c.args.t.now.devices (g.M.WordMemory.words c.args.memory.now) = record { followed = f.devices; words = f.words } in
     let rest = bindings_from h k command (c.loop-index.index + 1) in
     let list : bindings_from h k command c.loop-index.index ≡ cons_option c.binding_at.result rest =
-    bindings_next h k command c.loop-index.index c.loop-index-test.true ∙ ap (λ o. cons_option o rest) (sym (c.binding_at.ensures k contexts fits)) in
+    bindings_next h k command c.loop-index.index c.loop-index-test.true ∙ ap (λ o. cons_option o rest) (sym (c.binding_at.ensures k contexts fits (c.bound_flags-flags.ensures h k f.words fits))) in
     sym (c.loop-index.invariant k f keeps fits holds ∙ ap (λ xs. are_bad bad c.loop-index.taken xs) list
     ∙ ap (λ o. are_bad bad c.loop-index.taken (cons_option o rest)) c.in-Some.is
     ∙ c.take.ensures k (g.M.WordMemory.words c.args.memory.now) command f keeps holds
-    (of_dequeue h k command c.loop-index.index c.in-Some.binding (sym (c.binding_at.ensures k contexts fits) ∙ c.in-Some.is)) rest
+    (of_dequeue h k command c.loop-index.index c.in-Some.binding (sym (c.binding_at.ensures k contexts fits (c.bound_flags-flags.ensures h k f.words fits)) ∙ c.in-Some.is)) rest
     ∙ ap (λ b. not b || are_bad bad c.take.new.taken rest) c.if-not-take.true)
 
 pub returns : goal.returns

@@ -1,7 +1,7 @@
 use Rattle.std.proofs.Common.{◌≡◌, ◌+◌, ◌-◌, ◌||◌, ◌∙◌, ap, sym, arith}
 use Rattle.std.specs.List.{list_any, range_with_len}
 use Rattle.binding_checks.specs.Dropped.{leaves}
-use Rattle.binding_checks.specs.RingSets.{has}
+use Rattle.trace_record.specs.RingSets.{has}
 use Rattle.binding_checks.proofs.Lists.{or_assoc, or_none, crossed}
 use Rattle.binding_checks.proofs.BindingLists.{range_is}
 use Rattle.binding_checks.proofs.dropped.rings_dropped.Goals as goal

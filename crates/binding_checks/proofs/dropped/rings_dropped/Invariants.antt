@@ -4,7 +4,7 @@ use Rattle.ring_knowledge.specs.Known.{Known}
 use Rattle.trace_record.specs.Premises.{FitsMemory}
 use Rattle.binding_checks.specs.Contexts.{HoldsContexts}
 use Rattle.binding_checks.specs.Dropped.{leaves}
-use Rattle.binding_checks.specs.RingSets.{has}
+use Rattle.trace_record.specs.RingSets.{has}
 use Rattle.binding_checks.proofs.dropped.rings_dropped.Given as goal
 
 -- with those that are left it comes to the same

@@ -9,6 +9,7 @@ use Rattle.safety.proofs.WrittenKnown.{taken}
 use Rattle.trace_record.specs.FollowsTrace.{device_contexts}
 use Rattle.command_starts.specs.Starting.{IsWith, LiesOnWords, address_taken}
 use Rattle.command_starts.proofs.GivenNow.{new_command, may_be_given, entry_fits, lies_well, new_device}
+use Rattle.command_starts.proofs.BoundNow.{given_fits, holds_bound, holds_contexts}
 use Rattle.command_starts.proofs.Followed.{from_three, devices_then, soiled_then, followed}
 use Rattle.command_starts.proofs.starts.note_write.Goals as goal
 
@@ -21,18 +22,21 @@ returns-clause-ok g c =
     let w = c.args.word in
     let got = c.device_taken-taken.result in
     let is_taken : got ≡ taken h k a w =
-    c.device_taken-taken.ensures k f.devices f.registers f.words (entry_fits h c.requires k keeps a w clean c.args.command given) ∙ ap (λ o. option_and_then (taken_device k) o) given in
-    let more = new_command h c.requires k keeps a w clean c.args.command given in
+    c.device_taken-taken.ensures k f.devices f.registers f.words (entry_fits h c.requires.headed k keeps a w clean c.args.command given) ∙ ap (λ o. option_and_then (taken_device k) o) given in
+    let more = new_command h c.requires.headed k keeps a w clean c.args.command given in
     let old = unfinished h k in
     let new = unfinished h (learned h k (Write a w)) in
     followed h k a w c.args.t.now _ f _ _ c.in_ok-set.ensures.ok
     (c.note_on_ring.ensures k a w f.rings placed)
     refl refl
     (devices_then h k a w got is_taken c.args.t.now.devices _ devices f.devices)
-    (c.in_ok-note_given.ensures.commands old new more (may_be_given h c.requires k keeps a w clean c.args.command given) f.commands)
+    (c.in_ok-note_given.ensures.commands old new more (may_be_given h c.requires.headed k keeps a w clean c.args.command given) f.commands)
+    (holds_bound h c.requires.headed k keeps a w clean c.args.t.now.bound c.note_rings.new.bound c.args.command given f.bound
+    (c.note_rings.ensures (with_word h k a w) (holds_contexts h k a w c.args.t.now.devices _ _ f.devices f.words c.in_ok-set.ensures.ok)
+    (given_fits h c.requires.headed k keeps a w clean c.args.command given)))
     (c.in_ok-note_given.ensures.inputs (input_context_bytes h.context_size) old new more f.inputs)
     (contexts (device_context_bytes h.context_size) (device_contexts k) (device_contexts (learned h k (Write a w)))
-    (subst (λ o. IsWith (address_taken o) (device_contexts k) (device_contexts (learned h k (Write a w)))) (sym is_taken) (new_device h c.requires k keeps a w clean)) f.contexts)
+    (subst (λ o. IsWith (address_taken o) (device_contexts k) (device_contexts (learned h k (Write a w)))) (sym is_taken) (new_device h c.requires.headed k keeps a w clean)) f.contexts)
     (soiled_then h k a w got is_taken _ _
-    (soils h (with_word h k a w) refl (subst (λ o. LiesOnWords h.context_size o) (sym is_taken) (lies_well h c.requires k keeps a w clean)))
+    (soils h (with_word h k a w) refl (subst (λ o. LiesOnWords h.context_size o) (sym is_taken) (lies_well h c.requires.headed k keeps a w clean)))
     (c.in_ok-clear.ensures.ok k.soiled f.soiled)))

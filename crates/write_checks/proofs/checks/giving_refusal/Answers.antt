@@ -34,5 +34,5 @@ returns-in-Some-Crossing-clause-first g c =
     let ring = c.args.ring.now in
     let memory = g.M.WordMemory.words c.args.memory.now in
     c.crossing_refusal.ensures
-    ∙ ap (λ b. first_broken (crossing_tests ring.shape memory c.args.at c.args.word b (c.in-Some-Crossing.q ∷ []))) (c.awaits_binding-awaits.ensures k ring.shape f fit r)
+    ∙ ap (λ b. first_broken (crossing_tests ring.shape memory c.args.at c.args.word b (c.in-Some-Crossing.q ∷ []))) (c.awaits_binding-awaits.ensures c.args.header.now k ring.shape memory f r)
     ∙ ap (λ (o : Option RingGiving). first_broken (given_tests c.args.header.now k ring memory c.args.at c.args.word o c.args.command)) (sym is)

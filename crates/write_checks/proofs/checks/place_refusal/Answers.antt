@@ -5,4 +5,4 @@ use Rattle.write_checks.proofs.checks.place_refusal.Goals as goal
 
 pub returns-in-None-clause-first : goal.returns-in-None-clause-first
 returns-in-None-clause-first g c = λ k shape f d fit follows.
-    c.block_refusal.ensures k shape f fit follows ∙ ap (λ o. first_broken (place_tests c.args.header.now k c.args.ring o)) (sym c.in-None.is)
+    c.block_refusal.ensures c.args.header.now k shape _ f follows ∙ ap (λ o. first_broken (place_tests c.args.header.now k c.args.ring o)) (sym c.in-None.is)

@@ -11,10 +11,10 @@ pub returns-then-is_bad_binding : goal.returns-then-is_bad_binding
 unfolding places_badly
 returns-then-is_bad_binding g c = λ k f d fit fits.
     others_pass _ _ _ _ (sym (c.is_bound_again.ensures k f fits) ∙ c.if-is_bound_again.false)
-    (c.if-is_bad_binding.true ∙ or_ends _ _ (sym (c.is_bad_binding.ensures k f d fits fit) ∙ c.if-is_bad_binding.true))
+    (c.if-is_bad_binding.true ∙ or_ends _ _ (sym (c.is_bad_binding.ensures k f d fits) ∙ c.if-is_bad_binding.true))
 
 pub returns-else-is_bad_binding : goal.returns-else-is_bad_binding
 unfolding places_badly
 returns-else-is_bad_binding g c = λ k f d fit fits.
     others_pass _ _ _ _ (sym (c.is_bound_again.ensures k f fits) ∙ c.if-is_bound_again.false)
-    (or_goes _ _ _ (sym (c.is_bad_binding.ensures k f d fits fit) ∙ c.if-is_bad_binding.false) (c.is_bad_move.ensures k f d fits))
+    (or_goes _ _ _ (sym (c.is_bad_binding.ensures k f d fits) ∙ c.if-is_bad_binding.false) (c.is_bad_move.ensures k f d fits))

@@ -1,6 +1,6 @@
 use Rattle.std.proofs.Common.{false}
 use Rattle.device_record.proofs.NewRecord.{alike}
-use Rattle.binding_checks.proofs.ring_set.RingSet.new.Goals as goal
+use Rattle.trace_record.proofs.ring_set.RingSet.new.Goals as goal
 
 pub returns : goal.returns
 returns c = λ r. alike 256 r false

@@ -1,0 +1,15 @@
+use Rattle.std.proofs.Common.{◌≡◌, ℕ}
+use Rattle.std.specs.Prelude.{◌&&◌, not}
+use Rattle.std.specs.List.{list_any}
+use Rattle.ring_knowledge.specs.Known.{Known}
+use Rattle.trace_record.specs.Premises.{FitsMemory}
+use Rattle.binding_checks.specs.Contexts.{HoldsContexts}
+use Rattle.binding_checks.specs.Bindings.{bindings_from, is_to}
+use Rattle.trace_record.specs.RingSets.{has}
+use Rattle.binding_checks.proofs.binding.forget_bound.Given as goal
+
+-- with those that are left it comes to the same
+abbrev pub invariant-loop-index : goal.invariant-loop-index
+invariant-loop-index g l =
+    (k : Known) → HoldsContexts k l.devices (g.M.WordMemory.words l.memory) → FitsMemory l.header.context_size l.command →
+    (r : ℕ) → (has l.rings r && not (list_any (is_to r) (bindings_from l.header k l.command l.index))) ≡ (has l.initial.rings r && not (list_any (is_to r) (bindings_from l.header k l.command 1)))
