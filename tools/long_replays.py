@@ -12,6 +12,8 @@ with `no harm`. KIND says what most steps are:
     rings      the same, in turn on 250 rings
     inside     looks that wait, while 250 rings are within a descriptor
     moves      Set TR Dequeue commands, which move one ring of 64 segments to and fro
+    scribs     words that the controller writes to the device context of a slot, one after the other
+    configures Configure Endpoint commands, each of which drops 30 endpoints and adds them again (version 3)
 """
 import os, sys
 
@@ -84,6 +86,8 @@ class Ring:
 class Run:
     """The rows of a trace, and the steps beside them."""
 
+    version = 1
+
     def __init__(self, rings, segments):
         self.rows, self.steps, self.memory = [], [], {}
         self.commands = Ring(self, COMMAND, 0x1000_0000, 1 if rings > 1 else 8, 4096)
@@ -153,8 +157,8 @@ class Run:
         self.write(DCBAAP + 8 * self.slots + 4, (CONTEXTS + self.slots * SEGMENT) >> 32)
         return self.slots
 
-    def input_context(self, slot, rings, first):
-        """An input context that adds endpoints from an index on with these rings."""
+    def input_context(self, slot, rings, first, drops=False):
+        """An input context that adds endpoints from an index on with these rings, and drops them first, where that is asked."""
         at = CONTEXTS + slot * SEGMENT + 0x4000 + first * 0x1000
         flags = 1
         for number, ring in enumerate(rings):
@@ -164,6 +168,8 @@ class Run:
             self.write(at + 32 * (index + 1) + 8, ring.bases[0] & 0xffffffff | 1)
             if ring.bases[0] >> 32:
                 self.write(at + 32 * (index + 1) + 12, ring.bases[0] >> 32)
+        if drops:
+            self.write(at, flags - 1)
         self.write(at + 4, flags)
         return at
 
@@ -190,7 +196,7 @@ class Run:
 
     def save(self, folder):
         declared = [ring.declaration() for ring in (self.commands, self.events, *self.rings)]
-        for name, lines in (('trace', ['xtrace 1', 'ctx 20', *declared, *self.rows]), ('schedule', ['xsched 1', *self.steps])):
+        for name, lines in (('trace', [f'xtrace {self.version}', 'ctx 20', *declared, *self.rows]), ('schedule', ['xsched 1', *self.steps])):
             with open(os.path.join(folder, name), 'w') as file:
                 file.writelines(line + '\n' for line in lines)
 
@@ -269,8 +275,29 @@ def moves(steps):
     return run
 
 
+def scribs(steps):
+    run = Run(1, 1)
+    run.start()
+    (slot, _, _), = run.bind_all()
+    while len(run.steps) < steps:
+        for number in range(256):
+            run.step('scrib %016x %08x' % (CONTEXTS + slot * SEGMENT + 4 * number, len(run.steps)))
+    return run
+
+
+def configures(steps):
+    run = Run(31, 1)
+    run.version = 3
+    run.start()
+    slot = run.bind_all()[0][0]
+    again = run.input_context(slot, run.rings[1:], 2, drops=True)
+    while len(run.steps) < steps:
+        run.command(CONFIGURE_ENDPOINT, slot, again)
+    return run
+
+
 KINDS = {'waits': waits, 'writes': writes, 'rewrites': rewrites, 'takes': takes, 'reports': lambda steps: on_rings(1, 64, steps),
-         'rings': lambda steps: on_rings(250, 1, steps), 'inside': inside, 'moves': moves}
+         'rings': lambda steps: on_rings(250, 1, steps), 'inside': inside, 'moves': moves, 'scribs': scribs, 'configures': configures}
 
 
 def main(words):

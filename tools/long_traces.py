@@ -10,13 +10,16 @@ FILE gets about LINES lines, 1,046,000 where that is left out. KIND says what mo
     contexts   Evaluate Context commands, each with an input context of its own among 64
     areas      the same, beside 250 rings of 64 segments
     devices    slots that are enabled, addressed and disabled: 31 by turns
+    devices40  the same of 40, of which 20 by turns have a device context that overlaps two of the others'
+    bound      No Ops on one ring, while 252 Configure Endpoint commands are unfinished, which each add one endpoint: they fail in turn, and are given again
+    bound30    the same while 8 are unfinished, which each add 30
     moves      Set TR Dequeue commands, each past a block that was given on a ring of 64 segments
     soiled     writes to words that a controller has soiled
 """
 import sys
 
 import long_replays
-from long_replays import (ADDRESS_DEVICE, COMMAND_COMPLETION, CONTEXTS, EVENT, FIRST_RING, NO_OP, SEGMENT, SET_TR_DEQUEUE, Ring)
+from long_replays import (ADDRESS_DEVICE, COMMAND_COMPLETION, CONFIGURE_ENDPOINT, CONTEXTS, DCBAAP, ENABLE_SLOT, EVENT, FIRST_RING, NO_OP, SEGMENT, SET_TR_DEQUEUE, Ring)
 
 DISABLE_SLOT, EVALUATE_CONTEXT = 10, 13
 
@@ -40,6 +43,15 @@ class Run(long_replays.Run):
         super().command(kind, slot, pointer, endpoint, done_slot)
         if self.commands.taken % 4096 == 0:
             self.row('db 00 00')
+
+    def failed(self, slot):
+        """The next command fails, which is for this slot."""
+        self.post('finish', self.commands.take(), 4, slot << 24 | COMMAND_COMPLETION << 10)
+
+    def fails(self, kind, slot, pointer):
+        """Gives a command that fails."""
+        self.give_command(kind, slot, pointer)
+        self.failed(slot)
 
 
 def on_rings(rings, segments, blocks, lines, rung, erdp_after):
@@ -82,8 +94,7 @@ def devices(lines):
         for slot in range(1, 32):
             run.command(DISABLE_SLOT, slot)
             run.command(9, 0, done_slot=slot)
-            run.give_command(ADDRESS_DEVICE, slot, fresh(run, slot))
-            run.post('finish', run.commands.take(), 4, slot << 24 | COMMAND_COMPLETION << 10)
+            run.fails(ADDRESS_DEVICE, slot, fresh(run, slot))
     return run
 
 
@@ -97,6 +108,44 @@ def fresh(run, slot):
         run.write(at + 32 * 2 + 4, 4 << 3)
         run.write(at + 32 * 2 + 8, ring.bases[0] & 0xffffffff | 1)
     return at
+
+
+def devices40(lines):
+    run = Run(0, 0, 0)
+    run.start()
+    turns = [range(first, 41, 2) for first in (1, 2)]
+    while len(run.rows) < lines:
+        for turn in turns:
+            for slot in turn:
+                run.command(ENABLE_SLOT, 0, done_slot=slot)
+                run.write(DCBAAP + 8 * slot, (CONTEXTS + slot * 0x200) & 0xffffffff)
+                run.write(DCBAAP + 8 * slot + 4, CONTEXTS >> 32)
+                run.fails(ADDRESS_DEVICE, slot, fresh(run, slot))
+            for slot in turn:
+                run.command(DISABLE_SLOT, slot)
+    return run
+
+
+def bound(commands, added, lines):
+    run = Run(1 + commands * added, 1, 16)
+    run.start()
+    ring, *others = run.rings
+    slot = run.new_slot()
+    run.command(ADDRESS_DEVICE, slot, run.input_context(slot, [ring], 1))
+    run.row('db %02x 01' % slot)
+    unfinished = []
+    for first in range(0, commands * added, added):
+        waiting = run.new_slot()
+        unfinished.append((waiting, run.input_context(waiting, others[first:first + added], 2)))
+    for waiting, context in unfinished:
+        run.give_command(CONFIGURE_ENDPOINT, waiting, context)
+    while len(run.rows) < lines:
+        for waiting, context in unfinished:
+            run.failed(waiting)
+            run.give_command(CONFIGURE_ENDPOINT, waiting, context)
+            ring.give((0, 0, 0, NO_OP | 1 << 5))
+            run.report(ring.take(), slot, 1)
+    return run
 
 
 def moves(lines):
@@ -121,15 +170,14 @@ def soiled(lines):
         for number in range(256):
             run.write(context + 4 * number, 0)
         run.command(9, 0, done_slot=slot)
-        run.give_command(ADDRESS_DEVICE, slot, fresh(run, slot))
-        run.post('finish', run.commands.take(), 4, slot << 24 | COMMAND_COMPLETION << 10)
+        run.fails(ADDRESS_DEVICE, slot, fresh(run, slot))
     return run
 
 
 KINDS = {'ring': lambda lines: on_rings(1, 64, 4096, lines, False, 65536), 'four': lambda lines: on_rings(4, 1, 16, lines, True, 1),
          'rings': lambda lines: on_rings(250, 1, 16, lines, True, 1), 'laps': lambda lines: on_rings(1, 64, 4, lines, True, 1),
          'contexts': lambda lines: contexts(1, 1, 4096, lines), 'areas': lambda lines: contexts(250, 64, 16, lines),
-         'devices': devices, 'moves': moves, 'soiled': soiled}
+         'devices': devices, 'devices40': devices40, 'bound': lambda lines: bound(252, 1, lines), 'bound30': lambda lines: bound(8, 30, lines), 'moves': moves, 'soiled': soiled}
 
 
 def main(words):
