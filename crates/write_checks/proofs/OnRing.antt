@@ -1,7 +1,7 @@
 -- Of the rings of a header only the one that has a word gives something by its write; a word of an event segment is the controller's
 use Rattle.std.proofs.Common.{◌≡◌, ℕ, ◌%◌, List, [], ◌++◌, Bool, true, false, refl, ap, sym, ◌∙◌}
 use Rattle.std.specs.Prelude.{◌||◌, map}
-use Rattle.std.specs.List.{list_any, flat_map}
+use Rattle.std.specs.List.{list_any}
 use Rattle.std.proofs.lemmas.List.{append-nil}
 use Rattle.segments.specs.Places.{is_inside, touches}
 use Rattle.segments.specs.RingView.{positions_given, crossings_given}

@@ -1,5 +1,5 @@
 -- What the check of a write answers
-use Rattle.std.proofs.Common.{◌≡◌, ℕ, ◌%◌, Bool, true, false, Option, None, Some, refl, ap, sym, ◌∙◌, inl, inr}
+use Rattle.std.proofs.Common.{◌≡◌, ℕ, ◌%◌, Bool, true, false, Option, None, Some, ap, sym, ◌∙◌, inl, inr}
 use Rattle.std.specs.Prelude.{if◌then◌else◌, slice_get}
 use Rattle.std.proofs.lemmas.Bool.{cases_Bool}
 use Rattle.std.proofs.Math.Path.{fun_ext}
@@ -17,7 +17,6 @@ use Rattle.ring_knowledge.specs.declared.ring_record.RingGiving.{RingGiving}
 use Rattle.ownership_rules.specs.declared.refusal.Refusal.{Refusal}
 use Rattle.ownership_rules.specs.Refusal.{first_of, first_broken}
 use Rattle.ownership_rules.specs.Older.{writes_to_owned}
-use Rattle.ownership_rules.specs.Moves as moves
 use Rattle.ownership_rules.specs.Rules.{broken}
 use Rattle.safety.specs.Keeps.{DriverKeeps}
 use Rattle.ring_finder.proofs.RingsApart.{IsAmong, among_at}
