@@ -1,6 +1,7 @@
 -- A list that is cut at each element that passes a test, by its first such element
-use Rattle.std.proofs.Common.{◌≡◌, ◌+◌, ◌-◌, ◌<◌, ◌≤◌, ◌∷◌, ◌∙◌, ℕ, suc, zero, List, [], Bool, true, false, refl, ap, sym, arith, length, slice_index, take, drop, cond}
+use Rattle.std.proofs.Common.{◌≡◌, ◌+◌, ◌-◌, ◌<◌, ◌≤◌, ◌∷◌, ◌++◌, ◌∙◌, ℕ, suc, zero, List, [], Bool, true, false, refl, ap, sym, arith, length, slice_index, take, drop, cond, All, eqb-true, le_refl, take_all}
 use Rattle.std.specs.List.{slice_split, onto_first, count_by}
+use Rattle.std.proofs.lemmas.List.Elements.{All-cons, All-nil, All-same}
 use Rattle.std.proofs.lemmas.List.Sums.{sum_by-cons}
 use Rattle.line_text.specs.Fields.{fields_of, is_space}
 use Rattle.std.proofs.lemmas.Grind.{common_steps}
@@ -45,6 +46,38 @@ module _ (p : ℕ → Bool) where
       fails : (b : Bool) → (b ≡ true → ⊥) → b ≡ false
       fails true h = absurd (h refl)
       fails false h = refl
+
+-- ---- the first line's bytes, and what stands behind them
+
+one_more : (n : ℕ) → suc n ≡ n + 1
+one_more n = omega arith
+
+parts : (text : List ℕ) (end : ℕ) → end < length text → slice_index text end ≡ 10 → text ≡ take end text ++ 10 ∷ drop (suc end) text
+parts [] end inside feed = absurd (omega arith)
+parts (x ∷ xs) zero inside feed = ap (λ b. b ∷ xs) feed
+parts (x ∷ xs) (suc end) inside feed = ap (λ l. x ∷ l) (parts xs end (omega arith) feed)
+
+pub whole_at : (text : List ℕ) (end : ℕ) → end < length text → is_line_feed (slice_index text end) ≡ true → text ≡ take end text ++ 10 ∷ take (length text - (end + 1)) (drop (end + 1) text)
+whole_at text end inside feed =
+    parts text end inside (eqb-true (slice_index text end) 10 feed) ∙ ap (λ n. take end text ++ 10 ∷ drop n text) (one_more end)
+    ∙ ap (λ l. take end text ++ 10 ∷ l) (sym (rest_of text (end + 1)))
+
+pub none_before : (text : List ℕ) (end : ℕ) → end ≤ length text → ((k : ℕ) → 0 ≤ k → k < end → is_line_feed (slice_index text k) ≡ true → ⊥) →
+    All (λ byte. is_line_feed byte ≡ false) (take end text)
+none_before text zero within none = All-nil (λ byte. is_line_feed byte ≡ false)
+none_before [] (suc end) within none = absurd (omega arith)
+none_before (x ∷ xs) (suc end) within none =
+    All-cons (λ byte. is_line_feed byte ≡ false) x (take end xs) (fails (is_line_feed x) (none 0 (omega arith) (omega arith)))
+    (none_before xs end (omega arith) (λ k low high h. none (suc k) (omega arith) (omega arith) h))
+  where
+    fails : (b : Bool) → (b ≡ true → ⊥) → b ≡ false
+    fails true h = absurd (h refl)
+    fails false h = refl
+
+pub none_at_all : (text : List ℕ) → ((k : ℕ) → 0 ≤ k → k < length text → is_line_feed (slice_index text k) ≡ true → ⊥) → All (λ byte. is_line_feed byte ≡ false) text
+none_at_all text none =
+    All-same (λ byte. is_line_feed byte ≡ false) text (take (length text) text) (sym (take_all (length text) text (le_refl (length text))))
+    (none_before text (length text) (le_refl (length text)) none)
 
 ended_first : (piece : List ℕ) (pieces : List (List ℕ)) → 0 < length pieces → lines_between (piece ∷ pieces) ≡ record { content = piece; is_ended = true } ∷ lines_between pieces
 ended_first piece [] some = absurd (omega arith)

@@ -11,6 +11,11 @@ pub record TextLine : Type 0 where
 abbrev pub is_line_feed : ℕ → Bool
 is_line_feed byte = byte == 10
 
+-- what stands behind the bytes of a text's first line: the line feed that ends it and the text that is left, or nothing
+abbrev pub behind_content : Bool → List ℕ → List ℕ
+behind_content true rest = 10 ∷ rest
+behind_content false rest = []
+
 -- what stands behind the last line feed is a line too, where it isn't empty
 abbrev pub last_line : List ℕ → List TextLine
 last_line [] = []

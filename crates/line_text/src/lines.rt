@@ -1,5 +1,5 @@
-ghost use Rattle.std.specs.Prelude.{◌≡◌, ◌∷◌, ◌<◌, length};
-ghost use Rattle.line_text.specs.Lines.{lines_of};
+ghost use Rattle.std.specs.Prelude.{◌≡◌, ◌∷◌, ◌++◌, ◌<◌, All, false, length};
+ghost use Rattle.line_text.specs.Lines.{behind_content, is_line_feed, lines_of};
 
 use memchr::memchr;
 use std::marker::Model;
@@ -39,6 +39,8 @@ impl<'a> Line<'a> {
 pub fn first_line(text: &[u8]) -> (Line<'_>, &[u8])
     requires { 0 < length text.now }
     ensures lines { lines_of text.now ≡ result.0 ∷ lines_of result.1.now }
+    ensures whole { text.now ≡ result.0.content ++ behind_content result.0.is_ended result.1.now }
+    ensures one { All (λ byte. is_line_feed byte ≡ false) result.0.content }
     ensures shorter { length result.1.now < length text.now }
 {
     match memchr(b'\n', text) {

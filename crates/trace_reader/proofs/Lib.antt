@@ -2,6 +2,8 @@ pub mod Prefixes
 pub mod FirstWords
 pub mod LineFields
 pub mod ReadSteps
+pub mod RowLines
+pub mod RingsGrow
 pub mod LinePieces
 pub mod SpelledFields
 pub mod SpelledValues

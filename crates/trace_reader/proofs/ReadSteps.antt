@@ -7,6 +7,10 @@ abbrev pub prepend : List Row → Result (State × List Row) (ℕ × LineFault) 
 prepend rows (Ok (st, later)) = Ok (st, rows ++ later)
 prepend rows (Err fault) = Err fault
 
+pub nothing_before : (r : Result (State × List Row) (ℕ × LineFault)) → prepend [] r ≡ r
+nothing_before (Ok (st, later)) = refl
+nothing_before (Err fault) = refl
+
 pub bad_line : (rows : List Row) (st : State) (line : TextLine) (lines : List TextLine) (fault : LineFault) → read_line st line ≡ Err fault →
     prepend rows (read_lines st (line ∷ lines)) ≡ Err (next_number st, fault)
 unfolding read_lines

@@ -79,6 +79,17 @@ said_by line s says =
     let q = spelled_from_read (fields_of line.content) p.0 s p.1 p.2 in
     record { form = p.0; formed = p.1; says = p.2; spelled = q.0; sort = q.1 }
 
+ring_behind : (begun : Bool) (o : Option Form) (form : Form) (s : Said) → begun ≡ true → o ≡ Some form → is_ring_form form ≡ says_ring s →
+    (begun && option_map_or is_ring_form o false) ≡ false → says_ring s ≡ false
+ring_behind begun o form s is formed sort none = sym sort ∙ (rw (is, formed) at none)
+
+-- behind a row no line says a ring
+pub no_ring_behind : (st : State) (line : TextLine) (s : Said) → st.begun ≡ true → is_bad_row st line ≡ false → said_in line ≡ Some s → says_ring s ≡ false
+no_ring_behind st line s begun good says =
+    let by = said_by line s says in
+    let tests = row_tests st line good in
+    ring_behind st.begun (form_in line) by.form s begun by.formed by.sort tests.ordered
+
 pub good_from_none : (st : State) (line : TextLine) → row_fault st line ≡ None → (s : Said) × (said_in line ≡ Some s) × IsGood st line s
 unfolding is_bad_number is_past_limit is_bad_shape
 good_from_none st line none =
@@ -98,10 +109,6 @@ good_from_none st line none =
         placed = rw is.1 at n.shape;
       },
     )
-  where
-    ring_behind : (begun : Bool) (o : Option Form) (form : Form) (s : Said) → begun ≡ true → o ≡ Some form → is_ring_form form ≡ says_ring s →
-        (begun && option_map_or is_ring_form o false) ≡ false → says_ring s ≡ false
-    ring_behind begun o form s is formed sort none = sym sort ∙ (rw (is, formed) at none)
 
 -- ---- to no fault
 

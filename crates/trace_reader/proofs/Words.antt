@@ -26,7 +26,7 @@ pub use Rattle.std.specs.Int.{Width, byte_len}
 pub use Rattle.std.specs.List.{flat_map, join_with_byte, list_all, list_any, slice_split}
 pub use Rattle.std.specs.Option.{option_and_then, option_map, option_map_or}
 pub use Rattle.std.specs.Str.{bytes_eq, str_to_ascii_lowercase}
-pub use Rattle.trace_reader.specs.Entries.{Answers, IfBadLine, IfFault, at_line, form_behind, placed, ring_of, said_alone, said_by, state_of, text_of, took_in, unless_begun, value_of}
+pub use Rattle.trace_reader.specs.Entries.{Answers, AnswersRow, IfBadLine, IfFault, at_line, form_behind, placed, ring_of, said_alone, said_by, state_of, text_of, took_in, unless_begun, value_of}
 unfoldable pub use Rattle.trace_reader.specs.Entries.{content_fault, said_by_fields, said_by_line, word_named}
 pub use Rattle.trace_reader.specs.Forms.{are_blocks, named}
 unfoldable pub use Rattle.trace_reader.specs.Forms.{kind_named, register_named}

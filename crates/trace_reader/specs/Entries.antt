@@ -23,7 +23,7 @@ use Rattle.traces.specs.declared.trace.Trace.{Trace}
 use Rattle.trace_reader.specs.Grammar.{form_as}
 use Rattle.trace_reader.specs.TraceLines.{Form, form_of, is_ring_form, said_of, sub_line, write_line, reg_line, bell_line, event_line, ring_line}
 use Rattle.traces.specs.Limits.{most_bytes}
-use Rattle.trace_reader.specs.Reading.{State, TraceText, is_bad_row, is_past_limit, is_misplaced, is_too_long, said_in, with_said}
+use Rattle.trace_reader.specs.Reading.{State, TraceText, is_bad_row, is_past_limit, is_misplaced, is_too_long, next_number, read_line, said_in, with_said}
 use Rattle.trace_reader.specs.Values.{Said, SaysRow, SaysRing}
 
 -- a ring as its line says
@@ -125,6 +125,12 @@ abbrev pub took_in : List Row → Result (State × Option Row) LineFault → Res
 took_in rows (Ok (st, Some row)) = Ok (st, rows ++ row ∷ [])
 took_in rows (Ok (st, None)) = Ok (st, rows)
 took_in rows (Err fault) = Err fault
+
+-- the answer is the row that a line says behind the first row's, or the line's least fault, or memory was wanting
+abbrev pub AnswersRow : State → Result Row LineError → TextLine → Type 0
+AnswersRow st (Ok row) line = read_line st line ≡ Ok (record st { lines = next_number st; begun = true }, Some row)
+AnswersRow st (Err (Fault fault)) line = read_line st line ≡ Err fault
+AnswersRow st (Err Memory) line = Unit {0}
 
 -- a line behind the header, with its ring among those before it
 abbrev pub placed : State → Result Said LineFault → Result (State × Option Row) LineFault

@@ -72,8 +72,10 @@ pub enum ReadFault {
 
 /// Why a line wasn't read.
 #[derive(Debug, Drop)]
-pub(crate) enum LineError {
+pub enum LineError {
+    /// It is a bad line, with this fault.
     Fault(LineFault),
+    /// A growth of memory was refused.
     Memory,
 }
 

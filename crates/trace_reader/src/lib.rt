@@ -15,11 +15,13 @@ mod so_far;
 mod step_line;
 
 pub use entry::block_of;
-pub use fault::{LineFault, ReadFault};
+pub use fault::{LineError, LineFault, ReadFault};
+pub use line::{MOST_BYTES, row_in};
 pub use plans::read_plan;
 pub use print::{print_trace, with_ring, with_sub, with_write};
 pub use read::read_trace;
 pub use schedules::{print_schedule, read_schedule};
+pub use so_far::TraceSoFar;
 pub use traces::{
     Header, Plan, PlanLine, PlanLines, Register, Ring, Rings, Row, Rows, Schedule, Step, Steps,
     Trace,

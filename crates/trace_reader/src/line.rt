@@ -1,5 +1,5 @@
-ghost use Rattle.std.specs.Prelude.{◌≡◌, ◌≤◌, ◌+◌, Some, None, OnOk, IfOk, IfErr};
-ghost use Rattle.trace_reader.specs.Entries.{Answers, content_fault, said_alone, said_by_line, value_of};
+ghost use Rattle.std.specs.Prelude.{◌≡◌, ◌≤◌, ◌+◌, Some, None, true, OnOk, IfOk, IfErr};
+ghost use Rattle.trace_reader.specs.Entries.{Answers, AnswersRow, content_fault, said_alone, said_by_line, value_of};
 ghost use Rattle.traces.specs.Limits.{most_lines};
 ghost use Rattle.trace_reader.specs.Reading.{State, is_too_much, size_of, version_of};
 
@@ -66,6 +66,18 @@ pub fn entry_in(alloc: Global, lines: u32, begun: bool, line: &Line) -> Result<E
         return Err(LineFault::Limit.into());
     }
     Ok(entry)
+}
+
+/// The row that a line says behind the first row's; `lines` were read before it.
+pub fn row_in(alloc: Global, lines: u32, line: &Line) -> Result<Row, LineError>
+    requires { 2 ≤ lines }
+    ensures answer { (st : State) → st.lines ≡ lines → st.begun ≡ true → AnswersRow st result line.now }
+    ensures within { OnOk result (lines + 1 ≤ most_lines) }
+{
+    match entry_in(alloc, lines, true, line)? {
+        Entry::Row(row) => Ok(row),
+        Entry::Ring(_) => unreachable!(),
+    }
 }
 
 /// What a line behind the header says by itself.

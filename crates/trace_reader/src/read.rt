@@ -1,10 +1,11 @@
-ghost use Rattle.std.specs.Prelude.{ℕ, List, ◌≡◌, ◌≤◌, ◌+◌, ◌++◌, ◌∷◌, [], true, false, Ok, Err, IsTrue, OnOk, IfOk, IfErr};
+ghost use Rattle.std.specs.Prelude.{ℕ, List, ◌≡◌, ◌<◌, ◌≤◌, ◌+◌, ◌++◌, ◌∷◌, [], true, false, Ok, Err, IsTrue, OnErr, OnOk, IfOk, IfErr};
 ghost use Rattle.std.specs.Str.{str_to_ascii_lowercase};
 ghost use Rattle.trace_reader.specs.declared.fault.LineFault.{LineFault};
 ghost use Rattle.trace_reader.specs.Entries.{IfBadLine, IfFault, at_line, placed, ring_of, state_of, text_of, took_in};
-ghost use Rattle.trace_reader.specs.Reading.{TraceText, is_misplaced, read_line, trace_of, whole};
+ghost use Rattle.trace_reader.specs.Reading.{TraceText, is_misplaced, read_line, start, trace_of, whole};
 ghost use Rattle.trace_reader.specs.Spelling.{printed_trace, spells};
 ghost use Rattle.trace_reader.specs.Valid.{IsTrace};
+ghost use Rattle.traces.specs.Header.{IsHeader};
 ghost use Rattle.traces.specs.Limits.{most_lines};
 ghost use Rattle.trace_reader.specs.Values.{SaysRing, SaysRow};
 
@@ -36,14 +37,7 @@ pub fn read_trace(alloc: Global, text: &[u8]) -> Result<Trace, ReadFault>
     // A refused text spells no trace.
     ensures unspelled { IfErr result (λ e. IfBadLine e (λ line code. (trace : TraceText) → IsTrace trace → spells trace text.now ≡ false)) }
 {
-    let mut so_far = TraceSoFar {
-        alloc,
-        version: Version::One,
-        size: ContextSize::Bytes32,
-        rings: Vec::new(alloc),
-        rows: Vec::new(alloc),
-        lines: 0,
-    };
+    let mut so_far = TraceSoFar::new(alloc);
     let mut rest = text;
     while !rest.is_empty() {
         let (line, after) = first_line(rest);
@@ -67,8 +61,23 @@ pub fn at_line(line: u32, error: LineError) -> ReadFault
 }
 
 impl TraceSoFar {
+    /// No line was read.
+    pub fn new(alloc: Global) -> TraceSoFar
+        ensures state { state_of result ≡ start }
+        ensures rows { result.rows.items ≡ [] }
+    {
+        TraceSoFar {
+            alloc,
+            version: Version::One,
+            size: ContextSize::Bytes32,
+            rings: Vec::new(alloc),
+            rows: Vec::new(alloc),
+            lines: 0,
+        }
+    }
+
     /// Adds the next line of the text.
-    fn add(&mut self, line: &Line) -> Result<(), LineError>
+    pub fn add(&mut self, line: &Line) -> Result<(), LineError>
         ensures ok { OnOk result (took_in self.old.rows.items (read_line (state_of self.old) line.now) ≡ Ok (state_of self.new, self.new.rows.items)) }
         ensures err { IfErr result (λ e. IfFault e (λ f. read_line (state_of self.old) line.now ≡ Err f)) }
     {
@@ -139,6 +148,18 @@ impl TraceSoFar {
         Ok(())
     }
 
+    /// What the lines before the rows have said.
+    pub fn into_header(self) -> Header
+        ensures said { result ≡ record { version = self.version; context_size = self.size; rings = self.rings.items } }
+        ensures headed { IsHeader result }
+    {
+        Header {
+            version: self.version,
+            context_size: self.size,
+            rings: Rings::new(self.rings),
+        }
+    }
+
     /// The trace, where its header is whole.
     fn finish(self) -> Result<Trace, ReadFault>
         requires { (text : List ℕ) × (trace_of text ≡ whole (Ok (state_of self, self.rows.items))) }
@@ -168,6 +189,8 @@ impl TraceSoFar {
 fn place_ring(alloc: Global, entry: RingEntry, rings: &mut Vec<Ring>) -> Result<(), LineError>
     ensures placed { OnOk result (is_misplaced rings.old.items (SaysRing (ring_of entry)) ≡ false) }
     ensures added { OnOk result (rings.new.items ≡ rings.old.items ++ ring_of entry ∷ []) }
+    ensures small { OnOk result (entry.id < 256) }
+    ensures kept { OnErr result (rings.new.items ≡ rings.old.items) }
     ensures err { IfErr result (λ e. IfFault e (λ f. (f ≡ LineFault.Shape) × (is_misplaced rings.old.items (SaysRing (ring_of entry)) ≡ true))) }
 {
     let RingEntry { id, kind, segments } = entry;

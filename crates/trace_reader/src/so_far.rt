@@ -1,4 +1,5 @@
 ghost use Rattle.std.specs.Prelude.{◌≤◌, vec_len};
+ghost use Rattle.traces.specs.Header.{IsHeader};
 ghost use Rattle.traces.specs.Limits.{most_lines};
 
 use contexts::ContextSize;
@@ -17,4 +18,5 @@ pub struct TraceSoFar {
     pub lines: u32,
     pub ghost counted: { vec_len rows ≤ lines },
     pub ghost within: { lines ≤ most_lines },
+    pub ghost headed: { IsHeader (record { version = version; context_size = size; rings = rings.items }) },
 }

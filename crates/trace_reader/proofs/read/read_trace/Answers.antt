@@ -1,10 +1,13 @@
 use Rattle.std.proofs.Common.{◌∙◌, ap, sym, length, eqb-true}
-use Rattle.trace_reader.proofs.Words.{lines_of, state_of, text_of, read_lines}
+use Rattle.trace_reader.proofs.Words.{lines_of, state_of, text_of, read_lines, start}
 use Rattle.trace_reader.proofs.Lowered.{lowered}
-use Rattle.trace_reader.proofs.ReadSteps.{ended, prepend, read_on, stopped}
+use Rattle.trace_reader.proofs.ReadSteps.{ended, nothing_before, prepend, read_on, stopped}
 use Rattle.trace_reader.proofs.Spelled.{one_trace, spelled_if_read}
 use Rattle.trace_reader.proofs.Unspelled.{err_also, ok_also, refused_unspelled}
 use Rattle.trace_reader.proofs.read.read_trace.Goals as goal
+
+pub loop-rest-init : goal.loop-rest-init
+loop-rest-init c = rw (c.new-so_far.ensures.rows, c.new-so_far.ensures.state) (sym (nothing_before (read_lines start (lines_of c.args.text.now))))
 
 pub loop-rest-preserved : goal.loop-rest-preserved
 loop-rest-preserved c =

@@ -1,0 +1,76 @@
+//! The lines before the first row.
+ghost use Rattle.std.specs.Prelude.{◌≡◌, ◌<◌, ◌≤◌, ◌-◌, [], true, length, vec_len};
+ghost use Rattle.trace_reader.specs.Entries.{state_of};
+ghost use Rattle.row_reader.specs.Ahead.{ahead_of};
+ghost use Rattle.row_reader.specs.Answers.{told_failures};
+ghost use Rattle.row_reader.specs.ReaderState.{IsOpened, IsTold, progress_of};
+
+use crate::ahead::Ahead;
+use crate::fault::{StreamFault, fault_of};
+use crate::reader::RowReader;
+use crate::source::Source;
+use line_text::first_line;
+use std::alloc::Global;
+use trace_reader::{LineFault, TraceSoFar};
+
+impl RowReader {
+    /// Reads the lines before the first row: what they say, or the first bad line, and the text that is left are those of the definition. A
+    /// failure of the device is told, and nothing else is told as one.
+    pub fn open<S: Source>(alloc: Global, source: &mut S) -> Result<RowReader, StreamFault>
+        ensures opened { IsOpened (S.held source.old) (S.held source.new) result }
+        ensures failures { S.failed source.new ≡ told_failures (S.failed source.old) result }
+    {
+        let mut so_far = TraceSoFar::new(alloc);
+        let mut ahead = Ahead::new(alloc)?;
+        while ahead.fill_line(source)? {
+            if says_row(&mut so_far, &mut ahead)? {
+                return Ok(RowReader::behind_header(so_far, ahead, false));
+            }
+        }
+        if so_far.lines < 2 {
+            return Err(StreamFault::Line {
+                line: so_far.lines + 1,
+                fault: LineFault::Header,
+            });
+        }
+        Ok(RowReader::behind_header(so_far, ahead, true))
+    }
+
+    /// The reader that stands before the first row. What was read has at most the line of this one.
+    fn behind_header(so_far: TraceSoFar, ahead: Ahead, ended: bool) -> RowReader
+        requires { 2 ≤ so_far.lines - vec_len so_far.rows }
+        ensures read { (progress_of result).read ≡ record (state_of so_far) { lines = so_far.lines - vec_len so_far.rows; begun = true } }
+        ensures ended { result.ended ≡ ended }
+        ensures ahead { result.ahead ≡ ahead }
+    {
+        let lines = so_far.lines - so_far.rows.len() as u32;
+        RowReader {
+            alloc: so_far.alloc,
+            lines,
+            ended,
+            ahead,
+            header: so_far.into_header(),
+        }
+    }
+}
+
+/// Reads the first line; whether it says a row. Then it is left.
+fn says_row(so_far: &mut TraceSoFar, ahead: &mut Ahead) -> Result<bool, StreamFault>
+    requires some { 0 < length (ahead_of ahead.old) }
+    requires none { so_far.old.rows.items ≡ [] }
+    ensures { IsTold (state_of so_far.old) (ahead_of ahead.old) so_far.new (ahead_of ahead.new) result }
+{
+    let number = so_far.lines + 1;
+    let (line, rest) = first_line(ahead.as_slice());
+    let left = rest.len();
+    match so_far.add(&line) {
+        Ok(()) => {
+            if !so_far.rows.is_empty() {
+                return Ok(true);
+            }
+            ahead.keep_last(left);
+            Ok(false)
+        }
+        Err(error) => Err(fault_of(number, error)),
+    }
+}

@@ -1,0 +1,105 @@
+//! The text in pieces: bytes are read ahead until a line stands there.
+ghost use Rattle.std.specs.Prelude.{◌≡◌, ◌++◌, ◌≤◌, ◌<◌, List, ℕ, [], take, length, vec_len, false, true, IfErr, IfOk, OnOk};
+ghost use Rattle.row_reader.specs.Ahead.{Comes, IsFilled, IsLong, ahead_of, has_come};
+ghost use Rattle.row_reader.specs.Answers.{IsNoLine, told_failures};
+ghost use Rattle.traces.specs.Limits.{most_bytes};
+
+use crate::ahead::Ahead;
+use crate::fault::StreamFault;
+use crate::source::{Failed, Source};
+use line_text::first_line;
+use std::alloc::{AllocError, Global};
+use trace_reader::MOST_BYTES;
+
+/// Bytes that are read at once.
+const PIECE: usize = 65536;
+
+impl Ahead {
+    /// No byte was read.
+    pub fn new(alloc: Global) -> Result<Ahead, AllocError>
+        ensures { IfOk result (λ ahead. ahead_of ahead ≡ []) }
+    {
+        let piece = vec![in alloc; 0; PIECE]?;
+        Ok(Ahead {
+            alloc,
+            bytes: Vec::new(alloc),
+            done: 0,
+            piece,
+        })
+    }
+
+    /// The bytes of the lines that are still to be read.
+    pub fn as_slice(&self) -> &[u8]
+        ensures { result.now ≡ ahead_of self.now }
+    {
+        &self.bytes[self.done..]
+    }
+
+    /// Keeps the last of the bytes, so many.
+    pub fn keep_last(&mut self, count: usize)
+        requires { count ≤ length (ahead_of self.old) }
+        ensures { (front back : List ℕ) → ahead_of self.old ≡ front ++ back → length back ≡ count → ahead_of self.new ≡ back }
+    {
+        self.done = self.bytes.len() - count;
+    }
+
+    /// Reads pieces until the first line stands there, or too much of it for a line, or the text has ended. None does where no byte
+    /// is left.
+    pub fn fill_line<S: Source>(&mut self, source: &mut S) -> Result<bool, StreamFault>
+        ensures came { OnOk result (Comes (S.held source.old) (S.held source.new) (ahead_of self.old) (ahead_of self.new)) }
+        ensures filled { IfOk result (λ some. IsFilled some (S.held source.new) (ahead_of self.new)) }
+        ensures no_line { IfErr result IsNoLine }
+        ensures failures { S.failed source.new ≡ told_failures (S.failed source.old) result }
+    {
+        while !is_long(self.as_slice()) {
+            if !self.read_on(source)? {
+                return Ok(!self.as_slice().is_empty());
+            }
+        }
+        Ok(true)
+    }
+
+    /// Reads one piece more, and says whether it has a byte.
+    fn read_on<S: Source>(&mut self, source: &mut S) -> Result<bool, StreamFault>
+        ensures came { IfOk result (λ some. has_come some (S.held source.old) (S.held source.new) (ahead_of self.old) (ahead_of self.new)) }
+        ensures no_line { IfErr result IsNoLine }
+        ensures failures { S.failed source.new ≡ told_failures (S.failed source.old) result }
+    {
+        match source.read(self.piece.as_mut_slice()) {
+            Ok(0) => Ok(false),
+            Ok(count) => {
+                self.take_in(count)?;
+                Ok(true)
+            }
+            Err(Failed) => Err(StreamFault::Device),
+        }
+    }
+
+    /// Puts the first bytes of the piece behind the others.
+    fn take_in(&mut self, count: usize) -> Result<(), AllocError>
+        requires { count ≤ vec_len self.old.piece }
+        ensures { OnOk result (ahead_of self.new ≡ ahead_of self.old ++ take count self.old.piece.items) }
+    {
+        let mut bytes = Vec::new(self.alloc);
+        bytes.extend_from_slice(&self.bytes[self.done..])?;
+        bytes.extend_from_slice(&self.piece[..count])?;
+        self.bytes = bytes;
+        self.done = 0;
+        Ok(())
+    }
+}
+
+/// A line feed stands among the bytes, or they are too many for one line.
+fn is_long(bytes: &[u8]) -> bool
+    ensures long { result ≡ true → IsLong bytes.now }
+    ensures short { result ≡ false → length bytes.now ≤ most_bytes }
+{
+    if bytes.is_empty() {
+        return false;
+    }
+    let (line, _) = first_line(bytes);
+    if line.is_ended() {
+        return true;
+    }
+    bytes.len() > MOST_BYTES
+}

@@ -1,0 +1,90 @@
+ghost use Rattle.std.specs.Prelude.{◌≡◌, ◌+◌, ◌≤◌, None, Ok, false, true, IfOk, IfSome};
+ghost use Rattle.traces.specs.Limits.{most_lines};
+ghost use Rattle.traces.specs.Header.{IsHeader};
+ghost use Rattle.trace_reader.specs.Reading.{State};
+ghost use Rattle.row_reader.specs.Ahead.{ahead_of};
+ghost use Rattle.row_reader.specs.Answers.{IsCall, behind_answer, has_ended, told_failures};
+ghost use Rattle.row_reader.specs.ReaderState.{progress_of};
+
+use crate::ahead::Ahead;
+use crate::fault::{StreamFault, fault_of};
+use crate::reader::RowReader;
+use crate::source::Source;
+use line_text::first_line;
+use std::alloc::Global;
+use trace_reader::row_in;
+use traces::{Header, Row};
+
+impl RowReader {
+    /// What the lines before the rows have said.
+    pub fn header(&self) -> &Header
+        ensures said { result.now ≡ self.now.header }
+        ensures headed { IsHeader result.now }
+    {
+        &self.header
+    }
+
+    /// How many lines were read.
+    pub fn lines(&self) -> u32
+        ensures { result ≡ self.now.lines }
+    {
+        self.lines
+    }
+
+    /// The next row, with the number of its line: the answer, how far the reading has come and the text that is left are those of the
+    /// definition. Where no row is answered the reading has ended, and from then on each call answers none and reads nothing. A failure of
+    /// the device is told, and nothing else is told as one.
+    pub fn next_row<S: Source>(&mut self, source: &mut S) -> Result<Option<(u32, Row)>, StreamFault>
+        ensures answer { IsCall (progress_of self.old) (progress_of self.new) (S.held source.old) (S.held source.new) (ahead_of self.old.ahead) (ahead_of self.new.ahead) result }
+        ensures over { self.new.ended ≡ has_ended result }
+        ensures nothing { self.old.ended ≡ true → (result ≡ Ok None) × (self.new ≡ self.old) × (source.new ≡ source.old) }
+        ensures failures { S.failed source.new ≡ told_failures (S.failed source.old) result }
+        ensures header { self.new.header ≡ self.old.header }
+    {
+        if self.ended {
+            return Ok(None);
+        }
+        match row_ahead(self.alloc, self.lines, &mut self.ahead, source) {
+            Ok(Some(found)) => {
+                self.lines = found.0;
+                Ok(Some(found))
+            }
+            Ok(None) => {
+                self.ended = true;
+                Ok(None)
+            }
+            Err(fault) => {
+                self.ended = true;
+                Err(fault)
+            }
+        }
+    }
+}
+
+/// The row of the text's first line and that line's number; so many were read before it. None where no byte is left.
+fn row_ahead<S: Source>(
+    alloc: Global,
+    lines: u32,
+    ahead: &mut Ahead,
+    source: &mut S,
+) -> Result<Option<(u32, Row)>, StreamFault>
+    requires behind { 2 ≤ lines }
+    requires within { lines ≤ most_lines }
+    ensures answer { (st : State) → st.lines ≡ lines → st.begun ≡ true →
+        IsCall (record { read = st; ended = false }) (behind_answer st result) (S.held source.old) (S.held source.new) (ahead_of ahead.old) (ahead_of ahead.new) result }
+    ensures numbered { IfOk result (λ found. IfSome found (λ r. (r.0 ≡ lines + 1) × (r.0 ≤ most_lines))) }
+    ensures failures { S.failed source.new ≡ told_failures (S.failed source.old) result }
+{
+    if !ahead.fill_line(source)? {
+        return Ok(None);
+    }
+    let (line, rest) = first_line(ahead.as_slice());
+    let left = rest.len();
+    match row_in(alloc, lines, &line) {
+        Ok(row) => {
+            ahead.keep_last(left);
+            Ok(Some((lines + 1, row)))
+        }
+        Err(error) => Err(fault_of(lines + 1, error)),
+    }
+}
