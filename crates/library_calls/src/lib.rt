@@ -27,6 +27,8 @@ mod ring_shapes;
 #[cfg(test)]
 mod sinks;
 #[cfg(test)]
+mod sources;
+#[cfg(test)]
 mod telling;
 #[cfg(test)]
 mod texts;
