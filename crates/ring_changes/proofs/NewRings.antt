@@ -59,7 +59,7 @@ view_keeps k r coming shows =
       given_declared = empty.given_declared;
       crossed_is_crossing = empty.crossed_is_crossing;
       crossed_within = empty.crossed_within;
-      kept = λ p d h g at. absurd (false≢true g);
+      kept = λ p d h g free at. absurd (false≢true g);
       not_yet = λ p due g.
           let is_due = due_is shape (Data 0) p due in
           other_than_one (k.memory (address_of shape p + 12)) (cycle_of shape p) (shows (address_of shape p) (address_aligned shape is p) (inside_at shape (address_of shape p) (λ b low. address_inside shape is p b low)))
@@ -76,6 +76,9 @@ view_keeps k r coming shows =
           other_than_one (k.memory (link_address shape q + 12)) (cycle_of shape (q - 1))
           (shows (link_address shape q) (omega (arith, at, link_aligned shape is found.0 link)) (inside_at shape (link_address shape q) (λ b low. link_address_inside shape is q b is_due.crossing low)))
           (cycle_of-first shape (q - 1) (omega arith));
+      free_given = empty.free_given;
+      free_shows = λ p low high free. absurd (false≢true free);
+      open_restored = empty.open_restored;
       whole = empty.whole;
       lengths = empty.lengths;
       descriptors = empty.descriptors;
