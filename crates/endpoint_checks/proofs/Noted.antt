@@ -40,7 +40,7 @@ use Rattle.endpoint_checks.specs.declared.spots.NamedSpot.{NamedSpot}
 use Rattle.endpoint_checks.specs.NamedSpots.{IsNamedAt}
 use Rattle.endpoint_checks.specs.Reported.{IsWithRecord, MayReport, reported}
 use Rattle.endpoint_checks.proofs.Followed.{AreOffAs, IsBeside, IsOnly, followed, put_on, rings_with}
-use Rattle.endpoint_checks.proofs.Reports.{none_reported, not_command, reported_at, transfer_driver}
+use Rattle.endpoint_checks.proofs.Reports.{not_command, reported_at, transfer_driver}
 
 -- ---- what changes
 
@@ -193,10 +193,6 @@ module _ (h : Header) (headed : IsHeader h) (k : Known) (keeps : DriverKeeps h k
       by true true e f = absurd (false≢true (sym f))
       by true false e f = refl
       by false o e f = absurd (false≢true e)
-
-  -- so it names a spot
-  pub names_some : event_at h k b ≡ None → ⊥
-  names_some none = false≢true (sym (none_reported h headed k keeps b _ none) ∙ can_be)
 
   read_is : (r : ℕ) (t : Spot) → event_at h k b ≡ Some (record { ring = r; spot = t }) → transfer_read h k b ≡ transferred h k (code b) (slot b) (endpoint b) r t
   unfolding transfer_read transferred_at

@@ -13,4 +13,4 @@ pub use doorbells::{is_bad_doorbell, ring_doorbell};
 pub use events::{count_read, is_no_event};
 pub use profile::is_left_out;
 pub use spots::{NamedSpot, named_spot};
-pub use transfers::{is_impossible_transfer, note_transfer_event};
+pub use transfers::read_transfer_event;

@@ -1,5 +1,6 @@
 //! A row of a Transfer Event: xHCI 4.8.3, 4.9.2, 4.10.2, 6.4.2.1.
-ghost use Rattle.std.specs.Prelude.{◌≡◌, ◌&&◌, ◌||◌, ◌<◌, ◌^◌, not, ℕ, nat_lt, Some, false, true, option_and_then, slice_get};
+ghost use Rattle.std.specs.Prelude.{◌≡◌, ◌&&◌, ◌||◌, ◌<◌, ◌^◌, not, ℕ, nat_lt, Some, false, true, length, option_and_then, slice_get};
+ghost use Rattle.std.specs.Bool.{OnTrue};
 ghost use Rattle.trb.specs.Block.{code, endpoint, slot};
 ghost use Rattle.trb.specs.CompletionCode.{is_halting, is_success, is_trb_error};
 ghost use Rattle.segments.specs.ShapeValue.{Shape};
@@ -20,10 +21,11 @@ ghost use Rattle.ownership_rules.specs.Events.{can_report, can_report_at, is_imp
 ghost use Rattle.safety.specs.Keeps.{DriverKeeps};
 ghost use Rattle.ring_finder.specs.Finding.{IsFinder};
 ghost use Rattle.trace_record.specs.FollowsTrace.{FollowsTrace};
+ghost use Rattle.endpoint_checks.specs.NamedSpots.{IsNamedAt};
 ghost use Rattle.endpoint_checks.specs.Reported.{IsWithRecord, MayReport, reported};
 
-use crate::profile::{is_failure, is_in_profile, is_success};
-use crate::spots::named_spot;
+use crate::profile::{is_failure, is_success};
+use crate::spots::{NamedSpot, named_spot};
 use commands::{Command, EndpointState};
 use device_record::DeviceRecord;
 use ring_finder::Finder;
@@ -33,25 +35,34 @@ use trace_record::TraceRecord;
 use traces::Header;
 use trb::Block;
 
-/// Whether no controller can have posted a Transfer Event of the profile: its endpoint is Disabled, or hasn't come to what the
-/// event says of the spot that it names.
-pub fn is_impossible_transfer(
+/// Notes a Transfer Event of the profile that a controller can have posted, and tells whether one can: not where its endpoint is
+/// Disabled, or hasn't come to what the event says of the spot that it names. What is noted is how far the controller has come on
+/// the ring, and in which state the endpoint is (xHCI 4.8.3, 4.9.2, 4.10.2).
+pub fn read_transfer_event(
     header: &Header,
     finder: &Finder,
-    t: &TraceRecord,
+    t: &mut TraceRecord,
     event: Block,
 ) -> bool
     requires headed { IsHeader header.now }
     requires found { IsFinder header.now.rings finder.now }
-    ensures { (k : Known) (m : ℕ → ℕ) → FollowsTrace header.now k t.now m → DriverKeeps header.now k → result ≡ is_impossible_transfer header.now k event }
+    ensures possible { (k : Known) (m : ℕ → ℕ) → FollowsTrace header.now k t.old m → DriverKeeps header.now k → is_in_profile event ≡ true →
+        result ≡ not (is_impossible_transfer header.now k event) }
+    ensures followed { OnTrue result ((k : Known) (m : ℕ → ℕ) → FollowsTrace header.now k t.old m → DriverKeeps header.now k → is_in_profile event ≡ true →
+        FollowsTrace header.now (transfer_read header.now k event) t.new m) }
+    ensures events { t.new.events ≡ t.old.events }
 {
-    if !is_in_profile(event) {
+    if is_off(t.devices.endpoint_state(event.slot(), event.endpoint())) {
         return false;
     }
-    if is_off(t.devices.endpoint_state(event.slot(), event.endpoint())) {
-        return true;
+    let Some(at) = named_spot(header, finder, t, event) else {
+        return false;
+    };
+    if !can_report_at(header, finder, t, event, at) {
+        return false;
     }
-    !can_report_at(header, finder, t, event)
+    note_at(header, t, event, at);
+    true
 }
 
 fn is_off(state: EndpointState) -> bool
@@ -61,16 +72,20 @@ fn is_off(state: EndpointState) -> bool
 }
 
 /// Whether a controller can have posted the event for the spot that it names.
-fn can_report_at(header: &Header, finder: &Finder, t: &TraceRecord, event: Block) -> bool
+fn can_report_at(
+    header: &Header,
+    finder: &Finder,
+    t: &TraceRecord,
+    event: Block,
+    at: NamedSpot,
+) -> bool
     requires headed { IsHeader header.now }
     requires found { IsFinder header.now.rings finder.now }
-    ensures { (k : Known) (m : ℕ → ℕ) → FollowsTrace header.now k t.now m → DriverKeeps header.now k →
+    requires below { at.number < length header.now.rings }
+    ensures { (k : Known) (m : ℕ → ℕ) → FollowsTrace header.now k t.now m → DriverKeeps header.now k → IsNamedAt header.now k event at →
         result ≡ can_report_at header.now k event (event_at header.now k event) }
 {
     let rings = header.rings.as_slice();
-    let Some(at) = named_spot(header, finder, t, event) else {
-        return false;
-    };
     let Some(known) = t.rings.get(at.number) else {
         return false;
     };
@@ -165,27 +180,26 @@ fn is_stop_of(command: Option<Command>, slot: u8, index: u8) -> bool
     }
 }
 
-/// Notes a Transfer Event that can have been posted: how far the controller has come on the ring, and in which state the endpoint
-/// is (xHCI 4.8.3, 4.9.2, 4.10.2). A Short Packet finishes the block that it names, and no more of its descriptor.
-pub fn note_transfer_event(header: &Header, finder: &Finder, t: &mut TraceRecord, event: Block)
+/// Notes a Transfer Event that can have been posted, and names this spot. A Short Packet finishes the block that it names, and no
+/// more of its descriptor.
+fn note_at(header: &Header, t: &mut TraceRecord, event: Block, at: NamedSpot)
     requires headed { IsHeader header.now }
-    requires found { IsFinder header.now.rings finder.now }
+    requires below { at.number < length header.now.rings }
+    requires few { number at.spot < 2 ^ 63 }
     ensures followed { (k : Known) (m : ℕ → ℕ) → FollowsTrace header.now k t.old m → DriverKeeps header.now k → is_in_profile event ≡ true →
-        is_impossible_transfer header.now k event ≡ false → FollowsTrace header.now (transfer_read header.now k event) t.new m }
+        is_impossible_transfer header.now k event ≡ false → IsNamedAt header.now k event at → FollowsTrace header.now (transfer_read header.now k event) t.new m }
     ensures events { t.new.events ≡ t.old.events }
 {
     let rings = header.rings.as_slice();
-    if let Some(at) = named_spot(header, finder, t, event) {
-        note_report(
-            &mut t.rings,
-            at.number,
-            &rings[at.number].shape,
-            event.code(),
-            at.spot,
-        );
-        t.devices
-            .read_transfer(event.code(), event.slot(), event.endpoint());
-    }
+    note_report(
+        &mut t.rings,
+        at.number,
+        &rings[at.number].shape,
+        event.code(),
+        at.spot,
+    );
+    t.devices
+        .read_transfer(event.code(), event.slot(), event.endpoint());
 }
 
 /// Notes what an event with this code says of a spot of a ring, by its number.

@@ -1,5 +1,5 @@
 -- What a word is where its page lies, and after a write there
-use Rattle.std.proofs.Common.{ℕ, List, length, set, get_or, replicate, ◌≡◌, ◌≢◌, ◌<◌, ◌/◌, ◌%◌, ◌∙◌, sym, refl, ap, ⊎_elim, arith}
+use Rattle.std.proofs.Common.{ℕ, List, [], ◌∷◌, ◌+◌, length, set, get_or, replicate, ◌≡◌, ◌≢◌, ◌<◌, ◌/◌, ◌%◌, ◌∙◌, sym, refl, ap, ⊎_elim, arith}
 use Rattle.std.specs.Prelude.{slice_index, if◌then◌else◌, ◌==◌}
 use Rattle.std.proofs.lemmas.Bool.{cases_eq}
 use Rattle.std.proofs.lemmas.Bool.Decides.{nat_tests}
@@ -40,6 +40,27 @@ word_absent pages n at none page_is =
     page_in_none pages (at / 64) (λ i below same. none i (omega (arith, count pages)) (same ∙ sym page_is)) in
     let zero_there : slice_index (replicate 16 0) (at / 4 % 16) ≡ 0 = get_or-replicate 16 (at / 4 % 16) 0 0 (omega arith) in
     rw zeros (grind (arith, nat_tests, zero_there))
+
+four : {a b c d e f g h : ℕ} → a ≡ e → b ≡ f → c ≡ g → d ≡ h → ◌≡◌ {A = List ℕ} (a ∷ b ∷ c ∷ d ∷ []) (e ∷ f ∷ g ∷ h ∷ [])
+four p q r s = rw (p, q, r, s) refl
+
+-- the words of a block stand side by side on its page
+pub block_read : (pages : List Page) (n index i base : ℕ) (page : Page) → IsTree (numbers pages) (nexts pages) → IsAt (numbers pages) n i
+    → page ≡ get_or pages i page → n ≡ base / 64 → index ≡ base / 4 % 16 → base % 16 ≡ 0
+    → ◌≡◌ {A = List ℕ} (slice_index page.words index ∷ slice_index page.words (index + 1) ∷ slice_index page.words (index + 2) ∷ slice_index page.words (index + 3) ∷ [])
+    (word_of pages base ∷ word_of pages (base + 4) ∷ word_of pages (base + 8) ∷ word_of pages (base + 12) ∷ [])
+block_read pages n index i base page tree lies is page_is index_is aligned =
+    let first = word_read pages n index i base page tree lies is page_is index_is (omega (arith, aligned)) in
+    let second = word_read pages n (index + 1) i (base + 4) page tree lies is (omega (arith, page_is, aligned)) (omega (arith, index_is, aligned)) (omega (arith, aligned)) in
+    let third = word_read pages n (index + 2) i (base + 8) page tree lies is (omega (arith, page_is, aligned)) (omega (arith, index_is, aligned)) (omega (arith, aligned)) in
+    let fourth = word_read pages n (index + 3) i (base + 12) page tree lies is (omega (arith, page_is, aligned)) (omega (arith, index_is, aligned)) (omega (arith, aligned)) in
+    four first second third fourth
+
+pub block_absent : (pages : List Page) (n base : ℕ) → HasNone (numbers pages) n → n ≡ base / 64 → base % 16 ≡ 0
+    → ◌≡◌ {A = List ℕ} (0 ∷ 0 ∷ 0 ∷ 0 ∷ []) (word_of pages base ∷ word_of pages (base + 4) ∷ word_of pages (base + 8) ∷ word_of pages (base + 12) ∷ [])
+block_absent pages n base none page_is aligned =
+    four (word_absent pages n base none page_is) (word_absent pages n (base + 4) none (omega (arith, page_is, aligned))) (word_absent pages n (base + 8) none (omega (arith, page_is, aligned)))
+    (word_absent pages n (base + 12) none (omega (arith, page_is, aligned)))
 
 pub tree_written : (pages : List Page) (i : ℕ) (old y : Page) → IsTree (numbers pages) (nexts pages) → old ≡ get_or pages i old
     → y.number ≡ old.number → y.next ≡ old.next → IsTree (numbers (set pages i y)) (nexts (set pages i y))

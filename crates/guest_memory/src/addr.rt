@@ -1,4 +1,4 @@
-ghost use Rattle.std.specs.Prelude.{◌≡◌, ◌%◌, ◌↔◌, IsSome, IfSome};
+ghost use Rattle.std.specs.Prelude.{◌≡◌, ◌+◌, ◌%◌, ◌^◌, ◌<◌, ◌↔◌, IsSome, IfSome};
 
 use std::marker::Model;
 
@@ -39,5 +39,16 @@ impl Addr {
         ensures aligned { self % 4 ≡ 0 }
     {
         self.value
+    }
+
+    /// The address so many bytes further, on words.
+    pub(crate) fn next(self, bytes: u64) -> Addr
+        requires aligned { bytes % 4 ≡ 0 }
+        requires fits { self + bytes < 2 ^ 64 }
+        ensures { result ≡ self + bytes }
+    {
+        Addr {
+            value: self.value + bytes,
+        }
     }
 }

@@ -165,6 +165,22 @@ impl WordMemory for PageMemory {
         }
     }
 
+    fn block(&self, base: Addr) -> [u32; 4] {
+        let (number, index) = place(base);
+        match self.find(number) {
+            Some(page) => {
+                let words = &self.pages[page].words;
+                [
+                    words[index],
+                    words[index + 1],
+                    words[index + 2],
+                    words[index + 3],
+                ]
+            }
+            None => [0; 4],
+        }
+    }
+
     fn set(&mut self, at: Addr, value: u32) -> Result<(), AllocError> {
         let (number, index) = place(at);
         let page = self.open(number)?;

@@ -22,6 +22,7 @@ use traces::{Header, Row};
 use trb::{Block, BlockKind};
 
 /// Notes the leases that begin and end with the row of a number, where it breaks no rule; the record and the memory are those before it, and the place is that of the word that it writes.
+#[inline(always)]
 pub fn note_row<B: LeaseLog, M: WordMemory>(
     book: &mut B,
     ranges: &mut RangeIndexes,

@@ -57,13 +57,6 @@ module _ (first old new : ℕ → ℕ) (from words g bits mask a : ℕ) where
         ∙ ap (λ t. (is_in a from (4 * words) && t) || is_marked first a) (one_group_more (a / 256) g other)
   ]
 
--- a word that is tested for being another one
-pub unless_same : (s m : Bool) (a at : ℕ) → s ≡ m → (a ≡ at → m ≡ false) → (s && not (a == at)) ≡ m
-unless_same s m a at is none = elim (cases_eq a at) [
-  | inl same ↦ let gone = none same in grind (arith, nat_tests, same, is, gone)
-  | inr apart ↦ grind (arith, nat_tests, apart, is)
-]
-
 gone : (s : Bool) (a at : ℕ) → a ≡ at → (s && not (a == at)) ≡ false
 gone s a at same = grind (arith, nat_tests, same)
 

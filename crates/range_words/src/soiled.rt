@@ -1,5 +1,5 @@
-ghost use Rattle.std.specs.Prelude.{◌≡◌, ◌==◌, ◌+◌, ◌*◌, ◌/◌, ◌%◌, ◌^◌, ◌<◌, ◌≤◌, ◌&&◌, ◌||◌, ℕ, Bool, false, not, nat_le, nat_lt, OnOk, OnErr};
-ghost use Rattle.std.specs.Int.{bit_at};
+ghost use Rattle.std.specs.Prelude.{◌≡◌, ◌==◌, ◌+◌, ◌*◌, ◌/◌, ◌%◌, ◌^◌, ◌<◌, ◌≤◌, ◌&&◌, ◌||◌, ℕ, Bool, false, not, nat_le, nat_lt, bit_and, OnOk, OnErr};
+ghost use Rattle.std.specs.Int.{bit_at, bit_not, w64};
 ghost use Rattle.std.specs.List.{list_any, range_with_len};
 ghost use Rattle.guest_memory.specs.Memory.{put};
 ghost use Rattle.segments.specs.Places.{is_in};
@@ -80,11 +80,17 @@ impl SoiledWords {
         ensures err { OnErr result ((soiled : ℕ → Bool) → HoldsSoiled soiled self.old → HoldsSoiled soiled self.new) }
     {
         let (group, bit) = place(at);
-        let bits = self.bits(group);
-        if bits & bit != 0 {
-            self.set_bits(group, bits & !bit)?;
-        }
+        self.unset(group, bit);
         Ok(())
+    }
+
+    /// Clears a bit of a group.
+    fn unset(&mut self, group: u64, bit: u64)
+        ensures { (g : ℕ) → bits_of self.new g ≡ put (bits_of self.old) group (bit_and (bits_of self.old group) (bit_not w64 bit)) g }
+    {
+        if let Some(bits) = self.groups.get_mut(&group) {
+            *bits &= !bit;
+        }
     }
 
     /// The bits of a group: 0 where none of its words was soiled.

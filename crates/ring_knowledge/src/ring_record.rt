@@ -106,6 +106,7 @@ impl RingRecord {
     }
 
     /// How the word at an address stands, and what its write gives.
+    #[inline(always)]
     pub fn look(&self, shape: &RingShape, at: Addr, word: u32) -> WordStanding
         ensures lent { (v : RingView) → FollowsRing shape.now v self.now → result.is_lent ≡
             (list_any (λ p. overlap at 4 (address_of shape.now p) 16) (leased_positions shape.now v)
@@ -256,6 +257,7 @@ impl RingRecord {
     }
 
     /// Notes what the write of a word gives of the ring, if it gives anything.
+    #[inline(always)]
     pub fn note_giving(&mut self, shape: &RingShape, giving: Option<RingGiving>)
         ensures { (v : RingView) (at word : ℕ) → FollowsRing shape.now v self.old →
             positions_given shape.now v at word ≡ positions_of giving → crossings_given shape.now v at word ≡ crossings_of giving →

@@ -1,7 +1,8 @@
 -- Which rule an event breaks, and what is known behind one that breaks none
 use Rattle.std.proofs.Common.{◌≡◌, ℕ, List, [], ◌∷◌, true, false, inl, inr, Some, None, refl, ap, sym, ◌∙◌, ◌+◌, subst}
 use Rattle.std.specs.Prelude.{◌||◌, ◌&&◌, ◌==◌, not, if◌then◌else◌, Bool}
-use Rattle.std.proofs.lemmas.Bool.{cases_Bool, or_parts, not-false}
+use Rattle.std.specs.Bool.{OnTrue}
+use Rattle.std.proofs.lemmas.Bool.{and_parts, cases_Bool, false≢true, or_parts, not-false}
 use Rattle.trb.specs.declared.block.Block.{Block}
 use Rattle.trb.specs.Block.{cycle, kind}
 use Rattle.trb.specs.declared.kind.BlockKind.{BlockKind}
@@ -28,8 +29,26 @@ use Rattle.trace_record.specs.declared.trace_record.TraceRecord.{TraceRecord}
 use Rattle.trace_record.specs.FollowsTrace.{FollowsTrace}
 use Rattle.trace_record.specs.Steps.{IsLeast, IsRowStep}
 use Rattle.trace_record.specs.Premises.{IsSetUp}
+use Rattle.endpoint_checks.proofs.Reports.{left_out as left_out_transfer}
 use Rattle.row_checks.proofs.Keeping.{set_up}
 use Rattle.trace_record.proofs.FirstBroken.{first_broken-is, nothing_broken}
+
+not_true : (b : Bool) → not b ≡ true → b ≡ false
+not_true true e = absurd (false≢true e)
+not_true false e = refl
+
+pub not_negated : (b c : Bool) → not b ≡ c → b ≡ not c
+not_negated true c e = ap not e
+not_negated false c e = ap not e
+
+-- what is so where a test is passed
+pub on_true : (b : Bool) (P Q : Type 0) → (P → Q) → OnTrue b P → OnTrue b Q
+on_true true P Q leads p = leads p
+on_true false P Q leads p = p
+
+pub when_true : (b : Bool) (P : Type 0) → b ≡ true → OnTrue b P → P
+when_true true P is p = p
+when_true false P is p = absurd (false≢true is)
 
 module _ (h : Header) (k : Known) (on : k.stopped ≡ false) (b : Block) where
   tested : first_of (broken h k (Read b)) ≡ first_broken (event_tests h k b)
@@ -71,22 +90,40 @@ module _ (h : Header) (k : Known) (b : Block) where
         let second = or_parts (not k.started || is_past_room h k) (not (cycle b == cycle_of (event_shape h) k.reads)) first.0 in
         not-false k.started (or_parts (not k.started) (is_past_room h k) second.0).0
 
-    pub by_other : (kind b ≡ TransferEvent → ⊥) → (kind b ≡ CommandCompletion → ⊥) → false ≡ is_impossible h k b
-    unfolding is_impossible is_impossible_by_kind
-    by_other no_transfer no_completion = rw placed (sym (neither (kind b) no_transfer no_completion))
-      where
-        neither : (n : BlockKind) → (n ≡ TransferEvent → ⊥) → (n ≡ CommandCompletion → ⊥) → is_impossible_by_kind h k n b ≡ false
-        neither TransferEvent no_transfer no_completion = absurd (no_transfer refl)
-        neither CommandCompletion no_transfer no_completion = absurd (no_completion refl)
-        neither _ no_transfer no_completion = refl
+    pub by_kind : is_impossible h k b ≡ is_impossible_by_kind h k (kind b) b
+    unfolding is_impossible
+    by_kind = rw placed refl
 
-    pub by_transfer : (x : Bool) → kind b ≡ TransferEvent → x ≡ is_impossible_transfer h k b → x ≡ is_impossible h k b
-    unfolding is_impossible is_impossible_by_kind
-    by_transfer x is exact = rw (placed, is) exact
+  pub of_transfer : kind b ≡ TransferEvent → is_impossible_transfer h k b ≡ is_impossible_by_kind h k (kind b) b
+  unfolding is_impossible_by_kind
+  of_transfer is = ap (λ n. is_impossible_by_kind h k n b) (sym is)
 
-    pub by_completion : (x : Bool) → kind b ≡ CommandCompletion → x ≡ is_impossible_completion h k b → x ≡ is_impossible h k b
-    unfolding is_impossible is_impossible_by_kind
-    by_completion x is exact = rw (placed, is) exact
+  pub of_completion : kind b ≡ CommandCompletion → is_impossible_completion h k b ≡ is_impossible_by_kind h k (kind b) b
+  unfolding is_impossible_by_kind
+  of_completion is = ap (λ n. is_impossible_by_kind h k n b) (sym is)
+
+  pub other_possible : (kind b ≡ TransferEvent → ⊥) → (kind b ≡ CommandCompletion → ⊥) → is_impossible_by_kind h k (kind b) b ≡ false
+  unfolding is_impossible_by_kind
+  other_possible no_transfer no_completion = neither (kind b) no_transfer no_completion
+    where
+      neither : (n : BlockKind) → (n ≡ TransferEvent → ⊥) → (n ≡ CommandCompletion → ⊥) → is_impossible_by_kind h k n b ≡ false
+      neither TransferEvent no_transfer no_completion = absurd (no_transfer refl)
+      neither CommandCompletion no_transfer no_completion = absurd (no_completion refl)
+      neither _ no_transfer no_completion = refl
+
+  -- an event that the profile leaves out is possible by its type
+  pub left_out_possible : IsHeader h → DriverKeeps h k → (is_transfer_event (kind b) && not (is_in_profile b)) ≡ true → is_impossible_by_kind h k (kind b) b ≡ false
+  unfolding is_impossible_by_kind
+  left_out_possible headed keeps left =
+      let parts = and_parts (is_transfer_event (kind b)) (not (is_in_profile b)) left in
+      transfer (kind b) parts.0 (left_out_transfer h headed k keeps b (not_true (is_in_profile b) parts.1))
+    where
+      transfer : (n : BlockKind) → is_transfer_event n ≡ true → is_impossible_transfer h k b ≡ false → is_impossible_by_kind h k n b ≡ false
+      transfer TransferEvent is may = may
+      transfer _ is may = absurd (false≢true is)
+
+  pub within_profile : kind b ≡ TransferEvent → (is_transfer_event (kind b) && not (is_in_profile b)) ≡ false → is_in_profile b ≡ true
+  within_profile is within = not-false (is_in_profile b) (ap (λ n. is_transfer_event n && not (is_in_profile b)) (sym is) ∙ within)
 
   -- of an event that is possible
   module _ (possible : is_impossible h k b ≡ false) where
@@ -137,7 +174,7 @@ module _ (h : Header) (k : Known) (b : Block) (clean : broken h k (Read b) ≡ [
   possible = fails.0
 
   pub in_profile : kind b ≡ TransferEvent → is_in_profile b ≡ true
-  in_profile is = not-false (is_in_profile b) (ap (λ n. is_transfer_event n && not (is_in_profile b)) (sym is) ∙ fails.1)
+  in_profile is = within_profile h k b is fails.1
 
 -- what is noted of an event, by its kind
 module _ (h : Header) (headed : IsHeader h) (k : Known) (b : Block) (keeps : DriverKeeps h k) (clean : broken h k (Read b) ≡ []) (after : TraceRecord) (m : ℕ → ℕ) where

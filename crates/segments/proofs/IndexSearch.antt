@@ -1,6 +1,6 @@
 -- A segment is found by a search through how many data places lie before each, or through where each starts
 use Rattle.segments.proofs.Words.{◌≡◌, ◌+◌, ◌-◌, ◌<◌, ◌≤◌, ◌==◌, ◌∷◌, ◌∙◌, ℕ, suc, zero, true, false, List, [], Some, None, length, get_or, ap, sym, arith, inl, inr, leb-true, leb-false, eqb-true, leb, cases_lt, list_any, list_any_at, Any-from_list_any, get_or_from_slice_get, slice_get-get_or, get_or_append_left, get_or-append_right, length-append, ◌++◌, refl, subst, nat_tests, All, All-permutation, list_any-IsPermutation, IsPermutation, IsNonDecreasingBy, IsNonDecreasingBy-from_default, IsPartitionPoint, RingKind, Segment}
-use Rattle.segments.specs.Index.{AreFirsts, AreStarts, IsIndex, IsLastStart, IsSegmentOf, IsStart}
+use Rattle.segments.specs.Index.{AreFirsts, AreStarts, IsIndex, IsLastOf, IsLastStart, IsSegmentOf, IsStart}
 use Rattle.segments.specs.declared.index.SegmentIndex.{SegmentIndex}
 use Rattle.segments.specs.declared.index.Start.{Start}
 use Rattle.segments.proofs.Blocks.{segment_at, before, before-zero}
@@ -150,3 +150,25 @@ module _ (kind : RingKind) (segments : List Segment) (index : SegmentIndex) (is 
               let rising : (get_or index.starts.items s.at d).base ≤ (get_or index.starts.items (after - 1) d).base = is.sorted s.at (after - 1) d (omega arith) (omega arith) in
               omega (arith, rising, s.base d, here.base);
         }
+
+  -- a start at or before the address, with the next one behind it, is that of the last segment
+  pub last_here : (address at : ℕ) (xs : List Start) (d : Start) → xs ≡ index.starts.items → at < length xs → (get_or xs at d).base ≤ address →
+      (at + 1 < length xs → address < (get_or xs (at + 1) d).base) → IsLastOf segments address (get_or xs at d).segment
+  last_here address at xs d same inside low high =
+      let here : IsStart segments (get_or xs at d) = rw same (is.starts at d (omega (arith, inside, ap length same))) in
+      record {
+        number = here.number;
+        start = omega (arith, here.base, low);
+        last = λ j below before_it.
+            let s : Stands segments index.starts.items j = stands j below in
+            let long = ap length same in
+            let next = ap (λ ys. (get_or ys (at + 1) d).base) same in
+            elim (cases_lt at s.at) [
+              | inl behind ↦
+                  let rising : (get_or index.starts.items (at + 1) d).base ≤ (get_or index.starts.items s.at d).base = is.sorted (at + 1) s.at d (omega (arith, behind)) s.below in
+                  absurd (omega (arith, rising, s.base d, before_it, next, high (omega (arith, behind, s.below, long))))
+              | inr early ↦
+                  let rising : (get_or index.starts.items s.at d).base ≤ (get_or index.starts.items at d).base = is.sorted s.at at d (omega (arith, early)) (omega (arith, inside, long)) in
+                  omega (arith, rising, s.base d, here.base, ap (λ ys. (get_or ys at d).base) same)
+            ];
+      }

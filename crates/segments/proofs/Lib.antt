@@ -8,6 +8,7 @@ pub mod PlaceAtLemmas
 pub mod Pairs
 pub mod Lookups
 pub mod IndexSearch
+pub mod Touching
 pub mod SpotOrder
 pub mod NamedSpots
 mod Examples

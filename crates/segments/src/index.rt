@@ -1,9 +1,10 @@
 //! What finds a segment of a ring by a search.
 
-ghost use Rattle.std.specs.Prelude.{◌≡◌, ◌<◌, ◌≤◌, ℕ, List, length, slice_index, slice_index_or, IfOk};
+ghost use Rattle.std.specs.Prelude.{◌≡◌, ◌<◌, ◌≤◌, ℕ, List, length, slice_index, slice_index_or, IfOk, IfSome};
+ghost use Rattle.std.specs.Bool.{OnTrue};
 ghost use Rattle.trb.specs.declared.ring_kind.RingKind.{RingKind};
 ghost use Rattle.segments.specs.declared.segment.Segment.{Segment};
-ghost use Rattle.segments.specs.Index.{AreFirsts, AreStarts, IsIndex, IsLastStart, IsSegmentOf, before};
+ghost use Rattle.segments.specs.Index.{AreFirsts, AreStarts, IsIndex, IsLastOf, IsLastStart, IsSegmentOf, before};
 
 use crate::rules::data_blocks;
 use crate::segment::Segment;
@@ -50,20 +51,71 @@ impl SegmentIndex {
         if self.firsts.len() == 1 {
             return 0;
         }
+        let even = self.even_segment(place);
+        if self.has_place(even, place) {
+            return even;
+        }
         let after = self.firsts.partition_point(|first| *first <= place);
         after.saturating_sub(1)
+    }
+
+    /// The segment with a data place, were all segments as long as the first.
+    fn even_segment(&self, place: u32) -> usize {
+        let long = self.firsts.get(1).copied().unwrap_or(0);
+        place.checked_div(long).unwrap_or(0) as usize
+    }
+
+    /// Whether a segment has a data place.
+    fn has_place(&self, number: usize, place: u32) -> bool
+        ensures { OnTrue result ((kind : RingKind) (segments : List Segment) → IsIndex kind segments self.now → place < before kind segments (length segments) → IsSegmentOf kind segments place number) }
+    {
+        let firsts = self.firsts.as_slice();
+        if number >= firsts.len() || place < firsts[number] {
+            return false;
+        }
+        let next = number + 1;
+        next == firsts.len() || place < firsts[next]
     }
 
     /// The number of the segment that is the last one to start at or before this address.
     pub(crate) fn last_start(&self, address: u64) -> Option<usize>
         ensures { (kind : RingKind) (segments : List Segment) → IsIndex kind segments self.now → IsLastStart segments address result }
     {
+        if let Some(segment) = self.last_at(self.even_start(address), address) {
+            return Some(segment);
+        }
         let starts = self.starts.as_slice();
         let after = starts.partition_point(|start| start.base <= address);
         if after == 0 {
             return None;
         }
         Some(starts[after - 1].segment as usize)
+    }
+
+    /// Where the last start at or before an address stands, were all as far apart as the first two.
+    fn even_start(&self, address: u64) -> usize {
+        let starts = self.starts.as_slice();
+        if starts.len() < 2 {
+            return 0;
+        }
+        let apart = starts[1].base.saturating_sub(starts[0].base);
+        let behind = address.saturating_sub(starts[0].base);
+        behind.checked_div(apart).unwrap_or(0) as usize
+    }
+
+    /// The number of the segment whose start stands here, if it is the last one to start at or before this address.
+    fn last_at(&self, at: usize, address: u64) -> Option<usize>
+        ensures { IfSome result (λ j. (kind : RingKind) (segments : List Segment) → IsIndex kind segments self.now → IsLastOf segments address j) }
+    {
+        let starts = self.starts.as_slice();
+        if at >= starts.len() || address < starts[at].base {
+            return None;
+        }
+        let next = at + 1;
+        if next < starts.len() && starts[next].base <= address {
+            return None;
+        }
+        Some(starts[at].segment as usize)
     }
 
     /// An equal index in memory of its own.

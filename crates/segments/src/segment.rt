@@ -24,6 +24,13 @@ impl Segment {
         )
     }
 
+    /// Whether it has one of `len` bytes from `at` on. Nothing wraps.
+    pub(crate) fn touches(self, at: u64, len: u64) -> bool
+        ensures { result ≡ overlap at len self.base (16 * self.count) }
+    {
+        overlap(at, len, self.base, 16 * u64::from(self.count))
+    }
+
     /// The number of the block that has this byte, from 0, where one has.
     pub(crate) fn block_at(self, address: u64) -> Option<u16>
         ensures { SomeIff result (is_in address self.base (16 * self.count) ≡ true) ((address - self.base) / 16) }

@@ -1,15 +1,15 @@
 ghost use Rattle.std.specs.Prelude.{◌≡◌, ◌<◌, ◌≤◌, ◌*◌, ◌==◌, ◌↔◌, false, length, map, slice_index, IfOk, IfSome};
 ghost use Rattle.segments.specs.PlaceAt.{place_at, IsLinkOf};
 ghost use Rattle.std.specs.List.{list_any};
-ghost use Rattle.segments.specs.Places.{address_of, cycle_of, link_crossed, link_target, links, overlap, place_count, toggles, touches};
-ghost use Rattle.segments.specs.Shape.{IsShape, is_shape};
+ghost use Rattle.segments.specs.Places.{address_of, cycle_of, link_crossed, link_target, links, place_count, toggles, touches};
+ghost use Rattle.segments.specs.Shape.{IsShape, is_shape, rings_overlap};
 ghost use Rattle.segments.specs.ShapeValue.{segment_of, shape_of};
 
 use crate::fault::ShapeFault;
 use crate::index::SegmentIndex;
 use crate::place::Place;
 use crate::rules::{count_places, data_blocks, is_shape};
-use crate::segment::{Segment, overlap};
+use crate::segment::Segment;
 use std::alloc::{AllocError, Global};
 use std::marker::Model;
 use trb::RingKind;
@@ -156,7 +156,22 @@ impl RingShape {
     pub fn overlaps(&self, at: u64, len: u64) -> bool
         ensures { result ≡ touches self.now at len }
     {
-        len > 0 && some_overlaps(&self.segments, at, len)
+        if len == 0 {
+            return false;
+        }
+        // behind the address space nothing starts
+        let last = at.saturating_add(len.saturating_sub(1));
+        let Some(number) = self.index.last_start(last) else {
+            return false;
+        };
+        self.segments[number].touches(at, len)
+    }
+
+    /// Whether a segment of one overlaps one of the other.
+    pub fn overlaps_ring(&self, other: &RingShape) -> bool
+        ensures { result ≡ rings_overlap self.now other.now }
+    {
+        some_touches(self, other)
     }
 
     /// The Link that is crossed on the way to position `q`, by the number of its segment (xHCI 4.11.5.1).
@@ -227,9 +242,10 @@ impl RingShape {
     }
 }
 
-/// Whether one of these segments has one of some bytes, not none.
-fn some_overlaps(segments: &[Segment], at: u64, len: u64) -> bool
-    ensures { result ≡ list_any (λ s. overlap at len s.base (16 * s.count)) segments.now }
+/// Whether one of a ring's segments has a byte of the other ring.
+fn some_touches(ring: &RingShape, other: &RingShape) -> bool
+    ensures touched { result ≡ list_any (λ s. touches other.now s.base (16 * s.count)) ring.now.segments }
+    ensures allowed { IsShape ring.now }
 {
-    segments.iter().any(|segment| overlap(at, len, segment.base, 16 * u64::from(segment.count)))
+    ring.segments.iter().any(|segment| other.overlaps(segment.base, 16 * u64::from(segment.count)))
 }

@@ -1,9 +1,7 @@
 ghost use Rattle.std.specs.Prelude.{◌≡◌, ◌||◌};
 ghost use Rattle.std.specs.List.{list_any};
-ghost use Rattle.segments.specs.Shape.{rings_overlap, segments_overlap};
 ghost use Rattle.traces.specs.Header.{clash, is_command_kind, is_event_kind};
 
-use segments::{RingShape, Segment};
 use traces::Ring;
 use trb::RingKind;
 
@@ -19,24 +17,9 @@ fn clash(ring: &Ring, other: &Ring) -> bool
     ensures { result ≡ clash ring.now other.now }
 {
     ring.id == other.id
-        || overlap(&ring.shape, &other.shape)
+        || ring.shape.overlaps_ring(&other.shape)
         || (is_command_kind(ring.shape.kind()) && is_command_kind(other.shape.kind()))
         || (is_event_kind(ring.shape.kind()) && is_event_kind(other.shape.kind()))
-}
-
-fn overlap(shape: &RingShape, other: &RingShape) -> bool
-    ensures { result ≡ rings_overlap shape.now other.now }
-{
-    shape
-        .segments()
-        .iter()
-        .any(|segment| overlaps_one(*segment, other.segments()))
-}
-
-fn overlaps_one(segment: Segment, others: &[Segment]) -> bool
-    ensures { result ≡ list_any (segments_overlap segment) others.now }
-{
-    others.iter().any(|other| segment.overlaps(*other))
 }
 
 fn is_command_kind(kind: RingKind) -> bool

@@ -22,6 +22,7 @@ impl TraceRecord {
 
     /// Whether a row writes to what the controller owns (WriteToOwned), where `place` is where its word lies: to a word under
     /// lease; by version 3 only where it changes that word, or where nobody but the controller may write it. Of another row: no.
+    #[inline(always)]
     pub fn owns<M: WordMemory>(
         &self,
         header: &Header,

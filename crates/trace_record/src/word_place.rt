@@ -25,6 +25,7 @@ pub struct WordPlace {
 
 impl TraceRecord {
     /// Where the word lies that a row writes. Of another row: no ring, nothing lent, nothing given.
+    #[inline(always)]
     pub fn place(&self, header: &Header, finder: &Finder, row: &Row) -> WordPlace
         requires headed { IsHeader header.now }
         requires found { IsFinder header.now.rings finder.now }
@@ -40,7 +41,8 @@ impl TraceRecord {
         }
     }
 
-    /// Where a word lies, and what its write gives of its ring.
+    /// Where a word lies, and what its write gives of its ring. It stays out of `place`, which has nothing to do for most rows.
+    #[inline(never)]
     fn word_place(&self, header: &Header, finder: &Finder, at: Addr, word: u32) -> WordPlace
         requires headed { IsHeader header.now }
         requires found { IsFinder header.now.rings finder.now }

@@ -1,5 +1,5 @@
 //! A block as it stands after a write.
-ghost use Rattle.std.specs.Prelude.{◌≡◌, ◌+◌, ◌≤◌, ◌^◌, ◌%◌};
+ghost use Rattle.std.specs.Prelude.{◌≡◌, ◌+◌, ◌≤◌, ◌^◌, ◌%◌, ℕ};
 ghost use Rattle.guest_memory.specs.Memory.{put};
 ghost use Rattle.trb.specs.Block.{block_at};
 
@@ -12,21 +12,17 @@ pub fn block_after<M: WordMemory>(memory: &M, at: Addr, word: u32, base: u64) ->
     requires ends { base + 16 ≤ 2 ^ 64 }
     ensures { result ≡ block_at (put (M.words memory.now) at word) base }
 {
-    let a = word_after(memory, at, word, base);
-    let b = word_after(memory, at, word, base + 4);
-    let c = word_after(memory, at, word, base + 8);
-    let d = word_after(memory, at, word, base + 12);
+    let words = memory.block(Addr::new(base).unwrap());
+    let a = word_after(at, word, base, words[0]);
+    let b = word_after(at, word, base + 4, words[1]);
+    let c = word_after(at, word, base + 8, words[2]);
+    let d = word_after(at, word, base + 12, words[3]);
     Block { w: [a, b, c, d] }
 }
 
-/// The word at an address, after the write of a word.
-fn word_after<M: WordMemory>(memory: &M, at: Addr, word: u32, address: u64) -> u32
-    requires { address % 4 ≡ 0 }
-    ensures { result ≡ put (M.words memory.now) at word address }
+/// The word at an address, which was an old one, after the write of a word.
+fn word_after(at: Addr, word: u32, address: u64, old: u32) -> u32
+    ensures { (memory : ℕ → ℕ) → old ≡ memory address → result ≡ put memory at word address }
 {
-    if address == at.get() {
-        word
-    } else {
-        memory.word(Addr::new(address).unwrap())
-    }
+    if address == at.get() { word } else { old }
 }

@@ -6,22 +6,18 @@ use Rattle.ring_knowledge.specs.RingRecords.{FollowsRing}
 use Rattle.ring_finder.proofs.RingsApart.{among_at}
 use Rattle.ring_finder.proofs.HeaderRings.{shape_there}
 use Rattle.endpoint_checks.proofs.Followed.{read_at}
-use Rattle.endpoint_checks.proofs.Reports.{none_reported, reported_at, driven}
+use Rattle.endpoint_checks.proofs.Reports.{reported_at, driven}
 use Rattle.endpoint_checks.proofs.transfers.can_report_at.Goals as goal
 
-pub returns-in_default : goal.returns-in_default
-returns-in_default c = λ k m f keeps. sym (none_reported c.args.header.now c.requires.headed k keeps c.args.event _ (c.in_default.ensures.named k m f keeps))
-
 pub returns : goal.returns
-returns c = λ k m f keeps.
+returns c = λ k m f keeps is.
     let h = c.args.header.now in
-    let is = c.in-Some.ensures.named k m f keeps in
-    let n = c.in-Some.at.number in
-    let l = c.in-Some-get.ensures.lookup in
-    let there = read_at c.deref.result.now c.args.t.now.rings.items n c.in-Some-get.known.now c.deref.ensures.value l.3.0 l.1 in
+    let n = c.args.at.number in
+    let l = c.in-Some.ensures.lookup in
+    let there = read_at c.deref.result.now c.args.t.now.rings.items n c.in-Some.known.now c.deref.ensures.value l.3.0 l.1 in
     let same : is.ring ≡ get_or c.as_slice-rings.result.now n c.index-rings-at.result =
     sym (ap (λ xs. get_or xs n c.index-rings-at.result) c.as_slice-rings.ensures ∙ get_or_from_slice_get h.rings n is.ring c.index-rings-at.result is.here) in
     let shape = ap (λ (q : Ring). q.shape) same in
     c.can_report.ensures h k m is.ring.id c.requires.headed c.requires.found f keeps (shape_there h c.requires.headed is.ring (among_at h.rings n is.ring is.here) ∙ shape)
-    (subst (λ (s : Shape). FollowsRing s (k.ring is.ring.id) c.in-Some-get.known.now) shape (f.rings.each n is.ring c.in-Some-get.known.now is.here there (driven is.ring.shape.kind is.transfer)))
-    ∙ sym (reported_at h c.requires.headed k keeps c.args.event is.ring.id c.in-Some.at.spot _ is.names)
+    (subst (λ (s : Shape). FollowsRing s (k.ring is.ring.id) c.in-Some.known.now) shape (f.rings.each n is.ring c.in-Some.known.now is.here there (driven is.ring.shape.kind is.transfer)))
+    ∙ sym (reported_at h c.requires.headed k keeps c.args.event is.ring.id c.args.at.spot _ is.names)

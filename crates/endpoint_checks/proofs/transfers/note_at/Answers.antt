@@ -9,16 +9,15 @@ use Rattle.device_record.specs.Devices.{FollowsDevices}
 use Rattle.endpoint_checks.specs.Reported.{IsWithRecord, MayReport, reported}
 use Rattle.endpoint_checks.proofs.Followed.{has_record}
 use Rattle.endpoint_checks.proofs.Reports.{driven}
-use Rattle.endpoint_checks.proofs.Noted.{names_some, may_report, follows_read}
-use Rattle.endpoint_checks.proofs.transfers.note_transfer_event.Goals as goal
+use Rattle.endpoint_checks.proofs.Noted.{may_report, follows_read}
+use Rattle.endpoint_checks.proofs.transfers.note_at.Goals as goal
 
-pub returns-in-Some-clause-followed : goal.returns-in-Some-clause-followed
-returns-in-Some-clause-followed c = λ k m f keeps in_ fine.
+pub returns-clause-followed : goal.returns-clause-followed
+returns-clause-followed c = λ k m f keeps in_ fine is.
     let h = c.args.header.now in
     let b = c.args.event in
-    let at = c.in-Some.at in
+    let at = c.args.at in
     let n = at.number in
-    let is = c.in-Some.ensures.named k m f keeps in
     let v = k.ring is.ring.id in
     let old = c.args.t.now.rings.items in
     let new = c.note_report.new.records.items in
@@ -34,9 +33,6 @@ returns-in-Some-clause-followed c = λ k m f keeps in_ fine.
     (subst (λ (x : ℕ). IsWithRecord old new n read (reported read v x at.spot)) c.code.ensures (c.note_report.ensures there.0 v there.1 follows may)) in
     let devices = subst (λ (i : ℕ). FollowsDevices (transferred h k (code b) (slot b) i is.ring.id at.spot) c.read_transfer.new.self) c.endpoint.ensures
     (subst (λ (s : ℕ). FollowsDevices (transferred h k (code b) s c.endpoint.result is.ring.id at.spot) c.read_transfer.new.self) c.slot.ensures
-    (subst (λ (x : ℕ). FollowsDevices (transferred h k x c.slot.result c.endpoint.result is.ring.id at.spot) c.read_transfer.new.self) c.code-in-Some.ensures
+    (subst (λ (x : ℕ). FollowsDevices (transferred h k x c.slot.result c.endpoint.result is.ring.id at.spot) c.read_transfer.new.self) c.code-2.ensures
     (c.read_transfer.ensures h k is.ring.id at.spot f.devices))) in
     follows_read h c.requires.headed k keeps b in_ fine c.args.t.now m f at is _ refl with_ devices
-
-pub returns-in_default-clause-followed : goal.returns-in_default-clause-followed
-returns-in_default-clause-followed c = λ k m f keeps in_ fine. absurd (names_some c.args.header.now c.requires.headed k keeps c.args.event in_ fine (c.in_default.ensures.named k m f keeps))

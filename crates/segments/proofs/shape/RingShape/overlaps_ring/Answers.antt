@@ -1,0 +1,6 @@
+use Rattle.segments.proofs.Words.{◌∙◌}
+use Rattle.segments.proofs.Touching.{all_touch}
+use Rattle.segments.proofs.shape.RingShape.overlaps_ring.Goals as goal
+
+pub returns : goal.returns
+returns c = c.some_touches.ensures.touched ∙ all_touch c.before.args.self.now c.before.args.other.now c.some_touches.ensures.allowed
