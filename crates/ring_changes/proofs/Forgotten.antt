@@ -40,7 +40,7 @@ module _ (h : Header) (is : IsHeader h) (k : Known) (d : DriverKeeps h k) (id : 
   unfolding ring_bound
   bound_same b = λ s names. (names, as_before s (transfer_ring h s (having_transfer h is b.pointer s names)))
 
-  others : OtherRings h h.rings k (cleared id k.ring)
+  pub others : OtherRings h h.rings k (cleared id k.ring)
   others = record {
     command = refl;
     command_ring = λ ring. ring;

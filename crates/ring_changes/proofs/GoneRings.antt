@@ -151,7 +151,7 @@ module _ (h : Header) (is : IsHeader h) (k : Known) (d : DriverKeeps h k) (id : 
   unfolding command_ring
   command_ring_same = find_kept (λ q. is_command_kind q.shape.kind) keep h.rings (of_other_kind (λ q. is_command_kind q.shape.kind) (transfer_no_command gone.ring.shape.kind gone.kind))
 
-  event_ring_same : event_ring g ≡ event_ring h
+  pub event_ring_same : event_ring g ≡ event_ring h
   unfolding event_ring
   event_ring_same = find_kept (λ q. is_event_kind q.shape.kind) keep h.rings (of_other_kind (λ q. is_event_kind q.shape.kind) (transfer_no_event gone.ring.shape.kind gone.kind))
 
@@ -211,7 +211,7 @@ module _ (h : Header) (is : IsHeader h) (k : Known) (d : DriverKeeps h k) (id : 
   unfolding touches_ring
   area_apart from len none = none_kept (λ q. touches q.shape from len) keep h.rings none
 
-  others : OtherRings h (filter keep h.rings) k views
+  pub others : OtherRings h (filter keep h.rings) k views
   others = record {
     command = command_same;
     command_ring = λ ring. record { ring = ring.ring; found = ring_same (command_id h) no_command ∙ ring.found; kind = ring.kind };

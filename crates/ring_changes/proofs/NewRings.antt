@@ -135,7 +135,7 @@ module _ (h : Header) (is : IsHeader h) (k : Known) (d : DriverKeeps h k) (r : R
   unfolding command_ring
   command_ring_same = found_before (λ q. is_command_kind q.shape.kind) h.rings r (ap (λ n. is_command_kind n) coming.kind)
 
-  event_ring_same : event_ring g ≡ event_ring h
+  pub event_ring_same : event_ring g ≡ event_ring h
   unfolding event_ring
   event_ring_same = found_before (λ q. is_event_kind q.shape.kind) h.rings r (ap (λ n. is_event_kind n) coming.kind)
 
@@ -181,7 +181,7 @@ module _ (h : Header) (is : IsHeader h) (k : Known) (d : DriverKeeps h k) (r : R
   unfolding ring_bound
   bound_same b = λ s names. (having_same b.pointer s names, transfer_still s (transfer_ring h s (having_transfer h is b.pointer s names)))
 
-  others : OtherRings h (h.rings ++ r ∷ []) k k.ring
+  pub others : OtherRings h (h.rings ++ r ∷ []) k k.ring
   others = record {
     command = command_same;
     command_ring = driver_still (command_id h);

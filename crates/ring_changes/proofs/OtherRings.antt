@@ -227,7 +227,7 @@ module _ (h : Header) (rings : List Ring) (k : Known) (views : ℕ → RingView)
 
     -- ---- what a command binds
 
-    binds_same : (c : Command) → binds g l c ≡ binds h k c
+    pub binds_same : (c : Command) → binds g l c ≡ binds h k c
     unfolding binds binding_in
     binds_same (AddressDevice s bsr n) = refl
     binds_same (ConfigureEndpoint s false n) = refl
@@ -267,7 +267,7 @@ module _ (h : Header) (rings : List Ring) (k : Known) (views : ℕ → RingView)
       pub placed : All (λ b. is_placed g l (ring_bound g b) b ≡ true) (binds g l c)
       pub names : (r : ℕ) → binds_ring g l r c ≡ binds_ring h k r c
 
-    bound_still : (p : ℕ) (c : Command) → IsUnfinished h k p c → BoundStill c
+    pub bound_still : (p : ℕ) (c : Command) → IsUnfinished h k p c → BoundStill c
     unfolding binds_ring
     bound_still p c u =
         let all = all_placed (binds h k c) (o.binds p c u) (d.unfinished p c u).binds in

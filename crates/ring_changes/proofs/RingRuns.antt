@@ -18,7 +18,7 @@ counted_agrees h k unread w a = agrees_counted h k unread w a.stands a.events a.
 -- ---- a ring that comes
 
 module _ (h : Header) (is : IsHeader h) (r : Ring) (coming : IsComing r) where
-  no_ring : (k : Known) → is_bad_ring h k r ≡ false → ring_with h r.id ≡ None
+  pub no_ring : (k : Known) → is_bad_ring h k r ≡ false → ring_with h r.id ≡ None
   unfolding is_bad_ring
   no_ring k good =
       let none = (or_parts (is_some (ring_with h r.id)) (list_any (is_bad_segment h k) r.shape.segments) good).0 in
@@ -34,10 +34,10 @@ module _ (h : Header) (is : IsHeader h) (r : Ring) (coming : IsComing r) where
     abbrev f : Known
     f = forgotten k r.id
 
-    f_keeps : DriverKeeps h f
+    pub f_keeps : DriverKeeps h f
     f_keeps = forgotten_keeps h is k d r.id coming.low absent
 
-    fresh : f.ring r.id ≡ new_ring
+    pub fresh : f.ring r.id ≡ new_ring
     unfolding forgotten
     fresh = cleared_here r.id k.ring
 
@@ -57,7 +57,7 @@ module _ (h : Header) (is : IsHeader h) (r : Ring) (coming : IsComing r) where
         let contexts : context_ranges h f ≡ context_ranges h k = contexts_same (forgotten k r.id) (k.ring (command_id h)) view ∙ sym (contexts_same k (k.ring (command_id h)) refl) in
         λ j. segment_ranges h ++ table_range h (k.register Erstba) ++ contexts j ++ entries_same j ++ device_ranges h k
 
-    bad_same : is_bad_ring h f r ≡ is_bad_ring h k r
+    pub bad_same : is_bad_ring h f r ≡ is_bad_ring h k r
     unfolding is_bad_ring is_bad_segment is_in_range_lease is_soiled shows_first_lap forgotten
     bad_same =
         ap (λ ls. is_some (ring_with h r.id) || list_any (λ s. touches_ring h s.base (16 * s.count) || list_any (covers h s.base (16 * s.count)) ls || is_soiled k s.base (16 * s.count) || shows_first_lap k s) r.shape.segments)

@@ -2,7 +2,9 @@ pub mod ListTests
 pub mod RingsApart
 pub mod HeaderRings
 pub mod Numbers
+pub mod MoreRings
 pub mod Starts
+pub mod Hints
 pub mod TouchedSegments
 pub mod FoundRings
 pub mod HavingRings

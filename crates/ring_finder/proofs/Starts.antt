@@ -1,5 +1,5 @@
 -- A finder finds the ring that has an address, as a walk over all would
-use Rattle.ring_finder.proofs.Words.{◌≡◌, ◌+◌, ◌-◌, ◌*◌, ◌%◌, ◌<◌, ◌≤◌, ◌∷◌, ◌++◌, ◌∙◌, ◌||◌, ℕ, zero, suc, List, [], Bool, true, false, Some, None, refl, ap, sym, arith, inl, inr, length, get_or, map, take, append_assoc, add-zero, zero-add, leb, leb-true, slice_get, position, le-leb, length-take, append-nil, Contains, list_any, IsNonDecreasingBy, IsPartitionPoint, cases_Bool, cases_eq, cases_lt, false≢true, slice_get-get_or, slice_get_within, get_or_from_slice_get, take_more, Contains-permutation, IsPermutation-sym, Contains-get_or, Contains-append_left, Contains-append_right, Contains-append_cases, segment_at, shape_facts, Segment, IsShape, is_inside, segment_has, touches, touches-word, is_in-true, is_in-parts, Ring, Header, IsHeader, Start, Finder, IsFinder, IsRingBefore, start_of, starts_from}
+use Rattle.ring_finder.proofs.Words.{◌≡◌, ◌+◌, ◌-◌, ◌*◌, ◌/◌, ◌%◌, ◌<◌, ◌≤◌, ◌∷◌, ◌++◌, ◌∙◌, ◌||◌, ℕ, zero, suc, List, [], Bool, true, false, Some, None, refl, ap, sym, arith, inl, inr, length, get_or, map, take, append_assoc, add-zero, zero-add, leb, leb-true, slice_get, position, le-leb, length-take, append-nil, Contains, list_any, IsNonDecreasingBy, IsPartitionPoint, cases_Bool, cases_eq, cases_lt, false≢true, slice_get-get_or, slice_get_within, get_or_from_slice_get, take_more, Contains-permutation, IsPermutation-sym, Contains-get_or, Contains-append_left, Contains-append_right, Contains-append_cases, segment_at, shape_facts, Segment, IsShape, is_inside, segment_has, touches, touches-word, is_in-true, is_in-parts, Ring, Header, IsHeader, Start, Finder, IsFinder, IsRingBefore, start_of, starts_from}
 use Rattle.ring_finder.proofs.RingsApart.{numbers_apart, among_at}
 use Rattle.ring_finder.proofs.HeaderRings.{together, shape_allowed}
 use Rattle.ring_finder.proofs.Numbers.{one_position, no_position, some_ring}
@@ -9,7 +9,7 @@ or_true true = refl
 or_true false = refl
 
 -- the starts, ring by ring
-starts_append : (m : ℕ) (xs ys : List Ring) → starts_from m (xs ++ ys) ≡ starts_from m xs ++ starts_from (m + length xs) ys
+pub starts_append : (m : ℕ) (xs ys : List Ring) → starts_from m (xs ++ ys) ≡ starts_from m xs ++ starts_from (m + length xs) ys
 starts_append m [] ys = ap (λ n. starts_from n ys) (sym (add-zero m))
 starts_append m (r ∷ xs) ys =
     let number : m + 1 + length xs ≡ m + length (r ∷ xs) = omega arith in
@@ -29,21 +29,33 @@ single : (y x : Start) → Contains (y ∷ []) x → y ≡ x
 single y x (zero, h, e) = e
 single y x (suc k, h, e) = absurd (omega arith)
 
+-- a start has this number, and all its bytes lie inside
+record Lies (m : ℕ) (inside : ℕ → Bool) (x : Start) : Type 0 where
+  number : x.ring ≡ m
+  covers : (b : ℕ) → x.address ≤ b → b < x.address + x.bytes → inside b ≡ true
+  some : 0 < x.bytes
+
 -- the starts of one ring lie inside it
 starts_inside : (m : ℕ) (segments : List Segment) → ((j : ℕ) → j < length segments → 1 ≤ (segment_at segments j).count) → (x : Start) → Contains (map (start_of m) segments) x →
-    (x.ring ≡ m) × (list_any (segment_has x.address) segments ≡ true) × (0 < x.bytes)
+    Lies m (λ b. list_any (segment_has b) segments) x
 starts_inside m [] some x (k, h, e) = absurd (omega arith)
 starts_inside m (s ∷ rest) some x within = elim (Contains-append_cases (start_of m s ∷ []) (map (start_of m) rest) x within) [
   | inl first ↦
       let same : start_of m s ≡ x = single (start_of m s) x first in
-      let blocks = some 0 (omega arith) in
-      let begins : segment_has s.base s ≡ true = is_in-true s.base s.base (16 * s.count) (omega arith) (omega (arith, blocks)) in
-      let here : list_any (segment_has s.base) (s ∷ rest) ≡ true = rw begins refl in
+      let base : s.base ≡ x.address = ap (λ (y : Start). y.address) same in
       let long : 16 * s.count ≡ x.bytes = ap (λ (y : Start). y.bytes) same in
-      (ap (λ (y : Start). y.ring) (sym same), ap (λ (y : Start). list_any (segment_has y.address) (s ∷ rest)) (sym same) ∙ here, omega (arith, blocks, long))
+      record {
+        number = ap (λ (y : Start). y.ring) (sym same);
+        covers = λ b l u. ap (λ c. c || list_any (segment_has b) rest) (is_in-true b s.base (16 * s.count) (omega (arith, base, l)) (omega (arith, base, long, u)));
+        some = omega (arith, some 0 (omega arith), long);
+      }
   | inr later ↦
       let there = starts_inside m rest (λ j l. some (suc j) (omega arith)) x later in
-      (there.0, ap (λ b. segment_has x.address s || b) there.1 ∙ or_true (segment_has x.address s), there.2)
+      record {
+        number = there.number;
+        covers = λ b l u. ap (λ c. segment_has b s || c) (there.covers b l u) ∙ or_true (segment_has b s);
+        some = there.some;
+      }
 ]
 
 -- and each byte of a ring lies behind a start, in one segment
@@ -52,11 +64,13 @@ record Behind (m : ℕ) (inside : ℕ → Bool) (starts : List Start) (a : ℕ) 
   within : Contains starts start
   ring : start.ring ≡ m
   before : start.address ≤ a
+  page : start.address / 65536 ≡ a / 65536
   between : (b : ℕ) → start.address ≤ b → b ≤ a → inside b ≡ true
 
-starts_before : (m : ℕ) (segments : List Segment) (a : ℕ) → list_any (segment_has a) segments ≡ true → Behind m (λ b. list_any (segment_has b) segments) (map (start_of m) segments) a
-starts_before m [] a e = absurd (false≢true e)
-starts_before m (s ∷ rest) a e = elim (cases_Bool (segment_has a s)) [
+starts_before : (m : ℕ) (segments : List Segment) (a : ℕ) →
+    ((j : ℕ) → j < length segments → (segment_at segments j).base / 65536 ≡ ((segment_at segments j).base + 16 * (segment_at segments j).count - 1) / 65536) → list_any (segment_has a) segments ≡ true → Behind m (λ b. list_any (segment_has b) segments) (map (start_of m) segments) a
+starts_before m [] a pages e = absurd (false≢true e)
+starts_before m (s ∷ rest) a pages e = elim (cases_Bool (segment_has a s)) [
   | inl here ↦
       let bounds = is_in-parts a s.base (16 * s.count) here in
       record {
@@ -64,15 +78,17 @@ starts_before m (s ∷ rest) a e = elim (cases_Bool (segment_has a s)) [
         within = (0, omega arith, refl);
         ring = refl;
         before = bounds.0;
+        page = omega (arith, bounds.0, bounds.1, pages 0 (omega arith));
         between = λ b l u. ap (λ c. c || list_any (segment_has b) rest) (is_in-true b s.base (16 * s.count) l (omega (arith, bounds.1)));
       }
   | inr elsewhere ↦
-      let there = starts_before m rest a (sym (ap (λ c. c || list_any (segment_has a) rest) elsewhere) ∙ e) in
+      let there = starts_before m rest a (λ j l. pages (suc j) (omega arith)) (sym (ap (λ c. c || list_any (segment_has a) rest) elsewhere) ∙ e) in
       record {
         start = there.start;
         within = Contains-append_right (start_of m s ∷ []) (map (start_of m) rest) there.start there.within;
         ring = there.ring;
         before = there.before;
+        page = there.page;
         between = λ b l u. ap (λ c. segment_has b s || c) (there.between b l u) ∙ or_true (segment_has b s);
       }
 ]
@@ -83,7 +99,7 @@ record StartOf (m : ℕ) (rs : List Ring) (x : Start) : Type 0 where
   ring : Ring
   at : slice_get rs number ≡ Some ring
   numbered : x.ring ≡ m + number
-  inside : is_inside ring.shape x.address ≡ true
+  covers : (b : ℕ) → x.address ≤ b → b < x.address + x.bytes → is_inside ring.shape b ≡ true
   some : 0 < x.bytes
 
 all_inside : (m : ℕ) (rs : List Ring) → ((i : ℕ) (r : Ring) → slice_get rs i ≡ Some r → IsShape r.shape) → (x : Start) → Contains (starts_from m rs) x → StartOf m rs x
@@ -91,34 +107,36 @@ all_inside m [] allowed x (k, h, e) = absurd (omega arith)
 all_inside m (r ∷ rest) allowed x within = elim (Contains-append_cases (map (start_of m) r.shape.segments) (starts_from (m + 1) rest) x within) [
   | inl first ↦
       let here = starts_inside m r.shape.segments (λ j l. let blocks = ((shape_facts r.shape (allowed 0 r refl)).each j l).blocks in omega (arith, blocks)) x first in
-      record { number = 0; ring = r; at = refl; numbered = here.0 ∙ sym (add-zero m); inside = here.1; some = here.2 }
+      record { number = 0; ring = r; at = refl; numbered = here.number ∙ sym (add-zero m); covers = here.covers; some = here.some }
   | inr later ↦
       let there = all_inside (m + 1) rest (λ i q e. allowed (suc i) q e) x later in
-      record { number = suc there.number; ring = there.ring; at = there.at; numbered = omega (arith, there.numbered); inside = there.inside; some = there.some }
+      record { number = suc there.number; ring = there.ring; at = there.at; numbered = omega (arith, there.numbered); covers = there.covers; some = there.some }
 ]
 
-all_before : (m : ℕ) (rs : List Ring) (i : ℕ) (r : Ring) (a : ℕ) → slice_get rs i ≡ Some r → is_inside r.shape a ≡ true → Behind (m + i) (λ b. is_inside r.shape b) (starts_from m rs) a
-all_before m [] i r a at inside = absurd (no_ring at)
+all_before : (m : ℕ) (rs : List Ring) (i : ℕ) (r : Ring) (a : ℕ) → ((j : ℕ) (q : Ring) → slice_get rs j ≡ Some q → IsShape q.shape) → slice_get rs i ≡ Some r → is_inside r.shape a ≡ true → Behind (m + i) (λ b. is_inside r.shape b) (starts_from m rs) a
+all_before m [] i r a allowed at inside = absurd (no_ring at)
   where
     no_ring : None ≡ Some r → ⊥
     no_ring e = cc
-all_before m (q ∷ rest) zero r a at inside =
+all_before m (q ∷ rest) zero r a allowed at inside =
     let same : q ≡ r = some_ring q r at in
-    let here = starts_before m q.shape.segments a (ap (λ (y : Ring). is_inside y.shape a) same ∙ inside) in
+    let here = starts_before m q.shape.segments a (λ j l. ((shape_facts q.shape (allowed 0 q refl)).each j l).page) (ap (λ (y : Ring). is_inside y.shape a) same ∙ inside) in
     record {
       start = here.start;
       within = Contains-append_left (map (start_of m) q.shape.segments) (starts_from (m + 1) rest) here.start here.within;
       ring = here.ring ∙ sym (add-zero m);
       before = here.before;
+      page = here.page;
       between = λ b l u. ap (λ (y : Ring). is_inside y.shape b) (sym same) ∙ here.between b l u;
     }
-all_before m (q ∷ rest) (suc i) r a at inside =
-    let there = all_before (m + 1) rest i r a at inside in
+all_before m (q ∷ rest) (suc i) r a allowed at inside =
+    let there = all_before (m + 1) rest i r a (λ j p e. allowed (suc j) p e) at inside in
     record {
       start = there.start;
       within = Contains-append_right (map (start_of m) q.shape.segments) (starts_from (m + 1) rest) there.start there.within;
       ring = omega (arith, there.ring);
       before = there.before;
+      page = there.page;
       between = there.between;
     }
 
@@ -172,12 +190,13 @@ module _ (h : Header) (headed : IsHeader h) (f : Finder) (is : IsFinder h.rings 
 
     behind_in : (n : ℕ) (q : Ring) → slice_get h.rings n ≡ Some q → is_inside q.shape a ≡ true → Behind n (λ b. is_inside q.shape b) f.starts.items a
     behind_in n q there inside =
-        let behind = all_before 0 h.rings n q a there inside in
+        let behind = all_before 0 h.rings n q a allowed_at there inside in
         record {
           start = behind.start;
           within = Contains-permutation (starts_from 0 h.rings) f.starts.items behind.start is.starts behind.within;
           ring = behind.ring ∙ zero-add n;
           before = behind.before;
+          page = behind.page;
           between = behind.between;
         }
 
@@ -187,6 +206,21 @@ module _ (h : Header) (headed : IsHeader h) (f : Finder) (is : IsFinder h.rings 
         let behind = behind_in n ring at (sym (inside_is n ring at) ∙ it) in
         let low = behind.before in
         omega (arith, low, above behind.start behind.within)))
+
+    -- no start is on the page of the address
+    pub nothing_on_page : ((s : Start) → Contains f.starts.items s → s.address / 65536 ≡ a / 65536 → ⊥) → None ≡ position (λ ring. touches ring.shape a 4) h.rings
+    nothing_on_page none = sym (no_position h.rings (λ ring. touches ring.shape a 4) (λ n ring at it.
+        let behind = behind_in n ring at (sym (inside_is n ring at) ∙ it) in
+        none behind.start behind.within behind.page))
+
+    -- the ring of a segment that has the address
+    pub ring_covering : (y : Start) → Contains f.starts.items y → y.address ≤ a → a < y.address + y.bytes → Some y.ring ≡ position (λ q. touches q.shape a 4) h.rings
+    ring_covering y within l u =
+        let there = start_is y within in
+        let at : slice_get h.rings y.ring ≡ Some there.ring = ap (λ n. slice_get h.rings n) (there.numbered ∙ zero-add there.number) ∙ there.at in
+        let inside = there.covers a l u in
+        sym (one_position h.rings (together h headed) (λ q. touches q.shape a 4) y.ring there.ring at (inside_is y.ring there.ring at ∙ inside)
+        (λ k q here apart hits. apart.memory a (sym (inside_is k q here) ∙ hits) inside))
 
     module _ (number : ℕ) (before : IsRingBefore f.starts.items a (Some number)) (ring : Ring) (item : ring ≡ get_or h.rings number ring) where
       last : StartOf 0 h.rings before.0
@@ -220,5 +254,6 @@ module _ (h : Header) (headed : IsHeader h) (f : Finder) (is : IsFinder h.rings 
                 let behind = behind_in n q there inside in
                 let low : before.0.address ≤ a = before.3 in
                 (numbers_apart h.rings (together h headed) n number q last.ring there last_at other).memory before.0.address
-                (behind.between before.0.address (before.4 behind.start behind.within behind.before) low) last.inside
+                (behind.between before.0.address (before.4 behind.start behind.within behind.before) low)
+                (last.covers before.0.address (omega arith) (omega (arith, last.some)))
           ]

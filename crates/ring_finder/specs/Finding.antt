@@ -1,5 +1,5 @@
 -- What finds a header's rings by ID and by address
-use Rattle.std.specs.Prelude.{◌≡◌, ℕ, ◌+◌, ◌*◌, ◌<◌, ◌≤◌, List, [], ◌∷◌, ◌++◌, length, map, Option, Some, None, slice_get, slice_index_or, position}
+use Rattle.std.specs.Prelude.{◌≡◌, ℕ, ◌+◌, ◌*◌, ◌/◌, ◌%◌, ◌<◌, ◌≤◌, List, [], ◌∷◌, ◌++◌, length, map, Option, Some, None, slice_get, slice_index, slice_index_or, position}
 use Rattle.std.specs.List.{Contains}
 use Rattle.std.specs.List.Sorted.{IsNonDecreasingBy, IsPermutation}
 use Rattle.segments.specs.declared.segment.Segment.{Segment}
@@ -23,11 +23,21 @@ pub record AreNumbers (rings : List Ring) (count : ℕ) (numbers : List (Option 
   pub right : (id n : ℕ) → slice_index_or numbers id None ≡ Some n → (ring : Ring) × (slice_get rings n ≡ Some ring) × (ring.id ≡ id)
   pub each : (n : ℕ) (ring : Ring) → n < count → slice_get rings n ≡ Some ring → slice_index_or numbers ring.id None ≡ Some n
 
--- it has the number of each ring, where each segment starts, by rising address, and the number of the command ring
+-- where the hint for an address stands: by its page of 64 KiB
+abbrev pub slot_of : ℕ → ℕ
+slot_of a = (a / 65536 + a / 65536 / 256) % 1024
+
+-- the hints for the first segments tell where a segment stands
+pub record AreHints (starts : List Start) (count : ℕ) (hints : List ℕ) : Type 0 where
+  pub all : length hints ≡ 1024
+  pub each : (k : ℕ) (d : Start) → k < count → slice_index hints (slot_of (slice_index_or starts k d).address) < length starts
+
+-- it has the number of each ring, where each segment starts, by rising address, hints where, and the number of the command ring
 pub record IsFinder (rings : List Ring) (f : Finder) : Type 0 where
   pub numbers : AreNumbers rings (length rings) f.numbers.items
   pub starts : IsPermutation (starts_from 0 rings) f.starts.items
   pub sorted : IsNonDecreasingBy (λ s. s.address) f.starts.items
+  pub hints : AreHints f.starts.items (length f.starts.items) f.hints.items
   pub commands : f.commands ≡ position (λ ring. is_command_kind ring.shape.kind) rings
 
 -- the ring of the last start at or before an address, if there is one

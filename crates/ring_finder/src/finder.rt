@@ -1,8 +1,11 @@
-ghost use Rattle.std.specs.Prelude.{◌≡◌, ◌==◌, ◌<◌, ◌%◌, ◌++◌, ℕ, List, length, map, position, true, IfOk, IfSome, OnOk};
+ghost use Rattle.std.specs.Prelude.{◌≡◌, ◌==◌, ◌+◌, ◌<◌, ◌≤◌, ◌/◌, ◌%◌, ◌++◌, ℕ, List, length, map, position, true, IfNone, IfOk, IfSome, OnOk};
+ghost use Rattle.std.specs.Bool.{OnTrue};
+ghost use Rattle.std.specs.List.{Contains};
 ghost use Rattle.segments.specs.Places.{touches};
 ghost use Rattle.traces.specs.Header.{IsHeader, is_command_kind, may_stand_together, ring_having};
 ghost use Rattle.traces.specs.declared.ring.Ring.{Ring};
-ghost use Rattle.ring_finder.specs.Finding.{AreNumbers, IsFinder, IsRingBefore, start_of, starts_from};
+ghost use Rattle.ring_finder.specs.Finding.{AreHints, AreNumbers, IsFinder, IsRingBefore, slot_of, start_of, starts_from};
+ghost use Rattle.ring_finder.specs.declared.finder.Start.{Start as StartValue};
 
 use crate::kinds::{is_command_ring, is_transfer_ring};
 use std::alloc::{AllocError, Global};
@@ -16,6 +19,15 @@ pub struct Start {
     pub ring: usize,
 }
 
+/// The bytes of a page: no segment crosses a multiple of it.
+const PAGE: u64 = 1 << 16;
+
+/// How many hints there are.
+const HINTS: u64 = 1024;
+
+/// The hint of a page without segments.
+const NOTHING: usize = usize::MAX;
+
 /// Finds rings of a header by ID and by address, in a time that hardly grows with their number.
 #[derive(Drop)]
 pub struct Finder {
@@ -23,6 +35,8 @@ pub struct Finder {
     pub numbers: Vec<Option<usize>>,
     /// The segments of all rings, by rising address.
     pub starts: Vec<Start>,
+    /// By what an address leaves: where one of the segments stands that start on such a page.
+    pub hints: Vec<usize>,
     /// The number of the command ring, where there is one.
     pub commands: Option<usize>,
 }
@@ -37,10 +51,12 @@ impl Finder {
         let numbers = ring_numbers(alloc, rings)?;
         let mut starts = all_starts(alloc, rings)?;
         starts.sort_unstable_by_key(|start| start.address);
+        let hints = hints_of(alloc, starts.as_slice())?;
         let commands = command_number(rings);
         Ok(Finder {
             numbers,
             starts,
+            hints,
             commands,
         })
     }
@@ -54,6 +70,32 @@ impl Finder {
 
     /// The number of the ring that has the word at this address.
     pub fn ring_at(&self, header: &Header, address: u64) -> Option<usize>
+        requires headed { IsHeader header.now }
+        requires found { IsFinder header.now.rings self.now }
+        requires aligned { address % 4 ≡ 0 }
+        ensures { result ≡ position (λ ring. touches ring.shape address 4) header.now.rings }
+    {
+        let Some(start) = self.start_on_page(header, address) else {
+            return None;
+        };
+        if has(start, address) {
+            return Some(start.ring);
+        }
+        self.ring_by_search(header, address)
+    }
+
+    /// A segment on a page that leaves the same hint as that of an address; none where no segment is on its page.
+    fn start_on_page(&self, header: &Header, address: u64) -> Option<Start>
+        requires { IsFinder header.now.rings self.now }
+        ensures some { IfSome result (λ start. Contains self.now.starts.items start) }
+        ensures none { IfNone result ((start : StartValue) → Contains self.now.starts.items start → start.address / 65536 ≡ address / 65536 → ⊥) }
+    {
+        let hint = self.hints[slot(address)];
+        self.starts.get(hint).copied()
+    }
+
+    /// The number of the ring that has the word at this address, by a search.
+    fn ring_by_search(&self, header: &Header, address: u64) -> Option<usize>
         requires headed { IsHeader header.now }
         requires found { IsFinder header.now.rings self.now }
         requires aligned { address % 4 ≡ 0 }
@@ -102,6 +144,41 @@ impl Finder {
             return None;
         }
         Some(starts[after - 1].ring)
+    }
+}
+
+/// Whether a segment has the byte at an address.
+fn has(start: Start, address: u64) -> bool
+    ensures { OnTrue result ((start.address ≤ address) × (address < start.address + start.bytes)) }
+{
+    address >= start.address && address - start.address < start.bytes
+}
+
+/// Where the hint for an address stands. Pages that lie side by side, or as far apart as the rings of many traces, have hints of their own.
+fn slot(address: u64) -> usize
+    ensures value { result ≡ slot_of address }
+    ensures below { result < 1024 }
+{
+    let page = address / PAGE;
+    ((page + page / 256) % HINTS) as usize
+}
+
+/// By what an address leaves: where one of the segments stands that start on such a page.
+fn hints_of(alloc: Global, starts: &[Start]) -> Result<Vec<usize>, AllocError>
+    ensures { IfOk result (λ hints. AreHints starts.now (length starts.now) hints.items) }
+{
+    let mut hints = vec![in alloc; NOTHING; HINTS as usize]?;
+    note_hints(&mut hints, starts);
+    Ok(hints)
+}
+
+/// Writes the hints of segments over those that were there.
+pub(crate) fn note_hints(hints: &mut Vec<usize>, starts: &[Start])
+    requires { length hints.now.items ≡ 1024 }
+    ensures { AreHints starts.now (length starts.now) hints.new.items }
+{
+    for (number, start) in starts.iter().enumerate() {
+        hints[slot(start.address)] = number;
     }
 }
 

@@ -1,6 +1,7 @@
 //! Finds the rings of a header by ID and by address, and what is kept of all of them.
 #![tactic(auto)]
 
+mod coming;
 mod finder;
 mod kinds;
 mod touching;

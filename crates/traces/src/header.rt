@@ -1,8 +1,9 @@
-ghost use Rattle.std.specs.Prelude.{◌≡◌};
+ghost use Rattle.std.specs.Prelude.{◌≡◌, ◌<◌, ◌∷◌, ◌++◌, [], length, remove, OnErr, OnOk};
 
 use crate::ring::Ring;
 use crate::version::Version;
 use contexts::ContextSize;
+use std::alloc::AllocError;
 use std::marker::Model;
 
 /// The rings of a trace, in the order of their declaration. Contracts see the list.
@@ -33,6 +34,23 @@ impl Rings {
         ensures { result.now ≡ self.now }
     {
         self.rings.as_slice()
+    }
+
+    /// One ring more, at the end. Want of memory changes nothing.
+    pub fn push(&mut self, ring: Ring) -> Result<(), AllocError>
+        ensures ok { OnOk result (self.new ≡ self.old ++ ring ∷ []) }
+        ensures err { OnErr result (self.new ≡ self.old) }
+    {
+        self.rings.push(ring)?;
+        Ok(())
+    }
+
+    /// Without the ring that has this number: those behind it move up.
+    pub fn remove(&mut self, number: usize)
+        requires { number < length self.now }
+        ensures { self.new ≡ remove self.old number }
+    {
+        self.rings.remove(number);
     }
 }
 

@@ -1,4 +1,4 @@
-use Rattle.ring_finder.proofs.Words.{◌∙◌, List, length, subst, ap, rules, position, IsPermutation, IsNonDecreasingBy-from_sort_by_key, is_command_kind, Ring, Start, AreNumbers, starts_from}
+use Rattle.ring_finder.proofs.Words.{◌∙◌, List, length, subst, ap, rules, position, IsPermutation, IsNonDecreasingBy-from_sort_by_key, is_command_kind, Ring, Start, AreHints, AreNumbers, starts_from}
 use Rattle.ring_finder.proofs.finder.Finder.new.Goals as goal
 
 pub returns : goal.returns
@@ -8,5 +8,6 @@ returns c =
       numbers = subst (λ (xs : List Ring). AreNumbers xs (length xs) c.in_ok-numbers.numbers.items) c.as_slice-rings.ensures c.in_ok-numbers.ensures;
       starts = subst (λ (xs : List Start). IsPermutation xs c.sort_unstable_by_key.new.self.items) starts c.sort_unstable_by_key.ensures.permutation;
       sorted = IsNonDecreasingBy-from_sort_by_key (λ s. s.address) _ c.sort_unstable_by_key.ensures.sorted (λ a r q k. search rules);
+      hints = subst (λ (xs : List Start). AreHints xs (length xs) c.in_ok-hints.hints.items) c.as_slice.ensures.value c.in_ok-hints.ensures;
       commands = c.command_number-commands.ensures ∙ ap (λ (xs : List Ring). position (λ r. is_command_kind r.shape.kind) xs) c.as_slice-rings.ensures;
     }

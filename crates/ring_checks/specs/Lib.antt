@@ -1,0 +1,2 @@
+pub mod RingRules
+pub mod RingSteps

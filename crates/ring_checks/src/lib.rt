@@ -1,0 +1,15 @@
+//! The rules of rings that come and go between rows, and what these change in the record of a trace (xHCI 4.9).
+#![tactic(auto)]
+
+mod coming;
+mod fault;
+mod first_lap;
+mod freeing;
+mod going;
+mod new_rings;
+mod rule;
+
+pub use coming::check_coming;
+pub use fault::RingFault;
+pub use going::check_going;
+pub use rule::RingRule;
