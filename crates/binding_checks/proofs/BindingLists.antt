@@ -1,26 +1,27 @@
 -- What a command binds, endpoint by endpoint
-use Rattle.std.proofs.Common.{◌≡◌, ℕ, zero, suc, ◌+◌, ◌-◌, ◌<◌, ◌≤◌, ◌==◌, ◌&&◌, ◌||◌, if◌then◌else◌, Bool, true, false, List, [], ◌∷◌, Option, Some, None, map, refl, ap, sym, ◌∙◌, arith}
-use Rattle.std.specs.Prelude.{not, nat_le, filter, is_some}
+use Rattle.std.proofs.Common.{◌≡◌, ℕ, zero, suc, ◌+◌, ◌-◌, ◌<◌, ◌≤◌, ◌==◌, ◌&&◌, ◌||◌, if◌then◌else◌, Bool, true, false, List, [], ◌∷◌, Option, Some, None, map, refl, ap, sym, ◌∙◌, arith, inl, inr}
+use Rattle.std.specs.Prelude.{not, nat_le, filter}
 use Rattle.std.specs.List.{cons_option, filter_map, list_any, range_with_len}
 use Rattle.std.specs.Option.{option_map}
+use Rattle.std.proofs.lemmas.Bool.{cases_lt}
 use Rattle.std.proofs.lemmas.Bool.Decides.{nat_tests}
-use Rattle.contexts.specs.Contexts.{input_add_flag, added_endpoints}
+use Rattle.contexts.specs.Contexts.{has_flag, input_add_flag, added_endpoints}
 use Rattle.commands.specs.declared.command.Command.{Command}
 use Rattle.commands.specs.declared.command.Command.TheVariants.{AddressDevice, ConfigureEndpoint}
-use Rattle.commands.specs.Command.{named_context, named_slot}
 use Rattle.commands.specs.States.{is_off}
 use Rattle.traces.specs.declared.header.Header.{Header}
 use Rattle.traces.specs.Header.{is_ring}
 use Rattle.ring_knowledge.specs.Known.{Known}
 use Rattle.ring_knowledge.specs.Rings.{unfinished}
-use Rattle.device_record.specs.Indices.{index_of}
 use Rattle.ownership_rules.specs.Moves.{Binding, binding_in, binds, binds_again, binds_ring, has_repeats, is_among, is_bad_binding, is_bad_place, is_being_bound, is_kept, is_placed, is_taken, ring_bound, was_ring_bound}
 use Rattle.binding_checks.specs.declared.binding.RingBinding.{RingBinding}
+use Rattle.binding_checks.specs.declared.context.Bound.{Bound}
 use Rattle.binding_checks.specs.declared.context.Dequeue.{Dequeue}
 use Rattle.trace_record.specs.declared.ring_set.RingSet.{RingSet}
-use Rattle.binding_checks.specs.Contexts.{dequeue_at, dequeue_in}
+use Rattle.binding_checks.specs.Contexts.{HasBound, dequeue_at, dequeue_in}
 use Rattle.binding_checks.specs.Bindings.{are_bad, binding_at, binding_of, bindings_from, is_bad, is_in_set, is_kept_ring, is_misplaced, is_to, was_bound}
 use Rattle.trace_record.specs.RingSets.{has}
+use Rattle.input_words.proofs.BitsOfWords.{unchanged}
 use Rattle.binding_checks.proofs.Lists.{any_same, any_or, any_map, map_twice, or_none, or_true, crossed, or_assoc}
 
 pub range_is : (i : ℕ) → i < 32 → range_with_len i (32 - i) ≡ i ∷ range_with_len (i + 1) (32 - (i + 1))
@@ -32,9 +33,25 @@ module _ (h : Header) (k : Known) where
     unfolding bindings_from
     bindings_next i below = ap (λ xs. filter_map (binding_at h k c) xs) (range_is i below)
 
-    pub bindings_end : (i : ℕ) → i ≡ 32 → bindings_from h k c i ≡ []
+    pub bindings_end : (i : ℕ) → 32 ≤ i → bindings_from h k c i ≡ []
     unfolding bindings_from
-    bindings_end i e = ap (λ n. filter_map (binding_at h k c) (range_with_len i n)) (let none : 32 - i ≡ 0 = omega arith in none)
+    bindings_end i past = ap (λ n. filter_map (binding_at h k c) (range_with_len i n)) (let none : 32 - i ≡ 0 = omega (arith, past) in none)
+
+    -- from one endpoint on that the command binds
+    pub bindings_at : (i : ℕ) (b : RingBinding) → i < 32 → binding_at h k c i ≡ Some b → bindings_from h k c i ≡ b ∷ bindings_from h k c (i + 1)
+    bindings_at i b below is = bindings_next i below ∙ ap (λ o. cons_option o (bindings_from h k c (i + 1))) is
+
+    -- endpoints without a flag are left out
+    pub bindings_skipped : (bound : Bound) → HasBound h k c bound → (i j : ℕ) → i ≤ j → ((s : ℕ) → i ≤ s → s < j → s < 32 → has_flag bound.flags s ≡ false) →
+        bindings_from h k c i ≡ bindings_from h k c j
+    bindings_skipped bound has i j low clear = unchanged (bindings_from h k c) i j low (λ s first last. elim (cases_lt s 32) [
+      | inl below ↦
+          bindings_next s below
+          ∙ ap (λ o. cons_option o (bindings_from h k c (s + 1)))
+          (ap (option_map (binding_of h))
+          (has.said s below ∙ ap (λ b. if b then Some (dequeue_in h.context_size k.memory bound.context s) else None) (clear s first last below)))
+      | inr past ↦ bindings_end s past ∙ sym (bindings_end (s + 1) (omega (arith, past)))
+    ])
 
   abbrev pub with_ring : Binding → RingBinding
   with_ring b = record { ring = ring_bound h b; dequeue = record { pointer = b.pointer; cycle = b.cycle } }

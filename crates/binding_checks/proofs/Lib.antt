@@ -4,3 +4,4 @@ pub mod SlotWalk
 pub mod BoundFlags
 pub mod RingRecords
 pub mod KeptRings
+pub mod LeftRings

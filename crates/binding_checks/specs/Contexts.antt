@@ -1,7 +1,7 @@
 -- What commands say of the rings of endpoints: xHCI 4.6.5, 4.6.6, 6.2.3
-use Rattle.std.specs.Prelude.{◌≡◌, ℕ, ◌<◌, ◌==◌, ◌&&◌, if◌then◌else◌, false, Option, Some, None, nat_le}
+use Rattle.std.specs.Prelude.{◌≡◌, ℕ, ◌+◌, ◌%◌, ◌^◌, ◌<◌, ◌≤◌, ◌==◌, ◌&&◌, if◌then◌else◌, false, Option, Some, None, nat_le}
 use Rattle.contexts.specs.declared.size.ContextSize.{ContextSize}
-use Rattle.contexts.specs.Contexts.{context_cycle, context_pointer, has_flag, input_add_flag}
+use Rattle.contexts.specs.Contexts.{context_cycle, context_pointer, has_flag, input_add_flag, input_context_bytes}
 use Rattle.commands.specs.declared.command.Command.{Command}
 use Rattle.commands.specs.declared.command.Command.TheVariants.{AddressDevice, ConfigureEndpoint}
 use Rattle.commands.specs.States.{is_off}
@@ -9,6 +9,7 @@ use Rattle.traces.specs.declared.header.Header.{Header}
 use Rattle.ring_knowledge.specs.Known.{Known}
 use Rattle.device_record.specs.Devices.{FollowsDevices}
 use Rattle.device_record.specs.declared.kept.DeviceRecord.{DeviceRecord}
+use Rattle.binding_checks.specs.declared.context.Bound.{Bound}
 use Rattle.binding_checks.specs.declared.context.Dequeue.{Dequeue}
 
 -- what the context of index i in the input context at address a says of the endpoint's ring
@@ -21,9 +22,12 @@ dequeue_at h k (AddressDevice s bsr c) i = if i == 1 && is_off (k.endpoint_state
 dequeue_at h k (ConfigureEndpoint s false c) i = if nat_le 2 i && input_add_flag k.memory c i then Some (dequeue_in h.context_size k.memory c i) else None
 dequeue_at h k _ i = None
 
--- a word has a bit for the index of each endpoint that the command binds
-abbrev pub HasBound : Header → Known → Command → ℕ → Type 0
-HasBound h k c word = (i : ℕ) → i < 32 → has_flag word i ≡ false → dequeue_at h k c i ≡ None
+-- the command binds the endpoints whose indices have a flag, and no others, to what the input context says, which lies on words and
+-- ends within the address space
+pub record HasBound (h : Header) (k : Known) (c : Command) (b : Bound) : Type 0 where
+  pub said : (i : ℕ) → i < 32 → dequeue_at h k c i ≡ (if has_flag b.flags i then Some (dequeue_in h.context_size k.memory b.context i) else None)
+  pub aligned : b.context % 4 ≡ 0
+  pub inside : b.context + input_context_bytes h.context_size ≤ 2 ^ 64
 
 -- the record and the memory hold what is known of slots, endpoints and contexts
 pub record HoldsContexts (k : Known) (devices : DeviceRecord) (memory : ℕ → ℕ) : Type 0 where

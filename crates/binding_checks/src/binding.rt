@@ -1,7 +1,8 @@
-ghost use Rattle.std.specs.Prelude.{◌≡◌, ◌<◌, ◌&&◌, ◌||◌, ℕ, [], ◌∷◌, List, false, not};
+ghost use Rattle.std.specs.Prelude.{◌≡◌, ◌<◌, ◌&&◌, ◌||◌, ℕ, [], ◌∷◌, List, Some, false, not, true};
 ghost use Rattle.traces.specs.Header.{IsHeader};
 ghost use Rattle.traces.specs.declared.header.Header.{Header as HeaderValue};
 ghost use Rattle.ring_finder.specs.Finding.{IsFinder};
+ghost use Rattle.contexts.specs.Contexts.{has_flag};
 ghost use Rattle.commands.specs.declared.command.Command.{Command as CommandValue};
 ghost use Rattle.ring_knowledge.specs.Known.{Known};
 ghost use Rattle.device_record.specs.Devices.{FollowsDevices};
@@ -15,8 +16,8 @@ ghost use Rattle.binding_checks.specs.Dropped.{HoldsDropped};
 ghost use Rattle.trace_record.specs.RingSets.{has};
 ghost use Rattle.binding_checks.specs.declared.binding.RingBinding.{RingBinding as BindingValue};
 
-use crate::context::{Dequeue, bound_flags, dequeue_at, has_flag};
-use crate::dropped::is_kept;
+use crate::context::{Bound, Dequeue, bound_by, dequeue_in, next_bound};
+use crate::dropped::{is_kept, note_ring};
 use crate::placements::may_be_bound;
 use commands::Command;
 use device_record::DeviceRecord;
@@ -44,29 +45,25 @@ fn binding_of(header: &Header, finder: &Finder, dequeue: Dequeue) -> RingBinding
     }
 }
 
-/// What a command binds the endpoint of an index to, if to anything: where `flags` doesn't have the index, to nothing.
-pub(crate) fn binding_at<M: WordMemory>(
+/// What a command binds the endpoint of an index to, one of those that it binds.
+fn binding_in<M: WordMemory>(
     header: &Header,
     finder: &Finder,
-    devices: &DeviceRecord,
     memory: &M,
-    command: &Command,
-    flags: u32,
+    bound: Bound,
     index: u8,
-) -> Option<RingBinding>
+) -> RingBinding
     requires headed { IsHeader header.now }
     requires found { IsFinder header.now.rings finder.now }
     requires last { index < 32 }
-    ensures { (k : Known) → HoldsContexts k devices.now (M.words memory.now) → FitsMemory header.now.context_size command.now →
-        HasBound header.now k command.now flags → result ≡ binding_at header.now k command.now index }
+    requires set { has_flag bound.flags index ≡ true }
+    ensures { (k : Known) (c : CommandValue) → ((a : ℕ) → k.memory a ≡ M.words memory.now a) → HasBound header.now k c bound → binding_at header.now k c index ≡ Some result }
 {
-    if !has_flag(flags, index) {
-        return None;
-    }
-    match dequeue_at(header, devices, memory, command, index) {
-        None => None,
-        Some(dequeue) => Some(binding_of(header, finder, dequeue)),
-    }
+    binding_of(
+        header,
+        finder,
+        dequeue_in(memory, header.context_size, bound.context, index),
+    )
 }
 
 /// Whether the command is one that may add endpoints.
@@ -93,24 +90,12 @@ pub fn note_bound<M: WordMemory>(
     ensures { (k : Known) → HoldsContexts k devices.now (M.words memory.now) → FitsMemory header.now.context_size command.now →
         (r : ℕ) → has rings.new r ≡ (has rings.old r || binds_ring header.now k r command.now) }
 {
-    if !adds_endpoints(command) {
-        return;
-    }
-    let flags = bound_flags(memory, command);
-    for index in 1..32 {
-        if let Some(binding) = binding_at(header, finder, devices, memory, command, flags, index) {
-            note(rings, binding);
-        }
-    }
-}
-
-/// Notes the ring of a binding.
-fn note(rings: &mut RingSet, binding: RingBinding)
-    ensures { (r : ℕ) → has rings.new r ≡ (is_to r binding || has rings.old r) }
-{
-    match binding.ring {
-        None => {}
-        Some(ring) => rings.insert(ring),
+    let bound = bound_by(devices, memory, command);
+    let mut index = next_bound(bound, 1);
+    while index < 32 {
+        let binding = binding_in(header, finder, memory, bound, index);
+        note_ring(rings, binding.ring);
+        index = next_bound(bound, index + 1);
     }
 }
 
@@ -128,14 +113,12 @@ pub fn forget_bound<M: WordMemory>(
     ensures { (k : Known) → HoldsContexts k devices.now (M.words memory.now) → FitsMemory header.now.context_size command.now →
         (r : ℕ) → has rings.new r ≡ (has rings.old r && not (binds_ring header.now k r command.now)) }
 {
-    if !adds_endpoints(command) {
-        return;
-    }
-    let flags = bound_flags(memory, command);
-    for index in 1..32 {
-        if let Some(binding) = binding_at(header, finder, devices, memory, command, flags, index) {
-            forget(rings, binding);
-        }
+    let bound = bound_by(devices, memory, command);
+    let mut index = next_bound(bound, 1);
+    while index < 32 {
+        let binding = binding_in(header, finder, memory, bound, index);
+        forget(rings, binding);
+        index = next_bound(bound, index + 1);
     }
 }
 
@@ -198,15 +181,14 @@ pub(crate) fn binds_badly<M: WordMemory>(
         HoldsDropped k command.now dropped.now →
         result ≡ are_bad (is_misplaced header.now k command.now) taken.old (bindings_from header.now k command.now 1) }
 {
-    let flags = bound_flags(memory, command);
-    for index in 1..32 {
-        if let Some(binding) = binding_at(
-            header, finder, &t.devices, memory, command, flags, index,
-        ) {
-            if !take(header, finder, t, dropped, binding, taken) {
-                return true;
-            }
+    let bound = bound_by(&t.devices, memory, command);
+    let mut index = next_bound(bound, 1);
+    while index < 32 {
+        let binding = binding_in(header, finder, memory, bound, index);
+        if !take(header, finder, t, dropped, binding, taken) {
+            return true;
         }
+        index = next_bound(bound, index + 1);
     }
     false
 }
@@ -224,16 +206,13 @@ pub fn binds_again<M: WordMemory>(
     ensures { (k : Known) → HoldsContexts k devices.now (M.words memory.now) → FitsMemory header.now.context_size command.now →
         result ≡ binds_again header.now k command.now }
 {
-    if !adds_endpoints(command) {
-        return false;
-    }
-    let flags = bound_flags(memory, command);
-    for index in 1..32 {
-        if let Some(binding) = binding_at(header, finder, devices, memory, command, flags, index) {
-            if was_bound(devices, binding) {
-                return true;
-            }
+    let bound = bound_by(devices, memory, command);
+    let mut index = next_bound(bound, 1);
+    while index < 32 {
+        if was_bound(devices, binding_in(header, finder, memory, bound, index)) {
+            return true;
         }
+        index = next_bound(bound, index + 1);
     }
     false
 }

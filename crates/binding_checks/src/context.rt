@@ -1,17 +1,20 @@
-ghost use Rattle.std.specs.Prelude.{◌≡◌, ◌+◌, ◌%◌, ◌^◌, ◌<◌, ◌≤◌, ℕ, Bool, Some};
+ghost use Rattle.std.specs.Prelude.{◌≡◌, ◌+◌, ◌%◌, ◌^◌, ◌<◌, ◌≤◌, ℕ, Bool, true};
+ghost use Rattle.commands.specs.declared.command.Command.{Command as CommandValue};
 ghost use Rattle.commands.specs.declared.command.Command.TheVariants.{AddressDevice, ConfigureEndpoint};
 ghost use Rattle.commands.specs.States.{is_off};
-ghost use Rattle.contexts.specs.Contexts.{has_flag, input_add_flag, input_context_bytes, is_dropped};
+ghost use Rattle.contexts.specs.Contexts.{has_flag, input_context_bytes};
 ghost use Rattle.traces.specs.declared.header.Header.{Header as HeaderValue};
 ghost use Rattle.ring_knowledge.specs.Known.{Known};
+ghost use Rattle.device_record.specs.Devices.{FollowsDevices};
 ghost use Rattle.trace_record.specs.Premises.{FitsMemory};
-ghost use Rattle.binding_checks.specs.Contexts.{HasBound, HoldsContexts, dequeue_at, dequeue_in};
+ghost use Rattle.binding_checks.specs.Bindings.{bindings_from};
+ghost use Rattle.binding_checks.specs.Contexts.{HasBound, HoldsContexts, dequeue_in};
 
 use commands::{Command, EndpointState};
-use contexts::{ContextSize, InputContext};
+use contexts::ContextSize;
 use device_record::DeviceRecord;
-use guest_memory::{Addr, WordMemory};
-use traces::Header;
+use guest_memory::WordMemory;
+use input_words::{add_flags, dequeue_words, next_flag};
 
 /// Where a controller reads the next block of an endpoint's ring, and with which cycle state (xHCI 6.2.3).
 #[derive(Clone, Copy)]
@@ -27,67 +30,79 @@ pub(crate) fn is_off(state: EndpointState) -> bool
     matches!(state, EndpointState::Disabled)
 }
 
-/// Whether bit `index` of a word is 1.
-pub(crate) fn has_flag(word: u32, index: u8) -> bool
-    requires { index < 32 }
-    ensures { result ≡ has_flag word index }
-{
-    (word >> index) % 2 == 1
+/// The endpoints that a command binds, by a word that has a bit for each index, and the address of the input context that says where.
+#[derive(Clone, Copy)]
+pub(crate) struct Bound {
+    pub(crate) flags: u32,
+    pub(crate) context: u64,
 }
 
-/// The word of the Add Context flags in the input context at an address (xHCI 6.2.5.1).
-fn add_flags<M: WordMemory>(memory: &M, address: u64) -> u32
-    ensures { address % 4 ≡ 0 → address + 8 ≤ 2 ^ 64 → result ≡ M.words memory.now (address + 4) }
+/// No endpoints.
+fn none_bound() -> Bound
+    ensures { result ≡ record { flags = 0; context = 0 } }
 {
-    let Some(second) = address.checked_add(4) else {
-        return 0;
-    };
-    match Addr::new(second) {
-        Some(at) => memory.word(at),
-        None => 0,
+    Bound {
+        flags: 0,
+        context: 0,
     }
 }
 
-/// A word that has a bit for the index of each endpoint that a command may bind.
-pub(crate) fn bound_flags<M: WordMemory>(memory: &M, command: &Command) -> u32
-    ensures { (h : HeaderValue) (k : Known) → ((a : ℕ) → k.memory a ≡ M.words memory.now a) → FitsMemory h.context_size command.now → HasBound h k command.now result }
+/// Address Device binds the default control endpoint, if that was Disabled (xHCI 4.6.5).
+fn bound_by_address(devices: &DeviceRecord, slot: u8, context: u64) -> Bound
+    ensures { (h : HeaderValue) (k : Known) (bsr : Bool) → FollowsDevices k devices.now → FitsMemory h.context_size (AddressDevice slot bsr context) →
+        HasBound h k (AddressDevice slot bsr context) result }
+{
+    if !is_off(devices.endpoint_state(slot, 1)) {
+        return none_bound();
+    }
+    Bound { flags: 2, context }
+}
+
+/// Configure Endpoint binds each endpoint that it adds (xHCI 4.6.6).
+fn bound_by_configure<M: WordMemory>(memory: &M, deconfigure: bool, context: u64) -> Bound
+    ensures { (h : HeaderValue) (k : Known) (slot : ℕ) → ((a : ℕ) → k.memory a ≡ M.words memory.now a) → FitsMemory h.context_size (ConfigureEndpoint slot deconfigure context) →
+        HasBound h k (ConfigureEndpoint slot deconfigure context) result }
+{
+    if deconfigure {
+        return none_bound();
+    }
+    Bound {
+        flags: add_flags(memory, context) / 4 * 4,
+        context,
+    }
+}
+
+/// The endpoints that a command binds.
+pub(crate) fn bound_by<M: WordMemory>(
+    devices: &DeviceRecord,
+    memory: &M,
+    command: &Command,
+) -> Bound
+    ensures { (h : HeaderValue) (k : Known) → HoldsContexts k devices.now (M.words memory.now) → FitsMemory h.context_size command.now → HasBound h k command.now result }
 {
     match *command {
-        Command::AddressDevice { .. } => 2,
-        Command::ConfigureEndpoint { input_context, .. } => add_flags(memory, input_context),
-        _ => 0,
+        Command::AddressDevice {
+            slot,
+            input_context,
+            ..
+        } => bound_by_address(devices, slot, input_context),
+        Command::ConfigureEndpoint {
+            deconfigure,
+            input_context,
+            ..
+        } => bound_by_configure(memory, deconfigure, input_context),
+        _ => none_bound(),
     }
 }
 
-/// Whether the input context at an address adds an endpoint (xHCI 6.2.5.1). None lies there that doesn't end within memory.
-fn adds<M: WordMemory>(memory: &M, size: ContextSize, address: u64, index: u8) -> bool
-    requires last { index < 32 }
-    ensures { address % 4 ≡ 0 → address + input_context_bytes size ≤ 2 ^ 64 → result ≡ input_add_flag (M.words memory.now) address index }
+/// The least index from `from` on of an endpoint that is bound; one above 31 where there is none.
+pub(crate) fn next_bound(bound: Bound, from: u8) -> u8
+    requires { from ≤ 32 }
+    ensures behind { from ≤ result }
+    ensures set { result < 32 → has_flag bound.flags result ≡ true }
+    ensures rest { (h : HeaderValue) (k : Known) (c : CommandValue) → HasBound h k c bound → bindings_from h k c from ≡ bindings_from h k c result }
 {
-    if address % 4 != 0 {
-        return false;
-    }
-    match InputContext::at(memory, address, size) {
-        None => false,
-        Some(input) => input.adds(index),
-    }
-}
-
-/// Whether the input context at an address drops an endpoint above the default control endpoint (xHCI 6.2.5.1).
-pub(crate) fn drops<M: WordMemory>(memory: &M, size: ContextSize, address: u64, index: u8) -> bool
-    requires last { index < 32 }
-    ensures { address % 4 ≡ 0 → address + input_context_bytes size ≤ 2 ^ 64 → result ≡ is_dropped (M.words memory.now) address index }
-{
-    if index < 2 {
-        return false;
-    }
-    if address % 4 != 0 {
-        return false;
-    }
-    match InputContext::at(memory, address, size) {
-        None => false,
-        Some(input) => input.drops(index),
-    }
+    next_flag(bound.flags, from)
 }
 
 /// What the input context at an address says of an endpoint's ring (xHCI 6.2.3).
@@ -96,96 +111,13 @@ pub(crate) fn dequeue_in<M: WordMemory>(
     size: ContextSize,
     address: u64,
     index: u8,
-) -> Option<Dequeue>
-    requires first { 1 ≤ index }
-    requires last { index < 32 }
-    ensures { address % 4 ≡ 0 → address + input_context_bytes size ≤ 2 ^ 64 → result ≡ Some (dequeue_in size (M.words memory.now) address index) }
+) -> Dequeue
+    requires { index < 32 }
+    ensures { address % 4 ≡ 0 → address + input_context_bytes size ≤ 2 ^ 64 → result ≡ dequeue_in size (M.words memory.now) address index }
 {
-    if address % 4 != 0 {
-        return None;
-    }
-    match InputContext::at(memory, address, size) {
-        None => None,
-        Some(input) => {
-            let endpoint = input.endpoint(index);
-            Some(Dequeue {
-                pointer: endpoint.pointer,
-                cycle: endpoint.dcs,
-            })
-        }
-    }
-}
-
-/// Of the endpoint of an index, where an Address Device binds its ring: the default control endpoint's, which was Disabled
-/// (xHCI 4.6.5).
-fn addressed<M: WordMemory>(
-    header: &Header,
-    devices: &DeviceRecord,
-    memory: &M,
-    slot: u8,
-    context: u64,
-    index: u8,
-) -> Option<Dequeue>
-    ensures { (k : Known) (bsr : Bool) → HoldsContexts k devices.now (M.words memory.now) → FitsMemory header.now.context_size (AddressDevice slot bsr context) →
-        result ≡ dequeue_at header.now k (AddressDevice slot bsr context) index }
-{
-    if index != 1 {
-        return None;
-    }
-    if !is_off(devices.endpoint_state(slot, 1)) {
-        return None;
-    }
-    dequeue_in(memory, header.context_size, context, 1)
-}
-
-/// Of the endpoint of an index, where a Configure Endpoint binds its ring: that of each endpoint that it adds (xHCI 4.6.6).
-fn configured<M: WordMemory>(
-    header: &Header,
-    memory: &M,
-    slot: u8,
-    deconfigure: bool,
-    context: u64,
-    index: u8,
-) -> Option<Dequeue>
-    requires last { index < 32 }
-    ensures { (k : Known) → ((a : ℕ) → k.memory a ≡ M.words memory.now a) → FitsMemory header.now.context_size (ConfigureEndpoint slot deconfigure context) →
-        result ≡ dequeue_at header.now k (ConfigureEndpoint slot deconfigure context) index }
-{
-    if deconfigure {
-        return None;
-    }
-    if index < 2 {
-        return None;
-    }
-    if !adds(memory, header.context_size, context, index) {
-        return None;
-    }
-    dequeue_in(memory, header.context_size, context, index)
-}
-
-/// What a command says of the ring of an endpoint, where it adds it.
-pub(crate) fn dequeue_at<M: WordMemory>(
-    header: &Header,
-    devices: &DeviceRecord,
-    memory: &M,
-    command: &Command,
-    index: u8,
-) -> Option<Dequeue>
-    requires last { index < 32 }
-    ensures { (k : Known) → HoldsContexts k devices.now (M.words memory.now) → FitsMemory header.now.context_size command.now →
-        result ≡ dequeue_at header.now k command.now index }
-{
-    match *command {
-        Command::AddressDevice {
-            slot,
-            input_context,
-            ..
-        } => addressed(header, devices, memory, slot, input_context, index),
-        Command::ConfigureEndpoint {
-            slot,
-            deconfigure,
-            input_context,
-        } => configured(header, memory, slot, deconfigure, input_context, index),
-        _ => None,
+    let words = dequeue_words(memory, size, address, index);
+    Dequeue {
+        pointer: words / 16 * 16,
+        cycle: words % 2 == 1,
     }
 }

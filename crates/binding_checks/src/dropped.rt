@@ -1,5 +1,7 @@
-ghost use Rattle.std.specs.Prelude.{◌≡◌, ◌<◌, ◌||◌, ℕ};
+ghost use Rattle.std.specs.Prelude.{◌≡◌, ◌||◌, ℕ};
+ghost use Rattle.std.specs.List.{list_any, range_with_len};
 ghost use Rattle.traces.specs.declared.header.Header.{Header as HeaderValue};
+ghost use Rattle.traces.specs.Header.{is_ring};
 ghost use Rattle.commands.specs.declared.command.Command.{Command as CommandValue};
 ghost use Rattle.ring_knowledge.specs.Known.{Known};
 ghost use Rattle.device_record.specs.Devices.{FollowsDevices};
@@ -7,13 +9,13 @@ ghost use Rattle.ownership_rules.specs.Moves.{is_kept};
 ghost use Rattle.safety.specs.Keeps.{DriverKeeps};
 ghost use Rattle.trace_record.specs.Premises.{FitsMemory};
 ghost use Rattle.binding_checks.specs.Contexts.{HoldsContexts};
-ghost use Rattle.binding_checks.specs.Dropped.{HoldsDropped, leaves};
+ghost use Rattle.binding_checks.specs.Dropped.{HoldsDropped, is_left};
 ghost use Rattle.trace_record.specs.RingSets.{has};
 
-use crate::context::drops;
 use commands::Command;
 use device_record::DeviceRecord;
 use guest_memory::WordMemory;
+use input_words::{drop_flags, next_flag};
 use trace_record::RingSet;
 use traces::Header;
 
@@ -27,38 +29,40 @@ pub(crate) fn rings_dropped<M: WordMemory>(
     ensures { (k : Known) → HoldsContexts k devices.now (M.words memory.now) → FitsMemory header.now.context_size command.now → HoldsDropped k command.now result }
 {
     let mut rings = RingSet::new();
-    for index in 2..32 {
-        note_dropped(header, devices, memory, command, index, &mut rings);
-    }
-    rings
-}
-
-/// Notes the ring of the endpoint of an index, where the command drops it.
-fn note_dropped<M: WordMemory>(
-    header: &Header,
-    devices: &DeviceRecord,
-    memory: &M,
-    command: &Command,
-    index: u8,
-    rings: &mut RingSet,
-)
-    requires last { index < 32 }
-    ensures { (k : Known) → HoldsContexts k devices.now (M.words memory.now) → FitsMemory header.now.context_size command.now →
-        (r : ℕ) → has rings.new r ≡ (leaves k command.now index r || has rings.old r) }
-{
     let Command::ConfigureEndpoint {
         slot,
-        deconfigure: false,
+        deconfigure,
         input_context,
     } = *command
     else {
-        return;
+        return rings;
     };
-    if !drops(memory, header.context_size, input_context, index) {
-        return;
+    if deconfigure {
+        return rings;
     }
-    if let Some(ring) = devices.ring_of(slot, index) {
-        rings.insert(ring);
+    note_dropped(devices, drop_flags(memory, input_context), slot, &mut rings);
+    rings
+}
+
+/// Notes the rings of the endpoints of a slot that these Drop Context flags name.
+fn note_dropped(devices: &DeviceRecord, flags: u32, slot: u8, rings: &mut RingSet)
+    ensures { (k : Known) → FollowsDevices k devices.now → (r : ℕ) →
+        has rings.new r ≡ (has rings.old r || list_any (λ i. is_left k flags slot i r) (range_with_len 2 30)) }
+{
+    let mut index = next_flag(flags, 2);
+    while index < 32 {
+        note_ring(rings, devices.ring_of(slot, index));
+        index = next_flag(flags, index + 1);
+    }
+}
+
+/// Notes a ring, if there is one.
+pub(crate) fn note_ring(rings: &mut RingSet, ring: Option<u8>)
+    ensures { (r : ℕ) → has rings.new r ≡ (is_ring r ring || has rings.old r) }
+{
+    match ring {
+        None => {}
+        Some(ring) => rings.insert(ring),
     }
 }
 

@@ -53,10 +53,8 @@ pub fn is_bad_move<M: WordMemory>(
             if is_off(t.devices.endpoint_state(slot, 1)) {
                 return false;
             }
-            match dequeue_in(memory, header.context_size, input_context, 1) {
-                None => true,
-                Some(dequeue) => is_bad_stay(header, finder, t, slot, dequeue),
-            }
+            let dequeue = dequeue_in(memory, header.context_size, input_context, 1);
+            is_bad_stay(header, finder, t, slot, dequeue)
         }
         _ => false,
     }

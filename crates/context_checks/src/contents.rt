@@ -1,4 +1,5 @@
-ghost use Rattle.std.specs.Prelude.{◌≡◌, ◌<◌, ◌≤◌};
+ghost use Rattle.std.specs.Prelude.{◌≡◌, ◌+◌, ◌%◌, ◌^◌, ◌<◌, ◌≤◌, ◌==◌, ◌&&◌, ◌||◌, not};
+ghost use Rattle.contexts.specs.Contexts.{has_flag, input_context_bytes};
 ghost use Rattle.commands.specs.States.{is_off};
 ghost use Rattle.traces.specs.Header.{IsHeader};
 ghost use Rattle.ring_knowledge.specs.Known.{Known};
@@ -9,11 +10,11 @@ ghost use Rattle.trace_record.specs.Premises.{FitsMemory};
 ghost use Rattle.context_checks.specs.Contents.{adds_bad, has_bad_content_by, is_bad_added_in, lacks_control};
 
 use crate::devices::takes_bad_device;
-use crate::input::input_at;
 use commands::{Command, EndpointState};
-use contexts::InputContext;
+use contexts::ContextSize;
 use device_record::DeviceRecord;
 use guest_memory::WordMemory;
+use input_words::{add_flags, drop_flags, endpoint_type, next_flag};
 use ring_finder::Finder;
 use trace_record::TraceRecord;
 use traces::Header;
@@ -31,62 +32,92 @@ pub(crate) fn has_bad_content<M: WordMemory>(
     requires fits { FitsMemory header.now.context_size command.now }
     ensures { (k : Known) → FollowsTrace header.now k t.now (M.words memory.now) → result ≡ has_bad_content_by header.now k (M.words memory.now) command.now }
 {
+    let size = header.context_size;
     match *command {
         Command::AddressDevice {
             slot,
             input_context,
             ..
         } => {
-            lacks_control(&input_at(header, memory, input_context))
+            lacks_control(memory, size, input_context)
                 || takes_bad_device(header, finder, t, memory, slot, input_context)
         }
         Command::ConfigureEndpoint {
             slot,
             deconfigure,
             input_context,
-        } => {
-            !deconfigure && adds_bad(&t.devices, &input_at(header, memory, input_context), slot)
-        }
+        } => !deconfigure && adds_bad(&t.devices, memory, size, slot, input_context),
         _ => false,
     }
 }
 
-/// Whether the slot context or the default control endpoint's isn't added, or the endpoint has no type.
-#[tactic(auto, unfolding(crate::specs::Contents::lacks_control))]
-fn lacks_control<M: WordMemory>(input: &InputContext<M>) -> bool
-    ensures { result ≡ lacks_control (M.words input.now.memory) input.now.size input.now.address }
+/// Whether bit `index` of a word is 1.
+fn has_flag(word: u32, index: u8) -> bool
+    requires { index < 32 }
+    ensures { result ≡ has_flag word index }
 {
-    !(input.adds(0) && input.adds(1)) || input.endpoint(1).ep_type == 0
+    (word >> index) % 2 == 1
+}
+
+/// Whether the slot context or the default control endpoint's isn't added, or the endpoint has no type.
+fn lacks_control<M: WordMemory>(memory: &M, size: ContextSize, address: u64) -> bool
+    requires aligned { address % 4 ≡ 0 }
+    requires inside { address + input_context_bytes size ≤ 2 ^ 64 }
+    ensures { result ≡ lacks_control (M.words memory.now) size address }
+{
+    let flags = add_flags(memory, address);
+    let ep_type = endpoint_type(memory, size, address, 1);
+    lacks(flags, ep_type)
+}
+
+/// The same by the Add Context flags and the endpoint's type.
+fn lacks(flags: u32, ep_type: u8) -> bool
+    ensures { result ≡ (not (has_flag flags 0 && has_flag flags 1) || ep_type == 0) }
+{
+    !(has_flag(flags, 0) && has_flag(flags, 1)) || ep_type == 0
 }
 
 /// Whether one of the endpoints that are added may not be.
-fn adds_bad<M: WordMemory>(devices: &DeviceRecord, input: &InputContext<M>, slot: u8) -> bool
-    ensures { (k : Known) → FollowsDevices k devices.now →
-        result ≡ adds_bad k.endpoint_state (M.words input.now.memory) input.now.size slot input.now.address }
+fn adds_bad<M: WordMemory>(
+    devices: &DeviceRecord,
+    memory: &M,
+    size: ContextSize,
+    slot: u8,
+    address: u64,
+) -> bool
+    requires aligned { address % 4 ≡ 0 }
+    requires inside { address + input_context_bytes size ≤ 2 ^ 64 }
+    ensures { (k : Known) → FollowsDevices k devices.now → result ≡ adds_bad k.endpoint_state (M.words memory.now) size slot address }
 {
-    for index in 2..32 {
-        if input.adds(index) && is_bad_added(devices, input, slot, index) {
+    let flags = add_flags(memory, address);
+    let mut index = next_flag(flags, 2);
+    while index < 32 {
+        if is_bad_added(devices, memory, size, slot, address, index) {
             return true;
         }
+        index = next_flag(flags, index + 1);
     }
     false
 }
 
 /// Whether an endpoint that is added has no type, or is enabled and not dropped.
-#[tactic(auto, unfolding(crate::specs::Contents::is_bad_added_in))]
 fn is_bad_added<M: WordMemory>(
     devices: &DeviceRecord,
-    input: &InputContext<M>,
+    memory: &M,
+    size: ContextSize,
     slot: u8,
+    address: u64,
     index: u8,
 ) -> bool
-    requires first { 1 ≤ index }
+    requires aligned { address % 4 ≡ 0 }
+    requires inside { address + input_context_bytes size ≤ 2 ^ 64 }
     requires last { index < 32 }
     ensures { (k : Known) → FollowsDevices k devices.now →
-        result ≡ is_bad_added_in k.endpoint_state (M.words input.now.memory) input.now.size slot input.now.address index }
+        result ≡ is_bad_added_in k.endpoint_state (M.words memory.now) size slot address index }
 {
-    input.endpoint(index).ep_type == 0
-        || !(is_off(devices.endpoint_state(slot, index)) || input.drops(index))
+    endpoint_type(memory, size, address, index) == 0
+        || !(is_off(devices.endpoint_state(slot, index))
+            || has_flag(drop_flags(memory, address), index))
 }
 
 /// Whether it is the state of a disabled endpoint.

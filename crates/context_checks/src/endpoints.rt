@@ -1,14 +1,15 @@
-ghost use Rattle.std.specs.Prelude.{◌≡◌, ◌<◌, ◌≤◌, ℕ, not};
+ghost use Rattle.std.specs.Prelude.{◌≡◌, ◌+◌, ◌%◌, ◌^◌, ◌<◌, ◌≤◌, ◌&&◌, ◌||◌, ℕ, nat_lt, not};
+ghost use Rattle.contexts.specs.Contexts.{input_context_bytes, is_isochronous};
 ghost use Rattle.ring_knowledge.specs.Known.{Known};
 ghost use Rattle.ownership_rules.specs.Older.{has_left_out_endpoint};
 ghost use Rattle.traces.specs.Versions.{is_three};
 ghost use Rattle.trace_record.specs.Premises.{FitsMemory};
 ghost use Rattle.context_checks.specs.Contents.{adds_left_out, is_left_out_by, is_left_out_in};
 
-use crate::input::input_at;
 use commands::Command;
-use contexts::InputContext;
+use contexts::ContextSize;
 use guest_memory::WordMemory;
+use input_words::{add_flags, endpoint_streams, endpoint_type, next_flag};
 use traces::Header;
 
 /// Whether a command adds an endpoint that has streams, or one that is isochronous where the trace's version leaves these
@@ -30,38 +31,63 @@ fn is_left_out_by<M: WordMemory>(
     requires { FitsMemory header.now.context_size command.now }
     ensures { result ≡ is_left_out_by isochronous (M.words memory.now) header.now.context_size command.now }
 {
+    let size = header.context_size;
     match *command {
         Command::AddressDevice { input_context, .. } => {
-            is_left_out(isochronous, &input_at(header, memory, input_context), 1)
+            is_left_out(isochronous, memory, size, input_context, 1)
         }
         Command::ConfigureEndpoint {
             deconfigure,
             input_context,
             ..
-        } => !deconfigure && adds_left_out(isochronous, &input_at(header, memory, input_context)),
+        } => !deconfigure && adds_left_out(isochronous, memory, size, input_context),
         _ => false,
     }
 }
 
 /// Whether an endpoint that is added is left out.
-fn adds_left_out<M: WordMemory>(isochronous: bool, input: &InputContext<M>) -> bool
-    ensures { result ≡ adds_left_out isochronous (M.words input.now.memory) input.now.size input.now.address }
+fn adds_left_out<M: WordMemory>(
+    isochronous: bool,
+    memory: &M,
+    size: ContextSize,
+    address: u64,
+) -> bool
+    requires aligned { address % 4 ≡ 0 }
+    requires inside { address + input_context_bytes size ≤ 2 ^ 64 }
+    ensures { result ≡ adds_left_out isochronous (M.words memory.now) size address }
 {
-    for index in 2..32 {
-        if input.adds(index) && is_left_out(isochronous, input, index) {
+    let flags = add_flags(memory, address);
+    let mut index = next_flag(flags, 2);
+    while index < 32 {
+        if is_left_out(isochronous, memory, size, address, index) {
             return true;
         }
+        index = next_flag(flags, index + 1);
     }
     false
 }
 
 /// Whether the endpoint with this index (DCI) has streams, or is isochronous where these are left out.
-#[tactic(auto, unfolding(crate::specs::Contents::is_left_out_in))]
-fn is_left_out<M: WordMemory>(isochronous: bool, input: &InputContext<M>, index: u8) -> bool
-    requires first { 1 ≤ index }
+fn is_left_out<M: WordMemory>(
+    isochronous: bool,
+    memory: &M,
+    size: ContextSize,
+    address: u64,
+    index: u8,
+) -> bool
+    requires aligned { address % 4 ≡ 0 }
+    requires inside { address + input_context_bytes size ≤ 2 ^ 64 }
     requires last { index < 32 }
-    ensures { result ≡ is_left_out_in isochronous (M.words input.now.memory) input.now.size input.now.address index }
+    ensures { result ≡ is_left_out_in isochronous (M.words memory.now) size address index }
 {
-    let endpoint = input.endpoint(index);
-    endpoint.ep_type % 4 == 1 && isochronous || endpoint.streams > 0
+    let ep_type = endpoint_type(memory, size, address, index);
+    let streams = endpoint_streams(memory, size, address, index);
+    is_out(isochronous, ep_type, streams)
+}
+
+/// The same by the endpoint's type and its streams.
+fn is_out(isochronous: bool, ep_type: u8, streams: u8) -> bool
+    ensures { result ≡ (is_isochronous ep_type && isochronous || nat_lt 0 streams) }
+{
+    ep_type % 4 == 1 && isochronous || streams > 0
 }

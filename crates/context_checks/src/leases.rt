@@ -10,11 +10,11 @@ ghost use Rattle.ownership_rules.specs.Areas.{is_in_range_lease};
 ghost use Rattle.event_ring.specs.EventRing.{table_bytes};
 ghost use Rattle.ownership_rules.specs.OpenLeases.{context_ranges, covers, entry_ranges, table_range};
 ghost use Rattle.trace_record.specs.FollowsTrace.{FollowsTrace};
-ghost use Rattle.context_checks.specs.Entries.{touches_entry, touches_event_segment};
+ghost use Rattle.context_checks.specs.Entries.{touches_entry, touches_event_segment, touches_segment};
 
 use crate::areas::{overlap, touches_devices};
 use crate::devices::entry_at;
-use segments::Segment;
+use segments::RingShape;
 use trace_record::TraceRecord;
 use traces::{Header, Register};
 
@@ -36,16 +36,24 @@ fn touches_events(t: &TraceRecord, from: u64, len: u64) -> bool
     ensures { (h : Header) (k : Known) (memory : ℕ → ℕ) → FollowsTrace h k t.now memory → result ≡ touches_event_segment h from len }
 {
     match &t.events {
-        Some(events) => touches_segment(events.shape().segments(), from, len),
+        Some(events) => touches_segment(events.shape(), from, len),
         None => false,
     }
 }
 
-/// Whether these bytes touch one of these segments.
-fn touches_segment(segments: &[Segment], from: u64, len: u64) -> bool
-    ensures { result ≡ list_any (λ s. overlap from len s.base (16 * s.count)) segments.now }
+/// Whether these bytes touch a segment of a ring. No bytes do so where they lie within it.
+fn touches_segment(shape: &RingShape, from: u64, len: u64) -> bool
+    ensures { result ≡ touches_segment shape.now from len }
 {
-    segments.iter().any(|segment| overlap(from, len, segment.base, 16 * u64::from(segment.count)))
+    if len > 0 {
+        return shape.overlaps(from, len);
+    }
+    shape.segments().iter().any(|segment| overlap(
+        from,
+        len,
+        segment.base,
+        16 * u64::from(segment.count),
+    ))
 }
 
 /// Whether these bytes touch the segment table, once ERSTBA is written (xHCI 6.5).

@@ -1,38 +1,38 @@
-use Rattle.std.proofs.Common.{◌≡◌, ◌+◌, ◌∙◌, ap, sym, arith}
+use Rattle.std.proofs.Common.{◌+◌, ◌∙◌, ap, sym, arith}
 use Rattle.std.specs.Prelude.{◌&&◌, not}
-use Rattle.std.specs.List.{cons_option, list_any}
+use Rattle.std.specs.List.{list_any}
 use Rattle.binding_checks.specs.Bindings.{bindings_from, is_to}
 use Rattle.trace_record.specs.RingSets.{has}
 use Rattle.binding_checks.proofs.Lists.{and_true}
-use Rattle.binding_checks.proofs.BindingLists.{bindings_next, bindings_end, binds_no_ring, binds_ring_is, forgotten}
+use Rattle.binding_checks.proofs.BindingLists.{bindings_at, bindings_end, binds_ring_is, forgotten}
 use Rattle.binding_checks.proofs.binding.forget_bound.Goals as goal
-use Rattle.binding_checks.proofs.binding.forget_bound.Goals.{in-Some, in_default}
+
+pub loop-index-init : goal.loop-index-init
+loop-index-init g c = (
+  c.next_bound-index.ensures.set,
+  λ k f fits r.
+      ap (λ xs. has c.args.rings.now r && not (list_any (is_to r) xs))
+      (sym (c.next_bound-index.ensures.rest c.args.header.now k c.args.command.now (c.bound_by-bound.ensures c.args.header.now k f fits))),
+)
 
 pub loop-index-preserved : goal.loop-index-preserved
-loop-index-preserved g c = λ k f fits r.
-    let rest = bindings_from c.args.header.now k c.args.command.now (c.loop-index.index + 1) in
-    let list : cons_option c.binding_at.result rest ≡ bindings_from c.args.header.now k c.args.command.now c.loop-index.index =
-    ap (λ o. cons_option o rest) (c.binding_at.ensures k f fits (c.bound_flags-flags.ensures c.args.header.now k f.words fits)) ∙ sym (bindings_next c.args.header.now k c.args.command.now c.loop-index.index c.loop-index-test.true) in
-    let step : (has c.match-binding_at.rings r && not (list_any (is_to r) rest)) ≡ (has c.loop-index.rings r && not (list_any (is_to r) (cons_option c.binding_at.result rest))) =
-    elim c.match-binding_at.branch [
-      | in-Some w ↦
-          ap (λ x. has x r && not (list_any (is_to r) rest)) w.rings-is ∙ forgotten c.loop-index.rings w.forget.new.rings r w.in-Some.binding rest (w.forget.ensures r)
-          ∙ ap (λ o. has c.loop-index.rings r && not (list_any (is_to r) (cons_option o rest))) (sym w.in-Some.is)
-      | in_default w ↦
-          ap (λ x. has x r && not (list_any (is_to r) rest)) w.rings-is
-          ∙ ap (λ o. has c.loop-index.rings r && not (list_any (is_to r) (cons_option o rest))) (sym w.in_default.is)
-    ] in
-    step ∙ ap (λ xs. has c.loop-index.rings r && not (list_any (is_to r) xs)) list ∙ c.loop-index.invariant k f fits r
+loop-index-preserved g c = (
+  c.next_bound-index-in-loop-index.ensures.set,
+  λ k f fits r.
+      let h = c.args.header.now in
+      let command = c.args.command.now in
+      let bound = c.bound_by-bound.ensures h k f fits in
+      let rest = bindings_from h k command (c.loop-index.index + 1) in
+      ap (λ xs. has c.forget.new.rings r && not (list_any (is_to r) xs)) (sym (c.next_bound-index-in-loop-index.ensures.rest h k command bound))
+      ∙ forgotten c.loop-index.rings c.forget.new.rings r c.binding_in-binding.result rest (c.forget.ensures r)
+      ∙ ap (λ xs. has c.loop-index.rings r && not (list_any (is_to r) xs))
+      (sym (bindings_at h k command c.loop-index.index c.binding_in-binding.result c.loop-index-test.true (c.binding_in-binding.ensures k command f.words bound)))
+      ∙ c.loop-index.invariant.1 k f fits r,
+)
 
 pub returns : goal.returns
 returns g c = λ k f fits r.
     sym (and_true (has c.loop-index.rings r))
     ∙ ap (λ xs. has c.loop-index.rings r && not (list_any (is_to r) xs))
-    (sym (bindings_end c.args.header.now k c.args.command.now c.loop-index.index (omega (arith, c.loop-index.auto.index-end, c.loop-index-test.false))))
-    ∙ c.loop-index.invariant k f fits r ∙ ap (λ b. has c.args.rings.now r && not b) (sym (binds_ring_is c.args.header.now k c.args.command.now r))
-
-pub returns-then-not-adds_endpoints : goal.returns-then-not-adds_endpoints
-returns-then-not-adds_endpoints g c = λ k f fits r.
-    sym (ap (λ b. has c.args.rings.now r && not b)
-    (binds_no_ring c.args.header.now k c.args.command.now r (c.adds_endpoints.ensures c.args.header.now k c.if-not-adds_endpoints.true))
-    ∙ and_true (has c.args.rings.now r))
+    (sym (bindings_end c.args.header.now k c.args.command.now c.loop-index.index (omega (arith, c.loop-index-test.false))))
+    ∙ c.loop-index.invariant.1 k f fits r ∙ ap (λ b. has c.args.rings.now r && not b) (sym (binds_ring_is c.args.header.now k c.args.command.now r))

@@ -1,27 +1,28 @@
-use Rattle.std.proofs.Common.{◌≡◌, ◌+◌, ◌-◌, ◌||◌, ◌∙◌, ap, sym, arith}
+use Rattle.std.proofs.Common.{◌≡◌, ◌||◌, ◌∙◌, Bool, false, true, ap, refl, subst, sym}
 use Rattle.std.specs.List.{list_any, range_with_len}
-use Rattle.binding_checks.specs.Dropped.{leaves}
-use Rattle.trace_record.specs.RingSets.{has}
-use Rattle.binding_checks.proofs.Lists.{or_assoc, or_none, crossed}
-use Rattle.binding_checks.proofs.BindingLists.{range_is}
+use Rattle.commands.specs.declared.command.Command.{Command}
+use Rattle.commands.specs.declared.command.Command.TheVariants.{ConfigureEndpoint}
+use Rattle.trace_record.specs.Premises.{FitsMemory}
+use Rattle.binding_checks.specs.Dropped.{is_left, leaves}
+use Rattle.binding_checks.proofs.LeftRings.{nothing_left}
 use Rattle.binding_checks.proofs.dropped.rings_dropped.Goals as goal
 
-pub loop-index-init : goal.loop-index-init
-loop-index-init g c = λ k f fits r. ap (λ b. b || list_any (λ i. leaves k c.args.command.now i r) (range_with_len 2 30)) (c.new-rings.ensures r)
+pub returns-in_default : goal.returns-in_default
+returns-in_default g c = λ k f fits r. c.new-rings.ensures r ∙ sym (nothing_left k r c.args.command.now c.in_default.not-ConfigureEndpoint)
 
-pub loop-index-preserved : goal.loop-index-preserved
-loop-index-preserved g c = λ k f fits r.
-    let command = c.args.command.now in
-    let i = c.loop-index.index in
-    let rest = list_any (λ j. leaves k command j r) (range_with_len (i + 1) (32 - (i + 1))) in
-    ap (λ b. b || rest) (c.note_dropped.ensures k f fits r)
-    ∙ or_assoc (leaves k command i r) (has c.loop-index.rings r) rest ∙ crossed (leaves k command i r) (has c.loop-index.rings r) rest
-    ∙ ap (λ xs. has c.loop-index.rings r || list_any (λ j. leaves k command j r) xs) (sym (range_is i c.loop-index-test.true))
-    ∙ c.loop-index.invariant k f fits r
+pub returns-then-deconfigure : goal.returns-then-deconfigure
+returns-then-deconfigure g c = λ k f fits r.
+    let is : c.args.command.now ≡ ConfigureEndpoint c.in-ConfigureEndpoint.slot true c.in-ConfigureEndpoint.input_context =
+    c.in-ConfigureEndpoint.is ∙ ap (λ (b : Bool). ConfigureEndpoint c.in-ConfigureEndpoint.slot b c.in-ConfigureEndpoint.input_context) c.if-deconfigure.true in
+    c.new-rings.ensures r ∙ sym (ap (λ d. list_any (λ i. leaves k d i r) (range_with_len 2 30)) is)
 
 pub returns : goal.returns
 returns g c = λ k f fits r.
-    let none : 0 ≡ 32 - c.loop-index.index = omega (arith, c.loop-index.auto.index-end, c.loop-index-test.false) in
-    sym (or_none (has c.loop-index.rings r))
-    ∙ ap (λ n. has c.loop-index.rings r || list_any (λ i. leaves k c.args.command.now i r) (range_with_len c.loop-index.index n)) none
-    ∙ c.loop-index.invariant k f fits r
+    let s = c.in-ConfigureEndpoint.slot in
+    let a = c.in-ConfigureEndpoint.input_context in
+    let is : c.args.command.now ≡ ConfigureEndpoint s false a = c.in-ConfigureEndpoint.is ∙ ap (λ (b : Bool). ConfigureEndpoint s b a) c.if-deconfigure.false in
+    let here : FitsMemory c.args.header.now.context_size (ConfigureEndpoint s false a) = subst (λ (d : Command). FitsMemory c.args.header.now.context_size d) is fits in
+    let lies = here a refl in
+    c.note_dropped.ensures k f.followed r ∙ ap (λ b. b || list_any (λ i. is_left k c.drop_flags.result s i r) (range_with_len 2 30)) (c.new-rings.ensures r)
+    ∙ ap (λ w. list_any (λ i. is_left k w s i r) (range_with_len 2 30)) (c.drop_flags.ensures c.args.header.now.context_size lies.0 lies.1 ∙ sym (f.words a))
+    ∙ ap (λ d. list_any (λ i. leaves k d i r) (range_with_len 2 30)) (sym is)

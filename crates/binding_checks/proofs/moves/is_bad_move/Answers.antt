@@ -1,4 +1,4 @@
-use Rattle.std.proofs.Common.{◌≡◌, ℕ, ◌∙◌, Bool, false, Some, ap, sym, refl}
+use Rattle.std.proofs.Common.{◌≡◌, ℕ, ◌∙◌, Bool, false, ap, sym, refl}
 use Rattle.std.specs.Prelude.{◌&&◌, ◌||◌, not}
 use Rattle.commands.specs.declared.command.Command.{Command}
 use Rattle.commands.specs.declared.command.Command.TheVariants.{AddressDevice, SetTrDequeue}
@@ -18,17 +18,14 @@ others h k (SetTrDequeue s i p cycle) first second = absurd (first s i p cycle r
 others h k (AddressDevice s bsr n) first second = absurd (second s bsr n refl)
 others h k _ first second = refl
 
-as_binding : Dequeue → Binding
+abbrev as_binding : Dequeue → Binding
 as_binding d = record { pointer = d.pointer; cycle = d.cycle }
 
 -- what the context says, by the words of memory
-same_binding : (h : Header) (k : Known) (words : ℕ → ℕ) → ((a : ℕ) → k.memory a ≡ words a) → (n : ℕ) (d : Dequeue) → Some (dequeue_in h.context_size words n 1) ≡ Some d →
-    record { pointer = d.pointer; cycle = d.cycle } ≡ binding_in h k n 1
+same_binding : (h : Header) (k : Known) (words : ℕ → ℕ) → ((a : ℕ) → k.memory a ≡ words a) → (n : ℕ) (d : Dequeue) → dequeue_in h.context_size words n 1 ≡ d →
+    as_binding d ≡ binding_in h k n 1
 unfolding binding_in
-same_binding h k words same n d is =
-    let here : dequeue_in h.context_size words n 1 ≡ d = cc in
-    let P : Dequeue → Binding = λ e. record { pointer = e.pointer; cycle = e.cycle } in
-    ap P (sym here) ∙ (λ i. P (dequeue_in h.context_size (λ a. sym (same a) i) n 1))
+same_binding h k words same n d is = ap as_binding (sym is) ∙ (λ i. as_binding (dequeue_in h.context_size (λ a. sym (same a) i) n 1))
 
 pub returns-then-not-is_at_rest : goal.returns-then-not-is_at_rest
 unfolding is_bad_move
@@ -52,15 +49,15 @@ returns-then-is_off g c = λ k f keeps fits.
     ∙ ap (λ b. not b && is_bad_stay c.args.header.now k (k.ring_of c.in-AddressDevice.slot 1) (binding_in c.args.header.now k c.in-AddressDevice.input_context 1))
     (sym (ap is_off (c.endpoint_state-in-AddressDevice.ensures k f.devices)) ∙ sym c.is_off.ensures ∙ c.if-is_off.true))
 
-pub returns-in-Some : goal.returns-in-Some
+pub returns-else-is_off : goal.returns-else-is_off
 unfolding is_bad_move
-returns-in-Some g c = λ k f keeps fits.
+returns-else-is_off g c = λ k f keeps fits.
     let h = c.args.header.now in
     let words = g.M.WordMemory.words c.args.memory.now in
     let lies = fits c.in-AddressDevice.input_context (ap named_context c.in-AddressDevice.is) in
     c.is_bad_stay.ensures k words f keeps
     ∙ ap (λ b. is_bad_stay h k (k.ring_of c.in-AddressDevice.slot 1) b)
-    (same_binding h k words f.words c.in-AddressDevice.input_context c.in-Some.dequeue (sym (c.dequeue_in.ensures lies.0 lies.1) ∙ c.in-Some.is))
+    (same_binding h k words f.words c.in-AddressDevice.input_context c.dequeue_in-dequeue.result (sym (c.dequeue_in-dequeue.ensures lies.0 lies.1)))
     ∙ sym (ap (λ d. is_bad_move h k d) c.in-AddressDevice.is
     ∙ ap (λ b. not b && is_bad_stay h k (k.ring_of c.in-AddressDevice.slot 1) (binding_in h k c.in-AddressDevice.input_context 1))
     (sym (ap is_off (c.endpoint_state-in-AddressDevice.ensures k f.devices)) ∙ sym c.is_off.ensures ∙ c.if-is_off.false))

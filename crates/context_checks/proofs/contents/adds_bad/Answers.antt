@@ -1,27 +1,37 @@
-use Rattle.std.proofs.Common.{sym, ◌∙◌, arith}
+use Rattle.std.proofs.Common.{◌+◌, ap, sym, ◌∙◌, arith}
 use Rattle.std.proofs.lemmas.Bool.{and_from, and_left, and_right}
+use Rattle.contexts.specs.Contexts.{has_flag}
 use Rattle.context_checks.specs.Contents.{adds_bad}
-use Rattle.context_checks.proofs.RestOfRange.{go_on, found, none_left}
+use Rattle.context_checks.proofs.RestOfRange.{go_on, found, none_left, skip}
 use Rattle.context_checks.proofs.AddedEndpoints.{any_added}
 use Rattle.context_checks.proofs.contents.adds_bad.Goals as goal
-use Rattle.context_checks.proofs.contents.adds_bad.Goals.{else-adds-via-then-adds+else-is_bad_added, else-adds-via-else-adds}
 
 pub loop-index-init : goal.loop-index-init
 unfolding adds_bad
-loop-index-init g c = λ k f. any_added _ _ _
+loop-index-init g c =
+    let flags = c.add_flags-flags.ensures c.args.size c.requires.aligned c.requires.inside in (
+      c.next_flag-index.ensures.set,
+      λ k f. any_added _ _ _
+          ∙ skip _ 2 c.next_flag-index.result 32 c.next_flag-index.ensures.behind
+          (λ s low high below. and_left _ _ (ap (λ w. has_flag w s) (sym flags) ∙ c.next_flag-index.ensures.clear s low high below)),
+    )
 
 pub loop-index-preserved : goal.loop-index-preserved
-loop-index-preserved g c = λ k f.
-    c.loop-index.invariant k f
-    ∙ go_on _ _ 32 (omega arith)
-    (elim c.else-adds.branch [
-      | else-adds-via-then-adds+else-is_bad_added w ↦ and_right _ _ (sym (w.is_bad_added.ensures k f) ∙ w.if-is_bad_added.false)
-      | else-adds-via-else-adds w ↦ and_left _ _ (sym c.adds.ensures ∙ w.if-adds.false)
-    ])
+loop-index-preserved g c =
+    let flags = c.add_flags-flags.ensures c.args.size c.requires.aligned c.requires.inside in (
+      c.next_flag-index-in-loop-index.ensures.set,
+      λ k f. c.loop-index.invariant.1 k f
+          ∙ go_on _ _ 32 c.loop-index-test.true (and_right _ _ (sym (c.is_bad_added.ensures k f) ∙ c.if-is_bad_added.false))
+          ∙ skip _ (c.loop-index.index + 1) c.next_flag-index-in-loop-index.result 32 c.next_flag-index-in-loop-index.ensures.behind
+          (λ s low high below. and_left _ _ (ap (λ w. has_flag w s) (sym flags) ∙ c.next_flag-index-in-loop-index.ensures.clear s low high below)),
+    )
 
 pub returns-then-is_bad_added : goal.returns-then-is_bad_added
-returns-then-is_bad_added g c = λ k f.
-    sym (c.loop-index.invariant k f ∙ found _ _ 32 (omega arith) (and_from _ _ (sym c.adds.ensures ∙ c.if-adds.true) (sym (c.is_bad_added.ensures k f) ∙ c.if-is_bad_added.true)))
+returns-then-is_bad_added g c =
+    let flags = c.add_flags-flags.ensures c.args.size c.requires.aligned c.requires.inside in
+    λ k f. sym (c.loop-index.invariant.1 k f
+    ∙ found _ _ 32 c.loop-index-test.true
+    (and_from _ _ (ap (λ w. has_flag w c.loop-index.index) (sym flags) ∙ c.loop-index.invariant.0 c.loop-index-test.true) (sym (c.is_bad_added.ensures k f) ∙ c.if-is_bad_added.true)))
 
 pub returns : goal.returns
-returns g c = λ k f. sym (c.loop-index.invariant k f ∙ none_left _ _ 32 (omega arith))
+returns g c = λ k f. sym (c.loop-index.invariant.1 k f ∙ none_left _ _ 32 (omega (arith, c.loop-index-test.false)))

@@ -1,6 +1,6 @@
-use Rattle.std.proofs.Common.{◌≡◌}
+use Rattle.std.proofs.Common.{◌≡◌, ◌-◌, ◌<◌, true}
 use Rattle.std.specs.Prelude.{◌&&◌}
-use Rattle.contexts.specs.Contexts.{input_add_flag}
+use Rattle.contexts.specs.Contexts.{has_flag, input_add_flag}
 use Rattle.ring_knowledge.specs.Known.{Known}
 use Rattle.device_record.specs.Devices.{FollowsDevices}
 use Rattle.context_checks.specs.Contents.{adds_bad, is_bad_added_in}
@@ -10,5 +10,9 @@ use Rattle.context_checks.proofs.contents.adds_bad.Given as goal
 -- the answer is that of the endpoints from the index on
 abbrev pub invariant-loop-index : goal.invariant-loop-index
 invariant-loop-index g l =
-    (k : Known) → FollowsDevices k l.devices → adds_bad k.endpoint_state (g.M.WordMemory.words l.input.memory) l.input.size l.slot l.input.address ≡
-    any_left (λ i. input_add_flag (g.M.WordMemory.words l.input.memory) l.input.address i && is_bad_added_in k.endpoint_state (g.M.WordMemory.words l.input.memory) l.input.size l.slot l.input.address i) l.index 32
+    (l.index < 32 → has_flag l.flags l.index ≡ true) ×
+    ((k : Known) → FollowsDevices k l.devices → adds_bad k.endpoint_state (g.M.WordMemory.words l.memory) l.size l.slot l.address ≡
+    any_left (λ i. input_add_flag (g.M.WordMemory.words l.memory) l.address i && is_bad_added_in k.endpoint_state (g.M.WordMemory.words l.memory) l.size l.slot l.address i) l.index 32)
+
+abbrev pub decreases-loop-index : goal.decreases-loop-index
+decreases-loop-index g l = 32 - l.index

@@ -7,19 +7,18 @@ use Rattle.context_checks.proofs.Chains.{goes_on, stops}
 use Rattle.context_checks.proofs.NamedContexts.{configure_names}
 use Rattle.context_checks.proofs.contents.has_bad_content.Goals as goal
 
-pub input_at-requires-clause-inside : goal.input_at-requires-clause-inside
-input_at-requires-clause-inside g c = (c.requires.fits _ (ap named_context c.in-AddressDevice.is)).1
+pub lacks_control-requires-clause-inside : goal.lacks_control-requires-clause-inside
+lacks_control-requires-clause-inside g c = (c.requires.fits _ (ap named_context c.in-AddressDevice.is)).1
 
-pub input_at-requires-then-not-deconfigure-clause-inside : goal.input_at-requires-then-not-deconfigure-clause-inside
-input_at-requires-then-not-deconfigure-clause-inside g c =
+pub adds_bad-requires-clause-inside : goal.adds_bad-requires-clause-inside
+adds_bad-requires-clause-inside g c =
     (c.requires.fits _ (configure_names _ _ _ _ c.in-ConfigureEndpoint.is c.if-not-deconfigure.true)).1
 
 pub returns-then-lacks_control : goal.returns-then-lacks_control
 returns-then-lacks_control g c = λ k f.
     let memory = g.M.WordMemory.words c.args.memory.now in
     let lacks : c.lacks_control.result ≡ lacks_control memory c.args.header.now.context_size c.in-AddressDevice.input_context =
-    c.lacks_control.ensures ∙ ap (λ v. lacks_control (g.M.WordMemory.words v.memory) v.size v.address) c.input_at.ensures
-    in
+    c.lacks_control.ensures in
     stops _ _ (takes_bad_device c.args.header.now k c.in-AddressDevice.slot c.in-AddressDevice.input_context) lacks c.if-lacks_control.true
     ∙ sym (ap (has_bad_content_by c.args.header.now k memory) c.in-AddressDevice.is)
 
@@ -27,8 +26,7 @@ pub returns-else-lacks_control : goal.returns-else-lacks_control
 returns-else-lacks_control g c = λ k f.
     let memory = g.M.WordMemory.words c.args.memory.now in
     let lacks : c.lacks_control.result ≡ lacks_control memory c.args.header.now.context_size c.in-AddressDevice.input_context =
-    c.lacks_control.ensures ∙ ap (λ v. lacks_control (g.M.WordMemory.words v.memory) v.size v.address) c.input_at.ensures
-    in
+    c.lacks_control.ensures in
     goes_on _ _ _ _ lacks c.if-lacks_control.false (c.takes_bad_device.ensures k f) ∙ sym (ap (has_bad_content_by c.args.header.now k memory) c.in-AddressDevice.is)
 
 pub returns-then-not-deconfigure : goal.returns-then-not-deconfigure
@@ -37,7 +35,6 @@ returns-then-not-deconfigure g c = λ k f.
     let slot = c.in-ConfigureEndpoint.slot in
     let bad : Bool = adds_bad k.endpoint_state memory c.args.header.now.context_size slot c.in-ConfigureEndpoint.input_context in
     c.adds_bad.ensures k f.devices
-    ∙ ap (λ v. adds_bad k.endpoint_state (g.M.WordMemory.words v.memory) v.size slot v.address) c.input_at-then-not-deconfigure.ensures
     ∙ sym (ap (has_bad_content_by c.args.header.now k memory) c.in-ConfigureEndpoint.is ∙ ap (λ (d : Bool). if d then false else bad) c.if-not-deconfigure.true)
 
 pub returns-else-not-deconfigure : goal.returns-else-not-deconfigure
