@@ -5,3 +5,4 @@ pub mod Calls
 pub mod Openings
 pub mod CallsJoined
 pub mod RowsBefore
+pub mod Streams

@@ -4,3 +4,4 @@ pub mod Ahead
 pub mod Answers
 pub mod ReaderState
 pub mod WholeTexts
+pub mod Streams

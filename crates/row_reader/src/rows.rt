@@ -1,4 +1,4 @@
-ghost use Rattle.std.specs.Prelude.{◌≡◌, ◌+◌, ◌≤◌, None, Ok, false, true, IfOk, IfSome};
+ghost use Rattle.std.specs.Prelude.{◌≡◌, ◌+◌, ◌≤◌, ℕ, List, Option, None, Some, Ok, false, true, IfNone, IfOk, IfSome};
 ghost use Rattle.traces.specs.Limits.{most_lines};
 ghost use Rattle.traces.specs.Header.{IsHeader};
 ghost use Rattle.trace_reader.specs.Reading.{State};
@@ -63,6 +63,49 @@ impl RowReader {
 
 /// The row of the text's first line and that line's number; so many were read before it. None where no byte is left.
 fn row_ahead<S: Source>(
+    alloc: Global,
+    lines: u32,
+    ahead: &mut Ahead,
+    source: &mut S,
+) -> Result<Option<(u32, Row)>, StreamFault>
+    requires behind { 2 ≤ lines }
+    requires within { lines ≤ most_lines }
+    ensures answer { (st : State) → st.lines ≡ lines → st.begun ≡ true →
+        IsCall (record { read = st; ended = false }) (behind_answer st result) (S.held source.old) (S.held source.new) (ahead_of ahead.old) (ahead_of ahead.new) result }
+    ensures numbered { IfOk result (λ found. IfSome found (λ r. (r.0 ≡ lines + 1) × (r.0 ≤ most_lines))) }
+    ensures failures { S.failed source.new ≡ told_failures (S.failed source.old) result }
+{
+    match row_standing(alloc, lines, ahead) {
+        Some(found) => Ok(Some(found)),
+        None => row_behind_reads(alloc, lines, ahead, source),
+    }
+}
+
+/// The row of the first line and that line's number, where this line stands ahead as a whole and says a row: so it is of most.
+fn row_standing(alloc: Global, lines: u32, ahead: &mut Ahead) -> Option<(u32, Row)>
+    requires behind { 2 ≤ lines }
+    requires within { lines ≤ most_lines }
+    ensures row { IfSome result (λ found. (st : State) (held : Option (List ℕ)) → st.lines ≡ lines → st.begun ≡ true →
+        IsCall (record { read = st; ended = false }) (behind_answer st (Ok (Some found))) held held (ahead_of ahead.old) (ahead_of ahead.new) (Ok (Some found))) }
+    ensures numbered { IfSome result (λ found. (found.0 ≡ lines + 1) × (found.0 ≤ most_lines)) }
+    ensures none { IfNone result (ahead.new ≡ ahead.old) }
+{
+    let bytes = ahead.as_slice();
+    if bytes.is_empty() {
+        return None;
+    }
+    let (line, rest) = first_line(bytes);
+    let left = rest.len();
+    let Ok(row) = row_in(alloc, lines, &line) else {
+        return None;
+    };
+    ahead.keep_last(left);
+    let number = lines + 1;
+    Some((number, row))
+}
+
+/// The same where pieces may have to be read first.
+fn row_behind_reads<S: Source>(
     alloc: Global,
     lines: u32,
     ahead: &mut Ahead,

@@ -1,0 +1,17 @@
+use Rattle.std.proofs.Common.{◌+◌, ◌∷◌, ◌++◌, [], refl, sym, ap}
+use Rattle.row_reader.specs.Ahead.{ahead_of}
+use Rattle.row_reader.proofs.Calls.{StandsAhead, cut_of, nothing_came, row_given}
+use Rattle.row_reader.proofs.FirstLines.{ended_left}
+use Rattle.row_reader.proofs.rows.row_standing.Goals as goal
+
+pub returns-clause-row : goal.returns-clause-row
+returns-clause-row c st held at begun =
+    let ahead = ahead_of c.args.ahead.now in
+    let text = c.as_slice-bytes.result.now in
+    let line = c.first_line-line.result.0 in
+    let rest = c.first_line-line.result.1.now in
+    let first = c.first_line-line.ensures in
+    let stands : StandsAhead held held ahead ahead text line rest =
+    record { comes = nothing_came held ahead; is = c.as_slice-bytes.ensures; lines = first.lines; whole = first.whole; one = first.one } in
+    row_given st held held ahead ahead text (ahead_of c.keep_last.new.self) line rest (c.args.lines + 1) c.in-Ok.row stands (c.in-Ok.ensures.answer st at begun)
+    (λ ended. c.keep_last.ensures (line.content ++ 10 ∷ []) rest (ended_left ahead rest line (cut_of held held ahead ahead text line rest stands) ended) refl) (ap (λ n. n + 1) (sym at))
