@@ -29,6 +29,8 @@ mod sinks;
 #[cfg(test)]
 mod sources;
 #[cfg(test)]
+mod streams;
+#[cfg(test)]
 mod telling;
 #[cfg(test)]
 mod texts;

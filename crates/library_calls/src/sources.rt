@@ -5,7 +5,7 @@ use trace_reader::{ReadFault, read_trace};
 
 /// Gives so many bytes a read, and fails at one of the reads, counted from 0.
 #[derive(Drop)]
-struct Device<'a> {
+pub struct Device<'a> {
     rest: &'a [u8],
     most: usize,
     fails_at: u64,
@@ -28,7 +28,12 @@ impl<'a> Read for Device<'a> {
     }
 }
 
-fn device_of(text: &[u8], most: usize, fails_at: u64, error: io::ErrorKind) -> Counted<Device<'_>> {
+pub fn device_of(
+    text: &[u8],
+    most: usize,
+    fails_at: u64,
+    error: io::ErrorKind,
+) -> Counted<Device<'_>> {
     Counted::new(Device {
         rest: text,
         most,

@@ -1,3 +1,4 @@
 pub mod Walks
 pub mod Harmless
 pub mod Checking
+pub mod Streams

@@ -1,3 +1,4 @@
 pub mod Verdicts
 pub mod Tracking
 pub mod Walks
+pub mod Streams

@@ -1,0 +1,8 @@
+use Rattle.std.proofs.Common.{◌∙◌, [], ap, length}
+use Rattle.std.proofs.lemmas.List.{length-map}
+use Rattle.lease_book.specs.Lents.{lease_of, lents}
+use Rattle.lease_book.proofs.FirstBook.{first_list}
+use Rattle.ownership_checker.proofs.lease_count.LeaseCount.new.Goals as goal
+
+pub returns : goal.returns
+returns c = λ first. c.len.ensures ∙ c.in_ok-opening.opening.ok.0 ∙ ap length (c.in_ok-opening.ensures ∙ first_list c.args.header.now first) ∙ length-map (lents c.args.header.now first []) lease_of

@@ -1,0 +1,7 @@
+use Rattle.std.proofs.Common.{◌∙◌, ◌+◌, ap, sym}
+use Rattle.row_pass.proofs.Rows.{on_more}
+use Rattle.ownership_checker.proofs.Streams.{one_begun}
+use Rattle.ownership_checker.proofs.lease_count.LeaseCountLeaseLog.begin_range.Goals as goal
+
+pub returns : goal.returns
+returns c = on_more c.add_one.result (λ more list h ts purpose held. more ∙ ap (λ n. n + 1) held ∙ sym (one_begun ts c.args._row _)) c.add_one.ensures

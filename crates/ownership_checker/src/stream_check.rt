@@ -1,0 +1,62 @@
+//! The check of a trace whose rows are read one by one.
+ghost use Rattle.std.specs.Prelude.{◌≡◌, ℕ, List, Some, length, IfErr, IfOk};
+ghost use Rattle.ring_knowledge.specs.declared.lease.Lease.{Lease};
+ghost use Rattle.ring_knowledge.specs.Known.{nothing};
+ghost use Rattle.ownership_rules.specs.Rules.{verdict_from};
+ghost use Rattle.row_reader.specs.Streams.{IsBadLine, OfTrace};
+ghost use Rattle.ownership_checker.specs.Streams.{IfBadLineIn, IfRefusedIn, IsSound, told_in_check};
+
+use crate::certificate::Certificate;
+use crate::fault::StreamCheckFault;
+use crate::lease_count::LeaseCount;
+use guest_memory::WordMemory;
+use lease_book::{LeaseBook, LeaseLog};
+use row_pass::{Passed, pass_rows};
+use row_reader::{RowReader, Source};
+use std::alloc::Global;
+
+/// Checks a trace as it is read, in one pass that keeps no row: its leases, or the first row that breaks a rule and the least of the rules
+/// that it breaks. Behind that row it reads on: where a later line is bad, the first such line is answered in place of the refusal. A trace
+/// that is accepted is harmless. A failure of the device is told, and nothing else is told as one. The memory is all zero.
+pub fn check_stream<S: Source, M: WordMemory + Drop>(
+    alloc: Global,
+    source: &mut S,
+    memory: M,
+) -> Result<Certificate, StreamCheckFault>
+    requires zero { (a : ℕ) → M.words memory a ≡ 0 }
+    ensures accepted { IfOk result (λ certificate. OfTrace (S.held source.old) (S.held source.new) (λ trace. IsSound trace certificate.leases.items)) }
+    ensures refused { IfErr result (λ e. IfRefusedIn e (λ row c. OfTrace (S.held source.old) (S.held source.new) (λ trace.
+        verdict_from trace.header nothing trace.first trace.rows ≡ Some (row, c)))) }
+    ensures line { IfErr result (λ e. IfBadLineIn e (IsBadLine (S.held source.old) (S.held source.new))) }
+    ensures failures { S.failed source.new ≡ told_in_check (S.failed source.old) result }
+{
+    let reader = RowReader::open(alloc, source)?;
+    let book = LeaseBook::new(alloc, reader.header())?;
+    match pass_rows(alloc, reader, source, book, memory)? {
+        Passed::Whole(book) => Ok(Certificate {
+            leases: book.into_leases(),
+        }),
+        Passed::Refused { row, refusal } => Err(StreamCheckFault::Refused { row, refusal }),
+    }
+}
+
+/// The same check, but nothing is kept of leases that are over: how many leases the trace has.
+pub fn count_stream<S: Source, M: WordMemory + Drop>(
+    alloc: Global,
+    source: &mut S,
+    memory: M,
+) -> Result<usize, StreamCheckFault>
+    requires zero { (a : ℕ) → M.words memory a ≡ 0 }
+    ensures accepted { IfOk result (λ count. OfTrace (S.held source.old) (S.held source.new) (λ trace. (leases : List Lease) × IsSound trace leases × (count ≡ length leases))) }
+    ensures refused { IfErr result (λ e. IfRefusedIn e (λ row c. OfTrace (S.held source.old) (S.held source.new) (λ trace.
+        verdict_from trace.header nothing trace.first trace.rows ≡ Some (row, c)))) }
+    ensures line { IfErr result (λ e. IfBadLineIn e (IsBadLine (S.held source.old) (S.held source.new))) }
+    ensures failures { S.failed source.new ≡ told_in_check (S.failed source.old) result }
+{
+    let reader = RowReader::open(alloc, source)?;
+    let log = LeaseCount::new(alloc, reader.header())?;
+    match pass_rows(alloc, reader, source, log, memory)? {
+        Passed::Whole(log) => Ok(log.count()),
+        Passed::Refused { row, refusal } => Err(StreamCheckFault::Refused { row, refusal }),
+    }
+}

@@ -1,0 +1,3 @@
+pub mod Verdicts
+pub mod Rows
+pub mod RowsRead

@@ -1,0 +1,11 @@
+use Rattle.std.proofs.Common.{◌≡◌, ◌-◌}
+use Rattle.traces.specs.Limits.{most_lines}
+use Rattle.row_pass.proofs.RowsRead.{IsReadOn}
+use Rattle.row_pass.proofs.reading.read_on.Given as goal
+
+abbrev pub invariant-loop : goal.invariant-loop
+invariant-loop g l = IsReadOn l.fn.reader (g.S.Source.held l.fn.source) (g.S.Source.held l.source) l.reader × (g.S.Source.failed l.source ≡ g.S.Source.failed l.fn.source)
+
+-- the lines that a trace may still have
+abbrev pub decreases-loop : goal.decreases-loop
+decreases-loop g l = most_lines - l.reader.lines

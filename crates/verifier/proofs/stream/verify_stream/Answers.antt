@@ -1,0 +1,27 @@
+use Rattle.std.proofs.Common.{subst}
+use Rattle.std.proofs.lemmas.Result.{err_from_is_err_and}
+use Rattle.lease_book.specs.Lents.{lents}
+use Rattle.certificate_log.specs.Logs.{FollowsCertificate}
+use Rattle.row_reader.proofs.Streams.{of_trace}
+use Rattle.verifier.proofs.Streams.{is_refused, is_whole, opened_bad, unverified, verified}
+use Rattle.verifier.proofs.stream.verify_stream.Goals as goal
+
+pub returns-in_err-reader-clause-line : goal.returns-in_err-reader-clause-line
+returns-in_err-reader-clause-line g c =
+    let p = err_from_is_err_and c.from_residual.result c.from_residual.ensures.1 in
+    rw (p.1, p.2) (opened_bad (g.S.Source.held c.args.source.now) (g.S.Source.held c.open.new.source) c.in_err-reader.field-0.0 c.in_err-reader.ensures.opened)
+
+pub returns-in-Whole-clause-verdict : goal.returns-in-Whole-clause-verdict
+returns-in-Whole-clause-verdict g c =
+    let held = g.S.Source.held c.args.source.now in
+    let leases = c.args.leases.now in
+    let begun = subst (λ h. (first : _) → FollowsCertificate leases h (lents h first _) c.in_ok-log.log) c.header.ensures.said c.in_ok-log.ensures in
+    of_trace held (g.S.Source.held c.pass_rows.new.source) _ _ (λ trace. verified trace leases c.in-Whole.log c.is_whole.result c.is_whole.ensures.yes c.is_whole.ensures.no)
+    (is_whole _ c.in_ok-log-2.field-0 c.in-Whole.log c.in-Whole.is c.in_ok-log-2.ensures.whole held leases c.in_ok-reader.ensures.opened begun)
+
+pub returns-in-Refused-clause-verdict : goal.returns-in-Refused-clause-verdict
+returns-in-Refused-clause-verdict g c =
+    let held = g.S.Source.held c.args.source.now in
+    let leases = c.args.leases.now in
+    of_trace held (g.S.Source.held c.pass_rows.new.source) _ _ (λ trace. unverified trace leases c.in-Refused.row c.in-Refused.refusal)
+    (is_refused _ c.in_ok-log-2.field-0 c.in-Refused.row c.in-Refused.refusal c.in-Refused.is c.in_ok-log-2.ensures.refused held c.in_ok-reader.ensures.opened)
