@@ -1,6 +1,5 @@
 /* Laid under the program (LD_PRELOAD), refuses one call: REFUSE=CALL:N, where CALL is malloc, open, read, write or sync and N counts from 1.
-   CALL may also be shortread or shortwrite: then each call moves one byte at most. COUNTS=FILE writes how many calls of each kind
-   there were. */
+   CALL may also be shortread or shortwrite: then each call moves N bytes at most. COUNTS=FILE writes how many calls of each kind there were. */
 #define _GNU_SOURCE
 #include <errno.h>
 #include <fcntl.h>
@@ -22,9 +21,12 @@ static int is_refused(const char *call, long number) {
   return refuse && !strncmp(refuse, call, length) && refuse[length] == ':' && atol(refuse + length + 1) == number;
 }
 
-static int is_short(const char *call) {
+static size_t shortened(const char *call, size_t size) {
   const char *refuse = getenv("REFUSE");
-  return refuse && !strcmp(refuse, call);
+  size_t length = strlen(call);
+  if (!refuse || strncmp(refuse, call, length) || refuse[length] != ':') return size;
+  size_t most = atol(refuse + length + 1);
+  return most < size ? most : size;
 }
 
 void *malloc(size_t size) {
@@ -48,12 +50,12 @@ int open(const char *path, int flags, ...) {
 
 ssize_t read(int fd, void *to, size_t size) {
   if (is_refused("read", ++reads)) { errno = EIO; return -1; }
-  return syscall(SYS_read, fd, to, is_short("shortread") && size > 1 ? 1 : size);
+  return syscall(SYS_read, fd, to, shortened("shortread", size));
 }
 
 ssize_t write(int fd, const void *from, size_t size) {
   if (is_refused("write", ++writes)) { errno = ENOSPC; return -1; }
-  return syscall(SYS_write, fd, from, is_short("shortwrite") && size > 1 ? 1 : size);
+  return syscall(SYS_write, fd, from, shortened("shortwrite", size));
 }
 
 ssize_t __write(int fd, const void *from, size_t size) { return write(fd, from, size); }

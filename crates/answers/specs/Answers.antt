@@ -8,6 +8,8 @@ use Rattle.trace_reader.specs.Faults.{fault_number, fault_name}
 use Rattle.trace_reader.specs.Values.{block_of}
 use Rattle.trace_reader.specs.declared.fault.ReadFault.{ReadFault}
 use Rattle.trace_reader.specs.declared.fault.ReadFault.TheVariants.{Line, Memory as OutOfMemory}
+use Rattle.row_reader.specs.declared.fault.StreamFault.{StreamFault}
+use Rattle.row_reader.specs.declared.fault.StreamFault.TheVariants.{Line as BadStreamLine, Device as NoStreamDevice, Memory as NoStreamMemory}
 use Rattle.certificate.specs.Spelling.{cert_fault_number, cert_fault_name}
 use Rattle.certificate.specs.declared.fault.CertFault.{CertFault}
 use Rattle.certificate.specs.declared.fault.CertFault.TheVariants.{Memory as NoLeaseMemory}
@@ -112,6 +114,12 @@ err_text answer = if goes_out (status_of answer) then [] else text_of answer
 abbrev pub answer_of_fault : ReadFault → Answer
 answer_of_fault (Line line fault) = BadLine line fault
 answer_of_fault OutOfMemory = Memory
+
+-- what is answered where no row is read any more
+abbrev pub answer_of_stream_fault : StreamFault → Answer
+answer_of_stream_fault (BadStreamLine line fault) = BadLine line fault
+answer_of_stream_fault NoStreamDevice = Device
+answer_of_stream_fault NoStreamMemory = Memory
 
 -- what is answered where a plan isn't written
 abbrev pub answer_of_plan_fault : PlanFault → Answer

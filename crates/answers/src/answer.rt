@@ -8,6 +8,7 @@ use certificate::CertFault;
 use controller_model::Seen;
 use ownership_rules::Refusal;
 use plan_writer::{PlanFault, PlanRefusal};
+use row_reader::StreamFault;
 use std::alloc::{AllocError, Global};
 use std::io;
 use trace_reader::{LineFault, ReadFault};
@@ -303,6 +304,20 @@ impl From<ReadFault> for Answer {
         match fault {
             ReadFault::Line { line, code } => Answer::BadLine { line, fault: code },
             ReadFault::Memory => Answer::Memory,
+        }
+    }
+}
+
+impl From<StreamFault> for Answer {
+    ghost use Rattle.answers.specs.Answers.{answer_of_stream_fault};
+
+    ghost from_gives = { λ fault answer. answer ≡ answer_of_stream_fault fault };
+
+    fn from(fault: StreamFault) -> Answer {
+        match fault {
+            StreamFault::Line { line, fault } => Answer::BadLine { line, fault },
+            StreamFault::Device => Answer::Device,
+            StreamFault::Memory => Answer::Memory,
         }
     }
 }

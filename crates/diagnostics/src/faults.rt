@@ -346,12 +346,11 @@ fn is_header_line(text: &[u8], line: u32) -> bool {
 /// A line past a limit.
 fn limit_fault(alloc: Global, bytes: &[u8], line: u32, kind: TextKind) -> Result<Why, AllocError> {
     if bytes.len() > 16384 {
-        let count = bytes.len();
-        return Ok(Why {
-            head: format!(in alloc; "the line has {count} bytes, and may have 16384")?,
-            earlier: None,
-            help: "no line that says something is so long: a ring has at most 64 segments, a TD 256 TRBs",
-        });
+        return Why::plain(
+            alloc,
+            "the line has more than 16384 bytes",
+            "no line that says something is so long: a ring has at most 64 segments, a TD 256 TRBs",
+        );
     }
     if kind == TextKind::Schedule {
         return Why::plain(

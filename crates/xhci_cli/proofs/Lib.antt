@@ -2,3 +2,4 @@ mod VersionNotes
 pub mod Certified
 pub mod HeldAnswers
 pub mod Replayed
+pub mod Streamed

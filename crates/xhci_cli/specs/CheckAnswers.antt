@@ -4,6 +4,9 @@ use Rattle.traces.specs.declared.trace.Trace.{Trace}
 use Rattle.ring_knowledge.specs.declared.lease.Lease.{Lease}
 use Rattle.ownership_checker.specs.Verdicts.{IsAccepted, IsHarmless}
 use Rattle.ownership_checker.specs.Walks.{WalksRead}
+use Rattle.ownership_checker.specs.declared.fault.StreamCheckFault.{StreamCheckFault}
+use Rattle.ownership_checker.specs.declared.fault.StreamCheckFault.TheVariants.{Refused as RefusedRow, Unread}
+use Rattle.answers.specs.Answers.{answer_of_stream_fault}
 use Rattle.answers.specs.Inputs.{IsFirstBad, IsTextOf}
 use Rattle.answers.specs.Keeping.{IsKept, IsKeptInPart}
 use Rattle.answers.specs.declared.answer.Answer.{Answer}
@@ -42,6 +45,11 @@ IsCheckAnswer shows contents before after known (BadLine line fault) = IsFirstBa
 IsCheckAnswer shows contents before after known Memory = IsHindered contents before after known
 IsCheckAnswer shows contents before after known Device = IsHindered contents before after known
 IsCheckAnswer shows contents before after known _ = ⊥
+
+-- what is answered where a trace isn't accepted, or none is read
+abbrev pub answer_of_check_fault : StreamCheckFault → Answer
+answer_of_check_fault (RefusedRow row refusal) = Refused row refusal
+answer_of_check_fault (Unread fault) = answer_of_stream_fault fault
 
 -- an answer to a trace is right where no certificate is asked for, and no run
 abbrev pub IsVerdictAlone : Trace → Answer → Type 0

@@ -1,11 +1,11 @@
 -- What is right to answer to the bytes of a certificate and the text of a trace
-use Rattle.std.specs.Prelude.{◌≡◌, ◌≢◌, ◌⊎◌, ℕ, Bool, true, false, List, Option, Some, None, Ok, Err}
+use Rattle.std.specs.Prelude.{◌≡◌, ◌≢◌, ◌⊎◌, ℕ, List, Option, Some, None, Ok, Err}
 use Rattle.traces.specs.declared.trace.Trace.{Trace}
 use Rattle.ring_knowledge.specs.declared.lease.Lease.{Lease}
 use Rattle.certificate.specs.Spelling.{certificate_of}
 use Rattle.certificate.specs.declared.fault.CertFault.{CertFault}
 use Rattle.certificate.specs.declared.fault.CertFault.TheVariants.{Memory as NoLeaseMemory}
-use Rattle.row_checks.specs.Accepted.{IsAccepted, IsHarmless}
+pub use Rattle.verifier.specs.Streams.{IsVerified}
 use Rattle.answers.specs.Inputs.{IsTraceAnswer}
 use Rattle.answers.specs.declared.answer.Answer.{Answer}
 use Rattle.answers.specs.declared.answer.Answer.TheVariants.{Verified, BadCertificate, Memory, Device}
@@ -19,12 +19,6 @@ IsCertificateOf (Some bytes) leases = certificate_of bytes ≡ Ok leases
 abbrev pub IsLeastFault : Option (List ℕ) → CertFault → Type 0
 IsLeastFault None fault = Unit {0}
 IsLeastFault (Some bytes) fault = certificate_of bytes ≡ Err fault
-
--- yes: no row breaks a rule, these are the trace's leases, and no run of the controller's model beside the rows does harm;
--- no: some row breaks a rule, or these aren't its leases
-abbrev pub IsVerified : Trace → List Lease → Bool → Type 0
-IsVerified trace leases true = IsAccepted trace.header trace.rows trace.first leases × IsHarmless trace.header trace.rows
-IsVerified trace leases false = ¬ IsAccepted trace.header trace.rows trace.first leases
 
 -- what is right to answer where no certificate is read: the least fault of its bytes, or that memory or the device failed
 abbrev pub IsUncertified : Option (List ℕ) → Answer → Type 0

@@ -1,30 +1,29 @@
 //! Checks a trace, and writes the answer.
-ghost use Rattle.std.specs.Prelude.{Some, ◌≡◌, false, true, is_some, IfErr, IfOk, IsErr};
+ghost use Rattle.std.specs.Prelude.{◌≡◌, false, true, is_some, IfErr, IfOk, IsErr, string_bytes};
 ghost use Rattle.answers.specs.Answers.{goes_out};
 ghost use Rattle.answers.specs.Inputs.{opened};
-ghost use Rattle.xhci_cli.specs.CheckAnswers.{IsCheckAnswer, IsCutShort, IsHindered, IsVerdict};
-ghost use Rattle.answers.specs.Telling.{IsTold};
-ghost use Rattle.ring_knowledge.specs.Known.{nothing};
-ghost use Rattle.ownership_rules.specs.declared.refusal.Refusal.{Refusal as RefusalValue};
-ghost use Rattle.ownership_rules.specs.Rules.{verdict_from};
-ghost use Rattle.xhci_cli.specs.HarmAnswers.{IsHarmFound, IsRefusalTold};
+ghost use Rattle.answers.specs.Telling.{IsNote, IsTold};
+ghost use Rattle.xhci_cli.specs.CheckAnswers.{IsCheckAnswer, IsHindered};
 
-use crate::reading::bytes_of;
-use crate::version_note::note_on_check;
-use answers::{Answer, Asked, FoundHarm, Status, keep, tell, tell_failure};
-use ownership_checker::{Certificate, CheckFault, check};
-use ownership_rules::Refusal;
-use scheduler::{Search, harmful_run};
-use std::alloc::{AllocError, Global};
-use std::io::{self, Read, Write};
-use trace_reader::{print_schedule, read_trace};
-use traces::Trace;
+use crate::harm_run::judged_with_harm;
+use crate::judged::{Judged, unkept};
+use crate::read_note::note_as_read;
+use crate::recorded::Recorded;
+use crate::stream_answers::{counted_answer, unaccepted};
+use answers::{Answer, Asked, Status, keep, tell, tell_failure};
+use guest_memory::PageMemory;
+use ownership_checker::check_stream;
+use row_reader::Source;
+use scheduler::Search;
+use std::alloc::Global;
+use std::io::{self, Read, Seek, Write};
 
 /// Checks the trace that `input` holds. A verdict goes to `out`, and what hinders one to `err`, and there goes what is explained.
 /// Where the trace is accepted its certificate is written before that is told; where it can't be written, this is told in its place.
 /// Of every other trace nothing is written there, nor where the input couldn't be opened. Where `shows` says how far to look for
-/// one, a schedule that does harm stands behind a refusal, or that none was found.
-pub fn run_check<R: Read + Drop, C: Write, O: Write, E: Write>(
+/// one, a schedule that does harm stands behind a refusal, or that none was found; else the rows are judged as they are read, and
+/// aren't kept.
+pub fn run_check<R: Read + Seek + Drop, C: Write, O: Write, E: Write>(
     alloc: Global,
     asked: &Asked,
     shows: Option<Search>,
@@ -41,111 +40,72 @@ pub fn run_check<R: Read + Drop, C: Write, O: Write, E: Write>(
     ensures unanswered { IsErr input → goes_out result ≡ false }
     ensures uncertified { IsErr input → certificate.new ≡ certificate.old }
 {
-    let text = match bytes_of(alloc, input) {
-        Ok(text) => text,
-        Err(error) => return tell_failure(alloc, asked, error, out, err),
-    };
-    match check_answer(alloc, shows, &text, certificate) {
-        Ok(answer) => {
-            let note = note_on_check(alloc, asked, &text, &answer);
+    match input {
+        Ok(input) => {
+            let Judged { answer, note } = judged(alloc, asked, shows, input, certificate);
             tell(alloc, asked.explains, answer, note, out, err)
         }
-        Err(error) => {
-            let kept = Asked {
-                input: "the certificate",
-                explains: asked.explains,
-            };
-            tell_failure(alloc, &kept, error, out, err)
-        }
+        Err(error) => tell_failure(alloc, asked, error, out, err),
     }
 }
 
-/// The answer to the text of a trace, with its certificate written; or why this can't be written.
-fn check_answer<C: Write>(
+/// Judges the trace that an input holds.
+fn judged<R: Read + Seek + Drop, C: Write>(
     alloc: Global,
+    asked: &Asked,
     shows: Option<Search>,
-    text: &[u8],
+    input: R,
     certificate: &mut Option<C>,
-) -> io::Result<Answer>
-    ensures answered { IfOk result (λ answer. IsCheckAnswer (is_some shows) C.contents certificate.old certificate.new (Some text.now) answer) }
-    ensures hindered { IfErr result (λ _. IsHindered C.contents certificate.old certificate.new (Some text.now)) }
-{
-    match read_trace(alloc, text) {
-        Ok(trace) => verdict(alloc, shows, &trace, certificate),
-        Err(fault) => Ok(Answer::from(fault)),
-    }
-}
-
-/// The answer to a trace, with its certificate written; or why this can't be written.
-fn verdict<C: Write>(
-    alloc: Global,
-    shows: Option<Search>,
-    trace: &Trace,
-    certificate: &mut Option<C>,
-) -> io::Result<Answer>
-    ensures answered { IfOk result (λ answer. IsVerdict (is_some shows) C.contents certificate.old certificate.new answer trace.now) }
-    ensures cut { IfErr result (λ _. IsCutShort C.contents certificate.old certificate.new trace.now) }
-{
-    match check(alloc, trace) {
-        Ok(Certificate { leases }) => {
-            keep(alloc, &leases, certificate)?;
-            Ok(Answer::Accepted {
-                leases: leases.len() as u64,
-            })
-        }
-        Err(CheckFault::Refused { row, refusal }) => {
-            Ok(refused_answer(alloc, shows, trace, row, refusal))
-        }
-        Err(CheckFault::Memory) => Ok(Answer::Memory),
-    }
-}
-
-/// The answer to a trace with a row that breaks a rule.
-fn refused_answer(
-    alloc: Global,
-    shows: Option<Search>,
-    trace: &Trace,
-    row: u32,
-    refusal: Refusal,
-) -> Answer
-    requires refused { verdict_from trace.now.header nothing trace.now.first trace.now.rows ≡ Some (row, refusal) }
-    ensures { IsRefusalTold (is_some shows) trace.now result }
+) -> Judged
+    ensures right { IsCheckAnswer (is_some shows) C.contents certificate.old certificate.new (R.remaining input) result.answer }
+    ensures noted { IfOk result.note (λ note. IsNote asked.now.explains (string_bytes note)) }
 {
     match shows {
-        Some(search) => shown_answer(alloc, search, trace, row, refusal),
-        None => Answer::Refused { row, refusal },
+        Some(search) => judged_with_harm(alloc, asked, search, input, certificate),
+        None => judged_as_read(alloc, asked, input, certificate),
     }
 }
 
-/// The answer to a trace with a row that breaks a rule, with a run that does harm, if one is found.
-fn shown_answer(alloc: Global, search: Search, trace: &Trace, row: u32, refusal: Refusal) -> Answer
-    requires refused { verdict_from trace.now.header nothing trace.now.first trace.now.rows ≡ Some (row, refusal) }
-    ensures { IsRefusalTold true trace.now result }
-{
-    match found_harm(alloc, search, trace, row) {
-        Ok(harm) => Answer::HarmShown { row, refusal, harm },
-        Err(error) => Answer::from(error),
-    }
-}
-
-/// The schedule of a run that does harm, as it is printed, if one is found.
-fn found_harm(
+/// Judges the trace that an input holds, as it is read.
+fn judged_as_read<R: Read + Seek + Drop, C: Write>(
     alloc: Global,
-    search: Search,
-    trace: &Trace,
-    row: u32,
-) -> Result<Option<FoundHarm>, AllocError>
-    requires refused { (c : RefusalValue) × (verdict_from trace.now.header nothing trace.now.first trace.now.rows ≡ Some (row, c)) }
-    ensures { IfOk result (λ found. IsHarmFound trace.now row found) }
+    asked: &Asked,
+    input: R,
+    certificate: &mut Option<C>,
+) -> Judged
+    ensures right { IsCheckAnswer false C.contents certificate.old certificate.new (R.remaining input) result.answer }
+    ensures noted { IfOk result.note (λ note. IsNote asked.now.explains (string_bytes note)) }
 {
-    match harmful_run(alloc, trace, row, search)? {
-        Some(run) => {
-            let schedule = print_schedule(alloc, &run.schedule)?;
-            Ok(Some(FoundHarm {
-                schedule,
-                harm: run.harm,
-            }))
+    let mut source = Recorded::new(alloc, input, asked.explains);
+    match answer_as_read(alloc, &mut source, certificate) {
+        Ok(answer) => {
+            let note = note_as_read(alloc, asked, &[], source, &answer);
+            Judged { answer, note }
         }
-        None => Ok(None),
+        Err(error) => unkept(alloc, asked, error),
+    }
+}
+
+/// The answer to the trace that a device gives, with its certificate written; or why this can't be written. Where none is asked for
+/// the leases are only counted.
+fn answer_as_read<S: Source, C: Write>(
+    alloc: Global,
+    source: &mut S,
+    certificate: &mut Option<C>,
+) -> io::Result<Answer>
+    ensures answered { IfOk result (λ answer. IsCheckAnswer false C.contents certificate.old certificate.new (S.held source.old) answer) }
+    ensures hindered { IfErr result (λ _. IsHindered C.contents certificate.old certificate.new (S.held source.old)) }
+{
+    if certificate.is_none() {
+        return Ok(counted_answer(alloc, source));
+    }
+    match check_stream(alloc, source, PageMemory::new(alloc)) {
+        Ok(found) => {
+            keep(alloc, &found.leases, certificate)?;
+            Ok(Answer::Accepted {
+                leases: found.leases.len() as u64,
+            })
+        }
+        Err(fault) => Ok(unaccepted(fault)),
     }
 }

@@ -1,6 +1,6 @@
 //! What a command reads.
 use std::fs::File;
-use std::io::{self, Read, Stdin};
+use std::io::{self, ErrorKind, Read, Seek, SeekFrom, Stdin};
 
 /// An open input.
 #[derive(Drop)]
@@ -24,6 +24,15 @@ impl Read for Input {
         match self {
             Input::Standard(stdin) => stdin.read(buf),
             Input::File(file) => file.read(buf),
+        }
+    }
+}
+
+impl Seek for Input {
+    fn seek(&mut self, to: SeekFrom) -> io::Result<u64> {
+        match self {
+            Input::Standard(_) => Err(ErrorKind::Unsupported.into()),
+            Input::File(file) => file.seek(to),
         }
     }
 }

@@ -1,16 +1,16 @@
-//! What is told of a certificate that isn't that of its trace.
+//! What is told of an answer to a trace, alone or beside a certificate.
 ghost use Rattle.std.specs.Prelude.{IfOk, string_bytes};
 ghost use Rattle.answers.specs.Telling.{IsNote};
 
 use crate::version_note::note_on_check;
-use answers::{Answer, Asked, note_on_leases, note_on_trace};
+use answers::{Answer, Asked, note_on_leases};
 use ownership_checker::{CheckFault, check};
 use ring_knowledge::Lease;
 use std::alloc::{AllocError, Global};
 use trace_reader::{ReadFault, read_trace};
 
-/// What a person is told of an answer to leases beside the text of a trace. Where the answer is no: the row that breaks a rule, or else the
-/// first lease that isn't the trace's.
+/// What a person is told of an answer to the text of a trace, or to leases beside it. Where the answer is no: the row that breaks a rule,
+/// or else the first lease that isn't the trace's; nothing where it would be yes.
 pub fn note_on_verdict(
     alloc: Global,
     asked: &Asked,
@@ -22,13 +22,14 @@ pub fn note_on_verdict(
 {
     match answer {
         Answer::Verified { holds: false } => {}
-        _ => return note_on_trace(alloc, asked, text, answer),
+        _ => return note_on_check(alloc, asked, text, answer),
     }
     if !asked.explains {
         return Ok(String::new(alloc));
     }
     match read_trace(alloc, text) {
         Ok(trace) => match check(alloc, &trace) {
+            Ok(own) if own.leases.as_slice() == leases => Ok(String::new(alloc)),
             Ok(own) => note_on_leases(alloc, asked, leases, &own.leases),
             Err(CheckFault::Refused { row, refusal }) => {
                 let refused = Answer::Refused { row, refusal };

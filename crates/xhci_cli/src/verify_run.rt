@@ -3,21 +3,20 @@ ghost use Rattle.std.specs.Prelude.{Some, ◌≡◌, ◌⊎◌, false, true, IsE
 ghost use Rattle.answers.specs.Answers.{goes_out};
 ghost use Rattle.answers.specs.Inputs.{opened};
 ghost use Rattle.answers.specs.Telling.{IsTold};
-ghost use Rattle.xhci_cli.specs.VerifyAnswers.{IsUncertified, IsVerdictBeside, IsVerdictOn, IsVerifyAnswer};
+ghost use Rattle.xhci_cli.specs.VerifyAnswers.{IsUncertified, IsVerdictBeside, IsVerifyAnswer};
 
-use crate::no_note::note_on_verdict;
+use crate::read_note::note_as_read;
 use crate::reading::bytes_of;
+use crate::recorded::Recorded;
+use crate::stream_answers::verified_answer;
 use answers::{Answer, Asked, Status, note_on_certificate, tell, tell_failure};
 use certificate::decode;
 use ring_knowledge::Lease;
 use std::alloc::Global;
-use std::io::{self, Read, Write};
-use trace_reader::read_trace;
-use traces::Trace;
-use verifier::verify;
+use std::io::{self, Read, Seek, Write};
 
 /// Verifies the certificate that `certificate` holds beside the trace of the input that `open_trace` opens, once the certificate was
-/// read; where it is none, the trace isn't opened. `yes` or `no` goes to `out`, and what hinders it to `err`. `beside` is how the
+/// read; where it is none, the trace isn't opened. The rows are judged as they are read, and aren't kept. `yes` or `no` goes to `out`, and what hinders it to `err`. `beside` is how the
 /// certificate is called in messages.
 pub fn run_verify<C, R, F, O: Write, E: Write>(
     alloc: Global,
@@ -30,7 +29,7 @@ pub fn run_verify<C, R, F, O: Write, E: Write>(
 ) -> Status
 where
     C: Read + Drop,
-    R: Read + Drop,
+    R: Read + Seek + Drop,
     F: FnOnce() -> io::Result<R> + Drop,
     requires { F.pre open_trace }
     ensures told { (answer : Answer) × (IsUncertified (opened C.remaining certificate) answer
@@ -63,8 +62,8 @@ where
     }
 }
 
-/// Verifies leases beside the trace that an input holds.
-fn verify_beside<R: Read + Drop, O: Write, E: Write>(
+/// Verifies leases beside the trace that an input holds, as it is read.
+fn verify_beside<R: Read + Seek + Drop, O: Write, E: Write>(
     alloc: Global,
     asked: &Asked,
     leases: &[Lease],
@@ -79,32 +78,13 @@ fn verify_beside<R: Read + Drop, O: Write, E: Write>(
     ensures unopened { IsErr trace → out.new ≡ out.old }
     ensures unanswered { IsErr trace → goes_out result ≡ false }
 {
-    match bytes_of(alloc, trace) {
-        Ok(text) => {
-            let answer = verify_answer(alloc, leases, &text);
-            let note = note_on_verdict(alloc, asked, leases, &text, &answer);
+    match trace {
+        Ok(trace) => {
+            let mut source = Recorded::new(alloc, trace, asked.explains);
+            let answer = verified_answer(alloc, leases, &mut source);
+            let note = note_as_read(alloc, asked, leases, source, &answer);
             tell(alloc, asked.explains, answer, note, out, err)
         }
         Err(error) => tell_failure(alloc, asked, error, out, err),
-    }
-}
-
-/// The answer to leases beside the text of a trace.
-fn verify_answer(alloc: Global, leases: &[Lease], text: &[u8]) -> Answer
-    ensures { IsVerdictBeside leases.now (Some text.now) result }
-{
-    match read_trace(alloc, text) {
-        Ok(trace) => verdict_on(alloc, leases, &trace),
-        Err(fault) => Answer::from(fault),
-    }
-}
-
-/// The answer to leases beside a trace.
-fn verdict_on(alloc: Global, leases: &[Lease], trace: &Trace) -> Answer
-    ensures { IsVerdictOn leases.now trace.now result }
-{
-    match verify(alloc, trace, leases) {
-        Ok(holds) => Answer::Verified { holds },
-        Err(error) => Answer::from(error),
     }
 }

@@ -1,16 +1,17 @@
 use Rattle.std.proofs.Common.{inl}
 use Rattle.answers.specs.Inputs.{opened}
-use Rattle.answers.proofs.Held.{answer_held}
+use Rattle.answers.proofs.Held.{opened_holds}
 use Rattle.answers.proofs.Told.{failure, told_right}
-use Rattle.xhci_cli.specs.VerifyAnswers.{IsVerdictBeside, IsVerdictOn}
+use Rattle.xhci_cli.specs.VerifyAnswers.{IsVerdictBeside}
 use Rattle.xhci_cli.proofs.verify_run.verify_beside.Goals as goal
 
 pub returns-in-Ok-clause-told : goal.returns-in-Ok-clause-told
 returns-in-Ok-clause-told g c =
     let known = opened g.R.Read.remaining c.args.trace in
-    let answer = c.verify_answer-answer.result in
-    let held = answer_held (IsVerdictOn c.args.leases.now) known _ answer c.in-Ok.ensures.bytes (rw c.deref.ensures.value at c.verify_answer-answer.ensures) in
-    told_right (λ a. IsVerdictBeside c.args.leases.now known a) _ _ _ _ _ _ _ held (inl tt) c.tell.ensures.told
+    let answer = c.verified_answer-answer.result in
+    let right = opened_holds (λ k. IsVerdictBeside c.args.leases.now k answer) g.R.Read.remaining c.args.trace c.in-Ok.trace c.in-Ok.is
+    (rw c.new-source.ensures at c.verified_answer-answer.ensures) in
+    told_right (λ a. IsVerdictBeside c.args.leases.now known a) _ _ _ _ _ _ _ right (inl tt) c.tell.ensures.told
 
 pub returns-in-Err-clause-told : goal.returns-in-Err-clause-told
 returns-in-Err-clause-told g c =

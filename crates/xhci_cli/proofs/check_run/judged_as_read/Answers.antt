@@ -1,0 +1,15 @@
+use Rattle.std.proofs.Common.{ℕ, List, Option, subst, sym}
+use Rattle.std.specs.Prelude.{false}
+use Rattle.answers.proofs.Told.{failure}
+use Rattle.answers.specs.declared.answer.Answer.{Answer}
+use Rattle.xhci_cli.specs.CheckAnswers.{IsCheckAnswer, IsHindered}
+use Rattle.xhci_cli.proofs.check_run.judged_as_read.Goals as goal
+
+pub returns-in-Err-clause-right : goal.returns-in-Err-clause-right
+returns-in-Err-clause-right g c =
+    let known = g.R.Read.remaining c.args.input in
+    let before = c.args.certificate.now in
+    let after = c.answer_as_read.new.certificate in
+    let cut = subst (λ (k : Option (List ℕ)). IsHindered g.C.Write.contents before after k) c.new-source.ensures c.in-Err.ensures.hindered in
+    subst (λ (a : Answer). IsCheckAnswer false g.C.Write.contents before after known a) (sym c.unkept.ensures.answer)
+    (failure (λ a. IsCheckAnswer false g.C.Write.contents before after known a) cut cut _)

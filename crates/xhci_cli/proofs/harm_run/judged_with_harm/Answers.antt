@@ -1,0 +1,22 @@
+use Rattle.std.proofs.Common.{subst, sym}
+use Rattle.std.specs.Prelude.{true}
+use Rattle.answers.proofs.Told.{failure}
+use Rattle.answers.specs.declared.answer.Answer.{Answer}
+use Rattle.xhci_cli.specs.CheckAnswers.{IsCheckAnswer}
+use Rattle.xhci_cli.proofs.HeldAnswers.{check_held, hindered_held}
+use Rattle.xhci_cli.proofs.harm_run.judged_with_harm.Goals as goal
+
+pub returns-in-Ok-check_answer-clause-right : goal.returns-in-Ok-check_answer-clause-right
+returns-in-Ok-check_answer-clause-right g c =
+    check_held true g.C.Write.contents c.args.certificate.now c.check_answer.new.certificate (g.R.Read.remaining c.args.input) _ c.in-Ok-check_answer.answer c.in-Ok.ensures.bytes
+    (rw c.deref.ensures.value at c.in-Ok-check_answer.ensures.answered)
+
+pub returns-clause-right : goal.returns-clause-right
+returns-clause-right g c =
+    let known = g.R.Read.remaining c.args.input in
+    let before = c.args.certificate.now in
+    let after = c.check_answer.new.certificate in
+    let cut = hindered_held g.C.Write.contents before after known _ c.in-Ok.ensures.bytes
+    (rw c.deref.ensures.value at c.in-Err-check_answer.ensures.hindered) in
+    subst (λ (a : Answer). IsCheckAnswer true g.C.Write.contents before after known a) (sym c.unkept.ensures.answer)
+    (failure (λ a. IsCheckAnswer true g.C.Write.contents before after known a) cut cut _)

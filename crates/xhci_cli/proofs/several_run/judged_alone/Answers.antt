@@ -1,0 +1,12 @@
+use Rattle.std.proofs.Common.{inl, subst, sym}
+use Rattle.answers.specs.Inputs.{IsTraceAnswer, opened}
+use Rattle.answers.proofs.Held.{opened_holds}
+use Rattle.answers.proofs.Told.{failure}
+use Rattle.answers.specs.declared.answer.Answer.{Answer}
+use Rattle.xhci_cli.specs.CheckAnswers.{IsVerdictAlone}
+use Rattle.xhci_cli.proofs.several_run.judged_alone.Goals as goal
+
+pub returns-in-Ok-clause-right : goal.returns-in-Ok-clause-right
+returns-in-Ok-clause-right g c =
+    let answer = c.counted_answer-answer.result in
+    opened_holds (λ k. IsTraceAnswer IsVerdictAlone k answer) g.R.Read.remaining c.args.input c.in-Ok.input c.in-Ok.is (rw c.new-source.ensures at c.counted_answer-answer.ensures)

@@ -1,0 +1,13 @@
+use Rattle.std.proofs.Common.{inl, subst, sym}
+use Rattle.answers.specs.Inputs.{IsUnread}
+use Rattle.answers.specs.declared.answer.Answer.{Answer}
+use Rattle.xhci_cli.proofs.Streamed.{unread_right, verified_right}
+use Rattle.xhci_cli.proofs.stream_answers.verified_answer.Goals as goal
+
+pub returns-in-Ok : goal.returns-in-Ok
+returns-in-Ok g c = verified_right c.args.leases.now (g.S.Source.held c.args.source.now) (g.S.Source.held c.verify_stream.new.source) c.in-Ok.holds c.in-Ok.ensures.verdict
+
+pub returns-in-Err : goal.returns-in-Err
+returns-in-Err g c =
+    let known = g.S.Source.held c.args.source.now in
+    inl (subst (λ (a : Answer). IsUnread known a) (sym c.from.ensures) (unread_right known (g.S.Source.held c.verify_stream.new.source) c.in-Err.fault c.in-Err.ensures.line))

@@ -1,5 +1,0 @@
-use Rattle.std.proofs.Common.{inr}
-use Rattle.xhci_cli.proofs.verify_run.verify_answer.Goals as goal
-
-pub returns-in-Ok : goal.returns-in-Ok
-returns-in-Ok c = inr (c.in-Ok.trace, c.in-Ok.ensures.read, c.verdict_on.ensures)

@@ -1,0 +1,80 @@
+//! What is told of an answer to an input that was judged as it was read.
+ghost use Rattle.std.specs.Prelude.{IfOk, string_bytes};
+ghost use Rattle.answers.specs.Telling.{IsNote};
+
+use crate::no_note::note_on_verdict;
+use crate::recorded::{Recorded, Text};
+use crate::stream_answers::counted_answer;
+use answers::{Answer, Asked, note_on_failure};
+use ring_knowledge::Lease;
+use row_reader::Counted;
+use std::alloc::{AllocError, Global};
+use std::io::{Read, Seek};
+
+/// What a person is told of an answer to the trace that an input held; the leases are those of a certificate, where one is verified. A text
+/// that was too long to be kept is read once more.
+pub fn note_as_read<R: Read + Seek + Drop>(
+    alloc: Global,
+    asked: &Asked,
+    leases: &[Lease],
+    input: Recorded<R>,
+    answer: &Answer,
+) -> Result<String, AllocError>
+    ensures { IfOk result (λ note. IsNote asked.now.explains (string_bytes note)) }
+{
+    if !asked.explains {
+        return Ok(String::new(alloc));
+    }
+    match answer {
+        Answer::Accepted { .. } | Answer::Verified { holds: true } | Answer::Memory => {
+            Ok(String::new(alloc))
+        }
+        Answer::Device => match input.into_error() {
+            Some(error) => note_on_failure(alloc, asked, error),
+            None => Ok(String::new(alloc)),
+        },
+        _ => match explained_text(alloc, input, answer)? {
+            Some(text) => note_on_verdict(alloc, asked, leases, &text, answer),
+            None => too_long(alloc, asked, answer),
+        },
+    }
+}
+
+/// The text that an answer is explained from; none where it can't be read once more, or its answer is another one then.
+fn explained_text<R: Read + Seek + Drop>(
+    alloc: Global,
+    input: Recorded<R>,
+    answer: &Answer,
+) -> Result<Option<Vec<u8>>, AllocError> {
+    match input.into_text(alloc)? {
+        Text::Kept(text) => Ok(Some(text)),
+        Text::ReadAgain(text) => {
+            let same = has_answer(alloc, &text, answer)?;
+            Ok(same.then_some(text))
+        }
+        Text::Gone => Ok(None),
+    }
+}
+
+/// Whether a text has this answer. Whether a certificate is that of its trace is left to what is told of it.
+fn has_answer(alloc: Global, text: &[u8], answer: &Answer) -> Result<bool, AllocError> {
+    match counted_answer(alloc, &mut Counted::new(text)) {
+        Answer::Memory => Err(AllocError),
+        again => match answer {
+            Answer::Verified { .. } => Ok(true),
+            _ => Ok(again == *answer),
+        },
+    }
+}
+
+/// That a text was too long to be kept, and what explains its answer.
+fn too_long(alloc: Global, asked: &Asked, answer: &Answer) -> Result<String, AllocError> {
+    let input = asked.input;
+    let words = match answer {
+        Answer::Verified { .. } => "verify --explain CERT",
+        _ => "check --explain",
+    };
+    format!(in alloc;
+        "xhcitrace: {input}: too long to keep for an explanation; stored in a file it is explained: xhcitrace {words} FILE\n"
+    )
+}
