@@ -33,7 +33,8 @@ pub fn is_touched<M: WordMemory>(
         || is_touched_by(header, memory, of_endpoint, slot, index)
 }
 
-/// Whether the success of a command, if there is one, may change an endpoint.
+/// Whether the success of a command, if there is one, may change an endpoint. Mostly there is none.
+#[inline(always)]
 fn is_touched_by<M: WordMemory>(
     header: &Header,
     memory: &M,
@@ -52,6 +53,7 @@ fn is_touched_by<M: WordMemory>(
 }
 
 /// Whether the success of a command may change an endpoint.
+#[inline(never)]
 #[tactic(auto, unfolding(commands::specs::Changes::changes))]
 fn touches<M: WordMemory>(
     size: ContextSize,

@@ -101,6 +101,7 @@ impl PageMemory {
     }
 
     /// Where the page with a number lies.
+    #[inline(always)]
     fn find(&self, number: u64) -> Option<usize>
         ensures some { IfSome result (IsAt (numbers self.now.pages.items) number) }
         ensures none { IfNone result (HasNone (numbers self.now.pages.items) number) }
@@ -109,6 +110,15 @@ impl PageMemory {
         if self.lies_at(recent, number) {
             return Some(recent);
         }
+        self.find_by_tree(number)
+    }
+
+    /// The same, by the tree, for a page that isn't remembered.
+    #[inline(never)]
+    fn find_by_tree(&self, number: u64) -> Option<usize>
+        ensures some { IfSome result (IsAt (numbers self.now.pages.items) number) }
+        ensures none { IfNone result (HasNone (numbers self.now.pages.items) number) }
+    {
         match self.seek(number) {
             Way::Found(at) => Some(at),
             Way::Free(_, _) => None,
@@ -116,6 +126,7 @@ impl PageMemory {
     }
 
     /// Where the page with a number lies, which is made if there is none. No word changes.
+    #[inline(always)]
     fn open(&mut self, number: u64) -> Result<usize, AllocError>
         ensures same { (a : ℕ) → word_in self.new a ≡ word_in self.old a }
         ensures ok { IfOk result (IsAt (numbers self.new.pages.items) number) }
@@ -124,6 +135,15 @@ impl PageMemory {
         if self.lies_at(recent, number) {
             return Ok(recent);
         }
+        self.open_by_tree(number)
+    }
+
+    /// The same, by the tree, for a page that isn't remembered. It stays out of `open`, for which it would save registers.
+    #[inline(never)]
+    fn open_by_tree(&mut self, number: u64) -> Result<usize, AllocError>
+        ensures same { (a : ℕ) → word_in self.new a ≡ word_in self.old a }
+        ensures ok { IfOk result (IsAt (numbers self.new.pages.items) number) }
+    {
         let at = match self.seek(number) {
             Way::Found(at) => at,
             Way::Free(behind, digit) => self.add(number, behind, digit)?,

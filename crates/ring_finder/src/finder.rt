@@ -69,6 +69,7 @@ impl Finder {
     }
 
     /// The number of the ring that has the word at this address.
+    #[inline(always)]
     pub fn ring_at(&self, header: &Header, address: u64) -> Option<usize>
         requires headed { IsHeader header.now }
         requires found { IsFinder header.now.rings self.now }
@@ -95,6 +96,7 @@ impl Finder {
     }
 
     /// The number of the ring that has the word at this address, by a search.
+    #[inline(never)]
     fn ring_by_search(&self, header: &Header, address: u64) -> Option<usize>
         requires headed { IsHeader header.now }
         requires found { IsFinder header.now.rings self.now }

@@ -1,4 +1,4 @@
-ghost use Rattle.std.specs.Prelude.{◌≡◌, ◌+◌, ◌%◌, ◌<◌, ◌≤◌, ◌^◌, ◌==◌, ◌||◌, not, ℕ, max, true, false, length, slice_get, slice_index, slice_index_or, slice_set, IfOk, IfSome, OnOk, OnErr};
+ghost use Rattle.std.specs.Prelude.{◌≡◌, ◌+◌, ◌%◌, ◌<◌, ◌≤◌, ◌^◌, ◌==◌, ◌||◌, not, ℕ, max, true, false, [], ◌∷◌, length, slice_get, slice_index, slice_index_or, slice_set, IfOk, IfSome, OnOk, OnErr};
 ghost use Rattle.std.specs.List.{list_any};
 ghost use Rattle.segments.specs.Spots.{number};
 ghost use Rattle.segments.specs.ShapeValue.{Shape};
@@ -95,6 +95,36 @@ impl RingRecord {
             has_no_room shape v (length blocks.now) ≡ false → FollowsRing shape (changed shape v (Declares blocks.now)) self.new) }
         ensures err { OnErr result ((shape : Shape) (v : RingView) → FollowsRing shape v self.old → FollowsRing shape v self.new) }
     {
+        match blocks {
+            [block] => self.declare_one(*block),
+            _ => self.declare_several(blocks),
+        }
+    }
+
+    /// The same of a descriptor of one block, as most are.
+    fn declare_one(&mut self, block: Block) -> Result<(), AllocError>
+        ensures ok { OnOk result ((shape : Shape) (v : RingView) → FollowsRing shape v self.old →
+            has_no_room shape v 1 ≡ false → FollowsRing shape (changed shape v (Declares (block ∷ []))) self.new) }
+        ensures err { OnErr result ((shape : Shape) (v : RingView) → FollowsRing shape v self.old → FollowsRing shape v self.new) }
+    {
+        let end = self.lengths.len();
+        self.lengths.push(1)?;
+        if let Err(refused) = self.blocks.push(block) {
+            self.lengths.truncate(end);
+            return Err(refused.into());
+        }
+        Ok(())
+    }
+
+    /// The same of a descriptor of any blocks.
+    #[inline(never)]
+    fn declare_several(&mut self, blocks: &[Block]) -> Result<(), AllocError>
+        requires some { 0 < length blocks.now }
+        requires few { length blocks.now ≤ 256 }
+        ensures ok { OnOk result ((shape : Shape) (v : RingView) → FollowsRing shape v self.old →
+            has_no_room shape v (length blocks.now) ≡ false → FollowsRing shape (changed shape v (Declares blocks.now)) self.new) }
+        ensures err { OnErr result ((shape : Shape) (v : RingView) → FollowsRing shape v self.old → FollowsRing shape v self.new) }
+    {
         let start = self.lengths.len();
         self.lengths.resize(start + blocks.len(), 0)?;
         if let Err(refused) = self.blocks.extend_from_slice(blocks) {
@@ -154,6 +184,7 @@ impl RingRecord {
     }
 
     /// The position that the write of a word of a data place would give, were it not given yet.
+    #[inline(always)]
     fn position_by(
         &self,
         shape: &RingShape,
@@ -179,6 +210,7 @@ impl RingRecord {
     }
 
     /// The crossing that the write of a word of a Link would give, were it not given yet.
+    #[inline(never)]
     fn crossing_by(
         &self,
         shape: &RingShape,
@@ -431,6 +463,7 @@ fn next_with_rest(least: u64, count: u64, rest: u64) -> u64
 }
 
 /// The data place before the Link of a segment.
+#[inline(never)]
 fn place_before(shape: &RingShape, segment: u32) -> u32
     requires allowed { IsShape shape.now }
     requires segment { segment < length (links shape.now) }

@@ -1,11 +1,12 @@
 -- What is looked up on a ring once the segment is found. The look-ups see the segments as a list of their own
-use Rattle.segments.proofs.Words.{◌≡◌, ◌≢◌, ◌+◌, ◌-◌, ◌*◌, ◌/◌, ◌%◌, ◌<◌, ◌≤◌, if◌then◌else◌, ◌∙◌, ℕ, nat_lt, true, false, List, length, slice_index, Some, None, arith, refl, sym, ap, inl, inr, false≢true, false_from_ne_true, cases_lt, RingKind, Evt, Segment, Shape, data_count, place_count, address_of, links, ends, link_crossed, is_in, place_at, IsShape}
+use Rattle.segments.proofs.Words.{◌≡◌, ◌≢◌, ◌+◌, ◌-◌, ◌*◌, ◌/◌, ◌%◌, ◌<◌, ◌≤◌, if◌then◌else◌, ◌∙◌, ℕ, nat_lt, true, false, List, length, slice_index, Option, Some, None, arith, refl, sym, ap, inl, inr, false≢true, false_from_ne_true, cases_lt, RingKind, Evt, Segment, Shape, data_count, place_count, address_of, links, ends, link_crossed, is_in, place_at, IsShape}
 use Rattle.segments.specs.declared.place.Place.TheVariants.{Data, Link}
 use Rattle.segments.proofs.Blocks.{segment_at, places_of, before, before-next, before-all, before_within, block_lies, same_segment}
 use Rattle.segments.proofs.DataPlaces.{link_is, length-links}
 use Rattle.segments.proofs.Crossings.{end_is, crosses, crosses-from}
 use Rattle.segments.proofs.Search.{cases_option}
-use Rattle.segments.specs.Index.{IsLastOf, IsSegmentOf}
+use Rattle.segments.proofs.Positions.{next_at_end, place_count_pos}
+use Rattle.segments.specs.Index.{IsLastStart, IsNear, IsSegmentOf}
 use Rattle.segments.proofs.IndexSearch.{before_rises}
 use Rattle.segments.proofs.ShapeFacts.{shape_facts}
 use Rattle.segments.proofs.PlaceAtLemmas.{is_in-true, is_in-parts, place_at-block, place_at-outside}
@@ -145,28 +146,50 @@ past_all kind segments last j of other = record {
   ];
 }
 
--- no segment starts at or before the address
-pub outside_above : (kind : RingKind) (segments : List Segment) (address : ℕ) → ((i : ℕ) → i < length segments → address < (segment_at segments i).base) →
-    IsOutside segments kind (length segments) (before kind segments (length segments)) address
-outside_above kind segments address above = record {
-  counted = refl;
-  missed = λ k l. false_from_ne_true _ (λ has.
-      let parts = is_in-parts address (segment_at segments k).base (16 * (segment_at segments k).count) has in
-      absurd (omega (arith, parts.0, above k l)));
-}
-
--- the last segment to start at or before the address doesn't have it
-pub outside_last : (kind : RingKind) (segments : List Segment) → IsShape (record { kind = kind; segments = segments }) → (address j : ℕ) → IsLastOf segments address j →
-    (is_in address (segment_at segments j).base (16 * (segment_at segments j).count) ≡ true → ⊥) →
-    IsOutside segments kind (length segments) (before kind segments (length segments)) address
-outside_last kind segments is address j of misses = record {
-  counted = refl;
-  missed = λ k l. false_from_ne_true _ (λ has.
+-- the last segment to start at or before an address is the one that may have it
+pub near_from_last : (kind : RingKind) (segments : List Segment) → IsShape (record { kind = kind; segments = segments }) → (address : ℕ) (o : Option ℕ) →
+    IsLastStart segments address o → IsNear segments address o
+near_from_last kind segments is address None above = λ k l. false_from_ne_true _ (λ has.
+    let parts = is_in-parts address (segment_at segments k).base (16 * (segment_at segments k).count) has in
+    absurd (omega (arith, parts.0, above k l)))
+near_from_last kind segments is address (Some j) of = (
+  of.number,
+  λ k l has.
       let facts = shape_facts (record { kind = kind; segments = segments }) is in
       let parts = is_in-parts address (segment_at segments k).base (16 * (segment_at segments k).count) has in
       let late = of.last k l parts.0 in
       let some = (facts.each j of.number).blocks in
       let low : (segment_at segments j).base ≤ address = of.start in
-      let same : k ≡ j = same_segment segments facts.apart k j (segment_at segments j).base l of.number late (omega (arith, parts.1)) (omega arith) (omega (arith, some)) in
-      misses (ap (λ n. is_in address (segment_at segments n).base (16 * (segment_at segments n).count)) (sym same) ∙ has));
+      same_segment segments facts.apart k j (segment_at segments j).base l of.number late (omega (arith, parts.1)) (omega arith) (omega (arith, some)),
+)
+
+-- no segment may have the address
+pub outside_none : (kind : RingKind) (segments : List Segment) (address : ℕ) → IsNear segments address None →
+    IsOutside segments kind (length segments) (before kind segments (length segments)) address
+outside_none kind segments address near = record { counted = refl; missed = near }
+
+-- the one that may have it doesn't
+pub outside_near : (kind : RingKind) (segments : List Segment) (address j : ℕ) → IsNear segments address (Some j) →
+    (is_in address (segment_at segments j).base (16 * (segment_at segments j).count) ≡ true → ⊥) →
+    IsOutside segments kind (length segments) (before kind segments (length segments)) address
+outside_near kind segments address j near misses = record {
+  counted = refl;
+  missed = λ k l. false_from_ne_true _ (λ has.
+      misses (ap (λ n. is_in address (segment_at segments n).base (16 * (segment_at segments n).count)) (sym (near.1 k l has)) ∙ has));
 }
+
+-- of one segment no Link is crossed within a lap
+pub crossed_within : (shape : Shape) → IsShape shape → length shape.segments ≡ 1 → (q : ℕ) → q % place_count shape ≢ 0 → link_crossed shape q ≡ None
+crossed_within shape is one q within =
+    elim (cases_option (link_crossed shape q)) [
+      | inl none ↦ none
+      | inr found ↦
+          let i : ℕ = found.0 in
+          let c = crosses shape q i found.1 in
+          let link = link_is shape is i c.link in
+          let first : i + 1 ≡ length shape.segments = omega (arith, link.segment, one) in
+          let end : before shape.kind shape.segments (i + 1) ≡ place_count shape = ap (λ n. before shape.kind shape.segments n) first ∙ before-all shape.kind shape.segments in
+          let lap : (q - 1) % place_count shape + 1 ≡ place_count shape = sym c.end ∙ end_is shape i c.link ∙ end in
+          let next : q - 1 + 1 ≡ q = omega (arith, c.positive) in
+          absurd (within (rw next at (next_at_end (place_count shape) (q - 1) (place_count_pos shape is) lap).1))
+    ]

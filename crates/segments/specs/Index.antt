@@ -1,12 +1,12 @@
 -- What finds a segment of a ring by a search: how many data places lie before each, and where each starts
-use Rattle.std.specs.Prelude.{◌≡◌, ℕ, suc, zero, ◌+◌, ◌<◌, ◌≤◌, ◌==◌, true, List, [], ◌∷◌, length, slice_index, slice_index_or, Option, Some, None}
+use Rattle.std.specs.Prelude.{◌≡◌, ℕ, suc, zero, ◌+◌, ◌<◌, ◌≤◌, ◌==◌, true, false, List, [], ◌∷◌, length, slice_index, slice_index_or, Option, Some, None}
 use Rattle.std.specs.List.{All, list_any}
 use Rattle.std.specs.List.Sorted.{IsNonDecreasingBy}
 use Rattle.trb.specs.declared.ring_kind.RingKind.{RingKind}
 use Rattle.segments.specs.declared.segment.Segment.{Segment}
 use Rattle.segments.specs.declared.index.Start.{Start}
 use Rattle.segments.specs.declared.index.SegmentIndex.{SegmentIndex}
-use Rattle.segments.specs.Places.{data_count}
+use Rattle.segments.specs.Places.{data_count, segment_has}
 
 -- segment j of a list
 abbrev pub segment_at : List Segment → ℕ → Segment
@@ -56,3 +56,8 @@ pub record IsLastOf (segments : List Segment) (address j : ℕ) : Type 0 where
 abbrev pub IsLastStart : List Segment → ℕ → Option ℕ → Type 0
 IsLastStart segments address None = (i : ℕ) → i < length segments → address < (segment_at segments i).base
 IsLastStart segments address (Some j) = IsLastOf segments address j
+
+-- the one segment that may have a byte; none where none may
+abbrev pub IsNear : List Segment → ℕ → Option ℕ → Type 0
+IsNear segments address None = (i : ℕ) → i < length segments → segment_has address (segment_at segments i) ≡ false
+IsNear segments address (Some j) = (j < length segments) × ((i : ℕ) → i < length segments → segment_has address (segment_at segments i) ≡ true → i ≡ j)

@@ -44,6 +44,7 @@ impl SegmentIndex {
     }
 
     /// The number of the segment with a data place.
+    #[inline(always)]
     pub(crate) fn segment_of(&self, place: u32) -> usize
         ensures { (kind : RingKind) (segments : List Segment) → IsIndex kind segments self.now → place < before kind segments (length segments) → IsSegmentOf kind segments place result }
     {
@@ -55,6 +56,14 @@ impl SegmentIndex {
         if self.has_place(even, place) {
             return even;
         }
+        self.segment_by_search(place)
+    }
+
+    /// The same, by a search.
+    #[inline(never)]
+    fn segment_by_search(&self, place: u32) -> usize
+        ensures { (kind : RingKind) (segments : List Segment) → IsIndex kind segments self.now → place < before kind segments (length segments) → IsSegmentOf kind segments place result }
+    {
         let after = self.firsts.partition_point(|first| *first <= place);
         after.saturating_sub(1)
     }
@@ -78,12 +87,21 @@ impl SegmentIndex {
     }
 
     /// The number of the segment that is the last one to start at or before this address.
+    #[inline(always)]
     pub(crate) fn last_start(&self, address: u64) -> Option<usize>
         ensures { (kind : RingKind) (segments : List Segment) → IsIndex kind segments self.now → IsLastStart segments address result }
     {
         if let Some(segment) = self.last_at(self.even_start(address), address) {
             return Some(segment);
         }
+        self.last_by_search(address)
+    }
+
+    /// The same, by a search.
+    #[inline(never)]
+    fn last_by_search(&self, address: u64) -> Option<usize>
+        ensures { (kind : RingKind) (segments : List Segment) → IsIndex kind segments self.now → IsLastStart segments address result }
+    {
         let starts = self.starts.as_slice();
         let after = starts.partition_point(|start| start.base <= address);
         if after == 0 {

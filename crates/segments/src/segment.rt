@@ -35,10 +35,12 @@ impl Segment {
     pub(crate) fn block_at(self, address: u64) -> Option<u16>
         ensures { SomeIff result (is_in address self.base (16 * self.count) ≡ true) ((address - self.base) / 16) }
     {
-        let block = address.checked_sub(self.base)? / 16;
-        u16::try_from(block)
-            .ok()
-            .filter(|block| *block < self.count)
+        let behind = address.checked_sub(self.base)?;
+        if behind < 16 * u64::from(self.count) {
+            Some((behind / 16) as u16)
+        } else {
+            None
+        }
     }
 }
 

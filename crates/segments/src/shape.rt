@@ -1,6 +1,7 @@
 ghost use Rattle.std.specs.Prelude.{◌≡◌, ◌<◌, ◌≤◌, ◌*◌, ◌==◌, ◌↔◌, false, length, map, slice_index, IfOk, IfSome};
 ghost use Rattle.segments.specs.PlaceAt.{place_at, IsLinkOf};
 ghost use Rattle.std.specs.List.{list_any};
+ghost use Rattle.segments.specs.Index.{IsNear};
 ghost use Rattle.segments.specs.Places.{address_of, cycle_of, link_crossed, link_target, links, place_count, toggles, touches};
 ghost use Rattle.segments.specs.Shape.{IsShape, is_shape, rings_overlap};
 ghost use Rattle.segments.specs.ShapeValue.{segment_of, shape_of};
@@ -128,6 +129,7 @@ impl RingShape {
     }
 
     /// The word with this address, where it is one of the ring's blocks.
+    #[inline(always)]
     pub fn place_at(&self, address: u64) -> Option<Place>
         ensures value { result ≡ place_at self.now address }
         ensures link { IfSome result (IsLinkOf self.now) }
@@ -135,7 +137,7 @@ impl RingShape {
         if address % 4 != 0 {
             return None;
         }
-        let number = self.index.last_start(address)?;
+        let number = self.segment_near(address)?;
         let segment = self.segments[number];
         let block = segment.block_at(address)?;
         let word = (address % 16 / 4) as u8;
@@ -150,6 +152,19 @@ impl RingShape {
                 word,
             }
         })
+    }
+
+    /// The number of the one segment that may have a byte; none where none may.
+    #[inline(always)]
+    fn segment_near(&self, address: u64) -> Option<usize>
+        ensures near { IsNear self.now.segments address result }
+        ensures allowed { IsShape self.now }
+    {
+        // most rings have one segment alone
+        if self.segments.len() == 1 {
+            return Some(0);
+        }
+        self.index.last_start(address)
     }
 
     /// Whether a segment has one of `len` bytes from `at` on; of no bytes none has one. Nothing wraps.
@@ -175,7 +190,21 @@ impl RingShape {
     }
 
     /// The Link that is crossed on the way to position `q`, by the number of its segment (xHCI 4.11.5.1).
+    #[inline(always)]
     pub fn crossing(&self, q: u64) -> Option<u32>
+        ensures value { result ≡ link_crossed self.now q }
+        ensures link { IfSome result (λ segment. segment < length (links self.now)) }
+    {
+        // most rings have one segment alone, whose Link comes behind the last place
+        if self.segments.len() == 1 && q % u64::from(self.places) != 0 {
+            return None;
+        }
+        self.crossing_by_segment(q)
+    }
+
+    /// The same, by the segment that has the place before it.
+    #[inline(never)]
+    fn crossing_by_segment(&self, q: u64) -> Option<u32>
         ensures value { result ≡ link_crossed self.now q }
         ensures link { IfSome result (λ segment. segment < length (links self.now)) }
     {

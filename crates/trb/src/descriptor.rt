@@ -18,6 +18,18 @@ const MAX_BLOCKS: usize = 256;
 pub fn descriptor_fault(kind: RingKind, blocks: &[Block]) -> Option<Fault>
     ensures { result ≡ fault_of kind blocks.now }
 {
+    // most descriptors have one block: where the compiler sees that, no loop is left
+    if let [block] = blocks {
+        return first_fault(kind, &[*block]);
+    }
+    first_fault(kind, blocks)
+}
+
+/// What is wrong with these blocks first.
+#[inline(always)]
+fn first_fault(kind: RingKind, blocks: &[Block]) -> Option<Fault>
+    ensures { result ≡ fault_of kind blocks.now }
+{
     if is_bad_descriptor(kind, blocks) {
         Some(Fault::BadDescriptor)
     } else if is_left_out(kind, blocks) {

@@ -16,6 +16,7 @@ impl RingRecord {
 
     /// The spot that the pointer of a Transfer Event names: the first one from the floor on at this address, up to what is
     /// declared (xHCI 4.9.2, 6.4.2.1).
+    #[inline(always)]
     pub fn named(&self, shape: &RingShape, address: u64) -> Option<Spot>
         ensures value { (v : RingView) → FollowsRing shape.now v self.now → IsSpot shape.now v.floor → result ≡ named shape.now v address }
         ensures few { IfSome result (λ spot. number spot < 2 ^ 63) }
@@ -87,6 +88,7 @@ fn has_cycle(shape: &RingShape, spot: Spot, cycle: bool) -> bool
 }
 
 /// The first spot from another one on at an address; none where no spot lies there.
+#[inline(always)]
 fn spot_from(shape: &RingShape, from: Spot, address: u64) -> Option<Spot>
     requires { number from < 2 ^ 63 }
     ensures spot { IsFrom shape.now from address result }
@@ -122,6 +124,7 @@ fn passed(from: Spot) -> u64
 }
 
 /// The first crossing of a segment's Link behind a number.
+#[inline(never)]
 fn crossing_behind(shape: &RingShape, passed: u64, segment: u32) -> u64
     requires segment { segment < length (links shape.now) }
     requires fits { passed < 2 ^ 63 }

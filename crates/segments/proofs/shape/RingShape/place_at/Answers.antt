@@ -1,25 +1,20 @@
-use Rattle.segments.proofs.Words.{◌≡◌, ◌%◌, ◌+◌, ◌/◌, ◌∙◌, if◌then◌else◌, arith, refl, sym, ap, subst, length, Some, None, nat_lt, lt-ltb, le-ltb, cond-true, cond-false, get_or_read, data_count, place_at}
-use Rattle.segments.specs.Index.{IsLastOf, IsLastStart}
+use Rattle.segments.proofs.Words.{◌≡◌, ◌%◌, ◌+◌, ◌/◌, ◌∙◌, if◌then◌else◌, arith, refl, sym, ap, subst, length, Some, None, nat_lt, lt-ltb, le-ltb, cond-true, cond-false, get_or_read, data_count, place_count, place_at}
+use Rattle.segments.specs.Index.{IsNear}
 use Rattle.segments.specs.declared.place.Place.TheVariants.{Data, Link}
 use Rattle.segments.proofs.Blocks.{segment_at, before}
 use Rattle.segments.proofs.DataPlaces.{place_count_most}
 use Rattle.segments.proofs.ShapeFacts.{shape_facts}
 use Rattle.segments.proofs.PlaceAtLemmas.{place_at-Link}
-use Rattle.segments.proofs.Lookups.{sees_from, outside_above, outside_last, place_here, place_nowhere, count_within}
+use Rattle.segments.proofs.Lookups.{sees_from, outside_none, outside_near, place_here, place_nowhere, count_within}
 use Rattle.segments.proofs.shape.RingShape.place_at.Goals as goal
 
 pub returns-in_err-number-clause-value : goal.returns-in_err-number-clause-value
 returns-in_err-number-clause-value c =
-    let kind = c.self.inside.kind in
-    let segments = c.self.inside.segments.items in
-    let index = c.self.invariant.found in
-    let sees = sees_from c.args.self.now kind segments segments c.self.inside.places c.self.view_is refl c.self.invariant.count in
-    let facts = shape_facts (record { kind = kind; segments = segments }) c.self.invariant.allowed in
-    let most = place_count_most (record { kind = kind; segments = segments }) c.self.invariant.allowed in
-    let above = subst (λ o. IsLastStart segments c.args.address o) c.in_err-number.was (c.last_start.ensures kind segments index) in
-    let nowhere : place_at c.args.self.now c.args.address ≡ None =
-    place_nowhere c.args.self.now (rw (← c.self.view_is) c.self.invariant.allowed) kind segments c.self.inside.places (length segments) (before kind segments (length segments))
-    c.args.address sees (omega arith) (outside_above kind segments c.args.address above) in
+    let shape = c.args.self.now in
+    let near : IsNear shape.segments c.args.address None = subst (λ o. IsNear shape.segments c.args.address o) c.in_err-number.was c.segment_near.ensures.near in
+    let nowhere : place_at shape c.args.address ≡ None =
+    place_nowhere shape c.segment_near.ensures.allowed shape.kind shape.segments (place_count shape) (length shape.segments) (before shape.kind shape.segments (length shape.segments))
+    c.args.address (record { kind_is = refl; segments_are = refl; places_are = refl }) (omega arith) (outside_none shape.kind shape.segments c.args.address near) in
     c.from_residual.ensures ∙ sym nowhere
 
 pub index-segment-requires : goal.index-segment-requires
@@ -30,8 +25,9 @@ index-segment-requires c =
     let sees = sees_from c.args.self.now kind segments segments c.self.inside.places c.self.view_is refl c.self.invariant.count in
     let facts = shape_facts (record { kind = kind; segments = segments }) c.self.invariant.allowed in
     let most = place_count_most (record { kind = kind; segments = segments }) c.self.invariant.allowed in
-    let of : IsLastOf segments c.args.address c.in_ok-number.number = subst (λ o. IsLastStart segments c.args.address o) c.in_ok-number.was (c.last_start.ensures kind segments index) in
-    omega (arith, of.number, c.self.inside.segments.ok.0)
+    let near : IsNear segments c.args.address (Some c.in_ok-number.number) =
+    subst (λ ss. IsNear ss c.args.address (Some c.in_ok-number.number)) sees.segments_are (subst (λ o. IsNear c.args.self.now.segments c.args.address o) c.in_ok-number.was c.segment_near.ensures.near) in
+    omega (arith, near.0, c.self.inside.segments.ok.0)
 
 pub returns-in_err-block-clause-value : goal.returns-in_err-block-clause-value
 returns-in_err-block-clause-value c =
@@ -41,11 +37,12 @@ returns-in_err-block-clause-value c =
     let sees = sees_from c.args.self.now kind segments segments c.self.inside.places c.self.view_is refl c.self.invariant.count in
     let facts = shape_facts (record { kind = kind; segments = segments }) c.self.invariant.allowed in
     let most = place_count_most (record { kind = kind; segments = segments }) c.self.invariant.allowed in
-    let of : IsLastOf segments c.args.address c.in_ok-number.number = subst (λ o. IsLastStart segments c.args.address o) c.in_ok-number.was (c.last_start.ensures kind segments index) in
-    let here : c.index-segment.result.now ≡ segment_at segments c.in_ok-number.number = get_or_read segments _ _ of.number c.index-segment.ensures (record { base = 0; count = 0 }) in
+    let near : IsNear segments c.args.address (Some c.in_ok-number.number) =
+    subst (λ ss. IsNear ss c.args.address (Some c.in_ok-number.number)) sees.segments_are (subst (λ o. IsNear c.args.self.now.segments c.args.address o) c.in_ok-number.was c.segment_near.ensures.near) in
+    let here : c.index-segment.result.now ≡ segment_at segments c.in_ok-number.number = get_or_read segments _ _ near.0 c.index-segment.ensures (record { base = 0; count = 0 }) in
     let nowhere : place_at c.args.self.now c.args.address ≡ None =
     place_nowhere c.args.self.now (rw (← c.self.view_is) c.self.invariant.allowed) kind segments c.self.inside.places (length segments) (before kind segments (length segments))
-    c.args.address sees (omega arith) (outside_last kind segments c.self.invariant.allowed c.args.address c.in_ok-number.number of (rw here at c.in_err-block.ensures)) in
+    c.args.address sees (omega arith) (outside_near kind segments c.args.address c.in_ok-number.number near (rw here at c.in_err-block.ensures)) in
     c.from_residual-in_err-block.ensures ∙ sym nowhere
 
 pub index-requires : goal.index-requires
@@ -56,8 +53,9 @@ index-requires c =
     let sees = sees_from c.args.self.now kind segments segments c.self.inside.places c.self.view_is refl c.self.invariant.count in
     let facts = shape_facts (record { kind = kind; segments = segments }) c.self.invariant.allowed in
     let most = place_count_most (record { kind = kind; segments = segments }) c.self.invariant.allowed in
-    let of : IsLastOf segments c.args.address c.in_ok-number.number = subst (λ o. IsLastStart segments c.args.address o) c.in_ok-number.was (c.last_start.ensures kind segments index) in
-    omega (arith, of.number, index.firsts.many, c.self.inside.index.firsts.ok.0)
+    let near : IsNear segments c.args.address (Some c.in_ok-number.number) =
+    subst (λ ss. IsNear ss c.args.address (Some c.in_ok-number.number)) sees.segments_are (subst (λ o. IsNear c.args.self.now.segments c.args.address o) c.in_ok-number.was c.segment_near.ensures.near) in
+    omega (arith, near.0, index.firsts.many, c.self.inside.index.firsts.ok.0)
 
 pub overflow_add-result : goal.overflow_add-result
 overflow_add-result c =
@@ -67,12 +65,13 @@ overflow_add-result c =
     let sees = sees_from c.args.self.now kind segments segments c.self.inside.places c.self.view_is refl c.self.invariant.count in
     let facts = shape_facts (record { kind = kind; segments = segments }) c.self.invariant.allowed in
     let most = place_count_most (record { kind = kind; segments = segments }) c.self.invariant.allowed in
-    let of : IsLastOf segments c.args.address c.in_ok-number.number = subst (λ o. IsLastStart segments c.args.address o) c.in_ok-number.was (c.last_start.ensures kind segments index) in
-    let here : c.index-segment.result.now ≡ segment_at segments c.in_ok-number.number = get_or_read segments _ _ of.number c.index-segment.ensures (record { base = 0; count = 0 }) in
+    let near : IsNear segments c.args.address (Some c.in_ok-number.number) =
+    subst (λ ss. IsNear ss c.args.address (Some c.in_ok-number.number)) sees.segments_are (subst (λ o. IsNear c.args.self.now.segments c.args.address o) c.in_ok-number.was c.segment_near.ensures.near) in
+    let here : c.index-segment.result.now ≡ segment_at segments c.in_ok-number.number = get_or_read segments _ _ near.0 c.index-segment.ensures (record { base = 0; count = 0 }) in
     let first : c.index.result.now ≡ before kind segments c.in_ok-number.number =
-    get_or_read c.self.inside.index.firsts.items _ _ (omega (arith, of.number, index.firsts.many)) c.index.ensures 0 ∙ index.firsts.each c.in_ok-number.number of.number in
+    get_or_read c.self.inside.index.firsts.items _ _ (omega (arith, near.0, index.firsts.many)) c.index.ensures 0 ∙ index.firsts.each c.in_ok-number.number near.0 in
     let held : c.data_blocks.result ≡ data_count kind (segment_at segments c.in_ok-number.number) = c.data_blocks.ensures ∙ ap (data_count kind) here in
-    let within = count_within c.args.self.now kind segments c.self.inside.places c.in_ok-number.number c.index.result.now c.data_blocks.result sees of.number first held in
+    let within = count_within c.args.self.now kind segments c.self.inside.places c.in_ok-number.number c.index.result.now c.data_blocks.result sees near.0 first held in
     omega (arith, within, most, c.self.invariant.count, c.from.ensures)
 
 pub overflow_cast-result : goal.overflow_cast-result
@@ -83,8 +82,9 @@ overflow_cast-result c =
     let sees = sees_from c.args.self.now kind segments segments c.self.inside.places c.self.view_is refl c.self.invariant.count in
     let facts = shape_facts (record { kind = kind; segments = segments }) c.self.invariant.allowed in
     let most = place_count_most (record { kind = kind; segments = segments }) c.self.invariant.allowed in
-    let of : IsLastOf segments c.args.address c.in_ok-number.number = subst (λ o. IsLastStart segments c.args.address o) c.in_ok-number.was (c.last_start.ensures kind segments index) in
-    omega (arith, of.number, facts.few)
+    let near : IsNear segments c.args.address (Some c.in_ok-number.number) =
+    subst (λ ss. IsNear ss c.args.address (Some c.in_ok-number.number)) sees.segments_are (subst (λ o. IsNear c.args.self.now.segments c.args.address o) c.in_ok-number.was c.segment_near.ensures.near) in
+    omega (arith, near.0, facts.few)
 
 pub returns-then-block-data_blocks-clause-value : goal.returns-then-block-data_blocks-clause-value
 returns-then-block-data_blocks-clause-value c =
@@ -94,17 +94,18 @@ returns-then-block-data_blocks-clause-value c =
     let sees = sees_from c.args.self.now kind segments segments c.self.inside.places c.self.view_is refl c.self.invariant.count in
     let facts = shape_facts (record { kind = kind; segments = segments }) c.self.invariant.allowed in
     let most = place_count_most (record { kind = kind; segments = segments }) c.self.invariant.allowed in
-    let of : IsLastOf segments c.args.address c.in_ok-number.number = subst (λ o. IsLastStart segments c.args.address o) c.in_ok-number.was (c.last_start.ensures kind segments index) in
-    let here : c.index-segment.result.now ≡ segment_at segments c.in_ok-number.number = get_or_read segments _ _ of.number c.index-segment.ensures (record { base = 0; count = 0 }) in
+    let near : IsNear segments c.args.address (Some c.in_ok-number.number) =
+    subst (λ ss. IsNear ss c.args.address (Some c.in_ok-number.number)) sees.segments_are (subst (λ o. IsNear c.args.self.now.segments c.args.address o) c.in_ok-number.was c.segment_near.ensures.near) in
+    let here : c.index-segment.result.now ≡ segment_at segments c.in_ok-number.number = get_or_read segments _ _ near.0 c.index-segment.ensures (record { base = 0; count = 0 }) in
     let held : c.data_blocks.result ≡ data_count kind (segment_at segments c.in_ok-number.number) = c.data_blocks.ensures ∙ ap (data_count kind) here in
     let has = rw here at c.in_ok-block.ensures in
     let answer : place_at c.args.self.now c.args.address ≡ Some (if nat_lt c.in_ok-block.block c.data_blocks.result
     then Data (before kind segments c.in_ok-number.number + c.in_ok-block.block) (c.args.address % 16 / 4) else Link c.in_ok-number.number (c.args.address % 16 / 4)) =
     place_here c.args.self.now (rw (← c.self.view_is) c.self.invariant.allowed) kind segments c.self.inside.places
-    c.in_ok-number.number (before kind segments c.in_ok-number.number) c.in_ok-block.block c.data_blocks.result c.args.address sees of.number
+    c.in_ok-number.number (before kind segments c.in_ok-number.number) c.in_ok-block.block c.data_blocks.result c.args.address sees near.0
     refl held c.if-address-ne0.false has.0 has.1 in
     let first : c.index.result.now ≡ before kind segments c.in_ok-number.number =
-    get_or_read c.self.inside.index.firsts.items _ _ (omega (arith, of.number, index.firsts.many)) c.index.ensures 0 ∙ index.firsts.each c.in_ok-number.number of.number in
+    get_or_read c.self.inside.index.firsts.items _ _ (omega (arith, near.0, index.firsts.many)) c.index.ensures 0 ∙ index.firsts.each c.in_ok-number.number near.0 in
     rw (c.from.ensures, first) (sym (answer ∙ ap (λ p. Some p) (cond-true _ _ _ (lt-ltb c.in_ok-block.block c.data_blocks.result c.if-block-data_blocks.true))))
 
 pub returns-else-block-data_blocks-clause-value : goal.returns-else-block-data_blocks-clause-value
@@ -115,14 +116,15 @@ returns-else-block-data_blocks-clause-value c =
     let sees = sees_from c.args.self.now kind segments segments c.self.inside.places c.self.view_is refl c.self.invariant.count in
     let facts = shape_facts (record { kind = kind; segments = segments }) c.self.invariant.allowed in
     let most = place_count_most (record { kind = kind; segments = segments }) c.self.invariant.allowed in
-    let of : IsLastOf segments c.args.address c.in_ok-number.number = subst (λ o. IsLastStart segments c.args.address o) c.in_ok-number.was (c.last_start.ensures kind segments index) in
-    let here : c.index-segment.result.now ≡ segment_at segments c.in_ok-number.number = get_or_read segments _ _ of.number c.index-segment.ensures (record { base = 0; count = 0 }) in
+    let near : IsNear segments c.args.address (Some c.in_ok-number.number) =
+    subst (λ ss. IsNear ss c.args.address (Some c.in_ok-number.number)) sees.segments_are (subst (λ o. IsNear c.args.self.now.segments c.args.address o) c.in_ok-number.was c.segment_near.ensures.near) in
+    let here : c.index-segment.result.now ≡ segment_at segments c.in_ok-number.number = get_or_read segments _ _ near.0 c.index-segment.ensures (record { base = 0; count = 0 }) in
     let held : c.data_blocks.result ≡ data_count kind (segment_at segments c.in_ok-number.number) = c.data_blocks.ensures ∙ ap (data_count kind) here in
     let has = rw here at c.in_ok-block.ensures in
     let answer : place_at c.args.self.now c.args.address ≡ Some (if nat_lt c.in_ok-block.block c.data_blocks.result
     then Data (before kind segments c.in_ok-number.number + c.in_ok-block.block) (c.args.address % 16 / 4) else Link c.in_ok-number.number (c.args.address % 16 / 4)) =
     place_here c.args.self.now (rw (← c.self.view_is) c.self.invariant.allowed) kind segments c.self.inside.places
-    c.in_ok-number.number (before kind segments c.in_ok-number.number) c.in_ok-block.block c.data_blocks.result c.args.address sees of.number
+    c.in_ok-number.number (before kind segments c.in_ok-number.number) c.in_ok-block.block c.data_blocks.result c.args.address sees near.0
     refl held c.if-address-ne0.false has.0 has.1 in
     sym (answer ∙ ap (λ p. Some p) (cond-false _ _ _ (le-ltb c.in_ok-block.block c.data_blocks.result c.if-block-data_blocks.false)))
 
@@ -134,14 +136,15 @@ returns-else-block-data_blocks-clause-link c =
     let sees = sees_from c.args.self.now kind segments segments c.self.inside.places c.self.view_is refl c.self.invariant.count in
     let facts = shape_facts (record { kind = kind; segments = segments }) c.self.invariant.allowed in
     let most = place_count_most (record { kind = kind; segments = segments }) c.self.invariant.allowed in
-    let of : IsLastOf segments c.args.address c.in_ok-number.number = subst (λ o. IsLastStart segments c.args.address o) c.in_ok-number.was (c.last_start.ensures kind segments index) in
-    let here : c.index-segment.result.now ≡ segment_at segments c.in_ok-number.number = get_or_read segments _ _ of.number c.index-segment.ensures (record { base = 0; count = 0 }) in
+    let near : IsNear segments c.args.address (Some c.in_ok-number.number) =
+    subst (λ ss. IsNear ss c.args.address (Some c.in_ok-number.number)) sees.segments_are (subst (λ o. IsNear c.args.self.now.segments c.args.address o) c.in_ok-number.was c.segment_near.ensures.near) in
+    let here : c.index-segment.result.now ≡ segment_at segments c.in_ok-number.number = get_or_read segments _ _ near.0 c.index-segment.ensures (record { base = 0; count = 0 }) in
     let held : c.data_blocks.result ≡ data_count kind (segment_at segments c.in_ok-number.number) = c.data_blocks.ensures ∙ ap (data_count kind) here in
     let has = rw here at c.in_ok-block.ensures in
     let answer : place_at c.args.self.now c.args.address ≡ Some (if nat_lt c.in_ok-block.block c.data_blocks.result
     then Data (before kind segments c.in_ok-number.number + c.in_ok-block.block) (c.args.address % 16 / 4) else Link c.in_ok-number.number (c.args.address % 16 / 4)) =
     place_here c.args.self.now (rw (← c.self.view_is) c.self.invariant.allowed) kind segments c.self.inside.places
-    c.in_ok-number.number (before kind segments c.in_ok-number.number) c.in_ok-block.block c.data_blocks.result c.args.address sees of.number
+    c.in_ok-number.number (before kind segments c.in_ok-number.number) c.in_ok-block.block c.data_blocks.result c.args.address sees near.0
     refl held c.if-address-ne0.false has.0 has.1 in
     let link : place_at c.args.self.now c.args.address ≡ Some (Link c.in_ok-number.number (c.args.address % 16 / 4)) =
     answer ∙ ap (λ p. Some p) (cond-false _ _ _ (le-ltb c.in_ok-block.block c.data_blocks.result c.if-block-data_blocks.false)) in

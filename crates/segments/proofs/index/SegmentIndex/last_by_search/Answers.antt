@@ -1,7 +1,7 @@
 use Rattle.segments.proofs.Words.{◌≡◌, ◌≤◌, List, true, false, length, sym, subst, ap, arith, leb, rules, IsNonDecreasingBy, IsPartitionPoint, IsPartitionPoint-from_clause, IsPartitionedBy-leb}
 use Rattle.segments.specs.declared.index.Start.{Start}
 use Rattle.segments.proofs.IndexSearch.{nothing_starts, last_found}
-use Rattle.segments.proofs.index.SegmentIndex.last_start.Goals as goal
+use Rattle.segments.proofs.index.SegmentIndex.last_by_search.Goals as goal
 
 pub returns-then-after-eq0 : goal.returns-then-after-eq0
 returns-then-after-eq0 c = λ kind segments is.

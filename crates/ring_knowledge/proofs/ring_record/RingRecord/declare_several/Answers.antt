@@ -1,7 +1,7 @@
 use Rattle.std.proofs.Common.{refl, ◌∙◌}
 use Rattle.ring_knowledge.proofs.DeclaredMore.{declared_marks, lengths_grown}
 use Rattle.ring_knowledge.proofs.GivenCount.{declared_step}
-use Rattle.ring_knowledge.proofs.ring_record.RingRecord.declare.Goals as goal
+use Rattle.ring_knowledge.proofs.ring_record.RingRecord.declare_several.Goals as goal
 
 pub returns-clause-ok : goal.returns-clause-ok
 returns-clause-ok c = λ shape v known fits. record {

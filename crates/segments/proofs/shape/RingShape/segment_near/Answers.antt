@@ -1,0 +1,17 @@
+use Rattle.segments.proofs.Words.{◌≡◌, arith, ap, sym, subst, length}
+use Rattle.segments.specs.Index.{IsNear}
+use Rattle.segments.proofs.Lookups.{near_from_last}
+use Rattle.segments.proofs.shape.RingShape.segment_near.Goals as goal
+
+pub returns-then-len-eq1-clause-near : goal.returns-then-len-eq1-clause-near
+returns-then-len-eq1-clause-near c =
+    let same : length c.args.self.now.segments ≡ length c.self.inside.segments.items = ap (λ s. length s.segments) (sym c.self.view_is) in
+    let one : length c.args.self.now.segments ≡ 1 = omega (arith, same, c.len.ensures, c.self.inside.segments.ok.0, c.if-len-eq1.true) in
+    (omega (arith, one), λ i below has. omega (arith, one, below))
+
+pub returns-clause-near : goal.returns-clause-near
+returns-clause-near c =
+    let kind = c.self.inside.kind in
+    let segments = c.self.inside.segments.items in
+    subst (λ s. IsNear s.segments c.args.address c.last_start.result) c.self.view_is
+    (near_from_last kind segments c.self.invariant.allowed c.args.address _ (c.last_start.ensures kind segments c.self.invariant.found))
