@@ -47,6 +47,23 @@ pub fn is_bad_binding<M: WordMemory>(
     if !adds_endpoints(command) {
         return false;
     }
+    adds_badly(header, finder, t, memory, command)
+}
+
+/// The same of a command that may add endpoints. It stays out of `is_bad_binding`, where sets of rings would be made for every command.
+#[inline(never)]
+fn adds_badly<M: WordMemory>(
+    header: &Header,
+    finder: &Finder,
+    t: &TraceRecord,
+    memory: &M,
+    command: &Command,
+) -> bool
+    requires headed { IsHeader header.now }
+    requires found { IsFinder header.now.rings finder.now }
+    ensures { (k : Known) → FollowsTrace header.now k t.now (M.words memory.now) → DriverKeeps header.now k → FitsMemory header.now.context_size command.now →
+        result ≡ is_bad_binding header.now k command.now }
+{
     let dropped = rings_dropped(header, &t.devices, memory, command);
     let mut taken = t.bound;
     binds_badly(header, finder, t, memory, command, &dropped, &mut taken)

@@ -1,5 +1,6 @@
 //! A command ends with a completion that was read (xHCI 4.6).
-ghost use Rattle.std.specs.Prelude.{◌≡◌, ◌<◌, ℕ, List, Some, true, false, is_some};
+ghost use Rattle.std.specs.Prelude.{◌≡◌, ◌<◌, ℕ, List, Some, IfSome, true, false, is_some, not};
+ghost use Rattle.std.specs.Bool.{OnTrue};
 ghost use Rattle.std.specs.List.{cons_option};
 ghost use Rattle.trb.specs.Block.{code, slot};
 ghost use Rattle.segments.specs.Spots.{after};
@@ -11,7 +12,7 @@ ghost use Rattle.traces.specs.Header.{IsHeader, command_id, command_ring, shape_
 ghost use Rattle.controller_model.specs.Following.{HasRoom, IsWell};
 ghost use Rattle.ring_knowledge.specs.Completions.{completed, finished, stop_ended};
 ghost use Rattle.ring_knowledge.specs.Known.{Known};
-ghost use Rattle.ring_knowledge.specs.Rings.{next_command, on_ring};
+ghost use Rattle.ring_knowledge.specs.Rings.{command_at, next_command, on_ring};
 ghost use Rattle.ring_finder.specs.Finding.{IsFinder};
 ghost use Rattle.ring_finder.specs.RecordsOfRings.{FollowsRings};
 ghost use Rattle.device_record.specs.Devices.{FollowsDevices};
@@ -23,6 +24,7 @@ ghost use Rattle.trace_record.specs.FollowsTrace.{FollowsTrace, device_contexts}
 ghost use Rattle.trace_record.specs.Premises.{IsSetUp};
 ghost use Rattle.command_ends.specs.Places.{AreSlots, FollowsPlaces, HasWords, IsNextGiven, succeeded_if};
 
+use crate::impossible::is_impossible_completion;
 use crate::next::next_command;
 use crate::success::succeed;
 use binding_checks::forget_bound;
@@ -36,21 +38,48 @@ use trace_record::TraceRecord;
 use traces::Header;
 use trb::Block;
 
-/// Notes the end of the next command: what its success does, that its contexts are let go, and that the controller is behind it.
-pub fn finish<M: WordMemory>(
+/// Tells whether a controller can have posted a Command Completion Event. Where one can, it is noted: what the next command's
+/// success does, that its contexts are let go, and that the controller is behind it.
+pub fn read_completion<M: WordMemory>(
     header: &Header,
     finder: &Finder,
     t: &mut TraceRecord,
     memory: &M,
     block: Block,
+) -> bool
+    requires headed { IsHeader header.now }
+    requires found { IsFinder header.now.rings finder.now }
+    ensures possible { (k : Known) → FollowsTrace header.now k t.old (M.words memory.now) → IsSetUp header.now k → k.started ≡ true →
+        result ≡ not (is_impossible_completion header.now k block) }
+    ensures followed { OnTrue result ((k : Known) → FollowsTrace header.now k t.old (M.words memory.now) → DriverKeeps header.now k → IsSetUp header.now k →
+        is_impossible_completion header.now k block ≡ false → FollowsTrace header.now (completed header.now k block) t.new (M.words memory.now)) }
+    ensures events { t.new.events ≡ t.old.events }
+{
+    let command = next_command(header, finder, t);
+    if is_impossible_completion(header, finder, t, command, block) {
+        return false;
+    }
+    finish(header, finder, t, memory, command, block);
+    true
+}
+
+/// Notes the end of the next command, `command`.
+fn finish<M: WordMemory>(
+    header: &Header,
+    finder: &Finder,
+    t: &mut TraceRecord,
+    memory: &M,
+    command: Option<Command>,
+    block: Block,
 )
     requires headed { IsHeader header.now }
     requires found { IsFinder header.now.rings finder.now }
+    requires well { IfSome command IsWell }
     ensures followed { (k : Known) → FollowsTrace header.now k t.old (M.words memory.now) → DriverKeeps header.now k → IsSetUp header.now k →
-        is_impossible_completion header.now k block ≡ false → FollowsTrace header.now (completed header.now k block) t.new (M.words memory.now) }
+        command ≡ command_at header.now k (next_command header.now k) → is_impossible_completion header.now k block ≡ false → FollowsTrace header.now (completed header.now k block) t.new (M.words memory.now) }
     ensures events { t.new.events ≡ t.old.events }
 {
-    let Some(command) = next_command(header, finder, t) else {
+    let Some(command) = command else {
         return;
     };
     leave_context(&mut t.contexts, &t.devices, &command, block);

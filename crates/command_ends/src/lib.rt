@@ -9,6 +9,5 @@ mod possible;
 mod rings;
 mod success;
 
-pub use ending::finish;
-pub use impossible::is_impossible_completion;
+pub use ending::read_completion;
 pub use next::next_command;

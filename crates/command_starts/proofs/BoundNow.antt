@@ -37,7 +37,7 @@ use Rattle.context_checks.proofs.FittingCommands.{aligned_at, good_fits}
 use Rattle.command_starts.specs.Starting.{IsWith, binds_ring_if}
 use Rattle.command_starts.proofs.GivenNow.{new_command}
 
-or_none : (a : Bool) → (a || false) ≡ a
+pub or_none : (a : Bool) → (a || false) ≡ a
 or_none true = refl
 or_none false = refl
 

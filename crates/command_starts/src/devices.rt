@@ -14,7 +14,8 @@ ghost use Rattle.command_starts.specs.Starting.{EntryFits, IsWith, LiesOnWords, 
 use commands::Command;
 use contexts::ContextSize;
 use device_record::DeviceRecord;
-use guest_memory::{Addr, WordMemory};
+use guest_memory::WordMemory;
+use input_words::long_at;
 use range_words::{Areas, SoiledWords};
 use ring_knowledge::RegisterRecord;
 use std::alloc::AllocError;
@@ -61,16 +62,7 @@ fn device_named<M: WordMemory>(registers: &RegisterRecord, memory: &M, slot: u8)
 {
     let array = registers.value(Register::Dcbaap).unwrap_or(0) / 64 * 64;
     let entry = array.checked_add(8 * u64::from(slot))?;
-    long_at(memory, entry)
-}
-
-/// The 64-bit number at an address on words, where it ends within the address space.
-fn long_at<M: WordMemory>(memory: &M, address: u64) -> Option<u64>
-    ensures { address % 4 ≡ 0 → address + 8 ≤ 2 ^ 64 → result ≡ Some (long_at (M.words memory.now) address) }
-{
-    let low = Addr::new(address)?;
-    let high = Addr::new(address.checked_add(4)?)?;
-    Some(u64::from(memory.word(high)) << 32 | u64::from(memory.word(low)))
+    Some(long_at(memory, entry))
 }
 
 /// A device context comes under lease, if one is taken: the controller may change its words from now on.

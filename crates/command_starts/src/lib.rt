@@ -5,4 +5,4 @@ mod devices;
 mod rings;
 mod starts;
 
-pub use starts::note_write;
+pub use starts::{note_plain_write, note_write};

@@ -10,6 +10,7 @@ use trace_record::WordPlace;
 use traces::Header;
 
 /// The ring that has a word notes what its write gives of the ring, if it gives anything (xHCI 4.9.2).
+#[inline(always)]
 pub fn note_on_ring(header: &Header, records: &mut Vec<RingRecord>, place: WordPlace)
     requires { IsHeader header.now }
     ensures { (k : Known) (at word : ℕ) → FollowsRings header.now k records.old.items → IsPlacedSo header.now k at word place →

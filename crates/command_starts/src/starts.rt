@@ -1,4 +1,4 @@
-ghost use Rattle.std.specs.Prelude.{◌≡◌, ◌||◌, ℕ, List, [], ◌∷◌, false, IfSome, OnOk};
+ghost use Rattle.std.specs.Prelude.{◌≡◌, ◌||◌, ℕ, List, [], ◌∷◌, false, None, IfSome, OnOk};
 ghost use Rattle.commands.specs.declared.command.Command.{Command as CommandValue};
 ghost use Rattle.traces.specs.Header.{IsHeader};
 ghost use Rattle.traces.specs.declared.row.Row.TheVariants.{Write};
@@ -62,6 +62,27 @@ pub fn note_write<M: WordMemory>(
         header.context_size,
         taken,
     )
+}
+
+/// The same of a write that gives no command.
+pub fn note_plain_write<M: WordMemory>(
+    header: &Header,
+    trace: &mut TraceRecord,
+    memory: &mut M,
+    at: Addr,
+    word: u32,
+    place: WordPlace,
+) -> Result<(), AllocError>
+    requires headed { IsHeader header.now }
+    ensures ok { OnOk result ((k : Known) → FollowsTrace header.now k trace.old (M.words memory.old) → IsPlacedSo header.now k at word place → command_given header.now k at word ≡ None →
+        DriverKeeps header.now k → lenient header.now k (Write at word) ≡ [] →
+        FollowsTrace header.now (learned header.now k (Write at word)) trace.new (M.words memory.new)) }
+    ensures events { trace.new.events ≡ trace.old.events }
+{
+    memory.set(at, word)?;
+    note_on_ring(header, &mut trace.rings, place);
+    trace.soiled.clear(at)?;
+    Ok(())
 }
 
 /// The rings that the command binds which is given, if one is, are bound from now on (xHCI 4.6.5, 4.6.6).

@@ -51,6 +51,7 @@ impl Command {
 
     /// The command that a block says, whatever its Cycle bit. `NotInProfile` is a command that the profile leaves out,
     /// by its type or by one of its fields; `BadDescriptor` is a block of another type.
+    #[inline(always)]
     pub fn read(block: &Block) -> Result<Command, Fault>
         ensures command { (c : Command) → (result ≡ Ok c) ↔ (command_of block.now ≡ Some c) }
         ensures not_in_profile { (result ≡ Err Fault.NotInProfile) ↔ IsTrue (is_command_left_out block.now) }

@@ -7,6 +7,7 @@ use crate::command::Command;
 use trb::{Block, BlockFlags, BlockKind, Flags};
 
 /// The command of a block by its type, where that is one of the profile.
+#[inline(always)]
 pub(crate) fn command_by_kind(block: Block) -> Option<Command>
     ensures { result ≡ command_by_kind (kind block) block }
 {

@@ -1,7 +1,7 @@
-ghost use Rattle.std.specs.Prelude.{◌≡◌, ℕ, ◌+◌, ◌*◌, ◌%◌, ◌^◌, ◌≤◌, false, nat_lt};
+ghost use Rattle.std.specs.Prelude.{◌≡◌, ℕ, ◌+◌, ◌*◌, ◌%◌, ◌^◌, ◌≤◌, false, true, nat_lt};
 ghost use Rattle.std.specs.List.{list_any};
 ghost use Rattle.segments.specs.Places.{overlap};
-ghost use Rattle.traces.specs.Header.{IsHeader};
+ghost use Rattle.traces.specs.Header.{IsHeader, touches_ring};
 ghost use Rattle.traces.specs.declared.header.Header.{Header};
 ghost use Rattle.ring_knowledge.specs.Known.{Known};
 ghost use Rattle.ring_finder.specs.Finding.{IsFinder};
@@ -19,7 +19,26 @@ pub fn is_bad_area(finder: &Finder, t: &TraceRecord, from: u64, len: u64) -> boo
         result ≡ is_bad_area h k from len }
     ensures inside { result ≡ false → from + len ≤ 2 ^ 64 }
 {
-    ends_above(from, len) || finder.touches(from, len) || touches_devices(t, from, len)
+    ends_above(from, len) || touches_rings(finder, from, len) || touches_devices(t, from, len)
+}
+
+/// Whether so many bytes from an address on touch a ring. Most contexts lie behind all rings, which is told without a search.
+fn touches_rings(finder: &Finder, from: u64, len: u64) -> bool
+    ensures { (h : Header) → IsHeader h → IsFinder h.rings finder.now → result ≡ touches_ring h from len }
+{
+    !lies_behind(finder, from) && finder.touches(from, len)
+}
+
+/// Whether an address lies behind the segment that starts last.
+fn lies_behind(finder: &Finder, from: u64) -> bool
+    ensures { result ≡ true → (len : ℕ) (h : Header) → IsHeader h → IsFinder h.rings finder.now → touches_ring h from len ≡ false }
+{
+    let starts = finder.starts.as_slice();
+    if starts.is_empty() {
+        return false;
+    }
+    let last = starts[starts.len() - 1];
+    from >= last.address && from - last.address >= last.bytes
 }
 
 /// Whether one of the words that so many bytes from an address on have is soiled.

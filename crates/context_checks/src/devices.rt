@@ -11,7 +11,7 @@ ghost use Rattle.trace_record.specs.FollowsTrace.{FollowsTrace};
 use crate::areas::{is_bad_area, is_soiled, overlap};
 use crate::input::{device_context_bytes, input_context_bytes};
 use crate::leases::is_in_range_lease;
-use guest_memory::{Addr, WordMemory};
+use guest_memory::WordMemory;
 use ring_finder::Finder;
 use trace_record::TraceRecord;
 use traces::{Header, Register};
@@ -92,7 +92,5 @@ fn long_at<M: WordMemory>(memory: &M, at: u64) -> u64
     requires inside { at + 8 ≤ 2 ^ 64 }
     ensures { result ≡ long_at (M.words memory.now) at }
 {
-    let low = memory.word(Addr::new(at).unwrap());
-    let high = memory.word(Addr::new(at + 4).unwrap());
-    u64::from(low) + (u64::from(high) << 32)
+    input_words::long_at(memory, at)
 }

@@ -9,7 +9,7 @@ ghost use Rattle.context_checks.specs.Contents.{adds_left_out, is_left_out_by, i
 use commands::Command;
 use contexts::ContextSize;
 use guest_memory::WordMemory;
-use input_words::{add_flags, endpoint_streams, endpoint_type, next_flag};
+use input_words::{add_flags, next_flag, type_and_streams};
 use traces::Header;
 
 /// Whether a command adds an endpoint that has streams, or one that is isochronous where the trace's version leaves these
@@ -80,8 +80,7 @@ fn is_left_out<M: WordMemory>(
     requires last { index < 32 }
     ensures { result ≡ is_left_out_in isochronous (M.words memory.now) size address index }
 {
-    let ep_type = endpoint_type(memory, size, address, index);
-    let streams = endpoint_streams(memory, size, address, index);
+    let (ep_type, streams) = type_and_streams(memory, size, address, index);
     is_out(isochronous, ep_type, streams)
 }
 

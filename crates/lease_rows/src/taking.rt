@@ -21,7 +21,8 @@ ghost use Rattle.trace_record.specs.FollowsTrace.{FollowsTrace};
 
 use commands::Command;
 use contexts::ContextSize;
-use guest_memory::{Addr, WordMemory};
+use guest_memory::WordMemory;
+use input_words::long_at;
 use lease_book::{LeaseLog, RangeIndexes};
 use ring_knowledge::{RegisterRecord, RingRecord};
 use std::alloc::AllocError;
@@ -151,24 +152,5 @@ pub(crate) fn input_bytes(size: ContextSize) -> u32
     match size {
         ContextSize::Bytes32 => 1056,
         ContextSize::Bytes64 => 2112,
-    }
-}
-
-/// The number that stands in the two words from an address on.
-fn long_at<M: WordMemory>(memory: &M, address: u64) -> u64
-    ensures { address % 4 ≡ 0 → address + 8 ≤ 2 ^ 64 → result ≡ long_at (M.words memory.now) address }
-{
-    let low = word_at(memory, Some(address));
-    let high = word_at(memory, address.checked_add(4));
-    u64::from(high) << 32 | u64::from(low)
-}
-
-/// The word at an address; 0 where none can stand.
-fn word_at<M: WordMemory>(memory: &M, address: Option<u64>) -> u32
-    ensures { (a : ℕ) → address ≡ Some a → a % 4 ≡ 0 → result ≡ M.words memory.now a }
-{
-    match address.and_then(Addr::new) {
-        Some(at) => memory.word(at),
-        None => 0,
     }
 }

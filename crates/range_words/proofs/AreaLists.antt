@@ -25,6 +25,23 @@ module _ (items : List ℕ) (sorted : IsNonDecreasingBy (λ s. s) items) (from l
     ]))
   ]
 
+pub none_among : (items : List ℕ) (from len n : ℕ) → length items ≡ 0 → list_any (λ a. overlap from len a n) items ≡ false
+none_among items from len n none = any_none (λ a. overlap from len a n) items (λ k d below. absurd (omega (arith, none, below)))
+
+-- none touches bytes that lie before the first one, or behind the last
+module _ (items : List ℕ) (sorted : IsNonDecreasingBy (λ s. s) items) (from len n : ℕ) where
+  pub none_before : nat_lt (get_or items 0 0) (from + len) ≡ false → list_any (λ a. overlap from len a n) items ≡ false
+  none_before early = any_none (λ a. overlap from len a n) items (λ k d below.
+      let rising = sorted 0 k d (omega arith) below in
+      let same = get_or_default items 0 d 0 (omega (arith, below)) in
+      grind (arith, nat_tests, early, rising, same))
+
+  pub none_behind : nat_lt from (get_or items (length items - 1) 0 + n) ≡ false → list_any (λ a. overlap from len a n) items ≡ false
+  none_behind late = any_none (λ a. overlap from len a n) items (λ k d below.
+      let rising = sorted k (length items - 1) d (omega (arith, below)) (omega (arith, below)) in
+      let same = get_or_default items (length items - 1) d 0 (omega (arith, below)) in
+      grind (arith, nat_tests, late, rising, same))
+
 -- one more, behind those that start before it
 module _ (items : List ℕ) (start after : ℕ) where
   pub added_sorted : IsNonDecreasingBy (λ s. s) items → after ≤ length items → IsPartitionPoint (λ s. leb s start ≡ true) (λ s. leb s start ≡ false) items after →

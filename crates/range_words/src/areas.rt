@@ -1,4 +1,4 @@
-ghost use Rattle.std.specs.Prelude.{◌≡◌, ◌+◌, ℕ, List, [], ◌∷◌, ◌++◌, nat_lt, true, OnOk, OnErr};
+ghost use Rattle.std.specs.Prelude.{◌≡◌, ◌+◌, ℕ, List, [], ◌∷◌, ◌++◌, nat_lt, false, true, OnOk, OnErr};
 ghost use Rattle.std.specs.List.{list_any};
 ghost use Rattle.segments.specs.Places.{overlap};
 
@@ -38,12 +38,27 @@ impl Areas {
     pub fn touches(&self, from: u64, len: u64) -> bool
         ensures { (n : ℕ) (starts : List ℕ) → HoldsAreas n starts self.now → result ≡ list_any (λ a. overlap from len a n) starts }
     {
+        if self.lie_beside(from, len) {
+            return false;
+        }
         let starts = self.starts.as_slice();
         let after = starts.partition_point(|start| is_before_end(*start, from, len));
         if after == 0 {
             return false;
         }
         is_before_end(from, starts[after - 1], self.bytes)
+    }
+
+    /// All areas lie before these bytes, or all behind them: mostly so, and told without a search.
+    fn lie_beside(&self, from: u64, len: u64) -> bool
+        ensures { result ≡ true → (n : ℕ) (starts : List ℕ) → HoldsAreas n starts self.now → list_any (λ a. overlap from len a n) starts ≡ false }
+    {
+        let starts = self.starts.as_slice();
+        if starts.is_empty() {
+            return true;
+        }
+        let last = starts[starts.len() - 1];
+        !is_before_end(starts[0], from, len) || !is_before_end(from, last, self.bytes)
     }
 
     /// One area more. Want of memory changes nothing.

@@ -1,4 +1,4 @@
-ghost use Rattle.std.specs.Prelude.{◌≡◌, ◌<◌, ◌^◌, ◌==◌, ◌||◌, ℕ, not};
+ghost use Rattle.std.specs.Prelude.{◌≡◌, ◌*◌, ◌%◌, ◌==◌, ◌||◌, ℕ, not};
 ghost use Rattle.std.specs.List.{list_any};
 ghost use Rattle.segments.specs.Places.{overlap};
 ghost use Rattle.event_ring.specs.EventRing.{table_bytes};
@@ -72,7 +72,7 @@ impl TraceRecord {
         ensures { (h : HeaderValue) (k : Known) → FollowsRegisters k self.now.registers → FollowsEvents h k self.now.events → result ≡ table_has h k at }
     {
         match self.registers.value(Register::Erstba) {
-            Some(value) => has_word(u128::from(value / 64 * 64), table_bytes(&self.events), at),
+            Some(value) => has_word(value / 64 * 64, table_entries(&self.events), at),
             None => false,
         }
     }
@@ -104,23 +104,21 @@ fn is_in_segment(events: &Option<EventPlace>, at: Addr) -> bool
     }
 }
 
-/// Whether so many bytes from an address on have a byte of a word.
-fn has_word(base: u128, bytes: u128, at: Addr) -> bool
-    requires base { base < 2 ^ 64 }
-    requires few { bytes < 2 ^ 68 }
-    ensures { result ≡ overlap at 4 base bytes }
+/// Whether so many entries of 16 bytes from the address of a word on have a byte of a word.
+fn has_word(base: u64, entries: u64, at: Addr) -> bool
+    requires aligned { base % 4 ≡ 0 }
+    ensures { result ≡ overlap at 4 base (16 * entries) }
 {
-    let from = u128::from(at.get());
-    from < base + bytes && base < from + 4
+    let address = at.get();
+    address >= base && (address - base) / 16 < entries
 }
 
-/// How many bytes the segment table has.
-fn table_bytes(events: &Option<EventPlace>) -> u128
-    ensures value { (h : HeaderValue) (k : Known) → FollowsEvents h k events.now → result ≡ table_bytes (event_shape h) }
-    ensures few { result < 2 ^ 68 }
+/// How many entries the segment table has, of 16 bytes each.
+fn table_entries(events: &Option<EventPlace>) -> u64
+    ensures { (h : HeaderValue) (k : Known) → FollowsEvents h k events.now → 16 * result ≡ table_bytes (event_shape h) }
 {
     match events {
         None => 0,
-        Some(events) => 16 * events.shape().segments().len() as u128,
+        Some(events) => events.shape().segments().len() as u64,
     }
 }

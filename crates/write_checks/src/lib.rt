@@ -5,6 +5,8 @@ mod blocks;
 mod checks;
 mod crossings;
 mod given_commands;
+mod plain;
 mod positions;
 
 pub use checks::check_write;
+pub use plain::plain_refusal;

@@ -8,20 +8,19 @@ use Rattle.command_ends.proofs.Rest.{ended_devices, finished_rest}
 use Rattle.command_ends.proofs.ending.finish.Goals as goal
 
 pub returns-in_default-clause-followed : goal.returns-in_default-clause-followed
-returns-in_default-clause-followed g c = λ k f d set_up possible.
+returns-in_default-clause-followed g c = λ k f d set_up named possible.
     let h = c.args.header.now in
-    let some = set_up_commands h k set_up (was_started h c.requires.headed k d c.args.block possible) in
-    has_next h c.requires.headed k d c.args.block possible (sym (c.next_command.ensures.value k (g.M.WordMemory.words c.args.memory.now) f some) ∙ c.in_default.is)
+    has_next h c.requires.headed k d c.args.block possible (sym named ∙ c.in_default.is)
 
 pub returns-clause-followed : goal.returns-clause-followed
-returns-clause-followed g c = λ k f d set_up possible.
+returns-clause-followed g c = λ k f d set_up named possible.
     let h = c.args.header.now in
     let headed = c.requires.headed in
     let b = c.args.block in
     let e : Command = c.in-Some.command in
     let words = g.M.WordMemory.words c.args.memory.now in
     let some = set_up_commands h k set_up (was_started h headed k d b possible) in
-    let here : command_at h k (next_command h k) ≡ Some e = sym (c.next_command.ensures.value k words f some) ∙ c.in-Some.is in
+    let here : command_at h k (next_command h k) ≡ Some e = sym named ∙ c.in-Some.is in
     let l : Known = done h headed k d b possible e here in
     let places : FollowsPlaces h l c.end_command.new.rings.items c.end_command.new.devices =
     c.end_command.ensures k (record { rings = f.rings; devices = f.devices }) f.words (may_change h headed k d b possible e here) (has_room h headed k d b possible e here) in

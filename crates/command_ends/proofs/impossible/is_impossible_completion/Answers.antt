@@ -2,15 +2,15 @@ use Rattle.std.proofs.Common.{◌∙◌, ap, get_or, refl, sym}
 use Rattle.traces.specs.Header.{is_command_kind}
 use Rattle.ring_finder.proofs.RingsApart.{among_at}
 use Rattle.ring_finder.proofs.FoundRings.{command_found, no_command_ring, ring_here}
-use Rattle.command_ends.proofs.CommandRings.{completion_is, driven, has_commands, read_at, set_up_commands}
+use Rattle.command_ends.proofs.CommandRings.{command_is, completion_is, driven, has_commands, read_at, set_up_commands}
 use Rattle.command_ends.proofs.impossible.is_impossible_completion.Goals as goal
 
 pub returns-in_default : goal.returns-in_default
-returns-in_default c = λ k m f set_up on.
+returns-in_default c = λ k m f set_up on named.
     has_commands c.args.header.now (set_up_commands c.args.header.now k set_up on) (no_command_ring c.args.header.now (sym c.requires.found.commands ∙ c.in_default.is))
 
 pub returns : goal.returns
-returns c = λ k m f set_up on.
+returns c = λ k m f set_up on named.
     let h = c.args.header.now in
     let n = c.in-Some.number in
     let ring = c.index-rings-number.result in
@@ -18,4 +18,4 @@ returns c = λ k m f set_up on.
     let there = command_found h c.requires.headed ring (among_at h.rings n ring here.0) here.1 in
     let record_at = read_at c.deref.result.now c.args.t.now.rings.items n c.in-Some-get.known.now c.deref.ensures.value c.in-Some-get.ensures.lookup.3.0 c.in-Some-get.ensures.lookup.1 in
     let known = f.rings.each n ring c.in-Some-get.known.now here.0 record_at (driven ring.shape.kind here.1) in
-    c.is_no_completion.ensures (k.ring ring.id) k known f.devices f.registers ∙ sym (completion_is h c.requires.headed k ring there c.args.block)
+    c.is_no_completion.ensures (k.ring ring.id) k known f.devices f.registers (named ∙ command_is h c.requires.headed k ring there) ∙ sym (completion_is h c.requires.headed k ring there c.args.block)

@@ -13,8 +13,9 @@ returns g c = λ k f same fits.
     let at : c.in_ok-entry.entry ≡ c.unwrap_or.result / 64 * 64 + 8 * c.from.result = c.in_ok-entry.ensures.1 in
     let slot = c.from.ensures in
     let e : c.in_ok-entry.entry ≡ entry_of k c.args.slot = omega arith in
-    c.long_at.ensures (omega arith) (omega arith)
-    ∙ ap (λ n. Some n) (ap (λ n. long_at (g.M.WordMemory.words c.args.memory.now) n) e ∙ sym (named_is k c.args.slot (g.M.WordMemory.words c.args.memory.now) same))
+    ap (λ n. Some n)
+    (c.long_at.ensures (omega arith) (omega arith)
+    ∙ ap (λ n. long_at (g.M.WordMemory.words c.args.memory.now) n) e ∙ sym (named_is k c.args.slot (g.M.WordMemory.words c.args.memory.now) same))
 
 pub returns-in_err-entry : goal.returns-in_err-entry
 returns-in_err-entry g c = λ k f same fits.

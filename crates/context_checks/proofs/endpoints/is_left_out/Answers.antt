@@ -6,6 +6,6 @@ use Rattle.context_checks.proofs.endpoints.is_left_out.Goals as goal
 pub returns : goal.returns
 unfolding is_left_out_in
 returns g c =
-    let ep_type = c.endpoint_type-ep_type.ensures c.requires.aligned c.requires.inside in
-    let streams = c.endpoint_streams-streams.ensures c.requires.aligned c.requires.inside in
+    let ep_type = c.type_and_streams-ep_type.ensures.ep_type c.requires.aligned c.requires.inside in
+    let streams = c.type_and_streams-ep_type.ensures.streams c.requires.aligned c.requires.inside in
     c.is_out.ensures ∙ (λ i. is_isochronous (ep_type i) && c.args.isochronous || nat_lt 0 (streams i))

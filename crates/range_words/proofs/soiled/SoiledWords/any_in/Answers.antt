@@ -2,7 +2,16 @@ use Rattle.range_words.proofs.Words.{◌≡◌, ◌+◌, ◌-◌, ◌*◌, ◌/�
 use Rattle.range_words.proofs.WordTests.{any_below, none_below}
 use Rattle.range_words.proofs.BitTests.{none_common, some_common}
 use Rattle.range_words.proofs.MarkedWords.{marked_at, in_group, between, low_of, high_of}
+use Rattle.std.proofs.lemmas.Nat.Bits.{bit_at-zero}
 use Rattle.range_words.proofs.soiled.SoiledWords.any_in.Goals as goal
+
+pub returns-then-is_clean : goal.returns-then-is_clean
+returns-then-is_clean c = λ soiled held.
+    sym (none_below (λ i. soiled (c.args.from + 4 * i)) c.args.words (λ i below.
+    let a : ℕ = c.args.from + 4 * i in
+    let place : a % 4 ≡ 0 = omega (arith, c.requires.aligned) in
+    let none : bits_of c.args.self.now (a / 256) ≡ 0 = c.is_clean.ensures c.if-is_clean.true (a / 256) (omega (arith, c.requires.aligned)) (omega (arith, below, c.requires.aligned)) in
+    held.each a place ∙ ap (λ b. nat_lt 0 (bit_at b (a / 4 % 64))) none ∙ ap (nat_lt 0) (bit_at-zero (a / 4 % 64))))
 
 pub returns-then-common-ne0 : goal.returns-then-common-ne0
 returns-then-common-ne0 c = λ soiled held.

@@ -1,0 +1,6 @@
+use Rattle.trace_record.proofs.Words.{subst, FollowsEvents}
+use Rattle.trace_record.proofs.TableWords.{no_bytes}
+use Rattle.trace_record.proofs.owned.table_entries.Goals as goal
+
+pub returns-in-None : goal.returns-in-None
+returns-in-None c = λ h k f. no_bytes h (subst (FollowsEvents h k) c.in-None.is f)
