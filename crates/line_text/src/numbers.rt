@@ -28,6 +28,7 @@ pub fn u16_of(field: &[u8]) -> Option<u16>
 
 /// A word from 8 hex digits of either case.
 #[tactic(auto, unfolding(crate::specs::Numbers::number_of))]
+#[inline(always)]
 pub fn u32_of(field: &[u8]) -> Option<u32>
     ensures { result ≡ number_of w32 field.now }
 {
@@ -63,6 +64,7 @@ pub fn two_words_of(first: &[u8], second: &[u8]) -> Option<(u32, u32)>
 
 /// An address, a register's value or a position from 16 hex digits of either case.
 #[tactic(auto, unfolding(crate::specs::Numbers::number_of))]
+#[inline(always)]
 pub fn u64_of(field: &[u8]) -> Option<u64>
     ensures { result ≡ number_of w64 field.now }
 {

@@ -2,7 +2,9 @@
 use Rattle.std.proofs.Common.{◌≡◌, inl, inr, ◌+◌, ◌-◌, ◌<◌, ◌≤◌, ◌==◌, ◌∷◌, ◌++◌, ◌∙◌, ℕ, List, [], Bool, true, false, not, Option, refl, ap, sym, append_assoc, append-nil, drop, take, length, length-append, length-drop, arith, eqb-true}
 use Rattle.std.proofs.KnownBytes.{Consumes-trans}
 use Rattle.std.proofs.lemmas.Bool.{eqb-false}
-use Rattle.std.proofs.lemmas.List.{drop-drop, drop_at, length-take-le}
+use Rattle.std.proofs.lemmas.List.{drop-drop, drop-take, drop_at, length-take-le, take-append-le, take-take}
+use Rattle.std.proofs.lemmas.List.Edits.{take-paste}
+use Rattle.std.proofs.Math.Seq.{paste, take-append-add}
 use Rattle.std.specs.Io.KnownBytes.{Consumes, IsAtEnd}
 use Rattle.row_reader.specs.Ahead.{Comes, IsFilled, IsLong, has_come}
 
@@ -41,8 +43,36 @@ filled_at_end false held ahead is ended = let other = eqb-false (length ahead) 0
 
 -- ---- the bytes that are kept
 
-pub kept : (items front back : List ℕ) (done count : ℕ) → done ≤ length items → drop done items ≡ front ++ back → length back ≡ count → drop (length items - count) items ≡ back
-kept items front back done count within is size =
-    let long : length items - done ≡ length front + count = sym (length-drop done items) ∙ ap length is ∙ length-append front back ∙ ap (λ n. length front + n) size in
-    let at : length items - count ≡ done + length front = omega (arith, long, within) in
-    ap (λ n. drop n items) at ∙ sym (drop-drop (length front) done items) ∙ ap (λ l. drop (length front) l) is ∙ drop_at front back (length front) refl
+-- how many are ahead
+pub long_ahead : (items : List ℕ) (done end : ℕ) → end ≤ length items → length (drop done (take end items)) ≡ end - done
+long_ahead items done end fits = length-drop done (take end items) ∙ ap (λ n. n - done) (length-take-le end items fits)
+
+pub kept : (items front back : List ℕ) (done end count : ℕ) → done ≤ end → end ≤ length items → drop done (take end items) ≡ front ++ back → length back ≡ count →
+    drop (end - count) (take end items) ≡ back
+kept items front back done end count within fits is size =
+    let long : end - done ≡ length front + count = sym (long_ahead items done end fits) ∙ ap length is ∙ length-append front back ∙ ap (λ n. length front + n) size in
+    let at : end - count ≡ done + length front = omega (arith, long, within) in
+    ap (λ n. drop n (take end items)) at ∙ sym (drop-drop (length front) done (take end items)) ∙ ap (λ l. drop (length front) l) is ∙ drop_at front back (length front) refl
+
+pub moved : (items : List ℕ) (done end : ℕ) → done ≤ end → end ≤ length items → take (end - done) (paste items 0 (drop done items) (end - done)) ≡ drop done (take end items)
+moved items done end within fits =
+    let whole : done + (end - done) ≡ end = omega (arith, within) in
+    let plain : end - done ≡ 0 + (end - done) = omega arith in
+    let some : end - done ≤ length (drop done items) = omega (arith, length-drop done items, fits) in
+    ap (λ n. take n (paste items 0 (drop done items) (end - done))) plain ∙ take-paste items 0 (drop done items) (end - done) (omega arith) some ∙ sym (drop-take done (end - done) items) ∙ ap (λ n. drop done (take n items)) whole
+
+-- a piece was put behind the bytes
+pub come_behind : (done end count len : ℕ) (items old piece post more ahead : List ℕ) → done ≡ 0 → items ≡ old → end ≤ length old → count ≤ length piece → end + count ≤ len → drop done (take end old) ≡ ahead →
+    drop done (take (end + count) (take len ((take end items ++ (piece ++ post)) ++ more))) ≡ ahead ++ take count piece
+come_behind done end count len items old piece post more ahead front is fits some room before =
+    let front_is : take end old ≡ ahead = sym (ap (λ d. drop d (take end old)) front) ∙ before in
+    let joined : (take end items ++ (piece ++ post)) ++ more ≡ take end old ++ (piece ++ (post ++ more)) =
+    append_assoc (take end items) (piece ++ post) more ∙ ap (λ l. take end items ++ l) (append_assoc piece post more) ∙ ap (λ l. take end l ++ (piece ++ (post ++ more))) is in
+    let at : end + count ≡ length (take end old) + count = ap (λ n. n + count) (sym (length-take-le end old fits)) in
+    ap (λ d. drop d (take (end + count) (take len ((take end items ++ (piece ++ post)) ++ more)))) front
+    ∙ take-take (end + count) len ((take end items ++ (piece ++ post)) ++ more) room
+    ∙ ap (take (end + count)) joined
+    ∙ ap (λ n. take n (take end old ++ (piece ++ (post ++ more)))) at
+    ∙ take-append-add (take end old) (piece ++ (post ++ more)) count
+    ∙ ap (λ l. take end old ++ l) (take-append-le count piece (post ++ more) some)
+    ∙ ap (λ l. l ++ take count piece) front_is

@@ -1,17 +1,19 @@
 -- What one call answers, by the first line of the bytes that stand ahead
-use Rattle.std.proofs.Common.{◌≡◌, inl, inr, ◌<◌, ◌∷◌, ◌++◌, ◌∙◌, ℕ, List, [], Bool, true, false, Option, Some, None, Result, Ok, Err, refl, ap, sym, subst, append-nil, length, arith, lt-ltb}
+use Rattle.std.proofs.Common.{◌≡◌, inl, inr, ◌+◌, ◌≤◌, ◌<◌, ◌∷◌, ◌++◌, ◌∙◌, ℕ, List, [], Bool, true, false, Option, Some, None, Result, Ok, Err, refl, ap, sym, subst, append-nil, append_assoc, drop, length, length-append, arith, lt-ltb}
 use Rattle.std.proofs.KnownBytes.{Consumes-nil}
 use Rattle.std.proofs.lemmas.Bool.{cases_Bool}
+use Rattle.std.proofs.lemmas.List.{drop_at}
 use Rattle.std.specs.Io.KnownBytes.{IsAtEnd}
-use Rattle.traces.specs.Limits.{most_bytes}
+use Rattle.traces.specs.Limits.{most_bytes, most_lines}
 use Rattle.traces.specs.declared.row.Row.{Row}
-use Rattle.line_text.proofs.Joins.{lines_of-nothing}
+use Rattle.line_text.proofs.Joins.{lines_of-ended, lines_of-nothing}
 use Rattle.line_text.specs.Lines.{TextLine, behind_content, lines_of}
 use Rattle.trace_reader.specs.declared.fault.LineFault.{LineFault}
 use Rattle.trace_reader.specs.declared.fault.LineError.{LineError}
 use Rattle.trace_reader.specs.declared.fault.LineError.TheVariants.{Fault, Memory}
 use Rattle.trace_reader.specs.Entries.{AnswersRow}
 use Rattle.trace_reader.specs.Reading.{State, next_number, read_line}
+use Rattle.trace_reader.specs.RowsAhead.{BeginsWithRow}
 unfoldable use Rattle.trace_reader.specs.Reading.{is_too_long}
 use Rattle.row_reader.specs.declared.fault.StreamFault.{StreamFault}
 use Rattle.row_reader.specs.declared.fault.StreamFault.TheVariants.{Line}
@@ -173,6 +175,24 @@ pub given : (st : State) (ended : Bool) (number : ℕ) (row : Row) (held held' :
 given st true number row held held' ahead ahead' is at right = cc is
 given st false number row held held' ahead ahead' is at right =
     subst (λ (n : ℕ). IsCall (record { read = st; ended = false }) (record { read = record st { lines = n; begun = true }; ended = false }) held held' ahead ahead' (Ok (Some (number, row)))) (sym at) right
+
+-- the bytes ahead begin with a line that says a row
+pub begun_within : (ahead : List ℕ) (row : Row) (count : ℕ) → BeginsWithRow row count ahead → count ≤ length ahead
+begun_within ahead row count begins = omega (arith, ap length begins.2, length-append begins.0 (10 ∷ begins.1), begins.3)
+
+pub row_begins : (st : State) (ended : Bool) (held : Option (List ℕ)) (ahead left : List ℕ) (row : Row) (count : ℕ) → BeginsWithRow row count ahead → 2 ≤ st.lines → next_number st ≤ most_lines →
+    ended ≡ false → left ≡ drop count ahead →
+    IsCall (record { read = st; ended = ended }) (record { read = record st { lines = next_number st; begun = true }; ended = ended }) held held ahead left (Ok (Some (next_number st, row)))
+row_begins st ended held ahead left row count begins behind within going is =
+    let content = begins.0 in
+    let rest = begins.1 in
+    let line : TextLine = record { content = content; is_ended = true } in
+    let lines : lines_of ahead ≡ line ∷ lines_of rest = ap lines_of begins.2 ∙ lines_of-ended content rest begins.4 in
+    let stands : StandsAhead held held ahead ahead ahead line rest = record { comes = nothing_came held ahead; is = refl; lines = lines; whole = begins.2; one = begins.4 } in
+    let long : length (content ++ 10 ∷ []) ≡ count = omega (arith, length-append content (10 ∷ []), begins.3) in
+    let behind_it : drop count ahead ≡ rest = ap (drop count) (begins.2 ∙ sym (append_assoc content (10 ∷ []) rest)) ∙ drop_at (content ++ 10 ∷ []) rest count long in
+    given st ended (next_number st) row held held ahead left going refl
+    (row_given st held held ahead ahead ahead left line rest (next_number st) row stands (begins.5 st behind within) (λ e. is ∙ behind_it) refl)
 
 pub stopped : (st : State) (ended : Bool) (result : Result (Option (ℕ × Row)) StreamFault) (held held' : Option (List ℕ)) (ahead ahead' : List ℕ) → ended ≡ false →
     IsCall (record { read = st; ended = false }) (record { read = st; ended = true }) held held' ahead ahead' result →

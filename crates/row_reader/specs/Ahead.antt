@@ -1,11 +1,11 @@
 -- The bytes that were read ahead, and those that the device still holds
-use Rattle.std.specs.Prelude.{◌≡◌, ◌⊎◌, ◌<◌, ℕ, Bool, true, false, List, [], ◌∷◌, ◌++◌, drop, length, Option, Some, None}
+use Rattle.std.specs.Prelude.{◌≡◌, ◌⊎◌, ◌<◌, ℕ, Bool, true, false, List, [], ◌∷◌, ◌++◌, drop, take, length, Option, Some, None}
 use Rattle.std.specs.Io.KnownBytes.{Consumes, IsAtEnd}
 use Rattle.traces.specs.Limits.{most_bytes}
 use Rattle.row_reader.specs.declared.ahead.Ahead.{Ahead}
 
 abbrev pub ahead_of : Ahead → List ℕ
-ahead_of ahead = drop ahead.done ahead.bytes.items
+ahead_of ahead = drop ahead.done (take ahead.end ahead.bytes.items)
 
 -- bytes came from the device, and stand behind those that were ahead
 abbrev pub Comes : Option (List ℕ) → Option (List ℕ) → List ℕ → List ℕ → Type 0

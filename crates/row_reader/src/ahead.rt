@@ -1,16 +1,16 @@
 ghost use Rattle.std.specs.Prelude.{◌≤◌, ◌<◌, vec_len};
-
-use std::alloc::Global;
+ghost use Rattle.traces.specs.Limits.{most_bytes};
 
 /// The bytes that were read ahead of the lines.
 #[derive(Drop)]
 pub struct Ahead {
-    pub alloc: Global,
+    /// Where the device puts them, with room for more than a line may have.
     pub bytes: Vec<u8>,
-    /// So many of them belong to lines that were read.
+    /// So many belong to lines that were read.
     pub done: usize,
-    /// Where the device puts the next piece.
-    pub piece: Vec<u8>,
-    pub ghost within: { done ≤ vec_len bytes },
-    pub ghost room: { 0 < vec_len piece },
+    /// So many came.
+    pub end: usize,
+    pub ghost within: { done ≤ end },
+    pub ghost came: { end ≤ vec_len bytes },
+    pub ghost room: { most_bytes < vec_len bytes },
 }

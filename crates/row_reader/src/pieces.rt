@@ -1,5 +1,5 @@
 //! The text in pieces: bytes are read ahead until a line stands there.
-ghost use Rattle.std.specs.Prelude.{◌≡◌, ◌++◌, ◌≤◌, ◌<◌, List, ℕ, [], take, length, vec_len, false, true, IfErr, IfOk, OnOk};
+ghost use Rattle.std.specs.Prelude.{◌≡◌, ◌++◌, ◌≤◌, ◌<◌, List, ℕ, [], drop, take, length, vec_len, false, true, IfErr, IfOk, OnOk};
 ghost use Rattle.row_reader.specs.Ahead.{Comes, IsFilled, IsLong, ahead_of, has_come};
 ghost use Rattle.row_reader.specs.Answers.{IsNoLine, told_failures};
 ghost use Rattle.traces.specs.Limits.{most_bytes};
@@ -11,20 +11,18 @@ use line_text::first_line;
 use std::alloc::{AllocError, Global};
 use trace_reader::MOST_BYTES;
 
-/// Bytes that are read at once.
-const PIECE: usize = 65536;
+/// Bytes that there is room for.
+const ROOM: usize = 65536;
 
 impl Ahead {
     /// No byte was read.
     pub fn new(alloc: Global) -> Result<Ahead, AllocError>
         ensures { IfOk result (λ ahead. ahead_of ahead ≡ []) }
     {
-        let piece = vec![in alloc; 0; PIECE]?;
         Ok(Ahead {
-            alloc,
-            bytes: Vec::new(alloc),
+            bytes: vec![in alloc; 0; ROOM]?,
             done: 0,
-            piece,
+            end: 0,
         })
     }
 
@@ -32,7 +30,7 @@ impl Ahead {
     pub fn as_slice(&self) -> &[u8]
         ensures { result.now ≡ ahead_of self.now }
     {
-        &self.bytes[self.done..]
+        &self.bytes[self.done..self.end]
     }
 
     /// Keeps the last of the bytes, so many.
@@ -40,7 +38,16 @@ impl Ahead {
         requires { count ≤ length (ahead_of self.old) }
         ensures { (front back : List ℕ) → ahead_of self.old ≡ front ++ back → length back ≡ count → ahead_of self.new ≡ back }
     {
-        self.done = self.bytes.len() - count;
+        self.done = self.end - count;
+    }
+
+    /// Leaves the first of the bytes, so many.
+    #[inline(always)]
+    pub fn skip(&mut self, count: usize)
+        requires { count ≤ length (ahead_of self.old) }
+        ensures { ahead_of self.new ≡ drop count (ahead_of self.old) }
+    {
+        self.done += count;
     }
 
     /// Reads pieces until the first line stands there, or too much of it for a line, or the text has ended. None does where no byte
@@ -61,31 +68,30 @@ impl Ahead {
 
     /// Reads one piece more, and says whether it has a byte.
     fn read_on<S: Source>(&mut self, source: &mut S) -> Result<bool, StreamFault>
+        requires { length (ahead_of self.old) ≤ most_bytes }
         ensures came { IfOk result (λ some. has_come some (S.held source.old) (S.held source.new) (ahead_of self.old) (ahead_of self.new)) }
         ensures no_line { IfErr result IsNoLine }
         ensures failures { S.failed source.new ≡ told_failures (S.failed source.old) result }
     {
-        match source.read(self.piece.as_mut_slice()) {
+        self.move_to_front();
+        match source.read(&mut self.bytes[self.end..]) {
             Ok(0) => Ok(false),
             Ok(count) => {
-                self.take_in(count)?;
+                self.end += count;
                 Ok(true)
             }
             Err(Failed) => Err(StreamFault::Device),
         }
     }
 
-    /// Puts the first bytes of the piece behind the others.
-    fn take_in(&mut self, count: usize) -> Result<(), AllocError>
-        requires { count ≤ vec_len self.old.piece }
-        ensures { OnOk result (ahead_of self.new ≡ ahead_of self.old ++ take count self.old.piece.items) }
+    /// Moves the bytes to the front, so that the room is behind them.
+    fn move_to_front(&mut self)
+        ensures same { ahead_of self.new ≡ ahead_of self.old }
+        ensures front { self.new.done ≡ 0 }
     {
-        let mut bytes = Vec::new(self.alloc);
-        bytes.extend_from_slice(&self.bytes[self.done..])?;
-        bytes.extend_from_slice(&self.piece[..count])?;
-        self.bytes = bytes;
+        self.bytes.copy_within(self.done..self.end, 0);
+        self.end -= self.done;
         self.done = 0;
-        Ok(())
     }
 }
 

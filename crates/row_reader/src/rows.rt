@@ -1,7 +1,9 @@
 ghost use Rattle.std.specs.Prelude.{◌≡◌, ◌+◌, ◌≤◌, ℕ, List, Option, None, Some, Ok, false, true, IfNone, IfOk, IfSome};
 ghost use Rattle.traces.specs.Limits.{most_lines};
 ghost use Rattle.traces.specs.Header.{IsHeader};
+ghost use Rattle.traces.specs.declared.row.Row.TheVariants.{Sub};
 ghost use Rattle.trace_reader.specs.Reading.{State};
+ghost use Rattle.trace_reader.specs.RowsAhead.{BeginsWithRow};
 ghost use Rattle.row_reader.specs.Ahead.{ahead_of};
 ghost use Rattle.row_reader.specs.Answers.{IsCall, behind_answer, has_ended, told_failures};
 ghost use Rattle.row_reader.specs.ReaderState.{progress_of};
@@ -12,8 +14,11 @@ use crate::reader::RowReader;
 use crate::source::Source;
 use line_text::first_line;
 use std::alloc::Global;
-use trace_reader::row_in;
-use traces::{Header, Row};
+use trace_reader::{
+    MOST_LINES, bell_ahead, declaration_ahead, erdp_ahead, event_ahead, row_in, write_ahead,
+};
+use traces::{Header, Register, Row};
+use trb::Blocks;
 
 impl RowReader {
     /// What the lines before the rows have said.
@@ -34,7 +39,77 @@ impl RowReader {
     /// The next row, with the number of its line: the answer, how far the reading has come and the text that is left are those of the
     /// definition. Where no row is answered the reading has ended, and from then on each call answers none and reads nothing. A failure of
     /// the device is told, and nothing else is told as one.
+    #[inline(always)]
     pub fn next_row<S: Source>(&mut self, source: &mut S) -> Result<Option<(u32, Row)>, StreamFault>
+        ensures answer { IsCall (progress_of self.old) (progress_of self.new) (S.held source.old) (S.held source.new) (ahead_of self.old.ahead) (ahead_of self.new.ahead) result }
+        ensures over { self.new.ended ≡ has_ended result }
+        ensures nothing { self.old.ended ≡ true → (result ≡ Ok None) × (self.new ≡ self.old) × (source.new ≡ source.old) }
+        ensures failures { S.failed source.new ≡ told_failures (S.failed source.old) result }
+        ensures header { self.new.header ≡ self.old.header }
+    {
+        if self.ended || self.lines >= MOST_LINES {
+            return self.searched_row(source);
+        }
+        if let Some((at, word)) = write_ahead(self.ahead.as_slice()) {
+            self.ahead.skip(28);
+            self.lines += 1;
+            return Ok(Some((self.lines, Row::Write { at, word })));
+        }
+        self.other_row(source)
+    }
+
+    /// The next row, where it isn't known to be a write: by the places of its fields, where they are those of a frequent form.
+    #[inline(never)]
+    fn other_row<S: Source>(&mut self, source: &mut S) -> Result<Option<(u32, Row)>, StreamFault>
+        requires going { self.now.ended ≡ false }
+        requires limit { self.now.lines + 1 ≤ most_lines }
+        ensures answer { IsCall (progress_of self.old) (progress_of self.new) (S.held source.old) (S.held source.new) (ahead_of self.old.ahead) (ahead_of self.new.ahead) result }
+        ensures over { self.new.ended ≡ has_ended result }
+        ensures failures { S.failed source.new ≡ told_failures (S.failed source.old) result }
+        ensures header { self.new.header ≡ self.old.header }
+    {
+        if let Some(event) = event_ahead(self.ahead.as_slice()) {
+            self.ahead.skip(39);
+            self.lines += 1;
+            return Ok(Some((self.lines, Row::Read { event })));
+        }
+        if let Some((ring, blocks)) = self.declaration() {
+            self.ahead.skip(43);
+            self.lines += 1;
+            return Ok(Some((self.lines, Row::Sub { ring, blocks })));
+        }
+        if let Some((slot, target)) = bell_ahead(self.ahead.as_slice()) {
+            self.ahead.skip(9);
+            self.lines += 1;
+            return Ok(Some((self.lines, Row::Bell { slot, target })));
+        }
+        if let Some(value) = erdp_ahead(self.ahead.as_slice()) {
+            self.ahead.skip(26);
+            self.lines += 1;
+            return Ok(Some((
+                self.lines,
+                Row::Reg {
+                    register: Register::Erdp,
+                    value,
+                },
+            )));
+        }
+        self.searched_row(source)
+    }
+
+    /// The ring and the block of the first line, where it declares one. Want of memory is told where the line is read again.
+    #[inline(always)]
+    fn declaration(&self) -> Option<(u8, Blocks)>
+        ensures { IfSome result (λ said. BeginsWithRow (Sub said.0 said.1) 43 (ahead_of self.now.ahead)) }
+    {
+        let (ring, block) = declaration_ahead(self.ahead.as_slice())?;
+        let blocks = vec![in self.alloc; block].ok()?;
+        Some((ring, Blocks::new(blocks)))
+    }
+
+    /// The next row, where a line feed is looked for.
+    #[inline(never)]
+    fn searched_row<S: Source>(&mut self, source: &mut S) -> Result<Option<(u32, Row)>, StreamFault>
         ensures answer { IsCall (progress_of self.old) (progress_of self.new) (S.held source.old) (S.held source.new) (ahead_of self.old.ahead) (ahead_of self.new.ahead) result }
         ensures over { self.new.ended ≡ has_ended result }
         ensures nothing { self.old.ended ≡ true → (result ≡ Ok None) × (self.new ≡ self.old) × (source.new ≡ source.old) }

@@ -4,6 +4,8 @@ pub mod LineFields
 pub mod ReadSteps
 pub mod RowLines
 pub mod RingsGrow
+pub mod RingsClash
+pub mod SegmentsSearched
 pub mod LinePieces
 pub mod SpelledFields
 pub mod SpelledValues
@@ -28,5 +30,6 @@ pub mod PlanSteps
 pub mod EventLines
 pub mod SpelledSchedules
 pub mod ScheduleSteps
+pub mod RowsAhead
 pub mod Examples
 pub mod Words

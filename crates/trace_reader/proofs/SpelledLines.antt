@@ -112,7 +112,7 @@ good_from_none st line none =
 
 -- ---- to no fault
 
-said_sound : (s : Said) → AllSound (fields_said s)
+pub said_sound : (s : Said) → AllSound (fields_said s)
 said_sound (SaysRow row) = row_sound row
 said_sound (SaysRing ring) = ring_sound ring
 

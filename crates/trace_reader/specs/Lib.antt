@@ -6,6 +6,7 @@ pub mod TraceLines
 pub mod Reading
 pub mod Spelling
 pub mod Entries
+pub mod RowsAhead
 pub mod Printing
 pub mod Valid
 pub mod LineByLine
@@ -14,4 +15,5 @@ pub mod Plans
 pub mod PlanSpelling
 pub mod PlanValues
 pub mod Schedules
+pub mod SegmentsApart
 pub mod ScheduleSpelling

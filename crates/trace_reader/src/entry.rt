@@ -231,6 +231,7 @@ fn named(word: &[u8], registers: &[Register]) -> Option<Register>
 
 /// The address of a word.
 #[tactic(auto, unfolding(crate::specs::Values::word_address_of))]
+#[inline(always)]
 pub fn word_address_of(field: &[u8]) -> Option<Addr>
     ensures { result ≡ word_address_of field.now }
 {

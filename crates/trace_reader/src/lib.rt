@@ -11,14 +11,16 @@ mod print;
 mod quick;
 mod read;
 mod schedules;
+mod segments_so_far;
 mod so_far;
 mod step_line;
 
 pub use entry::block_of;
 pub use fault::{LineError, LineFault, ReadFault};
-pub use line::{MOST_BYTES, row_in};
+pub use line::{MOST_BYTES, MOST_LINES, row_in};
 pub use plans::read_plan;
 pub use print::{print_trace, with_ring, with_sub, with_write};
+pub use quick::{bell_ahead, declaration_ahead, erdp_ahead, event_ahead, write_ahead};
 pub use read::read_trace;
 pub use schedules::{print_schedule, read_schedule};
 pub use so_far::TraceSoFar;

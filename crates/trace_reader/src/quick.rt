@@ -1,9 +1,12 @@
-ghost use Rattle.std.specs.Prelude.{◌≡◌, ◌∷◌, [], Ok, Bool, length, IfOk, IfSome};
+ghost use Rattle.std.specs.Prelude.{◌≡◌, ◌∷◌, ◌++◌, [], ℕ, List, Ok, Bool, false, length, IfOk, IfSome};
 ghost use Rattle.trace_reader.specs.Entries.{SaysAlone, said_alone};
+ghost use Rattle.trace_reader.specs.RowsAhead.{BeginsWithRow};
 ghost use Rattle.trace_reader.specs.Values.{SaysRow};
+ghost use Rattle.traces.specs.declared.register.Register.TheVariants.{Erdp};
 ghost use Rattle.traces.specs.declared.row.Row.{Row};
 
 use crate::entry::{block_of, word_address_of};
+use guest_memory::Addr;
 use line_text::{Line, u8_of, u32_of, u64_of};
 use std::alloc::{AllocError, Global};
 use traces::{Register, Row};
@@ -18,32 +21,104 @@ pub fn quick_row(alloc: Global, line: &Line) -> Result<Option<Row>, AllocError>
     }
     let content = line.content();
     match content.len() {
-        27 => Ok(quick_write(content)),
-        38 => Ok(quick_event(content)),
-        8 => Ok(quick_bell(content)),
-        25 => Ok(quick_erdp(content)),
+        27 => Ok(write_of(content)),
+        38 => Ok(event_of(content)),
+        8 => Ok(bell_of(content)),
+        25 => Ok(erdp_of(content)),
         42 => quick_sub(alloc, content),
         _ => Ok(None),
     }
 }
 
+/// The address and the word of a text's first line, where that is `w`, an address and a word: with its line feed the line takes 28 bytes,
+/// and no line feed is looked for. Where it answers none, the line may still say a row.
+#[inline(always)]
+pub fn write_ahead(text: &[u8]) -> Option<(Addr, u32)>
+    ensures { IfSome result (λ said. BeginsWithRow (Row.Write said.0 said.1) 28 text.now) }
+{
+    quick_write(content_ahead(text, 27)?)
+}
+
+/// The words of a text's first line, where that is `ev` and the four words of a block: it takes 39 bytes.
+#[inline(always)]
+pub fn event_ahead(text: &[u8]) -> Option<Block>
+    ensures { IfSome result (λ event. BeginsWithRow (Row.Read event) 39 text.now) }
+{
+    quick_event(content_ahead(text, 38)?)
+}
+
+/// The slot and the target of a text's first line, where that is `db` and these: it takes 9 bytes.
+#[inline(always)]
+pub fn bell_ahead(text: &[u8]) -> Option<(u8, u8)>
+    ensures { IfSome result (λ said. BeginsWithRow (Row.Bell said.0 said.1) 9 text.now) }
+{
+    quick_bell(content_ahead(text, 8)?)
+}
+
+/// The value of a text's first line, where that is `reg erdp` and a value: it takes 26 bytes.
+#[inline(always)]
+pub fn erdp_ahead(text: &[u8]) -> Option<u64>
+    ensures { IfSome result (λ value. BeginsWithRow (Row.Reg Erdp value) 26 text.now) }
+{
+    quick_erdp(content_ahead(text, 25)?)
+}
+
+/// The ring and the block of a text's first line, where that is `sub` and these: it takes 43 bytes.
+#[inline(always)]
+pub fn declaration_ahead(text: &[u8]) -> Option<(u8, Block)>
+    ensures { IfSome result (λ said. BeginsWithRow (Row.Sub said.0 (said.1 ∷ [])) 43 text.now) }
+{
+    quick_declaration(content_ahead(text, 42)?)
+}
+
+/// The first bytes of a text, so many, where a line feed stands behind them.
+#[inline(always)]
+fn content_ahead(text: &[u8], count: usize) -> Option<&[u8]>
+    ensures { IfSome result (λ content. (length content.now ≡ count) × ((rest : List ℕ) × (text.now ≡ content.now ++ 10 ∷ rest))) }
+{
+    if text.len() <= count || text[count] != b'\n' {
+        return None;
+    }
+    Some(&text[..count])
+}
+
 /// `w`, an address and a word.
-fn quick_write(content: &[u8]) -> Option<Row>
+fn write_of(content: &[u8]) -> Option<Row>
     requires { length content.now ≡ 27 }
     ensures { IfSome result (λ row. SaysAlone row content.now) }
+{
+    let (at, word) = quick_write(content)?;
+    Some(Row::Write { at, word })
+}
+
+/// The address and the word of a `w` line.
+#[inline(always)]
+fn quick_write(content: &[u8]) -> Option<(Addr, u32)>
+    requires { length content.now ≡ 27 }
+    ensures { IfSome result (λ said. SaysAlone (Row.Write said.0 said.1) content.now) }
 {
     if content[0] != b'w' || content[1] != b' ' || content[18] != b' ' {
         return None;
     }
     let at = word_address_of(&content[2..18])?;
     let word = u32_of(&content[19..27])?;
-    Some(Row::Write { at, word })
+    Some((at, word))
 }
 
 /// `ev` and the four words of a block.
-fn quick_event(content: &[u8]) -> Option<Row>
+fn event_of(content: &[u8]) -> Option<Row>
     requires { length content.now ≡ 38 }
     ensures { IfSome result (λ row. SaysAlone row content.now) }
+{
+    let event = quick_event(content)?;
+    Some(Row::Read { event })
+}
+
+/// What such a line says.
+#[inline(always)]
+fn quick_event(content: &[u8]) -> Option<Block>
+    requires { length content.now ≡ 38 }
+    ensures { IfSome result (λ event. SaysAlone (Row.Read event) content.now) }
 {
     if content[0] != b'e' || content[1] != b'v' || content[2] != b' ' {
         return None;
@@ -51,38 +126,56 @@ fn quick_event(content: &[u8]) -> Option<Row>
     if content[11] != b' ' || content[20] != b' ' || content[29] != b' ' {
         return None;
     }
-    let event = block_of(
+    block_of(
         &content[3..11],
         &content[12..20],
         &content[21..29],
         &content[30..38],
-    )?;
-    Some(Row::Read { event })
+    )
 }
 
 /// `db`, a slot and a target.
-fn quick_bell(content: &[u8]) -> Option<Row>
+fn bell_of(content: &[u8]) -> Option<Row>
     requires { length content.now ≡ 8 }
     ensures { IfSome result (λ row. SaysAlone row content.now) }
+{
+    let (slot, target) = quick_bell(content)?;
+    Some(Row::Bell { slot, target })
+}
+
+/// What such a line says.
+#[inline(always)]
+fn quick_bell(content: &[u8]) -> Option<(u8, u8)>
+    requires { length content.now ≡ 8 }
+    ensures { IfSome result (λ said. SaysAlone (Row.Bell said.0 said.1) content.now) }
 {
     if content[0] != b'd' || content[1] != b'b' || content[2] != b' ' || content[5] != b' ' {
         return None;
     }
     let slot = u8_of(&content[3..5])?;
     let target = u8_of(&content[6..8])?;
-    Some(Row::Bell { slot, target })
+    Some((slot, target))
 }
 
 /// `reg erdp` and a value.
-fn quick_erdp(content: &[u8]) -> Option<Row>
+fn erdp_of(content: &[u8]) -> Option<Row>
     requires { length content.now ≡ 25 }
     ensures { IfSome result (λ row. SaysAlone row content.now) }
 {
-    let value = u64_of(content.strip_prefix(b"reg erdp ")?)?;
+    let value = quick_erdp(content)?;
     Some(Row::Reg {
         register: Register::Erdp,
         value,
     })
+}
+
+/// What such a line says.
+#[inline(always)]
+fn quick_erdp(content: &[u8]) -> Option<u64>
+    requires { length content.now ≡ 25 }
+    ensures { IfSome result (λ value. SaysAlone (Row.Reg Erdp value) content.now) }
+{
+    u64_of(content.strip_prefix(b"reg erdp ")?)
 }
 
 /// `sub`, a ring and the four words of one block.
@@ -98,6 +191,7 @@ fn quick_sub(alloc: Global, content: &[u8]) -> Result<Option<Row>, AllocError>
 }
 
 /// The ring and the block of a `sub` line.
+#[inline(always)]
 fn quick_declaration(content: &[u8]) -> Option<(u8, Block)>
     requires { length content.now ≡ 42 }
     ensures { IfSome result (λ said. SaysAlone (Row.Sub said.0 (said.1 ∷ [])) content.now) }

@@ -1,8 +1,9 @@
-ghost use Rattle.std.specs.Prelude.{ℕ, List, ◌≡◌, ◌<◌, ◌≤◌, ◌+◌, ◌++◌, ◌∷◌, [], true, false, Ok, Err, IsTrue, OnErr, OnOk, IfOk, IfErr};
+ghost use Rattle.std.specs.Prelude.{ℕ, List, ◌≡◌, ◌<◌, ◌≤◌, ◌+◌, [], false, Ok, Err, IsTrue, OnOk, IfOk, IfErr};
 ghost use Rattle.std.specs.Str.{str_to_ascii_lowercase};
+ghost use Rattle.segments.specs.Shape.{IsShape, is_shape};
 ghost use Rattle.trace_reader.specs.declared.fault.LineFault.{LineFault};
 ghost use Rattle.trace_reader.specs.Entries.{IfBadLine, IfFault, at_line, placed, ring_of, state_of, text_of, took_in};
-ghost use Rattle.trace_reader.specs.Reading.{TraceText, is_misplaced, read_line, start, trace_of, whole};
+ghost use Rattle.trace_reader.specs.Reading.{TraceText, read_line, start, trace_of, whole};
 ghost use Rattle.trace_reader.specs.Spelling.{printed_trace, spells};
 ghost use Rattle.trace_reader.specs.Valid.{IsTrace};
 ghost use Rattle.traces.specs.Header.{IsHeader};
@@ -13,6 +14,7 @@ use crate::clashes::clashes_with_one;
 use crate::entry::{Entry, RingEntry};
 use crate::fault::{LineError, LineFault, ReadFault};
 use crate::line::{entry_in, size_of, version_of};
+use crate::segments_so_far::SegmentsSoFar;
 use crate::so_far::TraceSoFar;
 use contexts::ContextSize;
 use line_text::{Line, first_line};
@@ -71,6 +73,8 @@ impl TraceSoFar {
             version: Version::One,
             size: ContextSize::Bytes32,
             rings: Vec::new(alloc),
+            segments: SegmentsSoFar::new(alloc),
+            has_all_segments: true,
             rows: Vec::new(alloc),
             lines: 0,
         }
@@ -143,7 +147,17 @@ impl TraceSoFar {
         ensures ok { OnOk result (took_in self.old.rows.items (placed (state_of self.old) (Ok (SaysRing (ring_of ring)))) ≡ Ok (state_of self.new, self.new.rows.items)) }
         ensures err { IfErr result (λ e. IfFault e (λ f. placed (state_of self.old) (Ok (SaysRing (ring_of ring))) ≡ Err f)) }
     {
-        place_ring(self.alloc, ring, &mut self.rings)?;
+        if !self.has_all_segments {
+            return Err(LineError::Memory);
+        }
+        let ring = shaped(self.alloc, ring)?;
+        if clashes_with_one(&ring, self.rings.as_slice(), &self.segments) {
+            return Err(LineFault::Shape.into());
+        }
+        self.has_all_segments = false;
+        self.segments.add_all(ring.shape.segments())?;
+        self.rings.push(ring)?;
+        self.has_all_segments = true;
         self.lines += 1;
         Ok(())
     }
@@ -185,20 +199,14 @@ impl TraceSoFar {
     }
 }
 
-/// Adds a ring to those before it.
-fn place_ring(alloc: Global, entry: RingEntry, rings: &mut Vec<Ring>) -> Result<(), LineError>
-    ensures placed { OnOk result (is_misplaced rings.old.items (SaysRing (ring_of entry)) ≡ false) }
-    ensures added { OnOk result (rings.new.items ≡ rings.old.items ++ ring_of entry ∷ []) }
+/// The ring of a line, where its segments make one.
+fn shaped(alloc: Global, entry: RingEntry) -> Result<Ring, LineError>
+    ensures read { IfOk result (λ ring. ring ≡ ring_of entry) }
     ensures small { OnOk result (entry.id < 256) }
-    ensures kept { OnErr result (rings.new.items ≡ rings.old.items) }
-    ensures err { IfErr result (λ e. IfFault e (λ f. (f ≡ LineFault.Shape) × (is_misplaced rings.old.items (SaysRing (ring_of entry)) ≡ true))) }
+    ensures allowed { IfOk result (λ ring. IsShape ring.shape) }
+    ensures err { IfErr result (λ e. IfFault e (λ f. (f ≡ LineFault.Shape) × (is_shape (ring_of entry).shape ≡ false))) }
 {
     let RingEntry { id, kind, segments } = entry;
     let shape = RingShape::new(alloc, kind, segments.as_slice())?;
-    let ring = Ring { id, shape };
-    if clashes_with_one(&ring, rings.as_slice()) {
-        return Err(LineFault::Shape.into());
-    }
-    rings.push(ring)?;
-    Ok(())
+    Ok(Ring { id, shape })
 }

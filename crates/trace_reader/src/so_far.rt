@@ -1,7 +1,9 @@
-ghost use Rattle.std.specs.Prelude.{◌≤◌, vec_len};
+ghost use Rattle.std.specs.Prelude.{◌≡◌, ◌≤◌, true, vec_len};
+ghost use Rattle.trace_reader.specs.SegmentsApart.{AreSegmentsOf};
 ghost use Rattle.traces.specs.Header.{IsHeader};
 ghost use Rattle.traces.specs.Limits.{most_lines};
 
+use crate::segments_so_far::SegmentsSoFar;
 use contexts::ContextSize;
 use std::alloc::Global;
 use traces::{Ring, Row, Version};
@@ -13,10 +15,15 @@ pub struct TraceSoFar {
     pub version: Version,
     pub size: ContextSize,
     pub rings: Vec<Ring>,
+    /// The segments of the rings, where no memory was wanting.
+    pub(crate) segments: SegmentsSoFar,
+    /// No memory was wanting where a ring was added: else no ring can be added any more.
+    pub(crate) has_all_segments: bool,
     pub rows: Vec<Row>,
     /// How many lines were read.
     pub lines: u32,
     pub ghost counted: { vec_len rows ≤ lines },
     pub ghost within: { lines ≤ most_lines },
     pub ghost headed: { IsHeader (record { version = version; context_size = size; rings = rings.items }) },
+    pub ghost searched: { has_all_segments ≡ true → AreSegmentsOf rings.items segments },
 }

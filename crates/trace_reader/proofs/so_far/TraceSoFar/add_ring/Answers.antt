@@ -1,9 +1,32 @@
-use Rattle.trace_reader.specs.Entries.{ring_of}
-use Rattle.trace_reader.proofs.RingsGrow.{one_ring_more}
+use Rattle.std.proofs.Common.{◌≡◌, ◌<◌, ◌||◌, ◌∙◌, false, ap, rules, sym}
+use Rattle.trace_reader.proofs.Words.{clash, list_any}
+use Rattle.trace_reader.specs.SegmentsApart.{segments_of}
+use Rattle.trace_reader.proofs.RingsClash.{all_with, none_overlapped}
+use Rattle.trace_reader.proofs.RingsGrow.{its_segments, one_ring_more, placed_well}
 use Rattle.trace_reader.proofs.so_far.TraceSoFar.add_ring.Goals as goal
+
+pub add_all-requires-clause-some : goal.add_all-requires-clause-some
+add_all-requires-clause-some c = rw c.segments.ensures (its_segments c.in_ok-ring.ring.shape c.in_ok-ring.ensures.allowed).0
+
+pub add_all-requires-clause-free : goal.add_all-requires-clause-free
+add_all-requires-clause-free c =
+    let r = c.args.self.now in
+    let ring = c.in_ok-ring.ring in
+    let none : list_any (clash ring) r.rings.items ≡ false = search rules in
+    rw c.segments.ensures (none_overlapped ring r.rings.items r.segments (r.searched c.if-not-self.false) none)
 
 pub invariant_of-self-2-clause-headed : goal.invariant_of-self-2-clause-headed
 invariant_of-self-2-clause-headed c =
     let r = c.args.self.now in
-    let placed = c.in_ok-place_ring.ensures in
-    one_ring_more (record { version = r.version; context_size = r.size; rings = r.rings.items }) _ (ring_of c.args.ring) placed.small placed.placed r.headed placed.added
+    let ring = c.in_ok-ring.ring in
+    let none : list_any (clash ring) r.rings.items ≡ false = search rules in
+    let small : ring.id < 256 = rw c.in_ok-ring.ensures.read c.in_ok-ring.ensures.small in
+    one_ring_more (record { version = r.version; context_size = r.size; rings = r.rings.items }) _ ring small (placed_well r.rings.items ring c.in_ok-ring.ensures.allowed none) r.headed c.in_ok-push.ensures.items
+
+pub invariant_of-self-2-clause-searched : goal.invariant_of-self-2-clause-searched
+invariant_of-self-2-clause-searched c = λ same p.
+    let r = c.args.self.now in
+    let ring = c.in_ok-ring.ring in
+    all_with r.rings.items ring r.segments c.add_all.new.self (r.searched c.if-not-self.false)
+    (λ q. c.in_ok-add_all.ensures q ∙ ap (λ ss. list_any q ss || list_any q r.segments) c.segments.ensures) p
+    ∙ ap (λ rs. list_any p (segments_of rs)) (sym c.in_ok-push.ensures.items)

@@ -1,0 +1,75 @@
+-- A ring clashes with others where it overlaps one of all their segments, or is a second of its kind
+use Rattle.std.proofs.Common.{◌≡◌, ◌==◌, ◌&&◌, ◌||◌, ◌++◌, ◌∷◌, ◌∙◌, Bool, true, false, List, [], refl, sym, ap}
+use Rattle.trace_reader.proofs.Words.{Ring, Segment, clash, is_command_kind, is_event_kind, list_any, list_any-append, or_parts}
+use Rattle.segments.specs.Shape.{rings_overlap, segments_overlap}
+use Rattle.trace_reader.specs.SegmentsApart.{AreSegmentsOf, is_second, segments_of}
+
+module _ {X : Type 0} where
+  any_same : (f g : X → Bool) → ((x : X) → f x ≡ g x) → (xs : List X) → list_any f xs ≡ list_any g xs
+  any_same f g same [] = refl
+  any_same f g same (x ∷ xs) = rw (same x, any_same f g same xs) refl
+
+  none_of : (xs : List X) → list_any (λ x. false) xs ≡ false
+  none_of [] = refl
+  none_of (x ∷ xs) = none_of xs
+
+  any_either : (f g : X → Bool) (xs : List X) → list_any (λ x. f x || g x) xs ≡ (list_any f xs || list_any g xs)
+  any_either f g [] = refl
+  any_either f g (x ∷ xs) = ap (λ b. (f x || g x) || b) (any_either f g xs) ∙ crossed (f x) (g x) (list_any f xs) (list_any g xs) where
+    crossed : (a b c d : Bool) → ((a || b) || (c || d)) ≡ ((a || c) || (b || d))
+    crossed true b c d = refl
+    crossed false true true d = refl
+    crossed false true false d = refl
+    crossed false false true d = refl
+    crossed false false false d = refl
+
+-- segments overlap one of all where they overlap one of a ring's
+overlapped : (ss : List Segment) (others : List Ring) →
+    list_any (λ q. list_any (λ s. list_any (segments_overlap s) q.shape.segments) ss) others ≡ list_any (λ s. list_any (segments_overlap s) (segments_of others)) ss
+overlapped ss [] = sym (none_of ss)
+overlapped ss (q ∷ qs) =
+    ap (λ b. list_any (λ s. list_any (segments_overlap s) q.shape.segments) ss || b) (overlapped ss qs)
+    ∙ sym (any_either (λ s. list_any (segments_overlap s) q.shape.segments) (λ s. list_any (segments_overlap s) (segments_of qs)) ss)
+    ∙ sym (any_same _ (λ s. list_any (segments_overlap s) q.shape.segments || list_any (segments_overlap s) (segments_of qs))
+    (λ s. list_any-append (segments_overlap s) q.shape.segments (segments_of qs)) ss)
+
+parted : (r q : Ring) → clash r q ≡ (rings_overlap r.shape q.shape || is_second r q)
+parted r q = turned (r.id == q.id) (rings_overlap r.shape q.shape) (is_command_kind r.shape.kind && is_command_kind q.shape.kind) (is_event_kind r.shape.kind && is_event_kind q.shape.kind) where
+  turned : (a o c e : Bool) → (((a || o) || c) || e) ≡ (o || ((a || c) || e))
+  turned true true c e = refl
+  turned true false c e = refl
+  turned false true c e = refl
+  turned false false c e = refl
+
+pub clashes : (r : Ring) (others : List Ring) (segments : List Segment) → AreSegmentsOf others segments →
+    (list_any (λ s. list_any (segments_overlap s) segments) r.shape.segments || list_any (is_second r) others) ≡ list_any (clash r) others
+clashes r others segments all =
+    ap (λ b. b || list_any (is_second r) others)
+    (any_same (λ s. list_any (segments_overlap s) segments) (λ s. list_any (segments_overlap s) (segments_of others)) (λ s. all (segments_overlap s)) r.shape.segments
+    ∙ sym (overlapped r.shape.segments others))
+    ∙ sym (any_same (clash r) (λ q. rings_overlap r.shape q.shape || is_second r q) (parted r) others ∙ any_either (λ q. rings_overlap r.shape q.shape) (is_second r) others)
+
+-- with the segments of a ring more they are those of all
+pub all_with : (rings : List Ring) (r : Ring) (old new : List Segment) → AreSegmentsOf rings old → ((p : Segment → Bool) → list_any p new ≡ (list_any p r.shape.segments || list_any p old)) →
+    AreSegmentsOf (rings ++ r ∷ []) new
+all_with rings r old new all more p =
+    more p ∙ ap (λ b. list_any p r.shape.segments || b) (all p) ∙ sym (in_all rings)
+  where
+    or_turns : (a b c : Bool) → (b || (a || c)) ≡ (a || (b || c))
+    or_turns true true c = refl
+    or_turns true false c = refl
+    or_turns false b c = refl
+
+    in_all : (qs : List Ring) → list_any p (segments_of (qs ++ r ∷ [])) ≡ (list_any p r.shape.segments || list_any p (segments_of qs))
+    in_all [] = list_any-append p r.shape.segments []
+    in_all (q ∷ qs) =
+        list_any-append p q.shape.segments (segments_of (qs ++ r ∷ []))
+        ∙ ap (λ b. list_any p q.shape.segments || b) (in_all qs)
+        ∙ or_turns (list_any p r.shape.segments) (list_any p q.shape.segments) (list_any p (segments_of qs))
+        ∙ ap (λ b. list_any p r.shape.segments || b) (sym (list_any-append p q.shape.segments (segments_of qs)))
+
+-- where it clashes with none, its segments overlap none of theirs
+pub none_overlapped : (r : Ring) (others : List Ring) (segments : List Segment) → AreSegmentsOf others segments → list_any (clash r) others ≡ false →
+    list_any (λ s. list_any (segments_overlap s) segments) r.shape.segments ≡ false
+none_overlapped r others segments all none =
+    (or_parts (list_any (λ s. list_any (segments_overlap s) segments) r.shape.segments) (list_any (is_second r) others) (clashes r others segments all ∙ none)).0

@@ -1,0 +1,81 @@
+-- The row of a text's first line, found by the places of its fields
+use Rattle.std.proofs.Common.{◌≡◌, ◌≤◌, ◌<◌, ◌+◌, ◌∷◌, ◌++◌, ◌∙◌, ℕ, zero, suc, List, [], true, false, Option, None, Some, IfSome, Ok, All, length, take, slice_index, refl, sym, ap, subst, arith, ne_eqb}
+use Rattle.trace_reader.proofs.Words.{nat_tests, and_parts, All-join, All-cons, All-head, All-nil, All-tail, All-weaker, join-fields_of, str_to_ascii_lowercase, to_ascii_lowercase, is_line_feed, fields_of, TextLine, Field, Word, Digits, printed, may_be_written, are_written, Row, SaysRow, most_lines, is_too_much, next_number, read_line, State, start, said_by_line}
+use Rattle.trace_reader.specs.Entries.{SaysAlone}
+use Rattle.trace_reader.specs.RowsAhead.{BeginsWithRow}
+use Rattle.trace_reader.proofs.LineFields.{alone, not_limited}
+use Rattle.trace_reader.proofs.ReadSteps.{line_entry}
+use Rattle.trace_reader.proofs.SpelledFields.{AllSound, IsSound, same_bytes}
+use Rattle.trace_reader.proofs.SpelledLines.{said_sound, step_from_read}
+use Rattle.trace_reader.proofs.SpelledSaid.{fields_said}
+
+-- ---- the bytes of a line that is read
+
+lower_above : (c : ℕ) → 32 < to_ascii_lowercase c → 32 < c
+lower_above c above = grind (arith, nat_tests, above)
+
+lower_all_above : (text : List ℕ) → All (λ c. 32 < c) (str_to_ascii_lowercase text) → All (λ c. 32 < c) text
+lower_all_above [] above = All-nil (λ c. 32 < c)
+lower_all_above (c ∷ rest) above =
+    All-cons (λ c. 32 < c) c rest (lower_above c (All-head (λ c. 32 < c) (to_ascii_lowercase c) (str_to_ascii_lowercase rest) above))
+    (lower_all_above rest (All-tail (λ c. 32 < c) (to_ascii_lowercase c) (str_to_ascii_lowercase rest) above))
+
+written_above : (field : Field) (text : List ℕ) → IsSound field → may_be_written field text ≡ true → All (λ c. 32 < c) text
+written_above (Word word) text sound written = subst (λ (xs : List ℕ). All (λ c. 32 < c) xs) (sym (same_bytes text word written)) sound.plain
+written_above (Digits digits) text sound written =
+    lower_all_above text (subst (λ (xs : List ℕ). All (λ c. 32 < c) xs) (sym (same_bytes (str_to_ascii_lowercase text) digits written)) sound.plain)
+
+all_above : (fields : List Field) (texts : List (List ℕ)) → AllSound fields → are_written fields texts ≡ true → All (λ text. All (λ c. 32 < c) text) texts
+all_above [] [] sound written = All-nil (λ text. All (λ c. 32 < c) text)
+all_above [] (text ∷ texts) sound written = cc written
+all_above (field ∷ fields) [] sound written = All-nil (λ text. All (λ c. 32 < c) text)
+all_above (field ∷ fields) (text ∷ texts) sound written =
+    let parts = and_parts (may_be_written field text) (are_written fields texts) written in
+    All-cons (λ text. All (λ c. 32 < c) text) text texts (written_above field text sound.0 parts.0) (all_above fields texts sound.1 parts.1)
+
+not_line_feed : (c : ℕ) → 32 < c → is_line_feed c ≡ false
+not_line_feed c above = ne_eqb c 10 (λ same. omega (arith, same))
+
+-- a line that is read has no line feed
+without_line_feed : (st : State) (line : TextLine) (row : Row) → 2 ≤ st.lines → read_line st line ≡ Ok (record st { lines = next_number st; begun = true }, Some row) →
+    All (λ byte. is_line_feed byte ≡ false) line.content
+without_line_feed st line row behind is =
+    let step = step_from_read st line (record st { lines = next_number st; begun = true }, Some row) behind is in
+    let above = all_above (fields_said step.0) (fields_of line.content) (said_sound step.0) step.1.spelled.written in
+    let plain = All-weaker (λ text. All (λ c. 32 < c) text) (λ text. All (λ c. is_line_feed c ≡ false) text)
+    (λ text high. All-weaker (λ c. 32 < c) (λ c. is_line_feed c ≡ false) not_line_feed text high) (fields_of line.content) above in
+    subst (λ (xs : List ℕ). All (λ c. is_line_feed c ≡ false) xs) (join-fields_of line.content) (All-join (λ c. is_line_feed c ≡ false) refl (fields_of line.content) plain)
+
+-- ---- the first line
+
+says_behind : (st : State) (content : List ℕ) (row : Row) → SaysAlone row content → is_too_much (SaysRow row) ≡ false → 2 ≤ st.lines → next_number st ≤ most_lines →
+    read_line st (record { content = content; is_ended = true }) ≡ Ok (record st { lines = next_number st; begun = true }, Some row)
+says_behind st content row says few behind within =
+    let line : TextLine = record { content = content; is_ended = true } in
+    let said : said_by_line st line ≡ Ok (SaysRow row) = alone st line st.begun refl ∙ not_limited (next_number st) (SaysRow row) _ (says st.begun) within few in
+    line_entry st line (SaysRow row) behind said
+
+abbrev somewhere : State
+somewhere = record start { lines = 2 }
+
+pub begins_with : (text content : List ℕ) (count : ℕ) (row : Row) → SaysAlone row content → is_too_much (SaysRow row) ≡ false → length content + 1 ≡ count → ((rest : List ℕ) × (text ≡ content ++ 10 ∷ rest)) →
+    BeginsWithRow row count text
+begins_with text content count row says few long whole =
+    let read = λ (st : State). says_behind st content row says few in
+    let here = read somewhere (omega arith) (omega arith) in
+    (content, whole.0, whole.1, long, without_line_feed somewhere (record { content = content; is_ended = true }) row (omega arith) here, read)
+
+pub if_is : {T : Type 0} (P : T → Type 0) (o : Option T) → ((x : T) → o ≡ Some x → P x) → IfSome o P
+if_is P (Some x) held = held x refl
+if_is P None held = tt
+
+pub if_some : {T : Type 0} (P Q : T → Type 0) (o : Option T) → ((x : T) → P x → Q x) → IfSome o P → IfSome o Q
+if_some P Q (Some x) weaker held = weaker x held
+if_some P Q None weaker held = held
+
+-- ---- the bytes before a line feed
+
+pub cut_at : (text : List ℕ) (count : ℕ) → count < length text → slice_index text count ≡ 10 → (rest : List ℕ) × (text ≡ take count text ++ 10 ∷ rest)
+cut_at [] count inside is = absurd (omega (arith, inside))
+cut_at (x ∷ xs) zero inside is = (xs, ap (λ y. y ∷ xs) is)
+cut_at (x ∷ xs) (suc count) inside is = let later = cut_at xs count (omega (arith, inside)) is in (later.0, ap (λ ys. x ∷ ys) later.1)

@@ -1,0 +1,209 @@
+-- Of segments that lie one behind the other only the last one to start before another segment's end can overlap it
+use Rattle.std.proofs.Common.{◌≡◌, ◌+◌, ◌-◌, ◌*◌, ◌^◌, ◌<◌, ◌≤◌, ◌&&◌, ◌||◌, ◌∷◌, ◌++◌, ◌∙◌, ℕ, Bool, true, false, not, inl, inr, List, [], All, drop, filter, get_or, map, min, nat_lt, refl, sym, ap, arith}
+use Rattle.std.proofs.lemmas.Bool.{and_parts, cases_lt, not-true}
+use Rattle.std.proofs.lemmas.Bool.Decides.{nat_tests}
+use Rattle.std.proofs.lemmas.Cmp.{ranked}
+use Rattle.std.proofs.lemmas.List.Elements.{All-cons, All-head, All-nil, All-tail, All-weaker}
+use Rattle.std.specs.BTreeMap.{insert_entry}
+use Rattle.std.specs.List.{list_all, list_any}
+use Rattle.std.specs.Ordering.{is_lt, match_ordering, nat_cmp}
+use Rattle.std.specs.declared.cmp.Ordering.{Ordering}
+use Rattle.std.specs.declared.cmp.Ordering.TheVariants.{Equal, Greater, Less}
+use Rattle.segments.specs.Shape.{are_apart, segments_overlap}
+use Rattle.segments.specs.ShapeValue.{segment_of}
+use Rattle.segments.specs.declared.segment.Segment.{Segment}
+use Rattle.trace_reader.specs.SegmentsApart.{LieApart}
+
+or_none : (a b : Bool) → (a || b) ≡ false → (a ≡ false) × (b ≡ false)
+or_none false false is = (refl, refl)
+or_none true b is = absurd (grind (arith, is))
+or_none false true is = absurd (grind (arith, is))
+
+-- ---- the search
+
+starts_by : (last k : ℕ) (r : Ordering) → r ≡ nat_cmp last k → k ≤ last → not (is_lt r) ≡ true
+starts_by last k Less is by = absurd (omega (arith, by, ranked last k Less is))
+starts_by last k Equal is by = refl
+starts_by last k Greater is by = refl
+
+starts_behind : (last k : ℕ) (r : Ordering) → r ≡ nat_cmp last k → last < k → not (is_lt r) ≡ false
+starts_behind last k Less is behind = refl
+starts_behind last k Equal is behind = absurd (omega (arith, behind, ranked last k Equal is))
+starts_behind last k Greater is behind = absurd (omega (arith, behind, ranked last k Greater is))
+
+-- those that start at an address or before it
+abbrev pub up_to : ℕ → List (ℕ × ℕ) → List (ℕ × ℕ)
+up_to last es = filter (λ e. true && not (is_lt (nat_cmp last e.0))) es
+
+covered : (a b : Bool) → (a ≡ true → b ≡ true) → (a || b) ≡ b
+covered true true f = refl
+covered true false f = sym (f refl)
+covered false b f = refl
+
+module _ (s : Segment) (last : ℕ) (end : last ≡ min (s.base + (16 * s.count - 1)) (2 ^ 64 - 1)) where
+  -- the segment overlaps this one
+  abbrev meets : ℕ × ℕ → Bool
+  meets e = segments_overlap s (segment_of e)
+
+  abbrev meets_any : List (ℕ × ℕ) → Bool
+  meets_any es = list_any (segments_overlap s) (map segment_of es)
+
+  far : (e : ℕ × ℕ) → last < e.0 → e.0 < 2 ^ 64 → meets e ≡ false
+  far e behind low = grind (arith, nat_tests, behind, low, end)
+
+  near : (d e : ℕ × ℕ) → d.0 + 16 * d.1 ≤ e.0 → e.0 ≤ last → meets d ≡ true → meets e ≡ true
+  near d e before by met = grind (arith, nat_tests, before, by, met, end)
+
+  pub none_met : (es : List (ℕ × ℕ)) → LieApart es → up_to last es ≡ [] → meets_any es ≡ false
+  none_met [] apart none = refl
+  none_met (e ∷ es) (low, some, behind, rest) none = elim (cases_lt last e.0) [
+    | inl past ↦
+        let over = starts_behind last e.0 (nat_cmp last e.0) refl past in
+        let left : up_to last es ≡ [] = sym (rw over refl) ∙ none in
+        rw (far e past low) (none_met es rest left)
+    | inr by ↦ absurd (let there = starts_by last e.0 (nat_cmp last e.0) refl by in let some : e ∷ up_to last es ≡ [] = sym (rw there refl) ∙ none in grind (arith, some))
+  ]
+
+  -- what the last of them says of all
+  record IsLast (es : List (ℕ × ℕ)) (e : ℕ × ℕ) : Type 0 where
+    by : e.0 ≤ last
+    behind : (n : ℕ) → All (λ t. n ≤ t.0) es → n ≤ e.0
+    met : meets_any es ≡ meets e
+
+  one_more : (d : ℕ × ℕ) (es : List (ℕ × ℕ)) (e : ℕ × ℕ) → All (λ t. d.0 + 16 * d.1 ≤ t.0) es → IsLast es e → IsLast (d ∷ es) e
+  one_more d es e behind is = record {
+    by = is.by;
+    behind = λ n all. is.behind n (All-tail (λ t. n ≤ t.0) d es all);
+    met = ap (λ b. meets d || b) is.met ∙ covered (meets d) (meets e) (near d e (is.behind (d.0 + 16 * d.1) behind) is.by);
+  }
+
+  alone : (d : ℕ × ℕ) (es : List (ℕ × ℕ)) (e : ℕ × ℕ) → d.0 ≤ last → LieApart es → d ∷ up_to last es ≡ e ∷ [] → IsLast (d ∷ es) e
+  alone d es e by rest is =
+      let same : d ≡ e = ap (λ l. get_or l 0 d) is in
+      let left : up_to last es ≡ [] = ap (λ l. drop 1 l) is in
+      rw (sym same) (record { by = by; behind = λ n all. All-head (λ t. n ≤ t.0) d es all; met = rw (none_met es rest left) (sides (meets d)) })
+    where
+      sides : (b : Bool) → (b || false) ≡ b
+      sides true = refl
+      sides false = refl
+
+  first_or_later : (d : ℕ × ℕ) (es : List (ℕ × ℕ)) (e : ℕ × ℕ) → d.0 ≤ last → All (λ t. d.0 + 16 * d.1 ≤ t.0) es → LieApart es → ((t : List (ℕ × ℕ)) → up_to last es ≡ t ++ e ∷ [] → IsLast es e) →
+      (t : List (ℕ × ℕ)) → d ∷ up_to last es ≡ t ++ e ∷ [] → IsLast (d ∷ es) e
+  first_or_later d es e by behind rest later [] is = alone d es e by rest is
+  first_or_later d es e by behind rest later (f ∷ t) is = one_more d es e behind (later t (ap (λ l. drop 1 l) is))
+
+  nothing_last : (t : List (ℕ × ℕ)) (e : ℕ × ℕ) → [] ≡ t ++ e ∷ [] → ⊥
+  nothing_last [] e is = grind (arith, is)
+  nothing_last (f ∷ t) e is = grind (arith, is)
+
+  last_of : (es : List (ℕ × ℕ)) (e : ℕ × ℕ) → LieApart es → (t : List (ℕ × ℕ)) → up_to last es ≡ t ++ e ∷ [] → IsLast es e
+  last_of [] e apart t is = absurd (nothing_last t e is)
+  last_of (d ∷ es) e (low, some, behind, rest) t is = elim (cases_lt last d.0) [
+    | inl past ↦ one_more d es e behind (last_of es e rest t (sym (rw (starts_behind last d.0 (nat_cmp last d.0) refl past) refl) ∙ is))
+    | inr by ↦ first_or_later d es e by behind rest (last_of es e rest) t (sym (rw (starts_by last d.0 (nat_cmp last d.0) refl by) refl) ∙ is)
+  ]
+
+  pub last_met : (es t : List (ℕ × ℕ)) (e : ℕ × ℕ) → LieApart es → up_to last es ≡ t ++ e ∷ [] → segments_overlap s (segment_of e) ≡ meets_any es
+  last_met es t e apart is = sym (last_of es e apart t is).met
+
+-- ---- one segment more
+
+module _ (k v : ℕ) (low : k < 2 ^ 64) (some : 0 < v) where
+  abbrev new : Segment
+  new = segment_of (k, v)
+
+  -- a segment that this one doesn't overlap lies before it or behind it
+  before : (e : ℕ × ℕ) → k < e.0 → segments_overlap new (segment_of e) ≡ false → k + 16 * v ≤ e.0
+  before e less free = grind (arith, nat_tests, less, free, some)
+
+  after : (e : ℕ × ℕ) → e.0 < k → segments_overlap new (segment_of e) ≡ false → e.0 + 16 * e.1 ≤ k
+  after e less free = grind (arith, nat_tests, less, free, some)
+
+  same_start : (e : ℕ × ℕ) → k ≡ e.0 → 0 < e.1 → segments_overlap new (segment_of e) ≡ false → ⊥
+  same_start e same there free = grind (arith, nat_tests, same, there, free, some)
+
+  -- the entries with the new one, where it has no byte of them
+  pub record IsAdded (es added : List (ℕ × ℕ)) : Type 0 where
+    pub apart : LieApart added
+    pub behind : (n : ℕ) → n ≤ k → All (λ t. n ≤ t.0) es → All (λ t. n ≤ t.0) added
+    pub any : (p : Segment → Bool) → list_any p (map segment_of added) ≡ (p new || list_any p (map segment_of es))
+
+  at_front : (e : ℕ × ℕ) (es : List (ℕ × ℕ)) → LieApart (e ∷ es) → k < e.0 → segments_overlap new (segment_of e) ≡ false → IsAdded (e ∷ es) ((k, v) ∷ e ∷ es)
+  at_front e es apart less free =
+      let first : k + 16 * v ≤ e.0 = before e less free in
+      let rest : All (λ t. k + 16 * v ≤ t.0) es = All-weaker (λ t. e.0 + 16 * e.1 ≤ t.0) (λ t. k + 16 * v ≤ t.0) (λ t behind. omega (arith, first, behind)) es apart.2 in
+      record {
+        apart = (low, some, All-cons (λ t. k + 16 * v ≤ t.0) e es first rest, apart);
+        behind = λ n by all. All-cons (λ t. n ≤ t.0) (k, v) (e ∷ es) by all;
+        any = λ p. refl;
+      }
+
+  further : (e : ℕ × ℕ) (es added : List (ℕ × ℕ)) → LieApart (e ∷ es) → e.0 < k → segments_overlap new (segment_of e) ≡ false → IsAdded es added → IsAdded (e ∷ es) (e ∷ added)
+  further e es added apart less free rest = record {
+    apart = (apart.0, apart.1, rest.behind (e.0 + 16 * e.1) (after e less free) apart.2, rest.apart);
+    behind = λ n by all. All-cons (λ t. n ≤ t.0) e added (All-head (λ t. n ≤ t.0) e es all) (rest.behind n by (All-tail (λ t. n ≤ t.0) e es all));
+    any = λ p. ap (λ b. p (segment_of e) || b) (rest.any p) ∙ or_turns (p (segment_of e)) (p new) (list_any p (map segment_of es));
+  } where
+    or_turns : (a b c : Bool) → (a || (b || c)) ≡ (b || (a || c))
+    or_turns true true c = refl
+    or_turns true false c = refl
+    or_turns false b c = refl
+
+  placed : (e : ℕ × ℕ) (es : List (ℕ × ℕ)) (r : Ordering) → r ≡ nat_cmp k e.0 → LieApart (e ∷ es) → segments_overlap new (segment_of e) ≡ false → IsAdded es (insert_entry nat_cmp es k v) →
+      IsAdded (e ∷ es) (match_ordering r ((k, v) ∷ e ∷ es) ((e.0, v) ∷ es) (e ∷ insert_entry nat_cmp es k v))
+  placed e es Less is apart free rest = at_front e es apart (ranked k e.0 Less is) free
+  placed e es Equal is apart free rest = absurd (same_start e (ranked k e.0 Equal is) apart.1 free)
+  placed e es Greater is apart free rest = further e es (insert_entry nat_cmp es k v) apart (ranked k e.0 Greater is) free rest
+
+  pub added : (es : List (ℕ × ℕ)) → LieApart es → list_any (segments_overlap new) (map segment_of es) ≡ false → IsAdded es (insert_entry nat_cmp es k v)
+  added [] apart free = record {
+    apart = (low, some, All-nil (λ t. k + 16 * v ≤ t.0), tt);
+    behind = λ n by all. All-cons (λ t. n ≤ t.0) (k, v) [] by all;
+    any = λ p. refl;
+  }
+  added (e ∷ es) apart free =
+      let parts = or_none (segments_overlap new (segment_of e)) (list_any (segments_overlap new) (map segment_of es)) free in
+      placed e es (nat_cmp k e.0) refl apart parts.0 (added es apart.3 parts.1)
+
+-- ---- the segments of a ring more
+
+overlap_turns : (s t : Segment) → segments_overlap s t ≡ segments_overlap t s
+overlap_turns s t = and_turns (nat_lt s.base (t.base + 16 * t.count)) (nat_lt t.base (s.base + 16 * s.count)) where
+  and_turns : (a b : Bool) → (a && b) ≡ (b && a)
+  and_turns true true = refl
+  and_turns true false = refl
+  and_turns false true = refl
+  and_turns false false = refl
+
+-- these segments may be added to others, and make all of the ring's with them
+pub record AreLeft (all old rest now : List Segment) : Type 0 where
+  pub some : list_all (λ s. nat_lt 0 s.count) rest ≡ true
+  pub apart : are_apart rest ≡ true
+  pub free : list_any (λ s. list_any (segments_overlap s) now) rest ≡ false
+  pub any : (p : Segment → Bool) → (list_any p rest || list_any p now) ≡ (list_any p all || list_any p old)
+
+module _ (x : Segment) (now next : List Segment) (more : (p : Segment → Bool) → list_any p next ≡ (p x || list_any p now)) where
+  still_free : (rest : List Segment) → list_any (segments_overlap x) rest ≡ false → list_any (λ s. list_any (segments_overlap s) now) rest ≡ false →
+      list_any (λ s. list_any (segments_overlap s) next) rest ≡ false
+  still_free [] apart free = refl
+  still_free (y ∷ ys) apart free =
+      let here = or_none (segments_overlap x y) (list_any (segments_overlap x) ys) apart in
+      let there = or_none (list_any (segments_overlap y) now) (list_any (λ s. list_any (segments_overlap s) now) ys) free in
+      rw (more (segments_overlap y), overlap_turns y x, here.0, there.0) (still_free ys here.1 there.1)
+
+  pub one_less : (all old rest : List Segment) → AreLeft all old (x ∷ rest) now → AreLeft all old rest next
+  one_less all old rest left =
+      let counts = and_parts (nat_lt 0 x.count) (list_all (λ s. nat_lt 0 s.count) rest) left.some in
+      let parts = and_parts (not (list_any (segments_overlap x) rest)) (are_apart rest) left.apart in
+      let free = or_none (list_any (segments_overlap x) now) (list_any (λ s. list_any (segments_overlap s) now) rest) left.free in
+      record {
+        some = counts.1;
+        apart = parts.1;
+        free = still_free rest (not-true (list_any (segments_overlap x) rest) parts.0) free.1;
+        any = λ p. ap (λ b. list_any p rest || b) (more p) ∙ or_moves (p x) (list_any p rest) (list_any p now) ∙ left.any p;
+      }
+    where
+      or_moves : (a b c : Bool) → (b || (a || c)) ≡ ((a || b) || c)
+      or_moves true true c = refl
+      or_moves true false c = refl
+      or_moves false b c = refl
