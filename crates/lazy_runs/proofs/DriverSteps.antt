@@ -1,6 +1,6 @@
 -- The induction's step for a row of the driver
 use Rattle.std.proofs.Common.{◌≡◌, ◌≢◌, ◌⊎◌, ◌≤◌, ◌∷◌, ◌++◌, ◌∙◌, ℕ, true, false, List, [], All, reverse, Some, arith, sym, ap, subst, inl, inr}
-use Rattle.lazy_runs.proofs.Words.{cases_Bool, false≢true, Spot, Data, Link, Shape, number, rank, Header, Row, IsHeader, shape_of, command_id, IsRow, World, RingEvent, next_take, counted, reached, Known, learned, known, IsLenient, DriverKeeps, IsDriverRow, Agrees, CommandMatches, Runs, driver_keeps, kept_driver, runs_rest, transfer_not_command, more_law, row_runs, row_left, square_law, still_rings, lazy_run, pointers_at, AreAtFloors}
+use Rattle.lazy_runs.proofs.Words.{cases_Bool, false≢true, Spot, Data, Link, Shape, number, rank, Header, Row, IsHeader, shape_of, command_id, IsRow, World, RingEvent, next_take, counted, reached, Known, learned, known, IsLenient, DriverKeeps, IsDriverRow, Agrees, CommandMatches, Runs, driver_keeps, kept_driver, may_come, runs_rest, transfer_not_command, more_law, row_runs, row_left, square_law, still_rings, lazy_run, pointers_at, AreAtFloors}
 use Rattle.lazy_runs.proofs.AllEventsRead.{agrees_now}
 use Rattle.lazy_runs.proofs.DriverRuns.{with_rest, pointers_same, driver_reached}
 use Rattle.lazy_runs.proofs.Follows.{StandsAt, IsActiveIfOpen, Follows, Carries}
@@ -96,7 +96,7 @@ module _ (h : Header) where
       runs : Runs h (known h (row ∷ past)) (counted h v)
       unfolding k l u v known
       runs = row_runs h is (kept_driver h) (still_rings h) (square_law h) (more_law h) (known h past) row u v is_row driver_row keeps
-          (runs_rest h (known h past) w later f.runs) clean.1 on (row_is_done h u row driver_row)
+          (runs_rest h (known h past) w later f.runs) (may_come h is past row clean.1) on (row_is_done h u row driver_row)
 
       all_read : (counted h v).posted ≡ (counted h v).reads
       unfolding counted u

@@ -1,6 +1,6 @@
 -- Each position before a ring's floor was given by a write of its own: floors, summed, and events that are read are no more than rows
 use Rattle.std.proofs.Common.{◌≡◌, ◌+◌, ◌<◌, ◌≤◌, ◌∷◌, ◌∙◌, ℕ, suc, true, List, [], length, Option, Some, None, arith, refl, sym, ap, inl, inr, ◌==◌}
-use Rattle.lazy_runs.proofs.Words.{cases_Bool, cases_eq, cond_both, is_inside, Opens, floor_number, Header, Row, Sub, Write, Reg, Bell, Read, IsHeader, shape_of, command_id, Register, Known, on_ring, nothing, endpoint_rung, rung, learned, known, register_leaves, view_after, kind, Block, driver_keeps, DriverKeeps, IsDriverRing, IsLenient, clean_tests, ring_shape, Declares, Writes, changed, ring_with, is_driver_ring, driver_ring, endpoints_of, rings_of, nothing_keeps, row_keeps, still_of, not_in_both, written_view, event_same, still_reads}
+use Rattle.lazy_runs.proofs.Words.{cases_Bool, cases_eq, cond_both, is_inside, Opens, floor_number, Header, Row, Sub, Write, Reg, Bell, Read, IsHeader, shape_of, command_id, Register, Known, on_ring, nothing, endpoint_rung, rung, learned, known, register_leaves, view_after, kind, Block, driver_keeps, DriverKeeps, IsDriverRing, IsLenient, clean_tests, ring_shape, Declares, Writes, changed, ring_with, is_driver_ring, driver_ring, endpoints_of, rings_of, nothing_keeps, row_keeps, may_come, still_of, not_in_both, written_view, event_same, still_reads}
 use Rattle.safety.specs.RingsKeep as rings
 use Rattle.lazy_runs.proofs.Counts.{given_among, all_given, none_given, same_given, one_more, no_more}
 use Rattle.lazy_runs.proofs.Progress.{of_driver, on_driver, off_driver, none_of_driver, driver_le}
@@ -137,7 +137,7 @@ module _ (h : Header) where
   rings_kept is (row ∷ past) clean =
       let k : Known = known h past in
       let d : DriverKeeps h k = driver_keeps h is past clean.0 (clean_tests h k row clean.1).0 in
-      row_keeps h is k row (rings_of h k d) (endpoints_of h k d.states) clean.1 (still_reads h is k row (rings_of h k d) (endpoints_of h k d.states) (still_of h is k row d clean.1))
+      row_keeps h is k row (rings_of h k d) (endpoints_of h k d.states) d.commands_stay (may_come h is past row clean.1) (still_reads h is k row (rings_of h k d) (endpoints_of h k d.states) (still_of h is k row d clean.1))
 
   -- the numbers of the floors of the driver's rings, summed
   unfoldable pub floors : Known → ℕ
@@ -151,5 +151,5 @@ module _ (h : Header) where
       let same : floors k ≤ all_rings at k =
       total_le (λ r. of_driver h r (floor_number (k.ring r))) (λ r. of_driver h r (given_among (k.ring r) (floor_number (k.ring r)))) 256
       (λ r. driver_le h r (floor_number (k.ring r)) (given_among (k.ring r) (floor_number (k.ring r)))
-      (λ driver. omega (arith, all_given (k.ring r) (floor_number (k.ring r)) (rings_kept is past clean r driver).rules.passed))) in
+      (λ driver. omega (arith, all_given (k.ring r) (floor_number (k.ring r)) (rings_kept is past clean r driver).passed))) in
       omega (arith, same, given_most at is past)

@@ -58,6 +58,7 @@ pub use Rattle.safety.proofs.Headers.{EventRing, each_passes, event_ring_is, fou
 pub use Rattle.safety.proofs.HeadlineFrom.{later_clean, one_more, runs_rest}
 pub use Rattle.safety.proofs.HeldFurther.{more_law}
 pub use Rattle.safety.proofs.Histories.{row_keeps}
+pub use Rattle.safety.proofs.NothingFree.{may_come}
 pub use Rattle.safety.proofs.KeptRings.{next_at_floor, next_unfinished, still_of}
 pub use Rattle.safety.proofs.LookKinds.{behind_block, behind_link, cond_is, only_begun, only_crossed, only_taken, put_at, put_off, seen}
 pub use Rattle.safety.proofs.LookRuns.{look_runs}

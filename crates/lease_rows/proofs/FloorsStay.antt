@@ -1,60 +1,11 @@
 -- The changes that leave the number of each ring's floor as it is
-use Rattle.std.proofs.Common.{◌≡◌, ◌+◌, ◌-◌, ◌≤◌, ◌&&◌, ◌||◌, ◌∷◌, ◌∙◌, ℕ, suc, Bool, true, false, List, [], map, find, All, Option, None, Some, arith, refl, sym, ap, subst, get_or, inl, inr}
-use Rattle.lease_rows.proofs.Words.{list_any, range_with_len, flat_map, cases_Bool, cond_both, cond-true, cond-false, or_parts, false≢true, same_Some, All-head, All-tail, Spot, Shape, number, RingView, Reaches, Holds, declared, floor_number, ceiling, is_target, may_move_to, spots_between, target, is_move, floor_given, given_count_declared, context_pointer, context_cycle, Command, AddressDevice, Stopped, is_off, Change, SlotGoesOn, DeviceLeft, Disables, Places, Stops, Resets, placed_by_context, Header, IsHeader, shape_of, is_ring, ring_having, Known, on_ring, set_to, bound_to, moved_to, moved, pointed, disabled, in_state, held_at_ceiling, changed_by, changed_by_all, has_repeats, DriverKeeps, StillHolds, ring_shape, transfer_driver, Ready, ReadyAt, ring_at, ready_next, view_after, each_fails, any_of_map}
-use Rattle.segments.proofs.MovesStay.{placement_still}
+use Rattle.std.proofs.Common.{◌≡◌, ◌∷◌, ◌∙◌, ℕ, Bool, true, false, List, [], map, All, Option, None, Some, arith, refl, sym, ap, subst, get_or}
+use Rattle.lease_rows.proofs.Words.{list_any, cond_both, or_parts, false≢true, same_Some, All-head, All-tail, Spot, number, Reaches, Holds, floor_number, ceiling, target, floor_given, given_count_declared, context_pointer, context_cycle, Command, AddressDevice, Stopped, is_off, Change, SlotGoesOn, DeviceLeft, Disables, Places, Stops, Resets, placed_by_context, Header, IsHeader, shape_of, is_ring, ring_having, Known, on_ring, set_to, bound_to, moved_to, moved, pointed, disabled, in_state, held_at_ceiling, changed_by, changed_by_all, has_repeats, DriverKeeps, StillHolds, ring_shape, transfer_driver, Ready, ReadyAt, ring_at, ready_next, view_after, each_fails, any_of_map}
 use Rattle.segments.proofs.Named.{ceiling_within}
-use Rattle.segments.specs.Moves.{is_placement}
 use Rattle.safety.proofs.RingIds.{having_transfer, transfer_driver as transfer_is_driver}
 use Rattle.safety.proofs.RingsOfHeader.{shape_allowed}
-use Rattle.segments.specs.declared.spot.Spot.TheVariants.{Data, Link}
+use Rattle.safety.proofs.StandingTargets.{target_here, target_placed}
 use Rattle.ownership_rules.specs.Moves.{is_among}
-
--- ---- a pointer and a cycle state that name a spot at the floor's number
-
-find_here : (test : Spot → Bool) (u t : Spot) (rest : List Spot) → find test (u ∷ rest) ≡ Some t → test u ≡ true → u ≡ t
-find_here test u t rest found here = same_Some u t (sym (cond-true (test u) (Some u) (find test rest) here) ∙ found)
-
-find_later : (test : Spot → Bool) (u t : Spot) (rest : List Spot) → find test (u ∷ rest) ≡ Some t → test u ≡ false → find test rest ≡ Some t
-find_later test u t rest found none = sym (cond-false (test u) (Some u) (find test rest) none) ∙ found
-
-either_found : (test more : Spot → Bool) (u v t : Spot) (rest : List Spot) → ((test u && more u) || ((test v && more v) || false)) ≡ true → find test (u ∷ v ∷ rest) ≡ Some t →
-    number u ≡ number v → number t ≡ number u
-either_found test more u v t rest some found same = elim (cases_Bool (test u)) [
-  | inl here ↦ ap number (sym (find_here test u t (v ∷ rest) found here))
-  | inr none ↦ elim (cases_Bool (test v)) [
-    | inl there ↦ ap number (sym (find_here test v t rest (find_later test u t (v ∷ rest) found none) there)) ∙ sym same
-    | inr neither ↦ absurd (fails (test u) (more u) (test v) (more v) none neither some)
-  ]
-]
-  where
-    fails : (a b c d : Bool) → a ≡ false → c ≡ false → ((a && b) || ((c && d) || false)) ≡ true → ⊥
-    fails true b c d e f g = false≢true (sym e)
-    fails false b true d e f g = false≢true (sym f)
-    fails false b false d e f g = false≢true g
-
-first_found : (test more : Spot → Bool) (f n : ℕ) (t : Spot) → list_any (λ u. test u && more u) (flat_map (λ q. Link q ∷ Data q ∷ []) (range_with_len f 1)) ≡ true →
-    find test (flat_map (λ q. Link q ∷ Data q ∷ []) (range_with_len f (suc n))) ≡ Some t → number t ≡ f
-first_found test more f n t some found = either_found test more (Link f) (Data f) t (flat_map (λ q. Link q ∷ Data q ∷ []) (range_with_len (f + 1) n)) some found refl
-
--- where the spots at the floor's number pass the test of a move, the target is one of them
-target_here : (shape : Shape) (v : RingView) (p : ℕ) (cycle : Bool) (t : Spot) → floor_number v ≤ declared v → is_move shape v p cycle (floor_number v) (floor_number v) ≡ true →
-    target shape v p cycle ≡ Some t → number t ≡ floor_number v
-unfolding is_move target spots_between
-target_here shape v p cycle t low moves named =
-    let f : ℕ = floor_number v in
-    let one : f + 1 - f ≡ 1 = omega arith in
-    let many : declared v + 1 - f ≡ suc (declared v - f) = omega (arith, low) in
-    first_found (is_target shape p cycle) (may_move_to shape v) f (declared v - f) t
-    (subst (λ n. list_any (λ u. is_target shape p cycle u && may_move_to shape v u) (flat_map (λ q. Link q ∷ Data q ∷ []) (range_with_len f n)) ≡ true) one moves)
-    (subst (λ n. find (is_target shape p cycle) (flat_map (λ q. Link q ∷ Data q ∷ []) (range_with_len f n)) ≡ Some t) many named)
-
--- and where they stand still
-target_placed : (shape : Shape) (v : RingView) (p : ℕ) (cycle : Bool) (t : Spot) → floor_number v ≤ ceiling shape v → floor_number v ≤ declared v → is_placement shape v p cycle ≡ true →
-    target shape v p cycle ≡ Some t → number t ≡ floor_number v
-unfolding is_placement
-target_placed shape v p cycle t within low placed named =
-    let still : ceiling shape v ≡ floor_number v = omega (arith, placement_still shape v p cycle placed, within) in
-    target_here shape v p cycle t low (subst (λ n. is_move shape v p cycle n (floor_number v) ≡ true) still placed) named
 
 -- ---- what leaves the floors' numbers
 

@@ -18,6 +18,7 @@ use Rattle.safety.proofs.DriverRings.{rings_of, endpoints_of}
 use Rattle.safety.proofs.StillPlacing.{still_reads}
 use Rattle.safety.proofs.KeptRings.{still_of}
 use Rattle.safety.proofs.Histories.{keeps_rings}
+use Rattle.safety.proofs.NothingFree.{nothing_free}
 use Rattle.safety.proofs.RingsOfHeader.{HasRing, has_ring, shape_allowed}
 use Rattle.row_checks.proofs.CleanHistories.{earlier_clean, lenient_history}
 use Rattle.ownership_checker.specs.Walks.{WalksRead}
@@ -43,4 +44,4 @@ walks h is rows clean done r within driver =
     let keeps = keeps_rings h is past was_clean (all_placed h is past was_clean) r driver in
     let has : HasRing h r = has_ring h r driver in
     walk_reads (shape_of h r) (shape_allowed h is r driver) (no_event_ring (shape_of h r).kind (ap (λ s. is_driver_kind s.kind) has.shape ∙ has.driver))
-    (known h past).memory ((known h past).ring r) keeps.rules keeps.restored
+    (known h past).memory ((known h past).ring r) keeps (nothing_free h past r)

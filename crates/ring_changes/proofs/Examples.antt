@@ -8,6 +8,7 @@ use Rattle.traces.specs.declared.ring.Ring.{Ring}
 use Rattle.traces.specs.declared.row.Row.TheVariants.{Write}
 use Rattle.ownership_rules.specs.OnLiterals.{rules_on_literals}
 use Rattle.ring_changes.specs.Changes.{forgotten, is_bad_free, is_bad_ring, is_bad_segment, is_had, shows_first_lap, with_ring, without_ring}
+use Rattle.ring_changes.specs.Withdrawals.{restored_on, ring_moved, ring_restored}
 use Rattle.ring_changes.specs.Histories.{Comes, Goes, Plain, RingRow, header_now, known_now}
 
 abbrev no_rings : Header
@@ -46,5 +47,5 @@ abbrev written : List RingRow
 written = Plain (Write 0x3002c 1) ∷ gone
 
 shows_its_cycle : is_bad_ring (header_now no_rings written) (known_now no_rings written) (ring_at 3 0x30020) ≡ true
-unfolding rules_on_literals is_bad_ring is_bad_segment shows_first_lap with_ring without_ring forgotten
+unfolding rules_on_literals is_bad_ring is_bad_segment shows_first_lap with_ring without_ring forgotten restored_on ring_restored ring_moved
 shows_its_cycle = refl

@@ -2,7 +2,6 @@
 use Rattle.std.proofs.Common.{◌≡◌, ◌≢◌, ◌<◌, ◌==◌, ◌∙◌, ℕ, List, [], Some, None, get_or, arith, refl, sym, ap, subst, inl, inr, eq-eqb, ne_eqb}
 use Rattle.guest_memory.specs.Memory.{put}
 use Rattle.safety.proofs.Words.{cases_eq, cases_option, cond-true, cond-false, none-some, Block, RingView, RingKeeps, Header, Ring, Read, IsHeader, ring_with, ring_having, shape_of, command_id, command_ring, World, Known, learned, lenient, Binding, binds, ring_bound, IsTransferRing, DriverKeeps, Stands, FreeRing, state_of, Agrees}
-use Rattle.segments.specs.RingKeeps.{IsRestored}
 use Rattle.segments.specs.RingView.{new_ring}
 use Rattle.safety.proofs.Areas.{context_lies}
 use Rattle.safety.proofs.DriverRings.{transfer_ring}
@@ -49,7 +48,6 @@ module _ (h : Header) (is : IsHeader h) (k : Known) (d : DriverKeeps h k) (id : 
     events = refl;
     size = refl;
     keeps = λ s ring. subst (λ v. RingKeeps (shape_of h s) k.memory v) (sym (cleared_apart id k.ring s (other s ring.ring ring.found))) (d.rings s ring);
-    restored = λ s ring. subst IsRestored (sym (cleared_apart id k.ring s (other s ring.ring ring.found))) (d.restored s ring);
     clean = d.clean;
     had = λ s i x at. as_before x (d.states.transfer s i x at);
     each = λ s. elim (cases_eq s id) [

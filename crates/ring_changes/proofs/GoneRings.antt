@@ -3,7 +3,6 @@ use Rattle.std.proofs.Common.{◌≡◌, ◌≢◌, ◌<◌, ◌==◌, ◌&&◌,
 use Rattle.guest_memory.specs.Memory.{put}
 use Rattle.safety.proofs.Words.{list_all, and_from, is_shape, may_stand_together, Block, World, Stands, FreeRing, state_of, Agrees, Cmd, Evt, Xfer, RingKind, same_Some, cases_Bool, cases_eq, list_any, list_any_at, range_with_len, cond-true, cond-false, false≢true, false_from_ne_true, none-some, not-false, not_from_false, not-true, or_parts, is_inside, place_count, RingView, RingKeeps, Command, device_context_bytes, input_context_bytes, Header, Ring, IsHeader, clash, is_command_kind, is_event_kind, is_transfer_kind, is_ring, ring_with, shape_of, shape_or, command_ring, command_id, event_ring, event_shape, event_size, ring_having, id_of, id_or_none, touches_ring, Known, entry_of, Binding, binds, ring_bound, binds_ring, is_being_bound, any_of, from_filter, some_of, IsIn, is_transfer_ring, IsDriverRing, IsTransferRing, IsUnfinished, DriverKeeps}
 use Rattle.segments.specs.Places.{touches}
-use Rattle.segments.specs.RingKeeps.{IsRestored}
 use Rattle.segments.specs.RingView.{new_ring}
 use Rattle.segments.specs.Shape.{rings_overlap}
 use Rattle.safety.proofs.Areas.{context_lies}
@@ -222,7 +221,6 @@ module _ (h : Header) (is : IsHeader h) (k : Known) (d : DriverKeeps h k) (id : 
     keeps = λ s ring.
         let other = not_there s ring.ring ring.found in
         subst (λ v. RingKeeps (shape_of g s) k.memory v) (sym (view_same s other)) (subst (λ x. RingKeeps x k.memory (k.ring s)) (sym (shape_same s other)) (d.rings s (driver_before s ring)));
-    restored = λ s ring. subst IsRestored (sym (view_same s (not_there s ring.ring ring.found))) (d.restored s (driver_before s ring));
     clean = λ s a ring word inside. d.clean s a (driver_before s ring) word (ap (λ x. is_inside x a) (sym (shape_same s (not_there s ring.ring ring.found))) ∙ inside);
     had = λ s i r at. transfer_still r (not_had s i r at) (d.states.transfer s i r at);
     each = λ s. elim (cases_eq s id) [

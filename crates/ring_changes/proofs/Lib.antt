@@ -9,5 +9,13 @@ pub mod ReadAlike
 pub mod Squares
 pub mod Forgotten
 pub mod RingRuns
+pub mod QuietViews
+pub mod QuietEvents
+pub mod QuietRuns
+pub mod QuietKeeps
+pub mod QuietWorlds
+pub mod Withdrawn
+pub mod Restored
 pub mod RingsHeadline
 pub mod Examples
+pub mod WithdrawalExamples

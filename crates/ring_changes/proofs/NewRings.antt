@@ -9,7 +9,6 @@ use Rattle.segments.specs.RingView.{new_ring}
 use Rattle.segments.proofs.Crossings.{crossing_positive, link_address_is, crossed_link, crosses}
 use Rattle.segments.proofs.DataPlaces.{link_aligned}
 use Rattle.segments.proofs.Giving.{crossing_due_is}
-use Rattle.segments.specs.RingKeeps.{IsRestored}
 use Rattle.segments.proofs.NewRing.{new_ring_keeps}
 use Rattle.segments.specs.Shape.{rings_overlap}
 use Rattle.safety.proofs.Areas.{context_lies, ring_untouched}
@@ -193,10 +192,6 @@ module _ (h : Header) (is : IsHeader h) (k : Known) (d : DriverKeeps h k) (r : R
       | inl here ↦ subst (λ n. RingKeeps (shape_of g n) k.memory (k.ring n)) (sym here)
           (subst (λ v. RingKeeps (shape_of g r.id) k.memory v) (sym new) (subst (λ x. RingKeeps x k.memory new_ring) (sym shape_here) (view_keeps k r coming (block_shows h k r.shape coming.shape coming.kind parts.1))))
       | inr other ↦ subst (λ x. RingKeeps x k.memory (k.ring s)) (sym (shape_same s other)) (d.rings s (driver_before s other ring))
-    ];
-    restored = λ s ring. elim (cases_eq s r.id) [
-      | inl here ↦ subst IsRestored (sym (ap k.ring here ∙ new)) (λ p. refl)
-      | inr other ↦ d.restored s (driver_before s other ring)
     ];
     clean = λ s a ring word inside. elim (cases_eq s r.id) [
       | inl here ↦ words_clean h k r.shape coming.shape coming.kind parts.1 a word (ap (λ x. is_inside x a) (sym (ap (λ n. shape_of g n) here ∙ shape_here)) ∙ inside)

@@ -54,7 +54,6 @@ module _ (h : Header) (rings : List Ring) (k : Known) (views : ℕ → RingView)
     pub size : event_size g ≡ event_size h
     -- of each ring that is there the rules are kept
     pub keeps : (r : ℕ) → IsDriverRing g r → RingKeeps (shape_of g r) k.memory (views r)
-    pub restored : (r : ℕ) → IsDriverRing g r → IsRestored (views r)
     pub clean : (r a : ℕ) → IsDriverRing g r → a % 4 ≡ 0 → is_inside (shape_of g r) a ≡ true → k.soiled a ≡ false
     pub had : (s i r : ℕ) → k.ring_of s i ≡ Some r → IsAsBefore r
     pub each : (r : ℕ) → (views r ≡ k.ring r) ⊎ (views r ≡ new_ring)
@@ -362,12 +361,13 @@ module _ (h : Header) (rings : List Ring) (k : Known) (views : ℕ → RingView)
               (bound_still q e (unfinished_before q e v)).names r ∙ old.unshared r q e (sym (bound.names r) ∙ binds) (unfinished_before q e v) other;
           moves_on = moves_still c old.moves_on;
           stays = stays_still c old.stays;
+          restored = λ s i p cycle at r has. subst IsRestored (sym (o.had s i r has).view) (old.restored s i p cycle at r has);
         }
 
     pub other_rings_keep : DriverKeeps g l
     other_rings_keep = record {
       rings = o.keeps;
-      restored = o.restored;
+      commands_stay = subst IsRestored (sym o.command_view) d.commands_stay;
       clean = o.clean;
       command_ring = command_ring_keeps;
       states = states_keep;

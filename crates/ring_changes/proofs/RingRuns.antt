@@ -79,7 +79,7 @@ module _ (h : Header) (is : IsHeader h) (r : Ring) (coming : IsComing r) where
       let z_good : is_bad_ring h z r ≡ false = bad_same k d absent ∙ good in
       let z_may : lenient h z (Read e) ≡ [] = forgotten_read h is k d r.id coming.low absent e ∙ possible.0 in
       let l : Known = learned h k (Read e) in
-      let l_keeps : DriverKeeps h l = kept_driver h is k (Read e) d possible.0 (read_on h k e ∙ on) in
+      let l_keeps : DriverKeeps h l = kept_driver h is k (Read e) d (possible.0, tt) (read_on h k e ∙ on) in
       let behind : learned h z (Read e) ≡ forgotten l r.id = forgotten_learned h is k d r.id coming.low absent e possible.0 in
       let l_good : is_bad_ring h l r ≡ false =
       sym (bad_same l l_keeps absent) ∙ sym (ap (λ x. is_bad_ring h x r) behind) ∙ still_comes h is z z_keeps r coming z_fresh z_good e z_may in
@@ -142,7 +142,7 @@ module _ (h : Header) (is : IsHeader h) (id : ℕ) where
   gone [] k d good possible on = record { possible = tt; same = refl; keeps = d; good = good }
   gone (e ∷ rest) k d good possible on =
       let l : Known = learned h k (Read e) in
-      let l_keeps : DriverKeeps h l = kept_driver h is k (Read e) d possible.0 (read_on h k e ∙ on) in
+      let l_keeps : DriverKeeps h l = kept_driver h is k (Read e) d (possible.0, tt) (read_on h k e ∙ on) in
       let next : Gone l rest = gone rest l l_keeps (still_goes h is k d id good e possible.0) possible.1 (read_on h k e ∙ on) in
       let step : learned (without_ring h id) (forgotten k id) (Read e) ≡ forgotten l id = learned_without h is k d id good e possible.0 in
       record {

@@ -1,6 +1,6 @@
 -- The headline where rings come and go: behind each step of each run beside rows that break no rule the world is safe
 use Rattle.std.proofs.Common.{◌≡◌, ◌∷◌, ◌++◌, ◌∙◌, false, List, [], Option, Some, None, All, reverse, option_map, option_and_then, refl, sym, ap, subst, inl, inr, append_assoc, append-nil}
-use Rattle.safety.proofs.Words.{cases_Bool, cond-true, false≢true, reverse-append, All-cons, All-head, All-nil, All-tail, none-some, same_Some, Header, Step, NextRow, Look, Report, Finish, Other, Scribble, IsHeader, IsStep, World, IsSafe, Known, DriverKeeps, Runs}
+use Rattle.safety.proofs.Words.{Row, cases_Bool, cond-true, false≢true, reverse-append, All-cons, All-head, All-nil, All-tail, none-some, same_Some, Header, Step, NextRow, Look, Report, Finish, Other, Scribble, IsHeader, IsStep, World, IsSafe, Known, DriverKeeps, Runs}
 use Rattle.world_state.specs.World.{opening}
 use Rattle.controller_model.specs.Finishes as finishes
 use Rattle.controller_model.specs.Looks as looks
@@ -23,7 +23,10 @@ use Rattle.safety.proofs.Squares.{square_law}
 use Rattle.safety.proofs.StillRings.{still_rings}
 use Rattle.safety.proofs.TestsPassed.{clean_tests}
 use Rattle.ring_changes.specs.Changes.{emptied}
-use Rattle.ring_changes.specs.Histories.{AreKept, Comes, Goes, IsKept, IsRingRow, Plain, RingRow, RingsHeadline, Scene, header_after, header_now, known_after, known_now, row_made, row_next, scene_reached, step_made}
+use Rattle.ring_changes.specs.Histories.{AreKept, Comes, Goes, IsKept, IsRingRow, Plain, Withdraws, RingRow, RingsHeadline, Scene, header_after, header_now, known_after, known_now, row_made, row_next, scene_reached, step_made}
+use Rattle.ring_changes.specs.Withdrawals.{restored, ring_restored, without_descriptor}
+use Rattle.ring_changes.proofs.Restored.{row_comes, row_keeps, row_runs as restored_row_runs, stopped_still}
+use Rattle.ring_changes.proofs.Withdrawn.{withdraw_keeps, withdraw_runs}
 use Rattle.ring_changes.proofs.GoneRings.{gone_ring_header, gone_ring_kept}
 use Rattle.ring_changes.proofs.RingRuns.{comes_header, comes_keeps, comes_runs, goes_runs}
 
@@ -42,7 +45,10 @@ module _ (h : Header) (is : IsHeader h) (k : Known) (keeps : DriverKeeps h k) wh
   law = row_runs h is (kept_driver h) (still_rings h) (square_law h) (more_law h)
 
   row_goes : (row : RingRow) (w v : World) → IsRingRow row → Runs h k w → IsKept h k row → row_made h w row ≡ Some v → Holds (header_after h row) (known_after h k row) (steps.counted h v)
-  row_goes (Plain row) w v is_row run kept at = row_holds h is law k row w v is_row keeps run kept at
+  row_goes (Plain row) w v is_row run kept at =
+      row_holds h is law (restored h k row) row w v is_row (row_keeps h is k keeps row kept.1) (restored_row_runs h is k keeps row w kept.1 run) (row_comes h is k keeps row kept.0 kept.2) at
+  row_goes (Withdraws r p) w v is_row run kept at =
+      inl (subst (λ x. Runs h (known_after h k (Withdraws r p)) (steps.counted h x)) (same_Some (without_descriptor w r p) v at) (withdraw_runs h r p is k w keeps kept.1 run))
   row_goes (Comes r) w v coming run kept at = inl (subst (λ x. Runs (header_after h (Comes r)) (known_after h k (Comes r)) (steps.counted h x)) (same_Some (emptied w r.id) v at) (comes_runs h is r coming k w keeps kept.1 run))
   row_goes (Goes id) w v tt run kept at = inl (subst (λ x. Runs (header_after h (Goes id)) (known_after h k (Goes id)) (steps.counted h x)) (same_Some (emptied w id) v at) (goes_runs h is id k w keeps kept.1 run))
 
@@ -88,6 +94,10 @@ runs_on h w u (Finish b) at other = running h w u (finishes.finished h w b) at
 runs_on h w u (Other b) at other = running h w u (posts.other_posted h w b) at
 runs_on h w u (Scribble a x) at other = running h w u (steps.scribbled h w a x) at
 
+-- a row that is kept isn't behind a stop
+row_off : (h : Header) (k : Known) (row : Row) → IsKept h k (Plain row) → k.stopped ≡ false
+row_off h k row kept = sym (stopped_still h k (ring_restored h k row)) ∙ (clean_tests h (restored h k row) row kept.0).0
+
 -- ---- whole runs
 
 module _ (h : Header) (is : IsHeader h) where
@@ -99,8 +109,16 @@ module _ (h : Header) (is : IsHeader h) where
   now_keeps : (past : List RingRow) → All IsRingRow past → AreKept h past → (known_now h past).stopped ≡ false → Keeps past
   now_keeps [] are kept on = record { headed = is; keeps = nothing_kept h is }
   now_keeps (Plain row ∷ past) are kept on =
-      let p = now_keeps past (All-tail IsRingRow (Plain row) past are) kept.0 (clean_tests (header_now h past) (known_now h past) row kept.1).0 in
-      record { headed = p.headed; keeps = kept_driver (header_now h past) p.headed (known_now h past) row p.keeps kept.1 on }
+      let g : Header = header_now h past in
+      let k : Known = known_now h past in
+      let p = now_keeps past (All-tail IsRingRow (Plain row) past are) kept.0 (row_off (header_now h past) (known_now h past) row kept.1) in
+      record {
+        headed = p.headed;
+        keeps = kept_driver g p.headed (restored g k row) row (row_keeps g p.headed k p.keeps row kept.1.1) (row_comes g p.headed k p.keeps row kept.1.0 kept.1.2) on;
+      }
+  now_keeps (Withdraws r q ∷ past) are kept on =
+      let p = now_keeps past (All-tail IsRingRow (Withdraws r q) past are) kept.0 kept.1.0 in
+      record { headed = p.headed; keeps = withdraw_keeps (header_now h past) r q p.headed (known_now h past) p.keeps kept.1.1 }
   now_keeps (Comes r ∷ past) are kept on =
       let p = now_keeps past (All-tail IsRingRow (Comes r) past are) kept.0 kept.1.0 in
       let coming = All-head IsRingRow (Comes r) past are in
@@ -159,7 +177,8 @@ module _ (h : Header) (is : IsHeader h) where
       )
     where
       off : (row : RingRow) → IsKept (header_now h past) (known_now h past) row → (known_now h past).stopped ≡ false
-      off (Plain row) kept = (clean_tests (header_now h past) (known_now h past) row kept).0
+      off (Plain row) kept = row_off (header_now h past) (known_now h past) row kept
+      off (Withdraws r p) kept = kept.0
       off (Comes r) kept = kept.0
       off (Goes id) kept = kept.0
 

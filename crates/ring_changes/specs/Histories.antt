@@ -1,4 +1,4 @@
--- Traces in which rings come and go between the rows: which rings are there and what is known behind each row, when a history is clean, and
+-- Traces in which rings come and go between the rows, and descriptors are withdrawn: which rings are there and what is known behind each row, when a history is clean, and
 -- the worlds that runs beside it lead to. The header is that of the rings that are there now
 use Rattle.std.specs.Prelude.{◌≡◌, false, List, [], ◌∷◌, ℕ, All, reverse, Option, Some, None, option_and_then, option_map}
 use Rattle.traces.specs.declared.header.Header.{Header}
@@ -15,36 +15,45 @@ use Rattle.controller_model.specs.Steps as steps
 use Rattle.ring_knowledge.specs.Known.{Known, nothing}
 use Rattle.ring_knowledge.specs.Learned.{learned}
 use Rattle.ownership_rules.specs.Rules.{lenient}
+use Rattle.segments.specs.RingView as changes
+use Rattle.ring_knowledge.specs.Rings.{on_ring}
+use Rattle.ring_changes.specs.Withdrawals.{is_bad_withdraw, is_left, restored, ring_restored, some_flips, without_descriptor}
 use Rattle.ring_changes.specs.Changes.{IsComing, emptied, forgotten, is_bad_free, is_bad_ring, with_ring, without_ring}
 
--- a row of the driver or the reading of an event, or a ring that comes, or that goes
+-- a row of the driver or the reading of an event, or a ring that comes, or that goes, or the descriptor at a position that is withdrawn
 pub data RingRow : Type 0 where
   Plain : (row : Row) → RingRow
   Comes : (ring : Ring) → RingRow
   Goes : (id : ℕ) → RingRow
+  Withdraws : (ring position : ℕ) → RingRow
 
 -- what the type of a row keeps
 abbrev pub IsRingRow : RingRow → Type 0
 IsRingRow (Plain row) = IsRow row
 IsRingRow (Comes ring) = IsComing ring
 IsRingRow (Goes id) = Unit {0}
+IsRingRow (Withdraws r p) = Unit {0}
 
--- the rings that are there behind a row, and what is known: of a ring that comes nothing
+-- the rings that are there behind a row, and what is known: of a ring that comes nothing; what a row starts or moves is restored
 abbrev pub header_after : Header → RingRow → Header
 header_after h (Plain row) = h
 header_after h (Comes ring) = with_ring h ring
 header_after h (Goes id) = without_ring h id
+header_after h (Withdraws r p) = h
 
 abbrev pub known_after : Header → Known → RingRow → Known
-known_after h k (Plain row) = learned h k row
+known_after h k (Plain row) = learned h (restored h k row) row
 known_after h k (Comes ring) = forgotten k ring.id
 known_after h k (Goes id) = forgotten k id
+known_after h k (Withdraws r p) = on_ring h k r (changes.Withdraws p)
 
--- no lenient rule is broken; behind a stop none may come
+-- no lenient rule is broken; behind a stop none may come. The ring that a row starts or moves stands as declared; the row is judged where
+-- that ring is the controller's again
 abbrev pub IsKept : Header → Known → RingRow → Type 0
-IsKept h k (Plain row) = lenient h k row ≡ []
+IsKept h k (Plain row) = (lenient h (restored h k row) row ≡ []) × (is_left h k (ring_restored h k row) ≡ false) × (some_flips h (restored h k row) row ≡ false)
 IsKept h k (Comes ring) = (k.stopped ≡ false) × (is_bad_ring h k ring ≡ false)
 IsKept h k (Goes id) = (k.stopped ≡ false) × (is_bad_free h k id ≡ false)
+IsKept h k (Withdraws r p) = (k.stopped ≡ false) × (is_bad_withdraw h k r p ≡ false)
 
 module _ (h : Header) where
   -- behind the rows so far, the newest first
@@ -73,6 +82,7 @@ abbrev pub row_made : Header → World → RingRow → Option World
 row_made h w (Plain row) = driver.row_done h w row
 row_made h w (Comes ring) = Some (emptied w ring.id)
 row_made h w (Goes id) = Some (emptied w id)
+row_made h w (Withdraws r p) = Some (without_descriptor w r p)
 
 abbrev pub row_next : Scene → List RingRow → Option Scene
 row_next x [] = None

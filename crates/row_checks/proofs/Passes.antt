@@ -16,7 +16,7 @@ use Rattle.ownership_rules.specs.Leases.{without_end}
 use Rattle.row_checks.proofs.CleanHistories.{lenient_row}
 use Rattle.safety.proofs.TestsPassed.{clean_tests}
 use Rattle.safety.proofs.NothingKept.{nothing_kept}
-use Rattle.safety.proofs.DriverHistories.{kept_driver}
+use Rattle.safety.proofs.DriverHistories.{kept_history}
 use Rattle.trace_record.specs.declared.trace_record.TraceRecord.{TraceRecord}
 use Rattle.trace_record.specs.declared.fault.StepFault.{StepFault}
 use Rattle.trace_record.specs.declared.fault.StepFault.TheVariants.{Refused, Memory}
@@ -80,11 +80,11 @@ unfolding without_end
 room_for first n few = omega (arith, few)
 
 -- one row more that breaks no rule
-tracked_after : (h : Header) → IsHeader h → (k : Known) (row : Row) (kept after : TraceRecord) (m o : ℕ → ℕ) → IsTracked h k kept m → broken h k row ≡ [] → FollowsTrace h (learned h k row) after o →
-    IsTracked h (learned h k row) after o
-tracked_after h headed k row kept after m o t clean f =
-    let within = lenient_row h k row clean in
-    record { follows = f; keeps = λ on. kept_driver h headed k row (t.keeps (clean_tests h k row within).0) within on }
+tracked_after : (h : Header) → IsHeader h → (past : List Row) (row : Row) (kept after : TraceRecord) (m o : ℕ → ℕ) → IsTracked h (known h past) kept m → broken h (known h past) row ≡ [] →
+    FollowsTrace h (learned h (known h past) row) after o → IsTracked h (learned h (known h past) row) after o
+tracked_after h headed past row kept after m o t clean f =
+    let within = lenient_row h (known h past) row clean in
+    record { follows = f; keeps = λ on. kept_history h headed past row (t.keeps (clean_tests h (known h past) row within).0) within on }
 
 -- what is said of a row by the place of its word, where that is found
 pub by_place : (h : Header) (kept : TraceRecord) (m : ℕ → ℕ) (row : Row) (place : WordPlace) (owned : Bool) → ((k : Known) → FollowsTrace h k kept m → IsPlaced h k row place) →
@@ -111,10 +111,10 @@ module _ (h : Header) (rows : List Row) (first : ℕ) where
 
   -- one row more
   step_checked : (i : ℕ) (T U : Known → Type 0) (row d : Row) → IsChecked h rows first i T → i < length rows → get_or rows i d ≡ row →
-      ((k : Known) → T k → (broken h k row ≡ []) × U (learned h k row)) → IsChecked h rows first (i + 1) U
+      (let k : Known = known h (reverse (take i rows)) in T k → (broken h k row ≡ []) × U (learned h k row)) → IsChecked h rows first (i + 1) U
   step_checked i T U row d c below is_row step =
       let before = known h (reverse (take i rows)) in
-      let done = step before c.tracked in
+      let done = step c.tracked in
       let past : reverse (take (i + 1) rows) ≡ row ∷ reverse (take i rows) = one_more rows i d below ∙ ap (λ x. x ∷ reverse (take i rows)) is_row in
       let rest : drop i rows ≡ row ∷ drop (i + 1) rows = left rows i d below ∙ ap (λ x. x ∷ drop (i + 1) rows) is_row in
       let after : known h (reverse (take (i + 1) rows)) ≡ learned h before row = ap (λ xs. known h xs) past ∙ known_next h (reverse (take i rows)) row in
@@ -155,7 +155,7 @@ module _ (h : Header) (rows : List Row) (first : ℕ) where
         as_many = (step (known h (reverse (take i rows))) p.checked.tracked).followed.rings.as_many;
         few_reads = reads_;
         checked = step_checked i (λ k. IsTracked h k kept m) (λ k. IsTracked h k after o) row d p.checked below is_row
-            (λ k t. let here = step k t in (here.clean, tracked_after h headed k row kept after m o t here.clean here.followed));
+            (λ t. let here = step (known h (reverse (take i rows))) t in (here.clean, tracked_after h headed (reverse (take i rows)) row kept after m o t here.clean here.followed));
       }
 
   pub refused : (i number : ℕ) (kept : TraceRecord) (m : ℕ → ℕ) (row d : Row) (c : Refusal) (e : StepFault) → e ≡ Refused c →

@@ -18,7 +18,7 @@ ghost use Rattle.trace_record.specs.Fresh.{IsWithin};
 ghost use Rattle.trace_record.specs.Steps.{IfRefused};
 ghost use Rattle.row_checks.specs.Tracking.{IsLeastFrom, IsStepFrom};
 
-use command_ends::{finish, is_impossible_completion};
+use command_ends::read_completion;
 use endpoint_checks::{count_read, is_left_out, is_no_event, read_transfer_event};
 use guest_memory::WordMemory;
 use ownership_rules::Refusal;
@@ -98,9 +98,5 @@ fn note_completion<M: WordMemory>(
         FollowsTrace header.now (completed header.now k event) kept.new (M.words memory.now)) }
     ensures events { kept.new.events ≡ kept.old.events }
 {
-    if is_impossible_completion(header, finder, kept, event) {
-        return false;
-    }
-    finish(header, finder, kept, memory, event);
-    true
+    read_completion(header, finder, kept, memory, event)
 }

@@ -1,5 +1,5 @@
 //! A row, by its kind.
-ghost use Rattle.std.specs.Prelude.{◌≡◌, ◌+◌, ℕ, false, length, IfErr, OnOk};
+ghost use Rattle.std.specs.Prelude.{◌≡◌, ◌+◌, ℕ, false, length, None, IfErr, OnOk};
 ghost use Rattle.traces.specs.Header.{IsHeader};
 ghost use Rattle.traces.specs.Limits.{most_lines};
 ghost use Rattle.traces.specs.declared.row.Row.TheVariants.{Bell, Write};
@@ -14,7 +14,7 @@ ghost use Rattle.trace_record.specs.WordPlaces.{IsOwnedSo, IsPlaced, IsPlacedSo}
 ghost use Rattle.row_checks.specs.Tracking.{IsLeastFrom, IsStepFrom, IsTracked};
 
 use crate::events::check_event;
-use command_starts::note_write;
+use command_starts::{note_plain_write, note_write};
 use declaration_checks::check_declaration;
 use endpoint_checks::{is_bad_doorbell, ring_doorbell};
 use guest_memory::{Addr, WordMemory};
@@ -23,7 +23,7 @@ use register_checks::check_register;
 use ring_finder::Finder;
 use trace_record::{StepFault, TraceRecord, WordPlace};
 use traces::{Header, Row};
-use write_checks::check_write;
+use write_checks::{check_write, plain_refusal};
 
 /// Checks a row, and notes it. Where it writes a word, `place` is where the word lies, and `owned` whether the controller
 /// owns what is written.
@@ -70,8 +70,64 @@ pub fn check_row<M: WordMemory>(
     }
 }
 
-/// Checks a write before the stop, makes it, and notes what it gives.
+/// Checks a write before the stop, makes it, and notes what it gives. Most writes give nothing: these are checked here.
 fn check_word<M: WordMemory>(
+    header: &Header,
+    finder: &Finder,
+    kept: &mut TraceRecord,
+    memory: &mut M,
+    at: Addr,
+    word: u32,
+    place: WordPlace,
+    owned: bool,
+) -> Result<(), StepFault>
+    requires headed { IsHeader header.now }
+    requires found { IsFinder header.now.rings finder.now }
+    ensures ok { OnOk result ((k : Known) → FollowsTrace header.now k kept.old (M.words memory.old) → DriverKeeps header.now k → k.stopped ≡ false →
+        IsPlacedSo header.now k at word place → owned ≡ writes_to_owned header.now k at word → IsRowStep header.now k (Write at word) kept.new (M.words memory.new)) }
+    ensures refused { IfErr result (λ e. IfRefused e (λ c. (k : Known) → FollowsTrace header.now k kept.old (M.words memory.old) → DriverKeeps header.now k → k.stopped ≡ false →
+        IsPlacedSo header.now k at word place → owned ≡ writes_to_owned header.now k at word → IsLeast header.now k (Write at word) c)) }
+    ensures events { OnOk result (kept.new.events ≡ kept.old.events) }
+{
+    if place.giving.is_some() {
+        return check_giving_word(header, finder, kept, memory, at, word, place, owned);
+    }
+    check_plain_word(header, kept, memory, at, word, place, owned)
+}
+
+/// The same of a write that gives nothing.
+fn check_plain_word<M: WordMemory>(
+    header: &Header,
+    kept: &mut TraceRecord,
+    memory: &mut M,
+    at: Addr,
+    word: u32,
+    place: WordPlace,
+    owned: bool,
+) -> Result<(), StepFault>
+    requires headed { IsHeader header.now }
+    requires plain { place.giving ≡ None }
+    ensures ok { OnOk result ((k : Known) → FollowsTrace header.now k kept.old (M.words memory.old) → DriverKeeps header.now k → k.stopped ≡ false →
+        IsPlacedSo header.now k at word place → owned ≡ writes_to_owned header.now k at word → IsRowStep header.now k (Write at word) kept.new (M.words memory.new)) }
+    ensures refused { IfErr result (λ e. IfRefused e (λ c. (k : Known) → FollowsTrace header.now k kept.old (M.words memory.old) → DriverKeeps header.now k → k.stopped ≡ false →
+        IsPlacedSo header.now k at word place → owned ≡ writes_to_owned header.now k at word → IsLeast header.now k (Write at word) c)) }
+    ensures events { OnOk result (kept.new.events ≡ kept.old.events) }
+{
+    let plain = WordPlace {
+        ring: place.ring,
+        is_lent: place.is_lent,
+        giving: None,
+    };
+    if let Some(refusal) = plain_refusal(header, plain, owned) {
+        return Err(StepFault::Refused(refusal));
+    }
+    note_plain_write(header, kept, memory, at, word, plain)?;
+    Ok(())
+}
+
+/// The same of a write that may give something. It stays apart, so that the others need few registers.
+#[inline(never)]
+fn check_giving_word<M: WordMemory>(
     header: &Header,
     finder: &Finder,
     kept: &mut TraceRecord,

@@ -18,7 +18,7 @@ use Rattle.trace_record.specs.Steps.{IfRefused, IsRowStep}
 use Rattle.ownership_rules.specs.declared.refusal.Refusal.{Refusal}
 use Rattle.safety.proofs.TestsPassed.{clean_tests}
 use Rattle.safety.proofs.NothingKept.{nothing_kept}
-use Rattle.safety.proofs.DriverHistories.{kept_driver}
+use Rattle.safety.proofs.DriverHistories.{kept_history}
 use Rattle.row_checks.proofs.CleanHistories.{lenient_history, lenient_row}
 use Rattle.row_pass.specs.Passing.{IsPassed}
 use Rattle.row_pass.specs.declared.pass.Pass.{Pass}
@@ -37,7 +37,7 @@ module _ {B M : Type 0} (words : M → ℕ → ℕ) (h : Header) (headed : IsHea
         record {
           found = rw same p.found;
           few_reads = rw is (subst (IsWithin after.events) number reads);
-          tracked = rw (is, at) (record { follows = step.followed; keeps = λ on. kept_driver h headed (known h past) row (p.tracked.keeps (clean_tests h (known h past) row lenient).0) lenient on });
+          tracked = rw (is, at) (record { follows = step.followed; keeps = λ on. kept_history h headed past row (p.tracked.keeps (clean_tests h (known h past) row lenient).0) lenient on });
           clean = (p.clean, step.clean);
         }
 

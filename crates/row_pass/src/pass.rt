@@ -47,6 +47,7 @@ impl<B: LeaseLog + Drop, M: WordMemory + Drop> Pass<B, M> {
     }
 
     /// Checks the row of a number, and notes it and its leases.
+    #[inline(always)]
     pub fn row(&mut self, header: &Header, number: u32, row: &Row) -> Result<(), StepFault>
         requires headed { IsHeader header.now }
         requires so_far { (past : List Row) × IsPassed M.words header.now past self.old × (length past ≤ most_lines) }

@@ -1,6 +1,7 @@
 -- The command ring's first doorbell beneath an event that isn't read yet: the two may change places
-use Rattle.std.proofs.Common.{◌≡◌, ◌-◌, ◌==◌, ◌&&◌, ◌||◌, if◌then◌else◌, ◌∷◌, ◌∙◌, ℕ, Bool, true, false, not, [], Some, is_none, nat_lt, arith, refl, sym, ap, subst, ltb-true}
-use Rattle.safety.proofs.Words.{false≢true, and_parts, or_parts, or_from, not-false, not_from_true, cond-true, cond-false, Block, BlockKind, TransferEvent, CommandCompletion, kind, cycle, is_event, is_transfer_event, is_command_completion, cycle_of, Opens, ceiling, is_open, ceiling_held, is_stop_of, Header, Bell, Read, IsHeader, shape_of, command_id, event_shape, event_size, Known, on_ring, command_at, next_command, endpoint_rung, rung, event_read, learned, is_in_profile, may_be_taken, is_stopping_now, is_past_room, is_impossible_by_kind, is_impossible, event_tests, is_bad_bell, is_bad_doorbell, doorbell_tests, lenient_tests, lenient, broken_of, AfterStop, BadDoorbell, DriverKeeps, HeldMore, is_open_if, Square}
+use Rattle.std.proofs.Common.{◌≡◌, ◌-◌, ◌==◌, ◌&&◌, ◌||◌, if◌then◌else◌, ◌∷◌, ◌∙◌, ℕ, Bool, true, false, not, [], Some, is_none, nat_lt, arith, refl, sym, ap, subst, inl, ltb-true, eqb-true}
+use Rattle.safety.proofs.Words.{MayCome, none-some, false≢true, and_parts, or_parts, or_from, not-false, not_from_true, cond-true, cond-false, Block, BlockKind, TransferEvent, CommandCompletion, kind, cycle, is_event, is_transfer_event, is_command_completion, cycle_of, Opens, ceiling, is_open, ceiling_held, is_stop_of, Header, Bell, Read, IsHeader, shape_of, command_id, event_shape, event_size, Known, on_ring, command_at, next_command, endpoint_rung, rung, event_read, learned, is_in_profile, may_be_taken, is_stopping_now, is_past_room, is_impossible_by_kind, is_impossible, event_tests, is_bad_bell, is_bad_doorbell, doorbell_tests, lenient_tests, lenient, broken_of, AfterStop, BadDoorbell, DriverKeeps, HeldMore, is_open_if, Square}
+use Rattle.safety.proofs.DriverHistories.{kept_driver}
 use Rattle.safety.proofs.TestsPassed.{AllFail, clean_tests, tests_fail}
 use Rattle.safety.proofs.EventRead.{event_broken}
 use Rattle.safety.proofs.CleanRows.{EventFacts, event_facts, BellFacts, bell_facts}
@@ -129,21 +130,25 @@ module _ (h : Header) where
     unfolding learned
     ring_still e may = ring_kind e may (kind e) refl (event_facts h k e may).possible
 
-    pub command_square : (s t : ℕ) (e : Block) → (s == 0) ≡ true → lenient h k (Bell s t) ≡ [] → lenient h k (Read e) ≡ [] → Square h k (Bell s t) e
+    pub command_square : (s t : ℕ) (e : Block) → (s == 0) ≡ true → MayCome h k (Bell s t) → lenient h k (Read e) ≡ [] → Square h k (Bell s t) e
     command_square s t e slot clean may =
         let facts : EventFacts h k e = event_facts h k e may in
-        let bell : BellFacts h k s t = bell_facts h k s t clean in
+        let bell : BellFacts h k s t = bell_facts h k s t clean.0 in
         let l : Known = command_rung k in
         let k_read : Known = learned h k (Read e) in
         let l_read : Known = learned h l (Read e) in
         let same : SameDriver (counted h k) k_read = read_same h k e in
         let driver : SameDriver k l = on_ring_same h k (command_id h) Opens tt in
         let read : ReadWoken h (command_id h) none_of k l e = read_woken h (command_id h) none_of k l e driver may (kind_woken e may (kind e) refl facts.possible facts.inside) in
+        let read_keeps : DriverKeeps h k_read = kept_driver h is k (Read e) d (may, tt) (same.stopped ∙ (clean_tests h k (Read e) may).0) in
         let good : (if s == 0 then not (t == 0) else is_bad_bell h k_read s t) ≡ false =
         cond-true (s == 0) (not (t == 0)) (is_bad_bell h k_read s t) slot ∙ sym (cond-true (s == 0) (not (t == 0)) (is_bad_bell h k s t) slot) ∙ bell.good in
         record {
           event = subst (λ x. lenient h x (Read e) ≡ []) (sym (bell_command k s t slot)) read.possible;
-          row = bell_clean k_read s t (same.stopped ∙ (clean_tests h k (Read e) may).0) (same.started ∙ facts.started) good;
+          row = (
+            bell_clean k_read s t (same.stopped ∙ (clean_tests h k (Read e) may).0) (same.started ∙ facts.started) good,
+            λ r has. absurd (none-some r (sym (read_keeps.states.no_endpoint s t (inl (eqb-true s 0 slot))) ∙ has)),
+          );
           after = subst (λ x. HeldMore x (learned h (learned h k (Bell s t)) (Read e))) (sym (bell_command k_read s t slot))
               (subst (λ x. HeldMore (command_rung k_read) (learned h x (Read e))) (sym (bell_command k s t slot))
               (woken_more h (command_id h) none_of k_read (command_rung k_read) l_read (command_woken k_read) read.after

@@ -21,7 +21,7 @@ module _ (h : Header) (is : IsHeader h) (k : Known) (d : DriverKeeps h k) (e : B
   b = event_behind h is k d e may
 
   behind_keeps : DriverKeeps h l
-  behind_keeps = kept_driver h is k (Read e) d may (read_on h k e ∙ (clean_tests h k (Read e) may).0)
+  behind_keeps = kept_driver h is k (Read e) d (may, tt) (read_on h k e ∙ (clean_tests h k (Read e) may).0)
 
   binding_same : (n i : ℕ) → binding_in h l n i ≡ binding_in h k n i
   unfolding binding_in

@@ -1,7 +1,7 @@
 -- A write that gives a command and an event that isn't read yet: the event stays possible, the command is unfinished behind it, and what
 -- is known is the same both ways but for the numbers at which rings are held
 use Rattle.std.proofs.Common.{◌≡◌, ◌≢◌, ◌⊎◌, ◌∙◌, ℕ, Bool, false, true, [], Option, None, Some, option_and_then, slice_get, arith, refl, sym, ap, subst, inl, inr}
-use Rattle.safety.proofs.Words.{fun_ext, or_right, none-some, same_Some, Block, is_inside, RingView, Writes, changed, is_due, gives, positions_given, cases_option, gives_is, address_inside, position_given_is, Command, NoOp, EnableSlot, DisableSlot, AddressDevice, ConfigureEndpoint, EvaluateContext, ResetEndpoint, StopEndpoint, SetTrDequeue, ResetDevice, Header, Write, Read, IsHeader, shape_of, command_id, Known, command_at, with_device, with_word, written, taken_device, device_named, no_device, command_given, learned, lenient, IsHeldMore, HeldMore, IsDriverRing, IsUnfinished, CommandKeeps, DriverKeeps}
+use Rattle.safety.proofs.Words.{MayCome, fun_ext, or_right, none-some, same_Some, Block, is_inside, RingView, Writes, changed, is_due, gives, positions_given, cases_option, gives_is, address_inside, position_given_is, Command, NoOp, EnableSlot, DisableSlot, AddressDevice, ConfigureEndpoint, EvaluateContext, ResetEndpoint, StopEndpoint, SetTrDequeue, ResetDevice, Header, Write, Read, IsHeader, shape_of, command_id, Known, command_at, with_device, with_word, written, taken_device, device_named, no_device, command_given, learned, lenient, IsHeldMore, HeldMore, IsDriverRing, IsUnfinished, CommandKeeps, DriverKeeps}
 use Rattle.safety.proofs.TestsPassed.{clean_tests}
 use Rattle.safety.proofs.CleanRows.{event_facts}
 use Rattle.safety.proofs.Headers.{ring_shape}
@@ -24,7 +24,7 @@ use Rattle.safety.proofs.WriteBeneath.{word_driver}
 use Rattle.safety.proofs.HeldTwice.{held_twice}
 use Rattle.safety.proofs.DeviceBeneath.{Untaken, device_read, device_driver, devices_same, beyond}
 
-module _ (h : Header) (is : IsHeader h) (k : Known) (d : DriverKeeps h k) (a w : ℕ) (e : Block) (clean : lenient h k (Write a w) ≡ []) (may : lenient h k (Read e) ≡ []) where
+module _ (h : Header) (is : IsHeader h) (k : Known) (d : DriverKeeps h k) (a w : ℕ) (e : Block) (clean : MayCome h k (Write a w)) (may : lenient h k (Read e) ≡ []) where
   abbrev l : Known
   l = learned h k (Read e)
 
@@ -38,7 +38,7 @@ module _ (h : Header) (is : IsHeader h) (k : Known) (d : DriverKeeps h k) (a w :
   beneath = learned h m (Read e)
 
   word_first : ReadAlike h EverySlot k word e
-  word_first = word_read h k a w is d clean (event_facts h k e may).started e may
+  word_first = word_read h k a w is d clean.0 (event_facts h k e may).started e may
 
   device_then : ReadAlike h (Untaken (taken h k a w)) word m e
   unfolding learned written
@@ -53,7 +53,7 @@ module _ (h : Header) (is : IsHeader h) (k : Known) (d : DriverKeeps h k) (a w :
   written_keeps = kept_driver h is k (Write a w) d clean (clean_tests h m (Read e) command_event).0
 
   pub beneath_keeps : DriverKeeps h beneath
-  beneath_keeps = kept_driver h is m (Read e) written_keeps command_event (read_on h m e ∙ (clean_tests h m (Read e) command_event).0)
+  beneath_keeps = kept_driver h is m (Read e) written_keeps (command_event, tt) (read_on h m e ∙ (clean_tests h m (Read e) command_event).0)
 
   -- ---- what the two have in common
 
@@ -151,7 +151,7 @@ module _ (h : Header) (is : IsHeader h) (k : Known) (d : DriverKeeps h k) (a w :
     -- the slot of an Address Device has one behind the event
     there_taken : (f : ℕ × ℕ) → taken h k a w ≡ Some f → beneath.device f.0 ≡ Some f.1
     there_taken f at =
-        let t = taking h k a w f clean at in
+        let t = taking h k a w f clean.0 at in
         let same : c ≡ AddressDevice f.0 t.takes.bsr t.takes.context = same_Some c t.command (sym given ∙ t.given) ∙ t.takes.command in
         elim (cases_option (beneath.device f.0)) [
           | inl none ↦ absurd (given_keeps.device f.0 t.takes.context t.takes.bsr same none)

@@ -1,6 +1,6 @@
 -- Behind an event that is read before it, a command that a write gives has the same input context, and may move the same rings
 use Rattle.std.proofs.Common.{◌≡◌, ◌∙◌, ℕ, false, Bool, Option, Some, None, [], refl, ap, subst}
-use Rattle.safety.proofs.Words.{or_parts, or_from, Block, Command, SetTrDequeue, input_context_bytes, Header, Write, Read, IsHeader, Known, command_given, learned, is_bad_area, is_soiled, covers, device_ranges, is_bad_dequeue, is_bad_move, lenient, DriverKeeps, MovesIf}
+use Rattle.safety.proofs.Words.{MayCome, or_parts, or_from, Block, Command, SetTrDequeue, input_context_bytes, Header, Write, Read, IsHeader, Known, command_given, learned, is_bad_area, is_soiled, covers, device_ranges, is_bad_dequeue, is_bad_move, lenient, DriverKeeps, MovesIf}
 use Rattle.ownership_rules.specs.Commands as commands
 use Rattle.safety.proofs.AreaFacts.{AreaParts, area_parts, area_from, clean_same}
 use Rattle.safety.proofs.WriteBeside.{context_parts, context_from}
@@ -29,7 +29,7 @@ module _ (h : Header) (is : IsHeader h) (k : Known) (d : DriverKeeps h k) (e : B
       let p = context_parts h k n good in
       context_from h l n (area_behind n (input_context_bytes h.context_size) p.area) (clean_behind n (input_context_bytes h.context_size) p.clean)
 
-  module _ (a w : ℕ) (clean : lenient h k (Write a w) ≡ []) (c : Command) (given : command_given h k a w ≡ Some c) where
+  module _ (a w : ℕ) (clean : MayCome h k (Write a w)) (c : Command) (given : command_given h k a w ≡ Some c) where
     abbrev x : Known
     x = between h is k d a w e clean may c given
 

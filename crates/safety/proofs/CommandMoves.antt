@@ -1,6 +1,6 @@
 -- Behind an event that is read before it, a command that a write gives may move its rings as before
 use Rattle.std.proofs.Common.{◌≡◌, ◌==◌, ◌&&◌, ◌∙◌, ℕ, not, Bool, false, Some, [], refl, sym, ap, subst, inl, inr, eq-eqb}
-use Rattle.safety.proofs.Words.{or_from, and_parts, false≢true, false_from_ne_true, not_from_true, Block, declared, floor_number, is_move, cases_option, Command, NoOp, EnableSlot, DisableSlot, AddressDevice, ConfigureEndpoint, EvaluateContext, ResetEndpoint, StopEndpoint, SetTrDequeue, ResetDevice, is_off, context_pointer, context_cycle, Header, Write, Read, IsHeader, shape_of, Known, command_given, learned, binding_in, is_bad_stay, is_bad_move, lenient, DriverKeeps, StaysIf}
+use Rattle.safety.proofs.Words.{MayCome, or_from, and_parts, false≢true, false_from_ne_true, not_from_true, Block, declared, floor_number, is_move, cases_option, Command, NoOp, EnableSlot, DisableSlot, AddressDevice, ConfigureEndpoint, EvaluateContext, ResetEndpoint, StopEndpoint, SetTrDequeue, ResetDevice, is_off, context_pointer, context_cycle, Header, Write, Read, IsHeader, shape_of, Known, command_given, learned, binding_in, is_bad_stay, is_bad_move, lenient, DriverKeeps, StaysIf}
 use Rattle.safety.proofs.TestsPassed.{clean_tests}
 use Rattle.safety.proofs.DriverHistories.{kept_driver}
 use Rattle.safety.proofs.RowBeneath.{read_on}
@@ -8,13 +8,13 @@ use Rattle.safety.proofs.GivenBehind.{between, own_between}
 use Rattle.safety.proofs.CommandContext.{set_behind}
 use Rattle.safety.proofs.CommandStays.{left_behind}
 
-module _ (h : Header) (is : IsHeader h) (k : Known) (d : DriverKeeps h k) (a w : ℕ) (e : Block) (clean : lenient h k (Write a w) ≡ []) (may : lenient h k (Read e) ≡ [])
+module _ (h : Header) (is : IsHeader h) (k : Known) (d : DriverKeeps h k) (a w : ℕ) (e : Block) (clean : MayCome h k (Write a w)) (may : lenient h k (Read e) ≡ [])
     (c : Command) (given : command_given h k a w ≡ Some c) where
   abbrev l : Known
   l = learned h k (Read e)
 
   pub behind_keeps : DriverKeeps h l
-  behind_keeps = kept_driver h is k (Read e) d may (read_on h k e ∙ (clean_tests h k (Read e) may).0)
+  behind_keeps = kept_driver h is k (Read e) d (may, tt) (read_on h k e ∙ (clean_tests h k (Read e) may).0)
 
   stay_behind : (s n r : ℕ) (bsr : Bool) → c ≡ AddressDevice s bsr n → l.ring_of s 1 ≡ Some r → is_bad_stay h l (Some r) (binding_in h l n 1) ≡ false
   unfolding is_bad_stay binding_in

@@ -1,6 +1,6 @@
 -- Behind an event that is read before it, a write that gives a command breaks no rule: what is tested of its bindings and its slot
 use Rattle.std.proofs.Common.{◌≡◌, ◌||◌, ◌∷◌, ◌∙◌, ℕ, not, true, false, List, [], map, All, Some, refl, sym, ap, subst, inl, inr, eq-eqb, Option, None}
-use Rattle.safety.proofs.Words.{list_any, or_from, not_from_true, false≢true, false_from_ne_true, All-head, All-tail, cases_option, Block, is_due, Command, NoOp, EnableSlot, DisableSlot, AddressDevice, ConfigureEndpoint, EvaluateContext, ResetEndpoint, StopEndpoint, SetTrDequeue, ResetDevice, Header, Write, Read, IsHeader, shape_of, command_id, is_ring, Known, unfinished, command_given, learned, Binding, binding_in, binds, ring_bound, binds_ring, has_repeats, drops, is_kept, is_taken, is_placed, is_bad_place, is_being_bound, is_bad_binding, lenient, IsIn, some_of, any_of, IsUnfinished, CommandKeeps, DriverKeeps, exclude}
+use Rattle.safety.proofs.Words.{MayCome, list_any, or_from, not_from_true, false≢true, false_from_ne_true, All-head, All-tail, cases_option, Block, is_due, Command, NoOp, EnableSlot, DisableSlot, AddressDevice, ConfigureEndpoint, EvaluateContext, ResetEndpoint, StopEndpoint, SetTrDequeue, ResetDevice, Header, Write, Read, IsHeader, shape_of, command_id, is_ring, Known, unfinished, command_given, learned, Binding, binding_in, binds, ring_bound, binds_ring, has_repeats, drops, is_kept, is_taken, is_placed, is_bad_place, is_being_bound, is_bad_binding, lenient, IsIn, some_of, any_of, IsUnfinished, CommandKeeps, DriverKeeps, exclude}
 use Rattle.ownership_rules.specs.Commands as commands
 use Rattle.safety.proofs.LeasesBehind.{none_fewer}
 use Rattle.safety.proofs.WriteBeside.{beside_old}
@@ -15,7 +15,7 @@ each_in : {X : Type 0} (P : X → Type 0) (xs : List X) (x : X) → All P xs →
 each_in P [] x all at = absurd at
 each_in P (y ∷ xs) x all at = elim at [ inl here ↦ subst P (sym here) (All-head P y xs all) | inr later ↦ each_in P xs x (All-tail P y xs all) later ]
 
-module _ (h : Header) (is : IsHeader h) (k : Known) (d : DriverKeeps h k) (a w : ℕ) (e : Block) (clean : lenient h k (Write a w) ≡ []) (may : lenient h k (Read e) ≡ [])
+module _ (h : Header) (is : IsHeader h) (k : Known) (d : DriverKeeps h k) (a w : ℕ) (e : Block) (clean : MayCome h k (Write a w)) (may : lenient h k (Read e) ≡ [])
     (c : Command) (given : command_given h k a w ≡ Some c) where
   abbrev l : Known
   l = learned h k (Read e)
@@ -87,7 +87,7 @@ module _ (h : Header) (is : IsHeader h) (k : Known) (d : DriverKeeps h k) (a w :
       let u : IsUnfinished h beneath now.0 found.0 = stays_there now.0 found.0 now.1 in
       let own : CommandKeeps h beneath (there h is k d a w e clean may c given).position c = kept h is k d a w e clean may c given in
       let old : CommandKeeps h beneath now.0 found.0 = (keeps h is k d a w e clean may c given).unfinished now.0 found.0 u in
-      let beside_f = beside h is k d a w e clean may c given now.0 found.0 old (beside_old h is k d a w clean before.0 found.0 before.1) in
+      let beside_f = beside h is k d a w e clean may c given now.0 found.0 old (beside_old h is k d a w clean.0 before.0 found.0 before.1) in
       let apart : binds_ring h beneath r found.0 ≡ false =
       own.unshared r now.0 found.0 (sym (binds_ring_beside h beneath x c (beside_given h is k d a w e clean may c given) r) ∙ bound) u
       (λ same. false≢true (sym (there h is k d a w e clean may c given).fresh ∙ ap (λ p. (l.ring (command_id h)).given p) (sym same) ∙ now.1.given)) in

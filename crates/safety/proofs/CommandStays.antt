@@ -1,6 +1,6 @@
 -- Behind an event that is read before it, a second Address Device that a write gives finds nothing left on its ring
 use Rattle.std.proofs.Common.{◌≡◌, ◌∙◌, ℕ, Bool, length, Some, [], arith, refl, sym, ap, subst, inl, inr}
-use Rattle.safety.proofs.Words.{cases_lt, Block, RingView, declared, floor_number, Command, AddressDevice, Header, Write, Read, IsHeader, Known, command_given, learned, lenient, DriverKeeps}
+use Rattle.safety.proofs.Words.{MayCome, cases_lt, Block, RingView, declared, floor_number, Command, AddressDevice, Header, Write, Read, IsHeader, Known, command_given, learned, lenient, DriverKeeps}
 use Rattle.safety.proofs.Concerned.{Concerns}
 use Rattle.safety.proofs.RowFrames.{write_leaves}
 use Rattle.safety.proofs.EventBehind.{event_behind}
@@ -8,7 +8,7 @@ use Rattle.safety.proofs.UnfinishedBehind.{rings_behind}
 use Rattle.safety.proofs.CommandBeneath.{written_keeps, command_event, alike_there}
 use Rattle.safety.proofs.GivenBehind.{there, facts}
 
-module _ (h : Header) (is : IsHeader h) (k : Known) (d : DriverKeeps h k) (a w : ℕ) (e : Block) (clean : lenient h k (Write a w) ≡ []) (may : lenient h k (Read e) ≡ [])
+module _ (h : Header) (is : IsHeader h) (k : Known) (d : DriverKeeps h k) (a w : ℕ) (e : Block) (clean : MayCome h k (Write a w)) (may : lenient h k (Read e) ≡ [])
     (c : Command) (given : command_given h k a w ≡ Some c) where
   abbrev l : Known
   l = learned h k (Read e)

@@ -1,6 +1,6 @@
 -- Behind an event that is read before it, a write that gives a good command breaks no rule
 use Rattle.std.proofs.Common.{◌≡◌, ◌∷◌, ◌∙◌, ℕ, Bool, false, [], Some, ap}
-use Rattle.safety.proofs.Words.{cond-false, or_from, Block, Command, Header, Write, Read, IsHeader, Known, command_given, learned, broken_of, AfterStop, some_command, holds_of, write_tests, lenient_tests, lenient, DriverKeeps}
+use Rattle.safety.proofs.Words.{MayCome, cond-false, or_from, Block, Command, Header, Write, Read, IsHeader, Known, command_given, learned, broken_of, AfterStop, some_command, holds_of, write_tests, lenient_tests, lenient, DriverKeeps}
 use Rattle.ownership_rules.specs.Commands as commands
 use Rattle.safety.proofs.TestsPassed.{clean_tests}
 use Rattle.safety.proofs.RowBeneath.{read_on}
@@ -8,7 +8,7 @@ use Rattle.safety.proofs.WriteBehind.{RingRules, rules_behind, command_behind, b
 use Rattle.safety.proofs.CommandRow.{idle_behind, profile_behind, bindings_behind}
 use Rattle.safety.proofs.CommandMoves.{moves_behind}
 
-module _ (h : Header) (is : IsHeader h) (k : Known) (d : DriverKeeps h k) (a w : ℕ) (e : Block) (clean : lenient h k (Write a w) ≡ []) (may : lenient h k (Read e) ≡ [])
+module _ (h : Header) (is : IsHeader h) (k : Known) (d : DriverKeeps h k) (a w : ℕ) (e : Block) (clean : MayCome h k (Write a w)) (may : lenient h k (Read e) ≡ [])
     (c : Command) (given : command_given h k a w ≡ Some c) where
   abbrev l : Known
   l = learned h k (Read e)

@@ -118,6 +118,7 @@ module _ (h : Header) (is : IsHeader h) (k : Known) (d : DriverKeeps h k) (b : B
       let driver = completion_same h k b in
       commands_stay h k l (λ p f u. own_keeps h k p f (d.unfinished p f (before p f u).0))
       (λ p q f g u v other. pair_keeps h k p q f g (d.unfinished p f (before p f u).0) (before q g v).0 other)
+      (λ p f u. (d.unfinished p f (before p f u).0).restored)
       (λ p f u. let was = before p f u in
       beside_finished h is k d (next_command h k) e ends c.slot c.part l driver c.others p f was.0 was.1 (λ t i its. c.apart p f t i was.0 was.1 its))
       (λ p f u. let was = before p f u in

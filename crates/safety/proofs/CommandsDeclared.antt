@@ -2,9 +2,10 @@
 use Rattle.std.proofs.Common.{◌≡◌, ◌<◌, ◌∙◌, ℕ, List, option_and_then, slice_get, arith, refl, sym, ap, subst, inl, inr}
 use Rattle.safety.proofs.Words.{cases_eq, Block, number, RingView, Declares, declared, is_due, slice_get-append, Command, command_of, Header, IsHeader, shape_of, command_id, Known, on_ring, command_at, IsUnfinished, CommandKeeps, DriverKeeps}
 use Rattle.safety.proofs.DriverRows.{ring_here, ring_elsewhere}
+use Rattle.safety.proofs.NothingFree.{declared_free}
 use Rattle.safety.proofs.DeclaredMoves.{MovesStay, moves_declares, moves_stand}
 use Rattle.safety.proofs.CommandRing.{due_has_ring}
-use Rattle.safety.proofs.CommandsStay.{Standing}
+use Rattle.safety.proofs.CommandsStay.{Standing, still_restored}
 use Rattle.safety.proofs.CommandsSame.{SameStates, RingsStay, same_stay}
 
 module _ (h : Header) (is : IsHeader h) (k : Known) (d : DriverKeeps h k) (r : ℕ) (blocks : List Block) where
@@ -60,7 +61,7 @@ module _ (h : Header) (is : IsHeader h) (k : Known) (d : DriverKeeps h k) (r : �
 
   rings_stay : (c : Command) → RingsStay h k l c
   unfolding on_ring l
-  rings_stay c = record { rest = λ s i p cycle at rests. rests; ahead = λ s i p q cycle at has rests. (stays q).ahead; standing = λ s n q bsr at has. standing q; still = λ q bound. (stays q).placed }
+  rings_stay c = record { rest = λ s i p cycle at rests. rests; ahead = λ s i p q cycle at has rests. (stays q).ahead; standing = λ s n q bsr at has. standing q; still = λ q bound. (stays q).placed; moved = still_restored k (on_ring h k r (Declares blocks)) c (λ s i its. refl) (declared_free h k r blocks) }
 
   pub declared_commands : (p : ℕ) (c : Command) → IsUnfinished h (on_ring h k r (Declares blocks)) p c → CommandKeeps h (on_ring h k r (Declares blocks)) p c
   unfolding l

@@ -17,7 +17,7 @@ use Rattle.safety.proofs.OtherSlots.{IsPart, OtherSlots}
 use Rattle.safety.proofs.SlotCommands.{OfCommand, Has, Binds, Commands}
 use Rattle.safety.proofs.CommandsBeside.{Beside}
 use Rattle.safety.proofs.Concerned.{Concerns, some_concerned, not_both}
-use Rattle.safety.proofs.CommandsStay.{Standing, PlacesStay, MovesAhead, RingsBeside}
+use Rattle.safety.proofs.CommandsStay.{Standing, PlacesStay, MovesAhead, RingsBeside, still_restored}
 use Rattle.safety.proofs.CommandsSame.{context_good}
 
 -- ---- a command that concerns nothing that changed: it is of another slot, or of another endpoint of the slot
@@ -69,6 +69,7 @@ module _ (h : Header) (is : IsHeader h) (k : Known) (d : DriverKeeps h k) (q : �
     still = λ r bound. subst (λ v. PlacesStay (shape_of h r) (k.ring r) v) (sym (o.rings r (not_bound_by_it r bound))) (λ a b placed. placed);
     kept = λ r t i bound has.
         sym (o.ring_of t i (λ same mine. not_bound_by_it r bound (o.within i r mine (ap (λ n. l.ring_of n i) (sym same) ∙ has)))) ∙ has;
+    moved = still_restored k l c (λ t i its. o.ring_of t i (apart t i its)) (λ r. (driver.rings r).free);
   }
 
   context_finished : (n : ℕ) → commands.has_bad_context h k (Some n) ≡ false → commands.has_bad_context h l (Some n) ≡ false

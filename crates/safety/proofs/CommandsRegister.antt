@@ -37,7 +37,7 @@ module _ (h : Header) (k l : Known) (same : SameForCommands k l) where
   same_before = unfinished_view h k l given (ap (λ f. (f (command_id h)).floor) same.ring)
 
   pub same_commands : CommandsKeep h k → CommandsKeep h l
-  same_commands keeps = same_stay h k l states keeps same_before (λ p c u. ring_stays h k l c same.endpoint_state (λ s i r at. ap (λ f. f r) same.ring) (λ r bound. ap (λ f. f r) same.ring))
+  same_commands keeps = same_stay h k l states keeps same_before (λ p c u. ring_stays h k l c same.endpoint_state same.ring_of (λ s i r at. ap (λ f. f r) same.ring) (λ r bound. ap (λ f. f r) same.ring) (λ r. ap (λ f. (f r).free) same.ring))
 
 pub register_commands : (h : Header) (k : Known) (r : Register) (x : ℕ) → CommandsKeep h k → CommandsKeep h (learned h k (Reg r x))
 register_commands h k r x keeps =

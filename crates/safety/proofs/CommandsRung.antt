@@ -9,9 +9,10 @@ use Rattle.safety.proofs.RingIds.{command_not_transfer}
 use Rattle.safety.proofs.BoundRings.{bound_transfer}
 use Rattle.safety.proofs.SameDriver.{SameGiven, SameDriver, on_ring_same}
 use Rattle.safety.proofs.EndpointPut.{at_pair}
+use Rattle.safety.proofs.NothingFree.{opened_free}
 use Rattle.safety.proofs.UnfinishedLists.{unfinished_fails}
 use Rattle.safety.proofs.MovesSame.{standing_same, unfinished_view}
-use Rattle.safety.proofs.CommandsStay.{PlacesStay, MovesAhead}
+use Rattle.safety.proofs.CommandsStay.{PlacesStay, MovesAhead, still_restored}
 use Rattle.safety.proofs.CommandsSame.{SameStates, RingsStay, ring_stays, same_stay}
 
 stopped_on : (e : EndpointState) → is_stopped e ≡ true → false ≡ is_off e
@@ -46,14 +47,14 @@ module _ (h : Header) (is : IsHeader h) (k : Known) (d : DriverKeeps h k) where
       let driver : SameDriver k l = on_ring_same h k (command_id h) Opens tt in
       same_stay h k l (opened_states h k (command_id h)) d.unfinished
       (unfinished_view h k l (driver.rings (command_id h)) (opened_floor (command_id h) (command_id h)))
-      (λ p c u. ring_stays h k l c (opened_endpoints h k (command_id h)) (λ s i r at.
+      (λ p c u. ring_stays h k l c (opened_endpoints h k (command_id h)) (opened_states h k (command_id h)).ring_of (λ s i r at.
       ring_elsewhere h k (command_id h) r Opens (λ same. transfer_not_command h is r (d.states.transfer s i r at) same))
-      (λ r bound. ring_elsewhere h k (command_id h) r Opens (λ same. command_not_transfer h is (subst (λ x. IsTransferTest h x) same (bound_transfer h is k r c bound)))))
+      (λ r bound. ring_elsewhere h k (command_id h) r Opens (λ same. command_not_transfer h is (subst (λ x. IsTransferTest h x) same (bound_transfer h is k r c bound)))) (opened_free h k (command_id h)))
 
   -- ---- an endpoint's
 
   -- an unfinished Set TR Dequeue touches its endpoint
-  set_touches : (s t i p q : ℕ) (cycle : Bool) (u : ℕ) → is_touched h k s t ≡ false → IsUnfinished h k u (SetTrDequeue q i p cycle) → q ≡ s → i ≡ t → ⊥
+  pub set_touches : (s t i p q : ℕ) (cycle : Bool) (u : ℕ) → is_touched h k s t ≡ false → IsUnfinished h k u (SetTrDequeue q i p cycle) → q ≡ s → i ≡ t → ⊥
   unfolding is_touched touches_endpoint changes
   set_touches s t i p q cycle u untouched unfinished_at same_slot same_index =
       let none = unfinished_fails h k (touches_endpoint h k s t) u (SetTrDequeue q i p cycle) untouched unfinished_at in
@@ -136,6 +137,7 @@ module _ (h : Header) (is : IsHeader h) (k : Known) (d : DriverKeeps h k) where
               let other : x ≢ r = λ same.
               none_drops s t u c untouched unfinished_at ((d.unfinished u c unfinished_at).unkept x s t bound (has ∙ ap (λ n. Some n) (sym same))) in
               subst (λ v. PlacesStay (shape_of h x) (k.ring x) v) (sym (ap (λ f. f x) ring_is ∙ ring_elsewhere h k r x Opens other)) (λ a b placed. placed);
+          moved = still_restored k l c (λ q i its. ap (λ f. f q i) rung_states.ring_of) (λ x. (given_same x).free);
         }
 
     endpoint_commands : (p : ℕ) (c : Command) → IsUnfinished h l p c → CommandKeeps h l p c

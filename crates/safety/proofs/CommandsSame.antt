@@ -1,9 +1,9 @@
 -- What is kept of unfinished commands is kept where slots, endpoints, contexts and device contexts are as they were
 use Rattle.std.proofs.Common.{◌≡◌, ◌∙◌, ℕ, Bool, true, false, Option, None, Some, refl, sym, ap, subst}
-use Rattle.safety.proofs.Words.{or_parts, Command, AddressDevice, SetTrDequeue, named_context, is_disabled, is_off, is_at_rest, Header, shape_of, Known, device_ranges, is_bad_area, is_soiled, IsUnfinished, CommandKeeps, binds_ring}
+use Rattle.safety.proofs.Words.{MovesRestored, or_parts, Command, AddressDevice, SetTrDequeue, named_context, is_disabled, is_off, is_at_rest, Header, shape_of, Known, device_ranges, is_bad_area, is_soiled, IsUnfinished, CommandKeeps, binds_ring}
 use Rattle.ownership_rules.specs.Commands as commands
 use Rattle.safety.proofs.CommandsBeside.{Beside}
-use Rattle.safety.proofs.CommandsStay.{Standing, PlacesStay, MovesAhead, RingsBeside, own_keeps, pair_keeps, commands_stay}
+use Rattle.safety.proofs.CommandsStay.{Standing, PlacesStay, MovesAhead, RingsBeside, own_keeps, pair_keeps, commands_stay, still_restored}
 
 pub record SameStates (k l : Known) : Type 0 where
   pub memory : l.memory ≡ k.memory
@@ -21,6 +21,7 @@ module _ (h : Header) where
     pub ahead : (s i p r : ℕ) (cycle : Bool) → c ≡ SetTrDequeue s i p cycle → k.ring_of s i ≡ Some r → is_at_rest (k.endpoint_state s i) ≡ true → MovesAhead (shape_of h r) (k.ring r) (l.ring r)
     pub standing : (s n r : ℕ) (bsr : Bool) → c ≡ AddressDevice s bsr n → k.ring_of s 1 ≡ Some r → Standing (shape_of h r) (k.ring r) (l.ring r)
     pub still : (r : ℕ) → binds_ring h k r c ≡ true → PlacesStay (shape_of h r) (k.ring r) (l.ring r)
+    pub moved : MovesRestored k c → MovesRestored l c
 
   pub context_same : (k l : Known) (o : Option ℕ) → l.device ≡ k.device → l.soiled ≡ k.soiled → commands.has_bad_context h l o ≡ commands.has_bad_context h k o
   unfolding commands.has_bad_context is_soiled is_bad_area device_ranges
@@ -51,6 +52,7 @@ module _ (h : Header) where
           standing = stay.standing;
           still = stay.still;
           kept = λ r s i bound has. ap (λ f. f s i) (sym same.ring_of) ∙ has;
+          moved = stay.moved;
         }
 
     -- what is unfinished was before
@@ -58,16 +60,17 @@ module _ (h : Header) where
         ((p : ℕ) (c : Command) → IsUnfinished h l p c → RingsStay k l c) → (p : ℕ) (c : Command) → IsUnfinished h l p c → CommandKeeps h l p c
     same_stay keeps before stay =
         commands_stay h k l (λ p c u. own_keeps h k p c (keeps p c (before p c u)))
-        (λ p q c d u v other. pair_keeps h k p q c d (keeps p c (before p c u)) (before q d v) other) (λ p c u. beside_same p c (keeps p c (before p c u)))
+        (λ p q c d u v other. pair_keeps h k p q c d (keeps p c (before p c u)) (before q d v) other) (λ p c u. (keeps p c (before p c u)).restored) (λ p c u. beside_same p c (keeps p c (before p c u)))
         (λ p c u. rings_same c (stay p c u))
 
   -- rings that are as they were
-  pub ring_stays : (k l : Known) (c : Command) → l.endpoint_state ≡ k.endpoint_state → ((s i r : ℕ) → k.ring_of s i ≡ Some r → l.ring r ≡ k.ring r) →
-      ((r : ℕ) → binds_ring h k r c ≡ true → l.ring r ≡ k.ring r) → RingsStay k l c
-  ring_stays k l c states rings bound =
+  pub ring_stays : (k l : Known) (c : Command) → l.endpoint_state ≡ k.endpoint_state → l.ring_of ≡ k.ring_of → ((s i r : ℕ) → k.ring_of s i ≡ Some r → l.ring r ≡ k.ring r) →
+      ((r : ℕ) → binds_ring h k r c ≡ true → l.ring r ≡ k.ring r) → ((r : ℕ) → (l.ring r).free ≡ (k.ring r).free) → RingsStay k l c
+  ring_stays k l c states ring_of rings bound free =
       record {
         rest = λ s i p cycle at rests. ap (λ f. is_at_rest (f s i)) states ∙ rests;
         ahead = λ s i p r cycle at has rests. subst (λ v. MovesAhead (shape_of h r) (k.ring r) v) (sym (rings s i r has)) (λ x y moves. moves);
         standing = λ s n r bsr at has. subst (λ v. Standing (shape_of h r) (k.ring r) v) (sym (rings s 1 r has)) (record { here = λ x y moves. moves; nothing = λ none. none });
         still = λ r binds. subst (λ v. PlacesStay (shape_of h r) (k.ring r) v) (sym (bound r binds)) (λ x y placed. placed);
+        moved = still_restored k l c (λ s i its. ap (λ f. f s i) ring_of) free;
       }

@@ -1,6 +1,6 @@
 -- What is kept of unfinished commands is kept where nothing that they read has changed
 use Rattle.std.proofs.Common.{◌≡◌, ◌≢◌, ◌≤◌, ◌∙◌, ℕ, not, Bool, true, false, map, All, Option, None, Some, arith, refl, sym, ap, subst, List, get_or, eq-eqb, inl, inr}
-use Rattle.safety.proofs.Words.{or_parts, or_from, not-false, not_from_true, Shape, RingView, declared, floor_number, ceiling, is_move, Command, NoOp, EnableSlot, DisableSlot, AddressDevice, ConfigureEndpoint, EvaluateContext, ResetEndpoint, StopEndpoint, SetTrDequeue, ResetDevice, is_at_rest, context_pointer, context_cycle, Header, shape_of, Known, binds, ring_bound, binds_ring, has_repeats, is_bad_dequeue, is_bad_move, IsUnfinished, Stays, StaysIf, MovesIf, CommandKeeps, is_placed, is_placement, drops, Binding, list_any, is_ring, Any-from_list_any, All-get_or, cases_option, list_any_at, false≢true, placement_still, exclude}
+use Rattle.safety.proofs.Words.{MovesRestored, or_parts, or_from, not-false, not_from_true, Shape, RingView, declared, floor_number, ceiling, is_move, Command, NoOp, EnableSlot, DisableSlot, AddressDevice, ConfigureEndpoint, EvaluateContext, ResetEndpoint, StopEndpoint, SetTrDequeue, ResetDevice, is_at_rest, context_pointer, context_cycle, Header, shape_of, Known, binds, ring_bound, binds_ring, has_repeats, is_bad_dequeue, is_bad_move, IsUnfinished, Stays, StaysIf, MovesIf, CommandKeeps, is_placed, is_placement, drops, Binding, list_any, is_ring, Any-from_list_any, All-get_or, cases_option, list_any_at, false≢true, placement_still, exclude}
 use Rattle.ownership_rules.specs.Commands as commands
 use Rattle.safety.proofs.Concerned.{Concerns}
 use Rattle.safety.proofs.ContextReads.{pointer_same, cycle_same}
@@ -15,6 +15,11 @@ pub record Standing (shape : Shape) (v w : RingView) : Type 0 where
 -- a ring stands still where it did
 abbrev pub PlacesStay : Shape → RingView → RingView → Type 0
 PlacesStay shape v w = (p : ℕ) (cycle : Bool) → is_placement shape v p cycle ≡ true → is_placement shape w p cycle ≡ true
+
+-- where nothing more is free, and the endpoint has the ring that it had
+pub still_restored : (k l : Known) (c : Command) → ((s i : ℕ) → Concerns c s i → l.ring_of s i ≡ k.ring_of s i) → ((r : ℕ) → (l.ring r).free ≡ (k.ring r).free) → MovesRestored k c → MovesRestored l c
+still_restored k l c ring_of free restored s i p cycle at r has q =
+    ap (λ f. f q) (free r) ∙ restored s i p cycle at r (sym (ring_of s i (subst (λ x. Concerns x s i) (sym at) (refl, (refl, refl)))) ∙ has) q
 
 -- a spot to which the ring may be moved is one still
 abbrev pub MovesAhead : Shape → RingView → RingView → Type 0
@@ -65,6 +70,8 @@ module _ (h : Header) where
     -- a ring that it binds stands still, and no endpoint gets it
     pub still : (r : ℕ) → binds_ring h k r c ≡ true → PlacesStay (shape_of h r) (k.ring r) (l.ring r)
     pub kept : (r s i : ℕ) → binds_ring h k r c ≡ true → l.ring_of s i ≡ Some r → k.ring_of s i ≡ Some r
+    -- of a ring that it moves nothing is free still
+    pub moved : MovesRestored k c → MovesRestored l c
 
   module _ (k l : Known) where
     dequeue_beside : (o : Option ℕ) (p : ℕ) (cycle : Bool) → ((r : ℕ) → o ≡ Some r → MovesAhead (shape_of h r) (k.ring r) (l.ring r)) →
@@ -159,9 +166,10 @@ module _ (h : Header) where
     -- what is known at l changes nothing that its unfinished commands read
     pub commands_stay : ((p : ℕ) (c : Command) → IsUnfinished h l p c → OwnKeeps k c) →
         ((p q : ℕ) (c d : Command) → IsUnfinished h l p c → IsUnfinished h l q d → q ≢ p → PairKeeps k c d) →
+        ((p : ℕ) (c : Command) → IsUnfinished h l p c → MovesRestored k c) →
         ((p : ℕ) (c : Command) → IsUnfinished h l p c → Beside h k l c) → ((p : ℕ) (c : Command) → IsUnfinished h l p c → RingsBeside k l c) →
         (p : ℕ) (c : Command) → IsUnfinished h l p c → CommandKeeps h l p c
-    commands_stay own pair beside rings p c u =
+    commands_stay own pair restored beside rings p c u =
         let m : Beside h k l c = beside p c u in
         let kept : OwnKeeps l c = own_beside c m (rings p c u) (own p c u) in
         record {
@@ -176,4 +184,5 @@ module _ (h : Header) where
               binds_ring_beside h k l d (beside q d v) r ∙ (pair p q c d u v other).unshared r (sym (binds_ring_beside h k l c m r) ∙ bound);
           moves_on = kept.moves_on;
           stays = kept.stays;
+          restored = (rings p c u).moved (restored p c u);
         }

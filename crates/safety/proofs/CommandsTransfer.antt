@@ -10,7 +10,7 @@ use Rattle.safety.proofs.CommandRing.{due_has_ring}
 use Rattle.safety.proofs.SameDriver.{SameDriver, transfer_same}
 use Rattle.safety.proofs.TransferLeaves.{TransferLeaves, transferred_leaves}
 use Rattle.safety.proofs.MovesSame.{ahead_held, unfinished_view}
-use Rattle.safety.proofs.CommandsStay.{Standing, PlacesStay, MovesAhead, bound_still}
+use Rattle.safety.proofs.CommandsStay.{Standing, PlacesStay, MovesAhead, bound_still, still_restored}
 use Rattle.safety.proofs.BoundRings.{drops_concerns, stops_drop_none}
 use Rattle.safety.proofs.Concerned.{not_both}
 use Rattle.safety.proofs.CommandsSame.{SameStates, RingsStay, same_stay}
@@ -195,6 +195,7 @@ module _ (h : Header) (is : IsHeader h) (k : Known) (d : DriverKeeps h k) where
             | inl same ↦ absurd (bound_none_reported u s i r e unfinished_at has (subst (λ n. binds_ring h k n e ≡ true) same bound) t ahead c can)
             | inr other ↦ subst (λ v. PlacesStay (shape_of h x) (k.ring x) v) (sym (leaves.others x other)) (λ a b placed. placed)
           ];
+      moved = still_restored k l e (λ q j its. ap (λ f. f q j) leaves.ring_of) (λ x. (driver.rings x).free);
     }
 
     reported_commands : CommandsKeep h l

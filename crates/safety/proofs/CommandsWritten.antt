@@ -1,6 +1,6 @@
 -- A write keeps what is kept of unfinished commands, and of the command that it gives holds what was tested
 use Rattle.std.proofs.Common.{◌≡◌, ◌≢◌, ◌<◌, ◌∙◌, ℕ, not, Bool, true, false, [], None, Some, arith, refl, sym, ap, subst, inl, inr, le-leb, eq-eqb, ◌||◌, ◌≤◌, ◌⊎◌}
-use Rattle.safety.proofs.Words.{list_any, or_parts, or_from, and_from, cases_lt, not_from_false, false≢true, false_from_ne_true, All-contains, Shape, RingView, Writes, changed, declared, floor_number, gives, positions_given, ceiling, is_not_declared, cases_option, gives_is, position_given, gives_one, move-writes, ceiling_held, Command, AddressDevice, EndpointState, Off, is_off, is_at_rest, is_running, Header, Write, IsHeader, shape_of, command_id, is_ring, Known, unfinished, binds_ring, awaits_binding, is_being_bound, moves_ring, is_being_moved, crossings_given, crossing_given, gives_crossing, given_count, given_count_grows, step_more, GivesMore, is_placement, is_open, is_inside, address_inside, IsTransferRing, cases_Bool, or_cases, write_tests, lenient_tests, lenient, IsDriverRing, IsUnfinished, DriverKeeps, CommandsKeep, exclude}
+use Rattle.safety.proofs.Words.{MovesRestored, command_given, list_any, or_parts, or_from, and_from, cases_lt, not_from_false, false≢true, false_from_ne_true, All-contains, Shape, RingView, Writes, changed, declared, floor_number, gives, positions_given, ceiling, is_not_declared, cases_option, gives_is, position_given, gives_one, move-writes, ceiling_held, Command, AddressDevice, EndpointState, Off, is_off, is_at_rest, is_running, Header, Write, IsHeader, shape_of, command_id, is_ring, Known, unfinished, binds_ring, awaits_binding, is_being_bound, moves_ring, is_being_moved, crossings_given, crossing_given, gives_crossing, given_count, given_count_grows, step_more, GivesMore, is_placement, is_open, is_inside, address_inside, IsTransferRing, cases_Bool, or_cases, write_tests, lenient_tests, lenient, IsDriverRing, IsUnfinished, DriverKeeps, CommandsKeep, exclude}
 use Rattle.ownership_rules.specs.Commands as commands
 use Rattle.safety.proofs.TestsPassed.{AllFail, tests_fail}
 use Rattle.safety.proofs.RingsOfHeader.{has_ring}
@@ -8,7 +8,7 @@ use Rattle.safety.proofs.Headers.{ring_shape, transfer_driver, transfer_not_comm
 use Rattle.safety.proofs.DriverRings.{driver_test, transfer_ring}
 use Rattle.safety.proofs.Writing.{none_given, none_crossed}
 use Rattle.safety.proofs.NoWait.{ceiling_open}
-use Rattle.safety.proofs.StillOpen.{held_open}
+use Rattle.safety.proofs.OpenRings.{held_open}
 use Rattle.safety.proofs.BoundRings.{bound_transfer}
 use Rattle.safety.proofs.OtherRingsWritten.{written_elsewhere}
 use Rattle.safety.proofs.RowFrames.{write_leaves}
@@ -18,7 +18,7 @@ use Rattle.safety.proofs.WrittenKnown.{after_write, written_ring, GivesCommand, 
 use Rattle.safety.proofs.WriteBeside.{beside_old, beside_new}
 use Rattle.safety.proofs.CommandsTransfer.{rest_not_running}
 use Rattle.safety.proofs.CommandsBeside.{Beside}
-use Rattle.safety.proofs.CommandsStay.{Standing, PlacesStay, MovesAhead, OwnKeeps, PairKeeps, RingsBeside, own_keeps, pair_keeps, commands_stay}
+use Rattle.safety.proofs.CommandsStay.{Standing, PlacesStay, MovesAhead, OwnKeeps, PairKeeps, RingsBeside, own_keeps, pair_keeps, commands_stay, still_restored}
 use Rattle.safety.proofs.Concerned.{excludes_turned}
 
 -- ---- one ring
@@ -188,6 +188,7 @@ module _ (h : Header) (is : IsHeader h) (k : Known) (d : DriverKeeps h k) (a w :
             subst (λ v. Standing (shape_of h r) (k.ring r) v) (sym (written_ring h k a w r)) (standing_written (shape_of h r) (k.ring r) a w (none s n r bsr at has));
         still = still;
         kept = λ r s i bound has. ap (λ f. f s i) (sym leaves.slots.ring_of) ∙ has;
+        moved = still_restored k l c (λ s i at. ap (λ f. f s i) leaves.slots.ring_of) (λ r. ap (λ v. v.free) (written_ring h k a w r));
       }
 
   rings_old : (u : ℕ) (c : Command) → IsUnfinished h k u c → RingsBeside h k l c
@@ -251,5 +252,13 @@ module _ (h : Header) (is : IsHeader h) (k : Known) (d : DriverKeeps h k) (a w :
         | inr new ↦ rings_new p c new (facts_of p c new)
       ]
 
-  pub written_commands : CommandsKeep h (after_write h k a w)
-  written_commands = commands_stay h k l own pair beside rings
+  -- where of a ring that the given command moves nothing is free
+  pub written_commands : ((c : Command) → command_given h k a w ≡ Some c → MovesRestored k c) → CommandsKeep h (after_write h k a w)
+  written_commands moved = commands_stay h k l own pair restored beside rings
+    where
+      restored : (p : ℕ) (c : Command) → IsUnfinished h l p c → MovesRestored k c
+      restored p c u =
+          elim (unfinished_written h k a w is p c u) [
+            | inl old ↦ (d.unfinished p c old).restored
+            | inr new ↦ moved c new.command
+          ]

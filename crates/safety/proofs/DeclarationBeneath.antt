@@ -182,7 +182,10 @@ module _ (h : Header) (r : ℕ) (blocks : List Block) where
       (subst (λ x. SameDriver (declaring k_read) x) (counted_declaring k) (declared_driver k_read (counted h k) (flip_driver (counted h k) k_read same))) (read_same h l e) in
       record {
         event = subst (λ x. lenient h x (Read e) ≡ []) (sym (learned_declaring k)) read.possible;
-        row = still_clean k k_read (same.stopped ∙ (clean_tests h k (Read e) may).0) (floors_grow h is k d e may r) (same.rings r).queue clean;
+        row = (
+          still_clean k k_read (same.stopped ∙ (clean_tests h k (Read e) may).0) (floors_grow h is k d e may r) (same.rings r).queue clean,
+          tt,
+        );
         after = subst (λ x. HeldMore x (learned h (learned h k (Sub r blocks)) (Read e))) (sym (learned_declaring k_read)) (subst (λ x. HeldMore (declaring k_read) (learned h x (Read e))) (sym (learned_declaring k))
             (held_more (declaring k_read) l_read driver (declared_states k_read l_read (states_from k_read l_read read.after))
             (λ q. (read.after.rings q).floor ∙ sym (declared_floor k_read q)) (λ q. declared_held k_read l_read q (read.after.rings q).held)));

@@ -1,6 +1,6 @@
 -- Behind an event that is read before it, an Address Device that a write gives takes its device context where it may still
 use Rattle.std.proofs.Common.{◌≡◌, ◌%◌, ◌==◌, ◌||◌, ◌∙◌, ℕ, not, Bool, false, [], Some, is_none, sym, ap, inl, inr}
-use Rattle.safety.proofs.Words.{and_cases, and_right, or_parts, or_from, false≢true, Block, overlap, Command, AddressDevice, device_context_bytes, input_context_bytes, Header, Dcbaap, Write, Read, IsHeader, Known, command_given, device_named, entry_of, learned, is_bad_area, is_in_range_lease, is_soiled, covers, open_ranges, lenient, DriverKeeps}
+use Rattle.safety.proofs.Words.{MayCome, and_cases, and_right, or_parts, or_from, false≢true, Block, overlap, Command, AddressDevice, device_context_bytes, input_context_bytes, Header, Dcbaap, Write, Read, IsHeader, Known, command_given, device_named, entry_of, learned, is_bad_area, is_in_range_lease, is_soiled, covers, open_ranges, lenient, DriverKeeps}
 use Rattle.ownership_rules.specs.Commands as commands
 use Rattle.safety.proofs.LeasesBehind.{Behind, entry_stays, none_fewer, ranges_fewer}
 use Rattle.safety.proofs.EventBehind.{event_behind}
@@ -43,7 +43,7 @@ module _ (h : Header) (is : IsHeader h) (k : Known) (d : DriverKeeps h k) (e : B
       (ap (λ y. overlap x size y 8) (entry_stays h is k l b s) ∙ entry.1))
       context.1
 
-  module _ (a w : ℕ) (clean : lenient h k (Write a w) ≡ []) (c : Command) (given : command_given h k a w ≡ Some c) where
+  module _ (a w : ℕ) (clean : MayCome h k (Write a w)) (c : Command) (given : command_given h k a w ≡ Some c) where
     new_behind : (s n : ℕ) → (is_none (k.register Dcbaap) || commands.has_bad_entry h k s || commands.is_bad_device h k s n (device_named k s)) ≡ false →
         (is_none (l.register Dcbaap) || commands.has_bad_entry h l s || commands.is_bad_device h l s n (device_named l s)) ≡ false
     new_behind s n good =

@@ -1,10 +1,10 @@
 -- A doorbell of a ring that is held beneath an event that isn't read yet: the two may change places
 use Rattle.std.proofs.Common.{◌≡◌, ◌==◌, ◌∙◌, ℕ, true, false, [], Some, is_none, sym, ap, inl, inr}
-use Rattle.safety.proofs.Words.{cases_Bool, cond-true, false≢true, Block, is_open, Header, Bell, Read, IsHeader, command_id, Known, lenient, DriverKeeps, is_open_if, is_idle, Square}
+use Rattle.safety.proofs.Words.{MayCome, cases_Bool, cond-true, false≢true, Block, is_open, Header, Bell, Read, IsHeader, command_id, Known, lenient, DriverKeeps, is_open_if, is_idle, Square}
 use Rattle.safety.proofs.BellBeneath.{command_square}
 use Rattle.safety.proofs.RungBeneath.{rung_ring, bell_square}
 
-module _ (h : Header) (is : IsHeader h) (k : Known) (d : DriverKeeps h k) (s t : ℕ) (clean : lenient h k (Bell s t) ≡ []) (awake : is_idle h k (Bell s t) ≡ false) where
+module _ (h : Header) (is : IsHeader h) (k : Known) (d : DriverKeeps h k) (s t : ℕ) (clean : MayCome h k (Bell s t)) (awake : is_idle h k (Bell s t) ≡ false) where
   -- the command ring isn't open: its doorbell wasn't rung yet
   first_held : (s == 0) ≡ true → (k.ring (command_id h)).held ≡ Some 0
   unfolding is_open

@@ -1,6 +1,6 @@
 -- A clean history keeps what a driver keeps
-use Rattle.std.proofs.Common.{◌≡◌, ◌∷◌, ◌∙◌, false, List, []}
-use Rattle.safety.proofs.Words.{Block, kind, Header, Row, IsHeader, Read, World, Known, learned, known, IsLenient, DriverKeeps, KeptByRows, ArePossible, Runs, all_read}
+use Rattle.std.proofs.Common.{◌≡◌, ◌∷◌, ◌∙◌, false, List, [], ap}
+use Rattle.safety.proofs.Words.{Block, kind, Header, Row, IsHeader, Read, World, Known, learned, known, IsLenient, DriverKeeps, AreRestored, KeptByRestoring, command_id, lenient, ArePossible, Runs, all_read}
 use Rattle.safety.proofs.SameDriver.{event_same}
 use Rattle.safety.proofs.TestsPassed.{clean_tests}
 use Rattle.safety.proofs.KeptCommandRing.{kept_crcr, kept_crcr_written, kept_sized, kept_erstsz_written}
@@ -12,27 +12,37 @@ use Rattle.safety.proofs.NumberedHistories.{row_numbered}
 use Rattle.safety.proofs.KeptStates.{kept_states}
 use Rattle.safety.proofs.KeptDevices.{kept_devices}
 use Rattle.safety.proofs.KeptUnfinished.{kept_unfinished}
+use Rattle.safety.proofs.DriverRings.{endpoints_of}
+use Rattle.safety.proofs.NothingFree.{free_same, may_come, restoring_where_restored}
 use Rattle.safety.proofs.NothingKept.{nothing_kept}
 
 module _ (h : Header) where
-  pub kept_driver : KeptByRows h (DriverKeeps h)
-  kept_driver is k row d clean on = record {
-    rings = λ r ring. (kept_rings h is k row d clean on r ring).rules;
-    restored = λ r ring. (kept_rings h is k row d clean on r ring).restored;
-    clean = kept_clean h is k row d clean on;
-    command_ring = kept_command_ring h is k row d clean on;
-    states = kept_states h is k row d clean on;
+  pub kept_driver : KeptByRestoring h (DriverKeeps h)
+  kept_driver is k row d may on = record {
+    rings = kept_rings h is k row d may on;
+    commands_stay = λ p. ap (λ f. f p) (free_same h k row (command_id h)) ∙ d.commands_stay p;
+    clean = kept_clean h is k row d may.0 on;
+    command_ring = kept_command_ring h is k row d may.0 on;
+    states = kept_states h is k row d may.0 on;
     numbered = row_numbered h k row d.numbered;
-    unstarted = kept_unstarted h is k row d clean on;
-    crcr = kept_crcr h is k row d clean on;
-    crcr_written = kept_crcr_written h is k row d clean on;
-    sized = kept_sized h is k row d clean on;
-    erstsz_written = kept_erstsz_written h is k row d clean on;
-    dequeued = kept_dequeued h is k row d clean on;
-    read_room = kept_read_room h is k row d clean on;
-    devices = kept_devices h is k row d clean on;
-    unfinished = kept_unfinished h is k row d clean on;
+    unstarted = kept_unstarted h is k row d may.0 on;
+    crcr = kept_crcr h is k row d may.0 on;
+    crcr_written = kept_crcr_written h is k row d may.0 on;
+    sized = kept_sized h is k row d may.0 on;
+    erstsz_written = kept_erstsz_written h is k row d may.0 on;
+    dequeued = kept_dequeued h is k row d may.0 on;
+    read_room = kept_read_room h is k row d may.0 on;
+    devices = kept_devices h is k row d may.0 on;
+    unfinished = kept_unfinished h is k row d may on;
   }
+
+  -- where nothing is free
+  pub kept_restored : IsHeader h → (k : Known) (row : Row) → AreRestored h k → DriverKeeps h k → lenient h k row ≡ [] → (learned h k row).stopped ≡ false → DriverKeeps h (learned h k row)
+  kept_restored is k row restored d clean on = kept_driver is k row d (clean, restoring_where_restored h is k row (endpoints_of h k d.states) restored) on
+
+  pub kept_history : IsHeader h → (past : List Row) (row : Row) → DriverKeeps h (known h past) → lenient h (known h past) row ≡ [] → (learned h (known h past) row).stopped ≡ false →
+      DriverKeeps h (learned h (known h past) row)
+  kept_history is past row d clean on = kept_driver is (known h past) row d (may_come h is past row clean) on
 
   -- of a history that isn't stopped
   pub driver_keeps : IsHeader h → (past : List Row) → IsLenient h past → (known h past).stopped ≡ false → DriverKeeps h (known h past)
@@ -40,7 +50,7 @@ module _ (h : Header) where
   driver_keeps is [] clean on = nothing_kept h is
   driver_keeps is (row ∷ past) clean on =
       let before : (known h past).stopped ≡ false = (clean_tests h (known h past) row clean.1).0 in
-      kept_driver is (known h past) row (driver_keeps is past clean.0 before) clean.1 on
+      kept_history is past row (driver_keeps is past clean.0 before) clean.1 on
 
   -- ---- in a run, of what is known when the unread events are read too
 
@@ -52,7 +62,7 @@ module _ (h : Header) where
   all_read_keeps is [] k d possible on = d
   all_read_keeps is (e ∷ unread) k d possible on =
       let still_on : (learned h k (Read e)).stopped ≡ false = read_stopped k e ∙ on in
-      all_read_keeps is unread (learned h k (Read e)) (kept_driver is k (Read e) d possible.0 still_on) possible.1 still_on
+      all_read_keeps is unread (learned h k (Read e)) (kept_driver is k (Read e) d (possible.0, tt) still_on) possible.1 still_on
 
   pub run_keeps : IsHeader h → (now : Known) (w : World) → DriverKeeps h now → (r : Runs h now w) → DriverKeeps h (all_read h now r.unread)
   run_keeps is now w d r = all_read_keeps is r.unread now d r.possible r.on

@@ -29,7 +29,7 @@ module _ (h : Header) where
   transfer_ring r is = let found = transfer_found (ring_with h r) is in record { ring = found.0; found = found.1; kind = found.2 }
 
   pub rings_of : (k : Known) → keeps.DriverKeeps h k → rings.RingsKeep h k
-  rings_of k d r is = record { rules = d.rings r (driver_ring r is); restored = d.restored r (driver_ring r is) }
+  rings_of k d r is = d.rings r (driver_ring r is)
 
   pub endpoints_of : (k : Known) → keeps.StatesKeep h k → endpoints.EndpointsKeep h k
   endpoints_of k s = record {

@@ -1,8 +1,8 @@
 -- What stands behind an event that may be read: rings whose floors moved on, and no device context more
 use Rattle.std.proofs.Common.{◌≡◌, ◌==◌, if◌then◌else◌, ◌∷◌, ◌∙◌, ℕ, [], List, Option, None, Some, refl, sym, ap, subst, inl, inr}
-use Rattle.safety.proofs.Words.{cond_both, none-some, Block, BlockKind, TransferEvent, CommandCompletion, kind, code, slot, is_command_completion, RingKeeps, Command, StopEndpoint, Change, SlotGoesOn, DeviceLeft, Disables, Places, Stops, Resets, changes, Header, Read, IsHeader, shape_of, command_id, Known, on_ring, command_at, next_command, disabled, changed_by, changed_by_all, succeeded, stop_ended, finished, completed, event_read, learned, lenient, RingsKeep, EndpointsKeep, DriverKeeps, MayRead}
+use Rattle.safety.proofs.Words.{flips_passed, RingView, cond_both, none-some, Block, BlockKind, TransferEvent, CommandCompletion, kind, code, slot, is_command_completion, RingKeeps, Command, StopEndpoint, Change, SlotGoesOn, DeviceLeft, Disables, Places, Stops, Resets, changes, Header, Read, IsHeader, shape_of, command_id, Known, on_ring, command_at, next_command, disabled, changed_by, changed_by_all, succeeded, stop_ended, finished, completed, event_read, learned, lenient, KeepsPassed, RingsKeep, RingsKept, EndpointsKeep, DriverKeeps, MayRead}
 use Rattle.safety.specs.RingsKeep.{IsDriverRing}
-use Rattle.safety.proofs.Histories.{row_keeps}
+use Rattle.safety.proofs.Histories.{row_kept}
 use Rattle.safety.proofs.StillPlacing.{still_reads}
 use Rattle.safety.proofs.RingsOfHeader.{shape_allowed}
 use Rattle.safety.proofs.DriverRings.{driver_test, rings_of, endpoints_of}
@@ -13,8 +13,10 @@ use Rattle.safety.proofs.TransferFrames.{transfer_slots}
 use Rattle.safety.proofs.EndpointPut.{at_number}
 use Rattle.safety.proofs.SlotFrames.{placed_leaves, stops_slot, resets_slot}
 use Rattle.safety.proofs.HeldFurther.{read_same}
+use Rattle.safety.proofs.Passing.{passes_shown}
 use Rattle.safety.proofs.FloorsBehind.{FloorsOn, floors_same, transfer_on, completion_on}
 use Rattle.safety.proofs.LeasesBehind.{RingsBehind, Behind}
+use Rattle.safety.proofs.PassedBehind.{no_flips_behind}
 
 module _ (h : Header) where
   -- ---- device contexts are let go, and none is taken
@@ -86,24 +88,34 @@ module _ (h : Header) where
     abbrev l : Known
     l = learned h k (Read e)
 
-    behind_keeps : RingsKeep h l
-    behind_keeps = row_keeps h is k (Read e) rings endpoints may may_read
+    pub behind_kept : RingsKept h k l
+    behind_kept = row_kept h is k (Read e) rings endpoints d.commands_stay (may, tt) may_read
 
     event_rings : RingsBehind h k l
     event_rings r =
         elim (event_on r) [
           | inl same ↦ inl same
-          | inr on ↦ inr (
-            on.driver,
-            record {
-              is = shape_allowed h is r on.driver;
-              before = (rings r on.driver).rules;
-              restored = (rings r on.driver).restored;
-              behind = subst (λ m. RingKeeps (shape_of h r) m (l.ring r)) (read_same h k e).memory (behind_keeps r on.driver).rules;
-              same = (read_same h k e).rings r;
-              on = on.on;
-            },
-          )
+          | inr on ↦
+              let behind : RingKeeps (shape_of h r) k.memory (l.ring r) = subst (λ m. RingKeeps (shape_of h r) m (l.ring r)) (read_same h k e).memory (behind_kept r on.driver).rules in
+              inr (
+                on.driver,
+                record {
+                  is = shape_allowed h is r on.driver;
+                  before = rings r on.driver;
+                  behind = behind;
+                  same = (read_same h k e).rings r;
+                  on = on.on;
+                  shown = passes_shown (shape_of h r) (shape_allowed h is r on.driver) k.memory (k.ring r) (l.ring r) ((read_same h k e).rings r).free behind (behind_kept r on.driver).passes;
+                },
+              )
+        ]
+
+    -- the word keeps the Cycle bit of what is free and may be passed, also behind the event
+    pub passed_behind : (a w : ℕ) → KeepsPassed h k a w → KeepsPassed h l a w
+    passed_behind a w keeps r driver =
+        elim (event_rings r) [
+          | inl same ↦ ap (λ (v : RingView). flips_passed (shape_of h r) v a w) same ∙ keeps r driver
+          | inr on ↦ no_flips_behind (shape_of h r) k.memory (k.ring r) (l.ring r) on.1 (behind_kept r driver).passes a w (keeps r driver)
         ]
 
     devices : (s d : ℕ) → l.device s ≡ Some d → k.device s ≡ Some d

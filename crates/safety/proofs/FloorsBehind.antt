@@ -95,7 +95,7 @@ module _ (h : Header) where
     at_on b (Some at) found =
         let driver : IsDriverRing h at.ring = transfer_is_driver at.ring (endpoints.transfer (slot b) (endpoint b) at.ring (event_ring_of h k b at found)) in
         let ahead : IsAhead (shape_of h at.ring) (k.ring at.ring) at.spot =
-        named_ahead (shape_of h at.ring) k.memory (k.ring at.ring) (rings at.ring driver).rules (pointer b) at.spot (spot_is h k (pointer b) (k.ring_of (slot b) (endpoint b)) at found) in
+        named_ahead (shape_of h at.ring) k.memory (k.ring at.ring) (rings at.ring driver) (pointer b) at.spot (spot_is h k (pointer b) (k.ring_of (slot b) (endpoint b)) at found) in
         transferred_on k at.ring driver at.spot ahead.from (code b) (slot b) (endpoint b)
 
     pub transfer_on : (b : Block) → FloorsOn k (transfer_read h k b)

@@ -1,6 +1,6 @@
 -- What is kept of a command that a write gives holds behind an event that is read before the write, but for its device context
 use Rattle.std.proofs.Common.{◌≡◌, ◌∙◌, ℕ, true, [], length, Some, slice_get, arith, refl, sym, ap}
-use Rattle.safety.proofs.Words.{false≢true, false_from_ne_true, Block, number, declared, floor_number, positions_given, ceiling, is_border, is_placement, GivesMore, move_more, gives_is, position_given_is, Command, named_context, is_disabled, is_off, is_at_rest, Header, Write, Read, IsHeader, shape_of, command_id, Known, command_at, command_given, learned, lenient, IsTransferRing, CommandKeeps, DriverKeeps}
+use Rattle.safety.proofs.Words.{MayCome, MovesRestored, false≢true, false_from_ne_true, Block, number, declared, floor_number, positions_given, ceiling, is_border, is_placement, GivesMore, move_more, gives_is, position_given_is, Command, named_context, is_disabled, is_off, is_at_rest, Header, Write, Read, IsHeader, shape_of, command_id, Known, command_at, command_given, learned, lenient, IsTransferRing, CommandKeeps, DriverKeeps}
 use Rattle.ownership_rules.specs.Commands as commands
 use Rattle.safety.proofs.Headers.{transfer_driver, transfer_not_command}
 use Rattle.safety.proofs.CommandRing.{due_has_ring}
@@ -13,7 +13,7 @@ use Rattle.safety.proofs.DriverRings.{transfer_ring}
 use Rattle.safety.proofs.BoundRings.{bound_transfer}
 use Rattle.safety.proofs.CommandsBeside.{Beside}
 use Rattle.safety.proofs.CommandsSame.{context_good, context_same}
-use Rattle.safety.proofs.CommandsStay.{OwnKeeps, PlacesStay, RingsBeside, own_keeps, own_beside}
+use Rattle.safety.proofs.CommandsStay.{OwnKeeps, PlacesStay, RingsBeside, own_keeps, own_beside, still_restored}
 use Rattle.safety.proofs.Alike.{Alike, ceiling_more}
 use Rattle.safety.proofs.HeldFurther.{read_same}
 use Rattle.safety.proofs.EventBehind.{event_behind}
@@ -33,7 +33,7 @@ gives_command h is k a w c given =
       record { ring = due_has_ring h is (k.ring (command_id h)).floor first.0 writes.due; fresh = here.0; gives = here.1; command = given },
     )
 
-module _ (h : Header) (is : IsHeader h) (k : Known) (d : DriverKeeps h k) (a w : ℕ) (e : Block) (clean : lenient h k (Write a w) ≡ []) (may : lenient h k (Read e) ≡ [])
+module _ (h : Header) (is : IsHeader h) (k : Known) (d : DriverKeeps h k) (a w : ℕ) (e : Block) (clean : MayCome h k (Write a w)) (may : lenient h k (Read e) ≡ [])
     (c : Command) (given : command_given h k a w ≡ Some c) where
   abbrev l : Known
   l = learned h k (Read e)
@@ -74,12 +74,12 @@ module _ (h : Header) (is : IsHeader h) (k : Known) (d : DriverKeeps h k) (a w :
   }
 
   pub facts : GivenFacts h k c
-  facts = given_facts h k is d a w c clean given
+  facts = given_facts h k is d a w c clean.0 given
 
   pub beside_given : Beside h beneath between c
   beside_given =
       let g = gives_command h is k a w c given in
-      beside there.position c kept (beside_new h is k d a w clean g.0 c g.1 facts.own.good)
+      beside there.position c kept (beside_new h is k d a w clean.0 g.0 c g.1 facts.own.good)
 
   -- of another ring than the command ring no more is given
   less : (r : ℕ) → IsTransferRing h r → GivesMore (beneath.ring r) (l.ring r)
@@ -121,7 +121,12 @@ module _ (h : Header) (is : IsHeader h) (k : Known) (d : DriverKeeps h k) (a w :
         };
     still = λ r bound p cycle placed. placed_before r (transfer_ring h r (bound_transfer h is beneath r c bound)) p cycle placed;
     kept = λ r s i bound has. ap (λ f. f s i) alike.ring_of ∙ has;
+    moved = still_restored beneath between c (λ s i at. ap (λ f. f s i) (sym alike.ring_of)) (λ r. sym (rings_there h is k d a w e clean may r).free);
   }
 
   pub own_between : OwnKeeps h between c
   own_between = own_beside h beneath between c beside_given rings_beside (own_keeps h beneath there.position c kept)
+
+  -- of a ring that it moves nothing is free
+  pub restored_behind : MovesRestored l c
+  restored_behind = rings_beside.moved kept.restored

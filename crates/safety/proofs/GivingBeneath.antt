@@ -1,7 +1,7 @@
 -- What a write gives of a ring it gives also behind an event: what is due only there is a lap behind what is leased, and what was
 -- due only before is passed, hence given
 use Rattle.std.proofs.Common.{◌≡◌, ◌+◌, ◌-◌, ◌<◌, ◌≤◌, ◌⊎◌, ◌||◌, ◌∙◌, ℕ, Bool, true, false, arith, refl, sym, ap, inl, inr, ◌%◌}
-use Rattle.safety.proofs.Words.{IsRestored, cases_lt, cases_eq, false≢true, Shape, IsShape, place_count, address_of, is_crossing, link_address, Link, rank, RingView, floor_number, gives, gives_crossing, RingKeeps, address_of-lap, is_crossing-lap, link_address-lap, rank_least, crossed_due, IsCrossingDue, due_from, gives_is, gives_from, crossing_due_from, gives_crossing_is, gives_crossing_from, both_ways, cycle_of}
+use Rattle.safety.proofs.Words.{IsShownTo, cases_lt, cases_eq, false≢true, Shape, IsShape, place_count, address_of, is_crossing, link_address, Link, rank, RingView, floor_number, gives, gives_crossing, RingKeeps, address_of-lap, is_crossing-lap, link_address-lap, rank_least, crossed_due, IsCrossingDue, due_from, gives_is, gives_from, crossing_due_from, gives_crossing_is, gives_crossing_from, both_ways, cycle_of}
 use Rattle.segments.proofs.Positions.{cycle_of_flips}
 use Rattle.safety.proofs.KeptWords.{KeepsCycles}
 use Rattle.safety.proofs.SameDriver.{SameGiven}
@@ -10,10 +10,11 @@ use Rattle.safety.proofs.SameDriver.{SameGiven}
 pub record RingBehind (shape : Shape) (memory : ℕ → ℕ) (v u : RingView) : Type 0 where
   pub is : IsShape shape
   pub before : RingKeeps shape memory v
-  pub restored : IsRestored v
   pub behind : RingKeeps shape memory u
   pub same : SameGiven v u
   pub on : floor_number v ≤ floor_number u
+  -- what is free and was passed may have been
+  pub shown : IsShownTo shape v (floor_number u)
 
 module _ (shape : Shape) (memory : ℕ → ℕ) (v u : RingView) (b : RingBehind shape memory v u) (a x : ℕ) where
   given_there : (p : ℕ) → u.given p ≡ true → v.given p ≡ true
@@ -66,9 +67,10 @@ module _ (shape : Shape) (memory : ℕ → ℕ) (v u : RingView) (b : RingBehind
               let q : ℕ = p - place_count shape in
               let lap : p - place_count shape + place_count shape ≡ p = omega arith in
               let place : address_of shape p ≡ address_of shape (p - place_count shape) = ap (λ n. address_of shape n) (sym lap) ∙ address_of-lap shape (p - place_count shape) in
-              let given : v.given (p - place_count shape) ≡ true = given_there (p - place_count shape) (b.behind.passed (p - place_count shape) (omega arith)) in
+              let behind : p - place_count shape < floor_number u = omega arith in
+              let given : v.given (p - place_count shape) ≡ true = given_there (p - place_count shape) (b.behind.passed (p - place_count shape) behind) in
               let due = due_from shape v.floor (p - place_count shape) (omega arith) (b.before.given_within (p - place_count shape) given) in
-              let before = keeps.blocks (p - place_count shape) due given (omega arith) in
+              let before = keeps.blocks (p - place_count shape) due given (λ free. b.shown (p - place_count shape) free behind) (omega arith) in
               absurd (cycle_of_flips shape b.is (p - place_count shape) (ap (λ n. cycle_of shape n) lap ∙ sym cycle ∙ before))
         ]
 

@@ -1,6 +1,6 @@
 -- The headline, from a law for the driver's rows: each world of a run beside clean rows is safe
 use Rattle.std.proofs.Common.{◌≡◌, ◌∷◌, ◌++◌, ◌∙◌, false, List, [], Option, Some, None, All, reverse, option_map, option_and_then, refl, sym, ap, subst, inl, inr, append_assoc, append-nil}
-use Rattle.safety.proofs.Words.{cases_Bool, cond-false, cond-true, false≢true, reverse-append, All-head, All-tail, none-some, same_Some, Block, Header, Row, Sub, Write, Reg, Bell, Read, Step, NextRow, Look, Report, Finish, Other, Scribble, IsHeader, IsRow, IsStep, World, opening, IsSafe, Known, learned, known, lenient, IsLenient, IsHarmless, DriverKeeps, IsDriverRow, Agrees, Runs, all_read}
+use Rattle.safety.proofs.Words.{cases_Bool, cond-false, cond-true, false≢true, reverse-append, All-head, All-tail, none-some, same_Some, Block, Header, Row, Sub, Write, Reg, Bell, Read, Step, NextRow, Look, Report, Finish, Other, Scribble, IsHeader, IsRow, IsStep, World, opening, IsSafe, Known, learned, known, MayCome, IsLenient, IsHarmless, DriverKeeps, IsDriverRow, Agrees, Runs, all_read}
 use Rattle.world_state.specs.World as of_world
 use Rattle.controller_model.specs.DriverRows as driver
 use Rattle.controller_model.specs.Looks as looks
@@ -9,6 +9,7 @@ use Rattle.controller_model.specs.Finishes as finishes
 use Rattle.controller_model.specs.Steps as steps
 use Rattle.safety.specs.Invariant.{Holds}
 use Rattle.safety.proofs.DriverHistories.{driver_keeps, run_keeps}
+use Rattle.safety.proofs.NothingFree.{may_come}
 use Rattle.safety.proofs.FinishRuns.{finish_runs}
 use Rattle.safety.proofs.LookRuns.{look_runs}
 use Rattle.safety.proofs.Opens.{opens}
@@ -26,7 +27,7 @@ use Rattle.safety.proofs.TestsPassed.{clean_tests}
 -- a row of the driver that doesn't stop the controller, whatever is unread
 abbrev pub RowLaw : Header → Type 0
 RowLaw h =
-    (now : Known) (row : Row) (w v : World) → IsRow row → IsDriverRow row → DriverKeeps h now → Runs h now w → lenient h now row ≡ [] →
+    (now : Known) (row : Row) (w v : World) → IsRow row → IsDriverRow row → DriverKeeps h now → Runs h now w → MayCome h now row →
     (learned h now row).stopped ≡ false → driver.row_done h w row ≡ Some v → Runs h (learned h now row) (steps.counted h v)
 
 -- ---- small facts
@@ -92,7 +93,7 @@ module _ (h : Header) where
 
     -- ---- a row of the trace
 
-    driver_row : (now : Known) (row : Row) (w v : World) → IsRow row → IsDriverRow row → DriverKeeps h now → Runs h now w → lenient h now row ≡ [] →
+    driver_row : (now : Known) (row : Row) (w v : World) → IsRow row → IsDriverRow row → DriverKeeps h now → Runs h now w → MayCome h now row →
         driver.row_done h w row ≡ Some v → Holds h (learned h now row) (steps.counted h v)
     driver_row now row w v is_row of_driver keeps run possible at =
         elim (cases_Bool (learned h now row).stopped) [
@@ -100,7 +101,7 @@ module _ (h : Header) where
           | inr on ↦ inl (row_law now row w v is_row of_driver keeps run possible on at)
         ]
 
-    pub row_holds : (now : Known) (row : Row) (w v : World) → IsRow row → DriverKeeps h now → Runs h now w → lenient h now row ≡ [] →
+    pub row_holds : (now : Known) (row : Row) (w v : World) → IsRow row → DriverKeeps h now → Runs h now w → MayCome h now row →
         driver.row_done h w row ≡ Some v → Holds h (learned h now row) (steps.counted h v)
     unfolding driver.row_done
     row_holds now (Read e) w v is_row keeps run possible at = inl (read_runs h now e w v is_row run at)
@@ -142,7 +143,7 @@ module _ (h : Header) where
             left = subst (λ l. All IsRow l) (sym same) (All-tail IsRow row rest left);
             clean = subst (λ l. IsLenient h (reverse l ++ (row ∷ past))) (sym same) clean;
             holds = elim c.holds [
-              | inl run ↦ row_holds (known h past) row (record w { rows = rest }) u is_row (now_keeps past w c run) (runs_rest (known h past) w rest run) here.1 at
+              | inl run ↦ row_holds (known h past) row (record w { rows = rest }) u is_row (now_keeps past w c run) (runs_rest (known h past) w rest run) (may_come h is past row here.1) at
               | inr over ↦ absurd (false≢true (sym (clean_tests h (known h past) row here.1).0 ∙ over.stopped))
             ];
           },

@@ -1,6 +1,6 @@
 -- What the rules keep of each ring is kept by each row: of a command that succeeds holds still what was tested when it was given
 use Rattle.std.proofs.Common.{◌≡◌, ◌<◌, ◌==◌, ◌∙◌, ℕ, not, true, false, [], Some, arith, sym, ap, ltb-true}
-use Rattle.safety.proofs.Words.{or_parts, not-false, Block, kind, pointer, code, is_command_completion, address_of, ceiling, RingKept, Command, NoOp, EnableSlot, DisableSlot, AddressDevice, ConfigureEndpoint, EvaluateContext, ResetEndpoint, StopEndpoint, SetTrDequeue, ResetDevice, Header, Row, Sub, Write, Reg, Bell, Read, IsHeader, shape_of, command_id, Known, command_at, next_command, may_be_taken, can_finish, is_impossible_completion, is_impossible_by_kind, lenient, IsDriverRing, IsUnfinished, CommandKeeps, MovesIf, StaysIf, DriverKeeps, KeptByRows, StillReads, MovesOn, StillHolds, RingsKeep}
+use Rattle.safety.proofs.Words.{or_parts, not-false, Block, kind, pointer, code, is_command_completion, address_of, ceiling, RingKeeps, Command, NoOp, EnableSlot, DisableSlot, AddressDevice, ConfigureEndpoint, EvaluateContext, ResetEndpoint, StopEndpoint, SetTrDequeue, ResetDevice, Header, Row, Sub, Write, Reg, Bell, Read, IsHeader, shape_of, command_id, Known, command_at, next_command, may_be_taken, can_finish, is_impossible_completion, is_impossible_by_kind, lenient, IsDriverRing, IsUnfinished, CommandKeeps, MovesIf, StaysIf, DriverKeeps, KeptByRestoring, StillReads, MovesOn, StillHolds, RingsKeep}
 use Rattle.safety.proofs.Headers.{ring_shape}
 use Rattle.safety.proofs.GivenCommands.{content_good, are_free}
 use Rattle.safety.proofs.NoWait.{ceiling_given}
@@ -64,6 +64,7 @@ module _ (h : Header) where
     unkept = keeps.unkept;
     free = are_free h k c (content_good h k c keeps.good);
     moves_on = moves_still k c keeps.moves_on keeps.stays;
+    restored = keeps.restored;
   }
 
   pub still_of : IsHeader h → (k : Known) (row : Row) → DriverKeeps h k → lenient h k row ≡ [] → StillReads h k row
@@ -77,7 +78,7 @@ module _ (h : Header) where
       command_holds k (next_command h k) c (d.unfinished (next_command h k) c (next_unfinished is k d facts.started finish.below c at))
 
   -- the next row keeps the rings
-  pub kept_rings : KeptByRows h (λ k. (r : ℕ) → IsDriverRing h r → RingKept (shape_of h r) k.memory (k.ring r))
-  kept_rings is k row d clean on r ring =
+  pub kept_rings : KeptByRestoring h (λ k. (r : ℕ) → IsDriverRing h r → RingKeeps (shape_of h r) k.memory (k.ring r))
+  kept_rings is k row d may on r ring =
       let rings : RingsKeep h k = rings_of h k d in
-      row_keeps h is k row rings (endpoints_of h k d.states) clean (still_reads h is k row rings (endpoints_of h k d.states) (still_of is k row d clean)) r (driver_test h r ring)
+      row_keeps h is k row rings (endpoints_of h k d.states) d.commands_stay may (still_reads h is k row rings (endpoints_of h k d.states) (still_of is k row d may.0)) r (driver_test h r ring)

@@ -1,7 +1,8 @@
 -- A write changes no word under lease: each given block and Link keeps the Cycle bit that it shows, and a word that is written as it
 -- stands gives nothing
-use Rattle.std.proofs.Common.{◌≡◌, ◌%◌, ◌+◌, ◌-◌, ◌||◌, ◌∙◌, ℕ, Bool, true, false, nat_lt, arith, lt-ltb, refl, sym, ap, subst, inl, inr}
-use Rattle.safety.proofs.Words.{IsRestored, fun_ext, and_from, cases_eq, crossed_link, due_is, false≢true, All-contains, put, put_here, put_elsewhere, Shape, IsShape, address_of, cycle_of, link_address, overlap, RingView, Writes, changed, is_due, is_crossing_due, gives, gives_crossing, gives_is, gives_crossing_is, leased_positions, leased_crossings, leased_position, leased_crossing, RingKeeps, MayWrite}
+use Rattle.std.proofs.Common.{◌≡◌, ◌%◌, ◌+◌, ◌-◌, ◌<◌, ◌≤◌, ◌==◌, ◌&&◌, ◌||◌, ◌∙◌, ℕ, not, Bool, true, false, nat_lt, arith, lt-ltb, eq-eqb, eqb-true, refl, sym, ap, subst, inl, inr}
+use Rattle.safety.proofs.Words.{fun_ext, and_from, cases_Bool, not-false, false_from_ne_true, ceiling, floor_number, flips_passed, unrestored, cases_eq, crossed_link, due_is, false≢true, All-contains, put, put_here, put_elsewhere, Shape, IsShape, address_of, cycle_of, link_address, overlap, RingView, Writes, changed, is_due, is_crossing_due, gives, gives_crossing, gives_is, gives_crossing_is, leased_positions, leased_crossings, leased_position, leased_crossing, RingKeeps, MayWrite}
+use Rattle.segments.proofs.DueLists.{none_passes_at, unrestored_position}
 use Rattle.segments.proofs.Giving.{crossing_due_is}
 use Rattle.segments.proofs.Reaching.{kept_cycle}
 
@@ -9,18 +10,35 @@ use Rattle.segments.proofs.Reaching.{kept_cycle}
 control_touches : (a b : ℕ) → a ≡ b + 12 → overlap a 4 b 16 ≡ true
 control_touches a b at = and_from (nat_lt a (b + 16)) (nat_lt b (a + 4)) (lt-ltb a (b + 16) (omega arith)) (lt-ltb b (a + 4) (omega arith))
 
--- what is written to the control word of a given block, or of a given Link, has the Cycle bit with which it was given
+-- what is written to the control word of a given block, or of a given Link, has the Cycle bit with which it was given; of a block that is
+-- free only where the controller may have passed it
 pub record KeepsCycles (shape : Shape) (v : RingView) (a w : ℕ) : Type 0 where
-  pub blocks : (p : ℕ) → is_due shape v.floor p ≡ true → v.given p ≡ true → a ≡ address_of shape p + 12 → w % 2 ≡ cycle_of shape p
+  pub blocks : (p : ℕ) → is_due shape v.floor p ≡ true → v.given p ≡ true → (v.free p ≡ true → p < ceiling shape v) → a ≡ address_of shape p + 12 → w % 2 ≡ cycle_of shape p
   pub links : (q : ℕ) → is_crossing_due shape v.floor q ≡ true → v.crossed q ≡ true → a ≡ link_address shape q + 12 → w % 2 ≡ cycle_of shape (q - 1)
 
+-- a block that is free keeps its Cycle bit below the ceiling
+passed_bit : (shape : Shape) (v : RingView) (a w p : ℕ) → flips_passed shape v a w ≡ false → is_due shape v.floor p ≡ true → p < ceiling shape v → v.free p ≡ true → a ≡ address_of shape p + 12 →
+    w % 2 ≡ cycle_of shape p
+unfolding flips_passed
+passed_bit shape v a w p keeps due below free at =
+    let test = λ (p : ℕ). nat_lt p (ceiling shape v) && a == address_of shape p + 12 && not (w % 2 == cycle_of shape p) in
+    let fails : test p ≡ false = none_passes_at test (unrestored shape v) p keeps (unrestored_position shape v p due free) in
+    let aimed : (nat_lt p (ceiling shape v) && a == address_of shape p + 12) ≡ true =
+    and_from (nat_lt p (ceiling shape v)) (a == address_of shape p + 12) (lt-ltb p (ceiling shape v) below) (eq-eqb a (address_of shape p + 12) at) in
+    eqb-true (w % 2) (cycle_of shape p)
+    (not-false (w % 2 == cycle_of shape p)
+    (false_from_ne_true (not (w % 2 == cycle_of shape p)) (λ flips. false≢true (sym fails ∙ and_from (nat_lt p (ceiling shape v) && a == address_of shape p + 12) (not (w % 2 == cycle_of shape p)) aimed flips))))
+
 -- the word isn't under lease
-pub free_keeps_cycles : (shape : Shape) (memory : ℕ → ℕ) (v : RingView) (a w : ℕ) → MayWrite shape memory v a w → IsRestored v → KeepsCycles shape v a w
-free_keeps_cycles shape memory v a w may restored =
+pub free_keeps_cycles : (shape : Shape) (memory : ℕ → ℕ) (v : RingView) (a w : ℕ) → MayWrite shape memory v a w → KeepsCycles shape v a w
+free_keeps_cycles shape memory v a w may =
     record {
-      blocks = λ p due given at.
-          let free = All-contains (λ p. overlap a 4 (address_of shape p) 16 ≡ false) (leased_positions shape v) p may.blocks (leased_position shape v p due given (restored p)) in
-          absurd (false≢true (sym free ∙ control_touches a (address_of shape p) at));
+      blocks = λ p due given below at. elim (cases_Bool (v.free p)) [
+        | inl free ↦ passed_bit shape v a w p may.flips due (below free) free at
+        | inr kept ↦
+            let none = All-contains (λ p. overlap a 4 (address_of shape p) 16 ≡ false) (leased_positions shape v) p may.blocks (leased_position shape v p due given kept) in
+            absurd (false≢true (sym none ∙ control_touches a (address_of shape p) at))
+      ];
       links = λ q due given at.
           let free = All-contains (λ q. overlap a 4 (link_address shape q) 16 ≡ false) (leased_crossings shape v) q may.links (leased_crossing shape v q due given) in
           absurd (false≢true (sym free ∙ control_touches a (link_address shape q) at));
@@ -36,10 +54,17 @@ put_same memory a w same =
     ])
 
 module _ (shape : Shape) (memory : ℕ → ℕ) (v : RingView) (k : RingKeeps shape memory v) (a w : ℕ) (same : memory a ≡ w) where
-  pub same_keeps_cycles : IsShape shape → IsRestored v → KeepsCycles shape v a w
-  same_keeps_cycles is restored =
+  -- what is given shows its cycle, also where it is free and may be passed
+  shown_cycle : IsShape shape → (p : ℕ) → floor_number v ≤ p → v.given p ≡ true → (v.free p ≡ true → p < ceiling shape v) → memory (address_of shape p + 12) % 2 ≡ cycle_of shape p
+  shown_cycle is p low given below = elim (cases_Bool (v.free p)) [
+    | inl free ↦ k.free_shows p low (below free) free
+    | inr kept ↦ kept_cycle shape is memory v k p low given kept
+  ]
+
+  pub same_keeps_cycles : IsShape shape → KeepsCycles shape v a w
+  same_keeps_cycles is =
       record {
-        blocks = λ p due given at. ap (λ x. x % 2) (sym same ∙ ap memory at) ∙ kept_cycle shape is memory v k p (due_is shape v.floor p due).0 given (restored p);
+        blocks = λ p due given below at. ap (λ x. x % 2) (sym same ∙ ap memory at) ∙ shown_cycle is p (due_is shape v.floor p due).0 given below;
         links = λ q due given at.
             let link = crossed_link shape q (crossing_due_is shape v.floor q due).crossing in
             ap (λ x. x % 2) (sym same ∙ ap memory at) ∙ (k.kept_link q link.0 due given link.1).1;

@@ -3,7 +3,10 @@ pub mod RingsOfHeader
 pub mod Declaring
 pub mod KeptWords
 pub mod Writing
+pub mod OpenRings
+pub mod Passing
 pub mod DriverRows
+pub mod NothingFree
 pub mod Transfers
 pub mod Completions
 pub mod Histories
@@ -28,6 +31,7 @@ pub mod Scribble
 pub mod RingIds
 pub mod Endpoints
 pub mod EndpointHistories
+pub mod StandingTargets
 pub mod Placings
 pub mod StillPlacing
 pub mod GivenCommands
@@ -183,6 +187,7 @@ pub mod DoorbellBeneath
 pub mod GivingBeneath
 pub mod FloorsBehind
 pub mod LeasesBehind
+pub mod PassedBehind
 pub mod EventBehind
 pub mod WriteEvents
 pub mod UnfinishedBehind

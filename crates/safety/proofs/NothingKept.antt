@@ -52,8 +52,8 @@ module _ (h : Header) where
   pub nothing_kept : IsHeader h → DriverKeeps h nothing
   unfolding nothing
   nothing_kept is = record {
-    rings = λ r ring. (nothing_keeps h is r (driver_test h r ring)).rules;
-    restored = λ r ring p. refl;
+    rings = λ r ring. nothing_keeps h is r (driver_test h r ring);
+    commands_stay = λ p. refl;
     clean = λ r a ring word inside. refl;
     command_ring = command_ring_at_start;
     states = states_at_start is;

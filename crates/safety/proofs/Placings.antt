@@ -1,11 +1,12 @@
 -- A command of which what was tested still holds places endpoints where it may
 use Rattle.std.proofs.Common.{◌≡◌, ◌≢◌, ◌<◌, ◌≤◌, ◌==◌, ◌&&◌, ◌||◌, if◌then◌else◌, ◌∷◌, ◌∙◌, ℕ, not, Bool, true, false, List, [], map, length, All, Option, None, Some, arith, refl, sym, ap, get_or, eq-eqb, ne_eqb, inl, subst, inr}
-use Rattle.safety.proofs.Words.{list_any, cases_Bool, cases_option, none-some, same_Some, cond-true, cond-false, and_from, and_right, or_parts, or_left, not-false, false≢true, All-head, All-tail, list_any_at, length-map, get_or-map, put, put_pair, Spot, number, RingView, RingKeeps, Reaches, Holds, is_placement, declared, floor_number, ceiling, target, is_move, is_reached, floor_given, given_count_declared, ceiling_within, move_target, added_endpoints, is_dropped, context_pointer, context_cycle, Command, NoOp, EnableSlot, DisableSlot, AddressDevice, ConfigureEndpoint, EvaluateContext, ResetEndpoint, StopEndpoint, SetTrDequeue, ResetDevice, EndpointState, Off, Running, is_off, is_at_rest, Change, SlotGoesOn, Disables, Places, changes, placed_by_context, Header, IsHeader, shape_of, is_ring, ring_having, Known, on_ring, set_to, bound_to, moved_to, moved, pointed, disabled, in_state, changed_by, Binding, drops, is_placed, is_among, has_repeats, binding_in, binds, ring_bound, binds_ring, is_bad_dequeue, is_bad_move, RingsKeep, EndpointsKeep, MayPoint, MayChangeAll, StillHolds}
+use Rattle.safety.proofs.Words.{EndpointRestored, IsShape, IsShownTo, Shape, shown_where_restored, list_any, cases_Bool, cases_option, none-some, same_Some, cond-true, cond-false, and_from, and_right, or_parts, or_left, not-false, false≢true, All-head, All-tail, list_any_at, length-map, get_or-map, put, put_pair, Spot, number, RingView, RingKeeps, Reaches, Holds, is_placement, declared, floor_number, ceiling, target, is_move, is_reached, floor_given, given_count_declared, ceiling_within, move_target, added_endpoints, is_dropped, context_pointer, context_cycle, Command, NoOp, EnableSlot, DisableSlot, AddressDevice, ConfigureEndpoint, EvaluateContext, ResetEndpoint, StopEndpoint, SetTrDequeue, ResetDevice, EndpointState, Off, Running, is_off, is_at_rest, Change, SlotGoesOn, Disables, Places, changes, placed_by_context, Header, IsHeader, shape_of, is_ring, ring_having, Known, on_ring, set_to, bound_to, moved_to, moved, pointed, disabled, in_state, changed_by, Binding, drops, is_placed, is_among, has_repeats, binding_in, binds, ring_bound, binds_ring, is_bad_dequeue, is_bad_move, RingsKeep, EndpointsKeep, MayPoint, MayChangeAll, StillHolds}
 use Rattle.safety.specs.RingsKeep.{IsDriverRing}
 use Rattle.safety.proofs.TestsPassed.{each_fails, any_of_map}
 use Rattle.safety.proofs.RingsOfHeader.{shape_allowed}
 use Rattle.safety.proofs.RingIds.{having_transfer, transfer_driver}
 use Rattle.safety.proofs.DriverRows.{ring_elsewhere}
+use Rattle.safety.proofs.StandingTargets.{target_here, target_placed}
 
 pub at_rest_on : (state : EndpointState) → is_at_rest state ≡ true → is_off state ≡ true → ⊥
 at_rest_on Off rest off = false≢true rest
@@ -28,25 +29,27 @@ module _ (h : Header) (is : IsHeader h) where
       is_reached (shape_of h r) (k.ring r) t ≡ true
   moves_by k rings endpoints s i r at p cycle least most t low high moves named =
       let driver : IsDriverRing h r = transfer_driver h r (endpoints.transfer s i r at) in
-      move_target (shape_of h r) (shape_allowed h is r driver) k.memory (k.ring r) (rings r driver).rules p cycle least most t low high moves named
+      move_target (shape_of h r) (shape_allowed h is r driver) k.memory (k.ring r) (rings r driver) p cycle least most t low high moves named
 
   moves_to : (k : Known) → RingsKeep h k → EndpointsKeep h k → (s i p : ℕ) (cycle : Bool) (r : ℕ) (t : Spot) → is_bad_dequeue h k (Some r) p cycle ≡ false →
       k.ring_of s i ≡ Some r → target (shape_of h r) (k.ring r) p cycle ≡ Some t → is_reached (shape_of h r) (k.ring r) t ≡ true
   unfolding is_bad_dequeue
   moves_to k rings endpoints s i p cycle r t good at named =
       let driver : IsDriverRing h r = transfer_driver h r (endpoints.transfer s i r at) in
-      let within = ceiling_within (shape_of h r) (shape_allowed h is r driver) k.memory (k.ring r) (rings r driver).rules in
+      let within = ceiling_within (shape_of h r) (shape_allowed h is r driver) k.memory (k.ring r) (rings r driver) in
       moves_by k rings endpoints s i r at p cycle (ceiling (shape_of h r) (k.ring r)) (declared (k.ring r)) t within.0 (omega arith)
       (not-false (is_move (shape_of h r) (k.ring r) p cycle (ceiling (shape_of h r) (k.ring r)) (declared (k.ring r))) good) named
 
-  dequeue_points : (k : Known) → RingsKeep h k → EndpointsKeep h k → (s i p : ℕ) (cycle : Bool) → is_bad_move h k (SetTrDequeue s i p cycle) ≡ false → MayPoint h k s i p cycle
+  dequeue_points : (k : Known) → RingsKeep h k → EndpointsKeep h k → (s i p : ℕ) (cycle : Bool) → is_bad_move h k (SetTrDequeue s i p cycle) ≡ false → EndpointRestored k s i → MayPoint h k s i p cycle
   unfolding is_bad_move
-  dequeue_points k rings endpoints s i p cycle good =
+  dequeue_points k rings endpoints s i p cycle good restored =
       let parts = or_parts (not (is_at_rest (k.endpoint_state s i))) (is_bad_dequeue h k (k.ring_of s i) p cycle) good in
       let rest : is_at_rest (k.endpoint_state s i) ≡ true = not-false (is_at_rest (k.endpoint_state s i)) parts.0 in
       record {
         binds = λ off r at. absurd (at_rest_on (k.endpoint_state s i) rest off);
         moves = λ on r t at named. moves_to k rings endpoints s i p cycle r t (sym (ap (λ o. is_bad_dequeue h k o p cycle) at) ∙ parts.1) at named;
+        bound_shown = λ off r t at. absurd (at_rest_on (k.endpoint_state s i) rest off);
+        moved_shown = λ on r t at named. shown_where_restored (shape_of h r) (k.ring r) (restored r at) (number t);
       }
 
   -- ---- where a binding is placed
@@ -81,10 +84,28 @@ module _ (h : Header) (is : IsHeader h) where
       (move_target (shape_of h b.ring) allowed memory (l.ring b.ring) b.keeps p cycle (ceiling (shape_of h b.ring) (l.ring b.ring)) (floor_number (l.ring b.ring)) t within.0 (omega arith) b.placed)
       named
 
+  -- what is free and lies below the floor is below the ceiling too
+  floor_shown : (shape : Shape) → IsShape shape → (memory : ℕ → ℕ) (v : RingView) → RingKeeps shape memory v → (t : Spot) → number t ≡ floor_number v → IsShownTo shape v (number t)
+  floor_shown shape allowed memory v keeps t here p free below = omega (arith, below, here, (ceiling_within shape allowed memory v keeps).0)
+
+  ready_shown : (l : Known) (memory : ℕ → ℕ) (s i p : ℕ) (cycle : Bool) → Ready h l memory s i p cycle → (r : ℕ) (t : Spot) → ring_having h p ≡ Some r → target (shape_of h r) (l.ring r) p cycle ≡ Some t →
+      IsShownTo (shape_of h r) (l.ring r) (number t)
+  ready_shown l memory s i p cycle b r t at named =
+      let allowed = shape_allowed h is b.ring (having_driver p b.ring b.named) in
+      let low = floor_given (shape_of h b.ring) allowed memory (l.ring b.ring) b.keeps in
+      let high = given_count_declared (shape_of h b.ring) allowed memory (l.ring b.ring) b.keeps in
+      let within = ceiling_within (shape_of h b.ring) allowed memory (l.ring b.ring) b.keeps in
+      subst (λ n. target (shape_of h n) (l.ring n) p cycle ≡ Some t → IsShownTo (shape_of h n) (l.ring n) (number t)) (same_Some b.ring r (sym b.named ∙ at))
+      (λ there. floor_shown (shape_of h b.ring) allowed memory (l.ring b.ring) b.keeps t
+      (target_placed (shape_of h b.ring) (l.ring b.ring) p cycle t within.0 (omega (arith, low, high)) b.placed there))
+      named
+
   ready_points : (l : Known) (memory : ℕ → ℕ) (s i p : ℕ) (cycle : Bool) → Ready h l memory s i p cycle → MayPoint h l s i p cycle
   ready_points l memory s i p cycle b = record {
     binds = λ off r t at named. ready_reached l memory s i p cycle b r t at named;
     moves = λ on r t at named. absurd (false≢true (sym on ∙ b.off));
+    bound_shown = λ off r t at named. ready_shown l memory s i p cycle b r t at named;
+    moved_shown = λ on r t at named. absurd (false≢true (sym on ∙ b.off));
   }
 
   -- ---- Address Device
@@ -110,7 +131,7 @@ module _ (h : Header) (is : IsHeader h) where
         ring = at.ring;
         named = at.named;
         free = λ t j has. false≢true (still.unkept at.ring t j bound has);
-        keeps = (rings at.ring (having_driver (context_pointer h.context_size k.memory n 1) at.ring at.named)).rules;
+        keeps = (rings at.ring (having_driver (context_pointer h.context_size k.memory n 1) at.ring at.named));
         placed = at.placed;
       }
 
@@ -124,9 +145,16 @@ module _ (h : Header) (is : IsHeader h) where
         moves = λ on r t at named.
             let driver : IsDriverRing h r = transfer_driver h r (endpoints.transfer s 1 r at) in
             let allowed = shape_allowed h is r driver in
-            let low = floor_given (shape_of h r) allowed k.memory (k.ring r) (rings r driver).rules in
-            let high = given_count_declared (shape_of h r) allowed k.memory (k.ring r) (rings r driver).rules in
+            let low = floor_given (shape_of h r) allowed k.memory (k.ring r) (rings r driver) in
+            let high = given_count_declared (shape_of h r) allowed k.memory (k.ring r) (rings r driver) in
             moves_by k rings endpoints s 1 r at p cycle (floor_number (k.ring r)) (floor_number (k.ring r)) t (omega arith) (omega arith) (still.moves_on on r at) named;
+        bound_shown = λ off r t at named. ready_shown k k.memory s 1 p cycle (address_ready k rings s n bsr still off) r t at named;
+        moved_shown = λ on r t at named.
+            let driver : IsDriverRing h r = transfer_driver h r (endpoints.transfer s 1 r at) in
+            let allowed = shape_allowed h is r driver in
+            let low = floor_given (shape_of h r) allowed k.memory (k.ring r) (rings r driver) in
+            let high = given_count_declared (shape_of h r) allowed k.memory (k.ring r) (rings r driver) in
+            floor_shown (shape_of h r) allowed k.memory (k.ring r) (rings r driver) t (target_here (shape_of h r) (k.ring r) p cycle t (omega (arith, low, high)) (still.moves_on on r at) named);
       }
 
   same_points : (k l : Known) (s i p : ℕ) (cycle : Bool) → k.endpoint_state ≡ l.endpoint_state → k.ring_of ≡ l.ring_of → k.ring ≡ l.ring → MayPoint h k s i p cycle → MayPoint h l s i p cycle
@@ -139,6 +167,13 @@ module _ (h : Header) (is : IsHeader h) where
             ap (λ (f : ℕ → RingView). is_reached (shape_of h r) (f r) t) (sym rings)
             ∙ may.moves (ap (λ (f : ℕ → ℕ → EndpointState). is_off (f s i)) states ∙ on) r t (ap (λ (f : ℕ → ℕ → Option ℕ). f s i) ring_of ∙ at)
             (ap (λ (f : ℕ → RingView). target (shape_of h r) (f r) p cycle) rings ∙ named);
+        bound_shown = λ off r t at named.
+            subst (λ (f : ℕ → RingView). IsShownTo (shape_of h r) (f r) (number t)) rings
+            (may.bound_shown (ap (λ (f : ℕ → ℕ → EndpointState). is_off (f s i)) states ∙ off) r t at (ap (λ (f : ℕ → RingView). target (shape_of h r) (f r) p cycle) rings ∙ named));
+        moved_shown = λ on r t at named.
+            subst (λ (f : ℕ → RingView). IsShownTo (shape_of h r) (f r) (number t)) rings
+            (may.moved_shown (ap (λ (f : ℕ → ℕ → EndpointState). is_off (f s i)) states ∙ on) r t (ap (λ (f : ℕ → ℕ → Option ℕ). f s i) ring_of ∙ at)
+            (ap (λ (f : ℕ → RingView). target (shape_of h r) (f r) p cycle) rings ∙ named));
       }
 
   -- ---- Configure Endpoint
@@ -284,7 +319,7 @@ module _ (h : Header) (is : IsHeader h) where
         named = there.named;
         free = none_left k s a there.ring still bound;
         keeps = subst (λ (f : ℕ → RingView). RingKeeps (shape_of h there.ring) k.memory (f there.ring)) (sym (dropped_rings c k s a))
-            (rings there.ring (having_driver (context_pointer h.context_size k.memory a i) there.ring there.named)).rules;
+            (rings there.ring (having_driver (context_pointer h.context_size k.memory a i) there.ring there.named));
         placed = ap (λ (f : ℕ → RingView). is_placement (shape_of h there.ring) (f there.ring) (context_pointer h.context_size k.memory a i) (context_cycle h.context_size k.memory a i)) (dropped_rings c k s a)
             ∙ there.placed;
       }
@@ -324,5 +359,5 @@ module _ (h : Header) (is : IsHeader h) where
   still_places k rings endpoints n (EvaluateContext s a) still = tt
   still_places k rings endpoints n (ResetEndpoint s i) still = (tt, tt)
   still_places k rings endpoints n (StopEndpoint s i) still = (tt, tt)
-  still_places k rings endpoints n (SetTrDequeue s i p cycle) still = (dequeue_points k rings endpoints s i p cycle still.moves_on, tt)
+  still_places k rings endpoints n (SetTrDequeue s i p cycle) still = (dequeue_points k rings endpoints s i p cycle still.moves_on (still.restored s i p cycle refl), tt)
   still_places k rings endpoints n (ResetDevice s) still = (tt, (tt, tt))

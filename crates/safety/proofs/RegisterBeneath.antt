@@ -195,8 +195,11 @@ module _ (h : Header) where
       } in
       record {
         event = subst (λ x. lenient h x (Read e) ≡ []) (sym one) read.possible;
-        row = register_clean k_read r v (same.stopped ∙ running) (register_still k k_read r v on (same.started ∙ on) facts.0)
-            (erdp_still k k_read r v on same.started same.dequeue (let reads = same.reads in omega arith) facts.1);
+        row = (
+          register_clean k_read r v (same.stopped ∙ running) (register_still k k_read r v on (same.started ∙ on) facts.0)
+              (erdp_still k k_read r v on same.started same.dequeue (let reads = same.reads in omega arith) facts.1),
+          tt,
+        );
         after = subst (λ x. HeldMore x (learned h (learned h k (Reg r v)) (Read e))) (sym two) (subst (λ x. HeldMore (with_value k_read r v) (learned h x (Read e))) (sym one)
             (held_more (with_value k_read r v) l_read driver states_too (λ q. (read.after.rings q).floor) (λ q. (read.after.rings q).held)));
         awake = refl;

@@ -1,7 +1,7 @@
 -- A driver's row beneath the events that aren't read yet: they stay possible, and what is known when they are read differs from what
 -- the row adds to it at the end in the numbers at which rings are held, if at all
-use Rattle.std.proofs.Common.{◌≡◌, ◌+◌, ◌-◌, ◌≤◌, ◌∷◌, ◌∙◌, ℕ, false, List, [], length, All, Some, arith, refl, sym, ap, subst, inl, inr}
-use Rattle.safety.proofs.Words.{cond_both, same_Some, Block, IsBlock, kind, erdp_address, is_reached_within, Header, Row, Sub, Write, Reg, Bell, Read, Register, Erdp, IsHeader, event_shape, IsRow, World, stored, counted, Known, learned, may_pass, is_bad_erdp, lenient, DriverKeeps, KeptByRows, IsDriverRow, Agrees, ArePossible, Runs, all_read, HeldMore, is_idle, Square, SquareLaw, MoreLaw}
+use Rattle.std.proofs.Common.{◌≡◌, ◌+◌, ◌-◌, ◌≤◌, ◌∷◌, ◌∙◌, ℕ, false, List, [], length, Some, arith, refl, sym, ap, subst, inl, inr}
+use Rattle.safety.proofs.Words.{cond_both, same_Some, Block, kind, erdp_address, is_reached_within, Header, Row, Sub, Write, Reg, Bell, Read, Register, Erdp, IsHeader, event_shape, IsRow, World, stored, counted, Known, learned, may_pass, is_bad_erdp, lenient, DriverKeeps, KeptByRestoring, MayCome, IsDriverRow, Agrees, ArePossible, Runs, all_read, HeldMore, is_idle, Square, SquareLaw, MoreLaw}
 use Rattle.controller_model.specs.DriverRows as driver
 use Rattle.safety.proofs.TestsPassed.{clean_tests}
 use Rattle.safety.proofs.CleanRows.{register_facts}
@@ -49,17 +49,17 @@ module _ (h : Header) where
   may_move k w _ x reads dequeue low good = tt
 
   row_agrees : IsHeader h → (now k : Known) (unread : List Block) (w v : World) (d : Row) → IsDriverRow d → DriverKeeps h k → Agrees h k unread w → w.reads ≡ now.reads → w.dequeue ≡ now.dequeue →
-      lenient h now d ≡ [] → lenient h k d ≡ [] → (learned h k d).stopped ≡ false → driver.row_done h w d ≡ Some v → Agrees h (learned h k d) unread (counted h v)
+      lenient h now d ≡ [] → MayCome h k d → (learned h k d).stopped ≡ false → driver.row_done h w d ≡ Some v → Agrees h (learned h k d) unread (counted h v)
   unfolding driver.row_done
   row_agrees is now k unread w v (Sub r blocks) driver_row keeps g reads dequeue before clean on at =
-      subst (λ u. Agrees h (learned h k (Sub r blocks)) unread (counted h u)) (same_Some (driver.declared h w r blocks) v at) (declares_agree h is k unread w r blocks keeps g clean)
+      subst (λ u. Agrees h (learned h k (Sub r blocks)) unread (counted h u)) (same_Some (driver.declared h w r blocks) v at) (declares_agree h is k unread w r blocks keeps g clean.0)
   row_agrees is now k unread w v (Write a x) driver_row keeps g reads dequeue before clean on at =
-      subst (λ u. Agrees h (learned h k (Write a x)) unread (counted h u)) (same_Some (stored w a x) v at) (writes_agree h is k unread w a x keeps g clean)
+      subst (λ u. Agrees h (learned h k (Write a x)) unread (counted h u)) (same_Some (stored w a x) v at) (writes_agree h is k unread w a x keeps g clean.0)
   row_agrees is now k unread w v (Reg r x) driver_row keeps g reads dequeue before clean on at =
       subst (λ u. Agrees h (learned h k (Reg r x)) unread (counted h u)) (same_Some (driver.register_row h w r x) v at)
-      (register_agrees h is k unread w keeps g r x (may_move now w r x reads dequeue g.events.order.dequeued (register_facts h now r x before).erdp) clean (clean_tests h k (Reg r x) clean).0 on)
+      (register_agrees h is k unread w keeps g r x (may_move now w r x reads dequeue g.events.order.dequeued (register_facts h now r x before).erdp) clean.0 (clean_tests h k (Reg r x) clean.0).0 on)
   row_agrees is now k unread w v (Bell s t) driver_row keeps g reads dequeue before clean on at =
-      subst (λ u. Agrees h (learned h k (Bell s t)) unread (counted h u)) (same_Some (driver.bell_row h w s t) v at) (rings_agree h is k unread w keeps g s t clean)
+      subst (λ u. Agrees h (learned h k (Bell s t)) unread (counted h u)) (same_Some (driver.bell_row h w s t) v at) (rings_agree h is k unread w keeps g s t clean.0)
   row_agrees is now k unread w v (Read e) driver_row keeps g reads dequeue before clean on at = absurd driver_row
 
   -- ---- along the unread events
@@ -68,12 +68,12 @@ module _ (h : Header) where
   record Beside (d : Row) (k m : Known) : Type 0 where
     pub keeps : DriverKeeps h k
     pub keeps_beneath : DriverKeeps h m
-    pub possible : lenient h k d ≡ []
+    pub possible : MayCome h k d
     pub awake : is_idle h k d ≡ false
     pub on : (learned h k d).stopped ≡ false
     pub held : HeldMore (learned h k d) m
 
-  module _ (is : IsHeader h) (square : SquareLaw h) (more : MoreLaw h) (kept : KeptByRows h (DriverKeeps h)) (d : Row) (is_row : IsRow d) (driver_row : IsDriverRow d) where
+  module _ (is : IsHeader h) (square : SquareLaw h) (more : MoreLaw h) (kept : KeptByRestoring h (DriverKeeps h)) (d : Row) (is_row : IsRow d) (driver_row : IsDriverRow d) where
     one_on : (k m : Known) (e : Block) → lenient h k (Read e) ≡ [] → Beside d k m → (lenient h m (Read e) ≡ []) × Beside d (learned h k (Read e)) (learned h m (Read e))
     one_on k m e event b =
         let row_keeps : DriverKeeps h (learned h k d) = kept is k d b.keeps b.possible b.on in
@@ -81,8 +81,8 @@ module _ (h : Header) where
         let both = more (learned h k d) m e row_keeps b.keeps_beneath b.held s.event in (
           both.0,
           record {
-            keeps = kept is k (Read e) b.keeps event (read_on k e ∙ (clean_tests h k d b.possible).0);
-            keeps_beneath = kept is m (Read e) b.keeps_beneath both.0 (read_on m e ∙ sym (ap (λ x. x.stopped) b.held.rest) ∙ b.on);
+            keeps = kept is k (Read e) b.keeps (event, tt) (read_on k e ∙ (clean_tests h k d b.possible.0).0);
+            keeps_beneath = kept is m (Read e) b.keeps_beneath (both.0, tt) (read_on m e ∙ sym (ap (λ x. x.stopped) b.held.rest) ∙ b.on);
             possible = s.row;
             awake = s.awake;
             on = ap (λ x. x.stopped) s.after.rest ∙ read_on (learned h k d) e ∙ b.on;
@@ -98,7 +98,7 @@ module _ (h : Header) where
         ((one.0, later.0), later.1)
 
     -- the run goes on behind a row that isn't idle
-    pub awake_runs : (now : Known) (w v : World) → DriverKeeps h now → (run : Runs h now w) → lenient h now d ≡ [] → is_idle h now d ≡ false → (learned h now d).stopped ≡ false →
+    pub awake_runs : (now : Known) (w v : World) → DriverKeeps h now → (run : Runs h now w) → MayCome h now d → is_idle h now d ≡ false → (learned h now d).stopped ≡ false →
         driver.row_done h w d ≡ Some v → Runs h (learned h now d) (counted h v)
     awake_runs now w v keeps run possible awake on at =
         let first : Beside d now (learned h now d) = record {
@@ -119,5 +119,5 @@ module _ (h : Header) where
           blocks = run.blocks;
           on = on;
           agrees = weaker h (learned h later d) (all_read h (learned h now d) run.unread) b.1.held run.unread (counted h v)
-              (row_agrees is now later run.unread w v d driver_row b.1.keeps g (omega (arith, g.read, c.0, g.events.count)) (g.stands.dequeue ∙ c.1) possible b.1.possible b.1.on at);
+              (row_agrees is now later run.unread w v d driver_row b.1.keeps g (omega (arith, g.read, c.0, g.events.count)) (g.stands.dequeue ∙ c.1) possible.0 b.1.possible b.1.on at);
         }

@@ -1,19 +1,12 @@
 -- The doorbell of a ring that is open: nothing is learned, and where all events are read the world agrees with what is known as before
-use Rattle.std.proofs.Common.{◌≡◌, ◌==◌, ◌||◌, ◌∙◌, ℕ, not, nat_lt, true, false, List, [], Option, None, Some, is_none, refl, sym, ap, subst, inl, inr}
+use Rattle.std.proofs.Common.{◌≡◌, ◌==◌, ◌||◌, ◌∙◌, ℕ, not, nat_lt, true, false, List, [], Option, None, Some, refl, sym, ap, subst, inl, inr}
 use Rattle.safety.proofs.Words.{cases_Bool, cases_eq, cond-true, cond-false, or_parts, not-false, false≢true, put, put_pair, Block, RingView, Opens, changed, is_open, EndpointState, Off, Running, Halted, Error, is_running, is_stopped, Header, Bell, IsHeader, shape_of, command_id, World, counted, Known, learned, on_ring, endpoint_rung, rung, is_bad_bell, is_touched, lenient, DriverKeeps, Agrees, is_open_if, is_idle, MayRing}
 use Rattle.controller_model.specs.DriverRows as driver
 use Rattle.safety.proofs.CleanRows.{BellFacts, bell_facts}
 use Rattle.safety.proofs.RowRegister.{agrees_once_counted}
 use Rattle.safety.proofs.LookKinds.{put_at, put_off}
 use Rattle.safety.proofs.RowRings.{endpoint_agrees, command_agrees}
-
-none_is : (o : Option ℕ) → is_none o ≡ true → o ≡ None
-none_is None is = refl
-none_is (Some n) is = absurd (false≢true is)
-
-pub open_held : (v : RingView) → is_open v ≡ true → v.held ≡ None
-unfolding is_open
-open_held v is = none_is v.held is
+use Rattle.safety.proofs.OpenRings.{open_held}
 
 -- opening an open ring
 same_view : (v : RingView) (o : Option ℕ) → v.held ≡ o → ◌≡◌ {A = RingView} (record v { held = o }) v

@@ -1,6 +1,6 @@
 -- Behind a row of the driver the run goes on, whatever is unread
-use Rattle.std.proofs.Common.{◌≡◌, ◌==◌, ◌&&◌, if◌then◌else◌, ◌∷◌, ◌∙◌, ℕ, not, true, false, List, [], All, Some, refl, sym, ap, subst, inl, inr}
-use Rattle.safety.proofs.Words.{cases_Bool, cond-true, and_from, not-false, same_Some, Block, is_open, Header, Row, Sub, Write, Reg, Bell, Read, IsHeader, command_id, IsRow, World, counted, Known, learned, is_bad_bell, lenient, DriverKeeps, KeptByRows, IsDriverRow, Agrees, ArePossible, Runs, all_read, is_idle, is_open_if, MayRing, SquareLaw, MoreLaw}
+use Rattle.std.proofs.Common.{◌≡◌, ◌==◌, ◌&&◌, if◌then◌else◌, ◌∷◌, ◌∙◌, ℕ, not, true, false, List, [], Some, refl, sym, subst, inl, inr}
+use Rattle.safety.proofs.Words.{cases_Bool, cond-true, and_from, not-false, same_Some, Block, is_open, Header, Row, Sub, Write, Reg, Bell, Read, IsHeader, MayCome, command_id, IsRow, World, counted, Known, learned, is_bad_bell, lenient, DriverKeeps, KeptByRestoring, IsDriverRow, Agrees, ArePossible, Runs, all_read, is_idle, is_open_if, MayRing, SquareLaw, MoreLaw}
 use Rattle.controller_model.specs.DriverRows as driver
 use Rattle.safety.proofs.CleanRows.{BellFacts, bell_facts}
 use Rattle.safety.proofs.KeptCounts.{read_counts}
@@ -13,7 +13,7 @@ abbrev pub StillRingsLaw : Header → Type 0
 StillRingsLaw h = (k : Known) (s t : ℕ) (e : Block) → IsHeader h → DriverKeeps h k → MayRing h k s t → lenient h k (Read e) ≡ [] → MayRing h (learned h k (Read e)) s t
 
 module _ (h : Header) where
-  module _ (is : IsHeader h) (kept : KeptByRows h (DriverKeeps h)) (still : StillRingsLaw h) where
+  module _ (is : IsHeader h) (kept : KeptByRestoring h (DriverKeeps h)) (still : StillRingsLaw h) where
     -- along the unread events
     along : (P : Known → Type 0) → ((k : Known) (e : Block) → DriverKeeps h k → P k → lenient h k (Read e) ≡ [] → P (learned h k (Read e))) →
         (unread : List Block) (k : Known) → DriverKeeps h k → ArePossible h k unread → k.stopped ≡ false → P k →
@@ -21,7 +21,7 @@ module _ (h : Header) where
     along P one [] k d possible on p = (p, d, λ started. started)
     along P one (e ∷ rest) k d possible on p =
         let still_on : (learned h k (Read e)).stopped ≡ false = read_on h k e ∙ on in
-        let later = along P one rest (learned h k (Read e)) (kept is k (Read e) d possible.0 still_on) possible.1 still_on (one k e d p possible.0) in
+        let later = along P one rest (learned h k (Read e)) (kept is k (Read e) d (possible.0, tt) still_on) possible.1 still_on (one k e d p possible.0) in
         (later.0, later.1, λ started. later.2 ((read_counts h k e).2 ∙ started))
 
     module _ (now : Known) (w v : World) (s t : ℕ) (now_keeps : DriverKeeps h now) (run : Runs h now w) (possible : lenient h now (Bell s t) ≡ []) (idles : is_idle h now (Bell s t) ≡ true) where
@@ -70,11 +70,11 @@ module _ (h : Header) where
 
     -- any row of the driver that doesn't stop the controller
     module _ (square : SquareLaw h) (more : MoreLaw h) where
-      pub row_runs : (now : Known) (row : Row) (w v : World) → IsRow row → IsDriverRow row → DriverKeeps h now → Runs h now w → lenient h now row ≡ [] → (learned h now row).stopped ≡ false →
+      pub row_runs : (now : Known) (row : Row) (w v : World) → IsRow row → IsDriverRow row → DriverKeeps h now → Runs h now w → MayCome h now row → (learned h now row).stopped ≡ false →
           driver.row_done h w row ≡ Some v → Runs h (learned h now row) (counted h v)
       row_runs now (Bell s t) w v is_row driver_row keeps run possible on at =
           elim (cases_Bool (is_idle h now (Bell s t))) [
-            | inl idles ↦ idle_runs now w v s t keeps run possible idles at
+            | inl idles ↦ idle_runs now w v s t keeps run possible.0 idles at
             | inr awake ↦ awake_runs h is square more kept (Bell s t) is_row driver_row now w v keeps run possible awake on at
           ]
       row_runs now (Sub r blocks) w v is_row driver_row keeps run possible on at = awake_runs h is square more kept (Sub r blocks) is_row driver_row now w v keeps run possible refl on at

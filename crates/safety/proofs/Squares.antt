@@ -7,8 +7,8 @@ use Rattle.safety.proofs.WriteSquare.{any_write_square}
 
 module _ (h : Header) where
   pub square_law : SquareLaw h
-  square_law k (Sub r blocks) e is row driver d clean may awake on = declaration_square h r blocks is k d e clean may
+  square_law k (Sub r blocks) e is row driver d clean may awake on = declaration_square h r blocks is k d e clean.0 may
   square_law k (Write a w) e is row driver d clean may awake on = any_write_square h k a w e is row driver d clean may awake on
-  square_law k (Reg r v) e is row driver d clean may awake on = register_square h k r v e clean may on
+  square_law k (Reg r v) e is row driver d clean may awake on = register_square h k r v e clean.0 may on
   square_law k (Bell s t) e is row driver d clean may awake on = doorbell_square h is k d s t clean awake e may
   square_law k (Read b) e is row driver d clean may awake on = absurd driver

@@ -1,14 +1,10 @@
 -- No event holds the command ring
-use Rattle.std.proofs.Common.{◌≡◌, ◌∙◌, true, None, refl, ap}
-use Rattle.safety.proofs.Words.{Block, BlockKind, TransferEvent, CommandCompletion, kind, RingView, is_open, Header, Read, IsHeader, command_id, Known, event_read, learned, DriverKeeps, EndpointsKeep}
+use Rattle.std.proofs.Common.{◌≡◌, ◌∙◌, true, None, ap}
+use Rattle.safety.proofs.Words.{Block, BlockKind, TransferEvent, CommandCompletion, kind, is_open, Header, Read, IsHeader, command_id, Known, event_read, learned, DriverKeeps, EndpointsKeep}
 use Rattle.safety.proofs.DriverRings.{endpoints_of}
 use Rattle.safety.proofs.TransferFrames.{transfer_command}
 use Rattle.safety.proofs.KeptCommands.{completed_view}
-use Rattle.safety.proofs.RowIdle.{open_held}
-
-pub held_open : (v : RingView) → v.held ≡ None → is_open v ≡ true
-unfolding is_open
-held_open v none = rw none refl
+use Rattle.safety.proofs.OpenRings.{open_held, held_open}
 
 module _ (h : Header) (is : IsHeader h) (k : Known) (keeps : EndpointsKeep h k) (b : Block) where
   event_held : (t : BlockKind) → (k.ring (command_id h)).held ≡ None → ((event_read h k t b).ring (command_id h)).held ≡ None

@@ -1,8 +1,9 @@
 -- A clean history keeps what the rules keep of each ring, so long as what was tested of a command holds still when it succeeds
 use Rattle.std.proofs.Common.{◌∷◌, List, []}
-use Rattle.safety.proofs.Words.{slot, Header, Row, Sub, Write, Reg, Bell, Read, IsHeader, Known, known, IsLenient, RingsKeep, EndpointsKeep, MayRead, StillReads, StillReadsAll}
+use Rattle.safety.proofs.Words.{slot, command_id, Header, Row, Sub, Write, Reg, Bell, Read, IsHeader, Known, known, IsLenient, RingsKeep, EndpointsKeep, MayRead, StillReads, StillReadsAll}
 use Rattle.safety.proofs.DriverRows.{nothing_keeps}
 use Rattle.safety.proofs.EndpointHistories.{keeps_endpoints}
+use Rattle.safety.proofs.NothingFree.{nothing_free, may_come}
 use Rattle.safety.proofs.Placings.{still_places}
 use Rattle.safety.proofs.Histories.{row_keeps}
 
@@ -19,4 +20,6 @@ module _ (h : Header) (is : IsHeader h) where
   still_keeps_rings [] clean still = nothing_keeps h is
   still_keeps_rings (row ∷ past) clean still =
       let rings : RingsKeep h (known h past) = still_keeps_rings past clean.0 still.0 in
-      row_keeps h is (known h past) row rings (keeps_endpoints h is past) clean.1 (still_reads (known h past) row rings (keeps_endpoints h is past) still.1)
+      let endpoints : EndpointsKeep h (known h past) = keeps_endpoints h is past in
+      row_keeps h is (known h past) row rings endpoints (nothing_free h past (command_id h)) (may_come h is past row clean.1)
+      (still_reads (known h past) row rings endpoints still.1)

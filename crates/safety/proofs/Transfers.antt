@@ -1,9 +1,11 @@
 -- A Transfer Event that may be read keeps what the rules keep of each ring
 use Rattle.std.proofs.Common.{◌≡◌, ◌+◌, ◌<◌, ◌≤◌, ◌&&◌, ◌||◌, if◌then◌else◌, ◌∙◌, ℕ, not, Bool, true, false, Option, None, Some, arith, refl, sym, subst, inl, inr}
-use Rattle.safety.proofs.Words.{shown_where_restored, option_map, cond_both, and_parts, and_cases, or_left, or_right, or_parts, or_from, not-false, false≢true, none-some, same_Some, put_pair, Block, pointer, code, slot, endpoint, is_success, is_halting, is_trb_error, is_stopping, Spot, number, after, Reaches, Holds, floor_number, ceiling, named, is_data_below, is_stop_spot, stopped_number, RingKeeps, reaches_keeps, reaches_and_holds_keeps, holds_and_reaches_keeps, after_reached, number-after, stop_spot_reached, stopped_within, ceiling_held, ceiling_within, below_is, IsAhead, named_ahead, EndpointState, Halted, Error, Header, IsHeader, shape_of, Known, RingSpot, on_ring, spot_on, event_at, passed, broken_off, stopped_at, transferred, transferred_at, transfer_read, is_in_profile, is_working, is_stopping_now, can_report, can_report_at, is_impossible_transfer, is_off, RingsKeep}
+use Rattle.safety.proofs.Words.{RingsKept, changed, option_map, cond_both, and_parts, and_cases, or_left, or_right, or_parts, or_from, not-false, false≢true, none-some, same_Some, put_pair, Block, pointer, code, slot, endpoint, is_success, is_halting, is_trb_error, is_stopping, Spot, number, after, Reaches, Holds, floor_number, ceiling, named, is_data_below, is_stop_spot, stopped_number, RingKeeps, reaches_keeps, reaches_and_holds_keeps, holds_and_reaches_keeps, after_reached, number-after, stop_spot_reached, stopped_within, ceiling_held, ceiling_within, below_is, IsAhead, named_ahead, EndpointState, Halted, Error, Header, IsHeader, shape_of, Known, RingSpot, on_ring, spot_on, event_at, passed, broken_off, stopped_at, transferred, transferred_at, transfer_read, is_in_profile, is_working, is_stopping_now, can_report, can_report_at, is_impossible_transfer, is_off, RingsKeep, is_open, is_running, IsRestored, shown_where_restored}
 use Rattle.safety.specs.RingsKeep.{IsDriverRing}
 use Rattle.safety.proofs.RingsOfHeader.{shape_allowed}
-use Rattle.safety.proofs.DriverRows.{same_keeps, on_ring_keeps, on_ring_twice_keeps}
+use Rattle.safety.proofs.DriverRows.{stands, same_keeps, on_ring_keeps, on_ring_twice_keeps}
+use Rattle.safety.proofs.OpenRings.{open_held}
+use Rattle.safety.proofs.Passing.{passes_at, passes_held, passes_restored}
 
 -- what each branch of a chain of two tests says
 pub chain : (b c x y z : Bool) → (if b then x else if c then y else z) ≡ true →
@@ -27,54 +29,60 @@ spot_is h k a (Some r) at e = by (named (shape_of h r) (k.ring r) a) refl e
 
 module _ (h : Header) (is : IsHeader h) (k : Known) (keeps : RingsKeep h k) where
   -- the block at the spot is finished
-  passed_keeps : (r : ℕ) (t : Spot) → (IsDriverRing h r → floor_number (k.ring r) ≤ number t) → number t < ceiling (shape_of h r) (k.ring r) → RingsKeep h (passed h k r t)
+  passed_keeps : (r : ℕ) (t : Spot) → (IsDriverRing h r → floor_number (k.ring r) ≤ number t) → number t < ceiling (shape_of h r) (k.ring r) → RingsKept h k (passed h k r t)
   unfolding passed
   passed_keeps r t ahead below =
-      on_ring_keeps h k r (Reaches (after (shape_of h r) (number t))) keeps (λ driver.
+      on_ring_keeps h k k r (Reaches (after (shape_of h r) (number t))) (stands h k keeps) (λ driver.
       let allowed = shape_allowed h is r driver in
-      let ring : RingKeeps (shape_of h r) k.memory (k.ring r) = (keeps r driver).rules in
+      let ring : RingKeeps (shape_of h r) k.memory (k.ring r) = keeps r driver in
       let within = ceiling_within (shape_of h r) allowed k.memory (k.ring r) ring in
       record {
         rules = reaches_keeps (shape_of h r) allowed k.memory (k.ring r) ring (after (shape_of h r) (number t))
             (after_reached (shape_of h r) (k.ring r) (number t) (omega (arith, ahead driver)) (omega (arith, within.1, below)))
             (λ m at. omega (arith, number-after (shape_of h r) (number t), ceiling_held (shape_of h r) (k.ring r) m at, below));
-        restored = (keeps r driver).restored;
+        passes = passes_held (shape_of h r) k.memory (k.ring r) (changed (shape_of h r) (k.ring r) (Reaches (after (shape_of h r) (number t)))) ring refl refl;
       })
 
   -- and the controller stopped behind it
   broken_keeps : (s i r : ℕ) (t : Spot) (state : EndpointState) → (IsDriverRing h r → floor_number (k.ring r) ≤ number t) → number t < ceiling (shape_of h r) (k.ring r) →
-      RingsKeep h (broken_off h k s i r t state)
+      RingsKept h k (broken_off h k s i r t state)
   unfolding passed broken_off
   broken_keeps s i r t state ahead below =
-      same_keeps h (on_ring h (on_ring h k r (Reaches (after (shape_of h r) (number t)))) r (Holds (number t + 1))) (broken_off h k s i r t state) refl refl
-      (on_ring_twice_keeps h k r (Reaches (after (shape_of h r) (number t))) (Holds (number t + 1)) keeps (λ driver.
+      same_keeps h k (on_ring h (on_ring h k r (Reaches (after (shape_of h r) (number t)))) r (Holds (number t + 1))) (broken_off h k s i r t state) refl refl
+      (on_ring_twice_keeps h k k r (Reaches (after (shape_of h r) (number t))) (Holds (number t + 1)) (stands h k keeps) (λ driver.
       let allowed = shape_allowed h is r driver in
-      let ring : RingKeeps (shape_of h r) k.memory (k.ring r) = (keeps r driver).rules in
+      let ring : RingKeeps (shape_of h r) k.memory (k.ring r) = keeps r driver in
       let within = ceiling_within (shape_of h r) allowed k.memory (k.ring r) ring in
       record {
         rules = reaches_and_holds_keeps (shape_of h r) allowed k.memory (k.ring r) ring (after (shape_of h r) (number t))
             (after_reached (shape_of h r) (k.ring r) (number t) (omega (arith, ahead driver)) (omega (arith, within.1, below)))
             (number t + 1) (omega (arith, number-after (shape_of h r) (number t))) (omega (arith, within.1, below)) (λ p free low. omega arith);
-        restored = (keeps r driver).restored;
+        passes = passes_at (shape_of h r) (k.ring r) (changed (shape_of h r) (changed (shape_of h r) (k.ring r) (Reaches (after (shape_of h r) (number t)))) (Holds (number t + 1))) (number t + 1) refl refl
+            (λ p free low. omega (arith, low, below));
       }))
 
   -- it was stopped at the spot
-  stopped_keeps : (s i r : ℕ) (t : Spot) → (IsDriverRing h r → IsAhead (shape_of h r) (k.ring r) t) → is_stop_spot (shape_of h r) (k.ring r) t ≡ true →
-      RingsKeep h (stopped_at h k s i r t)
+  stopped_keeps : (s i r : ℕ) (t : Spot) → (IsDriverRing h r → IsAhead (shape_of h r) (k.ring r) t) → is_stop_spot (shape_of h r) (k.ring r) t ≡ true → (k.ring r).held ≡ None →
+      RingsKept h k (stopped_at h k s i r t)
   unfolding stopped_at
-  stopped_keeps s i r t ahead stop =
-      same_keeps h (on_ring h (on_ring h k r (Holds (stopped_number (shape_of h r) (k.ring r) t))) r (Reaches t)) (stopped_at h k s i r t) refl refl
-      (on_ring_twice_keeps h k r (Holds (stopped_number (shape_of h r) (k.ring r) t)) (Reaches t) keeps (λ driver.
+  stopped_keeps s i r t ahead stop opened =
+      same_keeps h k (on_ring h (on_ring h k r (Holds (stopped_number (shape_of h r) (k.ring r) t))) r (Reaches t)) (stopped_at h k s i r t) refl refl
+      (on_ring_twice_keeps h k k r (Holds (stopped_number (shape_of h r) (k.ring r) t)) (Reaches t) (stands h k keeps) (λ driver.
       let at : IsAhead (shape_of h r) (k.ring r) t = ahead driver in
       let bounds = stopped_within (shape_of h r) (k.ring r) t stop in
+      let restored : IsRestored (k.ring r) = (keeps r driver).open_restored opened in
       record {
-        rules = holds_and_reaches_keeps (shape_of h r) (shape_allowed h is r driver) k.memory (k.ring r) (keeps r driver).rules t
+        rules = holds_and_reaches_keeps (shape_of h r) (shape_allowed h is r driver) k.memory (k.ring r) (keeps r driver) t
             (stop_spot_reached (shape_of h r) (k.ring r) t at.is_spot at.from stop) (stopped_number (shape_of h r) (k.ring r) t) bounds.0 bounds.1
-            (shown_where_restored (shape_of h r) (k.ring r) (keeps r driver).restored (stopped_number (shape_of h r) (k.ring r) t));
-        restored = (keeps r driver).restored;
+            (shown_where_restored (shape_of h r) (k.ring r) restored (stopped_number (shape_of h r) (k.ring r) t));
+        passes = passes_restored (shape_of h r) (k.ring r) (changed (shape_of h r) (changed (shape_of h r) (k.ring r) (Holds (stopped_number (shape_of h r) (k.ring r) t))) (Reaches t)) restored;
       }))
 
-  transferred_keeps : (c s i r : ℕ) (t : Spot) → (IsDriverRing h r → IsAhead (shape_of h r) (k.ring r) t) → can_report h k c s i r t ≡ true → RingsKeep h (transferred h k c s i r t)
+  working_open : (s i r : ℕ) → is_working k s i r ≡ true → (k.ring r).held ≡ None
+  unfolding is_working
+  working_open s i r works = open_held (k.ring r) (and_parts (is_running (k.endpoint_state s i)) (is_open (k.ring r)) works).1
+
+  transferred_keeps : (c s i r : ℕ) (t : Spot) → (IsDriverRing h r → IsAhead (shape_of h r) (k.ring r) t) → can_report h k c s i r t ≡ true → RingsKept h k (transferred h k c s i r t)
   unfolding transferred can_report
   transferred_keeps c s i r t ahead can =
       let below : Bool = is_data_below (ceiling (shape_of h r) (k.ring r)) t in
@@ -84,30 +92,31 @@ module _ (h : Header) (is : IsHeader h) (k : Known) (keeps : RingsKeep h k) wher
       let fails : Known = broken_off h k s i r t Error in
       let stopped : Known = if is_stopping c then stopped_at h k s i r t else k in
       let from : IsDriverRing h r → floor_number (k.ring r) ≤ number t = λ driver. (ahead driver).from in
-      cond_both (is_success c) (passed h k r t) (if is_halting c then halts else if is_trb_error c then fails else stopped) (RingsKeep h)
+      cond_both (is_success c) (passed h k r t) (if is_halting c then halts else if is_trb_error c then fails else stopped) (RingsKept h k)
       (λ success. passed_keeps r t from (below_is (ceiling (shape_of h r) (k.ring r)) t (cases.0 success)))
-      (λ other. cond_both (is_halting c) halts (if is_trb_error c then fails else stopped) (RingsKeep h)
+      (λ other. cond_both (is_halting c) halts (if is_trb_error c then fails else stopped) (RingsKept h k)
       (λ halting.
       let given = (and_parts below (is_working k s i r) (cases.1 other (or_left (is_halting c) (is_trb_error c) halting))).0 in
-      same_keeps h (broken_off h k s i r t Halted) halts refl refl (broken_keeps s i r t Halted from (below_is (ceiling (shape_of h r) (k.ring r)) t given)))
-      (λ not_halting. cond_both (is_trb_error c) fails stopped (RingsKeep h)
+      same_keeps h k (broken_off h k s i r t Halted) halts refl refl (broken_keeps s i r t Halted from (below_is (ceiling (shape_of h r) (k.ring r)) t given)))
+      (λ not_halting. cond_both (is_trb_error c) fails stopped (RingsKept h k)
       (λ error.
       let given = (and_parts below (is_working k s i r) (cases.1 other (or_right (is_halting c) (is_trb_error c) error))).0 in
       broken_keeps s i r t Error from (below_is (ceiling (shape_of h r) (k.ring r)) t given))
       (λ not_error.
-      let given = (and_parts (is_working k s i r && is_stopping_now h k s i) (is_stop_spot (shape_of h r) (k.ring r) t)
-      (cases.2 other (or_from (is_halting c) (is_trb_error c) not_halting not_error))).1 in
-      cond_both (is_stopping c) (stopped_at h k s i r t) k (RingsKeep h) (λ _. stopped_keeps s i r t ahead given) (λ _. keeps))))
+      let given = and_parts (is_working k s i r && is_stopping_now h k s i) (is_stop_spot (shape_of h r) (k.ring r) t)
+      (cases.2 other (or_from (is_halting c) (is_trb_error c) not_halting not_error)) in
+      cond_both (is_stopping c) (stopped_at h k s i r t) k (RingsKept h k)
+      (λ _. stopped_keeps s i r t ahead given.1 (working_open s i r (and_parts (is_working k s i r) (is_stopping_now h k s i) given.0).0)) (λ _. stands h k keeps))))
 
-  reported_keeps : (b : Block) (o : Option RingSpot) → event_at h k b ≡ o → can_report_at h k b o ≡ true → RingsKeep h (transferred_at h k b o)
+  reported_keeps : (b : Block) (o : Option RingSpot) → event_at h k b ≡ o → can_report_at h k b o ≡ true → RingsKept h k (transferred_at h k b o)
   unfolding transferred_at can_report_at event_at
   reported_keeps b None found can = absurd (false≢true can)
   reported_keeps b (Some at) found can =
       transferred_keeps (code b) (slot b) (endpoint b) at.ring at.spot
-      (λ driver. named_ahead (shape_of h at.ring) k.memory (k.ring at.ring) (keeps at.ring driver).rules (pointer b) at.spot
+      (λ driver. named_ahead (shape_of h at.ring) k.memory (k.ring at.ring) (keeps at.ring driver) (pointer b) at.spot
       (spot_is h k (pointer b) (k.ring_of (slot b) (endpoint b)) at found)) can
 
-  pub transfer_keeps : (b : Block) → is_impossible_transfer h k b ≡ false → is_in_profile b ≡ true → RingsKeep h (transfer_read h k b)
+  pub transfer_keeps : (b : Block) → is_impossible_transfer h k b ≡ false → is_in_profile b ≡ true → RingsKept h k (transfer_read h k b)
   unfolding transfer_read is_impossible_transfer
   transfer_keeps b possible inside =
       elim (and_cases (is_in_profile b) (is_off (k.endpoint_state (slot b) (endpoint b)) || not (can_report_at h k b (event_at h k b))) possible) [

@@ -54,10 +54,11 @@ pub use Rattle.safety.specs.Headline.{Headline, IsHarmless}
 pub use Rattle.safety.specs.Invariant.{ArePossible, Ended, Runs, all_read}
 pub use Rattle.safety.specs.Keeps.{CommandKeeps, CommandRingKeeps, CommandRingNamed, DeviceKeeps, DriverKeeps, IsDriverRing, IsTransferRing, IsUnfinished, MovesIf, StatesKeep, Stays, StaysIf, Unstarted}
 pub use Rattle.safety.specs.KeptHistories.{AreDriverRows, IsDriverRow, MayRead, MayReadAll, StillReads, StillReadsAll}
-pub use Rattle.safety.specs.KeptStep.{CommandsKeep, DevicesKeep, KeptByRows}
+pub use Rattle.safety.specs.KeptStep.{CommandsKeep, DevicesKeep, KeptByRestoring, KeptByRows}
 pub use Rattle.safety.specs.Matches.{Agrees, BoundRing, CommandMatches, EndpointRing, FreeRing, IsUnchanged, Matches, Newest, NotStarted, RingMatches, RingState, TakenCommand, UnderWayMatches, Unreported, state_of}
 pub use Rattle.safety.specs.Placings.{AreFree, MayChange, MayChangeAll, MayFinish, MayPoint, MovesOn, StillHolds}
-pub use Rattle.safety.specs.RingsKeep.{RingKept, RingsKeep}
+pub use Rattle.safety.specs.Restoring.{AreRestored, EndpointRestored, IsRestoring, KeepsPassed, MayCome, MovesRestored}
+pub use Rattle.safety.specs.RingsKeep.{PassesNoMore, RingKept, RingsKeep, RingsKept}
 pub use Rattle.safety.specs.Stands.{EventsStand, Stands, touches_events}
 pub use Rattle.segments.proofs.Crossings.{crossed_link, crosses, cycle_of-crossed, is_crossing-lap, link_address-lap, link_address_is, link_target-crossed}
 pub use Rattle.segments.proofs.DataPlaces.{link_aligned, link_ends}
@@ -86,10 +87,10 @@ unfoldable pub use Rattle.segments.specs.Ceiling.{ceiling, given_count, is_data_
 pub use Rattle.segments.specs.Descriptors.{DeclaredBlock}
 unfoldable pub use Rattle.segments.specs.Descriptors.{declared_at, is_border, length_from}
 pub use Rattle.segments.specs.Givings.{same}
-unfoldable pub use Rattle.segments.specs.Givings.{descriptor_length, has_no_room, interrupts, is_declared_as, is_not_declared, is_not_whole, is_other_than_declared, is_wrong_link, leads_wrong}
+unfoldable pub use Rattle.segments.specs.Givings.{descriptor_length, flips_passed, unrestored, has_no_room, interrupts, is_declared_as, is_not_declared, is_not_whole, is_other_than_declared, is_wrong_link, leads_wrong}
 unfoldable pub use Rattle.segments.specs.Moves.{is_move, is_placement, is_reached, is_target, may_move_to, spots_between, target}
 pub use Rattle.segments.specs.Places.{address_of, cycle_of, data_places, is_crossing, is_in, is_inside, link_address, link_crossed, link_target, overlap, place_count, segment_has, toggles}
-pub use Rattle.segments.specs.RingKeeps.{IsRestored, MayDeclare, MayReach, MayWrite, RingKeeps}
+pub use Rattle.segments.specs.RingKeeps.{IsRestored, IsShownTo, MayDeclare, MayReach, MayWrite, RingKeeps}
 pub use Rattle.segments.specs.RingView.{is_handed_over, Declares, Holds, Opens, Reaches, RingChange, RingView, Writes, changed, declared, floor_number, gives, gives_crossing, is_crossing_due, is_due}
 unfoldable pub use Rattle.segments.specs.RingView.{crossings_given, due_crossings, due_positions, leased_crossings, leased_positions, positions_given}
 pub use Rattle.segments.specs.Shape.{IsShape, is_shape}

@@ -1,6 +1,6 @@
 -- Behind an event that may be read a write gives the same command as before it, and breaks no rule that speaks of no command
 use Rattle.std.proofs.Common.{◌≡◌, ◌+◌, ◌<◌, ◌&&◌, ◌∷◌, ◌++◌, ◌∙◌, ℕ, not, Bool, true, false, List, [], length, map, slice_get, nat_le, None, option_and_then, arith, refl, sym, ap, subst, inl, inr, ◌||◌, ◌==◌, eq-eqb}
-use Rattle.safety.proofs.Words.{list_any, range_with_len, fun_ext, not-true, cases_Bool, cond-false, false≢true, false_from_ne_true, and_parts, and_from, or_parts, or_from, put, Block, block_at, Shape, place_count, address_of, cycle_of, RingView, floor_number, gives, gives_crossing, due_positions, due_crossings, positions_given, crossings_given, length_from, is_declared_as, is_other_than_declared, is_not_declared, descriptor_length, is_not_whole, leads_wrong, interrupts, gives_is, gives_crossing_is, positions_given-one, whole_more, Command, Header, Write, Read, IsHeader, shape_of, command_id, driver_rings, Known, Given, Position, Crossing, given_of, given_by, command_at, command_given, learned, Test, broken_of, AfterStop, lenient_tests, lenient, on_position, on_crossing, holds_of, some_given, some_crossed, some_command, write_tests, is_leased, awaits_binding, is_being_moved, or_cases, or_left, or_right, IsIn, some_of, any_of, in_filter, from_filter, DriverKeeps, and_left, and_right, is_the_controllers, changes_owned}
+use Rattle.safety.proofs.Words.{MayCome, list_any, range_with_len, fun_ext, not-true, cases_Bool, cond-false, false≢true, false_from_ne_true, and_parts, and_from, or_parts, or_from, put, Block, block_at, Shape, place_count, address_of, cycle_of, RingView, floor_number, gives, gives_crossing, due_positions, due_crossings, positions_given, crossings_given, length_from, is_declared_as, is_other_than_declared, is_not_declared, descriptor_length, is_not_whole, leads_wrong, interrupts, gives_is, gives_crossing_is, positions_given-one, whole_more, Command, Header, Write, Read, IsHeader, shape_of, command_id, driver_rings, Known, Given, Position, Crossing, given_of, given_by, command_at, command_given, learned, Test, broken_of, AfterStop, lenient_tests, lenient, on_position, on_crossing, holds_of, some_given, some_crossed, some_command, write_tests, is_leased, awaits_binding, is_being_moved, or_cases, or_left, or_right, IsIn, some_of, any_of, in_filter, from_filter, DriverKeeps, and_left, and_right, is_the_controllers, changes_owned}
 use Rattle.safety.proofs.TestsPassed.{AllFail, clean_tests, tests_fail}
 use Rattle.safety.proofs.KeptWords.{KeepsCycles}
 use Rattle.safety.proofs.Writing.{free_or_same, keeps_cycles, not_the_controllers}
@@ -92,7 +92,7 @@ fewer_pass s t xs ys each fewer none =
     false_from_ne_true (list_any s ys) (λ some. let found = some_of s ys some in
     false≢true (sym none ∙ any_of t xs found.0 (fewer found.0 found.1) (each found.0 found.2)))
 
-module _ (h : Header) (is : IsHeader h) (k : Known) (d : DriverKeeps h k) (a w : ℕ) (e : Block) (clean : lenient h k (Write a w) ≡ [])
+module _ (h : Header) (is : IsHeader h) (k : Known) (d : DriverKeeps h k) (a w : ℕ) (e : Block) (clean : MayCome h k (Write a w))
     (may : lenient h k (Read e) ≡ []) where
   abbrev l : Known
   l = learned h k (Read e)
@@ -110,7 +110,7 @@ module _ (h : Header) (is : IsHeader h) (k : Known) (d : DriverKeeps h k) (a w :
       (λ r there here. elim (b.rings r.id) [
         | inl same ↦ subst (λ (v : RingView). IsIn g (map (Position r.id) (positions_given (shape_of h r.id) v a w) ++ map (Crossing r.id) (crossings_given (shape_of h r.id) v a w))) same here
         | inr on ↦
-            let writes = keeps_cycles h is k a w clean r.id on.0 on.1.before on.1.restored in
+            let writes = keeps_cycles h is k a w clean r.id on.0 on.1.before in
             both_fewer g (map (Position r.id) (positions_given (shape_of h r.id) (l.ring r.id) a w)) (map (Crossing r.id) (crossings_given (shape_of h r.id) (l.ring r.id) a w))
             (map (Position r.id) (positions_given (shape_of h r.id) (k.ring r.id) a w)) (map (Crossing r.id) (crossings_given (shape_of h r.id) (k.ring r.id) a w))
             (map_fewer (Position r.id) (positions_given (shape_of h r.id) (l.ring r.id) a w) (positions_given (shape_of h r.id) (k.ring r.id) a w) g
@@ -178,11 +178,11 @@ module _ (h : Header) (is : IsHeader h) (k : Known) (d : DriverKeeps h k) (a w :
 
   fails : AllFail (write_tests h k a w)
   unfolding lenient_tests
-  fails = tests_fail h k (Write a w) clean
+  fails = tests_fail h k (Write a w) clean.0
 
   still_same : (is_leased h l a && not (l.memory a == w)) ≡ false
   still_same =
-      elim (free_or_same h k a w clean) [
+      elim (free_or_same h k a w clean.0) [
         | inl free ↦ and_left (is_leased h l a) (not (l.memory a == w)) (still_free h is k l b a free)
         | inr same ↦ and_right (is_leased h l a) (not (l.memory a == w)) (ap not (eq-eqb (l.memory a) w (ap (λ m. m a) memory_same ∙ same)))
       ]
@@ -190,7 +190,7 @@ module _ (h : Header) (is : IsHeader h) (k : Known) (d : DriverKeeps h k) (a w :
   still_unowned : changes_owned h l a w ≡ false
   unfolding changes_owned
   still_unowned =
-      or_from (is_the_controllers h l a) (is_leased h l a && not (l.memory a == w)) (not_the_controllers_behind h is k l b a (not_the_controllers h k a w clean)) still_same
+      or_from (is_the_controllers h l a) (is_leased h l a && not (l.memory a == w)) (not_the_controllers_behind h is k l b a (not_the_controllers h k a w clean.0)) still_same
 
   pub rules_behind : RingRules l
   unfolding write_tests
@@ -219,7 +219,7 @@ module _ (h : Header) (is : IsHeader h) (k : Known) (d : DriverKeeps h k) (a w :
       elim (b.rings (command_id h)) [
         | inl same ↦ ap (λ (v : RingView). positions_given (shape_of h (command_id h)) v a w) same
         | inr on ↦
-            positions_same (shape_of h (command_id h)) k.memory (k.ring (command_id h)) (l.ring (command_id h)) on.1 a w (keeps_cycles h is k a w clean (command_id h) on.0 on.1.before on.1.restored)
+            positions_same (shape_of h (command_id h)) k.memory (k.ring (command_id h)) (l.ring (command_id h)) on.1 a w (keeps_cycles h is k a w clean (command_id h) on.0 on.1.before)
       ]
 
   pub command_behind : command_given h l a w ≡ command_given h k a w
@@ -239,7 +239,7 @@ module _ (h : Header) (is : IsHeader h) (k : Known) (d : DriverKeeps h k) (a w :
     unfolding lenient lenient_tests write_tests
     write_behind =
         let rules : RingRules l = rules_behind in
-        let stopped : l.stopped ≡ false = b.driver.stopped ∙ (clean_tests h k (Write a w) clean).0 in
+        let stopped : l.stopped ≡ false = b.driver.stopped ∙ (clean_tests h k (Write a w) clean.0).0 in
         cond-false l.stopped (AfterStop ∷ []) (broken_of (write_tests h l a w)) stopped
         ∙ broken_none (write_tests h l a w) (
           rules.unowned,

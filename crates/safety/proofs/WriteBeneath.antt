@@ -1,6 +1,6 @@
 -- A write that gives no command and an event that isn't read yet may change places
 use Rattle.std.proofs.Common.{◌≡◌, ◌==◌, ◌&&◌, ◌∙◌, ℕ, not, Bool, [], None, refl, sym, ap, subst, inl, inr}
-use Rattle.safety.proofs.Words.{fun_ext, put, Block, RingView, Writes, changed, Header, Write, Read, IsHeader, shape_of, Known, with_word, command_given, learned, lenient, DriverKeeps, HeldMore, Square}
+use Rattle.safety.proofs.Words.{MayCome, none-some, fun_ext, put, Block, RingView, Writes, changed, Header, Write, Read, IsHeader, shape_of, Known, with_word, command_given, learned, lenient, DriverKeeps, HeldMore, Square}
 use Rattle.safety.proofs.CleanRows.{event_facts}
 use Rattle.safety.proofs.Writing.{keeps_cycles}
 use Rattle.safety.proofs.SameDriver.{SameGiven, SameDriver, both_drivers}
@@ -10,9 +10,9 @@ use Rattle.safety.proofs.GivingBeneath.{given_same, crossed_same}
 use Rattle.safety.proofs.LeasesBehind.{Behind}
 use Rattle.safety.proofs.WriteEvents.{written_word, word_read}
 use Rattle.safety.proofs.WriteBehind.{command_behind, write_behind}
-use Rattle.safety.proofs.EventBehind.{event_behind}
+use Rattle.safety.proofs.EventBehind.{event_behind, passed_behind}
 
-module _ (h : Header) (is : IsHeader h) (k : Known) (d : DriverKeeps h k) (a w : ℕ) (e : Block) (clean : lenient h k (Write a w) ≡ [])
+module _ (h : Header) (is : IsHeader h) (k : Known) (d : DriverKeeps h k) (a w : ℕ) (e : Block) (clean : MayCome h k (Write a w))
     (may : lenient h k (Read e) ≡ []) where
   -- behind the event, then the word; the word, then behind the event
   abbrev l : Known
@@ -31,7 +31,7 @@ module _ (h : Header) (is : IsHeader h) (k : Known) (d : DriverKeeps h k) (a w :
   b = event_behind h is k d e may
 
   read : ReadAlike h EverySlot k m e
-  read = word_read h k a w is d clean (event_facts h k e may).started e may
+  read = word_read h k a w is d clean.0 (event_facts h k e may).started e may
 
   ring_given : (r : ℕ) → SameGiven (changed (shape_of h r) (l.ring r) (Writes a w)) (changed (shape_of h r) (k.ring r) (Writes a w))
   ring_given r =
@@ -39,7 +39,7 @@ module _ (h : Header) (is : IsHeader h) (k : Known) (d : DriverKeeps h k) (a w :
         | inl same ↦ subst (λ (v : RingView). SameGiven (changed (shape_of h r) v (Writes a w)) (changed (shape_of h r) (k.ring r) (Writes a w))) (sym same)
             (record { queue = refl; lengths = refl; given = refl; crossed = refl; withdrawn = refl; free = refl })
         | inr on ↦
-            let writes = keeps_cycles h is k a w clean r on.0 on.1.before on.1.restored in
+            let writes = keeps_cycles h is k a w clean r on.0 on.1.before in
             record {
               queue = sym (b.driver.rings r).queue;
               lengths = sym (b.driver.rings r).lengths;
@@ -82,7 +82,7 @@ module _ (h : Header) (is : IsHeader h) (k : Known) (d : DriverKeeps h k) (a w :
   word_after =
       held_more behind beneath (both_drivers behind (counted h m) beneath word_driver (read_same h m e)) states (λ r. (read.after.rings r).floor) (λ r. (read.after.rings r).held)
 
-module _ (h : Header) (is : IsHeader h) (k : Known) (d : DriverKeeps h k) (a w : ℕ) (e : Block) (clean : lenient h k (Write a w) ≡ []) (none : command_given h k a w ≡ None)
+module _ (h : Header) (is : IsHeader h) (k : Known) (d : DriverKeeps h k) (a w : ℕ) (e : Block) (clean : MayCome h k (Write a w)) (none : command_given h k a w ≡ None)
     (may : lenient h k (Read e) ≡ []) where
   pub write_square : Square h k (Write a w) e
   write_square =
@@ -93,7 +93,7 @@ module _ (h : Header) (is : IsHeader h) (k : Known) (d : DriverKeeps h k) (a w :
       let also : learned h l (Write a w) ≡ behind = written_word h l a w (command_behind h is k d a w e clean may ∙ none) in
       record {
         event = subst (λ x. lenient h x (Read e) ≡ []) (sym then) (read h is k d a w e clean may).possible;
-        row = write_behind h is k d a w e clean may none;
+        row = (write_behind h is k d a w e clean may none, (passed_behind h is k d e may a w clean.1.0, λ c given. absurd (none-some c (sym (command_behind h is k d a w e clean may ∙ none) ∙ given))));
         after = subst (λ x. HeldMore x (learned h (learned h k (Write a w)) (Read e))) (sym also)
             (subst (λ x. HeldMore behind (learned h x (Read e))) (sym then) (word_after h is k d a w e clean may));
         awake = refl;

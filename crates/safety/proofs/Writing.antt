@@ -1,6 +1,6 @@
 -- A write that breaks no rule is one that each ring allows
 use Rattle.std.proofs.Common.{◌≡◌, ◌++◌, ◌∙◌, ℕ, Bool, false, List, [], map, All, sym, ap, subst, ◌&&◌, ◌==◌, ◌⊎◌, not, inl, inr, eqb-true}
-use Rattle.safety.proofs.Words.{IsRestored, no_flips, list_any, flat_map, or_parts, list_any-append, address_of, link_address, overlap, positions_given, crossings_given, leased_positions, leased_crossings, is_other_than_declared, is_not_declared, is_not_whole, leads_wrong, MayWrite, Header, Write, shape_of, driver_rings, Known, Given, Position, Crossing, given_of, given_by, covers, lease_start, lease_bytes, open_on, open_ranges, open_leases, is_leased, on_position, on_crossing, some_given, some_crossed, write_tests, lenient_tests, lenient, and_cases, not-false, is_the_controllers, changes_owned, IsHeader, RingKeeps}
+use Rattle.safety.proofs.Words.{MayCome, list_any, flat_map, or_parts, list_any-append, address_of, link_address, overlap, positions_given, crossings_given, leased_positions, leased_crossings, is_other_than_declared, is_not_declared, is_not_whole, leads_wrong, MayWrite, Header, Write, shape_of, driver_rings, Known, Given, Position, Crossing, given_of, given_by, covers, lease_start, lease_bytes, open_on, open_ranges, open_leases, is_leased, on_position, on_crossing, some_given, some_crossed, write_tests, lenient_tests, lenient, and_cases, not-false, is_the_controllers, changes_owned, IsHeader, RingKeeps}
 use Rattle.ownership_rules.specs.OpenLeases.{Block, Link}
 use Rattle.safety.specs.RingsKeep.{IsDriverRing}
 use Rattle.safety.proofs.TestsPassed.{AllFail, tests_fail, each_fails, any_of_map}
@@ -84,12 +84,11 @@ module _ (h : Header) (k : Known) (a w : ℕ) (clean : lenient h k (Write a w) �
       ]
 
 -- of each command and transfer ring
-pub may_write : (h : Header) (k : Known) (a w : ℕ) → lenient h k (Write a w) ≡ [] → is_leased h k a ≡ false → (r : ℕ) → IsDriverRing h r → IsRestored (k.ring r) →
-    MayWrite (shape_of h r) k.memory (k.ring r) a w
+pub may_write : (h : Header) (k : Known) (a w : ℕ) → MayCome h k (Write a w) → is_leased h k a ≡ false → (r : ℕ) → IsDriverRing h r → MayWrite (shape_of h r) k.memory (k.ring r) a w
 unfolding lenient_tests write_tests
-may_write h k a w clean free r driver restored =
+may_write h k a w may free r driver =
     let has = has_ring h r driver in
-    let fails : AllFail (write_tests h k a w) = tests_fail h k (Write a w) clean in
+    let fails : AllFail (write_tests h k a w) = tests_fail h k (Write a w) may.0 in
     record {
       blocks = blocks_free h k a w r has free;
       links = links_free h k a w r has free;
@@ -97,14 +96,14 @@ may_write h k a w clean free r driver restored =
       declared = none_given h k a w r has (λ r p. is_not_declared (k.ring r) p) fails.1.1.0;
       whole = none_given h k a w r has (λ r p. is_not_whole (shape_of h r) (k.ring r) p) fails.1.1.1.0;
       leads = none_crossed h k a w r has (λ r q. leads_wrong (shape_of h r) k.memory a w q) fails.1.1.1.1.0;
-      flips = no_flips (shape_of h r) (k.ring r) a w restored;
+      flips = may.1.0 r driver;
     }
 
 -- each given block and Link keeps the Cycle bit that it shows
-pub keeps_cycles : (h : Header) → IsHeader h → (k : Known) (a w : ℕ) → lenient h k (Write a w) ≡ [] → (r : ℕ) → IsDriverRing h r → RingKeeps (shape_of h r) k.memory (k.ring r) → IsRestored (k.ring r) →
+pub keeps_cycles : (h : Header) → IsHeader h → (k : Known) (a w : ℕ) → MayCome h k (Write a w) → (r : ℕ) → IsDriverRing h r → RingKeeps (shape_of h r) k.memory (k.ring r) →
     KeepsCycles (shape_of h r) (k.ring r) a w
-keeps_cycles h is k a w clean r driver keeps restored =
-    elim (free_or_same h k a w clean) [
-      | inl free ↦ free_keeps_cycles (shape_of h r) k.memory (k.ring r) a w (may_write h k a w clean free r driver restored) restored
-      | inr same ↦ same_keeps_cycles (shape_of h r) k.memory (k.ring r) keeps a w same (shape_allowed h is r driver) restored
+keeps_cycles h is k a w may r driver keeps =
+    elim (free_or_same h k a w may.0) [
+      | inl free ↦ free_keeps_cycles (shape_of h r) k.memory (k.ring r) a w (may_write h k a w may free r driver)
+      | inr same ↦ same_keeps_cycles (shape_of h r) k.memory (k.ring r) keeps a w same (shape_allowed h is r driver)
     ]

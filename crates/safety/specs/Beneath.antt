@@ -13,6 +13,7 @@ use Rattle.ring_knowledge.specs.Known.{Known}
 use Rattle.ring_knowledge.specs.Learned.{learned}
 use Rattle.ownership_rules.specs.Rules.{lenient}
 use Rattle.ownership_rules.specs.Doorbells.{is_touched}
+use Rattle.safety.specs.Restoring.{MayCome}
 use Rattle.safety.specs.Keeps.{DriverKeeps}
 use Rattle.safety.specs.KeptHistories.{IsDriverRow}
 
@@ -58,13 +59,13 @@ module _ (h : Header) where
   -- the numbers at which rings are held; nor does the row become idle
   pub record Square (k : Known) (d : Row) (e : Block) : Type 0 where
     pub event : lenient h (learned h k d) (Read e) ≡ []
-    pub row : lenient h (learned h k (Read e)) d ≡ []
+    pub row : MayCome h (learned h k (Read e)) d
     pub after : HeldMore (learned h (learned h k (Read e)) d) (learned h (learned h k d) (Read e))
     pub awake : is_idle (learned h k (Read e)) d ≡ false
 
   -- any row but a stop and an idle doorbell
   abbrev pub SquareLaw : Type 0
-  SquareLaw = (k : Known) (d : Row) (e : Block) → IsHeader h → IsRow d → IsDriverRow d → DriverKeeps h k → lenient h k d ≡ [] → lenient h k (Read e) ≡ [] →
+  SquareLaw = (k : Known) (d : Row) (e : Block) → IsHeader h → IsRow d → IsDriverRow d → DriverKeeps h k → MayCome h k d → lenient h k (Read e) ≡ [] →
       is_idle k d ≡ false → (learned h k d).stopped ≡ false → Square k d e
 
   -- where rings are held at greater numbers, the same events are possible, and what they lead to is the same but for these numbers

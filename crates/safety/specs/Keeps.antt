@@ -25,6 +25,7 @@ use Rattle.ownership_rules.specs.Areas.{is_soiled}
 use Rattle.ownership_rules.specs.Commands as commands
 use Rattle.ownership_rules.specs.Moves as moves
 use Rattle.ownership_rules.specs.Events.{is_stopping_now}
+use Rattle.safety.specs.Restoring.{MovesRestored}
 
 module _ (h : Header) where
   -- r is the ID of a command or transfer ring
@@ -125,6 +126,8 @@ module _ (h : Header) where
     pub unshared : (r q : ℕ) (d : Command) → moves.binds_ring h k r c ≡ true → IsUnfinished k q d → q ≢ p → moves.binds_ring h k r d ≡ false
     pub moves_on : MovesIf k c
     pub stays : StaysIf k c
+    -- nothing is free of a ring that it moves
+    pub restored : MovesRestored k c
 
   -- what is known once the command ring's base is written
   pub record CommandRingNamed (value : ℕ) : Type 0 where
@@ -134,8 +137,8 @@ module _ (h : Header) where
 
   pub record DriverKeeps (k : Known) : Type 0 where
     pub rings : (r : ℕ) → IsDriverRing r → RingKeeps (shape_of h r) k.memory (k.ring r)
-    -- no row withdraws a descriptor, so that nothing is free
-    pub restored : (r : ℕ) → IsDriverRing r → IsRestored (k.ring r)
+    -- no command is withdrawn
+    pub commands_stay : IsRestored (k.ring (command_id h))
     -- no word of a ring is soiled
     pub clean : (r a : ℕ) → IsDriverRing r → a % 4 ≡ 0 → is_inside (shape_of h r) a ≡ true → k.soiled a ≡ false
     pub command_ring : CommandRingKeeps k

@@ -7,6 +7,7 @@ use Rattle.traces.specs.Header.{IsHeader}
 use Rattle.ring_knowledge.specs.Known.{Known}
 use Rattle.ring_knowledge.specs.Learned.{learned}
 use Rattle.ownership_rules.specs.Rules.{lenient}
+use Rattle.safety.specs.Restoring.{MayCome}
 use Rattle.safety.specs.Keeps.{DeviceKeeps, IsUnfinished, CommandKeeps, DriverKeeps}
 
 module _ (h : Header) where
@@ -21,3 +22,8 @@ module _ (h : Header) where
   abbrev pub KeptByRows : (Known → Type 0) → Type 0
   KeptByRows Part =
       IsHeader h → (k : Known) (row : Row) → DriverKeeps h k → lenient h k row ≡ [] → (learned h k row).stopped ≡ false → Part (learned h k row)
+
+  -- and restores what it has to
+  abbrev pub KeptByRestoring : (Known → Type 0) → Type 0
+  KeptByRestoring Part =
+      IsHeader h → (k : Known) (row : Row) → DriverKeeps h k → MayCome h k row → (learned h k row).stopped ≡ false → Part (learned h k row)

@@ -1,4 +1,5 @@
 pub mod RingsKeep
+pub mod Restoring
 pub mod EndpointsKeep
 pub mod Placings
 pub mod KeptHistories

@@ -3,7 +3,9 @@ use Rattle.std.specs.Prelude.{◌≡◌, ℕ, ◌||◌, Bool, true, false, List,
 use Rattle.trb.specs.declared.block.Block.{Block}
 use Rattle.trb.specs.Block.{code, slot}
 use Rattle.segments.specs.declared.spot.Spot.{Spot}
+use Rattle.segments.specs.Spots.{number}
 use Rattle.segments.specs.RingView.{floor_number}
+use Rattle.segments.specs.RingKeeps.{IsShownTo}
 use Rattle.segments.specs.Moves.{target, is_reached, is_move}
 use Rattle.commands.specs.declared.command.Command.{Command}
 use Rattle.commands.specs.declared.command.Command.TheVariants.{AddressDevice, ConfigureEndpoint, SetTrDequeue}
@@ -15,6 +17,7 @@ use Rattle.traces.specs.Header.{shape_of, ring_having}
 use Rattle.ring_knowledge.specs.Known.{Known}
 use Rattle.ring_knowledge.specs.Rings.{command_at, next_command}
 use Rattle.ring_knowledge.specs.Completions.{changed_by}
+use Rattle.safety.specs.Restoring.{MovesRestored}
 use Rattle.ownership_rules.specs.Moves.{drops, has_repeats, binds, ring_bound, binds_ring, is_placed, is_bad_move}
 
 module _ (h : Header) where
@@ -24,6 +27,11 @@ module _ (h : Header) where
         is_reached (shape_of h r) (k.ring r) t ≡ true
     pub moves : is_off (k.endpoint_state s i) ≡ false → (r : ℕ) (t : Spot) → k.ring_of s i ≡ Some r → target (shape_of h r) (k.ring r) p cycle ≡ Some t →
         is_reached (shape_of h r) (k.ring r) t ≡ true
+    -- what is free of it shows its cycle up to there
+    pub bound_shown : is_off (k.endpoint_state s i) ≡ true → (r : ℕ) (t : Spot) → ring_having h p ≡ Some r → target (shape_of h r) (k.ring r) p cycle ≡ Some t →
+        IsShownTo (shape_of h r) (k.ring r) (number t)
+    pub moved_shown : is_off (k.endpoint_state s i) ≡ false → (r : ℕ) (t : Spot) → k.ring_of s i ≡ Some r → target (shape_of h r) (k.ring r) p cycle ≡ Some t →
+        IsShownTo (shape_of h r) (k.ring r) (number t)
 
   abbrev pub MayChange : Known → Change → Type 0
   MayChange k (Places s i p cycle state) = MayPoint k s i p cycle
@@ -63,3 +71,4 @@ module _ (h : Header) where
     pub unkept : (r s i : ℕ) → binds_ring h k r c ≡ true → k.ring_of s i ≡ Some r → drops k c s i ≡ true
     pub free : AreFree k c
     pub moves_on : MovesOn k c
+    pub restored : MovesRestored k c

@@ -1,17 +1,10 @@
-use Rattle.std.proofs.Common.{ap, sym, ◌∙◌}
-use Rattle.std.specs.Prelude.{not}
 use Rattle.row_checks.proofs.Keeping.{set_up}
+use Rattle.row_checks.proofs.EventRows.{on_true}
 use Rattle.row_checks.proofs.events.note_completion.Goals as goal
 
-pub returns-then-is_impossible_completion-clause-possible : goal.returns-then-is_impossible_completion-clause-possible
-returns-then-is_impossible_completion-clause-possible g c = λ k f keeps on.
-    let m = g.M.WordMemory.words c.args.memory.now in
-    sym (ap not (sym (c.is_impossible_completion.ensures k m f (set_up c.args.header.now c.requires.headed k keeps) on) ∙ c.if-is_impossible_completion.true))
-
 pub returns-clause-possible : goal.returns-clause-possible
-returns-clause-possible g c = λ k f keeps on.
-    let m = g.M.WordMemory.words c.args.memory.now in
-    sym (ap not (sym (c.is_impossible_completion.ensures k m f (set_up c.args.header.now c.requires.headed k keeps) on) ∙ c.if-is_impossible_completion.false))
+returns-clause-possible g c = λ k f keeps on. c.read_completion.ensures.possible k f (set_up c.args.header.now c.requires.headed k keeps) on
 
 pub returns-clause-followed : goal.returns-clause-followed
-returns-clause-followed g c = λ k f keeps may. c.finish.ensures.followed k f keeps (set_up c.args.header.now c.requires.headed k keeps) may
+returns-clause-followed g c =
+    on_true c.read_completion.result _ _ (λ p k f keeps may. p k f keeps (set_up c.args.header.now c.requires.headed k keeps) may) c.read_completion.ensures.followed

@@ -1,7 +1,7 @@
 use Rattle.std.proofs.Common.{sym, ◌∙◌}
 use Rattle.row_checks.proofs.CleanHistories.{lenient_row}
 use Rattle.row_checks.proofs.Keeping.{contexts_fit}
-use Rattle.row_checks.proofs.row.check_word.Goals as goal
+use Rattle.row_checks.proofs.row.check_giving_word.Goals as goal
 
 pub returns-in_ok-note_write-in-Ok-clause-ok : goal.returns-in_ok-note_write-in-Ok-clause-ok
 returns-in_ok-note_write-in-Ok-clause-ok g c = λ k f keeps on placed leased.

@@ -1,0 +1,82 @@
+-- No row of a trace makes anything free: so nothing is free behind any history of rows, and each row restores what it has to
+use Rattle.std.proofs.Common.{◌≡◌, ◌==◌, ◌&&◌, ◌||◌, if◌then◌else◌, ◌∷◌, ◌∙◌, ℕ, not, true, List, [], Option, None, Some, option_and_then, refl, sym, ap}
+use Rattle.safety.proofs.Words.{cond_both, no_flips, Block, Declares, Opens, IsRestored, Header, Register, Erdp, Usbcmd, Row, Sub, Write, Reg, Bell, Read, IsHeader, shape_of, command_id, run_bit, reset_bit, kind, Known, nothing, on_ring, with_device, with_word, written, command_given, taken_device, run_or_stop, valued, register_written, endpoint_rung, rung, learned, known, lenient, MayCome, AreRestored, IsRestoring, EndpointsKeep}
+use Rattle.safety.proofs.RingIds.{transfer_driver}
+use Rattle.safety.proofs.EndpointHistories.{keeps_endpoints}
+use Rattle.safety.proofs.SameDriver.{view_after, on_ring_same, event_same}
+
+abbrev pub SameFree : Known → Known → Type 0
+SameFree k l = (r : ℕ) → (l.ring r).free ≡ (k.ring r).free
+
+module _ (h : Header) where
+  pub declared_free : (k : Known) (r : ℕ) (blocks : List Block) → SameFree k (on_ring h k r (Declares blocks))
+  declared_free k r blocks q = view_after h (λ v. v.free ≡ (k.ring q).free) k r (Declares blocks) q (λ same. ap (λ n. (k.ring n).free) (sym same)) (λ other. refl)
+
+  pub opened_free : (k : Known) (r : ℕ) → SameFree k (on_ring h k r Opens)
+  opened_free k r q = ((on_ring_same h k r Opens tt).rings q).free
+
+  device_free : (k : Known) (taken : Option (ℕ × ℕ)) → SameFree k (with_device h k taken)
+  unfolding with_device
+  device_free k None r = refl
+  device_free k (Some e) r = refl
+
+  word_free : (k : Known) (a w : ℕ) → SameFree k (with_word h k a w)
+  unfolding with_word
+  word_free k a w r = refl
+
+  written_free : (k : Known) (a w : ℕ) → SameFree k (written h k a w)
+  unfolding written
+  written_free k a w r = device_free (with_word h k a w) (option_and_then (taken_device k) (command_given h k a w)) r ∙ word_free k a w r
+
+  run_free : (k : Known) (x : ℕ) → SameFree k (run_or_stop k x)
+  unfolding run_or_stop
+  run_free k x =
+      let on : Known = record k { started = true } in
+      let off : Known = record k { stopped = true } in
+      cond_both (not k.started) (if run_bit x && not (reset_bit x) then on else k) (if not (run_bit x) || reset_bit x then off else k) (SameFree k)
+      (λ _. cond_both (run_bit x && not (reset_bit x)) on k (SameFree k) (λ _ r. refl) (λ _ r. refl))
+      (λ _. cond_both (not (run_bit x) || reset_bit x) off k (SameFree k) (λ _ r. refl) (λ _ r. refl))
+
+  register_free : (k : Known) (q : Register) (x : ℕ) → SameFree k (register_written h k q x)
+  unfolding register_written valued
+  register_free k Usbcmd x r = run_free (valued k Usbcmd x) x r
+  register_free k Erdp x r = refl
+  register_free k _ x r = refl
+
+  endpoint_free : (k : Known) (s t : ℕ) (o : Option ℕ) → SameFree k (endpoint_rung h k s t o)
+  unfolding endpoint_rung
+  endpoint_free k s t None r = refl
+  endpoint_free k s t (Some q) r = opened_free k q r
+
+  rung_free : (k : Known) (s t : ℕ) → SameFree k (rung h k s t)
+  unfolding rung
+  rung_free k s t =
+      cond_both (s == 0) (on_ring h k (command_id h) Opens) (endpoint_rung h k s t (k.ring_of s t)) (SameFree k)
+      (λ _. opened_free k (command_id h)) (λ _. endpoint_free k s t (k.ring_of s t))
+
+  -- what is free stays so, and nothing more is
+  pub free_same : (k : Known) (row : Row) → SameFree k (learned h k row)
+  unfolding learned
+  free_same k (Sub r blocks) = declared_free k r blocks
+  free_same k (Write a w) = written_free k a w
+  free_same k (Reg r x) = register_free k r x
+  free_same k (Bell s t) = rung_free k s t
+  free_same k (Read b) = λ r. ((event_same h k (kind b) b).rings r).free
+
+  pub nothing_free : (past : List Row) (r : ℕ) → IsRestored ((known h past).ring r)
+  unfolding known nothing
+  nothing_free [] r p = refl
+  nothing_free (row ∷ past) r p = ap (λ f. f p) (free_same (known h past) row r) ∙ nothing_free past r p
+
+  -- where nothing is free each row restores what it has to
+  pub restoring_where_restored : IsHeader h → (k : Known) (row : Row) → EndpointsKeep h k → AreRestored h k → IsRestoring h k row
+  restoring_where_restored is k (Sub r blocks) endpoints restored = tt
+  restoring_where_restored is k (Write a w) endpoints restored =
+      (λ r driver. no_flips (shape_of h r) (k.ring r) a w (restored r driver), λ c given s i p cycle at r has. restored r (transfer_driver h r (endpoints.transfer s i r has)))
+  restoring_where_restored is k (Reg r x) endpoints restored = tt
+  restoring_where_restored is k (Bell s t) endpoints restored = λ r has. restored r (transfer_driver h r (endpoints.transfer s t r has))
+  restoring_where_restored is k (Read b) endpoints restored = tt
+
+  -- so a row of a trace may come where it breaks no rule
+  pub may_come : IsHeader h → (past : List Row) (row : Row) → lenient h (known h past) row ≡ [] → MayCome h (known h past) row
+  may_come is past row clean = (clean, restoring_where_restored is (known h past) row (keeps_endpoints h is past) (λ r driver. nothing_free past r))
