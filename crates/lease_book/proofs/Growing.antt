@@ -1,5 +1,5 @@
 -- The leases of a trace are what was and is lent after its rows
-use Rattle.lease_book.proofs.Words.{◌≡◌, ◌+◌, ◌<◌, ◌≤◌, ◌==◌, ◌∷◌, ◌++◌, ◌∙◌, ℕ, Bool, true, false, not, List, [], length, map, reverse, arith, sym, ap, refl, inl, inr, cond, eqb-true, append-nil, reverse_aux, cases_Bool, nat_tests, Header, Row, Lease, Known, nothing, learned, known, Leased, Block, Link, Range, is_among, open_leases, as_lease, begun, comes_before, end_from, in_order, leases, leases_from, with_ends, with_lease, without_end, Lent, lease_of, is_unended, begun_at, precedes, with_leased, in_turn, ended_where, with_begun, grown, lents}
+use Rattle.lease_book.proofs.Words.{◌≡◌, ◌+◌, ◌<◌, ◌≤◌, ◌==◌, ◌∷◌, ◌++◌, ◌∙◌, ℕ, Bool, true, false, not, List, [], length, map, reverse, arith, sym, ap, refl, inl, inr, cond, eqb-true, append-nil, reverse_aux, cases_Bool, nat_tests, Header, Row, Lease, Known, nothing, learned, known, Leased, Block, Link, Range, is_among, open_leases, as_lease, begun, comes_before, end_from, in_order, leases, leases_from, with_ends, with_lease, without_end, Lent, lease_of, is_unended, begun_at, precedes, with_leased, in_turn, ended_where, with_begun, grown, lents, passed_on}
 
 -- when a lease begins and ends doesn't matter for its place
 placed_alike : (a b : Leased) (f e g d : ℕ) → comes_before (as_lease f e a) (as_lease g d b) ≡ precedes a b
@@ -88,7 +88,7 @@ module _ (h : Header) where
 
   grown_finally : (k : Known) (n : ℕ) (row : Row) (rows : List Row) (ts : List Lent) → n < without_end →
       map (finally k n (row ∷ rows)) ts ++ with_ends h (learned h k row) n (n + 1) rows (begun h k row) ≡ map (finally (learned h k row) (n + 1) rows) (grown h k row n ts)
-  unfolding grown with_begun
+  unfolding grown passed_on with_begun begun
   grown_finally k n row rows ts early =
       let k' : Known = learned h k row in
       ap (λ xs. xs ++ with_ends h k' n (n + 1) rows (begun h k row))

@@ -1,5 +1,5 @@
 -- What is open is lent and not over
-use Rattle.lease_book.proofs.Words.{◌≡◌, ◌+◌, ◌==◌, ◌&&◌, ◌||◌, ◌∷◌, ◌++◌, ◌∙◌, ℕ, Bool, true, false, not, List, [], length, map, filter, sym, ap, refl, inl, inr, cond, eq-eqb, list_any, cases_Bool, and_parts, and_from, false≢true, Header, Row, Known, nothing, learned, known, Leased, is_among, open_leases, same_leased, begun, without_end, IsIn, among_is, in_filter, leased_is, leased_itself, Lent, begun_at, ended_where, grown, in_turn, is_unended, lents, precedes, with_begun, with_leased, is_lent}
+use Rattle.lease_book.proofs.Words.{◌≡◌, ◌+◌, ◌==◌, ◌&&◌, ◌||◌, ◌∷◌, ◌++◌, ◌∙◌, ℕ, Bool, true, false, not, List, [], length, map, filter, sym, ap, refl, inl, inr, cond, eq-eqb, list_any, cases_Bool, and_parts, and_from, false≢true, Header, Row, Known, nothing, learned, known, Leased, is_among, open_leases, same_leased, without_end, IsIn, among_is, in_filter, leased_is, leased_itself, Lent, begun_at, ended_where, grown, in_turn, is_unended, lents, newly_open, passed_on, precedes, with_begun, with_leased, is_lent}
 
 to_with : (l : Leased) (ls : List Leased) (m : Leased) → IsIn m (l ∷ ls) → IsIn m (with_leased l ls)
 unfolding with_leased
@@ -64,20 +64,22 @@ still_lent over n (t ∷ ts) l stays e = elim (cases_Bool (is_unended t && same_
       or_second _ _ (still_lent over n ts l stays rest)
 ]
 
-module _ (h : Header) where
-  grown_lent : (k : Known) (row : Row) (n : ℕ) (ts : List Lent) (l : Leased) → is_among (open_leases h (learned h k row)) l ≡ true → (is_among (open_leases h k) l ≡ true → is_lent ts l ≡ true) → is_lent (grown h k row n ts) l ≡ true
-  unfolding grown with_begun begun
-  grown_lent k row n ts l after before =
-      let gone : Leased → Bool = λ m. not (is_among (open_leases h (learned h k row)) m) in
-      let new : List Leased = filter (λ m. not (is_among (open_leases h k) m)) (open_leases h (learned h k row)) in
-      elim (cases_Bool (is_among (open_leases h k) l)) [
-        | inl was ↦ lent_left (map (ended_where gone n) ts) (map (begun_at n) (in_turn new)) l (still_lent gone n ts l (ap not after) (before was))
-        | inr fresh ↦
-            lent_right (map (ended_where gone n) ts) (map (begun_at n) (in_turn new)) l
-            (lent_begun n (in_turn new) l (to_turn new l (in_filter (λ m. not (is_among (open_leases h k) m)) (open_leases h (learned h k row)) l (among_is (open_leases h (learned h k row)) l after) (ap not fresh))))
-      ]
+-- what is open behind a row is lent behind it, where what was open before it was
+pub passed_lent : (before after : List Leased) (n : ℕ) (ts : List Lent) (l : Leased) → is_among after l ≡ true → (is_among before l ≡ true → is_lent ts l ≡ true) → is_lent (passed_on before after n ts) l ≡ true
+unfolding passed_on with_begun
+passed_lent before after n ts l is_open was_lent =
+    let gone : Leased → Bool = λ m. not (is_among after m) in
+    let new : List Leased = newly_open before after in
+    elim (cases_Bool (is_among before l)) [
+      | inl was ↦ lent_left (map (ended_where gone n) ts) (map (begun_at n) (in_turn new)) l (still_lent gone n ts l (ap not is_open) (was_lent was))
+      | inr fresh ↦
+          lent_right (map (ended_where gone n) ts) (map (begun_at n) (in_turn new)) l
+          (lent_begun n (in_turn new) l (to_turn new l (in_filter (λ m. not (is_among before m)) after l (among_is after l is_open) (ap not fresh))))
+    ]
 
+module _ (h : Header) where
   pub open_lent : (first : ℕ) (past : List Row) (l : Leased) → is_among (open_leases h (known h past)) l ≡ true → is_lent (lents h first past) l ≡ true
-  unfolding lents known with_begun
+  unfolding lents known grown with_begun
   open_lent first [] l is_open = lent_begun 0 (in_turn (open_leases h nothing)) l (to_turn (open_leases h nothing) l (among_is (open_leases h nothing) l is_open))
-  open_lent first (row ∷ past) l is_open = grown_lent (known h past) row (first + length past) (lents h first past) l is_open (open_lent first past l)
+  open_lent first (row ∷ past) l is_open =
+      passed_lent (open_leases h (known h past)) (open_leases h (learned h (known h past) row)) (first + length past) (lents h first past) l is_open (open_lent first past l)

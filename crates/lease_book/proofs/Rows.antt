@@ -1,5 +1,5 @@
 -- What is lent after one more row, by which leases are open after it
-use Rattle.lease_book.proofs.Words.{◌≡◌, ◌+◌, ◌<◌, ◌≤◌, ◌==◌, ◌&&◌, ◌∷◌, ◌++◌, ◌∙◌, ℕ, Bool, true, false, not, List, [], length, map, filter, arith, sym, ap, refl, inl, inr, cond, append-nil, false≢true, and_parts, nat_tests, Header, Row, Known, nothing, learned, known, Leased, is_among, open_leases, begun, without_end, IsIn, from_filter, in_among, Lent, is_unended, begun_at, precedes, with_leased, in_turn, ended_where, with_begun, grown, lents, AllUnended}
+use Rattle.lease_book.proofs.Words.{◌≡◌, ◌+◌, ◌<◌, ◌≤◌, ◌==◌, ◌&&◌, ◌∷◌, ◌++◌, ◌∙◌, ℕ, Bool, true, false, not, List, [], length, map, filter, arith, sym, ap, refl, inl, inr, cond, append-nil, false≢true, and_parts, nat_tests, Header, Row, Known, nothing, learned, known, Leased, is_among, open_leases, begun, without_end, IsIn, from_filter, in_among, Lent, is_unended, begun_at, precedes, with_leased, in_turn, ended_where, with_begun, grown, lents, newly_open, passed_on, AllUnended}
 use Rattle.lease_book.proofs.Passing.{ended_alike, none_over}
 
 -- what stands in order stood there before
@@ -52,77 +52,103 @@ pub none_new : (xs ys : List Leased) → ((l : Leased) → IsIn l ys → is_amon
 none_new xs [] there = refl
 none_new xs (y ∷ ys) there = rw (there y (inl refl)) (none_new xs ys (λ l at. there l (inr at)))
 
-module _ (h : Header) where
-  abbrev IsOpen : Known → Leased → Type 0
-  IsOpen k l = is_among (open_leases h k) l ≡ true
+-- it is among these, which are open
+abbrev pub IsOpen : List Leased → Leased → Type 0
+IsOpen open_now l = is_among open_now l ≡ true
 
-  not_over : (b : Bool) → not b ≡ false → b ≡ true
-  not_over true e = refl
-  not_over false e = absurd (false≢true (sym e))
+not_over : (b : Bool) → not b ≡ false → b ≡ true
+not_over true e = refl
+not_over false e = absurd (false≢true (sym e))
 
-  weaker : (G H : Leased → Type 0) (i : ℕ) (ts : List Lent) → ((l : Leased) → G l → H l) → AllUnended (λ j l. G l) i ts → AllUnended (λ j l. H l) i ts
-  weaker G H i [] f all = tt
-  weaker G H i (t ∷ ts) f all = (λ u. f t.leased (all.0 u), weaker G H (i + 1) ts f all.1)
+weaker : (G H : Leased → Type 0) (i : ℕ) (ts : List Lent) → ((l : Leased) → G l → H l) → AllUnended (λ j l. G l) i ts → AllUnended (λ j l. H l) i ts
+weaker G H i [] f all = tt
+weaker G H i (t ∷ ts) f all = (λ u. f t.leased (all.0 u), weaker G H (i + 1) ts f all.1)
 
-  after_row : (k : Known) (row : Row) (n : ℕ) (ts : List Lent) → n < without_end → AllUnended (λ i l. IsOpen (learned h k row) l) 0 (grown h k row n ts)
-  unfolding grown with_begun begun
-  after_row k row n ts early =
-      let k' : Known = learned h k row in
-      let gone : Leased → Bool = λ l. not (is_among (open_leases h k') l) in
-      all_joined (IsOpen k') 0 (map (ended_where gone n) ts) (map (begun_at n) (in_turn (begun h k row)))
-      (weaker (λ l. gone l ≡ false) (IsOpen k') 0 (map (ended_where gone n) ts) (λ l e. not_over (is_among (open_leases h k') l) e) (all_left gone n 0 ts early))
-      (λ j. all_new (IsOpen k') n j (in_turn (begun h k row)) (λ l at. in_among (open_leases h k') l
-      (from_filter (λ m. not (is_among (open_leases h k) m)) (open_leases h k') l (from_turn (begun h k row) l at)).0))
+-- what is open at first begins
+pub first_open : (now : List Leased) (n : ℕ) → AllUnended (λ i l. IsOpen now l) 0 (with_begun n [] (in_turn now))
+unfolding with_begun
+first_open now n = all_new (IsOpen now) n 0 (in_turn now) (λ l at. in_among now l (from_turn now l at))
 
-  -- what is lent and not over is open
-  pub unended_open : (first : ℕ) (past : List Row) → first + length past ≤ without_end → AllUnended (λ i l. IsOpen (known h past) l) 0 (lents h first past)
-  unfolding lents known with_begun
-  unended_open first [] room = all_new (IsOpen nothing) 0 0 (in_turn (open_leases h nothing)) (λ l at. in_among (open_leases h nothing) l (from_turn (open_leases h nothing) l at))
-  unended_open first (row ∷ past) room = after_row (known h past) row (first + length past) (lents h first past) (omega arith)
+module _ (before after : List Leased) (n : ℕ) (ts : List Lent) where
+  -- what is lent and not over behind a row is open
+  pub passed_open : n < without_end → AllUnended (λ i l. IsOpen after l) 0 (passed_on before after n ts)
+  unfolding passed_on with_begun
+  passed_open early =
+      let gone : Leased → Bool = λ l. not (is_among after l) in
+      all_joined (IsOpen after) 0 (map (ended_where gone n) ts) (map (begun_at n) (in_turn (newly_open before after)))
+      (weaker (λ l. gone l ≡ false) (IsOpen after) 0 (map (ended_where gone n) ts) (λ l e. not_over (is_among after l) e) (all_left gone n 0 ts early))
+      (λ j. all_new (IsOpen after) n j (in_turn (newly_open before after)) (λ l at. in_among after l
+      (from_filter (λ m. not (is_among before m)) after l (from_turn (newly_open before after) l at)).0))
 
-  module _ (first : ℕ) (past : List Row) (row : Row) (room : first + length (row ∷ past) ≤ without_end) where
+  module _ (opened : AllUnended (λ i l. IsOpen before l) 0 ts) where
     -- the row ends the leases of which the test holds, and begins these
-    pub grown_by : (over : Leased → Bool) (new : List Leased) →
-        ((l : Leased) → IsOpen (known h past) l → is_among (open_leases h (learned h (known h past) row)) l ≡ not (over l)) → in_turn (begun h (known h past) row) ≡ new →
-        lents h first (row ∷ past) ≡ with_begun (first + length past) (map (ended_where over (first + length past)) (lents h first past)) new
-    unfolding lents grown
-    grown_by over new left e =
-        ap (λ ts. with_begun (first + length past) ts (in_turn (begun h (known h past) row)))
-        (ended_alike (λ j l. IsOpen (known h past) l) (λ l. not (is_among (open_leases h (learned h (known h past) row)) l)) over (first + length past) 0 (lents h first past)
-        (λ j l is_open. ap not (left l is_open) ∙ twice (over l)) (unended_open first past (omega arith)))
-        ∙ ap (with_begun (first + length past) (map (ended_where over (first + length past)) (lents h first past))) e
+    pub passed_by : (over : Leased → Bool) (new : List Leased) → ((l : Leased) → IsOpen before l → is_among after l ≡ not (over l)) → in_turn (newly_open before after) ≡ new →
+        passed_on before after n ts ≡ with_begun n (map (ended_where over n) ts) new
+    unfolding passed_on
+    passed_by over new left e =
+        ap (λ us. with_begun n us (in_turn (newly_open before after)))
+        (ended_alike (λ j l. IsOpen before l) (λ l. not (is_among after l)) over n 0 ts (λ j l is_open. ap not (left l is_open) ∙ twice (over l)) opened)
+        ∙ ap (with_begun n (map (ended_where over n) ts)) e
       where
         twice : (b : Bool) → not (not b) ≡ b
         twice true = refl
         twice false = refl
 
     -- nothing begins
-    pub only_ended : (over : Leased → Bool) →
-        ((l : Leased) → is_among (open_leases h (learned h (known h past) row)) l ≡ (is_among (open_leases h (known h past)) l && not (over l))) →
-        lents h first (row ∷ past) ≡ map (ended_where over (first + length past)) (lents h first past)
-    unfolding begun in_turn with_begun
-    only_ended over narrows =
-        grown_by over [] (λ l is_open. narrows l ∙ ap (λ b. b && not (over l)) is_open) (ap in_turn (none_new (open_leases h (known h past)) (open_leases h (learned h (known h past) row)) there))
+    pub only_passed : (over : Leased → Bool) → ((l : Leased) → is_among after l ≡ (is_among before l && not (over l))) → passed_on before after n ts ≡ map (ended_where over n) ts
+    unfolding in_turn with_begun
+    only_passed over narrows =
+        passed_by over [] (λ l is_open. narrows l ∙ ap (λ b. b && not (over l)) is_open) (ap in_turn (none_new before after there))
         ∙ append-nil _
       where
-        there : (l : Leased) → IsIn l (open_leases h (learned h (known h past) row)) → IsOpen (known h past) l
-        there l at =
-            (and_parts (is_among (open_leases h (known h past)) l) (not (over l))
-            (sym (narrows l) ∙ in_among (open_leases h (learned h (known h past) row)) l at)).0
+        there : (l : Leased) → IsIn l after → IsOpen before l
+        there l at = (and_parts (is_among before l) (not (over l)) (sym (narrows l) ∙ in_among after l at)).0
 
     -- nothing begins or ends
-    pub nothing_new : ((l : Leased) → is_among (open_leases h (learned h (known h past) row)) l ≡ is_among (open_leases h (known h past)) l) →
-        lents h first (row ∷ past) ≡ lents h first past
-    nothing_new same =
-        only_ended (λ l. false) (λ l. same l ∙ sym (and_true (is_among (open_leases h (known h past)) l)))
-        ∙ none_over (λ l. false) (first + length past) (lents h first past) (λ l. refl)
+    pub nothing_passed : ((l : Leased) → is_among after l ≡ is_among before l) → passed_on before after n ts ≡ ts
+    nothing_passed same = only_passed (λ l. false) (λ l. same l ∙ sym (and_true (is_among before l))) ∙ none_over (λ l. false) n ts (λ l. refl)
       where
         and_true : (b : Bool) → (b && true) ≡ b
         and_true true = refl
         and_true false = refl
 
+module _ (h : Header) where
+  -- what is open when this is known
+  abbrev open_at : Known → List Leased
+  open_at k = open_leases h k
+
+  -- what is lent and not over is open
+  pub unended_open : (first : ℕ) (past : List Row) → first + length past ≤ without_end → AllUnended (λ i l. IsOpen (open_at (known h past)) l) 0 (lents h first past)
+  unfolding lents known grown
+  unended_open first [] room = first_open (open_at nothing) 0
+  unended_open first (row ∷ past) room = passed_open (open_at (known h past)) (open_at (learned h (known h past) row)) (first + length past) (lents h first past) (omega arith)
+
+  module _ (first : ℕ) (past : List Row) (row : Row) (room : first + length (row ∷ past) ≤ without_end) where
+    abbrev was : List Leased
+    was = open_at (known h past)
+
+    abbrev is : List Leased
+    is = open_at (learned h (known h past) row)
+
+    still : AllUnended (λ i l. IsOpen was l) 0 (lents h first past)
+    still = unended_open first past (omega arith)
+
+    pub grown_by : (over : Leased → Bool) (new : List Leased) → ((l : Leased) → IsOpen was l → is_among is l ≡ not (over l)) → in_turn (begun h (known h past) row) ≡ new →
+        lents h first (row ∷ past) ≡ with_begun (first + length past) (map (ended_where over (first + length past)) (lents h first past)) new
+    unfolding lents grown begun
+    grown_by over new left e = passed_by was is (first + length past) (lents h first past) still over new left e
+
+    pub only_ended : (over : Leased → Bool) → ((l : Leased) → is_among is l ≡ (is_among was l && not (over l))) →
+        lents h first (row ∷ past) ≡ map (ended_where over (first + length past)) (lents h first past)
+    unfolding lents grown
+    only_ended over narrows = only_passed was is (first + length past) (lents h first past) still over narrows
+
+    pub nothing_new : ((l : Leased) → is_among is l ≡ is_among was l) → lents h first (row ∷ past) ≡ lents h first past
+    unfolding lents grown
+    nothing_new same = nothing_passed was is (first + length past) (lents h first past) still same
+
     -- nothing ends
-    pub only_begun : (new : List Leased) → ((l : Leased) → IsOpen (known h past) l → IsOpen (learned h (known h past) row) l) → in_turn (begun h (known h past) row) ≡ new →
+    pub only_begun : (new : List Leased) → ((l : Leased) → IsOpen was l → IsOpen is l) → in_turn (begun h (known h past) row) ≡ new →
         lents h first (row ∷ past) ≡ with_begun (first + length past) (lents h first past) new
     only_begun new kept e =
         grown_by (λ l. false) new kept e

@@ -14,8 +14,8 @@ pub use Rattle.lease_book.specs.Books.{AllUnended, HoldsLents, IsFound}
 unfoldable pub use Rattle.lease_book.specs.Coming.{come_to}
 unfoldable pub use Rattle.lease_book.specs.Endings.{ended_at, is_open_as}
 pub use Rattle.lease_book.specs.IndexTables.{index_at, index_in, index_of}
-pub use Rattle.lease_book.specs.Lents.{Lent, is_passed, share_a_place}
-unfoldable pub use Rattle.lease_book.specs.Lents.{begun_at, ended_where, grown, in_turn, is_place_free, is_unended, lease_of, lents, precedes, with_begun, with_leased}
+pub use Rattle.lease_book.specs.Lents.{Lent, is_passed, newly_open, share_a_place}
+unfoldable pub use Rattle.lease_book.specs.Lents.{begun_at, ended_where, grown, in_turn, is_place_free, is_unended, lease_of, lents, passed_on, precedes, with_begun, with_leased}
 pub use Rattle.lease_book.specs.LettingGo.{devices_without, let_go, slot_disabled, slot_left, slot_ranges}
 unfoldable pub use Rattle.lease_book.specs.Opening.{segment_lease}
 pub use Rattle.lease_book.specs.Ranges.{FindsRanges, IsRangeFound, IsUseFound, StandsAt, command_place, share_a_use, shares_use}

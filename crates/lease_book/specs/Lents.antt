@@ -1,5 +1,5 @@
 -- How the leases of a trace grow by one row: those that are over end at it, and those that begin follow
-use Rattle.std.specs.Prelude.{ℕ, ◌+◌, ◌%◌, ◌==◌, ◌&&◌, if◌then◌else◌, Bool, false, not, nat_le, nat_lt, List, [], ◌∷◌, ◌++◌, length, map}
+use Rattle.std.specs.Prelude.{ℕ, ◌+◌, ◌%◌, ◌==◌, ◌&&◌, if◌then◌else◌, Bool, false, not, nat_le, nat_lt, List, [], ◌∷◌, ◌++◌, length, map, filter}
 use Rattle.std.specs.List.{list_any}
 use Rattle.segments.specs.Places.{place_count}
 use Rattle.segments.specs.Givings.{link_of}
@@ -10,7 +10,7 @@ use Rattle.ring_knowledge.specs.declared.lease.Lease.{Lease}
 use Rattle.ring_knowledge.specs.Known.{Known, nothing}
 use Rattle.ring_knowledge.specs.Learned.{learned, known}
 use Rattle.ownership_rules.specs.OpenLeases.{Leased, Block, Link, Range, is_among, open_leases}
-use Rattle.ownership_rules.specs.Leases.{as_lease, begun, comes_before, without_end}
+use Rattle.ownership_rules.specs.Leases.{as_lease, comes_before, without_end}
 
 -- what is leased, and between which rows
 pub record Lent : Type 0 where
@@ -48,11 +48,18 @@ unfoldable pub in_turn : List Leased → List Leased
 in_turn [] = []
 in_turn (l ∷ rest) = with_leased l (in_turn rest)
 
+-- what is open behind a row and wasn't before it
+abbrev pub newly_open : List Leased → List Leased → List Leased
+newly_open before after = filter (λ l. not (is_among before l)) after
+
+-- row n more, with what is open before and behind it: what isn't open any more is over, and what is newly open begins
+unfoldable pub passed_on : List Leased → List Leased → ℕ → List Lent → List Lent
+passed_on before after n lents = with_begun n (map (ended_where (λ l. not (is_among after l)) n) lents) (in_turn (newly_open before after))
+
 module _ (h : Header) where
   -- with row n more
   unfoldable pub grown : Known → Row → ℕ → List Lent → List Lent
-  grown k row n lents =
-      with_begun n (map (ended_where (λ l. not (is_among (open_leases h (learned h k row)) l)) n) lents) (in_turn (begun h k row))
+  grown k row n lents = passed_on (open_leases h k) (open_leases h (learned h k row)) n lents
 
   -- what was and is lent after the rows so far, the newest first; `first` is the number of the oldest
   unfoldable pub lents : ℕ → List Row → List Lent
