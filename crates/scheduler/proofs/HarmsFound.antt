@@ -1,5 +1,5 @@
 -- A replay that ends with harm: up to there the steps are a run, and the world after them isn't safe
-use Rattle.std.proofs.Common.{◌≡◌, ◌∙◌, ℕ, zero, suc, ◌+◌, ◌≤◌, List, [], ◌∷◌, ◌++◌, Option, Some, None, refl, sym, subst, ap, arith, length}
+use Rattle.std.proofs.Common.{◌≡◌, ◌∙◌, ℕ, suc, ◌+◌, ◌≤◌, List, [], ◌∷◌, ◌++◌, Option, Some, None, refl, sym, ap, arith, length}
 use Rattle.std.specs.Prelude.{take, reverse, option_and_then}
 use Rattle.std.proofs.lemmas.Grind.{common_steps}
 use Rattle.traces.specs.declared.header.Header.{Header}
@@ -8,8 +8,8 @@ use Rattle.traces.specs.declared.step.Step.{Step}
 use Rattle.world_state.specs.World.{World, opening}
 use Rattle.world_state.specs.declared.harm.Harm.{Harm}
 use Rattle.world_state.specs.Harms.{harm_of}
-use Rattle.controller_model.specs.Steps.{Ending, NoHarm, NotPossible, Harmful, ending_from, ending_of, judged, reached, stepped}
-use Rattle.controller_model.specs.Showing.{Replay, replayed}
+use Rattle.controller_model.specs.Steps.{Ending, NoHarm, Harmful, ending_from, ending_of, judged, reached, stepped}
+use Rattle.controller_model.specs.Showing.{replayed}
 use Rattle.scheduler.specs.Harmful.{DoesHarm, rows_made}
 
 module _ (h : Header) (rows : List Row) where

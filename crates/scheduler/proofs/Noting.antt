@@ -1,5 +1,5 @@
--- The rows of a clean trace, noted one by one
-use Rattle.std.proofs.Common.{◌≡◌, ℕ, ◌+◌, ◌<◌, List, [], ◌∷◌, ◌++◌, None, Some, ap, sym, ◌∙◌, arith, length, subst, get_or, refl}
+-- The rows of a trace, checked and noted one by one
+use Rattle.std.proofs.Common.{◌≡◌, ℕ, ◌+◌, ◌<◌, List, [], ◌∷◌, ◌++◌, ap, sym, ◌∙◌, arith, length, get_or, refl}
 use Rattle.std.specs.Prelude.{reverse, take, drop, map}
 use Rattle.std.proofs.lemmas.Grind.{common_steps}
 use Rattle.traces.specs.declared.header.Header.{Header}
@@ -9,20 +9,15 @@ use Rattle.traces.specs.Header.{IsHeader}
 use Rattle.ring_knowledge.specs.Known.{Known, nothing}
 use Rattle.ring_knowledge.specs.Learned.{learned, known}
 use Rattle.ownership_rules.specs.Clean.{IsClean}
-use Rattle.ownership_rules.specs.Rules.{broken, lenient}
+use Rattle.ownership_rules.specs.Rules.{lenient}
 use Rattle.safety.specs.Keeps.{DriverKeeps}
 use Rattle.safety.proofs.TestsPassed.{clean_tests}
 use Rattle.trace_record.specs.declared.trace_record.TraceRecord.{TraceRecord}
 use Rattle.trace_record.specs.FollowsTrace.{FollowsTrace}
 use Rattle.trace_record.specs.Fresh.{IsWithin}
-use Rattle.trace_record.specs.Steps.{IfRefused, IsLeast, IsRowStep}
-use Rattle.trace_record.specs.declared.fault.StepFault.{StepFault}
-use Rattle.trace_record.specs.declared.fault.StepFault.TheVariants.{Refused}
-use Rattle.ownership_rules.specs.declared.refusal.Refusal.{Refusal}
-use Rattle.ownership_rules.specs.Refusal.{first_of}
+use Rattle.trace_record.specs.Steps.{IsRowStep}
 use Rattle.row_checks.specs.Tracking.{IsPass, IsTracked}
 use Rattle.row_checks.proofs.Passes as passes
-use Rattle.row_checks.proofs.CleanHistories.{clean_row, lenient_row}
 use Rattle.lazy_steps.specs.declared.note.Note.{Note}
 use Rattle.lazy_steps.specs.declared.note.Note.TheVariants.{Made}
 use Rattle.lazy_steps.specs.Notes.{notes, placed_note, row_notes}
@@ -52,54 +47,40 @@ no_more : (list : List Note) → list ++ [] ≡ list
 no_more list = grind (arith, common_steps)
 
 -- so many rows were noted
-pub record IsNoted (h : Header) (rows : List Row) (done : ℕ) (kept : TraceRecord) (memory : ℕ → ℕ) (list : List Note) : Type 0 where
-  pub pass : IsPass h rows 0 done done kept memory
+pub record IsNoted (h : Header) (rows : List Row) (first done number : ℕ) (kept : TraceRecord) (memory : ℕ → ℕ) (list : List Note) : Type 0 where
+  pub pass : IsPass h rows first done number kept memory
   pub noted : list ++ notes h (known h (reverse (take done rows))) (drop done rows) ≡ notes h nothing rows
 
-module _ (h : Header) (headed : IsHeader h) (rows : List Row) (clean : IsClean h (reverse rows)) where
-  pub started : (kept : TraceRecord) (m : ℕ → ℕ) → FollowsTrace h nothing kept m → IsWithin kept.events 0 → IsNoted h rows 0 kept m []
+module _ (h : Header) (headed : IsHeader h) (rows : List Row) (first : ℕ) where
+  pub started : (kept : TraceRecord) (m : ℕ → ℕ) → FollowsTrace h nothing kept m → IsWithin kept.events 0 → IsNoted h rows first 0 first kept m []
   started kept m f unread = record {
-    pass = passes.started h rows 0 headed kept m f unread;
+    pass = passes.started h rows first headed kept m f unread;
     noted =
         ap (λ past. notes h (known h past) (drop 0 rows)) (passes.none_taken rows)
         ∙ ap (λ k. notes h k (drop 0 rows)) (known_first h)
         ∙ ap (λ l. notes h nothing l) (none_dropped rows);
   }
 
-  module _ (i : ℕ) (kept : TraceRecord) (m : ℕ → ℕ) (row d : Row) (list : List Note) (p : IsNoted h rows i kept m list) (below : i < length rows) (is_row : get_or rows i d ≡ row) where
+  module _ (i number : ℕ) (kept : TraceRecord) (m : ℕ → ℕ) (row d : Row) (list : List Note) (p : IsNoted h rows first i number kept m list) (below : i < length rows) (is_row : get_or rows i d ≡ row) where
     abbrev k : Known
     k = known h (reverse (take i rows))
-
-    pub breaks_none : broken h k row ≡ []
-    breaks_none = clean_row h rows i row d clean below is_row
-
-    pub passes_all : lenient h k row ≡ []
-    passes_all = lenient_row h k row breaks_none
 
     pub tracked : IsTracked h k kept m
     tracked = p.pass.checked.tracked
 
-    pub keeps : DriverKeeps h k
-    keeps = tracked.keeps (clean_tests h k row passes_all).0
-
-    -- it isn't refused
-    pub none_refuses : (c : Refusal) (e : StepFault) → e ≡ Refused c → IfRefused e (λ x. (j : Known) → IsTracked h j kept m → IsLeast h j row x) → ⊥
-    none_refuses c e is said =
-        let least : first_of (broken h k row) ≡ Some c = subst (λ (f : StepFault). IfRefused f (λ x. (j : Known) → IsTracked h j kept m → IsLeast h j row x)) is said k tracked in
-        nothing_first (sym (ap first_of breaks_none) ∙ least)
-      where
-        nothing_first : None ≡ Some c → ⊥
-        nothing_first e = cc
+    pub keeps : lenient h k row ≡ [] → DriverKeeps h k
+    keeps passed = tracked.keeps (clean_tests h k row passed).0
 
     pub stepped : (after : TraceRecord) (o : ℕ → ℕ) (mid placed_ : List Note) (placed : List ℕ) → IsWithin after.events (i + 1) → ((j : Known) → IsTracked h j kept m → IsRowStep h j row after o) →
-        AreNoted h k row list mid placed → placed_ ≡ mid ++ map (placed_note h k row) placed → IsNoted h rows (i + 1) after o (placed_ ++ Made NextRow ∷ [])
+        AreNoted h k row list mid placed → placed_ ≡ mid ++ map (placed_note h k row) placed →
+        IsNoted h rows first (i + 1) (number + 1) after o (placed_ ++ Made NextRow ∷ [])
     unfolding notes
     stepped after o mid placed_ placed reads_ step noted_ at =
         let past : reverse (take (i + 1) rows) ≡ row ∷ reverse (take i rows) = passes.one_more rows i d below ∙ ap (λ x. x ∷ reverse (take i rows)) is_row in
         let rest : drop i rows ≡ row ∷ drop (i + 1) rows = left rows i d below ∙ ap (λ x. x ∷ drop (i + 1) rows) is_row in
         let later : List Note = notes h (learned h k row) (drop (i + 1) rows) in
         record {
-          pass = passes.stepped h rows 0 headed i i kept after m o row d p.pass below is_row reads_ step;
+          pass = passes.stepped h rows first headed i number kept after m o row d p.pass below is_row reads_ step;
           noted =
               ap (λ past. (placed_ ++ Made NextRow ∷ []) ++ notes h (known h past) (drop (i + 1) rows)) past
               ∙ ap (λ j. (placed_ ++ Made NextRow ∷ []) ++ notes h j (drop (i + 1) rows)) (known_next h (reverse (take i rows)) row)
@@ -109,7 +90,12 @@ module _ (h : Header) (headed : IsHeader h) (rows : List Row) (clean : IsClean h
               ∙ p.noted;
         }
 
-  pub ended : (i : ℕ) (kept : TraceRecord) (m : ℕ → ℕ) (list : List Note) → IsNoted h rows i kept m list → i ≡ length rows → list ≡ notes h nothing rows
-  unfolding notes
-  ended i kept m list p all =
-      sym (no_more list) ∙ ap (λ l. list ++ notes h (known h (reverse (take i rows))) l) (sym (ap (λ n. drop n rows) all ∙ drop_all rows)) ∙ p.noted
+  -- behind the last row
+  module _ (i number : ℕ) (kept : TraceRecord) (m : ℕ → ℕ) (list : List Note) (p : IsNoted h rows first i number kept m list) (all : i ≡ length rows) where
+    pub ended_clean : IsClean h (reverse rows)
+    ended_clean = passes.ended_clean h rows first i number kept m p.pass all
+
+    pub ended : list ≡ notes h nothing rows
+    unfolding notes
+    ended =
+        sym (no_more list) ∙ ap (λ l. list ++ notes h (known h (reverse (take i rows))) l) (sym (ap (λ n. drop n rows) all ∙ drop_all rows)) ∙ p.noted

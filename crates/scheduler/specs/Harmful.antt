@@ -8,7 +8,7 @@ use Rattle.world_state.specs.declared.harm.Harm.{Harm}
 use Rattle.world_state.specs.World.{World}
 use Rattle.world_state.specs.Harms.{harm_of}
 use Rattle.controller_model.specs.Steps.{reached, Harmful}
-use Rattle.controller_model.specs.Showing.{Replay, replayed}
+use Rattle.controller_model.specs.Showing.{replayed}
 
 abbrev pub makes_row : Step → Bool
 makes_row NextRow = true

@@ -1,1 +1,2 @@
 pub mod Harmful
+pub mod Verdicts

@@ -11,6 +11,7 @@ ghost use Rattle.ownership_rules.specs.Rules.{verdict_from};
 ghost use Rattle.scheduler.specs.Harmful.{DoesHarm, rows_made};
 
 use crate::attempt::{Attempt, Unmade};
+use crate::fault::ScheduleFault;
 use crate::lazy::steps_of;
 use guest_memory::PageMemory;
 use replayer::{ReplayFault, replay};
@@ -164,7 +165,12 @@ fn lazy_schedule_behind(alloc: Global, trace: &Trace, rows: &[Row]) -> Result<Sc
     requires fitting { All IsRow rows.now }
     requires clean { IsClean trace.now.header (reverse rows.now) }
 {
-    let steps = steps_of(alloc, &trace.header, rows, PageMemory::new(alloc))?;
+    let memory = PageMemory::new(alloc);
+    let steps = match steps_of(alloc, &trace.header, trace.first, rows, memory) {
+        Ok(steps) => steps,
+        Err(ScheduleFault::Refused { .. }) => return Err(Unmade::Dropped),
+        Err(ScheduleFault::Memory) => return Err(Unmade::Memory),
+    };
     let mut attempt = Attempt::new(alloc, trace)?;
     attempt.make_all(&steps)?;
     attempt.make(Step::NextRow)?;

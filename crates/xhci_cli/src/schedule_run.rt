@@ -1,16 +1,14 @@
 //! Makes the lazy schedule of a trace, and writes the answer.
-ghost use Rattle.std.specs.Prelude.{Some, ◌≡◌, false, true, reverse, IsErr};
+ghost use Rattle.std.specs.Prelude.{Some, ◌≡◌, false, true, IsErr};
 ghost use Rattle.answers.specs.Answers.{goes_out};
 ghost use Rattle.answers.specs.Inputs.{opened};
 ghost use Rattle.answers.specs.Telling.{IsTold};
-ghost use Rattle.ownership_rules.specs.Clean.{IsClean};
 ghost use Rattle.xhci_cli.specs.ScheduleAnswers.{IsScheduleAnswer, IsScheduled};
 
 use crate::reading::bytes_of;
 use crate::version_note::note_on_check;
 use answers::{Answer, Asked, Status, tell, tell_failure};
-use ownership_checker::{CheckFault, check};
-use scheduler::lazy_schedule;
+use scheduler::{ScheduleFault, lazy_schedule};
 use std::alloc::Global;
 use std::io::{self, Read, Write};
 use trace_reader::{print_schedule, read_trace};
@@ -47,25 +45,13 @@ fn schedule_answer(alloc: Global, text: &[u8]) -> Answer
     ensures { IsScheduleAnswer (Some text.now) result }
 {
     match read_trace(alloc, text) {
-        Ok(trace) => checked_answer(alloc, &trace),
+        Ok(trace) => scheduled_answer(alloc, &trace),
         Err(fault) => Answer::from(fault),
     }
 }
 
 /// The answer to a trace.
-fn checked_answer(alloc: Global, trace: &Trace) -> Answer
-    ensures { IsScheduled trace.now result }
-{
-    match check(alloc, trace) {
-        Ok(_) => clean_answer(alloc, trace),
-        Err(CheckFault::Refused { row, refusal }) => Answer::Refused { row, refusal },
-        Err(CheckFault::Memory) => Answer::Memory,
-    }
-}
-
-/// The answer to a trace that breaks no rule.
-fn clean_answer(alloc: Global, trace: &Trace) -> Answer
-    requires { IsClean trace.now.header (reverse trace.now.rows) }
+fn scheduled_answer(alloc: Global, trace: &Trace) -> Answer
     ensures { IsScheduled trace.now result }
 {
     match lazy_schedule(alloc, trace) {
@@ -73,6 +59,7 @@ fn clean_answer(alloc: Global, trace: &Trace) -> Answer
             Ok(schedule) => Answer::Scheduled { schedule },
             Err(error) => Answer::from(error),
         },
-        Err(error) => Answer::from(error),
+        Err(ScheduleFault::Refused { row, refusal }) => Answer::Refused { row, refusal },
+        Err(ScheduleFault::Memory) => Answer::Memory,
     }
 }

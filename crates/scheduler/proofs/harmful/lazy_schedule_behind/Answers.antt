@@ -1,4 +1,4 @@
-use Rattle.std.proofs.Common.{◌≡◌, ◌∙◌, List, sym, subst}
+use Rattle.std.proofs.Common.{◌≡◌, ◌∙◌, sym, subst}
 use Rattle.traces.specs.Rows.{AreSteps}
 use Rattle.lazy_runs.specs.Lazy.{lazy_steps}
 use Rattle.row_checks.proofs.CleanHistories.{lenient_history}
@@ -10,5 +10,5 @@ pub make_all-requires : goal.make_all-requires
 make_all-requires c =
     let h = c.args.trace.now.header in
     let rows = c.args.rows.now in
-    let same : c.deref.result.now ≡ lazy_steps h rows = c.deref.ensures.value ∙ c.in_ok-steps.ensures in
+    let same : c.deref.result.now ≡ lazy_steps h rows = c.deref.ensures.value ∙ c.in-Ok.ensures.steps in
     subst AreSteps (sym same) (lazy_steps_are h c.args.trace.now.headed rows c.requires.fitting (lenient_history h (reverse rows) c.requires.clean))

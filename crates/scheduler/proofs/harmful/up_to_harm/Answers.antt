@@ -1,8 +1,7 @@
-use Rattle.std.proofs.Common.{rules, ◌≡◌, ◌∙◌, ◌≤◌, ◌<◌, ℕ, List, arith, ap, sym, subst, length}
-use Rattle.std.specs.Prelude.{take, IfSome, Some, Option, All}
+use Rattle.std.proofs.Common.{◌≡◌, ◌∙◌, ◌≤◌, ℕ, List, arith, ap, sym, subst, length}
+use Rattle.std.specs.Prelude.{take, IfSome, Some, Option}
 use Rattle.std.proofs.lemmas.Grind.{common_steps}
 use Rattle.traces.specs.declared.step.Step.{Step}
-use Rattle.traces.specs.Rows.{AreSteps}
 use Rattle.traces.specs.declared.trace.Trace.{Trace}
 use Rattle.scheduler.specs.declared.harmful.FirstHarm.{FirstHarm}
 use Rattle.controller_model.specs.Steps.{Harmful}

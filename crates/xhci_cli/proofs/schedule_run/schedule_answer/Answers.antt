@@ -2,4 +2,4 @@ use Rattle.std.proofs.Common.{inr}
 use Rattle.xhci_cli.proofs.schedule_run.schedule_answer.Goals as goal
 
 pub returns-in-Ok : goal.returns-in-Ok
-returns-in-Ok c = inr (c.in-Ok.trace, c.in-Ok.ensures.read, c.checked_answer.ensures)
+returns-in-Ok c = inr (c.in-Ok.trace, c.in-Ok.ensures.read, c.scheduled_answer.ensures)
