@@ -9,6 +9,7 @@ mod row;
 mod schedule;
 mod step;
 mod trace;
+mod trace_row;
 mod version;
 
 pub use header::{Header, Rings};
@@ -19,4 +20,5 @@ pub use row::Row;
 pub use schedule::{Schedule, Steps};
 pub use step::Step;
 pub use trace::{Rows, Trace};
+pub use trace_row::TraceRow;
 pub use version::Version;
