@@ -1,12 +1,12 @@
 -- What is looked up on a ring once the segment is found. The look-ups see the segments as a list of their own
-use Rattle.segments.proofs.Words.{◌≡◌, ◌≢◌, ◌+◌, ◌-◌, ◌*◌, ◌/◌, ◌%◌, ◌<◌, ◌≤◌, if◌then◌else◌, ◌∙◌, ℕ, nat_lt, true, false, List, length, slice_index, Option, Some, None, arith, refl, sym, ap, inl, inr, false≢true, false_from_ne_true, cases_lt, RingKind, Evt, Segment, Shape, data_count, place_count, address_of, links, ends, link_crossed, is_in, place_at, IsShape}
+use Rattle.segments.proofs.Words.{◌≡◌, ◌≢◌, ◌+◌, ◌-◌, ◌*◌, ◌/◌, ◌%◌, ◌<◌, ◌≤◌, if◌then◌else◌, ◌∙◌, ℕ, suc, zero, nat_lt, true, false, List, length, slice_index, Option, Some, None, arith, add-zero, mod-eq_of_lt, refl, sym, ap, inl, inr, false≢true, false_from_ne_true, cases_lt, RingKind, Evt, Segment, Shape, data_count, place_count, address_of, links, ends, link_crossed, is_in, place_at, IsShape}
+use Rattle.std.proofs.Math.Nat.{add-mod-mod, add-mul-mod_self_left, mod-add-div, mul_assoc}
 use Rattle.segments.specs.declared.place.Place.TheVariants.{Data, Link}
-use Rattle.segments.proofs.Blocks.{segment_at, places_of, before, before-next, before-all, before_within, block_lies, same_segment}
+use Rattle.segments.proofs.Blocks.{segment_at, places_of, before, before-next, before-all, before-zero, before_within, block_lies, same_segment}
 use Rattle.segments.proofs.DataPlaces.{link_is, length-links}
 use Rattle.segments.proofs.Crossings.{end_is, crosses, crosses-from}
 use Rattle.segments.proofs.Search.{cases_option}
-use Rattle.segments.proofs.Positions.{next_at_end, place_count_pos}
-use Rattle.segments.specs.Index.{IsLastStart, IsNear, IsSegmentOf}
+use Rattle.segments.specs.Index.{AreMultiples, IsLastStart, IsNear, IsSegmentOf}
 use Rattle.segments.proofs.IndexSearch.{before_rises}
 use Rattle.segments.proofs.ShapeFacts.{shape_facts}
 use Rattle.segments.proofs.PlaceAtLemmas.{is_in-true, is_in-parts, place_at-block, place_at-outside}
@@ -178,18 +178,40 @@ outside_near kind segments address j near misses = record {
       misses (ap (λ n. is_in address (segment_at segments n).base (16 * (segment_at segments n).count)) (sym (near.1 k l has)) ∙ has));
 }
 
--- of one segment no Link is crossed within a lap
-pub crossed_within : (shape : Shape) → IsShape shape → length shape.segments ≡ 1 → (q : ℕ) → q % place_count shape ≢ 0 → link_crossed shape q ≡ None
-crossed_within shape is one q within =
+-- where each segment has a multiple of so many places, so have the first ones together
+before_multiple : (kind : RingKind) (ss : List Segment) (step : ℕ) → AreMultiples kind ss step → (j : ℕ) → j ≤ length ss → before kind ss j % step ≡ 0
+before_multiple kind ss step are zero h = rw (before-zero kind ss) (zero_multiple step are.some)
+  where
+    zero_multiple : (s : ℕ) → 0 < s → 0 % s ≡ 0
+    zero_multiple s some = mod-eq_of_lt some
+before_multiple kind ss step are (suc j) h =
+    let next = before-next kind ss j (omega arith) in
+    let one : suc j ≡ j + 1 = omega arith in
+    rw (one, next) (sum_multiple (before kind ss j) (data_count kind (segment_at ss j)) step (before_multiple kind ss step are j (omega arith)) (are.each j (omega arith)))
+  where
+    sum_multiple : (a b s : ℕ) → a % s ≡ 0 → b % s ≡ 0 → (a + b) % s ≡ 0
+    sum_multiple a b s ha hb = sym (add-mod-mod a b s) ∙ ap (λ n. (a + n) % s) hb ∙ ap (λ n. n % s) (add-zero a) ∙ ha
+
+-- and no Link is crossed where the position isn't such a multiple
+pub crossed_between : (shape : Shape) → IsShape shape → (step q : ℕ) → AreMultiples shape.kind shape.segments step → q % step ≢ 0 → link_crossed shape q ≡ None
+crossed_between shape is step q are between =
     elim (cases_option (link_crossed shape q)) [
       | inl none ↦ none
       | inr found ↦
           let i : ℕ = found.0 in
           let c = crosses shape q i found.1 in
           let link = link_is shape is i c.link in
-          let first : i + 1 ≡ length shape.segments = omega (arith, link.segment, one) in
-          let end : before shape.kind shape.segments (i + 1) ≡ place_count shape = ap (λ n. before shape.kind shape.segments n) first ∙ before-all shape.kind shape.segments in
-          let lap : (q - 1) % place_count shape + 1 ≡ place_count shape = sym c.end ∙ end_is shape i c.link ∙ end in
-          let next : q - 1 + 1 ≡ q = omega (arith, c.positive) in
-          absurd (within (rw next at (next_at_end (place_count shape) (q - 1) (place_count_pos shape is) lap).1))
+          let end : (q - 1) % place_count shape + 1 ≡ before shape.kind shape.segments (i + 1) = sym c.end ∙ end_is shape i c.link in
+          let here : before shape.kind shape.segments (i + 1) % step ≡ 0 = before_multiple shape.kind shape.segments step are (i + 1) (omega (arith, link.segment)) in
+          let lap : place_count shape % step ≡ 0 = rw (← before-all shape.kind shape.segments) (before_multiple shape.kind shape.segments step are (length shape.segments) (omega arith)) in
+          absurd (between (multiple_behind (place_count shape) q step c.positive lap (ap (λ n. n % step) end ∙ here)))
     ]
+  where
+    multiple_behind : (p q s : ℕ) → 0 < q → p % s ≡ 0 → ((q - 1) % p + 1) % s ≡ 0 → q % s ≡ 0
+    multiple_behind p q s some hp he =
+        let laps : (q - 1) % p + p * ((q - 1) / p) ≡ q - 1 = mod-add-div (q - 1) p in
+        let times : p % s + s * (p / s) ≡ p = mod-add-div p s in
+        let whole : s * (p / s) ≡ p = omega (arith, times, hp) in
+        let product : s * (p / s * ((q - 1) / p)) ≡ p * ((q - 1) / p) = sym (mul_assoc s (p / s) ((q - 1) / p)) ∙ ap (λ n. n * ((q - 1) / p)) whole in
+        let all : q ≡ (q - 1) % p + 1 + s * (p / s * ((q - 1) / p)) = omega (arith, laps, product, some) in
+        ap (λ n. n % s) all ∙ add-mul-mod_self_left ((q - 1) % p + 1) s (p / s * ((q - 1) / p)) ∙ he

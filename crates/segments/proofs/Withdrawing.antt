@@ -1,5 +1,5 @@
 -- A descriptor that is withdrawn, and what is free that is restored: what the rules keep of a ring stays
-use Rattle.segments.proofs.Words.{and_cases, leb-false, ltb-false, nat_le, nat_lt, unwrap_or, is_not_whole, ◌%◌, ◌≡◌, ◌≢◌, ◌+◌, ◌-◌, ◌<◌, ◌≤◌, ◌⊎◌, ◌==◌, ◌&&◌, ◌∷◌, ◌++◌, ◌∙◌, ℕ, suc, zero, not, true, false, List, [], All, length, sum, replicate, Some, slice_get, arith, refl, sym, ap, subst, inl, inr, eq-eqb, ne_eqb, eqb-true, cases_Bool, cases_eq, cond-true, cond-false, and_parts, or_cases, or_left, or_right, or_parts, false≢true, not-false, All-cons, All-head, All-tail, sum_by-cons, Block, block_at, kind, with_cycle, is_link, no_op, no_ops, split_at, Shape, is_in, address_of, cycle_of, IsShape, RingView, Withdraws, Restores, changed, declared, floor_number, is_step_given, is_way_given, given_count, ceiling, descriptor_length, is_border, length_from, is_declared_as, is_not_restored, unrestored, RingKeeps, MayHold, MayWithdraw, MayRestore}
+use Rattle.segments.proofs.Words.{and_cases, leb-false, ltb-false, nat_le, nat_lt, unwrap_or, is_not_whole, ◌%◌, ◌≡◌, ◌+◌, ◌<◌, ◌≤◌, ◌⊎◌, ◌==◌, ◌&&◌, ◌∷◌, ◌++◌, ◌∙◌, ℕ, suc, zero, not, true, false, List, [], All, length, sum, replicate, Some, slice_get, arith, refl, sym, ap, subst, inl, inr, eq-eqb, ne_eqb, eqb-true, cases_Bool, cases_eq, cond-true, cond-false, and_parts, or_cases, or_left, or_right, or_parts, false≢true, not-false, All-cons, All-head, All-tail, sum_by-cons, Block, block_at, kind, with_cycle, is_link, no_op, no_ops, split_at, Shape, is_in, address_of, cycle_of, IsShape, RingView, Withdraws, Restores, changed, floor_number, is_step_given, is_way_given, given_count, ceiling, descriptor_length, is_border, length_from, is_declared_as, is_not_restored, unrestored, RingKeeps, MayHold, MayWithdraw, MayRestore}
 use Rattle.segments.proofs.Giving.{due_from}
 use Rattle.segments.proofs.DueLists.{unrestored_position, none_passes_at}
 use Rattle.segments.proofs.GivenCount.{given_count_same}

@@ -1,5 +1,5 @@
 -- What finds a segment of a ring by a search: how many data places lie before each, and where each starts
-use Rattle.std.specs.Prelude.{◌≡◌, ℕ, suc, zero, ◌+◌, ◌<◌, ◌≤◌, ◌==◌, true, false, List, [], ◌∷◌, length, slice_index, slice_index_or, Option, Some, None}
+use Rattle.std.specs.Prelude.{◌≡◌, ℕ, suc, zero, ◌+◌, ◌<◌, ◌≤◌, ◌%◌, ◌==◌, true, false, List, [], ◌∷◌, length, slice_index, slice_index_or, Option, Some, None}
 use Rattle.std.specs.List.{All, list_any}
 use Rattle.std.specs.List.Sorted.{IsNonDecreasingBy}
 use Rattle.trb.specs.declared.ring_kind.RingKind.{RingKind}
@@ -33,8 +33,14 @@ pub record AreStarts (segments : List Segment) (count : ℕ) (starts : List Star
   pub many : length starts ≡ count
   pub each : (j : ℕ) (d : Start) → j < count → slice_index_or starts j d ≡ record { base = (segment_at segments j).base; segment = j }
 
+-- each segment has a multiple of so many data places
+pub record AreMultiples (kind : RingKind) (segments : List Segment) (step : ℕ) : Type 0 where
+  pub some : 0 < step
+  pub each : (j : ℕ) → j < length segments → data_count kind (segment_at segments j) % step ≡ 0
+
 -- it has the first place of each segment, and where each starts, by rising address
 pub record IsIndex (kind : RingKind) (segments : List Segment) (index : SegmentIndex) : Type 0 where
+  pub step : AreMultiples kind segments index.step
   pub firsts : AreFirsts kind segments (length segments) index.firsts.items
   pub starts : All (IsStart segments) index.starts.items
   pub each : (j : ℕ) → j < length segments → list_any (λ start. start.segment == j) index.starts.items ≡ true

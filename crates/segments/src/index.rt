@@ -1,10 +1,12 @@
 //! What finds a segment of a ring by a search.
 
-ghost use Rattle.std.specs.Prelude.{◌≡◌, ◌<◌, ◌≤◌, ℕ, List, length, slice_index, slice_index_or, IfOk, IfSome};
+ghost use Rattle.std.specs.Prelude.{◌≡◌, ◌<◌, ◌≤◌, ◌==◌, ℕ, List, length, slice_index, slice_index_or, IfOk, IfSome};
 ghost use Rattle.std.specs.Bool.{OnTrue};
 ghost use Rattle.trb.specs.declared.ring_kind.RingKind.{RingKind};
 ghost use Rattle.segments.specs.declared.segment.Segment.{Segment};
-ghost use Rattle.segments.specs.Index.{AreFirsts, AreStarts, IsIndex, IsLastOf, IsLastStart, IsSegmentOf, before};
+ghost use Rattle.std.specs.List.{list_all};
+ghost use Rattle.segments.specs.Places.{data_count};
+ghost use Rattle.segments.specs.Index.{AreFirsts, AreMultiples, AreStarts, IsIndex, IsLastOf, IsLastStart, IsSegmentOf, before};
 
 use crate::rules::data_blocks;
 use crate::segment::Segment;
@@ -25,6 +27,8 @@ pub(crate) struct SegmentIndex {
     pub(crate) firsts: Vec<u32>,
     /// The segments by rising first address.
     pub(crate) starts: Vec<Start>,
+    /// Each segment has a multiple of so many data places.
+    pub(crate) step: u32,
 }
 
 impl SegmentIndex {
@@ -40,7 +44,12 @@ impl SegmentIndex {
         let firsts = first_places(alloc, kind, segments)?;
         let mut starts = starts_of(alloc, segments)?;
         starts.sort_unstable_by_key(|start| start.base);
-        Ok(SegmentIndex { firsts, starts })
+        let step = common_step(kind, segments);
+        Ok(SegmentIndex {
+            firsts,
+            starts,
+            step,
+        })
     }
 
     /// The number of the segment with a data place.
@@ -143,6 +152,7 @@ impl SegmentIndex {
         Ok(SegmentIndex {
             firsts: self.firsts.clone()?,
             starts: self.starts.clone()?,
+            step: self.step,
         })
     }
 }
@@ -159,6 +169,30 @@ fn first_places(alloc: Global, kind: RingKind, segments: &[Segment]) -> Result<V
         places += u32::from(data_blocks(kind, *segment));
     }
     Ok(firsts)
+}
+
+/// A number of which each segment has a multiple of data places: what all have, if they have as many, else 1.
+fn common_step(kind: RingKind, segments: &[Segment]) -> u32
+    ensures { AreMultiples kind segments.now result }
+{
+    let first = match segments.first() {
+        Some(segment) => data_blocks(kind, *segment),
+        None => 1,
+    };
+    if first > 0 && are_of(kind, segments, first) {
+        u32::from(first)
+    } else {
+        1
+    }
+}
+
+/// Whether each segment has so many data places.
+fn are_of(kind: RingKind, segments: &[Segment], places: u16) -> bool
+    ensures { result ≡ list_all (λ s. data_count kind s == places) segments.now }
+{
+    segments
+        .iter()
+        .all(|segment| data_blocks(kind, *segment) == places)
 }
 
 /// Where each segment starts, in order.

@@ -195,8 +195,8 @@ impl RingShape {
         ensures value { result ≡ link_crossed self.now q }
         ensures link { IfSome result (λ segment. segment < length (links self.now)) }
     {
-        // most rings have one segment alone, whose Link comes behind the last place
-        if self.segments.len() == 1 && q % u64::from(self.places) != 0 {
+        // behind most places no segment ends
+        if q % u64::from(self.index.step) != 0 {
             return None;
         }
         self.crossing_by_segment(q)
