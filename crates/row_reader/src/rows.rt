@@ -73,9 +73,10 @@ impl RowReader {
             self.lines += 1;
             return Ok(Some((self.lines, Row::Read { event })));
         }
-        if let Some((ring, blocks)) = self.declaration() {
+        if let Some((ring, block)) = declaration_ahead(self.ahead.as_slice()) {
             self.ahead.skip(43);
             self.lines += 1;
+            let blocks = Blocks::one(block);
             return Ok(Some((self.lines, Row::Sub { ring, blocks })));
         }
         if let Some((slot, target)) = bell_ahead(self.ahead.as_slice()) {
@@ -95,16 +96,6 @@ impl RowReader {
             )));
         }
         self.searched_row(source)
-    }
-
-    /// The ring and the block of the first line, where it declares one. Want of memory is told where the line is read again.
-    #[inline(always)]
-    fn declaration(&self) -> Option<(u8, Blocks)>
-        ensures { IfSome result (λ said. BeginsWithRow (Sub said.0 said.1) 43 (ahead_of self.now.ahead)) }
-    {
-        let (ring, block) = declaration_ahead(self.ahead.as_slice())?;
-        let blocks = vec![in self.alloc; block].ok()?;
-        Some((ring, Blocks::new(blocks)))
     }
 
     /// The next row, where a line feed is looked for.

@@ -84,7 +84,7 @@ pub fn row_in(alloc: Global, lines: u32, line: &Line) -> Result<Row, LineError>
 fn entry_alone(alloc: Global, begun: bool, line: &Line) -> Result<Entry, LineError>
     ensures { Answers result (said_alone begun line.now) }
 {
-    if let Some(row) = quick_row(alloc, line)? {
+    if let Some(row) = quick_row(line) {
         return Ok(Entry::Row(row));
     }
     let content = content_of(line)?;

@@ -8,25 +8,24 @@ ghost use Rattle.traces.specs.declared.row.Row.{Row};
 use crate::entry::{block_of, word_address_of};
 use guest_memory::Addr;
 use line_text::{Line, u8_of, u32_of, u64_of};
-use std::alloc::{AllocError, Global};
 use traces::{Register, Row};
 use trb::{Block, Blocks};
 
 /// The row of a line of a frequent form, by the places of its fields. Where it answers none, the line may still say one.
-pub fn quick_row(alloc: Global, line: &Line) -> Result<Option<Row>, AllocError>
-    ensures { IfOk result (λ found. IfSome found (λ row. (begun : Bool) → said_alone begun line.now ≡ Ok (SaysRow row))) }
+pub fn quick_row(line: &Line) -> Option<Row>
+    ensures { IfSome result (λ row. (begun : Bool) → said_alone begun line.now ≡ Ok (SaysRow row)) }
 {
     if !line.is_ended() {
-        return Ok(None);
+        return None;
     }
     let content = line.content();
     match content.len() {
-        27 => Ok(write_of(content)),
-        38 => Ok(event_of(content)),
-        8 => Ok(bell_of(content)),
-        25 => Ok(erdp_of(content)),
-        42 => quick_sub(alloc, content),
-        _ => Ok(None),
+        27 => write_of(content),
+        38 => event_of(content),
+        8 => bell_of(content),
+        25 => erdp_of(content),
+        42 => declaration_of(content),
+        _ => None,
     }
 }
 
@@ -179,15 +178,13 @@ fn quick_erdp(content: &[u8]) -> Option<u64>
 }
 
 /// `sub`, a ring and the four words of one block.
-fn quick_sub(alloc: Global, content: &[u8]) -> Result<Option<Row>, AllocError>
+fn declaration_of(content: &[u8]) -> Option<Row>
     requires { length content.now ≡ 42 }
-    ensures { IfOk result (λ found. IfSome found (λ row. SaysAlone row content.now)) }
+    ensures { IfSome result (λ row. SaysAlone row content.now) }
 {
-    let Some((ring, block)) = quick_declaration(content) else {
-        return Ok(None);
-    };
-    let blocks = Blocks::new(vec![in alloc; block]?);
-    Ok(Some(Row::Sub { ring, blocks }))
+    let (ring, block) = quick_declaration(content)?;
+    let blocks = Blocks::one(block);
+    Some(Row::Sub { ring, blocks })
 }
 
 /// The ring and the block of a `sub` line.

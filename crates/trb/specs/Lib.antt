@@ -1,6 +1,7 @@
 pub mod Bits
 pub mod Kind
 pub mod Block
+pub mod Blocks
 pub mod CompletionCode
 pub mod Descriptor
 pub mod Flags
