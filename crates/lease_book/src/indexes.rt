@@ -33,7 +33,12 @@ impl Indexes {
         ensures others { OnOk result ((m : ℕ) → m ≢ number → index_in self.new m ≡ index_in self.old m) }
     {
         let at = number as usize;
-        if at >= self.indexes.len() {
+        let next = self.indexes.len();
+        if at == next {
+            self.indexes.push(index)?;
+            return Ok(());
+        }
+        if at > next {
             self.indexes.resize(at + 1, 0)?;
         }
         self.indexes[at] = index;
