@@ -146,8 +146,13 @@ fn check_giving_word<M: WordMemory>(
     ensures events { OnOk result (kept.new.events ≡ kept.old.events) }
 {
     match check_write(header, finder, kept, memory, at, word, place, owned) {
-        Ok(command) => {
-            note_write(header, finder, kept, memory, at, word, place, command)?;
+        Ok(None) => {
+            note_plain_write(header, kept, memory, at, word, place)?;
+            Ok(())
+        }
+        Ok(Some(command)) => {
+            let given = Some(command);
+            note_write(header, finder, kept, memory, at, word, place, given)?;
             Ok(())
         }
         Err(refusal) => Err(StepFault::Refused(refusal)),
