@@ -19,6 +19,7 @@ use trace_record::TraceRecord;
 use traces::Header;
 
 /// The command at the floor of the command ring: the one that is finished next (xHCI 4.6).
+#[inline(always)]
 pub fn next_command(header: &Header, finder: &Finder, t: &TraceRecord) -> Option<Command>
     requires headed { IsHeader header.now }
     requires found { IsFinder header.now.rings finder.now }

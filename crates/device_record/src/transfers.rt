@@ -29,6 +29,7 @@ impl DeviceRecord {
     }
 
     /// The driver has read a Transfer Event with this code on the endpoint's ring (xHCI 4.8.3, 4.10.2, 6.4.2.1).
+    #[inline(always)]
     pub fn read_transfer(&mut self, code: u8, slot: u8, index: u8)
         requires { index < 32 }
         ensures { (h : Header) (k : Known) (r : ℕ) (t : Spot) → FollowsDevices k self.old → FollowsDevices (transferred h k code slot index r t) self.new }

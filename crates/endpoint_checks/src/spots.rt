@@ -23,6 +23,7 @@ pub struct NamedSpot {
 }
 
 /// The spot that a Transfer Event names on the ring of its endpoint.
+#[inline(always)]
 pub fn named_spot(
     header: &Header,
     finder: &Finder,

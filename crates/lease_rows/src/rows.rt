@@ -51,6 +51,7 @@ pub fn note_row<B: LeaseLog, M: WordMemory>(
 }
 
 /// Notes the leases that end with an event, where it breaks no rule.
+#[inline(always)]
 fn note_event<B: LeaseLog>(
     book: &mut B,
     ranges: &RangeIndexes,

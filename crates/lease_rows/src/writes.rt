@@ -19,6 +19,7 @@ use traces::Header;
 
 /// Notes the row of a number that writes a word; the record and the memory are those before it. The leases of the block or the Link
 /// that it gives begin, and those of the ranges that a command takes.
+#[inline(always)]
 pub(crate) fn note_write<B: LeaseLog, M: WordMemory>(
     book: &mut B,
     ranges: &mut RangeIndexes,

@@ -27,6 +27,7 @@ use write_checks::{check_write, plain_refusal};
 
 /// Checks a row, and notes it. Where it writes a word, `place` is where the word lies, and `owned` whether the controller
 /// owns what is written.
+#[inline(always)]
 pub fn check_row<M: WordMemory>(
     header: &Header,
     finder: &Finder,

@@ -57,6 +57,7 @@ impl TraceRecord {
 
     /// Whether a word is under lease, where it is known whether a lease of its ring has it: it is of a ring, the segment table,
     /// an input context, an entry of the DCBAA or a device context (xHCI 4.9.2, 4.9.4, 4.6.5, 6.1).
+    #[inline(always)]
     fn is_leased(&self, at: Addr, is_lent: bool) -> bool
         ensures { (h : HeaderValue) (k : Known) (memory : ℕ → ℕ) → FollowsTrace h k self.now memory → is_lent ≡ rings_have h k at → result ≡ is_leased h k at }
     {

@@ -15,6 +15,7 @@ const MAX_BLOCKS: usize = 256;
 /// What is wrong with these blocks as a descriptor (TD) of such a ring: xHCI 3.2.8 to 3.2.11, 4.11.2, 6.4.1, 6.4.3.
 /// A descriptor is declared with every Cycle bit 0. Where no form fits and something is outside the profile too,
 /// `BadDescriptor` comes first.
+#[inline(always)]
 pub fn descriptor_fault(kind: RingKind, blocks: &[Block]) -> Option<Fault>
     ensures { result ≡ fault_of kind blocks.now }
 {
