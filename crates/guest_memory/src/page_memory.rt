@@ -14,7 +14,10 @@ const FIRST: u64 = 1 << 61;
 const NEAR: u64 = 1 << 30;
 
 /// How many pages are remembered as written lately.
-const RECENT: u64 = 1024;
+const RECENT: usize = 4096;
+
+/// 2^64 by the golden ratio: its multiples lie far apart, those of neighbours and of equal steps too.
+const GOLDEN: u64 = 0x9e37_79b9_7f4a_7c15;
 
 /// Where a page lies, or where the next page has to stand if it is to have its number: behind a page by a digit.
 enum Way {
@@ -29,7 +32,7 @@ enum Way {
 pub struct PageMemory {
     pages: Vec<Page>,
     /// Where a page may lie, by what its number leaves.
-    recent: [usize; RECENT as usize],
+    recent: [u32; RECENT],
     ghost is_tree: { IsTree (numbers pages.items) (nexts pages.items) },
 }
 
@@ -51,11 +54,11 @@ fn digits(number: u64) -> u64
     number % NEAR * (1 << 34) + number / NEAR
 }
 
-/// Where a page is remembered. Pages that lie side by side, or as far apart as the rings of many traces, have places of their own.
+/// Where a page is remembered. Pages that lie side by side, or equally far apart, have places of their own.
 fn slot(number: u64) -> usize
-    ensures { result < 1024 }
+    ensures { result < 4096 }
 {
-    ((number ^ number >> 8 ^ number >> 16) % RECENT) as usize
+    (number.wrapping_mul(GOLDEN) >> 52) as usize
 }
 
 impl PageMemory {
@@ -67,7 +70,7 @@ impl PageMemory {
     {
         PageMemory {
             pages: Vec::new(alloc),
-            recent: [0; RECENT as usize],
+            recent: [0; RECENT],
         }
     }
 
@@ -106,7 +109,7 @@ impl PageMemory {
         ensures some { IfSome result (IsAt (numbers self.now.pages.items) number) }
         ensures none { IfNone result (HasNone (numbers self.now.pages.items) number) }
     {
-        let recent = self.recent[slot(number)];
+        let recent = self.recent[slot(number)] as usize;
         if self.lies_at(recent, number) {
             return Some(recent);
         }
@@ -131,7 +134,7 @@ impl PageMemory {
         ensures same { (a : ℕ) → word_in self.new a ≡ word_in self.old a }
         ensures ok { IfOk result (IsAt (numbers self.new.pages.items) number) }
     {
-        let recent = self.recent[slot(number)];
+        let recent = self.recent[slot(number)] as usize;
         if self.lies_at(recent, number) {
             return Ok(recent);
         }
@@ -148,7 +151,9 @@ impl PageMemory {
             Way::Found(at) => at,
             Way::Free(behind, digit) => self.add(number, behind, digit)?,
         };
-        self.recent[slot(number)] = at;
+        if let Ok(recent) = u32::try_from(at) {
+            self.recent[slot(number)] = recent;
+        }
         Ok(at)
     }
 
