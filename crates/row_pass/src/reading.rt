@@ -48,7 +48,7 @@ pub fn pass_rows<S: Source, B: LeaseLog + Drop, M: WordMemory + Drop>(
     let mut pass = Pass::new(alloc, reader.header(), log, memory)?;
     while let Some((number, row)) = reader.next_row(source)? {
         match pass.row(reader.header(), number, &row) {
-            Ok(()) => {}
+            Ok(()) => drop(row),
             Err(StepFault::Refused(refusal)) => {
                 read_on(&mut reader, source)?;
                 return Ok(Passed::Refused {
@@ -70,6 +70,8 @@ fn read_on<S: Source>(reader: &mut RowReader, source: &mut S) -> Result<(), Stre
         IsBadLine held (S.held source.new) line fault)) }
     ensures failures { S.failed source.new ≡ told_failures (S.failed source.old) result }
 {
-    while let Some((_, _)) = reader.next_row(source)? {}
+    while let Some((_, row)) = reader.next_row(source)? {
+        drop(row);
+    }
     Ok(())
 }

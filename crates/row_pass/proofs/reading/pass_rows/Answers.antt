@@ -24,23 +24,6 @@ returns-in_err-number-clause-line g c =
     (bad_so g.M.WordMemory.words g.B.LeaseLog.holds c.args.reader (g.S.Source.held c.args.source.now) c.args.log (g.S.Source.held c.loop-pass.source) (g.S.Source.held c.next_row.new.source)
     c.loop-pass.reader c.next_row.new.self c.loop-pass.pass c.loop-pass.invariant.0 c.in_err-number.ensures.header c.in_err-number.field-0.0 c.in_err-number.ensures.over c.in_err-number.ensures.answer)
 
-pub loop-pass-preserved-in-Ok : goal.loop-pass-preserved-in-Ok
-loop-pass-preserved-in-Ok g c =
-    let words = g.M.WordMemory.words in
-    let holds = g.B.LeaseLog.holds in
-    let held = g.S.Source.held c.args.source.now in
-    let held' = g.S.Source.held c.loop-pass.source in
-    let held'' = g.S.Source.held c.next_row.new.source in
-    let r = c.loop-pass.reader in
-    let r' = c.next_row.new.self in
-    let row : ℕ × Row = (c.in-Some.number, c.in-Some.row) in
-    let on = subst (λ (o : Option (ℕ × Row)). r'.ended ≡ has_ended (Ok o)) c.in-Some.is c.in_ok-number.ensures.over in
-    let call = subst (λ (o : Option (ℕ × Row)). IsCall (progress_of r) (progress_of r') held' held'' (ahead_of r.ahead) (ahead_of r'.ahead) (Ok o)) c.in-Some.is c.in_ok-number.ensures.answer in (
-      row_passed words holds c.args.reader held c.args.log held' held'' r r' c.loop-pass.pass c.loop-pass.invariant.0 c.in_ok-number.ensures.header row on call c.header-in-Some.result.now c.header-in-Some.ensures.said
-          c.row.new.self c.in-Ok.ensures.passed c.in-Ok.ensures.logged,
-      c.in_ok-number.ensures.failures ∙ c.loop-pass.invariant.1,
-    )
-
 pub loop-pass-preserved : goal.loop-pass-preserved
 loop-pass-preserved g c =
     let words = g.M.WordMemory.words in
@@ -57,20 +40,6 @@ loop-pass-preserved g c =
           c.row.new.self c.in-Ok.ensures.passed c.in-Ok.ensures.logged,
       c.in_ok-number.ensures.failures ∙ c.loop-pass.invariant.1,
     )
-
-pub loop-pass-smaller-in-Ok : goal.loop-pass-smaller-in-Ok
-loop-pass-smaller-in-Ok g c =
-    let words = g.M.WordMemory.words in
-    let holds = g.B.LeaseLog.holds in
-    let held = g.S.Source.held c.args.source.now in
-    let held' = g.S.Source.held c.loop-pass.source in
-    let held'' = g.S.Source.held c.next_row.new.source in
-    let r = c.loop-pass.reader in
-    let r' = c.next_row.new.self in
-    let row : ℕ × Row = (c.in-Some.number, c.in-Some.row) in
-    let on = subst (λ (o : Option (ℕ × Row)). r'.ended ≡ has_ended (Ok o)) c.in-Some.is c.in_ok-number.ensures.over in
-    let call = subst (λ (o : Option (ℕ × Row)). IsCall (progress_of r) (progress_of r') held' held'' (ahead_of r.ahead) (ahead_of r'.ahead) (Ok o)) c.in-Some.is c.in_ok-number.ensures.answer in
-    fewer_left held' held'' r r' row on call
 
 pub loop-pass-smaller : goal.loop-pass-smaller
 loop-pass-smaller g c =
