@@ -65,6 +65,7 @@ pub fn note_write<M: WordMemory>(
 }
 
 /// The same of a write that gives no command.
+#[inline(always)]
 pub fn note_plain_write<M: WordMemory>(
     header: &Header,
     trace: &mut TraceRecord,

@@ -58,6 +58,24 @@ impl<B: LeaseLog + Drop, M: WordMemory + Drop> Pass<B, M> {
         ensures refused { IfErr result (λ e. IfRefused e (λ c. (past : List Row) → IsPassed M.words header.now past self.old →
             IsLeast header.now (known header.now past) row.now c)) }
     {
+        match row {
+            Row::Write { .. } => self.checked_row(header, number, row),
+            _ => self.checked_row(header, number, row),
+        }
+    }
+
+    /// The same. It goes inline for writes and for other rows each by itself, which have no place.
+    #[inline(always)]
+    fn checked_row(&mut self, header: &Header, number: u32, row: &Row) -> Result<(), StepFault>
+        requires headed { IsHeader header.now }
+        requires so_far { (past : List Row) × IsPassed M.words header.now past self.old × (length past ≤ most_lines) }
+        ensures passed { OnOk result ((past : List Row) → IsPassed M.words header.now past self.old → IsPassed M.words header.now (row.now ∷ past) self.new) }
+        ensures logged { OnOk result ((list : List Lease) (first : ℕ) (past : List Row) → IsPassed M.words header.now past self.old →
+            number ≡ first + length past → first + length (row.now ∷ past) ≤ without_end →
+            IsLogged (B.holds list) header.now first past self.old → IsLogged (B.holds list) header.now first (row.now ∷ past) self.new) }
+        ensures refused { IfErr result (λ e. IfRefused e (λ c. (past : List Row) → IsPassed M.words header.now past self.old →
+            IsLeast header.now (known header.now past) row.now c)) }
+    {
         let place = self.record.place(header, &self.finder, row);
         let owned = self.record.owns(header, &self.memory, row, place);
         note_row(

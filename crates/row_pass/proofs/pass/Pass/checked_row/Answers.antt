@@ -3,7 +3,7 @@ use Rattle.ring_knowledge.specs.Learned.{known}
 use Rattle.trace_record.specs.WordPlaces.{IsOwnedSo, IsPlaced}
 use Rattle.row_pass.specs.Passing.{IsPassed}
 use Rattle.row_pass.proofs.Rows.{behind_row, clean_row, on_both, refused_too}
-use Rattle.row_pass.proofs.pass.Pass.row.Goals as goal
+use Rattle.row_pass.proofs.pass.Pass.checked_row.Goals as goal
 
 pub returns-clause-passed : goal.returns-clause-passed
 returns-clause-passed g c =
