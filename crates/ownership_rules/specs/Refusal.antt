@@ -1,7 +1,7 @@
 -- The rules by their numbers and names
 use Rattle.std.specs.Prelude.{ℕ, Bool, if◌then◌else◌, List, [], ◌∷◌, map, filter, Option, Some, None, codes}
 use Rattle.ownership_rules.specs.declared.refusal.Refusal.{Refusal}
-use Rattle.ownership_rules.specs.declared.refusal.Refusal.TheVariants.{WriteToOwned, NotAsSubmitted, NotDeclared, NotWhole, LinkFault, RingFull, BadDescriptor, BadRegister, BadDoorbell, BadCommand, Busy, ImpossibleEvent, BadErdp, NotInProfile, AfterStop, BadMove}
+use Rattle.ownership_rules.specs.declared.refusal.Refusal.TheVariants.{WriteToOwned, NotAsSubmitted, NotDeclared, NotWhole, LinkFault, RingFull, BadDescriptor, BadRegister, BadDoorbell, BadCommand, Busy, ImpossibleEvent, BadErdp, NotInProfile, AfterStop, BadMove, BadWithdraw, NotRestored, BadFree, BadRing}
 
 abbrev pub number_of : Refusal → ℕ
 number_of WriteToOwned = 10
@@ -20,6 +20,10 @@ number_of BadErdp = 22
 number_of NotInProfile = 23
 number_of AfterStop = 24
 number_of BadMove = 25
+number_of BadWithdraw = 32
+number_of NotRestored = 33
+number_of BadFree = 34
+number_of BadRing = 35
 
 -- the name that is printed
 abbrev pub name_of : Refusal → List ℕ
@@ -39,6 +43,10 @@ name_of BadErdp = codes "BadErdp"
 name_of NotInProfile = codes "NotInProfile"
 name_of AfterStop = codes "AfterStop"
 name_of BadMove = codes "BadMove"
+name_of BadWithdraw = codes "BadWithdraw"
+name_of NotRestored = codes "NotRestored"
+name_of BadFree = codes "BadFree"
+name_of BadRing = codes "BadRing"
 
 -- a rule, and whether a row breaks it
 abbrev pub Test : Type 0

@@ -40,10 +40,18 @@ pub enum Refusal {
     AfterStop,
     /// A ring is bound, or moved, to where it may not be (xHCI 4.6.5, 4.6.6, 4.6.10).
     BadMove,
+    /// A descriptor is withdrawn that isn't there whole, or whose endpoint doesn't rest (xHCI 4.6.9, 6.4.1.4.1).
+    BadWithdraw,
+    /// A ring is started or moved before the No Ops of its withdrawn descriptors stand there (xHCI 4.6.9, 4.6.10).
+    NotRestored,
+    /// A ring goes that is no transfer ring, that an endpoint has, or that an unfinished command binds (xHCI 4.6.6, 4.9).
+    BadFree,
+    /// A ring comes whose ID another has, or whose memory isn't the driver's or shows the first lap's Cycle bit (xHCI 4.9, 4.9.2).
+    BadRing,
 }
 
 impl Refusal {
-    /// The number that is printed: 10 to 25.
+    /// The number that is printed: 10 to 25, and 32 to 35.
     pub fn number(self) -> u8
         ensures { result ≡ number_of self }
     {
@@ -64,6 +72,10 @@ impl Refusal {
             Refusal::NotInProfile => 23,
             Refusal::AfterStop => 24,
             Refusal::BadMove => 25,
+            Refusal::BadWithdraw => 32,
+            Refusal::NotRestored => 33,
+            Refusal::BadFree => 34,
+            Refusal::BadRing => 35,
         }
     }
 
@@ -88,6 +100,10 @@ impl Refusal {
             Refusal::NotInProfile => "NotInProfile",
             Refusal::AfterStop => "AfterStop",
             Refusal::BadMove => "BadMove",
+            Refusal::BadWithdraw => "BadWithdraw",
+            Refusal::NotRestored => "NotRestored",
+            Refusal::BadFree => "BadFree",
+            Refusal::BadRing => "BadRing",
         }
     }
 }

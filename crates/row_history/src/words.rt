@@ -28,6 +28,10 @@ pub fn general_head(refusal: Refusal) -> &'static str {
         Refusal::NotInProfile => "not in the checker's profile",
         Refusal::AfterStop => "the trace goes on behind the stop",
         Refusal::BadMove => "a ring is bound or moved to where it may not stand",
+        Refusal::BadWithdraw => "a TD is withdrawn that may not be",
+        Refusal::NotRestored => "a ring goes on before its withdrawn TDs are No Ops",
+        Refusal::BadFree => "a ring is freed that is not the driver's to free",
+        Refusal::BadRing => "a ring comes in memory that is not free for it",
     }
 }
 
@@ -61,6 +65,14 @@ pub fn why_refused(refusal: Refusal) -> &'static str {
         Refusal::AfterStop => "a trace is one run, from the set-up to the stop",
         Refusal::BadMove =>
             "Set TR Dequeue Pointer names the beginning of a TD, or the end of all, that the controller cannot have passed, with all before it handed over; an endpoint gets a ring that no other had, at its first TRB, with DCS 1",
+        Refusal::BadWithdraw =>
+            "an endpoint that has the ring is Stopped, no unfinished command touches it, and the TD is there whole",
+        Refusal::NotRestored =>
+            "a withdrawn TRB that was handed over stands as a No Op, words 0 to 2 being 0 and word 3 00002000 with its Cycle bit, before the doorbell or the Set TR Dequeue Pointer",
+        Refusal::BadFree =>
+            "a Transfer Ring goes once no endpoint has it, and no unfinished command gives it to one",
+        Refusal::BadRing =>
+            "its ID is new, its segments touch no ring and no memory that the controller has or wrote last, and no control word shows Cycle bit 1",
     }
 }
 

@@ -4,7 +4,7 @@ ghost use Rattle.rule_pages.specs.Naming.{IsCalled};
 use ownership_rules::Refusal;
 
 /// All rules, by rising number.
-const RULES: [Refusal; 16] = [
+const RULES: [Refusal; 20] = [
     Refusal::WriteToOwned,
     Refusal::NotAsSubmitted,
     Refusal::NotDeclared,
@@ -21,6 +21,10 @@ const RULES: [Refusal; 16] = [
     Refusal::NotInProfile,
     Refusal::AfterStop,
     Refusal::BadMove,
+    Refusal::BadWithdraw,
+    Refusal::NotRestored,
+    Refusal::BadFree,
+    Refusal::BadRing,
 ];
 
 /// Whether a user calls the rule so.

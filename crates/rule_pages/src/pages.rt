@@ -506,6 +506,212 @@ A trace that breaks it
     w 000000000001001c 01002c01
 ";
 
+const BAD_WITHDRAW: &str = "\
+a TD is withdrawn that may not be
+
+What it is for
+  A driver cancels a TD of a stopped ring by turning its TRBs into No Ops; a
+  `nop` row (of `xtrace 2` and `3`) says so before the first of these writes.
+  An endpoint that has the ring is Stopped then, no unfinished command touches
+  it, and at the position that the row names a TD begins of which nothing was
+  withdrawn before (xHCI 4.6.9, 6.4.1.4.1).
+
+What a controller does to a driver that breaks it
+  While the endpoint runs, it takes a TRB that is half the TD and half a No
+  Op. With a command unfinished that moves or resets the endpoint it goes on
+  elsewhere than the driver believes: it takes TDs twice, or passes over some.
+
+What to write instead
+  Stop Endpoint, and read its completion; the `nop` row; then of each TRB that
+  was handed over words 0 to 2 with 0 and word 3 with 00002000 and the Cycle
+  bit that it has; then the doorbell. What the controller may have passed
+  keeps its Cycle bit all the time: a write that turns it is refused as
+  WriteToOwned.
+
+A trace that breaks it
+  Row 29 withdraws the TD of row 28 while the endpoint is Running: refused.
+  (`check` doesn't read `nop` rows yet: it answers 2 Row for that line.)
+
+    xtrace 2
+    ctx 20
+    ring 00 cmd 0000000000010000:0010
+    ring 01 evt 0000000000020000:0010
+    ring 02 xfer 0000000000030000:0004
+    w 0000000000040000 00020000
+    w 0000000000040008 00000010
+    reg erstsz 0000000000000001
+    reg erstba 0000000000040000
+    reg erdp 0000000000020000
+    reg crcr 0000000000010001
+    reg dcbaap 0000000000050000
+    reg config 0000000000000008
+    reg usbcmd 0000000000000001
+    sub 00 00000000 00000000 00000000 00002400
+    w 000000000001000c 00002401
+    db 00 00
+    ev 00010000 00000000 01000000 01008401
+    w 0000000000050008 00070000
+    w 0000000000060004 00000003
+    w 0000000000060044 00000020
+    w 0000000000060048 00030001
+    sub 00 00060000 00000000 00000000 01002c00
+    w 0000000000010010 00060000
+    w 000000000001001c 01002c01
+    db 00 00
+    ev 00010010 00000000 01000000 01008401
+    sub 02 00000000 00000000 00000000 00000420
+    nop 02 0000000000000000
+";
+
+const NOT_RESTORED: &str = "\
+a ring goes on before its withdrawn TDs are No Ops
+
+What it is for
+  Behind a `nop` row (of `xtrace 2` and `3`) the TRBs of the withdrawn TD are
+  the driver's to write. They are the controller's again with the next doorbell
+  of the ring's endpoint, or with the Set TR Dequeue Pointer that is handed
+  over for it. Each that was handed over before is a No Op by then: words 0 to
+  2 are 0, word 3 is 00002000 with the Cycle bit of its place in this lap (xHCI
+  4.6.9, 4.6.10, 6.4.1.4.1).
+
+What a controller does to a driver that breaks it
+  It takes what is left of the withdrawn TD, and reads or writes a buffer that
+  was given back. Where the Cycle bit was turned, it waits there for ever, or
+  takes TRBs of two laps.
+
+What to write instead
+  All four words of each of these TRBs, then the write barrier, then the
+  doorbell or the command. Without a `nop` row a TD may also stay as it is, and
+  the ring be moved past it by Set TR Dequeue Pointer.
+
+A trace that breaks it
+  Row 34 withdraws the TD that row 29 handed over; row 35 rings before it is a
+  No Op, and is refused. (`check` doesn't read `nop` rows yet: it answers 2 Row
+  for line 34.)
+
+    xtrace 2
+    ctx 20
+    ring 00 cmd 0000000000010000:0010
+    ring 01 evt 0000000000020000:0010
+    ring 02 xfer 0000000000030000:0004
+    w 0000000000040000 00020000
+    w 0000000000040008 00000010
+    reg erstsz 0000000000000001
+    reg erstba 0000000000040000
+    reg erdp 0000000000020000
+    reg crcr 0000000000010001
+    reg dcbaap 0000000000050000
+    reg config 0000000000000008
+    reg usbcmd 0000000000000001
+    sub 00 00000000 00000000 00000000 00002400
+    w 000000000001000c 00002401
+    db 00 00
+    ev 00010000 00000000 01000000 01008401
+    w 0000000000050008 00070000
+    w 0000000000060004 00000003
+    w 0000000000060044 00000020
+    w 0000000000060048 00030001
+    sub 00 00060000 00000000 00000000 01002c00
+    w 0000000000010010 00060000
+    w 000000000001001c 01002c01
+    db 00 00
+    ev 00010010 00000000 01000000 01008401
+    sub 02 00000000 00000000 00000000 00000420
+    w 000000000003000c 00000421
+    sub 00 00000000 00000000 00000000 01013c00
+    w 000000000001002c 01013c01
+    db 00 00
+    ev 00010020 00000000 01000000 01008401
+    nop 02 0000000000000000
+    db 01 01
+";
+
+const BAD_FREE: &str = "\
+a ring is freed that is not the driver's to free
+
+What it is for
+  A `free` row (of `xtrace 2` and `3`) says that the memory of a Transfer Ring
+  is the driver's again. No endpoint has the ring: each that had it is
+  Disabled by a command whose completion was read. And no unfinished command
+  gives it to one. The Command Ring and the Event Ring never go (xHCI 4.6.4,
+  4.6.6, 4.9).
+
+What a controller does to a driver that breaks it
+  It goes on fetching where no ring is any more, and takes as TDs whatever is
+  put there next.
+
+What to write instead
+  Disable Slot, or Configure Endpoint that drops the endpoint; read its
+  completion; then the `free` row, and only then give the memory back.
+
+A trace that breaks it
+  Row 28 frees the ring of an endpoint that is Running, and is refused.
+  (`check` doesn't read `free` rows yet: it answers 2 Row for that line.)
+
+    xtrace 2
+    ctx 20
+    ring 00 cmd 0000000000010000:0010
+    ring 01 evt 0000000000020000:0010
+    ring 02 xfer 0000000000030000:0004
+    w 0000000000040000 00020000
+    w 0000000000040008 00000010
+    reg erstsz 0000000000000001
+    reg erstba 0000000000040000
+    reg erdp 0000000000020000
+    reg crcr 0000000000010001
+    reg dcbaap 0000000000050000
+    reg config 0000000000000008
+    reg usbcmd 0000000000000001
+    sub 00 00000000 00000000 00000000 00002400
+    w 000000000001000c 00002401
+    db 00 00
+    ev 00010000 00000000 01000000 01008401
+    w 0000000000050008 00070000
+    w 0000000000060004 00000003
+    w 0000000000060044 00000020
+    w 0000000000060048 00030001
+    sub 00 00060000 00000000 00000000 01002c00
+    w 0000000000010010 00060000
+    w 000000000001001c 01002c01
+    db 00 00
+    ev 00010010 00000000 01000000 01008401
+    free 02
+";
+
+const BAD_RING: &str = "\
+a ring comes in memory that is not free for it
+
+What it is for
+  A `ring` line behind rows (of `xtrace 2` and `3`) is a Transfer Ring that
+  comes: from now on its memory is one. Its ID is new. Its segments touch no
+  ring that is there, and nothing that the controller has: no Input Context of
+  an unfinished command, no DCBAA entry or Device Context, no ERST. Nor is a
+  Device Context's word among them that wasn't written since, for there the
+  controller wrote last. And no control word shows 1, the Cycle bit of the
+  first lap (xHCI 4.9, 4.9.2, 6.1).
+
+What a controller does to a driver that breaks it
+  A TRB that shows 1 counts as handed over: what lies there is taken as a TD.
+  Of memory that is two things at once, it writes the one and reads the other.
+
+What to write instead
+  Free the ring that lay there, read the completion of the command that gives
+  a context back, then set every word of the segments to 0. Then the `ring`
+  line, the Link TRBs and the TDs.
+
+A trace that breaks it
+  Row 7 makes a ring where the TRB of row 5 still shows its Cycle bit: refused.
+  (`check` doesn't read such rows yet: it answers 2 Row for line 6.)
+
+    xtrace 2
+    ctx 20
+    ring 02 xfer 0000000000030000:0004
+    sub 02 00000000 00000000 00000000 00002020
+    w 000000000003000c 00002021
+    free 02
+    ring 03 xfer 0000000000030000:0004
+";
+
 /// The page on a rule, which its number and name stand before: a head line, what it is for, what a controller does to a driver that
 /// breaks it, what to write instead, and a trace whose last row breaks it, each line behind four spaces.
 pub fn page(rule: Refusal) -> &'static str {
@@ -526,5 +732,9 @@ pub fn page(rule: Refusal) -> &'static str {
         Refusal::NotInProfile => NOT_IN_PROFILE,
         Refusal::AfterStop => AFTER_STOP,
         Refusal::BadMove => BAD_MOVE,
+        Refusal::BadWithdraw => BAD_WITHDRAW,
+        Refusal::NotRestored => NOT_RESTORED,
+        Refusal::BadFree => BAD_FREE,
+        Refusal::BadRing => BAD_RING,
     }
 }

@@ -2,7 +2,7 @@ use Rattle.std.proofs.Common.{◌≡◌, ◌<◌, ◌∙◌, ◌∷◌, [], ℕ,
 use Rattle.std.proofs.lemmas.Option.{slice_get-get_or}
 use Rattle.std.specs.Prelude.{IfSome, IsTrue}
 use Rattle.ownership_rules.specs.declared.refusal.Refusal.{Refusal}
-use Rattle.ownership_rules.specs.declared.refusal.Refusal.TheVariants.{WriteToOwned, NotAsSubmitted, NotDeclared, NotWhole, LinkFault, RingFull, BadDescriptor, BadRegister, BadDoorbell, BadCommand, Busy, ImpossibleEvent, BadErdp, NotInProfile, AfterStop, BadMove}
+use Rattle.ownership_rules.specs.declared.refusal.Refusal.TheVariants.{WriteToOwned, NotAsSubmitted, NotDeclared, NotWhole, LinkFault, RingFull, BadDescriptor, BadRegister, BadDoorbell, BadCommand, Busy, ImpossibleEvent, BadErdp, NotInProfile, AfterStop, BadMove, BadWithdraw, NotRestored, BadFree, BadRing}
 use Rattle.rule_pages.specs.Naming.{IsCalled}
 use Rattle.rule_pages.proofs.naming.rule_called.Goals as goal
 
@@ -20,13 +20,13 @@ pub loop-rule-preserved : goal.loop-rule-preserved
 loop-rule-preserved c =
     below_more _ _ c.loop-rule.invariant
     (kept (λ rule. IsCalled rule c.args.word.now → ⊥)
-    (WriteToOwned ∷ NotAsSubmitted ∷ NotDeclared ∷ NotWhole ∷ LinkFault ∷ RingFull ∷ BadDescriptor ∷ BadRegister ∷ BadDoorbell ∷ BadCommand ∷ Busy ∷ ImpossibleEvent ∷ BadErdp ∷ NotInProfile ∷ AfterStop ∷ BadMove ∷ [])
+    (WriteToOwned ∷ NotAsSubmitted ∷ NotDeclared ∷ NotWhole ∷ LinkFault ∷ RingFull ∷ BadDescriptor ∷ BadRegister ∷ BadDoorbell ∷ BadCommand ∷ Busy ∷ ImpossibleEvent ∷ BadErdp ∷ NotInProfile ∷ AfterStop ∷ BadMove ∷ BadWithdraw ∷ NotRestored ∷ BadFree ∷ BadRing ∷ [])
     c.loop-rule.rule-index WriteToOwned c.loop-rule-test.true (refuted _ _ c.if-is_called.false c.is_called.ensures.1))
 
 pub returns-clause-unknown : goal.returns-clause-unknown
 returns-clause-unknown c = each
   where
-    all : 15 < c.loop-rule.rule-index
+    all : 19 < c.loop-rule.rule-index
     all = omega (arith, c.loop-rule-test.false)
 
     each : (rule : Refusal) → IsCalled rule c.args.word.now → ⊥
@@ -46,3 +46,7 @@ returns-clause-unknown c = each
     each NotInProfile = c.loop-rule.invariant 13 (omega (arith, all))
     each AfterStop = c.loop-rule.invariant 14 (omega (arith, all))
     each BadMove = c.loop-rule.invariant 15 (omega (arith, all))
+    each BadWithdraw = c.loop-rule.invariant 16 (omega (arith, all))
+    each NotRestored = c.loop-rule.invariant 17 (omega (arith, all))
+    each BadFree = c.loop-rule.invariant 18 (omega (arith, all))
+    each BadRing = c.loop-rule.invariant 19 (omega (arith, all))
