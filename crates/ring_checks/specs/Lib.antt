@@ -1,2 +1,1 @@
-pub mod RingRules
 pub mod RingSteps

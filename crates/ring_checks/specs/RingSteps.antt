@@ -9,9 +9,6 @@ use Rattle.ring_knowledge.specs.declared.ring_record.RingRecord.{RingRecord}
 use Rattle.ring_knowledge.specs.Known.{Known}
 use Rattle.ring_knowledge.specs.RingRecords.{FollowsRing}
 use Rattle.ring_changes.specs.Histories.{IsKept, RingRow, header_after, known_after}
-use Rattle.ring_checks.specs.declared.rule.RingRule.{RingRule}
-use Rattle.ring_checks.specs.declared.fault.RingFault.{RingFault}
-use Rattle.ring_checks.specs.declared.fault.RingFault.TheVariants.{Refused, Memory}
 use Rattle.trace_record.specs.declared.trace_record.TraceRecord.{TraceRecord}
 use Rattle.trace_record.specs.FollowsTrace.{FollowsTrace}
 
@@ -19,11 +16,6 @@ use Rattle.trace_record.specs.FollowsTrace.{FollowsTrace}
 pub record IsRingStep (h : Header) (k : Known) (row : RingRow) (after : TraceRecord) (memory : ℕ → ℕ) : Type 0 where
   pub kept : IsKept h k row
   pub followed : FollowsTrace (header_after h row) (known_after h k row) after memory
-
--- what a refusal says; want of memory says nothing
-abbrev pub IfRefused : RingFault → (RingRule → Type 0) → Type 0
-IfRefused (Refused c) P = P c
-IfRefused Memory P = Unit {0}
 
 -- no ring has the ID, and none touches a segment: so the ring may stand with those of the header
 pub record IsClear (h : Header) (r : Ring) : Type 0 where

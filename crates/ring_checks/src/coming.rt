@@ -5,22 +5,23 @@ ghost use Rattle.ring_knowledge.specs.Known.{Known};
 ghost use Rattle.ring_finder.specs.Finding.{IsFinder};
 ghost use Rattle.safety.specs.Keeps.{DriverKeeps};
 ghost use Rattle.trace_record.specs.FollowsTrace.{FollowsTrace};
+ghost use Rattle.trace_record.specs.Steps.{IfRefused};
 ghost use Rattle.ring_changes.specs.Changes.{is_bad_ring, with_ring};
 ghost use Rattle.ring_changes.specs.Histories.{Comes};
-ghost use Rattle.ring_checks.specs.declared.rule.RingRule.TheVariants.{BadRing};
-ghost use Rattle.ring_checks.specs.RingSteps.{HasOneMore, IfRefused, IsClear, IsRingStep};
+ghost use Rattle.ownership_rules.specs.declared.refusal.Refusal.TheVariants.{BadRing};
+ghost use Rattle.ring_checks.specs.RingSteps.{HasOneMore, IsClear, IsRingStep};
 
-use crate::fault::RingFault;
 use crate::new_rings::is_bad_ring;
-use crate::rule::RingRule;
 use guest_memory::WordMemory;
+use ownership_rules::Refusal;
 use ring_finder::Finder;
 use ring_knowledge::RingRecord;
 use std::alloc::{AllocError, Global};
-use trace_record::TraceRecord;
+use trace_record::{StepFault, TraceRecord};
 use traces::{Header, Ring};
 
 /// Checks a transfer ring that comes, before the stop, and takes it up: rule 35 (xHCI 4.9). The driver has kept the rules so far.
+/// Once a growth of memory was refused, what is kept is of no use any more.
 pub fn check_coming<M: WordMemory>(
     alloc: Global,
     header: &mut Header,
@@ -28,7 +29,7 @@ pub fn check_coming<M: WordMemory>(
     kept: &mut TraceRecord,
     memory: &M,
     ring: Ring,
-) -> Result<(), RingFault>
+) -> Result<(), StepFault>
     requires headed { IsHeader header.now }
     requires found { IsFinder header.now.rings finder.now }
     requires transfers { ring.shape.kind ≡ Xfer }
@@ -42,7 +43,7 @@ pub fn check_coming<M: WordMemory>(
     ensures events { kept.new.events ≡ kept.old.events }
 {
     if is_bad_ring(header, finder, kept, memory, &ring) {
-        return Err(RingFault::Refused(RingRule::BadRing));
+        return Err(StepFault::Refused(Refusal::BadRing));
     }
     add_ring(alloc, header, finder, kept, ring)?;
     Ok(())

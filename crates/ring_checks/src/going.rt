@@ -4,27 +4,28 @@ ghost use Rattle.ring_knowledge.specs.Known.{Known};
 ghost use Rattle.ring_finder.specs.Finding.{IsFinder};
 ghost use Rattle.safety.specs.Keeps.{DriverKeeps};
 ghost use Rattle.trace_record.specs.FollowsTrace.{FollowsTrace};
+ghost use Rattle.trace_record.specs.Steps.{IfRefused};
 ghost use Rattle.ring_changes.specs.Changes.{is_bad_free, without_ring};
 ghost use Rattle.ring_changes.specs.Histories.{Goes};
-ghost use Rattle.ring_checks.specs.declared.rule.RingRule.TheVariants.{BadFree};
-ghost use Rattle.ring_checks.specs.RingSteps.{IfRefused, IsRingStep};
+ghost use Rattle.ownership_rules.specs.declared.refusal.Refusal.TheVariants.{BadFree};
+ghost use Rattle.ring_checks.specs.RingSteps.{IsRingStep};
 
-use crate::fault::RingFault;
 use crate::freeing::free_ring;
-use crate::rule::RingRule;
+use ownership_rules::Refusal;
 use ring_finder::Finder;
 use std::alloc::Global;
-use trace_record::TraceRecord;
+use trace_record::{StepFault, TraceRecord};
 use traces::Header;
 
-/// Checks a ring that goes, before the stop, and forgets it: rule 34 (xHCI 4.9). The driver has kept the rules so far.
+/// Checks a ring that goes, before the stop, and forgets it: rule 34 (xHCI 4.9). The driver has kept the rules so far. Once a growth
+/// of memory was refused, what is kept is of no use any more.
 pub fn check_going(
     alloc: Global,
     header: &mut Header,
     finder: &mut Finder,
     kept: &mut TraceRecord,
     id: u8,
-) -> Result<(), RingFault>
+) -> Result<(), StepFault>
     requires headed { IsHeader header.now }
     requires found { IsFinder header.now.rings finder.now }
     requires as_many { length kept.now.rings.items ≡ length header.now.rings }
@@ -38,7 +39,7 @@ pub fn check_going(
     ensures events { kept.new.events ≡ kept.old.events }
 {
     let Some(number) = free_ring(header, finder, kept, id) else {
-        return Err(RingFault::Refused(RingRule::BadFree));
+        return Err(StepFault::Refused(Refusal::BadFree));
     };
     kept.rings.remove(number);
     header.rings.remove(number);

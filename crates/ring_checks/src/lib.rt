@@ -2,14 +2,10 @@
 #![tactic(auto)]
 
 mod coming;
-mod fault;
 mod first_lap;
 mod freeing;
 mod going;
 mod new_rings;
-mod rule;
 
 pub use coming::check_coming;
-pub use fault::RingFault;
 pub use going::check_going;
-pub use rule::RingRule;

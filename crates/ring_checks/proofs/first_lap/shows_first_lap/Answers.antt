@@ -1,4 +1,4 @@
-use Rattle.std.proofs.Common.{◌≡◌, ◌+◌, ◌-◌, ◌*◌, ◌%◌, ◌==◌, ◌∙◌, true, false, sym, ap, arith}
+use Rattle.std.proofs.Common.{◌≡◌, ◌+◌, ◌-◌, ◌*◌, ◌%◌, ◌==◌, ◌∙◌, sym, ap, arith}
 use Rattle.std.specs.List.{list_any, range_with_len}
 use Rattle.ring_changes.specs.Changes.{shows_first_lap}
 use Rattle.context_checks.proofs.RestOfRange.{any_left, found, go_on, none_left}

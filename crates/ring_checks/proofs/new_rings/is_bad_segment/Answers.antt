@@ -1,4 +1,4 @@
-use Rattle.std.proofs.Common.{◌*◌, ◌∙◌, true, false, sym, ap}
+use Rattle.std.proofs.Common.{◌*◌, ◌∙◌, sym, ap}
 use Rattle.traces.specs.Header.{touches_ring}
 use Rattle.ownership_rules.specs.Areas.{is_in_range_lease, is_soiled}
 use Rattle.ring_checks.proofs.BadSegments.{bad_lap, bad_lease, bad_touch, bad_words}
