@@ -139,6 +139,29 @@ pub fn write_to_area(case: &Case, address: u64, word: u32) -> Result<Finding, Al
     Ok(finding)
 }
 
+/// Whether some bytes touch an area that the controller has.
+pub fn is_in_area(case: &Case, from: u64, bytes: u64) -> Result<bool, AllocError> {
+    let area = area_touched(case, from, bytes)?;
+    Ok(area.is_some())
+}
+
+/// Notes which area of the controller some bytes touch, when it comes back, and points at the row that handed it over.
+pub fn note_area(
+    case: &Case,
+    finding: &mut Finding,
+    from: u64,
+    bytes: u64,
+) -> Result<(), AllocError> {
+    let Some(area) = area_touched(case, from, bytes)? else {
+        return Ok(());
+    };
+    let (kind, base, size) = (area.kind, area.from, area.bytes);
+    let note = format!(in case.alloc; "{kind} has the {size} bytes at {base:016x}")?;
+    finding.note(note)?;
+    finding.mark(case.alloc, area.row, "this row hands it to the controller")?;
+    finding.say(case.alloc, comes_back(kind))
+}
+
 /// Notes that a write to memory which the controller only reads leaves the word as it is. Whether it does.
 pub fn note_unchanged(
     case: &Case,

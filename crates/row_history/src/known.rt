@@ -423,6 +423,17 @@ impl Known {
         Ok(())
     }
 
+    /// The row by which an endpoint got a ring last.
+    pub fn bound_by(&self, ring: u8, slot: u8, endpoint: u8) -> Option<usize> {
+        let mut last = None;
+        for bound in &self.bindings {
+            if bound.ring == ring && bound.slot == slot && bound.endpoint == endpoint {
+                last = Some(bound.row);
+            }
+        }
+        last
+    }
+
     /// The command that disabled an endpoint last.
     pub fn dropping_of(&self, slot: u8, endpoint: u8) -> Option<Dropping> {
         let mut last = None;

@@ -7,16 +7,18 @@ mod event_places;
 mod finding;
 mod known;
 mod positions;
+mod rings;
 mod rows;
 mod soiled;
 mod unfinished;
 mod words;
 
-pub use areas::{Beside, clash, note_unchanged, write_to_area};
+pub use areas::{Beside, clash, is_in_area, note_area, note_unchanged, write_to_area};
 pub use event_places::given_back;
 pub use finding::{Case, Finding, Mark, line_of, note_dropped, ring_at, ring_known};
 pub use known::{Binding, Dropping, Known, Taking, known_after};
 pub use positions::{Submitted, is_handed_over, position_given, submission};
+pub use rings::{Endpoint, endpoint_with, shown_first_lap};
 pub use rows::{
     last_event, last_halt, last_read, last_register, last_write, reads, register_value, start,
     stop, word_at,
