@@ -11,9 +11,9 @@ _xhcitrace() {
     check) options='--cert --show --search --explain --help -h' ;;
     verify | schedule | replay | show | write | decode) options='--explain --help -h' ;;
     explain)
-      mapfile -t COMPREPLY < <(compgen -W '10 11 12 13 14 15 16 17 18 19 20 21 22 23 24 25 WriteToOwned NotAsSubmitted NotDeclared NotWhole
+      mapfile -t COMPREPLY < <(compgen -W '10 11 12 13 14 15 16 17 18 19 20 21 22 23 24 25 32 33 34 35 WriteToOwned NotAsSubmitted NotDeclared NotWhole
         LinkFault RingFull BadDescriptor BadRegister BadDoorbell BadCommand Busy ImpossibleEvent BadErdp NotInProfile AfterStop BadMove
-        --help -h' -- "$word")
+        BadWithdraw NotRestored BadFree BadRing --help -h' -- "$word")
       return ;;
     help)
       mapfile -t COMPREPLY < <(compgen -W 'check verify schedule replay show write decode explain help' -- "$word")
