@@ -11,13 +11,13 @@ use diagnostics::{Diagnostic, Matter, quote};
 use move_findings::bad_move;
 use ownership_rules::Refusal;
 use ring_findings::{
-    bad_descriptor, link_fault, never_submitted, not_as_submitted, not_declared, not_whole,
-    ring_full, write_to_owned,
+    bad_descriptor, bad_free, bad_ring, link_fault, never_submitted, not_as_submitted,
+    not_declared, not_whole, ring_full, write_to_owned,
 };
 use row_history::{Case, Finding, general_head, known_after, line_of, why_refused};
 use std::alloc::{AllocError, Global};
 use trace_reader::{ReadFault, read_trace};
-use traces::{Row, Trace};
+use traces::{Ring, Row, Trace};
 
 /// What is told of a refused row of a text, which is read again; nothing where the text is no trace.
 pub fn explain_refused(
@@ -76,6 +76,59 @@ pub fn diagnostic_of(
         Some(refused) => finding_of(&case, refused, refusal)?,
         None => general(&case, refusal)?,
     };
+    diagnosed(&case, text, row, refusal, finding)
+}
+
+/// The diagnostic of a row that breaks a rule, by which the ring with this ID goes. The case has the rings that are there before it.
+pub fn diagnostic_of_going(
+    case: &Case,
+    text: &[u8],
+    row: u32,
+    id: u8,
+    refusal: Refusal,
+) -> Result<Diagnostic, AllocError>
+    ensures rule { IfOk result (λ diagnostic. diagnostic.matter ≡ Matter.Rule refusal) }
+    ensures row { IfOk result (λ diagnostic. diagnostic.refused.line ≡ row) }
+{
+    let finding = match refusal {
+        Refusal::BadFree => bad_free(case, id)?,
+        Refusal::AfterStop => after_stop(case)?,
+        _ => general(case, refusal)?,
+    };
+    diagnosed(case, text, row, refusal, finding)
+}
+
+/// The diagnostic of a row that breaks a rule, by which a ring comes. The case has the rings that are there before it.
+pub fn diagnostic_of_coming(
+    case: &Case,
+    text: &[u8],
+    row: u32,
+    ring: &Ring,
+    refusal: Refusal,
+) -> Result<Diagnostic, AllocError>
+    ensures rule { IfOk result (λ diagnostic. diagnostic.matter ≡ Matter.Rule refusal) }
+    ensures row { IfOk result (λ diagnostic. diagnostic.refused.line ≡ row) }
+{
+    let finding = match refusal {
+        Refusal::BadRing => bad_ring(case, ring)?,
+        Refusal::AfterStop => after_stop(case)?,
+        _ => general(case, refusal)?,
+    };
+    diagnosed(case, text, row, refusal, finding)
+}
+
+/// The diagnostic of a row of which this was found.
+fn diagnosed(
+    case: &Case,
+    text: &[u8],
+    row: u32,
+    refusal: Refusal,
+    finding: Finding,
+) -> Result<Diagnostic, AllocError>
+    ensures rule { IfOk result (λ diagnostic. diagnostic.matter ≡ Matter.Rule refusal) }
+    ensures row { IfOk result (λ diagnostic. diagnostic.refused.line ≡ row) }
+{
+    let alloc = case.alloc;
     let Finding {
         head,
         here,
@@ -84,7 +137,7 @@ pub fn diagnostic_of(
         help,
     } = finding;
     let earlier = match earlier {
-        Some(mark) => Some(quote(alloc, text, line_of(trace.first, mark.index), mark.label)?),
+        Some(mark) => Some(quote(alloc, text, line_of(case.first, mark.index), mark.label)?),
         None => None,
     };
     Ok(Diagnostic {
