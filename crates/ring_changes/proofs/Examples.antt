@@ -1,5 +1,6 @@
 -- Worked examples of rings that come and go
-use Rattle.std.specs.Prelude.{◌≡◌, ℕ, true, false, List, [], ◌∷◌, refl}
+use Rattle.std.specs.Prelude.{◌≡◌, ℕ, true, false, List, [], ◌∷◌, Box, refl}
+use Rattle.std.specs.declared.alloc.Global.{Global}
 use Rattle.trb.specs.declared.ring_kind.RingKind.TheVariants.{Xfer}
 use Rattle.contexts.specs.declared.size.ContextSize.TheVariants.{Bytes32}
 use Rattle.traces.specs.declared.version.Version.TheVariants.{Three}
@@ -9,7 +10,9 @@ use Rattle.traces.specs.declared.row.Row.TheVariants.{Write}
 use Rattle.ownership_rules.specs.OnLiterals.{rules_on_literals}
 use Rattle.ring_changes.specs.Changes.{forgotten, is_bad_free, is_bad_ring, is_bad_segment, is_had, shows_first_lap, with_ring, without_ring}
 use Rattle.ring_changes.specs.Withdrawals.{restored_on, ring_moved, ring_restored}
-use Rattle.ring_changes.specs.Histories.{Comes, Goes, Plain, RingRow, header_now, known_now}
+use Rattle.traces.specs.declared.trace_row.TraceRow.{TraceRow}
+use Rattle.traces.specs.declared.trace_row.TraceRow.TheVariants.{Comes, Goes, Plain}
+use Rattle.ring_changes.specs.Histories.{header_now, known_now}
 
 abbrev no_rings : Header
 no_rings = record { version = Three; context_size = Bytes32; rings = [] }
@@ -22,30 +25,34 @@ may_come : is_bad_ring (header_now no_rings []) (known_now no_rings []) (ring_at
 unfolding rules_on_literals is_bad_ring is_bad_segment shows_first_lap
 may_come = refl
 
-abbrev one : List RingRow
-one = Comes (ring_at 2 0x30000) ∷ []
+module _ (b : Box Ring Global) where
+  abbrev boxed : Ring → Box Ring Global
+  boxed r = record b { value = r }
 
--- over a ring that is there none may come
-over_another : is_bad_ring (header_now no_rings one) (known_now no_rings one) (ring_at 3 0x30020) ≡ true
-unfolding rules_on_literals is_bad_ring is_bad_segment shows_first_lap with_ring forgotten
-over_another = refl
+  abbrev one : List TraceRow
+  one = Comes (boxed (ring_at 2 0x30000)) ∷ []
 
-may_go : is_bad_free (header_now no_rings one) (known_now no_rings one) 2 ≡ false
-unfolding rules_on_literals is_bad_free is_had with_ring forgotten
-may_go = refl
+  -- over a ring that is there none may come
+  over_another : is_bad_ring (header_now no_rings one) (known_now no_rings one) (ring_at 3 0x30020) ≡ true
+  unfolding rules_on_literals is_bad_ring is_bad_segment shows_first_lap with_ring forgotten
+  over_another = refl
 
-abbrev gone : List RingRow
-gone = Goes 2 ∷ one
+  may_go : is_bad_free (header_now no_rings one) (known_now no_rings one) 2 ≡ false
+  unfolding rules_on_literals is_bad_free is_had with_ring forgotten
+  may_go = refl
 
--- where one was another may come
-in_its_place : is_bad_ring (header_now no_rings gone) (known_now no_rings gone) (ring_at 3 0x30020) ≡ false
-unfolding rules_on_literals is_bad_ring is_bad_segment shows_first_lap with_ring without_ring forgotten
-in_its_place = refl
+  abbrev gone : List TraceRow
+  gone = Goes 2 ∷ one
 
--- but not where a control word shows the Cycle bit of the first lap
-abbrev written : List RingRow
-written = Plain (Write 0x3002c 1) ∷ gone
+  -- where one was another may come
+  in_its_place : is_bad_ring (header_now no_rings gone) (known_now no_rings gone) (ring_at 3 0x30020) ≡ false
+  unfolding rules_on_literals is_bad_ring is_bad_segment shows_first_lap with_ring without_ring forgotten
+  in_its_place = refl
 
-shows_its_cycle : is_bad_ring (header_now no_rings written) (known_now no_rings written) (ring_at 3 0x30020) ≡ true
-unfolding rules_on_literals is_bad_ring is_bad_segment shows_first_lap with_ring without_ring forgotten restored_on ring_restored ring_moved
-shows_its_cycle = refl
+  -- but not where a control word shows the Cycle bit of the first lap
+  abbrev written : List TraceRow
+  written = Plain (Write 0x3002c 1) ∷ gone
+
+  shows_its_cycle : is_bad_ring (header_now no_rings written) (known_now no_rings written) (ring_at 3 0x30020) ≡ true
+  unfolding rules_on_literals is_bad_ring is_bad_segment shows_first_lap with_ring without_ring forgotten restored_on ring_restored ring_moved
+  shows_its_cycle = refl

@@ -23,7 +23,9 @@ use Rattle.safety.proofs.Squares.{square_law}
 use Rattle.safety.proofs.StillRings.{still_rings}
 use Rattle.safety.proofs.TestsPassed.{clean_tests}
 use Rattle.ring_changes.specs.Changes.{emptied}
-use Rattle.ring_changes.specs.Histories.{AreKept, Comes, Goes, IsKept, IsRingRow, Plain, Withdraws, RingRow, RingsHeadline, Scene, header_after, header_now, known_after, known_now, row_made, row_next, scene_reached, step_made}
+use Rattle.traces.specs.declared.trace_row.TraceRow.{TraceRow}
+use Rattle.traces.specs.declared.trace_row.TraceRow.TheVariants.{Comes, Goes, Plain, Withdraws}
+use Rattle.ring_changes.specs.Histories.{AreKept, IsKept, IsTraceRow, RingsHeadline, Scene, header_after, header_now, known_after, known_now, row_made, row_next, scene_reached, step_made}
 use Rattle.ring_changes.specs.Withdrawals.{restored, ring_restored, without_descriptor}
 use Rattle.ring_changes.proofs.Restored.{row_comes, row_keeps, row_runs as restored_row_runs, stopped_still}
 use Rattle.ring_changes.proofs.Withdrawn.{withdraw_keeps, withdraw_runs}
@@ -44,13 +46,14 @@ module _ (h : Header) (is : IsHeader h) (k : Known) (keeps : DriverKeeps h k) wh
   law : RowLaw h
   law = row_runs h is (kept_driver h) (still_rings h) (square_law h) (more_law h)
 
-  row_goes : (row : RingRow) (w v : World) → IsRingRow row → Runs h k w → IsKept h k row → row_made h w row ≡ Some v → Holds (header_after h row) (known_after h k row) (steps.counted h v)
+  row_goes : (row : TraceRow) (w v : World) → IsTraceRow row → Runs h k w → IsKept h k row → row_made h w row ≡ Some v → Holds (header_after h row) (known_after h k row) (steps.counted h v)
   row_goes (Plain row) w v is_row run kept at =
       row_holds h is law (restored h k row) row w v is_row (row_keeps h is k keeps row kept.1) (restored_row_runs h is k keeps row w kept.1 run) (row_comes h is k keeps row kept.0 kept.2) at
   row_goes (Withdraws r p) w v is_row run kept at =
       inl (subst (λ x. Runs h (known_after h k (Withdraws r p)) (steps.counted h x)) (same_Some (without_descriptor w r p) v at) (withdraw_runs h r p is k w keeps kept.1 run))
-  row_goes (Comes r) w v coming run kept at = inl (subst (λ x. Runs (header_after h (Comes r)) (known_after h k (Comes r)) (steps.counted h x)) (same_Some (emptied w r.id) v at) (comes_runs h is r coming k w keeps kept.1 run))
-  row_goes (Goes id) w v tt run kept at = inl (subst (λ x. Runs (header_after h (Goes id)) (known_after h k (Goes id)) (steps.counted h x)) (same_Some (emptied w id) v at) (goes_runs h is id k w keeps kept.1 run))
+  row_goes (Comes b) w v coming run kept at =
+      inl (subst (λ x. Runs (header_after h (Comes b)) (known_after h k (Comes b)) (steps.counted h x)) (same_Some (emptied w b.value.id) v at) (comes_runs h is b.value coming k w keeps kept.1 run))
+  row_goes (Goes id) w v is_row run kept at = inl (subst (λ x. Runs (header_after h (Goes id)) (known_after h k (Goes id)) (steps.counted h x)) (same_Some (emptied w id) v at) (goes_runs h is id k w keeps kept.1 run))
 
   record StepGoes (w u : World) : Type 0 where
     pub running : w.stopped ≡ false
@@ -102,71 +105,72 @@ row_off h k row kept = sym (stopped_still h k (ring_restored h k row)) ∙ (clea
 
 module _ (h : Header) (is : IsHeader h) where
   -- what holds behind rows that break no rule
-  record Keeps (past : List RingRow) : Type 0 where
+  record Keeps (past : List TraceRow) : Type 0 where
     pub headed : IsHeader (header_now h past)
     pub keeps : DriverKeeps (header_now h past) (known_now h past)
 
-  now_keeps : (past : List RingRow) → All IsRingRow past → AreKept h past → (known_now h past).stopped ≡ false → Keeps past
+  now_keeps : (past : List TraceRow) → All IsTraceRow past → AreKept h past → (known_now h past).stopped ≡ false → Keeps past
   now_keeps [] are kept on = record { headed = is; keeps = nothing_kept h is }
   now_keeps (Plain row ∷ past) are kept on =
       let g : Header = header_now h past in
       let k : Known = known_now h past in
-      let p = now_keeps past (All-tail IsRingRow (Plain row) past are) kept.0 (row_off (header_now h past) (known_now h past) row kept.1) in
+      let p = now_keeps past (All-tail IsTraceRow (Plain row) past are) kept.0 (row_off (header_now h past) (known_now h past) row kept.1) in
       record {
         headed = p.headed;
         keeps = kept_driver g p.headed (restored g k row) row (row_keeps g p.headed k p.keeps row kept.1.1) (row_comes g p.headed k p.keeps row kept.1.0 kept.1.2) on;
       }
   now_keeps (Withdraws r q ∷ past) are kept on =
-      let p = now_keeps past (All-tail IsRingRow (Withdraws r q) past are) kept.0 kept.1.0 in
+      let p = now_keeps past (All-tail IsTraceRow (Withdraws r q) past are) kept.0 kept.1.0 in
       record { headed = p.headed; keeps = withdraw_keeps (header_now h past) r q p.headed (known_now h past) p.keeps kept.1.1 }
-  now_keeps (Comes r ∷ past) are kept on =
-      let p = now_keeps past (All-tail IsRingRow (Comes r) past are) kept.0 kept.1.0 in
-      let coming = All-head IsRingRow (Comes r) past are in
+  now_keeps (Comes b ∷ past) are kept on =
+      let r = b.value in
+      let p = now_keeps past (All-tail IsTraceRow (Comes b) past are) kept.0 kept.1.0 in
+      let coming = All-head IsTraceRow (Comes b) past are in
       record {
         headed = comes_header (header_now h past) p.headed r coming (known_now h past) p.keeps kept.1.1;
         keeps = comes_keeps (header_now h past) p.headed r coming (known_now h past) p.keeps kept.1.1;
       }
   now_keeps (Goes id ∷ past) are kept on =
-      let p = now_keeps past (All-tail IsRingRow (Goes id) past are) kept.0 kept.1.0 in
+      let p = now_keeps past (All-tail IsTraceRow (Goes id) past are) kept.0 kept.1.0 in
       record {
         headed = gone_ring_header (header_now h past) p.headed (known_now h past) p.keeps id kept.1.1;
         keeps = gone_ring_kept (header_now h past) p.headed (known_now h past) p.keeps id kept.1.1;
       }
 
-  later_kept : (xs ys : List RingRow) → AreKept h (xs ++ ys) → AreKept h ys
+  later_kept : (xs ys : List TraceRow) → AreKept h (xs ++ ys) → AreKept h ys
   later_kept [] ys kept = kept
   later_kept (x ∷ xs) ys kept = later_kept xs ys kept.0
 
-  one_more : (row : RingRow) (rest past : List RingRow) → reverse (row ∷ rest) ++ past ≡ reverse rest ++ (row ∷ past)
+  one_more : (row : TraceRow) (rest past : List TraceRow) → reverse (row ∷ rest) ++ past ≡ reverse rest ++ (row ∷ past)
   one_more row rest past = ap (λ l. l ++ past) (reverse-append (row ∷ []) rest) ∙ append_assoc (reverse rest) (row ∷ []) past
 
   -- a run has come to a scene, with `past` the rows that were made, the newest first
-  record CameTo (past : List RingRow) (x : Scene) : Type 0 where
-    made : All IsRingRow past
-    left : All IsRingRow x.rows
+  record CameTo (past : List TraceRow) (x : Scene) : Type 0 where
+    made : All IsTraceRow past
+    left : All IsTraceRow x.rows
     kept : AreKept h (reverse x.rows ++ past)
     header : x.header ≡ header_now h past
     holds : Holds (header_now h past) (known_now h past) x.world
 
-  here : (past : List RingRow) (x : Scene) → CameTo past x → Runs (header_now h past) (known_now h past) x.world → Keeps past
+  here : (past : List TraceRow) (x : Scene) → CameTo past x → Runs (header_now h past) (known_now h past) x.world → Keeps past
   here past x c run = now_keeps past c.made (later_kept (reverse x.rows) past c.kept) run.on
 
   -- ---- a row
 
-  next : (past : List RingRow) (x y : Scene) (rows : List RingRow) → x.rows ≡ rows → CameTo past x → row_next (record { header = header_now h past; rows = x.rows; world = x.world }) rows ≡ Some y →
-      (row : RingRow) × CameTo (row ∷ past) y
+  next : (past : List TraceRow) (x y : Scene) (rows : List TraceRow) → x.rows ≡ rows → CameTo past x → row_next (record { header = header_now h past; rows = x.rows; world = x.world }) rows ≡ Some y →
+      (row : TraceRow) × CameTo (row ∷ past) y
   next past x y [] same c at = absurd (none-some y at)
   next past x y (row ∷ rest) same c at =
       let there = some_of (λ w. let z : Scene = record { header = header_after (header_now h past) row; rows = rest; world = steps.counted (header_now h past) w } in z) (row_made (header_now h past) x.world row) y at in
       let kept : AreKept h (reverse rest ++ (row ∷ past)) = subst (AreKept h) (one_more row rest past) (subst (λ l. AreKept h (reverse l ++ past)) same c.kept) in
       let own : AreKept h (row ∷ past) = later_kept (reverse rest) (row ∷ past) kept in
-      let left : All IsRingRow (row ∷ rest) = subst (All IsRingRow) same c.left in
-      let is_row : IsRingRow row = All-head IsRingRow row rest left in (
+      let left : All IsTraceRow (row ∷ rest) = subst (All IsTraceRow) same c.left in
+      let is_row : IsTraceRow row = All-head IsTraceRow row rest left in (
         row,
         subst (CameTo (row ∷ past)) there.2
             (record {
-              made = All-cons IsRingRow row past is_row c.made;
-              left = All-tail IsRingRow row rest left;
+              made = All-cons IsTraceRow row past is_row c.made;
+              left = All-tail IsTraceRow row rest left;
               kept = kept;
               header = refl;
               holds = elim c.holds [
@@ -176,7 +180,7 @@ module _ (h : Header) (is : IsHeader h) where
             }),
       )
     where
-      off : (row : RingRow) → IsKept (header_now h past) (known_now h past) row → (known_now h past).stopped ≡ false
+      off : (row : TraceRow) → IsKept (header_now h past) (known_now h past) row → (known_now h past).stopped ≡ false
       off (Plain row) kept = row_off (header_now h past) (known_now h past) row kept
       off (Withdraws r p) kept = kept.0
       off (Comes r) kept = kept.0
@@ -184,7 +188,7 @@ module _ (h : Header) (is : IsHeader h) where
 
   -- ---- a controller's step: the same rows stay
 
-  stays : (past : List RingRow) (x y : Scene) (s : Step) → IsStep s → (s ≡ NextRow → ⊥) → CameTo past x →
+  stays : (past : List TraceRow) (x y : Scene) (s : Step) → IsStep s → (s ≡ NextRow → ⊥) → CameTo past x →
       option_map (λ w. let z : Scene = record { header = header_now h past; rows = x.rows; world = steps.counted (header_now h past) w } in z) (steps.made (header_now h past) x.world s) ≡ Some y → CameTo past y
   stays past x y s is_step other c at =
       let there = some_of (λ w. let z : Scene = record { header = header_now h past; rows = x.rows; world = steps.counted (header_now h past) w } in z) (steps.made (header_now h past) x.world s) y at in
@@ -202,13 +206,13 @@ module _ (h : Header) (is : IsHeader h) where
         ];
       })
 
-  step : (past : List RingRow) (x y : Scene) (s : Step) → IsStep s → CameTo past x → step_made x s ≡ Some y → (now : List RingRow) × CameTo now y
+  step : (past : List TraceRow) (x y : Scene) (s : Step) → IsStep s → CameTo past x → step_made x s ≡ Some y → (now : List TraceRow) × CameTo now y
   step past x y s is_step c at = by s is_step (ap (λ z. step_made z s) (sym same) ∙ at)
     where
       same : ◌≡◌ {A = Scene} x (record { header = header_now h past; rows = x.rows; world = x.world })
       same = λ j. record { header = c.header j; rows = x.rows; world = x.world }
 
-      by : (s : Step) → IsStep s → step_made (record { header = header_now h past; rows = x.rows; world = x.world }) s ≡ Some y → (now : List RingRow) × CameTo now y
+      by : (s : Step) → IsStep s → step_made (record { header = header_now h past; rows = x.rows; world = x.world }) s ≡ Some y → (now : List TraceRow) × CameTo now y
       by NextRow is_step at = let n = next past x y x.rows refl c at in (n.0 ∷ past, n.1)
       by (Look r) is_step at = (past, stays past x y (Look r) is_step (λ e. cc) c at)
       by (Report b) is_step at = (past, stays past x y (Report b) is_step (λ e. cc) c at)
@@ -216,24 +220,24 @@ module _ (h : Header) (is : IsHeader h) where
       by (Other b) is_step at = (past, stays past x y (Other b) is_step (λ e. cc) c at)
       by (Scribble a w) is_step at = (past, stays past x y (Scribble a w) is_step (λ e. cc) c at)
 
-  first : (rows : List RingRow) → All IsRingRow rows → AreKept h (reverse rows) → CameTo [] (record { header = h; rows = rows; world = opening [] })
+  first : (rows : List TraceRow) → All IsTraceRow rows → AreKept h (reverse rows) → CameTo [] (record { header = h; rows = rows; world = opening [] })
   first rows are kept = record {
-    made = All-nil IsRingRow;
+    made = All-nil IsTraceRow;
     left = are;
     kept = subst (AreKept h) (sym (append-nil (reverse rows))) kept;
     header = refl;
     holds = inl (opens h []);
   }
 
-  came : (rows : List RingRow) → All IsRingRow rows → AreKept h (reverse rows) → (made : List Step) (x : Scene) → All IsStep made → scene_reached h rows made ≡ Some x →
-      (past : List RingRow) × CameTo past x
+  came : (rows : List TraceRow) → All IsTraceRow rows → AreKept h (reverse rows) → (made : List Step) (x : Scene) → All IsStep made → scene_reached h rows made ≡ Some x →
+      (past : List TraceRow) × CameTo past x
   came rows are kept [] x all at = ([], subst (CameTo []) (same_Some (record { header = h; rows = rows; world = opening [] }) x at) (first rows are kept))
   came rows are kept (s ∷ older) x all at =
       let before = some_then (λ z. step_made z s) (scene_reached h rows older) x at in
       let came_before = came rows are kept older before.0 (All-tail IsStep s older all) before.1 in
       step came_before.0 before.0 x s (All-head IsStep s older all) came_before.1 before.2
 
-  safe_there : (past : List RingRow) (x : Scene) → CameTo past x → IsSafe x.header x.world
+  safe_there : (past : List TraceRow) (x : Scene) → CameTo past x → IsSafe x.header x.world
   safe_there past x c =
       subst (λ g. IsSafe g x.world) (sym c.header)
       (elim c.holds [

@@ -13,7 +13,8 @@ use Rattle.traces.specs.declared.header.Header.{Header}
 use Rattle.traces.specs.declared.row.Row.TheVariants.{Bell}
 use Rattle.ring_knowledge.specs.Known.{Known, nothing}
 use Rattle.ownership_rules.specs.OnLiterals.{rules_on_literals}
-use Rattle.ring_changes.specs.Histories.{Withdraws, known_after}
+use Rattle.traces.specs.declared.trace_row.TraceRow.TheVariants.{Withdraws}
+use Rattle.ring_changes.specs.Histories.{known_after}
 use Rattle.ring_changes.specs.Withdrawals.{has_stopped, is_bad_withdraw, is_left, rests_with, ring_moved, ring_restored}
 
 abbrev block : ℕ → ℕ → Block

@@ -7,7 +7,7 @@ ghost use Rattle.safety.specs.Keeps.{DriverKeeps};
 ghost use Rattle.trace_record.specs.FollowsTrace.{FollowsTrace};
 ghost use Rattle.trace_record.specs.Steps.{IfRefused};
 ghost use Rattle.ring_changes.specs.Changes.{is_bad_ring, with_ring};
-ghost use Rattle.ring_changes.specs.Histories.{Comes};
+ghost use Rattle.traces.specs.declared.trace_row.TraceRow.TheVariants.{Comes};
 ghost use Rattle.ownership_rules.specs.declared.refusal.Refusal.TheVariants.{BadRing};
 ghost use Rattle.ring_checks.specs.RingSteps.{HasOneMore, IsClear, IsRingStep};
 

@@ -6,7 +6,7 @@ ghost use Rattle.safety.specs.Keeps.{DriverKeeps};
 ghost use Rattle.trace_record.specs.FollowsTrace.{FollowsTrace};
 ghost use Rattle.trace_record.specs.Steps.{IfRefused};
 ghost use Rattle.ring_changes.specs.Changes.{is_bad_free, without_ring};
-ghost use Rattle.ring_changes.specs.Histories.{Goes};
+ghost use Rattle.traces.specs.declared.trace_row.TraceRow.TheVariants.{Goes};
 ghost use Rattle.ownership_rules.specs.declared.refusal.Refusal.TheVariants.{BadFree};
 ghost use Rattle.ring_checks.specs.RingSteps.{IsRingStep};
 

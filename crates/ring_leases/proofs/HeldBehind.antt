@@ -1,5 +1,5 @@
 -- A book of leases goes on with the rings that are there behind a ring that goes, and behind one that comes: what isn't over is of other rings
-use Rattle.std.proofs.Common.{◌≡◌, ◌≢◌, ◌+◌, ◌%◌, ◌≤◌, ◌==◌, ◌∷◌, ◌∙◌, ℕ, true, false, not, List, [], length, refl, sym, ap, subst, inl, inr}
+use Rattle.std.proofs.Common.{◌≡◌, ◌≢◌, ◌+◌, ◌%◌, ◌≤◌, ◌==◌, ◌∷◌, ◌∙◌, ℕ, true, false, not, Box, Global, List, [], length, refl, sym, ap, subst, inl, inr}
 use Rattle.std.proofs.lemmas.Bool.{and_parts, eqb-false, not-true}
 use Rattle.safety.proofs.Words.{Header, IsHeader, Ring, Known, DriverKeeps, IsIn, driver_rings, flat_map, from_filter, open_leases, open_on, open_ranges, place_count, shape_of, is_driver_kind}
 use Rattle.segments.specs.Givings.{link_of}
@@ -17,7 +17,9 @@ use Rattle.lease_book.proofs.RangesAlone.{IsRange, open_are_ranges}
 use Rattle.lease_book.proofs.Rows.{IsOpen}
 use Rattle.lease_book.proofs.Unended.{all_anew}
 use Rattle.ring_changes.specs.Changes.{IsComing, forgotten, is_bad_free, is_bad_ring, with_ring, without_ring}
-use Rattle.ring_changes.specs.Histories.{RingRow, Comes, Goes, header_now, known_now}
+use Rattle.traces.specs.declared.trace_row.TraceRow.{TraceRow}
+use Rattle.traces.specs.declared.trace_row.TraceRow.TheVariants.{Comes, Goes}
+use Rattle.ring_changes.specs.Histories.{header_now, known_now}
 use Rattle.ring_changes.proofs.ListedRings.{none_found}
 use Rattle.ring_changes.proofs.RingRuns.{bad_same, f_keeps, fresh, no_ring}
 use Rattle.ring_changes.proofs.GoneRings as gone
@@ -64,7 +66,7 @@ module _ (h : Header) (is : IsHeader h) (k : Known) (d : DriverKeeps h k) (id : 
       let both = sym (ap (λ ms. is_among ms l) (goes_open h is k d id good) ∙ among_filtered (λ m. not (is_of_ring id m)) (open_leases h k) l) ∙ is_open in
       alike l (not-true (is_of_ring id l) (and_parts (is_among (open_leases h k) l) (not (is_of_ring id l)) both).1)
 
-module _ (h : Header) (first : ℕ) (past : List RingRow) (is : IsHeader (header_now h past)) (d : DriverKeeps (header_now h past) (known_now h past)) where
+module _ (h : Header) (first : ℕ) (past : List TraceRow) (is : IsHeader (header_now h past)) (d : DriverKeeps (header_now h past) (known_now h past)) where
   -- behind a ring that goes
   pub goes_held : (id : ℕ) (b : LeaseBook) → first + length (Goes id ∷ past) ≤ without_end → is_bad_free (header_now h past) (known_now h past) id ≡ false →
       HoldsLents (header_now h past) (ring_lents h first (Goes id ∷ past)) b → HoldsLents (header_now h (Goes id ∷ past)) (ring_lents h first (Goes id ∷ past)) b
@@ -118,13 +120,13 @@ module _ (h : Header) (is : IsHeader h) (k : Known) (d : DriverKeeps h k) (r : R
   pub still_alike : (l : Leased) → IsOpen (open_leases h k) l → IsShapedAlike h (with_ring h r) l
   still_alike l is_open = alike_there l (open_there h k l is_open)
 
-module _ (h : Header) (first : ℕ) (past : List RingRow) (is : IsHeader (header_now h past)) (d : DriverKeeps (header_now h past) (known_now h past)) where
+module _ (h : Header) (first : ℕ) (past : List TraceRow) (is : IsHeader (header_now h past)) (d : DriverKeeps (header_now h past) (known_now h past)) where
   -- behind a ring that comes
-  pub comes_held : (r : Ring) (b : LeaseBook) → first + length past ≤ without_end → IsComing r → is_bad_ring (header_now h past) (known_now h past) r ≡ false →
-      HoldsLents (header_now h past) (ring_lents h first past) b → HoldsLents (header_now h (Comes r ∷ past)) (ring_lents h first (Comes r ∷ past)) b
-  comes_held r b room coming good held =
-      subst (λ ts. HoldsLents (header_now h (Comes r ∷ past)) ts b) (sym (comes_lent h first past room is d r coming good))
-      (held_alike (header_now h past) (header_now h (Comes r ∷ past)) (ring_lents h first past) b
-      (all_anew (λ i l. IsOpen (open_now h past) l) (λ i l. IsShapedAlike (header_now h past) (header_now h (Comes r ∷ past)) l) 0 (ring_lents h first past)
-      (λ i l is_open. still_alike (header_now h past) is (known_now h past) d r coming good l is_open) (lent_open h first past room))
+  pub comes_held : (c : Box Ring Global) (b : LeaseBook) → first + length past ≤ without_end → IsComing c.value → is_bad_ring (header_now h past) (known_now h past) c.value ≡ false →
+      HoldsLents (header_now h past) (ring_lents h first past) b → HoldsLents (header_now h (Comes c ∷ past)) (ring_lents h first (Comes c ∷ past)) b
+  comes_held c b room coming good held =
+      subst (λ ts. HoldsLents (header_now h (Comes c ∷ past)) ts b) (sym (comes_lent h first past room is d c coming good))
+      (held_alike (header_now h past) (header_now h (Comes c ∷ past)) (ring_lents h first past) b
+      (all_anew (λ i l. IsOpen (open_now h past) l) (λ i l. IsShapedAlike (header_now h past) (header_now h (Comes c ∷ past)) l) 0 (ring_lents h first past)
+      (λ i l is_open. still_alike (header_now h past) is (known_now h past) d c.value coming good l is_open) (lent_open h first past room))
       held)

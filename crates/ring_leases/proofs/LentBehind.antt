@@ -1,5 +1,5 @@
 -- What is lent behind a ring that goes, and behind one that comes; behind plain rows it is as in a trace of these alone
-use Rattle.std.proofs.Common.{◌≡◌, ◌+◌, ◌≤◌, ◌∷◌, ◌∙◌, ℕ, false, not, List, [], length, map, arith, refl, ap}
+use Rattle.std.proofs.Common.{◌≡◌, ◌+◌, ◌≤◌, ◌∷◌, ◌∙◌, ℕ, false, not, Box, Global, List, [], length, map, arith, refl, ap}
 use Rattle.std.proofs.lemmas.List.{length-map}
 use Rattle.safety.proofs.Words.{Header, IsHeader, Ring, DriverKeeps, learned, open_leases}
 use Rattle.traces.specs.declared.row.Row.{Row}
@@ -11,7 +11,9 @@ use Rattle.lease_book.specs.Lents.{ended_where, grown, lents, passed_on}
 use Rattle.safety.proofs.NothingFree.{nothing_free}
 use Rattle.lease_book.proofs.Rows.{IsOpen, first_open, nothing_passed, only_passed, passed_open}
 use Rattle.ring_changes.specs.Changes.{IsComing, is_bad_free, is_bad_ring}
-use Rattle.ring_changes.specs.Histories.{RingRow, Plain, Comes, Goes, header_now, known_now}
+use Rattle.traces.specs.declared.trace_row.TraceRow.{TraceRow}
+use Rattle.traces.specs.declared.trace_row.TraceRow.TheVariants.{Plain, Comes, Goes}
+use Rattle.ring_changes.specs.Histories.{header_now, known_now}
 use Rattle.ring_changes.specs.Withdrawals.{restored}
 use Rattle.ring_leases.specs.RingLents.{is_of_ring, open_now, ring_lents}
 use Rattle.ring_leases.proofs.NothingRestored.{restored_same}
@@ -19,12 +21,12 @@ use Rattle.ring_leases.proofs.OpenBehind.{among_filtered, comes_open, goes_open}
 
 module _ (h : Header) (first : ℕ) where
   -- what is lent and not over is open
-  pub lent_open : (past : List RingRow) → first + length past ≤ without_end → AllUnended (λ i l. IsOpen (open_now h past) l) 0 (ring_lents h first past)
+  pub lent_open : (past : List TraceRow) → first + length past ≤ without_end → AllUnended (λ i l. IsOpen (open_now h past) l) 0 (ring_lents h first past)
   unfolding ring_lents
   lent_open [] room = first_open (open_now h []) 0
   lent_open (row ∷ past) room = passed_open (open_now h past) (open_now h (row ∷ past)) (first + length past) (ring_lents h first past) (omega (arith, room))
 
-  module _ (past : List RingRow) (room : first + length past ≤ without_end) (is : IsHeader (header_now h past)) (d : DriverKeeps (header_now h past) (known_now h past)) where
+  module _ (past : List TraceRow) (room : first + length past ≤ without_end) (is : IsHeader (header_now h past)) (d : DriverKeeps (header_now h past) (known_now h past)) where
     -- the leases of its blocks and Links are over
     pub goes_lent : (id : ℕ) → is_bad_free (header_now h past) (known_now h past) id ≡ false →
         ring_lents h first (Goes id ∷ past) ≡ map (ended_where (is_of_ring id) (first + length past)) (ring_lents h first past)
@@ -34,12 +36,12 @@ module _ (h : Header) (first : ℕ) where
         (λ l. ap (λ ms. is_among ms l) (goes_open (header_now h past) is (known_now h past) d id good) ∙ among_filtered (λ m. not (is_of_ring id m)) (open_now h past) l)
 
     -- nothing begins or ends
-    pub comes_lent : (ring : Ring) → IsComing ring → is_bad_ring (header_now h past) (known_now h past) ring ≡ false →
+    pub comes_lent : (ring : Box Ring Global) → IsComing ring.value → is_bad_ring (header_now h past) (known_now h past) ring.value ≡ false →
         ring_lents h first (Comes ring ∷ past) ≡ ring_lents h first past
     unfolding ring_lents
     comes_lent ring coming good =
         nothing_passed (open_now h past) (open_now h (Comes ring ∷ past)) (first + length past) (ring_lents h first past) (lent_open past room)
-        (λ l. ap (λ ms. is_among ms l) (comes_open (header_now h past) is (known_now h past) d ring coming good))
+        (λ l. ap (λ ms. is_among ms l) (comes_open (header_now h past) is (known_now h past) d ring.value coming good))
 
   -- ---- plain rows
 

@@ -1,5 +1,5 @@
 -- Where nothing is free a row restores nothing
-use Rattle.std.proofs.Common.{◌≡◌, ◌≢◌, ◌∙◌, ℕ, false, Option, None, Some, inl, inr, refl, sym, subst}
+use Rattle.std.proofs.Common.{◌≡◌, ◌∙◌, ℕ, Option, None, Some, inl, inr, refl, sym, subst}
 use Rattle.safety.proofs.Words.{cases_eq, Header, Known, RingView, changed, on_ring, shape_of}
 use Rattle.safety.proofs.DriverRows.{ring_elsewhere, ring_here}
 use Rattle.segments.specs.RingKeeps.{IsRestored}

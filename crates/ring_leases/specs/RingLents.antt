@@ -6,7 +6,8 @@ use Rattle.ownership_rules.specs.OpenLeases.{Leased, Block, Link, Range, is_amon
 use Rattle.ring_knowledge.specs.Known.{Known}
 use Rattle.lease_book.specs.Books.{AllUnended}
 use Rattle.lease_book.specs.Lents.{Lent, in_turn, passed_on, with_begun}
-use Rattle.ring_changes.specs.Histories.{RingRow, header_now, known_now}
+use Rattle.traces.specs.declared.trace_row.TraceRow.{TraceRow}
+use Rattle.ring_changes.specs.Histories.{header_now, known_now}
 
 -- the lease of a block or of a Link of this ring
 abbrev pub is_of_ring : ℕ → Leased → Bool
@@ -20,10 +21,10 @@ AreOpen h k ts = AllUnended (λ i l. is_among (open_leases h k) l ≡ true) 0 ts
 
 module _ (h : Header) where
   -- the leases that are open behind the rows so far, the newest first
-  abbrev pub open_now : List RingRow → List Leased
+  abbrev pub open_now : List TraceRow → List Leased
   open_now past = open_leases (header_now h past) (known_now h past)
 
   -- what was and is lent behind them; `first` is the number of the oldest
-  unfoldable pub ring_lents : ℕ → List RingRow → List Lent
+  unfoldable pub ring_lents : ℕ → List TraceRow → List Lent
   ring_lents first [] = with_begun 0 [] (in_turn (open_now []))
   ring_lents first (row ∷ past) = passed_on (open_now past) (open_now (row ∷ past)) (first + length past) (ring_lents first past)
