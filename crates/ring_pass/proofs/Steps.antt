@@ -1,0 +1,213 @@
+-- A row more of a pass
+use Rattle.std.proofs.Common.{◌≡◌, ◌+◌, ◌++◌, ◌∷◌, ◌∙◌, ℕ, true, false, List, [], Box, Global, All, Option, Some, None, Result, Ok, Err, IfErr, suc, length, reverse, arith, refl, sym, ap, subst, inl, inr}
+use Rattle.safety.proofs.Words.{reverse-append, All-cons, All-head, All-nil, All-tail, Header, Known, Ring, IsHeader, DriverKeeps, learned, nothing}
+use Rattle.std.proofs.lemmas.Grind.{common_steps}
+use Rattle.safety.proofs.DriverHistories.{kept_restored}
+use Rattle.safety.proofs.Lenient.{lenient_row}
+use Rattle.safety.proofs.NothingKept.{nothing_kept}
+use Rattle.safety.proofs.TestsPassed.{clean_tests}
+use Rattle.event_ring.specs.EventPlaceValue.{EventState}
+use Rattle.trb.specs.declared.ring_kind.RingKind.TheVariants.{Xfer}
+use Rattle.traces.specs.declared.row.Row.{Row}
+use Rattle.traces.specs.declared.trace_row.TraceRow.{TraceRow}
+use Rattle.traces.specs.declared.trace_row.TraceRow.TheVariants.{Plain, Comes, Goes}
+use Rattle.ring_finder.specs.Finding.{IsFinder}
+use Rattle.ring_finder.proofs.HeaderRings.{id_below, shape_allowed}
+use Rattle.ring_finder.proofs.RingsApart.{IsAmong}
+use Rattle.trace_record.specs.declared.trace_record.TraceRecord.{TraceRecord}
+use Rattle.trace_record.specs.FollowsTrace.{FollowsTrace}
+use Rattle.trace_record.specs.Fresh.{IsWithin}
+use Rattle.trace_record.specs.declared.fault.StepFault as step
+use Rattle.trace_record.specs.declared.fault.StepFault.TheVariants as variants
+use Rattle.trace_record.specs.Steps as steps
+use Rattle.trace_record.specs.Steps.{IsLeast, IsRowStep}
+use Rattle.ownership_rules.specs.declared.refusal.Refusal.{Refusal}
+use Rattle.row_checks.specs.Tracking.{IsTracked}
+use Rattle.ring_changes.specs.Changes.{IsComing, is_bad_free, is_bad_ring, with_ring, without_ring}
+use Rattle.ring_changes.specs.Histories.{AreKept, IsTraceRow, header_now, known_now}
+use Rattle.ring_changes.proofs.GoneRings.{gone_ring_kept}
+use Rattle.ring_changes.proofs.RingRuns.{comes_keeps}
+use Rattle.ring_changes.proofs.RingsHeadline.{rings_headline}
+use Rattle.ring_checks.specs.declared.fault.RingFault.{RingFault}
+use Rattle.ring_checks.specs.declared.fault.RingFault.TheVariants.{Refused, Memory}
+use Rattle.ring_checks.specs.declared.rule.RingRule.{RingRule}
+use Rattle.ring_checks.specs.declared.rule.RingRule.TheVariants.{BadFree, BadRing}
+use Rattle.ring_checks.specs.RingSteps.{IfRefused, IsRingStep}
+use Rattle.ring_pass.specs.Clean.{IsLeastOfRing}
+use Rattle.ring_pass.specs.Faults.{row_fault}
+use Rattle.ring_pass.specs.declared.fault.RingRowFault.TheVariants.{Broken}
+use Rattle.ring_pass.specs.Passing.{DoNoHarm, IsRingPassed}
+use Rattle.ring_pass.specs.declared.pass.RingPass.{RingPass}
+use Rattle.ring_pass.proofs.Histories.{kept_now, known_plain, nothing_free_now}
+
+among_last : (r : Ring) (rs : List Ring) → IsAmong r (rs ++ r ∷ [])
+among_last r [] = inl refl
+among_last r (x ∷ rs) = inr (among_last r rs)
+
+-- a ring that a header has behind it may come, by its line alone
+pub coming_by_header : (h : Header) (r : Ring) → IsHeader (with_ring h r) → r.shape.kind ≡ Xfer → IsComing r
+unfolding with_ring
+coming_by_header h r is kind = record {
+  low = id_below (with_ring h r) is r (among_last r h.rings);
+  kind = kind;
+  shape = shape_allowed (with_ring h r) is r (among_last r h.rings);
+}
+
+all_joined : (xs ys : List TraceRow) → All IsTraceRow xs → All IsTraceRow ys → All IsTraceRow (xs ++ ys)
+all_joined [] ys first second = second
+all_joined (x ∷ xs) ys first second = All-cons IsTraceRow x (xs ++ ys) (All-head IsTraceRow x xs first) (all_joined xs ys (All-tail IsTraceRow x xs first) second)
+
+all_reversed : (rows : List TraceRow) → All IsTraceRow rows → All IsTraceRow (reverse rows)
+all_reversed [] are = are
+all_reversed (row ∷ rows) are =
+    subst (All IsTraceRow) (sym (reverse-append (row ∷ []) rows))
+    (all_joined (reverse rows) (row ∷ []) (all_reversed rows (All-tail IsTraceRow row rows are)) (All-cons IsTraceRow row [] (All-head IsTraceRow row rows are) (All-nil IsTraceRow)))
+
+reversed_twice : (rows : List TraceRow) → reverse (reverse rows) ≡ rows
+reversed_twice rows = grind (arith, common_steps)
+
+one_more : (events : Option EventState) (n : ℕ) → IsWithin events n → IsWithin events (n + 1)
+one_more None n within = tt
+one_more (Some e) n within = omega (arith, within)
+
+one_later : (t : TraceRecord) (n : ℕ) → IsWithin t.events n → IsWithin t.events (suc n)
+one_later t n within = subst (IsWithin t.events) (omega arith) (one_more t.events n within)
+
+-- of a refusal of a row, what follows of it
+pub refused_too : {T : Type 0} (r : Result T step.StepFault) (P Q : Refusal → Type 0) → ((c : Refusal) → P c → Q c) → IfErr r (λ e. steps.IfRefused e P) → IfErr r (λ e. steps.IfRefused e Q)
+refused_too (Ok x) P Q f so = tt
+refused_too (Err (variants.Refused c)) P Q f so = f c so
+refused_too (Err variants.Memory) P Q f so = tt
+
+module _ {B M : Type 0} (words : M → ℕ → ℕ) where
+  pub before_rows : (pass : RingPass B M) → IsHeader pass.header → IsFinder pass.header.rings pass.finder → IsWithin pass.record.events 0 → FollowsTrace pass.header nothing pass.record (words pass.memory) →
+      IsRingPassed words pass.header [] pass
+  before_rows pass is found unread follows = record {
+    opening = is;
+    header = refl;
+    headed = is;
+    found = found;
+    few_reads = unread;
+    tracked = record { follows = follows; keeps = λ on. nothing_kept pass.header is };
+    clean = tt;
+  }
+
+  module _ (h : Header) (past : List TraceRow) (before : RingPass B M) (p : IsRingPassed words h past before) where
+    abbrev g : Header
+    g = header_now h past
+
+    abbrev k : Known
+    k = known_now h past
+
+    -- what is tracked, by the rings that are there
+    pub tracked_now : IsTracked g k before.record (words before.memory)
+    tracked_now = subst (λ (x : Header). IsTracked x k before.record (words before.memory)) p.header p.tracked
+
+    pub headed_now : IsHeader g
+    headed_now = subst IsHeader p.header p.headed
+
+    -- behind a row of the driver
+    pub plain_behind : (row : Row) (after : TraceRecord) (memory : ℕ → ℕ) → IsRowStep before.header k row after memory → IsWithin after.events (length past + 1) →
+        (later : RingPass B M) → later.header ≡ before.header → later.finder ≡ before.finder → later.record ≡ after → words later.memory ≡ memory → IsRingPassed words h (Plain row ∷ past) later
+    plain_behind row after memory step reads later header same is at =
+        let now : IsRowStep g k row after memory = subst (λ (x : Header). IsRowStep x k row after memory) p.header step in
+        let none = nothing_free_now h past p.clean in
+        let tracked : IsTracked g (learned g k row) after memory = record {
+          follows = now.followed;
+          keeps = λ on. let clean = lenient_row g k row now.clean in kept_restored g headed_now k row (λ r driver. none r) (tracked_now.keeps (clean_tests g k row clean).0) clean on;
+        } in
+        let number : length past + 1 ≡ length (Plain row ∷ past) = omega arith in
+        record {
+          opening = p.opening;
+          header = header ∙ p.header;
+          headed = subst IsHeader (sym header) p.headed;
+          found = rw (header, same) p.found;
+          few_reads = rw is (subst (IsWithin after.events) number reads);
+          tracked = rw (is, at) (subst (λ (x : Header). IsTracked x (known_now h (Plain row ∷ past)) after memory) (sym (header ∙ p.header))
+              (subst (λ (x : Known). IsTracked g x after memory) (sym (known_plain h row past p.clean)) tracked));
+          clean = (p.clean, now.clean);
+        }
+
+    -- behind a ring that comes
+    pub comes_behind : (ring : Box Ring Global) (after : TraceRecord) → ring.value.shape.kind ≡ Xfer → (DriverKeeps before.header k → k.stopped ≡ false → IsRingStep before.header k (Comes ring) after (words before.memory)) →
+        k.stopped ≡ false → IsWithin after.events (length past) → (later : RingPass B M) → later.header ≡ with_ring before.header ring.value → IsHeader later.header → IsFinder later.header.rings later.finder → later.record ≡ after →
+        words later.memory ≡ words before.memory → IsRingPassed words h (Comes ring ∷ past) later
+    comes_behind ring after kind stepped on reads later header is found recorded at =
+        let keeps = tracked_now.keeps on in
+        let now : IsRingStep g k (Comes ring) after (words before.memory) =
+        subst (λ (x : Header). IsRingStep x k (Comes ring) after (words before.memory)) p.header (stepped (p.tracked.keeps on) on) in
+        let there : later.header ≡ with_ring g ring.value = header ∙ ap (λ (x : Header). with_ring x ring.value) p.header in
+        let coming : IsComing ring.value = coming_by_header g ring.value (subst IsHeader there is) kind in
+        record {
+          opening = p.opening;
+          header = there;
+          headed = is;
+          found = found;
+          few_reads = rw recorded (one_later after (length past) reads);
+          tracked = rw (recorded, at) (subst (λ (x : Header). IsTracked x (known_now h (Comes ring ∷ past)) after (words before.memory)) (sym there)
+              (record { follows = now.followed; keeps = λ still. comes_keeps g headed_now ring.value coming k keeps now.kept.1 }));
+          clean = (p.clean, now.kept);
+        }
+
+    -- behind a ring that goes
+    pub goes_behind : (id : ℕ) (after : TraceRecord) → (DriverKeeps before.header k → k.stopped ≡ false → IsRingStep before.header k (Goes id) after (words before.memory)) →
+        k.stopped ≡ false → IsWithin after.events (length past) → (later : RingPass B M) → later.header ≡ without_ring before.header id → IsHeader later.header → IsFinder later.header.rings later.finder → later.record ≡ after →
+        words later.memory ≡ words before.memory → IsRingPassed words h (Goes id ∷ past) later
+    goes_behind id after stepped on reads later header is found recorded at =
+        let keeps = tracked_now.keeps on in
+        let now : IsRingStep g k (Goes id) after (words before.memory) =
+        subst (λ (x : Header). IsRingStep x k (Goes id) after (words before.memory)) p.header (stepped (p.tracked.keeps on) on) in
+        let there : later.header ≡ without_ring g id = header ∙ ap (λ (x : Header). without_ring x id) p.header in
+        record {
+          opening = p.opening;
+          header = there;
+          headed = is;
+          found = found;
+          few_reads = rw recorded (one_later after (length past) reads);
+          tracked = rw (recorded, at) (subst (λ (x : Header). IsTracked x (known_now h (Goes id ∷ past)) after (words before.memory)) (sym there)
+              (record { follows = now.followed; keeps = λ still. gone_ring_kept g headed_now k keeps id now.kept.1 }));
+          clean = (p.clean, now.kept);
+        }
+
+    -- the log and the indexes tell nothing of this
+    pub same_still : (later : RingPass B M) → later.header ≡ before.header → later.finder ≡ before.finder → later.record ≡ before.record → later.memory ≡ before.memory →
+        IsRingPassed words h past later
+    same_still later header finder known memory = rw (header, finder, known, memory) (record {
+      opening = p.opening;
+      header = p.header;
+      headed = p.headed;
+      found = p.found;
+      few_reads = p.few_reads;
+      tracked = p.tracked;
+      clean = p.clean;
+    })
+
+    pub least_now : (row : Row) (c : Refusal) → IsLeast before.header k row c → IsLeast g k row c
+    least_now row c least = subst (λ (x : Header). IsLeast x k row c) p.header least
+
+    bad_now : (ring : Box Ring Global) → k.stopped ≡ false → ((k : Known) → FollowsTrace before.header k before.record (words before.memory) → is_bad_ring before.header k ring.value ≡ true) →
+        (c : RingRule) → c ≡ BadRing → IsLeastOfRing g k (Comes ring) (Broken c)
+    bad_now ring on bad BadRing is = (on, subst (λ (x : Header). is_bad_ring x k ring.value ≡ true) p.header (bad k p.tracked.follows))
+    bad_now ring on bad BadFree is = absurd cc
+
+    pub comes_refused : (ring : Box Ring Global) → k.stopped ≡ false → (e : RingFault) →
+        IfRefused e (λ c. (c ≡ BadRing) × ((k : Known) → FollowsTrace before.header k before.record (words before.memory) → is_bad_ring before.header k ring.value ≡ true)) →
+        IsLeastOfRing g k (Comes ring) (row_fault e)
+    comes_refused ring on (Refused c) bad = bad_now ring on bad.1 c bad.0
+    comes_refused ring on Memory bad = tt
+
+    bound_now : (id : ℕ) → k.stopped ≡ false →
+        ((k : Known) (memory : ℕ → ℕ) → FollowsTrace before.header k before.record memory → DriverKeeps before.header k → is_bad_free before.header k id ≡ true) →
+        (c : RingRule) → c ≡ BadFree → IsLeastOfRing g k (Goes id) (Broken c)
+    bound_now id on bad BadFree is = (on, subst (λ (x : Header). is_bad_free x k id ≡ true) p.header (bad k (words before.memory) p.tracked.follows (p.tracked.keeps on)))
+    bound_now id on bad BadRing is = absurd cc
+
+    pub goes_refused : (id : ℕ) → k.stopped ≡ false → (e : RingFault) →
+        IfRefused e (λ c. (c ≡ BadFree) × ((k : Known) (memory : ℕ → ℕ) → FollowsTrace before.header k before.record memory → DriverKeeps before.header k → is_bad_free before.header k id ≡ true)) →
+        IsLeastOfRing g k (Goes id) (row_fault e)
+    goes_refused id on (Refused c) bad = bound_now id on bad.1 c bad.0
+    goes_refused id on Memory bad = tt
+
+    -- no run beside the rows, in their order, does harm
+    pub no_harm : All IsTraceRow past → DoNoHarm h (reverse past)
+    no_harm are = rings_headline h (reverse past) p.opening (all_reversed past are) (subst (AreKept h) (sym (reversed_twice past)) (kept_now h past p.clean))

@@ -1,0 +1,27 @@
+use Rattle.std.proofs.Common.{◌∙◌, length, refl, sym, subst}
+use Rattle.std.proofs.lemmas.Result.{err_from_is_err_and}
+use Rattle.trace_record.specs.Fresh.{IsWithin}
+use Rattle.ring_changes.specs.Histories.{known_now}
+use Rattle.ring_pass.proofs.Steps.{comes_behind, comes_refused}
+use Rattle.ring_pass.proofs.pass.RingPass.ring_comes.Goals as goal
+
+pub returns-then-is_stopped-clause-refused : goal.returns-then-is_stopped-clause-refused
+returns-then-is_stopped-clause-refused g c = λ h past p. sym (c.is_stopped.ensures (known_now h past) p.tracked.follows.registers) ∙ c.if-is_stopped.true
+
+pub returns-in_err-check_coming-clause-refused : goal.returns-in_err-check_coming-clause-refused
+returns-in_err-check_coming-clause-refused g c =
+    let words = g.M.WordMemory.words in
+    let e = err_from_is_err_and c.from_residual.result c.from_residual.ensures.1 in
+    rw (e.1, e.2) (λ h past p.
+    comes_refused words h past c.args.self.now p c.args.ring (sym (c.is_stopped.ensures (known_now h past) p.tracked.follows.registers) ∙ c.if-is_stopped.false)
+    c.in_err-check_coming.field-0.0 c.in_err-check_coming.ensures.refused)
+
+pub returns-clause-passed : goal.returns-clause-passed
+returns-clause-passed g c = λ h past p.
+    let words = g.M.WordMemory.words in
+    let k = known_now h past in
+    comes_behind words h past c.args.self.now p c.args.ring c.check_coming.new.kept c.requires.transfers
+    (λ keeps on. c.in_ok-check_coming.ensures.ok k p.tracked.follows keeps on)
+    (sym (c.is_stopped.ensures k p.tracked.follows.registers) ∙ c.if-is_stopped.false)
+    (subst (λ e. IsWithin e (length past)) (sym c.in_ok-check_coming.ensures.events) p.few_reads) _
+    c.in_ok-check_coming.ensures.comes c.in_ok-check_coming.ensures.headed c.in_ok-check_coming.ensures.found refl refl

@@ -1,0 +1,29 @@
+-- How far a pass has come over rows between which rings come and go, and what that comes to
+use Rattle.std.specs.Prelude.{◌≡◌, ℕ, List, All, Some, length}
+use Rattle.traces.specs.declared.header.Header.{Header}
+use Rattle.traces.specs.declared.step.Step.{Step}
+use Rattle.traces.specs.declared.trace_row.TraceRow.{TraceRow}
+use Rattle.traces.specs.Header.{IsHeader}
+use Rattle.traces.specs.Rows.{IsStep}
+use Rattle.world_state.specs.Harms.{IsSafe}
+use Rattle.ring_finder.specs.Finding.{IsFinder}
+use Rattle.ring_changes.specs.Histories.{Scene, header_now, known_now, scene_reached}
+use Rattle.trace_record.specs.Fresh.{IsWithin}
+use Rattle.row_checks.specs.Tracking.{IsTracked}
+use Rattle.ring_pass.specs.Clean.{AreClean}
+use Rattle.ring_pass.specs.declared.pass.RingPass.{RingPass}
+
+-- the rows so far, the newest first, break no rule; the header is that of the rings that are there behind them, and the record and the
+-- memory hold what is known then; `h` is the header before the first
+pub record IsRingPassed {B M : Type 0} (words : M → ℕ → ℕ) (h : Header) (past : List TraceRow) (pass : RingPass B M) : Type 0 where
+  pub opening : IsHeader h
+  pub header : pass.header ≡ header_now h past
+  pub headed : IsHeader pass.header
+  pub found : IsFinder pass.header.rings pass.finder
+  pub few_reads : IsWithin pass.record.events (length past)
+  pub tracked : IsTracked pass.header (known_now h past) pass.record (words pass.memory)
+  pub clean : AreClean h past
+
+-- behind each step of each run of the controller's model beside the rows, in their order, the world is safe
+abbrev pub DoNoHarm : Header → List TraceRow → Type 0
+DoNoHarm h rows = (steps : List Step) (x : Scene) → All IsStep steps → scene_reached h rows steps ≡ Some x → IsSafe x.header x.world

@@ -1,0 +1,161 @@
+ghost use Rattle.std.specs.Prelude.{◌≡◌, ◌≤◌, ℕ, [], ◌∷◌, List, All, length, reverse, IfErr, IfOk, OnOk};
+ghost use Rattle.trb.specs.declared.ring_kind.RingKind.TheVariants.{Xfer};
+ghost use Rattle.traces.specs.Header.{IsHeader};
+ghost use Rattle.traces.specs.Limits.{most_lines};
+ghost use Rattle.traces.specs.declared.header.Header.{Header};
+ghost use Rattle.traces.specs.declared.trace_row.TraceRow.{TraceRow};
+ghost use Rattle.traces.specs.declared.trace_row.TraceRow.TheVariants.{Plain, Comes, Goes};
+ghost use Rattle.ring_changes.specs.Histories.{IsTraceRow, header_now, known_now};
+ghost use Rattle.trace_record.specs.Steps.{IfRefused, IsLeast};
+ghost use Rattle.ring_pass.specs.Clean.{IsLeastOfRing};
+ghost use Rattle.ring_pass.specs.Passing.{DoNoHarm, IsRingPassed};
+
+use crate::fault::RingRowFault;
+use guest_memory::WordMemory;
+use lease_book::{LeaseLog, RangeIndexes};
+use lease_rows::note_row;
+use ring_checks::{check_coming, check_going};
+use ring_finder::Finder;
+use ring_leases::note_going;
+use row_checks::check_row;
+use std::alloc::{AllocError, Global};
+use trace_record::{StepFault, TraceRecord};
+use traces::{Header, Ring, Row};
+
+/// What is known after the rows so far, the rings that are there, and the log of the leases.
+#[derive(Drop)]
+pub struct RingPass<B, M> {
+    alloc: Global,
+    header: Header,
+    finder: Finder,
+    record: TraceRecord,
+    memory: M,
+    log: B,
+    ranges: RangeIndexes,
+}
+
+impl<B: LeaseLog + Drop, M: WordMemory + Drop> RingPass<B, M> {
+    /// Before the first row. The memory is all zero.
+    pub fn new(
+        alloc: Global,
+        header: Header,
+        log: B,
+        memory: M,
+    ) -> Result<RingPass<B, M>, AllocError>
+        requires headed { IsHeader header }
+        requires zero { (a : ℕ) → M.words memory a ≡ 0 }
+        ensures passed { IfOk result (IsRingPassed M.words header []) }
+    {
+        let finder = Finder::new(alloc, &header)?;
+        let record = TraceRecord::new(alloc, &header)?;
+        Ok(RingPass {
+            alloc,
+            header,
+            finder,
+            record,
+            memory,
+            log,
+            ranges: RangeIndexes::new(alloc),
+        })
+    }
+
+    /// Checks what the driver did, or an event that it read, and notes it and its leases.
+    pub fn driver_row(&mut self, number: u32, row: &Row) -> Result<(), StepFault>
+        requires so_far { (h : Header) × (past : List TraceRow) × IsRingPassed M.words h past self.old × (length past ≤ most_lines) }
+        ensures passed { OnOk result ((h : Header) (past : List TraceRow) → IsRingPassed M.words h past self.old → IsRingPassed M.words h (Plain row.now ∷ past) self.new) }
+        ensures refused { IfErr result (λ e. IfRefused e (λ c. (h : Header) (past : List TraceRow) → IsRingPassed M.words h past self.old →
+            IsLeast (header_now h past) (known_now h past) row.now c)) }
+    {
+        let place = self.record.place(&self.header, &self.finder, row);
+        let owned = self.record.owns(&self.header, &self.memory, row, place);
+        note_row(
+            &mut self.log,
+            &mut self.ranges,
+            &self.header,
+            &self.finder,
+            &self.record,
+            &self.memory,
+            number,
+            row,
+            place,
+        )?;
+        check_row(
+            &self.header,
+            &self.finder,
+            &mut self.record,
+            &mut self.memory,
+            row,
+            place,
+            owned,
+        )
+    }
+
+    /// Checks a transfer ring that comes, and takes it up. No lease begins or ends (xHCI 4.9).
+    pub fn ring_comes(&mut self, ring: Box<Ring>) -> Result<(), RingRowFault>
+        requires so_far { (h : Header) × (past : List TraceRow) × IsRingPassed M.words h past self.old }
+        requires transfers { ring.value.shape.kind ≡ Xfer }
+        ensures passed { OnOk result ((h : Header) (past : List TraceRow) → IsRingPassed M.words h past self.old → IsRingPassed M.words h (Comes ring ∷ past) self.new) }
+        ensures refused { IfErr result (λ e. (h : Header) (past : List TraceRow) → IsRingPassed M.words h past self.old →
+            IsLeastOfRing (header_now h past) (known_now h past) (Comes ring) e) }
+    {
+        if self.record.registers.is_stopped() {
+            return Err(RingRowFault::AfterStop);
+        }
+        check_coming(
+            self.alloc,
+            &mut self.header,
+            &mut self.finder,
+            &mut self.record,
+            &self.memory,
+            ring,
+        )?;
+        Ok(())
+    }
+
+    /// Checks a ring that goes, ends the leases of its blocks and Links, and forgets it (xHCI 4.9).
+    pub fn ring_goes(&mut self, number: u32, id: u8) -> Result<(), RingRowFault>
+        requires so_far { (h : Header) × (past : List TraceRow) × IsRingPassed M.words h past self.old }
+        ensures passed { OnOk result ((h : Header) (past : List TraceRow) → IsRingPassed M.words h past self.old → IsRingPassed M.words h (Goes id ∷ past) self.new) }
+        ensures refused { IfErr result (λ e. (h : Header) (past : List TraceRow) → IsRingPassed M.words h past self.old →
+            IsLeastOfRing (header_now h past) (known_now h past) (Goes id) e) }
+    {
+        if self.record.registers.is_stopped() {
+            return Err(RingRowFault::AfterStop);
+        }
+        self.end_leases(number, id);
+        check_going(
+            self.alloc,
+            &mut self.header,
+            &mut self.finder,
+            &mut self.record,
+            id,
+        )?;
+        Ok(())
+    }
+
+    /// The leases end of the blocks and Links of the ring with this ID.
+    fn end_leases(&mut self, number: u32, id: u8)
+        ensures header { self.new.header ≡ self.old.header }
+        ensures finder { self.new.finder ≡ self.old.finder }
+        ensures record { self.new.record ≡ self.old.record }
+        ensures memory { self.new.memory ≡ self.old.memory }
+    {
+        let Some(place) = self.finder.ring_named(id) else {
+            return;
+        };
+        let Some(ring) = self.header.rings.as_slice().get(place) else {
+            return;
+        };
+        let Some(known) = self.record.rings.as_slice().get(place) else {
+            return;
+        };
+        note_going(&mut self.log, number, ring, known);
+    }
+
+    /// The log of the rows so far. No run of the controller's model beside them does harm.
+    pub fn into_log(self) -> B
+        ensures harmless { (h : Header) (past : List TraceRow) → IsRingPassed M.words h past self → All IsTraceRow past → DoNoHarm h (reverse past) }
+    {
+        self.log
+    }
+}
