@@ -1,5 +1,5 @@
 -- The leases that stand before the first row begin, one by one
-use Rattle.certificate_log.proofs.CitedWords.{◌≡◌, ◌+◌, ◌<◌, ◌≤◌, ◌%◌, ◌∷◌, ◌++◌, ◌∙◌, ℕ, zero, suc, false, List, [], length, map, arith, sym, ap, refl, inl, inr, subst, get_or, take, take_all, get_or-map, length-map, take_more, place_count, link_of, Header, shape_of, Lease, nothing, Leased, Block, Link, Range, Use, EventSegment, open_leases, as_lease, without_end, IsIn, IndexTables, index_at, Lent, begun_at, in_turn, lease_of, lents, share_a_place, with_begun, first_are_ranges, IsRange, FollowedList, agree, IsOnly, is_open_of, number_at, Begins, FollowsList}
+use Rattle.certificate_log.proofs.CitedWords.{◌≡◌, ◌+◌, ◌<◌, ◌≤◌, ◌%◌, ◌∷◌, ◌++◌, ◌∙◌, ℕ, zero, suc, false, List, [], length, map, arith, sym, ap, refl, inl, inr, subst, get_or, take, take_all, get_or-map, length-map, take_more, place_count, link_of, Header, shape_of, Lease, nothing, Leased, Block, Link, Range, Use, EventSegment, open_leases, as_lease, without_end, IsIn, IndexTables, index_at, Lent, begun_at, in_turn, lease_of, lents, share_a_place, with_begun, first_are_ranges, IsRange, FollowedList, agree, IsOnly, BlockPlace, LinkPlace, RingPlace, has_place, is_open_of, number_at, Begins, FollowsList}
 use Rattle.certificate_log.proofs.Following.{goes_on}
 use Rattle.certificate_log.proofs.Standing.{range_none}
 use Rattle.certificate_log.proofs.Tables.{range_numbered}
@@ -19,10 +19,9 @@ module _ (leases : List Lease) (h : Header) where
     known = λ agreed. record { count = unended; places = none; crossed = tt };
   }
     where
-      none : (l : Leased) → IsOnly (is_open_of (share_a_place h l)) (number_at h blocks links l) []
-      none (Block r p) = subst (λ (n : ℕ). IsOnly (is_open_of (share_a_place h (Block r p))) n []) (sym (no_block r (p % place_count (shape_of h r)))) refl
-      none (Link r q) = subst (λ (n : ℕ). IsOnly (is_open_of (share_a_place h (Link r q))) n []) (sym (no_link r (link_of (shape_of h r) q))) refl
-      none (Range n a e) = refl
+      none : (m : RingPlace) → IsOnly (is_open_of (has_place h m)) (number_at blocks links m) []
+      none (BlockPlace r i) = subst (λ (n : ℕ). IsOnly (is_open_of (has_place h (BlockPlace r i))) n []) (sym (no_block r i)) refl
+      none (LinkPlace r i) = subst (λ (n : ℕ). IsOnly (is_open_of (has_place h (LinkPlace r i))) n []) (sym (no_link r i)) refl
 
   -- the lease of a range begins
   pub range_begins : (ts : List Lent) (old new : FollowedList) (blocks links : IndexTables) (row n a : ℕ) (e : Use) → FollowsList leases h ts old blocks links →

@@ -3,7 +3,7 @@ pub use Rattle.certificate_log.specs.Agreement.{test_of}
 unfoldable pub use Rattle.certificate_log.specs.Agreement.{agree, agrees, begins_as, has_words_of, is_endless}
 pub use Rattle.certificate_log.specs.Following.{Begins, Ends, FollowsList, KnowsOpen}
 pub use Rattle.certificate_log.specs.Logs.{FollowsCertificate}
-pub use Rattle.certificate_log.specs.OpenPlaces.{FindsPlaces, IsCrossed, IsOnly, IsOnlyAt, is_open_of, number_at}
+pub use Rattle.certificate_log.specs.OpenPlaces.{BlockPlace, FindsPlaces, IsCrossed, IsOnly, IsOnlyAt, LinkPlace, RingPlace, has_place, is_open_of, number_at}
 pub use Rattle.certificate_log.specs.declared.certificate_log.CertificateLog.{CertificateLog}
 pub use Rattle.certificate_log.specs.declared.followed.FollowedList.{FollowedList}
 pub use Rattle.lease_book.proofs.Ending.{IsPositive, block_alike, later_end, link_alike}

@@ -1,9 +1,9 @@
 -- One lease ends at a row, if it is open
-use Rattle.certificate_log.proofs.CitedWords.{◌≡◌, ◌≢◌, ◌-◌, ◌<◌, ◌==◌, ◌&&◌, ◌∙◌, ℕ, suc, Bool, true, false, not, List, map, slice_get, arith, sym, ap, inl, inr, subst, eqb-true, eq-eqb, list_any, cases_Bool, and_parts, false≢true, Header, Lease, Leased, same_leased, as_lease, without_end, IndexTables, Lent, ended_where, share_a_place, FollowedList, agree, has_words_of, test_of, IsCrossed, IsOnly, IsOnlyAt, is_open_of, number_at, Ends, FollowsList}
+use Rattle.certificate_log.proofs.CitedWords.{◌≡◌, ◌≢◌, ◌-◌, ◌<◌, ◌==◌, ◌&&◌, ◌∙◌, ℕ, suc, Bool, true, false, not, List, map, slice_get, arith, sym, ap, inl, inr, subst, eqb-true, eq-eqb, list_any, cases_Bool, and_parts, false≢true, Header, Lease, Leased, same_leased, as_lease, without_end, IndexTables, Lent, ended_where, share_a_place, FollowedList, agree, has_words_of, test_of, IsCrossed, IsOnly, IsOnlyAt, RingPlace, has_place, is_open_of, number_at, Ends, FollowsList}
 use Rattle.certificate_log.proofs.Following.{ends_so, never, stays}
 use Rattle.certificate_log.proofs.OpenPlaces.{at_less, none_less}
 use Rattle.certificate_log.proofs.Standing.{apart_less}
-use Rattle.certificate_log.proofs.Tables.{IsNumbered, number_alike}
+use Rattle.certificate_log.proofs.Tables.{IsNumbered, number_alike, number_of, places_of}
 use Rattle.certificate_log.proofs.Words.{HasWords}
 
 module _ (leases : List Lease) (h : Header) (ts : List Lent) (old : FollowedList) (blocks links : IndexTables) (follows : FollowsList leases h ts old blocks links) (l : Leased) (row : ℕ) where
@@ -40,22 +40,22 @@ module _ (leases : List Lease) (h : Header) (ts : List Lent) (old : FollowedList
 
     -- it has these words: it ends
     pub this_there : (new : FollowedList) (new_blocks new_links : IndexTables) → is_found index x ≡ true → Ends index row old new → IsNumbered h blocks links new_blocks new_links l 0 →
-        (agree ts leases ≡ true → (m : Leased) → share_a_place h m l ≡ true → number_at h blocks links m ≡ suc index) → FollowsList leases h after new new_blocks new_links
+        (agree ts leases ≡ true → (m : RingPlace) → has_place h m l ≡ true → number_at blocks links m ≡ suc index) → FollowsList leases h after new new_blocks new_links
     this_there new new_blocks new_links holds ends numbered number =
         let parts = and_parts (not (row == without_end)) (test_of (has_words_of x) (slice_get old.leases.now index)) holds in
         let early : row ≢ without_end = λ e. false≢true (sym (ap not (eq-eqb row without_end e)) ∙ parts.0) in
         ends_so leases h ts old blocks links follows l row new new_blocks new_links index early ends numbered (λ agreed. (decides agreed).0 (same_lease ∙ parts.1)) number
 
-  placed : (n : ℕ) → number_at h blocks links l ≡ n → agree ts leases ≡ true → IsOnly (is_open_of (share_a_place h l)) n ts
-  placed n numbered agreed = let known = follows.known agreed in subst (λ (m : ℕ). IsOnly (is_open_of (share_a_place h l)) m ts) numbered (known.places l)
+  placed : (n : ℕ) → number_of h blocks links l ≡ n → agree ts leases ≡ true → IsOnly (is_open_of (share_a_place h l)) n ts
+  placed n numbered agreed = let known = follows.known agreed in subst (λ (m : ℕ). IsOnly (is_open_of (share_a_place h l)) m ts) numbered (places_of h ts blocks links known.places l)
 
   module _ (shares : share_a_place h l l ≡ true) where
     -- its place has no number: none is open there
-    pub none_numbered : number_at h blocks links l ≡ 0 → FollowsList leases h after old blocks links
+    pub none_numbered : number_of h blocks links l ≡ 0 → FollowsList leases h after old blocks links
     none_numbered none =
         stays leases h ts old blocks links follows l row old blocks links (λ agreed. none_less (share_a_place h l) (same_leased l) (apart_less h l shares) ts (placed 0 none agreed))
 
-    module _ (words : HasWords (share_a_place h l) (IsCrossed h) l row) (x : Lease) (is : x ≡ as_lease row without_end l) (number : ℕ) (numbered : number_at h blocks links l ≡ number) (some : 0 < number) where
+    module _ (words : HasWords (share_a_place h l) (IsCrossed h) l row) (x : Lease) (is : x ≡ as_lease row without_end l) (number : ℕ) (numbered : number_of h blocks links l ≡ number) (some : 0 < number) where
       next : number ≡ suc (number - 1)
       next = omega (arith, some)
 

@@ -1,5 +1,5 @@
 -- The list is followed when a lease begins, and when one ends
-use Rattle.certificate_log.proofs.CitedWords.{◌≡◌, ◌≢◌, ◌+◌, ◌-◌, ◌==◌, ◌&&◌, ◌||◌, ◌∷◌, ◌++◌, ◌∙◌, ℕ, suc, Bool, true, false, not, List, [], filter, length, map, slice_get, arith, sym, ap, refl, inl, inr, subst, list_any, cases_Bool, and_parts, false≢true, length-map, Header, Lease, Leased, same_leased, as_lease, without_end, leased_is, IndexTables, AllUnended, Lent, begun_at, ended_where, is_unended, share_a_place, with_begun, all_ended, FollowedList, agree, begins_as, test_of, FindsPlaces, IsCrossed, IsOnly, IsOnlyAt, is_open_of, number_at, Begins, Ends, FollowsList, KnowsOpen}
+use Rattle.certificate_log.proofs.CitedWords.{◌≡◌, ◌≢◌, ◌+◌, ◌-◌, ◌==◌, ◌&&◌, ◌||◌, ◌∷◌, ◌++◌, ◌∙◌, ℕ, suc, Bool, true, false, not, List, [], filter, length, map, slice_get, arith, sym, ap, refl, inl, inr, subst, list_any, cases_Bool, and_parts, false≢true, length-map, Header, Lease, Leased, same_leased, as_lease, without_end, leased_is, IndexTables, AllUnended, Lent, begun_at, ended_where, is_unended, share_a_place, with_begun, all_ended, FollowedList, agree, begins_as, test_of, FindsPlaces, IsCrossed, IsOnly, IsOnlyAt, RingPlace, has_place, is_open_of, number_at, Begins, Ends, FollowsList, KnowsOpen}
 use Rattle.certificate_log.proofs.Agreement.{agree_begun, agree_unended, begun_is_unended}
 use Rattle.certificate_log.proofs.Ending.{agree_ended, never_ends, none_ends, none_there, one_fewer, open_alike}
 use Rattle.certificate_log.proofs.OpenPlaces.{first_one, none_less, only_alike, only_more}
@@ -54,23 +54,23 @@ module _ (leases : List Lease) (h : Header) (ts : List Lent) (old : FollowedList
       more = agree_begun row l ts leases
 
       places : FindsPlaces h ts blocks links → FindsPlaces h (ts ++ begun_at row l ∷ []) new_blocks new_links
-      places found m = elim (cases_Bool (share_a_place h m l)) [
+      places found m = elim (cases_Bool (has_place h m l)) [
         | inl shares ↦
-            let number : number_at h new_blocks new_links m ≡ suc (length ts) = numbered.there m shares ∙ count in
+            let number : number_at new_blocks new_links m ≡ suc (length ts) = numbered.there m shares ∙ count in
             let alike = share_alike h m l shares in
-            let none : list_any (is_open_of (share_a_place h m)) ts ≡ false = none_less (share_a_place h l) (share_a_place h m) (λ x e. alike x ∙ e) ts free in
-            let passes : is_open_of (share_a_place h m) (begun_at row l) ≡ true = opens m shares in
-            subst (λ (n : ℕ). IsOnly (is_open_of (share_a_place h m)) n (ts ++ begun_at row l ∷ [])) (sym number) (first_one (is_open_of (share_a_place h m)) (begun_at row l) ts passes none)
+            let none : list_any (is_open_of (has_place h m)) ts ≡ false = none_less (share_a_place h l) (has_place h m) (λ x e. alike x ∙ e) ts free in
+            let passes : is_open_of (has_place h m) (begun_at row l) ≡ true = opens m shares in
+            subst (λ (n : ℕ). IsOnly (is_open_of (has_place h m)) n (ts ++ begun_at row l ∷ [])) (sym number) (first_one (is_open_of (has_place h m)) (begun_at row l) ts passes none)
         | inr apart ↦
-            let fails : is_open_of (share_a_place h m) (begun_at row l) ≡ false = misses m apart in
-            subst (λ (n : ℕ). IsOnly (is_open_of (share_a_place h m)) n (ts ++ begun_at row l ∷ [])) (sym (numbered.others m apart))
-            (only_more (is_open_of (share_a_place h m)) (begun_at row l) (number_at h blocks links m) ts fails (found m))
+            let fails : is_open_of (has_place h m) (begun_at row l) ≡ false = misses m apart in
+            subst (λ (n : ℕ). IsOnly (is_open_of (has_place h m)) n (ts ++ begun_at row l ∷ [])) (sym (numbered.others m apart))
+            (only_more (is_open_of (has_place h m)) (begun_at row l) (number_at blocks links m) ts fails (found m))
       ]
         where
-          opens : (m : Leased) → share_a_place h m l ≡ true → (is_unended (begun_at row l) && share_a_place h m (begun_at row l).leased) ≡ true
+          opens : (m : RingPlace) → has_place h m l ≡ true → (is_unended (begun_at row l) && has_place h m (begun_at row l).leased) ≡ true
           opens m e = rw (begun_is_unended row l) e
 
-          misses : (m : Leased) → share_a_place h m l ≡ false → (is_unended (begun_at row l) && share_a_place h m (begun_at row l).leased) ≡ false
+          misses : (m : RingPlace) → has_place h m l ≡ false → (is_unended (begun_at row l) && has_place h m (begun_at row l).leased) ≡ false
           misses m e = rw (begun_is_unended row l) e
 
       knows : agree ts leases ≡ true → KnowsOpen h (with_begun row ts (l ∷ [])) new new_blocks new_links
@@ -110,7 +110,7 @@ module _ (leases : List Lease) (h : Header) (ts : List Lent) (old : FollowedList
   module _ (index : ℕ) (early : row ≢ without_end) where
     -- it stands at this index, and has its number in the tables
     pub ends_so : Ends index row old new → IsNumbered h blocks links new_blocks new_links l 0 → (agree ts leases ≡ true → IsOnlyAt (is_open_of (same_leased l)) index ts) →
-        (agree ts leases ≡ true → (m : Leased) → share_a_place h m l ≡ true → number_at h blocks links m ≡ suc index) → FollowsList leases h after new new_blocks new_links
+        (agree ts leases ≡ true → (m : RingPlace) → has_place h m l ≡ true → number_at blocks links m ≡ suc index) → FollowsList leases h after new new_blocks new_links
     ends_so ends numbered only number = record {
       same = ends.leases ∙ follows.same;
       begun = ends.begun ∙ follows.begun ∙ sym (length-map ts (ended_where (same_leased l) row));
@@ -129,14 +129,14 @@ module _ (leases : List Lease) (h : Header) (ts : List Lent) (old : FollowedList
         ]
 
         places : agree ts leases ≡ true → FindsPlaces h ts blocks links → FindsPlaces h after new_blocks new_links
-        places agreed found m = elim (cases_Bool (share_a_place h m l)) [
+        places agreed found m = elim (cases_Bool (has_place h m l)) [
           | inl shares ↦
-              let at : IsOnlyAt (is_open_of (share_a_place h m)) index ts = subst (λ (n : ℕ). IsOnly (is_open_of (share_a_place h m)) n ts) (number agreed m shares) (found m) in
-              subst (λ (n : ℕ). IsOnly (is_open_of (share_a_place h m)) n after) (sym (numbered.there m shares)) (none_there (same_leased l) row early (share_a_place h m) index ts at (only agreed))
+              let at : IsOnlyAt (is_open_of (has_place h m)) index ts = subst (λ (n : ℕ). IsOnly (is_open_of (has_place h m)) n ts) (number agreed m shares) (found m) in
+              subst (λ (n : ℕ). IsOnly (is_open_of (has_place h m)) n after) (sym (numbered.there m shares)) (none_there (same_leased l) row early (has_place h m) index ts at (only agreed))
           | inr apart ↦
-              subst (λ (n : ℕ). IsOnly (is_open_of (share_a_place h m)) n after) (sym (numbered.others m apart))
-              (only_alike (is_open_of (share_a_place h m)) (is_open_of (share_a_place h m)) (ended_where (same_leased l) row)
-              (open_alike (same_leased l) row early (share_a_place h m) (λ x same. ap (share_a_place h m) (sym (leased_is l x same)) ∙ apart)) (number_at h blocks links m) ts (found m))
+              subst (λ (n : ℕ). IsOnly (is_open_of (has_place h m)) n after) (sym (numbered.others m apart))
+              (only_alike (is_open_of (has_place h m)) (is_open_of (has_place h m)) (ended_where (same_leased l) row)
+              (open_alike (same_leased l) row early (has_place h m) (λ x same. ap (has_place h m) (sym (leased_is l x same)) ∙ apart)) (number_at blocks links m) ts (found m))
         ]
 
         knows : agree ts leases ≡ true → KnowsOpen h after new new_blocks new_links

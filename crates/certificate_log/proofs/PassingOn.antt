@@ -1,9 +1,10 @@
 -- The walk along a ring passes a position at which no Link is crossed
-use Rattle.certificate_log.proofs.CitedWords.{◌≡◌, ◌+◌, ◌≤◌, ◌||◌, ◌∙◌, ℕ, Bool, false, not, List, map, sym, ap, refl, inl, inr, subst, cases_Bool, false≢true, length-map, is_crossing, Header, shape_of, Lease, Leased, Block, Link, Range, same_leased, IndexTables, IsFound, Lent, ended_where, is_passed, ended_alike, passed_block, FollowedList, agree, IsCrossed, number_at, FollowsList}
+use Rattle.certificate_log.proofs.CitedWords.{◌≡◌, ◌+◌, ◌≤◌, ◌||◌, ◌∙◌, ℕ, Bool, false, not, List, map, sym, ap, refl, inl, inr, subst, cases_Bool, false≢true, length-map, is_crossing, Header, shape_of, Lease, Leased, Block, Link, Range, same_leased, IndexTables, IsFound, Lent, ended_where, is_passed, ended_alike, passed_block, FollowedList, agree, IsCrossed, FollowsList}
 use Rattle.certificate_log.proofs.Agreement.{agree_unended}
+use Rattle.certificate_log.proofs.Tables.{number_of}
 
 -- where the tables have its number, they find what is crossed
-crossed_found : (h : Header) (blocks links : IndexTables) (l : Leased) → IsCrossed h l → IsFound h blocks links (number_at h blocks links l) l
+crossed_found : (h : Header) (blocks links : IndexTables) (l : Leased) → IsCrossed h l → IsFound h blocks links (number_of h blocks links l) l
 crossed_found h blocks links (Block r p) crossed = refl
 crossed_found h blocks links (Link r q) crossed = (crossed, refl)
 crossed_found h blocks links (Range n a e) crossed = tt
@@ -43,4 +44,4 @@ pub passed_on : (leases : List Lease) (h : Header) (ts : List Lent) (list : Foll
     FollowsList leases h (map (ended_where (is_passed r from (n + 1)) row) ts) new new_blocks new_links
 passed_on leases h ts list blocks links follows r from n row least none =
     ended_so leases h ts list blocks links follows (λ l. is_passed r from n l || same_leased (Block r n) l) (is_passed r from (n + 1)) row
-    (λ l crossed. passed_block h blocks links r from n (number_at h blocks links l) l least none (crossed_found h blocks links l crossed))
+    (λ l crossed. passed_block h blocks links r from n (number_of h blocks links l) l least none (crossed_found h blocks links l crossed))

@@ -1,5 +1,5 @@
 -- Where what is lent stands among what was and is lent
-use Rattle.certificate_log.proofs.CitedWords.{◌≡◌, ◌+◌, ◌<◌, ◌%◌, ◌==◌, ◌&&◌, ◌∷◌, ◌∙◌, ℕ, zero, suc, Bool, true, false, List, [], arith, sym, ap, refl, inl, inr, subst, eq-eqb, list_any, cases_Bool, and_parts, false≢true, or_from, place_count, link_of, Header, shape_of, Leased, Block, Link, Range, Use, same_leased, leased_is, AllUnended, Lent, is_place_free, is_unended, share_a_place, StandsAt, is_lent, either_holds, not_later, not_true, IsOnlyAt, is_open_of}
+use Rattle.certificate_log.proofs.CitedWords.{◌≡◌, ◌+◌, ◌<◌, ◌%◌, ◌==◌, ◌&&◌, ◌∷◌, ◌∙◌, ℕ, zero, suc, Bool, true, false, List, [], arith, sym, ap, refl, inl, inr, subst, eq-eqb, list_any, cases_Bool, and_parts, false≢true, or_from, place_count, link_of, Header, shape_of, Leased, Block, Link, Range, Use, same_leased, leased_is, AllUnended, Lent, is_place_free, is_unended, share_a_place, StandsAt, is_lent, either_holds, not_later, not_true, IsOnlyAt, BlockPlace, LinkPlace, RingPlace, has_place, is_open_of}
 
 module _ (l : Leased) where
   abbrev is_this : Lent → Bool
@@ -68,8 +68,7 @@ module _ (h : Header) where
       none true = refl
       none false = refl
 
-  -- a range shares no place
-  pub range_apart : (n a : ℕ) (e : Use) (m : Leased) → share_a_place h m (Range n a e) ≡ false
-  range_apart n a e (Block r p) = refl
-  range_apart n a e (Link r q) = refl
-  range_apart n a e (Range k b u) = refl
+  -- a range has no place
+  pub range_apart : (n a : ℕ) (e : Use) (m : RingPlace) → has_place h m (Range n a e) ≡ false
+  range_apart n a e (BlockPlace r i) = refl
+  range_apart n a e (LinkPlace r i) = refl

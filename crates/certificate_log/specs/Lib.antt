@@ -2,3 +2,4 @@ pub mod Agreement
 pub mod OpenPlaces
 pub mod Following
 pub mod Logs
+pub mod OtherHeaders

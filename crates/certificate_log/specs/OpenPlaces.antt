@@ -1,5 +1,5 @@
 -- Which lease that isn't over has a place of a ring
-use Rattle.std.specs.Prelude.{◌≡◌, ℕ, zero, suc, ◌%◌, ◌&&◌, Bool, true, false, List, [], ◌∷◌}
+use Rattle.std.specs.Prelude.{◌≡◌, ℕ, zero, suc, ◌%◌, ◌==◌, ◌&&◌, Bool, true, false, List, [], ◌∷◌}
 use Rattle.std.specs.List.{list_any}
 use Rattle.segments.specs.Places.{place_count, is_crossing}
 use Rattle.segments.specs.Givings.{link_of}
@@ -8,7 +8,7 @@ use Rattle.traces.specs.Header.{shape_of}
 use Rattle.ownership_rules.specs.OpenLeases.{Leased, Block, Link, Range}
 use Rattle.lease_book.specs.declared.indexes.IndexTables.{IndexTables}
 use Rattle.lease_book.specs.IndexTables.{index_at}
-use Rattle.lease_book.specs.Lents.{Lent, is_unended, share_a_place}
+use Rattle.lease_book.specs.Lents.{Lent, is_unended}
 use Rattle.lease_book.specs.Books.{AllUnended}
 
 -- of a list the one at this index passes the test, and no other
@@ -26,15 +26,25 @@ IsOnly p (suc i) ts = IsOnlyAt p i ts
 abbrev pub is_open_of : (Leased → Bool) → Lent → Bool
 is_open_of S t = is_unended t && S t.leased
 
--- the number that stands in tables for a place
-abbrev pub number_at : Header → IndexTables → IndexTables → Leased → ℕ
-number_at h blocks links (Block r p) = index_at blocks r (p % place_count (shape_of h r))
-number_at h blocks links (Link r q) = index_at links r (link_of (shape_of h r) q)
-number_at h blocks links (Range n a e) = 0
+-- a place of a ring: for a block, or for the Link of a segment
+pub data RingPlace : Type 0 where
+  BlockPlace : (ring place : ℕ) → RingPlace
+  LinkPlace : (ring segment : ℕ) → RingPlace
 
--- each place has the number of what is lent there and isn't over; 0: nothing is
+-- what is leased has the place
+abbrev pub has_place : Header → RingPlace → Leased → Bool
+has_place h (BlockPlace r i) (Block s p) = r == s && i == p % place_count (shape_of h s)
+has_place h (LinkPlace r i) (Link s q) = r == s && i == link_of (shape_of h s) q
+has_place h _ _ = false
+
+-- the number that stands in tables for a place
+abbrev pub number_at : IndexTables → IndexTables → RingPlace → ℕ
+number_at blocks links (BlockPlace r i) = index_at blocks r i
+number_at blocks links (LinkPlace r i) = index_at links r i
+
+-- each place has the number of what is lent there and isn't over; 0: nothing is, as at every place of a ring that isn't there
 abbrev pub FindsPlaces : Header → List Lent → IndexTables → IndexTables → Type 0
-FindsPlaces h ts blocks links = (l : Leased) → IsOnly (is_open_of (share_a_place h l)) (number_at h blocks links l) ts
+FindsPlaces h ts blocks links = (m : RingPlace) → IsOnly (is_open_of (has_place h m)) (number_at blocks links m) ts
 
 -- a Link is crossed on the way to its position
 abbrev pub IsCrossed : Header → Leased → Type 0

@@ -87,8 +87,11 @@ impl<'a> CertificateLog<'a> {
 
 impl LeaseLog for CertificateLog<'_> {
     ghost use Rattle.certificate_log.specs.Logs.{FollowsCertificate};
+    ghost use Rattle.certificate_log.specs.OtherHeaders.{followed_alike};
 
     ghost holds = { FollowsCertificate };
+
+    ghost other_rings = { followed_alike };
 
     fn begin_block(&mut self, row: u32, ring: &Ring, position: u64) -> Result<(), AllocError> {
         self.list.begin(block_lease(row, ring.id, position))?;

@@ -1,10 +1,10 @@
 -- No lease that is open shares its Link with a due crossing that isn't given
-use Rattle.lease_book.proofs.Words.{◌≡◌, ◌+◌, ◌<◌, ◌≤◌, ◌==◌, ◌&&◌, ◌∙◌, ℕ, true, false, not, nat_lt, List, length, max, Some, arith, sym, ap, refl, inl, inr, subst, eqb-true, flat_map, cases_Bool, false≢true, and_parts, nat_tests, Shape, IsShape, is_crossing, place_count, link_of, RingView, floor_number, crossed_link, crossing_positive, Header, Ring, Row, driver_rings, shape_of, Known, known, link_of-crossed, same_due_crossing, Leased, Block, Link, Range, is_among, open_leases, open_on, open_ranges, without_end, IsIn, among_is, is_place_free, lents, share_a_place}
+use Rattle.lease_book.proofs.Words.{◌≡◌, ◌+◌, ◌<◌, ◌≤◌, ◌==◌, ◌&&◌, ◌∙◌, ℕ, true, false, not, nat_lt, List, max, Some, arith, sym, ap, refl, inl, inr, subst, eqb-true, flat_map, cases_Bool, false≢true, and_parts, nat_tests, Shape, IsShape, is_crossing, place_count, link_of, RingView, floor_number, crossed_link, crossing_positive, Header, Ring, driver_rings, shape_of, Known, link_of-crossed, same_due_crossing, Leased, Block, Link, Range, is_among, open_leases, open_on, open_ranges, IsIn, among_is, is_place_free, share_a_place, Lent}
 use Rattle.lease_book.proofs.FreePlaces.{none_shares}
 use Rattle.lease_book.proofs.Members.{InOn, block, link, from_flat_map, in_either, in_on}
 use Rattle.lease_book.proofs.RangesAlone.{IsRange, open_are_ranges}
-use Rattle.lease_book.proofs.Rows.{unended_open}
 use Rattle.lease_book.proofs.Writing.{AreShaped}
+use Rattle.lease_book.specs.InStep.{AreOpen}
 
 -- a lap ahead of the least crossing that may be due none is given
 abbrev pub NoneAhead : Shape → RingView → Type 0
@@ -68,11 +68,11 @@ module _ (h : Header) (shaped : AreShaped h) (k : Known) (q : Ring) (among : IsI
   ]
 
 -- the Link of a due crossing that isn't given is free
-pub link_free : (h : Header) → AreShaped h → (first : ℕ) (past : List Row) → first + length past ≤ without_end → (q : Ring) → IsIn q (driver_rings h) → IsShape q.shape →
-    NoneAhead q.shape ((known h past).ring q.id) → (c : ℕ) → is_crossing q.shape c ≡ true → floor_number ((known h past).ring q.id) ≤ c →
-    c < max (floor_number ((known h past).ring q.id)) 1 + place_count q.shape → ((known h past).ring q.id).crossed c ≡ false →
-    is_place_free h (lents h first past) (Link q.id c) ≡ true
+pub link_free : (h : Header) → AreShaped h → (k : Known) (ts : List Lent) → AreOpen h k ts → (q : Ring) → IsIn q (driver_rings h) → IsShape q.shape →
+    NoneAhead q.shape (k.ring q.id) → (c : ℕ) → is_crossing q.shape c ≡ true → floor_number (k.ring q.id) ≤ c →
+    c < max (floor_number (k.ring q.id)) 1 + place_count q.shape → (k.ring q.id).crossed c ≡ false →
+    is_place_free h ts (Link q.id c) ≡ true
 unfolding is_place_free
-link_free h shaped first past room q among allowed ahead c crossing low high absent =
-    ap not (none_shares (λ l. is_among (open_leases h (known h past)) l ≡ true) (share_a_place h (Link q.id c)) 0 (lents h first past)
-    (λ l is_open. apart h shaped (known h past) q among allowed ahead c crossing low high absent l is_open) (unended_open h first past room))
+link_free h shaped k ts still q among allowed ahead c crossing low high absent =
+    ap not (none_shares (λ l. is_among (open_leases h k) l ≡ true) (share_a_place h (Link q.id c)) 0 ts
+    (λ l is_open. apart h shaped k q among allowed ahead c crossing low high absent l is_open) still)

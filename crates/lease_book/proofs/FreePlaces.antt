@@ -1,9 +1,9 @@
 -- No lease that is open shares its place with a position that isn't given
-use Rattle.lease_book.proofs.Words.{◌≡◌, ◌+◌, ◌%◌, ◌<◌, ◌≤◌, ◌==◌, ◌&&◌, ◌∷◌, ◌∙◌, ℕ, Bool, true, false, not, List, [], length, sym, ap, refl, inl, inr, subst, eqb-true, flat_map, list_any, cases_Bool, false≢true, and_parts, Shape, place_count, floor_number, Header, Ring, Row, driver_rings, shape_of, Known, known, same_due, Leased, Block, Link, Range, is_among, open_leases, open_on, open_ranges, without_end, IsIn, among_is, Lent, is_place_free, is_unended, lents, share_a_place, AllUnended}
+use Rattle.lease_book.proofs.Words.{◌≡◌, ◌+◌, ◌%◌, ◌<◌, ◌≤◌, ◌==◌, ◌&&◌, ◌∷◌, ◌∙◌, ℕ, Bool, true, false, not, List, [], sym, ap, refl, inl, inr, subst, eqb-true, flat_map, list_any, cases_Bool, false≢true, and_parts, Shape, place_count, floor_number, Header, Ring, driver_rings, shape_of, Known, same_due, Leased, Block, Link, Range, is_among, open_leases, open_on, open_ranges, IsIn, among_is, Lent, is_place_free, is_unended, share_a_place, AllUnended}
 use Rattle.lease_book.proofs.Members.{InOn, block, link, from_flat_map, in_either, in_on}
 use Rattle.lease_book.proofs.RangesAlone.{IsRange, open_are_ranges}
-use Rattle.lease_book.proofs.Rows.{unended_open}
 use Rattle.lease_book.proofs.Writing.{AreShaped}
+use Rattle.lease_book.specs.InStep.{AreOpen}
 
 pub none_shares : (P : Leased → Type 0) (S : Leased → Bool) (i : ℕ) (ts : List Lent) → ((l : Leased) → P l → S l ≡ false) → AllUnended (λ j l. P l) i ts →
     list_any (λ t. is_unended t && S t.leased) ts ≡ false
@@ -51,10 +51,10 @@ module _ (h : Header) (shaped : AreShaped h) (k : Known) (q : Ring) (among : IsI
   ]
 
 -- the place of a due position that isn't given is free
-pub block_free : (h : Header) → AreShaped h → (first : ℕ) (past : List Row) → first + length past ≤ without_end → (q : Ring) → IsIn q (driver_rings h) → (p : ℕ) → 0 < place_count q.shape →
-    floor_number ((known h past).ring q.id) ≤ p → p < floor_number ((known h past).ring q.id) + place_count q.shape → ((known h past).ring q.id).given p ≡ false →
-    is_place_free h (lents h first past) (Block q.id p) ≡ true
+pub block_free : (h : Header) → AreShaped h → (k : Known) (ts : List Lent) → AreOpen h k ts → (q : Ring) → IsIn q (driver_rings h) → (p : ℕ) → 0 < place_count q.shape →
+    floor_number (k.ring q.id) ≤ p → p < floor_number (k.ring q.id) + place_count q.shape → (k.ring q.id).given p ≡ false →
+    is_place_free h ts (Block q.id p) ≡ true
 unfolding is_place_free
-block_free h shaped first past room q among p some low high absent =
-    ap not (none_shares (λ l. is_among (open_leases h (known h past)) l ≡ true) (share_a_place h (Block q.id p)) 0 (lents h first past)
-    (λ l is_open. apart h shaped (known h past) q among p some low high absent l is_open) (unended_open h first past room))
+block_free h shaped k ts still q among p some low high absent =
+    ap not (none_shares (λ l. is_among (open_leases h k) l ≡ true) (share_a_place h (Block q.id p)) 0 ts
+    (λ l is_open. apart h shaped k q among p some low high absent l is_open) still)

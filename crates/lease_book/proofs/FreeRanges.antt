@@ -1,10 +1,10 @@
 -- Where a slot has no device, no range is lent for its entry in the DCBAA, nor for its device context; where a due position isn't given, none
 -- for the input context of its command
-use Rattle.lease_book.proofs.Words.{◌≡◌, ◌+◌, ◌*◌, ◌<◌, ◌≤◌, ◌==◌, ◌∷◌, ◌++◌, ◌∙◌, ℕ, true, false, not, List, [], length, Option, Some, None, sym, ap, refl, inl, inr, subst, eqb-true, flat_map, range_with_len, cases_Bool, false≢true, Command, named_context, Segment, place_count, RingView, due_positions, floor_number, Header, Ring, Row, Erstba, command_id, driver_rings, event_shape, shape_of, Known, known, same_due, Leased, Block, Link, Range, EventSegment, SegmentTable, InputContext, SlotEntry, DeviceContext, is_among, open_leases, open_on, open_ranges, segment_ranges, table_range, context_ranges, range_of_command, range_of_context, entry_ranges, range_of_entry, device_ranges, range_of_device, slots, without_end, IsIn, among_is, from_filter, lents, command_place, is_use_free, shares_use}
+use Rattle.lease_book.proofs.Words.{◌≡◌, ◌+◌, ◌*◌, ◌<◌, ◌≤◌, ◌==◌, ◌∷◌, ◌++◌, ◌∙◌, ℕ, true, false, not, List, [], Option, Some, None, sym, ap, refl, inl, inr, subst, eqb-true, flat_map, range_with_len, cases_Bool, false≢true, Command, named_context, Segment, place_count, RingView, due_positions, floor_number, Header, Ring, Erstba, command_id, driver_rings, event_shape, shape_of, Known, same_due, Leased, Block, Link, Range, EventSegment, SegmentTable, InputContext, SlotEntry, DeviceContext, is_among, open_leases, open_on, open_ranges, segment_ranges, table_range, context_ranges, range_of_command, range_of_context, entry_ranges, range_of_entry, device_ranges, range_of_device, slots, IsIn, among_is, from_filter, command_place, is_use_free, shares_use, Lent}
 use Rattle.ring_knowledge.specs.Rings as rings
 use Rattle.lease_book.proofs.FreePlaces.{none_shares}
 use Rattle.lease_book.proofs.Members.{InOn, block, link, from_flat_map, from_map, from_range, in_either, in_on}
-use Rattle.lease_book.proofs.Rows.{unended_open}
+use Rattle.lease_book.specs.InStep.{AreOpen}
 
 module _ (h : Header) (k : Known) (P : Leased → Type 0) where
   -- what holds of each kind of lease that is open
@@ -80,12 +80,11 @@ other_slot k s t d none some = elim (cases_Bool (s == t)) [
   | inr differ ↦ differ
 ]
 
-module _ (h : Header) (first : ℕ) (past : List Row) (room : first + length past ≤ without_end) (s : ℕ) (none : (known h past).device s ≡ None) where
-  pub entry_free : is_use_free h (lents h first past) (SlotEntry s) ≡ true
+module _ (h : Header) (k : Known) (ts : List Lent) (still : AreOpen h k ts) (s : ℕ) (none : k.device s ≡ None) where
+  pub entry_free : is_use_free h ts (SlotEntry s) ≡ true
   unfolding is_use_free
   entry_free =
-      let k : Known = known h past in
-      ap not (none_shares (λ l. is_among (open_leases h k) l ≡ true) (shares_use h (SlotEntry s)) 0 (lents h first past)
+      ap not (none_shares (λ l. is_among (open_leases h k) l ≡ true) (shares_use h (SlotEntry s)) 0 ts
       (of_open h k (λ l. shares_use h (SlotEntry s) l ≡ false) (record {
         blocks = λ r p. refl;
         links = λ r q. refl;
@@ -94,13 +93,12 @@ module _ (h : Header) (first : ℕ) (past : List Row) (room : first + length pas
         contexts = λ n a p at. refl;
         entries = λ n a t d some. other_slot k s t d none some;
         devices = λ n a t d some. refl;
-      })) (unended_open h first past room))
+      })) still)
 
-  pub device_free : is_use_free h (lents h first past) (DeviceContext s) ≡ true
+  pub device_free : is_use_free h ts (DeviceContext s) ≡ true
   unfolding is_use_free
   device_free =
-      let k : Known = known h past in
-      ap not (none_shares (λ l. is_among (open_leases h k) l ≡ true) (shares_use h (DeviceContext s)) 0 (lents h first past)
+      ap not (none_shares (λ l. is_among (open_leases h k) l ≡ true) (shares_use h (DeviceContext s)) 0 ts
       (of_open h k (λ l. shares_use h (DeviceContext s) l ≡ false) (record {
         blocks = λ r p. refl;
         links = λ r q. refl;
@@ -109,18 +107,18 @@ module _ (h : Header) (first : ℕ) (past : List Row) (room : first + length pas
         contexts = λ n a p at. refl;
         entries = λ n a t d some. refl;
         devices = λ n a t d some. other_slot k s t d none some;
-      })) (unended_open h first past room))
+      })) still)
 
 -- of a due position that isn't given no input context is lent at its place
-module _ (h : Header) (first : ℕ) (past : List Row) (room : first + length past ≤ without_end) (p : ℕ) where
+module _ (h : Header) (k : Known) (ts : List Lent) (still : AreOpen h k ts) (p : ℕ) where
   abbrev commands : RingView
-  commands = (known h past).ring (command_id h)
+  commands = k.ring (command_id h)
 
   abbrev count : ℕ
   count = place_count (shape_of h (command_id h))
 
   module _ (some : 0 < count) (low : floor_number commands ≤ p) (high : p < floor_number commands + count) (absent : commands.given p ≡ false) where
-    other_place : (q : ℕ) → IsIn q (rings.unfinished_positions h (known h past)) → (command_place h p == command_place h q) ≡ false
+    other_place : (q : ℕ) → IsIn q (rings.unfinished_positions h k) → (command_place h p == command_place h q) ≡ false
     unfolding rings.unfinished_positions due_positions
     other_place q at =
         let passed = from_filter commands.given (range_with_len (floor_number commands) count) q at in
@@ -132,11 +130,10 @@ module _ (h : Header) (first : ℕ) (past : List Row) (room : first + length pas
           | inr differ ↦ differ
         ]
 
-    pub context_free : is_use_free h (lents h first past) (InputContext p) ≡ true
+    pub context_free : is_use_free h ts (InputContext p) ≡ true
     unfolding is_use_free
     context_free =
-        let k : Known = known h past in
-        ap not (none_shares (λ l. is_among (open_leases h k) l ≡ true) (shares_use h (InputContext p)) 0 (lents h first past)
+        ap not (none_shares (λ l. is_among (open_leases h k) l ≡ true) (shares_use h (InputContext p)) 0 ts
         (of_open h k (λ l. shares_use h (InputContext p) l ≡ false) (record {
           blocks = λ r q. refl;
           links = λ r q. refl;
@@ -145,4 +142,4 @@ module _ (h : Header) (first : ℕ) (past : List Row) (room : first + length pas
           contexts = λ n a q at. other_place q at;
           entries = λ n a t d given. refl;
           devices = λ n a t d given. refl;
-        })) (unended_open h first past room))
+        })) still)

@@ -1,5 +1,5 @@
 -- What is lent after a write that takes no device context: what it gives begins, and nothing ends
-use Rattle.lease_book.proofs.Words.{◌≡◌, ℕ, true, false, [], ap, gives, Header, command_id, shape_of, Known, range_of_command}
+use Rattle.lease_book.proofs.Words.{◌≡◌, ℕ, true, false, [], gives, Header, command_id, shape_of, Known, range_of_command}
 use Rattle.ring_knowledge.specs.Rings as rings
 
 module _ (h : Header) (k : Known) (a w : ℕ) where

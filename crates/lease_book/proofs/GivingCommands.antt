@@ -1,6 +1,6 @@
 -- What is lent after any write: what it gives begins, with the input context of the command that it gives, and the entry and the device
 -- context of a slot that takes one; nothing ends
-use Rattle.lease_book.proofs.Words.{◌≡◌, ◌≢◌, ◌+◌, ◌<◌, ◌≤◌, ◌==◌, ◌&&◌, ◌||◌, if◌then◌else◌, ◌∷◌, ◌++◌, ◌∙◌, ℕ, Bool, true, false, not, List, [], filter, length, map, Option, Some, None, option_and_then, slice_get, zero, suc, arith, sym, ap, refl, inl, inr, subst, eqb-true, eq-eqb, append-nil, flat_map, range_with_len, cases_Bool, false≢true, or_left, filter-append, place_count, RingView, due_positions, floor_number, gives, leased_crossings, leased_positions, positions_given, command_of, device_context_bytes, Header, Ring, Row, Write, Erstba, command_id, driver_rings, shape_of, Known, known, learned, command_given, entry_of, taken_device, with_device, with_word, written, Leased, Block, Link, Range, Use, InputContext, SlotEntry, DeviceContext, context_ranges, device_ranges, entry_ranges, is_among, open_leases, open_on, open_ranges, range_of_command, range_of_device, range_of_entry, segment_ranges, slots, table_range, begun, without_end, IsIn, among_is, from_filter, in_among, in_filter, in_turn, lents, with_begun}
+use Rattle.lease_book.proofs.Words.{◌≡◌, ◌≢◌, ◌+◌, ◌<◌, ◌≤◌, ◌==◌, ◌&&◌, ◌||◌, if◌then◌else◌, ◌∷◌, ◌++◌, ◌∙◌, ℕ, Bool, true, false, not, List, [], filter, map, Option, Some, None, option_and_then, slice_get, zero, suc, arith, sym, ap, refl, inl, inr, subst, eqb-true, eq-eqb, append-nil, flat_map, range_with_len, cases_Bool, false≢true, or_left, filter-append, place_count, RingView, due_positions, floor_number, gives, leased_crossings, leased_positions, positions_given, command_of, device_context_bytes, Header, Ring, Write, Erstba, command_id, driver_rings, shape_of, Known, learned, command_given, entry_of, taken_device, with_device, with_word, written, Leased, Block, Link, Range, Use, InputContext, SlotEntry, DeviceContext, context_ranges, device_ranges, entry_ranges, is_among, open_leases, open_on, open_ranges, range_of_command, range_of_device, range_of_entry, segment_ranges, slots, table_range, begun, IsIn, among_is, from_filter, in_among, in_filter, in_turn, with_begun, Lent, grown}
 use Rattle.ring_knowledge.specs.Rings as rings
 use Rattle.lease_book.proofs.FreeRanges.{of_open}
 use Rattle.lease_book.proofs.LettingGo.{HasUse, use_of_command}
@@ -8,6 +8,7 @@ use Rattle.lease_book.proofs.Members.{from_flat_map, from_range, in_either, in_f
 use Rattle.lease_book.proofs.Rows.{none_new, only_begun}
 use Rattle.lease_book.proofs.SameLeases.{flat_alike}
 use Rattle.lease_book.proofs.Writing.{AreShaped, FreeWasGiven, filter_flat_map, kept_on_rings, lease_given, new_on_rings}
+use Rattle.lease_book.specs.InStep.{AreOpen}
 
 -- ---- lists
 
@@ -395,14 +396,13 @@ module _ (h : Header) (shaped : AreShaped h) (k : Known) (freed : FreeWasGiven h
 
 -- ---- the law
 
-pub lent_commands : (h : Header) → AreShaped h → (first : ℕ) (past : List Row) → FreeWasGiven h (known h past) → (a w : ℕ) → first + length (Write a w ∷ past) ≤ without_end → (taken : Option (ℕ × ℕ)) →
-    option_and_then (taken_device (known h past)) (command_given h (known h past) a w) ≡ taken → MayTake (known h past) taken →
-    lents h first (Write a w ∷ past) ≡ with_begun (first + length past) (lents h first past)
-    (in_turn (map lease_given (rings.given_by h (known h past) a w) ++ (contexts_given h (known h past) a w ++ entry_taken (known h past) taken ++ device_taken h taken)))
+pub lent_commands : (h : Header) → AreShaped h → (k : Known) (ts : List Lent) → AreOpen h k ts → FreeWasGiven h k → (a w n : ℕ) → (taken : Option (ℕ × ℕ)) →
+    option_and_then (taken_device k) (command_given h k a w) ≡ taken → MayTake k taken →
+    grown h k (Write a w) n ts ≡ with_begun n ts
+    (in_turn (map lease_given (rings.given_by h k a w) ++ (contexts_given h k a w ++ entry_taken k taken ++ device_taken h taken)))
 unfolding begun learned written
-lent_commands h shaped first past freed a w room taken is may =
-    let k : Known = known h past in
+lent_commands h shaped k ts still freed a w n taken is may =
     let after_is : learned h k (Write a w) ≡ with_device h (with_word h k a w) taken = ap (with_device h (with_word h k a w)) is in
-    only_begun h first past (Write a w) room (in_turn (map lease_given (rings.given_by h k a w) ++ (contexts_given h k a w ++ entry_taken k taken ++ device_taken h taken)))
+    only_begun h k ts still (Write a w) n (in_turn (map lease_given (rings.given_by h k a w) ++ (contexts_given h k a w ++ entry_taken k taken ++ device_taken h taken)))
     (λ l is_open. ap (λ x. is_among (open_leases h x) l) after_is ∙ all_kept h shaped k freed a w taken may l is_open)
     (ap in_turn (ap (λ x. filter (λ l. not (is_among (open_leases h k) l)) (open_leases h x)) after_is ∙ new_leases h shaped k freed a w taken may))

@@ -1,5 +1,7 @@
 -- What is open is lent and not over
-use Rattle.lease_book.proofs.Words.{◌≡◌, ◌+◌, ◌==◌, ◌&&◌, ◌||◌, ◌∷◌, ◌++◌, ◌∙◌, ℕ, Bool, true, false, not, List, [], length, map, filter, sym, ap, refl, inl, inr, cond, eq-eqb, list_any, cases_Bool, and_parts, and_from, false≢true, Header, Row, Known, nothing, learned, known, Leased, is_among, open_leases, same_leased, without_end, IsIn, among_is, in_filter, leased_is, leased_itself, Lent, begun_at, ended_where, grown, in_turn, is_unended, lents, newly_open, passed_on, precedes, with_begun, with_leased, is_lent}
+use Rattle.lease_book.proofs.Words.{◌≡◌, ◌+◌, ◌<◌, ◌≤◌, ◌==◌, ◌&&◌, ◌||◌, ◌∷◌, ◌++◌, ◌∙◌, ℕ, Bool, true, false, not, List, [], length, map, arith, sym, ap, refl, inl, inr, cond, eq-eqb, list_any, cases_Bool, and_parts, and_from, false≢true, Header, Row, Known, nothing, learned, known, Leased, is_among, open_leases, same_leased, without_end, IsIn, among_is, in_filter, leased_is, leased_itself, Lent, begun_at, ended_where, grown, in_turn, is_unended, lents, newly_open, passed_on, precedes, with_begun, with_leased, is_lent}
+use Rattle.lease_book.specs.InStep.{IsInStep}
+use Rattle.lease_book.proofs.Rows.{first_open, passed_open}
 
 to_with : (l : Leased) (ls : List Leased) (m : Leased) → IsIn m (l ∷ ls) → IsIn m (with_leased l ls)
 unfolding with_leased
@@ -77,9 +79,23 @@ passed_lent before after n ts l is_open was_lent =
           (lent_begun n (in_turn new) l (to_turn new l (in_filter (λ m. not (is_among before m)) after l (among_is after l is_open) (ap not fresh))))
     ]
 
+-- what is open behind a row and lent behind it is in step again, also where the header has other rings then
+pub in_step_behind : (h g : Header) (k l : Known) (n : ℕ) (ts : List Lent) → n < without_end → IsInStep h k ts → IsInStep g l (passed_on (open_leases h k) (open_leases g l) n ts)
+in_step_behind h g k l n ts early step = record {
+  opened = passed_open (open_leases h k) (open_leases g l) n ts early;
+  lent = λ m is_open. passed_lent (open_leases h k) (open_leases g l) n ts m is_open (step.lent m);
+}
+
 module _ (h : Header) where
-  pub open_lent : (first : ℕ) (past : List Row) (l : Leased) → is_among (open_leases h (known h past)) l ≡ true → is_lent (lents h first past) l ≡ true
-  unfolding lents known grown with_begun
-  open_lent first [] l is_open = lent_begun 0 (in_turn (open_leases h nothing)) l (to_turn (open_leases h nothing) l (among_is (open_leases h nothing) l is_open))
-  open_lent first (row ∷ past) l is_open =
-      passed_lent (open_leases h (known h past)) (open_leases h (learned h (known h past) row)) (first + length past) (lents h first past) l is_open (open_lent first past l)
+  pub in_step_first : IsInStep h nothing (with_begun 0 [] (in_turn (open_leases h nothing)))
+  unfolding with_begun
+  in_step_first = record {
+    opened = first_open (open_leases h nothing) 0;
+    lent = λ l is_open. lent_begun 0 (in_turn (open_leases h nothing)) l (to_turn (open_leases h nothing) l (among_is (open_leases h nothing) l is_open));
+  }
+
+  -- what is lent behind the rows of a trace is in step
+  pub in_step : (first : ℕ) (past : List Row) → first + length past ≤ without_end → IsInStep h (known h past) (lents h first past)
+  unfolding lents known grown
+  in_step first [] room = in_step_first
+  in_step first (row ∷ past) room = in_step_behind h h (known h past) (learned h (known h past) row) (first + length past) (lents h first past) (omega (arith, room)) (in_step first past (omega (arith, room)))

@@ -1,6 +1,7 @@
 -- What is lent after one more row, by which leases are open after it
 use Rattle.lease_book.proofs.Words.{◌≡◌, ◌+◌, ◌<◌, ◌≤◌, ◌==◌, ◌&&◌, ◌∷◌, ◌++◌, ◌∙◌, ℕ, Bool, true, false, not, List, [], length, map, filter, arith, sym, ap, refl, inl, inr, cond, append-nil, false≢true, and_parts, nat_tests, Header, Row, Known, nothing, learned, known, Leased, is_among, open_leases, begun, without_end, IsIn, from_filter, in_among, Lent, is_unended, begun_at, precedes, with_leased, in_turn, ended_where, with_begun, grown, lents, newly_open, passed_on, AllUnended}
 use Rattle.lease_book.proofs.Passing.{ended_alike, none_over}
+use Rattle.lease_book.specs.InStep.{AreOpen}
 
 -- what stands in order stood there before
 from_with : (l : Leased) (ls : List Leased) (m : Leased) → IsIn m (with_leased l ls) → IsIn m (l ∷ ls)
@@ -123,33 +124,30 @@ module _ (h : Header) where
   unended_open first [] room = first_open (open_at nothing) 0
   unended_open first (row ∷ past) room = passed_open (open_at (known h past)) (open_at (learned h (known h past) row)) (first + length past) (lents h first past) (omega arith)
 
-  module _ (first : ℕ) (past : List Row) (row : Row) (room : first + length (row ∷ past) ≤ without_end) where
+  module _ (k : Known) (ts : List Lent) (still : AreOpen h k ts) (row : Row) (n : ℕ) where
     abbrev was : List Leased
-    was = open_at (known h past)
+    was = open_at k
 
     abbrev is : List Leased
-    is = open_at (learned h (known h past) row)
+    is = open_at (learned h k row)
 
-    still : AllUnended (λ i l. IsOpen was l) 0 (lents h first past)
-    still = unended_open first past (omega arith)
-
-    pub grown_by : (over : Leased → Bool) (new : List Leased) → ((l : Leased) → IsOpen was l → is_among is l ≡ not (over l)) → in_turn (begun h (known h past) row) ≡ new →
-        lents h first (row ∷ past) ≡ with_begun (first + length past) (map (ended_where over (first + length past)) (lents h first past)) new
-    unfolding lents grown begun
-    grown_by over new left e = passed_by was is (first + length past) (lents h first past) still over new left e
+    pub grown_by : (over : Leased → Bool) (new : List Leased) → ((l : Leased) → IsOpen was l → is_among is l ≡ not (over l)) → in_turn (begun h k row) ≡ new →
+        grown h k row n ts ≡ with_begun n (map (ended_where over n) ts) new
+    unfolding grown begun
+    grown_by over new left e = passed_by was is n ts still over new left e
 
     pub only_ended : (over : Leased → Bool) → ((l : Leased) → is_among is l ≡ (is_among was l && not (over l))) →
-        lents h first (row ∷ past) ≡ map (ended_where over (first + length past)) (lents h first past)
-    unfolding lents grown
-    only_ended over narrows = only_passed was is (first + length past) (lents h first past) still over narrows
+        grown h k row n ts ≡ map (ended_where over n) ts
+    unfolding grown
+    only_ended over narrows = only_passed was is n ts still over narrows
 
-    pub nothing_new : ((l : Leased) → is_among is l ≡ is_among was l) → lents h first (row ∷ past) ≡ lents h first past
-    unfolding lents grown
-    nothing_new same = nothing_passed was is (first + length past) (lents h first past) still same
+    pub nothing_new : ((l : Leased) → is_among is l ≡ is_among was l) → grown h k row n ts ≡ ts
+    unfolding grown
+    nothing_new same = nothing_passed was is n ts still same
 
     -- nothing ends
-    pub only_begun : (new : List Leased) → ((l : Leased) → IsOpen was l → IsOpen is l) → in_turn (begun h (known h past) row) ≡ new →
-        lents h first (row ∷ past) ≡ with_begun (first + length past) (lents h first past) new
+    pub only_begun : (new : List Leased) → ((l : Leased) → IsOpen was l → IsOpen is l) → in_turn (begun h k row) ≡ new →
+        grown h k row n ts ≡ with_begun n ts new
     only_begun new kept e =
         grown_by (λ l. false) new kept e
-        ∙ ap (λ ts. with_begun (first + length past) ts new) (none_over (λ l. false) (first + length past) (lents h first past) (λ l. refl))
+        ∙ ap (λ us. with_begun n us new) (none_over (λ l. false) n ts (λ l. refl))

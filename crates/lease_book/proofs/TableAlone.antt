@@ -1,8 +1,9 @@
 -- The write of ERSTBA begins the lease of the segment table, and no other
-use Rattle.lease_book.proofs.Words.{◌≡◌, ◌+◌, ◌≤◌, ◌∷◌, ◌++◌, ◌∙◌, ℕ, Bool, true, not, List, [], filter, length, Option, Some, None, sym, ap, subst, refl, inl, inr, flat_map, cases_Bool, filter-append, Command, named_context, table_bytes, Header, Ring, Row, Reg, Erstba, driver_rings, event_shape, base_address, Known, known, learned, register_written, valued, entry_of, Leased, Block, Link, Range, EventSegment, SegmentTable, InputContext, SlotEntry, DeviceContext, context_ranges, device_ranges, entry_ranges, is_among, open_leases, open_on, open_ranges, range_of_command, range_of_context, range_of_device, range_of_entry, segment_ranges, slots, table_range, begun, without_end, IsIn, among_is, in_among, in_turn, lents, with_begun, with_leased}
+use Rattle.lease_book.proofs.Words.{◌≡◌, ◌∷◌, ◌++◌, ◌∙◌, ℕ, Bool, true, not, List, [], filter, Option, Some, None, sym, ap, subst, refl, inl, inr, flat_map, cases_Bool, filter-append, Command, named_context, table_bytes, Header, Ring, Reg, Erstba, driver_rings, event_shape, base_address, Known, learned, register_written, valued, entry_of, Leased, Block, Link, Range, EventSegment, SegmentTable, InputContext, SlotEntry, DeviceContext, context_ranges, device_ranges, entry_ranges, is_among, open_leases, open_on, open_ranges, range_of_command, range_of_context, range_of_device, range_of_entry, segment_ranges, slots, table_range, begun, IsIn, among_is, in_among, in_turn, with_begun, with_leased, Lent, grown}
 use Rattle.ring_knowledge.specs.Rings as rings
 use Rattle.lease_book.proofs.Members.{InOn, block, link, from_flat_map, from_map, in_either, in_left, in_on, in_right}
 use Rattle.lease_book.proofs.Rows.{none_new, only_begun}
+use Rattle.lease_book.specs.InStep.{AreOpen}
 
 abbrev pub IsNoTable : Leased → Type 0
 IsNoTable (Block r p) = Unit {0}
@@ -157,9 +158,9 @@ module _ (h : Header) (k : Known) where
         ]))
 
 -- the law
-pub lent_table : (h : Header) (first : ℕ) (past : List Row) (v : ℕ) → first + length (Reg Erstba v ∷ past) ≤ without_end → (known h past).register Erstba ≡ None →
-    lents h first (Reg Erstba v ∷ past) ≡ with_begun (first + length past) (lents h first past) (Range (table_bytes (event_shape h)) (base_address v) SegmentTable ∷ [])
+pub lent_table : (h : Header) (k : Known) (ts : List Lent) → AreOpen h k ts → (v n : ℕ) → k.register Erstba ≡ None →
+    grown h k (Reg Erstba v) n ts ≡ with_begun n ts (Range (table_bytes (event_shape h)) (base_address v) SegmentTable ∷ [])
 unfolding begun in_turn with_leased
-lent_table h first past v room unwritten =
-    only_begun h first past (Reg Erstba v) room (Range (table_bytes (event_shape h)) (base_address v) SegmentTable ∷ []) (all_stay h (known h past) unwritten v)
-    (ap in_turn (begun_is h (known h past) unwritten v))
+lent_table h k ts still v n unwritten =
+    only_begun h k ts still (Reg Erstba v) n (Range (table_bytes (event_shape h)) (base_address v) SegmentTable ∷ []) (all_stay h k unwritten v)
+    (ap in_turn (begun_is h k unwritten v))

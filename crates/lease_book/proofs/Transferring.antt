@@ -1,10 +1,11 @@
 -- What is lent after a Transfer Event: the leases end of what it tells to be passed on the ring of its endpoint
-use Rattle.lease_book.proofs.Words.{◌≡◌, ◌≢◌, ◌+◌, ◌≤◌, ◌==◌, ◌&&◌, ◌∷◌, ◌++◌, ◌∙◌, ℕ, Bool, true, false, not, List, [], length, map, Some, filter, option_and_then, slice_get, arith, sym, ap, refl, inl, inr, subst, eqb-true, eq-eqb, flat_map, cases_Bool, Trb, TransferEvent, code, endpoint, kind, slot, is_halting, is_stopping, is_success, is_trb_error, Spot, Shape, number, RingView, due_positions, floor_number, number-after, command_of, Header, Ring, Row, Read, Dcbaap, Erstba, command_id, driver_rings, shape_of, EndpointState, Error, Halted, Known, event_read, known, learned, RingSpot, event_at, broken_off, passed, stopped_at, transfer_read, transferred, transferred_at, Leased, context_ranges, device_ranges, entry_ranges, open_leases, open_ranges, range_of_command, range_of_device, segment_ranges, slots, table_range, is_among, without_end, IsIn, come_to, ended_where, is_passed, lents}
+use Rattle.lease_book.proofs.Words.{◌≡◌, ◌≢◌, ◌+◌, ◌≤◌, ◌==◌, ◌&&◌, ◌++◌, ◌∙◌, ℕ, Bool, true, false, not, List, [], map, Some, filter, option_and_then, slice_get, arith, sym, ap, refl, inl, inr, subst, eqb-true, eq-eqb, flat_map, cases_Bool, Trb, TransferEvent, code, endpoint, kind, slot, is_halting, is_stopping, is_success, is_trb_error, Spot, Shape, number, RingView, due_positions, floor_number, number-after, command_of, Header, Ring, Read, Dcbaap, Erstba, command_id, driver_rings, shape_of, EndpointState, Error, Halted, Known, event_read, learned, RingSpot, event_at, broken_off, passed, stopped_at, transfer_read, transferred, transferred_at, Leased, context_ranges, device_ranges, entry_ranges, open_leases, open_ranges, range_of_command, range_of_device, segment_ranges, slots, table_range, is_among, IsIn, come_to, ended_where, is_passed, Lent, grown}
 use Rattle.ring_knowledge.specs.Rings as rings
 use Rattle.lease_book.proofs.Narrowing.{Narrows, floors, narrows, one_ring_left}
 use Rattle.lease_book.proofs.PassedLeases.{IsWithinLap, Moves}
 use Rattle.lease_book.proofs.Rows.{only_ended}
 use Rattle.lease_book.proofs.SameLeases.{entries_kept}
+use Rattle.lease_book.specs.InStep.{AreOpen}
 
 module _ (h : Header) (k : Known) where
   -- one ring goes on to a number; of the others, of registers and device contexts nothing changes
@@ -99,18 +100,15 @@ module _ (h : Header) (k : Known) where
       ∙ ap (λ d. segment_ranges h ++ table_range h (k.register Erstba) ++ context_ranges h k ++ entry_ranges k ++ flat_map (λ s. range_of_device h s (d s)) slots) devices
 
 -- the law
-module _ (h : Header) (first : ℕ) (past : List Row) (b : Trb) (room : first + length (Read b ∷ past) ≤ without_end) where
-  module _ (at : RingSpot) (transfers : kind b ≡ TransferEvent) (found : event_at h (known h past) b ≡ Some at) (apart : at.ring ≢ command_id h)
-      (rises : floor_number ((known h past).ring at.ring) ≤ come_to (code b) at.spot (floor_number ((known h past).ring at.ring)))
-      (lap : (q : Ring) → IsIn q (driver_rings h) → IsWithinLap q.shape ((known h past).ring q.id)) where
-    abbrev k : Known
-    k = known h past
-
+module _ (h : Header) (k : Known) (ts : List Lent) (still : AreOpen h k ts) (b : Trb) (n : ℕ) where
+  module _ (at : RingSpot) (transfers : kind b ≡ TransferEvent) (found : event_at h k b ≡ Some at) (apart : at.ring ≢ command_id h)
+      (rises : floor_number (k.ring at.ring) ≤ come_to (code b) at.spot (floor_number (k.ring at.ring)))
+      (lap : (q : Ring) → IsIn q (driver_rings h) → IsWithinLap q.shape (k.ring q.id)) where
     abbrev k' : Known
-    k' = learned h (known h past) (Read b)
+    k' = learned h k (Read b)
 
     abbrev from : ℕ
-    from = floor_number ((known h past).ring at.ring)
+    from = floor_number (k.ring at.ring)
 
     abbrev to : ℕ
     to = come_to (code b) at.spot from
@@ -162,9 +160,9 @@ module _ (h : Header) (first : ℕ) (past : List Row) (b : Trb) (room : first + 
         and_true true = refl
         and_true false = refl
 
-    pub transfer_lent : lents h first (Read b ∷ past) ≡ map (ended_where (is_passed at.ring from to) (first + length past)) (lents h first past)
+    pub transfer_lent : grown h k (Read b) n ts ≡ map (ended_where (is_passed at.ring from to) n) ts
     transfer_lent =
-        only_ended h first past (Read b) room (is_passed at.ring from to) (λ l.
+        only_ended h k ts still (Read b) n (is_passed at.ring from to) (λ l.
         narrows h k k' [] narrow l
         ∙ ap (λ x. is_among (open_leases h k) l && not x)
         (one_ring_left (floors k) (floors k') at.ring (λ q differ. ap (λ (v : RingView). floor_number v) (goes.others q differ)) l

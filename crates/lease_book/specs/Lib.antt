@@ -6,3 +6,6 @@ pub mod Opening
 pub mod Ranges
 pub mod Coming
 pub mod LettingGo
+pub mod InStep
+pub mod OtherShapes
+pub mod OtherHeaders

@@ -94,8 +94,11 @@ impl LeaseBook {
 
 impl LeaseLog for LeaseBook {
     ghost use Rattle.lease_book.specs.Books.{HoldsLents};
+    ghost use Rattle.lease_book.specs.OtherHeaders.{held_alike};
 
     ghost holds = { λ list. HoldsLents };
+
+    ghost other_rings = { λ list. held_alike };
 
     fn begin_block(&mut self, row: u32, ring: &Ring, position: u64) -> Result<(), AllocError> {
         let index = self.leases.len();

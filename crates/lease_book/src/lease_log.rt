@@ -6,6 +6,7 @@ ghost use Rattle.traces.specs.Header.{shape_of};
 ghost use Rattle.ring_knowledge.specs.declared.lease.Lease.{Lease};
 ghost use Rattle.ownership_rules.specs.OpenLeases.{Block, Link, Range, Use, same_leased};
 ghost use Rattle.lease_book.specs.Lents.{Lent, ended_where, is_passed, is_place_free, with_begun};
+ghost use Rattle.lease_book.specs.OtherShapes.{AreShapedAlike};
 ghost use Rattle.lease_book.specs.Ranges.{StandsAt, is_lent};
 
 use std::alloc::AllocError;
@@ -44,4 +45,7 @@ pub trait LeaseLog {
     /// How many leases there are, those that are over among them.
     fn count(&self) -> usize
         ensures { (list : List Lease) (h : Header) (ts : List Lent) → holds list h ts self.now → result ≡ length ts };
+
+    /// With other rings the same is kept, where the ring of each lease that isn't over has the same shape.
+    ghost other_rings: { (list : List Lease) (h g : Header) (ts : List Lent) (log : Self) → AreShapedAlike h g ts → holds list h ts log → holds list g ts log };
 }

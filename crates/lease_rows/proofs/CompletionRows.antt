@@ -1,10 +1,9 @@
 -- What is lent after the completion of a command
-use Rattle.std.proofs.Common.{◌≡◌, ◌≢◌, ◌+◌, ◌∷◌, ◌++◌, ◌∙◌, ◌&&◌, ◌||◌, ◌==◌, ℕ, List, Bool, true, false, None, Some, Option, refl, ap, sym, arith, inl, inr, subst, filter, map, nat_le, nat_lt, eqb-true, eq-eqb}
-use Rattle.lease_rows.proofs.Words.{position, cases_Bool, false≢true, nat_tests, CommandCompletion, code, kind, is_command_completion, Command, Shape, place_count, RingView, due_positions, floor_number, due_is, number-after, Ring, Header, Row, Read, Erstba, IsHeader, command_id, driver_rings, is_command_kind, shape_of, Known, completed, event_read, known, learned, Leased, Block, Link, Range, Use, context_ranges, device_ranges, entry_ranges, is_among, open_leases, open_on, open_ranges, range_of_command, range_of_device, range_of_entry, segment_ranges, slots, table_range, flat_map, range_with_len, IsIn, in_among, in_filter, DriverKeeps, EventFacts, event_facts, floors_grow, CompletionFacts, completion_facts, next_at_floor, command_is_ring, SameDriver, event_same, Lent, ended_where, is_passed, lents, let_go, slot_left, slot_ranges, is_lent, RangeIndexes, completed_device, finish_lent, Finishes, gone_are_ranges, in_either, in_flat_map, in_left, in_range, in_right, floors, is_left, open_lent, IsWithinLap, Moves, all_twice, none_over, over_alike, command_found, no_command_ring, shape_there, any_append, false_unless, or_false, IsAmong, same_number, TraceRecord, EndpointRings, FollowsBook, HoldsAll, IsCleanRow, AreLent, FloorsMove, MovesOn, IsMovedTo, IsOtherRing, is_behind, is_moved_past, moved_when}
+use Rattle.std.proofs.Common.{◌≡◌, ◌≢◌, ◌+◌, ◌++◌, ◌∙◌, ◌&&◌, ◌||◌, ◌==◌, ℕ, List, Bool, true, false, None, Some, Option, refl, ap, sym, arith, inl, inr, subst, filter, map, nat_le, nat_lt, eqb-true, eq-eqb}
+use Rattle.lease_rows.proofs.Words.{position, cases_Bool, false≢true, nat_tests, CommandCompletion, code, kind, is_command_completion, Command, Shape, place_count, RingView, due_positions, floor_number, due_is, number-after, Ring, Header, Read, Erstba, IsHeader, command_id, driver_rings, is_command_kind, shape_of, Known, completed, event_read, learned, Leased, Block, Link, Range, Use, context_ranges, device_ranges, entry_ranges, is_among, open_leases, open_on, open_ranges, range_of_command, range_of_device, range_of_entry, segment_ranges, slots, table_range, flat_map, range_with_len, IsIn, in_among, in_filter, DriverKeeps, EventFacts, event_facts, floors_grow, CompletionFacts, completion_facts, next_at_floor, command_is_ring, SameDriver, event_same, Lent, ended_where, is_passed, let_go, slot_left, slot_ranges, is_lent, RangeIndexes, completed_device, finish_lent, Finishes, gone_are_ranges, in_either, in_flat_map, in_left, in_range, in_right, floors, is_left, IsWithinLap, Moves, all_twice, none_over, over_alike, command_found, no_command_ring, shape_there, any_append, false_unless, or_false, IsAmong, same_number, TraceRecord, EndpointRings, HoldsAll, AreLent, FloorsMove, MovesOn, IsMovedTo, IsOtherRing, is_behind, is_moved_past, moved_when, IsNextRow, grown}
 use Rattle.trb.specs.declared.block.Block as blocks
 use Rattle.ring_knowledge.specs.Rings as rings
 use Rattle.lease_rows.proofs.GivenHere.{command_id_is, no_ring}
-use Rattle.lease_rows.proofs.OtherRows.{driver_now}
 use Rattle.lease_rows.proofs.TransferRows.{lap_now}
 
 -- ---- numbers that are passed on two rings
@@ -42,15 +41,12 @@ module _ (from to : ℕ → ℕ) (c : ℕ) (one : to c ≡ from c + 1) where
     ]
   ]
 
-module _ (h : Header) (headed : IsHeader h) (first : ℕ) (past : List Row) (b : blocks.Block) (number_ : ℕ) (t : TraceRecord) (m : ℕ → ℕ) (next : IsCleanRow h first past (Read b) number_ t m) (completes : kind b ≡ CommandCompletion) where
-  abbrev k : Known
-  k = known h past
-
+module _ (h : Header) (headed : IsHeader h) (k : Known) (ts : List Lent) (b : blocks.Block) (number_ : ℕ) (t : TraceRecord) (m : ℕ → ℕ) (next : IsNextRow h k ts (Read b) t m) (completes : kind b ≡ CommandCompletion) where
   abbrev k' : Known
-  k' = learned h (known h past) (Read b)
+  k' = learned h k (Read b)
 
   keeps : DriverKeeps h k
-  keeps = driver_now h headed first past (Read b) number_ t m next
+  keeps = next.keeps
 
   facts : EventFacts h k b
   facts = event_facts h k b next.clean
@@ -165,35 +161,34 @@ module _ (h : Header) (headed : IsHeader h) (first : ℕ) (past : List Row) (b :
         ap (λ x. (x || is_moved_past k moved (Link r p)) || passed_one (Link r p)) (gone_is (Link r p) ∙ false_unless _ (gone_are_ranges h k (slot_left success o) (Link r p)))
         ∙ ap (λ x. x || passed_one (Link r p)) (past_link moved r p) ∙ sym (numbers r p)
 
-    completed_lent : lents h first (Read b ∷ past) ≡ map (ended_where (λ l. is_behind h k n success o l || passed_one l) number_) (lents h first past)
+    completed_lent : grown h k (Read b) number_ ts ≡ map (ended_where (λ l. is_behind h k n success o l || passed_one l) number_) ts
     completed_lent =
-        finish_lent h first past (Read b) next.room (slot_left success o) finishes each
-        ∙ ap (λ (x : ℕ). map (ended_where (is_left (floors k) (floors k') (let_go h k (slot_left success o))) x) (lents h first past)) (sym next.numbered)
-        ∙ sym (over_alike (λ l. is_behind h k n success o l || passed_one l) (is_left (floors k) (floors k') (let_go h k (slot_left success o))) number_ (lents h first past) left_is)
+        finish_lent h k ts next.step.opened (Read b) number_ (slot_left success o) finishes each
+        ∙ sym (over_alike (λ l. is_behind h k n success o l || passed_one l) (is_left (floors k) (floors k') (let_go h k (slot_left success o))) number_ ts left_is)
 
     module _ {B : Type 0} {Holds : Header → List Lent → B → Type 0} where
       pub completion_ends : (book : B) (x : RangeIndexes) (p r : ℕ) (s : Bool) (c : Option Command) → p ≡ n → r ≡ command_id h → s ≡ success → c ≡ o →
-          HoldsAll Holds h (map (ended_where (is_passed r p (p + 1)) number_) (map (ended_where (is_behind h k p s c) number_) (lents h first past))) book x → FollowsBook Holds h first (Read b ∷ past) book x
+          HoldsAll Holds h (map (ended_where (is_passed r p (p + 1)) number_) (map (ended_where (is_behind h k p s c) number_) ts)) book x → HoldsAll Holds h (grown h k (Read b) number_ ts) book x
       completion_ends book x p r s c at there tells says all =
-          subst (λ ts. HoldsAll Holds h ts book x)
-          (ap (λ (y : ℕ). map (ended_where (is_passed r y (y + 1)) number_) (map (ended_where (is_behind h k y s c) number_) (lents h first past))) at
-          ∙ ap (λ (y : ℕ). map (ended_where (is_passed y n (n + 1)) number_) (map (ended_where (is_behind h k n s c) number_) (lents h first past))) there
-          ∙ ap (λ y. map (ended_where (is_passed (command_id h) n (n + 1)) number_) (map (ended_where (is_behind h k n y c) number_) (lents h first past))) tells
-          ∙ ap (λ y. map (ended_where (is_passed (command_id h) n (n + 1)) number_) (map (ended_where (is_behind h k n success y) number_) (lents h first past))) says
-          ∙ ap (λ (y : ℕ). map (ended_where (is_passed (command_id h) y (y + 1)) number_) (map (ended_where (is_behind h k n success o) number_) (lents h first past))) next_is
-          ∙ all_twice passed_one (is_behind h k n success o) number_ (lents h first past)
+          subst (λ us. HoldsAll Holds h us book x)
+          (ap (λ (y : ℕ). map (ended_where (is_passed r y (y + 1)) number_) (map (ended_where (is_behind h k y s c) number_) ts)) at
+          ∙ ap (λ (y : ℕ). map (ended_where (is_passed y n (n + 1)) number_) (map (ended_where (is_behind h k n s c) number_) ts)) there
+          ∙ ap (λ y. map (ended_where (is_passed (command_id h) n (n + 1)) number_) (map (ended_where (is_behind h k n y c) number_) ts)) tells
+          ∙ ap (λ y. map (ended_where (is_passed (command_id h) n (n + 1)) number_) (map (ended_where (is_behind h k n success y) number_) ts)) says
+          ∙ ap (λ (y : ℕ). map (ended_where (is_passed (command_id h) y (y + 1)) number_) (map (ended_where (is_behind h k n success o) number_) ts)) next_is
+          ∙ all_twice passed_one (is_behind h k n success o) number_ ts
           ∙ sym completed_lent) all
 
   -- ---- what is let go is lent
 
-  in_ranges : (l : Leased) → IsIn l (open_ranges h k) → is_lent (lents h first past) l ≡ true
+  in_ranges : (l : Leased) → IsIn l (open_ranges h k) → is_lent ts l ≡ true
   unfolding open_leases
-  in_ranges l at = open_lent h first past l (in_among (open_leases h k) l (in_right l (flat_map (open_on h k) (driver_rings h)) (open_ranges h k) at))
+  in_ranges l at = next.step.lent l (in_among (open_leases h k) l (in_right l (flat_map (open_on h k) (driver_rings h)) (open_ranges h k) at))
 
   abbrev s_t : List Leased
   s_t = segment_ranges h ++ table_range h (k.register Erstba)
 
-  pub context_lent : AreLent (lents h first past) (range_of_command h n o)
+  pub context_lent : AreLent ts (range_of_command h n o)
   unfolding open_ranges context_ranges rings.unfinished_positions due_positions rings.next_command
   context_lent l at =
       let finish : CompletionFacts h k b = completion_facts h k b (ap is_command_completion completes) facts.possible in
@@ -210,21 +205,21 @@ module _ (h : Header) (headed : IsHeader h) (first : ℕ) (past : List Row) (b :
   unfolding slots
   slot_in s d at = let slot = (keeps.devices s d at).slot in in_range 1 255 s (omega (arith, slot.0)) (omega (arith, slot.1))
 
-  entry_lent : (s : ℕ) (x : Option ℕ) (l : Leased) → k.device s ≡ x → IsIn l (range_of_entry k s x) → is_lent (lents h first past) l ≡ true
+  entry_lent : (s : ℕ) (x : Option ℕ) (l : Leased) → k.device s ≡ x → IsIn l (range_of_entry k s x) → is_lent ts l ≡ true
   unfolding open_ranges entry_ranges range_of_entry
   entry_lent s None l is at = absurd at
   entry_lent s (Some d) l is at =
       in_ranges l (in_left l (s_t ++ context_ranges h k ++ entry_ranges k) (device_ranges h k) (in_right l (s_t ++ context_ranges h k) (entry_ranges k)
       (in_flat_map (λ z. range_of_entry k z (k.device z)) slots s l (slot_in s d is) (subst (λ y. IsIn l (range_of_entry k s y)) (sym is) at))))
 
-  device_lent : (s : ℕ) (x : Option ℕ) (l : Leased) → k.device s ≡ x → IsIn l (range_of_device h s x) → is_lent (lents h first past) l ≡ true
+  device_lent : (s : ℕ) (x : Option ℕ) (l : Leased) → k.device s ≡ x → IsIn l (range_of_device h s x) → is_lent ts l ≡ true
   unfolding open_ranges device_ranges range_of_device
   device_lent s None l is at = absurd at
   device_lent s (Some d) l is at =
       in_ranges l (in_right l (s_t ++ context_ranges h k ++ entry_ranges k) (device_ranges h k)
       (in_flat_map (λ z. range_of_device h z (k.device z)) slots s l (slot_in s d is) (subst (λ y. IsIn l (range_of_device h s y)) (sym is) at)))
 
-  pub slot_lent : (left : Option ℕ) → AreLent (lents h first past) (slot_ranges h k left)
+  pub slot_lent : (left : Option ℕ) → AreLent ts (slot_ranges h k left)
   slot_lent None l at = absurd at
   slot_lent (Some s) l at = elim (in_either l (range_of_entry k s (k.device s)) (range_of_device h s (k.device s)) at) [
     | inl entry ↦ entry_lent s (k.device s) l refl entry
@@ -233,14 +228,14 @@ module _ (h : Header) (headed : IsHeader h) (first : ℕ) (past : List Row) (b :
 
   -- so the command's may end
   pub command_behind : FloorsMove h k b → (p : ℕ) (s : Bool) (c : Option Command) → p ≡ n → s ≡ success → c ≡ o →
-      MovesOn k (moved_when h k s c) × AreLent (lents h first past) (range_of_command h p c) × AreLent (lents h first past) (slot_ranges h k (slot_left s c))
+      MovesOn k (moved_when h k s c) × AreLent ts (range_of_command h p c) × AreLent ts (slot_ranges h k (slot_left s c))
   command_behind moves p s c at tells says = (
     subst (λ (x : Option (ℕ × ℕ)). MovesOn k x) (sym (ap (λ x. moved_when h k x c) tells ∙ ap (moved_when h k success) says)) moves.on,
-    subst (λ (ls : List Leased). AreLent (lents h first past) ls) (sym (ap (λ (x : ℕ). range_of_command h x c) at ∙ ap (range_of_command h n) says)) context_lent,
+    subst (λ (ls : List Leased). AreLent ts ls) (sym (ap (λ (x : ℕ). range_of_command h x c) at ∙ ap (range_of_command h n) says)) context_lent,
     slot_lent (slot_left s c),
   )
 
   -- where no command is declared nothing is left behind
-  pub none_behind : (p : ℕ) (s : Bool) (ts : List Lent) → map (ended_where (is_behind h k p s None) number_) ts ≡ ts
+  pub none_behind : (p : ℕ) (s : Bool) (us : List Lent) → map (ended_where (is_behind h k p s None) number_) us ≡ us
   unfolding range_of_command is_among
-  none_behind p s ts = none_over (is_behind h k p s None) number_ ts (λ l. refl)
+  none_behind p s us = none_over (is_behind h k p s None) number_ us (λ l. refl)

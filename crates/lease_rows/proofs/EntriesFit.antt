@@ -3,7 +3,7 @@ use Rattle.std.proofs.Common.{◌≡◌, ◌+◌, ◌^◌, ◌≤◌, ◌∷◌,
 use Rattle.lease_rows.proofs.Words.{cases_Bool, false≢true, none-some, cases_option, Header, Register, Dcbaap, Row, Sub, Write, Reg, Bell, Read, IsHeader, with_register, Known, nothing, known, learned, entry_of, IsLenient, is_bad_register, lenient, DriverKeeps, area_parts, register_facts, entry_same, driver_keeps, at_number, event_behind, registered, bell_leaves, declaration_leaves, register_leaves, write_leaves, clean_tests, rules_of, after_write, taken, written_device, written_device_none, EntriesFit}
 
 -- no device context more, and the same array of entries
-still_fit : (k l : Known) → l.register Dcbaap ≡ k.register Dcbaap → ((s d : ℕ) → l.device s ≡ Some d → k.device s ≡ Some d) → EntriesFit k → EntriesFit l
+pub still_fit : (k l : Known) → l.register Dcbaap ≡ k.register Dcbaap → ((s d : ℕ) → l.device s ≡ Some d → k.device s ≡ Some d) → EntriesFit k → EntriesFit l
 still_fit k l same fewer fit s d at = subst (λ (x : ℕ). x + 8 ≤ 2 ^ 64) (sym (entry_same k l s same)) (fit s d (fewer s d at))
 
 module _ (h : Header) where
@@ -41,7 +41,7 @@ module _ (h : Header) where
     write_fits fit s d at =
         subst (λ (x : ℕ). x + 8 ≤ 2 ^ 64) (sym (entry_same k (after_write h k a w) s (ap (λ f. f Dcbaap) (write_leaves h k a w).registers.register))) (fits_behind fit s d at)
 
-  row_fits : IsHeader h → (k : Known) (row : Row) → DriverKeeps h k → lenient h k row ≡ [] → EntriesFit k → EntriesFit (learned h k row)
+  pub row_fits : IsHeader h → (k : Known) (row : Row) → DriverKeeps h k → lenient h k row ≡ [] → EntriesFit k → EntriesFit (learned h k row)
   row_fits is k (Sub r blocks) keeps clean fit =
       let leaves = declaration_leaves h k r blocks in
       still_fit k (learned h k (Sub r blocks)) (ap (λ f. f Dcbaap) leaves.registers.register) (λ s d at. ap (λ f. f s) (sym leaves.memory.device) ∙ at) fit
@@ -54,7 +54,7 @@ module _ (h : Header) where
       let behind = event_behind h is k keeps b clean in
       still_fit k (learned h k (Read b)) (ap (λ f. f Dcbaap) behind.driver.register) behind.devices fit
 
-  nothing_fits : EntriesFit nothing
+  pub nothing_fits : EntriesFit nothing
   unfolding nothing
   nothing_fits s d at = absurd (none-some d at)
 

@@ -1,14 +1,12 @@
 -- What the leases of a completion rest on, behind a clean history
 use Rattle.std.proofs.Common.{◌≡◌, ℕ, List}
-use Rattle.lease_rows.proofs.Words.{kind, CommandCompletion, Row, Read, Header, IsHeader, known, TraceRecord, IsCleanRow, EntriesFit, FloorsMove}
+use Rattle.lease_rows.proofs.Words.{kind, CommandCompletion, Read, Header, IsHeader, TraceRecord, EntriesFit, FloorsMove, Known, Lent, IsNextRow}
 use Rattle.trb.specs.declared.block.Block.{Block}
-use Rattle.lease_rows.proofs.EntriesFit.{entries_fit}
 use Rattle.lease_rows.proofs.FloorsMove.{floors_move}
-use Rattle.lease_rows.proofs.OtherRows.{driver_now}
 
-module _ (h : Header) (headed : IsHeader h) (first : ℕ) (past : List Row) (b : Block) (number : ℕ) (t : TraceRecord) (m : ℕ → ℕ) (clean : IsCleanRow h first past (Read b) number t m) where
-  pub entries : EntriesFit (known h past)
-  entries = entries_fit h headed past clean.history
+module _ (h : Header) (headed : IsHeader h) (k : Known) (ts : List Lent) (b : Block) (t : TraceRecord) (m : ℕ → ℕ) (clean : IsNextRow h k ts (Read b) t m) where
+  pub entries : EntriesFit k
+  entries = clean.entries
 
-  pub floors : kind b ≡ CommandCompletion → FloorsMove h (known h past) b
-  floors is = floors_move h headed (known h past) (driver_now h headed first past (Read b) number t m clean) b clean.clean is
+  pub floors : kind b ≡ CommandCompletion → FloorsMove h k b
+  floors is = floors_move h headed k clean.keeps b clean.clean is

@@ -11,4 +11,5 @@ pub mod EntriesFit
 pub mod FloorsStay
 pub mod FloorsMove
 pub mod LentEvents
+pub mod Histories
 pub mod Words

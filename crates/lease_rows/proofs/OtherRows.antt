@@ -1,6 +1,6 @@
 -- What is lent after a clean declaration, doorbell or register write
-use Rattle.std.proofs.Common.{◌≡◌, ◌+◌, ◌<◌, ◌≤◌, ◌∷◌, ◌∙◌, ◌≢◌, ◌⊎◌, ◌||◌, ℕ, List, [], Bool, true, false, None, Some, Option, Result, Ok, Err, refl, ap, sym, inl, inr, subst, length, OnOk, is_some, nat_le, nat_lt, le-leb, lt-ltb}
-use Rattle.lease_rows.proofs.Words.{and_from, Trb, table_bytes, place_count, due_positions, floor_number, Ring, Header, Row, Sub, Write, Reg, Bell, Read, Register, Usbcmd, Usbsts, Dnctrl, Crcr, Dcbaap, Config, Iman, Imod, Erstsz, Erstba, Erdp, IsHeader, command_id, driver_rings, event_shape, is_driver_kind, shape_of, base_address, Known, learned, known, is_bad_register, is_written, without_end, Range, SegmentTable, is_among, open_leases, IsIn, from_filter, in_filter, DriverKeeps, clean_tests, register_facts, due_has_ring, driver_keeps, Lent, lents, with_begun, FindsRanges, RangeIndexes, from_range, others_begin, nothing_new, bell_same, reg_same, sub_same, lent_table, AreShaped, shape_there, IsAmong, TraceRecord, FollowsBook, HoldsAll, IsCleanRow, IsOtherRow}
+use Rattle.std.proofs.Common.{◌≡◌, ◌+◌, ◌<◌, ◌∷◌, ◌≢◌, ◌⊎◌, ◌||◌, ℕ, List, [], Bool, true, false, None, Some, Option, Result, Ok, Err, refl, ap, sym, inl, inr, subst, length, OnOk, is_some, nat_le, nat_lt, le-leb, lt-ltb}
+use Rattle.lease_rows.proofs.Words.{and_from, Trb, table_bytes, place_count, due_positions, floor_number, Ring, Header, Row, Sub, Write, Reg, Bell, Read, Register, Usbcmd, Usbsts, Dnctrl, Crcr, Dcbaap, Config, Iman, Imod, Erstsz, Erstba, Erdp, IsHeader, command_id, driver_rings, event_shape, is_driver_kind, shape_of, base_address, Known, learned, is_bad_register, is_written, Range, SegmentTable, is_among, open_leases, IsIn, from_filter, in_filter, DriverKeeps, register_facts, due_has_ring, Lent, with_begun, FindsRanges, RangeIndexes, from_range, others_begin, nothing_new, bell_same, reg_same, sub_same, lent_table, AreShaped, shape_there, IsAmong, TraceRecord, HoldsAll, IsOtherRow, IsNextRow, AreOpen, grown}
 use Rattle.ring_knowledge.specs.Rings as rings
 
 -- from what an answer promises to what follows
@@ -30,10 +30,6 @@ from_drivers h q at = let found = from_filter (λ r. is_driver_kind r.shape.kind
 
 pub are_shaped : (h : Header) → IsHeader h → AreShaped h
 are_shaped h headed = λ q at. shape_there h headed q (from_drivers h q at).0
-
--- a driver that has kept the rules keeps what it does
-pub driver_now : (h : Header) → IsHeader h → (first : ℕ) (past : List Row) (row : Row) (number : ℕ) (t : TraceRecord) (m : ℕ → ℕ) → IsCleanRow h first past row number t m → DriverKeeps h (known h past)
-driver_now h headed first past row number t m next = driver_keeps h headed past next.history (clean_tests h (known h past) row next.clean).0
 
 unwritten_before : (h : Header) (k : Known) (v : ℕ) → is_bad_register h k Erstba v ≡ false → k.register Erstba ≡ None
 unfolding is_bad_register is_written
@@ -73,51 +69,50 @@ declared_given h headed k d p at =
     let ring = due_has_ring h headed v.floor p (and_from (nat_le (floor_number v) p) (nat_lt p (floor_number v + count)) (le-leb (floor_number v) p range.0) (lt-ltb p (floor_number v + count) range.1)) in
     (d.rings (command_id h) ring).given_declared p found.1
 
-module _ (h : Header) (headed : IsHeader h) (first : ℕ) (past : List Row) where
+module _ (h : Header) (headed : IsHeader h) (k : Known) (ts : List Lent) where
   -- the book still holds what is lent
   module _ {B : Type 0} {Holds : Header → List Lent → B → Type 0} where
-    pub held_still : (book : B) (x : RangeIndexes) (row : Row) → lents h first (row ∷ past) ≡ lents h first past → FollowsBook Holds h first past book x → FollowsBook Holds h first (row ∷ past) book x
-    held_still book x row same held = subst (λ (ts : List Lent). HoldsAll Holds h ts book x) (sym same) held
+    pub held_still : (book : B) (x : RangeIndexes) (row : Row) (number : ℕ) → grown h k row number ts ≡ ts → HoldsAll Holds h ts book x → HoldsAll Holds h (grown h k row number ts) book x
+    held_still book x row number same held = subst (λ (ts : List Lent). HoldsAll Holds h ts book x) (sym same) held
 
-  unchanged : (row : Row) → first + length (row ∷ past) ≤ without_end → open_leases h (learned h (known h past) row) ≡ open_leases h (known h past) → lents h first (row ∷ past) ≡ lents h first past
-  unchanged row room same = nothing_new h first past row room (λ l. ap (λ ls. is_among ls l) same)
+  unchanged : (row : Row) (number : ℕ) → AreOpen h k ts → open_leases h (learned h k row) ≡ open_leases h k → grown h k row number ts ≡ ts
+  unchanged row number still same = nothing_new h k ts still row number (λ l. ap (λ ls. is_among ls l) same)
 
   module _ (number : ℕ) (t : TraceRecord) (m : ℕ → ℕ) where
-    pub lent_sub : (r : ℕ) (blocks : List Trb) → IsCleanRow h first past (Sub r blocks) number t m → lents h first (Sub r blocks ∷ past) ≡ lents h first past
-    lent_sub r blocks next = unchanged (Sub r blocks) next.room (sub_same h (known h past) r blocks (declared_given h headed (known h past) (driver_now h headed first past (Sub r blocks) number t m next)))
+    pub lent_sub : (r : ℕ) (blocks : List Trb) → IsNextRow h k ts (Sub r blocks) t m → grown h k (Sub r blocks) number ts ≡ ts
+    lent_sub r blocks next = unchanged (Sub r blocks) number next.step.opened (sub_same h k r blocks (declared_given h headed k next.keeps))
 
-    pub lent_bell : (s i : ℕ) → IsCleanRow h first past (Bell s i) number t m → lents h first (Bell s i ∷ past) ≡ lents h first past
-    lent_bell s i next = unchanged (Bell s i) next.room (bell_same h (known h past) s i)
+    pub lent_bell : (s i : ℕ) → IsNextRow h k ts (Bell s i) t m → grown h k (Bell s i) number ts ≡ ts
+    lent_bell s i next = unchanged (Bell s i) number next.step.opened (bell_same h k s i)
 
-    pub lent_register : (r : Register) (v : ℕ) → (r ≢ Erstba) → IsCleanRow h first past (Reg r v) number t m → lents h first (Reg r v ∷ past) ≡ lents h first past
+    pub lent_register : (r : Register) (v : ℕ) → (r ≢ Erstba) → IsNextRow h k ts (Reg r v) t m → grown h k (Reg r v) number ts ≡ ts
     lent_register r v other next =
-        unchanged (Reg r v) next.room
-        (reg_same h (known h past) r v other (array_rests h (known h past) r v (driver_now h headed first past (Reg r v) number t m next) (register_facts h (known h past) r v next.clean).good))
+        unchanged (Reg r v) number next.step.opened
+        (reg_same h k r v other (array_rests h k r v next.keeps (register_facts h k r v next.clean).good))
 
     -- the segment table comes under lease
-    table_lent : (v : ℕ) → IsCleanRow h first past (Reg Erstba v) number t m →
-        lents h first (Reg Erstba v ∷ past) ≡ with_begun number (lents h first past) (Range (table_bytes (event_shape h)) (base_address v) SegmentTable ∷ [])
+    table_lent : (v : ℕ) → IsNextRow h k ts (Reg Erstba v) t m →
+        grown h k (Reg Erstba v) number ts ≡ with_begun number ts (Range (table_bytes (event_shape h)) (base_address v) SegmentTable ∷ [])
     table_lent v next =
-        lent_table h first past v next.room (unwritten_before h (known h past) v (register_facts h (known h past) Erstba v next.clean).good)
-        ∙ ap (λ n. with_begun n (lents h first past) (Range (table_bytes (event_shape h)) (base_address v) SegmentTable ∷ [])) (sym next.numbered)
+        lent_table h k ts next.step.opened v number (unwritten_before h k v (register_facts h k Erstba v next.clean).good)
 
-    pub table_begins : {B : Type 0} (Holds : Header → List Lent → B → Type 0) (r : Register) (v bytes : ℕ) (book : B) (x : RangeIndexes) → r ≡ Erstba → bytes ≡ table_bytes (event_shape h) → IsCleanRow h first past (Reg r v) number t m →
-        Holds h (with_begun number (lents h first past) (Range bytes (base_address v) SegmentTable ∷ [])) book → FindsRanges h (lents h first past) x → FollowsBook Holds h first (Reg r v ∷ past) book x
+    pub table_begins : {B : Type 0} (Holds : Header → List Lent → B → Type 0) (r : Register) (v bytes : ℕ) (book : B) (x : RangeIndexes) → r ≡ Erstba → bytes ≡ table_bytes (event_shape h) → IsNextRow h k ts (Reg r v) t m →
+        Holds h (with_begun number ts (Range bytes (base_address v) SegmentTable ∷ [])) book → FindsRanges h ts x → HoldsAll Holds h (grown h k (Reg r v) number ts) book x
     table_begins Holds r v bytes book x is same next held found =
-        let table : IsCleanRow h first past (Reg Erstba v) number t m = subst (λ (q : Register). IsCleanRow h first past (Reg q v) number t m) is next in
-        let there : Holds h (with_begun number (lents h first past) (Range (table_bytes (event_shape h)) (base_address v) SegmentTable ∷ [])) book =
-        subst (λ (n : ℕ). Holds h (with_begun number (lents h first past) (Range n (base_address v) SegmentTable ∷ [])) book) same held in
-        let after : HoldsAll Holds h (with_begun number (lents h first past) (Range (table_bytes (event_shape h)) (base_address v) SegmentTable ∷ [])) book x =
-        record { held = there; found = others_begin h x number (Range (table_bytes (event_shape h)) (base_address v) SegmentTable) (lents h first past) (λ g y i. tt) found } in
-        subst (λ (q : Register). FollowsBook Holds h first (Reg q v ∷ past) book x) (sym is) (subst (λ (ts : List Lent). HoldsAll Holds h ts book x) (sym (table_lent v table)) after)
+        let table : IsNextRow h k ts (Reg Erstba v) t m = subst (λ (q : Register). IsNextRow h k ts (Reg q v) t m) is next in
+        let there : Holds h (with_begun number ts (Range (table_bytes (event_shape h)) (base_address v) SegmentTable ∷ [])) book =
+        subst (λ (n : ℕ). Holds h (with_begun number ts (Range n (base_address v) SegmentTable ∷ [])) book) same held in
+        let after : HoldsAll Holds h (with_begun number ts (Range (table_bytes (event_shape h)) (base_address v) SegmentTable ∷ [])) book x =
+        record { held = there; found = others_begin h x number (Range (table_bytes (event_shape h)) (base_address v) SegmentTable) ts (λ g y i. tt) found } in
+        subst (λ (q : Register). HoldsAll Holds h (grown h k (Reg q v) number ts) book x) (sym is) (subst (λ (ts : List Lent). HoldsAll Holds h ts book x) (sym (table_lent v table)) after)
 
     -- rows but those of registers
-    pub other_held : {B : Type 0} {Holds : Header → List Lent → B → Type 0} (book : B) (x : RangeIndexes) (row : Row) → IsOtherRow row → ((r : Register) (v : ℕ) → row ≡ Reg r v → ⊥) → IsCleanRow h first past row number t m →
-        FollowsBook Holds h first past book x → FollowsBook Holds h first (row ∷ past) book x
-    other_held book x (Sub r blocks) other none next held = held_still book x (Sub r blocks) (lent_sub r blocks next) held
+    pub other_held : {B : Type 0} {Holds : Header → List Lent → B → Type 0} (book : B) (x : RangeIndexes) (row : Row) → IsOtherRow row → ((r : Register) (v : ℕ) → row ≡ Reg r v → ⊥) → IsNextRow h k ts row t m →
+        HoldsAll Holds h ts book x → HoldsAll Holds h (grown h k row number ts) book x
+    other_held book x (Sub r blocks) other none next held = held_still book x (Sub r blocks) number (lent_sub r blocks next) held
     other_held book x (Write a w) other none next held = absurd other
     other_held book x (Reg r v) other none next held = absurd (none r v refl)
-    other_held book x (Bell s i) other none next held = held_still book x (Bell s i) (lent_bell s i next) held
+    other_held book x (Bell s i) other none next held = held_still book x (Bell s i) number (lent_bell s i next) held
     other_held book x (Read b) other none next held = absurd other
 
 -- a row that is neither a write nor an event

@@ -1,8 +1,8 @@
 -- What is lent after a clean write: what it gives comes under lease, at a free place, and the ranges that its command takes
 use Rattle.std.proofs.Common.{◌≡◌, ◌+◌, ◌<◌, ◌≤◌, ◌%◌, ◌^◌, ◌∷◌, ◌++◌, ◌∙◌, ◌==◌, ◌&&◌, ◌||◌, ℕ, List, [], Bool, true, false, None, Some, Option, refl, ap, sym, arith, inl, inr, subst, nat_le, nat_lt, length, not, map, max, option_and_then, slice_get, eqb-true, ltb-true, leb-true, get_or}
-use Rattle.lease_rows.proofs.Words.{flat_map, and_parts, or_cases, nat_tests, slice_get_read, put, ContextSize, Bytes32, Bytes64, device_context_bytes, input_context_bytes, Command, command_of, named_context, is_crossing, is_inside, place_count, touches, crossings_given, due_crossings, due_positions, floor_number, gives, gives_crossing, is_crossing_due, positions_given, link_of, Ring, Header, Row, Write, IsHeader, command_id, is_command_kind, is_driver_kind, is_event_kind, shape_of, RingGiving, Position, Crossing, RingRecord, FollowsRing, crossings_of, least_crossing, positions_of, Known, known, command_given, entry_of, taken_device, noted_past, Leased, Block, Link, Range, InputContext, SlotEntry, DeviceContext, range_of_command, range_of_context, as_lease, comes_before, without_end, IsIn, from_filter, DriverKeeps, area_parts, written_devices, taking, rules_of, written_device, Lent, in_turn, is_place_free, lents, precedes, with_begun, with_leased, is_use_free, NoneAhead, link_free, block_free, context_free, device_free, entry_free, MayTake, device_taken, entry_taken, lent_commands, from_range, lease_given, command_found, ring_here, shape_allowed, shape_there, and_false, IsAmong, among_at, same_number, TraceRecord, WordPlace, FollowsTrace, IsGivenBy, IsPlacedSo, IsCleanRow, EntryFits, SlotIsFree, command_taken, slot_taken}
+use Rattle.lease_rows.proofs.Words.{flat_map, and_parts, or_cases, nat_tests, slice_get_read, put, ContextSize, Bytes32, Bytes64, device_context_bytes, input_context_bytes, Command, command_of, named_context, is_crossing, is_inside, place_count, touches, crossings_given, due_crossings, due_positions, floor_number, gives, gives_crossing, is_crossing_due, positions_given, link_of, Ring, Header, Write, IsHeader, command_id, is_command_kind, is_driver_kind, is_event_kind, shape_of, RingGiving, Position, Crossing, RingRecord, FollowsRing, crossings_of, least_crossing, positions_of, Known, command_given, entry_of, taken_device, noted_past, Leased, Block, Link, Range, InputContext, SlotEntry, DeviceContext, range_of_command, range_of_context, as_lease, comes_before, IsIn, from_filter, DriverKeeps, area_parts, written_devices, taking, rules_of, written_device, Lent, in_turn, is_place_free, precedes, with_begun, with_leased, is_use_free, NoneAhead, link_free, block_free, context_free, device_free, entry_free, MayTake, device_taken, entry_taken, lent_commands, from_range, lease_given, command_found, ring_here, shape_allowed, shape_there, and_false, IsAmong, among_at, same_number, TraceRecord, WordPlace, FollowsTrace, IsGivenBy, IsPlacedSo, EntryFits, SlotIsFree, command_taken, slot_taken, IsNextRow, grown}
 use Rattle.ring_knowledge.specs.Rings as rings
-use Rattle.lease_rows.proofs.OtherRows.{among_drivers, are_shaped, driver_now}
+use Rattle.lease_rows.proofs.OtherRows.{among_drivers, are_shaped}
 use Rattle.lease_rows.proofs.TransferRows.{driver_there}
 use Rattle.lease_rows.proofs.GivenHere.{command_id_is, commanded_elsewhere, commanded_here, commanded_nowhere, given_by_one, given_nowhere}
 use Rattle.lease_rows.proofs.TakenRanges.{begun_none, still_free}
@@ -56,15 +56,9 @@ put_there f s o = rw (same_number s) refl
 low_end : (a n : ℕ) → nat_lt a n ≡ false → n ≤ a
 low_end a n e = grind (arith, nat_tests, e)
 
-module _ (h : Header) (headed : IsHeader h) (first : ℕ) (past : List Row) (a w number : ℕ) (t : TraceRecord) (memory : ℕ → ℕ) (next : IsCleanRow h first past (Write a w) number t memory) where
-  abbrev k : Known
-  k = known h past
-
-  abbrev lent_before : List Lent
-  lent_before = lents h first past
-
+module _ (h : Header) (headed : IsHeader h) (k : Known) (ts : List Lent) (a w number : ℕ) (t : TraceRecord) (memory : ℕ → ℕ) (next : IsNextRow h k ts (Write a w) t memory) where
   keeps : DriverKeeps h k
-  keeps = driver_now h headed first past (Write a w) number t memory next
+  keeps = next.keeps
 
   abbrev taken : Option (ℕ × ℕ)
   taken = option_and_then (taken_device k) (command_given h k a w)
@@ -88,25 +82,24 @@ module _ (h : Header) (headed : IsHeader h) (first : ℕ) (past : List Row) (a w
   begun_of gs ps = in_turn (map lease_given gs ++ (flat_map (λ p. range_of_command h p (rings.command_at h k p)) ps ++ entry_taken k (taken_at ps) ++ device_taken h (taken_at ps)))
 
   lent_of : (gs : List rings.Given) (ps : List ℕ) → rings.given_by h k a w ≡ gs → positions_given (shape_of h (command_id h)) (k.ring (command_id h)) a w ≡ ps →
-      lents h first (Write a w ∷ past) ≡ with_begun number lent_before (begun_of gs ps)
+      grown h k (Write a w) number ts ≡ with_begun number ts (begun_of gs ps)
   unfolding command_given begun_of taken_at
   lent_of gs ps given positions =
-      lent_commands h (are_shaped h headed) first past (λ q at p free. (keeps.rings q.id (driver_there h headed q at)).free_given p free) a w next.room taken refl (may_take taken refl)
-      ∙ ap (λ n. with_begun n lent_before (begun_of (rings.given_by h k a w) (positions_given (shape_of h (command_id h)) (k.ring (command_id h)) a w))) (sym next.numbered)
-      ∙ ap (λ xs. with_begun number lent_before (begun_of xs (positions_given (shape_of h (command_id h)) (k.ring (command_id h)) a w))) given
-      ∙ ap (λ xs. with_begun number lent_before (begun_of gs xs)) positions
+      lent_commands h (are_shaped h headed) k ts next.step.opened (λ q at p free. (keeps.rings q.id (driver_there h headed q at)).free_given p free) a w number taken refl (may_take taken refl)
+      ∙ ap (λ xs. with_begun number ts (begun_of xs (positions_given (shape_of h (command_id h)) (k.ring (command_id h)) a w))) given
+      ∙ ap (λ xs. with_begun number ts (begun_of gs xs)) positions
 
-  nothing_begun : rings.given_by h k a w ≡ [] → positions_given (shape_of h (command_id h)) (k.ring (command_id h)) a w ≡ [] → lents h first (Write a w ∷ past) ≡ lent_before
+  nothing_begun : rings.given_by h k a w ≡ [] → positions_given (shape_of h (command_id h)) (k.ring (command_id h)) a w ≡ [] → grown h k (Write a w) number ts ≡ ts
   unfolding in_turn begun_of taken_at
-  nothing_begun given positions = lent_of [] [] given positions ∙ begun_none number lent_before
+  nothing_begun given positions = lent_of [] [] given positions ∙ begun_none number ts
 
-  alone_begun : (g : rings.Given) → rings.given_by h k a w ≡ g ∷ [] → positions_given (shape_of h (command_id h)) (k.ring (command_id h)) a w ≡ [] → lents h first (Write a w ∷ past) ≡ with_begun number lent_before (lease_given g ∷ [])
+  alone_begun : (g : rings.Given) → rings.given_by h k a w ≡ g ∷ [] → positions_given (shape_of h (command_id h)) (k.ring (command_id h)) a w ≡ [] → grown h k (Write a w) number ts ≡ with_begun number ts (lease_given g ∷ [])
   unfolding in_turn with_leased begun_of taken_at
   alone_begun g given positions = lent_of (g ∷ []) [] given positions
 
   -- no command or transfer ring has the word
   module _ (aligned : a % 4 ≡ 0) where
-    pub lent_nowhere : ((q : Ring) → IsAmong q h.rings → is_driver_kind q.shape.kind ≡ true → is_inside q.shape a ≡ false) → lents h first (Write a w ∷ past) ≡ lent_before
+    pub lent_nowhere : ((q : Ring) → IsAmong q h.rings → is_driver_kind q.shape.kind ≡ true → is_inside q.shape a ≡ false) → grown h k (Write a w) number ts ≡ ts
     lent_nowhere outside = nothing_begun (given_nowhere h headed k a aligned w outside) (commanded_nowhere h headed k a aligned w outside)
 
     -- one has it
@@ -127,14 +120,14 @@ module _ (h : Header) (headed : IsHeader h) (first : ℕ) (past : List Row) (a w
           by true is = commanded_here h headed k a aligned w q among driver has is ∙ positions ∙ none
           by false is = commanded_elsewhere h headed k a aligned w q among driver has is
 
-      pub lent_none : giving ≡ None → lents h first (Write a w ∷ past) ≡ lent_before
+      pub lent_none : giving ≡ None → grown h k (Write a w) number ts ≡ ts
       lent_none is = nothing_begun (given_is None is) (commanded_none (ap positions_of is))
 
-      pub lent_link : (c : ℕ) → giving ≡ Some (Crossing c) → lents h first (Write a w ∷ past) ≡ with_begun number lent_before (Link q.id c ∷ [])
+      pub lent_link : (c : ℕ) → giving ≡ Some (Crossing c) → grown h k (Write a w) number ts ≡ with_begun number ts (Link q.id c ∷ [])
       lent_link c is = alone_begun (rings.Crossing q.id c) (given_is (Some (Crossing c)) is) (commanded_none (ap positions_of is))
 
       module _ (p : ℕ) (is : giving ≡ Some (Position p)) where
-        pub lent_block : is_command_kind q.shape.kind ≡ false → lents h first (Write a w ∷ past) ≡ with_begun number lent_before (Block q.id p ∷ [])
+        pub lent_block : is_command_kind q.shape.kind ≡ false → grown h k (Write a w) number ts ≡ with_begun number ts (Block q.id p ∷ [])
         lent_block other = alone_begun (rings.Position q.id p) (given_is (Some (Position p)) is) (commanded_elsewhere h headed k a aligned w q among driver has other)
 
         module _ (command : is_command_kind q.shape.kind ≡ true) where
@@ -154,32 +147,31 @@ module _ (h : Header) (headed : IsHeader h) (first : ℕ) (past : List Row) (a w
           taken_is : (c : Command) → rings.command_at h k p ≡ Some c → taken ≡ taken_device k c
           taken_is c at = ap (option_and_then (taken_device k)) (command_is (Some c) at)
 
-          pub lent_undeclared : rings.command_at h k p ≡ None → lents h first (Write a w ∷ past) ≡ with_begun number lent_before (Block q.id p ∷ [])
+          pub lent_undeclared : rings.command_at h k p ≡ None → grown h k (Write a w) number ts ≡ with_begun number ts (Block q.id p ∷ [])
           unfolding begun_of taken_at range_of_command range_of_context with_begun
           lent_undeclared none =
               lent_of (rings.Position q.id p ∷ []) (p ∷ []) (given_is (Some (Position p)) is) commanded
-              ∙ ap (λ o. with_begun number lent_before (in_turn (Block q.id p ∷ ((range_of_command h p o ++ []) ++ entry_taken k (option_and_then (taken_device k) o) ++ device_taken h (option_and_then (taken_device k) o))))) none
-              ∙ ap (λ ls. with_begun number lent_before ls) (command_in_turn h k q.id p None None)
+              ∙ ap (λ o. with_begun number ts (in_turn (Block q.id p ∷ ((range_of_command h p o ++ []) ++ entry_taken k (option_and_then (taken_device k) o) ++ device_taken h (option_and_then (taken_device k) o))))) none
+              ∙ ap (λ ls. with_begun number ts ls) (command_in_turn h k q.id p None None)
 
-          pub lent_command : (c : Command) → rings.command_at h k p ≡ Some c → lents h first (Write a w ∷ past) ≡ with_begun number lent_before ((Block q.id p ∷ []) ++ command_taken h k p c)
+          pub lent_command : (c : Command) → rings.command_at h k p ≡ Some c → grown h k (Write a w) number ts ≡ with_begun number ts ((Block q.id p ∷ []) ++ command_taken h k p c)
           unfolding begun_of taken_at range_of_command range_of_context with_begun
           lent_command c at =
               lent_of (rings.Position q.id p ∷ []) (p ∷ []) (given_is (Some (Position p)) is) commanded
-              ∙ ap (λ o. with_begun number lent_before (in_turn (Block q.id p ∷ ((range_of_command h p o ++ []) ++ entry_taken k (option_and_then (taken_device k) o) ++ device_taken h (option_and_then (taken_device k) o))))) at
-              ∙ ap (λ ls. with_begun number lent_before ls) (command_in_turn h k q.id p (named_context c) (taken_device k c))
+              ∙ ap (λ o. with_begun number ts (in_turn (Block q.id p ∷ ((range_of_command h p o ++ []) ++ entry_taken k (option_and_then (taken_device k) o) ++ device_taken h (option_and_then (taken_device k) o))))) at
+              ∙ ap (λ ls. with_begun number ts ls) (command_in_turn h k q.id p (named_context c) (taken_device k c))
 
           pub command_fits : (c : Command) → rings.command_at h k p ≡ Some c → EntryFits k (taken_device k c)
           command_fits c at = fits (taken_device k c) (taken_is c at)
 
-          slot_free : (o : Option (ℕ × ℕ)) → MayTake k o → SlotIsFree h (with_begun number lent_before (Block q.id p ∷ [])) o
+          slot_free : (o : Option (ℕ × ℕ)) → MayTake k o → SlotIsFree h (with_begun number ts (Block q.id p ∷ [])) o
           slot_free None may = tt
-          slot_free (Some e) may =
-              let room : first + length past ≤ without_end = omega (arith, next.room) in (
-                still_free h number lent_before (SlotEntry e.0) (Block q.id p) refl (entry_free h first past room e.0 may.0),
-                still_free h number lent_before (DeviceContext e.0) (Block q.id p) refl (device_free h first past room e.0 may.0),
-              )
+          slot_free (Some e) may = (
+            still_free h number ts (SlotEntry e.0) (Block q.id p) refl (entry_free h k ts next.step.opened e.0 may.0),
+            still_free h number ts (DeviceContext e.0) (Block q.id p) refl (device_free h k ts next.step.opened e.0 may.0),
+          )
 
-          pub command_slot_free : (c : Command) → rings.command_at h k p ≡ Some c → SlotIsFree h (with_begun number lent_before (Block q.id p ∷ [])) (taken_device k c)
+          pub command_slot_free : (c : Command) → rings.command_at h k p ≡ Some c → SlotIsFree h (with_begun number ts (Block q.id p ∷ [])) (taken_device k c)
           command_slot_free c at = slot_free (taken_device k c) (may_take (taken_device k c) (taken_is c at))
 
         -- a position that is given is due, and wasn't given before
@@ -192,18 +184,18 @@ module _ (h : Header) (headed : IsHeader h) (first : ℕ) (past : List Row) (a w
             let within = from_range (floor_number v) (place_count q.shape) p found.0 in
             (within.0, within.1, absent_if (v.given p) (and_parts (not (v.given p)) _ found.1).0)
 
-        pub place_free : is_place_free h lent_before (Block q.id p) ≡ true
+        pub place_free : is_place_free h ts (Block q.id p) ≡ true
         place_free =
-            block_free h (are_shaped h headed) first past (omega (arith, next.room)) q (among_drivers h q among driver) p (omega (arith, due_now.0, due_now.1)) due_now.0 due_now.1 due_now.2
+            block_free h (are_shaped h headed) k ts next.step.opened q (among_drivers h q among driver) p (omega (arith, due_now.0, due_now.1)) due_now.0 due_now.1 due_now.2
 
-        pub command_context_free : is_command_kind q.shape.kind ≡ true → is_use_free h (with_begun number lent_before (Block q.id p ∷ [])) (InputContext p) ≡ true
+        pub command_context_free : is_command_kind q.shape.kind ≡ true → is_use_free h (with_begun number ts (Block q.id p ∷ [])) (InputContext p) ≡ true
         command_context_free command =
             let id = is_there command in
             let shape = shape_is command in
             let count : place_count (shape_of h (command_id h)) ≡ place_count q.shape = ap (λ s. place_count s) shape in
             let floor : floor_number (k.ring (command_id h)) ≡ floor_number (k.ring q.id) = ap (λ (i : ℕ). floor_number (k.ring i)) id in
-            still_free h number lent_before (InputContext p) (Block q.id p) refl
-            (context_free h first past (omega (arith, next.room)) p (omega (arith, due_now.0, due_now.1, count)) (omega (arith, due_now.0, floor)) (omega (arith, due_now.1, floor, count))
+            still_free h number ts (InputContext p) (Block q.id p) refl
+            (context_free h k ts next.step.opened p (omega (arith, due_now.0, due_now.1, count)) (omega (arith, due_now.0, floor)) (omega (arith, due_now.1, floor, count))
             (ap (λ (i : ℕ). (k.ring i).given p) id ∙ due_now.2))
 
       module _ (r : RingRecord) (f : FollowsRing q.shape (k.ring q.id) r) (c : ℕ) (is : giving ≡ Some (Crossing c)) where
@@ -235,9 +227,9 @@ module _ (h : Header) (headed : IsHeader h) (first : ℕ) (past : List Row) (a w
         pub crosses : is_crossing q.shape c ≡ true
         crosses = parts.0
 
-        pub link_is_free : is_place_free h lent_before (Link q.id c) ≡ true
+        pub link_is_free : is_place_free h ts (Link q.id c) ≡ true
         link_is_free =
-            link_free h (are_shaped h headed) first past (omega (arith, next.room)) q (among_drivers h q among driver) (shape_allowed h headed q among) (none_ahead q k r f) c parts.0 parts.1 parts.2
+            link_free h (are_shaped h headed) k ts next.step.opened q (among_drivers h q among driver) (shape_allowed h headed q among) (none_ahead q k r f) c parts.0 parts.1 parts.2
             (absent_if ((k.ring q.id).crossed c) given_there.0)
 
 -- the ring that a row's word lies in, its record, and what the write gives of it

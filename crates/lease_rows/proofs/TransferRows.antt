@@ -1,8 +1,8 @@
 -- What is lent after an event but a completion: a Transfer Event ends the leases of what its ring passes
-use Rattle.std.proofs.Common.{◌≡◌, ◌≢◌, ◌+◌, ◌≤◌, ◌∷◌, ◌∙◌, ◌&&◌, ◌||◌, ◌==◌, if◌then◌else◌, ℕ, List, true, false, None, Some, Option, refl, ap, sym, arith, inl, inr, subst, map}
-use Rattle.lease_rows.proofs.Words.{position, option_map, cond_both, and_parts, BlockKind, TransferEvent, CommandCompletion, code, endpoint, kind, pointer, slot, is_transfer_event, is_halting, is_stopping, is_success, is_trb_error, Spot, Shape, is_crossing, number, named, RingKeeps, floor_number, named_ahead, Ring, Header, Row, Read, IsHeader, driver_rings, is_driver_kind, ring_with, shape_of, Known, event_read, known, learned, RingSpot, event_at, spot_on, transfer_read, transferred_at, is_among, open_leases, IsIn, DriverKeeps, IsDriverRing, IsTransferRing, transfer_driver, transfer_not_command, come_to, Lent, ended_where, is_passed, lents, RangeIndexes, IsWithinLap, nothing_new, command_same, entries_kept, open_same, transfer_lent, none_here, not_found, ring_found, shape_there, false_unless, IsAmong, TraceRecord, FollowsBook, HoldsAll, IsCleanRow}
+use Rattle.std.proofs.Common.{◌≡◌, ◌≢◌, ◌+◌, ◌≤◌, ◌∙◌, ◌&&◌, ◌||◌, ◌==◌, if◌then◌else◌, ℕ, List, true, false, None, Some, Option, refl, ap, sym, arith, inl, inr, subst, map}
+use Rattle.lease_rows.proofs.Words.{position, option_map, cond_both, and_parts, BlockKind, TransferEvent, CommandCompletion, code, endpoint, kind, pointer, slot, is_transfer_event, is_halting, is_stopping, is_success, is_trb_error, Spot, Shape, is_crossing, number, named, RingKeeps, floor_number, named_ahead, Ring, Header, Read, IsHeader, driver_rings, is_driver_kind, ring_with, shape_of, Known, event_read, learned, RingSpot, event_at, spot_on, transfer_read, transferred_at, is_among, open_leases, IsIn, DriverKeeps, IsDriverRing, IsTransferRing, transfer_driver, transfer_not_command, come_to, Lent, ended_where, is_passed, RangeIndexes, IsWithinLap, nothing_new, command_same, entries_kept, open_same, transfer_lent, none_here, not_found, ring_found, shape_there, false_unless, IsAmong, TraceRecord, HoldsAll, IsNextRow, grown}
 use Rattle.trb.specs.declared.block.Block as blocks
-use Rattle.lease_rows.proofs.OtherRows.{driver_now, from_drivers}
+use Rattle.lease_rows.proofs.OtherRows.{from_drivers}
 
 -- one event more was read
 counted_same : (h : Header) (k : Known) → open_leases h (record k { reads = k.reads + 1 }) ≡ open_leases h k
@@ -64,17 +64,14 @@ ring_of_header h k d s i r at none =
     let clash : None ≡ Some transfer.ring = sym nowhere ∙ transfer.found in
     cc
 
-module _ (h : Header) (headed : IsHeader h) (first : ℕ) (past : List Row) (b : blocks.Block) (number_ : ℕ) (t : TraceRecord) (m : ℕ → ℕ) (next : IsCleanRow h first past (Read b) number_ t m) where
-  abbrev k : Known
-  k = known h past
-
+module _ (h : Header) (headed : IsHeader h) (k : Known) (ts : List Lent) (b : blocks.Block) (number_ : ℕ) (t : TraceRecord) (m : ℕ → ℕ) (next : IsNextRow h k ts (Read b) t m) where
   pub keeps : DriverKeeps h k
-  keeps = driver_now h headed first past (Read b) number_ t m next
+  keeps = next.keeps
 
   -- an event that says nothing of a ring
-  pub quiet : event_read h k (kind b) b ≡ k → lents h first (Read b ∷ past) ≡ lents h first past
+  pub quiet : event_read h k (kind b) b ≡ k → grown h k (Read b) number_ ts ≡ ts
   unfolding learned
-  quiet is = nothing_new h first past (Read b) next.room (λ l. ap (λ (x : Known). is_among (open_leases h (record x { reads = k.reads + 1 })) l) is ∙ ap (λ ls. is_among ls l) (counted_same h k))
+  quiet is = nothing_new h k ts next.step.opened (Read b) number_ (λ l. ap (λ (x : Known). is_among (open_leases h (record x { reads = k.reads + 1 })) l) is ∙ ap (λ ls. is_among ls l) (counted_same h k))
 
   others : (n : BlockKind) → is_transfer_event n ≡ false → n ≢ CommandCompletion → event_read h k n b ≡ k
   unfolding event_read
@@ -82,14 +79,14 @@ module _ (h : Header) (headed : IsHeader h) (first : ℕ) (past : List Row) (b :
   others CommandCompletion e f = absurd (f refl)
   others _ e f = refl
 
-  pub other_lent : is_transfer_event (kind b) ≡ false → kind b ≢ CommandCompletion → lents h first (Read b ∷ past) ≡ lents h first past
+  pub other_lent : is_transfer_event (kind b) ≡ false → kind b ≢ CommandCompletion → grown h k (Read b) number_ ts ≡ ts
   other_lent e f = quiet (others (kind b) e f)
 
   unnamed : is_transfer_event (kind b) ≡ true → event_at h k b ≡ None → event_read h k (kind b) b ≡ k
   unfolding event_read transfer_read transferred_at
   unnamed transfers none = ap (λ n. event_read h k n b) (is_transfer (kind b) transfers) ∙ ap (transferred_at h k b) none
 
-  pub unbound_lent : is_transfer_event (kind b) ≡ true → k.ring_of (slot b) (endpoint b) ≡ None → lents h first (Read b ∷ past) ≡ lents h first past
+  pub unbound_lent : is_transfer_event (kind b) ≡ true → k.ring_of (slot b) (endpoint b) ≡ None → grown h k (Read b) number_ ts ≡ ts
   unfolding event_at
   unbound_lent transfers none = quiet (unnamed transfers (no_ring_spot h k (pointer b) (k.ring_of (slot b) (endpoint b)) none))
 
@@ -112,7 +109,7 @@ module _ (h : Header) (headed : IsHeader h) (first : ℕ) (past : List Row) (b :
     named_here : (o : Option Spot) → named q.shape (k.ring q.id) (pointer b) ≡ o → named (shape_of h q.id) (k.ring q.id) (pointer b) ≡ o
     named_here o is = ap (λ s. named s (k.ring q.id) (pointer b)) (shape_there h headed q among) ∙ is
 
-    pub unnamed_lent : named q.shape (k.ring q.id) (pointer b) ≡ None → lents h first (Read b ∷ past) ≡ lents h first past
+    pub unnamed_lent : named q.shape (k.ring q.id) (pointer b) ≡ None → grown h k (Read b) number_ ts ≡ ts
     unfolding event_at
     unnamed_lent none = quiet (unnamed transfers (spot_none h k (pointer b) (k.ring_of (slot b) (endpoint b)) q.id here (named_here None none)))
 
@@ -124,16 +121,15 @@ module _ (h : Header) (headed : IsHeader h) (first : ℕ) (past : List Row) (b :
       unfolding event_at
       found = spot_found h k (pointer b) (k.ring_of (slot b) (endpoint b)) q.id spot here (named_here (Some spot) is)
 
-      passed_lent : lents h first (Read b ∷ past) ≡ map (ended_where (is_passed q.id (floor_number (k.ring q.id)) (come_to (code b) spot (floor_number (k.ring q.id)))) number_) (lents h first past)
+      passed_lent : grown h k (Read b) number_ ts ≡ map (ended_where (is_passed q.id (floor_number (k.ring q.id)) (come_to (code b) spot (floor_number (k.ring q.id)))) number_) ts
       passed_lent =
-          transfer_lent h first past b next.room (record { ring = q.id; spot = spot }) (is_transfer (kind b) transfers) found (transfer_not_command h headed q.id transfer) comes (lap_now h headed k keeps)
-          ∙ ap (λ (n : ℕ). map (ended_where (is_passed q.id (floor_number (k.ring q.id)) (come_to (code b) spot (floor_number (k.ring q.id)))) n) (lents h first past)) (sym next.numbered)
+          transfer_lent h k ts next.step.opened b number_ (record { ring = q.id; spot = spot }) (is_transfer (kind b) transfers) found (transfer_not_command h headed q.id transfer) comes (lap_now h headed k keeps)
 
       module _ {B : Type 0} {Holds : Header → List Lent → B → Type 0} where
         pub transfer_ends : (book : B) (x : RangeIndexes) (from to : ℕ) → from ≡ floor_number (k.ring q.id) → to ≡ come_to (code b) spot (floor_number (k.ring q.id)) →
-            HoldsAll Holds h (map (ended_where (is_passed q.id from to) number_) (lents h first past)) book x → FollowsBook Holds h first (Read b ∷ past) book x
+            HoldsAll Holds h (map (ended_where (is_passed q.id from to) number_) ts) book x → HoldsAll Holds h (grown h k (Read b) number_ ts) book x
         transfer_ends book x from to same reached all =
-            subst (λ (ts : List Lent). HoldsAll Holds h ts book x)
-            (ap (λ (n : ℕ). map (ended_where (is_passed q.id n to) number_) (lents h first past)) same
-            ∙ ap (λ (n : ℕ). map (ended_where (is_passed q.id (floor_number (k.ring q.id)) n) number_) (lents h first past)) reached
+            subst (λ (us : List Lent). HoldsAll Holds h us book x)
+            (ap (λ (n : ℕ). map (ended_where (is_passed q.id n to) number_) ts) same
+            ∙ ap (λ (n : ℕ). map (ended_where (is_passed q.id (floor_number (k.ring q.id)) n) number_) ts) reached
             ∙ sym passed_lent) all

@@ -22,7 +22,8 @@ pub use Rattle.lease_book.proofs.Growing.{map_append}
 pub use Rattle.lease_book.proofs.LettingGo.{Finishes, gone_are_ranges, slot_apart}
 pub use Rattle.lease_book.proofs.Members.{from_range, in_either, in_flat_map, in_left, in_range, in_right}
 pub use Rattle.lease_book.proofs.Narrowing.{floors, is_left}
-pub use Rattle.lease_book.proofs.OpenLent.{open_lent, still_lent}
+pub use Rattle.lease_book.proofs.OpenLent.{in_step, still_lent}
+pub use Rattle.lease_book.specs.InStep.{AreOpen, IsInStep}
 pub use Rattle.lease_book.proofs.PassedLeases.{IsWithinLap, Moves}
 pub use Rattle.lease_book.proofs.Passing.{all_twice, none_over, over_alike}
 pub use Rattle.lease_book.proofs.RangePlaces.{others_begin, some_end}
@@ -33,12 +34,12 @@ pub use Rattle.lease_book.proofs.Transferring.{transfer_lent}
 pub use Rattle.lease_book.proofs.Writing.{AreShaped, lease_given}
 unfoldable pub use Rattle.lease_book.specs.Coming.{come_to}
 pub use Rattle.lease_book.specs.Lents.{Lent, is_passed}
-unfoldable pub use Rattle.lease_book.specs.Lents.{begun_at, ended_where, in_turn, is_place_free, is_unended, lents, precedes, with_begun, with_leased}
+unfoldable pub use Rattle.lease_book.specs.Lents.{begun_at, ended_where, grown, in_turn, is_place_free, is_unended, lents, precedes, with_begun, with_leased}
 pub use Rattle.lease_book.specs.LettingGo.{let_go, slot_disabled, slot_left, slot_ranges}
 pub use Rattle.lease_book.specs.Ranges.{FindsRanges, shares_use}
 unfoldable pub use Rattle.lease_book.specs.Ranges.{is_lent, is_use_free}
 pub use Rattle.lease_book.specs.declared.ranges.RangeIndexes.{RangeIndexes}
-pub use Rattle.lease_rows.specs.CleanRows.{FollowsBook, HoldsAll, IsCleanRow, IsOtherRow}
+pub use Rattle.lease_rows.specs.CleanRows.{FollowsBook, HoldsAll, IsCleanRow, IsNextRow, IsOtherRow}
 pub use Rattle.lease_rows.specs.LeftBehind.{AreLent, EntriesFit, FloorsMove, IsMovedTo, IsOtherRing, MovesOn, is_behind, is_moved_past, moved_by, moved_on, moved_ring, moved_when, slot_let_go}
 pub use Rattle.lease_rows.specs.Taking.{EntryFits, SlotIsFree, command_taken, slot_taken}
 pub use Rattle.ownership_rules.proofs.Among.{IsIn, both_ways, from_filter, in_among, in_filter, leased_is, leased_itself}

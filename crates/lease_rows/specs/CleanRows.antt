@@ -3,15 +3,28 @@ use Rattle.std.specs.Prelude.{◌≡◌, ℕ, ◌+◌, ◌≤◌, List, [], ◌�
 use Rattle.traces.specs.declared.header.Header.{Header}
 use Rattle.traces.specs.declared.row.Row.{Row}
 use Rattle.traces.specs.declared.row.Row.TheVariants.{Write, Read}
+use Rattle.ring_knowledge.specs.Known.{Known}
 use Rattle.ring_knowledge.specs.Learned.{known}
 use Rattle.ownership_rules.specs.Clean.{IsLenient}
 use Rattle.ownership_rules.specs.Leases.{without_end}
 use Rattle.ownership_rules.specs.Rules.{lenient}
+use Rattle.lease_book.specs.InStep.{IsInStep}
 use Rattle.lease_book.specs.declared.ranges.RangeIndexes.{RangeIndexes}
 use Rattle.lease_book.specs.Lents.{Lent, lents}
 use Rattle.lease_book.specs.Ranges.{FindsRanges}
+use Rattle.lease_rows.specs.LeftBehind.{EntriesFit}
+use Rattle.safety.specs.Keeps.{DriverKeeps}
 use Rattle.trace_record.specs.declared.trace_record.TraceRecord.{TraceRecord}
 use Rattle.trace_record.specs.FollowsTrace.{FollowsTrace}
+
+-- a row comes that breaks no rule: the record and the memory hold what is known before it, the driver has kept the rules, and what is lent
+-- is in step with that
+pub record IsNextRow (h : Header) (k : Known) (ts : List Lent) (row : Row) (t : TraceRecord) (memory : ℕ → ℕ) : Type 0 where
+  pub followed : FollowsTrace h k t memory
+  pub keeps : DriverKeeps h k
+  pub entries : EntriesFit k
+  pub step : IsInStep h k ts
+  pub clean : lenient h k row ≡ []
 
 -- behind rows none of which breaks a rule, the newest first, comes the row of this number, and breaks none: the record and the
 -- memory hold what is known before it; `first` is the number of the oldest row

@@ -1,13 +1,14 @@
 //! Command Completion Events: what the command leaves behind is let go, and the command's own block and Link (xHCI 4.6, 4.11.4).
 ghost use Rattle.ring_knowledge.specs.declared.lease.Lease.{Lease};
-ghost use Rattle.std.specs.Prelude.{◌≡◌, ℕ, List, ◌∷◌};
+ghost use Rattle.std.specs.Prelude.{◌≡◌, ℕ, List};
 ghost use Rattle.trb.specs.declared.kind.BlockKind.TheVariants.{CommandCompletion};
 ghost use Rattle.trb.specs.Block.{kind};
 ghost use Rattle.traces.specs.Header.{IsHeader};
-ghost use Rattle.traces.specs.declared.row.Row.{Row as RowValue};
 ghost use Rattle.traces.specs.declared.row.Row.TheVariants.{Read};
+ghost use Rattle.ring_knowledge.specs.Known.{Known};
 ghost use Rattle.ring_finder.specs.Finding.{IsFinder};
-ghost use Rattle.lease_rows.specs.CleanRows.{FollowsBook, IsCleanRow};
+ghost use Rattle.lease_book.specs.Lents.{Lent, grown};
+ghost use Rattle.lease_rows.specs.CleanRows.{HoldsAll, IsNextRow};
 
 use crate::left_behind::end_command;
 use crate::taking::command_at;
@@ -31,9 +32,9 @@ pub(crate) fn note_completion<B: LeaseLog>(
 )
     requires headed { IsHeader header.now }
     requires found { IsFinder header.now.rings finder.now }
-    ensures { (list : List Lease) (first : ℕ) (past : List RowValue) (memory : ℕ → ℕ) → kind event ≡ CommandCompletion →
-        IsCleanRow header.now first past (Read event) number t.now memory →
-        FollowsBook (B.holds list) header.now first past book.old ranges.now → FollowsBook (B.holds list) header.now first (Read event ∷ past) book.new ranges.now }
+    ensures { (list : List Lease) (k : Known) (ts : List Lent) (memory : ℕ → ℕ) → kind event ≡ CommandCompletion →
+        IsNextRow header.now k ts (Read event) t.now memory →
+        HoldsAll (B.holds list) header.now ts book.old ranges.now → HoldsAll (B.holds list) header.now (grown header.now k (Read event) number ts) book.new ranges.now }
 {
     let Some(place) = finder.commands else {
         return;

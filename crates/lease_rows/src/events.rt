@@ -1,18 +1,19 @@
 //! Events that are read: what a ring passes is let go (xHCI 4.9.2, 4.10.2, 6.4.2.1).
 ghost use Rattle.ring_knowledge.specs.declared.lease.Lease.{Lease};
-ghost use Rattle.std.specs.Prelude.{◌≡◌, ◌≢◌, ◌<◌, ◌^◌, ◌||◌, ℕ, List, ◌∷◌};
+ghost use Rattle.std.specs.Prelude.{◌≡◌, ◌≢◌, ◌<◌, ◌^◌, ◌||◌, ℕ, List};
 ghost use Rattle.trb.specs.CompletionCode.{is_halting, is_stopping, is_success, is_trb_error};
 ghost use Rattle.trb.specs.declared.kind.BlockKind.TheVariants.{CommandCompletion};
 ghost use Rattle.trb.specs.Block.{kind};
 ghost use Rattle.trb.specs.Kind.{is_transfer_event};
 ghost use Rattle.segments.specs.Spots.{number};
 ghost use Rattle.traces.specs.Header.{IsHeader};
-ghost use Rattle.traces.specs.declared.row.Row.{Row as RowValue};
 ghost use Rattle.traces.specs.declared.row.Row.TheVariants.{Read};
 ghost use Rattle.lease_book.specs.Coming.{come_to};
 ghost use Rattle.lease_book.specs.declared.ranges.RangeIndexes.{RangeIndexes};
+ghost use Rattle.ring_knowledge.specs.Known.{Known};
 ghost use Rattle.ring_finder.specs.Finding.{IsFinder};
-ghost use Rattle.lease_rows.specs.CleanRows.{FollowsBook, IsCleanRow};
+ghost use Rattle.lease_book.specs.Lents.{Lent, grown};
+ghost use Rattle.lease_rows.specs.CleanRows.{HoldsAll, IsNextRow};
 
 use lease_book::LeaseLog;
 use ring_finder::Finder;
@@ -33,9 +34,9 @@ pub(crate) fn note_transfer<B: LeaseLog>(
 )
     requires headed { IsHeader header.now }
     requires found { IsFinder header.now.rings finder.now }
-    ensures { (list : List Lease) (first : ℕ) (past : List RowValue) (memory : ℕ → ℕ) (ranges : RangeIndexes) → kind event ≢ CommandCompletion →
-        IsCleanRow header.now first past (Read event) number t.now memory → FollowsBook (B.holds list) header.now first past book.old ranges →
-        FollowsBook (B.holds list) header.now first (Read event ∷ past) book.new ranges }
+    ensures { (list : List Lease) (k : Known) (ts : List Lent) (memory : ℕ → ℕ) (ranges : RangeIndexes) → kind event ≢ CommandCompletion →
+        IsNextRow header.now k ts (Read event) t.now memory → HoldsAll (B.holds list) header.now ts book.old ranges →
+        HoldsAll (B.holds list) header.now (grown header.now k (Read event) number ts) book.new ranges }
 {
     if !is_transfer(event) {
         return;

@@ -1,11 +1,12 @@
 //! Declarations, doorbells and registers: a lease begins with the write of ERSTBA alone (xHCI 5.5.2.3.2, 6.5).
 ghost use Rattle.ring_knowledge.specs.declared.lease.Lease.{Lease};
-ghost use Rattle.std.specs.Prelude.{◌≡◌, ◌≤◌, ℕ, List, ◌∷◌, length, OnOk};
+ghost use Rattle.std.specs.Prelude.{◌≡◌, ◌≤◌, ℕ, List, length, OnOk};
 ghost use Rattle.traces.specs.Header.{IsHeader, event_shape};
-ghost use Rattle.traces.specs.declared.row.Row.{Row as RowValue};
 ghost use Rattle.traces.specs.declared.row.Row.TheVariants.{Reg};
 ghost use Rattle.lease_book.specs.declared.ranges.RangeIndexes.{RangeIndexes};
-ghost use Rattle.lease_rows.specs.CleanRows.{FollowsBook, IsCleanRow, IsOtherRow};
+ghost use Rattle.ring_knowledge.specs.Known.{Known};
+ghost use Rattle.lease_book.specs.Lents.{Lent, grown};
+ghost use Rattle.lease_rows.specs.CleanRows.{HoldsAll, IsNextRow, IsOtherRow};
 ghost use Rattle.trace_record.specs.declared.trace_record.TraceRecord.{TraceRecord};
 
 use lease_book::LeaseLog;
@@ -21,9 +22,9 @@ pub(crate) fn note_other_row<B: LeaseLog>(
     row: &Row,
 ) -> Result<(), AllocError>
     requires { IsHeader header.now }
-    ensures { OnOk result ((list : List Lease) (first : ℕ) (past : List RowValue) (t : TraceRecord) (memory : ℕ → ℕ) (ranges : RangeIndexes) → IsOtherRow row.now →
-        IsCleanRow header.now first past row.now number t memory → FollowsBook (B.holds list) header.now first past book.old ranges →
-        FollowsBook (B.holds list) header.now first (row.now ∷ past) book.new ranges) }
+    ensures { OnOk result ((list : List Lease) (k : Known) (ts : List Lent) (t : TraceRecord) (memory : ℕ → ℕ) (ranges : RangeIndexes) → IsOtherRow row.now →
+        IsNextRow header.now k ts row.now t memory → HoldsAll (B.holds list) header.now ts book.old ranges →
+        HoldsAll (B.holds list) header.now (grown header.now k row.now number ts) book.new ranges) }
 {
     match row {
         Row::Reg { register, value } => note_table(book, header, number, *register, *value),
@@ -40,9 +41,9 @@ fn note_table<B: LeaseLog>(
     value: u64,
 ) -> Result<(), AllocError>
     requires { IsHeader header.now }
-    ensures { OnOk result ((list : List Lease) (first : ℕ) (past : List RowValue) (t : TraceRecord) (memory : ℕ → ℕ) (ranges : RangeIndexes) →
-        IsCleanRow header.now first past (Reg register value) number t memory → FollowsBook (B.holds list) header.now first past book.old ranges →
-        FollowsBook (B.holds list) header.now first (Reg register value ∷ past) book.new ranges) }
+    ensures { OnOk result ((list : List Lease) (k : Known) (ts : List Lent) (t : TraceRecord) (memory : ℕ → ℕ) (ranges : RangeIndexes) →
+        IsNextRow header.now k ts (Reg register value) t memory → HoldsAll (B.holds list) header.now ts book.old ranges →
+        HoldsAll (B.holds list) header.now (grown header.now k (Reg register value) number ts) book.new ranges) }
 {
     match register {
         Register::Erstba => {

@@ -5,9 +5,11 @@ ghost use Rattle.traces.specs.Header.{IsHeader};
 ghost use Rattle.traces.specs.declared.row.Row.{Row as RowValue};
 ghost use Rattle.traces.specs.declared.row.Row.TheVariants.{Read};
 ghost use Rattle.ring_finder.specs.Finding.{IsFinder};
+ghost use Rattle.ring_knowledge.specs.Known.{Known};
 ghost use Rattle.ring_knowledge.specs.Learned.{known};
 ghost use Rattle.trace_record.specs.WordPlaces.{IsPlaced};
-ghost use Rattle.lease_rows.specs.CleanRows.{FollowsBook, IsCleanRow};
+ghost use Rattle.lease_book.specs.Lents.{Lent, grown};
+ghost use Rattle.lease_rows.specs.CleanRows.{FollowsBook, HoldsAll, IsCleanRow, IsNextRow};
 
 use crate::completions::note_completion;
 use crate::events::note_transfer;
@@ -36,7 +38,10 @@ pub fn note_row<B: LeaseLog, M: WordMemory>(
 ) -> Result<(), AllocError>
     requires headed { IsHeader header.now }
     requires found { IsFinder header.now.rings finder.now }
-    ensures { OnOk result ((list : List Lease) (first : ℕ) (past : List RowValue) → IsPlaced header.now (known header.now past) row.now place →
+    ensures step { OnOk result ((list : List Lease) (k : Known) (ts : List Lent) → IsPlaced header.now k row.now place →
+        IsNextRow header.now k ts row.now t.now (M.words memory.now) →
+        HoldsAll (B.holds list) header.now ts book.old ranges.old → HoldsAll (B.holds list) header.now (grown header.now k row.now number ts) book.new ranges.new) }
+    ensures history { OnOk result ((list : List Lease) (first : ℕ) (past : List RowValue) → IsPlaced header.now (known header.now past) row.now place →
         IsCleanRow header.now first past row.now number t.now (M.words memory.now) →
         FollowsBook (B.holds list) header.now first past book.old ranges.old → FollowsBook (B.holds list) header.now first (row.now ∷ past) book.new ranges.new) }
 {
@@ -63,8 +68,8 @@ fn note_event<B: LeaseLog>(
 )
     requires headed { IsHeader header.now }
     requires found { IsFinder header.now.rings finder.now }
-    ensures { (list : List Lease) (first : ℕ) (past : List RowValue) (memory : ℕ → ℕ) → IsCleanRow header.now first past (Read event) number t.now memory →
-        FollowsBook (B.holds list) header.now first past book.old ranges.now → FollowsBook (B.holds list) header.now first (Read event ∷ past) book.new ranges.now }
+    ensures { (list : List Lease) (k : Known) (ts : List Lent) (memory : ℕ → ℕ) → IsNextRow header.now k ts (Read event) t.now memory →
+        HoldsAll (B.holds list) header.now ts book.old ranges.now → HoldsAll (B.holds list) header.now (grown header.now k (Read event) number ts) book.new ranges.now }
 {
     match event.kind() {
         BlockKind::CommandCompletion => note_completion(

@@ -1,12 +1,12 @@
 //! Writes of memory: what they give comes under lease (xHCI 4.9.2, 4.6.5).
 ghost use Rattle.ring_knowledge.specs.declared.lease.Lease.{Lease};
-ghost use Rattle.std.specs.Prelude.{◌≡◌, ℕ, List, ◌∷◌, OnOk};
+ghost use Rattle.std.specs.Prelude.{◌≡◌, ℕ, List, OnOk};
 ghost use Rattle.traces.specs.Header.{IsHeader};
-ghost use Rattle.traces.specs.declared.row.Row.{Row as RowValue};
 ghost use Rattle.traces.specs.declared.row.Row.TheVariants.{Write};
-ghost use Rattle.ring_knowledge.specs.Learned.{known};
+ghost use Rattle.ring_knowledge.specs.Known.{Known};
 ghost use Rattle.trace_record.specs.WordPlaces.{IsPlacedSo};
-ghost use Rattle.lease_rows.specs.CleanRows.{FollowsBook, IsCleanRow};
+ghost use Rattle.lease_book.specs.Lents.{Lent, grown};
+ghost use Rattle.lease_rows.specs.CleanRows.{HoldsAll, IsNextRow};
 
 use crate::taking::{begin_command, command_at};
 use guest_memory::WordMemory;
@@ -30,9 +30,9 @@ pub(crate) fn note_write<B: LeaseLog, M: WordMemory>(
     place: WordPlace,
 ) -> Result<(), AllocError>
     requires { IsHeader header.now }
-    ensures { OnOk result ((list : List Lease) (first : ℕ) (past : List RowValue) (at word : ℕ) → IsPlacedSo header.now (known header.now past) at word place →
-        IsCleanRow header.now first past (Write at word) number t.now (M.words memory.now) →
-        FollowsBook (B.holds list) header.now first past book.old ranges.old → FollowsBook (B.holds list) header.now first (Write at word ∷ past) book.new ranges.new) }
+    ensures { OnOk result ((list : List Lease) (k : Known) (ts : List Lent) (at word : ℕ) → IsPlacedSo header.now k at word place →
+        IsNextRow header.now k ts (Write at word) t.now (M.words memory.now) →
+        HoldsAll (B.holds list) header.now ts book.old ranges.old → HoldsAll (B.holds list) header.now (grown header.now k (Write at word) number ts) book.new ranges.new) }
 {
     let Some(index) = place.ring else {
         return Ok(());
