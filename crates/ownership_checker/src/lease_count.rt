@@ -34,6 +34,8 @@ impl LeaseCount {
 impl LeaseLog for LeaseCount {
     ghost holds = { λ list h ts log. log.count ≡ length ts };
 
+    ghost other_rings = { λ list h g ts log same held. held };
+
     fn begin_block(&mut self, _row: u32, _ring: &Ring, _position: u64) -> Result<(), AllocError> {
         self.add_one()
     }

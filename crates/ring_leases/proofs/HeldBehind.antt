@@ -1,55 +1,28 @@
--- A book of leases goes on with the rings that are there behind a ring that goes, and behind one that comes: what isn't over is of other rings
-use Rattle.std.proofs.Common.{◌≡◌, ◌≢◌, ◌+◌, ◌%◌, ◌≤◌, ◌==◌, ◌∷◌, ◌∙◌, ℕ, true, false, not, Box, Global, List, [], length, refl, sym, ap, subst, inl, inr}
+-- A log of leases goes on with the rings that are there behind a ring that goes, and behind one that comes: what isn't over is of other rings
+use Rattle.std.proofs.Common.{◌≡◌, ◌≢◌, ◌%◌, ◌==◌, ◌∙◌, ℕ, false, not, List, refl, sym, ap, subst, inl, inr}
 use Rattle.std.proofs.lemmas.Bool.{and_parts, eqb-false, not-true}
-use Rattle.safety.proofs.Words.{Header, IsHeader, Ring, Known, DriverKeeps, IsIn, driver_rings, flat_map, from_filter, open_leases, open_on, open_ranges, place_count, shape_of, is_driver_kind}
-use Rattle.segments.specs.Givings.{link_of}
-use Rattle.segments.specs.Places.{is_crossing}
+use Rattle.safety.proofs.Words.{Header, IsHeader, Ring, Known, DriverKeeps, IsIn, driver_rings, flat_map, from_filter, open_leases, open_on, open_ranges, place_count, command_id, shape_of, is_driver_kind}
 use Rattle.ownership_rules.proofs.Among.{among_is}
-use Rattle.ownership_rules.specs.Leases.{without_end}
 use Rattle.ownership_rules.specs.OpenLeases.{Leased, Block, Link, Range, is_among}
-use Rattle.lease_book.specs.Books.{AllUnended, HoldsLents, IsFound}
-use Rattle.lease_book.specs.IndexTables.{index_at}
+use Rattle.lease_book.specs.IndexTables.{index_in}
+use Rattle.lease_book.specs.InStep.{AreOpen}
+use Rattle.lease_book.specs.OtherShapes.{AreShapedAlike, IsShapedAlike}
+use Rattle.lease_book.specs.Ranges.{FindsRanges, IsRangeFound, IsUseFound}
+use Rattle.lease_book.specs.declared.ranges.RangeIndexes.{RangeIndexes}
+use Rattle.ownership_rules.specs.OpenLeases.{DeviceContext, EventSegment, InputContext, SegmentTable, SlotEntry, Use}
+use Rattle.segments.specs.ShapeValue.{Shape}
 use Rattle.lease_book.specs.Lents.{Lent}
-use Rattle.lease_book.specs.declared.indexes.IndexTables.{IndexTables}
-use Rattle.lease_book.specs.declared.lease_book.LeaseBook.{LeaseBook}
 use Rattle.lease_book.proofs.Members.{InOn, block, link, from_flat_map, in_either, in_on}
 use Rattle.lease_book.proofs.RangesAlone.{IsRange, open_are_ranges}
 use Rattle.lease_book.proofs.Rows.{IsOpen}
 use Rattle.lease_book.proofs.Unended.{all_anew}
 use Rattle.ring_changes.specs.Changes.{IsComing, forgotten, is_bad_free, is_bad_ring, with_ring, without_ring}
-use Rattle.traces.specs.declared.trace_row.TraceRow.{TraceRow}
-use Rattle.traces.specs.declared.trace_row.TraceRow.TheVariants.{Comes, Goes}
-use Rattle.ring_changes.specs.Histories.{header_now, known_now}
 use Rattle.ring_changes.proofs.ListedRings.{none_found}
 use Rattle.ring_changes.proofs.RingRuns.{bad_same, f_keeps, fresh, no_ring}
 use Rattle.ring_changes.proofs.GoneRings as gone
 use Rattle.ring_changes.proofs.NewRings as new
-use Rattle.ring_leases.specs.RingLents.{is_of_ring, open_now, ring_lents}
-use Rattle.ring_leases.proofs.LentBehind.{comes_lent, lent_open}
+use Rattle.ring_leases.specs.RingLents.{is_of_ring}
 use Rattle.ring_leases.proofs.OpenBehind.{among_filtered, goes_open}
-
--- the ring of a lease has the same shape
-abbrev pub IsShapedAlike : Header → Header → Leased → Type 0
-IsShapedAlike h g (Block r p) = shape_of g r ≡ shape_of h r
-IsShapedAlike h g (Link r q) = shape_of g r ≡ shape_of h r
-IsShapedAlike h g (Range n a e) = Unit {0}
-
-found_alike : (h g : Header) (blocks links : IndexTables) (i : ℕ) (l : Leased) → IsShapedAlike h g l → IsFound h blocks links i l → IsFound g blocks links i l
-found_alike h g blocks links i (Block r p) same found = subst (λ s. index_at blocks r (p % place_count s) ≡ i) (sym same) found
-found_alike h g blocks links i (Link r q) same found =
-    (subst (λ s. is_crossing s q ≡ true) (sym same) found.0, subst (λ s. index_at links r (link_of s q) ≡ i) (sym same) found.1)
-found_alike h g blocks links i (Range n a e) same found = tt
-
-both_told : (A F G : ℕ → Leased → Type 0) (n : ℕ) (ts : List Lent) → ((i : ℕ) (l : Leased) → A i l → F i l → G i l) → AllUnended A n ts → AllUnended F n ts → AllUnended G n ts
-both_told A F G n [] f first second = tt
-both_told A F G n (t ∷ ts) f first second = (λ u. f n t.leased (first.0 u) (second.0 u), both_told A F G (n + 1) ts f first.1 second.1)
-
--- where all that isn't over is of rings that have the same shape, a book holds the leases for either header
-pub held_alike : (h g : Header) (ts : List Lent) (b : LeaseBook) → AllUnended (λ i l. IsShapedAlike h g l) 0 ts → HoldsLents h ts b → HoldsLents g ts b
-held_alike h g ts b same held = record {
-  list = held.list;
-  found = both_told (λ i l. IsShapedAlike h g l) (IsFound h b.blocks b.links) (IsFound g b.blocks b.links) 0 ts (λ i l alike found. found_alike h g b.blocks b.links i l alike found) same held.found;
-}
 
 module _ (h : Header) (is : IsHeader h) (k : Known) (d : DriverKeeps h k) (id : ℕ) (good : is_bad_free h k id ≡ false) where
   same_shape : (s : ℕ) → (s == id) ≡ false → shape_of (without_ring h id) s ≡ shape_of h s
@@ -66,15 +39,15 @@ module _ (h : Header) (is : IsHeader h) (k : Known) (d : DriverKeeps h k) (id : 
       let both = sym (ap (λ ms. is_among ms l) (goes_open h is k d id good) ∙ among_filtered (λ m. not (is_of_ring id m)) (open_leases h k) l) ∙ is_open in
       alike l (not-true (is_of_ring id l) (and_parts (is_among (open_leases h k) l) (not (is_of_ring id l)) both).1)
 
-module _ (h : Header) (first : ℕ) (past : List TraceRow) (is : IsHeader (header_now h past)) (d : DriverKeeps (header_now h past) (known_now h past)) where
-  -- behind a ring that goes
-  pub goes_held : (id : ℕ) (b : LeaseBook) → first + length (Goes id ∷ past) ≤ without_end → is_bad_free (header_now h past) (known_now h past) id ≡ false →
-      HoldsLents (header_now h past) (ring_lents h first (Goes id ∷ past)) b → HoldsLents (header_now h (Goes id ∷ past)) (ring_lents h first (Goes id ∷ past)) b
-  goes_held id b room good held =
-      held_alike (header_now h past) (header_now h (Goes id ∷ past)) (ring_lents h first (Goes id ∷ past)) b
-      (all_anew (λ i l. IsOpen (open_now h (Goes id ∷ past)) l) (λ i l. IsShapedAlike (header_now h past) (header_now h (Goes id ∷ past)) l) 0 (ring_lents h first (Goes id ∷ past))
-      (λ i l is_open. open_alike (header_now h past) is (known_now h past) d id good l is_open) (lent_open h first (Goes id ∷ past) room))
-      held
+  -- with the ring left out the log goes on, where what isn't over is open behind it
+  pub goes_alike : (ts : List Lent) → AreOpen (without_ring h id) (forgotten k id) ts → AreShapedAlike h (without_ring h id) ts
+  goes_alike ts opened =
+      all_anew (λ i l. IsOpen (open_leases (without_ring h id) (forgotten k id)) l) (λ i l. IsShapedAlike h (without_ring h id) l) 0 ts (λ i l is_open. open_alike l is_open) opened
+
+  -- the command ring has the same shape
+  pub goes_commands : shape_of (without_ring h id) (command_id (without_ring h id)) ≡ shape_of h (command_id h)
+  unfolding without_ring
+  goes_commands = (gone.others h is k d id good).command_shape
 
 -- ---- a ring that comes
 
@@ -120,13 +93,31 @@ module _ (h : Header) (is : IsHeader h) (k : Known) (d : DriverKeeps h k) (r : R
   pub still_alike : (l : Leased) → IsOpen (open_leases h k) l → IsShapedAlike h (with_ring h r) l
   still_alike l is_open = alike_there l (open_there h k l is_open)
 
-module _ (h : Header) (first : ℕ) (past : List TraceRow) (is : IsHeader (header_now h past)) (d : DriverKeeps (header_now h past) (known_now h past)) where
-  -- behind a ring that comes
-  pub comes_held : (c : Box Ring Global) (b : LeaseBook) → first + length past ≤ without_end → IsComing c.value → is_bad_ring (header_now h past) (known_now h past) c.value ≡ false →
-      HoldsLents (header_now h past) (ring_lents h first past) b → HoldsLents (header_now h (Comes c ∷ past)) (ring_lents h first (Comes c ∷ past)) b
-  comes_held c b room coming good held =
-      subst (λ ts. HoldsLents (header_now h (Comes c ∷ past)) ts b) (sym (comes_lent h first past room is d c coming good))
-      (held_alike (header_now h past) (header_now h (Comes c ∷ past)) (ring_lents h first past) b
-      (all_anew (λ i l. IsOpen (open_now h past) l) (λ i l. IsShapedAlike (header_now h past) (header_now h (Comes c ∷ past)) l) 0 (ring_lents h first past)
-      (λ i l is_open. still_alike (header_now h past) is (known_now h past) d c.value coming good l is_open) (lent_open h first past room))
-      held)
+  -- with the ring the log goes on, where what isn't over is open before it
+  pub comes_alike : (ts : List Lent) → AreOpen h k ts → AreShapedAlike h (with_ring h r) ts
+  comes_alike ts opened = all_anew (λ i l. IsOpen (open_leases h k) l) (λ i l. IsShapedAlike h (with_ring h r) l) 0 ts (λ i l is_open. still_alike l is_open) opened
+
+  pub comes_commands : shape_of (with_ring h r) (command_id (with_ring h r)) ≡ shape_of h (command_id h)
+  unfolding with_ring forgotten
+  comes_commands =
+      let absent = no_ring h is r coming k good in
+      (new.others h is (forgotten k r.id) (f_keeps h is r coming k d absent) r coming (fresh h is r coming k d absent) (bad_same h is r coming k d absent ∙ good)).command_shape
+
+-- ---- the indexes of ranges
+
+module _ (h g : Header) (x : RangeIndexes) (commands : shape_of g (command_id g) ≡ shape_of h (command_id h)) where
+  use_alike : (i : ℕ) (e : Use) → IsUseFound h x i e → IsUseFound g x i e
+  use_alike i EventSegment found = found
+  use_alike i SegmentTable found = found
+  use_alike i (InputContext p) found = subst (λ (s : Shape). index_in x.contexts (p % place_count s) ≡ i) (sym commands) found
+  use_alike i (SlotEntry s) found = found
+  use_alike i (DeviceContext s) found = found
+
+  range_alike : (i : ℕ) (l : Leased) → IsRangeFound h x i l → IsRangeFound g x i l
+  range_alike i (Block r p) found = found
+  range_alike i (Link r q) found = found
+  range_alike i (Range n a e) found = use_alike i e found
+
+  -- with a command ring of the same shape they find the same
+  pub ranges_found : (ts : List Lent) → FindsRanges h ts x → FindsRanges g ts x
+  ranges_found ts found = all_anew (IsRangeFound h x) (IsRangeFound g x) 0 ts range_alike found

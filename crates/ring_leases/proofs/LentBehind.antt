@@ -10,6 +10,8 @@ use Rattle.lease_book.specs.Books.{AllUnended}
 use Rattle.lease_book.specs.Lents.{ended_where, grown, lents, passed_on}
 use Rattle.safety.proofs.NothingFree.{nothing_free}
 use Rattle.lease_book.proofs.Rows.{IsOpen, first_open, nothing_passed, only_passed, passed_open}
+use Rattle.lease_book.specs.InStep.{IsInStep}
+use Rattle.lease_book.proofs.OpenLent.{in_step_behind, in_step_first}
 use Rattle.ring_changes.specs.Changes.{IsComing, is_bad_free, is_bad_ring}
 use Rattle.traces.specs.declared.trace_row.TraceRow.{TraceRow}
 use Rattle.traces.specs.declared.trace_row.TraceRow.TheVariants.{Plain, Comes, Goes}
@@ -25,6 +27,14 @@ module _ (h : Header) (first : ℕ) where
   unfolding ring_lents
   lent_open [] room = first_open (open_now h []) 0
   lent_open (row ∷ past) room = passed_open (open_now h past) (open_now h (row ∷ past)) (first + length past) (ring_lents h first past) (omega (arith, room))
+
+  -- and what is open is lent
+  pub in_step_now : (past : List TraceRow) → first + length past ≤ without_end → IsInStep (header_now h past) (known_now h past) (ring_lents h first past)
+  unfolding ring_lents
+  in_step_now [] room = in_step_first h
+  in_step_now (row ∷ past) room =
+      in_step_behind (header_now h past) (header_now h (row ∷ past)) (known_now h past) (known_now h (row ∷ past)) (first + length past) (ring_lents h first past) (omega (arith, room))
+      (in_step_now past (omega (arith, room)))
 
   module _ (past : List TraceRow) (room : first + length past ≤ without_end) (is : IsHeader (header_now h past)) (d : DriverKeeps (header_now h past) (known_now h past)) where
     -- the leases of its blocks and Links are over

@@ -1,10 +1,8 @@
 -- The leases of a history in which rings come and go: at each row those begin that are newly open behind it, and those end that aren't open
 -- any more, by the rings that are there before the row and behind it
-use Rattle.std.specs.Prelude.{◌≡◌, ℕ, ◌+◌, ◌==◌, Bool, true, false, List, [], ◌∷◌, length}
+use Rattle.std.specs.Prelude.{ℕ, ◌+◌, ◌==◌, Bool, false, List, [], ◌∷◌, length}
 use Rattle.traces.specs.declared.header.Header.{Header}
-use Rattle.ownership_rules.specs.OpenLeases.{Leased, Block, Link, Range, is_among, open_leases}
-use Rattle.ring_knowledge.specs.Known.{Known}
-use Rattle.lease_book.specs.Books.{AllUnended}
+use Rattle.ownership_rules.specs.OpenLeases.{Leased, Block, Link, Range, open_leases}
 use Rattle.lease_book.specs.Lents.{Lent, in_turn, passed_on, with_begun}
 use Rattle.traces.specs.declared.trace_row.TraceRow.{TraceRow}
 use Rattle.ring_changes.specs.Histories.{header_now, known_now}
@@ -14,10 +12,6 @@ abbrev pub is_of_ring : ℕ → Leased → Bool
 is_of_ring r (Block s p) = s == r
 is_of_ring r (Link s q) = s == r
 is_of_ring r (Range n a e) = false
-
--- what is lent and not over is open
-abbrev pub AreOpen : Header → Known → List Lent → Type 0
-AreOpen h k ts = AllUnended (λ i l. is_among (open_leases h k) l ≡ true) 0 ts
 
 module _ (h : Header) where
   -- the leases that are open behind the rows so far, the newest first

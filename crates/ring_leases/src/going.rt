@@ -5,7 +5,8 @@ ghost use Rattle.ring_knowledge.specs.declared.lease.Lease.{Lease};
 ghost use Rattle.ring_knowledge.specs.Known.{Known};
 ghost use Rattle.ring_knowledge.specs.RingRecords.{FollowsRing};
 ghost use Rattle.lease_book.specs.Lents.{Lent, ended_where};
-ghost use Rattle.ring_leases.specs.RingLents.{AreOpen, is_of_ring};
+ghost use Rattle.lease_book.specs.InStep.{AreOpen};
+ghost use Rattle.ring_leases.specs.RingLents.{is_of_ring};
 
 use lease_book::LeaseLog;
 use ring_knowledge::RingRecord;

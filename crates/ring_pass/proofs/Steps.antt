@@ -23,7 +23,9 @@ use Rattle.trace_record.specs.Steps as steps
 use Rattle.trace_record.specs.Steps.{IsLeast, IsRowStep}
 use Rattle.ownership_rules.specs.declared.refusal.Refusal.{Refusal}
 use Rattle.row_checks.specs.Tracking.{IsTracked}
-use Rattle.ring_changes.specs.Changes.{IsComing, is_bad_free, is_bad_ring, with_ring, without_ring}
+use Rattle.lease_rows.specs.LeftBehind.{EntriesFit}
+use Rattle.lease_rows.proofs.EntriesFit.{nothing_fits, row_fits, still_fit}
+use Rattle.ring_changes.specs.Changes.{IsComing, forgotten, is_bad_free, is_bad_ring, with_ring, without_ring}
 use Rattle.ring_changes.specs.Histories.{AreKept, IsTraceRow, header_now, known_now}
 use Rattle.ring_changes.proofs.GoneRings.{gone_ring_kept}
 use Rattle.ring_changes.proofs.RingRuns.{comes_keeps}
@@ -79,6 +81,10 @@ refused_too (Ok x) P Q f so = tt
 refused_too (Err (variants.Refused c)) P Q f so = f c so
 refused_too (Err variants.Memory) P Q f so = tt
 
+forgotten_fits : (k : Known) (id : ℕ) → EntriesFit k → EntriesFit (forgotten k id)
+unfolding forgotten
+forgotten_fits k id fit = still_fit k (forgotten k id) refl (λ s d at. at) fit
+
 module _ {B M : Type 0} (words : M → ℕ → ℕ) where
   pub before_rows : (pass : RingPass B M) → IsHeader pass.header → IsFinder pass.header.rings pass.finder → IsWithin pass.record.events 0 → FollowsTrace pass.header nothing pass.record (words pass.memory) →
       IsRingPassed words pass.header [] pass
@@ -89,6 +95,7 @@ module _ {B M : Type 0} (words : M → ℕ → ℕ) where
     found = found;
     few_reads = unread;
     tracked = record { follows = follows; keeps = λ on. nothing_kept pass.header is };
+    entries = nothing_fits pass.header;
     clean = tt;
   }
 
@@ -125,6 +132,9 @@ module _ {B M : Type 0} (words : M → ℕ → ℕ) where
           few_reads = rw is (subst (IsWithin after.events) number reads);
           tracked = rw (is, at) (subst (λ (x : Header). IsTracked x (known_now h (Plain row ∷ past)) after memory) (sym (header ∙ p.header))
               (subst (λ (x : Known). IsTracked g x after memory) (sym (known_plain h row past p.clean)) tracked));
+          entries =
+              let clean = lenient_row g k row now.clean in
+              subst EntriesFit (sym (known_plain h row past p.clean)) (row_fits g headed_now k row (tracked_now.keeps (clean_tests g k row clean).0) clean p.entries);
           clean = (p.clean, now.clean);
         }
 
@@ -146,6 +156,7 @@ module _ {B M : Type 0} (words : M → ℕ → ℕ) where
           few_reads = rw recorded (one_later after (length past) reads);
           tracked = rw (recorded, at) (subst (λ (x : Header). IsTracked x (known_now h (Comes ring ∷ past)) after (words before.memory)) (sym there)
               (record { follows = now.followed; keeps = λ still. comes_keeps g headed_now ring.value coming k keeps now.kept.1 }));
+          entries = forgotten_fits k _ p.entries;
           clean = (p.clean, now.kept);
         }
 
@@ -166,6 +177,7 @@ module _ {B M : Type 0} (words : M → ℕ → ℕ) where
           few_reads = rw recorded (one_later after (length past) reads);
           tracked = rw (recorded, at) (subst (λ (x : Header). IsTracked x (known_now h (Goes id ∷ past)) after (words before.memory)) (sym there)
               (record { follows = now.followed; keeps = λ still. gone_ring_kept g headed_now k keeps id now.kept.1 }));
+          entries = forgotten_fits k _ p.entries;
           clean = (p.clean, now.kept);
         }
 
@@ -179,6 +191,7 @@ module _ {B M : Type 0} (words : M → ℕ → ℕ) where
       found = p.found;
       few_reads = p.few_reads;
       tracked = p.tracked;
+      entries = p.entries;
       clean = p.clean;
     })
 

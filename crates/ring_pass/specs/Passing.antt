@@ -10,6 +10,10 @@ use Rattle.ring_finder.specs.Finding.{IsFinder}
 use Rattle.ring_changes.specs.Histories.{Scene, header_now, known_now, scene_reached}
 use Rattle.trace_record.specs.Fresh.{IsWithin}
 use Rattle.row_checks.specs.Tracking.{IsTracked}
+use Rattle.lease_book.specs.Lents.{Lent}
+use Rattle.lease_rows.specs.CleanRows.{HoldsAll}
+use Rattle.lease_rows.specs.LeftBehind.{EntriesFit}
+use Rattle.ring_leases.specs.RingLents.{ring_lents}
 use Rattle.ring_pass.specs.Clean.{AreClean}
 use Rattle.ring_pass.specs.declared.pass.RingPass.{RingPass}
 
@@ -22,7 +26,13 @@ pub record IsRingPassed {B M : Type 0} (words : M → ℕ → ℕ) (h : Header) 
   pub found : IsFinder pass.header.rings pass.finder
   pub few_reads : IsWithin pass.record.events (length past)
   pub tracked : IsTracked pass.header (known_now h past) pass.record (words pass.memory)
+  pub entries : EntriesFit (known_now h past)
   pub clean : AreClean h past
+
+-- the log keeps the leases of the rows so far, the newest first, and the indexes find the ranges among them; `first` is the number of the
+-- oldest row
+abbrev pub IsRingLogged : {B M : Type 0} → (Header → List Lent → B → Type 0) → Header → ℕ → List TraceRow → RingPass B M → Type 0
+IsRingLogged Holds h first past pass = HoldsAll Holds (header_now h past) (ring_lents h first past) pass.log pass.ranges
 
 -- behind each step of each run of the controller's model beside the rows, in their order, the world is safe
 abbrev pub DoNoHarm : Header → List TraceRow → Type 0

@@ -1,14 +1,24 @@
-ghost use Rattle.std.specs.Prelude.{◌≡◌, ◌≤◌, ℕ, [], ◌∷◌, List, All, length, reverse, IfErr, IfOk, OnOk};
+ghost use Rattle.std.specs.Prelude.{◌≡◌, ◌+◌, ◌<◌, ◌≤◌, ℕ, true, [], ◌∷◌, List, All, length, map, reverse, IfErr, IfOk, OnOk};
 ghost use Rattle.trb.specs.declared.ring_kind.RingKind.TheVariants.{Xfer};
 ghost use Rattle.traces.specs.Header.{IsHeader};
 ghost use Rattle.traces.specs.Limits.{most_lines};
 ghost use Rattle.traces.specs.declared.header.Header.{Header};
 ghost use Rattle.traces.specs.declared.trace_row.TraceRow.{TraceRow};
 ghost use Rattle.traces.specs.declared.trace_row.TraceRow.TheVariants.{Plain, Comes, Goes};
+ghost use Rattle.traces.specs.Header.{ring_with};
+ghost use Rattle.ring_knowledge.specs.declared.lease.Lease.{Lease};
+ghost use Rattle.ring_knowledge.specs.Known.{Known};
+ghost use Rattle.ring_finder.specs.Finding.{IsFinder};
+ghost use Rattle.ownership_rules.specs.Leases.{without_end};
+ghost use Rattle.safety.specs.EndpointsKeep.{is_transfer_ring};
+ghost use Rattle.lease_book.specs.InStep.{AreOpen};
+ghost use Rattle.lease_book.specs.Lents.{Lent, ended_where, lents};
+ghost use Rattle.ring_leases.specs.RingLents.{is_of_ring, ring_lents};
+ghost use Rattle.trace_record.specs.FollowsTrace.{FollowsTrace};
 ghost use Rattle.ring_changes.specs.Histories.{IsTraceRow, header_now, known_now};
 ghost use Rattle.trace_record.specs.Steps.{IfRefused, IsLeast};
 ghost use Rattle.ring_pass.specs.Clean.{IsLeastOfRing};
-ghost use Rattle.ring_pass.specs.Passing.{DoNoHarm, IsRingPassed};
+ghost use Rattle.ring_pass.specs.Passing.{DoNoHarm, IsRingLogged, IsRingPassed};
 
 use crate::fault::RingRowFault;
 use guest_memory::WordMemory;
@@ -45,6 +55,7 @@ impl<B: LeaseLog + Drop, M: WordMemory + Drop> RingPass<B, M> {
         requires headed { IsHeader header }
         requires zero { (a : ℕ) → M.words memory a ≡ 0 }
         ensures passed { IfOk result (IsRingPassed M.words header []) }
+        ensures logged { IfOk result (λ pass. (list : List Lease) (first : ℕ) → B.holds list header (lents header first []) log → IsRingLogged (B.holds list) header first [] pass) }
     {
         let finder = Finder::new(alloc, &header)?;
         let record = TraceRecord::new(alloc, &header)?;
@@ -63,6 +74,9 @@ impl<B: LeaseLog + Drop, M: WordMemory + Drop> RingPass<B, M> {
     pub fn driver_row(&mut self, number: u32, row: &Row) -> Result<(), StepFault>
         requires so_far { (h : Header) × (past : List TraceRow) × IsRingPassed M.words h past self.old × (length past ≤ most_lines) }
         ensures passed { OnOk result ((h : Header) (past : List TraceRow) → IsRingPassed M.words h past self.old → IsRingPassed M.words h (Plain row.now ∷ past) self.new) }
+        ensures logged { OnOk result ((list : List Lease) (h : Header) (first : ℕ) (past : List TraceRow) → IsRingPassed M.words h past self.old →
+            number ≡ first + length past → first + length past < without_end →
+            IsRingLogged (B.holds list) h first past self.old → IsRingLogged (B.holds list) h first (Plain row.now ∷ past) self.new) }
         ensures refused { IfErr result (λ e. IfRefused e (λ c. (h : Header) (past : List TraceRow) → IsRingPassed M.words h past self.old →
             IsLeast (header_now h past) (known_now h past) row.now c)) }
     {
@@ -95,6 +109,9 @@ impl<B: LeaseLog + Drop, M: WordMemory + Drop> RingPass<B, M> {
         requires so_far { (h : Header) × (past : List TraceRow) × IsRingPassed M.words h past self.old }
         requires transfers { ring.value.shape.kind ≡ Xfer }
         ensures passed { OnOk result ((h : Header) (past : List TraceRow) → IsRingPassed M.words h past self.old → IsRingPassed M.words h (Comes ring ∷ past) self.new) }
+        ensures logged { OnOk result ((list : List Lease) (h : Header) (first : ℕ) (past : List TraceRow) → IsRingPassed M.words h past self.old →
+            first + length past < without_end →
+            IsRingLogged (B.holds list) h first past self.old → IsRingLogged (B.holds list) h first (Comes ring ∷ past) self.new) }
         ensures refused { IfErr result (λ e. (h : Header) (past : List TraceRow) → IsRingPassed M.words h past self.old →
             IsLeastOfRing (header_now h past) (known_now h past) (Comes ring) e) }
     {
@@ -116,6 +133,9 @@ impl<B: LeaseLog + Drop, M: WordMemory + Drop> RingPass<B, M> {
     pub fn ring_goes(&mut self, number: u32, id: u8) -> Result<(), RingRowFault>
         requires so_far { (h : Header) × (past : List TraceRow) × IsRingPassed M.words h past self.old }
         ensures passed { OnOk result ((h : Header) (past : List TraceRow) → IsRingPassed M.words h past self.old → IsRingPassed M.words h (Goes id ∷ past) self.new) }
+        ensures logged { OnOk result ((list : List Lease) (h : Header) (first : ℕ) (past : List TraceRow) → IsRingPassed M.words h past self.old →
+            number ≡ first + length past → first + length past < without_end →
+            IsRingLogged (B.holds list) h first past self.old → IsRingLogged (B.holds list) h first (Goes id ∷ past) self.new) }
         ensures refused { IfErr result (λ e. (h : Header) (past : List TraceRow) → IsRingPassed M.words h past self.old →
             IsLeastOfRing (header_now h past) (known_now h past) (Goes id) e) }
     {
@@ -135,10 +155,16 @@ impl<B: LeaseLog + Drop, M: WordMemory + Drop> RingPass<B, M> {
 
     /// The leases end of the blocks and Links of the ring with this ID.
     fn end_leases(&mut self, number: u32, id: u8)
+        requires headed { IsHeader self.old.header }
+        requires found { IsFinder self.old.header.rings self.old.finder }
         ensures header { self.new.header ≡ self.old.header }
         ensures finder { self.new.finder ≡ self.old.finder }
         ensures record { self.new.record ≡ self.old.record }
         ensures memory { self.new.memory ≡ self.old.memory }
+        ensures ranges { self.new.ranges ≡ self.old.ranges }
+        ensures ended { (list : List Lease) (k : Known) (memory : ℕ → ℕ) (ts : List Lent) → FollowsTrace self.old.header k self.old.record memory →
+            is_transfer_ring (ring_with self.old.header id) ≡ true → AreOpen self.old.header k ts → B.holds list self.old.header ts self.old.log →
+            B.holds list self.old.header (map (ended_where (is_of_ring id) number) ts) self.new.log }
     {
         let Some(place) = self.finder.ring_named(id) else {
             return;
@@ -155,6 +181,8 @@ impl<B: LeaseLog + Drop, M: WordMemory + Drop> RingPass<B, M> {
     /// The log of the rows so far. No run of the controller's model beside them does harm.
     pub fn into_log(self) -> B
         ensures harmless { (h : Header) (past : List TraceRow) → IsRingPassed M.words h past self → All IsTraceRow past → DoNoHarm h (reverse past) }
+        ensures logged { (list : List Lease) (h : Header) (first : ℕ) (past : List TraceRow) → IsRingLogged (B.holds list) h first past self →
+            B.holds list (header_now h past) (ring_lents h first past) result }
     {
         self.log
     }

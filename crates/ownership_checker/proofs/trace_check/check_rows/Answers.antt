@@ -22,7 +22,7 @@ loop-row-preserved g c =
     (λ k t.
     let placed = c.place-place.ensures k (g.M.WordMemory.words c.loop-row.memory) t.follows in
     c.in-Ok.ensures.ok k t placed (c.owns-owned.ensures k t.follows placed))
-    (λ past clean held. c.in_ok-note_row.ensures [] c.args.first past (c.place-place.ensures (known c.args.header.now past) (g.M.WordMemory.words c.loop-row.memory) clean.followed) clean held)
+    (λ past clean held. c.in_ok-note_row.ensures.history [] c.args.first past (c.place-place.ensures (known c.args.header.now past) (g.M.WordMemory.words c.loop-row.memory) clean.followed) clean held)
 
 pub returns-in-Err-Refused-clause-refused : goal.returns-in-Err-Refused-clause-refused
 returns-in-Err-Refused-clause-refused g c =

@@ -19,7 +19,7 @@ loop-row-preserved g c =
     (λ k t.
     let placed = c.place-place.ensures k (g.M.WordMemory.words c.loop-row.memory) t.follows in
     c.in-Ok.ensures.ok k t placed (c.owns-owned.ensures k t.follows placed))
-    (λ past clean followed. c.in_ok-note_row.ensures c.args.leases.now c.args.first past (c.place-place.ensures (known c.args.header.now past) (g.M.WordMemory.words c.loop-row.memory) clean.followed) clean followed)
+    (λ past clean followed. c.in_ok-note_row.ensures.history c.args.leases.now c.args.first past (c.place-place.ensures (known c.args.header.now past) (g.M.WordMemory.words c.loop-row.memory) clean.followed) clean followed)
 
 pub returns-in-Err-Refused-clause-no : goal.returns-in-Err-Refused-clause-no
 returns-in-Err-Refused-clause-no g c = λ is.

@@ -1,8 +1,12 @@
-use Rattle.std.proofs.Common.{◌∙◌, length, refl, sym, subst}
+use Rattle.std.proofs.Common.{◌≡◌, ◌∙◌, false, length, refl, sym, subst}
 use Rattle.std.proofs.lemmas.Result.{err_from_is_err_and}
 use Rattle.trace_record.specs.Fresh.{IsWithin}
 use Rattle.ring_changes.specs.Histories.{known_now}
-use Rattle.ring_pass.proofs.Steps.{comes_behind, comes_refused}
+use Rattle.ring_pass.proofs.Steps.{comes_behind, comes_refused, coming_by_header}
+use Rattle.ring_pass.proofs.Logged.{comes_logged}
+use Rattle.traces.specs.declared.header.Header.{Header}
+use Rattle.traces.specs.Header.{IsHeader}
+use Rattle.ring_changes.specs.Changes.{is_bad_ring}
 use Rattle.ring_pass.proofs.pass.RingPass.ring_comes.Goals as goal
 
 pub returns-then-is_stopped-clause-refused : goal.returns-then-is_stopped-clause-refused
@@ -25,3 +29,14 @@ returns-clause-passed g c = λ h past p.
     (sym (c.is_stopped.ensures k p.tracked.follows.registers) ∙ c.if-is_stopped.false)
     (subst (λ e. IsWithin e (length past)) (sym c.in_ok-check_coming.ensures.events) p.few_reads) _
     c.in_ok-check_coming.ensures.comes c.in_ok-check_coming.ensures.headed c.in_ok-check_coming.ensures.found refl refl
+
+pub returns-clause-logged : goal.returns-clause-logged
+returns-clause-logged g c = λ list h first past p room held.
+    let words = g.M.WordMemory.words in
+    let before = c.args.self.now in
+    let k = known_now h past in
+    let on = sym (c.is_stopped.ensures k p.tracked.follows.registers) ∙ c.if-is_stopped.false in
+    let step = c.in_ok-check_coming.ensures.ok k p.tracked.follows (p.tracked.keeps on) on in
+    let coming = coming_by_header before.header c.args.ring.value (subst IsHeader c.in_ok-check_coming.ensures.comes c.in_ok-check_coming.ensures.headed) c.requires.transfers in
+    comes_logged words (g.B.LeaseLog.holds list) (g.met.B.LeaseLog.other_rings list) h first past before p room c.args.ring coming on
+    (subst (λ (x : Header). is_bad_ring x k c.args.ring.value ≡ false) p.header step.kept.1) held

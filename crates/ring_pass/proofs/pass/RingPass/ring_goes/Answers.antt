@@ -1,8 +1,17 @@
-use Rattle.std.proofs.Common.{◌∙◌, length, refl, sym, subst}
+use Rattle.std.proofs.Common.{◌≡◌, ◌∙◌, ◌∷◌, false, arith, length, refl, sym, subst}
 use Rattle.std.proofs.lemmas.Result.{err_from_is_err_and}
 use Rattle.trace_record.specs.Fresh.{IsWithin}
-use Rattle.ring_changes.specs.Histories.{known_now}
+use Rattle.ring_changes.specs.Histories.{header_now, known_now}
 use Rattle.ring_pass.proofs.Steps.{goes_behind, goes_refused, same_still}
+use Rattle.traces.specs.declared.header.Header.{Header}
+use Rattle.traces.specs.declared.trace_row.TraceRow.TheVariants.{Goes}
+use Rattle.lease_book.specs.InStep.{AreOpen}
+use Rattle.lease_book.specs.declared.ranges.RangeIndexes.{RangeIndexes}
+use Rattle.lease_rows.specs.CleanRows.{HoldsAll}
+use Rattle.ring_changes.specs.Changes.{is_bad_free, without_ring}
+use Rattle.ring_leases.specs.RingLents.{ring_lents}
+use Rattle.ring_leases.proofs.LentBehind.{lent_open}
+use Rattle.ring_pass.proofs.Logged.{goes_logged, goes_transfer}
 use Rattle.ring_pass.proofs.pass.RingPass.ring_goes.Goals as goal
 
 pub returns-then-is_stopped-clause-refused : goal.returns-then-is_stopped-clause-refused
@@ -28,3 +37,22 @@ returns-clause-passed g c = λ h past p.
     (sym (c.is_stopped.ensures k p.tracked.follows.registers) ∙ c.if-is_stopped.false)
     (subst (λ e. IsWithin e (length past)) (sym c.in_ok-check_going.ensures.events) q.few_reads) _
     c.in_ok-check_going.ensures.goes c.in_ok-check_going.ensures.headed c.in_ok-check_going.ensures.found refl refl
+
+pub returns-clause-logged : goal.returns-clause-logged
+returns-clause-logged g c = λ list h first past p numbered room held.
+    let words = g.M.WordMemory.words in
+    let before = c.args.self.now in
+    let later = c.end_leases.new.self in
+    let Holds = g.B.LeaseLog.holds list in
+    let k = known_now h past in
+    let id = c.args.id in
+    let on = sym (c.is_stopped.ensures k p.tracked.follows.registers) ∙ c.if-is_stopped.false in
+    let q = same_still words h past before p later c.end_leases.ensures.header c.end_leases.ensures.finder c.end_leases.ensures.record c.end_leases.ensures.memory in
+    let step = c.in_ok-check_going.ensures.ok k (words later.memory) q.tracked.follows (q.tracked.keeps on) on in
+    let good : is_bad_free (header_now h past) k id ≡ false = subst (λ (x : Header). is_bad_free x k id ≡ false) q.header step.kept.1 in
+    let here : is_bad_free before.header k id ≡ false = subst (λ (x : Header). is_bad_free x k id ≡ false) (sym p.header) good in
+    let opened : AreOpen before.header k (ring_lents h first past) = subst (λ (x : Header). AreOpen x k (ring_lents h first past)) (sym p.header) (lent_open h first past (omega (arith, room))) in
+    let ended = c.end_leases.ensures.ended list k (words before.memory) (ring_lents h first past) p.tracked.follows (goes_transfer before.header k id here) opened
+    (subst (λ (x : Header). Holds x (ring_lents h first past) before.log) (sym p.header) held.held) in
+    subst (λ (x : RangeIndexes). HoldsAll Holds (without_ring (header_now h past) id) (ring_lents h first (Goes id ∷ past)) later.log x) (sym c.end_leases.ensures.ranges)
+    (goes_logged words Holds (g.met.B.LeaseLog.other_rings list) h first past before p room id c.args.number numbered on good later.log ended held)

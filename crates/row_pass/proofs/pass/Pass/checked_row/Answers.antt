@@ -27,7 +27,7 @@ returns-clause-logged g c =
     let k = known h past in
     let placed = c.place-place.ensures k (words before.memory) p.tracked.follows in
     let step = ok k p.tracked placed (c.owns-owned.ensures k p.tracked.follows placed) in
-    c.in_ok-note_row.ensures list first past placed
+    c.in_ok-note_row.ensures.history list first past placed
     (clean_row words h c.requires.headed past before row p c.check_row.new.kept (words c.check_row.new.memory) step first c.args.number number room) logged) c.check_row.ensures.ok c.check_row.ensures.reads
 
 pub returns-clause-refused : goal.returns-clause-refused
