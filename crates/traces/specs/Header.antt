@@ -1,5 +1,5 @@
 -- The rings of a trace, and which of them may stand together
-use Rattle.std.specs.Prelude.{ℕ, ◌==◌, ◌&&◌, ◌||◌, ◌*◌, Bool, true, false, not, List, [], ◌∷◌, nat_lt, Option, Some, None, find, filter, IsTrue}
+use Rattle.std.specs.Prelude.{ℕ, ◌==◌, ◌&&◌, ◌||◌, Bool, true, false, not, List, [], ◌∷◌, nat_lt, Option, Some, None, find, filter, IsTrue}
 use Rattle.std.specs.List.{list_any, list_all}
 use Rattle.trb.specs.declared.ring_kind.RingKind.{RingKind}
 use Rattle.trb.specs.declared.ring_kind.RingKind.TheVariants.{Cmd, Evt, Xfer}

@@ -3,5 +3,6 @@ pub mod Versions
 pub mod Register
 pub mod Header
 pub mod Rows
+pub mod TraceRows
 pub mod PlanLines
 pub mod OnLiterals

@@ -1,6 +1,7 @@
 //! Traces, schedules and plans: what they say, without their texts. Their types keep the limits.
 #![tactic(auto)]
 
+mod boxed_ring;
 mod header;
 mod plan;
 mod register;
@@ -12,6 +13,7 @@ mod trace;
 mod trace_row;
 mod version;
 
+pub use boxed_ring::BoxedRing;
 pub use header::{Header, Rings};
 pub use plan::{Plan, PlanLine, PlanLines};
 pub use register::Register;

@@ -1,5 +1,5 @@
 ghost use Rattle.std.specs.Prelude.{◌≡◌};
-ghost use Rattle.traces.specs.Versions.{is_three};
+ghost use Rattle.traces.specs.Versions.{has_ring_rows, is_three};
 
 /// The version of a trace, which its first line names. Versions 1 and 2 judge by the rules that came first; version 3 by
 /// those that a harm needs.
@@ -19,5 +19,12 @@ impl Version {
         ensures { result ≡ is_three self }
     {
         matches!(self, Version::Three)
+    }
+
+    /// Rings come and go behind the first row, and descriptors are withdrawn.
+    pub fn has_ring_rows(self) -> bool
+        ensures { result ≡ has_ring_rows self }
+    {
+        matches!(self, Version::Two | Version::Three)
     }
 }
